@@ -1,0 +1,65 @@
+use Rattle.tables.specs.Basics.{and-split}
+use denote.Ref.{now}
+use mathlib.Core.Bool.{true, false, _&&_}
+use mathlib.Core.List.{[]}
+use mathlib.Core.Path.{_≡_, _∙_, refl, sym}
+use lib.Dec.{ltb}
+use borrow.Author.Tests.{not-true, not-false}
+use Rattle.tables.specs.Device.{append}
+use Rattle.tables.specs.Tables.{tablesOf}
+use Rattle.tables.specs.TablesRefine.{run-idle, run-due, stores-left}
+use borrow.Author.Needs.{needs}
+use Rattle.tables.proofs.stores.append_counted.Statement.{statement}
+use Rattle.tables.proofs.stores.append_counted.Tie as tie
+
+due-requires : tie.Need-due-requires
+due-requires c κs = search needs
+
+left-after-requires : tie.Need-left-after-requires
+left-after-requires c κs = search needs
+
+returns : tie.Need-returns
+returns c =
+    let a = c .before .before .before .before .before .before .args in
+    let d = c .before .before in
+    let e : a .here && ltb 0 (a .left) ≡ false = sym (d .due .ensures) ∙ not-true (d .due .result) (c .before .if1 .taken) in
+    let o = run-idle (a .g) (a .here) (a .left) (append (a .drive) (a .zone) (now (a .src))) (tablesOf (now (a .sectors)) (now (a .written)) []) e in
+    (c .left-after .ensures ∙ stores-left (a .here) (a .left) (append (a .drive) (a .zone) (now (a .src))), rw o refl, rw o refl)
+
+append-sector-requires : tie.Need-append-sector-requires
+append-sector-requires c κs =
+    let s = c .before .before .before .before .before .before .before in
+    let d = c .before .before .before in
+    let e : s .args .here && ltb 0 (s .args .left) ≡ true = sym (d .due .ensures) ∙ not-false (d .due .result) (c .before .before .if1 .left) in
+    (s .pre .0, (s .pre .1 .0, (s .pre .1 .1 .0, (s .pre .1 .1 .1 .0, s .pre .1 .1 .1 .1 (and-split (s .args .here) (ltb 0 (s .args .left)) e .0)))))
+
+left-after-requires-2 : tie.Need-left-after-requires-2
+left-after-requires-2 c κs = search needs
+
+same-length : tie.Need-same-length
+same-length c = search needs
+
+same-length-2 : tie.Need-same-length-2
+same-length-2 c = search needs
+
+returns-2 : tie.Need-returns-2
+returns-2 c =
+    let a = c .before .before .before .before .before .before .before .before .before .before .before .before .before .args in
+    let d = c .before .before .before .before .before .before .before .before .before in
+    let e : a .here && ltb 0 (a .left) ≡ true = sym (d .due .ensures) ∙ not-false (d .due .result) (c .before .before .before .before .before .before .before .before .if1 .left) in
+    let o = run-due (a .g) (a .here) (a .left) (append (a .drive) (a .zone) (now (a .src))) (tablesOf (now (a .sectors)) (now (a .written)) []) e in
+    let f = c .before .before .before .before .before .append-sector .ensures in
+    (c .left-after2 .ensures ∙ stores-left (a .here) (a .left) (append (a .drive) (a .zone) (now (a .src))), f .0 ∙ rw o refl, f .1 ∙ rw o refl)
+
+pub append-counted-spec : {M : Type 1} → statement M
+append-counted-spec =
+    tie.close
+    (tie.spec
+    due-requires
+    left-after-requires
+    returns
+    append-sector-requires
+    left-after-requires-2
+    same-length
+    same-length-2
+    returns-2)

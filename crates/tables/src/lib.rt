@@ -1,0 +1,16 @@
+// The tables that the host lends: one list of bytes for all sectors, two lists of pointers. This crate knows a volume's geometry, where
+// each sector lies, and the three stores; it knows nothing of logs.
+pub mod bounds;
+pub mod bytes;
+pub mod placement;
+pub mod sectors;
+pub mod stores;
+
+// The shape of a volume (document 01: D, B, U, L and C).
+pub struct Geometry {
+    pub drives: usize,
+    pub sector: usize,
+    pub unit: usize,
+    pub zones: usize,
+    pub capacity: usize,
+}

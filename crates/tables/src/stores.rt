@@ -1,0 +1,188 @@
+// The three stores on the tables, and each under a count of stores that is handed on.
+use super::Geometry;
+ghost use mathlib.Core.Path.{_≡_};
+ghost use mathlib.Core.Bool.{true, _&&_};
+ghost use lib.Dec.{ltb};
+ghost use mathlib.Core.List.{[]};
+ghost use Prim.Native.Nat.{_+_, _-_, _≤_, _<_};
+ghost use lib.ListN.{length, getD};
+ghost use Rattle.tables.specs.Basics.{pick};
+ghost use Rattle.tables.specs.Geometry.{Valid, physicalZones, cells, totalBytes};
+ghost use Rattle.tables.specs.Device.{append, reset, flush};
+ghost use Rattle.tables.specs.Tables.{cell, byteAt, tablesOf, sectorsAfterAppend, writtenAfterAppend, pointersAfterReset, durableAfterFlush, storeIf, runStores};
+
+// A zone's cell in the tables of pointers.
+pub fn cell_of(g: Geometry, drive: usize, zone: usize) -> usize
+    requires { ⌜ Valid g ⌝ }
+    requires { ⌜ (drive < g .drives) × (zone < physicalZones g) ⌝ }
+    ensures { λ r. ⌜ (r ≡ cell g drive zone) × (r < cells g) ⌝ }
+{
+    let l = g.zones;
+    drive * (l + 3) + zone
+}
+
+// A drive's first cell.
+pub fn row_of(g: Geometry, drive: usize) -> usize
+    requires { ⌜ Valid g ⌝ }
+    requires { ⌜ drive < g .drives ⌝ }
+    ensures { λ r. ⌜ (r ≡ cell g drive 0) × (r + physicalZones g ≤ cells g) ⌝ }
+{
+    let l = g.zones;
+    drive * (l + 3)
+}
+
+// The first byte of a sector.
+pub fn byte_at(g: Geometry, drive: usize, zone: usize, n: usize) -> usize
+    requires { ⌜ Valid g ⌝ }
+    requires { ⌜ (drive < g .drives) × (zone < physicalZones g) × (n < g .capacity) ⌝ }
+    ensures { λ r. ⌜ (r ≡ byteAt g drive zone n) × (r + g .sector ≤ totalBytes g) ⌝ }
+{
+    let at = cell_of(g, drive, zone);
+    let c = g.capacity;
+    let b = g.sector;
+    (at * c + n) * b
+}
+
+// Appends one sector at the zone's written pointer.
+pub fn append_sector(
+    sectors: &mut [u8],
+    written: &mut [u32],
+    g: Geometry,
+    drive: usize,
+    zone: usize,
+    src: &[u8],
+)
+    requires { ⌜ Valid g ⌝ }
+    requires { ⌜ (drive < g .drives) × (zone < physicalZones g) ⌝ }
+    requires { ⌜ (length (now sectors) ≡ totalBytes g) × (length (now written) ≡ cells g) ⌝ }
+    requires { ⌜ (length (now src) ≡ g .sector) × (getD (now written) (cell g drive zone) 0 < g .capacity) ⌝ }
+    ensures { λ _. ⌜ (now (sectors .exit) ≡ sectorsAfterAppend g drive zone (now (src .entry)) (now (sectors .entry)) (now (written .entry)))
+        × (now (written .exit) ≡ writtenAfterAppend g drive zone (now (written .entry))) ⌝ }
+{
+    let at = cell_of(g, drive, zone);
+    let n = written[at];
+    let next = n + 1;
+    let to = byte_at(g, drive, zone, n as usize);
+    super::sectors::copy_in(sectors, to, src);
+    written[at] = next;
+}
+
+// Resets one physical zone: both pointers 0, the bytes kept.
+pub fn reset_zone(written: &mut [u32], durable: &mut [u32], g: Geometry, drive: usize, zone: usize)
+    requires { ⌜ Valid g ⌝ }
+    requires { ⌜ (drive < g .drives) × (zone < physicalZones g) ⌝ }
+    requires { ⌜ (length (now written) ≡ cells g) × (length (now durable) ≡ cells g) ⌝ }
+    ensures { λ _. ⌜ (now (written .exit) ≡ pointersAfterReset g drive zone (now (written .entry)))
+        × (now (durable .exit) ≡ pointersAfterReset g drive zone (now (durable .entry))) ⌝ }
+{
+    let at = cell_of(g, drive, zone);
+    written[at] = 0;
+    durable[at] = 0;
+}
+
+// Flushes one drive: durable becomes written in all its zones.
+pub fn flush_drive(written: &[u32], durable: &mut [u32], g: Geometry, drive: usize)
+    requires { ⌜ Valid g ⌝ }
+    requires { ⌜ drive < g .drives ⌝ }
+    requires { ⌜ (length (now written) ≡ cells g) × (length (now durable) ≡ cells g) ⌝ }
+    ensures { λ _. ⌜ now (durable .exit) ≡ durableAfterFlush g drive (now (written .entry)) (now (durable .entry)) ⌝ }
+{
+    let at = row_of(g, drive);
+    let l = g.zones;
+    let end = at + l + 3;
+    super::sectors::copy_pointers(durable, at, &written[at..end]);
+}
+
+// Whether a store is made: its drive is present and the count of stores has one left.
+fn due(here: bool, left: u32) -> bool
+    ensures { λ r. ⌜ r ≡ here && ltb 0 left ⌝ }
+{
+    here & (0 < left)
+}
+
+// What the count of stores has left then.
+fn left_after(here: bool, left: u32) -> u32
+    ensures { λ r. ⌜ r ≡ left - pick here 1 0 ⌝ }
+{
+    if !here {
+        return left;
+    }
+    if left == 0 {
+        return 0;
+    }
+    left - 1
+}
+
+// An append, if its drive is present and a store is left: how many are left then.
+pub fn append_counted(
+    sectors: &mut [u8],
+    written: &mut [u32],
+    g: Geometry,
+    here: bool,
+    drive: usize,
+    zone: usize,
+    src: &[u8],
+    left: u32,
+) -> u32
+    requires { ⌜ Valid g ⌝ }
+    requires { ⌜ (drive < g .drives) × (zone < physicalZones g) ⌝ }
+    requires { ⌜ (length (now sectors) ≡ totalBytes g) × (length (now written) ≡ cells g) ⌝ }
+    requires { ⌜ (length (now src) ≡ g .sector) × (here ≡ true → getD (now written) (cell g drive zone) 0 < g .capacity) ⌝ }
+    ensures { λ r. ⌜ (r ≡ left - length (storeIf here (append drive zone (now (src .entry)))))
+        × (now (sectors .exit) ≡ runStores g left (storeIf here (append drive zone (now (src .entry)))) (tablesOf (now (sectors .entry)) (now (written .entry)) []) .sectors)
+        × (now (written .exit) ≡ runStores g left (storeIf here (append drive zone (now (src .entry)))) (tablesOf (now (sectors .entry)) (now (written .entry)) []) .written) ⌝ }
+{
+    let made = due(here, left);
+    if !made {
+        return left_after(here, left);
+    }
+    append_sector(sectors, written, g, drive, zone, src);
+    left_after(here, left)
+}
+
+// A reset, if its drive is present and a store is left: how many are left then.
+pub fn reset_counted(
+    written: &mut [u32],
+    durable: &mut [u32],
+    g: Geometry,
+    here: bool,
+    drive: usize,
+    zone: usize,
+    left: u32,
+) -> u32
+    requires { ⌜ Valid g ⌝ }
+    requires { ⌜ (drive < g .drives) × (zone < physicalZones g) ⌝ }
+    requires { ⌜ (length (now written) ≡ cells g) × (length (now durable) ≡ cells g) ⌝ }
+    ensures { λ r. ⌜ (r ≡ left - length (storeIf here (reset drive zone)))
+        × (now (written .exit) ≡ runStores g left (storeIf here (reset drive zone)) (tablesOf [] (now (written .entry)) (now (durable .entry))) .written)
+        × (now (durable .exit) ≡ runStores g left (storeIf here (reset drive zone)) (tablesOf [] (now (written .entry)) (now (durable .entry))) .durable) ⌝ }
+{
+    let made = due(here, left);
+    if !made {
+        return left_after(here, left);
+    }
+    reset_zone(written, durable, g, drive, zone);
+    left_after(here, left)
+}
+
+// A flush of a drive, if it is present and a store is left: how many are left then.
+pub fn flush_counted(
+    written: &[u32],
+    durable: &mut [u32],
+    g: Geometry,
+    here: bool,
+    drive: usize,
+    left: u32,
+) -> u32
+    requires { ⌜ Valid g ⌝ }
+    requires { ⌜ (drive < g .drives) × (length (now written) ≡ cells g) × (length (now durable) ≡ cells g) ⌝ }
+    ensures { λ r. ⌜ (r ≡ left - length (storeIf here (flush drive)))
+        × (now (durable .exit) ≡ runStores g left (storeIf here (flush drive)) (tablesOf [] (now (written .entry)) (now (durable .entry))) .durable) ⌝ }
+{
+    let made = due(here, left);
+    if !made {
+        return left_after(here, left);
+    }
+    flush_drive(written, durable, g, drive);
+    left_after(here, left)
+}

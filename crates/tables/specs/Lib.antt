@@ -14,6 +14,7 @@ pub mod Device
 pub mod Local
 pub mod Phases
 pub mod Tables
+pub mod Counted
 pub mod TablesLaws
 pub mod TablesRefine
 pub mod TablesFrame

@@ -51,8 +51,13 @@ pointersAfterReset g d z ps = set ps (cell g d z) 0
 unfoldable pub durableAfterFlush : Geometry → ℕ → List ℕ → List ℕ → List ℕ
 durableAfterFlush g d ws ds = overlay ds (cell g d 0) (take (physicalZones g) (drop (cell g d 0) ws))
 
+-- a zone has room for one more sector
+abbrev pub hasRoom : Geometry → ℕ → ℕ → List ℕ → Bool
+hasRoom g d z ws = ltb (getD ws (cell g d z) 0) (g .capacity)
+
+-- the three tables after a store. An append to a full zone makes nothing; refusal 14 and the bounds of a zone see to it that no call asks for one.
 abbrev pub makeStore : Geometry → Store → Tables → Tables
-makeStore g (append d z s) t = record { sectors = sectorsAfterAppend g d z s (t .sectors) (t .written); written = writtenAfterAppend g d z (t .written); durable = t .durable }
+makeStore g (append d z s) t = pick (hasRoom g d z (t .written)) (record { sectors = sectorsAfterAppend g d z s (t .sectors) (t .written); written = writtenAfterAppend g d z (t .written); durable = t .durable }) t
 makeStore g (reset d z) t = record { sectors = t .sectors; written = pointersAfterReset g d z (t .written); durable = pointersAfterReset g d z (t .durable) }
 makeStore g (flush d) t = record { sectors = t .sectors; written = t .written; durable = durableAfterFlush g d (t .written) (t .durable) }
 
@@ -66,6 +71,18 @@ runStores g (suc k) (s ∷ ss) t = runStores g k ss (makeStore g s t)
 abbrev pub storeIf : Bool → Store → List Store
 storeIf true s = s ∷ []
 storeIf false s = []
+
+-- ---- what a storing function states: the first `left` stores of the list are made, and so many are left of the count
+pub record Made (g : Geometry) (left rest : ℕ) (ss : List Store) (t u : Tables) : Type 0 where
+  pub rest-is : rest ≡ left - length ss
+  pub tables-are : u ≡ runStores g left ss t
+
+-- the same of one that is handed only the tables it changes: so it is whatever the third one holds
+pub record MadeAppends (g : Geometry) (left rest : ℕ) (ss : List Store) (xs ws xs′ ws′ : List ℕ) : Type 0 where
+  pub made : (ds : List ℕ) → Made g left rest ss (tablesOf xs ws ds) (tablesOf xs′ ws′ ds)
+
+pub record MadePointers (g : Geometry) (left rest : ℕ) (ss : List Store) (ws ds ws′ ds′ : List ℕ) : Type 0 where
+  pub made : (xs : List ℕ) → Made g left rest ss (tablesOf xs ws ds) (tablesOf xs ws′ ds′)
 
 -- ---- the device that the tables stand for. A pointer past its zone's end (refusal 3) counts as one at the end.
 unfoldable pub zoneAtCell : Geometry → Tables → ℕ → ZoneView
@@ -106,6 +123,16 @@ pub record WellSized (g : Geometry) (t : Tables) : Type 0 where
   pub sectors-long : length (t .sectors) ≡ totalBytes g
   pub written-long : length (t .written) ≡ cells g
   pub durable-long : length (t .durable) ≡ cells g
+
+-- a store has its place: a drive and zone of the geometry, a sector of its size
+abbrev pub Placed : Geometry → Store → Type 0
+Placed g (append d z s) = (d < g .drives) × (z < physicalZones g) × (length s ≡ g .sector)
+Placed g (reset d z) = (d < g .drives) × (z < physicalZones g)
+Placed g (flush d) = d < g .drives
+
+abbrev pub AllPlaced : Geometry → List Store → Type 0
+AllPlaced g [] = Unit {0}
+AllPlaced g (s ∷ ss) = Placed g s × AllPlaced g ss
 
 -- a store has its place and its room
 abbrev pub Fits : Geometry → Store → Device → Type 0

@@ -12,7 +12,7 @@ use lib.ListN.{length, getD, set}
 use lib.Seq.{getD-set-other}
 use lib.Dec.{ltb, eqb}
 use lib.Arith.{digits-lt}
-use borrow.Author.Tests.{ltb-false, eq-eqb, eqb-true}
+use borrow.Author.Tests.{ltb-true, ltb-false, eq-eqb, eqb-true}
 use Rattle.tables.specs.declared.Geometry.{Geometry}
 use Rattle.tables.specs.Basics.{pick, and-split, or-none}
 use Rattle.tables.specs.Below.{any-below-false}
@@ -20,9 +20,9 @@ use Rattle.tables.specs.Lists.{overlay-below, overlay-above}
 use Rattle.tables.specs.Geometry.{physicalZones, cells, totalBytes}
 use Rattle.tables.specs.Device.{Store, append, reset, flush, storeDrive}
 use Rattle.tables.specs.Phases.{onPresent}
-use Rattle.tables.specs.Tables.{Tables, tablesOf, cell, byteAt, sectorsAfterAppend, writtenAfterAppend, pointersAfterReset, makeStore, runStores, deviceOf, lengthsFit, pointerBad, pointersBad, WellSized, Fits, FitsAll}
+use Rattle.tables.specs.Tables.{hasRoom, Placed, AllPlaced, Tables, tablesOf, cell, byteAt, sectorsAfterAppend, writtenAfterAppend, pointersAfterReset, makeStore, runStores, lengthsFit, pointerBad, pointersBad, WellSized}
 use Rattle.tables.specs.TablesLaws.{sector-in, cell-injective}
-use Rattle.tables.specs.TablesRefine.{flush-other, pointer-room, store-refines, store-sized}
+use Rattle.tables.specs.TablesRefine.{flush-other, store-sized}
 
 -- the bytes of one drive
 abbrev pub driveBytes : Geometry → ℕ
@@ -55,11 +55,13 @@ other-cell : (g : Geometry) (d z e : ℕ) (ps : List ℕ) (x : ℕ) → z < phys
 other-cell g d z e ps x hz ne y hy = getD-set-other ps (cell g d z) (cell g e y) x 0 (λ q. ne (cell-injective g d z e y hz hy q .0))
 
 -- ---- a store leaves every other drive's memory alone
-pub store-frame : (g : Geometry) (x : Store) (t : Tables) (e : ℕ) → WellSized g t → Fits g x (deviceOf g t) → e ≢ storeDrive x → SameDrive g e t (makeStore g x t)
-unfolding sectorsAfterAppend writtenAfterAppend pointersAfterReset
-store-frame g (append d z s) t e w f ne = record {
+append-frame : (g : Geometry) (t : Tables) (d z e : ℕ) (s : List ℕ) (b : Bool) → hasRoom g d z (t .written) ≡ b → WellSized g t → d < g .drives → z < physicalZones g → length s ≡ g .sector → e ≢ d
+    → SameDrive g e t (pick b (record { sectors = sectorsAfterAppend g d z s (t .sectors) (t .written); written = writtenAfterAppend g d z (t .written); durable = t .durable }) t)
+unfolding sectorsAfterAppend writtenAfterAppend
+append-frame g t d z e s false q w hd hz hs ne = same-drive-refl g e t
+append-frame g t d z e s true q w hd hz hs ne = record {
   sectors-same = λ i h k. go i h k (decLt e d);
-  written-same = other-cell g d z e (t .written) (getD (t .written) (cell g d z) 0 + 1) (f .1) ne;
+  written-same = other-cell g d z e (t .written) (getD (t .written) (cell g d z) 0 + 1) hz ne;
   durable-same = λ y h. refl;
 }
   where
@@ -67,38 +69,41 @@ store-frame g (append d z s) t e w f ne = record {
     n = getD (t .written) (cell g d z) 0
 
     room : getD (t .written) (cell g d z) 0 < g .capacity
-    room = pointer-room g t d z (f .0) (f .1) (f .3)
+    room = ltb-true (getD (t .written) (cell g d z) 0) (g .capacity) q
 
     fit : byteAt g d z (getD (t .written) (cell g d z) 0) + length s ≤ length (t .sectors)
-    fit = omega (arith, w .sectors-long, f .2, sector-in g d z (getD (t .written) (cell g d z) 0) (f .0) (f .1) room)
+    fit = omega (arith, w .sectors-long, hs, sector-in g d z (getD (t .written) (cell g d z) 0) hd hz room)
 
     go : (i : ℕ) → e * driveBytes g ≤ i → i < suc e * driveBytes g → Dec (e < d) → getD (sectorsAfterAppend g d z s (t .sectors) (t .written)) i 0 ≡ getD (t .sectors) i 0
     go i h k (yes l) = overlay-below (t .sectors) (byteAt g d z n) s i fit (omega (arith, mul-le-mul-right (driveBytes g) l))
     go i h k (no l) =
         let m : d < e = omega arith in
-        overlay-above (t .sectors) (byteAt g d z n) s i fit (omega (arith, f .2, sector-within g d z n (f .1) room, mul-le-mul-right (driveBytes g) m))
-store-frame g (reset d z) t e w f ne = record {
+        overlay-above (t .sectors) (byteAt g d z n) s i fit (omega (arith, hs, sector-within g d z n hz room, mul-le-mul-right (driveBytes g) m))
+
+pub store-frame : (g : Geometry) (x : Store) (t : Tables) (e : ℕ) → WellSized g t → Placed g x → e ≢ storeDrive x → SameDrive g e t (makeStore g x t)
+unfolding pointersAfterReset
+store-frame g (append d z s) t e w p ne = append-frame g t d z e s (hasRoom g d z (t .written)) refl w (p .0) (p .1) (p .2) ne
+store-frame g (reset d z) t e w p ne = record {
   sectors-same = λ i h k. refl;
-  written-same = other-cell g d z e (t .written) 0 (f .1) ne;
-  durable-same = other-cell g d z e (t .durable) 0 (f .1) ne;
+  written-same = other-cell g d z e (t .written) 0 (p .1) ne;
+  durable-same = other-cell g d z e (t .durable) 0 (p .1) ne;
 }
-store-frame g (flush d) t e w f ne = record { sectors-same = λ i h k. refl; written-same = λ y h. refl; durable-same = λ y h. flush-other g t w d f e y h ne }
+store-frame g (flush d) t e w p ne = record { sectors-same = λ i h k. refl; written-same = λ y h. refl; durable-same = λ y h. flush-other g t w d p e y h ne }
 
 -- ---- so any number of stores of which lost drives' are skipped leaves an absent drive's memory alone
-pub run-frame : (g : Geometry) (present : ℕ → Bool) (k : ℕ) (xs : List Store) (t : Tables) (e : ℕ) → WellSized g t → FitsAll g (onPresent present xs) (deviceOf g t) → present e ≡ false
+pub run-frame : (g : Geometry) (present : ℕ → Bool) (k : ℕ) (xs : List Store) (t : Tables) (e : ℕ) → WellSized g t → AllPlaced g (onPresent present xs) → present e ≡ false
     → SameDrive g e t (runStores g k (onPresent present xs) t)
 run-frame g present k [] t e w f a = same-drive-refl g e t
 run-frame g present k (x ∷ xs) t e w f a = go (present (storeDrive x)) refl k f (λ j u w′ f′. run-frame g present j xs u e w′ f′ a)
   where
-    go : (b : Bool) → present (storeDrive x) ≡ b → (j : ℕ) → FitsAll g (pick b (x ∷ onPresent present xs) (onPresent present xs)) (deviceOf g t)
-        → ((i : ℕ) (u : Tables) → WellSized g u → FitsAll g (onPresent present xs) (deviceOf g u) → SameDrive g e u (runStores g i (onPresent present xs) u))
+    go : (b : Bool) → present (storeDrive x) ≡ b → (j : ℕ) → AllPlaced g (pick b (x ∷ onPresent present xs) (onPresent present xs))
+        → ((i : ℕ) (u : Tables) → WellSized g u → AllPlaced g (onPresent present xs) → SameDrive g e u (runStores g i (onPresent present xs) u))
         → SameDrive g e t (runStores g j (pick b (x ∷ onPresent present xs) (onPresent present xs)) t)
     go false q j p ih = ih j t w p
     go true q zero p ih = same-drive-refl g e t
     go true q (suc j) p ih =
         let u = makeStore g x t in
-        let p′ : FitsAll g (onPresent present xs) (deviceOf g u) = rw (store-refines g x t w (p .0)) (p .1) in
-        same-drive-trans g e t u (runStores g j (onPresent present xs) u) (store-frame g x t e w (p .0) (λ r. true≢false (sym q ∙ rw (← r) a))) (ih j u (store-sized g x t w (p .0)) p′)
+        same-drive-trans g e t u (runStores g j (onPresent present xs) u) (store-frame g x t e w (p .0) (λ r. true≢false (sym q ∙ rw (← r) a))) (ih j u (store-sized g x t w (p .0)) (p .1))
 
 -- ---- what passing refusal 2 gives, and what gives it
 pub lengths-sized : (g : Geometry) (xs ws ds : List ℕ) → lengthsFit g (length xs) (length ws) (length ds) ≡ true → WellSized g (tablesOf xs ws ds)

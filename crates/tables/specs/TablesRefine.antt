@@ -2,23 +2,23 @@
 -- leave alone: the bytes and pointers of every other drive, an absent one's among them (`run-frame`).
 use mathlib.Core.Path.{_≡_, refl, sym, ap, ap₂, _∙_, fun-ext}
 use mathlib.Core.Logic.{_≢_}
-use mathlib.Core.Bool.{Bool, true, false, true≢false, _&&_}
+use mathlib.Core.Bool.{Bool, true, false, _&&_}
 use Prim.Native.Nat.{ℕ, zero, suc, _+_, _-_, _*_, _≤_, _<_, min, zero-le}
-use native.Mathlib.Nat.{mul-le-mul-right, sub-zero}
+use native.Mathlib.Nat.{mul-le-mul-right}
 use native.Mathlib.Decide.{ℕ-discrete, decLt}
 use native.Mathlib.Omega.{arith}
 use mathlib.Core.List.{List, [], _∷_, _++_}
 use lib.ListN.{length, getD, take, drop, length-drop, length-set}
 use lib.Seq.{take-nil, length-take-le, getD-set-same, getD-set-other, getD-take, getD-drop}
 use lib.Dec.{ltb, eqb}
-use borrow.Author.Tests.{eq-eqb, ne-eqb, lt-ltb}
+use borrow.Author.Tests.{ltb-true, lt-ltb, eq-eqb, ne-eqb}
 use Rattle.tables.specs.declared.Geometry.{Geometry}
 use Rattle.tables.specs.Basics.{pick}
 use Rattle.tables.specs.Below.{tabulate-cong, length-tabulate, take-tabulate}
 use Rattle.tables.specs.Lists.{overlay, length-overlay, overlay-inside, overlay-below, overlay-above}
 use Rattle.tables.specs.Geometry.{physicalZones, cells}
 use Rattle.tables.specs.Device.{ZoneView, Device, Store, append, reset, flush, apply, applyAll, appended, blankZone, flushed, putZone, put-zone-same, put-zone-other-drive, put-zone-other-zone, At, here, otherDrive, otherZone, at, Cut, ZoneCut}
-use Rattle.tables.specs.Tables.{storeIf, Tables, cell, byteAt, sectorNo, sectorsAfterAppend, writtenAfterAppend, pointersAfterReset, durableAfterFlush, makeStore, runStores, zoneAtCell, deviceOf, TablesCut, WellSized, Fits, FitsAll}
+use Rattle.tables.specs.Tables.{hasRoom, Placed, AllPlaced, Tables, cell, byteAt, sectorNo, sectorsAfterAppend, writtenAfterAppend, pointersAfterReset, durableAfterFlush, makeStore, runStores, zoneAtCell, deviceOf, TablesCut, WellSized, Fits, FitsAll}
 use Rattle.tables.specs.TablesLaws.{cell-in, row-in, sector-in, cell-injective, sector-laid, sector-elsewhere, In, inside, outside, inOrOut, device-inside, device-outside, device-in, device-length}
 
 -- ---- append
@@ -26,9 +26,12 @@ module _ (g : Geometry) (t : Tables) (w : WellSized g t) (d z : ℕ) (s : List �
   append-fits : (cell g d z * g .capacity + getD (t .written) (cell g d z) 0) * g .sector + g .sector ≤ length (t .sectors)
   append-fits = rw (w .sectors-long) (sector-in g d z (getD (t .written) (cell g d z) 0) hd hz room)
 
+  append-makes : makeStore g (append d z s) t ≡ record { sectors = sectorsAfterAppend g d z s (t .sectors) (t .written); written = writtenAfterAppend g d z (t .written); durable = t .durable }
+  append-makes = rw (lt-ltb (getD (t .written) (cell g d z) 0) (g .capacity) room) refl
+
   append-own : zoneAtCell g (makeStore g (append d z s) t) (cell g d z) ≡ appended s (zoneAtCell g t (cell g d z))
   unfolding zoneAtCell sectorsAfterAppend writtenAfterAppend
-  append-own =
+  append-own = rw append-makes (
       let C = g .capacity in
       let B = g .sector in
       let k = cell g d z in
@@ -39,11 +42,11 @@ module _ (g : Geometry) (t : Tables) (w : WellSized g t) (d z : ℕ) (s : List �
       rw (getD-set-same (t .written) k (n + 1) 0 (rw (w .written-long) (cell-in g d z hd hz)), e, f) (
       ap₂ (λ (x : List (List ℕ)) (y : List ℕ). x ++ (y ∷ []))
       (tabulate-cong (λ i. sectorNo B (overlay (t .sectors) ((k * C + n) * B) s) (k * C + i)) (λ i. sectorNo B (t .sectors) (k * C + i)) n (λ i h. sector-elsewhere B (t .sectors) (k * C + n) s hs append-fits (k * C + i) (omega arith)))
-      (sector-laid B (t .sectors) (k * C + n) s hs append-fits)))
+      (sector-laid B (t .sectors) (k * C + n) s hs append-fits))))
 
   append-other : (m : ℕ) → m ≢ cell g d z → zoneAtCell g (makeStore g (append d z s) t) m ≡ zoneAtCell g t m
   unfolding zoneAtCell sectorsAfterAppend writtenAfterAppend
-  append-other m ne =
+  append-other m ne = rw append-makes (
       let C = g .capacity in
       let B = g .sector in
       let k = cell g d z in
@@ -51,7 +54,7 @@ module _ (g : Geometry) (t : Tables) (w : WellSized g t) (d z : ℕ) (s : List �
       ap (λ (l : List (List ℕ)). let r : ZoneView = record { sectors = l; durable = min (getD (t .durable) m 0) C } in r) (
       rw (getD-set-other (t .written) k m (n + 1) 0 ne) (
       tabulate-cong (λ i. sectorNo B (overlay (t .sectors) ((k * C + n) * B) s) (m * C + i)) (λ i. sectorNo B (t .sectors) (m * C + i)) (min (getD (t .written) m 0) C)
-      (λ i h. sector-elsewhere B (t .sectors) (k * C + n) s hs append-fits (m * C + i) (apart i (omega arith) (decLt m k)))))
+      (λ i h. sector-elsewhere B (t .sectors) (k * C + n) s hs append-fits (m * C + i) (apart i (omega arith) (decLt m k))))))
     where
       -- sectors of two zones are never one
       apart : (i : ℕ) → i < g .capacity → Dec (m < cell g d z) → m * g .capacity + i ≢ cell g d z * g .capacity + getD (t .written) (cell g d z) 0
@@ -149,16 +152,23 @@ store-refines g (append d z s) t w f =
 store-refines g (reset d z) t w f = store-is g t (makeStore g (reset d z) t) d z blankZone (f .0) (f .1) (reset-own g t w d z (f .0) (f .1)) (reset-other g t w d z (f .0) (f .1))
 store-refines g (flush d) t w f = flush-is g t w d f
 
-pub store-sized : (g : Geometry) (x : Store) (t : Tables) → WellSized g t → Fits g x (deviceOf g t) → WellSized g (makeStore g x t)
-unfolding sectorsAfterAppend writtenAfterAppend pointersAfterReset durableAfterFlush
-store-sized g (append d z s) t w f =
+-- lengths stay as they are, whether an append has room or not
+append-sized : (g : Geometry) (t : Tables) (d z : ℕ) (s : List ℕ) (b : Bool) → hasRoom g d z (t .written) ≡ b → WellSized g t → d < g .drives → z < physicalZones g → length s ≡ g .sector
+    → WellSized g (pick b (record { sectors = sectorsAfterAppend g d z s (t .sectors) (t .written); written = writtenAfterAppend g d z (t .written); durable = t .durable }) t)
+unfolding sectorsAfterAppend writtenAfterAppend
+append-sized g t d z s false e w hd hz hs = w
+append-sized g t d z s true e w hd hz hs =
     let n = getD (t .written) (cell g d z) 0 in
-    let room = pointer-room g t d z (f .0) (f .1) (f .3) in
+    let room : n < g .capacity = ltb-true n (g .capacity) e in
     record {
-      sectors-long = length-overlay (t .sectors) (byteAt g d z n) s (omega (arith, w .sectors-long, f .2, sector-in g d z n (f .0) (f .1) room)) ∙ w .sectors-long;
+      sectors-long = length-overlay (t .sectors) (byteAt g d z n) s (omega (arith, w .sectors-long, hs, sector-in g d z n hd hz room)) ∙ w .sectors-long;
       written-long = rw length-set (w .written-long);
       durable-long = w .durable-long;
     }
+
+pub store-sized : (g : Geometry) (x : Store) (t : Tables) → WellSized g t → Placed g x → WellSized g (makeStore g x t)
+unfolding pointersAfterReset durableAfterFlush
+store-sized g (append d z s) t w f = append-sized g t d z s (hasRoom g d z (t .written)) refl w (f .0) (f .1) (f .2)
 store-sized g (reset d z) t w f = record { sectors-long = w .sectors-long; written-long = rw length-set (w .written-long); durable-long = rw length-set (w .durable-long) }
 store-sized g (flush d) t w f = record {
   sectors-long = w .sectors-long;
@@ -166,33 +176,14 @@ store-sized g (flush d) t w f = record {
   durable-long = length-overlay (t .durable) (cell g d 0) (take (physicalZones g) (drop (cell g d 0) (t .written))) (row-fits g t w d f) ∙ w .durable-long;
 }
 
-pub run-none : (g : Geometry) (xs : List Store) (t : Tables) → runStores g 0 xs t ≡ t
-run-none g [] t = refl
-run-none g (x ∷ xs) t = refl
+pub fits-placed : (g : Geometry) (x : Store) (v : Device) → Fits g x v → Placed g x
+fits-placed g (append d z s) v f = (f .0, f .1, f .2)
+fits-placed g (reset d z) v f = f
+fits-placed g (flush d) v f = f
 
-pub run-one : (g : Geometry) (k : ℕ) (x : Store) (t : Tables) → 0 < k → runStores g k (x ∷ []) t ≡ makeStore g x t
-run-one g zero x t h = absurd (omega arith)
-run-one g (suc k) x t h = refl
-
--- one store under a count: made if its drive is present and the count has one left
-pub run-idle : (g : Geometry) (here : Bool) (k : ℕ) (x : Store) (t : Tables) → here && ltb 0 k ≡ false → runStores g k (storeIf here x) t ≡ t
-run-idle g false k x t h = refl
-run-idle g true zero x t h = refl
-run-idle g true (suc k) x t h = absurd (true≢false (sym (lt-ltb 0 (suc k) (omega arith)) ∙ h))
-
-pub run-due : (g : Geometry) (here : Bool) (k : ℕ) (x : Store) (t : Tables) → here && ltb 0 k ≡ true → runStores g k (storeIf here x) t ≡ makeStore g x t
-run-due g false k x t h = absurd (true≢false (sym h))
-run-due g true zero x t h = absurd (true≢false (sym h))
-run-due g true (suc k) x t h = refl
-
-pub stores-left : (here : Bool) (k : ℕ) (x : Store) → k - pick here 1 0 ≡ k - length (storeIf here x)
-stores-left true k x = refl
-stores-left false k x = refl
-
-pub run-append : (g : Geometry) (k : ℕ) (p q : List Store) (t : Tables) → runStores g k (p ++ q) t ≡ runStores g (k - length p) q (runStores g k p t)
-run-append g k [] q t = ap (λ (j : ℕ). runStores g j q t) (sym (sub-zero k))
-run-append g zero (x ∷ p) q t = let e : 0 - length (x ∷ p) ≡ 0 = omega arith in sym (ap (λ (j : ℕ). runStores g j q t) e ∙ run-none g q t)
-run-append g (suc k) (x ∷ p) q t = let e : k - length p ≡ suc k - length (x ∷ p) = omega arith in run-append g k p q (makeStore g x t) ∙ ap (λ (j : ℕ). runStores g j q (runStores g k p (makeStore g x t))) e
+pub all-placed-append : (g : Geometry) (xs ys : List Store) → AllPlaced g xs → AllPlaced g ys → AllPlaced g (xs ++ ys)
+all-placed-append g [] ys p q = q
+all-placed-append g (x ∷ xs) ys p q = (p .0, all-placed-append g xs ys (p .1) q)
 
 -- the first k stores on the tables are the first k on the device
 pub run-refines : (g : Geometry) (k : ℕ) (xs : List Store) (t : Tables) → WellSized g t → FitsAll g xs (deviceOf g t) → deviceOf g (runStores g k xs t) ≡ applyAll (take k xs) (deviceOf g t)
@@ -200,12 +191,12 @@ run-refines g k [] t w f = rw take-nil refl
 run-refines g zero (x ∷ xs) t w f = refl
 run-refines g (suc k) (x ∷ xs) t w f =
     let e = store-refines g x t w (f .0) in
-    run-refines g k xs (makeStore g x t) (store-sized g x t w (f .0)) (rw e (f .1)) ∙ ap (applyAll (take k xs)) e
+    run-refines g k xs (makeStore g x t) (store-sized g x t w (fits-placed g x (deviceOf g t) (f .0))) (rw e (f .1)) ∙ ap (applyAll (take k xs)) e
 
-pub run-sized : (g : Geometry) (k : ℕ) (xs : List Store) (t : Tables) → WellSized g t → FitsAll g xs (deviceOf g t) → WellSized g (runStores g k xs t)
-run-sized g k [] t w f = w
-run-sized g zero (x ∷ xs) t w f = w
-run-sized g (suc k) (x ∷ xs) t w f = run-sized g k xs (makeStore g x t) (store-sized g x t w (f .0)) (rw (store-refines g x t w (f .0)) (f .1))
+pub run-sized : (g : Geometry) (k : ℕ) (xs : List Store) (t : Tables) → WellSized g t → AllPlaced g xs → WellSized g (runStores g k xs t)
+run-sized g k [] t w p = w
+run-sized g zero (x ∷ xs) t w p = w
+run-sized g (suc k) (x ∷ xs) t w p = run-sized g k xs (makeStore g x t) (store-sized g x t w (p .0)) (p .1)
 
 -- ---- a cut
 cut-zone : (g : Geometry) (t u : Tables) → TablesCut g t u → (k : ℕ) → k < cells g → ZoneCut (zoneAtCell g t k) (zoneAtCell g u k)

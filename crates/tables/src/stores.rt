@@ -1,15 +1,14 @@
 // The three stores on the tables, and each under a count of stores that is handed on.
 use super::Geometry;
 ghost use mathlib.Core.Path.{_≡_};
-ghost use mathlib.Core.Bool.{true, _&&_};
+ghost use mathlib.Core.Bool.{_&&_};
 ghost use lib.Dec.{ltb};
-ghost use mathlib.Core.List.{[]};
 ghost use Prim.Native.Nat.{_+_, _-_, _≤_, _<_};
 ghost use lib.ListN.{length, getD};
 ghost use Rattle.tables.specs.Basics.{pick};
 ghost use Rattle.tables.specs.Geometry.{Valid, physicalZones, cells, totalBytes};
 ghost use Rattle.tables.specs.Device.{append, reset, flush};
-ghost use Rattle.tables.specs.Tables.{cell, byteAt, tablesOf, sectorsAfterAppend, writtenAfterAppend, pointersAfterReset, durableAfterFlush, storeIf, runStores};
+ghost use Rattle.tables.specs.Tables.{hasRoom, MadeAppends, MadePointers, cell, byteAt, sectorsAfterAppend, writtenAfterAppend, pointersAfterReset, durableAfterFlush, storeIf};
 
 // A zone's cell in the tables of pointers.
 pub fn cell_of(g: Geometry, drive: usize, zone: usize) -> usize
@@ -113,7 +112,19 @@ fn left_after(here: bool, left: u32) -> u32
     left - 1
 }
 
-// An append, if its drive is present and a store is left: how many are left then.
+// Whether a zone has room for one more sector.
+fn has_room(written: &[u32], g: Geometry, drive: usize, zone: usize) -> bool
+    requires { ⌜ Valid g ⌝ }
+    requires { ⌜ (drive < g .drives) × (zone < physicalZones g) × (length (now written) ≡ cells g) ⌝ }
+    ensures { λ r. ⌜ r ≡ hasRoom g drive zone (now (written .entry)) ⌝ }
+{
+    let at = cell_of(g, drive, zone);
+    let n = super::bounds::widen(written[at]);
+    let c = g.capacity;
+    n < c
+}
+
+// An append, if its drive is present, a store is left and the zone has room: how many stores are left then.
 pub fn append_counted(
     sectors: &mut [u8],
     written: &mut [u32],
@@ -126,13 +137,11 @@ pub fn append_counted(
 ) -> u32
     requires { ⌜ Valid g ⌝ }
     requires { ⌜ (drive < g .drives) × (zone < physicalZones g) ⌝ }
-    requires { ⌜ (length (now sectors) ≡ totalBytes g) × (length (now written) ≡ cells g) ⌝ }
-    requires { ⌜ (length (now src) ≡ g .sector) × (here ≡ true → getD (now written) (cell g drive zone) 0 < g .capacity) ⌝ }
-    ensures { λ r. ⌜ (r ≡ left - length (storeIf here (append drive zone (now (src .entry)))))
-        × (now (sectors .exit) ≡ runStores g left (storeIf here (append drive zone (now (src .entry)))) (tablesOf (now (sectors .entry)) (now (written .entry)) []) .sectors)
-        × (now (written .exit) ≡ runStores g left (storeIf here (append drive zone (now (src .entry)))) (tablesOf (now (sectors .entry)) (now (written .entry)) []) .written) ⌝ }
+    requires { ⌜ (length (now sectors) ≡ totalBytes g) × (length (now written) ≡ cells g) × (length (now src) ≡ g .sector) ⌝ }
+    ensures { λ r. ⌜ MadeAppends g left r (storeIf here (append drive zone (now (src .entry)))) (now (sectors .entry)) (now (written .entry)) (now (sectors .exit)) (now (written .exit)) ⌝ }
 {
-    let made = due(here, left);
+    let room = has_room(written, g, drive, zone);
+    let made = due(here, left) & room;
     if !made {
         return left_after(here, left);
     }
@@ -153,9 +162,7 @@ pub fn reset_counted(
     requires { ⌜ Valid g ⌝ }
     requires { ⌜ (drive < g .drives) × (zone < physicalZones g) ⌝ }
     requires { ⌜ (length (now written) ≡ cells g) × (length (now durable) ≡ cells g) ⌝ }
-    ensures { λ r. ⌜ (r ≡ left - length (storeIf here (reset drive zone)))
-        × (now (written .exit) ≡ runStores g left (storeIf here (reset drive zone)) (tablesOf [] (now (written .entry)) (now (durable .entry))) .written)
-        × (now (durable .exit) ≡ runStores g left (storeIf here (reset drive zone)) (tablesOf [] (now (written .entry)) (now (durable .entry))) .durable) ⌝ }
+    ensures { λ r. ⌜ MadePointers g left r (storeIf here (reset drive zone)) (now (written .entry)) (now (durable .entry)) (now (written .exit)) (now (durable .exit)) ⌝ }
 {
     let made = due(here, left);
     if !made {
@@ -176,8 +183,7 @@ pub fn flush_counted(
 ) -> u32
     requires { ⌜ Valid g ⌝ }
     requires { ⌜ (drive < g .drives) × (length (now written) ≡ cells g) × (length (now durable) ≡ cells g) ⌝ }
-    ensures { λ r. ⌜ (r ≡ left - length (storeIf here (flush drive)))
-        × (now (durable .exit) ≡ runStores g left (storeIf here (flush drive)) (tablesOf [] (now (written .entry)) (now (durable .entry))) .durable) ⌝ }
+    ensures { λ r. ⌜ MadePointers g left r (storeIf here (flush drive)) (now (written .entry)) (now (durable .entry)) (now (written .entry)) (now (durable .exit)) ⌝ }
 {
     let made = due(here, left);
     if !made {

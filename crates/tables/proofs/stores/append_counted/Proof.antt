@@ -1,16 +1,17 @@
-use Rattle.tables.specs.Basics.{and-split}
 use denote.Ref.{now}
 use mathlib.Core.Bool.{true, false, _&&_}
-use mathlib.Core.List.{[]}
-use mathlib.Core.Path.{_≡_, _∙_, refl, sym}
+use mathlib.Core.Path.{_≡_, _∙_, refl}
 use lib.Dec.{ltb}
-use borrow.Author.Tests.{not-true, not-false}
-use Rattle.tables.specs.Device.{append}
-use Rattle.tables.specs.Tables.{tablesOf}
-use Rattle.tables.specs.TablesRefine.{run-idle, run-due, stores-left}
+use borrow.Author.Tests.{not-true, not-false, ltb-true}
+use Rattle.tables.specs.Basics.{and-split}
+use Rattle.tables.specs.Tables.{hasRoom}
+use Rattle.tables.specs.Counted.{append-idle, append-due}
 use borrow.Author.Needs.{needs}
 use Rattle.tables.proofs.stores.append_counted.Statement.{statement}
 use Rattle.tables.proofs.stores.append_counted.Tie as tie
+
+has-room-requires : tie.Need-has-room-requires
+has-room-requires c κs = search needs
 
 due-requires : tie.Need-due-requires
 due-requires c κs = search needs
@@ -18,48 +19,58 @@ due-requires c κs = search needs
 left-after-requires : tie.Need-left-after-requires
 left-after-requires c κs = search needs
 
+same-length : tie.Need-same-length
+same-length c = search needs
+
+-- the test that decides: the drive is present, a store is left, the zone has room
+made-is : (c : tie.After-due) → (c .before .before .before .before .before .before .args .here && ltb 0 (c .before .before .before .before .before .before .args .left)) && hasRoom (c .before .before .before .before .before .before .args .g) (c .before .before .before .before .before .before .args .drive) (c .before .before .before .before .before .before .args .zone) (now (c .before .before .before .before .before .before .args .written))
+    ≡ c .due .result && c .before .has-room .result
+made-is c = rw (c .due .ensures, c .before .has-room .ensures) refl
+
 returns : tie.Need-returns
 returns c =
-    let a = c .before .before .before .before .before .before .args in
-    let d = c .before .before in
-    let e : a .here && ltb 0 (a .left) ≡ false = sym (d .due .ensures) ∙ not-true (d .due .result) (c .before .if1 .taken) in
-    let o = run-idle (a .g) (a .here) (a .left) (append (a .drive) (a .zone) (now (a .src))) (tablesOf (now (a .sectors)) (now (a .written)) []) e in
-    (c .left-after .ensures ∙ stores-left (a .here) (a .left) (append (a .drive) (a .zone) (now (a .src))), rw o refl, rw o refl)
+    let s = c .before .before .before .before .before .before .before .before in
+    let a = s .args in
+    let e : (a .here && ltb 0 (a .left)) && hasRoom (a .g) (a .drive) (a .zone) (now (a .written)) ≡ false = made-is (c .before .before) ∙ not-true _ (c .before .if1 .taken) in
+    append-idle (a .g) (a .here) (a .left) (c .left-after .result) (a .drive) (a .zone) (now (a .src)) (now (a .sectors)) (now (a .written)) (c .left-after .ensures) e
 
 append-sector-requires : tie.Need-append-sector-requires
 append-sector-requires c κs =
-    let s = c .before .before .before .before .before .before .before in
-    let d = c .before .before .before in
-    let e : s .args .here && ltb 0 (s .args .left) ≡ true = sym (d .due .ensures) ∙ not-false (d .due .result) (c .before .before .if1 .left) in
-    (s .pre .0, (s .pre .1 .0, (s .pre .1 .1 .0, (s .pre .1 .1 .1 .0, s .pre .1 .1 .1 .1 (and-split (s .args .here) (ltb 0 (s .args .left)) e .0)))))
+    let s = c .before .before .before .before .before .before .before .before .before in
+    let a = s .args in
+    let e : (a .here && ltb 0 (a .left)) && hasRoom (a .g) (a .drive) (a .zone) (now (a .written)) ≡ true = made-is (c .before .before .before) ∙ not-false _ (c .before .before .if1 .left) in
+    let (p, q) = and-split (a .here && ltb 0 (a .left)) (hasRoom (a .g) (a .drive) (a .zone) (now (a .written))) e in
+    (s .pre .0, (s .pre .1 .0, ((s .pre .1 .1 .0, s .pre .1 .1 .1), (s .pre .1 .1 .2, ltb-true _ _ q))))
 
 left-after-requires-2 : tie.Need-left-after-requires-2
 left-after-requires-2 c κs = search needs
 
-same-length : tie.Need-same-length
-same-length c = search needs
-
 same-length-2 : tie.Need-same-length-2
 same-length-2 c = search needs
 
+same-length-3 : tie.Need-same-length-3
+same-length-3 c = search needs
+
 returns-2 : tie.Need-returns-2
 returns-2 c =
-    let a = c .before .before .before .before .before .before .before .before .before .before .before .before .before .args in
+    let s = c .before .before .before .before .before .before .before .before .before .before .before .before .before .before .before in
+    let a = s .args in
     let d = c .before .before .before .before .before .before .before .before .before in
-    let e : a .here && ltb 0 (a .left) ≡ true = sym (d .due .ensures) ∙ not-false (d .due .result) (c .before .before .before .before .before .before .before .before .if1 .left) in
-    let o = run-due (a .g) (a .here) (a .left) (append (a .drive) (a .zone) (now (a .src))) (tablesOf (now (a .sectors)) (now (a .written)) []) e in
+    let e : (a .here && ltb 0 (a .left)) && hasRoom (a .g) (a .drive) (a .zone) (now (a .written)) ≡ true = made-is d ∙ not-false _ (c .before .before .before .before .before .before .before .before .if1 .left) in
     let f = c .before .before .before .before .before .append-sector .ensures in
-    (c .left-after2 .ensures ∙ stores-left (a .here) (a .left) (append (a .drive) (a .zone) (now (a .src))), f .0 ∙ rw o refl, f .1 ∙ rw o refl)
+    rw (f .0, f .1) (append-due (a .g) (a .here) (a .left) (c .left-after2 .result) (a .drive) (a .zone) (now (a .src)) (now (a .sectors)) (now (a .written)) (c .left-after2 .ensures) e)
 
 pub append-counted-spec : {M : Type 1} → statement M
 append-counted-spec =
     tie.close
     (tie.spec
+    has-room-requires
     due-requires
     left-after-requires
+    same-length
     returns
     append-sector-requires
     left-after-requires-2
-    same-length
     same-length-2
+    same-length-3
     returns-2)

@@ -1,12 +1,11 @@
 use denote.Ref.{now}
 use mathlib.Core.Bool.{true, false, _&&_}
-use mathlib.Core.List.{[]}
-use mathlib.Core.Path.{_≡_, _∙_, refl, sym}
+use mathlib.Core.Path.{_≡_, _∙_, sym}
 use lib.Dec.{ltb}
 use borrow.Author.Tests.{not-true, not-false}
 use Rattle.tables.specs.Device.{flush}
 use Rattle.tables.specs.Tables.{tablesOf}
-use Rattle.tables.specs.TablesRefine.{run-idle, run-due, stores-left}
+use Rattle.tables.specs.Counted.{made-idle, made-due}
 use borrow.Author.Needs.{needs}
 use Rattle.tables.proofs.stores.flush_counted.Statement.{statement}
 use Rattle.tables.proofs.stores.flush_counted.Tie as tie
@@ -22,8 +21,7 @@ returns c =
     let a = c .before .before .before .before .before .args in
     let d = c .before .before in
     let e : a .here && ltb 0 (a .left) ≡ false = sym (d .due .ensures) ∙ not-true (d .due .result) (c .before .if1 .taken) in
-    let o = run-idle (a .g) (a .here) (a .left) (flush (a .drive)) (tablesOf [] (now (a .written)) (now (a .durable))) e in
-    (c .left-after .ensures ∙ stores-left (a .here) (a .left) (flush (a .drive)), rw o refl)
+    record { made = λ xs. made-idle (a .g) (a .here) (a .left) (c .left-after .result) (flush (a .drive)) (tablesOf xs (now (a .written)) (now (a .durable))) (c .left-after .ensures) e }
 
 flush-drive-requires : tie.Need-flush-drive-requires
 flush-drive-requires c κs = search needs
@@ -39,9 +37,8 @@ returns-2 c =
     let a = c .before .before .before .before .before .before .before .before .before .args in
     let d = c .before .before .before .before .before .before in
     let e : a .here && ltb 0 (a .left) ≡ true = sym (d .due .ensures) ∙ not-false (d .due .result) (c .before .before .before .before .before .if1 .left) in
-    let o = run-due (a .g) (a .here) (a .left) (flush (a .drive)) (tablesOf [] (now (a .written)) (now (a .durable))) e in
     let f = c .before .before .before .flush-drive .ensures in
-    (c .left-after2 .ensures ∙ stores-left (a .here) (a .left) (flush (a .drive)), f ∙ rw o refl)
+    record { made = λ xs. rw (f) (made-due (a .g) (a .here) (a .left) (c .left-after2 .result) (flush (a .drive)) (tablesOf xs (now (a .written)) (now (a .durable))) (c .left-after2 .ensures) e) }
 
 pub flush-counted-spec : {M : Type 1} → statement M
 flush-counted-spec =

@@ -72,17 +72,18 @@ abbrev pub storeIf : Bool → Store → List Store
 storeIf true s = s ∷ []
 storeIf false s = []
 
--- ---- what a storing function states: the first `left` stores of the list are made, and so many are left of the count
-pub record Made (g : Geometry) (left rest : ℕ) (ss : List Store) (t u : Tables) : Type 0 where
-  pub rest-is : rest ≡ left - length ss
-  pub tables-are : u ≡ runStores g left ss t
+-- ---- what a storing function states. It is handed a budget, one more than the stores that may still be made, and hands on what is left of
+-- it: so a call has made all its stores exactly if its budget, begun at its count of stores plus one, does not end at 0.
+pub record Made (g : Geometry) (budget rest : ℕ) (ss : List Store) (t u : Tables) : Type 0 where
+  pub rest-is : rest ≡ budget - length ss
+  pub tables-are : u ≡ runStores g (budget - 1) ss t
 
 -- the same of one that is handed only the tables it changes: so it is whatever the third one holds
-pub record MadeAppends (g : Geometry) (left rest : ℕ) (ss : List Store) (xs ws xs′ ws′ : List ℕ) : Type 0 where
-  pub made : (ds : List ℕ) → Made g left rest ss (tablesOf xs ws ds) (tablesOf xs′ ws′ ds)
+pub record MadeAppends (g : Geometry) (budget rest : ℕ) (ss : List Store) (xs ws xs′ ws′ : List ℕ) : Type 0 where
+  pub made : (ds : List ℕ) → Made g budget rest ss (tablesOf xs ws ds) (tablesOf xs′ ws′ ds)
 
-pub record MadePointers (g : Geometry) (left rest : ℕ) (ss : List Store) (ws ds ws′ ds′ : List ℕ) : Type 0 where
-  pub made : (xs : List ℕ) → Made g left rest ss (tablesOf xs ws ds) (tablesOf xs ws′ ds′)
+pub record MadePointers (g : Geometry) (budget rest : ℕ) (ss : List Store) (ws ds ws′ ds′ : List ℕ) : Type 0 where
+  pub made : (xs : List ℕ) → Made g budget rest ss (tablesOf xs ws ds) (tablesOf xs ws′ ds′)
 
 -- ---- the device that the tables stand for. A pointer past its zone's end (refusal 3) counts as one at the end.
 unfoldable pub zoneAtCell : Geometry → Tables → ℕ → ZoneView

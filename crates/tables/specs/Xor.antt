@@ -147,3 +147,7 @@ xor-zeros zero [] e = refl
 xor-zeros zero (x ∷ xs) e = refl
 xor-zeros (suc n) [] e = absurd (omega arith)
 xor-zeros (suc n) (x ∷ xs) e = rw (xor-zero-l x) (ap (λ (l : List ℕ). x ∷ l) (xor-zeros n xs (omega arith)))
+
+pub xor-below-none : (f : ℕ → List ℕ) (n : ℕ) → ((k : ℕ) → k < n → f k ≡ []) → xorBelow f n ≡ []
+xor-below-none f zero h = refl
+xor-below-none f (suc n) h = rw (xor-below-none f n (λ k l. h k (omega arith)), h n (omega arith)) refl

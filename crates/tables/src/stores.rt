@@ -92,24 +92,24 @@ pub fn flush_drive(written: &[u32], durable: &mut [u32], g: Geometry, drive: usi
     super::sectors::copy_pointers(durable, at, &written[at..end]);
 }
 
-// Whether a store is made: its drive is present and the count of stores has one left.
-fn due(here: bool, left: u32) -> bool
-    ensures { λ r. ⌜ r ≡ here && ltb 0 left ⌝ }
+// Whether a store is made: its drive is present, and the budget, one more than the stores that may still be made, has one left.
+fn due(here: bool, budget: u64) -> bool
+    ensures { λ r. ⌜ r ≡ here && ltb 1 budget ⌝ }
 {
-    here & (0 < left)
+    here & (1 < budget)
 }
 
-// What the count of stores has left then.
-fn left_after(here: bool, left: u32) -> u32
-    ensures { λ r. ⌜ r ≡ left - pick here 1 0 ⌝ }
+// What is left of the budget after a store that was due, or was wanting.
+fn left_after(here: bool, budget: u64) -> u64
+    ensures { λ r. ⌜ r ≡ budget - pick here 1 0 ⌝ }
 {
     if !here {
-        return left;
+        return budget;
     }
-    if left == 0 {
+    if budget == 0 {
         return 0;
     }
-    left - 1
+    budget - 1
 }
 
 // Whether a zone has room for one more sector.
@@ -124,7 +124,7 @@ fn has_room(written: &[u32], g: Geometry, drive: usize, zone: usize) -> bool
     n < c
 }
 
-// An append, if its drive is present, a store is left and the zone has room: how many stores are left then.
+// An append, if its drive is present, the budget has a store left and the zone has room: what is left of the budget.
 pub fn append_counted(
     sectors: &mut [u8],
     written: &mut [u32],
@@ -133,23 +133,23 @@ pub fn append_counted(
     drive: usize,
     zone: usize,
     src: &[u8],
-    left: u32,
-) -> u32
+    budget: u64,
+) -> u64
     requires { ⌜ Valid g ⌝ }
     requires { ⌜ (drive < g .drives) × (zone < physicalZones g) ⌝ }
     requires { ⌜ (length (now sectors) ≡ totalBytes g) × (length (now written) ≡ cells g) × (length (now src) ≡ g .sector) ⌝ }
-    ensures { λ r. ⌜ MadeAppends g left r (storeIf here (append drive zone (now (src .entry)))) (now (sectors .entry)) (now (written .entry)) (now (sectors .exit)) (now (written .exit)) ⌝ }
+    ensures { λ r. ⌜ MadeAppends g budget r (storeIf here (append drive zone (now (src .entry)))) (now (sectors .entry)) (now (written .entry)) (now (sectors .exit)) (now (written .exit)) ⌝ }
 {
     let room = has_room(written, g, drive, zone);
-    let made = due(here, left) & room;
+    let made = due(here, budget) & room;
     if !made {
-        return left_after(here, left);
+        return left_after(here, budget);
     }
     append_sector(sectors, written, g, drive, zone, src);
-    left_after(here, left)
+    left_after(here, budget)
 }
 
-// A reset, if its drive is present and a store is left: how many are left then.
+// A reset, if its drive is present and the budget has a store left: what is left of it.
 pub fn reset_counted(
     written: &mut [u32],
     durable: &mut [u32],
@@ -157,38 +157,38 @@ pub fn reset_counted(
     here: bool,
     drive: usize,
     zone: usize,
-    left: u32,
-) -> u32
+    budget: u64,
+) -> u64
     requires { ⌜ Valid g ⌝ }
     requires { ⌜ (drive < g .drives) × (zone < physicalZones g) ⌝ }
     requires { ⌜ (length (now written) ≡ cells g) × (length (now durable) ≡ cells g) ⌝ }
-    ensures { λ r. ⌜ MadePointers g left r (storeIf here (reset drive zone)) (now (written .entry)) (now (durable .entry)) (now (written .exit)) (now (durable .exit)) ⌝ }
+    ensures { λ r. ⌜ MadePointers g budget r (storeIf here (reset drive zone)) (now (written .entry)) (now (durable .entry)) (now (written .exit)) (now (durable .exit)) ⌝ }
 {
-    let made = due(here, left);
+    let made = due(here, budget);
     if !made {
-        return left_after(here, left);
+        return left_after(here, budget);
     }
     reset_zone(written, durable, g, drive, zone);
-    left_after(here, left)
+    left_after(here, budget)
 }
 
-// A flush of a drive, if it is present and a store is left: how many are left then.
+// A flush of a drive, if it is present and the budget has a store left: what is left of it.
 pub fn flush_counted(
     written: &[u32],
     durable: &mut [u32],
     g: Geometry,
     here: bool,
     drive: usize,
-    left: u32,
-) -> u32
+    budget: u64,
+) -> u64
     requires { ⌜ Valid g ⌝ }
     requires { ⌜ (drive < g .drives) × (length (now written) ≡ cells g) × (length (now durable) ≡ cells g) ⌝ }
-    ensures { λ r. ⌜ MadePointers g left r (storeIf here (flush drive)) (now (written .entry)) (now (durable .entry)) (now (written .entry)) (now (durable .exit)) ⌝ }
+    ensures { λ r. ⌜ MadePointers g budget r (storeIf here (flush drive)) (now (written .entry)) (now (durable .entry)) (now (written .entry)) (now (durable .exit)) ⌝ }
 {
-    let made = due(here, left);
+    let made = due(here, budget);
     if !made {
-        return left_after(here, left);
+        return left_after(here, budget);
     }
     flush_drive(written, durable, g, drive);
-    left_after(here, left)
+    left_after(here, budget)
 }

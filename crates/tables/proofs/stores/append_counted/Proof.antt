@@ -23,7 +23,7 @@ same-length : tie.Need-same-length
 same-length c = search needs
 
 -- the test that decides: the drive is present, a store is left, the zone has room
-made-is : (c : tie.After-due) → (c .before .before .before .before .before .before .args .here && ltb 0 (c .before .before .before .before .before .before .args .left)) && hasRoom (c .before .before .before .before .before .before .args .g) (c .before .before .before .before .before .before .args .drive) (c .before .before .before .before .before .before .args .zone) (now (c .before .before .before .before .before .before .args .written))
+made-is : (c : tie.After-due) → (c .before .before .before .before .before .before .args .here && ltb 1 (c .before .before .before .before .before .before .args .budget)) && hasRoom (c .before .before .before .before .before .before .args .g) (c .before .before .before .before .before .before .args .drive) (c .before .before .before .before .before .before .args .zone) (now (c .before .before .before .before .before .before .args .written))
     ≡ c .due .result && c .before .has-room .result
 made-is c = rw (c .due .ensures, c .before .has-room .ensures) refl
 
@@ -31,15 +31,15 @@ returns : tie.Need-returns
 returns c =
     let s = c .before .before .before .before .before .before .before .before in
     let a = s .args in
-    let e : (a .here && ltb 0 (a .left)) && hasRoom (a .g) (a .drive) (a .zone) (now (a .written)) ≡ false = made-is (c .before .before) ∙ not-true _ (c .before .if1 .taken) in
-    append-idle (a .g) (a .here) (a .left) (c .left-after .result) (a .drive) (a .zone) (now (a .src)) (now (a .sectors)) (now (a .written)) (c .left-after .ensures) e
+    let e : (a .here && ltb 1 (a .budget)) && hasRoom (a .g) (a .drive) (a .zone) (now (a .written)) ≡ false = made-is (c .before .before) ∙ not-true _ (c .before .if1 .taken) in
+    append-idle (a .g) (a .here) (a .budget) (c .left-after .result) (a .drive) (a .zone) (now (a .src)) (now (a .sectors)) (now (a .written)) (c .left-after .ensures) e
 
 append-sector-requires : tie.Need-append-sector-requires
 append-sector-requires c κs =
     let s = c .before .before .before .before .before .before .before .before .before in
     let a = s .args in
-    let e : (a .here && ltb 0 (a .left)) && hasRoom (a .g) (a .drive) (a .zone) (now (a .written)) ≡ true = made-is (c .before .before .before) ∙ not-false _ (c .before .before .if1 .left) in
-    let (p, q) = and-split (a .here && ltb 0 (a .left)) (hasRoom (a .g) (a .drive) (a .zone) (now (a .written))) e in
+    let e : (a .here && ltb 1 (a .budget)) && hasRoom (a .g) (a .drive) (a .zone) (now (a .written)) ≡ true = made-is (c .before .before .before) ∙ not-false _ (c .before .before .if1 .left) in
+    let (p, q) = and-split (a .here && ltb 1 (a .budget)) (hasRoom (a .g) (a .drive) (a .zone) (now (a .written))) e in
     (s .pre .0, (s .pre .1 .0, ((s .pre .1 .1 .0, s .pre .1 .1 .1), (s .pre .1 .1 .2, ltb-true _ _ q))))
 
 left-after-requires-2 : tie.Need-left-after-requires-2
@@ -56,9 +56,9 @@ returns-2 c =
     let s = c .before .before .before .before .before .before .before .before .before .before .before .before .before .before .before in
     let a = s .args in
     let d = c .before .before .before .before .before .before .before .before .before in
-    let e : (a .here && ltb 0 (a .left)) && hasRoom (a .g) (a .drive) (a .zone) (now (a .written)) ≡ true = made-is d ∙ not-false _ (c .before .before .before .before .before .before .before .before .if1 .left) in
+    let e : (a .here && ltb 1 (a .budget)) && hasRoom (a .g) (a .drive) (a .zone) (now (a .written)) ≡ true = made-is d ∙ not-false _ (c .before .before .before .before .before .before .before .before .if1 .left) in
     let f = c .before .before .before .before .before .append-sector .ensures in
-    rw (f .0, f .1) (append-due (a .g) (a .here) (a .left) (c .left-after2 .result) (a .drive) (a .zone) (now (a .src)) (now (a .sectors)) (now (a .written)) (c .left-after2 .ensures) e)
+    rw (f .0, f .1) (append-due (a .g) (a .here) (a .budget) (c .left-after2 .result) (a .drive) (a .zone) (now (a .src)) (now (a .sectors)) (now (a .written)) (c .left-after2 .ensures) e)
 
 pub append-counted-spec : {M : Type 1} → statement M
 append-counted-spec =

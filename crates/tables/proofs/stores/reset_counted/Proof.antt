@@ -20,8 +20,8 @@ returns : tie.Need-returns
 returns c =
     let a = c .before .before .before .before .before .args in
     let d = c .before .before in
-    let e : a .here && ltb 0 (a .left) ≡ false = sym (d .due .ensures) ∙ not-true (d .due .result) (c .before .if1 .taken) in
-    record { made = λ xs. made-idle (a .g) (a .here) (a .left) (c .left-after .result) (reset (a .drive) (a .zone)) (tablesOf xs (now (a .written)) (now (a .durable))) (c .left-after .ensures) e }
+    let e : a .here && ltb 1 (a .budget) ≡ false = sym (d .due .ensures) ∙ not-true (d .due .result) (c .before .if1 .taken) in
+    record { made = λ xs. made-idle (a .g) (a .here) (a .budget) (c .left-after .result) (reset (a .drive) (a .zone)) (tablesOf xs (now (a .written)) (now (a .durable))) (c .left-after .ensures) e }
 
 reset-zone-requires : tie.Need-reset-zone-requires
 reset-zone-requires c κs = search needs
@@ -39,9 +39,9 @@ returns-2 : tie.Need-returns-2
 returns-2 c =
     let a = c .before .before .before .before .before .before .before .before .before .before .before .before .args in
     let d = c .before .before .before .before .before .before .before .before .before in
-    let e : a .here && ltb 0 (a .left) ≡ true = sym (d .due .ensures) ∙ not-false (d .due .result) (c .before .before .before .before .before .before .before .before .if1 .left) in
+    let e : a .here && ltb 1 (a .budget) ≡ true = sym (d .due .ensures) ∙ not-false (d .due .result) (c .before .before .before .before .before .before .before .before .if1 .left) in
     let f = c .before .before .before .before .before .reset-zone .ensures in
-    record { made = λ xs. rw (f .0, f .1) (made-due (a .g) (a .here) (a .left) (c .left-after2 .result) (reset (a .drive) (a .zone)) (tablesOf xs (now (a .written)) (now (a .durable))) (c .left-after2 .ensures) e) }
+    record { made = λ xs. rw (f .0, f .1) (made-due (a .g) (a .here) (a .budget) (c .left-after2 .result) (reset (a .drive) (a .zone)) (tablesOf xs (now (a .written)) (now (a .durable))) (c .left-after2 .ensures) e) }
 
 pub reset-counted-spec : {M : Type 1} → statement M
 reset-counted-spec =

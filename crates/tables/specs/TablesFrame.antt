@@ -106,12 +106,15 @@ run-frame g present k (x ∷ xs) t e w f a = go (present (storeDrive x)) refl k 
         same-drive-trans g e t u (runStores g j (onPresent present xs) u) (store-frame g x t e w (p .0) (λ r. true≢false (sym q ∙ rw (← r) a))) (ih j u (store-sized g x t w (p .0)) (p .1))
 
 -- ---- what passing refusal 2 gives, and what gives it
-pub lengths-sized : (g : Geometry) (xs ws ds : List ℕ) → lengthsFit g (length xs) (length ws) (length ds) ≡ true → WellSized g (tablesOf xs ws ds)
+pub lengths-are : (g : Geometry) (sectors written durable : ℕ) → lengthsFit g sectors written durable ≡ true → (sectors ≡ totalBytes g) × (written ≡ cells g) × (durable ≡ cells g)
 unfolding lengthsFit
-lengths-sized g xs ws ds h =
-    let (p, q) = and-split (eqb (length xs) (totalBytes g)) (eqb (length ws) (cells g) && eqb (length ds) (cells g)) h in
-    let (r, s) = and-split (eqb (length ws) (cells g)) (eqb (length ds) (cells g)) q in
-    record { sectors-long = eqb-true (length xs) (totalBytes g) p; written-long = eqb-true (length ws) (cells g) r; durable-long = eqb-true (length ds) (cells g) s }
+lengths-are g a b c h =
+    let (p, q) = and-split (eqb a (totalBytes g)) (eqb b (cells g) && eqb c (cells g)) h in
+    let (r, s) = and-split (eqb b (cells g)) (eqb c (cells g)) q in
+    (eqb-true a (totalBytes g) p, eqb-true b (cells g) r, eqb-true c (cells g) s)
+
+pub lengths-sized : (g : Geometry) (xs ws ds : List ℕ) → lengthsFit g (length xs) (length ws) (length ds) ≡ true → WellSized g (tablesOf xs ws ds)
+lengths-sized g xs ws ds h = let (a, b, c) = lengths-are g (length xs) (length ws) (length ds) h in record { sectors-long = a; written-long = b; durable-long = c }
 
 pub sized-lengths : (g : Geometry) (t : Tables) → WellSized g t → lengthsFit g (length (t .sectors)) (length (t .written)) (length (t .durable)) ≡ true
 unfolding lengthsFit

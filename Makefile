@@ -1,5 +1,5 @@
 # check: prove every crate and run the programs (only what changed since the last time)
-# test:  the layout, then everything from nothing with the edits that must be refused; the merge gate
+# test:  the layout, the expected output of log_walks worked out anew, then everything from nothing with the edits that must be refused; the merge gate
 .PHONY: check test fmt
 
 check:
@@ -7,6 +7,7 @@ check:
 
 test:
 	@rt fmt --check
+	@python3 scripts/expect_log_walks.py | cmp - crates/log_walks/stdout
 	@rt ci
 
 fmt:

@@ -7,7 +7,8 @@ use native.Mathlib.Nat.{le-refl, not-suc-le-zero}
 use native.Mathlib.Decide.{ℕ-discrete}
 use native.Mathlib.Omega.{arith}
 use lib.Dec.{ltb, eqb}
-use Rattle.tables.specs.Basics.{pick}
+use borrow.Author.Tests.{ltb-true, lt-ltb, ne-eqb}
+use Rattle.tables.specs.Basics.{pick, and-split}
 use Rattle.tables.specs.declared.Geometry.{Geometry}
 
 -- the number that names no drive: nothing is lost
@@ -63,3 +64,10 @@ find-below-some p (suc n) d h q = go (p n) refl (ℕ-discrete d n) (λ m. find-b
     go true e t ih = e
     go false e (yes t) ih = absurd (true≢false (sym q ∙ rw t e))
     go false e (no t) ih = ih (omega arith)
+
+-- ---- the drives of a volume that has lost drive x
+pub present-below : (g : Geometry) (x d : ℕ) → presentBut g x d ≡ true → d < g .drives
+present-below g x d h = ltb-true d (g .drives) (and-split (ltb d (g .drives)) (not (eqb d x)) h .0)
+
+pub present-other : (g : Geometry) (x d : ℕ) → d < g .drives → d ≢ x → presentBut g x d ≡ true
+present-other g x d h n = rw (lt-ltb d (g .drives) h, ne-eqb d x n) refl

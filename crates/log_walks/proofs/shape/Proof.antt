@@ -1,0 +1,9 @@
+use Rattle.log_walks.specs.Worked.{worked}
+use Rattle.log_walks.proofs.shape.Statement.{statement}
+use Rattle.log_walks.proofs.shape.Tie as tie
+
+returns : tie.Need-returns
+returns c = worked
+
+pub shape-spec : {M : Type 1} → statement M
+shape-spec = tie.close (tie.spec returns)

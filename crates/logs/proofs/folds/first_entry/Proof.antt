@@ -1,0 +1,30 @@
+use Rattle.logs.specs.Walk.{walkLog}
+use Rattle.logs.specs.WalkCode.{logSectors}
+use mathlib.Core.Path.{_∙_, sym}
+use Rattle.logs.specs.Answers.{first-left, first-whole}
+use borrow.Author.Needs.{needs}
+use Rattle.logs.proofs.folds.first_entry.Statement.{statement}
+use Rattle.logs.proofs.folds.first_entry.Tie as tie
+
+next-entry-requires : tie.Need-next-entry-requires
+next-entry-requires c κs = search needs
+
+enum-told : tie.Need-enum-told
+enum-told c = search needs
+
+enum-known-step : tie.Need-enum-known-step
+enum-known-step c = search needs
+
+returns : tie.Need-returns
+returns c =
+    let a = c .before .before .before .before .args in
+    first-left (a .g) (walkLog (a .g) (a .drive) (a .parity) (logSectors (a .g) (a .drive) (a .zone) (a .sectors .now) (a .n))) (c .enum-told .given .0 .0) (sym (c .before .before .next-entry .ensures) ∙ c .enum-told .given .1)
+
+returns-2 : tie.Need-returns-2
+returns-2 c =
+    let a = c .before .before .before .before .before .args in
+    first-whole (a .g) (walkLog (a .g) (a .drive) (a .parity) (logSectors (a .g) (a .drive) (a .zone) (a .sectors .now) (a .n))) (c .before .step .given .0 .0) (c .before .step .given .0 .1 .0) (sym (c .before .before .before .next-entry .ensures) ∙ c .before .step .given .1)
+
+pub first-entry-spec : {M : Type 1} → statement M
+first-entry-spec =
+    tie.close (tie.spec next-entry-requires enum-told enum-known-step returns returns-2)

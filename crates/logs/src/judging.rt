@@ -1,0 +1,374 @@
+// What a sector holds, as an entry of one log of one drive: its fields are read, tested against geometry, drive and log, and all its bytes
+// compared with those of the header that they make. No buffer, no copy.
+use super::Found;
+use tables::Geometry;
+ghost use mathlib.Core.Path.{_≡_};
+ghost use mathlib.Core.Logic.{_≢_};
+ghost use Prim.Native.Nat.{_+_, _*_, _-_, _≤_, _<_};
+ghost use lib.ListN.{length, take, drop, replicate};
+ghost use Rattle.tables.specs.Geometry.{Valid, stripeSectors, zoneSectors};
+ghost use Rattle.tables.specs.LittleEndian.{bytesLE, sameBytes, readLE};
+ghost use Rattle.logs.specs.Lays.{headSame};
+ghost use Rattle.logs.specs.Judge.{found};
+ghost use Rattle.logs.specs.JudgeMore.{eachSame, labelSame};
+ghost use Rattle.logs.specs.WalkCode.{rowsSeen, badSeen};
+ghost use Rattle.logs.specs.Entry.{markBytes, decode, fitsLog, kindOf, frame, zoneReset, partialParity, seal};
+
+// Do the eight bytes from `at` say n?
+fn same_u64(s: &[u8], at: usize, n: u64) -> bool
+    requires { ⌜ at + 8 ≤ length (now s) ⌝ }
+    ensures { λ r. ⌜ r ≡ sameBytes (bytesLE 8 n) (take 8 (drop at (now (s .entry)))) ⌝ }
+{
+    let b0 = tables::bytes::wide(s[at]);
+    let b1 = tables::bytes::wide(s[at + 1]);
+    let b2 = tables::bytes::wide(s[at + 2]);
+    let b3 = tables::bytes::wide(s[at + 3]);
+    let b4 = tables::bytes::wide(s[at + 4]);
+    let b5 = tables::bytes::wide(s[at + 5]);
+    let b6 = tables::bytes::wide(s[at + 6]);
+    let b7 = tables::bytes::wide(s[at + 7]);
+    let n1 = n / 256;
+    let n2 = n1 / 256;
+    let n3 = n2 / 256;
+    let n4 = n3 / 256;
+    let n5 = n4 / 256;
+    let n6 = n5 / 256;
+    let n7 = n6 / 256;
+    (n % 256 == b0)
+        & ((n1 % 256 == b1)
+            & ((n2 % 256 == b2)
+                & ((n3 % 256 == b3)
+                    & ((n4 % 256 == b4)
+                        & ((n5 % 256 == b5) & ((n6 % 256 == b6) & (n7 % 256 == b7)))))))
+}
+
+// Do the four bytes from `at` say n?
+fn same_u32(s: &[u8], at: usize, n: u32) -> bool
+    requires { ⌜ at + 4 ≤ length (now s) ⌝ }
+    ensures { λ r. ⌜ r ≡ sameBytes (bytesLE 4 n) (take 4 (drop at (now (s .entry)))) ⌝ }
+{
+    let b0 = tables::bytes::wide32(s[at]);
+    let b1 = tables::bytes::wide32(s[at + 1]);
+    let b2 = tables::bytes::wide32(s[at + 2]);
+    let b3 = tables::bytes::wide32(s[at + 3]);
+    let n1 = n / 256;
+    let n2 = n1 / 256;
+    let n3 = n2 / 256;
+    (n % 256 == b0) & ((n1 % 256 == b1) & ((n2 % 256 == b2) & (n3 % 256 == b3)))
+}
+
+// Are all bytes from `at` on zero?
+fn zeros_from(s: &[u8], at: usize) -> bool
+    requires { ⌜ at ≤ length (now s) ⌝ }
+    ensures { λ r. ⌜ r ≡ sameBytes (replicate (length (now (s .entry)) - at) 0) (drop at (now (s .entry))) ⌝ }
+{
+    let n = s.len();
+    let mut i = at;
+    while i < n {
+        if s[i] != 0 {
+            return false;
+        }
+        i += 1;
+    }
+    true
+}
+
+// Are the first eight bytes the mark, this type, version 1 and zeros?
+fn is_mark(s: &[u8], kind: u8) -> bool
+    requires { ⌜ 8 ≤ length (now s) ⌝ }
+    ensures { λ r. ⌜ r ≡ sameBytes (markBytes kind) (take 8 (now (s .entry))) ⌝ }
+{
+    (super::MARK[0] == s[0])
+        & ((super::MARK[1] == s[1])
+            & ((super::MARK[2] == s[2])
+                & ((kind == s[3])
+                    & ((super::VERSION == s[4]) & ((0 == s[5]) & ((0 == s[6]) & (0 == s[7])))))))
+}
+
+// Do the first 32 bytes say so?
+fn is_frame(s: &[u8], kind: u8, start: u64, end: u64, generation: u64) -> bool
+    requires { ⌜ 32 ≤ length (now s) ⌝ }
+    ensures { λ r. ⌜ r ≡ headSame kind start end generation (now (s .entry)) ⌝ }
+{
+    let a = same_u64(s, 8, start);
+    let b = same_u64(s, 16, end);
+    let c = same_u64(s, 24, generation);
+    let m = is_mark(s, kind);
+    m & (a & (b & c))
+}
+
+// Are all bytes those of a header with zeros from byte 32 on?
+fn is_span(s: &[u8], kind: u8, start: u64, end: u64, generation: u64) -> bool
+    requires { ⌜ 32 ≤ length (now s) ⌝ }
+    ensures { λ r. ⌜ r ≡ sameBytes (frame kind start end generation (replicate (length (now (s .entry)) - 32) 0)) (now (s .entry)) ⌝ }
+{
+    let a = is_frame(s, kind, start, end, generation);
+    let b = zeros_from(s, 32);
+    a & b
+}
+
+// Are the eight bytes from `at` those of the number that they read as?
+fn same_word(s: &[u8], at: usize) -> bool
+    requires { ⌜ at + 8 ≤ length (now s) ⌝ }
+    ensures { λ r. ⌜ r ≡ sameBytes (bytesLE 8 (readLE 8 (now (s .entry)) at)) (take 8 (drop at (now (s .entry)))) ⌝ }
+{
+    let n = tables::bytes::read_u64(s, at);
+    same_u64(s, at, n)
+}
+
+// The same of l numbers from byte 32 on: a generation may be any number.
+fn words_same(s: &[u8], l: usize) -> bool
+    requires { ⌜ (32 + 8 * l ≤ length (now s)) × (l ≤ 16) ⌝ }
+    ensures { λ r. ⌜ r ≡ eachSame l (drop 32 (now (s .entry))) ⌝ }
+{
+    let mut i = 0;
+    while i < l {
+        let ok = same_word(s, 32 + 8 * i);
+        if !ok {
+            return false;
+        }
+        i += 1;
+    }
+    true
+}
+
+// Type 3 stands in the general log, on the drives of the first unit and of parity of its zone's stripe 0.
+fn reset_fits(g: Geometry, drive: usize, parity: bool, z: usize) -> bool
+    requires { ⌜ Valid g ⌝ }
+    ensures { λ r. ⌜ r ≡ fitsLog g drive parity (zoneReset z 0) ⌝ }
+{
+    let l = g.zones;
+    if l <= z {
+        return false;
+    }
+    let d = g.drives;
+    let f = tables::placement::first_drive(g, z);
+    let p = tables::placement::parity_drive(d, z, 0);
+    !parity & ((drive == f) | (drive == p))
+}
+
+// Type 5 stands in the general log, its pointer above 0 and inside the zone.
+fn seal_fits(g: Geometry, parity: bool, z: usize, n: usize) -> bool
+    requires { ⌜ Valid g ⌝ }
+    ensures { λ r. ⌜ r ≡ fitsLog g 0 parity (seal z n 0) ⌝ }
+{
+    let l = g.zones;
+    let q = tables::bounds::zone_sectors(g);
+    !parity & ((z < l) & ((0 < n) & (n <= q)))
+}
+
+// Type 4 stands in the parity log of its stripe's parity drive, its end strictly inside the stripe.
+fn partial_fits(g: Geometry, drive: usize, parity: bool, z: usize, t: usize, f: usize) -> bool
+    requires { ⌜ Valid g ⌝ }
+    requires { ⌜ t * stripeSectors g ≤ zoneSectors g ⌝ }
+    ensures { λ r. ⌜ r ≡ fitsLog g drive parity (partialParity z t f 0) ⌝ }
+{
+    let l = g.zones;
+    if l <= z {
+        return false;
+    }
+    let d = g.drives;
+    let q = tables::bounds::zone_sectors(g);
+    let k = tables::bounds::stripe_sectors(g);
+    let p = tables::placement::parity_drive(d, z, t);
+    parity & ((t * k < q) & ((0 < f) & ((f < k) & (drive == p))))
+}
+
+// A byte as a number of the machine's size.
+fn byte_value(x: u8) -> usize
+    ensures { λ r. ⌜ (r ≡ x) × (r < 256) ⌝ }
+{
+    x as usize
+}
+
+// Are bytes 32 to 39 those of this drive's label with that lost drive?
+fn names_label(s: &[u8], g: Geometry, drive: usize, lost: usize) -> bool
+    requires { ⌜ Valid g ⌝ }
+    requires { ⌜ 56 ≤ length (now s) ⌝ }
+    ensures { λ r. ⌜ r ≡ labelSame g drive lost (now (s .entry)) ⌝ }
+{
+    let d = g.drives;
+    let u = g.unit;
+    let p = tables::bounds::size_power(g);
+    let b0 = byte_value(s[32]);
+    let b1 = byte_value(s[33]);
+    let b3 = byte_value(s[35]);
+    let b4 = byte_value(s[36]);
+    (d == b0)
+        & ((u == b1)
+            & ((p == s[34])
+                & ((drive == b3)
+                    & ((lost == b4) & ((0 == s[37]) & ((0 == s[38]) & (0 == s[39])))))))
+}
+
+// Type 1, or any other byte 3.
+fn judge_label(s: &[u8], g: Geometry, drive: usize, parity: bool) -> Found
+    requires { ⌜ Valid g ⌝ }
+    requires { ⌜ (length (now s) ≡ g .sector) × ((kindOf (now s) ≢ 2) × (kindOf (now s) ≢ 3) × (kindOf (now s) ≢ 4) × (kindOf (now s) ≢ 5)) ⌝ }
+    ensures { λ r. ⌜ r ≡ found (decode g drive parity (now (s .entry))) ⌝ }
+{
+    let lost = byte_value(s[36]);
+    let array = tables::bytes::read_u64(s, 48);
+    let l = g.zones;
+    let c = g.capacity;
+    let d = g.drives;
+    let t1 = is_frame(s, 1, 0, 0, 0);
+    let t2 = names_label(s, g, drive, lost);
+    let t3 = same_u32(s, 40, c as u32);
+    let t4 = same_u32(s, 44, (l + 3) as u32);
+    let t5 = same_u64(s, 48, array);
+    let t6 = zeros_from(s, 56);
+    let ok = t1 & (t2 & (t3 & (t4 & (t5 & t6))));
+    let fit = !parity & ((lost < d) | (lost == 255));
+    if !fit {
+        return Found::Bad;
+    }
+    if !ok {
+        return Found::Bad;
+    }
+    Found::Label(lost, array)
+}
+
+// Type 2.
+fn judge_counters(s: &[u8], g: Geometry, drive: usize, parity: bool) -> Found
+    requires { ⌜ Valid g ⌝ }
+    requires { ⌜ (length (now s) ≡ g .sector) × (kindOf (now s) ≡ 2) ⌝ }
+    ensures { λ r. ⌜ r ≡ found (decode g drive parity (now (s .entry))) ⌝ }
+{
+    let l = g.zones;
+    let a = is_frame(s, 2, 0, 0, 0);
+    let b = words_same(s, l);
+    let c = zeros_from(s, 32 + 8 * l);
+    let ok = a & (b & c);
+    if parity {
+        return Found::Bad;
+    }
+    if !ok {
+        return Found::Bad;
+    }
+    Found::Counters
+}
+
+// Type 3: the zone is told by its start.
+fn judge_reset(s: &[u8], g: Geometry, drive: usize, parity: bool) -> Found
+    requires { ⌜ Valid g ⌝ }
+    requires { ⌜ (length (now s) ≡ g .sector) × (kindOf (now s) ≡ 3) ⌝ }
+    ensures { λ r. ⌜ r ≡ found (decode g drive parity (now (s .entry))) ⌝ }
+{
+    let q = tables::bounds::zone_sectors(g);
+    let z = tables::bytes::read_u64(s, 8) as usize / q;
+    let generation = tables::bytes::read_u64(s, 24);
+    let fit = reset_fits(g, drive, parity, z);
+    if !fit {
+        return Found::Bad;
+    }
+    let start = z * q;
+    let end = start + q;
+    let ok = is_span(s, 3, start as u64, end as u64, generation);
+    if !ok {
+        return Found::Bad;
+    }
+    Found::Resets(z, generation)
+}
+
+// Type 4: zone and stripe are told by its start.
+fn judge_partial(s: &[u8], g: Geometry, drive: usize, parity: bool) -> Found
+    requires { ⌜ Valid g ⌝ }
+    requires { ⌜ (length (now s) ≡ g .sector) × (kindOf (now s) ≡ 4) ⌝ }
+    ensures { λ r. ⌜ r ≡ found (decode g drive parity (now (s .entry))) ⌝ }
+{
+    let q = tables::bounds::zone_sectors(g);
+    let k = tables::bounds::stripe_sectors(g);
+    let first = tables::bytes::read_u64(s, 8) as usize;
+    let z = first / q;
+    let t = first % q / k;
+    let f = tables::placement::excess(tables::bytes::read_u64(s, 16) as usize, first);
+    let generation = tables::bytes::read_u64(s, 24);
+    let fit = partial_fits(g, drive, parity, z, t, f);
+    if !fit {
+        return Found::Bad;
+    }
+    let start = z * q + t * k;
+    let end = start + f;
+    let ok = is_span(s, 4, start as u64, end as u64, generation);
+    if !ok {
+        return Found::Bad;
+    }
+    Found::Partial(z, t, f, generation)
+}
+
+// Type 5: the zone is told by its start, the pointer by its end.
+fn judge_seal(s: &[u8], g: Geometry, drive: usize, parity: bool) -> Found
+    requires { ⌜ Valid g ⌝ }
+    requires { ⌜ (length (now s) ≡ g .sector) × (kindOf (now s) ≡ 5) ⌝ }
+    ensures { λ r. ⌜ r ≡ found (decode g drive parity (now (s .entry))) ⌝ }
+{
+    let q = tables::bounds::zone_sectors(g);
+    let first = tables::bytes::read_u64(s, 8) as usize;
+    let z = first / q;
+    let n = tables::placement::excess(tables::bytes::read_u64(s, 16) as usize, first);
+    let generation = tables::bytes::read_u64(s, 24);
+    let fit = seal_fits(g, parity, z, n);
+    if !fit {
+        return Found::Bad;
+    }
+    let start = z * q;
+    let end = start + n;
+    let ok = is_span(s, 5, start as u64, end as u64, generation);
+    if !ok {
+        return Found::Bad;
+    }
+    Found::Seal(z, n, generation)
+}
+
+// What a sector holds, as an entry of one log of one drive.
+pub fn judge(s: &[u8], g: Geometry, drive: usize, parity: bool) -> Found
+    requires { ⌜ Valid g ⌝ }
+    requires { ⌜ length (now s) ≡ g .sector ⌝ }
+    ensures { λ r. ⌜ r ≡ found (decode g drive parity (now (s .entry))) ⌝ }
+{
+    let kind = s[3];
+    if kind == 2 {
+        return judge_counters(s, g, drive, parity);
+    }
+    if kind == 3 {
+        return judge_reset(s, g, drive, parity);
+    }
+    if kind == 4 {
+        return judge_partial(s, g, drive, parity);
+    }
+    if kind == 5 {
+        return judge_seal(s, g, drive, parity);
+    }
+    judge_label(s, g, drive, parity)
+}
+
+// How many rows follow it.
+pub fn rows_of(f: Found, g: Geometry) -> usize
+    requires { ⌜ Valid g ⌝ }
+    ensures { λ r. ⌜ (r ≡ rowsSeen g f) × (r ≤ 16) ⌝ }
+{
+    let u = g.unit;
+    match f {
+        Found::Bad => 0,
+        Found::Label(_, _) => 0,
+        Found::Counters => 0,
+        Found::Resets(_, _) => 0,
+        Found::Partial(_, _, n, _) => tables::placement::smaller(n, u),
+        Found::Seal(_, _, _) => 0,
+    }
+}
+
+// No legal header?
+pub fn is_bad(f: Found) -> bool
+    ensures { λ r. ⌜ r ≡ badSeen f ⌝ }
+{
+    match f {
+        Found::Bad => true,
+        Found::Label(_, _) => false,
+        Found::Counters => false,
+        Found::Resets(_, _) => false,
+        Found::Partial(_, _, _, _) => false,
+        Found::Seal(_, _, _) => false,
+    }
+}

@@ -1,0 +1,59 @@
+// The logs of a drive: entries of five types, one sector for each header, laid one after the other from the start of a physical zone.
+// `headers` writes a header, `judging` tells what a sector holds, `walking` finds where a log's legal part ends, `asking`
+// carries an answer through a log, and `folds` asks what the volume wants to know of it. Which physical zone holds a log is a parameter of
+// each function.
+pub mod asking;
+pub mod folds;
+pub mod headers;
+pub mod judging;
+pub mod walking;
+
+// The ASCII mark "ZRV" with which each header begins.
+pub const MARK: [u8; 3] = [90, 82, 86];
+
+// The version that follows type and mark.
+pub const VERSION: u8 = 1;
+
+// What a sector of a log holds (specs: `found`): nothing legal, or the header of an entry of type 1 to 5. Counters stay in the sector.
+pub enum Found {
+    Bad,
+    // the lost drive or 255, the array number
+    Label(usize, u64),
+    Counters,
+    // zone, generation
+    Resets(usize, u64),
+    // zone, stripe, sectors of the stripe below its end, generation
+    Partial(usize, usize, usize, u64),
+    // zone, pointer, generation
+    Seal(usize, usize, u64),
+}
+
+// Where a log's legal part ends, and why (specs: `reason`): 0 at the written pointer, 1 at a sector that is no entry, 2 at a torn entry.
+pub struct Walked {
+    pub position: usize,
+    pub why: u8,
+}
+
+// One step of the walk (specs: `stepOf`): left, with the reason as above; or a whole entry and where the next one begins.
+pub enum Step {
+    Left(u8),
+    Whole(Found, usize),
+}
+
+// A question to a log (specs: `answer`). Places are counted from 1, so that 0 is none.
+pub enum Query {
+    // the lost drive of the last label
+    LastLost,
+    // the place of the last counters
+    LastCounters,
+    // 1 if there is a reset of a zone and generation
+    ResetOf(usize, u64),
+    // 1 if there is a seal of a zone and generation
+    SealOf(usize, u64),
+    // 1 if there is one with just that pointer
+    SealAt(usize, u64, usize),
+    // the least pointer of the seals of a zone and generation
+    LeastSeal(usize, u64),
+    // the place of the last partial parity of a zone and generation that ends past the first number and at most at the second
+    LastPartial(usize, u64, usize, usize),
+}

@@ -1,0 +1,119 @@
+// The walk of a log, sector by sector over the zone's own sectors. It is left
+// - at the written pointer, where the log is whole;
+// - at a sector that is no entry: not legal, or with rows past the zone's end C;
+// - at a torn entry: one whose rows reach past the written pointer, but not past C.
+// The position is that of the first sector that belongs to no whole entry.
+use super::Found;
+use super::Step;
+use super::Walked;
+use tables::Geometry;
+ghost use mathlib.Core.Path.{_≡_};
+ghost use mathlib.Core.List.{[]};
+ghost use Prim.Native.Nat.{_≤_, _<_};
+ghost use lib.ListN.{getD};
+ghost use Rattle.tables.specs.Geometry.{Valid};
+ghost use Rattle.logs.specs.Entry.{decode};
+ghost use Rattle.logs.specs.Judge.{found};
+ghost use Rattle.logs.specs.Walk.{walkLog};
+ghost use Rattle.logs.specs.WalkCode.{InLog, logSectors, reason, leftAt};
+ghost use Rattle.logs.specs.Steps.{stepOf};
+
+// What sector p of a log holds.
+pub fn judge_at(
+    sectors: &[u8],
+    g: Geometry,
+    drive: usize,
+    zone: usize,
+    parity: bool,
+    n: usize,
+    p: usize,
+) -> Found
+    requires { ⌜ Valid g ⌝ }
+    requires { ⌜ InLog g drive zone n (now sectors) × (p < n) ⌝ }
+    ensures { λ r. ⌜ r ≡ found (decode g drive parity (getD (logSectors g drive zone (now (sectors .entry)) n) p [])) ⌝ }
+{
+    let b = g.sector;
+    let at = tables::stores::byte_at(g, drive, zone, p);
+    let end = at + b;
+    super::judging::judge(&sectors[at..end], g, drive, parity)
+}
+
+// One step of the walk: the entry that begins at sector p, or why the walk is left there.
+pub fn next_entry(
+    sectors: &[u8],
+    g: Geometry,
+    drive: usize,
+    zone: usize,
+    parity: bool,
+    n: usize,
+    p: usize,
+) -> Step
+    requires { ⌜ Valid g ⌝ }
+    requires { ⌜ InLog g drive zone n (now sectors) × (p ≤ n) ⌝ }
+    ensures { λ r. ⌜ r ≡ stepOf g p (leftAt g drive parity (logSectors g drive zone (now (sectors .entry)) n) p) ⌝ }
+{
+    if n <= p {
+        return Step::Left(0);
+    }
+    let c = g.capacity;
+    let f = judge_at(sectors, g, drive, zone, parity, n, p);
+    let rows = super::judging::rows_of(f, g);
+    let bad = super::judging::is_bad(f);
+    let q = p + 1 + rows;
+    if bad {
+        return Step::Left(1);
+    }
+    if c < q {
+        return Step::Left(1);
+    }
+    if n < q {
+        return Step::Left(2);
+    }
+    Step::Whole(f, q)
+}
+
+// Where the legal part of a log ends, and why: over its entries and their rows.
+pub fn walk_log(
+    sectors: &[u8],
+    g: Geometry,
+    drive: usize,
+    zone: usize,
+    parity: bool,
+    n: usize,
+) -> Walked
+    requires { ⌜ Valid g ⌝ }
+    requires { ⌜ InLog g drive zone n (now sectors) ⌝ }
+    ensures { λ r. ⌜ (r .position ≡ walkLog g drive parity (logSectors g drive zone (now (sectors .entry)) n) .position)
+        × (r .why ≡ reason (walkLog g drive parity (logSectors g drive zone (now (sectors .entry)) n) .last))
+        × (r .position ≤ n) ⌝ }
+{
+    let c = g.capacity;
+    let mut p = 0;
+    let mut why = 0u8;
+    'walk: loop {
+        if n <= p {
+            break 'walk;
+        }
+        let f = judge_at(sectors, g, drive, zone, parity, n, p);
+        let rows = super::judging::rows_of(f, g);
+        let bad = super::judging::is_bad(f);
+        if bad {
+            why = 1;
+            break 'walk;
+        }
+        if c < p + 1 + rows {
+            why = 1;
+            break 'walk;
+        }
+        let mut k = 0;
+        'rows: while k < rows {
+            if n <= p + 1 + k {
+                why = 2;
+                break 'walk;
+            }
+            k += 1;
+        }
+        p = p + 1 + rows;
+    }
+    Walked { position: p, why }
+}

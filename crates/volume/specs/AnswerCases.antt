@@ -1,0 +1,126 @@
+-- The calls' answers computed on document 01's example: every number of the table of refusals is met, each beside an input that is
+-- just not refused. A check of the definitions, no part of the proof.
+use Rattle.tables.specs.Tables.{bufferFits, lengthsFit}
+use Rattle.tables.specs.GeometryTest.{isValid}
+use mathlib.Core.Bool.{Bool, true, _&&_, not}
+use Prim.Native.Nat.{ℕ, _+_, _-_}
+use mathlib.Core.List.{List, [], _∷_, _++_}
+use lib.ListN.{length, getD, take, replicate}
+use lib.Dec.{eqb, ltb, T}
+use Rattle.tables.specs.Device.{Device, putZone}
+use Rattle.tables.specs.Basics.{pick}
+use Rattle.tables.specs.Placement.{driveOf, sectorOf, needed, stripeOf, unitIndex, rowIndex, parityDrive, stripeLength, unitDrive, unitOf, address, addressAt}
+use Rattle.tables.specs.Drives.{noDrive}
+use Rattle.tables.specs.Geometry.{log2, zoneSectors}
+use Rattle.logs.specs.Entry.{wornGeneration, encode, frame, labelBytes, readFields, kindOf, startOf, endOf, genOf, counters}
+use Rattle.tables.specs.LittleEndian.{sameBytes}
+use Rattle.volume.specs.Content.{rowXor, contentAt, rowXorBelow, entryAt}
+use Rattle.volume.specs.Rules.{viewOf, generalHeads, generalEnding, parityEntries, parityEnding, isLost, isPresent, generationOf, resetSeen, sealSeen, sealLimit, zoneView, valueAt, pointerAt, cleanAt, zoneAt, zoneShown, showing}
+use Rattle.volume.specs.declared.Condition.{Condition}
+use Rattle.volume.specs.declared.Condition.the-variants.{Empty, Open, Sealed, Worn}
+use Rattle.volume.specs.State.{StateView, callPresent}
+use Rattle.volume.specs.Refusals.{badPointers, twoLost, badLabels, badLogs, stateWithin, twoAbsent, twoUnnamed, stale, unusedBelow, writeFull, goneIn, goneBefore, notHeld, formatRows, lookRows, mountRows, writeRows, flushRows, resetRows, readRows, peekRows}
+use Rattle.volume.specs.Calls.{formatStores, writeStores, zoneContent, writeWith, flushStores, resetStores}
+use Rattle.volume.specs.Mount.{mountStores, mountPhases, phasesBeforeEntries, mountLook, mountShows, afterOpening, labelStep, resetEntryStep, zoneResetStep, counterStep, countersDiffer, sealStep, tornRowStep, fillStep, entryStep}
+use Rattle.volume.specs.Answers.{CallAnswer, refused, unfinished, finished, lostIn, leftOut, namedDrives, sectorsIn, formatCall, lookCall, mountCall, writeCall, flushCall, resetCall, readCall, peekCall}
+use Rattle.volume.specs.Example.{geo, lengths, every, noStop, numberOf, blank, formatted, formattedState, bytes, writtenState, writtenDevice, filled}
+use Rattle.volume.specs.Claim.{allBut}
+
+-- zone 0 in another condition or generation
+abbrev being : Condition → ℕ → StateView
+being c n = record { lost = noDrive; generation = λ z. n; condition = λ z. pick (eqb z 0) c Empty }
+
+-- a general log of n counters after the label
+abbrev longLog : ℕ → Device
+longLog n = putZone formatted 2 0 (record { sectors = take 1 (formatted 2 0 .sectors) ++ replicate n (encode geo 2 (counters (1 ∷ 1 ∷ []))); durable = 0 })
+
+abbrev zeroSector : List ℕ
+zeroSector = replicate 64 0
+
+abbrev holds : List (ℕ × ℕ) → Bool
+holds [] = true
+holds ((a, b) ∷ rows) = eqb a b && holds rows
+
+-- what a call answers, and the number of the table (0: finished; 100: unfinished)
+pub answered : List (ℕ × ℕ)
+answered =
+    (numberOf (formatCall geo lengths every 7 noStop blank), 0)
+    ∷ (numberOf (formatCall geo lengths every 7 3 blank), 100)
+    ∷ (numberOf (formatCall (record { drives = 2; unit = 2; sector = 64; zones = 2; capacity = 32 }) lengths every 7 noStop blank), 1)
+    ∷ (numberOf (formatCall geo lengths (λ d. ltb d 2) 7 noStop blank), 4)
+    ∷ (numberOf (lookCall geo lengths every formatted), 0)
+    ∷ (numberOf (mountCall geo lengths every noStop formatted), 0)
+    ∷ (numberOf (flushCall geo lengths every formattedState noStop formatted), 0)
+    ∷ (numberOf (flushCall geo lengths every formattedState 4 formatted), 0)
+    ∷ (numberOf (flushCall geo lengths every formattedState 3 formatted), 100)
+    ∷ (numberOf (flushCall geo lengths (allBut 2) formattedState 3 formatted), 0)
+    ∷ (numberOf (resetCall geo lengths every formattedState 1 noStop formatted), 0)
+    -- 1
+    ∷ (numberOf (flushCall geo lengths every (record { lost = 4; generation = λ z. 1; condition = λ z. Empty }) noStop formatted), 1)
+    ∷ (numberOf (flushCall geo lengths every (being (Open 97) 1) noStop formatted), 1)
+    ∷ (numberOf (flushCall geo lengths every (being (Open 96) 1) noStop formatted), 0)
+    -- 2
+    ∷ (numberOf (lookCall geo (record { sectors = 40959; written = 20; durable = 20 }) every formatted), 2)
+    ∷ (numberOf (writeCall geo lengths every formattedState 0 1 (replicate 63 0) noStop formatted), 2)
+    -- 3: also in the spare zone
+    ∷ (numberOf (lookCall geo lengths every (filled 3 2 33 zeroSector)), 3)
+    ∷ (numberOf (lookCall geo lengths every (putZone formatted 1 4 (record { sectors = []; durable = 1 }))), 3)
+    ∷ (numberOf (lookCall geo lengths (allBut 3) (filled 3 2 33 zeroSector)), 0)
+    -- 4
+    ∷ (numberOf (lookCall geo lengths (λ d. ltb d 2) formatted), 4)
+    ∷ (numberOf (flushCall geo lengths (allBut 1) (record { lost = 2; generation = λ z. 1; condition = λ z. Empty }) noStop formatted), 4)
+    ∷ (numberOf (flushCall geo lengths (allBut 2) (record { lost = 2; generation = λ z. 1; condition = λ z. Empty }) noStop formatted), 0)
+    -- 5, 6
+    ∷ (numberOf (lookCall geo lengths every blank), 5)
+    ∷ (numberOf (lookCall geo lengths every (filled 2 1 1 zeroSector)), 6)
+    -- 7, 8
+    ∷ (numberOf (writeCall geo lengths every formattedState 0 1 (bytes 1 9) noStop (filled 2 3 1 zeroSector)), 7)
+    ∷ (numberOf (readCall geo lengths every (being (Sealed 1) 1) 0 1 64 (filled 0 3 2 zeroSector)), 0)
+    ∷ (numberOf (readCall geo lengths every (being (Sealed 1) 1) 0 1 64 formatted), 7)
+    ∷ (numberOf (writeCall geo lengths every formattedState 192 1 (bytes 1 9) noStop formatted), 8)
+    ∷ (numberOf (resetCall geo lengths every formattedState 2 noStop formatted), 8)
+    -- 9, 10, 11, 12
+    ∷ (numberOf (writeCall geo lengths every formattedState 0 0 [] noStop formatted), 9)
+    ∷ (numberOf (readCall geo lengths every formattedState 95 2 128 formatted), 9)
+    ∷ (numberOf (writeCall geo lengths every formattedState 1 1 (bytes 1 9) noStop formatted), 10)
+    ∷ (numberOf (writeCall geo lengths every (being (Sealed 0) 1) 0 1 (bytes 1 9) noStop formatted), 11)
+    ∷ (numberOf (writeCall geo lengths every (being (Worn 0) 1) 0 1 (bytes 1 9) noStop formatted), 12)
+    ∷ (numberOf (resetCall geo lengths every (being (Worn 0) 1) 0 noStop formatted), 12)
+    ∷ (numberOf (resetCall geo lengths every (being Empty 18446744073709551615) 0 noStop formatted), 12)
+    -- 13
+    ∷ (numberOf (readCall geo lengths every formattedState 0 1 64 formatted), 13)
+    ∷ (numberOf (peekCall geo lengths every formattedState 0 formatted), 13)
+    -- 14: just room, and one sector less
+    ∷ (numberOf (writeCall geo lengths every formattedState 0 1 (bytes 1 9) noStop (filled 3 1 22 zeroSector)), 0)
+    ∷ (numberOf (writeCall geo lengths every formattedState 0 1 (bytes 1 9) noStop (filled 3 1 23 zeroSector)), 14)
+    ∷ (numberOf (writeCall geo lengths (allBut 3) formattedState 0 1 (bytes 1 9) noStop (filled 3 1 23 zeroSector)), 0)
+    ∷ (numberOf (resetCall geo lengths every formattedState 0 noStop (longLog 25)), 0)
+    ∷ (numberOf (resetCall geo lengths every formattedState 0 noStop (longLog 26)), 14)
+    ∷ (numberOf (mountCall geo lengths every noStop (longLog 27)), 0)
+    ∷ (numberOf (mountCall geo lengths every noStop (longLog 28)), 14)
+    ∷ (numberOf (lookCall geo lengths every (longLog 28)), 0)
+    -- 15
+    ∷ (numberOf (writeCall geo lengths (allBut 0) (being (Open 1) 1) 1 1 (bytes 1 9) noStop formatted), 15)
+    ∷ (numberOf (readCall geo lengths (allBut 0) (being (Open 1) 1) 0 1 64 formatted), 15)
+    ∷ (numberOf (peekCall geo lengths (allBut 0) (being (Open 1) 1) 0 formatted), 15)
+    -- five sectors
+    ∷ (numberOf (readCall geo lengths every (writtenState 5) 0 5 320 (writtenDevice 5)), 0)
+    ∷ (numberOf (readCall geo lengths (allBut 0) (writtenState 5) 0 5 320 (writtenDevice 5)), 0)
+    ∷ (numberOf (peekCall geo lengths every (writtenState 5) 4 (writtenDevice 5)), 0)
+    ∷ (numberOf (peekCall geo lengths (allBut 2) (writtenState 5) 4 (writtenDevice 5)), 15)
+    ∷ []
+
+pub answers-are : T (holds answered)
+unfolding formatStores writeStores zoneContent writeWith entryAt flushStores resetStores mountStores mountPhases phasesBeforeEntries mountLook mountShows afterOpening labelStep resetEntryStep zoneResetStep counterStep countersDiffer sealStep tornRowStep fillStep entryStep encode frame labelBytes readFields kindOf startOf endOf genOf generalHeads generalEnding parityEntries parityEnding isLost isPresent badPointers twoLost badLabels badLogs generationOf resetSeen sealSeen sealLimit zoneView valueAt pointerAt cleanAt zoneAt zoneShown showing viewOf driveOf sectorOf needed stripeOf unitIndex rowIndex parityDrive stripeLength unitDrive unitOf address addressAt zoneSectors log2 wornGeneration rowXor contentAt rowXorBelow callPresent isValid stateWithin twoAbsent twoUnnamed stale unusedBelow writeFull goneIn goneBefore notHeld formatRows lookRows mountRows writeRows flushRows resetRows readRows peekRows lostIn leftOut namedDrives sectorsIn lengthsFit bufferFits answered
+answers-are = tt
+
+abbrev sectorsRead : CallAnswer (List (List ℕ)) → List (List ℕ)
+sectorsRead (refused n) = []
+sectorsRead (unfinished w) = []
+sectorsRead (finished w ss) = ss
+
+-- what is read of five sectors with drive 1 lost: four sectors from address 1, the third of them all 9
+pub read-with-a-drive-lost : T (eqb (length (sectorsRead (readCall geo lengths (allBut 1) (writtenState 5) 1 4 256 (writtenDevice 5)))) 4
+    && sameBytes (getD (sectorsRead (readCall geo lengths (allBut 1) (writtenState 5) 1 4 256 (writtenDevice 5))) 2 []) (replicate 64 9))
+unfolding formatStores writeStores zoneContent writeWith entryAt flushStores resetStores mountStores mountPhases phasesBeforeEntries mountLook mountShows afterOpening labelStep resetEntryStep zoneResetStep counterStep countersDiffer sealStep tornRowStep fillStep entryStep encode frame labelBytes readFields kindOf startOf endOf genOf generalHeads generalEnding parityEntries parityEnding isLost isPresent badPointers twoLost badLabels badLogs generationOf resetSeen sealSeen sealLimit zoneView valueAt pointerAt cleanAt zoneAt zoneShown showing viewOf driveOf sectorOf needed stripeOf unitIndex rowIndex parityDrive stripeLength unitDrive unitOf address addressAt zoneSectors log2 wornGeneration rowXor contentAt rowXorBelow callPresent isValid stateWithin twoAbsent twoUnnamed stale unusedBelow writeFull goneIn goneBefore notHeld formatRows lookRows mountRows writeRows flushRows resetRows readRows peekRows lostIn leftOut namedDrives sectorsIn lengthsFit bufferFits
+read-with-a-drive-lost = tt

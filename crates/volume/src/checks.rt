@@ -1,0 +1,157 @@
+// What every call checks of its input before it looks at a zone: refusals 1 to 4, and the drives that are present.
+use super::Condition;
+use super::State;
+use tables::Geometry;
+ghost use mathlib.Core.Path.{_≡_};
+ghost use mathlib.Core.Bool.{not};
+ghost use Prim.Native.Nat.{ℕ, _≤_, _<_};
+ghost use lib.Dec.{leb};
+ghost use Rattle.tables.specs.Basics.{pick};
+ghost use Rattle.tables.specs.Below.{allBelow, countBelow};
+ghost use Rattle.tables.specs.Drives.{findBelow};
+ghost use Rattle.tables.specs.Geometry.{Valid, zoneSectors};
+ghost use Rattle.volume.specs.State.{pointerIn};
+ghost use Rattle.volume.specs.Refusals.{stateWithin};
+ghost use Rattle.volume.specs.OnTables.{recordAt, viewState, among};
+ghost use Rattle.volume.specs.CheckLaws.{presentList, openingNumber};
+
+// The pointer that a condition carries.
+pub fn pointer_of(c: Condition) -> usize
+    ensures { λ r. ⌜ r ≡ pointerIn c ⌝ }
+{
+    match c {
+        Condition::Empty => 0,
+        Condition::Open(n) => n,
+        Condition::Sealed(n) => n,
+        Condition::Worn(n) => n,
+    }
+}
+
+// Whether no pointer of the state is past its zone's end.
+fn pointers_within(g: Geometry, state: State) -> bool
+    requires { ⌜ Valid g ⌝ }
+    ensures { λ r. ⌜ r ≡ allBelow (λ (z : ℕ). leb (pointerIn (recordAt state z .condition)) (zoneSectors g)) (g .zones) ⌝ }
+{
+    let most = tables::bounds::zone_sectors(g);
+    let n = g.zones;
+    let zones = state.zones;
+    let mut ok = true;
+    let mut z = 0;
+    while z < n {
+        let r = zones[z];
+        let c = r.condition;
+        let p = pointer_of(c);
+        ok = ok & (p <= most);
+        z += 1;
+    }
+    ok
+}
+
+// Refusal 1, as far as it is about the state.
+fn state_within(g: Geometry, state: State) -> bool
+    requires { ⌜ Valid g ⌝ }
+    ensures { λ r. ⌜ r ≡ stateWithin g (viewState state) ⌝ }
+{
+    let ok = pointers_within(g, state);
+    let lost = state.lost;
+    let d = g.drives;
+    ((lost < d) | (lost == 255)) & ok
+}
+
+// The drives of a call: named, and not lost in the state.
+pub fn present_drives(g: Geometry, named: [bool; 8], lost: usize) -> [bool; 8]
+    requires { ⌜ Valid g ⌝ }
+    ensures { λ r. ⌜ r ≡ presentList g named lost ⌝ }
+{
+    let n = g.drives;
+    let mut here = [false; 8];
+    let mut d = 0;
+    while d < n {
+        here[d] = named[d] & (d != lost);
+        d += 1;
+    }
+    here
+}
+
+fn one_unless(b: bool) -> usize
+    ensures { λ r. ⌜ (r ≡ pick (not b) 1 0) × (r ≤ 1) ⌝ }
+{
+    if b { 0 } else { 1 }
+}
+
+// How many drives are absent.
+pub fn count_absent(g: Geometry, here: [bool; 8]) -> usize
+    requires { ⌜ Valid g ⌝ }
+    ensures { λ r. ⌜ r ≡ countBelow (λ (d : ℕ). not (among here d)) (g .drives) ⌝ }
+{
+    let n = g.drives;
+    let mut k = 0;
+    let mut d = 0;
+    while d < n {
+        let m = one_unless(here[d]);
+        k = k + m;
+        d += 1;
+    }
+    k
+}
+
+fn choose(b: bool, d: usize, x: usize) -> usize
+    ensures { λ r. ⌜ r ≡ pick (not b) d x ⌝ }
+{
+    if b { x } else { d }
+}
+
+// The drive that is absent, or 255.
+pub fn left_out(g: Geometry, here: [bool; 8]) -> usize
+    requires { ⌜ Valid g ⌝ }
+    ensures { λ r. ⌜ r ≡ findBelow (λ (d : ℕ). not (among here d)) (g .drives) ⌝ }
+{
+    let n = g.drives;
+    let mut x = 255;
+    let mut d = 0;
+    while d < n {
+        x = choose(here[d], d, x);
+        d += 1;
+    }
+    x
+}
+
+// Refusals 1 to 4 of a call with a state; 0 if none applies. A call without a buffer passes count 0 and no bytes.
+pub fn opening(
+    sectors: usize,
+    written: &[u32],
+    durable: &[u32],
+    g: Geometry,
+    named: [bool; 8],
+    state: State,
+    count: u64,
+    bytes: usize,
+) -> u8
+    ensures { λ r. ⌜ r ≡ openingNumber g named state count bytes sectors (now (written .entry)) (now (durable .entry)) ⌝ }
+{
+    let ok = tables::bounds::valid(g);
+    if !ok {
+        return 1;
+    }
+    let within = state_within(g, state);
+    if !within {
+        return 1;
+    }
+    let lengths = tables::bounds::lengths_fit(g, sectors, written.len(), durable.len());
+    let buffer = tables::bounds::buffer_fits(g, count, bytes);
+    let fit = lengths & buffer;
+    if !fit {
+        return 2;
+    }
+    let bad = tables::bounds::pointers_bad(written, durable, g, named);
+    if bad {
+        return 3;
+    }
+    let lost = state.lost;
+    let here = present_drives(g, named, lost);
+    let absent = count_absent(g, here);
+    if 1 < absent {
+        return 4;
+    }
+    0
+}

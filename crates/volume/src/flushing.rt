@@ -1,0 +1,74 @@
+// Flush: document 01's "flush all", on every present drive.
+use super::Answer;
+use super::Outcome;
+use super::State;
+use tables::Geometry;
+ghost use mathlib.Core.Path.{_≡_};
+ghost use Prim.Native.Nat.{_<_};
+ghost use lib.ListN.{length};
+ghost use Rattle.tables.specs.Geometry.{Valid, cells};
+ghost use Rattle.tables.specs.Tables.{tablesOf, MadePointers};
+ghost use Rattle.volume.specs.Calls.{flushStores};
+ghost use Rattle.volume.specs.OnTables.{among};
+ghost use Rattle.volume.specs.Flushing.{flushOn};
+
+// Flushes every drive that is here, as far as the budget of stores goes: what is left of it.
+pub fn flush_all(
+    written: &[u32],
+    durable: &mut [u32],
+    g: Geometry,
+    here: [bool; 8],
+    budget: u64,
+) -> u64
+    requires { ⌜ Valid g ⌝ }
+    requires { ⌜ (length (now written) ≡ cells g) × (length (now durable) ≡ cells g) ⌝ }
+    ensures { λ r. ⌜ MadePointers g budget r (flushStores g (among here)) (now (written .entry)) (now (durable .entry)) (now (written .entry)) (now (durable .exit)) ⌝ }
+{
+    let n = g.drives;
+    let mut rest = budget;
+    let mut d = 0;
+    while d < n {
+        let present = here[d];
+        rest = tables::stores::flush_counted(written, durable, g, present, d, rest);
+        d += 1;
+    }
+    rest
+}
+
+// The call.
+pub fn flush(
+    sectors: &[u8],
+    written: &[u32],
+    durable: &mut [u32],
+    g: Geometry,
+    named: [bool; 8],
+    state: State,
+    count: u32,
+) -> Outcome
+    ensures { λ r. ⌜ (r ≡ flushOn g named state count (tablesOf (now (sectors .entry)) (now (written .entry)) (now (durable .entry))) .outcome)
+        × (tablesOf (now (sectors .entry)) (now (written .entry)) (now (durable .exit)) ≡ flushOn g named state count (tablesOf (now (sectors .entry)) (now (written .entry)) (now (durable .entry))) .tables) ⌝ }
+{
+    let refusal = super::checks::opening(sectors.len(), written, durable, g, named, state, 0, 0);
+    if refusal != 0 {
+        return Outcome {
+            answer: Answer::Refused(refusal),
+            state,
+        };
+    }
+    let lost = state.lost;
+    let here = super::checks::present_drives(g, named, lost);
+    let budget = count as u64 + 1;
+    let rest = flush_all(written, durable, g, here, budget);
+    if rest == 0 {
+        return Outcome {
+            answer: Answer::Unfinished,
+            state,
+        };
+    }
+    let x = super::checks::left_out(g, here);
+    let zones = state.zones;
+    Outcome {
+        answer: Answer::Finished,
+        state: State { lost: x, zones },
+    }
+}

@@ -1,0 +1,53 @@
+// The volume: the eight calls over the tables that the host lends and the state that it keeps between calls.
+
+pub mod checks;
+pub mod flushing;
+
+// A zone's condition, with its pointer (document 01: "empty, open with its pointer, sealed with its pointer, or worn with its pointer").
+pub enum Condition {
+    Empty,
+    Open(usize),
+    Sealed(usize),
+    Worn(usize),
+}
+
+// What the state says of one zone.
+pub struct ZoneRecord {
+    pub generation: u64,
+    pub condition: Condition,
+}
+
+// What the host keeps between calls: the lost drive or 255, and a record for each zone. Records past the volume's last zone say nothing.
+pub struct State {
+    pub lost: usize,
+    pub zones: [ZoneRecord; 16],
+}
+
+// A call's answer: finished, unfinished (stores were left when the count of stores ran out), or refused with document 01's number.
+pub enum Answer {
+    Finished,
+    Unfinished,
+    Refused(u8),
+}
+
+// What a call hands back: its answer, and the state that the host keeps from then on.
+pub struct Outcome {
+    pub answer: Answer,
+    pub state: State,
+}
+
+// What a look shows of one zone, and what a mount needs to know of it besides: whether a reset entry emptied it, and whether it is clean.
+pub struct ZoneLook {
+    pub generation: u64,
+    pub condition: Condition,
+    pub pointer: usize,
+    pub by_reset: bool,
+    pub clean: bool,
+}
+
+// What a look shows: the lost drive or 255, the array number, and the zones; those past the volume's last zone are blank.
+pub struct Look {
+    pub lost: usize,
+    pub array: u64,
+    pub zones: [ZoneLook; 16],
+}

@@ -30,39 +30,39 @@ module _ (g : Geometry) (d : ℕ) (par : Bool) (ss : List (List ℕ)) where
   EndsAt (torn h rs) x = (x < length ss) × (decode g d par (getD ss x []) ≡ legal h) × (rs ≡ drop (suc x) ss) × (length ss < x + suc (rowsOf g h))
 
   -- a walk from p: its entries stand one after the other from p on, and it is left right after them
-  pub record Sound (p : ℕ) (w : Walked) : Type 0 where
+  pub record WellPlaced (p : ℕ) (w : Walked) : Type 0 where
     pub placed : Placed g d par ss p (w .entries)
     pub left : EndsAt (w .last) (w .position)
     pub position-is : w .position ≡ p + logExtent g d par (w .entries)
 
-  sound-step : (p : ℕ) (e : Entry) (w : Walked) → Stands g d par ss p e → Sound (p + suc (rowsOf g (e .head))) w → Sound p (withEntry e w)
-  sound-step p e w s r = record { placed = (s, r .placed); left = r .left; position-is = r .position-is ∙ omega arith }
+  well-placed-step : (p : ℕ) (e : Entry) (w : Walked) → Stands g d par ss p e → WellPlaced (p + suc (rowsOf g (e .head))) w → WellPlaced p (withEntry e w)
+  well-placed-step p e w s r = record { placed = (s, r .placed); left = r .left; position-is = r .position-is ∙ omega arith }
 
-  sound-none : (p : ℕ) (l : Ending) → EndsAt l p → Sound p (record { entries = []; last = l; position = p })
-  sound-none p l e = record { placed = tt; left = e; position-is = omega arith }
+  well-placed-none : (p : ℕ) (l : Ending) → EndsAt l p → WellPlaced p (record { entries = []; last = l; position = p })
+  well-placed-none p l e = record { placed = tt; left = e; position-is = omega arith }
 
-  sound-from : (k p : ℕ) → p ≤ length ss → length ss ≤ p + k → Sound p (leftAt g d par ss p)
-  sound-from zero p h m = let e : p ≡ length ss = omega arith in rw (at-end g d par ss p e) (sound-none p atPointer e)
-  sound-from (suc k) p h m = at (decLt p (length ss)) (λ q a b. sound-from k q a b)
+  well-placed-from : (k p : ℕ) → p ≤ length ss → length ss ≤ p + k → WellPlaced p (leftAt g d par ss p)
+  well-placed-from zero p h m = let e : p ≡ length ss = omega arith in rw (at-end g d par ss p e) (well-placed-none p atPointer e)
+  well-placed-from (suc k) p h m = at (decLt p (length ss)) (λ q a b. well-placed-from k q a b)
     where
-      whole : (hd : Header) → p < length ss → decodeAt g d par p (getD ss p []) ≡ legal hd → Dec (length ss < p + suc (rowsOf g hd)) → ((q : ℕ) → q ≤ length ss → length ss ≤ q + k → Sound q (leftAt g d par ss q)) → Sound p (leftAt g d par ss p)
-      whole hd l r (yes s) ih = rw (at-torn g d par ss p hd l r (omega arith)) (sound-none p (torn hd (drop (suc p) ss)) (l, decode-in-zone g d par ss p (decode g d par (getD ss p [])) hd r, refl, s))
+      whole : (hd : Header) → p < length ss → decodeAt g d par p (getD ss p []) ≡ legal hd → Dec (length ss < p + suc (rowsOf g hd)) → ((q : ℕ) → q ≤ length ss → length ss ≤ q + k → WellPlaced q (leftAt g d par ss q)) → WellPlaced p (leftAt g d par ss p)
+      whole hd l r (yes s) ih = rw (at-torn g d par ss p hd l r (omega arith)) (well-placed-none p (torn hd (drop (suc p) ss)) (l, decode-in-zone g d par ss p (decode g d par (getD ss p [])) hd r, refl, s))
       whole hd l r (no s) ih =
           let e : Entry = record { head = hd; rows = take (rowsOf g hd) (drop (suc p) ss) } in
           let t : Stands g d par ss p e = record { reads = decode-in-zone g d par ss p (decode g d par (getD ss p [])) hd r; rows-are = refl; within = omega arith } in
-          rw (at-whole g d par ss p hd l r (omega arith)) (sound-step p e (leftAt g d par ss (p + suc (rowsOf g hd))) t (ih (p + suc (rowsOf g hd)) (omega arith) (omega arith)))
+          rw (at-whole g d par ss p hd l r (omega arith)) (well-placed-step p e (leftAt g d par ss (p + suc (rowsOf g hd))) t (ih (p + suc (rowsOf g hd)) (omega arith) (omega arith)))
 
-      here : (r : Decoded) → p < length ss → decodeAt g d par p (getD ss p []) ≡ r → ((q : ℕ) → q ≤ length ss → length ss ≤ q + k → Sound q (leftAt g d par ss q)) → Sound p (leftAt g d par ss p)
-      here bad l r ih = rw (at-bad g d par ss p l r) (sound-none p noEntry (l, r))
+      here : (r : Decoded) → p < length ss → decodeAt g d par p (getD ss p []) ≡ r → ((q : ℕ) → q ≤ length ss → length ss ≤ q + k → WellPlaced q (leftAt g d par ss q)) → WellPlaced p (leftAt g d par ss p)
+      here bad l r ih = rw (at-bad g d par ss p l r) (well-placed-none p noEntry (l, r))
       here (legal hd) l r ih = whole hd l r (decLt (length ss) (p + suc (rowsOf g hd))) ih
 
-      at : Dec (p < length ss) → ((q : ℕ) → q ≤ length ss → length ss ≤ q + k → Sound q (leftAt g d par ss q)) → Sound p (leftAt g d par ss p)
+      at : Dec (p < length ss) → ((q : ℕ) → q ≤ length ss → length ss ≤ q + k → WellPlaced q (leftAt g d par ss q)) → WellPlaced p (leftAt g d par ss p)
       at (yes l) ih = here (decodeAt g d par p (getD ss p [])) l refl ih
-      at (no n) ih = let e : p ≡ length ss = omega arith in rw (at-end g d par ss p e) (sound-none p atPointer e)
+      at (no n) ih = let e : p ≡ length ss = omega arith in rw (at-end g d par ss p e) (well-placed-none p atPointer e)
 
   -- THE PLACES: every entry that a walk gives stands in the log where the extents of those before it say
-  pub walk-places : Sound zero (walkLog g d par ss)
-  walk-places = sound-from (length ss) zero (omega arith) (omega arith)
+  pub walk-places : WellPlaced zero (walkLog g d par ss)
+  walk-places = well-placed-from (length ss) zero (omega arith) (omega arith)
 
   entry-stands : (fs : List Entry) (e : Entry) (es : List Entry) (p : ℕ) → Placed g d par ss p (fs ++ (e ∷ es)) → Stands g d par ss (p + logExtent g d par fs) e
   entry-stands [] e es p l = let k : p ≡ p + zero = omega arith in subst (λ (x : ℕ). Stands g d par ss x e) k (l .0)

@@ -70,3 +70,17 @@ pub mod ClaimExample
 pub mod OnTables
 pub mod CheckLaws
 pub mod Flushing
+pub mod CallRefines
+pub mod ZoneChecks
+pub mod Logging
+pub mod StoreLoops
+pub mod Resetting
+pub mod Formatting
+pub mod Knowing
+pub mod KnowingLaws
+pub mod KnowingEntries
+pub mod KnowingValues
+pub mod DriveLogs
+pub mod DrivesLost
+pub mod ZoneLooking
+pub mod Looking

@@ -1,7 +1,16 @@
 // The volume: the eight calls over the tables that the host lends and the state that it keeps between calls.
 
 pub mod checks;
+pub mod drive_logs;
+pub mod drives_lost;
 pub mod flushing;
+pub mod formatting;
+pub mod knowing;
+pub mod logging;
+pub mod looking;
+pub mod resetting;
+pub mod zone_checks;
+pub mod zone_looking;
 
 // A zone's condition, with its pointer (document 01: "empty, open with its pointer, sealed with its pointer, or worn with its pointer").
 pub enum Condition {

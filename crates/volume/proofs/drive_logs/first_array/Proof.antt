@@ -1,0 +1,24 @@
+use mathlib.Core.Path.{ap, _∙_}
+use Prim.Native.Nat.{_-_}
+use denote.Ref.{now}
+use Rattle.logs.specs.Heads.{arrayIn}
+use Rattle.volume.specs.DriveLogs.{general-heads}
+use borrow.Author.Needs.{needs}
+use Rattle.volume.proofs.drive_logs.first_array.Statement.{statement}
+use Rattle.volume.proofs.drive_logs.first_array.Tie as tie
+
+zone-pointer-requires : tie.Need-zone-pointer-requires
+zone-pointer-requires c κs = search needs
+
+first-array-requires : tie.Need-first-array-requires
+first-array-requires c κs = search needs
+
+returns : tie.Need-returns
+returns c =
+    let s = c .before .before .before .before in
+    let a = s .args in
+    let z = c .before .zone-pointer in
+    c .first-array .ensures ∙ ap (arrayIn) (general-heads (a .g) (a .sectors .now) (a .written .now) (a .drive) (s .pre .1 .1) (z .result) (z .ensures .0))
+
+pub first-array-spec : {M : Type 1} → statement M
+first-array-spec = tie.close (tie.spec zone-pointer-requires first-array-requires returns)

@@ -1,0 +1,68 @@
+use mathlib.Core.Path.{_≡_, refl, _∙_}
+use mathlib.Core.List.{_++_}
+use Prim.Native.Nat.{_+_, _-_, _≤_, _<_}
+use native.Mathlib.Omega.{arith}
+use native.Mathlib.Numerals.{add-one}
+use lib.ListN.{length, replicate, length-set}
+use denote.Ref.{now}
+use Rattle.tables.specs.Below.{tabulate}
+use Rattle.tables.specs.Drives.{noDrive}
+use Rattle.volume.specs.DrivesLost.{fill-more, saidBy, saidList}
+use Rattle.volume.specs.DriveLogs.{deviceRead}
+use Rattle.volume.proofs.drives_lost.said_lost.Statement.{statement}
+use Rattle.volume.proofs.drives_lost.said_lost.Tie as tie
+
+abbrev Inv-loop : tie.InvT-loop
+Inv-loop sectors written g named n said₀ d₀ said d = (d ≤ n) × (length said ≡ 8) × (said ≡ tabulate (saidBy g named (deviceRead g sectors written)) d ++ replicate (8 - d) noDrive)
+
+abbrev μ-loop : tie.MeasureT-loop
+μ-loop sectors written g named n said₀ d₀ said d = n - d
+
+loop-holds : tie.Need-loop-holds Inv-loop μ-loop
+loop-holds c = (omega arith, refl, refl)
+
+array-read-said-by : tie.Need-array-read-said-by Inv-loop μ-loop
+array-read-said-by c = omega (arith, c .before .before .before .before .pre .0 .drives-most)
+
+said-by-requires : tie.Need-said-by-requires Inv-loop μ-loop
+said-by-requires c κs = let s = c .before .before .before .before in (s .pre .0, (s .pre .1, omega arith))
+
+mul-said : tie.Need-mul-said Inv-loop μ-loop
+mul-said c = omega (arith, c .before .before .before .before .before .pre .0 .drives-most)
+
+array-write-said : tie.Need-array-write-said Inv-loop μ-loop
+array-write-said c = omega (arith, c .before .before .before .before .before .pre .0 .drives-most)
+
+add-d : tie.Need-add-d Inv-loop μ-loop
+add-d c = omega (arith, c .before .before .before .before .before .pre .0 .drives-most)
+
+loop-less : tie.Need-loop-less Inv-loop μ-loop
+loop-less c = omega arith
+
+loop-again : tie.Need-loop-again Inv-loop μ-loop
+loop-again c =
+    let s = c .before .before .before .before .before in
+    let a = s .args in
+    let l = c .before .before .loop in
+    let h : l .d < 8 = omega (arith, s .pre .0 .drives-most) in
+    (omega arith, simp length-set (l .inv .1), rw (l .inv .2, c .said-by .ensures, add-one) (fill-more (saidBy (a .g) (a .t4) (deviceRead (a .g) (a .sectors .now) (a .written .now))) noDrive 8 (l .d) h))
+
+returns : tie.Need-returns Inv-loop μ-loop
+unfolding saidList
+returns c = let l = c .before .loop in let e : l .d ≡ c .before .before .before .before .args .g .drives = omega arith in l .inv .2 ∙ rw e refl
+
+pub said-lost-spec : {M : Type 1} → statement M
+said-lost-spec =
+    tie.close
+    (tie.spec
+    Inv-loop
+    μ-loop
+    loop-holds
+    array-read-said-by
+    said-by-requires
+    mul-said
+    array-write-said
+    add-d
+    loop-less
+    loop-again
+    returns)

@@ -1,0 +1,42 @@
+use mathlib.Core.Path.{ap₂, _∙_}
+use Prim.Native.Nat.{ℕ, _+_}
+use native.Mathlib.Omega.{arith}
+use denote.Ref.{now}
+use Rattle.tables.specs.Tables.{sectorAt}
+use Rattle.volume.specs.KnowingValues.{sector-within}
+use borrow.Author.Needs.{needs}
+use Rattle.volume.proofs.knowing.read_own.Statement.{statement}
+use Rattle.volume.proofs.knowing.read_own.Tie as tie
+
+drive-of-requires : tie.Need-drive-of-requires
+drive-of-requires c κs = search needs
+
+sector-of-requires : tie.Need-sector-of-requires
+sector-of-requires c κs = search needs
+
+add-read-sector : tie.Need-add-read-sector
+add-read-sector c = search needs
+
+read-sector-requires : tie.Need-read-sector-requires
+read-sector-requires c κs =
+    let s = c .before .before .before .before .before in
+    (s .pre .0, (c .before .before .drive-of .ensures .1, omega (arith, s .pre .1 .0), rw (c .before .sector-of .ensures) (sector-within (s .args .g) (s .args .a) (s .pre .0) (s .pre .1 .1)), s .pre .1 .2, s .pre .1 .3))
+
+same-length : tie.Need-same-length
+same-length c = search needs
+
+returns : tie.Need-returns
+returns c =
+    let a = c .before .before .before .before .before .before .before .before .args in
+    c .before .before .read-sector .ensures ∙ ap₂ (λ (d x : ℕ). sectorAt (a .g) (now (a .sectors)) d (3 + a .z) x) (c .before .before .before .before .before .drive-of .ensures .0) (c .before .before .before .before .sector-of .ensures)
+
+pub read-own-spec : {M : Type 1} → statement M
+read-own-spec =
+    tie.close
+    (tie.spec
+    drive-of-requires
+    sector-of-requires
+    add-read-sector
+    read-sector-requires
+    same-length
+    returns)

@@ -1,0 +1,75 @@
+use Prim.Native.Nat.{ℕ}
+use mathlib.Core.List.{List, _++_}
+use lib.ListN.{drop, replicate, length, take}
+use denote.Ref.{now}
+use Rattle.logs.specs.Entry.{generalZone, encode, zoneReset}
+use native.Mathlib.Omega.{arith}
+use Rattle.volume.specs.Logging.{front-fits, front-is, front-long, appended-as}
+use mathlib.Core.Path.{_≡_, sym, _∙_}
+use lib.Seq.{length-take-le}
+use borrow.Author.Needs.{needs}
+use Rattle.volume.proofs.logging.append_reset.Statement.{statement}
+use Rattle.volume.proofs.logging.append_reset.Tie as tie
+
+array-borrow-prefix-buffer : tie.Need-array-borrow-prefix-buffer
+array-borrow-prefix-buffer c = let s = c .before .before in s .pre .0 .sector-most
+
+slice-aggregate-write-reset : tie.Need-slice-aggregate-write-reset
+slice-aggregate-write-reset c = let s = c .before .before .before in sym (length-take-le (s .args .g .sector) _ (s .pre .0 .sector-most))
+
+write-reset-requires : tie.Need-write-reset-requires
+write-reset-requires c κs = let s = c .before .before .before in (s .pre .0, (length-take-le (s .args .g .sector) _ (s .pre .0 .sector-most), s .pre .1 .1))
+
+-- the header is one sector long
+long : (c : tie.After-write-reset) → length (c .write-reset .last .0) ≡ c .before .before .before .before .args .g .sector
+long c = let s = c .before .before .before .before in c .write-reset .kept .0 ∙ length-take-le (s .args .g .sector) _ (s .pre .0 .sector-most)
+
+-- the rest of the buffer
+abbrev rest : tie.Start → List ℕ
+rest s = drop (s .args .g .sector) (replicate 4096 0)
+
+array-share-prefix-buffer : tie.Need-array-share-prefix-buffer
+array-share-prefix-buffer c =
+    let w = c .before .before .before in
+    let s = w .before .before .before .before in
+    front-fits (s .args .g .sector) (w .write-reset .last .0) (rest s) (long w)
+
+slice-aggregate-append-counted : tie.Need-slice-aggregate-append-counted
+slice-aggregate-append-counted c =
+    let w = c .before .before .before .before in
+    let s = w .before .before .before .before in
+    front-long (s .args .g .sector) (w .write-reset .last .0) (rest s) (long w)
+
+append-counted-requires : tie.Need-append-counted-requires
+append-counted-requires c κs =
+    let w = c .before .before .before .before in
+    let s = w .before .before .before .before in
+    (s .pre .0, ((s .pre .1 .0, omega arith), (s .pre .1 .2, s .pre .1 .3, sym (front-long (s .args .g .sector) (w .write-reset .last .0) (rest s) (long w)))))
+
+same-length : tie.Need-same-length
+same-length c = search needs
+
+same-length-2 : tie.Need-same-length-2
+same-length-2 c = search needs
+
+returns : tie.Need-returns
+returns c =
+    let w = c .before .before .before .before .before .before .before .before .before in
+    let s = w .before .before .before .before in
+    let a = s .args in
+    let f = c .before .before .before .before .append-counted in
+    appended-as (a .g) (a .budget) (f .result) (a .here) (a .drive) generalZone (take (a .g .sector) (w .write-reset .last .0 ++ rest s)) (encode (a .g) (a .drive) (zoneReset (a .z) (a .generation))) (now (a .sectors)) (now (a .written)) (f .last .0) (f .last .1 .0) (front-is (a .g .sector) (w .write-reset .last .0) (rest s) (encode (a .g) (a .drive) (zoneReset (a .z) (a .generation))) (long w) (w .write-reset .ensures)) (f .ensures)
+
+pub append-reset-spec : {M : Type 1} → statement M
+append-reset-spec =
+    tie.close
+    (tie.spec
+    array-borrow-prefix-buffer
+    slice-aggregate-write-reset
+    write-reset-requires
+    array-share-prefix-buffer
+    slice-aggregate-append-counted
+    append-counted-requires
+    same-length
+    same-length-2
+    returns)

@@ -1,0 +1,67 @@
+use mathlib.Core.Path.{_≡_, refl, _∙_}
+use mathlib.Core.List.{_++_}
+use Prim.Native.Nat.{ℕ, _+_, _-_, _≤_, _<_}
+use native.Mathlib.Omega.{arith}
+use native.Mathlib.Numerals.{add-one}
+use lib.ListN.{length, replicate, length-set}
+use denote.Ref.{now}
+use Rattle.tables.specs.Below.{tabulate}
+use Rattle.volume.specs.OnTables.{among}
+use Rattle.volume.specs.ZoneLooking.{zoneLookOf}
+use Rattle.volume.specs.Rules.{zoneShown}
+use Rattle.volume.specs.Looking.{blankLook, looksFrom, lookable-zone}
+use Rattle.volume.specs.DrivesLost.{fill-more}
+use Rattle.volume.specs.DriveLogs.{deviceRead}
+use Rattle.volume.proofs.looking.look_zones.Statement.{statement}
+use Rattle.volume.proofs.looking.look_zones.Tie as tie
+
+abbrev Inv-loop : tie.InvT-loop
+Inv-loop sectors written g here n zones₀ z₀ zones z = (z ≤ n) × (length zones ≡ 16) × (zones ≡ tabulate (λ (i : ℕ). zoneLookOf (zoneShown g (among here) (deviceRead g sectors written) i)) z ++ replicate (16 - z) blankLook)
+
+abbrev μ-loop : tie.MeasureT-loop
+μ-loop sectors written g here n zones₀ z₀ zones z = n - z
+
+loop-holds : tie.Need-loop-holds Inv-loop μ-loop
+loop-holds c = (omega arith, refl, refl)
+
+look-zone-requires : tie.Need-look-zone-requires Inv-loop μ-loop
+look-zone-requires c κs = let s = c .before .before .before .before in let a = s .args in (s .pre .0, lookable-zone (a .g) (a .here) (a .sectors .now) (a .written .now) (c .before .loop .z) (s .pre .1) (omega arith))
+
+mul-zones : tie.Need-mul-zones Inv-loop μ-loop
+mul-zones c = omega (arith, c .before .before .before .before .before .pre .0 .zones-most)
+
+array-set-from-zones : tie.Need-array-set-from-zones Inv-loop μ-loop
+array-set-from-zones c = omega (arith, c .before .before .before .before .before .pre .0 .zones-most)
+
+add-z : tie.Need-add-z Inv-loop μ-loop
+add-z c = omega (arith, c .before .before .before .before .before .pre .0 .zones-most)
+
+loop-less : tie.Need-loop-less Inv-loop μ-loop
+loop-less c = omega arith
+
+loop-again : tie.Need-loop-again Inv-loop μ-loop
+loop-again c =
+    let s = c .before .before .before .before .before in
+    let a = s .args in
+    let l = c .before .before .loop in
+    let h : l .z < 16 = omega (arith, s .pre .0 .zones-most) in
+    (omega arith, simp length-set (l .inv .1), rw (l .inv .2, c .look-zone .ensures, add-one) (fill-more (λ (i : ℕ). zoneLookOf (zoneShown (a .g) (among (a .here)) (deviceRead (a .g) (a .sectors .now) (a .written .now)) i)) blankLook 16 (l .z) h))
+
+returns : tie.Need-returns Inv-loop μ-loop
+unfolding looksFrom
+returns c = let l = c .before .loop in let e : l .z ≡ c .before .before .before .before .args .g .zones = omega arith in l .inv .2 ∙ rw e refl
+
+pub look-zones-spec : {M : Type 1} → statement M
+look-zones-spec =
+    tie.close
+    (tie.spec
+    Inv-loop
+    μ-loop
+    loop-holds
+    look-zone-requires
+    mul-zones
+    array-set-from-zones
+    add-z
+    loop-less
+    loop-again
+    returns)

@@ -1,0 +1,40 @@
+use borrow.Author.Needs.{needs}
+use Rattle.volume.proofs.zone_checks.stale_in.Statement.{statement}
+use Rattle.volume.proofs.zone_checks.stale_in.Tie as tie
+
+enum-told : tie.Need-enum-told
+enum-told c = search needs
+
+enum-known-c : tie.Need-enum-known-c
+enum-known-c c = search needs
+
+enum-known-c-2 : tie.Need-enum-known-c-2
+enum-known-c-2 c = search needs
+
+enum-known-c-3 : tie.Need-enum-known-c-3
+enum-known-c-3 c = search needs
+
+returns : tie.Need-returns
+returns c = cc
+
+returns-2 : tie.Need-returns-2
+returns-2 c = cc
+
+returns-3 : tie.Need-returns-3
+returns-3 c = cc
+
+returns-4 : tie.Need-returns-4
+returns-4 c = cc
+
+pub stale-in-spec : {M : Type 1} → statement M
+stale-in-spec =
+    tie.close
+    (tie.spec
+    enum-told
+    enum-known-c
+    enum-known-c-2
+    enum-known-c-3
+    returns
+    returns-2
+    returns-3
+    returns-4)

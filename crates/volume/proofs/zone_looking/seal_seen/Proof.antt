@@ -1,0 +1,55 @@
+use mathlib.Core.Path.{_≡_, refl, _∙_}
+use mathlib.Core.Bool.{_&&_}
+use Prim.Native.Nat.{ℕ, _-_, _≤_}
+use native.Mathlib.Omega.{arith}
+use native.Mathlib.Numerals.{add-one}
+use Rattle.tables.specs.Below.{anyBelow}
+use Rattle.tables.specs.Lists.{anyOf}
+use Rattle.logs.specs.Heads.{isSeal}
+use Rattle.volume.specs.OnTables.{among}
+use Rattle.volume.specs.Rules.{generalHeads, sealSeen}
+use Rattle.volume.specs.DriveLogs.{deviceRead}
+use Rattle.volume.proofs.zone_looking.seal_seen.Statement.{statement}
+use Rattle.volume.proofs.zone_looking.seal_seen.Tie as tie
+
+abbrev Inv-loop : tie.InvT-loop
+Inv-loop sectors written g z generation here n seen₀ d₀ seen d = (d ≤ n) × (seen ≡ anyBelow (λ (i : ℕ). among here i && anyOf (isSeal z generation) (generalHeads g (deviceRead g sectors written) i)) d)
+
+abbrev μ-loop : tie.MeasureT-loop
+μ-loop sectors written g z generation here n seen₀ d₀ seen d = n - d
+
+loop-holds : tie.Need-loop-holds Inv-loop μ-loop
+loop-holds c = (omega arith, refl)
+
+array-read-drive-seal : tie.Need-array-read-drive-seal Inv-loop μ-loop
+array-read-drive-seal c = omega (arith, c .before .before .before .before .pre .0 .drives-most)
+
+drive-seal-requires : tie.Need-drive-seal-requires Inv-loop μ-loop
+drive-seal-requires c κs = let s = c .before .before .before .before in (s .pre .0, (s .pre .1, omega arith))
+
+add-d : tie.Need-add-d Inv-loop μ-loop
+add-d c = omega (arith, c .before .before .before .before .before .pre .0 .drives-most)
+
+loop-less : tie.Need-loop-less Inv-loop μ-loop
+loop-less c = omega arith
+
+loop-again : tie.Need-loop-again Inv-loop μ-loop
+loop-again c = let l = c .before .before .loop in (omega arith, rw (l .inv .1, c .drive-seal .ensures, add-one) refl)
+
+returns : tie.Need-returns Inv-loop μ-loop
+unfolding sealSeen
+returns c = let l = c .before .loop in let e : l .d ≡ c .before .before .before .before .args .g .drives = omega arith in l .inv .1 ∙ rw e refl
+
+pub seal-seen-spec : {M : Type 1} → statement M
+seal-seen-spec =
+    tie.close
+    (tie.spec
+    Inv-loop
+    μ-loop
+    loop-holds
+    array-read-drive-seal
+    drive-seal-requires
+    add-d
+    loop-less
+    loop-again
+    returns)

@@ -1,0 +1,183 @@
+// What the two logs of one drive say, read in the tables. A written pointer past its zone's end counts as one at the end, so that every
+// function here has an answer whatever the pointers are.
+use logs::Found;
+use tables::Geometry;
+ghost use mathlib.Core.Path.{_≡_};
+ghost use mathlib.Core.Bool.{_||_};
+ghost use Prim.Native.Nat.{_≤_, _<_};
+ghost use lib.ListN.{length};
+ghost use Rattle.tables.specs.Geometry.{Valid, physicalZones, cells};
+ghost use Rattle.tables.specs.Lists.{anyOf};
+ghost use Rattle.logs.specs.Heads.{labelled, arrayIn, generationIn, isReset, isSeal, endsPast};
+ghost use Rattle.logs.specs.Entry.{Entry};
+ghost use Rattle.logs.specs.QueryLaws.{SmallSeen};
+ghost use Rattle.volume.specs.Rules.{generalHeads, generalEnding, parityEntries, parityEnding, endingPast};
+ghost use Rattle.volume.specs.Refusals.{isNoEntry};
+ghost use Rattle.volume.specs.DriveLogs.{Sized, deviceRead, zonePointer, saysLost, pastSeen};
+
+// The physical zones of the two logs.
+pub const GENERAL_LOG: usize = 0;
+
+pub const PARITY_LOG: usize = 1;
+
+// How many sectors a zone of a drive has.
+pub fn zone_pointer(written: &[u32], g: Geometry, drive: usize, zone: usize) -> usize
+    requires { ⌜ Valid g ⌝ }
+    requires { ⌜ (drive < g .drives) × (zone < physicalZones g) × (length (now written) ≡ cells g) ⌝ }
+    ensures { λ r. ⌜ (r ≡ zonePointer g (now (written .entry)) drive zone) × (r ≤ g .capacity) ⌝ }
+{
+    let at = tables::stores::cell_of(g, drive, zone);
+    let n = tables::bounds::widen(written[at]);
+    let c = g.capacity;
+    tables::placement::smaller(n, c)
+}
+
+// Does the general log begin with a label?
+pub fn begins_labelled(sectors: &[u8], written: &[u32], g: Geometry, drive: usize) -> bool
+    requires { ⌜ Valid g ⌝ }
+    requires { ⌜ Sized g (now sectors) (now written) × (drive < g .drives) ⌝ }
+    ensures { λ r. ⌜ r ≡ labelled (generalHeads g (deviceRead g (now (sectors .entry)) (now (written .entry))) drive) ⌝ }
+{
+    let n = zone_pointer(written, g, drive, GENERAL_LOG);
+    logs::folds::begins_labelled(sectors, g, drive, GENERAL_LOG, n)
+}
+
+// The array number of that label; 0 if there is none.
+pub fn first_array(sectors: &[u8], written: &[u32], g: Geometry, drive: usize) -> u64
+    requires { ⌜ Valid g ⌝ }
+    requires { ⌜ Sized g (now sectors) (now written) × (drive < g .drives) ⌝ }
+    ensures { λ r. ⌜ r ≡ arrayIn (generalHeads g (deviceRead g (now (sectors .entry)) (now (written .entry))) drive) ⌝ }
+{
+    let n = zone_pointer(written, g, drive, GENERAL_LOG);
+    logs::folds::first_array(sectors, g, drive, GENERAL_LOG, n)
+}
+
+// The drive that the log's last label says is lost; 255 if it names none or the log does not begin with a label.
+pub fn says_lost(sectors: &[u8], written: &[u32], g: Geometry, drive: usize) -> usize
+    requires { ⌜ Valid g ⌝ }
+    requires { ⌜ Sized g (now sectors) (now written) × (drive < g .drives) ⌝ }
+    ensures { λ r. ⌜ r ≡ saysLost (generalHeads g (deviceRead g (now (sectors .entry)) (now (written .entry))) drive) ⌝ }
+{
+    let has_say = begins_labelled(sectors, written, g, drive);
+    if !has_say {
+        return 255;
+    }
+    let n = zone_pointer(written, g, drive, GENERAL_LOG);
+    logs::folds::last_lost(sectors, g, drive, GENERAL_LOG, n)
+}
+
+// Refusal 6: whether a sector where one of the two logs should have an entry is no legal one, or rows pass the zone's end.
+pub fn logs_broken(sectors: &[u8], written: &[u32], g: Geometry, drive: usize) -> bool
+    requires { ⌜ Valid g ⌝ }
+    requires { ⌜ Sized g (now sectors) (now written) × (drive < g .drives) ⌝ }
+    ensures { λ r. ⌜ r ≡ isNoEntry (generalEnding g (deviceRead g (now (sectors .entry)) (now (written .entry))) drive)
+        || isNoEntry (parityEnding g (deviceRead g (now (sectors .entry)) (now (written .entry))) drive) ⌝ }
+{
+    let n = zone_pointer(written, g, drive, GENERAL_LOG);
+    let general = logs::walking::walk_log(sectors, g, drive, GENERAL_LOG, false, n);
+    let m = zone_pointer(written, g, drive, PARITY_LOG);
+    let parity = logs::walking::walk_log(sectors, g, drive, PARITY_LOG, true, m);
+    let a = general.why;
+    let b = parity.why;
+    (a == 1) | (b == 1)
+}
+
+// The generation that the last counters give zone z; 0 if there are none.
+pub fn last_generation(sectors: &[u8], written: &[u32], g: Geometry, drive: usize, z: usize) -> u64
+    requires { ⌜ Valid g ⌝ }
+    requires { ⌜ Sized g (now sectors) (now written) × (drive < g .drives) × (z < g .zones) ⌝ }
+    ensures { λ r. ⌜ r ≡ generationIn z (generalHeads g (deviceRead g (now (sectors .entry)) (now (written .entry))) drive) ⌝ }
+{
+    let n = zone_pointer(written, g, drive, GENERAL_LOG);
+    logs::folds::last_generation(sectors, g, drive, GENERAL_LOG, n, z)
+}
+
+// Is there a reset entry of a zone and generation?
+pub fn has_reset(
+    sectors: &[u8],
+    written: &[u32],
+    g: Geometry,
+    drive: usize,
+    z: usize,
+    generation: u64,
+) -> bool
+    requires { ⌜ Valid g ⌝ }
+    requires { ⌜ Sized g (now sectors) (now written) × (drive < g .drives) ⌝ }
+    ensures { λ r. ⌜ r ≡ anyOf (isReset z generation) (generalHeads g (deviceRead g (now (sectors .entry)) (now (written .entry))) drive) ⌝ }
+{
+    let n = zone_pointer(written, g, drive, GENERAL_LOG);
+    logs::folds::has_reset(sectors, g, drive, GENERAL_LOG, n, z, generation)
+}
+
+// Is there a seal of a zone and generation?
+pub fn has_seal(
+    sectors: &[u8],
+    written: &[u32],
+    g: Geometry,
+    drive: usize,
+    z: usize,
+    generation: u64,
+) -> bool
+    requires { ⌜ Valid g ⌝ }
+    requires { ⌜ Sized g (now sectors) (now written) × (drive < g .drives) ⌝ }
+    ensures { λ r. ⌜ r ≡ anyOf (isSeal z generation) (generalHeads g (deviceRead g (now (sectors .entry)) (now (written .entry))) drive) ⌝ }
+{
+    let n = zone_pointer(written, g, drive, GENERAL_LOG);
+    logs::folds::has_seal(sectors, g, drive, GENERAL_LOG, n, z, generation)
+}
+
+// Does a whole partial parity entry of a zone and generation end past pointer q?
+pub fn whole_past(
+    sectors: &[u8],
+    written: &[u32],
+    g: Geometry,
+    drive: usize,
+    z: usize,
+    generation: u64,
+    q: usize,
+) -> bool
+    requires { ⌜ Valid g ⌝ }
+    requires { ⌜ Sized g (now sectors) (now written) × (drive < g .drives) ⌝ }
+    ensures { λ r. ⌜ r ≡ anyOf (λ (e : Entry). endsPast g z generation q (e .head)) (parityEntries g (deviceRead g (now (sectors .entry)) (now (written .entry))) drive) ⌝ }
+{
+    let n = zone_pointer(written, g, drive, PARITY_LOG);
+    let most = tables::bounds::zone_sectors(g);
+    let place = logs::folds::last_partial(sectors, g, drive, PARITY_LOG, n, z, generation, q, most);
+    place != 0
+}
+
+// Is what was found a partial parity entry of a zone and generation that ends past pointer q?
+fn found_past(f: Found, g: Geometry, z: usize, generation: u64, q: usize) -> bool
+    requires { ⌜ Valid g ⌝ }
+    requires { ⌜ SmallSeen g f ⌝ }
+    ensures { λ r. ⌜ r ≡ pastSeen g z generation q f ⌝ }
+{
+    let k = tables::bounds::stripe_sectors(g);
+    match f {
+        Found::Bad => false,
+        Found::Label(_, _) => false,
+        Found::Counters => false,
+        Found::Resets(_, _) => false,
+        Found::Partial(y, s, fill, n) => (y == z) & ((n == generation) & (q < s * k + fill)),
+        Found::Seal(_, _, _) => false,
+    }
+}
+
+// Does the torn entry, if there is one, do so?
+pub fn torn_past(
+    sectors: &[u8],
+    written: &[u32],
+    g: Geometry,
+    drive: usize,
+    z: usize,
+    generation: u64,
+    q: usize,
+) -> bool
+    requires { ⌜ Valid g ⌝ }
+    requires { ⌜ Sized g (now sectors) (now written) × (drive < g .drives) ⌝ }
+    ensures { λ r. ⌜ r ≡ endingPast g z generation q (parityEnding g (deviceRead g (now (sectors .entry)) (now (written .entry))) drive) ⌝ }
+{
+    let n = zone_pointer(written, g, drive, PARITY_LOG);
+    let f = logs::folds::torn_entry(sectors, g, drive, PARITY_LOG, true, n);
+    found_past(f, g, z, generation, q)
+}

@@ -1,0 +1,191 @@
+// Rule 1: which drives are lost by what the named drives' logs say, and which are present. And refusals 5 and 6, which look at the logs of
+// the present drives.
+use tables::Geometry;
+ghost use mathlib.Core.Path.{_≡_};
+ghost use mathlib.Core.Bool.{_&&_, _||_, not};
+ghost use Prim.Native.Nat.{ℕ, _<_};
+ghost use lib.Dec.{eqb};
+ghost use Rattle.tables.specs.Basics.{pick};
+ghost use Rattle.tables.specs.Below.{anyBelow};
+ghost use Rattle.tables.specs.Drives.{findBelow, noDrive};
+ghost use Rattle.tables.specs.Geometry.{Valid};
+ghost use Rattle.logs.specs.Heads.{labelled, arrayIn};
+ghost use Rattle.volume.specs.OnTables.{among};
+ghost use Rattle.volume.specs.Rules.{generalHeads, generalEnding, parityEnding, isPresent};
+ghost use Rattle.volume.specs.Refusals.{isNoEntry, badLabels, badLogs};
+ghost use Rattle.volume.specs.DriveLogs.{Sized, deviceRead, saysLost};
+ghost use Rattle.volume.specs.DrivesLost.{saidList, saidOf, labelBad};
+
+// What one drive says, if it is named: the drive that its last label names as lost, or 255.
+fn said_by(sectors: &[u8], written: &[u32], g: Geometry, named: bool, drive: usize) -> usize
+    requires { ⌜ Valid g ⌝ }
+    requires { ⌜ Sized g (now sectors) (now written) × (drive < g .drives) ⌝ }
+    ensures { λ r. ⌜ r ≡ pick named (saysLost (generalHeads g (deviceRead g (now (sectors .entry)) (now (written .entry))) drive)) noDrive ⌝ }
+{
+    if !named {
+        return 255;
+    }
+    super::drive_logs::says_lost(sectors, written, g, drive)
+}
+
+// What each drive says.
+fn said_lost(sectors: &[u8], written: &[u32], g: Geometry, named: [bool; 8]) -> [usize; 8]
+    requires { ⌜ Valid g ⌝ }
+    requires { ⌜ Sized g (now sectors) (now written) ⌝ }
+    ensures { λ r. ⌜ r ≡ saidList g named (deviceRead g (now (sectors .entry)) (now (written .entry))) ⌝ }
+{
+    let n = g.drives;
+    let mut said = [255usize; 8];
+    let mut d = 0;
+    while d < n {
+        let x = said_by(sectors, written, g, named[d], d);
+        said[d] = x;
+        d += 1;
+    }
+    said
+}
+
+// Does some drive say that drive d is lost?
+fn is_said(g: Geometry, said: [usize; 8], d: usize) -> bool
+    requires { ⌜ Valid g ⌝ }
+    ensures { λ r. ⌜ r ≡ saidOf g said d ⌝ }
+{
+    let n = g.drives;
+    let mut lost = false;
+    let mut e = 0;
+    while e < n {
+        lost = lost | (said[e] == d);
+        e += 1;
+    }
+    lost
+}
+
+// The drives present: named, and said to be lost by no named drive.
+pub fn look_present(sectors: &[u8], written: &[u32], g: Geometry, named: [bool; 8]) -> [bool; 8]
+    requires { ⌜ Valid g ⌝ }
+    requires { ⌜ Sized g (now sectors) (now written) ⌝ }
+    ensures { λ r. ⌜ among r ≡ isPresent g (among named) (deviceRead g (now (sectors .entry)) (now (written .entry))) ⌝ }
+{
+    let n = g.drives;
+    let said = said_lost(sectors, written, g, named);
+    let mut here = [false; 8];
+    let mut d = 0;
+    while d < n {
+        let lost = is_said(g, said, d);
+        here[d] = named[d] & !lost;
+        d += 1;
+    }
+    here
+}
+
+// Does some present drive's log begin with another array number?
+fn other_array(sectors: &[u8], written: &[u32], g: Geometry, here: [bool; 8], array: u64) -> bool
+    requires { ⌜ Valid g ⌝ }
+    requires { ⌜ Sized g (now sectors) (now written) ⌝ }
+    ensures { λ r. ⌜ r ≡ anyBelow (λ (e : ℕ). among here e && not (eqb array (arrayIn (generalHeads g (deviceRead g (now (sectors .entry)) (now (written .entry))) e)))) (g .drives) ⌝ }
+{
+    let n = g.drives;
+    let mut other = false;
+    let mut e = 0;
+    while e < n {
+        let a = super::drive_logs::first_array(sectors, written, g, e);
+        other = other | (here[e] & (array != a));
+        e += 1;
+    }
+    other
+}
+
+// Refusal 5 for one drive: present, but its log does not begin with a label, or another begins with another array number.
+fn label_bad(sectors: &[u8], written: &[u32], g: Geometry, here: [bool; 8], d: usize) -> bool
+    requires { ⌜ Valid g ⌝ }
+    requires { ⌜ Sized g (now sectors) (now written) × (d < g .drives) ⌝ }
+    ensures { λ r. ⌜ r ≡ labelBad g (among here) (deviceRead g (now (sectors .entry)) (now (written .entry))) d ⌝ }
+{
+    let labelled = super::drive_logs::begins_labelled(sectors, written, g, d);
+    let a = super::drive_logs::first_array(sectors, written, g, d);
+    let other = other_array(sectors, written, g, here, a);
+    let present = here[d];
+    present & (!labelled | other)
+}
+
+// Refusal 5.
+pub fn labels_bad(sectors: &[u8], written: &[u32], g: Geometry, here: [bool; 8]) -> bool
+    requires { ⌜ Valid g ⌝ }
+    requires { ⌜ Sized g (now sectors) (now written) ⌝ }
+    ensures { λ r. ⌜ r ≡ badLabels g (among here) (deviceRead g (now (sectors .entry)) (now (written .entry))) ⌝ }
+{
+    let n = g.drives;
+    let mut bad = false;
+    let mut d = 0;
+    while d < n {
+        let b = label_bad(sectors, written, g, here, d);
+        bad = bad | b;
+        d += 1;
+    }
+    bad
+}
+
+// Refusal 6 for one drive.
+fn log_bad(sectors: &[u8], written: &[u32], g: Geometry, present: bool, d: usize) -> bool
+    requires { ⌜ Valid g ⌝ }
+    requires { ⌜ Sized g (now sectors) (now written) × (d < g .drives) ⌝ }
+    ensures { λ r. ⌜ r ≡ present && (isNoEntry (generalEnding g (deviceRead g (now (sectors .entry)) (now (written .entry))) d)
+        || isNoEntry (parityEnding g (deviceRead g (now (sectors .entry)) (now (written .entry))) d)) ⌝ }
+{
+    if !present {
+        return false;
+    }
+    super::drive_logs::logs_broken(sectors, written, g, d)
+}
+
+// Refusal 6.
+pub fn logs_bad(sectors: &[u8], written: &[u32], g: Geometry, here: [bool; 8]) -> bool
+    requires { ⌜ Valid g ⌝ }
+    requires { ⌜ Sized g (now sectors) (now written) ⌝ }
+    ensures { λ r. ⌜ r ≡ badLogs g (among here) (deviceRead g (now (sectors .entry)) (now (written .entry))) ⌝ }
+{
+    let n = g.drives;
+    let mut bad = false;
+    let mut d = 0;
+    while d < n {
+        let b = log_bad(sectors, written, g, here[d], d);
+        bad = bad | b;
+        d += 1;
+    }
+    bad
+}
+
+fn choose(b: bool, d: usize, x: usize) -> usize
+    ensures { λ r. ⌜ r ≡ pick b d x ⌝ }
+{
+    if b { d } else { x }
+}
+
+// The last present drive, or 255.
+fn last_present(g: Geometry, here: [bool; 8]) -> usize
+    requires { ⌜ Valid g ⌝ }
+    ensures { λ r. ⌜ r ≡ findBelow (among here) (g .drives) ⌝ }
+{
+    let n = g.drives;
+    let mut x = 255;
+    let mut d = 0;
+    while d < n {
+        x = choose(here[d], d, x);
+        d += 1;
+    }
+    x
+}
+
+// The array number with which the present drives' logs begin: that of the last present one, 0 if none is present.
+pub fn look_array(sectors: &[u8], written: &[u32], g: Geometry, here: [bool; 8]) -> u64
+    requires { ⌜ Valid g ⌝ }
+    requires { ⌜ Sized g (now sectors) (now written) ⌝ }
+    ensures { λ r. ⌜ r ≡ arrayIn (generalHeads g (deviceRead g (now (sectors .entry)) (now (written .entry))) (findBelow (among here) (g .drives))) ⌝ }
+{
+    let n = g.drives;
+    let d = last_present(g, here);
+    if n <= d {
+        return 0;
+    }
+    super::drive_logs::first_array(sectors, written, g, d)
+}

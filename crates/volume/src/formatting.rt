@@ -1,0 +1,207 @@
+// Format: reset every zone; label, then counters (all 1), drive by drive; flush all.
+use super::Answer;
+use super::Condition;
+use super::Outcome;
+use super::State;
+use super::ZoneRecord;
+use tables::Geometry;
+ghost use mathlib.Core.Path.{_≡_};
+ghost use Prim.Native.Nat.{_<_};
+ghost use lib.ListN.{length};
+ghost use Rattle.tables.specs.Below.{eachBelow};
+ghost use Rattle.tables.specs.Geometry.{Valid, physicalZones, cells, totalBytes};
+ghost use Rattle.tables.specs.Phases.{onPresent};
+ghost use Rattle.tables.specs.Tables.{tablesOf, Made, MadeAppends, MadePointers};
+ghost use Rattle.volume.specs.Calls.{formatStores};
+ghost use Rattle.volume.specs.OnTables.{among};
+ghost use Rattle.volume.specs.Formatting.{formatOn, formatNumber, freshState, driveResets, driveEntries, resetsIf, entriesIf};
+
+// Refusals 1 to 4, of a call that has no state yet; 0 if none applies.
+fn format_refusal(
+    sectors: usize,
+    written: &[u32],
+    durable: &[u32],
+    g: Geometry,
+    named: [bool; 8],
+) -> u8
+    ensures { λ r. ⌜ r ≡ formatNumber g named sectors (now (written .entry)) (now (durable .entry)) ⌝ }
+{
+    let ok = tables::bounds::valid(g);
+    if !ok {
+        return 1;
+    }
+    let fit = tables::bounds::lengths_fit(g, sectors, written.len(), durable.len());
+    if !fit {
+        return 2;
+    }
+    let bad = tables::bounds::pointers_bad(written, durable, g, named);
+    if bad {
+        return 3;
+    }
+    let absent = super::checks::count_absent(g, named);
+    if 1 < absent {
+        return 4;
+    }
+    0
+}
+
+// Every physical zone of a drive reset, if it is here.
+fn reset_drive(
+    written: &mut [u32],
+    durable: &mut [u32],
+    g: Geometry,
+    here: bool,
+    drive: usize,
+    budget: u64,
+) -> u64
+    requires { ⌜ Valid g ⌝ }
+    requires { ⌜ (drive < g .drives) × (length (now written) ≡ cells g) × (length (now durable) ≡ cells g) ⌝ }
+    ensures { λ r. ⌜ MadePointers g budget r (resetsIf here drive (physicalZones g)) (now (written .entry)) (now (durable .entry)) (now (written .exit)) (now (durable .exit)) ⌝ }
+{
+    let n = g.zones + 3;
+    let mut rest = budget;
+    let mut y = 0;
+    while y < n {
+        rest = tables::stores::reset_counted(written, durable, g, here, drive, y, rest);
+        y += 1;
+    }
+    rest
+}
+
+// The first phase: the same of every drive that is here.
+fn reset_drives(
+    written: &mut [u32],
+    durable: &mut [u32],
+    g: Geometry,
+    here: [bool; 8],
+    budget: u64,
+) -> u64
+    requires { ⌜ Valid g ⌝ }
+    requires { ⌜ (length (now written) ≡ cells g) × (length (now durable) ≡ cells g) ⌝ }
+    ensures { λ r. ⌜ MadePointers g budget r (onPresent (among here) (eachBelow (driveResets g) (g .drives))) (now (written .entry)) (now (durable .entry)) (now (written .exit)) (now (durable .exit)) ⌝ }
+{
+    let n = g.drives;
+    let mut rest = budget;
+    let mut d = 0;
+    while d < n {
+        let present = here[d];
+        rest = reset_drive(written, durable, g, present, d, rest);
+        d += 1;
+    }
+    rest
+}
+
+// A drive's label and its counters, all 1, if it is here.
+fn label_drive(
+    sectors: &mut [u8],
+    written: &mut [u32],
+    g: Geometry,
+    here: bool,
+    drive: usize,
+    lost: usize,
+    array: u64,
+    budget: u64,
+) -> u64
+    requires { ⌜ Valid g ⌝ }
+    requires { ⌜ (drive < g .drives) × (lost < 256) × (length (now sectors) ≡ totalBytes g) × (length (now written) ≡ cells g) ⌝ }
+    ensures { λ r. ⌜ MadeAppends g budget r (entriesIf g here lost array drive) (now (sectors .entry)) (now (written .entry)) (now (sectors .exit)) (now (written .exit)) ⌝ }
+{
+    let rest = super::logging::append_label(sectors, written, g, here, drive, lost, array, budget);
+    let ones = [1u64; 16];
+    super::logging::append_counters(sectors, written, g, here, drive, &ones, rest)
+}
+
+// The second phase: the same of every drive that is here.
+fn label_drives(
+    sectors: &mut [u8],
+    written: &mut [u32],
+    g: Geometry,
+    here: [bool; 8],
+    lost: usize,
+    array: u64,
+    budget: u64,
+) -> u64
+    requires { ⌜ Valid g ⌝ }
+    requires { ⌜ (lost < 256) × (length (now sectors) ≡ totalBytes g) × (length (now written) ≡ cells g) ⌝ }
+    ensures { λ r. ⌜ MadeAppends g budget r (onPresent (among here) (eachBelow (driveEntries g lost array) (g .drives))) (now (sectors .entry)) (now (written .entry)) (now (sectors .exit)) (now (written .exit)) ⌝ }
+{
+    let n = g.drives;
+    let mut rest = budget;
+    let mut d = 0;
+    while d < n {
+        let present = here[d];
+        rest = label_drive(sectors, written, g, present, d, lost, array, rest);
+        d += 1;
+    }
+    rest
+}
+
+// The three phases.
+fn format_stores(
+    sectors: &mut [u8],
+    written: &mut [u32],
+    durable: &mut [u32],
+    g: Geometry,
+    here: [bool; 8],
+    lost: usize,
+    array: u64,
+    budget: u64,
+) -> u64
+    requires { ⌜ Valid g ⌝ }
+    requires { ⌜ (lost < 256) × (length (now sectors) ≡ totalBytes g) × (length (now written) ≡ cells g) × (length (now durable) ≡ cells g) ⌝ }
+    ensures { λ r. ⌜ Made g budget r (formatStores g (among here) lost array) (tablesOf (now (sectors .entry)) (now (written .entry)) (now (durable .entry))) (tablesOf (now (sectors .exit)) (now (written .exit)) (now (durable .exit))) ⌝ }
+{
+    let cleared = reset_drives(written, durable, g, here, budget);
+    let labelled = label_drives(sectors, written, g, here, lost, array, cleared);
+    super::flushing::flush_all(written, durable, g, here, labelled)
+}
+
+// The state that a finished format hands on: every zone empty, of generation 1.
+fn fresh_state(lost: usize) -> State
+    ensures { λ r. ⌜ r ≡ freshState lost ⌝ }
+{
+    let fresh = ZoneRecord {
+        generation: 1,
+        condition: Condition::Empty,
+    };
+    let zones = [fresh; 16];
+    State { lost, zones }
+}
+
+// The call. A format neither reads nor changes the old state: it is handed back if the call is refused or unfinished.
+pub fn format(
+    sectors: &mut [u8],
+    written: &mut [u32],
+    durable: &mut [u32],
+    g: Geometry,
+    named: [bool; 8],
+    array: u64,
+    old: State,
+    count: u32,
+) -> Outcome
+    ensures { λ r. ⌜ (r ≡ formatOn g named array old count (tablesOf (now (sectors .entry)) (now (written .entry)) (now (durable .entry))) .outcome)
+        × (tablesOf (now (sectors .exit)) (now (written .exit)) (now (durable .exit)) ≡ formatOn g named array old count (tablesOf (now (sectors .entry)) (now (written .entry)) (now (durable .entry))) .tables) ⌝ }
+{
+    let refusal = format_refusal(sectors.len(), written, durable, g, named);
+    if refusal != 0 {
+        return Outcome {
+            answer: Answer::Refused(refusal),
+            state: old,
+        };
+    }
+    let here = super::checks::present_drives(g, named, 255);
+    let lost = super::checks::left_out(g, named);
+    let budget = count as u64 + 1;
+    let rest = format_stores(sectors, written, durable, g, here, lost, array, budget);
+    if rest == 0 {
+        return Outcome {
+            answer: Answer::Unfinished,
+            state: old,
+        };
+    }
+    let state = fresh_state(lost);
+    Outcome {
+        answer: Answer::Finished,
+        state,
+    }
+}

@@ -1,0 +1,435 @@
+// Rule 4: whether a sector of a zone is known under a generation, and its value. Three ways are tried in order. It is held: its own bytes. Or its
+// row is complete: the row's parity in place and the row's other data give it. Or a partial parity entry gives it: the last whole and
+// current one in the log of its stripe's parity drive that ends past it, at or below every current seal, and whose other sectors of the
+// row below its end are held. The more an entry covers, the more sectors it needs: so the entries that serve are those that end past the sector
+// and at most at its row's first other sector that is not held. A sector that is held costs no walk of a log.
+use logs::Found;
+use tables::Geometry;
+ghost use mathlib.Core.Path.{_≡_};
+ghost use mathlib.Core.Bool.{true, _||_};
+ghost use Prim.Native.Nat.{_+_, _-_, _≤_, _<_, min};
+ghost use lib.Dec.{leb, eqb};
+ghost use lib.ListN.{length, replicate};
+ghost use Rattle.tables.specs.Basics.{pick};
+ghost use Rattle.tables.specs.Geometry.{Valid, cells, physicalZones, totalBytes, zoneSectors};
+ghost use Rattle.tables.specs.Placement.{sectorOf, unitIndex};
+ghost use Rattle.tables.specs.Tables.{sectorAt};
+ghost use Rattle.tables.specs.Xor.{xorBytes};
+ghost use Rattle.logs.specs.Heads.{leastSeal};
+ghost use Rattle.logs.specs.Entry.{parityZone, decode};
+ghost use Rattle.logs.specs.Judge.{found};
+ghost use Rattle.logs.specs.QueryLaws.{SmallSeen};
+ghost use Rattle.volume.specs.declared.knowing.Way.the-variants.{Held, Row, Entry};
+ghost use Rattle.volume.specs.Rules.{generalHeads, sealLimit, known, zoneView, valueAt, parityOf, rowDrive, rowAddress};
+ghost use Rattle.volume.specs.OnTables.{among};
+ghost use Rattle.volume.specs.Knowing.{Readable, readDevice, heldOn, rowHeld, rowComplete, stripeEnd, reachOf, servingPlace, wayTo, isWay, rowXor, endSeen, entryEnd, wayValue, wayLeft, WayFits};
+
+// How a sector is known (specs: `wayTo`): not at all, held, by its row, or by the entry at a place of its parity drive's log, counted from 1.
+pub enum Way {
+    Unknown,
+    Held,
+    Row,
+    Entry(usize),
+}
+
+// The least current seal of one drive and of `most`.
+fn seal_of(
+    sectors: &[u8],
+    written: &[u32],
+    g: Geometry,
+    here: [bool; 8],
+    z: usize,
+    generation: u64,
+    d: usize,
+    most: usize,
+) -> usize
+    requires { ⌜ Valid g ⌝ }
+    requires { ⌜ Readable g here (now sectors) (now written) z × (d < g .drives) ⌝ }
+    ensures { λ r. ⌜ (r ≡ pick (among here d) (leastSeal z generation most (generalHeads g (readDevice g (now (sectors .entry)) (now (written .entry))) d)) most) × (r ≤ most) ⌝ }
+{
+    let present = here[d];
+    if !present {
+        return most;
+    }
+    let at = tables::stores::cell_of(g, d, 0);
+    let n = tables::bounds::widen(written[at]);
+    logs::folds::least_seal(sectors, g, d, 0, n, z, generation, most)
+}
+
+// The least current seal of a zone; its length if there is none.
+pub fn seal_limit(
+    sectors: &[u8],
+    written: &[u32],
+    g: Geometry,
+    here: [bool; 8],
+    z: usize,
+    generation: u64,
+) -> usize
+    requires { ⌜ Valid g ⌝ }
+    requires { ⌜ Readable g here (now sectors) (now written) z ⌝ }
+    ensures { λ r. ⌜ (r ≡ sealLimit g (among here) (readDevice g (now (sectors .entry)) (now (written .entry))) z generation) × (r ≤ zoneSectors g) ⌝ }
+{
+    let n = g.drives;
+    let mut limit = tables::bounds::zone_sectors(g);
+    let mut d = 0;
+    while d < n {
+        limit = seal_of(sectors, written, g, here, z, generation, d, limit);
+        d += 1;
+    }
+    limit
+}
+
+// Whether sector x of a zone is held by drive d.
+pub fn is_held(written: &[u32], g: Geometry, here: [bool; 8], z: usize, d: usize, x: usize) -> bool
+    requires { ⌜ Valid g ⌝ }
+    requires { ⌜ (z < g .zones) × (d < g .drives) × (length (now written) ≡ cells g) ⌝ }
+    ensures { λ r. ⌜ r ≡ heldOn g here (now (written .entry)) z d x ⌝ }
+{
+    let present = here[d];
+    let at = tables::stores::cell_of(g, d, 3 + z);
+    let n = tables::bounds::widen(written[at]);
+    present & (x < n)
+}
+
+// The parity drive of the stripe of address a.
+pub fn parity_of(g: Geometry, z: usize, a: usize) -> usize
+    requires { ⌜ Valid g ⌝ }
+    requires { ⌜ (z < g .zones) × (a < zoneSectors g) ⌝ }
+    ensures { λ r. ⌜ (r ≡ parityOf (g .drives) (g .unit) z a) × (r < g .drives) ⌝ }
+{
+    let d = g.drives;
+    let u = g.unit;
+    let k = (d - 1) * u;
+    tables::placement::parity_drive(d, z, a / k)
+}
+
+// One past the last address of the stripe of a.
+fn stripe_end(g: Geometry, a: usize) -> usize
+    requires { ⌜ Valid g ⌝ }
+    requires { ⌜ a < zoneSectors g ⌝ }
+    ensures { λ r. ⌜ (r ≡ stripeEnd g a) × (r ≤ 458864) ⌝ }
+{
+    let k = tables::bounds::stripe_sectors(g);
+    a / k * k + k
+}
+
+// The address of unit k's sector in the row of a.
+fn row_address(g: Geometry, a: usize, k: usize) -> usize
+    requires { ⌜ Valid g ⌝ }
+    requires { ⌜ (a < zoneSectors g) × (k < g .drives) ⌝ }
+    ensures { λ r. ⌜ r ≡ rowAddress (g .drives) (g .unit) a k ⌝ }
+{
+    let n = tables::bounds::stripe_sectors(g);
+    let u = g.unit;
+    a / n * n + (k * u + a % n % u)
+}
+
+// The unit of address a in its stripe.
+fn unit_index(g: Geometry, a: usize) -> usize
+    requires { ⌜ Valid g ⌝ }
+    requires { ⌜ a < zoneSectors g ⌝ }
+    ensures { λ r. ⌜ (r ≡ unitIndex (g .drives) (g .unit) a) × (r < g .drives) ⌝ }
+{
+    let n = tables::bounds::stripe_sectors(g);
+    let u = g.unit;
+    a % n / u
+}
+
+// The first address in the row of a, its own left out, that is not held; the stripe's end if all are held.
+fn reach_of(written: &[u32], g: Geometry, here: [bool; 8], z: usize, a: usize) -> usize
+    requires { ⌜ Valid g ⌝ }
+    requires { ⌜ (z < g .zones) × (a < zoneSectors g) × (length (now written) ≡ cells g) ⌝ }
+    ensures { λ r. ⌜ r ≡ reachOf g here (now (written .entry)) z a ⌝ }
+{
+    let n = g.drives - 1;
+    let mut reach = stripe_end(g, a);
+    let mut k = 0;
+    while k < n {
+        reach = reach_past(written, g, here, z, a, k, reach);
+        k += 1;
+    }
+    reach
+}
+
+// That as far as unit k: `reach` is what the units before it leave.
+fn reach_past(
+    written: &[u32],
+    g: Geometry,
+    here: [bool; 8],
+    z: usize,
+    a: usize,
+    k: usize,
+    reach: usize,
+) -> usize
+    requires { ⌜ Valid g ⌝ }
+    requires { ⌜ (z < g .zones) × (a < zoneSectors g) × (length (now written) ≡ cells g) × (k < g .drives) ⌝ }
+    ensures { λ r. ⌜ r ≡ pick (rowHeld g here (now (written .entry)) z a k) reach (min reach (rowAddress (g .drives) (g .unit) a k)) ⌝ }
+{
+    let own = unit_index(g, a);
+    let p = parity_of(g, z, a);
+    let drives = g.drives;
+    let d = tables::placement::unit_drive(drives, p, k);
+    let x = tables::placement::sector_of(g, a);
+    let held = is_held(written, g, here, z, d, x);
+    if (k == own) | held {
+        return reach;
+    }
+    let b = row_address(g, a, k);
+    tables::placement::smaller(reach, b)
+}
+
+// The place, counted from 1, of the last entry that serves address a; 0 if there is none.
+fn serving_place(
+    sectors: &[u8],
+    written: &[u32],
+    g: Geometry,
+    here: [bool; 8],
+    z: usize,
+    generation: u64,
+    limit: usize,
+    a: usize,
+) -> usize
+    requires { ⌜ Valid g ⌝ }
+    requires { ⌜ Readable g here (now sectors) (now written) z × (a < zoneSectors g) ⌝ }
+    ensures { λ r. ⌜ r ≡ servingPlace g here (now (sectors .entry)) (now (written .entry)) z generation limit a ⌝ }
+{
+    let p = parity_of(g, z, a);
+    let present = here[p];
+    if !present {
+        return 0;
+    }
+    let reach = reach_of(written, g, here, z, a);
+    let high = tables::placement::smaller(limit, reach);
+    let at = tables::stores::cell_of(g, p, 1);
+    let n = tables::bounds::widen(written[at]);
+    logs::folds::last_partial(sectors, g, p, 1, n, z, generation, a, high)
+}
+
+// Whether the row's parity is in place with all its other data.
+fn row_complete(written: &[u32], g: Geometry, here: [bool; 8], z: usize, a: usize) -> bool
+    requires { ⌜ Valid g ⌝ }
+    requires { ⌜ (z < g .zones) × (a < zoneSectors g) × (length (now written) ≡ cells g) ⌝ }
+    ensures { λ r. ⌜ r ≡ rowComplete g here (now (written .entry)) z a ⌝ }
+{
+    let p = parity_of(g, z, a);
+    let x = tables::placement::sector_of(g, a);
+    let held = is_held(written, g, here, z, p, x);
+    let end = stripe_end(g, a);
+    let reach = reach_of(written, g, here, z, a);
+    held & (end <= reach)
+}
+
+// How address a is known.
+fn way_to(
+    sectors: &[u8],
+    written: &[u32],
+    g: Geometry,
+    here: [bool; 8],
+    z: usize,
+    generation: u64,
+    limit: usize,
+    a: usize,
+) -> Way
+    requires { ⌜ Valid g ⌝ }
+    requires { ⌜ Readable g here (now sectors) (now written) z × (a < zoneSectors g) ⌝ }
+    ensures { λ r. ⌜ r ≡ wayTo g here (now (sectors .entry)) (now (written .entry)) z generation limit a ⌝ }
+{
+    let d = tables::placement::drive_of(g, z, a);
+    let x = tables::placement::sector_of(g, a);
+    let held = is_held(written, g, here, z, d, x);
+    if held {
+        return Way::Held;
+    }
+    let row = row_complete(written, g, here, z, a);
+    if row {
+        return Way::Row;
+    }
+    let place = serving_place(sectors, written, g, here, z, generation, limit, a);
+    if place == 0 {
+        return Way::Unknown;
+    }
+    Way::Entry(place)
+}
+
+fn is_way(way: Way) -> bool
+    ensures { λ r. ⌜ r ≡ isWay way ⌝ }
+{
+    match way {
+        Way::Unknown => false,
+        Way::Held => true,
+        Way::Row => true,
+        Way::Entry(_) => true,
+    }
+}
+
+// Whether address a of a zone is known under a generation; limit is the zone's least current seal.
+pub fn is_known(
+    sectors: &[u8],
+    written: &[u32],
+    g: Geometry,
+    here: [bool; 8],
+    z: usize,
+    generation: u64,
+    limit: usize,
+    a: usize,
+) -> bool
+    requires { ⌜ Valid g ⌝ }
+    requires { ⌜ Readable g here (now sectors) (now written) z × (a < zoneSectors g)
+        × (limit ≡ sealLimit g (among here) (readDevice g (now sectors) (now written)) z generation) ⌝ }
+    ensures { λ r. ⌜ r ≡ known (g .drives) (g .unit) z (zoneView g (among here) (readDevice g (now (sectors .entry)) (now (written .entry))) z generation) a ⌝ }
+{
+    let way = way_to(sectors, written, g, here, z, generation, limit, a);
+    is_way(way)
+}
+
+// Adds unit k of the row of a to a buffer, unless it is a's own or not below an end.
+fn xor_unit(sectors: &[u8], g: Geometry, z: usize, a: usize, end: usize, k: usize, out: &mut [u8])
+    requires { ⌜ Valid g ⌝ }
+    requires { ⌜ (z < g .zones) × (a < zoneSectors g) × (k < g .drives) × (length (now sectors) ≡ totalBytes g) × (length (now out) ≡ g .sector) ⌝ }
+    ensures { λ _. ⌜ now (out .exit) ≡ pick (eqb k (unitIndex (g .drives) (g .unit) a) || leb end (rowAddress (g .drives) (g .unit) a k)) (now (out .entry))
+        (xorBytes (now (out .entry)) (sectorAt g (now (sectors .entry)) (rowDrive (g .drives) (g .unit) z a k) (3 + z) (sectorOf (g .drives) (g .unit) a))) ⌝ }
+{
+    let own = unit_index(g, a);
+    let b = row_address(g, a, k);
+    let p = parity_of(g, z, a);
+    let drives = g.drives;
+    let d = tables::placement::unit_drive(drives, p, k);
+    let x = tables::placement::sector_of(g, a);
+    let skip = (k == own) | (end <= b);
+    tables::sectors::xor_sector(sectors, g, d, 3 + z, x, skip, out);
+}
+
+// The exclusive or of the other sectors in the row of a below an end.
+fn xor_row(sectors: &[u8], g: Geometry, z: usize, a: usize, end: usize, out: &mut [u8])
+    requires { ⌜ Valid g ⌝ }
+    requires { ⌜ (z < g .zones) × (a < zoneSectors g) × (length (now sectors) ≡ totalBytes g) × (length (now out) ≡ g .sector) ⌝ }
+    ensures { λ _. ⌜ now (out .exit) ≡ xorBytes (replicate (g .sector) 0) (rowXor g (now (sectors .entry)) z a end) ⌝ }
+{
+    tables::sectors::clear(out);
+    let n = g.drives - 1;
+    let mut k = 0;
+    while k < n {
+        xor_unit(sectors, g, z, a, end, k, out);
+        k += 1;
+    }
+}
+
+// That, with sector n of a zone of the parity drive: the row's parity in place, or a row of an entry.
+fn rebuild(
+    sectors: &[u8],
+    g: Geometry,
+    z: usize,
+    a: usize,
+    end: usize,
+    zone: usize,
+    n: usize,
+    out: &mut [u8],
+)
+    requires { ⌜ Valid g ⌝ }
+    requires { ⌜ (z < g .zones) × (a < zoneSectors g) × (zone < physicalZones g) × (n < g .capacity) × (length (now sectors) ≡ totalBytes g) × (length (now out) ≡ g .sector) ⌝ }
+    ensures { λ _. ⌜ now (out .exit) ≡ xorBytes (rowXor g (now (sectors .entry)) z a end) (sectorAt g (now (sectors .entry)) (parityOf (g .drives) (g .unit) z a) zone n) ⌝ }
+{
+    xor_row(sectors, g, z, a, end, out);
+    let p = parity_of(g, z, a);
+    tables::sectors::xor_sector(sectors, g, p, zone, n, false, out);
+}
+
+// The end of a partial parity entry.
+fn end_of(f: Found, g: Geometry) -> usize
+    requires { ⌜ Valid g ⌝ }
+    requires { ⌜ SmallSeen g f ⌝ }
+    ensures { λ r. ⌜ r ≡ endSeen g f ⌝ }
+{
+    let k = tables::bounds::stripe_sectors(g);
+    match f {
+        Found::Bad => 0,
+        Found::Label(_, _) => 0,
+        Found::Counters => 0,
+        Found::Resets(_, _) => 0,
+        Found::Partial(_, s, fill, _) => s * k + fill,
+        Found::Seal(_, _, _) => 0,
+    }
+}
+
+// The end of the entry whose header is at a place of drive d's parity log, counted from 1.
+fn entry_end(sectors: &[u8], g: Geometry, d: usize, place: usize) -> usize
+    requires { ⌜ Valid g ⌝ }
+    requires { ⌜ (d < g .drives) × (length (now sectors) ≡ totalBytes g) × (0 < place) × (place ≤ g .capacity) × SmallSeen g (found (decode g d true (sectorAt g (now sectors) d parityZone (place - 1)))) ⌝ }
+    ensures { λ r. ⌜ r ≡ entryEnd g (now (sectors .entry)) d place ⌝ }
+{
+    let c = g.capacity;
+    let f = logs::walking::judge_at(sectors, g, d, 1, true, c, place - 1);
+    end_of(f, g)
+}
+
+// A held sector's own bytes.
+fn read_own(sectors: &[u8], g: Geometry, z: usize, a: usize, out: &mut [u8])
+    requires { ⌜ Valid g ⌝ }
+    requires { ⌜ (z < g .zones) × (a < zoneSectors g) × (length (now sectors) ≡ totalBytes g) × (length (now out) ≡ g .sector) ⌝ }
+    ensures { λ _. ⌜ now (out .exit) ≡ wayValue g (now (sectors .entry)) z a Held ⌝ }
+{
+    let d = tables::placement::drive_of(g, z, a);
+    let x = tables::placement::sector_of(g, a);
+    tables::sectors::read_sector(sectors, g, d, 3 + z, x, out);
+}
+
+// A sector by its row's parity in place.
+fn rebuild_by_row(sectors: &[u8], g: Geometry, z: usize, a: usize, out: &mut [u8])
+    requires { ⌜ Valid g ⌝ }
+    requires { ⌜ (z < g .zones) × (a < zoneSectors g) × (length (now sectors) ≡ totalBytes g) × (length (now out) ≡ g .sector) ⌝ }
+    ensures { λ _. ⌜ now (out .exit) ≡ wayValue g (now (sectors .entry)) z a Row ⌝ }
+{
+    let end = stripe_end(g, a);
+    let x = tables::placement::sector_of(g, a);
+    rebuild(sectors, g, z, a, end, 3 + z, x, out);
+}
+
+// A sector by the entry at a place of its parity drive's log.
+fn rebuild_by_entry(sectors: &[u8], g: Geometry, z: usize, a: usize, place: usize, out: &mut [u8])
+    requires { ⌜ Valid g ⌝ }
+    requires { ⌜ (z < g .zones) × (a < zoneSectors g) × (length (now sectors) ≡ totalBytes g) × (length (now out) ≡ g .sector) × WayFits g (now sectors) z a (Entry place) ⌝ }
+    ensures { λ _. ⌜ now (out .exit) ≡ wayValue g (now (sectors .entry)) z a (Entry place) ⌝ }
+{
+    let p = parity_of(g, z, a);
+    let end = entry_end(sectors, g, p, place);
+    let k = tables::bounds::stripe_sectors(g);
+    let u = g.unit;
+    rebuild(sectors, g, z, a, end, 1, place + a % k % u, out);
+}
+
+// The value by a way; without one the buffer stays as it is.
+fn value_by(sectors: &[u8], g: Geometry, z: usize, a: usize, way: Way, out: &mut [u8])
+    requires { ⌜ Valid g ⌝ }
+    requires { ⌜ (z < g .zones) × (a < zoneSectors g) × (length (now sectors) ≡ totalBytes g) × (length (now out) ≡ g .sector) × WayFits g (now sectors) z a way ⌝ }
+    ensures { λ _. ⌜ now (out .exit) ≡ wayLeft g (now (sectors .entry)) z a way (now (out .entry)) ⌝ }
+{
+    match way {
+        Way::Unknown => {}
+        Way::Held => read_own(sectors, g, z, a, out),
+        Way::Row => rebuild_by_row(sectors, g, z, a, out),
+        Way::Entry(place) => rebuild_by_entry(sectors, g, z, a, place, out),
+    }
+}
+
+// The value of address a of a zone, which is known under a generation; limit is the zone's least current seal.
+pub fn sector_value(
+    sectors: &[u8],
+    written: &[u32],
+    g: Geometry,
+    here: [bool; 8],
+    z: usize,
+    generation: u64,
+    limit: usize,
+    a: usize,
+    out: &mut [u8],
+)
+    requires { ⌜ Valid g ⌝ }
+    requires { ⌜ Readable g here (now sectors) (now written) z × (a < zoneSectors g)
+        × (limit ≡ sealLimit g (among here) (readDevice g (now sectors) (now written)) z generation)
+        × (known (g .drives) (g .unit) z (zoneView g (among here) (readDevice g (now sectors) (now written)) z generation) a ≡ true)
+        × (length (now out) ≡ g .sector) ⌝ }
+    ensures { λ _. ⌜ now (out .exit) ≡ valueAt g (among here) (readDevice g (now (sectors .entry)) (now (written .entry))) z generation a ⌝ }
+{
+    let way = way_to(sectors, written, g, here, z, generation, limit, a);
+    value_by(sectors, g, z, a, way, out);
+}

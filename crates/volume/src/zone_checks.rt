@@ -1,0 +1,126 @@
+// What a call checks of its zone: refusal 7, and how far a log is used, which refusal 14 asks. Only present drives are looked at.
+use super::Condition;
+use tables::Geometry;
+ghost use mathlib.Core.Path.{_≡_};
+ghost use mathlib.Core.Bool.{_&&_};
+ghost use Prim.Native.Nat.{_+_, _-_, _≤_, _<_};
+ghost use lib.Dec.{ltb};
+ghost use lib.ListN.{length, getD};
+ghost use Rattle.tables.specs.Geometry.{Valid, zoneSectors, physicalZones, cells};
+ghost use Rattle.tables.specs.Placement.{needed};
+ghost use Rattle.tables.specs.Tables.{cell};
+ghost use Rattle.volume.specs.State.{pointerIn, isWorn};
+ghost use Rattle.volume.specs.Refusals.{staleIn};
+ghost use Rattle.volume.specs.OnTables.{among};
+ghost use Rattle.volume.specs.ZoneChecks.{staleOn, unusedOn};
+
+// The written pointer of a drive's physical zone.
+pub fn written_at(written: &[u32], g: Geometry, drive: usize, zone: usize) -> usize
+    requires { ⌜ Valid g ⌝ }
+    requires { ⌜ (drive < g .drives) × (zone < physicalZones g) × (length (now written) ≡ cells g) ⌝ }
+    ensures { λ r. ⌜ r ≡ getD (now (written .entry)) (cell g drive zone) 0 ⌝ }
+{
+    let at = tables::stores::cell_of(g, drive, zone);
+    tables::bounds::widen(written[at])
+}
+
+// Whether a zone's condition is worn.
+pub fn is_worn(c: Condition) -> bool
+    ensures { λ r. ⌜ r ≡ isWorn c ⌝ }
+{
+    match c {
+        Condition::Empty => false,
+        Condition::Open(n) => false,
+        Condition::Sealed(n) => false,
+        Condition::Worn(n) => true,
+    }
+}
+
+// Whether a written pointer is not what a condition allows, if its pointer needs so many sectors.
+fn stale_in(c: Condition, written: usize, needs: usize) -> bool
+    ensures { λ r. ⌜ r ≡ staleIn c written needs ⌝ }
+{
+    match c {
+        Condition::Empty => written != needs,
+        Condition::Open(n) => written != needs,
+        Condition::Sealed(n) => written < needs,
+        Condition::Worn(n) => written < needs,
+    }
+}
+
+// Refusal 7 on one drive.
+fn drive_stale(
+    written: &[u32],
+    g: Geometry,
+    here: bool,
+    condition: Condition,
+    z: usize,
+    drive: usize,
+) -> bool
+    requires { ⌜ Valid g ⌝ }
+    requires { ⌜ (length (now written) ≡ cells g) × (z < g .zones) × (drive < g .drives) × (pointerIn condition ≤ zoneSectors g) ⌝ }
+    ensures { λ r. ⌜ r ≡ here && staleIn condition (getD (now (written .entry)) (cell g drive (3 + z)) 0) (needed (g .drives) (g .unit) z (pointerIn condition) drive) ⌝ }
+{
+    if !here {
+        return false;
+    }
+    let n = super::checks::pointer_of(condition);
+    let w = written_at(written, g, drive, 3 + z);
+    let needs = tables::placement::sectors_needed(g, z, n, drive);
+    stale_in(condition, w, needs)
+}
+
+// Refusal 7, of a zone that there is.
+pub fn is_stale(
+    written: &[u32],
+    g: Geometry,
+    here: [bool; 8],
+    condition: Condition,
+    z: usize,
+) -> bool
+    requires { ⌜ Valid g ⌝ }
+    requires { ⌜ (length (now written) ≡ cells g) × (z < g .zones) × (pointerIn condition ≤ zoneSectors g) ⌝ }
+    ensures { λ r. ⌜ r ≡ staleOn g (among here) (now (written .entry)) condition z ⌝ }
+{
+    let n = g.drives;
+    let mut stale = false;
+    let mut d = 0;
+    while d < n {
+        let bad = drive_stale(written, g, here[d], condition, z, d);
+        stale = stale | bad;
+        d += 1;
+    }
+    stale
+}
+
+// Whether a drive has fewer than n sectors of a log unused.
+fn drive_below(written: &[u32], g: Geometry, here: bool, log: usize, n: usize, drive: usize) -> bool
+    requires { ⌜ Valid g ⌝ }
+    requires { ⌜ (length (now written) ≡ cells g) × (log < physicalZones g) × (drive < g .drives) ⌝ }
+    ensures { λ r. ⌜ r ≡ here && ltb (g .capacity - getD (now (written .entry)) (cell g drive log) 0) n ⌝ }
+{
+    if !here {
+        return false;
+    }
+    let c = g.capacity;
+    let w = written_at(written, g, drive, log);
+    let unused = tables::placement::excess(c, w);
+    unused < n
+}
+
+// Refusal 14, "where unused is the least over present drives": whether some present drive has fewer than n sectors of that log unused.
+pub fn unused_below(written: &[u32], g: Geometry, here: [bool; 8], log: usize, n: usize) -> bool
+    requires { ⌜ Valid g ⌝ }
+    requires { ⌜ (length (now written) ≡ cells g) × (log < physicalZones g) ⌝ }
+    ensures { λ r. ⌜ r ≡ unusedOn g (among here) (now (written .entry)) log n ⌝ }
+{
+    let drives = g.drives;
+    let mut below = false;
+    let mut d = 0;
+    while d < drives {
+        let less = drive_below(written, g, here[d], log, n, d);
+        below = below | less;
+        d += 1;
+    }
+    below
+}

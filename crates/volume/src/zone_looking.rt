@@ -1,0 +1,292 @@
+// What a look shows of one zone: rules 2, 3, 5 and 6.
+use super::Condition;
+use super::ZoneLook;
+use tables::Geometry;
+ghost use mathlib.Core.Path.{_≡_};
+ghost use mathlib.Core.Bool.{_&&_};
+ghost use Prim.Native.Nat.{_≤_, _<_, min};
+ghost use Rattle.tables.specs.Basics.{pick};
+ghost use Rattle.tables.specs.Below.{larger};
+ghost use Rattle.tables.specs.Geometry.{Valid, zoneSectors};
+ghost use Rattle.tables.specs.Lists.{anyOf};
+ghost use Rattle.logs.specs.Heads.{generationIn, isReset, isSeal};
+ghost use Rattle.volume.specs.OnTables.{among};
+ghost use Rattle.volume.specs.Rules.{generalHeads, generationOf, resetSeen, sealSeen, cleanAt, conditionOf, sealLimit, zoneView, knownPrefix, pointerAt, zoneShown};
+ghost use Rattle.volume.specs.DriveLogs.{Sized, deviceRead};
+ghost use Rattle.volume.specs.ZoneLooking.{driveClean, zoneLookOf};
+ghost use Rattle.volume.specs.Knowing.{Readable};
+
+// The greater of two generations.
+fn later(a: u64, b: u64) -> u64
+    ensures { λ r. ⌜ r ≡ larger a b ⌝ }
+{
+    if a <= b { b } else { a }
+}
+
+// Rule 2, of one drive.
+fn drive_generation(
+    sectors: &[u8],
+    written: &[u32],
+    g: Geometry,
+    present: bool,
+    d: usize,
+    z: usize,
+) -> u64
+    requires { ⌜ Valid g ⌝ }
+    requires { ⌜ Sized g (now sectors) (now written) × (d < g .drives) × (z < g .zones) ⌝ }
+    ensures { λ r. ⌜ r ≡ pick present (generationIn z (generalHeads g (deviceRead g (now (sectors .entry)) (now (written .entry))) d)) 0 ⌝ }
+{
+    if !present {
+        return 0;
+    }
+    super::drive_logs::last_generation(sectors, written, g, d, z)
+}
+
+// Rule 2: the greatest generation that the present drives' last counters give a zone.
+pub fn generation_of(sectors: &[u8], written: &[u32], g: Geometry, here: [bool; 8], z: usize) -> u64
+    requires { ⌜ Valid g ⌝ }
+    requires { ⌜ Sized g (now sectors) (now written) × (z < g .zones) ⌝ }
+    ensures { λ r. ⌜ r ≡ generationOf g (among here) (deviceRead g (now (sectors .entry)) (now (written .entry))) z ⌝ }
+{
+    let n = g.drives;
+    let mut most = 0;
+    let mut d = 0;
+    while d < n {
+        let x = drive_generation(sectors, written, g, here[d], d, z);
+        most = later(most, x);
+        d += 1;
+    }
+    most
+}
+
+fn drive_reset(
+    sectors: &[u8],
+    written: &[u32],
+    g: Geometry,
+    present: bool,
+    d: usize,
+    z: usize,
+    generation: u64,
+) -> bool
+    requires { ⌜ Valid g ⌝ }
+    requires { ⌜ Sized g (now sectors) (now written) × (d < g .drives) ⌝ }
+    ensures { λ r. ⌜ r ≡ present && anyOf (isReset z generation) (generalHeads g (deviceRead g (now (sectors .entry)) (now (written .entry))) d) ⌝ }
+{
+    if !present {
+        return false;
+    }
+    super::drive_logs::has_reset(sectors, written, g, d, z, generation)
+}
+
+// Rule 3: whether a present drive has a reset entry of the current generation.
+pub fn reset_seen(
+    sectors: &[u8],
+    written: &[u32],
+    g: Geometry,
+    here: [bool; 8],
+    z: usize,
+    generation: u64,
+) -> bool
+    requires { ⌜ Valid g ⌝ }
+    requires { ⌜ Sized g (now sectors) (now written) ⌝ }
+    ensures { λ r. ⌜ r ≡ resetSeen g (among here) (deviceRead g (now (sectors .entry)) (now (written .entry))) z generation ⌝ }
+{
+    let n = g.drives;
+    let mut seen = false;
+    let mut d = 0;
+    while d < n {
+        let b = drive_reset(sectors, written, g, here[d], d, z, generation);
+        seen = seen | b;
+        d += 1;
+    }
+    seen
+}
+
+fn drive_seal(
+    sectors: &[u8],
+    written: &[u32],
+    g: Geometry,
+    present: bool,
+    d: usize,
+    z: usize,
+    generation: u64,
+) -> bool
+    requires { ⌜ Valid g ⌝ }
+    requires { ⌜ Sized g (now sectors) (now written) × (d < g .drives) ⌝ }
+    ensures { λ r. ⌜ r ≡ present && anyOf (isSeal z generation) (generalHeads g (deviceRead g (now (sectors .entry)) (now (written .entry))) d) ⌝ }
+{
+    if !present {
+        return false;
+    }
+    super::drive_logs::has_seal(sectors, written, g, d, z, generation)
+}
+
+// Whether a present drive has a current seal.
+pub fn seal_seen(
+    sectors: &[u8],
+    written: &[u32],
+    g: Geometry,
+    here: [bool; 8],
+    z: usize,
+    generation: u64,
+) -> bool
+    requires { ⌜ Valid g ⌝ }
+    requires { ⌜ Sized g (now sectors) (now written) ⌝ }
+    ensures { λ r. ⌜ r ≡ sealSeen g (among here) (deviceRead g (now (sectors .entry)) (now (written .entry))) z generation ⌝ }
+{
+    let n = g.drives;
+    let mut seen = false;
+    let mut d = 0;
+    while d < n {
+        let b = drive_seal(sectors, written, g, here[d], d, z, generation);
+        seen = seen | b;
+        d += 1;
+    }
+    seen
+}
+
+// Rule 6, of one drive: it has no more sectors than pointer q needs, and no current partial parity entry, whole or torn, that ends past it.
+fn drive_clean(
+    sectors: &[u8],
+    written: &[u32],
+    g: Geometry,
+    here: [bool; 8],
+    d: usize,
+    z: usize,
+    generation: u64,
+    q: usize,
+) -> bool
+    requires { ⌜ Valid g ⌝ }
+    requires { ⌜ Sized g (now sectors) (now written) × (d < g .drives) × (z < g .zones) × (q ≤ zoneSectors g) ⌝ }
+    ensures { λ r. ⌜ r ≡ driveClean g (among here) (deviceRead g (now (sectors .entry)) (now (written .entry))) z generation q d ⌝ }
+{
+    let present = here[d];
+    if !present {
+        return true;
+    }
+    let n = super::drive_logs::zone_pointer(written, g, d, 3 + z);
+    let needs = tables::placement::sectors_needed(g, z, q, d);
+    let whole = super::drive_logs::whole_past(sectors, written, g, d, z, generation, q);
+    let torn = super::drive_logs::torn_past(sectors, written, g, d, z, generation, q);
+    (n <= needs) & (!whole & !torn)
+}
+
+// Rule 6: whether a zone is clean at pointer q.
+pub fn is_clean(
+    sectors: &[u8],
+    written: &[u32],
+    g: Geometry,
+    here: [bool; 8],
+    z: usize,
+    generation: u64,
+    q: usize,
+) -> bool
+    requires { ⌜ Valid g ⌝ }
+    requires { ⌜ Sized g (now sectors) (now written) × (z < g .zones) × (q ≤ zoneSectors g) ⌝ }
+    ensures { λ r. ⌜ r ≡ cleanAt g (among here) (deviceRead g (now (sectors .entry)) (now (written .entry))) z generation q ⌝ }
+{
+    let n = g.drives;
+    let mut clean = true;
+    let mut d = 0;
+    while d < n {
+        let b = drive_clean(sectors, written, g, here, d, z, generation, q);
+        clean = clean & b;
+        d += 1;
+    }
+    clean
+}
+
+// The generation at which a zone is worn: 2^64 − 1.
+const WORN: u64 = 18446744073709551615;
+
+// Rule 6: a zone's condition, the first that fits.
+fn condition_of(generation: u64, q: usize, clean: bool, sealed: bool) -> Condition
+    ensures { λ r. ⌜ r ≡ conditionOf generation q clean sealed ⌝ }
+{
+    if generation == WORN {
+        return Condition::Worn(q);
+    }
+    if q == 0 {
+        return Condition::Empty;
+    }
+    if !clean | sealed {
+        return Condition::Sealed(q);
+    }
+    Condition::Open(q)
+}
+
+// Rule 5: the sectors of a zone that are known, from its first on, up to a limit. It stops at the first that is not.
+fn known_prefix(
+    sectors: &[u8],
+    written: &[u32],
+    g: Geometry,
+    here: [bool; 8],
+    z: usize,
+    generation: u64,
+    limit: usize,
+) -> usize
+    requires { ⌜ Valid g ⌝ }
+    requires { ⌜ Readable g here (now sectors) (now written) z
+        × (limit ≡ sealLimit g (among here) (deviceRead g (now sectors) (now written)) z generation)
+        × (limit ≤ zoneSectors g) ⌝ }
+    ensures { λ r. ⌜ r ≡ min (knownPrefix (g .drives) (g .unit) z (zoneView g (among here) (deviceRead g (now (sectors .entry)) (now (written .entry))) z generation) (zoneSectors g)) limit ⌝ }
+{
+    let mut a = 0;
+    'scan: while a < limit {
+        let known = super::knowing::is_known(sectors, written, g, here, z, generation, limit, a);
+        if !known {
+            break 'scan;
+        }
+        a += 1;
+    }
+    a
+}
+
+// Rules 3 and 5: a zone's pointer.
+pub fn pointer_at(
+    sectors: &[u8],
+    written: &[u32],
+    g: Geometry,
+    here: [bool; 8],
+    z: usize,
+    generation: u64,
+    reset: bool,
+) -> usize
+    requires { ⌜ Valid g ⌝ }
+    requires { ⌜ Readable g here (now sectors) (now written) z
+        × (reset ≡ resetSeen g (among here) (deviceRead g (now sectors) (now written)) z generation) ⌝ }
+    ensures { λ r. ⌜ (r ≡ pointerAt g (among here) (deviceRead g (now (sectors .entry)) (now (written .entry))) z generation) × (r ≤ zoneSectors g) ⌝ }
+{
+    if reset {
+        return 0;
+    }
+    let limit = super::knowing::seal_limit(sectors, written, g, here, z, generation);
+    known_prefix(sectors, written, g, here, z, generation, limit)
+}
+
+// What a look shows of a zone.
+pub fn look_zone(
+    sectors: &[u8],
+    written: &[u32],
+    g: Geometry,
+    here: [bool; 8],
+    z: usize,
+) -> ZoneLook
+    requires { ⌜ Valid g ⌝ }
+    requires { ⌜ Readable g here (now sectors) (now written) z ⌝ }
+    ensures { λ r. ⌜ r ≡ zoneLookOf (zoneShown g (among here) (deviceRead g (now (sectors .entry)) (now (written .entry))) z) ⌝ }
+{
+    let generation = generation_of(sectors, written, g, here, z);
+    let by_reset = reset_seen(sectors, written, g, here, z, generation);
+    let pointer = pointer_at(sectors, written, g, here, z, generation, by_reset);
+    let clean = is_clean(sectors, written, g, here, z, generation, pointer);
+    let sealed = seal_seen(sectors, written, g, here, z, generation);
+    let condition = condition_of(generation, pointer, clean, sealed);
+    ZoneLook {
+        generation,
+        condition,
+        pointer,
+        by_reset,
+        clean,
+    }
+}

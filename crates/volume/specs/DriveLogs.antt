@@ -1,5 +1,5 @@
 -- The logs of one drive in the flat tables: that what the code walks there is what the rules walk on the device. A look reads the sectors
--- and the written pointers alone: `deviceRead` is the device they stand for, whatever the durable pointers are.
+-- and the written pointers alone: `readDevice` (Knowing) is the device they stand for, whatever the durable pointers are.
 use mathlib.Core.Path.{_≡_, refl, sym, ap, ap₂, _∙_}
 use mathlib.Core.Logic.{_⊎_, inl, inr}
 use mathlib.Core.Bool.{Bool, true, false, _&&_, _||_, not}
@@ -14,8 +14,8 @@ use Rattle.tables.specs.Basics.{pick}
 use Rattle.tables.specs.Lists.{anyOf}
 use Rattle.tables.specs.Drives.{noDrive}
 use Rattle.tables.specs.Geometry.{Valid, physicalZones, cells, totalBytes, stripeSectors, zoneSectors}
-use Rattle.tables.specs.Device.{Device, ZoneView}
-use Rattle.tables.specs.Tables.{tablesOf, cell, deviceOf, zoneAtCell}
+use Rattle.tables.specs.Device.{ZoneView}
+use Rattle.tables.specs.Tables.{tablesOf, cell, zoneAtCell}
 use Rattle.tables.specs.TablesLaws.{device-in}
 use Rattle.logs.specs.declared.Found.{Found}
 use Rattle.logs.specs.declared.Found.the-variants.{Bad, Label, Counters, Resets, Partial, Seal}
@@ -31,11 +31,9 @@ use Rattle.logs.specs.Steps.{Placed}
 use Rattle.logs.specs.Places.{lastPlace, LastSuch, last-place, EndsAt, walk-places}
 use Rattle.volume.specs.Rules.{generalHeads, generalEnding, parityEntries, parityEnding, endingPast}
 use Rattle.volume.specs.Refusals.{isNoEntry}
+use Rattle.volume.specs.Knowing.{readDevice}
 
 -- ---- what is read
-abbrev pub deviceRead : Geometry → List ℕ → List ℕ → Device
-deviceRead g xs ws = deviceOf g (tablesOf xs ws [])
-
 -- the tables are as long as the geometry wants
 pub record Sized (g : Geometry) (xs ws : List ℕ) : Type 0 where
   pub sectors-long : length xs ≡ totalBytes g
@@ -45,33 +43,33 @@ pub record Sized (g : Geometry) (xs ws : List ℕ) : Type 0 where
 abbrev pub zonePointer : Geometry → List ℕ → ℕ → ℕ → ℕ
 zonePointer g ws d z = min (getD ws (cell g d z) 0) (g .capacity)
 
-pub zone-sectors : (g : Geometry) (xs ws : List ℕ) (d z : ℕ) → d < g .drives → z < physicalZones g → deviceRead g xs ws d z .sectors ≡ logSectors g d z xs (zonePointer g ws d z)
+pub zone-sectors : (g : Geometry) (xs ws : List ℕ) (d z : ℕ) → d < g .drives → z < physicalZones g → readDevice g xs ws d z .sectors ≡ logSectors g d z xs (zonePointer g ws d z)
 unfolding zoneAtCell
 zone-sectors g xs ws d z hd hz = ap (λ (x : ZoneView). x .sectors) (device-in g (tablesOf xs ws []) d z hd hz)
 
 -- ---- the two logs, walked up to the zone's pointer n
 module _ (g : Geometry) (xs ws : List ℕ) (d : ℕ) (hd : d < g .drives) (n : ℕ) where
   module _ (e : n ≡ zonePointer g ws d generalZone) where
-    general-log : walkLog g d false (logSectors g d generalZone xs n) ≡ walkLog g d false (deviceRead g xs ws d generalZone .sectors)
+    general-log : walkLog g d false (logSectors g d generalZone xs n) ≡ walkLog g d false (readDevice g xs ws d generalZone .sectors)
     general-log = ap (λ (m : ℕ). walkLog g d false (logSectors g d generalZone xs m)) e ∙ ap (λ (ss : List (List ℕ)). walkLog g d false ss) (sym (zone-sectors g xs ws d generalZone hd (omega arith)))
 
-    pub general-heads : headsOf (walkLog g d false (logSectors g d generalZone xs n)) ≡ generalHeads g (deviceRead g xs ws) d
+    pub general-heads : headsOf (walkLog g d false (logSectors g d generalZone xs n)) ≡ generalHeads g (readDevice g xs ws) d
     unfolding generalHeads
     general-heads = ap headsOf general-log
 
-    pub general-ending : walkLog g d false (logSectors g d generalZone xs n) .last ≡ generalEnding g (deviceRead g xs ws) d
+    pub general-ending : walkLog g d false (logSectors g d generalZone xs n) .last ≡ generalEnding g (readDevice g xs ws) d
     unfolding generalEnding
     general-ending = ap (λ (w : Walked). w .last) general-log
 
   module _ (e : n ≡ zonePointer g ws d parityZone) where
-    parity-log : walkLog g d true (logSectors g d parityZone xs n) ≡ walkLog g d true (deviceRead g xs ws d parityZone .sectors)
+    parity-log : walkLog g d true (logSectors g d parityZone xs n) ≡ walkLog g d true (readDevice g xs ws d parityZone .sectors)
     parity-log = ap (λ (m : ℕ). walkLog g d true (logSectors g d parityZone xs m)) e ∙ ap (λ (ss : List (List ℕ)). walkLog g d true ss) (sym (zone-sectors g xs ws d parityZone hd (omega arith)))
 
-    pub parity-entries : walkLog g d true (logSectors g d parityZone xs n) .entries ≡ parityEntries g (deviceRead g xs ws) d
+    pub parity-entries : walkLog g d true (logSectors g d parityZone xs n) .entries ≡ parityEntries g (readDevice g xs ws) d
     unfolding parityEntries
     parity-entries = ap (λ (w : Walked). w .entries) parity-log
 
-    pub parity-ending : walkLog g d true (logSectors g d parityZone xs n) .last ≡ parityEnding g (deviceRead g xs ws) d
+    pub parity-ending : walkLog g d true (logSectors g d parityZone xs n) .last ≡ parityEnding g (readDevice g xs ws) d
     unfolding parityEnding
     parity-ending = ap (λ (w : Walked). w .last) parity-log
 

@@ -25,7 +25,8 @@ use Rattle.logs.specs.Heads.{labelled, arrayIn, lastLost}
 use Rattle.volume.specs.Rules.{generalHeads, isLost, isPresent, lostDrive}
 use Rattle.volume.specs.Refusals.{twoLost}
 use Rattle.volume.specs.OnTables.{among}
-use Rattle.volume.specs.DriveLogs.{saysLost, deviceRead}
+use Rattle.volume.specs.DriveLogs.{saysLost}
+use Rattle.volume.specs.Knowing.{readDevice}
 
 -- ---- an array of m, filled from the front: f below n, x from there on
 set-at-end : {A : Type 0} (xs : List A) (n : ℕ) (x y : A) → set (xs ++ replicate (suc n) x) (length xs) y ≡ xs ++ (y ∷ []) ++ replicate n x
@@ -117,8 +118,8 @@ abbrev pub labelBad : Geometry → (ℕ → Bool) → Device → ℕ → Bool
 labelBad g present v d = present d && (not (labelled (generalHeads g v d)) || anyBelow (λ e. present e && not (eqb (arrayIn (generalHeads g v d)) (arrayIn (generalHeads g v e)))) (g .drives))
 
 -- ---- a number that names no drive has no log
-pub no-array : (g : Geometry) (xs ws : List ℕ) (d : ℕ) → g .drives ≤ d → 0 ≡ arrayIn (generalHeads g (deviceRead g xs ws) d)
+pub no-array : (g : Geometry) (xs ws : List ℕ) (d : ℕ) → g .drives ≤ d → 0 ≡ arrayIn (generalHeads g (readDevice g xs ws) d)
 unfolding generalHeads
 no-array g xs ws d h =
-    let e : deviceRead g xs ws d generalZone ≡ blankZone = device-outside g (tablesOf xs ws []) d generalZone (rw (le-ltb d (g .drives) h) refl) in
+    let e : readDevice g xs ws d generalZone ≡ blankZone = device-outside g (tablesOf xs ws []) d generalZone (rw (le-ltb d (g .drives) h) refl) in
     sym (ap (λ (x : ZoneView). arrayIn (headsOf (walkLog g d false (x .sectors)))) e)

@@ -30,7 +30,7 @@ use Rattle.volume.specs.OnTables.{among}
 use Rattle.volume.specs.Knowing.{readDevice, Readable, heldOn, leastFailing, stripeEnd, rowHeld, reachOf, rowComplete}
 
 -- ---- rules 4 and 5 do not look at durable pointers
-sectors-alike : (g : Geometry) (xs ws ds : List ℕ) (d y : ℕ) → deviceOf g (tablesOf xs ws ds) d y .sectors ≡ readDevice g xs ws d y .sectors
+pub sectors-alike : (g : Geometry) (xs ws ds : List ℕ) (d y : ℕ) → deviceOf g (tablesOf xs ws ds) d y .sectors ≡ readDevice g xs ws d y .sectors
 unfolding deviceOf zoneAtCell
 sectors-alike g xs ws ds d y = go (ltb d (g .drives) && ltb y (physicalZones g))
   where
@@ -137,7 +137,7 @@ module _ (g : Geometry) (here : List Bool) (xs ws : List ℕ) (z : ℕ) (r : Rea
   pub sectors-are : (d y : ℕ) → d < g .drives → among here d ≡ true → y < physicalZones g → readDevice g xs ws d y .sectors ≡ logSectors g d y xs (getD ws (cell g d y) 0)
   sectors-are d y hd h hy = device-sectors g (tablesOf xs ws []) d y hd hy (r .pointers d y hd h hy)
 
-  written-is : (d y : ℕ) → d < g .drives → among here d ≡ true → y < physicalZones g → length (readDevice g xs ws d y .sectors) ≡ getD ws (cell g d y) 0
+  pub written-is : (d y : ℕ) → d < g .drives → among here d ≡ true → y < physicalZones g → length (readDevice g xs ws d y .sectors) ≡ getD ws (cell g d y) 0
   written-is d y hd h hy = device-pointer g (tablesOf xs ws []) d y hd hy (r .pointers d y hd h hy)
 
   -- their general logs

@@ -164,7 +164,7 @@ module _ (g : Geometry) (here : List Bool) (xs ws : List ℕ) (z : ℕ) (r : Rea
   own-drive = drive-below (g .drives) (g .unit) z (omega (arith, ok .drives-least)) (ok .unit-least) a
 
   -- ---- held
-  value-held : heldOn g here ws z (driveOf (g .drives) (g .unit) z a) (sectorOf (g .drives) (g .unit) a) ≡ true → valueAt g (among here) (readDevice g xs ws) z n a ≡ wayValue g xs z a Held
+  pub value-held : heldOn g here ws z (driveOf (g .drives) (g .unit) z a) (sectorOf (g .drives) (g .unit) a) ≡ true → valueAt g (among here) (readDevice g xs ws) z n a ≡ wayValue g xs z a Held
   unfolding valueAt
   value-held h = rw (held-is g here xs ws z r n (driveOf (g .drives) (g .unit) z a) (sectorOf (g .drives) (g .unit) a) own-drive ∙ h) (held-sector g here xs ws z r n (driveOf (g .drives) (g .unit) z a) (sectorOf (g .drives) (g .unit) a) own-drive h)
 

@@ -84,3 +84,9 @@ pub mod DriveLogs
 pub mod DrivesLost
 pub mod ZoneLooking
 pub mod Looking
+pub mod WriteRows
+pub mod WriteContent
+pub mod WriteStores
+pub mod WriteChecks
+pub mod WriteKeeping
+pub mod Writing

@@ -1,7 +1,7 @@
 -- A look on the tables: what it shows as the code's record, the state that it leaves, and its answer on any input.
 use mathlib.Core.Path.{_≡_, refl, sym, ap, ap₂, _∙_, fun-ext}
 use mathlib.Core.Logic.{_≢_}
-use mathlib.Core.Bool.{Bool, true, false, _&&_, not}
+use mathlib.Core.Bool.{Bool, true, false, _&&_, _||_, not}
 use Prim.Native.Nat.{ℕ, zero, suc, _+_, _-_, _≤_, _<_}
 use native.Mathlib.Omega.{arith}
 use native.Mathlib.Decide.{ℕ-discrete}
@@ -11,13 +11,15 @@ use lib.Dec.{ltb, eqb}
 use borrow.Author.Tests.{eq-eqb, ne-eqb, lt-ltb, le-ltb}
 use Rattle.tables.specs.declared.Geometry.{Geometry}
 use Rattle.tables.specs.Basics.{pick, and-split, not-true, or-none, not-not}
-use Rattle.tables.specs.Below.{countBelow, tabulate, tabulate-cong}
+use Rattle.tables.specs.Below.{countBelow, tabulate, tabulate-cong, anyBelow, none-any-below}
 use Rattle.tables.specs.Drives.{findBelow}
 use Rattle.tables.specs.Geometry.{Valid, physicalZones, cells, totalBytes}
 use Rattle.tables.specs.GeometryTest.{isValid, valid-if-test}
 use Rattle.tables.specs.Device.{Device, ZoneView, blankZone}
 use Rattle.tables.specs.Tables.{Tables, tablesOf, cell, zoneAtCell, deviceOf, lengthsFit, pointersBad}
 use Rattle.tables.specs.TablesFrame.{lengths-are, pointers-good}
+use Rattle.tables.specs.TablesLaws.{device-pointer, device-durable}
+use Rattle.volume.specs.Refusals.{badPointers, Verdict, leastApplying, lookRows, twoLost, badLabels, badLogs}
 use Rattle.volume.specs.declared.Condition.the-variants.{Empty}
 use Rattle.volume.specs.declared.ZoneRecord.{ZoneRecord}
 use Rattle.volume.specs.declared.State.{State}
@@ -27,11 +29,9 @@ use Rattle.volume.specs.declared.Outcome.{Outcome}
 use Rattle.volume.specs.declared.Answer.the-variants.{Finished, Refused}
 use Rattle.logs.specs.Heads.{arrayIn, leastSeal}
 use Rattle.volume.specs.Rules.{sealLimitBelow, servingEntries, View, valueOf, Shown, ZoneShown, showing, isLost, isPresent, lostDrive, generalHeads, generalEnding, parityEntries, parityEnding, generationOf, resetSeen, sealSeen, sealLimit, viewOf, zoneView, valueAt, pointerAt, cleanAt, zoneAt, zoneShown}
-use Rattle.volume.specs.Refusals.{Verdict, leastApplying, lookRows, twoLost, badLabels, badLogs}
 use Rattle.volume.specs.Mount.{mountState}
 use Rattle.volume.specs.OnTables.{blankRecord, recordAt, viewState, among, verdictNumber, lengthsOf, refusalOn}
-use Rattle.volume.specs.Knowing.{Readable}
-use Rattle.volume.specs.DriveLogs.{deviceRead, Sized}
+use Rattle.volume.specs.Knowing.{Readable, readDevice}
 use Rattle.volume.specs.DrivesLost.{fill-at, fill-past, two-lost-is, lost-drive-is}
 use Rattle.volume.specs.ZoneLooking.{zoneLookOf}
 
@@ -91,7 +91,7 @@ lookOn g named old t =
 abbrev sectorsOnly : Device → Device
 sectorsOnly v d z = record { sectors = v d z .sectors; durable = 0 }
 
-same-sectors : (g : Geometry) (xs ws ds : List ℕ) → sectorsOnly (deviceOf g (tablesOf xs ws ds)) ≡ sectorsOnly (deviceRead g xs ws)
+same-sectors : (g : Geometry) (xs ws ds : List ℕ) → sectorsOnly (deviceOf g (tablesOf xs ws ds)) ≡ sectorsOnly (readDevice g xs ws)
 unfolding deviceOf zoneAtCell
 same-sectors g xs ws ds = fun-ext λ d. fun-ext λ z. go d z (ltb d (g .drives) && ltb z (physicalZones g))
   where
@@ -168,27 +168,27 @@ module _ (g : Geometry) (named : ℕ → Bool) where
   shown-sectors x v = ap (λ (f : ℕ → ZoneShown). record { lost = x; array = arrayIn (generalHeads g v (findBelow named (g .drives))); zone = f }) (fun-ext (zone-shown-sectors v))
 
 module _ (g : Geometry) (xs ws ds : List ℕ) where
-  pub present-read : (named : ℕ → Bool) → isPresent g named (deviceOf g (tablesOf xs ws ds)) ≡ isPresent g named (deviceRead g xs ws)
-  present-read named = present-sectors g named (deviceOf g (tablesOf xs ws ds)) ∙ ap (isPresent g named) (same-sectors g xs ws ds) ∙ sym (present-sectors g named (deviceRead g xs ws))
+  pub present-read : (named : ℕ → Bool) → isPresent g named (deviceOf g (tablesOf xs ws ds)) ≡ isPresent g named (readDevice g xs ws)
+  present-read named = present-sectors g named (deviceOf g (tablesOf xs ws ds)) ∙ ap (isPresent g named) (same-sectors g xs ws ds) ∙ sym (present-sectors g named (readDevice g xs ws))
 
-  lost-read : (named : ℕ → Bool) → isLost g named (deviceOf g (tablesOf xs ws ds)) ≡ isLost g named (deviceRead g xs ws)
-  lost-read named = lost-sectors g named (deviceOf g (tablesOf xs ws ds)) ∙ ap (isLost g named) (same-sectors g xs ws ds) ∙ sym (lost-sectors g named (deviceRead g xs ws))
+  lost-read : (named : ℕ → Bool) → isLost g named (deviceOf g (tablesOf xs ws ds)) ≡ isLost g named (readDevice g xs ws)
+  lost-read named = lost-sectors g named (deviceOf g (tablesOf xs ws ds)) ∙ ap (isLost g named) (same-sectors g xs ws ds) ∙ sym (lost-sectors g named (readDevice g xs ws))
 
-  pub lost-drive-read : (named : ℕ → Bool) → lostDrive g named (deviceOf g (tablesOf xs ws ds)) ≡ lostDrive g named (deviceRead g xs ws)
+  pub lost-drive-read : (named : ℕ → Bool) → lostDrive g named (deviceOf g (tablesOf xs ws ds)) ≡ lostDrive g named (readDevice g xs ws)
   lost-drive-read named = ap (λ (p : ℕ → Bool). findBelow p (g .drives)) (lost-read named)
 
-  pub two-lost-read : (named : ℕ → Bool) → twoLost g named (deviceOf g (tablesOf xs ws ds)) ≡ twoLost g named (deviceRead g xs ws)
+  pub two-lost-read : (named : ℕ → Bool) → twoLost g named (deviceOf g (tablesOf xs ws ds)) ≡ twoLost g named (readDevice g xs ws)
   unfolding twoLost
   two-lost-read named = ap (λ (p : ℕ → Bool). ltb 1 (countBelow p (g .drives))) (lost-read named)
 
-  pub labels-read : (present : ℕ → Bool) → badLabels g present (deviceOf g (tablesOf xs ws ds)) ≡ badLabels g present (deviceRead g xs ws)
-  labels-read present = labels-sectors g present (deviceOf g (tablesOf xs ws ds)) ∙ ap (badLabels g present) (same-sectors g xs ws ds) ∙ sym (labels-sectors g present (deviceRead g xs ws))
+  pub labels-read : (present : ℕ → Bool) → badLabels g present (deviceOf g (tablesOf xs ws ds)) ≡ badLabels g present (readDevice g xs ws)
+  labels-read present = labels-sectors g present (deviceOf g (tablesOf xs ws ds)) ∙ ap (badLabels g present) (same-sectors g xs ws ds) ∙ sym (labels-sectors g present (readDevice g xs ws))
 
-  pub logs-read : (present : ℕ → Bool) → badLogs g present (deviceOf g (tablesOf xs ws ds)) ≡ badLogs g present (deviceRead g xs ws)
-  logs-read present = logs-sectors g present (deviceOf g (tablesOf xs ws ds)) ∙ ap (badLogs g present) (same-sectors g xs ws ds) ∙ sym (logs-sectors g present (deviceRead g xs ws))
+  pub logs-read : (present : ℕ → Bool) → badLogs g present (deviceOf g (tablesOf xs ws ds)) ≡ badLogs g present (readDevice g xs ws)
+  logs-read present = logs-sectors g present (deviceOf g (tablesOf xs ws ds)) ∙ ap (badLogs g present) (same-sectors g xs ws ds) ∙ sym (logs-sectors g present (readDevice g xs ws))
 
-  pub shown-read : (present : ℕ → Bool) (x : ℕ) → showing g present x (deviceOf g (tablesOf xs ws ds)) ≡ showing g present x (deviceRead g xs ws)
-  shown-read present x = shown-sectors g present x (deviceOf g (tablesOf xs ws ds)) ∙ ap (showing g present x) (same-sectors g xs ws ds) ∙ sym (shown-sectors g present x (deviceRead g xs ws))
+  pub shown-read : (present : ℕ → Bool) (x : ℕ) → showing g present x (deviceOf g (tablesOf xs ws ds)) ≡ showing g present x (readDevice g xs ws)
+  shown-read present x = shown-sectors g present x (deviceOf g (tablesOf xs ws ds)) ∙ ap (showing g present x) (same-sectors g xs ws ds) ∙ sym (shown-sectors g present x (readDevice g xs ws))
 
 -- ---- the refusals, in the order of the table: 1 to 3 by the tables' shape, of any call without a state
 unfoldable pub shapeNumber : Geometry → List Bool → ℕ → List ℕ → List ℕ → ℕ
@@ -267,10 +267,10 @@ module _ (g : Geometry) (named : List Bool) (xs ws ds : List ℕ) where
   pub look-shape : shapeNumber g named (length xs) ws ds ≢ 0 → shapeNumber g named (length xs) ws ds ≡ verdictNumber (lookVerdict g named (tablesOf xs ws ds))
   look-shape h = sym (look-number ∙ rw (ne-eqb (shapeNumber g named (length xs) ws ds) 0 h) refl)
 
-  pub look-logs : (here : List Bool) → among here ≡ isPresent g (among named) (deviceRead g xs ws) → shapeNumber g named (length xs) ws ds ≡ 0
-      → logNumber g here (deviceRead g xs ws) ≡ verdictNumber (lookVerdict g named (tablesOf xs ws ds))
+  pub look-logs : (here : List Bool) → among here ≡ isPresent g (among named) (readDevice g xs ws) → shapeNumber g named (length xs) ws ds ≡ 0
+      → logNumber g here (readDevice g xs ws) ≡ verdictNumber (lookVerdict g named (tablesOf xs ws ds))
   unfolding logNumber
-  look-logs here e h = sym (look-number ∙ rw (eq-eqb (shapeNumber g named (length xs) ws ds) 0 h, two-lost-read g xs ws ds (among named), present-read g xs ws ds (among named), labels-read g xs ws ds (isPresent g (among named) (deviceRead g xs ws)), logs-read g xs ws ds (isPresent g (among named) (deviceRead g xs ws)), e, sym (two-lost-is g named here (deviceRead g xs ws) e)) refl)
+  look-logs here e h = sym (look-number ∙ rw (eq-eqb (shapeNumber g named (length xs) ws ds) 0 h, two-lost-read g xs ws ds (among named), present-read g xs ws ds (among named), labels-read g xs ws ds (isPresent g (among named) (readDevice g xs ws)), logs-read g xs ws ds (isPresent g (among named) (readDevice g xs ws)), e, sym (two-lost-is g named here (readDevice g xs ws) e)) refl)
 
 -- ---- what the deed needs: the tables' lengths, and that no written pointer of a drive that is here is past its zone's end
 pub record Lookable (g : Geometry) (here : List Bool) (xs ws : List ℕ) : Type 0 where
@@ -281,9 +281,6 @@ pub record Lookable (g : Geometry) (here : List Bool) (xs ws : List ℕ) : Type 
 pub lookable-zone : (g : Geometry) (here : List Bool) (xs ws : List ℕ) (z : ℕ) → Lookable g here xs ws → z < g .zones → Readable g here xs ws z
 lookable-zone g here xs ws z r h = record { zone-in = h; sectors-long = r .sectors-long; written-long = r .written-long; pointers = r .pointers }
 
-pub lookable-sized : (g : Geometry) (here : List Bool) (xs ws : List ℕ) → Lookable g here xs ws → Sized g xs ws
-lookable-sized g here xs ws r = record { sectors-long = r .sectors-long; written-long = r .written-long }
-
 present-named : (g : Geometry) (named : ℕ → Bool) (v : Device) (d : ℕ) → isPresent g named v d ≡ true → named d ≡ true
 unfolding isPresent isLost
 present-named g named v d h =
@@ -291,13 +288,13 @@ present-named g named v d h =
     let q = or-none (not (named d)) _ (not-true (isLost g named v d) (p .1)) in
     not-not (named d) (q .0)
 
-pub lookable : (g : Geometry) (named here : List Bool) (xs ws ds : List ℕ) → shapeNumber g named (length xs) ws ds ≡ 0 → among here ≡ isPresent g (among named) (deviceRead g xs ws) → Lookable g here xs ws
+pub lookable : (g : Geometry) (named here : List Bool) (xs ws ds : List ℕ) → shapeNumber g named (length xs) ws ds ≡ 0 → among here ≡ isPresent g (among named) (readDevice g xs ws) → Lookable g here xs ws
 lookable g named here xs ws ds h e =
     let (ok, a, b, c) = shaped g named (length xs) ws ds h in
     record {
       sectors-long = a;
       written-long = b;
-      pointers = λ d y hd p hy. pointers-good g named ws ds d y c hd (present-named g (among named) (deviceRead g xs ws) d (ap (λ (q : ℕ → Bool). q d) (sym e) ∙ p)) hy .0;
+      pointers = λ d y hd p hy. pointers-good g named ws ds d y c hd (present-named g (among named) (readDevice g xs ws) d (ap (λ (q : ℕ → Bool). q d) (sym e) ∙ p)) hy .0;
     }
 
 -- ---- the outcome
@@ -314,18 +311,43 @@ module _ (g : Geometry) (named : List Bool) (old : State) (xs ws ds : List ℕ) 
   look-refused n e h = rw (← e, ne-eqb n 0 h) refl
 
   -- what is shown, by the drives that are here
-  shown-here : (here : List Bool) → among here ≡ isPresent g (among named) (deviceRead g xs ws)
-      → showing g (among here) (findBelow (λ d. not (among here d)) (g .drives)) (deviceRead g xs ws) ≡ showing g (isPresent g (among named) (deviceOf g (tablesOf xs ws ds))) (lostDrive g (among named) (deviceOf g (tablesOf xs ws ds))) (deviceOf g (tablesOf xs ws ds))
+  shown-here : (here : List Bool) → among here ≡ isPresent g (among named) (readDevice g xs ws)
+      → showing g (among here) (findBelow (λ d. not (among here d)) (g .drives)) (readDevice g xs ws) ≡ showing g (isPresent g (among named) (deviceOf g (tablesOf xs ws ds))) (lostDrive g (among named) (deviceOf g (tablesOf xs ws ds))) (deviceOf g (tablesOf xs ws ds))
   shown-here here e =
-      ap₂ (λ (p : ℕ → Bool) (x : ℕ). showing g p x (deviceRead g xs ws)) (e ∙ sym (present-read g xs ws ds (among named))) (lost-drive-is g named here (deviceRead g xs ws) e ∙ sym (lost-drive-read g xs ws ds (among named)))
+      ap₂ (λ (p : ℕ → Bool) (x : ℕ). showing g p x (readDevice g xs ws)) (e ∙ sym (present-read g xs ws ds (among named))) (lost-drive-is g named here (readDevice g xs ws) e ∙ sym (lost-drive-read g xs ws ds (among named)))
       ∙ sym (shown-read g xs ws ds (isPresent g (among named) (deviceOf g (tablesOf xs ws ds))) (lostDrive g (among named) (deviceOf g (tablesOf xs ws ds))))
 
-  pub look-finished : verdictNumber (lookVerdict g named (tablesOf xs ws ds)) ≡ 0 → (here : List Bool) → among here ≡ isPresent g (among named) (deviceRead g xs ws)
-      → (k : Look) → k ≡ lookOf g (showing g (among here) (findBelow (λ d. not (among here d)) (g .drives)) (deviceRead g xs ws))
+  pub look-finished : verdictNumber (lookVerdict g named (tablesOf xs ws ds)) ≡ 0 → (here : List Bool) → among here ≡ isPresent g (among named) (readDevice g xs ws)
+      → (k : Look) → k ≡ lookOf g (showing g (among here) (findBelow (λ d. not (among here d)) (g .drives)) (readDevice g xs ws))
       → _≡_ {A = Outcome} (record { answer = Finished; state = record { lost = k .lost; zones = recordsOf g (k .zones) } }) (lookOn g named old (tablesOf xs ws ds))
   unfolding lookOn
   look-finished z here e k q =
       let a : _≡_ {A = State} (record { lost = k .lost; zones = recordsOf g (k .zones) }) (stateShown g (showing g (isPresent g (among named) (deviceOf g (tablesOf xs ws ds))) (lostDrive g (among named) (deviceOf g (tablesOf xs ws ds))) (deviceOf g (tablesOf xs ws ds)))) =
       ap (λ (l : Look). record { lost = l .lost; zones = recordsOf g (l .zones) }) q
-      ∙ state-of-look g (showing g (among here) (findBelow (λ d. not (among here d)) (g .drives)) (deviceRead g xs ws)) ∙ ap (stateShown g) (shown-here here e) in
+      ∙ state-of-look g (showing g (among here) (findBelow (λ d. not (among here d)) (g .drives)) (readDevice g xs ws)) ∙ ap (stateShown g) (shown-here here e) in
       rw (eq-eqb (verdictNumber (lookVerdict g named (tablesOf xs ws ds))) 0 z) (ap (λ (s : State). record { answer = Finished; state = s }) a)
+
+-- ---- where no pointer is bad, row 3 of the tables is row 3 of the device: the look's answer is the rules' (Answers: lookCall)
+pointer-fine : (g : Geometry) (named : List Bool) (xs ws ds : List ℕ) (d y : ℕ) → pointersBad g named ws ds ≡ false → d < g .drives → y < physicalZones g → among named d ≡ true
+    → ltb (g .capacity) (length (deviceOf g (tablesOf xs ws ds) d y .sectors)) || ltb (length (deviceOf g (tablesOf xs ws ds) d y .sectors)) (deviceOf g (tablesOf xs ws ds) d y .durable) ≡ false
+pointer-fine g named xs ws ds d y h hd hy here =
+    let (a, b) = pointers-good g named ws ds d y h hd here hy in
+    let p = device-pointer g (tablesOf xs ws ds) d y hd hy a in
+    let q = device-durable g (tablesOf xs ws ds) d y hd hy (omega (arith, a, b)) in
+    rw (p, q, le-ltb (g .capacity) (getD ws (cell g d y) 0) a, le-ltb (getD ws (cell g d y) 0) (getD ds (cell g d y) 0) b) refl
+
+pub pointers-fine : (g : Geometry) (named : List Bool) (xs ws ds : List ℕ) → pointersBad g named ws ds ≡ false → badPointers g (among named) (deviceOf g (tablesOf xs ws ds)) ≡ false
+unfolding badPointers
+pointers-fine g named xs ws ds h = none-any-below _ (g .drives) (λ d hd. go d hd (among named d) refl)
+  where
+    bad : ℕ → ℕ → Bool
+    bad d y = ltb (g .capacity) (length (deviceOf g (tablesOf xs ws ds) d y .sectors)) || ltb (length (deviceOf g (tablesOf xs ws ds) d y .sectors)) (deviceOf g (tablesOf xs ws ds) d y .durable)
+
+    go : (d : ℕ) → d < g .drives → (b : Bool) → among named d ≡ b → b && anyBelow (bad d) (physicalZones g) ≡ false
+    go d hd false e = refl
+    go d hd true e = none-any-below (bad d) (physicalZones g) (λ y hy. pointer-fine g named xs ws ds d y h hd hy e)
+
+pub look-verdict : (g : Geometry) (named : List Bool) (xs ws ds : List ℕ) → pointersBad g named ws ds ≡ false
+    → lookVerdict g named (tablesOf xs ws ds) ≡ leastApplying (lookRows g (lengthsOf (tablesOf xs ws ds)) (among named) (deviceOf g (tablesOf xs ws ds)))
+unfolding lookVerdict refusalOn lookRows
+look-verdict g named xs ws ds h = rw (h, pointers-fine g named xs ws ds h) refl

@@ -24,7 +24,8 @@ use Rattle.volume.specs.declared.ZoneLook.{ZoneLook}
 use Rattle.volume.specs.declared.Condition.{Condition}
 use Rattle.volume.specs.declared.Condition.the-variants.{Empty, Open, Sealed, Worn}
 use Rattle.volume.specs.Rules.{parityEntries, parityEnding, endingPast, conditionOf, ZoneShown, known, zoneView, knownPrefix, generationOf, resetSeen, sealLimit, pointerAt, sealSeen, cleanAt, zoneAt, zoneShown}
-use Rattle.volume.specs.DriveLogs.{deviceRead, zonePointer}
+use Rattle.volume.specs.Knowing.{readDevice}
+use Rattle.volume.specs.DriveLogs.{zonePointer}
 
 -- ---- what is shown of a zone, as the code's record: all but the values
 abbrev pub zoneLookOf : ZoneShown → ZoneLook
@@ -37,7 +38,7 @@ driveClean g present v z n q d =
     && (not (anyOf (λ (e : Entry). endsPast g z n q (e .head)) (parityEntries g v d)) && not (endingPast g z n q (parityEnding g v d))))
 
 -- the sectors of a zone on the device are as many as the code counts
-pub zone-length : (g : Geometry) (xs ws : List ℕ) (d z : ℕ) → d < g .drives → z < physicalZones g → zonePointer g ws d z ≡ length (deviceRead g xs ws d z .sectors)
+pub zone-length : (g : Geometry) (xs ws : List ℕ) (d z : ℕ) → d < g .drives → z < physicalZones g → zonePointer g ws d z ≡ length (readDevice g xs ws d z .sectors)
 zone-length g xs ws d z hd hz = sym (device-length g (tablesOf xs ws []) d z hd hz)
 
 -- ---- rule 5: a scan that stops at the first sector that is not known, or at the least seal

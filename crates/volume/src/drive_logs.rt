@@ -13,7 +13,8 @@ ghost use Rattle.logs.specs.Entry.{Entry};
 ghost use Rattle.logs.specs.QueryLaws.{SmallSeen};
 ghost use Rattle.volume.specs.Rules.{generalHeads, generalEnding, parityEntries, parityEnding, endingPast};
 ghost use Rattle.volume.specs.Refusals.{isNoEntry};
-ghost use Rattle.volume.specs.DriveLogs.{Sized, deviceRead, zonePointer, saysLost, pastSeen};
+ghost use Rattle.volume.specs.DriveLogs.{Sized, zonePointer, saysLost, pastSeen};
+ghost use Rattle.volume.specs.Knowing.{readDevice};
 
 // The physical zones of the two logs.
 pub const GENERAL_LOG: usize = 0;
@@ -36,7 +37,7 @@ pub fn zone_pointer(written: &[u32], g: Geometry, drive: usize, zone: usize) -> 
 pub fn begins_labelled(sectors: &[u8], written: &[u32], g: Geometry, drive: usize) -> bool
     requires { ⌜ Valid g ⌝ }
     requires { ⌜ Sized g (now sectors) (now written) × (drive < g .drives) ⌝ }
-    ensures { λ r. ⌜ r ≡ labelled (generalHeads g (deviceRead g (now (sectors .entry)) (now (written .entry))) drive) ⌝ }
+    ensures { λ r. ⌜ r ≡ labelled (generalHeads g (readDevice g (now (sectors .entry)) (now (written .entry))) drive) ⌝ }
 {
     let n = zone_pointer(written, g, drive, GENERAL_LOG);
     logs::folds::begins_labelled(sectors, g, drive, GENERAL_LOG, n)
@@ -46,7 +47,7 @@ pub fn begins_labelled(sectors: &[u8], written: &[u32], g: Geometry, drive: usiz
 pub fn first_array(sectors: &[u8], written: &[u32], g: Geometry, drive: usize) -> u64
     requires { ⌜ Valid g ⌝ }
     requires { ⌜ Sized g (now sectors) (now written) × (drive < g .drives) ⌝ }
-    ensures { λ r. ⌜ r ≡ arrayIn (generalHeads g (deviceRead g (now (sectors .entry)) (now (written .entry))) drive) ⌝ }
+    ensures { λ r. ⌜ r ≡ arrayIn (generalHeads g (readDevice g (now (sectors .entry)) (now (written .entry))) drive) ⌝ }
 {
     let n = zone_pointer(written, g, drive, GENERAL_LOG);
     logs::folds::first_array(sectors, g, drive, GENERAL_LOG, n)
@@ -56,7 +57,7 @@ pub fn first_array(sectors: &[u8], written: &[u32], g: Geometry, drive: usize) -
 pub fn says_lost(sectors: &[u8], written: &[u32], g: Geometry, drive: usize) -> usize
     requires { ⌜ Valid g ⌝ }
     requires { ⌜ Sized g (now sectors) (now written) × (drive < g .drives) ⌝ }
-    ensures { λ r. ⌜ r ≡ saysLost (generalHeads g (deviceRead g (now (sectors .entry)) (now (written .entry))) drive) ⌝ }
+    ensures { λ r. ⌜ r ≡ saysLost (generalHeads g (readDevice g (now (sectors .entry)) (now (written .entry))) drive) ⌝ }
 {
     let has_say = begins_labelled(sectors, written, g, drive);
     if !has_say {
@@ -70,8 +71,8 @@ pub fn says_lost(sectors: &[u8], written: &[u32], g: Geometry, drive: usize) -> 
 pub fn logs_broken(sectors: &[u8], written: &[u32], g: Geometry, drive: usize) -> bool
     requires { ⌜ Valid g ⌝ }
     requires { ⌜ Sized g (now sectors) (now written) × (drive < g .drives) ⌝ }
-    ensures { λ r. ⌜ r ≡ isNoEntry (generalEnding g (deviceRead g (now (sectors .entry)) (now (written .entry))) drive)
-        || isNoEntry (parityEnding g (deviceRead g (now (sectors .entry)) (now (written .entry))) drive) ⌝ }
+    ensures { λ r. ⌜ r ≡ isNoEntry (generalEnding g (readDevice g (now (sectors .entry)) (now (written .entry))) drive)
+        || isNoEntry (parityEnding g (readDevice g (now (sectors .entry)) (now (written .entry))) drive) ⌝ }
 {
     let n = zone_pointer(written, g, drive, GENERAL_LOG);
     let general = logs::walking::walk_log(sectors, g, drive, GENERAL_LOG, false, n);
@@ -86,7 +87,7 @@ pub fn logs_broken(sectors: &[u8], written: &[u32], g: Geometry, drive: usize) -
 pub fn last_generation(sectors: &[u8], written: &[u32], g: Geometry, drive: usize, z: usize) -> u64
     requires { ⌜ Valid g ⌝ }
     requires { ⌜ Sized g (now sectors) (now written) × (drive < g .drives) × (z < g .zones) ⌝ }
-    ensures { λ r. ⌜ r ≡ generationIn z (generalHeads g (deviceRead g (now (sectors .entry)) (now (written .entry))) drive) ⌝ }
+    ensures { λ r. ⌜ r ≡ generationIn z (generalHeads g (readDevice g (now (sectors .entry)) (now (written .entry))) drive) ⌝ }
 {
     let n = zone_pointer(written, g, drive, GENERAL_LOG);
     logs::folds::last_generation(sectors, g, drive, GENERAL_LOG, n, z)
@@ -103,7 +104,7 @@ pub fn has_reset(
 ) -> bool
     requires { ⌜ Valid g ⌝ }
     requires { ⌜ Sized g (now sectors) (now written) × (drive < g .drives) ⌝ }
-    ensures { λ r. ⌜ r ≡ anyOf (isReset z generation) (generalHeads g (deviceRead g (now (sectors .entry)) (now (written .entry))) drive) ⌝ }
+    ensures { λ r. ⌜ r ≡ anyOf (isReset z generation) (generalHeads g (readDevice g (now (sectors .entry)) (now (written .entry))) drive) ⌝ }
 {
     let n = zone_pointer(written, g, drive, GENERAL_LOG);
     logs::folds::has_reset(sectors, g, drive, GENERAL_LOG, n, z, generation)
@@ -120,7 +121,7 @@ pub fn has_seal(
 ) -> bool
     requires { ⌜ Valid g ⌝ }
     requires { ⌜ Sized g (now sectors) (now written) × (drive < g .drives) ⌝ }
-    ensures { λ r. ⌜ r ≡ anyOf (isSeal z generation) (generalHeads g (deviceRead g (now (sectors .entry)) (now (written .entry))) drive) ⌝ }
+    ensures { λ r. ⌜ r ≡ anyOf (isSeal z generation) (generalHeads g (readDevice g (now (sectors .entry)) (now (written .entry))) drive) ⌝ }
 {
     let n = zone_pointer(written, g, drive, GENERAL_LOG);
     logs::folds::has_seal(sectors, g, drive, GENERAL_LOG, n, z, generation)
@@ -138,7 +139,7 @@ pub fn whole_past(
 ) -> bool
     requires { ⌜ Valid g ⌝ }
     requires { ⌜ Sized g (now sectors) (now written) × (drive < g .drives) ⌝ }
-    ensures { λ r. ⌜ r ≡ anyOf (λ (e : Entry). endsPast g z generation q (e .head)) (parityEntries g (deviceRead g (now (sectors .entry)) (now (written .entry))) drive) ⌝ }
+    ensures { λ r. ⌜ r ≡ anyOf (λ (e : Entry). endsPast g z generation q (e .head)) (parityEntries g (readDevice g (now (sectors .entry)) (now (written .entry))) drive) ⌝ }
 {
     let n = zone_pointer(written, g, drive, PARITY_LOG);
     let most = tables::bounds::zone_sectors(g);
@@ -175,7 +176,7 @@ pub fn torn_past(
 ) -> bool
     requires { ⌜ Valid g ⌝ }
     requires { ⌜ Sized g (now sectors) (now written) × (drive < g .drives) ⌝ }
-    ensures { λ r. ⌜ r ≡ endingPast g z generation q (parityEnding g (deviceRead g (now (sectors .entry)) (now (written .entry))) drive) ⌝ }
+    ensures { λ r. ⌜ r ≡ endingPast g z generation q (parityEnding g (readDevice g (now (sectors .entry)) (now (written .entry))) drive) ⌝ }
 {
     let n = zone_pointer(written, g, drive, PARITY_LOG);
     let f = logs::folds::torn_entry(sectors, g, drive, PARITY_LOG, true, n);

@@ -13,14 +13,15 @@ ghost use Rattle.logs.specs.Heads.{labelled, arrayIn};
 ghost use Rattle.volume.specs.OnTables.{among};
 ghost use Rattle.volume.specs.Rules.{generalHeads, generalEnding, parityEnding, isPresent};
 ghost use Rattle.volume.specs.Refusals.{isNoEntry, badLabels, badLogs};
-ghost use Rattle.volume.specs.DriveLogs.{Sized, deviceRead, saysLost};
+ghost use Rattle.volume.specs.DriveLogs.{Sized, saysLost};
+ghost use Rattle.volume.specs.Knowing.{readDevice};
 ghost use Rattle.volume.specs.DrivesLost.{saidList, saidOf, labelBad};
 
 // What one drive says, if it is named: the drive that its last label names as lost, or 255.
 fn said_by(sectors: &[u8], written: &[u32], g: Geometry, named: bool, drive: usize) -> usize
     requires { ⌜ Valid g ⌝ }
     requires { ⌜ Sized g (now sectors) (now written) × (drive < g .drives) ⌝ }
-    ensures { λ r. ⌜ r ≡ pick named (saysLost (generalHeads g (deviceRead g (now (sectors .entry)) (now (written .entry))) drive)) noDrive ⌝ }
+    ensures { λ r. ⌜ r ≡ pick named (saysLost (generalHeads g (readDevice g (now (sectors .entry)) (now (written .entry))) drive)) noDrive ⌝ }
 {
     if !named {
         return 255;
@@ -32,7 +33,7 @@ fn said_by(sectors: &[u8], written: &[u32], g: Geometry, named: bool, drive: usi
 fn said_lost(sectors: &[u8], written: &[u32], g: Geometry, named: [bool; 8]) -> [usize; 8]
     requires { ⌜ Valid g ⌝ }
     requires { ⌜ Sized g (now sectors) (now written) ⌝ }
-    ensures { λ r. ⌜ r ≡ saidList g named (deviceRead g (now (sectors .entry)) (now (written .entry))) ⌝ }
+    ensures { λ r. ⌜ r ≡ saidList g named (readDevice g (now (sectors .entry)) (now (written .entry))) ⌝ }
 {
     let n = g.drives;
     let mut said = [255usize; 8];
@@ -64,7 +65,7 @@ fn is_said(g: Geometry, said: [usize; 8], d: usize) -> bool
 pub fn look_present(sectors: &[u8], written: &[u32], g: Geometry, named: [bool; 8]) -> [bool; 8]
     requires { ⌜ Valid g ⌝ }
     requires { ⌜ Sized g (now sectors) (now written) ⌝ }
-    ensures { λ r. ⌜ among r ≡ isPresent g (among named) (deviceRead g (now (sectors .entry)) (now (written .entry))) ⌝ }
+    ensures { λ r. ⌜ among r ≡ isPresent g (among named) (readDevice g (now (sectors .entry)) (now (written .entry))) ⌝ }
 {
     let n = g.drives;
     let said = said_lost(sectors, written, g, named);
@@ -82,7 +83,7 @@ pub fn look_present(sectors: &[u8], written: &[u32], g: Geometry, named: [bool; 
 fn other_array(sectors: &[u8], written: &[u32], g: Geometry, here: [bool; 8], array: u64) -> bool
     requires { ⌜ Valid g ⌝ }
     requires { ⌜ Sized g (now sectors) (now written) ⌝ }
-    ensures { λ r. ⌜ r ≡ anyBelow (λ (e : ℕ). among here e && not (eqb array (arrayIn (generalHeads g (deviceRead g (now (sectors .entry)) (now (written .entry))) e)))) (g .drives) ⌝ }
+    ensures { λ r. ⌜ r ≡ anyBelow (λ (e : ℕ). among here e && not (eqb array (arrayIn (generalHeads g (readDevice g (now (sectors .entry)) (now (written .entry))) e)))) (g .drives) ⌝ }
 {
     let n = g.drives;
     let mut other = false;
@@ -99,7 +100,7 @@ fn other_array(sectors: &[u8], written: &[u32], g: Geometry, here: [bool; 8], ar
 fn label_bad(sectors: &[u8], written: &[u32], g: Geometry, here: [bool; 8], d: usize) -> bool
     requires { ⌜ Valid g ⌝ }
     requires { ⌜ Sized g (now sectors) (now written) × (d < g .drives) ⌝ }
-    ensures { λ r. ⌜ r ≡ labelBad g (among here) (deviceRead g (now (sectors .entry)) (now (written .entry))) d ⌝ }
+    ensures { λ r. ⌜ r ≡ labelBad g (among here) (readDevice g (now (sectors .entry)) (now (written .entry))) d ⌝ }
 {
     let labelled = super::drive_logs::begins_labelled(sectors, written, g, d);
     let a = super::drive_logs::first_array(sectors, written, g, d);
@@ -112,7 +113,7 @@ fn label_bad(sectors: &[u8], written: &[u32], g: Geometry, here: [bool; 8], d: u
 pub fn labels_bad(sectors: &[u8], written: &[u32], g: Geometry, here: [bool; 8]) -> bool
     requires { ⌜ Valid g ⌝ }
     requires { ⌜ Sized g (now sectors) (now written) ⌝ }
-    ensures { λ r. ⌜ r ≡ badLabels g (among here) (deviceRead g (now (sectors .entry)) (now (written .entry))) ⌝ }
+    ensures { λ r. ⌜ r ≡ badLabels g (among here) (readDevice g (now (sectors .entry)) (now (written .entry))) ⌝ }
 {
     let n = g.drives;
     let mut bad = false;
@@ -129,8 +130,8 @@ pub fn labels_bad(sectors: &[u8], written: &[u32], g: Geometry, here: [bool; 8])
 fn log_bad(sectors: &[u8], written: &[u32], g: Geometry, present: bool, d: usize) -> bool
     requires { ⌜ Valid g ⌝ }
     requires { ⌜ Sized g (now sectors) (now written) × (d < g .drives) ⌝ }
-    ensures { λ r. ⌜ r ≡ present && (isNoEntry (generalEnding g (deviceRead g (now (sectors .entry)) (now (written .entry))) d)
-        || isNoEntry (parityEnding g (deviceRead g (now (sectors .entry)) (now (written .entry))) d)) ⌝ }
+    ensures { λ r. ⌜ r ≡ present && (isNoEntry (generalEnding g (readDevice g (now (sectors .entry)) (now (written .entry))) d)
+        || isNoEntry (parityEnding g (readDevice g (now (sectors .entry)) (now (written .entry))) d)) ⌝ }
 {
     if !present {
         return false;
@@ -142,7 +143,7 @@ fn log_bad(sectors: &[u8], written: &[u32], g: Geometry, present: bool, d: usize
 pub fn logs_bad(sectors: &[u8], written: &[u32], g: Geometry, here: [bool; 8]) -> bool
     requires { ⌜ Valid g ⌝ }
     requires { ⌜ Sized g (now sectors) (now written) ⌝ }
-    ensures { λ r. ⌜ r ≡ badLogs g (among here) (deviceRead g (now (sectors .entry)) (now (written .entry))) ⌝ }
+    ensures { λ r. ⌜ r ≡ badLogs g (among here) (readDevice g (now (sectors .entry)) (now (written .entry))) ⌝ }
 {
     let n = g.drives;
     let mut bad = false;
@@ -180,7 +181,7 @@ fn last_present(g: Geometry, here: [bool; 8]) -> usize
 pub fn look_array(sectors: &[u8], written: &[u32], g: Geometry, here: [bool; 8]) -> u64
     requires { ⌜ Valid g ⌝ }
     requires { ⌜ Sized g (now sectors) (now written) ⌝ }
-    ensures { λ r. ⌜ r ≡ arrayIn (generalHeads g (deviceRead g (now (sectors .entry)) (now (written .entry))) (findBelow (among here) (g .drives))) ⌝ }
+    ensures { λ r. ⌜ r ≡ arrayIn (generalHeads g (readDevice g (now (sectors .entry)) (now (written .entry))) (findBelow (among here) (g .drives))) ⌝ }
 {
     let n = g.drives;
     let d = last_present(g, here);

@@ -363,7 +363,7 @@ fn entry_end(sectors: &[u8], g: Geometry, d: usize, place: usize) -> usize
 }
 
 // A held sector's own bytes.
-fn read_own(sectors: &[u8], g: Geometry, z: usize, a: usize, out: &mut [u8])
+pub fn read_own(sectors: &[u8], g: Geometry, z: usize, a: usize, out: &mut [u8])
     requires { ⌜ Valid g ⌝ }
     requires { ⌜ (z < g .zones) × (a < zoneSectors g) × (length (now sectors) ≡ totalBytes g) × (length (now out) ≡ g .sector) ⌝ }
     ensures { λ _. ⌜ now (out .exit) ≡ wayValue g (now (sectors .entry)) z a Held ⌝ }

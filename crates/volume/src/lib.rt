@@ -9,6 +9,11 @@ pub mod knowing;
 pub mod logging;
 pub mod looking;
 pub mod resetting;
+pub mod write_checks;
+pub mod write_keeping;
+pub mod write_rows;
+pub mod write_stores;
+pub mod writing;
 pub mod zone_checks;
 pub mod zone_looking;
 

@@ -8,6 +8,9 @@ ghost use Rattle.tables.specs.Device.{append};
 ghost use Rattle.tables.specs.Tables.{MadeAppends, storeIf};
 ghost use Rattle.logs.specs.Entry.{generalZone, encode, label, counters, zoneReset};
 
+// The physical zone of the general log.
+pub const GENERAL_LOG: usize = 0;
+
 // A header of type 3.
 pub fn append_reset(
     sectors: &mut [u8],
@@ -26,7 +29,16 @@ pub fn append_reset(
     let mut buffer = [0u8; 4096];
     let b = g.sector;
     logs::headers::write_reset(&mut buffer[..b], g, drive, z, generation);
-    tables::stores::append_counted(sectors, written, g, here, drive, 0, &buffer[..b], budget)
+    tables::stores::append_counted(
+        sectors,
+        written,
+        g,
+        here,
+        drive,
+        GENERAL_LOG,
+        &buffer[..b],
+        budget,
+    )
 }
 
 // A label.
@@ -47,7 +59,16 @@ pub fn append_label(
     let mut buffer = [0u8; 4096];
     let b = g.sector;
     logs::headers::write_label(&mut buffer[..b], g, drive, lost, array);
-    tables::stores::append_counted(sectors, written, g, here, drive, 0, &buffer[..b], budget)
+    tables::stores::append_counted(
+        sectors,
+        written,
+        g,
+        here,
+        drive,
+        GENERAL_LOG,
+        &buffer[..b],
+        budget,
+    )
 }
 
 // The counters: the first of the given generations, one for each zone.
@@ -67,5 +88,14 @@ pub fn append_counters(
     let mut buffer = [0u8; 4096];
     let b = g.sector;
     logs::headers::write_counters(&mut buffer[..b], g, drive, generations);
-    tables::stores::append_counted(sectors, written, g, here, drive, 0, &buffer[..b], budget)
+    tables::stores::append_counted(
+        sectors,
+        written,
+        g,
+        here,
+        drive,
+        GENERAL_LOG,
+        &buffer[..b],
+        budget,
+    )
 }

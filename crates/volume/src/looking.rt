@@ -15,7 +15,8 @@ ghost use Rattle.tables.specs.Geometry.{Valid};
 ghost use Rattle.tables.specs.Tables.{tablesOf};
 ghost use Rattle.volume.specs.OnTables.{among, verdictNumber};
 ghost use Rattle.volume.specs.Rules.{showing, zoneShown};
-ghost use Rattle.volume.specs.DriveLogs.{Sized, deviceRead};
+ghost use Rattle.volume.specs.DriveLogs.{Sized};
+ghost use Rattle.volume.specs.Knowing.{readDevice};
 ghost use Rattle.volume.specs.Looking.{Lookable, shapeNumber, logNumber, lookVerdict, looksFrom, lookOf, recordsOf, lookOn};
 
 // Refusals 1 to 3, of a call that is handed no state; 0 if none applies.
@@ -47,7 +48,7 @@ pub fn shape_refusal(
 pub fn log_refusal(sectors: &[u8], written: &[u32], g: Geometry, here: [bool; 8]) -> u8
     requires { ⌜ Valid g ⌝ }
     requires { ⌜ Sized g (now sectors) (now written) ⌝ }
-    ensures { λ r. ⌜ r ≡ logNumber g here (deviceRead g (now (sectors .entry)) (now (written .entry))) ⌝ }
+    ensures { λ r. ⌜ r ≡ logNumber g here (readDevice g (now (sectors .entry)) (now (written .entry))) ⌝ }
 {
     let absent = super::checks::count_absent(g, here);
     if 1 < absent {
@@ -86,7 +87,7 @@ pub fn look_refusal(
 fn look_zones(sectors: &[u8], written: &[u32], g: Geometry, here: [bool; 8]) -> [ZoneLook; 16]
     requires { ⌜ Valid g ⌝ }
     requires { ⌜ Lookable g here (now sectors) (now written) ⌝ }
-    ensures { λ r. ⌜ r ≡ looksFrom g (zoneShown g (among here) (deviceRead g (now (sectors .entry)) (now (written .entry)))) ⌝ }
+    ensures { λ r. ⌜ r ≡ looksFrom g (zoneShown g (among here) (readDevice g (now (sectors .entry)) (now (written .entry)))) ⌝ }
 {
     let n = g.zones;
     let blank = ZoneLook {
@@ -110,7 +111,7 @@ fn look_zones(sectors: &[u8], written: &[u32], g: Geometry, here: [bool; 8]) -> 
 pub fn look_all(sectors: &[u8], written: &[u32], g: Geometry, here: [bool; 8]) -> Look
     requires { ⌜ Valid g ⌝ }
     requires { ⌜ Lookable g here (now sectors) (now written) ⌝ }
-    ensures { λ r. ⌜ r ≡ lookOf g (showing g (among here) (findBelow (λ (d : ℕ). not (among here d)) (g .drives)) (deviceRead g (now (sectors .entry)) (now (written .entry)))) ⌝ }
+    ensures { λ r. ⌜ r ≡ lookOf g (showing g (among here) (findBelow (λ (d : ℕ). not (among here d)) (g .drives)) (readDevice g (now (sectors .entry)) (now (written .entry)))) ⌝ }
 {
     let lost = super::checks::left_out(g, here);
     let array = super::drives_lost::look_array(sectors, written, g, here);

@@ -20,6 +20,9 @@ ghost use Rattle.volume.specs.Calls.{resetStores};
 ghost use Rattle.volume.specs.OnTables.{recordAt, viewState, among};
 ghost use Rattle.volume.specs.Resetting.{resetOn, resetNumber, resetRestNumber, resetEntry, zoneResetAt, countersAt, resetRecord, withReset, raisedList};
 
+// The greatest generation: a zone that has it is worn.
+const WORN_GENERATION: u64 = 18446744073709551615;
+
 // Refusals 7, 8, 12 and 14; 0 if none applies. Where there is no zone, 7 has nothing to say.
 fn zone_refusal(written: &[u32], g: Geometry, here: [bool; 8], state: State, z: usize) -> u8
     requires { ⌜ Valid g ⌝ }
@@ -38,11 +41,17 @@ fn zone_refusal(written: &[u32], g: Geometry, here: [bool; 8], state: State, z: 
         return 7;
     }
     let generation = r.generation;
-    let worn = super::zone_checks::is_worn(condition) | (18446744073709551615 <= generation);
+    let worn = super::zone_checks::is_worn(condition) | (WORN_GENERATION <= generation);
     if worn {
         return 12;
     }
-    let full = super::zone_checks::unused_below(written, g, here, 0, l + 4);
+    let full = super::zone_checks::unused_below(
+        written,
+        g,
+        here,
+        super::logging::GENERAL_LOG,
+        l + 4,
+    );
     if full {
         return 14;
     }
@@ -202,7 +211,7 @@ fn reset_record(r: ZoneRecord) -> ZoneRecord
     ensures { λ q. ⌜ q ≡ resetRecord r ⌝ }
 {
     let generation = r.generation + 1;
-    if generation == 18446744073709551615 {
+    if generation == WORN_GENERATION {
         return ZoneRecord {
             generation,
             condition: Condition::Worn(0),

@@ -12,9 +12,9 @@ ghost use Rattle.tables.specs.Lists.{anyOf};
 ghost use Rattle.logs.specs.Heads.{generationIn, isReset, isSeal};
 ghost use Rattle.volume.specs.OnTables.{among};
 ghost use Rattle.volume.specs.Rules.{generalHeads, generationOf, resetSeen, sealSeen, cleanAt, conditionOf, sealLimit, zoneView, knownPrefix, pointerAt, zoneShown};
-ghost use Rattle.volume.specs.DriveLogs.{Sized, deviceRead};
+ghost use Rattle.volume.specs.DriveLogs.{Sized};
+ghost use Rattle.volume.specs.Knowing.{readDevice, Readable};
 ghost use Rattle.volume.specs.ZoneLooking.{driveClean, zoneLookOf};
-ghost use Rattle.volume.specs.Knowing.{Readable};
 
 // The greater of two generations.
 fn later(a: u64, b: u64) -> u64
@@ -34,7 +34,7 @@ fn drive_generation(
 ) -> u64
     requires { ⌜ Valid g ⌝ }
     requires { ⌜ Sized g (now sectors) (now written) × (d < g .drives) × (z < g .zones) ⌝ }
-    ensures { λ r. ⌜ r ≡ pick present (generationIn z (generalHeads g (deviceRead g (now (sectors .entry)) (now (written .entry))) d)) 0 ⌝ }
+    ensures { λ r. ⌜ r ≡ pick present (generationIn z (generalHeads g (readDevice g (now (sectors .entry)) (now (written .entry))) d)) 0 ⌝ }
 {
     if !present {
         return 0;
@@ -46,7 +46,7 @@ fn drive_generation(
 pub fn generation_of(sectors: &[u8], written: &[u32], g: Geometry, here: [bool; 8], z: usize) -> u64
     requires { ⌜ Valid g ⌝ }
     requires { ⌜ Sized g (now sectors) (now written) × (z < g .zones) ⌝ }
-    ensures { λ r. ⌜ r ≡ generationOf g (among here) (deviceRead g (now (sectors .entry)) (now (written .entry))) z ⌝ }
+    ensures { λ r. ⌜ r ≡ generationOf g (among here) (readDevice g (now (sectors .entry)) (now (written .entry))) z ⌝ }
 {
     let n = g.drives;
     let mut most = 0;
@@ -70,7 +70,7 @@ fn drive_reset(
 ) -> bool
     requires { ⌜ Valid g ⌝ }
     requires { ⌜ Sized g (now sectors) (now written) × (d < g .drives) ⌝ }
-    ensures { λ r. ⌜ r ≡ present && anyOf (isReset z generation) (generalHeads g (deviceRead g (now (sectors .entry)) (now (written .entry))) d) ⌝ }
+    ensures { λ r. ⌜ r ≡ present && anyOf (isReset z generation) (generalHeads g (readDevice g (now (sectors .entry)) (now (written .entry))) d) ⌝ }
 {
     if !present {
         return false;
@@ -89,7 +89,7 @@ pub fn reset_seen(
 ) -> bool
     requires { ⌜ Valid g ⌝ }
     requires { ⌜ Sized g (now sectors) (now written) ⌝ }
-    ensures { λ r. ⌜ r ≡ resetSeen g (among here) (deviceRead g (now (sectors .entry)) (now (written .entry))) z generation ⌝ }
+    ensures { λ r. ⌜ r ≡ resetSeen g (among here) (readDevice g (now (sectors .entry)) (now (written .entry))) z generation ⌝ }
 {
     let n = g.drives;
     let mut seen = false;
@@ -113,7 +113,7 @@ fn drive_seal(
 ) -> bool
     requires { ⌜ Valid g ⌝ }
     requires { ⌜ Sized g (now sectors) (now written) × (d < g .drives) ⌝ }
-    ensures { λ r. ⌜ r ≡ present && anyOf (isSeal z generation) (generalHeads g (deviceRead g (now (sectors .entry)) (now (written .entry))) d) ⌝ }
+    ensures { λ r. ⌜ r ≡ present && anyOf (isSeal z generation) (generalHeads g (readDevice g (now (sectors .entry)) (now (written .entry))) d) ⌝ }
 {
     if !present {
         return false;
@@ -132,7 +132,7 @@ pub fn seal_seen(
 ) -> bool
     requires { ⌜ Valid g ⌝ }
     requires { ⌜ Sized g (now sectors) (now written) ⌝ }
-    ensures { λ r. ⌜ r ≡ sealSeen g (among here) (deviceRead g (now (sectors .entry)) (now (written .entry))) z generation ⌝ }
+    ensures { λ r. ⌜ r ≡ sealSeen g (among here) (readDevice g (now (sectors .entry)) (now (written .entry))) z generation ⌝ }
 {
     let n = g.drives;
     let mut seen = false;
@@ -158,7 +158,7 @@ fn drive_clean(
 ) -> bool
     requires { ⌜ Valid g ⌝ }
     requires { ⌜ Sized g (now sectors) (now written) × (d < g .drives) × (z < g .zones) × (q ≤ zoneSectors g) ⌝ }
-    ensures { λ r. ⌜ r ≡ driveClean g (among here) (deviceRead g (now (sectors .entry)) (now (written .entry))) z generation q d ⌝ }
+    ensures { λ r. ⌜ r ≡ driveClean g (among here) (readDevice g (now (sectors .entry)) (now (written .entry))) z generation q d ⌝ }
 {
     let present = here[d];
     if !present {
@@ -183,7 +183,7 @@ pub fn is_clean(
 ) -> bool
     requires { ⌜ Valid g ⌝ }
     requires { ⌜ Sized g (now sectors) (now written) × (z < g .zones) × (q ≤ zoneSectors g) ⌝ }
-    ensures { λ r. ⌜ r ≡ cleanAt g (among here) (deviceRead g (now (sectors .entry)) (now (written .entry))) z generation q ⌝ }
+    ensures { λ r. ⌜ r ≡ cleanAt g (among here) (readDevice g (now (sectors .entry)) (now (written .entry))) z generation q ⌝ }
 {
     let n = g.drives;
     let mut clean = true;
@@ -227,9 +227,9 @@ fn known_prefix(
 ) -> usize
     requires { ⌜ Valid g ⌝ }
     requires { ⌜ Readable g here (now sectors) (now written) z
-        × (limit ≡ sealLimit g (among here) (deviceRead g (now sectors) (now written)) z generation)
+        × (limit ≡ sealLimit g (among here) (readDevice g (now sectors) (now written)) z generation)
         × (limit ≤ zoneSectors g) ⌝ }
-    ensures { λ r. ⌜ r ≡ min (knownPrefix (g .drives) (g .unit) z (zoneView g (among here) (deviceRead g (now (sectors .entry)) (now (written .entry))) z generation) (zoneSectors g)) limit ⌝ }
+    ensures { λ r. ⌜ r ≡ min (knownPrefix (g .drives) (g .unit) z (zoneView g (among here) (readDevice g (now (sectors .entry)) (now (written .entry))) z generation) (zoneSectors g)) limit ⌝ }
 {
     let mut a = 0;
     'scan: while a < limit {
@@ -254,8 +254,8 @@ pub fn pointer_at(
 ) -> usize
     requires { ⌜ Valid g ⌝ }
     requires { ⌜ Readable g here (now sectors) (now written) z
-        × (reset ≡ resetSeen g (among here) (deviceRead g (now sectors) (now written)) z generation) ⌝ }
-    ensures { λ r. ⌜ (r ≡ pointerAt g (among here) (deviceRead g (now (sectors .entry)) (now (written .entry))) z generation) × (r ≤ zoneSectors g) ⌝ }
+        × (reset ≡ resetSeen g (among here) (readDevice g (now sectors) (now written)) z generation) ⌝ }
+    ensures { λ r. ⌜ (r ≡ pointerAt g (among here) (readDevice g (now (sectors .entry)) (now (written .entry))) z generation) × (r ≤ zoneSectors g) ⌝ }
 {
     if reset {
         return 0;
@@ -274,7 +274,7 @@ pub fn look_zone(
 ) -> ZoneLook
     requires { ⌜ Valid g ⌝ }
     requires { ⌜ Readable g here (now sectors) (now written) z ⌝ }
-    ensures { λ r. ⌜ r ≡ zoneLookOf (zoneShown g (among here) (deviceRead g (now (sectors .entry)) (now (written .entry))) z) ⌝ }
+    ensures { λ r. ⌜ r ≡ zoneLookOf (zoneShown g (among here) (readDevice g (now (sectors .entry)) (now (written .entry))) z) ⌝ }
 {
     let generation = generation_of(sectors, written, g, here, z);
     let by_reset = reset_seen(sectors, written, g, here, z, generation);

@@ -6,12 +6,12 @@ use Rattle.tables.specs.Below.{anyBelow}
 use Rattle.volume.specs.OnTables.{among}
 use Rattle.volume.specs.Refusals.{badLabels}
 use Rattle.volume.specs.DrivesLost.{labelBad}
-use Rattle.volume.specs.DriveLogs.{deviceRead}
+use Rattle.volume.specs.Knowing.{readDevice}
 use Rattle.volume.proofs.drives_lost.labels_bad.Statement.{statement}
 use Rattle.volume.proofs.drives_lost.labels_bad.Tie as tie
 
 abbrev Inv-loop : tie.InvT-loop
-Inv-loop sectors written g here n bad₀ d₀ bad d = (d ≤ n) × (bad ≡ anyBelow (labelBad g (among here) (deviceRead g sectors written)) d)
+Inv-loop sectors written g here n bad₀ d₀ bad d = (d ≤ n) × (bad ≡ anyBelow (labelBad g (among here) (readDevice g sectors written)) d)
 
 abbrev μ-loop : tie.MeasureT-loop
 μ-loop sectors written g here n bad₀ d₀ bad d = n - d

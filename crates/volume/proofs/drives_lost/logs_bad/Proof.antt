@@ -7,12 +7,12 @@ use Rattle.tables.specs.Below.{anyBelow}
 use Rattle.volume.specs.OnTables.{among}
 use Rattle.volume.specs.Rules.{generalEnding, parityEnding}
 use Rattle.volume.specs.Refusals.{isNoEntry, badLogs}
-use Rattle.volume.specs.DriveLogs.{deviceRead}
+use Rattle.volume.specs.Knowing.{readDevice}
 use Rattle.volume.proofs.drives_lost.logs_bad.Statement.{statement}
 use Rattle.volume.proofs.drives_lost.logs_bad.Tie as tie
 
 abbrev Inv-loop : tie.InvT-loop
-Inv-loop sectors written g here n bad₀ d₀ bad d = (d ≤ n) × (bad ≡ anyBelow (λ (i : ℕ). among here i && (isNoEntry (generalEnding g (deviceRead g sectors written) i) || isNoEntry (parityEnding g (deviceRead g sectors written) i))) d)
+Inv-loop sectors written g here n bad₀ d₀ bad d = (d ≤ n) × (bad ≡ anyBelow (λ (i : ℕ). among here i && (isNoEntry (generalEnding g (readDevice g sectors written) i) || isNoEntry (parityEnding g (readDevice g sectors written) i))) d)
 
 abbrev μ-loop : tie.MeasureT-loop
 μ-loop sectors written g here n bad₀ d₀ bad d = n - d

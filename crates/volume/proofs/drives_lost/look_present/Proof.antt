@@ -9,7 +9,7 @@ use denote.Ref.{now}
 use Rattle.tables.specs.Below.{tabulate}
 use Rattle.volume.specs.OnTables.{among}
 use Rattle.volume.specs.DrivesLost.{fill-more, saidList, presentOf, look-present-is}
-use Rattle.volume.specs.DriveLogs.{deviceRead}
+use Rattle.volume.specs.Knowing.{readDevice}
 use Rattle.volume.proofs.drives_lost.look_present.Statement.{statement}
 use Rattle.volume.proofs.drives_lost.look_present.Tie as tie
 
@@ -54,8 +54,8 @@ returns c =
     let a = s .args in
     let l = c .before .loop in
     let e : l .d ≡ a .g .drives = omega arith in
-    let q : l .here ≡ tabulate (presentOf (a .g) (a .t4) (saidList (a .g) (a .t4) (deviceRead (a .g) (a .sectors .now) (a .written .now)))) (a .g .drives) ++ replicate (8 - a .g .drives) false = l .inv .2 ∙ rw (e, c .before .before .said-lost .ensures) refl in
-    ap among q ∙ look-present-is (a .g) (a .t4) (deviceRead (a .g) (a .sectors .now) (a .written .now)) (s .pre .0)
+    let q : l .here ≡ tabulate (presentOf (a .g) (a .t4) (saidList (a .g) (a .t4) (readDevice (a .g) (a .sectors .now) (a .written .now)))) (a .g .drives) ++ replicate (8 - a .g .drives) false = l .inv .2 ∙ rw (e, c .before .before .said-lost .ensures) refl in
+    ap among q ∙ look-present-is (a .g) (a .t4) (readDevice (a .g) (a .sectors .now) (a .written .now)) (s .pre .0)
 
 pub look-present-spec : {M : Type 1} → statement M
 look-present-spec =

@@ -8,12 +8,12 @@ use Rattle.tables.specs.Below.{anyBelow}
 use Rattle.logs.specs.Heads.{arrayIn}
 use Rattle.volume.specs.OnTables.{among}
 use Rattle.volume.specs.Rules.{generalHeads}
-use Rattle.volume.specs.DriveLogs.{deviceRead}
+use Rattle.volume.specs.Knowing.{readDevice}
 use Rattle.volume.proofs.drives_lost.other_array.Statement.{statement}
 use Rattle.volume.proofs.drives_lost.other_array.Tie as tie
 
 abbrev Inv-loop : tie.InvT-loop
-Inv-loop sectors written g array here n other₀ e₀ other e = (e ≤ n) × (other ≡ anyBelow (λ (i : ℕ). among here i && not (eqb array (arrayIn (generalHeads g (deviceRead g sectors written) i)))) e)
+Inv-loop sectors written g array here n other₀ e₀ other e = (e ≤ n) × (other ≡ anyBelow (λ (i : ℕ). among here i && not (eqb array (arrayIn (generalHeads g (readDevice g sectors written) i)))) e)
 
 abbrev μ-loop : tie.MeasureT-loop
 μ-loop sectors written g array here n other₀ e₀ other e = n - e

@@ -8,12 +8,12 @@ use denote.Ref.{now}
 use Rattle.tables.specs.Below.{tabulate}
 use Rattle.tables.specs.Drives.{noDrive}
 use Rattle.volume.specs.DrivesLost.{fill-more, saidBy, saidList}
-use Rattle.volume.specs.DriveLogs.{deviceRead}
+use Rattle.volume.specs.Knowing.{readDevice}
 use Rattle.volume.proofs.drives_lost.said_lost.Statement.{statement}
 use Rattle.volume.proofs.drives_lost.said_lost.Tie as tie
 
 abbrev Inv-loop : tie.InvT-loop
-Inv-loop sectors written g named n said₀ d₀ said d = (d ≤ n) × (length said ≡ 8) × (said ≡ tabulate (saidBy g named (deviceRead g sectors written)) d ++ replicate (8 - d) noDrive)
+Inv-loop sectors written g named n said₀ d₀ said d = (d ≤ n) × (length said ≡ 8) × (said ≡ tabulate (saidBy g named (readDevice g sectors written)) d ++ replicate (8 - d) noDrive)
 
 abbrev μ-loop : tie.MeasureT-loop
 μ-loop sectors written g named n said₀ d₀ said d = n - d
@@ -45,7 +45,7 @@ loop-again c =
     let a = s .args in
     let l = c .before .before .loop in
     let h : l .d < 8 = omega (arith, s .pre .0 .drives-most) in
-    (omega arith, simp length-set (l .inv .1), rw (l .inv .2, c .said-by .ensures, add-one) (fill-more (saidBy (a .g) (a .t4) (deviceRead (a .g) (a .sectors .now) (a .written .now))) noDrive 8 (l .d) h))
+    (omega arith, simp length-set (l .inv .1), rw (l .inv .2, c .said-by .ensures, add-one) (fill-more (saidBy (a .g) (a .t4) (readDevice (a .g) (a .sectors .now) (a .written .now))) noDrive 8 (l .d) h))
 
 returns : tie.Need-returns Inv-loop μ-loop
 unfolding saidList

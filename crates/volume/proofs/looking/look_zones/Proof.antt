@@ -11,12 +11,12 @@ use Rattle.volume.specs.ZoneLooking.{zoneLookOf}
 use Rattle.volume.specs.Rules.{zoneShown}
 use Rattle.volume.specs.Looking.{blankLook, looksFrom, lookable-zone}
 use Rattle.volume.specs.DrivesLost.{fill-more}
-use Rattle.volume.specs.DriveLogs.{deviceRead}
+use Rattle.volume.specs.Knowing.{readDevice}
 use Rattle.volume.proofs.looking.look_zones.Statement.{statement}
 use Rattle.volume.proofs.looking.look_zones.Tie as tie
 
 abbrev Inv-loop : tie.InvT-loop
-Inv-loop sectors written g here n zones₀ z₀ zones z = (z ≤ n) × (length zones ≡ 16) × (zones ≡ tabulate (λ (i : ℕ). zoneLookOf (zoneShown g (among here) (deviceRead g sectors written) i)) z ++ replicate (16 - z) blankLook)
+Inv-loop sectors written g here n zones₀ z₀ zones z = (z ≤ n) × (length zones ≡ 16) × (zones ≡ tabulate (λ (i : ℕ). zoneLookOf (zoneShown g (among here) (readDevice g sectors written) i)) z ++ replicate (16 - z) blankLook)
 
 abbrev μ-loop : tie.MeasureT-loop
 μ-loop sectors written g here n zones₀ z₀ zones z = n - z
@@ -45,7 +45,7 @@ loop-again c =
     let a = s .args in
     let l = c .before .before .loop in
     let h : l .z < 16 = omega (arith, s .pre .0 .zones-most) in
-    (omega arith, simp length-set (l .inv .1), rw (l .inv .2, c .look-zone .ensures, add-one) (fill-more (λ (i : ℕ). zoneLookOf (zoneShown (a .g) (among (a .here)) (deviceRead (a .g) (a .sectors .now) (a .written .now)) i)) blankLook 16 (l .z) h))
+    (omega arith, simp length-set (l .inv .1), rw (l .inv .2, c .look-zone .ensures, add-one) (fill-more (λ (i : ℕ). zoneLookOf (zoneShown (a .g) (among (a .here)) (readDevice (a .g) (a .sectors .now) (a .written .now)) i)) blankLook 16 (l .z) h))
 
 returns : tie.Need-returns Inv-loop μ-loop
 unfolding looksFrom

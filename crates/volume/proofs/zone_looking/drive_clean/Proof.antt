@@ -8,7 +8,8 @@ use borrow.Author.Tests.{not-true, not-false}
 use Rattle.tables.specs.Geometry.{physicalZones}
 use Rattle.volume.specs.OnTables.{among}
 use Rattle.volume.specs.ZoneLooking.{zone-length}
-use Rattle.volume.specs.DriveLogs.{deviceRead, torn-past}
+use Rattle.volume.specs.Knowing.{readDevice}
+use Rattle.volume.specs.DriveLogs.{torn-past}
 use borrow.Author.Needs.{needs}
 use Rattle.volume.proofs.zone_looking.drive_clean.Statement.{statement}
 use Rattle.volume.proofs.zone_looking.drive_clean.Tie as tie
@@ -40,7 +41,7 @@ returns-2 c =
     let a = s .args in
     let p : among (a .t4) (a .d) ≡ true = not-false (getD (a .t4) (a .d) false) (c .before .before .before .before .if1 .left) in
     let h : 3 + a .z < physicalZones (a .g) = omega arith in
-    let n : c .before .before .before .zone-pointer .result ≡ length (deviceRead (a .g) (a .sectors .now) (a .written .now) (a .d) (3 + a .z) .sectors) = c .before .before .before .zone-pointer .ensures .0 ∙ zone-length (a .g) (a .sectors .now) (a .written .now) (a .d) (3 + a .z) (s .pre .1 .1) h in
+    let n : c .before .before .before .zone-pointer .result ≡ length (readDevice (a .g) (a .sectors .now) (a .written .now) (a .d) (3 + a .z) .sectors) = c .before .before .before .zone-pointer .ensures .0 ∙ zone-length (a .g) (a .sectors .now) (a .written .now) (a .d) (3 + a .z) (s .pre .1 .1) h in
     rw (p, n, c .before .before .sectors-needed .ensures .0, c .before .whole-past .ensures, c .torn-past .ensures) refl
 
 pub drive-clean-spec : {M : Type 1} → statement M

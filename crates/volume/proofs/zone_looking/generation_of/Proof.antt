@@ -7,12 +7,12 @@ use Rattle.tables.specs.Below.{maxBelow}
 use Rattle.logs.specs.Heads.{generationIn}
 use Rattle.volume.specs.OnTables.{among}
 use Rattle.volume.specs.Rules.{generalHeads, generationOf}
-use Rattle.volume.specs.DriveLogs.{deviceRead}
+use Rattle.volume.specs.Knowing.{readDevice}
 use Rattle.volume.proofs.zone_looking.generation_of.Statement.{statement}
 use Rattle.volume.proofs.zone_looking.generation_of.Tie as tie
 
 abbrev Inv-loop : tie.InvT-loop
-Inv-loop sectors written g z here n most₀ d₀ most d = (d ≤ n) × (most ≡ maxBelow (λ (i : ℕ). pick (among here i) (generationIn z (generalHeads g (deviceRead g sectors written) i)) 0) d)
+Inv-loop sectors written g z here n most₀ d₀ most d = (d ≤ n) × (most ≡ maxBelow (λ (i : ℕ). pick (among here i) (generationIn z (generalHeads g (readDevice g sectors written) i)) 0) d)
 
 abbrev μ-loop : tie.MeasureT-loop
 μ-loop sectors written g z here n most₀ d₀ most d = n - d

@@ -9,13 +9,13 @@ use borrow.Author.Tests.{not-true, not-false}
 use Rattle.tables.specs.Below.{allBelow}
 use Rattle.volume.specs.OnTables.{among}
 use Rattle.volume.specs.ZoneLooking.{knownAt, known-at, prefix-stops}
-use Rattle.volume.specs.DriveLogs.{deviceRead}
+use Rattle.volume.specs.Knowing.{readDevice}
 use Rattle.tables.specs.Sizes.{zone-small}
 use Rattle.volume.proofs.zone_looking.known_prefix.Statement.{statement}
 use Rattle.volume.proofs.zone_looking.known_prefix.Tie as tie
 
 abbrev Inv-scan : tie.InvT-scan
-Inv-scan sectors written g here z generation limit a₀ a = (a ≤ limit) × (allBelow (knownAt g (among here) (deviceRead g sectors written) z generation) a ≡ true)
+Inv-scan sectors written g here z generation limit a₀ a = (a ≤ limit) × (allBelow (knownAt g (among here) (readDevice g sectors written) z generation) a ≡ true)
 
 abbrev μ-scan : tie.MeasureT-scan
 μ-scan sectors written g here z generation limit a₀ a = limit - a
@@ -37,7 +37,7 @@ scan-again c =
     let s = c .before .before .before .before .before .before in
     let a = s .args in
     let l = c .before .before .before .scan in
-    let k : knownAt (a .g) (among (a .here)) (deviceRead (a .g) (a .sectors .now) (a .written .now)) (a .z) (a .generation) (l .a) ≡ true = sym (known-at (a .g) (among (a .here)) (deviceRead (a .g) (a .sectors .now) (a .written .now)) (a .z) (a .generation) (l .a)) ∙ sym (c .before .is-known .ensures) ∙ not-false (c .before .is-known .result) (c .if1 .left) in
+    let k : knownAt (a .g) (among (a .here)) (readDevice (a .g) (a .sectors .now) (a .written .now)) (a .z) (a .generation) (l .a) ≡ true = sym (known-at (a .g) (among (a .here)) (readDevice (a .g) (a .sectors .now) (a .written .now)) (a .z) (a .generation) (l .a)) ∙ sym (c .before .is-known .ensures) ∙ not-false (c .before .is-known .result) (c .if1 .left) in
     (omega arith, rw (add-one, l .inv .1, k) refl)
 
 returns : tie.Need-returns Inv-scan μ-scan
@@ -45,15 +45,15 @@ returns c =
     let s = c .before .before .before .before in
     let a = s .args in
     let l = c .before .scan in
-    prefix-stops (a .g) (among (a .here)) (deviceRead (a .g) (a .sectors .now) (a .written .now)) (a .z) (a .generation) (a .limit) (l .a) (s .pre .1 .2) (l .inv .0) (l .inv .1) (inr (omega arith))
+    prefix-stops (a .g) (among (a .here)) (readDevice (a .g) (a .sectors .now) (a .written .now)) (a .z) (a .generation) (a .limit) (l .a) (s .pre .1 .2) (l .inv .0) (l .inv .1) (inr (omega arith))
 
 returns-2 : tie.Need-returns-2 Inv-scan μ-scan
 returns-2 c =
     let s = c .before .before .before .before .before .before in
     let a = s .args in
     let l = c .before .before .before .scan in
-    let k : knownAt (a .g) (among (a .here)) (deviceRead (a .g) (a .sectors .now) (a .written .now)) (a .z) (a .generation) (l .a) ≡ false = sym (known-at (a .g) (among (a .here)) (deviceRead (a .g) (a .sectors .now) (a .written .now)) (a .z) (a .generation) (l .a)) ∙ sym (c .before .is-known .ensures) ∙ not-true (c .before .is-known .result) (c .if1 .taken) in
-    prefix-stops (a .g) (among (a .here)) (deviceRead (a .g) (a .sectors .now) (a .written .now)) (a .z) (a .generation) (a .limit) (l .a) (s .pre .1 .2) (l .inv .0) (l .inv .1) (inl k)
+    let k : knownAt (a .g) (among (a .here)) (readDevice (a .g) (a .sectors .now) (a .written .now)) (a .z) (a .generation) (l .a) ≡ false = sym (known-at (a .g) (among (a .here)) (readDevice (a .g) (a .sectors .now) (a .written .now)) (a .z) (a .generation) (l .a)) ∙ sym (c .before .is-known .ensures) ∙ not-true (c .before .is-known .result) (c .if1 .taken) in
+    prefix-stops (a .g) (among (a .here)) (readDevice (a .g) (a .sectors .now) (a .written .now)) (a .z) (a .generation) (a .limit) (l .a) (s .pre .1 .2) (l .inv .0) (l .inv .1) (inl k)
 
 pub known-prefix-spec : {M : Type 1} → statement M
 known-prefix-spec =

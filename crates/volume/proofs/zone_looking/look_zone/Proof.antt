@@ -2,7 +2,7 @@ use Prim.Native.Nat.{_-_}
 use denote.Ref.{now}
 use Rattle.volume.specs.OnTables.{among}
 use Rattle.volume.specs.ZoneLooking.{zone-look}
-use Rattle.volume.specs.DriveLogs.{deviceRead}
+use Rattle.volume.specs.Knowing.{readDevice}
 use borrow.Author.Needs.{needs}
 use Rattle.volume.proofs.zone_looking.look_zone.Statement.{statement}
 use Rattle.volume.proofs.zone_looking.look_zone.Tie as tie
@@ -33,7 +33,7 @@ returns c =
     let q = c .before .before .before .pointer-at in
     let k = c .before .before .is-clean in
     let s = c .before .seal-seen in
-    zone-look (a .g) (among (a .here)) (deviceRead (a .g) (a .sectors .now) (a .written .now)) (a .z) (n .result) (q .result) (r .result) (k .result) (s .result) (c .condition-of .result)
+    zone-look (a .g) (among (a .here)) (readDevice (a .g) (a .sectors .now) (a .written .now)) (a .z) (n .result) (q .result) (r .result) (k .result) (s .result) (c .condition-of .result)
     (n .ensures) (r .ensures) (q .ensures .0) (k .ensures) (s .ensures) (c .condition-of .ensures)
 
 pub look-zone-spec : {M : Type 1} → statement M

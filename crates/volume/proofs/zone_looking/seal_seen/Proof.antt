@@ -8,12 +8,12 @@ use Rattle.tables.specs.Lists.{anyOf}
 use Rattle.logs.specs.Heads.{isSeal}
 use Rattle.volume.specs.OnTables.{among}
 use Rattle.volume.specs.Rules.{generalHeads, sealSeen}
-use Rattle.volume.specs.DriveLogs.{deviceRead}
+use Rattle.volume.specs.Knowing.{readDevice}
 use Rattle.volume.proofs.zone_looking.seal_seen.Statement.{statement}
 use Rattle.volume.proofs.zone_looking.seal_seen.Tie as tie
 
 abbrev Inv-loop : tie.InvT-loop
-Inv-loop sectors written g z generation here n seen₀ d₀ seen d = (d ≤ n) × (seen ≡ anyBelow (λ (i : ℕ). among here i && anyOf (isSeal z generation) (generalHeads g (deviceRead g sectors written) i)) d)
+Inv-loop sectors written g z generation here n seen₀ d₀ seen d = (d ≤ n) × (seen ≡ anyBelow (λ (i : ℕ). among here i && anyOf (isSeal z generation) (generalHeads g (readDevice g sectors written) i)) d)
 
 abbrev μ-loop : tie.MeasureT-loop
 μ-loop sectors written g z generation here n seen₀ d₀ seen d = n - d

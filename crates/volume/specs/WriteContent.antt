@@ -1,0 +1,173 @@
+-- The buffer of rows holds the content: while a write goes on from address to address it has, of each row of the stripe at hand, the exclusive or of
+-- the content's sectors below the pointer. So the stores that follow from the buffer are those of the rules (dataStores, entryStores).
+use mathlib.Core.Path.{_≡_, refl, sym, ap, ap₂, _∙_}
+use mathlib.Core.Logic.{_≢_}
+use mathlib.Core.Bool.{Bool, true, false}
+use Prim.Native.Nat.{ℕ, zero, suc, _+_, _-_, _*_, _/_, _%_, _≤_, _<_}
+use native.Mathlib.Nat.{div-add-mod'}
+use native.Mathlib.Decide.{ℕ-discrete, decLt}
+use native.Mathlib.Omega.{arith}
+use mathlib.Core.List.{List, [], _∷_}
+use lib.ListN.{length, take, drop, replicate}
+use lib.Arith.{digits-div}
+use lib.Dec.{ltb}
+use borrow.Author.Tests.{lt-ltb, le-ltb, ltb-true}
+use Rattle.tables.specs.declared.Geometry.{Geometry}
+use Rattle.tables.specs.Basics.{pick}
+use Rattle.tables.specs.Lists.{overlay, length-overlay}
+use Rattle.tables.specs.Xor.{xorBytes, xorBelow, without, xor-nil, xor-bytes-assoc, xor-bytes-comm, xor-below-cong, xor-below-split, xor-below-length, without-self, without-other, length-xor}
+use Rattle.tables.specs.Geometry.{Valid, stripeSectors}
+use Rattle.tables.specs.Placement.{stripeOf, stripeLength, unitIndex, rowIndex, address}
+use Rattle.tables.specs.PlacementLaws.{stripe-pos, unit-index-below, row-index-below, unit-at, row-at, unit-row-lt, address-own}
+use Rattle.tables.specs.TablesLaws.{sector-laid, sector-elsewhere}
+use Rattle.volume.specs.Content.{rowXor, rowXorBelow}
+use Rattle.volume.specs.Columns.{row-xor-none}
+use Rattle.volume.specs.Calls.{dataStores, entryStores}
+use Rattle.volume.specs.WriteRows.{rowOf, withSector, row-inside, part-length}
+
+-- the rows of stripe s, of the content's sectors below e
+pub record Holds (g : Geometry) (S : ℕ → List ℕ) (s e : ℕ) (rows : List ℕ) : Type 0 where
+  pub size : (k r : ℕ) → k + 1 < g .drives → r < g .unit → address (g .drives) (g .unit) s k r < e → length (S (address (g .drives) (g .unit) s k r)) ≡ g .sector
+  pub row : (r : ℕ) → r < g .unit → rowOf g rows r ≡ xorBytes (replicate (g .sector) 0) (rowXorBelow (g .drives) (g .unit) S s e r)
+
+-- ---- general laws
+ltb-suc : (x a : ℕ) → x ≢ a → ltb x (suc a) ≡ ltb x a
+ltb-suc x a ne = go (decLt x a)
+  where
+    go : Dec (x < a) → ltb x (suc a) ≡ ltb x a
+    go (yes h) = rw (lt-ltb x a h, lt-ltb x (suc a) (omega arith)) refl
+    go (no h) = rw (le-ltb x a (omega arith), le-ltb x (suc a) (omega arith)) refl
+
+-- a row with one member of full length, and none longer
+xor-below-full : (B : ℕ) (f : ℕ → List ℕ) (n i : ℕ) → i < n → length (f i) ≡ B → ((k : ℕ) → k < n → length (f k) ≤ B) → length (xorBelow f n) ≡ B
+xor-below-full B f n i h e most = rw (xor-below-split f i n h, xor-bytes-comm (xorBelow (without f i) n) (f i)) (length-xor (f i) (xorBelow (without f i) n) (rw e (xor-below-length B (without f i) n short)) ∙ e)
+  where
+    short : (k : ℕ) → k < n → length (without f i k) ≤ B
+    short k l = go (ℕ-discrete k i)
+      where
+        go : Dec (k ≡ i) → length (without f i k) ≤ B
+        go (yes q) = rw (q, without-self f i) (omega arith)
+        go (no q) = rw (without-other f i k q) (most k l)
+
+replicate-part : (n m k : ℕ) → k + m ≤ n → take {A = ℕ} m (drop k (replicate n 0)) ≡ replicate m 0
+replicate-part n zero k h = refl
+replicate-part zero (suc m) k h = absurd (omega arith)
+replicate-part (suc n) (suc m) zero h = ap (λ (r : List ℕ). 0 ∷ r) (replicate-part n m zero (omega arith))
+replicate-part (suc n) (suc m) (suc k) h = replicate-part n (suc m) k (omega arith)
+
+-- ---- one address more: its own row gains its sector, the others stay
+module _ (D U : ℕ) (hD : 1 < D) (hU : zero < U) (S : ℕ → List ℕ) (a : ℕ) where
+  own-place : (k r : ℕ) → k + 1 < D → r < U → address D U (stripeOf D U a) k r ≡ a → (k ≡ unitIndex D U a) × (r ≡ rowIndex D U a)
+  unfolding address
+  own-place k r hk hr e = (sym (unit-at D U 0 hD hU (stripeOf D U a) k r hk hr) ∙ ap (unitIndex D U) e, sym (row-at D U 0 hD hU (stripeOf D U a) k r hk hr) ∙ ap (rowIndex D U) e)
+
+  -- unit k's sector of row r, if it is below e
+  abbrev member : ℕ → ℕ → ℕ → List ℕ
+  member e r k = pick (ltb (address D U (stripeOf D U a) k r) e) (S (address D U (stripeOf D U a) k r)) []
+
+  member-stays : (r k : ℕ) → address D U (stripeOf D U a) k r ≢ a → member (suc a) r k ≡ member a r k
+  member-stays r k ne = rw (ltb-suc (address D U (stripeOf D U a) k r) a ne) refl
+
+  pub other-row : (r : ℕ) → r < U → r ≢ rowIndex D U a → rowXorBelow D U S (stripeOf D U a) (suc a) r ≡ rowXorBelow D U S (stripeOf D U a) a r
+  unfolding rowXorBelow
+  other-row r hr ne = xor-below-cong (member (suc a) r) (member a r) (D - 1) (λ k h. member-stays r k (λ e. ne (own-place k r (omega arith) hr e .1)))
+
+  pub own-row : rowXorBelow D U S (stripeOf D U a) (suc a) (rowIndex D U a) ≡ xorBytes (rowXorBelow D U S (stripeOf D U a) a (rowIndex D U a)) (S a)
+  unfolding rowXorBelow
+  own-row =
+      xor-below-split (member (suc a) (rowIndex D U a)) (unitIndex D U a) (D - 1) (omega (arith, unit-index-below D U 0 hD hU a))
+      ∙ ap₂ xorBytes (xor-below-cong (without (member (suc a) (rowIndex D U a)) (unitIndex D U a)) (member a (rowIndex D U a)) (D - 1) (λ k h. go k h (ℕ-discrete k (unitIndex D U a)))) own
+    where
+      own : member (suc a) (rowIndex D U a) (unitIndex D U a) ≡ S a
+      own = rw (address-own D U 0 hD hU a, lt-ltb a (suc a) (omega arith)) refl
+
+      none : member a (rowIndex D U a) (unitIndex D U a) ≡ []
+      none = rw (address-own D U 0 hD hU a, le-ltb a a (omega arith)) refl
+
+      go : (k : ℕ) → k < D - 1 → Dec (k ≡ unitIndex D U a) → without (member (suc a) (rowIndex D U a)) (unitIndex D U a) k ≡ member a (rowIndex D U a) k
+      go k h (yes e) = rw e (without-self (member (suc a) (rowIndex D U a)) (unitIndex D U a) ∙ sym none)
+      go k h (no ne) = without-other (member (suc a) (rowIndex D U a)) (unitIndex D U a) k ne ∙ member-stays (rowIndex D U a) k (λ e. ne (own-place k (rowIndex D U a) (omega arith) (row-index-below D U 0 hD hU a) e .0))
+
+-- ---- a row with a sector below e is as long as a sector
+row-short : (B D U : ℕ) (S : ℕ → List ℕ) (s e r k : ℕ) → (address D U s k r < e → length (S (address D U s k r)) ≡ B) → length (pick (ltb (address D U s k r) e) (S (address D U s k r)) []) ≤ B
+row-short B D U S s e r k size = go (ltb (address D U s k r) e) refl
+  where
+    go : (b : Bool) → ltb (address D U s k r) e ≡ b → length (pick b (S (address D U s k r)) []) ≤ B
+    go true q = omega (arith, size (ltb-true (address D U s k r) e q))
+    go false q = omega arith
+
+pub row-long : (g : Geometry) → Valid g → (S : ℕ → List ℕ) (s e r : ℕ) → r < g .unit → s * stripeSectors g + r < e
+    → ((k : ℕ) → k + 1 < g .drives → address (g .drives) (g .unit) s k r < e → length (S (address (g .drives) (g .unit) s k r)) ≡ g .sector) → length (rowXorBelow (g .drives) (g .unit) S s e r) ≡ g .sector
+unfolding rowXorBelow
+row-long g ok S s e r hr h size =
+    let l : address (g .drives) (g .unit) s 0 r < e = (unfold address in omega arith) in
+    xor-below-full (g .sector) (λ k. pick (ltb (address (g .drives) (g .unit) s k r) e) (S (address (g .drives) (g .unit) s k r)) []) (g .drives - 1) 0 (omega (arith, ok .drives-least))
+    (rw (lt-ltb (address (g .drives) (g .unit) s 0 r) e l) (size 0 (omega (arith, ok .drives-least)) l))
+    (λ k hk. row-short (g .sector) (g .drives) (g .unit) S s e r k (λ q. size k (omega arith) q))
+
+-- of a complete stripe
+pub row-complete : (D U : ℕ) → 1 < D → (S : ℕ → List ℕ) (s r : ℕ) → zero < U → r < U → rowXorBelow D U S s (suc s * stripeLength D U) r ≡ rowXor D U S s r
+unfolding rowXorBelow rowXor
+row-complete D U hD S s r hU hr =
+    xor-below-cong (λ k. pick (ltb (address D U s k r) (suc s * stripeLength D U)) (S (address D U s k r)) []) (λ k. S (address D U s k r)) (D - 1) (λ k h.
+    let l : address D U s k r < suc s * stripeLength D U = (unfold address in omega (arith, unit-row-lt D U 0 hD hU k r (omega arith) hr)) in
+    rw (lt-ltb (address D U s k r) (suc s * stripeLength D U) l) refl)
+
+-- ---- stripes: the next address lies in the same stripe, or begins the next one
+module _ (g : Geometry) (ok : Valid g) where
+  two-drives : 1 < g .drives
+  two-drives = omega (arith, ok .drives-least)
+
+  pub stripe-next : (a : ℕ) → suc (a % stripeSectors g) < stripeSectors g → stripeOf (g .drives) (g .unit) (suc a) ≡ stripeOf (g .drives) (g .unit) a
+  unfolding stripeOf
+  stripe-next a h =
+      let e : suc a ≡ a / stripeSectors g * stripeSectors g + suc (a % stripeSectors g) = omega (arith, div-add-mod' a (stripeSectors g)) in
+      ap (λ (n : ℕ). n / stripeSectors g) e ∙ digits-div (a / stripeSectors g) h
+
+  pub stripe-last : (a : ℕ) → suc (a % stripeSectors g) ≡ stripeSectors g → (stripeOf (g .drives) (g .unit) (suc a) ≡ suc (stripeOf (g .drives) (g .unit) a)) × (suc a ≡ suc (stripeOf (g .drives) (g .unit) a) * stripeSectors g)
+  unfolding stripeOf
+  stripe-last a h =
+      let e : suc a ≡ suc (a / stripeSectors g) * stripeSectors g + zero = omega (arith, div-add-mod' a (stripeSectors g)) in
+      (ap (λ (n : ℕ). n / stripeSectors g) e ∙ digits-div (suc (a / stripeSectors g)) (stripe-pos (g .drives) (g .unit) 0 two-drives (ok .unit-least)), omega (arith, e))
+
+  -- ---- the buffer: zeros hold the beginning of a stripe
+  pub holds-start : (S : ℕ → List ℕ) (s n : ℕ) → g .unit * g .sector ≤ n → Holds g S s (s * stripeSectors g) (replicate n 0)
+  unfolding address
+  holds-start S s n h = record {
+    size = λ k r hk hr l. absurd (omega arith);
+    row = λ r hr. replicate-part n (g .sector) (r * g .sector) (omega (arith, row-inside g r hr, h)) ∙ rw (row-xor-none (g .drives) (g .unit) S s (s * stripeSectors g) r (omega arith)) (sym (xor-nil (replicate (g .sector) 0)));
+  }
+
+  -- the sector of address a added
+  module _ (S : ℕ → List ℕ) (a : ℕ) (rows : List ℕ) (long : g .unit * g .sector ≤ length rows) (full : length (S a) ≡ g .sector) where
+    sum-long : length (xorBytes (rowOf g rows (rowIndex (g .drives) (g .unit) a)) (S a)) ≡ g .sector
+    sum-long =
+        let r = rowIndex (g .drives) (g .unit) a in
+        let l : length (rowOf g rows r) ≡ g .sector = part-length rows (r * g .sector) (g .sector) (omega (arith, row-inside g r (row-index-below (g .drives) (g .unit) 0 two-drives (ok .unit-least) a), long)) in
+        length-xor (rowOf g rows r) (S a) (omega arith) ∙ l
+
+    place-in : rowIndex (g .drives) (g .unit) a * g .sector + g .sector ≤ length rows
+    place-in = omega (arith, row-inside g (rowIndex (g .drives) (g .unit) a) (row-index-below (g .drives) (g .unit) 0 two-drives (ok .unit-least) a), long)
+
+    pub added-length : length (withSector g a (S a) rows) ≡ length rows
+    unfolding withSector
+    added-length = length-overlay rows (rowIndex (g .drives) (g .unit) a * g .sector) (xorBytes (rowOf g rows (rowIndex (g .drives) (g .unit) a)) (S a)) (omega (arith, sum-long, place-in))
+
+    pub holds-more : Holds g S (stripeOf (g .drives) (g .unit) a) a rows → Holds g S (stripeOf (g .drives) (g .unit) a) (suc a) (withSector g a (S a) rows)
+    unfolding withSector
+    holds-more h = record { size = λ k r hk hr l. fits k r hk hr l (ℕ-discrete (address (g .drives) (g .unit) (stripeOf (g .drives) (g .unit) a) k r) a); row = λ r hr. go r hr (ℕ-discrete r (rowIndex (g .drives) (g .unit) a)) }
+      where
+        fits : (k r : ℕ) → k + 1 < g .drives → r < g .unit → address (g .drives) (g .unit) (stripeOf (g .drives) (g .unit) a) k r < suc a → Dec (address (g .drives) (g .unit) (stripeOf (g .drives) (g .unit) a) k r ≡ a)
+            → length (S (address (g .drives) (g .unit) (stripeOf (g .drives) (g .unit) a) k r)) ≡ g .sector
+        fits k r hk hr l (yes e) = rw e full
+        fits k r hk hr l (no ne) = h .size k r hk hr (omega arith)
+
+        go : (r : ℕ) → r < g .unit → Dec (r ≡ rowIndex (g .drives) (g .unit) a)
+            → rowOf g (overlay rows (rowIndex (g .drives) (g .unit) a * g .sector) (xorBytes (rowOf g rows (rowIndex (g .drives) (g .unit) a)) (S a))) r ≡ xorBytes (replicate (g .sector) 0) (rowXorBelow (g .drives) (g .unit) S (stripeOf (g .drives) (g .unit) a) (suc a) r)
+        go r hr (yes e) =
+            let i = rowIndex (g .drives) (g .unit) a in
+            rw e (sector-laid (g .sector) rows i (xorBytes (rowOf g rows i) (S a)) sum-long place-in ∙ rw (own-row (g .drives) (g .unit) two-drives (ok .unit-least) S a, h .row i (row-index-below (g .drives) (g .unit) 0 two-drives (ok .unit-least) a))
+            (xor-bytes-assoc (replicate (g .sector) 0) (rowXorBelow (g .drives) (g .unit) S (stripeOf (g .drives) (g .unit) a) a i) (S a)))
+        go r hr (no ne) =
+            let i = rowIndex (g .drives) (g .unit) a in
+            sector-elsewhere (g .sector) rows i (xorBytes (rowOf g rows i) (S a)) sum-long place-in r ne ∙ h .row r hr ∙ rw (other-row (g .drives) (g .unit) two-drives (ok .unit-least) S a r hr ne) refl

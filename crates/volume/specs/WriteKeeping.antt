@@ -1,0 +1,109 @@
+-- The content of a zone while it is written: below the pointer the values of rule 4 at entry, from it on the sectors of the buffer. The rows of the
+-- pointer's stripe are kept before the first store, so that no store is in the way of a value.
+use mathlib.Core.Path.{_≡_, refl, sym, ap, _∙_, subst}
+use mathlib.Core.Bool.{Bool, true, false, not, true≢false}
+use Prim.Native.Nat.{ℕ, zero, suc, _+_, _-_, _*_, _≤_, _<_}
+use native.Mathlib.Nat.{mul-le-mul-right, suc-mul}
+use native.Mathlib.Decide.{decLt}
+use native.Mathlib.Omega.{arith}
+use mathlib.Core.List.{List}
+use lib.ListN.{length, take, drop, replicate, length-replicate}
+use lib.Dec.{ltb}
+use borrow.Author.Tests.{lt-ltb, le-ltb}
+use Rattle.tables.specs.declared.Geometry.{Geometry}
+use Rattle.tables.specs.Basics.{pick, not-not}
+use Rattle.tables.specs.Below.{any-below-false, tabulateFrom, getD-tabulate-from}
+use Rattle.tables.specs.Device.{Device}
+use Rattle.tables.specs.Geometry.{Valid, stripeSectors, zoneSectors}
+use Rattle.tables.specs.Placement.{stripeOf, address}
+use Rattle.tables.specs.PlacementLaws.{stripe-below, stripe-above}
+use Rattle.tables.specs.Tables.{sectorNo}
+use Rattle.volume.specs.Content.{at, fillOf, parityDriveAt}
+use Rattle.volume.specs.Columns.{row-xor-below-cong}
+use Rattle.volume.specs.Rules.{known, zoneView, valueAt}
+use Rattle.volume.specs.Refusals.{goneIn, goneBefore}
+use Rattle.volume.specs.Answers.{sectorsIn}
+use Rattle.volume.specs.OnTables.{among}
+use Rattle.volume.specs.Knowing.{Readable, readDevice}
+use Rattle.volume.specs.WriteRows.{part-length}
+use Rattle.volume.specs.WriteContent.{Holds}
+use Rattle.volume.specs.WriteStores.{Kept, rowsWith, rows-begin}
+
+-- ---- the values that are kept
+-- count sectors from `start` on are as long as a sector
+pub record SectorsLong (g : Geometry) (f : ℕ → List ℕ) (start count : ℕ) : Type 0 where
+  pub long : (j : ℕ) → j < count → length (f (start + j)) ≡ g .sector
+
+pub long-none : (g : Geometry) (f : ℕ → List ℕ) (start : ℕ) → SectorsLong g f start 0
+long-none g f start = record { long = λ j h. absurd (omega arith) }
+
+pub long-more : (g : Geometry) (f : ℕ → List ℕ) (start i : ℕ) → SectorsLong g f start i → length (f (start + i)) ≡ g .sector → SectorsLong g f start (suc i)
+long-more g f start i h e = record { long = λ j l. go j l (decLt j i) }
+  where
+    go : (j : ℕ) → j < suc i → Dec (j < i) → length (f (start + j)) ≡ g .sector
+    go j l (yes k) = h .long j k
+    go j l (no k) = let q : j ≡ i = omega arith in rw q e
+
+-- a sector of a run of which none is gone is known
+pub known-in : (g : Geometry) (present : ℕ → Bool) (v : Device) (z n start count i : ℕ) → goneIn g present v z n start count ≡ false → i < count → known (g .drives) (g .unit) z (zoneView g present v z n) (start + i) ≡ true
+unfolding goneIn
+known-in g present v z n start count i h l = not-not (known (g .drives) (g .unit) z (zoneView g present v z n) (start + i)) (any-below-false (λ (j : ℕ). not (known (g .drives) (g .unit) z (zoneView g present v z n) (start + j))) count i h l)
+
+-- what passing refusal 15 gives, where the parity drive is present
+pub known-before : (g : Geometry) (present : ℕ → Bool) (v : Device) (z n pointer : ℕ) → goneBefore g present v z n pointer ≡ false → present (parityDriveAt g z pointer) ≡ true
+    → goneIn g present v z n (stripeOf (g .drives) (g .unit) pointer * stripeSectors g) (fillOf g pointer) ≡ false
+unfolding goneBefore
+known-before g present v z n pointer h p = rw p at h
+
+-- ---- the buffer that is kept
+module _ (g : Geometry) (ok : Valid g) (present : ℕ → Bool) (z : ℕ) (S : ℕ → List ℕ) where
+  pub kept-rows : (n m : ℕ) → g .unit * g .sector ≤ m → SectorsLong g S (stripeOf (g .drives) (g .unit) n * stripeSectors g) (fillOf g n)
+      → Kept g present z S n (rowsWith g S (stripeOf (g .drives) (g .unit) n * stripeSectors g) (replicate m 0) (fillOf g n))
+  kept-rows n m h l =
+      let s = stripeOf (g .drives) (g .unit) n in
+      let lo = stripe-below (g .drives) (g .unit) 0 (omega (arith, ok .drives-least)) (ok .unit-least) n in
+      let hi = stripe-above (g .drives) (g .unit) 0 (omega (arith, ok .drives-least)) (ok .unit-least) n in
+      let e : s * stripeSectors g + fillOf g n ≡ n = omega (arith, lo) in
+      let (p, q) = rows-begin g ok S s m h (fillOf g n) (omega (arith, lo, hi)) (l .long) in
+      record { long = omega (arith, q, h); held = λ _. subst (λ (x : ℕ). Holds g S s x (rowsWith g S (s * stripeSectors g) (replicate m 0) (fillOf g n))) e p }
+
+  -- zeros will do where the parity drive is not present
+  pub kept-none : (n m : ℕ) → g .unit * g .sector ≤ m → present (parityDriveAt g z n) ≡ false → Kept g present z S n (replicate m 0)
+  kept-none n m h p = record { long = rw (length-replicate {A = ℕ} m 0) h; held = λ q. absurd (true≢false (sym q ∙ p)) }
+
+  -- only the content below the pointer matters
+  pub kept-cong : (S′ : ℕ → List ℕ) (n : ℕ) (rows : List ℕ) → ((a : ℕ) → a < n → S a ≡ S′ a) → Kept g present z S n rows → Kept g present z S′ n rows
+  kept-cong S′ n rows h k = record {
+    long = k .long;
+    held = λ p. record {
+      size = λ j r hj hr l. sym (ap (λ (x : List ℕ). length x) (h (address (g .drives) (g .unit) (stripeOf (g .drives) (g .unit) n) j r) l)) ∙ k .held p .size j r hj hr l;
+      row = λ r hr. k .held p .row r hr ∙ rw (row-xor-below-cong (g .drives) (g .unit) S S′ (stripeOf (g .drives) (g .unit) n) n r h) refl;
+    };
+  }
+
+-- ---- the content
+unfoldable pub runContent : Geometry → (ℕ → Bool) → Device → ℕ → ℕ → ℕ → List (List ℕ) → ℕ → List ℕ
+runContent g present v z generation n ss a = pick (ltb a n) (valueAt g present v z generation a) (at ss (a - n))
+
+module _ (g : Geometry) (present : ℕ → Bool) (v : Device) (z generation n : ℕ) where
+  pub content-below : (ss : List (List ℕ)) (a : ℕ) → a < n → valueAt g present v z generation a ≡ runContent g present v z generation n ss a
+  unfolding runContent
+  content-below ss a h = rw (lt-ltb a n h) refl
+
+  pub content-run : (buffer : List ℕ) (count i : ℕ) → length buffer ≡ count * g .sector → i < count
+      → (runContent g present v z generation n (sectorsIn g count buffer) (n + i) ≡ sectorNo (g .sector) buffer i) × (length (runContent g present v z generation n (sectorsIn g count buffer) (n + i)) ≡ g .sector)
+  unfolding runContent sectorsIn
+  content-run buffer count i l h =
+      let e : n + i - n ≡ i = omega arith in
+      let o : zero + i ≡ i = omega arith in
+      let c : pick (ltb (n + i) n) (valueAt g present v z generation (n + i)) (at (tabulateFrom (λ j. take (g .sector) (drop (j * g .sector) buffer)) zero count) (n + i - n)) ≡ sectorNo (g .sector) buffer i =
+      rw (le-ltb (n + i) n (omega arith), e) (getD-tabulate-from (λ j. take (g .sector) (drop (j * g .sector) buffer)) zero count i h ∙ ap (sectorNo (g .sector) buffer) o) in
+      let m : i * g .sector + g .sector ≤ length buffer = rw (l, ← suc-mul) (mul-le-mul-right (g .sector) h) in
+      (c, ap (λ (x : List ℕ). length x) c ∙ part-length buffer (i * g .sector) (g .sector) m)
+
+-- ---- what the stores of a write rely on: what its refusals have found out
+pub record WriteReady (g : Geometry) (here : List Bool) (xs ws : List ℕ) (z generation n count : ℕ) (buffer : List ℕ) : Type 0 where
+  pub readable : Readable g here xs ws z
+  pub inside : n + count ≤ zoneSectors g
+  pub buffer-long : length buffer ≡ count * g .sector
+  pub earlier-known : goneBefore g (among here) (readDevice g xs ws) z generation n ≡ false

@@ -1,0 +1,186 @@
+// Refusals 7 to 15 of a write. No store is made before the last of them has passed.
+use super::Condition;
+use tables::Geometry;
+ghost use mathlib.Core.Path.{_≡_};
+ghost use Prim.Native.Nat.{_+_, _≤_, _<_};
+ghost use lib.ListN.{length};
+ghost use Rattle.tables.specs.Geometry.{Valid, zoneSectors, cells};
+ghost use Rattle.volume.specs.State.{pointerIn, isSealed};
+ghost use Rattle.volume.specs.Refusals.{goneIn, goneBefore};
+ghost use Rattle.volume.specs.OnTables.{among};
+ghost use Rattle.volume.specs.Rules.{sealLimit};
+ghost use Rattle.volume.specs.Knowing.{Readable, readDevice};
+ghost use Rattle.volume.specs.WriteChecks.{fullOn, runNumber, zoneNumber};
+
+// Whether a zone's condition is sealed.
+fn is_sealed(c: Condition) -> bool
+    ensures { λ r. ⌜ r ≡ isSealed c ⌝ }
+{
+    match c {
+        Condition::Empty => false,
+        Condition::Open(n) => false,
+        Condition::Sealed(n) => true,
+        Condition::Worn(n) => false,
+    }
+}
+
+// Refusals 9 to 12 of a write of `count` sectors from `offset` of a zone; 0 if none applies.
+fn run_refusal(g: Geometry, c: Condition, offset: usize, count: usize) -> u8
+    requires { ⌜ Valid g ⌝ }
+    requires { ⌜ (offset < zoneSectors g) × (count < 4294967296) ⌝ }
+    ensures { λ r. ⌜ r ≡ runNumber g c offset count ⌝ }
+{
+    let most = tables::bounds::zone_sectors(g);
+    if (count == 0) | (most < offset + count) {
+        return 9;
+    }
+    let n = super::checks::pointer_of(c);
+    if offset != n {
+        return 10;
+    }
+    let sealed = is_sealed(c);
+    if sealed {
+        return 11;
+    }
+    let worn = super::zone_checks::is_worn(c);
+    if worn {
+        return 12;
+    }
+    0
+}
+
+// Refusal 14: whether the write ends inside a stripe and that stripe's parity drive, if it is here, has too little of its log unused.
+fn log_full(written: &[u32], g: Geometry, here: [bool; 8], z: usize, end: usize) -> bool
+    requires { ⌜ Valid g ⌝ }
+    requires { ⌜ (z < g .zones) × (end ≤ zoneSectors g) × (length (now written) ≡ cells g) ⌝ }
+    ensures { λ r. ⌜ r ≡ fullOn g (among here) (now (written .entry)) z end ⌝ }
+{
+    let k = tables::bounds::stripe_sectors(g);
+    let s = end / k;
+    let start = s * k;
+    if end <= start {
+        return false;
+    }
+    let d = g.drives;
+    let p = tables::placement::parity_drive(d, z, s);
+    let present = here[p];
+    if !present {
+        return false;
+    }
+    let w = super::zone_checks::written_at(written, g, p, 1);
+    let c = g.capacity;
+    let unused = tables::placement::excess(c, w);
+    let u = g.unit;
+    let m = tables::placement::smaller(end - start, u);
+    let l = g.zones;
+    unused < m + 1 + (l * (1 + u) + u)
+}
+
+// Whether one of the `count` sectors from `start` is not known; limit is the zone's least current seal.
+fn some_unknown(
+    sectors: &[u8],
+    written: &[u32],
+    g: Geometry,
+    here: [bool; 8],
+    z: usize,
+    generation: u64,
+    limit: usize,
+    start: usize,
+    count: usize,
+) -> bool
+    requires { ⌜ Valid g ⌝ }
+    requires { ⌜ Readable g here (now sectors) (now written) z × (start + count ≤ zoneSectors g)
+        × (limit ≡ sealLimit g (among here) (readDevice g (now sectors) (now written)) z generation) ⌝ }
+    ensures { λ r. ⌜ r ≡ goneIn g (among here) (readDevice g (now (sectors .entry)) (now (written .entry))) z generation start count ⌝ }
+{
+    let mut gone = false;
+    let mut i = 0;
+    while i < count {
+        let known = super::knowing::is_known(
+            sectors,
+            written,
+            g,
+            here,
+            z,
+            generation,
+            limit,
+            start + i,
+        );
+        gone = gone | !known;
+        i += 1;
+    }
+    gone
+}
+
+// Refusal 15: whether the stripe's parity drive is here and one of the stripe's earlier sectors is not known.
+fn gone_before(
+    sectors: &[u8],
+    written: &[u32],
+    g: Geometry,
+    here: [bool; 8],
+    z: usize,
+    generation: u64,
+    n: usize,
+) -> bool
+    requires { ⌜ Valid g ⌝ }
+    requires { ⌜ Readable g here (now sectors) (now written) z × (n ≤ zoneSectors g) ⌝ }
+    ensures { λ r. ⌜ r ≡ goneBefore g (among here) (readDevice g (now (sectors .entry)) (now (written .entry))) z generation n ⌝ }
+{
+    let k = tables::bounds::stripe_sectors(g);
+    let s = n / k;
+    let d = g.drives;
+    let p = tables::placement::parity_drive(d, z, s);
+    let present = here[p];
+    if !present {
+        return false;
+    }
+    let limit = super::knowing::seal_limit(sectors, written, g, here, z, generation);
+    let start = s * k;
+    some_unknown(
+        sectors,
+        written,
+        g,
+        here,
+        z,
+        generation,
+        limit,
+        start,
+        n - start,
+    )
+}
+
+// Refusals 7 and 9 to 15 of a write to a zone that there is; 0 if none applies.
+pub fn zone_refusal(
+    sectors: &[u8],
+    written: &[u32],
+    g: Geometry,
+    here: [bool; 8],
+    c: Condition,
+    generation: u64,
+    z: usize,
+    offset: usize,
+    count: usize,
+) -> u8
+    requires { ⌜ Valid g ⌝ }
+    requires { ⌜ Readable g here (now sectors) (now written) z × (pointerIn c ≤ zoneSectors g) ⌝ }
+    requires { ⌜ (offset < zoneSectors g) × (count < 4294967296) ⌝ }
+    ensures { λ r. ⌜ r ≡ zoneNumber g (among here) (now (sectors .entry)) (now (written .entry)) c generation z offset count ⌝ }
+{
+    let stale = super::zone_checks::is_stale(written, g, here, c, z);
+    if stale {
+        return 7;
+    }
+    let number = run_refusal(g, c, offset, count);
+    if number != 0 {
+        return number;
+    }
+    let full = log_full(written, g, here, z, offset + count);
+    if full {
+        return 14;
+    }
+    let gone = gone_before(sectors, written, g, here, z, generation, offset);
+    if gone {
+        return 15;
+    }
+    0
+}

@@ -1,0 +1,178 @@
+// What a write keeps of its pointer's stripe before the first store: the values of the stripe's earlier sectors, by rule 4, added row by row. And
+// the whole of a write's stores.
+use tables::Geometry;
+ghost use mathlib.Core.Path.{_≡_};
+ghost use mathlib.Core.Bool.{true, false};
+ghost use Prim.Native.Nat.{_+_, _*_, _≤_, _<_};
+ghost use lib.ListN.{length};
+ghost use Rattle.tables.specs.Geometry.{Valid, zoneSectors};
+ghost use Rattle.tables.specs.Phases.{onPresent};
+ghost use Rattle.tables.specs.Tables.{MadeAppends};
+ghost use Rattle.volume.specs.Rules.{known, zoneView, sealLimit, valueAt};
+ghost use Rattle.volume.specs.Refusals.{goneIn, goneBefore};
+ghost use Rattle.volume.specs.Calls.{writeWith};
+ghost use Rattle.volume.specs.Answers.{sectorsIn};
+ghost use Rattle.volume.specs.OnTables.{among};
+ghost use Rattle.volume.specs.Knowing.{Readable, readDevice};
+ghost use Rattle.volume.specs.WriteRows.{withSector};
+ghost use Rattle.volume.specs.WriteStores.{Kept, rowsWith};
+ghost use Rattle.volume.specs.WriteKeeping.{SectorsLong, WriteReady, runContent};
+
+// Adds the value of a known sector to its row.
+fn add_value(
+    sectors: &[u8],
+    written: &[u32],
+    g: Geometry,
+    here: [bool; 8],
+    z: usize,
+    generation: u64,
+    limit: usize,
+    a: usize,
+    rows: &mut [u8],
+)
+    requires { ⌜ Valid g ⌝ }
+    requires { ⌜ Readable g here (now sectors) (now written) z × (a < zoneSectors g)
+        × (limit ≡ sealLimit g (among here) (readDevice g (now sectors) (now written)) z generation)
+        × (known (g .drives) (g .unit) z (zoneView g (among here) (readDevice g (now sectors) (now written)) z generation) a ≡ true)
+        × (g .unit * g .sector ≤ length (now rows)) ⌝ }
+    ensures { λ _. ⌜ (now (rows .exit) ≡ withSector g a (valueAt g (among here) (readDevice g (now (sectors .entry)) (now (written .entry))) z generation a) (now (rows .entry)))
+        × (length (valueAt g (among here) (readDevice g (now (sectors .entry)) (now (written .entry))) z generation a) ≡ g .sector) ⌝ }
+{
+    let mut value = [0u8; 4096];
+    let b = g.sector;
+    super::knowing::sector_value(
+        sectors,
+        written,
+        g,
+        here,
+        z,
+        generation,
+        limit,
+        a,
+        &mut value[..b],
+    );
+    super::write_rows::add_sector(rows, g, a, &value[..b]);
+}
+
+// Adds `count` sectors from `start` on, all known.
+fn add_values(
+    sectors: &[u8],
+    written: &[u32],
+    g: Geometry,
+    here: [bool; 8],
+    z: usize,
+    generation: u64,
+    limit: usize,
+    start: usize,
+    count: usize,
+    rows: &mut [u8],
+)
+    requires { ⌜ Valid g ⌝ }
+    requires { ⌜ Readable g here (now sectors) (now written) z × (start + count ≤ zoneSectors g)
+        × (limit ≡ sealLimit g (among here) (readDevice g (now sectors) (now written)) z generation)
+        × (goneIn g (among here) (readDevice g (now sectors) (now written)) z generation start count ≡ false)
+        × (g .unit * g .sector ≤ length (now rows)) ⌝ }
+    ensures { λ _. ⌜ (now (rows .exit) ≡ rowsWith g (valueAt g (among here) (readDevice g (now (sectors .entry)) (now (written .entry))) z generation) start (now (rows .entry)) count)
+        × SectorsLong g (valueAt g (among here) (readDevice g (now (sectors .entry)) (now (written .entry))) z generation) start count ⌝ }
+{
+    let mut i = 0;
+    while i < count {
+        add_value(
+            sectors,
+            written,
+            g,
+            here,
+            z,
+            generation,
+            limit,
+            start + i,
+            rows,
+        );
+        i += 1;
+    }
+}
+
+// The rows of the stripe of pointer n, of its sectors below n. Where the stripe's parity drive is not here no row is ever stored, and zeros will do.
+fn keep_rows(
+    sectors: &[u8],
+    written: &[u32],
+    g: Geometry,
+    here: [bool; 8],
+    z: usize,
+    generation: u64,
+    n: usize,
+    rows: &mut [u8],
+)
+    requires { ⌜ Valid g ⌝ }
+    requires { ⌜ Readable g here (now sectors) (now written) z × (n ≤ zoneSectors g)
+        × (goneBefore g (among here) (readDevice g (now sectors) (now written)) z generation n ≡ false) × (g .unit * g .sector ≤ length (now rows)) ⌝ }
+    ensures { λ _. ⌜ Kept g (among here) z (valueAt g (among here) (readDevice g (now (sectors .entry)) (now (written .entry))) z generation) n (now (rows .exit)) ⌝ }
+{
+    tables::sectors::clear(rows);
+    let k = tables::bounds::stripe_sectors(g);
+    let s = n / k;
+    let d = g.drives;
+    let p = tables::placement::parity_drive(d, z, s);
+    let present = here[p];
+    if !present {
+        return;
+    }
+    let limit = super::knowing::seal_limit(sectors, written, g, here, z, generation);
+    let start = s * k;
+    add_values(
+        sectors,
+        written,
+        g,
+        here,
+        z,
+        generation,
+        limit,
+        start,
+        n - start,
+        rows,
+    );
+}
+
+// The stores of a write of `count` sectors from pointer n of a zone, as far as the budget of stores goes: what is left of it.
+pub fn write_all(
+    sectors: &mut [u8],
+    written: &mut [u32],
+    g: Geometry,
+    here: [bool; 8],
+    z: usize,
+    generation: u64,
+    n: usize,
+    count: usize,
+    buffer: &[u8],
+    budget: u64,
+) -> u64
+    requires { ⌜ Valid g ⌝ }
+    requires { ⌜ WriteReady g here (now sectors) (now written) z generation n count (now buffer) ⌝ }
+    ensures { λ r. ⌜ MadeAppends g budget r (onPresent (among here) (writeWith g z generation (runContent g (among here) (readDevice g (now (sectors .entry)) (now (written .entry))) z generation n (sectorsIn g count (now (buffer .entry)))) n count)) (now (sectors .entry)) (now (written .entry)) (now (sectors .exit)) (now (written .exit)) ⌝ }
+{
+    let mut rows = [0u8; 65536];
+    keep_rows(sectors, written, g, here, z, generation, n, &mut rows);
+    let rest = super::write_stores::write_run(
+        sectors,
+        written,
+        &mut rows,
+        g,
+        here,
+        z,
+        n,
+        count,
+        buffer,
+        budget,
+    );
+    super::write_stores::write_entry(
+        sectors,
+        written,
+        g,
+        here,
+        z,
+        generation,
+        n + count,
+        &rows,
+        rest,
+    )
+}

@@ -1,0 +1,216 @@
+// Write (document 01): "stripe by stripe its data sectors by address, then U parity sectors if the stripe is complete; if it ends inside a stripe,
+// one type 4 entry on the parity drive."
+use super::Answer;
+use super::Condition;
+use super::Outcome;
+use super::State;
+use super::ZoneRecord;
+use tables::Geometry;
+ghost use mathlib.Core.Path.{_≡_};
+ghost use Prim.Native.Nat.{_+_, _≤_, _<_};
+ghost use Rattle.tables.specs.Geometry.{Valid, zoneSectors};
+ghost use Rattle.tables.specs.Phases.{onPresent};
+ghost use Rattle.tables.specs.Tables.{tablesOf, MadeAppends};
+ghost use Rattle.volume.specs.Refusals.{zoneOf, offsetOf};
+ghost use Rattle.volume.specs.Calls.{writeWith};
+ghost use Rattle.volume.specs.Answers.{sectorsIn};
+ghost use Rattle.volume.specs.OnTables.{recordAt, among};
+ghost use Rattle.volume.specs.Knowing.{Readable, readDevice};
+ghost use Rattle.volume.specs.WriteChecks.{zoneNumber};
+ghost use Rattle.volume.specs.WriteKeeping.{WriteReady, runContent};
+ghost use Rattle.volume.specs.Writing.{pointerOf, writtenState, writeNumber, writeOn};
+
+// The zone of an address, if there is one; else a number past the last zone.
+fn zone_index(g: Geometry, address: u64) -> u64
+    requires { ⌜ Valid g ⌝ }
+    ensures { λ r. ⌜ r ≡ zoneOf g address ⌝ }
+{
+    let most = tables::bounds::zone_sectors(g);
+    address / (most as u64)
+}
+
+// An address, counted from its zone's first.
+fn zone_offset(g: Geometry, address: u64) -> usize
+    requires { ⌜ Valid g ⌝ }
+    ensures { λ r. ⌜ (r ≡ offsetOf g address) × (r < zoneSectors g) ⌝ }
+{
+    let most = tables::bounds::zone_sectors(g);
+    (address % (most as u64)) as usize
+}
+
+// Refusals 7 and 9 to 15, by the state's record of the zone.
+fn record_refusal(
+    sectors: &[u8],
+    written: &[u32],
+    g: Geometry,
+    here: [bool; 8],
+    state: State,
+    z: usize,
+    offset: usize,
+    count: usize,
+) -> u8
+    requires { ⌜ Valid g ⌝ }
+    requires { ⌜ Readable g here (now sectors) (now written) z × (pointerOf state z ≤ zoneSectors g) ⌝ }
+    requires { ⌜ (offset < zoneSectors g) × (count < 4294967296) ⌝ }
+    ensures { λ r. ⌜ r ≡ zoneNumber g (among here) (now (sectors .entry)) (now (written .entry)) (recordAt state z .condition) (recordAt state z .generation) z offset count ⌝ }
+{
+    let records = state.zones;
+    let r = records[z];
+    let c = r.condition;
+    let generation = r.generation;
+    super::write_checks::zone_refusal(sectors, written, g, here, c, generation, z, offset, count)
+}
+
+// The refusal of a write of `count` sectors at an address, out of a buffer of so many bytes; 0 if there is none.
+fn refusal(
+    sectors: &[u8],
+    written: &[u32],
+    durable: &[u32],
+    g: Geometry,
+    named: [bool; 8],
+    state: State,
+    address: u64,
+    count: u32,
+    bytes: usize,
+) -> u8
+    ensures { λ r. ⌜ r ≡ writeNumber g named state address count bytes (now (sectors .entry)) (now (written .entry)) (now (durable .entry)) ⌝ }
+{
+    let number = super::checks::opening(
+        sectors.len(),
+        written,
+        durable,
+        g,
+        named,
+        state,
+        count as u64,
+        bytes,
+    );
+    if number != 0 {
+        return number;
+    }
+    let z = zone_index(g, address);
+    let zones = g.zones;
+    if zones as u64 <= z {
+        return 8;
+    }
+    let offset = zone_offset(g, address);
+    let lost = state.lost;
+    let here = super::checks::present_drives(g, named, lost);
+    record_refusal(
+        sectors,
+        written,
+        g,
+        here,
+        state,
+        z as usize,
+        offset,
+        count as usize,
+    )
+}
+
+// The stores of a write that has passed its refusals: what is left of the budget.
+fn carry_out(
+    sectors: &mut [u8],
+    written: &mut [u32],
+    g: Geometry,
+    here: [bool; 8],
+    state: State,
+    z: usize,
+    count: usize,
+    buffer: &[u8],
+    budget: u64,
+) -> u64
+    requires { ⌜ Valid g ⌝ }
+    requires { ⌜ WriteReady g here (now sectors) (now written) z (recordAt state z .generation) (pointerOf state z) count (now buffer) ⌝ }
+    ensures { λ r. ⌜ MadeAppends g budget r (onPresent (among here) (writeWith g z (recordAt state z .generation) (runContent g (among here) (readDevice g (now (sectors .entry)) (now (written .entry))) z (recordAt state z .generation) (pointerOf state z) (sectorsIn g count (now (buffer .entry)))) (pointerOf state z) count)) (now (sectors .entry)) (now (written .entry)) (now (sectors .exit)) (now (written .exit)) ⌝ }
+{
+    let records = state.zones;
+    let r = records[z];
+    let c = r.condition;
+    let generation = r.generation;
+    let n = super::checks::pointer_of(c);
+    super::write_keeping::write_all(
+        sectors,
+        written,
+        g,
+        here,
+        z,
+        generation,
+        n,
+        count,
+        buffer,
+        budget,
+    )
+}
+
+// The state after it: the zone open, its pointer `count` further on, and x the lost drive.
+fn next_state(g: Geometry, state: State, x: usize, z: usize, count: usize) -> State
+    requires { ⌜ Valid g ⌝ }
+    requires { ⌜ (z < g .zones) × (pointerOf state z + count ≤ zoneSectors g) ⌝ }
+    ensures { λ r. ⌜ r ≡ writtenState state x z (pointerOf state z + count) ⌝ }
+{
+    let mut zones = state.zones;
+    let r = zones[z];
+    let c = r.condition;
+    let n = super::checks::pointer_of(c);
+    let generation = r.generation;
+    let next = ZoneRecord {
+        generation,
+        condition: Condition::Open(n + count),
+    };
+    zones[z] = next;
+    State { lost: x, zones }
+}
+
+// The call: `run` sectors from an address, out of a buffer.
+pub fn write(
+    sectors: &mut [u8],
+    written: &mut [u32],
+    durable: &[u32],
+    g: Geometry,
+    named: [bool; 8],
+    state: State,
+    address: u64,
+    run: u32,
+    buffer: &[u8],
+    count: u32,
+) -> Outcome
+    ensures { λ r. ⌜ (r ≡ writeOn g named state address run (now (buffer .entry)) count (tablesOf (now (sectors .entry)) (now (written .entry)) (now (durable .entry))) .outcome)
+        × (tablesOf (now (sectors .exit)) (now (written .exit)) (now (durable .entry)) ≡ writeOn g named state address run (now (buffer .entry)) count (tablesOf (now (sectors .entry)) (now (written .entry)) (now (durable .entry))) .tables) ⌝ }
+{
+    let number = refusal(
+        sectors,
+        written,
+        durable,
+        g,
+        named,
+        state,
+        address,
+        run,
+        buffer.len(),
+    );
+    if number != 0 {
+        return Outcome {
+            answer: Answer::Refused(number),
+            state,
+        };
+    }
+    let lost = state.lost;
+    let here = super::checks::present_drives(g, named, lost);
+    let z = zone_index(g, address) as usize;
+    let n = run as usize;
+    let budget = count as u64 + 1;
+    let rest = carry_out(sectors, written, g, here, state, z, n, buffer, budget);
+    if rest == 0 {
+        return Outcome {
+            answer: Answer::Unfinished,
+            state,
+        };
+    }
+    let x = super::checks::left_out(g, here);
+    let next = next_state(g, state, x, z, n);
+    Outcome {
+        answer: Answer::Finished,
+        state: next,
+    }
+}

@@ -90,3 +90,5 @@ pub mod WriteStores
 pub mod WriteChecks
 pub mod WriteKeeping
 pub mod Writing
+pub mod Reading
+pub mod Peeking

@@ -8,6 +8,7 @@ pub mod formatting;
 pub mod knowing;
 pub mod logging;
 pub mod looking;
+pub mod reading;
 pub mod resetting;
 pub mod write_checks;
 pub mod write_keeping;

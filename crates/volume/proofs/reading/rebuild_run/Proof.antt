@@ -1,0 +1,103 @@
+use borrow.Rule.Slice.PartMut.{same-len-mid}
+use lib.ListN.{drop, length, take}
+use denote.Ref.{now}
+use native.Mathlib.Nat.{zero-mul}
+use Rattle.volume.specs.Reading.{run-small, part-long, filled-more, filled-all, gone-none}
+use mathlib.Core.Path.{_≡_, refl, sym, _∙_}
+use Prim.Native.Nat.{_+_, _-_, _*_, _≤_}
+use native.Mathlib.Omega.{arith}
+use Rattle.tables.specs.Below.{tabulateFrom}
+use Rattle.tables.specs.Lists.{concat}
+use Rattle.tables.specs.Sizes.{zone-small}
+use Rattle.volume.specs.Rules.{valueAt}
+use Rattle.volume.specs.OnTables.{among}
+use Rattle.volume.specs.Knowing.{readDevice}
+use Rattle.volume.proofs.reading.rebuild_run.Statement.{statement}
+use Rattle.volume.proofs.reading.rebuild_run.Tie as tie
+
+abbrev Inv-loop : tie.InvT-loop
+Inv-loop sectors written g here z generation limit offset count out₀ b i₀ out i = (i ≤ count) × (length out ≡ count * g .sector) × (take (i * g .sector) out ≡ concat (tabulateFrom (valueAt g (among here) (readDevice g sectors written) z generation) offset i))
+
+abbrev μ-loop : tie.MeasureT-loop
+μ-loop sectors written g here z generation limit offset count out₀ b i₀ out i = count - i
+
+loop-holds : tie.Need-loop-holds Inv-loop μ-loop
+loop-holds c = (omega arith, c .before .before .before .pre .1 .2, rw zero-mul refl)
+
+mul-at : tie.Need-mul-at Inv-loop μ-loop
+mul-at c = let k = run-small (c .before .before .before .before .before .args .g) (c .before .before .before .before .before .args .offset) (c .before .before .before .before .before .args .count) (c .before .loop .i) (c .before .before .before .before .before .pre .0) (c .before .before .before .before .before .pre .1 .1) (omega arith) in omega (arith, k .0, k .1)
+
+add-end : tie.Need-add-end Inv-loop μ-loop
+add-end c = let k = run-small (c .before .before .before .before .before .args .g) (c .before .before .before .before .before .args .offset) (c .before .before .before .before .before .args .count) (c .before .loop .i) (c .before .before .before .before .before .pre .0) (c .before .before .before .before .before .pre .1 .1) (omega arith) in omega (arith, k .0, k .1)
+
+add-sector-value : tie.Need-add-sector-value Inv-loop μ-loop
+add-sector-value c = let s = c .before .before .before .before .before in omega (arith, s .pre .1 .1, zone-small (s .args .g) (s .pre .0) .1)
+
+sub-sector-value : tie.Need-sub-sector-value Inv-loop μ-loop
+sub-sector-value c = omega arith
+
+part-sector-value-start : tie.Need-part-sector-value-start Inv-loop μ-loop
+part-sector-value-start c = omega arith
+
+part-sector-value-end : tie.Need-part-sector-value-end Inv-loop μ-loop
+part-sector-value-end c = let k = run-small (c .before .before .before .before .before .args .g) (c .before .before .before .before .before .args .offset) (c .before .before .before .before .before .args .count) (c .before .loop .i) (c .before .before .before .before .before .pre .0) (c .before .before .before .before .before .pre .1 .1) (omega arith) in omega (arith, k .0, c .before .loop .inv .1)
+
+sector-value-requires : tie.Need-sector-value-requires Inv-loop μ-loop
+sector-value-requires c κs =
+    let s = c .before .before .before .before .before .before in
+    let a = s .args in
+    let l = c .before .before .loop in
+    let k = run-small (c .before .before .before .before .before .before .args .g) (c .before .before .before .before .before .before .args .offset) (c .before .before .before .before .before .before .args .count) (c .before .before .loop .i) (c .before .before .before .before .before .before .pre .0) (c .before .before .before .before .before .before .pre .1 .1) (omega arith) in
+    (s .pre .0, (s .pre .1 .0, omega (arith, s .pre .1 .1), s .pre .1 .4, gone-none (a .g) (a .here) (now (a .sectors)) (now (a .written)) (a .z) (s .pre .1 .0) (a .generation) (a .offset) (a .count) (l .i) (s .pre .1 .3) (omega arith), part-long (a .g .sector) (l .i) (a .count * a .g .sector) (l .out) (k .0) (l .inv .1)))
+
+add-i : tie.Need-add-i Inv-loop μ-loop
+add-i c = let s = c .before .before .before .before .before .before .before .before .before in omega (arith, s .pre .1 .1, zone-small (s .args .g) (s .pre .0) .1)
+
+loop-less : tie.Need-loop-less Inv-loop μ-loop
+loop-less c = omega arith
+
+loop-again : tie.Need-loop-again Inv-loop μ-loop
+loop-again c =
+    let s = c .before .before .before .before .before .before .before .before .before in
+    let a = s .args in
+    let l = c .before .before .before .before .before .loop in
+    let f = c .before .before .sector-value in
+    let b = a .g .sector in
+    let v = f .last .1 .1 .1 .1 .1 .1 .1 .1 .0 in
+    let k = run-small (c .before .before .before .before .before .before .before .before .before .args .g) (c .before .before .before .before .before .before .before .before .before .args .offset) (c .before .before .before .before .before .before .before .before .before .args .count) (c .before .before .before .before .before .loop .i) (c .before .before .before .before .before .before .before .before .before .pre .0) (c .before .before .before .before .before .before .before .before .before .pre .1 .1) (omega arith) in
+    let kept = f .kept .1 .1 .1 .1 .1 .1 .1 .1 .0 in (
+      omega arith,
+      same-len-mid (l .i * b) (l .i * b + b - l .i * b) (l .out) v kept ∙ l .inv .1,
+      filled-more b (l .i) (a .count * b) (a .offset) (valueAt (a .g) (among (a .here)) (readDevice (a .g) (a .sectors .now) (a .written .now)) (a .z) (a .generation)) (l .out) v (drop (l .i * b + b - l .i * b) (drop (l .i * b) (l .out))) (k .0) (l .inv .1) (kept ∙ part-long b (l .i) (a .count * b) (l .out) (k .0) (l .inv .1)) (f .ensures) (l .inv .2),
+    )
+
+same-length : tie.Need-same-length Inv-loop μ-loop
+same-length c = c .before .loop .inv .1 ∙ sym (c .before .before .before .before .before .pre .1 .2)
+
+returns : tie.Need-returns Inv-loop μ-loop
+returns c =
+    let s = c .before .before .before .before .before in
+    let a = s .args in
+    let l = c .before .loop in
+    let e : l .i ≡ a .count = omega arith in
+    filled-all (a .g .sector) (a .count) (a .offset) (valueAt (a .g) (among (a .here)) (readDevice (a .g) (a .sectors .now) (a .written .now)) (a .z) (a .generation)) (l .out) (l .inv .1) (rw e at (l .inv .2))
+
+pub rebuild-run-spec : {M : Type 1} → statement M
+rebuild-run-spec =
+    tie.close
+    (tie.spec
+    Inv-loop
+    μ-loop
+    loop-holds
+    mul-at
+    add-end
+    add-sector-value
+    sub-sector-value
+    part-sector-value-start
+    part-sector-value-end
+    sector-value-requires
+    add-i
+    loop-less
+    loop-again
+    same-length
+    returns)

@@ -28,7 +28,7 @@ use Rattle.logs.specs.Steps.{Stands, Placed}
 use Rattle.logs.specs.Places.{lastPlace, LastSuch, last-place, walk-places}
 use Rattle.volume.specs.declared.knowing.Way.{Way}
 use Rattle.volume.specs.declared.knowing.Way.the-variants.{Unknown, Held, Row}
-use Rattle.volume.specs.Rules.{View, ParityEntry, Found, found, nothing, orElse, isFound, lastOf, heldAt, parityOf, rowDrive, rowAddress, serves, entryFor, known, sealLimit, servingEntry, servingEntries, parityEntries, viewOf, zoneView}
+use Rattle.volume.specs.Rules.{ParityEntry, Found, found, nothing, orElse, isFound, lastOf, heldAt, parityOf, rowDrive, rowAddress, serves, entryFor, known, sealLimit, servingEntry, servingEntries, parityEntries, viewOf, zoneView}
 use Rattle.volume.specs.OnTables.{among}
 use Rattle.volume.specs.Knowing.{readDevice, Readable, heldOn, stripeEnd, reachOf, servingPlace, rowComplete, wayTo, isWay}
 use Rattle.volume.specs.KnowingLaws.{leb-min, stripe-end-small, parity-in, entries-are, held-is, reach-is, reach-most, stripe-end-is, by-parity-is}
@@ -85,18 +85,12 @@ partial-inside g d y s f m h =
     (ltb-true 0 f k, ltb-true f (stripeSectors g) q)
 
 module _ (g : Geometry) (here : List Bool) (xs ws : List ℕ) (z : ℕ) (r : Readable g here xs ws z) (ok : Valid g) (n a : ℕ) (ha : a < zoneSectors g) where
-  abbrev view : View
-  view = zoneView g (among here) (readDevice g xs ws) z n
-
   -- THE ENTRIES THAT SERVE, by their ends
   serves-is : (limit s f : ℕ) (rows : ℕ → List ℕ) → zero < f → f < stripeSectors g
       → leb (s * stripeSectors g + f) limit && serves (g .drives) (g .unit) z (zoneView g (among here) (readDevice g xs ws) z n) a (record { stripe = s; end = s * stripeSectors g + f; rows = rows })
       ≡ ltb a (s * stripeSectors g + f) && leb (s * stripeSectors g + f) (min limit (reachOf g here ws z a))
   serves-is limit s f rows pos less = go (ℕ-discrete s (stripeOf (g .drives) (g .unit) a))
     where
-      e : ℕ
-      e = s * stripeSectors g + f
-
       all : Bool
       all = allBelow (λ k. eqb k (unitIndex (g .drives) (g .unit) a) || (leb (s * stripeSectors g + f) (rowAddress (g .drives) (g .unit) a k) || heldAt (zoneView g (among here) (readDevice g xs ws) z n) (rowDrive (g .drives) (g .unit) z a k) (sectorOf (g .drives) (g .unit) a))) (g .drives - 1)
 
@@ -212,9 +206,6 @@ module _ (g : Geometry) (here : List Bool) (xs ws : List ℕ) (z : ℕ) (r : Rea
   pub serving-is : ((servingPlace g here xs ws z n (sealLimit g (among here) (readDevice g xs ws) z n) a ≡ 0) × (entryFor (g .drives) (g .unit) z (zoneView g (among here) (readDevice g xs ws) z n) a ≡ nothing)) ⊎ ((q : ℕ) × Serving q × (servingPlace g here xs ws z n (sealLimit g (among here) (readDevice g xs ws) z n) a ≡ q + 1))
   serving-is = go (among here (parityOf (g .drives) (g .unit) z a)) refl
     where
-      es : List Entry
-      es = walkLog g (parityOf (g .drives) (g .unit) z a) true (logSectors g (parityOf (g .drives) (g .unit) z a) parityZone xs (getD ws (cell g (parityOf (g .drives) (g .unit) z a) parityZone) 0)) .entries
-
       fit : AllFit (walkLog g (parityOf (g .drives) (g .unit) z a) true (logSectors g (parityOf (g .drives) (g .unit) z a) parityZone xs (getD ws (cell g (parityOf (g .drives) (g .unit) z a) parityZone) 0)) .entries)
       fit = placed-fit (logSectors g (parityOf (g .drives) (g .unit) z a) parityZone xs (getD ws (cell g (parityOf (g .drives) (g .unit) z a) parityZone) 0)) zero (walkLog g (parityOf (g .drives) (g .unit) z a) true (logSectors g (parityOf (g .drives) (g .unit) z a) parityZone xs (getD ws (cell g (parityOf (g .drives) (g .unit) z a) parityZone) 0)) .entries) (walk-places g (parityOf (g .drives) (g .unit) z a) true (logSectors g (parityOf (g .drives) (g .unit) z a) parityZone xs (getD ws (cell g (parityOf (g .drives) (g .unit) z a) parityZone) 0)) .placed)
 

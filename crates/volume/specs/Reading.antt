@@ -22,12 +22,12 @@ use Rattle.tables.specs.Placement.{needed, driveOf, sectorOf}
 use Rattle.tables.specs.PlacementLaws.{drive-below}
 use Rattle.tables.specs.Device.{Device}
 use Rattle.tables.specs.Tables.{lengthsFit, bufferFits, pointersBad, Tables, tablesOf, deviceOf, cell, sectorAt}
-use Rattle.volume.specs.declared.Condition.{Condition}
 use Rattle.volume.specs.declared.State.{State}
 use Rattle.volume.specs.declared.Answer.{Answer}
 use Rattle.volume.specs.declared.Answer.the-variants.{Finished, Refused}
 use Rattle.volume.specs.State.{pointerIn, StateView, callPresent}
 use Rattle.volume.specs.Rules.{View, valueOf, known, zoneView, valueAt}
+use Rattle.volume.specs.ZoneChecks.{staleOn}
 use Rattle.volume.specs.Refusals.{stateWithin, twoAbsent, leastApplying, staleIn, stale, noZone, badRun, unwritten, goneIn, zoneOf, offsetOf, readRows}
 use Rattle.tables.specs.Drives.{noDrive}
 use Rattle.tables.specs.GeometryTest.{isValid}
@@ -37,13 +37,6 @@ use Rattle.volume.specs.OnTables.{recordAt, viewState, among, verdictNum
 use Rattle.volume.specs.Knowing.{readDevice, Readable, heldOn}
 use Rattle.volume.specs.KnowingLaws.{sectors-alike, view-durable, written-is, held-is}
 use Rattle.volume.specs.KnowingValues.{value-held}
-
--- ---- refusal 7, in condition c, on the written pointers
-abbrev pub staleBelow : Geometry → List Bool → List ℕ → Condition → ℕ → ℕ → Bool
-staleBelow g here ws c z n = anyBelow (λ d. among here d && staleIn c (getD ws (cell g d (3 + z)) 0) (needed (g .drives) (g .unit) z (pointerIn c) d)) n
-
-unfoldable pub staleOn : Geometry → List Bool → List ℕ → Condition → ℕ → Bool
-staleOn g here ws c z = staleBelow g here ws c z (g .drives)
 
 -- ---- address a is held
 abbrev pub ownHeld : Geometry → List Bool → List ℕ → ℕ → ℕ → Bool
@@ -71,7 +64,7 @@ runNumber g present v state z offset count = verdictNumber (leastApplying (runRo
 
 -- refusals 7 and 8 on the written pointers
 unfoldable pub zoneNumberOn : Geometry → List Bool → List ℕ → State → ℕ → ℕ
-zoneNumberOn g here ws s z = pick (ltb z (g .zones)) (pick (staleOn g here ws (recordAt s z .condition) z) 7 0) 8
+zoneNumberOn g here ws s z = pick (ltb z (g .zones)) (pick (staleOn g (among here) ws (recordAt s z .condition) z) 7 0) 8
 
 -- what refusal 1 gives of the state
 pub record StateFits (g : Geometry) (s : State) : Type 0 where
@@ -120,7 +113,7 @@ filled-all b count offset f out e t = sym (take-all (count * b) out (omega arith
 
 module _ (g : Geometry) (here : List Bool) (xs ws : List ℕ) (z : ℕ) (r : Readable g here xs ws z) where
   -- ---- a zone that exists is stale on the device exactly if it is so on the tables
-  pub stale-is : (s : State) → stale g (among here) (readDevice g xs ws) (viewState s) z ≡ staleOn g here ws (recordAt s z .condition) z
+  pub stale-is : (s : State) → stale g (among here) (readDevice g xs ws) (viewState s) z ≡ staleOn g (among here) ws (recordAt s z .condition) z
   unfolding stale staleOn
   stale-is s =
       ap (λ (b : Bool). b && anyBelow (λ d. among here d && staleIn (recordAt s z .condition) (length (readDevice g xs ws d (3 + z) .sectors)) (needed (g .drives) (g .unit) z (pointerIn (recordAt s z .condition)) d)) (g .drives)) (lt-ltb z (g .zones) (r .zone-in))
@@ -157,7 +150,7 @@ module _ (g : Geometry) (here : List Bool) (xs ws : List ℕ) (z : ℕ) (r : Rea
 
   pub zone-number-is : (s : State) → zoneNumber g (among here) (readDevice g xs ws) (viewState s) z ≡ zoneNumberOn g here ws s z
   unfolding zoneNumber zoneNumberOn
-  zone-number-is s = rw (stale-is s, lt-ltb z (g .zones) (r .zone-in)) (go (staleOn g here ws (recordAt s z .condition) z))
+  zone-number-is s = rw (stale-is s, lt-ltb z (g .zones) (r .zone-in)) (go (staleOn g (among here) ws (recordAt s z .condition) z))
     where
       go : (b : Bool) → verdictNumber (leastApplying ((7, b) ∷ (8, false) ∷ [])) ≡ pick b 7 0
       go true = refl
@@ -233,7 +226,7 @@ pub zone-on-in : (g : Geometry) (here : List Bool) (ws : List ℕ) (s : State) (
 unfolding zoneNumberOn
 zone-on-in g here ws s z h = go (ltb z (g .zones)) refl h
   where
-    go : (b : Bool) → ltb z (g .zones) ≡ b → _≡_ {A = ℕ} (pick b (pick (staleOn g here ws (recordAt s z .condition) z) 7 0) 8) 0 → z < g .zones
+    go : (b : Bool) → ltb z (g .zones) ≡ b → _≡_ {A = ℕ} (pick b (pick (staleOn g (among here) ws (recordAt s z .condition) z) 7 0) 8) 0 → z < g .zones
     go true e k = ltb-true z (g .zones) e
     go false e k = absurd (omega (arith, k))
 

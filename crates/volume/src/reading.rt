@@ -5,72 +5,19 @@ use super::Condition;
 use super::State;
 use tables::Geometry;
 ghost use mathlib.Core.Path.{_≡_};
-ghost use mathlib.Core.Bool.{false, _&&_};
+ghost use mathlib.Core.Bool.{false};
 ghost use Prim.Native.Nat.{_+_, _*_, _≤_, _<_};
-ghost use lib.ListN.{length, getD};
+ghost use lib.ListN.{length};
 ghost use Rattle.tables.specs.Below.{tabulateFrom};
 ghost use Rattle.tables.specs.Lists.{concat};
 ghost use Rattle.tables.specs.Geometry.{Valid, cells, totalBytes, zoneSectors};
-ghost use Rattle.tables.specs.Placement.{needed};
-ghost use Rattle.tables.specs.Tables.{tablesOf, cell};
-ghost use Rattle.volume.specs.State.{pointerIn};
+ghost use Rattle.tables.specs.Tables.{tablesOf};
 ghost use Rattle.volume.specs.Rules.{valueAt, known, sealLimit};
-ghost use Rattle.volume.specs.Refusals.{staleIn, goneIn, zoneOf, offsetOf};
+ghost use Rattle.volume.specs.Refusals.{goneIn, zoneOf, offsetOf};
 ghost use Rattle.volume.specs.OnTables.{among, viewState};
 ghost use Rattle.volume.specs.Knowing.{Readable, readDevice};
-ghost use Rattle.volume.specs.Reading.{staleOn, ownHeld, allHeld, ownSector, valuesOn, StateFits, zoneNumberOn, runNumber, readNumber, readOn};
+ghost use Rattle.volume.specs.Reading.{ownHeld, allHeld, ownSector, valuesOn, StateFits, zoneNumberOn, runNumber, readNumber, readOn};
 ghost use Rattle.volume.specs.Peeking.{placeNumberOn, peekNumber, peekOn};
-
-// Whether a pointer is not what a condition needs.
-fn stale_in(c: Condition, written: usize, needs: usize) -> bool
-    ensures { λ r. ⌜ r ≡ staleIn c written needs ⌝ }
-{
-    match c {
-        Condition::Empty => written != needs,
-        Condition::Open(_) => written != needs,
-        Condition::Sealed(_) => written < needs,
-        Condition::Worn(_) => written < needs,
-    }
-}
-
-// Refusal 7 of one drive.
-fn drive_stale(
-    written: &[u32],
-    g: Geometry,
-    here: [bool; 8],
-    c: Condition,
-    z: usize,
-    d: usize,
-) -> bool
-    requires { ⌜ Valid g ⌝ }
-    requires { ⌜ (z < g .zones) × (length (now written) ≡ cells g) × (pointerIn c ≤ zoneSectors g) × (d < g .drives) ⌝ }
-    ensures { λ r. ⌜ r ≡ among here d && staleIn c (getD (now (written .entry)) (cell g d (3 + z)) 0) (needed (g .drives) (g .unit) z (pointerIn c) d) ⌝ }
-{
-    let present = here[d];
-    let at = tables::stores::cell_of(g, d, 3 + z);
-    let n = tables::bounds::widen(written[at]);
-    let pointer = super::checks::pointer_of(c);
-    let needs = tables::placement::sectors_needed(g, z, pointer, d);
-    let bad = stale_in(c, n, needs);
-    present & bad
-}
-
-// Refusal 7 of a zone that exists, in condition c.
-fn is_stale_here(written: &[u32], g: Geometry, here: [bool; 8], c: Condition, z: usize) -> bool
-    requires { ⌜ Valid g ⌝ }
-    requires { ⌜ (z < g .zones) × (length (now written) ≡ cells g) × (pointerIn c ≤ zoneSectors g) ⌝ }
-    ensures { λ r. ⌜ r ≡ staleOn g here (now (written .entry)) c z ⌝ }
-{
-    let n = g.drives;
-    let mut stale = false;
-    let mut d = 0;
-    while d < n {
-        let bad = drive_stale(written, g, here, c, z, d);
-        stale = stale | bad;
-        d += 1;
-    }
-    stale
-}
 
 // Whether the drive of address a holds it.
 fn own_held(written: &[u32], g: Geometry, here: [bool; 8], z: usize, a: usize) -> bool
@@ -298,7 +245,7 @@ fn zone_refusal(written: &[u32], g: Geometry, here: [bool; 8], state: State, z: 
     let zones = state.zones;
     let record = zones[z];
     let c = record.condition;
-    let stale = is_stale_here(written, g, here, c, z);
+    let stale = super::zone_checks::is_stale(written, g, here, c, z);
     if stale {
         return 7;
     }

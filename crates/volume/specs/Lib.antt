@@ -66,6 +66,7 @@ pub mod AtRestAnswers
 pub mod ClaimEvents
 pub mod ClaimProof
 pub mod ClaimExample
+pub mod Depends
 -- The calls on the flat tables, as the code makes them.
 pub mod OnTables
 pub mod CheckLaws
@@ -92,3 +93,11 @@ pub mod WriteKeeping
 pub mod Writing
 pub mod Reading
 pub mod Peeking
+pub mod MountTables
+pub mod MountLook
+pub mod MountHeaders
+pub mod MountResets
+pub mod MountGenerations
+pub mod MountSteps
+pub mod MountTells
+pub mod MountRows

@@ -1,0 +1,75 @@
+use Prim.Native.Nat.{ℕ, _-_, _≤_}
+use mathlib.Core.Path.{_≡_, refl, _∙_}
+use native.Mathlib.Omega.{arith}
+use native.Mathlib.Numerals.{add-one}
+use lib.ListN.{length}
+use Rattle.tables.specs.Below.{eachBelow}
+use Rattle.tables.specs.Phases.{onPresent}
+use Rattle.tables.specs.Tables.{MadePointers}
+use Rattle.volume.specs.OnTables.{among, pointers-nil}
+use Rattle.volume.specs.MountTables.{pointers-more}
+use Rattle.volume.specs.MountResets.{zoneResets, zone-reset-steps}
+use Rattle.volume.proofs.mount_zones.reset_zones.Statement.{statement}
+use Rattle.volume.proofs.mount_zones.reset_zones.Tie as tie
+
+abbrev Inv-loop : tie.InvT-loop
+Inv-loop written₀ durable₀ g here look budget m rest₀ d₀ written durable rest d =
+    (d ≤ m) × (length written ≡ length written₀) × (length durable ≡ length durable₀) × MadePointers g budget rest (onPresent (among here) (eachBelow (λ (e : ℕ). zoneResets look e (g .zones)) d)) written₀ durable₀ written durable
+
+abbrev μ-loop : tie.MeasureT-loop
+μ-loop written₀ durable₀ g here look budget m rest₀ d₀ written durable rest d = m - d
+
+loop-holds : tie.Need-loop-holds Inv-loop μ-loop
+loop-holds c = (omega arith, refl, refl, pointers-nil _ _ _ _)
+
+reset-drive-requires : tie.Need-reset-drive-requires Inv-loop μ-loop
+reset-drive-requires c κs =
+    let s = c .before .before .before .before .before .before in
+    let l = c .before .before .before .loop in
+    (s .pre .0, (c .before .before .loop-test .taken, l .inv .1 ∙ s .pre .1 .0, l .inv .2 ∙ s .pre .1 .1))
+
+add-d : tie.Need-add-d Inv-loop μ-loop
+add-d c = omega (arith, c .before .before .before .before .before .before .before .loop-test .taken, c .before .before .before .before .before .before .before .before .before .before .before .pre .0 .drives-most)
+
+loop-less : tie.Need-loop-less Inv-loop μ-loop
+loop-less c = omega (arith, c .before .before .before .before .before .before .before .loop-test .taken)
+
+loop-again : tie.Need-loop-again Inv-loop μ-loop
+loop-again c =
+    let s = c .before .before .before .before .before .before .before .before .before .before .before in
+    let a = s .args in
+    let l = c .before .before .before .before .before .before .before .before .loop in
+    let f = c .before .before .before .before .reset-drive in (
+      omega (arith, c .before .before .before .before .before .before .before .loop-test .taken),
+      f .kept .0 ∙ l .inv .1,
+      f .kept .1 .0 ∙ l .inv .2,
+      rw add-one (pointers-more (a .g) (among (a .here)) (a .budget) (l .rest) (f .result) (λ (e : ℕ). zoneResets (a .look) e (a .g .zones)) (l .d) (a .written .now) (a .durable .now) (l .written) (l .durable) (f .last .0) (f .last .1 .0) (l .inv .3) (f .ensures)),
+    )
+
+same-length : tie.Need-same-length Inv-loop μ-loop
+same-length c = c .before .loop .inv .1
+
+same-length-2 : tie.Need-same-length-2 Inv-loop μ-loop
+same-length-2 c = c .before .loop .inv .2
+
+returns : tie.Need-returns Inv-loop μ-loop
+returns c =
+    let l = c .before .loop in
+    let a = c .before .before .before .before .args in
+    let e : l .d ≡ a .g .drives = omega arith in
+    rw (zone-reset-steps (a .g) (a .look)) (rw e at (l .inv .3))
+
+pub reset-zones-spec : {M : Type 1} → statement M
+reset-zones-spec =
+    tie.close
+    (tie.spec
+    Inv-loop
+    μ-loop
+    loop-holds
+    reset-drive-requires
+    add-d
+    loop-less
+    loop-again
+    same-length
+    same-length-2
+    returns)

@@ -1,0 +1,141 @@
+-- Steps 1, 2 and 5 of a mount: one header on the general log of each drive and zone where it is due. The type of the header (1 label, 3 reset,
+-- 5 seal) tells the steps apart; labels are stored once a drive.
+use mathlib.Core.Path.{_≡_, refl, ap}
+use mathlib.Core.Bool.{Bool, true, false, _&&_, not}
+use Prim.Native.Nat.{ℕ, _-_, _≤_, _<_, min}
+use native.Mathlib.Omega.{arith}
+use mathlib.Core.List.{List, [], _∷_}
+use lib.ListN.{length, getD, length-replicate}
+use lib.Dec.{ltb, eqb}
+use Rattle.tables.specs.declared.Geometry.{Geometry}
+use Rattle.tables.specs.Basics.{pick}
+use Rattle.tables.specs.Below.{eachBelow}
+use Rattle.tables.specs.Lists.{anyOf}
+use Rattle.tables.specs.Drives.{noDrive}
+use Rattle.tables.specs.Geometry.{Valid, cells, totalBytes}
+use Rattle.tables.specs.Device.{Device, Store, append}
+use Rattle.tables.specs.Phases.{onPresent}
+use Rattle.tables.specs.Tables.{cell, tablesOf, storeIf, MadeAppends}
+use Rattle.logs.specs.Entry.{generalZone, Header, label, zoneReset, seal, encode, frame, labelBytes}
+use Rattle.logs.specs.Walk.{walkLog}
+use Rattle.logs.specs.WalkCode.{logSectors}
+use Rattle.logs.specs.Query.{headsOf}
+use Rattle.logs.specs.Heads.{lastLost, isSealAt}
+use Rattle.volume.specs.declared.Look.{Look}
+use Rattle.volume.specs.State.{isSealed}
+use Rattle.volume.specs.Rules.{generalHeads}
+use Rattle.volume.specs.Calls.{appendGeneral, logsReset}
+use Rattle.volume.specs.Mount.{labelStep, resetEntryStep, sealStep}
+use Rattle.volume.specs.MountTables.{seen, seen-sectors, StoresIn, each-in, on-present-in, pick-in, Behind, made-keeps, kept-device}
+use Rattle.volume.specs.MountLook.{zoneLook, shownBy, LookWithin, stays, log-stays}
+
+-- the general log of a drive, as the look found it
+pub seen-heads : (g : Geometry) (xs ps : List ℕ) (d : ℕ) → d < g .drives → generalHeads g (seen g xs ps) d ≡ headsOf (walkLog g d false (logSectors g d generalZone xs (min (getD ps (cell g d generalZone) 0) (g .capacity))))
+unfolding generalHeads
+seen-heads g xs ps d hd = ap (λ (ss : List (List ℕ)). headsOf (walkLog g d false ss)) (seen-sectors g (tablesOf xs ps []) d generalZone hd (omega arith))
+
+-- ---- when a header is due
+unfoldable pub labelDue : Geometry → Look → Device → ℕ → Bool
+labelDue g k w d = ltb (k .lost) (g .drives) && not (eqb (lastLost noDrive (generalHeads g w d)) (k .lost))
+
+unfoldable pub resetDue : Geometry → Look → ℕ → ℕ → Bool
+resetDue g k d z = zoneLook k z .«by_reset» && logsReset g z d
+
+unfoldable pub sealDue : Geometry → Look → Device → ℕ → ℕ → Bool
+sealDue g k w d z = isSealed (zoneLook k z .condition) && not (anyOf (isSealAt z (zoneLook k z .generation) (zoneLook k z .pointer)) (generalHeads g w d))
+
+unfoldable pub headerDue : Geometry → ℕ → Look → Device → ℕ → ℕ → Bool
+headerDue g kind k w d z = pick (eqb kind 1) (labelDue g k w d) (pick (eqb kind 3) (resetDue g k d z) (sealDue g k w d z))
+
+-- and which
+unfoldable pub headerFor : ℕ → Look → ℕ → Header
+headerFor kind k z = pick (eqb kind 1) (label (k .lost) (k .array)) (pick (eqb kind 3) (zoneReset z (zoneLook k z .generation)) (seal z (zoneLook k z .pointer) (zoneLook k z .generation)))
+
+abbrev pub headerStores : Geometry → ℕ → Look → Device → ℕ → ℕ → List Store
+headerStores g kind k w d z = pick (headerDue g kind k w d z) (appendGeneral g (headerFor kind k z) d) []
+
+-- on the drives below m, n times a drive
+abbrev pub headerSteps : Geometry → ℕ → Look → Device → ℕ → ℕ → List Store
+headerSteps g kind k w n m = eachBelow (λ d. eachBelow (headerStores g kind k w d) n) m
+
+-- ---- the steps
+pub label-steps : (g : Geometry) (k : Look) (w : Device) → labelStep g (k .lost) (shownBy k) w ≡ headerSteps g 1 k w 1 (g .drives)
+unfolding labelStep headerDue labelDue headerFor
+label-steps g k w = refl
+
+pub reset-entry-steps : (g : Geometry) (k : Look) (w : Device) → resetEntryStep g (shownBy k) ≡ headerSteps g 3 k w (g .zones) (g .drives)
+unfolding resetEntryStep headerDue resetDue headerFor
+reset-entry-steps g k w = refl
+
+pub seal-steps : (g : Geometry) (k : Look) (w : Device) → sealStep g (shownBy k) w ≡ headerSteps g 5 k w (g .zones) (g .drives)
+unfolding sealStep headerDue sealDue headerFor
+seal-steps g k w = refl
+
+-- ---- one header on the present drives
+general-one : (a : ℕ → Bool) (d : ℕ) (s : List ℕ) (b : Bool) → a d ≡ b → onPresent a (append d generalZone s ∷ []) ≡ storeIf b (append d generalZone s)
+general-one a d s true e = rw e refl
+general-one a d s false e = rw e refl
+
+pub header-absent : (g : Geometry) (kind : ℕ) (k : Look) (w : Device) (a : ℕ → Bool) (d z : ℕ) → a d ≡ false → onPresent a (headerStores g kind k w d z) ≡ []
+header-absent g kind k w a d z e = go (headerDue g kind k w d z)
+  where
+    go : (b : Bool) → onPresent a (pick b (appendGeneral g (headerFor kind k z) d) []) ≡ []
+    go true = general-one a d (encode g d (headerFor kind k z)) false e
+    go false = refl
+
+pub header-idle : (g : Geometry) (kind : ℕ) (k : Look) (w : Device) (a : ℕ → Bool) (d z : ℕ) → headerDue g kind k w d z ≡ false → onPresent a (headerStores g kind k w d z) ≡ []
+header-idle g kind k w a d z e = rw e refl
+
+pub header-made : (g : Geometry) (kind : ℕ) (k : Look) (w : Device) (a : ℕ → Bool) (d z : ℕ) → a d ≡ true → headerDue g kind k w d z ≡ true
+    → onPresent a (headerStores g kind k w d z) ≡ storeIf true (append d generalZone (encode g d (headerFor kind k z)))
+header-made g kind k w a d z e f = rw f (general-one a d (encode g d (headerFor kind k z)) true e)
+
+-- ---- they are appends to general logs
+label-long : (g : Geometry) (d x a : ℕ) → Valid g → length (encode g d (label x a)) ≡ g .sector
+unfolding encode frame labelBytes
+label-long g d x a ok = rw (length-replicate {A = ℕ} (g .sector - 56) 0) (omega (arith, ok .sector-least))
+
+reset-long : (g : Geometry) (d z n : ℕ) → Valid g → length (encode g d (zoneReset z n)) ≡ g .sector
+unfolding encode frame
+reset-long g d z n ok = rw (length-replicate {A = ℕ} (g .sector - 32) 0) (omega (arith, ok .sector-least))
+
+seal-long : (g : Geometry) (d z p n : ℕ) → Valid g → length (encode g d (seal z p n)) ≡ g .sector
+unfolding encode frame
+seal-long g d z p n ok = rw (length-replicate {A = ℕ} (g .sector - 32) 0) (omega (arith, ok .sector-least))
+
+pub header-for-long : (g : Geometry) (d kind : ℕ) (k : Look) (z : ℕ) → Valid g → length (encode g d (headerFor kind k z)) ≡ g .sector
+unfolding headerFor
+header-for-long g d kind k z ok = go (eqb kind 1) (eqb kind 3)
+  where
+    go : (a b : Bool) → length (encode g d (pick a (label (k .lost) (k .array)) (pick b (zoneReset z (zoneLook k z .generation)) (seal z (zoneLook k z .pointer) (zoneLook k z .generation))))) ≡ g .sector
+    go true b = label-long g d (k .lost) (k .array) ok
+    go false true = reset-long g d z (zoneLook k z .generation) ok
+    go false false = seal-long g d z (zoneLook k z .pointer) (zoneLook k z .generation) ok
+
+module _ (g : Geometry) (kind : ℕ) (k : Look) (w : Device) (a : ℕ → Bool) (ok : Valid g) where
+  pub header-in : (d z : ℕ) → d < g .drives → StoresIn g (stays k) (headerStores g kind k w d z)
+  header-in d z hd = pick-in g (stays k) (headerDue g kind k w d z) (appendGeneral g (headerFor kind k z) d) (λ e. ((hd, omega arith, header-for-long g d kind k z ok, log-stays k generalZone (omega arith)), tt))
+
+  pub header-row-in : (d n : ℕ) → d < g .drives → StoresIn g (stays k) (onPresent a (eachBelow (headerStores g kind k w d) n))
+  header-row-in d n hd = on-present-in g (stays k) a (eachBelow (headerStores g kind k w d) n) (each-in g (stays k) (headerStores g kind k w d) n (λ z h. header-in d z hd))
+
+  pub header-steps-in : (n m : ℕ) → m ≤ g .drives → StoresIn g (stays k) (onPresent a (headerSteps g kind k w n m))
+  header-steps-in n m h = on-present-in g (stays k) a (headerSteps g kind k w n m) (each-in g (stays k) (λ d. eachBelow (headerStores g kind k w d) n) m (λ d l. each-in g (stays k) (headerStores g kind k w d) n (λ z q. header-in d z (omega arith))))
+
+-- ---- what the code asks of the tables while it stores headers
+pub record Logging (g : Geometry) (k : Look) (ps xs ws : List ℕ) : Type 0 where
+  pub sectors-long : length xs ≡ totalBytes g
+  pub written-long : length ws ≡ cells g
+  pub pointers-long : length ps ≡ cells g
+  pub within : LookWithin g k
+  pub behind : Behind g (stays k) ps ws
+
+-- and it can go on asking for it after headers were stored; the look's device is still the same
+pub logged : (g : Geometry) (k : Look) (budget rest : ℕ) (ss : List Store) (ps xs ws xs′ ws′ : List ℕ) → Logging g k ps xs ws → StoresIn g (stays k) ss → MadeAppends g budget rest ss xs ws xs′ ws′
+    → Logging g k ps xs′ ws′ × (seen g xs′ ps ≡ seen g xs ps)
+logged g k budget rest ss ps xs ws xs′ ws′ l p m =
+    let h = made-keeps g (stays k) budget rest ss ps (tablesOf xs ws ws) (tablesOf xs′ ws′ ws) p (record { sectors-long = l .sectors-long; written-long = l .written-long; durable-long = l .written-long }) (l .behind) (m .made ws) in
+    (record { sectors-long = h .sized .sectors-long; written-long = h .sized .written-long; pointers-long = l .pointers-long; within = l .within; behind = h .behind }, kept-device g ps xs xs′ [] (h .bytes))
+
+pub headers-in : (g : Geometry) (kind : ℕ) (k : Look) (w : Device) (n : ℕ) → Valid g → StoresIn g (stays k) (headerSteps g kind k w n (g .drives))
+headers-in g kind k w n ok = each-in g (stays k) (λ d. eachBelow (headerStores g kind k w d) n) (g .drives) (λ d l. each-in g (stays k) (headerStores g kind k w d) n (λ z q. header-in g kind k w (λ e. true) ok d z l))

@@ -1,0 +1,66 @@
+-- The look that a mount's code keeps (struct Look), as the rules see it, and when it tells the truth about what is shown.
+use mathlib.Core.Path.{_≡_, refl}
+use mathlib.Core.Bool.{Bool, true, false, _||_, not}
+use Prim.Native.Nat.{ℕ, suc, _+_, _-_, _^_, _≤_, _<_}
+use native.Mathlib.Omega.{arith}
+use borrow.Author.Tests.{lt-ltb, le-ltb}
+use lib.Dec.{ltb}
+use mathlib.Core.List.{List, []}
+use lib.ListN.{getD}
+use Rattle.tables.specs.declared.Geometry.{Geometry}
+use Rattle.tables.specs.Geometry.{zoneSectors}
+use Rattle.volume.specs.declared.Condition.the-variants.{Empty}
+use Rattle.volume.specs.declared.ZoneLook.{ZoneLook}
+use Rattle.volume.specs.declared.Look.{Look}
+use Rattle.volume.specs.State.{isEmpty}
+use Rattle.volume.specs.Rules.{Shown, ZoneShown}
+use Rattle.volume.specs.Mount.{needsReset}
+
+-- past its end the array of zones is blank
+abbrev pub blankLook : ZoneLook
+blankLook = record { generation = 0; condition = Empty; pointer = 0; «by_reset» = false; clean = false }
+
+abbrev pub zoneLook : Look → ℕ → ZoneLook
+zoneLook k z = getD (k .zones) z blankLook
+
+-- a look with values is what is shown
+abbrev pub zoneWith : ZoneLook → (ℕ → List ℕ) → ZoneShown
+zoneWith s value = record { generation = s .generation; condition = s .condition; pointer = s .pointer; value = value; byReset = s .«by_reset»; clean = s .clean }
+
+abbrev pub shownWith : Look → (ℕ → ℕ → List ℕ) → Shown
+shownWith k value = record { lost = k .lost; array = k .array; zone = λ z. zoneWith (zoneLook k z) (value z) }
+
+-- without values: steps 1 to 5 ask for none
+abbrev pub shownBy : Look → Shown
+shownBy k = shownWith k (λ z a. [])
+
+-- it tells the truth about what is shown, values apart
+pub record Tells (g : Geometry) (k : Look) (s : Shown) : Type 0 where
+  pub lost-is : k .lost ≡ s .lost
+  pub array-is : k .array ≡ s .array
+  pub zone-is : (z : ℕ) → z < g .zones → zoneWith (zoneLook k z) (s .zone z .value) ≡ s .zone z
+
+-- its numbers are in range: what code relies on
+pub record LookWithin (g : Geometry) (k : Look) : Type 0 where
+  pub lost-small : k .lost < 256
+  pub pointer-most : (z : ℕ) → z < g .zones → zoneLook k z .pointer ≤ zoneSectors g
+  pub generation-small : (z : ℕ) → z < g .zones → zoneLook k z .generation < 2 ^ 64
+  pub raises : (z : ℕ) → z < g .zones → isEmpty (zoneLook k z .condition) ≡ true → suc (zoneLook k z .generation) < 2 ^ 64
+
+-- "resets of those zones and of unclean ones with pointer 0, worn zones excepted"
+abbrev pub resetNeeded : ZoneLook → Bool
+resetNeeded s = needsReset (zoneWith s (λ a. []))
+
+-- the physical zones that a mount does not reset: there it only appends
+unfoldable pub stays : Look → ℕ → Bool
+stays k y = ltb y 3 || not (resetNeeded (zoneLook k (y - 3)))
+
+pub log-stays : (k : Look) (y : ℕ) → y < 3 → stays k y ≡ true
+unfolding stays
+log-stays k y h = rw (lt-ltb y 3 h) refl
+
+pub data-stays : (k : Look) (z : ℕ) → stays k (3 + z) ≡ not (resetNeeded (zoneLook k z))
+unfolding stays
+data-stays k z =
+    let e : 3 + z - 3 ≡ z = omega arith in
+    rw (le-ltb (3 + z) 3 (omega arith), e) refl

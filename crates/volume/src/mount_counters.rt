@@ -1,0 +1,273 @@
+// A mount's counters: "if any zone is empty or the present drives' last counters differ, on each present drive one counters entry with the
+// zones' generations, every empty zone's raised by 1".
+use super::Condition;
+use super::Look;
+use tables::Geometry;
+ghost use mathlib.Core.Path.{_≡_};
+ghost use mathlib.Core.Bool.{_&&_, not};
+ghost use mathlib.Core.List.{[]};
+ghost use Prim.Native.Nat.{ℕ, _+_, _*_, _≤_, _<_};
+ghost use lib.ListN.{length, getD, take};
+ghost use lib.Dec.{eqb};
+ghost use Rattle.tables.specs.Below.{anyBelow, allBelow};
+ghost use Rattle.tables.specs.LittleEndian.{sameBytes, readLE};
+ghost use Rattle.tables.specs.Geometry.{Valid, cells, totalBytes};
+ghost use Rattle.tables.specs.Phases.{onPresent};
+ghost use Rattle.tables.specs.Tables.{MadeAppends};
+ghost use Rattle.logs.specs.WalkCode.{logSectors};
+ghost use Rattle.logs.specs.Heads.{lastCounters};
+ghost use Rattle.volume.specs.State.{isEmpty};
+ghost use Rattle.volume.specs.Rules.{generalHeads};
+ghost use Rattle.volume.specs.Mount.{nextGeneration, countersDiffer, counterStep};
+ghost use Rattle.volume.specs.OnTables.{among};
+ghost use Rattle.volume.specs.MountTables.{seen};
+ghost use Rattle.volume.specs.MountLook.{zoneLook, shownBy, LookWithin};
+ghost use Rattle.volume.specs.MountHeaders.{Logging};
+ghost use Rattle.volume.specs.MountGenerations.{filled, counterStores, countersDue};
+
+fn is_empty(c: Condition) -> bool
+    ensures { λ r. ⌜ r ≡ isEmpty c ⌝ }
+{
+    match c {
+        Condition::Empty => true,
+        Condition::Open(_) => false,
+        Condition::Sealed(_) => false,
+        Condition::Worn(_) => false,
+    }
+}
+
+// Whether a zone is shown empty.
+fn zone_empty(g: Geometry, look: Look, z: usize) -> bool
+    requires { ⌜ Valid g ⌝ }
+    requires { ⌜ z < g .zones ⌝ }
+    ensures { λ r. ⌜ r ≡ isEmpty (zoneLook look z .condition) ⌝ }
+{
+    let zones = look.zones;
+    let zone = zones[z];
+    let condition = zone.condition;
+    is_empty(condition)
+}
+
+fn any_empty(g: Geometry, look: Look) -> bool
+    requires { ⌜ Valid g ⌝ }
+    ensures { λ r. ⌜ r ≡ anyBelow (λ (z : ℕ). isEmpty (zoneLook look z .condition)) (g .zones) ⌝ }
+{
+    let n = g.zones;
+    let mut any = false;
+    let mut z = 0;
+    while z < n {
+        let empty = zone_empty(g, look, z);
+        any = any | empty;
+        z += 1;
+    }
+    any
+}
+
+// A zone's generation in the new counters.
+fn next_generation(g: Geometry, look: Look, z: usize) -> u64
+    requires { ⌜ Valid g ⌝ }
+    requires { ⌜ (z < g .zones) × LookWithin g look ⌝ }
+    ensures { λ r. ⌜ r ≡ nextGeneration (shownBy look) z ⌝ }
+{
+    let zones = look.zones;
+    let zone = zones[z];
+    let generation = zone.generation;
+    let empty = zone_empty(g, look, z);
+    if !empty {
+        return generation;
+    }
+    generation + 1
+}
+
+fn next_generations(g: Geometry, look: Look) -> [u64; 16]
+    requires { ⌜ Valid g ⌝ }
+    requires { ⌜ LookWithin g look ⌝ }
+    ensures { λ r. ⌜ r ≡ filled (nextGeneration (shownBy look)) (g .zones) ⌝ }
+{
+    let n = g.zones;
+    let mut next = [0u64; 16];
+    let mut z = 0;
+    while z < n {
+        next[z] = next_generation(g, look, z);
+        z += 1;
+    }
+    next
+}
+
+// Whether the counters at two places of two drives' logs give every zone the same generation.
+fn same_generations(
+    sectors: &[u8],
+    g: Geometry,
+    d: usize,
+    n: usize,
+    p: usize,
+    e: usize,
+    m: usize,
+    q: usize,
+) -> bool
+    requires { ⌜ Valid g ⌝ }
+    requires { ⌜ (length (now sectors) ≡ totalBytes g) × (d < g .drives) × (n ≤ g .capacity) × (p < n) × (e < g .drives) × (m ≤ g .capacity) × (q < m) ⌝ }
+    ensures { λ r. ⌜ r ≡ allBelow (λ (z : ℕ). eqb (readLE 8 (getD (logSectors g d 0 (now (sectors .entry)) n) p []) (32 + 8 * z)) (readLE 8 (getD (logSectors g e 0 (now (sectors .entry)) m) q []) (32 + 8 * z))) (g .zones) ⌝ }
+{
+    let l = g.zones;
+    let mut same = true;
+    let mut z = 0;
+    while z < l {
+        let a = logs::folds::generation_at(sectors, g, d, 0, n, p, z);
+        let b = logs::folds::generation_at(sectors, g, e, 0, m, q, z);
+        same = same & (a == b);
+        z += 1;
+    }
+    same
+}
+
+// Whether two drives have the same last counters. A drive without counters differs from one with them.
+fn same_counters(sectors: &[u8], pointers: &[u32], g: Geometry, d: usize, e: usize) -> bool
+    requires { ⌜ Valid g ⌝ }
+    requires { ⌜ (d < g .drives) × (e < g .drives) × (length (now sectors) ≡ totalBytes g) × (length (now pointers) ≡ cells g) ⌝ }
+    ensures { λ r. ⌜ r ≡ sameBytes (lastCounters [] (generalHeads g (seen g (now (sectors .entry)) (now (pointers .entry))) d)) (lastCounters [] (generalHeads g (seen g (now (sectors .entry)) (now (pointers .entry))) e)) ⌝ }
+{
+    let n = super::mount_logs::sectors_then(pointers, g, d, 0);
+    let m = super::mount_logs::sectors_then(pointers, g, e, 0);
+    let p = logs::folds::last_counters(sectors, g, d, 0, n);
+    let q = logs::folds::last_counters(sectors, g, e, 0, m);
+    if p == 0 {
+        return q == 0;
+    }
+    if q == 0 {
+        return false;
+    }
+    same_generations(sectors, g, d, n, p - 1, e, m, q - 1)
+}
+
+// Whether drive e is here and its last counters are not drive d's.
+fn differs_from(
+    sectors: &[u8],
+    pointers: &[u32],
+    g: Geometry,
+    here: [bool; 8],
+    d: usize,
+    e: usize,
+) -> bool
+    requires { ⌜ Valid g ⌝ }
+    requires { ⌜ (d < g .drives) × (e < g .drives) × (length (now sectors) ≡ totalBytes g) × (length (now pointers) ≡ cells g) ⌝ }
+    ensures { λ r. ⌜ r ≡ among here e && not (sameBytes (lastCounters [] (generalHeads g (seen g (now (sectors .entry)) (now (pointers .entry))) d)) (lastCounters [] (generalHeads g (seen g (now (sectors .entry)) (now (pointers .entry))) e))) ⌝ }
+{
+    let present = here[e];
+    if !present {
+        return false;
+    }
+    let same = same_counters(sectors, pointers, g, d, e);
+    !same
+}
+
+fn any_differs(sectors: &[u8], pointers: &[u32], g: Geometry, here: [bool; 8], d: usize) -> bool
+    requires { ⌜ Valid g ⌝ }
+    requires { ⌜ (d < g .drives) × (length (now sectors) ≡ totalBytes g) × (length (now pointers) ≡ cells g) ⌝ }
+    ensures { λ r. ⌜ r ≡ anyBelow (λ (e : ℕ). among here e && not (sameBytes (lastCounters [] (generalHeads g (seen g (now (sectors .entry)) (now (pointers .entry))) d)) (lastCounters [] (generalHeads g (seen g (now (sectors .entry)) (now (pointers .entry))) e)))) (g .drives) ⌝ }
+{
+    let n = g.drives;
+    let mut any = false;
+    let mut e = 0;
+    while e < n {
+        let differs = differs_from(sectors, pointers, g, here, d, e);
+        any = any | differs;
+        e += 1;
+    }
+    any
+}
+
+// Whether drive d is here and some drive's last counters are not its.
+fn differs_at(sectors: &[u8], pointers: &[u32], g: Geometry, here: [bool; 8], d: usize) -> bool
+    requires { ⌜ Valid g ⌝ }
+    requires { ⌜ (d < g .drives) × (length (now sectors) ≡ totalBytes g) × (length (now pointers) ≡ cells g) ⌝ }
+    ensures { λ r. ⌜ r ≡ among here d && anyBelow (λ (e : ℕ). among here e && not (sameBytes (lastCounters [] (generalHeads g (seen g (now (sectors .entry)) (now (pointers .entry))) d)) (lastCounters [] (generalHeads g (seen g (now (sectors .entry)) (now (pointers .entry))) e)))) (g .drives) ⌝ }
+{
+    let present = here[d];
+    if !present {
+        return false;
+    }
+    any_differs(sectors, pointers, g, here, d)
+}
+
+fn counters_differ(sectors: &[u8], pointers: &[u32], g: Geometry, here: [bool; 8]) -> bool
+    requires { ⌜ Valid g ⌝ }
+    requires { ⌜ (length (now sectors) ≡ totalBytes g) × (length (now pointers) ≡ cells g) ⌝ }
+    ensures { λ r. ⌜ r ≡ countersDiffer g (among here) (seen g (now (sectors .entry)) (now (pointers .entry))) ⌝ }
+{
+    let n = g.drives;
+    let mut any = false;
+    let mut d = 0;
+    while d < n {
+        let differs = differs_at(sectors, pointers, g, here, d);
+        any = any | differs;
+        d += 1;
+    }
+    any
+}
+
+// Whether new counters are due.
+pub fn counters_due(
+    sectors: &[u8],
+    pointers: &[u32],
+    g: Geometry,
+    here: [bool; 8],
+    look: Look,
+) -> bool
+    requires { ⌜ Valid g ⌝ }
+    requires { ⌜ (length (now sectors) ≡ totalBytes g) × (length (now pointers) ≡ cells g) ⌝ }
+    ensures { λ r. ⌜ r ≡ countersDue g (among here) look (seen g (now (sectors .entry)) (now (pointers .entry))) ⌝ }
+{
+    let empty = any_empty(g, look);
+    let differ = counters_differ(sectors, pointers, g, here);
+    empty | differ
+}
+
+// Counters on every drive that is here: what is left of the budget of stores.
+fn log_counters(
+    sectors: &mut [u8],
+    written: &mut [u32],
+    out: &mut [u8],
+    g: Geometry,
+    here: [bool; 8],
+    generations: &[u64],
+    budget: u64,
+) -> u64
+    requires { ⌜ Valid g ⌝ }
+    requires { ⌜ (length (now sectors) ≡ totalBytes g) × (length (now written) ≡ cells g) × (length (now out) ≡ g .sector) × (g .zones ≤ length (now generations)) ⌝ }
+    ensures { λ r. ⌜ MadeAppends g budget r (onPresent (among here) (counterStores g (take (g .zones) (now (generations .entry))) (g .drives))) (now (sectors .entry)) (now (written .entry)) (now (sectors .exit)) (now (written .exit)) ⌝ }
+{
+    let n = g.drives;
+    let mut rest = budget;
+    let mut d = 0;
+    while d < n {
+        logs::headers::write_counters(out, g, d, generations);
+        let present = here[d];
+        rest = tables::stores::append_counted(sectors, written, g, present, d, 0, out, rest);
+        d += 1;
+    }
+    rest
+}
+
+// The counters of the step, if they are due.
+pub fn store_counters(
+    sectors: &mut [u8],
+    written: &mut [u32],
+    pointers: &[u32],
+    out: &mut [u8],
+    g: Geometry,
+    here: [bool; 8],
+    look: Look,
+    budget: u64,
+) -> u64
+    requires { ⌜ Valid g ⌝ }
+    requires { ⌜ (length (now out) ≡ g .sector) × Logging g look (now pointers) (now sectors) (now written) ⌝ }
+    ensures { λ r. ⌜ MadeAppends g budget r (onPresent (among here) (counterStep g (among here) (shownBy look) (seen g (now (sectors .entry)) (now (pointers .entry))))) (now (sectors .entry)) (now (written .entry)) (now (sectors .exit)) (now (written .exit)) ⌝ }
+{
+    let due = counters_due(sectors, pointers, g, here, look);
+    if !due {
+        return budget;
+    }
+    let next = next_generations(g, look);
+    log_counters(sectors, written, out, g, here, &next, budget)
+}

@@ -1,0 +1,245 @@
+// A mount's headers on the general logs: "a new label on each present drive whose last doesn't name the lost one; type 3 again on both its
+// drives for each zone emptied by rule 3; .. the seal at its pointer of each zone shown sealed, on each present drive lacking it". The three
+// steps differ in the header and in where it is due, and share their loops. A log is read below the pointers of the mount's look.
+use super::Condition;
+use super::Look;
+use tables::Geometry;
+ghost use mathlib.Core.Path.{_≡_};
+ghost use Prim.Native.Nat.{_≤_, _<_, min};
+ghost use lib.ListN.{length, getD};
+ghost use Rattle.tables.specs.Below.{eachBelow};
+ghost use Rattle.tables.specs.Geometry.{Valid, physicalZones, cells, totalBytes};
+ghost use Rattle.tables.specs.Phases.{onPresent};
+ghost use Rattle.tables.specs.Tables.{cell, MadeAppends};
+ghost use Rattle.logs.specs.Entry.{encode};
+ghost use Rattle.volume.specs.State.{isSealed};
+ghost use Rattle.volume.specs.OnTables.{among};
+ghost use Rattle.volume.specs.MountTables.{seen};
+ghost use Rattle.volume.specs.MountLook.{LookWithin};
+ghost use Rattle.volume.specs.MountHeaders.{labelDue, resetDue, sealDue, headerDue, headerFor, headerStores, headerSteps, Logging};
+
+// How many sectors a zone had when the pointers were copied.
+pub fn sectors_then(pointers: &[u32], g: Geometry, drive: usize, zone: usize) -> usize
+    requires { ⌜ Valid g ⌝ }
+    requires { ⌜ (drive < g .drives) × (zone < physicalZones g) × (length (now pointers) ≡ cells g) ⌝ }
+    ensures { λ r. ⌜ (r ≡ min (getD (now (pointers .entry)) (cell g drive zone) 0) (g .capacity)) × (r ≤ g .capacity) ⌝ }
+{
+    let at = tables::stores::cell_of(g, drive, zone);
+    let n = tables::bounds::widen(pointers[at]);
+    let c = g.capacity;
+    tables::placement::smaller(n, c)
+}
+
+fn is_sealed(c: Condition) -> bool
+    ensures { λ r. ⌜ r ≡ isSealed c ⌝ }
+{
+    match c {
+        Condition::Empty => false,
+        Condition::Open(_) => false,
+        Condition::Sealed(_) => true,
+        Condition::Worn(_) => false,
+    }
+}
+
+// Whether a drive is due a new label: its last does not name the lost drive.
+fn label_due(sectors: &[u8], pointers: &[u32], g: Geometry, look: Look, drive: usize) -> bool
+    requires { ⌜ Valid g ⌝ }
+    requires { ⌜ (drive < g .drives) × (length (now sectors) ≡ totalBytes g) × (length (now pointers) ≡ cells g) ⌝ }
+    ensures { λ r. ⌜ r ≡ labelDue g look (seen g (now (sectors .entry)) (now (pointers .entry))) drive ⌝ }
+{
+    let n = sectors_then(pointers, g, drive, 0);
+    let last = logs::folds::last_lost(sectors, g, drive, 0, n);
+    let lost = look.lost;
+    let d = g.drives;
+    (lost < d) & (last != lost)
+}
+
+// Whether a drive is one of the two that log a zone's reset, and a reset entry emptied the zone.
+fn reset_due(g: Geometry, look: Look, drive: usize, z: usize) -> bool
+    requires { ⌜ Valid g ⌝ }
+    requires { ⌜ z < g .zones ⌝ }
+    ensures { λ r. ⌜ r ≡ resetDue g look drive z ⌝ }
+{
+    let zones = look.zones;
+    let zone = zones[z];
+    let emptied = zone.by_reset;
+    let first = tables::placement::first_drive(g, z);
+    let d = g.drives;
+    let parity = tables::placement::parity_drive(d, z, 0);
+    emptied & ((drive == first) | (drive == parity))
+}
+
+// Whether a zone is shown sealed and a drive lacks the seal at its pointer.
+fn seal_due(
+    sectors: &[u8],
+    pointers: &[u32],
+    g: Geometry,
+    look: Look,
+    drive: usize,
+    z: usize,
+) -> bool
+    requires { ⌜ Valid g ⌝ }
+    requires { ⌜ (drive < g .drives) × (z < g .zones) × (length (now sectors) ≡ totalBytes g) × (length (now pointers) ≡ cells g) ⌝ }
+    ensures { λ r. ⌜ r ≡ sealDue g look (seen g (now (sectors .entry)) (now (pointers .entry))) drive z ⌝ }
+{
+    let zones = look.zones;
+    let zone = zones[z];
+    let generation = zone.generation;
+    let pointer = zone.pointer;
+    let condition = zone.condition;
+    let sealed = is_sealed(condition);
+    let n = sectors_then(pointers, g, drive, 0);
+    let there = logs::folds::has_seal_at(sectors, g, drive, 0, n, z, generation, pointer);
+    sealed & !there
+}
+
+// Whether a header of a type is due on a drive for a zone.
+fn header_due(
+    kind: u8,
+    sectors: &[u8],
+    pointers: &[u32],
+    g: Geometry,
+    look: Look,
+    drive: usize,
+    z: usize,
+) -> bool
+    requires { ⌜ Valid g ⌝ }
+    requires { ⌜ (drive < g .drives) × (z < g .zones) × (length (now sectors) ≡ totalBytes g) × (length (now pointers) ≡ cells g) ⌝ }
+    ensures { λ r. ⌜ r ≡ headerDue g kind look (seen g (now (sectors .entry)) (now (pointers .entry))) drive z ⌝ }
+{
+    if kind == 1 {
+        return label_due(sectors, pointers, g, look, drive);
+    }
+    if kind == 3 {
+        return reset_due(g, look, drive, z);
+    }
+    seal_due(sectors, pointers, g, look, drive, z)
+}
+
+// Writes that header.
+fn write_header(kind: u8, out: &mut [u8], g: Geometry, look: Look, drive: usize, z: usize)
+    requires { ⌜ Valid g ⌝ }
+    requires { ⌜ (drive < g .drives) × (z < g .zones) × (length (now out) ≡ g .sector) × LookWithin g look ⌝ }
+    ensures { λ _. ⌜ now (out .exit) ≡ encode g drive (headerFor kind look z) ⌝ }
+{
+    if kind == 1 {
+        logs::headers::write_label(out, g, drive, look.lost, look.array);
+        return;
+    }
+    let zones = look.zones;
+    let zone = zones[z];
+    let generation = zone.generation;
+    if kind == 3 {
+        logs::headers::write_reset(out, g, drive, z, generation);
+        return;
+    }
+    logs::headers::write_seal(out, g, drive, z, zone.pointer, generation);
+}
+
+// One header, if its drive is here and it is due: what is left of the budget of stores.
+fn log_header(
+    kind: u8,
+    sectors: &mut [u8],
+    written: &mut [u32],
+    pointers: &[u32],
+    out: &mut [u8],
+    g: Geometry,
+    here: [bool; 8],
+    look: Look,
+    drive: usize,
+    z: usize,
+    budget: u64,
+) -> u64
+    requires { ⌜ Valid g ⌝ }
+    requires { ⌜ (drive < g .drives) × (z < g .zones) × (length (now out) ≡ g .sector) × Logging g look (now pointers) (now sectors) (now written) ⌝ }
+    ensures { λ r. ⌜ MadeAppends g budget r (onPresent (among here) (headerStores g kind look (seen g (now (sectors .entry)) (now (pointers .entry))) drive z)) (now (sectors .entry)) (now (written .entry)) (now (sectors .exit)) (now (written .exit)) ⌝ }
+{
+    let present = here[drive];
+    if !present {
+        return budget;
+    }
+    let due = header_due(kind, sectors, pointers, g, look, drive, z);
+    if !due {
+        return budget;
+    }
+    write_header(kind, out, g, look, drive, z);
+    tables::stores::append_counted(sectors, written, g, true, drive, 0, out, budget)
+}
+
+// The headers of one drive, for the first n zones.
+fn log_drive(
+    kind: u8,
+    sectors: &mut [u8],
+    written: &mut [u32],
+    pointers: &[u32],
+    out: &mut [u8],
+    g: Geometry,
+    here: [bool; 8],
+    look: Look,
+    drive: usize,
+    n: usize,
+    budget: u64,
+) -> u64
+    requires { ⌜ Valid g ⌝ }
+    requires { ⌜ (drive < g .drives) × (n ≤ g .zones) × (length (now out) ≡ g .sector) × Logging g look (now pointers) (now sectors) (now written) ⌝ }
+    ensures { λ r. ⌜ MadeAppends g budget r (onPresent (among here) (eachBelow (headerStores g kind look (seen g (now (sectors .entry)) (now (pointers .entry))) drive) n)) (now (sectors .entry)) (now (written .entry)) (now (sectors .exit)) (now (written .exit)) ⌝ }
+{
+    let mut rest = budget;
+    let mut z = 0;
+    while z < n {
+        rest = log_header(
+            kind,
+            sectors,
+            written,
+            pointers,
+            out,
+            g,
+            here,
+            look,
+            drive,
+            z,
+            rest,
+        );
+        z += 1;
+    }
+    rest
+}
+
+// The headers of a step, drive by drive.
+pub fn log_headers(
+    kind: u8,
+    sectors: &mut [u8],
+    written: &mut [u32],
+    pointers: &[u32],
+    out: &mut [u8],
+    g: Geometry,
+    here: [bool; 8],
+    look: Look,
+    n: usize,
+    budget: u64,
+) -> u64
+    requires { ⌜ Valid g ⌝ }
+    requires { ⌜ (n ≤ g .zones) × (length (now out) ≡ g .sector) × Logging g look (now pointers) (now sectors) (now written) ⌝ }
+    ensures { λ r. ⌜ MadeAppends g budget r (onPresent (among here) (headerSteps g kind look (seen g (now (sectors .entry)) (now (pointers .entry))) n (g .drives))) (now (sectors .entry)) (now (written .entry)) (now (sectors .exit)) (now (written .exit)) ⌝ }
+{
+    let m = g.drives;
+    let mut rest = budget;
+    let mut d = 0;
+    while d < m {
+        rest = log_drive(
+            kind,
+            sectors,
+            written,
+            pointers,
+            out,
+            g,
+            here,
+            look,
+            d,
+            n,
+            rest,
+        );
+        d += 1;
+    }
+    rest
+}

@@ -1,0 +1,80 @@
+// Rows that a mount stores: the exclusive or of the values of a row's sectors below an end. Values are those of the mount's look: they are read
+// below its pointers.
+use tables::Geometry;
+ghost use mathlib.Core.Path.{_≡_};
+ghost use Prim.Native.Nat.{_+_, _*_, _<_};
+ghost use lib.ListN.{length};
+ghost use lib.Dec.{ltb};
+ghost use Rattle.tables.specs.Basics.{pick};
+ghost use Rattle.tables.specs.Xor.{xorBytes};
+ghost use Rattle.tables.specs.Geometry.{Valid, stripeSectors};
+ghost use Rattle.volume.specs.Content.{rowXorBelow};
+ghost use Rattle.volume.specs.MountRows.{KnownBelow, valuesOf};
+
+// Adds the value of the sector at address a to a buffer, if a is below `end`; `value` is scratch.
+fn xor_value(
+    sectors: &[u8],
+    pointers: &[u32],
+    g: Geometry,
+    here: [bool; 8],
+    z: usize,
+    generation: u64,
+    limit: usize,
+    end: usize,
+    a: usize,
+    value: &mut [u8],
+    out: &mut [u8],
+)
+    requires { ⌜ Valid g ⌝ }
+    requires { ⌜ KnownBelow g here (now sectors) (now pointers) z generation limit end × (length (now value) ≡ g .sector) × (length (now out) ≡ g .sector) ⌝ }
+    ensures { λ _. ⌜ now (out .exit) ≡ pick (ltb a end) (xorBytes (now (out .entry)) (valuesOf g here (now (sectors .entry)) (now (pointers .entry)) z generation a)) (now (out .entry)) ⌝ }
+{
+    if end <= a {
+        return;
+    }
+    super::knowing::sector_value(sectors, pointers, g, here, z, generation, limit, a, value);
+    tables::sectors::xor_into(out, value);
+}
+
+// Row r of stripe s: the exclusive or of its sectors below `end`, which lies past the first of them.
+pub fn row_value(
+    sectors: &[u8],
+    pointers: &[u32],
+    g: Geometry,
+    here: [bool; 8],
+    z: usize,
+    generation: u64,
+    limit: usize,
+    end: usize,
+    s: usize,
+    r: usize,
+    value: &mut [u8],
+    out: &mut [u8],
+)
+    requires { ⌜ Valid g ⌝ }
+    requires { ⌜ KnownBelow g here (now sectors) (now pointers) z generation limit end × (length (now value) ≡ g .sector) × (length (now out) ≡ g .sector) × (s * stripeSectors g + r < end) ⌝ }
+    ensures { λ _. ⌜ now (out .exit) ≡ rowXorBelow (g .drives) (g .unit) (valuesOf g here (now (sectors .entry)) (now (pointers .entry)) z generation) s end r ⌝ }
+{
+    let drives = g.drives;
+    let u = g.unit;
+    let n = drives - 1;
+    let first = s * (n * u) + r;
+    super::knowing::sector_value(sectors, pointers, g, here, z, generation, limit, first, out);
+    let mut k = 1;
+    while k < n {
+        xor_value(
+            sectors,
+            pointers,
+            g,
+            here,
+            z,
+            generation,
+            limit,
+            end,
+            first + k * u,
+            value,
+            out,
+        );
+        k += 1;
+    }
+}

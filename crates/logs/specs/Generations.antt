@@ -1,18 +1,19 @@
 -- The generations that the last counters of a log give, read where they stand.
 use mathlib.Core.Path.{_≡_, refl, sym, ap, _∙_}
-use mathlib.Core.Logic.{_⊎_, inl, inr}
+use mathlib.Core.Logic.{_≢_, _⊎_, inl, inr}
 use mathlib.Core.Bool.{Bool, true, false, _&&_, true≢false}
 use Prim.Native.Nat.{ℕ, zero, suc, _+_, _-_, _*_, _<_}
 use native.Mathlib.Omega.{arith}
 use mathlib.Core.List.{List, [], _∷_, _++_, map}
-use lib.ListN.{getD, take, drop}
+use lib.ListN.{length, getD, take, drop}
 use lib.Seq.{drop-drop}
 use lib.Dec.{eqb}
+use borrow.Author.Tests.{eqb-true}
 use Rattle.tables.specs.Basics.{pick}
 use Rattle.tables.specs.Lists.{anyOf, map-append}
 use Rattle.tables.specs.declared.Geometry.{Geometry}
 use Rattle.tables.specs.LittleEndian.{numberLE, numbersLE, readLE, sameBytes}
-use Rattle.logs.specs.Entry.{Header, label, counters, zoneReset, partialParity, seal, Entry, legal, bad, readFields, kindOf, encode, fitsLog, decode}
+use Rattle.logs.specs.Entry.{Header, label, counters, zoneReset, partialParity, seal, Entry, legal, bad, readFields, kindOf, encode, fitsLog, decode, decode-legal}
 use Rattle.logs.specs.Walk.{walkLog}
 use Rattle.logs.specs.Heads.{isCounters, lastCounters, generationIn}
 use Rattle.logs.specs.Query.{headsOf, headOf}
@@ -74,7 +75,7 @@ counters-of (partialParity z s f n) e = absurd (true≢false (sym e))
 counters-of (seal z p n) e = absurd (true≢false (sym e))
 
 module _ (g : Geometry) (d : ℕ) (ss : List (List ℕ)) where
-  abbrev countersPlace : ℕ
+  abbrev pub countersPlace : ℕ
   countersPlace = lastPlace g isCounters zero zero (headsOf (walkLog g d false ss))
 
   abbrev Where : Type 0
@@ -82,6 +83,28 @@ module _ (g : Geometry) (d : ℕ) (ss : List (List ℕ)) where
 
   found-place : Where
   found-place = last-place g d false ss isCounters (walkLog g d false ss .entries) zero zero (walk-places g d false ss .placed)
+
+  -- the last counters are none, or one number for each zone
+  pub no-counters : countersPlace ≡ zero → lastCounters [] (headsOf (walkLog g d false ss)) ≡ []
+  no-counters e = go found-place
+    where
+      go : Where → lastCounters [] (headsOf (walkLog g d false ss)) ≡ []
+      go (inl (n, m)) = counters-none [] (headsOf (walkLog g d false ss)) n
+      go (inr (q, s, m)) = absurd (omega (arith, m, e))
+
+  pub counters-long : countersPlace ≢ zero → length (lastCounters [] (headsOf (walkLog g d false ss))) ≡ g .zones
+  counters-long e = go found-place
+    where
+      go : Where → length (lastCounters [] (headsOf (walkLog g d false ss))) ≡ g .zones
+      go (inl (n, m)) = absurd (e m)
+      go (inr (q, s, m)) =
+          let (cs, c) = counters-of (s .entry .head) (s .passes) in
+          let r : decode g d false (getD ss q []) ≡ legal (counters cs) = s .stands .reads ∙ ap legal c in
+          let l : lastCounters [] (headsOf (walkLog g d false ss)) ≡ cs =
+          ap (λ (es : List Entry). lastCounters [] (map headOf es)) (s .split) ∙ ap (lastCounters []) (map-append headOf (s .before) (s .entry ∷ s .after))
+          ∙ ap (λ (x : Header). lastCounters [] (map headOf (s .before) ++ (x ∷ map headOf (s .after)))) c
+          ∙ counters-last [] cs (map headOf (s .before)) (map headOf (s .after)) (s .none-after) in
+          ap length l ∙ eqb-true (length cs) (g .zones) (decode-legal g d false (getD ss q []) (counters cs) r .1)
 
   pub no-generation : (z : ℕ) → countersPlace ≡ zero → zero ≡ generationIn z (headsOf (walkLog g d false ss))
   no-generation z e = go found-place

@@ -1,12 +1,12 @@
 -- Step 4 of a mount: "if any zone is empty or the present drives' last counters differ, on each present drive one counters entry with the
 -- zones' generations, every empty zone's raised by 1".
 use mathlib.Core.Path.{_≡_, refl, sym, ap, ap₂, _∙_}
-use mathlib.Core.Logic.{_≢_, _⊎_, inl, inr}
+use mathlib.Core.Logic.{_≢_}
 use mathlib.Core.Bool.{Bool, true, false, _||_, true≢false}
 use Prim.Native.Nat.{ℕ, zero, suc, _+_, _-_, _*_, _≤_, _<_}
 use native.Mathlib.Decide.{ℕ-discrete}
 use native.Mathlib.Omega.{arith}
-use mathlib.Core.List.{List, [], _∷_, _++_, map}
+use mathlib.Core.List.{List, [], _∷_, _++_}
 use lib.ListN.{length, getD, set, take, replicate, length-append, length-replicate}
 use lib.Seq.{take-at}
 use lib.Dec.{eqb}
@@ -14,19 +14,17 @@ use borrow.Author.Tests.{eqb-true, eq-eqb, ne-eqb}
 use Rattle.tables.specs.declared.Geometry.{Geometry}
 use Rattle.tables.specs.Basics.{pick, eqb-same}
 use Rattle.tables.specs.Below.{eachBelow, anyBelow, allBelow, all-below-all, all-all-below, tabulate, length-tabulate}
-use Rattle.tables.specs.Lists.{anyOf, map-append}
 use Rattle.tables.specs.LittleEndian.{sameBytes, same-bytes-eq, same-bytes-refl, wordsLE, readLE}
 use Rattle.tables.specs.Geometry.{Valid}
 use Rattle.tables.specs.Device.{Device, Store, append}
 use Rattle.tables.specs.Phases.{onPresent}
 use Rattle.tables.specs.Tables.{storeIf}
-use Rattle.logs.specs.Entry.{generalZone, Header, label, counters, zoneReset, partialParity, seal, Entry, encode, frame, legal, decode, decode-legal}
+use Rattle.logs.specs.Entry.{generalZone, counters, encode, frame}
 use Rattle.logs.specs.Walk.{walkLog}
-use Rattle.logs.specs.Query.{headsOf, headOf}
-use Rattle.logs.specs.Heads.{isCounters, lastCounters}
+use Rattle.logs.specs.Query.{headsOf}
+use Rattle.logs.specs.Heads.{lastCounters}
 use Rattle.logs.specs.Lays.{length-words}
-use Rattle.logs.specs.Generations.{generation-there}
-use Rattle.logs.specs.Places.{lastPlace, LastSuch, last-place, walk-places}
+use Rattle.logs.specs.Generations.{generation-there, countersPlace, no-counters, counters-long}
 use Rattle.volume.specs.KnowingLaws.{all-below-cong}
 use Rattle.volume.specs.declared.Look.{Look}
 use Rattle.volume.specs.State.{isEmpty}
@@ -34,61 +32,6 @@ use Rattle.volume.specs.Calls.{appendGeneral, generationsFrom}
 use Rattle.volume.specs.Mount.{nextGeneration, countersDiffer, counterStep}
 use Rattle.volume.specs.MountTables.{StoresIn, each-in}
 use Rattle.volume.specs.MountLook.{zoneLook, shownBy, stays, log-stays}
-
--- ---- of logs: the last counters are none, or one number for each zone
-counters-none : (c0 : List ℕ) (hs : List Header) → anyOf isCounters hs ≡ false → lastCounters c0 hs ≡ c0
-counters-none c0 [] e = refl
-counters-none c0 (label x a ∷ hs) e = counters-none c0 hs e
-counters-none c0 (counters cs ∷ hs) e = absurd (true≢false e)
-counters-none c0 (zoneReset z n ∷ hs) e = counters-none c0 hs e
-counters-none c0 (partialParity z s f n ∷ hs) e = counters-none c0 hs e
-counters-none c0 (seal z p n ∷ hs) e = counters-none c0 hs e
-
-counters-last : (c0 cs : List ℕ) (fs hs : List Header) → anyOf isCounters hs ≡ false → lastCounters c0 (fs ++ (counters cs ∷ hs)) ≡ cs
-counters-last c0 cs [] hs e = counters-none cs hs e
-counters-last c0 cs (label x a ∷ fs) hs e = counters-last c0 cs fs hs e
-counters-last c0 cs (counters bs ∷ fs) hs e = counters-last bs cs fs hs e
-counters-last c0 cs (zoneReset z n ∷ fs) hs e = counters-last c0 cs fs hs e
-counters-last c0 cs (partialParity z s f n ∷ fs) hs e = counters-last c0 cs fs hs e
-counters-last c0 cs (seal z p n ∷ fs) hs e = counters-last c0 cs fs hs e
-
-counters-of : (h : Header) → isCounters h ≡ true → (cs : List ℕ) × (h ≡ counters cs)
-counters-of (label x a) e = absurd (true≢false (sym e))
-counters-of (counters cs) e = (cs, refl)
-counters-of (zoneReset z n) e = absurd (true≢false (sym e))
-counters-of (partialParity z s f n) e = absurd (true≢false (sym e))
-counters-of (seal z p n) e = absurd (true≢false (sym e))
-
-module _ (g : Geometry) (d : ℕ) (ss : List (List ℕ)) where
-  abbrev pub countersPlace : ℕ
-  countersPlace = lastPlace g isCounters zero zero (headsOf (walkLog g d false ss))
-
-  abbrev Where : Type 0
-  Where = ((anyOf isCounters (headsOf (walkLog g d false ss)) ≡ false) × (countersPlace ≡ zero)) ⊎ ((q : ℕ) × LastSuch g d false ss isCounters (walkLog g d false ss .entries) q × (countersPlace ≡ q + 1))
-
-  found-place : Where
-  found-place = last-place g d false ss isCounters (walkLog g d false ss .entries) zero zero (walk-places g d false ss .placed)
-
-  pub no-counters : countersPlace ≡ zero → lastCounters [] (headsOf (walkLog g d false ss)) ≡ []
-  no-counters e = go found-place
-    where
-      go : Where → lastCounters [] (headsOf (walkLog g d false ss)) ≡ []
-      go (inl (n, m)) = counters-none [] (headsOf (walkLog g d false ss)) n
-      go (inr (q, s, m)) = absurd (omega (arith, m, e))
-
-  pub counters-long : countersPlace ≢ zero → length (lastCounters [] (headsOf (walkLog g d false ss))) ≡ g .zones
-  counters-long e = go found-place
-    where
-      go : Where → length (lastCounters [] (headsOf (walkLog g d false ss))) ≡ g .zones
-      go (inl (n, m)) = absurd (e m)
-      go (inr (q, s, m)) =
-          let (cs, c) = counters-of (s .entry .head) (s .passes) in
-          let r : decode g d false (getD ss q []) ≡ legal (counters cs) = s .stands .reads ∙ ap legal c in
-          let l : lastCounters [] (headsOf (walkLog g d false ss)) ≡ cs =
-          ap (λ (es : List Entry). lastCounters [] (map headOf es)) (s .split) ∙ ap (lastCounters []) (map-append headOf (s .before) (s .entry ∷ s .after))
-          ∙ ap (λ (x : Header). lastCounters [] (map headOf (s .before) ++ (x ∷ map headOf (s .after)))) c
-          ∙ counters-last [] cs (map headOf (s .before)) (map headOf (s .after)) (s .none-after) in
-          ap length l ∙ eqb-true (length cs) (g .zones) (decode-legal g d false (getD ss q []) (counters cs) r .1)
 
 -- ---- two lists of one length, compared number by number
 from-numbers : (xs ys : List ℕ) → length xs ≡ length ys → ((k : ℕ) → k < length xs → getD xs k 0 ≡ getD ys k 0) → xs ≡ ys

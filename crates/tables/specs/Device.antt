@@ -9,7 +9,7 @@ use native.Mathlib.Nat.{le-refl}
 use native.Mathlib.Decide.{ℕ-discrete}
 use native.Mathlib.Omega.{arith}
 use mathlib.Core.List.{List, [], _∷_, _++_}
-use lib.ListN.{length, take, length-append, length-take}
+use lib.ListN.{length, take, length-append}
 use lib.Dec.{eqb}
 use borrow.Author.Tests.{ne-eqb}
 use Rattle.tables.specs.Basics.{pick, eqb-same}
@@ -67,17 +67,18 @@ pub record ZoneCut (a b : ZoneView) : Type 0 where
   pub most : kept ≤ length (a .sectors)
   pub is : b ≡ keepFirst kept a
 
-unfoldable pub Cut : Device → Device → Type 0
-Cut v w = (d z : ℕ) → ZoneCut (v d z) (w d z)
+-- of every drive but x, the lost one: what becomes of a lost drive's memory is open
+unfoldable pub Cut : ℕ → Device → Device → Type 0
+Cut x v w = (d z : ℕ) → d ≢ x → ZoneCut (v d z) (w d z)
 
 -- no zone has more durable sectors than sectors
 unfoldable pub WellFormed : Device → Type 0
 WellFormed v = (d z : ℕ) → v d z .durable ≤ length (v d z .sectors)
 
 -- ---- laws
-pub cut-at : (v w : Device) → Cut v w → (d z : ℕ) → ZoneCut (v d z) (w d z)
+pub cut-at : (x : ℕ) (v w : Device) → Cut x v w → (d z : ℕ) → d ≢ x → ZoneCut (v d z) (w d z)
 unfolding Cut
-cut-at v w c = c
+cut-at x v w c = c
 
 pub apply-all-append : (xs ys : List Store) (v : Device) → applyAll (xs ++ ys) v ≡ applyAll ys (applyAll xs v)
 apply-all-append [] ys v = refl
@@ -118,7 +119,7 @@ apply-frame (append d z s) v e y n = put-zone-other-drive v d z (appended s (v d
 apply-frame (reset d z) v e y n = put-zone-other-drive v d z blankZone e y n
 apply-frame (flush d) v e y n = rw (ne-eqb e d n) refl
 
--- stores and cuts keep a device well-formed
+-- stores keep a device well-formed
 wf-pick : (b : Bool) (a c : ZoneView) → a .durable ≤ length (a .sectors) → c .durable ≤ length (c .sectors) → pick b a c .durable ≤ length (pick b a c .sectors)
 wf-pick true a c h k = h
 wf-pick false a c h k = k
@@ -132,7 +133,3 @@ well-formed-apply (flush d) v w e y = wf-pick (eqb e d) (flushed (v e y)) (v e y
 pub well-formed-apply-all : (xs : List Store) (v : Device) → WellFormed v → WellFormed (applyAll xs v)
 well-formed-apply-all [] v w = w
 well-formed-apply-all (x ∷ xs) v w = well-formed-apply-all xs (apply x v) (well-formed-apply x v w)
-
-pub well-formed-cut : (v u : Device) → Cut v u → WellFormed u
-unfolding WellFormed Cut
-well-formed-cut v u c d z = rw (c d z .is) (simp length-take (omega (arith, c d z .most)))

@@ -18,3 +18,4 @@ pub mod Counted
 pub mod TablesLaws
 pub mod TablesRefine
 pub mod TablesFrame
+pub mod PointerOrder

@@ -1,6 +1,7 @@
 -- The tables that the host lends (document 01: "Lent"), as flat lists: the bytes of all sectors, drive by drive and zone by zone, and the
 -- written and durable pointers, one per drive and zone. What each store makes of them, the first so many stores of a list, a cut; and the
 -- device that they stand for. Contracts speak of these lists; rules and theorems of the device. TablesLaws joins the two.
+use mathlib.Core.Logic.{_≢_}
 use mathlib.Core.Path.{_≡_}
 use mathlib.Core.Bool.{Bool, true, false, _&&_, _||_}
 use Prim.Native.Nat.{ℕ, zero, suc, _+_, _-_, _*_, _≤_, _<_, min}
@@ -95,12 +96,15 @@ zoneAtCell g t k = record {
 unfoldable pub deviceOf : Geometry → Tables → Device
 deviceOf g t d z = pick (ltb d (g .drives) && ltb z (physicalZones g)) (zoneAtCell g t (cell g d z)) blankZone
 
--- ---- a cut ("sets each written pointer to some value from its durable pointer up to itself, and durable to the same")
-pub record TablesCut (g : Geometry) (t u : Tables) : Type 0 where
+-- ---- a cut ("sets each written pointer to some value from its durable pointer up to itself, and durable to the same"), of every drive
+-- but x, the lost one. The lent memory stays where it is: its lengths are the same.
+pub record TablesCut (g : Geometry) (x : ℕ) (t u : Tables) : Type 0 where
   pub sectors-same : u .sectors ≡ t .sectors
-  pub least : (k : ℕ) → k < cells g → getD (t .durable) k 0 ≤ getD (u .written) k 0
-  pub most : (k : ℕ) → k < cells g → getD (u .written) k 0 ≤ getD (t .written) k 0
-  pub durable-is : (k : ℕ) → k < cells g → getD (u .durable) k 0 ≡ getD (u .written) k 0
+  pub written-long : length (u .written) ≡ length (t .written)
+  pub durable-long : length (u .durable) ≡ length (t .durable)
+  pub least : (d z : ℕ) → d < g .drives → z < physicalZones g → d ≢ x → getD (t .durable) (cell g d z) 0 ≤ getD (u .written) (cell g d z) 0
+  pub most : (d z : ℕ) → d < g .drives → z < physicalZones g → d ≢ x → getD (u .written) (cell g d z) 0 ≤ getD (t .written) (cell g d z) 0
+  pub durable-is : (d z : ℕ) → d < g .drives → z < physicalZones g → d ≢ x → getD (u .durable) (cell g d z) 0 ≡ getD (u .written) (cell g d z) 0
 
 -- ---- refusals 2 and 3, by numbers alone
 -- 2, length: each table has the length that the geometry gives

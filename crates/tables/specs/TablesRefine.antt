@@ -199,24 +199,25 @@ run-sized g zero (x ∷ xs) t w p = w
 run-sized g (suc k) (x ∷ xs) t w p = run-sized g k xs (makeStore g x t) (store-sized g x t w (p .0)) (p .1)
 
 -- ---- a cut
-cut-zone : (g : Geometry) (t u : Tables) → TablesCut g t u → (k : ℕ) → k < cells g → ZoneCut (zoneAtCell g t k) (zoneAtCell g u k)
+cut-zone : (g : Geometry) (x : ℕ) (t u : Tables) → TablesCut g x t u → (d z : ℕ) → d < g .drives → z < physicalZones g → d ≢ x → ZoneCut (zoneAtCell g t (cell g d z)) (zoneAtCell g u (cell g d z))
 unfolding zoneAtCell
-cut-zone g t u c k h =
+cut-zone g x t u c d z hd hz n =
+    let k = cell g d z in
     let f : ℕ → List ℕ = λ n. sectorNo (g .sector) (t .sectors) (k * g .capacity + n) in
     let a = min (getD (u .written) k 0) (g .capacity) in
     let b = min (getD (t .written) k 0) (g .capacity) in
-    let l : a ≤ b = omega (arith, c .most k h) in
+    let l : a ≤ b = omega (arith, c .most d z hd hz n) in
     record {
       kept = a;
-      least = omega (arith, c .least k h);
+      least = omega (arith, c .least d z hd hz n);
       most = rw (length-tabulate f b) l;
-      is = rw (c .sectors-same, c .durable-is k h, take-tabulate f b a l) refl;
+      is = rw (c .sectors-same, c .durable-is d z hd hz n, take-tabulate f b a l) refl;
     }
 
-pub cut-refines : (g : Geometry) (t u : Tables) → TablesCut g t u → Cut (deviceOf g t) (deviceOf g u)
+pub cut-refines : (g : Geometry) (x : ℕ) (t u : Tables) → TablesCut g x t u → Cut x (deviceOf g t) (deviceOf g u)
 unfolding Cut
-cut-refines g t u c d z = go (inOrOut g d z)
+cut-refines g x t u c d z n = go (inOrOut g d z)
   where
     go : In g d z → ZoneCut (deviceOf g t d z) (deviceOf g u d z)
-    go (inside p q i) = rw (device-inside g t d z i, device-inside g u d z i) (cut-zone g t u c (cell g d z) (cell-in g d z p q))
+    go (inside p q i) = rw (device-inside g t d z i, device-inside g u d z i) (cut-zone g x t u c d z p q n)
     go (outside i) = rw (device-outside g t d z i, device-outside g u d z i) (record { kept = zero; least = zero-le; most = zero-le; is = refl })

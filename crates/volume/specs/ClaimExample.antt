@@ -110,9 +110,9 @@ obeys-without1 : (s : System) → s .lost ≡ 1 → Obeys geo s without1
 obeys-without1 s e = record { geometry = refl; drives = λ d h. rw e refl }
 
 -- a cut that leaves just what is durable
-cut-to-durable : (v : Device) → WellFormed v → Cut v (λ d y. keepFirst (v d y .durable) (v d y))
+cut-to-durable : (x : ℕ) (v : Device) → WellFormed v → Cut x v (λ d y. keepFirst (v d y .durable) (v d y))
 unfolding Cut WellFormed
-cut-to-durable v h d y = record { kept = v d y .durable; least = le-refl (v d y .durable); most = h d y; is = refl }
+cut-to-durable x v h d y n = record { kept = v d y .durable; least = le-refl (v d y .durable); most = h d y; is = refl }
 
 -- the device is well formed whatever a call answers
 answer-well-formed : {A : Type 0} (r : Verdict) (xs : List Store) (x : A) (stop : ℕ) (v : Device) → WellFormed v → WellFormed (deviceAfter v (storing r xs x stop v))
@@ -153,7 +153,7 @@ well-formed-0 = answer-well-formed (leastApplying (formatRows geo lengths every 
 
 pub duties-done : Dutiful geo lengths s0 history
 unfolding formatStores writeStores zoneContent writeWith entryAt flushStores resetStores mountStores mountPhases phasesBeforeEntries mountLook mountShows afterOpening labelStep resetEntryStep zoneResetStep counterStep countersDiffer sealStep tornRowStep fillStep entryStep encode frame labelBytes readFields kindOf startOf endOf genOf generalHeads generalEnding parityEntries parityEnding isLost isPresent badPointers twoLost badLabels badLogs generationOf resetSeen sealSeen sealLimit zoneView valueAt pointerAt cleanAt zoneAt zoneShown showing viewOf driveOf sectorOf needed stripeOf unitIndex rowIndex parityDrive stripeLength unitDrive unitOf address addressAt zoneSectors log2 wornGeneration rowXor contentAt rowXorBelow callPresent isValid stateWithin twoAbsent twoUnnamed stale unusedBelow writeFull goneIn goneBefore notHeld formatRows lookRows mountRows writeRows flushRows resetRows readRows peekRows lostIn leftOut namedDrives sectorsIn lengthsFit bufferFits
-duties-done = ((obeys-all s0 refl, refl, refl), ((obeys-all s1 refl, refl, refl), ((obeys-all s2 refl, refl, refl), ((obeys-all s3 refl, refl, refl), (cut-to-durable (s4 .device) (well-formed-4 well-formed-0), ((lit< tt, refl), ((obeys-without1 s6 refl, tt), ((obeys-without1 s7 refl, refl, refl), tt))))))))
+duties-done = ((obeys-all s0 refl, refl, refl), ((obeys-all s1 refl, refl, refl), ((obeys-all s2 refl, refl, refl), ((obeys-all s3 refl, refl, refl), (cut-to-durable (s4 .lost) (s4 .device) (well-formed-4 well-formed-0), ((lit< tt, refl), ((obeys-without1 s6 refl, tt), ((obeys-without1 s7 refl, refl, refl), tt))))))))
 
 -- ---- and what the claim says of it
 pub history-keeps-the-promise : Throughout geo lengths s0 history

@@ -30,7 +30,7 @@ cut-part a b c = rw (c .is) (record { front = prefix-take (c .kept) (a .sectors)
 
 -- THE INVARIANT SURVIVES EVERY CUT
 pub cut-keeps : (g : Geometry) → Valid g → CutKeeps g
-cut-keeps g ok x v w l (γ, i) c = inv-part g x v w l γ i (λ d y a h. cut-part (v d y) (w d y) (cut-at v w c d y))
+cut-keeps g ok x v w l (γ, i) c = inv-part g x v w l γ i (λ d y a h. cut-part (v d y) (w d y) (cut-at x v w c d y (present-not g x d a)))
 
 -- ---- a drive is lost
 here-before : (g : Geometry) → Valid g → (x d : ℕ) → Here g x d → Here g noDrive d

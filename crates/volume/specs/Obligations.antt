@@ -58,7 +58,7 @@ Rests g x v state l = (γ : Ghost) × Rest g x v state l γ
 
 -- ---- cuts and losses
 abbrev pub CutKeeps : Geometry → Type 0
-CutKeeps g = (x : ℕ) (v w : Device) (l : Ledger) → Invs g x v l → Cut v w → Invs g x w l
+CutKeeps g = (x : ℕ) (v w : Device) (l : Ledger) → Invs g x v l → Cut x v w → Invs g x w l
 
 abbrev pub LossKeeps : Geometry → Type 0
 LossKeeps g = (d : ℕ) (v : Device) (l : Ledger) → d < g .drives → Invs g noDrive v l → Invs g d v l

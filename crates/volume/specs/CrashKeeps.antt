@@ -1,6 +1,6 @@
 -- The invariant survives every power cut, and the loss of a drive. A cut leaves a part of each place, as a stopped call does; after a loss
 -- fewer drives are spoken of.
-use Rattle.tables.specs.Drives.{present-other, present-below, noDrive}
+use Rattle.tables.specs.Drives.{present-other, present-below, present-not, noDrive}
 use Rattle.volume.specs.StoppedCall.{Part, inv-part}
 use Rattle.tables.specs.Lists.{prefix-take, prefix-refl}
 use mathlib.Core.Path.{_≡_, refl, sym}

@@ -72,6 +72,7 @@ pub mod OnTables
 pub mod CheckLaws
 pub mod Flushing
 pub mod CallRefines
+pub mod StoresFit
 pub mod ZoneChecks
 pub mod Logging
 pub mod StoreLoops
@@ -87,6 +88,7 @@ pub mod ZoneLooking
 pub mod Looking
 pub mod WriteRows
 pub mod WriteContent
+pub mod PlacedStores
 pub mod WriteStores
 pub mod WriteChecks
 pub mod WriteKeeping
@@ -101,3 +103,6 @@ pub mod MountGenerations
 pub mod MountSteps
 pub mod MountTells
 pub mod MountRows
+pub mod Mounting
+-- The promise on the tables.
+pub mod TablesClaim

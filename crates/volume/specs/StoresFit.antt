@@ -1,0 +1,80 @@
+-- Stores that have their place and their room: then a list of stores on the tables is that list on the device (run-refines of TablesRefine).
+-- A call whose stores keep the invariant one by one has its room, since no zone is ever longer than C (stores-fit).
+use mathlib.Core.Path.{_≡_, refl, sym, _∙_}
+use mathlib.Core.Logic.{_≢_}
+use mathlib.Core.Bool.{Bool, true, false, _&&_}
+use Prim.Native.Nat.{ℕ, zero, suc, _+_, _≤_, _<_, zero-le}
+use native.Mathlib.Omega.{arith}
+use mathlib.Core.List.{List, [], _∷_, _++_}
+use lib.ListN.{length, take, length-append}
+use Rattle.tables.specs.declared.Geometry.{Geometry}
+use Rattle.tables.specs.Basics.{pick}
+use Rattle.tables.specs.Below.{eachBelow}
+use Rattle.tables.specs.Geometry.{physicalZones}
+use Rattle.tables.specs.Device.{Device, Store, append, reset, flush, storeDrive, apply, applyAll, put-zone-same}
+use Rattle.tables.specs.Phases.{onPresent, flushAll}
+use Rattle.tables.specs.Lists.{concat}
+use Rattle.tables.specs.Tables.{Placed, AllPlaced, Fits, FitsAll}
+use Rattle.tables.specs.TablesRefine.{fits-placed, all-placed-append}
+use Rattle.volume.specs.Calls.{appendAll}
+
+-- stores that fit have their place
+pub fits-all-placed : (g : Geometry) (xs : List Store) (v : Device) → FitsAll g xs v → AllPlaced g xs
+fits-all-placed g [] v f = tt
+fits-all-placed g (x ∷ xs) v f = (fits-placed g x v (f .0), fits-all-placed g xs (apply x v) (f .1))
+
+-- every store is on a drive that is present
+abbrev pub AllOn : (ℕ → Bool) → List Store → Type 0
+AllOn present [] = Unit {0}
+AllOn present (x ∷ xs) = (present (storeDrive x) ≡ true) × AllOn present xs
+
+pub on-present-on : (present : ℕ → Bool) (xs : List Store) → AllOn present (onPresent present xs)
+on-present-on present [] = tt
+on-present-on present (x ∷ xs) = go (present (storeDrive x)) refl (on-present-on present xs)
+  where
+    go : (b : Bool) → present (storeDrive x) ≡ b → AllOn present (onPresent present xs) → AllOn present (pick b (x ∷ onPresent present xs) (onPresent present xs))
+    go true e p = (e, p)
+    go false e p = p
+
+-- THE LAW: placed stores on present drives, none of which is ever longer than C, fit
+pub stores-fit : (g : Geometry) (present : ℕ → Bool) (xs : List Store) (v : Device) → AllPlaced g xs → AllOn present xs
+    → ((n d y : ℕ) → present d ≡ true → y < physicalZones g → length (applyAll (take n xs) v d y .sectors) ≤ g .capacity) → FitsAll g xs v
+stores-fit g present [] v p a h = tt
+stores-fit g present (x ∷ xs) v p a h = (one x (p .0) (a .0) (h 1), stores-fit g present xs (apply x v) (p .1) (a .1) (λ n d y hd hy. h (suc n) d y hd hy))
+  where
+    one : (x : Store) → Placed g x → present (storeDrive x) ≡ true → ((d y : ℕ) → present d ≡ true → y < physicalZones g → length (apply x v d y .sectors) ≤ g .capacity) → Fits g x v
+    one (append d z s) p a k =
+        let e : length (apply (append d z s) v d z .sectors) ≡ length (v d z .sectors) + 1 = rw (put-zone-same v d z _, length-append (v d z .sectors) (s ∷ [])) refl in
+        (p .0, p .1, p .2, omega (arith, e, k d z a (p .1)))
+    one (reset d z) p a k = p
+    one (flush d) p a k = p
+
+-- ---- lists of placed stores
+pub placed-each : (g : Geometry) (f : ℕ → List Store) (n : ℕ) → ((k : ℕ) → k < n → AllPlaced g (f k)) → AllPlaced g (eachBelow f n)
+placed-each g f zero h = tt
+placed-each g f (suc n) h = all-placed-append g (eachBelow f n) (f n) (placed-each g f n (λ k l. h k (omega arith))) (h n (omega arith))
+
+pub placed-present : (g : Geometry) (present : ℕ → Bool) (xs : List Store) → AllPlaced g xs → AllPlaced g (onPresent present xs)
+placed-present g present [] p = tt
+placed-present g present (x ∷ xs) p = go (present (storeDrive x)) (placed-present g present xs (p .1))
+  where
+    go : (b : Bool) → AllPlaced g (onPresent present xs) → AllPlaced g (pick b (x ∷ onPresent present xs) (onPresent present xs))
+    go true q = (p .0, q)
+    go false q = q
+
+pub placed-pick : (g : Geometry) (b : Bool) (xs : List Store) → AllPlaced g xs → AllPlaced g (pick b xs [])
+placed-pick g true xs p = p
+placed-pick g false xs p = tt
+
+pub placed-flushes : (g : Geometry) (n : ℕ) → n ≤ g .drives → AllPlaced g (flushAll n)
+placed-flushes g zero h = tt
+placed-flushes g (suc n) h = all-placed-append g (flushAll n) (flush n ∷ []) (placed-flushes g n (omega arith)) (omega arith, tt)
+
+-- sectors appended to one zone
+abbrev pub AllLong : ℕ → List (List ℕ) → Type 0
+AllLong B [] = Unit {0}
+AllLong B (s ∷ ss) = (length s ≡ B) × AllLong B ss
+
+pub placed-appends : (g : Geometry) (d y : ℕ) (ss : List (List ℕ)) → d < g .drives → y < physicalZones g → AllLong (g .sector) ss → AllPlaced g (appendAll d y ss)
+placed-appends g d y [] hd hy p = tt
+placed-appends g d y (s ∷ ss) hd hy p = ((hd, hy, p .0), placed-appends g d y ss hd hy (p .1))

@@ -89,7 +89,7 @@ fits-append g [] ys v p q = q
 fits-append g (x ∷ xs) ys v p q = (p .0, fits-append g xs ys (apply x v) (p .1) q)
 
 -- ---- flush: its stores always have their place
-flush-fits : (g : Geometry) (present : ℕ → Bool) (n : ℕ) (v : Device) → n ≤ g .drives → FitsAll g (flushTo present n) v
+pub flush-fits : (g : Geometry) (present : ℕ → Bool) (n : ℕ) (v : Device) → n ≤ g .drives → FitsAll g (flushTo present n) v
 flush-fits g present zero v h = tt
 flush-fits g present (suc n) v h = rw (flush-more present n) (fits-append g (flushTo present n) (storeIf (present n) (flush n)) v (flush-fits g present n v (omega arith)) (one (present n)))
   where
@@ -98,12 +98,12 @@ flush-fits g present (suc n) v h = rw (flush-more present n) (fits-append g (flu
     one false = tt
 
 -- the verdict is the rules'
-flush-verdict : (g : Geometry) (named : List Bool) (s : State) (t : Tables) → pointersBad g named (t .written) (t .durable) ≡ false
+pub flush-verdict : (g : Geometry) (named : List Bool) (s : State) (t : Tables) → pointersBad g named (t .written) (t .durable) ≡ false
     → flushVerdict g named s t ≡ leastApplying (flushRows g (lengthsOf t) (among named) (viewState s) (deviceOf g t))
 unfolding flushVerdict refusalOn flushRows
 flush-verdict g named s t h = rw (h, pointers-pass g named t h) refl
 
-flush-numbered : (g : Geometry) (named : List Bool) (s : State) (t : Tables) → Numbered (leastApplying (flushRows g (lengthsOf t) (among named) (viewState s) (deviceOf g t)))
+pub flush-numbered : (g : Geometry) (named : List Bool) (s : State) (t : Tables) → Numbered (leastApplying (flushRows g (lengthsOf t) (among named) (viewState s) (deviceOf g t)))
 unfolding flushRows
 flush-numbered g named s t = numbered-least (flushRows g (lengthsOf t) (among named) (viewState s) (deviceOf g t)) ((λ e. omega arith), ((λ e. omega arith), ((λ e. omega arith), ((λ e. omega arith), tt))))
 

@@ -3,21 +3,21 @@
 use mathlib.Core.Path.{_≡_, refl, sym, ap, _∙_, subst}
 use mathlib.Core.Logic.{_≢_, _⊎_, inl, inr}
 use mathlib.Core.Bool.{Bool, true, false, _&&_, _||_}
-use Prim.Native.Nat.{ℕ, zero, _+_, _^_, _≤_, _<_, zero-le}
+use Prim.Native.Nat.{ℕ, zero, suc, _+_, _^_, _≤_, _<_, zero-le}
 use native.Mathlib.Nat.{le-refl}
 use native.Mathlib.Omega.{arith}
 use native.Mathlib.Decide.{ℕ-discrete}
 use mathlib.Core.List.{List, [], _∷_, _++_, map, List·Memᴰ, List·Memᴰ·head, List·Memᴰ·tail}
-use lib.ListN.{length}
+use lib.ListN.{length, take, length-append}
 use lib.Seq.{take-all}
 use lib.Dec.{ltb, eqb}
 use borrow.Author.Tests.{eq-eqb, ne-eqb, lt-ltb}
 use Rattle.tables.specs.Basics.{or-left, or-right, pick}
 use Rattle.tables.specs.Below.{eachBelow}
-use Rattle.tables.specs.Device.{Device, Store, reset, blankZone, applyAll}
-use Rattle.tables.specs.Local.{LocalStore, appendHere, resetHere, flushHere, applyAllHere, localStores, local-is}
+use Rattle.tables.specs.Device.{Device, ZoneView, Store, reset, appended, flushed, blankZone, applyAll}
+use Rattle.tables.specs.Local.{LocalStore, appendHere, resetHere, flushHere, applyAllHere, localStores, local-is, local-take}
 use Rattle.tables.specs.Phases.{on-present-local, eachOnPresent, localPhases, local-whole, each-below-at, each-below-own, each-below-unseen, flushAll, flush-all-local}
-use Rattle.tables.specs.Lists.{concat, mem-nil}
+use Rattle.tables.specs.Lists.{Prefix, concat, mem-nil}
 use Rattle.tables.specs.declared.Geometry.{Geometry}
 use Rattle.tables.specs.Geometry.{Valid, physicalZones}
 use Rattle.logs.specs.Entry.{generalZone, parityZone, wornGeneration, Header, label, counters, encode}
@@ -31,6 +31,25 @@ use Rattle.volume.specs.Invariant.{Ghost, Here, LogsOk, Rest}
 use Rattle.volume.specs.EmptiedZone.{MadeEmpty, made-empty-rest}
 use Rattle.volume.specs.CountersLaws.{generations-length, generations-at, generations-small}
 use Rattle.volume.specs.Obligations.{FormatRests}
+
+-- ---- how much longer a place can become
+abbrev appendsIn : List LocalStore → ℕ
+appendsIn [] = zero
+appendsIn (appendHere s ∷ os) = suc (appendsIn os)
+appendsIn (resetHere ∷ os) = appendsIn os
+appendsIn (flushHere ∷ os) = appendsIn os
+
+appends-most : (os : List LocalStore) (z : ZoneView) → length (applyAllHere os z .sectors) ≤ length (z .sectors) + appendsIn os
+appends-most [] z = omega arith
+appends-most (appendHere s ∷ os) z = omega (arith, appends-most os (appended s z), length-append (z .sectors) (s ∷ []))
+appends-most (resetHere ∷ os) z = omega (arith, appends-most os blankZone)
+appends-most (flushHere ∷ os) z = omega (arith, appends-most os (flushed z))
+
+appends-front : (os ps : List LocalStore) → appendsIn os ≤ appendsIn (os ++ ps)
+appends-front [] ps = zero-le
+appends-front (appendHere s ∷ os) ps = omega (arith, appends-front os ps)
+appends-front (resetHere ∷ os) ps = appends-front os ps
+appends-front (flushHere ∷ os) ps = appends-front os ps
 
 module _ (g : Geometry) (ok : Valid g) (x a : ℕ) (v : Device) (lost : (x ≡ noDrive) ⊎ (x < g .drives)) (ha : a < 256 ^ 8) where
   abbrev ones : List ℕ
@@ -87,6 +106,25 @@ module _ (g : Geometry) (ok : Valid g) (x a : ℕ) (v : Device) (lost : (x ≡ n
     place-is : (y : ℕ) → y < physicalZones g → y ≢ generalZone → after d y ≡ blankZone
     unfolding after
     place-is y b n = local-is d y (concat phases) v ∙ ap (λ (os : List LocalStore). applyAllHere os (v d y)) (local-whole d y phases ∙ ap concat (three y (resetHere ∷ []) [] (wiped y b) (begun-other y n)))
+
+    -- a format stopped anywhere leaves no place longer than C
+    pub format-room : (n y : ℕ) → y < physicalZones g → length (v d y .sectors) ≤ g .capacity → length (applyAll (take n (concat phases)) v d y .sectors) ≤ g .capacity
+    format-room n y b k = rw (local-is d y (take n (concat phases)) v) (short (localStores d y (concat phases)) (whole (ℕ-discrete y generalZone)) (localStores d y (take n (concat phases))) (local-take d y n (concat phases)))
+      where
+        whole : Dec (y ≡ generalZone) → (os : List LocalStore) × (localStores d y (concat phases) ≡ resetHere ∷ os) × (appendsIn os ≤ 2)
+        whole (yes e) = (
+          appendHere (encode g d (label x a)) ∷ appendHere (encode g d (counters ones)) ∷ flushHere ∷ [],
+          local-whole d y phases ∙ ap concat (three y (resetHere ∷ []) (appendHere (encode g d (label x a)) ∷ appendHere (encode g d (counters ones)) ∷ []) (wiped y b) (rw e begun)),
+          le-refl 2,
+        )
+        whole (no e) = (flushHere ∷ [], local-whole d y phases ∙ ap concat (three y (resetHere ∷ []) [] (wiped y b) (begun-other y e)), zero-le)
+
+        short : (all : List LocalStore) → (os : List LocalStore) × (all ≡ resetHere ∷ os) × (appendsIn os ≤ 2) → (os : List LocalStore) → Prefix os all → length (applyAllHere os (v d y) .sectors) ≤ g .capacity
+        short all q [] p = k
+        short all (rest, e, m) (o ∷ os) p =
+            let h : o ≡ resetHere = cc (p .is ∙ e) in
+            let t : os ++ p .rest ≡ rest = cc (p .is ∙ e) in
+            rw h (omega (arith, appends-most os blankZone, appends-front os (p .rest), ap appendsIn t, ok .general-fits))
 
   ghost : Ghost
   ghost = record { laid = λ z. []; generation = λ z. 1; general = λ d. heads; parity = λ d. []; array = a }

@@ -106,3 +106,5 @@ pub mod MountRows
 pub mod Mounting
 -- The promise on the tables.
 pub mod TablesClaim
+pub mod TablesSettled
+pub mod TablesFit

@@ -27,7 +27,7 @@ use Rattle.volume.specs.State.{StateView, pointerIn}
 use Rattle.volume.specs.Content.{rowXor, rowXorBelow, insideStripe, fillOf, entryAt, parityDriveAt}
 use Rattle.volume.specs.Calls.{appendAll, appendGeneral, generationsFrom, parityStores, sectorStores, dataStores, entryStores, writeWith, zoneContent, writeStores, logsReset, raisedAt, resetPhases, resetStores, formatPhases, formatStores}
 use Rattle.volume.specs.WriteContent.{row-long, row-complete, stripe-last}
-use Rattle.volume.specs.StoresFit.{placed-each, placed-present, placed-pick, placed-flushes, AllLong, placed-appends}
+use Rattle.volume.specs.StoresFit.{placed-each, placed-present, placed-pick, placed-flushes, placed-concat, AllLong, placed-appends}
 
 -- ---- a header is one sector
 abbrev pub CountersFit : Geometry → Header → Type 0
@@ -121,19 +121,24 @@ module _ (g : Geometry) (ok : Valid g) where
   pub reset-placed : (present : ℕ → Bool) (state : StateView) (z : ℕ) → z < g .zones → AllPlaced g (resetStores g present state z)
   unfolding resetStores
   reset-placed present state z hz =
-      rw (each-on-present present (resetPhases g state z))
-      (placed-present g present (concat (resetPhases g state z))
-      (all-placed-append g _ _ (placed-each g _ (g .drives) (λ d hd. placed-pick g (logsReset g z d) _ (placed-general g (zoneReset z (state .generation z)) d ok tt hd)))
-      (all-placed-append g _ _ (placed-flushes g (g .drives) (le-refl (g .drives)))
-      (all-placed-append g _ _ (placed-each g (λ d. reset d (3 + z) ∷ []) (g .drives) (λ d hd. ((hd, omega arith), tt)))
-      (all-placed-append g _ _ (placed-each g _ (g .drives) (λ d hd. placed-counters (raisedAt state z) d hd))
-      (all-placed-append g _ _ (placed-flushes g (g .drives) (le-refl (g .drives))) tt))))))
+      rw (each-on-present present (resetPhases g state z)) (placed-present g present (concat (resetPhases g state z)) (placed-concat g (resetPhases g state z) (entries, (placed-flushes g (g .drives) (le-refl (g .drives)), (resets, (raised, (placed-flushes g (g .drives) (le-refl (g .drives)), tt)))))))
+    where
+      entries : AllPlaced g (eachBelow (λ d. pick (logsReset g z d) (appendGeneral g (zoneReset z (state .generation z)) d) []) (g .drives))
+      entries = placed-each g (λ d. pick (logsReset g z d) (appendGeneral g (zoneReset z (state .generation z)) d) []) (g .drives) (λ d hd. placed-pick g (logsReset g z d) (appendGeneral g (zoneReset z (state .generation z)) d) (placed-general g (zoneReset z (state .generation z)) d ok tt hd))
+
+      resets : AllPlaced g (eachBelow (λ d. reset d (3 + z) ∷ []) (g .drives))
+      resets = placed-each g (λ d. reset d (3 + z) ∷ []) (g .drives) (λ d hd. ((hd, omega arith), tt))
+
+      raised : AllPlaced g (eachBelow (λ d. appendGeneral g (counters (generationsFrom (raisedAt state z) zero (g .zones))) d) (g .drives))
+      raised = placed-each g (λ d. appendGeneral g (counters (generationsFrom (raisedAt state z) zero (g .zones))) d) (g .drives) (λ d hd. placed-counters (raisedAt state z) d hd)
 
   pub format-placed : (present : ℕ → Bool) (x a : ℕ) → AllPlaced g (formatStores g present x a)
   unfolding formatStores
-  format-placed present x a =
-      rw (each-on-present present (formatPhases g x a))
-      (placed-present g present (concat (formatPhases g x a))
-      (all-placed-append g _ _ (placed-each g (λ d. eachBelow (λ y. reset d y ∷ []) (physicalZones g)) (g .drives) (λ d hd. placed-each g (λ y. reset d y ∷ []) (physicalZones g) (λ y hy. ((hd, hy), tt))))
-      (all-placed-append g _ _ (placed-each g _ (g .drives) (λ d hd. all-placed-append g _ _ (placed-general g (label x a) d ok tt hd) (placed-counters (λ z. 1) d hd)))
-      (all-placed-append g _ _ (placed-flushes g (g .drives) (le-refl (g .drives))) tt))))
+  format-placed present x a = rw (each-on-present present (formatPhases g x a)) (placed-present g present (concat (formatPhases g x a)) (placed-concat g (formatPhases g x a) (resets, (begins, (placed-flushes g (g .drives) (le-refl (g .drives)), tt)))))
+    where
+      resets : AllPlaced g (eachBelow (λ d. eachBelow (λ y. reset d y ∷ []) (physicalZones g)) (g .drives))
+      resets = placed-each g (λ d. eachBelow (λ y. reset d y ∷ []) (physicalZones g)) (g .drives) (λ d hd. placed-each g (λ y. reset d y ∷ []) (physicalZones g) (λ y hy. ((hd, hy), tt)))
+
+      begins : AllPlaced g (eachBelow (λ d. appendGeneral g (label x a) d ++ appendGeneral g (counters (generationsFrom (λ z. 1) zero (g .zones))) d) (g .drives))
+      begins = placed-each g (λ d. appendGeneral g (label x a) d ++ appendGeneral g (counters (generationsFrom (λ z. 1) zero (g .zones))) d) (g .drives)
+          (λ d hd. all-placed-append g (appendGeneral g (label x a) d) (appendGeneral g (counters (generationsFrom (λ z. 1) zero (g .zones))) d) (placed-general g (label x a) d ok tt hd) (placed-counters (λ z. 1) d hd))

@@ -70,6 +70,15 @@ pub placed-flushes : (g : Geometry) (n : ℕ) → n ≤ g .drives → AllPlaced 
 placed-flushes g zero h = tt
 placed-flushes g (suc n) h = all-placed-append g (flushAll n) (flush n ∷ []) (placed-flushes g n (omega arith)) (omega arith, tt)
 
+-- phases one after the other
+abbrev pub EachPlaced : Geometry → List (List Store) → Type 0
+EachPlaced g [] = Unit {0}
+EachPlaced g (p ∷ ps) = AllPlaced g p × EachPlaced g ps
+
+pub placed-concat : (g : Geometry) (ps : List (List Store)) → EachPlaced g ps → AllPlaced g (concat ps)
+placed-concat g [] q = tt
+placed-concat g (p ∷ ps) q = all-placed-append g p (concat ps) (q .0) (placed-concat g ps (q .1))
+
 -- sectors appended to one zone
 abbrev pub AllLong : ℕ → List (List ℕ) → Type 0
 AllLong B [] = Unit {0}

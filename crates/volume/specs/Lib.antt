@@ -108,3 +108,4 @@ pub mod Mounting
 pub mod TablesClaim
 pub mod TablesSettled
 pub mod TablesFit
+pub mod CallVerdicts

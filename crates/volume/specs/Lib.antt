@@ -109,3 +109,4 @@ pub mod TablesClaim
 pub mod TablesSettled
 pub mod TablesFit
 pub mod CallVerdicts
+pub mod TablesEvents

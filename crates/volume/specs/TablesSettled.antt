@@ -12,7 +12,7 @@ use borrow.Author.Tests.{ltb-false, ne-eqb}
 use Rattle.tables.specs.declared.Geometry.{Geometry}
 use Rattle.tables.specs.Basics.{pick}
 use Rattle.tables.specs.Device.{Device, Store, applyAll}
-use Rattle.tables.specs.Tables.{Tables, deviceOf, runStores, WellSized, FitsAll}
+use Rattle.tables.specs.Tables.{Tables, deviceOf, runStores, WellSized, AllPlaced, FitsAll}
 use Rattle.tables.specs.TablesRefine.{run-refines, run-sized}
 use Rattle.tables.specs.PointerOrder.{InOrder, run-order}
 use Rattle.volume.specs.declared.Condition.{Condition}
@@ -65,32 +65,38 @@ ok-agrees g ready x v a b l e (γ, r) = (γ, rest-agrees g x v a b l γ e r)
 ok-agrees g stopped x v a b l e o = o
 ok-agrees g down x v a b l e o = o
 
--- ---- a storing call (lf, lv: the ledgers by the answer)
-module _ {A : Type 0} (g : Geometry) (s : TablesSystem) (v : Verdict) (numbered : Numbered v) (ss : List Store) (new : State) (count : ℕ) (x : A) (f : A → StateView) (lf : Answer → Ledger) (lv : CallAnswer A → Ledger)
-    (sized : WellSized g (s .tables)) (fit : v ≡ accept → FitsAll g ss (deviceOf g (s .tables))) where
+-- ---- a storing call. ss: its stores on the tables, which are those of the rules (xs) where it is accepted; lf, lv: the ledger by the answer.
+module _ {A : Type 0} (g : Geometry) (s : TablesSystem) (v : Verdict) (numbered : Numbered v) (ss xs : List Store) (new : State) (count : ℕ) (x : A) (f : A → StateView) (lf : Answer → Ledger) (lv : CallAnswer A → Ledger)
+    (sized : WellSized g (s .tables)) (same : v ≡ accept → ss ≡ xs) (fit : v ≡ accept → FitsAll g xs (deviceOf g (s .tables))) where
   abbrev w : Device
   w = deviceOf g (s .tables)
 
   abbrev result : Result
   result = storingOn g (verdictNumber v) ss new (s .state) count (s .tables)
 
-  pub settled-ok : (v ≡ accept → Agree g (f x) (viewState new)) → ((n : ℕ) → lf (Refused n) ≡ lv (refused n)) → ((u : Device) → lf Unfinished ≡ lv (unfinished u)) → (v ≡ accept → lf Finished ≡ lv (finished (applyAll ss w) x))
-      → Ok g (after (viewSystem g s) (storing v ss x count w) f (lv (storing v ss x count w))) → Ok g (viewSystem g (settled s result (lf (result .outcome .answer))))
+  -- what is made of the tables
+  pub made-device : v ≡ accept → deviceOf g (runStores g count ss (s .tables)) ≡ applyAll (take count xs) w
+  made-device p = rw (same p) (run-refines g count xs (s .tables) sized (fit p))
+
+  pub all-made : v ≡ accept → ltb count (length xs) ≡ false → deviceOf g (runStores g count ss (s .tables)) ≡ applyAll xs w
+  all-made p e = made-device p ∙ ap (λ (r : List Store). applyAll r w) (take-all count xs (ltb-false count (length xs) e))
+
+  pub settled-ok : (v ≡ accept → ltb count (length xs) ≡ false → Agree g (f x) (viewState new)) → ((n : ℕ) → lf (Refused n) ≡ lv (refused n)) → ((u : Device) → lf Unfinished ≡ lv (unfinished u))
+      → (v ≡ accept → ltb count (length xs) ≡ false → lf Finished ≡ lv (finished (applyAll xs w) x))
+      → Ok g (after (viewSystem g s) (storing v xs x count w) f (lv (storing v xs x count w))) → Ok g (viewSystem g (settled s result (lf (result .outcome .answer))))
   settled-ok agree lr lu ld o = go v numbered refl o
     where
-      finishes : (b : Bool) → ltb count (length ss) ≡ b → v ≡ accept
-          → Ok g (after (viewSystem g s) (pick b (unfinished (applyAll (take count ss) w)) (finished (applyAll ss w) x)) f (lv (pick b (unfinished (applyAll (take count ss) w)) (finished (applyAll ss w) x))))
+      finishes : (b : Bool) → ltb count (length xs) ≡ b → v ≡ accept
+          → Ok g (after (viewSystem g s) (pick b (unfinished (applyAll (take count xs) w)) (finished (applyAll xs w) x)) f (lv (pick b (unfinished (applyAll (take count xs) w)) (finished (applyAll xs w) x))))
           → let r : Result = record { outcome = pick b (record { answer = Unfinished; state = s .state }) (record { answer = Finished; state = new }); tables = runStores g count ss (s .tables) } in
           Ok g (viewSystem g (settled s r (lf (r .outcome .answer))))
-      finishes true e p o = rw (run-refines g count ss (s .tables) sized (fit p), lu (applyAll (take count ss) w)) o
-      finishes false e p o =
-          let d : deviceOf g (runStores g count ss (s .tables)) ≡ applyAll ss w = run-refines g count ss (s .tables) sized (fit p) ∙ ap (λ (r : List Store). applyAll r w) (take-all count ss (ltb-false count (length ss) e)) in
-          rw (d, ld p) (ok-agrees g ready (s .lost) (applyAll ss w) (f x) (viewState new) (lv (finished (applyAll ss w) x)) (agree p) o)
+      finishes true e p o = rw (made-device p, lu (applyAll (take count xs) w)) o
+      finishes false e p o = rw (all-made p e, ld p e) (ok-agrees g ready (s .lost) (applyAll xs w) (f x) (viewState new) (lv (finished (applyAll xs w) x)) (agree p e) o)
 
-      go : (u : Verdict) → Numbered u → v ≡ u → Ok g (after (viewSystem g s) (storing u ss x count w) f (lv (storing u ss x count w)))
+      go : (u : Verdict) → Numbered u → v ≡ u → Ok g (after (viewSystem g s) (storing u xs x count w) f (lv (storing u xs x count w)))
           → let r = storingOn g (verdictNumber u) ss new (s .state) count (s .tables) in Ok g (viewSystem g (settled s r (lf (r .outcome .answer))))
       go (refuse n) h e o = rw (ne-eqb n 0 h, lr n) o
-      go accept h e o = finishes (ltb count (length ss)) refl e o
+      go accept h e o = rw (ap length (same e)) (finishes (ltb count (length xs)) refl e o)
 
   -- the tables keep their lengths, and every drive's pointers their order
   by-verdict : (P : Tables → Type 0) → P (s .tables) → (v ≡ accept → P (runStores g count ss (s .tables))) → P (result .tables)
@@ -100,11 +106,14 @@ module _ {A : Type 0} (g : Geometry) (s : TablesSystem) (v : Verdict) (numbered 
       go (refuse n) h e = rw (ne-eqb n 0 h) a
       go accept h e = b e
 
+  placed : v ≡ accept → AllPlaced g ss
+  placed p = rw (same p) (fits-all-placed g xs w (fit p))
+
   pub settled-sized : WellSized g (result .tables)
-  settled-sized = by-verdict (λ (t : Tables). WellSized g t) sized (λ p. run-sized g count ss (s .tables) sized (fits-all-placed g ss w (fit p)))
+  settled-sized = by-verdict (λ (t : Tables). WellSized g t) sized (λ p. run-sized g count ss (s .tables) sized (placed p))
 
   pub settled-order : (d : ℕ) → d < g .drives → InOrder g d (s .tables .written) (s .tables .durable) → InOrder g d (result .tables .written) (result .tables .durable)
-  settled-order d hd o = by-verdict (λ (t : Tables). InOrder g d (t .written) (t .durable)) o (λ p. run-order g d count ss (s .tables) hd sized (fits-all-placed g ss w (fit p)) o)
+  settled-order d hd o = by-verdict (λ (t : Tables). InOrder g d (t .written) (t .durable)) o (λ p. run-order g d count ss (s .tables) hd sized (placed p) o)
 
   -- the state is the old or the new one
   pub settled-state : (P : State → Type 0) → P (s .state) → (v ≡ accept → P new) → P (result .outcome .state)

@@ -1,0 +1,113 @@
+-- Every event on the tables keeps the invariant: the tables have their lengths, the pointers of the drives that are not lost are in order, the
+-- state has its sixteen records, and the device that the tables stand for is as ClaimEvents.antt says.
+use mathlib.Core.Path.{_≡_, refl, sym, ap, _∙_}
+use mathlib.Core.Logic.{_≢_, _⊎_}
+use mathlib.Core.Bool.{Bool, true, false, not, true≢false}
+use Prim.Native.Nat.{ℕ, zero, suc, _+_, _-_, _^_, _≤_, _<_}
+use native.Mathlib.Omega.{arith}
+use mathlib.Core.List.{List, [], _∷_, _++_}
+use lib.ListN.{length, getD, set, replicate, length-set, length-append, length-replicate}
+use lib.Dec.{ltb, eqb}
+use borrow.Author.Tests.{eq-eqb}
+use Rattle.tables.specs.declared.Geometry.{Geometry}
+use Rattle.tables.specs.Geometry.{Valid, physicalZones}
+use Rattle.tables.specs.Below.{length-tabulate}
+use Rattle.tables.specs.Drives.{noDrive, presentBut}
+use Rattle.tables.specs.Device.{Device, Store, applyAll}
+use Rattle.tables.specs.Tables.{Tables, deviceOf, runStores, TablesCut, pointersBad, WellSized, FitsAll}
+use Rattle.tables.specs.TablesRefine.{cut-refines}
+use Rattle.tables.specs.PointerOrder.{InOrder, order-passes, cut-order}
+use Rattle.volume.specs.declared.State.{State}
+use Rattle.volume.specs.declared.Answer.{Answer}
+use Rattle.volume.specs.declared.Answer.the-variants.{Finished, Unfinished, Refused}
+use Rattle.volume.specs.State.{StateView, callPresent}
+use Rattle.volume.specs.Ledger.{Ledger, noteWrite, noteFlush, noteReset, noteFormat, noted}
+use Rattle.volume.specs.Calls.{writeStores, writeState, flushStores, flushState, resetStores, resetState, formatStores, formatState}
+use Rattle.volume.specs.Refusals.{Verdict, accept, leastApplying, zoneOf, formatRows, writeRows, flushRows, resetRows}
+use Rattle.volume.specs.Answers.{CallAnswer, refused, unfinished, finished, storing, lostIn, leftOut, namedDrives, sectorsIn}
+use Rattle.volume.specs.Claim.{Input, Obeys, System, Mode, ready, allBut, after, replyOf}
+use Rattle.volume.specs.Claim as rules
+use Rattle.volume.specs.Obligations.{WriteOk, ResetOk}
+use Rattle.volume.specs.AcceptedCalls.{write-ok, reset-ok}
+use Rattle.volume.specs.ClaimEvents.{Ok, rest-of, drives-of-call, event-keeps}
+use Rattle.volume.specs.OnTables.{recordAt, viewState, among, verdictNumber, lengthsOf, storingOn}
+use Rattle.volume.specs.CallRefines.{Numbered, flush-verdict, flush-numbered, flush-fits}
+use Rattle.volume.specs.CallVerdicts.{write-verdict, write-numbered, reset-verdict, reset-numbered}
+use Rattle.volume.specs.Flushing.{flushOn, withLost, flush-stores}
+use Rattle.volume.specs.Resetting.{resetOn, withReset, reset-views}
+use Rattle.volume.specs.Writing.{writeOn, writtenState, written-state, pointerOf}
+use Rattle.volume.specs.TablesClaim.{TablesSystem, settled, next, Names, TablesEvent, writes, flushes, resets, replyTo}
+use Rattle.volume.specs.TablesSettled.{viewSystem, Agree, agree-refl, settled-ok, settled-sized, settled-order, settled-state}
+use Rattle.volume.specs.TablesFit.{write-fits, reset-fits}
+use native.Mathlib.Nat.{le-refl}
+
+pub record TablesOk (g : Geometry) (s : TablesSystem) : Type 0 where
+  pub sized : WellSized g (s .tables)
+  pub order : (d : ℕ) → d < g .drives → d ≢ s .lost → InOrder g d (s .tables .written) (s .tables .durable)
+  pub records : length (s .state .zones) ≡ 16
+  pub holds : Ok g (viewSystem g s)
+
+-- what the host hands a call, as the rules see it
+abbrev pub inputOf : Geometry → List Bool → Input
+inputOf g named = record { geo = g; named = among named }
+
+module _ (g : Geometry) (s : TablesSystem) (named : List Bool) (n : Names g s named) where
+  pub obeys : Obeys g (viewSystem g s) (inputOf g named)
+  obeys = record { geometry = refl; drives = n .drives }
+
+  -- a named drive is not lost
+  pub named-not-lost : (d : ℕ) → d < g .drives → among named d ≡ true → d ≢ s .lost
+  named-not-lost d h e q = true≢false (sym e ∙ n .drives d h ∙ ap not (eq-eqb d (s .lost) q))
+
+  -- so refusal 3 does not apply
+  pub pointers-fine : TablesOk g s → pointersBad g named (s .tables .written) (s .tables .durable) ≡ false
+  pointers-fine o = order-passes g named (s .tables .written) (s .tables .durable) (λ d h e. o .order d h (named-not-lost d h e))
+
+-- ---- a storing call keeps it
+pub storing-keeps : {A : Type 0} (g : Geometry) (s : TablesSystem) (o : TablesOk g s) (v : Verdict) (numbered : Numbered v) (ss xs : List Store) (new : State) (count : ℕ) (x : A) (f : A → StateView) (lf : Answer → Ledger) (lv : CallAnswer A → Ledger)
+    → (v ≡ accept → ss ≡ xs) → (v ≡ accept → FitsAll g xs (deviceOf g (s .tables))) → (v ≡ accept → length (new .zones) ≡ 16)
+    → (v ≡ accept → ltb count (length xs) ≡ false → Agree g (f x) (viewState new)) → ((n : ℕ) → lf (Refused n) ≡ lv (refused n)) → ((u : Device) → lf Unfinished ≡ lv (unfinished u))
+    → (v ≡ accept → ltb count (length xs) ≡ false → lf Finished ≡ lv (finished (applyAll xs (deviceOf g (s .tables))) x))
+    → Ok g (after (viewSystem g s) (storing v xs x count (deviceOf g (s .tables))) f (lv (storing v xs x count (deviceOf g (s .tables)))))
+    → TablesOk g (settled s (storingOn g (verdictNumber v) ss new (s .state) count (s .tables)) (lf (storingOn g (verdictNumber v) ss new (s .state) count (s .tables) .outcome .answer)))
+storing-keeps g s o v numbered ss xs new count x f lf lv same fit long agree lr lu ld h = record {
+  sized = settled-sized g s v numbered ss xs new count x f lf lv (o .sized) same fit;
+  order = λ d hd q. settled-order g s v numbered ss xs new count x f lf lv (o .sized) same fit d hd (o .order d hd q);
+  records = settled-state g s v numbered ss xs new count x f lf lv (o .sized) same fit (λ (t : State). length (t .zones) ≡ 16) (o .records) long;
+  holds = settled-ok g s v numbered ss xs new count x f lf lv (o .sized) same fit agree lr lu ld h;
+}
+
+module _ (g : Geometry) (ok : Valid g) (s : TablesSystem) (o : TablesOk g s) (named : List Bool) (n : Names g s named) where
+  abbrev t : Tables
+  t = s .tables
+
+  abbrev w : Device
+  w = deviceOf g (s .tables)
+
+  abbrev st : StateView
+  st = viewState (s .state)
+
+  -- the drives that a call reaches
+  here : s .mode ≡ ready → callPresent g (among named) st ≡ presentBut g (s .lost)
+  here m = drives-of-call g ok (lengthsOf t) (viewSystem g s) (o .holds) (among named) (n .drives) m
+
+  record-in : (z : ℕ) → z < g .zones → z < length (s .state .zones)
+  record-in z h = omega (arith, h, ok .zones-most, o .records)
+
+  pub write-event : s .mode ≡ ready → (a count : ℕ) (buffer : List ℕ) (stop : ℕ) → TablesOk g (next g s (writes named a count buffer stop))
+  unfolding writeOn
+  write-event m a count buffer stop =
+      let z = zoneOf g a in
+      let ss = sectorsIn g count buffer in
+      let xs = writeStores g (callPresent g (among named) st) w st z ss in
+      let v = leastApplying (writeRows g (lengthsOf t) (among named) st a count (length buffer) w) in
+      let y = lostIn g (among named) st in
+      let accepted : v ≡ accept → WriteOk g (presentBut g (s .lost)) w st z ss = λ p. rw (here m) at (write-ok g (lengthsOf t) (among named) st a count buffer w p) in
+      rw (write-verdict g named t (pointers-fine g s named n o) (s .state) a count (length buffer))
+      (storing-keeps g s o v (write-numbered g named t (s .state) a count (length buffer)) xs xs (writtenState (s .state) y z (pointerOf (s .state) z + count)) stop (writeState y st z ss) (λ x. x)
+      (λ ans. noted (s .ledger) (noteWrite z ss (replyTo ans))) (λ c. noted (s .ledger) (noteWrite z ss (replyOf c))) (λ p. refl)
+      (λ p. rw (here m) (write-fits g ok (s .lost) w st (s .ledger) (rest-of g (viewSystem g s) (o .holds) m) z ss (accepted p)))
+      (λ p. rw length-set (o .records))
+      (λ p e. agree-refl g (writeState y st z ss) (viewState (writtenState (s .state) y z (pointerOf (s .state) z + count))) (sym (written-state g (s .state) y z count buffer (record-in z (accepted p .zone-ok)))))
+      (λ k. refl) (λ u. refl) (λ p e. refl)
+      (event-keeps g ok (lengthsOf t) (viewSystem g s) (o .holds) (rules.writes (inputOf g named) st a count buffer stop) (obeys g s named n, refl, m)))

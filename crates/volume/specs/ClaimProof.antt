@@ -172,7 +172,7 @@ module _ (g : Geometry) (ok : Valid g) where
 
   module _ (t : TableLengths) (wb : isValid g ≡ true) (lf : tablesFit g t ≡ true) where
     -- every point of a history is as claimed
-    kept : (s : System) → Ok g s → Promise g t s
+    pub kept : (s : System) → Ok g s → Promise g t s
     kept s o = record {
       look-fits = λ i b. rw (b .geometry) (look-claim t s o (i .named) (b .drives) wb lf);
       mount-fits = λ i b m stop w k e. mount-claim t s o (i .named) (b .drives) wb lf stop w k (rw (b .geometry) at e);

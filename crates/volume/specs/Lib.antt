@@ -110,3 +110,4 @@ pub mod TablesSettled
 pub mod TablesFit
 pub mod CallVerdicts
 pub mod TablesEvents
+pub mod TablesClaimProof

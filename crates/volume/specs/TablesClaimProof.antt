@@ -1,0 +1,134 @@
+-- The promise on the tables holds. At every point of a history the rules' promise holds of the device that the tables stand for (ClaimProof.antt);
+-- here it is carried to what the calls' contracts say.
+use mathlib.Core.Path.{_≡_, refl, sym, ap, _∙_}
+use mathlib.Core.Logic.{_≢_}
+use mathlib.Core.Bool.{Bool, true, false, not}
+use Prim.Native.Nat.{ℕ, zero, suc, _+_, _-_, _*_, _^_, _≤_, _<_}
+use native.Mathlib.Decide.{decLt}
+use native.Mathlib.Omega.{arith}
+use mathlib.Core.List.{List, [], _∷_}
+use lib.ListN.{length, getD, take}
+use lib.Dec.{ltb, eqb}
+use borrow.Author.Tests.{eq-eqb, eqb-true, ne-eqb, ltb-false}
+use Rattle.tables.specs.declared.Geometry.{Geometry}
+use Rattle.tables.specs.Basics.{pick}
+use Rattle.tables.specs.Below.{tabulateFrom, getD-tabulate}
+use Rattle.tables.specs.Lists.{concat}
+use Rattle.tables.specs.Geometry.{Valid, physicalZones}
+use Rattle.tables.specs.GeometryTest.{isValid}
+use Rattle.tables.specs.Placement.{driveOf, sectorOf}
+use Rattle.tables.specs.PlacementLaws.{drive-below}
+use Rattle.tables.specs.Device.{Device, Store, applyAll}
+use Rattle.tables.specs.Tables.{Tables, deviceOf, cell, sectorAt, runStores, makeStore, pointersBad, WellSized}
+use Rattle.tables.specs.TablesLaws.{device-sectors, device-length}
+use Rattle.tables.specs.TablesFrame.{sized-lengths}
+use Rattle.volume.specs.declared.State.{State}
+use Rattle.volume.specs.declared.Answer.{Answer}
+use Rattle.volume.specs.declared.Answer.the-variants.{Finished, Unfinished, Refused}
+use Rattle.volume.specs.declared.Outcome.{Outcome}
+use Rattle.volume.specs.State.{StateView, callPresent, pointerIn}
+use Rattle.volume.specs.Content.{at}
+use Rattle.volume.specs.Rules.{Shown, isPresent, lostDrive, showing, valueAt}
+use Rattle.volume.specs.Refusals.{Verdict, refuse, accept, leastApplying, zoneOf, offsetOf, lookRows, readRows, peekRows}
+use Rattle.volume.specs.Answers.{giving, finished, placeOf, lookCall, readCall, peekCall}
+use Rattle.volume.specs.Ledger.{Fits}
+use Rattle.volume.specs.Claim.{Promise, ready, allBut}
+use Rattle.volume.specs.AcceptedCalls.{giving-is}
+use Rattle.volume.specs.ClaimEvents.{Ok, rest-of}
+use Rattle.volume.specs.ClaimProof.{kept}
+use Rattle.volume.specs.OnTables.{recordAt, viewState, among, verdictNumber, lengthsOf, storingOn}
+use Rattle.volume.specs.CallRefines.{Numbered}
+use Rattle.volume.specs.CallVerdicts.{numbered-accept, look-verdict, look-numbered, read-number, read-numbered, peek-number, peek-numbered}
+use Rattle.volume.specs.Looking.{lookOn, lookVerdict, stateShown}
+use Rattle.volume.specs.Reading.{readNumber, readOn, valuesOn}
+use Rattle.volume.specs.Peeking.{peekNumber, peekOn, partAt}
+use Rattle.volume.specs.TablesClaim.{TablesSystem, Names, shownIn, contentBytes}
+use Rattle.volume.specs.TablesSettled.{viewSystem}
+use Rattle.volume.specs.TablesFit.{content-long}
+use Rattle.volume.specs.TablesEvents.{TablesOk, inputOf, obeys, named-not-lost, pointers-fine}
+
+-- a list has nothing past its end
+getD-nothing : (xs : List (List ℕ)) (i : ℕ) → length xs ≤ i → getD xs i [] ≡ []
+getD-nothing [] i h = refl
+getD-nothing (x ∷ xs) zero h = absurd (omega arith)
+getD-nothing (x ∷ xs) (suc i) h = getD-nothing xs i (omega arith)
+
+finished-zero : (k : ℕ) → pick (eqb k 0) Finished (Refused k) ≡ Finished → k ≡ 0
+finished-zero k e = go (eqb k 0) refl e
+  where
+    go : (b : Bool) → eqb k 0 ≡ b → pick b Finished (Refused k) ≡ Finished → k ≡ 0
+    go true q r = eqb-true k 0 q
+    go false q r = absurd (let z : _≡_ {A = ℕ} 0 1 = cc in omega arith)
+
+module _ (g : Geometry) (ok : Valid g) (wb : isValid g ≡ true) (s : TablesSystem) (o : TablesOk g s) where
+  abbrev t : Tables
+  t = s .tables
+
+  abbrev w : Device
+  w = deviceOf g (s .tables)
+
+  abbrev st : StateView
+  st = viewState (s .state)
+
+  -- the rules' promise
+  promised : Promise g (lengthsOf t) (viewSystem g s)
+  promised = kept g ok (lengthsOf t) wb (sized-lengths g t (o .sized)) (viewSystem g s) (o .holds)
+
+  module _ (named : List Bool) (n : Names g s named) where
+    fine : pointersBad g named (t .written) (t .durable) ≡ false
+    fine = pointers-fine g s named n o
+
+    look-claim : (lookOn g named (s .state) t ≡ record { answer = Finished; state = stateShown g (shownIn g named t t) }) × Fits g (s .ledger) (shownIn g named t t)
+    unfolding lookOn
+    look-claim =
+        let (k, e, fit) = promised .look-fits (inputOf g named) (obeys g s named n) in
+        let (p, q) = giving-is (leastApplying (lookRows g (lengthsOf t) (among named) w)) (shownIn g named t t) k w w e in
+        (rw (look-verdict g named t fine, p) refl, rw q fit)
+
+    -- a read that is accepted is so by the rules
+    read-call : (a count bytes : ℕ) → readNumber g named (s .state) a count bytes t ≡ 0
+        → readCall g (lengthsOf t) (among named) st a count bytes w ≡ finished w (tabulateFrom (valueAt g (callPresent g (among named) st) w (zoneOf g a) (st .generation (zoneOf g a))) (offsetOf g a) count)
+    read-call a count bytes e = rw (numbered-accept (leastApplying (readRows g (lengthsOf t) (among named) st a count bytes w)) (read-numbered g named t (s .state) a count bytes) (sym (read-number g named t fine (s .state) a count bytes) ∙ e)) refl
+
+    read-claim : s .mode ≡ ready → (a count : ℕ) (out : List ℕ) → readOn g named (s .state) a count out t .answer ≡ Finished
+        → (offsetOf g a + count ≤ length (s .ledger .content (zoneOf g a))) × (readOn g named (s .state) a count out t .buffer ≡ contentBytes (s .ledger) (zoneOf g a) (offsetOf g a) count)
+    unfolding readOn valuesOn
+    read-claim m a count out e =
+        let z = finished-zero (readNumber g named (s .state) a count (length out) t) e in
+        let (p, q) = promised .read-gives (inputOf g named) (obeys g s named n) m a count (length out) w (tabulateFrom (valueAt g (callPresent g (among named) st) w (zoneOf g a) (st .generation (zoneOf g a))) (offsetOf g a) count) (read-call a count (length out) z) in
+        (p, rw (eq-eqb (readNumber g named (s .state) a count (length out) t) 0 z) (ap concat q))
+
+    read-fine : s .mode ≡ ready → (a count : ℕ) (out : List ℕ) → zoneOf g a < g .zones → zero < count → length out ≡ count * g .sector
+        → offsetOf g a + count ≤ pointerIn (recordAt (s .state) (zoneOf g a) .condition) → readOn g named (s .state) a count out t .answer ≡ Finished
+    unfolding readOn
+    read-fine m a count out hz pos len h =
+        let e = promised .read-accepted (inputOf g named) (obeys g s named n) m a count hz pos h in
+        let (p, q) = giving-is (leastApplying (readRows g (lengthsOf t) (among named) st a count (count * g .sector) w)) (tabulateFrom (valueAt g (callPresent g (among named) st) w (zoneOf g a) (st .generation (zoneOf g a))) (offsetOf g a) count) _ w w e in
+        let k : readNumber g named (s .state) a count (length out) t ≡ 0 = rw len (read-number g named t fine (s .state) a count (count * g .sector) ∙ ap verdictNumber p) in
+        rw (eq-eqb (readNumber g named (s .state) a count (length out) t) 0 k) refl
+
+    -- a peek that is accepted is so by the rules
+    peek-call : (a : ℕ) → peekNumber g named (s .state) a t ≡ 0 → peekCall g (lengthsOf t) (among named) st a w ≡ finished w (placeOf g a)
+    peek-call a e = rw (numbered-accept (leastApplying (peekRows g (lengthsOf t) (among named) st a w)) (peek-numbered g named t (s .state) a) (sym (peek-number g named t fine (s .state) a) ∙ e)) refl
+
+    -- where a sector of the content sits in the device, it sits in the lent bytes
+    place-holds : s .mode ≡ ready → (a : ℕ) → zoneOf g a < g .zones → offsetOf g a < length (s .ledger .content (zoneOf g a)) → driveOf (g .drives) (g .unit) (zoneOf g a) (offsetOf g a) ≢ s .lost
+        → getD (w (driveOf (g .drives) (g .unit) (zoneOf g a) (offsetOf g a)) (3 + zoneOf g a) .sectors) (sectorOf (g .drives) (g .unit) (offsetOf g a)) [] ≡ at (s .ledger .content (zoneOf g a)) (offsetOf g a)
+        → partAt g (t .sectors) (placeOf g a) ≡ at (s .ledger .content (zoneOf g a)) (offsetOf g a)
+    place-holds m a hz h there e =
+        let z = zoneOf g a in
+        let d = driveOf (g .drives) (g .unit) z (offsetOf g a) in
+        let x = sectorOf (g .drives) (g .unit) (offsetOf g a) in
+        let hd : d < g .drives = drive-below (g .drives) (g .unit) z (omega (arith, ok .drives-least)) (ok .unit-least) (offsetOf g a) in
+        let hy : 3 + z < physicalZones g = omega arith in
+        let most = o .order d hd there .written-most (3 + z) hy in
+        let long = content-long g ok (s .lost) w st (s .ledger) (rest-of g (viewSystem g s) (o .holds) m) z hz (offsetOf g a) h in
+        let held : x < getD (t .written) (cell g d (3 + z)) 0 = inside d (3 + z) x hd hy (at (s .ledger .content z) (offsetOf g a)) e (omega (arith, long, ok .sector-least)) in
+        sym (getD-tabulate (λ k. sectorAt g (t .sectors) d (3 + z) k) (getD (t .written) (cell g d (3 + z)) 0) x [] held) ∙ ap (λ (l : List (List ℕ)). getD l x []) (sym (device-sectors g t d (3 + z) hd hy most)) ∙ e
+      where
+        inside : (d y x : ℕ) → d < g .drives → y < physicalZones g → (c : List ℕ) → getD (w d y .sectors) x [] ≡ c → zero < length c → x < getD (t .written) (cell g d y) 0
+        inside d y x hd hy c e pos = go (decLt x (length (w d y .sectors)))
+          where
+            go : Dec (x < length (w d y .sectors)) → x < getD (t .written) (cell g d y) 0
+            go (yes k) = omega (arith, k, device-length g t d y hd hy)
+            go (no k) = absurd (let q : length c ≡ 0 = ap length (sym e ∙ getD-nothing (w d y .sectors) x (omega arith)) in omega arith)

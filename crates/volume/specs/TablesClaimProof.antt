@@ -2,16 +2,17 @@
 -- here it is carried to what the calls' contracts say.
 use mathlib.Core.Path.{_≡_, refl, sym, ap, _∙_}
 use mathlib.Core.Logic.{_≢_}
-use mathlib.Core.Bool.{Bool, true, false, not}
+use mathlib.Core.Bool.{Bool, true, false, _&&_, not}
 use Prim.Native.Nat.{ℕ, zero, suc, _+_, _-_, _*_, _^_, _≤_, _<_}
 use native.Mathlib.Decide.{decLt}
 use native.Mathlib.Omega.{arith}
 use mathlib.Core.List.{List, [], _∷_}
 use lib.ListN.{length, getD, take}
 use lib.Dec.{ltb, eqb}
-use borrow.Author.Tests.{eq-eqb, eqb-true, ne-eqb, ltb-false}
+use borrow.Author.Tests.{eq-eqb, eqb-true, ne-eqb, ltb-false, ltb-true}
 use Rattle.tables.specs.declared.Geometry.{Geometry}
-use Rattle.tables.specs.Basics.{pick}
+use Rattle.tables.specs.Basics.{pick, and-split, not-not}
+use Rattle.tables.specs.Drives.{present-not}
 use Rattle.tables.specs.Below.{tabulateFrom, getD-tabulate}
 use Rattle.tables.specs.Lists.{concat}
 use Rattle.tables.specs.Geometry.{Valid, physicalZones}
@@ -28,13 +29,13 @@ use Rattle.volume.specs.declared.Answer.the-variants.{Finished, Unfinish
 use Rattle.volume.specs.declared.Outcome.{Outcome}
 use Rattle.volume.specs.State.{StateView, callPresent, pointerIn}
 use Rattle.volume.specs.Content.{at}
-use Rattle.volume.specs.Rules.{Shown, isPresent, lostDrive, showing, valueAt}
-use Rattle.volume.specs.Refusals.{Verdict, refuse, accept, leastApplying, zoneOf, offsetOf, lookRows, readRows, peekRows}
+use Rattle.volume.specs.Rules.{Shown, isPresent, lostDrive, showing, valueAt, zoneView, viewOf}
+use Rattle.volume.specs.Refusals.{Verdict, refuse, accept, leastApplying, zoneOf, offsetOf, notHeld, lookRows, readRows, peekRows}
 use Rattle.volume.specs.Answers.{giving, finished, placeOf, lookCall, readCall, peekCall}
 use Rattle.volume.specs.Ledger.{Fits}
 use Rattle.volume.specs.Claim.{Promise, ready, allBut}
-use Rattle.volume.specs.AcceptedCalls.{giving-is}
-use Rattle.volume.specs.ClaimEvents.{Ok, rest-of}
+use Rattle.volume.specs.AcceptedCalls.{passes, giving-is}
+use Rattle.volume.specs.ClaimEvents.{Ok, rest-of, drives-of-call}
 use Rattle.volume.specs.ClaimProof.{kept}
 use Rattle.volume.specs.OnTables.{recordAt, viewState, among, verdictNumber, lengthsOf, storingOn}
 use Rattle.volume.specs.CallRefines.{Numbered}
@@ -132,3 +133,25 @@ module _ (g : Geometry) (ok : Valid g) (wb : isValid g ≡ true) (s : TablesSyst
             go : Dec (x < length (w d y .sectors)) → x < getD (t .written) (cell g d y) 0
             go (yes k) = omega (arith, k, device-length g t d y hd hy)
             go (no k) = absurd (let q : length c ≡ 0 = ap length (sym e ∙ getD-nothing (w d y .sectors) x (omega arith)) in omega arith)
+
+    peek-claim : s .mode ≡ ready → (a : ℕ) → peekNumber g named (s .state) a t ≡ 0
+        → (offsetOf g a < length (s .ledger .content (zoneOf g a))) × (peekOn g named (s .state) a t ≡ at (s .ledger .content (zoneOf g a)) (offsetOf g a))
+    unfolding peekOn peekRows notHeld zoneView viewOf
+    peek-claim m a e =
+        let z = zoneOf g a in
+        let d = driveOf (g .drives) (g .unit) z (offsetOf g a) in
+        let x = sectorOf (g .drives) (g .unit) (offsetOf g a) in
+        let p = numbered-accept (leastApplying (peekRows g (lengthsOf t) (among named) st a w)) (peek-numbered g named t (s .state) a) (sym (peek-number g named t fine (s .state) a) ∙ e) in
+        let (r1, (r2, (r3, (r4, (r7, (r8, (r13, (r15, u)))))))) = passes (peekRows g (lengthsOf t) (among named) st a w) p in
+        let hz : z < g .zones = ltb-true z (g .zones) (not-not (ltb z (g .zones)) r8) in
+        let (here, held) = and-split (callPresent g (among named) st d) (ltb x (length (w d (3 + z) .sectors))) (not-not (callPresent g (among named) st d && ltb x (length (w d (3 + z) .sectors))) r15) in
+        let there : d ≢ s .lost = present-not g (s .lost) d (sym (ap (λ (f : ℕ → Bool). f d) (drives-of-call g ok (lengthsOf t) (viewSystem g s) (o .holds) (among named) (n .drives) m)) ∙ here) in
+        let (h, c) = promised .peek-gives (inputOf g named) (obeys g s named n) m a w (placeOf g a) (peek-call a e) in
+        (h, rw (eq-eqb (peekNumber g named (s .state) a t) 0 e) (place-holds m a hz h there c))
+
+    peek-fine : s .mode ≡ ready → (a : ℕ) → zoneOf g a < g .zones → offsetOf g a < pointerIn (recordAt (s .state) (zoneOf g a) .condition)
+        → allBut (s .lost) (driveOf (g .drives) (g .unit) (zoneOf g a) (offsetOf g a)) ≡ true → peekNumber g named (s .state) a t ≡ 0
+    peek-fine m a hz h there =
+        let e = promised .peek-accepted (inputOf g named) (obeys g s named n) m a hz h there in
+        let (p, q) = giving-is (leastApplying (peekRows g (lengthsOf t) (among named) st a w)) (placeOf g a) (placeOf g a) w w e in
+        peek-number g named t fine (s .state) a ∙ ap verdictNumber p

@@ -111,3 +111,4 @@ pub mod TablesFit
 pub mod CallVerdicts
 pub mod TablesEvents
 pub mod TablesClaimProof
+pub mod TablesMount

@@ -1,0 +1,129 @@
+-- A mount on the tables. Where its stores fit, those made on the tables are the rules', step 8 included, which goes by what the tables have become;
+-- so a mount keeps the invariant, and what it shows is what the rules' mount shows.
+use mathlib.Core.Path.{_≡_, refl, sym, ap, _∙_}
+use mathlib.Core.Bool.{Bool, true, false}
+use Prim.Native.Nat.{ℕ, zero, suc, _+_, _-_, _≤_, _<_}
+use native.Mathlib.Omega.{arith}
+use mathlib.Core.List.{List, [], _∷_, _++_}
+use lib.ListN.{length, take, replicate, length-append, length-replicate}
+use lib.Seq.{take-length}
+use lib.Dec.{ltb, eqb}
+use borrow.Author.Tests.{ltb-false, ne-eqb}
+use Rattle.tables.specs.declared.Geometry.{Geometry}
+use Rattle.tables.specs.Basics.{pick}
+use Rattle.tables.specs.Below.{tabulate, length-tabulate}
+use Rattle.tables.specs.Geometry.{Valid}
+use Rattle.tables.specs.Lists.{concat, concat-append}
+use Rattle.tables.specs.Device.{Device, Store, apply, applyAll}
+use Rattle.tables.specs.Tables.{Tables, deviceOf, runStores, makeStore, WellSized, FitsAll}
+use Rattle.tables.specs.TablesRefine.{run-refines}
+use Rattle.volume.specs.declared.State.{State}
+use Rattle.volume.specs.declared.ZoneRecord.{ZoneRecord}
+use Rattle.volume.specs.ZoneLooking.{zoneLookOf}
+use Rattle.volume.specs.declared.Answer.{Answer}
+use Rattle.volume.specs.declared.Answer.the-variants.{Finished, Unfinished, Refused}
+use Rattle.volume.specs.declared.Outcome.{Outcome}
+use Rattle.volume.specs.State.{StateView}
+use Rattle.volume.specs.Rules.{Shown, isPresent, lostDrive, showing}
+use Rattle.volume.specs.Refusals.{Verdict, refuse, accept, leastApplying, mountRows}
+use Rattle.volume.specs.Mount.{withFlush, entryStep, afterOpening, mountLook, phasesBeforeEntries, mountPhases, mountStores, mountShows, mountState}
+use Rattle.volume.specs.Answers.{CallAnswer, finished, refused, storing, mountCall}
+use Rattle.volume.specs.Ledger.{Ledger, noteMount, noted, Fits}
+use Rattle.volume.specs.Claim.{Promise, MayMount, mountNote}
+use Rattle.volume.specs.Claim as rules
+use Rattle.volume.specs.ClaimEvents.{event-keeps}
+use Rattle.volume.specs.OnTables.{blankRecord, viewState, among, verdictNumber, lengthsOf, Result, storingOn}
+use Rattle.volume.specs.CallRefines.{Numbered}
+use Rattle.volume.specs.CallVerdicts.{mount-verdict, mount-numbered}
+use Rattle.volume.specs.Looking.{recordFrom, stateShown, state-shown-in, state-shown-lost}
+use Rattle.volume.specs.Mounting.{mountVerdict, storesBeforeEntries, mountStoresOn, mountOn}
+use Rattle.volume.specs.TablesClaim.{TablesSystem, shownIn, noteOfMount, next, Names, mounts}
+use Rattle.volume.specs.TablesSettled.{viewSystem, Agree, all-made}
+use Rattle.volume.specs.TablesEvents.{TablesOk, inputOf, obeys, pointers-fine, storing-keeps}
+
+-- ---- the stores
+fits-front : (g : Geometry) (xs ys : List Store) (v : Device) → FitsAll g (xs ++ ys) v → FitsAll g xs v
+fits-front g [] ys v f = tt
+fits-front g (x ∷ xs) ys v f = (f .0, fits-front g xs ys (apply x v) (f .1))
+
+-- all of a list's stores are made if the count reaches its length
+run-all : (g : Geometry) (k : ℕ) (xs : List Store) (t : Tables) → length xs ≤ k → runStores g k xs t ≡ runStores g (length xs) xs t
+run-all g k [] t h = refl
+run-all g zero (x ∷ xs) t h = absurd (omega arith)
+run-all g (suc k) (x ∷ xs) t h = run-all g k xs (makeStore g x t) (omega arith)
+
+pub mount-stores-same : (g : Geometry) (present : ℕ → Bool) (x : ℕ) (t : Tables) → WellSized g t → FitsAll g (mountStores g present x (deviceOf g t)) (deviceOf g t) → mountStoresOn g present x t ≡ mountStores g present x (deviceOf g t)
+unfolding mountStores mountPhases mountStoresOn storesBeforeEntries
+mount-stores-same g present x t sized fit =
+    let w = deviceOf g t in
+    let k = mountLook g present x w in
+    let ps = phasesBeforeEntries g present x k (afterOpening g present w) in
+    let p = concat ps in
+    let last = withFlush g present (entryStep g k (applyAll p w)) in
+    let e : concat (ps ++ last) ≡ p ++ concat last = concat-append ps last in
+    let f : FitsAll g p w = fits-front g p (concat last) w (rw (← e) fit) in
+    let d : deviceOf g (runStores g (length p) p t) ≡ applyAll p w = run-refines g (length p) p t sized f ∙ ap (λ (r : List Store). applyAll r w) (take-length p) in
+    ap (λ (u : Device). p ++ concat (withFlush g present (entryStep g k u))) d ∙ sym e
+
+-- ---- the state that it leaves
+pub shown-records : (g : Geometry) → Valid g → (k : Shown) → length (stateShown g k .zones) ≡ 16
+unfolding stateShown
+shown-records g ok k =
+    rw (length-append (tabulate (λ z. recordFrom (zoneLookOf (k .zone z))) (g .zones)) (replicate (16 - g .zones) blankRecord), length-tabulate (λ z. recordFrom (zoneLookOf (k .zone z))) (g .zones), length-replicate {A = ZoneRecord} (16 - g .zones) blankRecord)
+    (omega (arith, ok .zones-most))
+
+pub shown-agrees : (g : Geometry) (k : Shown) → Agree g (mountState k) (viewState (stateShown g k))
+shown-agrees g k = record { lost-same = sym (state-shown-lost g k); generation-same = λ z h. sym (state-shown-in g k z h .0); condition-same = λ z h. sym (state-shown-in g k z h .1) }
+
+module _ (g : Geometry) (ok : Valid g) (s : TablesSystem) (o : TablesOk g s) (named : List Bool) (n : Names g s named) where
+  abbrev t : Tables
+  t = s .tables
+
+  abbrev w : Device
+  w = deviceOf g (s .tables)
+
+  abbrev present : ℕ → Bool
+  present = isPresent g (among named) w
+
+  abbrev lost : ℕ
+  lost = lostDrive g (among named) w
+
+  abbrev verdict : Verdict
+  verdict = leastApplying (mountRows g (lengthsOf t) (among named) w)
+
+  abbrev xs : List Store
+  xs = mountStores g present lost w
+
+  abbrev ss : List Store
+  ss = mountStoresOn g present lost t
+
+  abbrev new : State
+  new = stateShown g (showing g present lost (deviceOf g (runStores g (length ss) ss t)))
+
+  module _ (fits : verdict ≡ accept → FitsAll g xs w) where
+    same : verdict ≡ accept → ss ≡ xs
+    same p = mount-stores-same g present lost t (o .sized) (fits p)
+
+    abbrev result : ℕ → Result
+    result stop = storingOn g (verdictNumber verdict) ss new (s .state) stop t
+
+    -- what it shows when it has made all its stores
+    shows : (stop : ℕ) → verdict ≡ accept → ltb stop (length xs) ≡ false → showing g present lost (deviceOf g (runStores g stop ss t)) ≡ mountShows g present lost w
+    unfolding mountShows
+    shows stop p e = ap (λ (u : Device). showing g present lost u) (all-made g s verdict (mount-numbered g named t) ss xs new stop (mountShows g present lost w) mountState (λ ans. s .ledger) (λ c. s .ledger) (o .sized) same fits p e)
+
+    shows-end : (stop : ℕ) → verdict ≡ accept → ltb stop (length xs) ≡ false → showing g present lost (deviceOf g (runStores g (length ss) ss t)) ≡ mountShows g present lost w
+    shows-end stop p e = ap (λ (u : Tables). showing g present lost (deviceOf g u)) (sym (run-all g stop ss t (rw (same p) (ltb-false stop (length xs) e)))) ∙ shows stop p e
+
+    tables-made : (stop : ℕ) → verdict ≡ accept → result stop .tables ≡ runStores g stop ss t
+    tables-made stop p = rw p refl
+
+    pub mount-event : (stop : ℕ) → MayMount (s .mode) → TablesOk g (next g s (mounts named stop))
+    unfolding mountOn
+    mount-event stop m =
+        rw (mount-verdict g named t (pointers-fine g s named n o))
+        (storing-keeps g s o verdict (mount-numbered g named t) ss xs new stop (mountShows g present lost w) mountState
+        (λ ans. noted (s .ledger) (noteOfMount ans (shownIn g named t (result stop .tables)))) (λ c. noted (s .ledger) (mountNote c)) same fits (λ p. shown-records g ok (showing g present lost (deviceOf g (runStores g (length ss) ss t))))
+        (λ p e. rw (shows-end stop p e) (shown-agrees g (mountShows g present lost w))) (λ k. refl) (λ u. refl)
+        (λ p e. ap (λ (k : Shown). noted (s .ledger) (noteMount k)) (ap (λ (u : Tables). showing g present lost (deviceOf g u)) (tables-made stop p) ∙ shows stop p e))
+        (event-keeps g ok (lengthsOf t) (viewSystem g s) (o .holds) (rules.mounts (inputOf g named) stop) (obeys g s named n, m)))

@@ -38,7 +38,7 @@ use Rattle.volume.specs.CallVerdicts.{mount-verdict, mount-numbered}
 use Rattle.volume.specs.Looking.{recordFrom, stateShown, state-shown-in, state-shown-lost}
 use Rattle.volume.specs.Mounting.{mountVerdict, storesBeforeEntries, mountStoresOn, mountOn}
 use Rattle.volume.specs.TablesClaim.{TablesSystem, shownIn, noteOfMount, next, Names, mounts}
-use Rattle.volume.specs.TablesSettled.{viewSystem, Agree, all-made}
+use Rattle.volume.specs.TablesSettled.{viewSystem, Agree, all-made, answer-finished, answer-refused}
 use Rattle.volume.specs.TablesEvents.{TablesOk, inputOf, obeys, pointers-fine, storing-keeps}
 
 -- ---- the stores
@@ -127,3 +127,22 @@ module _ (g : Geometry) (ok : Valid g) (s : TablesSystem) (o : TablesOk g s) (na
         (λ p e. rw (shows-end stop p e) (shown-agrees g (mountShows g present lost w))) (λ k. refl) (λ u. refl)
         (λ p e. ap (λ (k : Shown). noted (s .ledger) (noteMount k)) (ap (λ (u : Tables). showing g present lost (deviceOf g u)) (tables-made stop p) ∙ shows stop p e))
         (event-keeps g ok (lengthsOf t) (viewSystem g s) (o .holds) (rules.mounts (inputOf g named) stop) (obeys g s named n, m)))
+
+    -- a finished mount shows what fits
+    pub mount-claim : Promise g (lengthsOf t) (viewSystem g s) → MayMount (s .mode) → (stop : ℕ) → mountOn g named (s .state) stop t .outcome .answer ≡ Finished
+        → (mountOn g named (s .state) stop t .outcome .state ≡ stateShown g (shownIn g named t (mountOn g named (s .state) stop t .tables))) × Fits g (s .ledger) (shownIn g named t (mountOn g named (s .state) stop t .tables))
+    unfolding mountOn
+    mount-claim promised m stop e =
+        let v = mount-verdict g named t (pointers-fine g s named n o) in
+        let (p, q) = answer-finished g verdict (mount-numbered g named t) ss new (s .state) stop t (rw v at e) in
+        let q′ : ltb stop (length xs) ≡ false = rw (← same p) q in
+        let shown = shows stop p q′ in
+        let c : mountCall g (lengthsOf t) (among named) stop w ≡ finished (applyAll xs w) (mountShows g present lost w) = rw (p, q′) refl in
+        rw (v, p, q) (ap (λ (u : Tables). stateShown g (showing g present lost (deviceOf g u))) (sym (run-all g stop ss t (ltb-false stop (length ss) q))), rw shown (promised .mount-fits (inputOf g named) (obeys g s named n) m stop (applyAll xs w) (mountShows g present lost w) c))
+
+    pub mount-refusal : Promise g (lengthsOf t) (viewSystem g s) → (stop k : ℕ) → mountOn g named (s .state) stop t .outcome .answer ≡ Refused k → k ≡ 14
+    unfolding mountOn
+    mount-refusal promised stop k e =
+        let v = mount-verdict g named t (pointers-fine g s named n o) in
+        let p = answer-refused g verdict (mount-numbered g named t) ss new (s .state) stop t k (rw v at e) in
+        promised .mount-refused (inputOf g named) (obeys g s named n) stop k (rw p refl)

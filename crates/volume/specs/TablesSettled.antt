@@ -4,6 +4,7 @@ use mathlib.Core.Path.{_≡_, refl, sym, ap, _∙_}
 use mathlib.Core.Logic.{_≢_}
 use mathlib.Core.Bool.{Bool, true, false}
 use Prim.Native.Nat.{ℕ, zero, suc, _≤_, _<_}
+use native.Mathlib.Omega.{arith}
 use mathlib.Core.List.{List, [], _∷_}
 use lib.ListN.{length, take}
 use lib.Seq.{take-all}
@@ -126,3 +127,27 @@ module _ {A : Type 0} (g : Geometry) (s : TablesSystem) (v : Verdict) (numbered 
       go : (u : Verdict) → Numbered u → v ≡ u → P (storingOn g (verdictNumber u) ss new (s .state) count (s .tables) .outcome .state)
       go (refuse n) h e = rw (ne-eqb n 0 h) a
       go accept h e = finishes (ltb count (length ss)) (b e)
+
+-- ---- what an answer tells of the call
+module _ (g : Geometry) (v : Verdict) (numbered : Numbered v) (ss : List Store) (new old : State) (count : ℕ) (t : Tables) where
+  pub answer-finished : storingOn g (verdictNumber v) ss new old count t .outcome .answer ≡ Finished → (v ≡ accept) × (ltb count (length ss) ≡ false)
+  answer-finished e = go v numbered e
+    where
+      by-count : (b : Bool) → pick {A = Outcome} b (record { answer = Unfinished; state = old }) (record { answer = Finished; state = new }) .answer ≡ Finished → b ≡ false
+      by-count true q = absurd (let z : _≡_ {A = ℕ} 0 1 = cc in omega arith)
+      by-count false q = refl
+
+      go : (u : Verdict) → Numbered u → storingOn g (verdictNumber u) ss new old count t .outcome .answer ≡ Finished → (u ≡ accept) × (ltb count (length ss) ≡ false)
+      go (refuse n) h q = absurd (let r : Refused n ≡ Finished = rw (ne-eqb n 0 h) at q in let z : _≡_ {A = ℕ} 0 1 = cc in omega arith)
+      go accept h q = (refl, by-count (ltb count (length ss)) q)
+
+  pub answer-refused : (k : ℕ) → storingOn g (verdictNumber v) ss new old count t .outcome .answer ≡ Refused k → v ≡ refuse k
+  answer-refused k e = go v numbered e
+    where
+      by-count : (b : Bool) → pick {A = Outcome} b (record { answer = Unfinished; state = old }) (record { answer = Finished; state = new }) .answer ≡ Refused k → accept ≡ refuse k
+      by-count true q = absurd (let z : _≡_ {A = ℕ} 0 1 = cc in omega arith)
+      by-count false q = absurd (let z : _≡_ {A = ℕ} 0 1 = cc in omega arith)
+
+      go : (u : Verdict) → Numbered u → storingOn g (verdictNumber u) ss new old count t .outcome .answer ≡ Refused k → u ≡ refuse k
+      go (refuse n) h q = let r : Refused n ≡ Refused k = rw (ne-eqb n 0 h) at q in let m : n ≡ k = cc in rw m refl
+      go accept h q = by-count (ltb count (length ss)) q

@@ -8,21 +8,24 @@ use native.Mathlib.Decide.{decLt}
 use native.Mathlib.Omega.{arith}
 use mathlib.Core.List.{List, [], _∷_}
 use lib.ListN.{length, getD, take}
+use lib.Seq.{take-all}
 use lib.Dec.{ltb, eqb}
 use borrow.Author.Tests.{eq-eqb, eqb-true, ne-eqb, ltb-false, ltb-true}
 use Rattle.tables.specs.declared.Geometry.{Geometry}
 use Rattle.tables.specs.Basics.{pick, and-split, not-not}
-use Rattle.tables.specs.Drives.{present-not}
+use Rattle.tables.specs.Drives.{presentBut, present-not, present-below, present-other}
 use Rattle.tables.specs.Below.{tabulateFrom, getD-tabulate}
 use Rattle.tables.specs.Lists.{concat}
 use Rattle.tables.specs.Geometry.{Valid, physicalZones}
-use Rattle.tables.specs.GeometryTest.{isValid}
+use Rattle.tables.specs.GeometryTest.{isValid, valid-if-test}
 use Rattle.tables.specs.Placement.{driveOf, sectorOf}
 use Rattle.tables.specs.PlacementLaws.{drive-below}
 use Rattle.tables.specs.Device.{Device, Store, applyAll}
-use Rattle.tables.specs.Tables.{Tables, deviceOf, cell, sectorAt, runStores, makeStore, pointersBad, WellSized}
+use Rattle.tables.specs.Tables.{Tables, deviceOf, cell, sectorAt, runStores, lengthsFit, pointersBad, WellSized, FitsAll}
 use Rattle.tables.specs.TablesLaws.{device-sectors, device-length}
-use Rattle.tables.specs.TablesFrame.{sized-lengths}
+use Rattle.tables.specs.TablesRefine.{run-refines, run-sized}
+use Rattle.tables.specs.TablesFrame.{lengths-sized, sized-lengths}
+use Rattle.tables.specs.PointerOrder.{order-passed, run-order}
 use Rattle.volume.specs.declared.State.{State}
 use Rattle.volume.specs.declared.Answer.{Answer}
 use Rattle.volume.specs.declared.Answer.the-variants.{Finished, Unfinished, Refused}
@@ -30,23 +33,30 @@ use Rattle.volume.specs.declared.Outcome.{Outcome}
 use Rattle.volume.specs.State.{StateView, callPresent, pointerIn}
 use Rattle.volume.specs.Content.{at}
 use Rattle.volume.specs.Rules.{Shown, isPresent, lostDrive, showing, valueAt, zoneView, viewOf}
-use Rattle.volume.specs.Refusals.{Verdict, refuse, accept, leastApplying, zoneOf, offsetOf, notHeld, lookRows, readRows, peekRows}
-use Rattle.volume.specs.Answers.{giving, finished, placeOf, lookCall, readCall, peekCall}
-use Rattle.volume.specs.Ledger.{Fits}
+use Rattle.volume.specs.Refusals.{Verdict, refuse, accept, leastApplying, zoneOf, offsetOf, notHeld, twoUnnamed, formatRows, lookRows, mountRows, readRows, peekRows}
+use Rattle.volume.specs.Calls.{formatStores, formatState}
+use Rattle.volume.specs.Mount.{mountStores}
+use Rattle.volume.specs.Answers.{finished, leftOut, namedDrives, placeOf, readCall, peekCall}
+use Rattle.volume.specs.Ledger.{freshLedger, Fits}
 use Rattle.volume.specs.Claim.{Promise, ready, allBut}
 use Rattle.volume.specs.AcceptedCalls.{passes, giving-is}
 use Rattle.volume.specs.ClaimEvents.{Ok, rest-of, drives-of-call}
 use Rattle.volume.specs.ClaimProof.{kept}
-use Rattle.volume.specs.OnTables.{recordAt, viewState, among, verdictNumber, lengthsOf, storingOn}
-use Rattle.volume.specs.CallRefines.{Numbered}
+use Rattle.volume.specs.AtRestAnswers.{left-out, drives-named}
+use Rattle.volume.specs.FormatKeeps.{format-rests}
+use Rattle.volume.specs.OnTables.{recordAt, viewState, among, verdictNumber, lengthsOf, decided, refusalOn, storingOn}
+use Rattle.volume.specs.StoresFit.{fits-all-placed}
+use Rattle.volume.specs.Formatting.{formatVerdict, formatOn, freshState}
+use Rattle.volume.specs.CallRefines.{Numbered, numbered-least}
 use Rattle.volume.specs.CallVerdicts.{numbered-accept, look-verdict, look-numbered, read-number, read-numbered, peek-number, peek-numbered}
 use Rattle.volume.specs.Looking.{lookOn, lookVerdict, stateShown}
 use Rattle.volume.specs.Reading.{readNumber, readOn, valuesOn}
 use Rattle.volume.specs.Peeking.{peekNumber, peekOn, partAt}
-use Rattle.volume.specs.TablesClaim.{TablesSystem, Names, shownIn, contentBytes}
-use Rattle.volume.specs.TablesSettled.{viewSystem}
-use Rattle.volume.specs.TablesFit.{content-long}
-use Rattle.volume.specs.TablesEvents.{TablesOk, inputOf, obeys, named-not-lost, pointers-fine}
+use Rattle.volume.specs.TablesClaim.{TablesSystem, TablesEvent, looks, mounts, writes, flushes, resets, reads, peeks, formats, cuts, loses, next, Names, Duty, Dutiful, shownIn, contentBytes, TablesPromise, Throughout, start, TablesClaim}
+use Rattle.volume.specs.TablesSettled.{viewSystem, ok-agrees, answer-finished}
+use Rattle.volume.specs.TablesFit.{content-long, format-fits}
+use Rattle.volume.specs.TablesMount.{mount-event, mount-claim, mount-refusal}
+use Rattle.volume.specs.TablesEvents.{TablesOk, inputOf, obeys, pointers-fine, fresh-records, fresh-agrees, write-event, flush-event, reset-event, format-event, cut-event, loss-event}
 
 -- a list has nothing past its end
 getD-nothing : (xs : List (List ℕ)) (i : ℕ) → length xs ≤ i → getD xs i [] ≡ []
@@ -155,3 +165,94 @@ module _ (g : Geometry) (ok : Valid g) (wb : isValid g ≡ true) (s : TablesSyst
         let e = promised .peek-accepted (inputOf g named) (obeys g s named n) m a hz h there in
         let (p, q) = giving-is (leastApplying (peekRows g (lengthsOf t) (among named) st a w)) (placeOf g a) (placeOf g a) w w e in
         peek-number g named t fine (s .state) a ∙ ap verdictNumber p
+
+-- the stores of an accepted mount fit
+abbrev MountFits : Geometry → Type 0
+MountFits g = (s : TablesSystem) → TablesOk g s → (named : List Bool) → Names g s named → leastApplying (mountRows g (lengthsOf (s .tables)) (among named) (deviceOf g (s .tables))) ≡ accept
+    → FitsAll g (mountStores g (isPresent g (among named) (deviceOf g (s .tables))) (lostDrive g (among named) (deviceOf g (s .tables))) (deviceOf g (s .tables))) (deviceOf g (s .tables))
+
+module _ (g : Geometry) (ok : Valid g) (wb : isValid g ≡ true) (fits : MountFits g) where
+  -- every point of a history is as promised
+  tables-promise : (s : TablesSystem) → TablesOk g s → TablesPromise g s
+  tables-promise s o = record {
+    look-fits = look-claim g ok wb s o;
+    mount-fits = λ named n m stop e. mount-claim g ok s o named n (fits s o named n) (promised g ok wb s o) m stop e;
+    mount-refused = λ named n stop k e. mount-refusal g ok s o named n (fits s o named n) (promised g ok wb s o) stop k e;
+    pointer-is = promised g ok wb s o .pointer-is;
+    read-gives = read-claim g ok wb s o;
+    read-accepted = read-fine g ok wb s o;
+    peek-gives = peek-claim g ok wb s o;
+    peek-accepted = peek-fine g ok wb s o;
+  }
+
+  tables-event : (s : TablesSystem) → TablesOk g s → (e : TablesEvent) → Duty g s e → TablesOk g (next g s e)
+  tables-event s o (looks named) d = o
+  tables-event s o (mounts named stop) (n, m) = mount-event g ok s o named n (fits s o named n) stop m
+  tables-event s o (writes named a count buffer stop) (n, m) = write-event g ok s o named n m a count buffer stop
+  tables-event s o (flushes named stop) (n, m) = flush-event g ok s o named n m stop
+  tables-event s o (resets named z stop) (n, m) = reset-event g ok s o named n m z stop
+  tables-event s o (reads named a count out) d = o
+  tables-event s o (peeks named a) d = o
+  tables-event s o (formats named array stop) (n, m, h, q) = format-event g ok s o named n m array stop h q
+  tables-event s o (cuts u) c = cut-event g ok s o u c
+  tables-event s o (loses d) (h, e) = loss-event g ok s o d h e
+
+  tables-throughout : (es : List TablesEvent) (s : TablesSystem) → TablesOk g s → Dutiful g s es → Throughout g s es
+  tables-throughout [] s o d = tables-promise s o
+  tables-throughout (e ∷ es) s o (d, ds) = (tables-promise s o, tables-throughout es (next g s e) (tables-event s o e d) ds)
+
+-- ---- the format at the head
+format-numbered-on : (g : Geometry) (named : List Bool) (t : Tables) → Numbered (formatVerdict g named t)
+unfolding formatVerdict refusalOn formatRows
+format-numbered-on g named t =
+    numbered-least (decided (pointersBad g named (t .written) (t .durable)) (formatRows g (lengthsOf t) (among named) (deviceOf g t))) ((λ e. omega arith), ((λ e. omega arith), ((λ e. omega arith), ((λ e. omega arith), tt))))
+
+-- what passing its refusals gives
+record FormatPassed (g : Geometry) (named : List Bool) (t : Tables) : Type 0 where
+  valid-test : isValid g ≡ true
+  lengths-fit : lengthsFit g (length (t .sectors)) (length (t .written)) (length (t .durable)) ≡ true
+  pointers-fit : pointersBad g named (t .written) (t .durable) ≡ false
+  one-unnamed : twoUnnamed g (among named) ≡ false
+
+format-passed : (g : Geometry) (named : List Bool) (t : Tables) → formatVerdict g named t ≡ accept → FormatPassed g named t
+unfolding formatVerdict refusalOn formatRows
+format-passed g named t e =
+    let (r1, (r2, (r3, (r4, u)))) = passes (decided (pointersBad g named (t .written) (t .durable)) (formatRows g (lengthsOf t) (among named) (deviceOf g t))) e in
+    record { valid-test = not-not (isValid g) r1; lengths-fit = not-not (lengthsFit g (length (t .sectors)) (length (t .written)) (length (t .durable))) r2; pointers-fit = r3; one-unnamed = r4 }
+
+module _ (g : Geometry) (named : List Bool) (array : ℕ) (old : State) (stop : ℕ) (t : Tables) (small : array < 256 ^ 8) (passed : FormatPassed g named t) where
+  abbrev x : ℕ
+  x = leftOut g (among named)
+
+  ok : Valid g
+  ok = valid-if-test g (passed .valid-test)
+
+  sized : WellSized g t
+  sized = lengths-sized g (t .sectors) (t .written) (t .durable) (passed .lengths-fit)
+
+  drives : namedDrives g (among named) ≡ presentBut g x
+  drives = drives-named g ok (among named) (passed .one-unnamed)
+
+  abbrev stores : List Store
+  stores = formatStores g (presentBut g x) x array
+
+  stores-fit : FitsAll g stores (deviceOf g t)
+  stores-fit = format-fits g ok x array (deviceOf g t) (left-out g (among named)) small (λ d y hd hy. omega (arith, device-length g t d y (present-below g x d hd) hy))
+
+  -- a drive that is not left out is named
+  named-in : (d : ℕ) → d < g .drives → d ≢ x → among named d ≡ true
+  unfolding namedDrives
+  named-in d h q = and-split (ltb d (g .drives)) (among named d) (ap (λ (f : ℕ → Bool). f d) drives ∙ present-other g x d h q) .1
+
+  start-ok : ltb stop (length (formatStores g (namedDrives g (among named)) x array)) ≡ false → TablesOk g (start g named (storingOn g 0 (formatStores g (namedDrives g (among named)) x array) (freshState x) old stop t))
+  start-ok e =
+      let e′ : ltb stop (length stores) ≡ false = rw (← drives) e in
+      let d : deviceOf g (runStores g stop stores t) ≡ applyAll stores (deviceOf g t) = run-refines g stop stores t sized stores-fit ∙ ap (λ (r : List Store). applyAll r (deviceOf g t)) (take-all stop stores (ltb-false stop (length stores) e′)) in
+      let placed = fits-all-placed g stores (deviceOf g t) stores-fit in
+      rw (e, drives)
+      (record {
+        sized = run-sized g stop stores t sized placed;
+        order = λ k hk q. run-order g k stop stores t hk sized placed (order-passed g named (t .written) (t .durable) k (passed .pointers-fit) hk (named-in k hk q));
+        records = fresh-records x;
+        holds = rw d (ok-agrees g ready x (applyAll stores (deviceOf g t)) (formatState x) (viewState (freshState x)) freshLedger (fresh-agrees g ok x) (format-rests g ok x array (deviceOf g t) (left-out g (among named)) small));
+      })

@@ -61,7 +61,7 @@ rest-agrees g x v a b l γ e r = record {
   lost-is = rw (← e .lost-same) (r .lost-is);
 }
 
-ok-agrees : (g : Geometry) (m : Mode) (x : ℕ) (v : Device) (a b : StateView) (l : Ledger) → Agree g a b → OkIn g m x v a l → OkIn g m x v b l
+pub ok-agrees : (g : Geometry) (m : Mode) (x : ℕ) (v : Device) (a b : StateView) (l : Ledger) → Agree g a b → OkIn g m x v a l → OkIn g m x v b l
 ok-agrees g ready x v a b l e (γ, r) = (γ, rest-agrees g x v a b l γ e r)
 ok-agrees g stopped x v a b l e o = o
 ok-agrees g down x v a b l e o = o

@@ -101,3 +101,4 @@ pub mod MountGenerations
 pub mod MountSteps
 pub mod MountTells
 pub mod MountRows
+pub mod MountValues

@@ -102,3 +102,6 @@ pub mod MountSteps
 pub mod MountTells
 pub mod MountRows
 pub mod MountValues
+pub mod KnownLengths
+pub mod MountParityRows
+pub mod MountTornLogs

@@ -105,3 +105,4 @@ pub mod MountValues
 pub mod KnownLengths
 pub mod MountParityRows
 pub mod MountTornLogs
+pub mod MountLastEntries

@@ -103,6 +103,11 @@ pub mod MountGenerations
 pub mod MountSteps
 pub mod MountTells
 pub mod MountRows
+pub mod MountValues
+pub mod KnownLengths
+pub mod MountParityRows
+pub mod MountTornLogs
+pub mod MountLastEntries
 pub mod Mounting
 -- The promise on the tables.
 pub mod TablesClaim

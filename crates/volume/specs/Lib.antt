@@ -102,3 +102,5 @@ pub mod MountSteps
 pub mod MountTells
 pub mod MountRows
 pub mod MountValues
+pub mod MountRestoring
+pub mod MountFillOn

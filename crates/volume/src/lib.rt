@@ -9,6 +9,7 @@ pub mod knowing;
 pub mod logging;
 pub mod looking;
 pub mod mount_counters;
+pub mod mount_fill;
 pub mod mount_logs;
 pub mod mount_rows;
 pub mod mount_steps;

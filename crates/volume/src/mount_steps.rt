@@ -16,7 +16,7 @@ ghost use Rattle.volume.specs.MountHeaders.{headerSteps, Logging};
 ghost use Rattle.volume.specs.MountSteps.{Underway, headerPhases};
 
 // The flush after a step, if the step stored: it had `before` and left `rest`.
-fn flush_after(
+pub fn flush_after(
     written: &[u32],
     durable: &mut [u32],
     g: Geometry,

@@ -104,3 +104,7 @@ pub mod MountRows
 pub mod MountValues
 pub mod MountRestoring
 pub mod MountFillOn
+pub mod MountStart
+pub mod MountTold
+pub mod MountJoins
+pub mod Mounting

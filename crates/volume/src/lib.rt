@@ -14,6 +14,7 @@ pub mod mount_logs;
 pub mod mount_rows;
 pub mod mount_steps;
 pub mod mount_zones;
+pub mod mounting;
 pub mod reading;
 pub mod resetting;
 pub mod write_checks;

@@ -102,6 +102,10 @@ pub mod MountSteps
 pub mod MountTells
 pub mod MountRows
 pub mod MountValues
+pub mod KnownLengths
+pub mod MountParityRows
+pub mod MountTornLogs
+pub mod MountLastEntries
 pub mod MountRestoring
 pub mod MountFillOn
 pub mod MountStart

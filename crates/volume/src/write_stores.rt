@@ -90,7 +90,7 @@ pub fn write_run(
 }
 
 // The header of a partial parity entry, on the parity log of a drive: stripe s, its first `fill` sectors.
-fn append_partial(
+pub fn append_partial(
     sectors: &mut [u8],
     written: &mut [u32],
     g: Geometry,

@@ -1,0 +1,116 @@
+use Rattle.volume.specs.MountLastEntries.{entry-parts, entry-rowing, header-in}
+use Rattle.volume.specs.MountParityRows.{storedRow, logRows, parityOnly, rowing-kept}
+use Rattle.volume.specs.MountValues.{limitAt}
+use Rattle.volume.specs.MountRows.{valuesOf}
+use Rattle.volume.specs.MountLook.{zoneLook}
+use Rattle.volume.specs.OnTables.{appends-append}
+use Rattle.volume.specs.Content.{fillOf, entryHeader}
+use Rattle.logs.specs.Entry.{parityZone, encode}
+use Rattle.tables.specs.Sizes.{zone-small}
+use Rattle.tables.specs.Placement.{stripeOf}
+use Rattle.tables.specs.Tables.{MadeAppends}
+use Rattle.tables.specs.Device.{Store, append}
+use Rattle.tables.specs.Geometry.{stripeSectors}
+use denote.Ref.{now}
+use native.Mathlib.Omega.{arith}
+use native.Mathlib.Nat.{div-add-mod'}
+use Prim.Native.Nat.{_-_, min}
+use mathlib.Core.List.{List, [], _∷_}
+use mathlib.Core.Bool.{true}
+use mathlib.Core.Path.{refl, sym, subst}
+use borrow.Author.Needs.{needs}
+use Rattle.volume.proofs.mount_entries.append_entry.Statement.{statement}
+use Rattle.volume.proofs.mount_entries.append_entry.Tie as tie
+
+mul-zone : tie.Need-mul-zone
+mul-zone c = search needs
+
+array-copy-out-zone : tie.Need-array-copy-out-zone
+array-copy-out-zone c = search needs
+
+stripe-sectors-requires : tie.Need-stripe-sectors-requires
+stripe-sectors-requires c κs = search needs
+
+div-s : tie.Need-div-s
+div-s c = search needs
+
+mul-fill : tie.Need-mul-fill
+mul-fill c =
+    let s = c .before .before .before .before .before .before .before .before in
+    let a = s .args in
+    omega (arith, div-add-mod' (zoneLook (a .look) (a .z) .pointer) (c .stripe-sectors .result), s .pre .1 .3 .logging .within .pointer-most (a .z) (s .pre .1 .4), zone-small (a .g) (s .pre .0) .1)
+
+sub-fill : tie.Need-sub-fill
+sub-fill c =
+    let a = c .before .before .before .before .before .before .before .before .args in
+    omega (arith, div-add-mod' (zoneLook (a .look) (a .z) .pointer) (c .stripe-sectors .result))
+
+seal-limit-requires : tie.Need-seal-limit-requires
+seal-limit-requires c κs =
+    let s = c .before .before .before .before .before .before .before .before .before in (s .pre .0, s .pre .1 .3 .known-below (s .args .z) (s .pre .1 .4) .readable)
+
+append-partial-requires : tie.Need-append-partial-requires
+append-partial-requires c κs =
+    let s = c .before .before .before .before .before .before .before .before .before .before .before .before in
+    let a = s .args in
+    let l = s .pre .1 .3 .logging in
+    (s .pre .0, (s .pre .1 .0, s .pre .1 .4, rw (c .before .before .before .before .stripe-sectors .ensures .0) (omega (arith, div-add-mod' (zoneLook (a .look) (a .z) .pointer) (stripeSectors (a .g)), l .within .pointer-most (a .z) (s .pre .1 .4))), l .sectors-long, l .written-long))
+
+smaller-requires : tie.Need-smaller-requires
+smaller-requires c κs = search needs
+
+append-rows-requires : tie.Need-append-rows-requires
+unfolding stripeOf
+append-rows-requires c κs =
+    let s = c .before .before .before .before .before .before .before .before .before .before .before .before .before .before .before .before .before .before .before .before .before .before in
+    let a = s .args in
+    let k = c .before .before .before .before .before .before .before .before .before .before .before .before .before .before .stripe-sectors in
+    let f = c .before .before .before .before .before .before .before .before .before .append-partial in
+    let h : MadeAppends (a .g) (a .budget) (f .result) (append (a .drive) parityZone (encode (a .g) (a .drive) (entryHeader (a .g) (a .z) (zoneLook (a .look) (a .z) .generation) (zoneLook (a .look) (a .z) .pointer))) ∷ []) (now (a .sectors)) (now (a .written)) (f .last .0) (f .last .1 .0) = rw (k .ensures .0) at (f .ensures) in
+    rw (c .before .before .before .before .smaller .ensures, c .before .before .before .before .before .before .before .before .before .before .before .before .seal-limit .ensures .0, k .ensures .0)
+    (s .pre .0, (s .pre .1 .0, omega arith, s .pre .1 .1, s .pre .1 .2, rowing-kept (a .g) (a .here) (now (a .pointers)) (now (a .sectors)) (now (a .written)) (a .z) (zoneLook (a .look) (a .z) .generation) (limitAt (a .g) (a .here) (a .look) (now (a .sectors)) (now (a .pointers)) (a .z)) true (stripeOf (a .g .drives) (a .g .unit) (zoneLook (a .look) (a .z) .pointer)) (zoneLook (a .look) (a .z) .pointer) (min (fillOf (a .g) (zoneLook (a .look) (a .z) .pointer)) (a .g .unit)) (entry-rowing (a .g) (a .here) (a .look) (now (a .pointers)) (now (a .sectors)) (now (a .written)) (s .pre .0) (s .pre .1 .3) (a .z) (s .pre .1 .4) (s .pre .1 .5)) (a .budget) (f .result) (append (a .drive) parityZone (encode (a .g) (a .drive) (entryHeader (a .g) (a .z) (zoneLook (a .look) (a .z) .generation) (zoneLook (a .look) (a .z) .pointer))) ∷ []) (f .last .0) (f .last .1 .0) (header-in (a .g) parityOnly (a .drive) (a .z) (stripeOf (a .g .drives) (a .g .unit) (zoneLook (a .look) (a .z) .pointer)) (fillOf (a .g) (zoneLook (a .look) (a .z) .pointer)) (zoneLook (a .look) (a .z) .generation) (s .pre .0) (s .pre .1 .0) refl) h .0))
+
+same-length : tie.Need-same-length
+same-length c = search needs
+
+same-length-2 : tie.Need-same-length-2
+same-length-2 c = search needs
+
+same-length-3 : tie.Need-same-length-3
+same-length-3 c = search needs
+
+same-length-4 : tie.Need-same-length-4
+same-length-4 c = search needs
+
+returns : tie.Need-returns
+unfolding stripeOf
+returns c =
+    let s = c .before .before .before .before .before .before .before .before .before .before .before .before .before .before .before .before .before .before .before .before .before .before .before .before .before .before .before .before .before .before .before in
+    let a = s .args in
+    let k = c .before .before .before .before .before .before .before .before .before .before .before .before .before .before .before .before .before .before .before .before .before .before .before .stripe-sectors in
+    let f = c .before .before .before .before .before .before .before .before .before .before .before .before .before .before .before .before .before .before .append-partial in
+    let r = c .before .before .before .before .before .before .before .before .append-rows in
+    let h : MadeAppends (a .g) (a .budget) (f .result) (append (a .drive) parityZone (encode (a .g) (a .drive) (entryHeader (a .g) (a .z) (zoneLook (a .look) (a .z) .generation) (zoneLook (a .look) (a .z) .pointer))) ∷ []) (now (a .sectors)) (now (a .written)) (f .last .0) (f .last .1 .0) = rw (k .ensures .0) at (f .ensures) in
+    let e = rowing-kept (a .g) (a .here) (now (a .pointers)) (now (a .sectors)) (now (a .written)) (a .z) (zoneLook (a .look) (a .z) .generation) (limitAt (a .g) (a .here) (a .look) (now (a .sectors)) (now (a .pointers)) (a .z)) true (stripeOf (a .g .drives) (a .g .unit) (zoneLook (a .look) (a .z) .pointer)) (zoneLook (a .look) (a .z) .pointer) (min (fillOf (a .g) (zoneLook (a .look) (a .z) .pointer)) (a .g .unit)) (entry-rowing (a .g) (a .here) (a .look) (now (a .pointers)) (now (a .sectors)) (now (a .written)) (s .pre .0) (s .pre .1 .3) (a .z) (s .pre .1 .4) (s .pre .1 .5)) (a .budget) (f .result) (append (a .drive) parityZone (encode (a .g) (a .drive) (entryHeader (a .g) (a .z) (zoneLook (a .look) (a .z) .generation) (zoneLook (a .look) (a .z) .pointer))) ∷ []) (f .last .0) (f .last .1 .0) (header-in (a .g) parityOnly (a .drive) (a .z) (stripeOf (a .g .drives) (a .g .unit) (zoneLook (a .look) (a .z) .pointer)) (fillOf (a .g) (zoneLook (a .look) (a .z) .pointer)) (zoneLook (a .look) (a .z) .generation) (s .pre .0) (s .pre .1 .0) refl) h .1 in
+    subst (λ (stores : List Store). MadeAppends (a .g) (a .budget) (r .result) stores (now (a .sectors)) (now (a .written)) (r .last .0) (r .last .1 .0)) (sym (entry-parts (a .g) (a .drive) (a .z) (zoneLook (a .look) (a .z) .generation) (valuesOf (a .g) (a .here) (now (a .sectors)) (now (a .pointers)) (a .z) (zoneLook (a .look) (a .z) .generation)) (zoneLook (a .look) (a .z) .pointer)))
+    (appends-append (a .g) (a .budget) (f .result) (r .result) (append (a .drive) parityZone (encode (a .g) (a .drive) (entryHeader (a .g) (a .z) (zoneLook (a .look) (a .z) .generation) (zoneLook (a .look) (a .z) .pointer))) ∷ []) (logRows (a .drive) (storedRow (a .g) (valuesOf (a .g) (a .here) (now (a .sectors)) (now (a .pointers)) (a .z) (zoneLook (a .look) (a .z) .generation)) true (stripeOf (a .g .drives) (a .g .unit) (zoneLook (a .look) (a .z) .pointer)) (zoneLook (a .look) (a .z) .pointer)) 0 ((min (fillOf (a .g) (zoneLook (a .look) (a .z) .pointer)) (a .g .unit)) - 0)) (now (a .sectors)) (now (a .written)) (f .last .0) (f .last .1 .0) (r .last .0) (r .last .1 .0) h (rw (e, c .before .before .before .before .before .before .before .before .before .before .before .before .before .smaller .ensures, k .ensures .0) at (r .ensures)))
+
+pub append-entry-spec : {M : Type 1} → statement M
+append-entry-spec =
+    tie.close
+    (tie.spec
+    mul-zone
+    array-copy-out-zone
+    stripe-sectors-requires
+    div-s
+    mul-fill
+    sub-fill
+    seal-limit-requires
+    append-partial-requires
+    smaller-requires
+    append-rows-requires
+    same-length
+    same-length-2
+    same-length-3
+    same-length-4
+    returns)

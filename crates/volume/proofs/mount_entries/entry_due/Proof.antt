@@ -1,0 +1,82 @@
+use Rattle.volume.specs.MountLastEntries.{due-outside, due-elsewhere, due-here}
+use Rattle.volume.specs.MountLook.{zoneLook}
+use Rattle.volume.specs.MountTables.{seen}
+use Rattle.volume.specs.Rules.{parityEntries}
+use Rattle.tables.specs.Sizes.{stripes-most, zone-small}
+use Rattle.tables.specs.Placement.{stripeOf}
+use denote.Ref.{now}
+use native.Mathlib.Omega.{arith}
+use native.Mathlib.Nat.{div-add-mod'}
+use mathlib.Core.Bool.{not}
+use mathlib.Core.Path.{sym, ap, _∙_}
+use borrow.Author.Needs.{needs}
+use Rattle.volume.proofs.mount_entries.entry_due.Statement.{statement}
+use Rattle.volume.proofs.mount_entries.entry_due.Tie as tie
+
+mul-zone : tie.Need-mul-zone
+mul-zone c = search needs
+
+array-copy-out-zone : tie.Need-array-copy-out-zone
+array-copy-out-zone c = search needs
+
+stripe-sectors-requires : tie.Need-stripe-sectors-requires
+stripe-sectors-requires c κs = search needs
+
+div-s : tie.Need-div-s
+div-s c = search needs
+
+mul-if1 : tie.Need-mul-if1
+mul-if1 c =
+    let s = c .before .before .before .before .before in
+    let a = s .args in
+    omega (arith, div-add-mod' (zoneLook (a .look) (a .z) .pointer) (c .stripe-sectors .result), s .pre .1 .4 .pointer-most (a .z) (s .pre .1 .1), zone-small (a .g) (s .pre .0) .1)
+
+returns : tie.Need-returns
+unfolding stripeOf
+returns c =
+    let a = c .before .before .before .before .before .before .args in
+    sym (due-outside (a .g) (a .look) (a .drive) (a .z) (parityEntries (a .g) (seen (a .g) (now (a .sectors)) (now (a .starts))) (a .drive)) (rw (c .before .stripe-sectors .ensures .0) at (c .if1 .taken)))
+
+parity-drive-requires : tie.Need-parity-drive-requires
+unfolding stripeOf
+parity-drive-requires c κs =
+    let s = c .before .before .before .before .before .before in
+    let a = s .args in
+    (omega (arith, s .pre .0 .drives-least), s .pre .0 .drives-most, omega (arith, s .pre .1 .1, s .pre .0 .zones-most), rw (c .before .stripe-sectors .ensures .0) (omega (arith, stripes-most (a .g) (zoneLook (a .look) (a .z) .pointer) (s .pre .0) (s .pre .1 .4 .pointer-most (a .z) (s .pre .1 .1)), s .pre .0 .zone-most)))
+
+returns-2 : tie.Need-returns-2
+unfolding stripeOf
+returns-2 c =
+    let a = c .before .before .before .before .before .before .before .before .args in
+    sym (due-elsewhere (a .g) (a .look) (a .drive) (a .z) (parityEntries (a .g) (seen (a .g) (now (a .sectors)) (now (a .starts))) (a .drive)) (λ e. c .if2 .taken (e ∙ sym (rw (c .before .before .before .stripe-sectors .ensures .0) at (c .before .parity-drive .ensures .0)))))
+
+sectors-then-requires : tie.Need-sectors-then-requires
+sectors-then-requires c κs = search needs
+
+has-partial-at-requires : tie.Need-has-partial-at-requires
+has-partial-at-requires c κs = search needs
+
+returns-3 : tie.Need-returns-3
+unfolding stripeOf
+returns-3 c =
+    let s = c .before .before .before .before .before .before .before .before .before .before in
+    let a = s .args in
+    let k = c .before .before .before .before .before .stripe-sectors in
+    let n = c .before .sectors-then in
+    ap not (c .has-partial-at .ensures) ∙ sym (due-here (a .g) (a .look) (a .drive) (a .z) (now (a .sectors)) (now (a .starts)) (n .result) (s .pre .1 .0) (n .ensures .0) (rw (k .ensures .0) at (c .before .before .before .before .if1 .left)) (c .before .before .if2 .left ∙ rw (k .ensures .0) at (c .before .before .before .parity-drive .ensures .0)))
+
+pub entry-due-spec : {M : Type 1} → statement M
+entry-due-spec =
+    tie.close
+    (tie.spec
+    mul-zone
+    array-copy-out-zone
+    stripe-sectors-requires
+    div-s
+    mul-if1
+    returns
+    parity-drive-requires
+    returns-2
+    sectors-then-requires
+    has-partial-at-requires
+    returns-3)

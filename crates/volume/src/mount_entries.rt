@@ -1,0 +1,273 @@
+// Step 8 of a mount: "a type 4 entry at each pointer inside a stripe that by then has no whole current one ending there". Values are those of the
+// mount's look, read below its pointers. Whether there is such an entry is asked of the logs as they were when the step began: below a copy of the
+// written pointers of that moment, `starts`.
+use super::Look;
+use tables::Geometry;
+ghost use mathlib.Core.Path.{_≡_};
+ghost use Prim.Native.Nat.{_*_, _<_};
+ghost use lib.ListN.{length};
+ghost use Rattle.tables.specs.Below.{eachBelow};
+ghost use Rattle.tables.specs.Lists.{concat};
+ghost use Rattle.tables.specs.Geometry.{Valid, stripeSectors, cells, totalBytes};
+ghost use Rattle.tables.specs.Placement.{stripeOf};
+ghost use Rattle.tables.specs.Phases.{onPresent};
+ghost use Rattle.tables.specs.Tables.{tablesOf, deviceOf, Made, MadeAppends};
+ghost use Rattle.volume.specs.Rules.{parityEntries};
+ghost use Rattle.volume.specs.Mount.{withFlush, entryStep};
+ghost use Rattle.volume.specs.OnTables.{among};
+ghost use Rattle.volume.specs.MountTables.{seen};
+ghost use Rattle.volume.specs.MountLook.{zoneLook, LookWithin};
+ghost use Rattle.volume.specs.MountValues.{shownAt, Restoring};
+ghost use Rattle.volume.specs.MountTornLogs.{Filling};
+ghost use Rattle.volume.specs.MountLastEntries.{Entering, entryDue, newEntry, entryStores, entryStoresBelow};
+
+// Whether an entry at a zone's pointer is due on a drive: the pointer lies inside a stripe, the drive holds the stripe's parity, and its log had no
+// whole current entry that ends there.
+fn entry_due(
+    sectors: &[u8],
+    starts: &[u32],
+    g: Geometry,
+    look: Look,
+    drive: usize,
+    z: usize,
+) -> bool
+    requires { ⌜ Valid g ⌝ }
+    requires { ⌜ (drive < g .drives) × (z < g .zones) × (length (now sectors) ≡ totalBytes g) × (length (now starts) ≡ cells g) × LookWithin g look ⌝ }
+    ensures { λ r. ⌜ r ≡ entryDue g look (parityEntries g (seen g (now (sectors .entry)) (now (starts .entry))) drive) drive z ⌝ }
+{
+    let zones = look.zones;
+    let zone = zones[z];
+    let generation = zone.generation;
+    let pointer = zone.pointer;
+    let k = tables::bounds::stripe_sectors(g);
+    let s = pointer / k;
+    if pointer <= s * k {
+        return false;
+    }
+    let d = g.drives;
+    let parity = tables::placement::parity_drive(d, z, s);
+    if drive != parity {
+        return false;
+    }
+    let n = super::mount_logs::sectors_then(starts, g, drive, 1);
+    let there = logs::folds::has_partial_at(sectors, g, drive, 1, n, z, generation, pointer);
+    !there
+}
+
+// The entry at a zone's pointer, which lies inside a stripe: its header and then its rows, on the parity log of a drive.
+fn append_entry(
+    sectors: &mut [u8],
+    written: &mut [u32],
+    pointers: &[u32],
+    value: &mut [u8],
+    out: &mut [u8],
+    g: Geometry,
+    here: [bool; 8],
+    look: Look,
+    drive: usize,
+    z: usize,
+    budget: u64,
+) -> u64
+    requires { ⌜ Valid g ⌝ }
+    requires { ⌜ (drive < g .drives) × (length (now value) ≡ g .sector) × (length (now out) ≡ g .sector) × Filling g here look (now pointers) (now sectors) (now written)
+        × (z < g .zones) × (stripeOf (g .drives) (g .unit) (zoneLook look z .pointer) * stripeSectors g < zoneLook look z .pointer) ⌝ }
+    ensures { λ r. ⌜ MadeAppends g budget r (newEntry g (shownAt g here look (now (sectors .entry)) (now (pointers .entry))) drive z) (now (sectors .entry)) (now (written .entry)) (now (sectors .exit)) (now (written .exit)) ⌝ }
+{
+    let zones = look.zones;
+    let zone = zones[z];
+    let generation = zone.generation;
+    let pointer = zone.pointer;
+    let k = tables::bounds::stripe_sectors(g);
+    let s = pointer / k;
+    let fill = pointer - s * k;
+    let limit = super::knowing::seal_limit(sectors, pointers, g, here, z, generation);
+    let rest = super::write_stores::append_partial(
+        sectors,
+        written,
+        g,
+        true,
+        drive,
+        z,
+        s,
+        fill,
+        generation,
+        budget,
+    );
+    let u = g.unit;
+    let m = tables::placement::smaller(fill, u);
+    super::mount_log_rows::append_rows(
+        sectors,
+        written,
+        pointers,
+        value,
+        out,
+        g,
+        here,
+        drive,
+        z,
+        generation,
+        limit,
+        true,
+        s,
+        pointer,
+        0,
+        m,
+        rest,
+    )
+}
+
+// The entry of one zone on one drive, if the drive is here and it is due: what is left of the budget of stores.
+fn log_entry(
+    sectors: &mut [u8],
+    written: &mut [u32],
+    pointers: &[u32],
+    starts: &[u32],
+    value: &mut [u8],
+    out: &mut [u8],
+    g: Geometry,
+    here: [bool; 8],
+    look: Look,
+    drive: usize,
+    z: usize,
+    budget: u64,
+) -> u64
+    requires { ⌜ Valid g ⌝ }
+    requires { ⌜ (drive < g .drives) × (z < g .zones) × (length (now value) ≡ g .sector) × (length (now out) ≡ g .sector) × Entering g here look (now pointers) (now starts) (now sectors) (now written) ⌝ }
+    ensures { λ r. ⌜ MadeAppends g budget r (onPresent (among here) (entryStores g look (shownAt g here look (now (sectors .entry)) (now (pointers .entry))) (parityEntries g (seen g (now (sectors .entry)) (now (starts .entry))) drive) drive z)) (now (sectors .entry)) (now (written .entry)) (now (sectors .exit)) (now (written .exit)) ⌝ }
+{
+    let present = here[drive];
+    if !present {
+        return budget;
+    }
+    let due = entry_due(sectors, starts, g, look, drive, z);
+    if !due {
+        return budget;
+    }
+    append_entry(
+        sectors,
+        written,
+        pointers,
+        value,
+        out,
+        g,
+        here,
+        look,
+        drive,
+        z,
+        budget,
+    )
+}
+
+// The entries of one drive, zones ascending.
+fn log_drive(
+    sectors: &mut [u8],
+    written: &mut [u32],
+    pointers: &[u32],
+    starts: &[u32],
+    value: &mut [u8],
+    out: &mut [u8],
+    g: Geometry,
+    here: [bool; 8],
+    look: Look,
+    drive: usize,
+    budget: u64,
+) -> u64
+    requires { ⌜ Valid g ⌝ }
+    requires { ⌜ (drive < g .drives) × (length (now value) ≡ g .sector) × (length (now out) ≡ g .sector) × Entering g here look (now pointers) (now starts) (now sectors) (now written) ⌝ }
+    ensures { λ r. ⌜ MadeAppends g budget r (onPresent (among here) (eachBelow (entryStores g look (shownAt g here look (now (sectors .entry)) (now (pointers .entry))) (parityEntries g (seen g (now (sectors .entry)) (now (starts .entry))) drive) drive) (g .zones))) (now (sectors .entry)) (now (written .entry)) (now (sectors .exit)) (now (written .exit)) ⌝ }
+{
+    let n = g.zones;
+    let mut rest = budget;
+    let mut z = 0;
+    while z < n {
+        rest = log_entry(
+            sectors,
+            written,
+            pointers,
+            starts,
+            value,
+            out,
+            g,
+            here,
+            look,
+            drive,
+            z,
+            rest,
+        );
+        z += 1;
+    }
+    rest
+}
+
+// The entries of the step, drive by drive.
+fn log_entries(
+    sectors: &mut [u8],
+    written: &mut [u32],
+    pointers: &[u32],
+    starts: &[u32],
+    value: &mut [u8],
+    out: &mut [u8],
+    g: Geometry,
+    here: [bool; 8],
+    look: Look,
+    budget: u64,
+) -> u64
+    requires { ⌜ Valid g ⌝ }
+    requires { ⌜ (length (now value) ≡ g .sector) × (length (now out) ≡ g .sector) × Entering g here look (now pointers) (now starts) (now sectors) (now written) ⌝ }
+    ensures { λ r. ⌜ MadeAppends g budget r (onPresent (among here) (entryStoresBelow g look (shownAt g here look (now (sectors .entry)) (now (pointers .entry))) (parityEntries g (seen g (now (sectors .entry)) (now (starts .entry)))) (g .drives))) (now (sectors .entry)) (now (written .entry)) (now (sectors .exit)) (now (written .exit)) ⌝ }
+{
+    let m = g.drives;
+    let mut rest = budget;
+    let mut d = 0;
+    while d < m {
+        rest = log_drive(
+            sectors,
+            written,
+            pointers,
+            starts,
+            value,
+            out,
+            g,
+            here,
+            look,
+            d,
+            rest,
+        );
+        d += 1;
+    }
+    rest
+}
+
+// The entries at the pointers, and their flush. `starts` is a copy of the written pointers; `value` and `out` are scratch of one sector.
+pub fn entry_step(
+    sectors: &mut [u8],
+    written: &mut [u32],
+    durable: &mut [u32],
+    pointers: &[u32],
+    starts: &[u32],
+    value: &mut [u8],
+    out: &mut [u8],
+    g: Geometry,
+    here: [bool; 8],
+    look: Look,
+    budget: u64,
+) -> u64
+    requires { ⌜ Valid g ⌝ }
+    requires { ⌜ (length (now value) ≡ g .sector) × (length (now out) ≡ g .sector) × (now starts ≡ now written) × Restoring g here look (now pointers) (tablesOf (now sectors) (now written) (now durable)) ⌝ }
+    ensures { λ r. ⌜ Made g budget r (concat (withFlush g (among here) (entryStep g (shownAt g here look (now (sectors .entry)) (now (pointers .entry))) (deviceOf g (tablesOf (now (sectors .entry)) (now (written .entry)) (now (durable .entry)))))))
+        (tablesOf (now (sectors .entry)) (now (written .entry)) (now (durable .entry))) (tablesOf (now (sectors .exit)) (now (written .exit)) (now (durable .exit))) ⌝ }
+{
+    let rest = log_entries(
+        sectors,
+        written,
+        pointers,
+        starts,
+        value,
+        out,
+        g,
+        here,
+        look,
+        budget,
+    );
+    super::mount_steps::flush_after(written, durable, g, here, budget, rest)
+}

@@ -108,6 +108,11 @@ pub mod KnownLengths
 pub mod MountParityRows
 pub mod MountTornLogs
 pub mod MountLastEntries
+pub mod MountRestoring
+pub mod MountFillOn
+pub mod MountStart
+pub mod MountTold
+pub mod MountJoins
 pub mod Mounting
 -- The promise on the tables.
 pub mod TablesClaim

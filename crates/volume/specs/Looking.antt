@@ -88,7 +88,7 @@ lookOn g named old t =
     (record { answer = Refused (verdictNumber (lookVerdict g named t)); state = old })
 
 -- ---- no rule of a look reads a durable pointer
-abbrev sectorsOnly : Device → Device
+abbrev pub sectorsOnly : Device → Device
 sectorsOnly v d z = record { sectors = v d z .sectors; durable = 0 }
 
 same-sectors : (g : Geometry) (xs ws ds : List ℕ) → sectorsOnly (deviceOf g (tablesOf xs ws ds)) ≡ sectorsOnly (readDevice g xs ws)
@@ -163,7 +163,7 @@ module _ (g : Geometry) (named : ℕ → Bool) where
   unfolding zoneShown
   zone-shown-sectors v z = ap (zoneAt g named v z) (generation-sectors v z) ∙ zone-at-sectors v z (generationOf g named (sectorsOnly v) z)
 
-  shown-sectors : (x : ℕ) (v : Device) → showing g named x v ≡ showing g named x (sectorsOnly v)
+  pub shown-sectors : (x : ℕ) (v : Device) → showing g named x v ≡ showing g named x (sectorsOnly v)
   unfolding showing generalHeads
   shown-sectors x v = ap (λ (f : ℕ → ZoneShown). record { lost = x; array = arrayIn (generalHeads g v (findBelow named (g .drives))); zone = f }) (fun-ext (zone-shown-sectors v))
 

@@ -1,10 +1,11 @@
 -- The look that a mount's code keeps (struct Look), as the rules see it, and when it tells the truth about what is shown.
-use mathlib.Core.Path.{_≡_, refl}
-use mathlib.Core.Bool.{Bool, true, false, _||_, not}
+use mathlib.Core.Path.{_≡_, refl, ap, _∙_}
+use mathlib.Core.Logic.{_≢_}
+use mathlib.Core.Bool.{Bool, true, false, _&&_, _||_, not}
 use Prim.Native.Nat.{ℕ, suc, _+_, _-_, _^_, _≤_, _<_}
 use native.Mathlib.Omega.{arith}
-use borrow.Author.Tests.{lt-ltb, le-ltb}
-use lib.Dec.{ltb}
+use borrow.Author.Tests.{lt-ltb, le-ltb, ne-eqb}
+use lib.Dec.{ltb, eqb}
 use mathlib.Core.List.{List, []}
 use lib.ListN.{getD}
 use Rattle.tables.specs.declared.Geometry.{Geometry}
@@ -12,7 +13,7 @@ use Rattle.tables.specs.Geometry.{zoneSectors}
 use Rattle.volume.specs.declared.Condition.the-variants.{Empty}
 use Rattle.volume.specs.declared.ZoneLook.{ZoneLook}
 use Rattle.volume.specs.declared.Look.{Look}
-use Rattle.volume.specs.State.{isEmpty}
+use Rattle.volume.specs.State.{isEmpty, isWorn}
 use Rattle.volume.specs.Rules.{Shown, ZoneShown}
 use Rattle.volume.specs.Mount.{needsReset}
 
@@ -46,6 +47,7 @@ pub record LookWithin (g : Geometry) (k : Look) : Type 0 where
   pub pointer-most : (z : ℕ) → z < g .zones → zoneLook k z .pointer ≤ zoneSectors g
   pub generation-small : (z : ℕ) → z < g .zones → zoneLook k z .generation < 2 ^ 64
   pub raises : (z : ℕ) → z < g .zones → isEmpty (zoneLook k z .condition) ≡ true → suc (zoneLook k z .generation) < 2 ^ 64
+  pub reset-empty : (z : ℕ) → z < g .zones → zoneLook k z .«by_reset» ≡ true → zoneLook k z .pointer ≡ 0
 
 -- "resets of those zones and of unclean ones with pointer 0, worn zones excepted"
 abbrev pub resetNeeded : ZoneLook → Bool
@@ -64,3 +66,13 @@ unfolding stays
 data-stays k z =
     let e : 3 + z - 3 ≡ z = omega arith in
     rw (le-ltb (3 + z) 3 (omega arith), e) refl
+
+-- a zone with a pointer past 0 is one of them
+pub pointed-stays : (g : Geometry) (k : Look) (z : ℕ) → LookWithin g k → z < g .zones → zoneLook k z .pointer ≢ 0 → stays k (3 + z) ≡ true
+pointed-stays g k z w h p = data-stays k z ∙ ap not (kept (isWorn (zoneLook k z .condition)) (zoneLook k z .«by_reset») refl (zoneLook k z .clean))
+  where
+    kept : (worn b : Bool) → zoneLook k z .«by_reset» ≡ b → (clean : Bool) → not worn && (b || (not clean && eqb (zoneLook k z .pointer) 0)) ≡ false
+    kept true b e clean = refl
+    kept false true e clean = absurd (p (w .reset-empty z h e))
+    kept false false e true = refl
+    kept false false e false = ne-eqb (zoneLook k z .pointer) 0 p

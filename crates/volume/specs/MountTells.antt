@@ -26,7 +26,7 @@ use Rattle.volume.specs.MountLook.{zoneLook, shownBy, Tells}
 use Rattle.volume.specs.MountTables.{seen, seen-sectors}
 use Rattle.volume.specs.MountSteps.{headerPhases}
 
-each-below-cong : (f h : ℕ → List Store) (n : ℕ) → ((k : ℕ) → k < n → f k ≡ h k) → eachBelow f n ≡ eachBelow h n
+pub each-below-cong : (f h : ℕ → List Store) (n : ℕ) → ((k : ℕ) → k < n → f k ≡ h k) → eachBelow f n ≡ eachBelow h n
 each-below-cong f h zero e = refl
 each-below-cong f h (suc n) e = ap₂ (λ (x y : List Store). x ++ y) (each-below-cong f h n (λ k l. e k (omega arith))) (e n (omega arith))
 
@@ -97,7 +97,7 @@ module _ (g : Geometry) (v w : Device) (same : (d z : ℕ) → v d z .sectors �
   unfolding sealStep
   seals-same s = ap (λ (hs : ℕ → List Header). eachBelow (λ d. eachBelow (λ z. pick (isSealed (s .zone z .condition) && not (anyOf (isSealAt z (s .zone z .generation) (s .zone z .pointer)) (hs d))) (appendGeneral g (seal z (s .zone z .pointer) (s .zone z .generation)) d) []) (g .zones)) (g .drives)) heads-same
 
-seen-same : (g : Geometry) (xs ps ds : List ℕ) (d z : ℕ) → seen g xs ps d z .sectors ≡ deviceOf g (tablesOf xs ps ds) d z .sectors
+pub seen-same : (g : Geometry) (xs ps ds : List ℕ) (d z : ℕ) → seen g xs ps d z .sectors ≡ deviceOf g (tablesOf xs ps ds) d z .sectors
 seen-same g xs ps ds d z = go (inOrOut g d z)
   where
     go : In g d z → seen g xs ps d z .sectors ≡ deviceOf g (tablesOf xs ps ds) d z .sectors

@@ -36,7 +36,7 @@ use Rattle.volume.specs.OnTables.{blankRecord, viewState, among, verdict
 use Rattle.volume.specs.CallRefines.{Numbered}
 use Rattle.volume.specs.CallVerdicts.{mount-verdict, mount-numbered}
 use Rattle.volume.specs.Looking.{recordFrom, stateShown, state-shown-in, state-shown-lost}
-use Rattle.volume.specs.Mounting.{mountVerdict, storesBeforeEntries, mountStoresOn, mountOn}
+use Rattle.volume.specs.Mounting.{mountVerdict, storesBefore, mountStoresOn, mountShownOn, mountOn}
 use Rattle.volume.specs.TablesClaim.{TablesSystem, shownIn, noteOfMount, next, Names, mounts}
 use Rattle.volume.specs.TablesSettled.{viewSystem, Agree, all-made, answer-finished, answer-refused}
 use Rattle.volume.specs.TablesEvents.{TablesOk, inputOf, obeys, pointers-fine, storing-keeps}
@@ -53,7 +53,7 @@ run-all g zero (x ∷ xs) t h = absurd (omega arith)
 run-all g (suc k) (x ∷ xs) t h = run-all g k xs (makeStore g x t) (omega arith)
 
 pub mount-stores-same : (g : Geometry) (present : ℕ → Bool) (x : ℕ) (t : Tables) → WellSized g t → FitsAll g (mountStores g present x (deviceOf g t)) (deviceOf g t) → mountStoresOn g present x t ≡ mountStores g present x (deviceOf g t)
-unfolding mountStores mountPhases mountStoresOn storesBeforeEntries
+unfolding mountStores mountPhases mountStoresOn storesBefore
 mount-stores-same g present x t sized fit =
     let w = deviceOf g t in
     let k = mountLook g present x w in
@@ -119,7 +119,7 @@ module _ (g : Geometry) (ok : Valid g) (s : TablesSystem) (o : TablesOk g s) (na
     tables-made stop p = rw p refl
 
     pub mount-event : (stop : ℕ) → MayMount (s .mode) → TablesOk g (next g s (mounts named stop))
-    unfolding mountOn
+    unfolding mountOn mountShownOn
     mount-event stop m =
         rw (mount-verdict g named t (pointers-fine g s named n o))
         (storing-keeps g s o verdict (mount-numbered g named t) ss xs new stop (mountShows g present lost w) mountState
@@ -131,7 +131,7 @@ module _ (g : Geometry) (ok : Valid g) (s : TablesSystem) (o : TablesOk g s) (na
     -- a finished mount shows what fits
     pub mount-claim : Promise g (lengthsOf t) (viewSystem g s) → MayMount (s .mode) → (stop : ℕ) → mountOn g named (s .state) stop t .outcome .answer ≡ Finished
         → (mountOn g named (s .state) stop t .outcome .state ≡ stateShown g (shownIn g named t (mountOn g named (s .state) stop t .tables))) × Fits g (s .ledger) (shownIn g named t (mountOn g named (s .state) stop t .tables))
-    unfolding mountOn
+    unfolding mountOn mountShownOn
     mount-claim promised m stop e =
         let v = mount-verdict g named t (pointers-fine g s named n o) in
         let (p, q) = answer-finished g verdict (mount-numbered g named t) ss new (s .state) stop t (rw v at e) in
@@ -141,7 +141,7 @@ module _ (g : Geometry) (ok : Valid g) (s : TablesSystem) (o : TablesOk g s) (na
         rw (v, p, q) (ap (λ (u : Tables). stateShown g (showing g present lost (deviceOf g u))) (sym (run-all g stop ss t (ltb-false stop (length ss) q))), rw shown (promised .mount-fits (inputOf g named) (obeys g s named n) m stop (applyAll xs w) (mountShows g present lost w) c))
 
     pub mount-refusal : Promise g (lengthsOf t) (viewSystem g s) → (stop k : ℕ) → mountOn g named (s .state) stop t .outcome .answer ≡ Refused k → k ≡ 14
-    unfolding mountOn
+    unfolding mountOn mountShownOn
     mount-refusal promised stop k e =
         let v = mount-verdict g named t (pointers-fine g s named n o) in
         let p = answer-refused g verdict (mount-numbered g named t) ss new (s .state) stop t k (rw v at e) in

@@ -120,7 +120,7 @@ pub fn look_all(sectors: &[u8], written: &[u32], g: Geometry, here: [bool; 8]) -
 }
 
 // The records of the zones that a look shows.
-fn records_of(g: Geometry, shown: [ZoneLook; 16]) -> [ZoneRecord; 16]
+pub fn records_of(g: Geometry, shown: [ZoneLook; 16]) -> [ZoneRecord; 16]
     requires { ⌜ Valid g ⌝ }
     ensures { λ r. ⌜ r ≡ recordsOf g shown ⌝ }
 {

@@ -122,3 +122,4 @@ pub mod CallVerdicts
 pub mod TablesEvents
 pub mod TablesClaimProof
 pub mod TablesMount
+pub mod MountFits

@@ -54,7 +54,7 @@ module _ (g : Geometry) (present : ℕ → Bool) (v : Device) (z n : ℕ) where
 pub empty-fresh : (n q : ℕ) (clean hasSeal : Bool) → isEmpty (conditionOf n q clean hasSeal) ≡ true → n ≢ wornGeneration
 empty-fresh n q clean hasSeal h e = true≢false (sym h ∙ ap (λ (b : Bool). isEmpty (pick b (Worn q) (pick (eqb q 0) Empty (pick (not clean || hasSeal) (Sealed q) (Open q))))) (eq-eqb n wornGeneration e))
 
-worn-top : wornGeneration ≡ 2 ^ 64 - 1
+pub worn-top : wornGeneration ≡ 2 ^ 64 - 1
 unfolding wornGeneration
 worn-top = refl
 

@@ -55,6 +55,7 @@ use Rattle.volume.specs.Peeking.{peekNumber, peekOn, partAt}
 use Rattle.volume.specs.TablesClaim.{TablesSystem, TablesEvent, looks, mounts, writes, flushes, resets, reads, peeks, formats, cuts, loses, next, Names, Duty, Dutiful, shownIn, contentBytes, TablesPromise, Throughout, start, TablesClaim}
 use Rattle.volume.specs.TablesSettled.{viewSystem, ok-agrees, answer-finished}
 use Rattle.volume.specs.TablesFit.{content-long, format-fits}
+use Rattle.volume.specs.MountFits.{mount-fits}
 use Rattle.volume.specs.TablesMount.{mount-event, mount-claim, mount-refusal}
 use Rattle.volume.specs.TablesEvents.{TablesOk, inputOf, obeys, pointers-fine, fresh-records, fresh-agrees, write-event, flush-event, reset-event, format-event, cut-event, loss-event}
 
@@ -166,18 +167,13 @@ module _ (g : Geometry) (ok : Valid g) (wb : isValid g ≡ true) (s : TablesSyst
         let (p, q) = giving-is (leastApplying (peekRows g (lengthsOf t) (among named) st a w)) (placeOf g a) (placeOf g a) w w e in
         peek-number g named t fine (s .state) a ∙ ap verdictNumber p
 
--- the stores of an accepted mount fit
-abbrev MountFits : Geometry → Type 0
-MountFits g = (s : TablesSystem) → TablesOk g s → (named : List Bool) → Names g s named → leastApplying (mountRows g (lengthsOf (s .tables)) (among named) (deviceOf g (s .tables))) ≡ accept
-    → FitsAll g (mountStores g (isPresent g (among named) (deviceOf g (s .tables))) (lostDrive g (among named) (deviceOf g (s .tables))) (deviceOf g (s .tables))) (deviceOf g (s .tables))
-
-module _ (g : Geometry) (ok : Valid g) (wb : isValid g ≡ true) (fits : MountFits g) where
+module _ (g : Geometry) (ok : Valid g) (wb : isValid g ≡ true) where
   -- every point of a history is as promised
   tables-promise : (s : TablesSystem) → TablesOk g s → TablesPromise g s
   tables-promise s o = record {
     look-fits = look-claim g ok wb s o;
-    mount-fits = λ named n m stop e. mount-claim g ok s o named n (fits s o named n) (promised g ok wb s o) m stop e;
-    mount-refused = λ named n stop k e. mount-refusal g ok s o named n (fits s o named n) (promised g ok wb s o) stop k e;
+    mount-fits = λ named n m stop e. mount-claim g ok s o named n (mount-fits g ok s o named n) (promised g ok wb s o) m stop e;
+    mount-refused = λ named n stop k e. mount-refusal g ok s o named n (mount-fits g ok s o named n) (promised g ok wb s o) stop k e;
     pointer-is = promised g ok wb s o .pointer-is;
     read-gives = read-claim g ok wb s o;
     read-accepted = read-fine g ok wb s o;
@@ -187,7 +183,7 @@ module _ (g : Geometry) (ok : Valid g) (wb : isValid g ≡ true) (fits : MountFi
 
   tables-event : (s : TablesSystem) → TablesOk g s → (e : TablesEvent) → Duty g s e → TablesOk g (next g s e)
   tables-event s o (looks named) d = o
-  tables-event s o (mounts named stop) (n, m) = mount-event g ok s o named n (fits s o named n) stop m
+  tables-event s o (mounts named stop) (n, m) = mount-event g ok s o named n (mount-fits g ok s o named n) stop m
   tables-event s o (writes named a count buffer stop) (n, m) = write-event g ok s o named n m a count buffer stop
   tables-event s o (flushes named stop) (n, m) = flush-event g ok s o named n m stop
   tables-event s o (resets named z stop) (n, m) = reset-event g ok s o named n m z stop
@@ -256,3 +252,14 @@ module _ (g : Geometry) (named : List Bool) (array : ℕ) (old : State) (stop : 
         records = fresh-records x;
         holds = rw d (ok-agrees g ready x (applyAll stores (deviceOf g t)) (formatState x) (viewState (freshState x)) freshLedger (fresh-agrees g ok x) (format-rests g ok x array (deviceOf g t) (left-out g (among named)) small));
       })
+
+-- THE THEOREM
+pub tables-keep-the-promise : TablesClaim
+unfolding formatOn
+tables-keep-the-promise g named array old stop t small e es d =
+    let x = leftOut g (among named) in
+    let ss = formatStores g (namedDrives g (among named)) x array in
+    let (p, q) = answer-finished g (formatVerdict g named t) (format-numbered-on g named t) ss (freshState x) old stop t e in
+    let passed = format-passed g named t p in
+    let o : TablesOk g (start g named (storingOn g (verdictNumber (formatVerdict g named t)) ss (freshState x) old stop t)) = rw p (start-ok g named array old stop t small passed q) in
+    tables-throughout g (valid-if-test g (passed .valid-test)) (passed .valid-test) es (start g named (storingOn g (verdictNumber (formatVerdict g named t)) ss (freshState x) old stop t)) o d

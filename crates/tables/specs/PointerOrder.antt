@@ -4,6 +4,7 @@ use mathlib.Core.Path.{_≡_, refl, sym, _∙_}
 use mathlib.Core.Logic.{_≢_, _⊎_, inl, inr}
 use mathlib.Core.Bool.{Bool, true, false, _&&_}
 use Prim.Native.Nat.{ℕ, zero, suc, _+_, _-_, _≤_, _<_}
+use native.Mathlib.Nat.{le-refl}
 use native.Mathlib.Decide.{ℕ-discrete}
 use native.Mathlib.Omega.{arith}
 use mathlib.Core.List.{List, [], _∷_}
@@ -102,3 +103,14 @@ run-order g d (suc k) (x ∷ xs) t hd w p o = run-order g d k xs (makeStore g x 
 
 pub cut-order : (g : Geometry) (x d : ℕ) (t u : Tables) → TablesCut g x t u → d < g .drives → d ≢ x → InOrder g d (t .written) (t .durable) → InOrder g d (u .written) (u .durable)
 cut-order g x d t u c hd n o = record { written-most = λ z hz. omega (arith, c .most d z hd hz n, o .written-most z hz); durable-most = λ z hz. omega (arith, c .durable-is d z hd hz n) }
+
+-- there is always a cut: the one that leaves just what is durable
+pub cut-to-durable : (g : Geometry) (x : ℕ) (t : Tables) → WellSized g t → ((d : ℕ) → d < g .drives → d ≢ x → InOrder g d (t .written) (t .durable)) → TablesCut g x t (record { sectors = t .sectors; written = t .durable; durable = t .durable })
+cut-to-durable g x t w o = record {
+  sectors-same = refl;
+  written-long = w .durable-long ∙ sym (w .written-long);
+  durable-long = refl;
+  least = λ d z hd hz n. le-refl (getD (t .durable) (cell g d z) 0);
+  most = λ d z hd hz n. o d hd n .durable-most z hz;
+  durable-is = λ d z hd hz n. refl;
+}

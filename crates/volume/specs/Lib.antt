@@ -123,3 +123,4 @@ pub mod TablesEvents
 pub mod TablesClaimProof
 pub mod TablesMount
 pub mod MountFits
+pub mod TablesExample

@@ -204,11 +204,11 @@ format-numbered-on g named t =
     numbered-least (decided (pointersBad g named (t .written) (t .durable)) (formatRows g (lengthsOf t) (among named) (deviceOf g t))) ((λ e. omega arith), ((λ e. omega arith), ((λ e. omega arith), ((λ e. omega arith), tt))))
 
 -- what passing its refusals gives
-record FormatPassed (g : Geometry) (named : List Bool) (t : Tables) : Type 0 where
-  valid-test : isValid g ≡ true
-  lengths-fit : lengthsFit g (length (t .sectors)) (length (t .written)) (length (t .durable)) ≡ true
-  pointers-fit : pointersBad g named (t .written) (t .durable) ≡ false
-  one-unnamed : twoUnnamed g (among named) ≡ false
+pub record FormatPassed (g : Geometry) (named : List Bool) (t : Tables) : Type 0 where
+  pub valid-test : isValid g ≡ true
+  pub lengths-fit : lengthsFit g (length (t .sectors)) (length (t .written)) (length (t .durable)) ≡ true
+  pub pointers-fit : pointersBad g named (t .written) (t .durable) ≡ false
+  pub one-unnamed : twoUnnamed g (among named) ≡ false
 
 format-passed : (g : Geometry) (named : List Bool) (t : Tables) → formatVerdict g named t ≡ accept → FormatPassed g named t
 unfolding formatVerdict refusalOn formatRows
@@ -240,7 +240,7 @@ module _ (g : Geometry) (named : List Bool) (array : ℕ) (old : State) (stop : 
   unfolding namedDrives
   named-in d h q = and-split (ltb d (g .drives)) (among named d) (ap (λ (f : ℕ → Bool). f d) drives ∙ present-other g x d h q) .1
 
-  start-ok : ltb stop (length (formatStores g (namedDrives g (among named)) x array)) ≡ false → TablesOk g (start g named (storingOn g 0 (formatStores g (namedDrives g (among named)) x array) (freshState x) old stop t))
+  pub start-ok : ltb stop (length (formatStores g (namedDrives g (among named)) x array)) ≡ false → TablesOk g (start g named (storingOn g 0 (formatStores g (namedDrives g (among named)) x array) (freshState x) old stop t))
   start-ok e =
       let e′ : ltb stop (length stores) ≡ false = rw (← drives) e in
       let d : deviceOf g (runStores g stop stores t) ≡ applyAll stores (deviceOf g t) = run-refines g stop stores t sized stores-fit ∙ ap (λ (r : List Store). applyAll r (deviceOf g t)) (take-all stop stores (ltb-false stop (length stores) e′)) in

@@ -108,7 +108,9 @@ pub mod MountTornLogs
 pub mod MountLastEntries
 pub mod MountRestoring
 pub mod MountFillOn
+pub mod GenerationRange
 pub mod MountStart
 pub mod MountTold
 pub mod MountJoins
 pub mod Mounting
+pub mod MountAllSteps

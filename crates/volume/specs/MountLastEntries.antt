@@ -153,8 +153,12 @@ partial-long g d z s f n ok = rw (length-replicate {A = ℕ} (g .sector - 32) 0)
 pub header-in : (g : Geometry) (b : ℕ → Bool) (d z s f n : ℕ) → Valid g → d < g .drives → b parityZone ≡ true → StoresIn g b (append d parityZone (encode g d (partialParity z s f n)) ∷ [])
 header-in g b d z s f n ok hd hb = ((hd, omega arith, partial-long g d z s f n ok, hb), tt)
 
+-- "min(f, U) row sectors follow": the rows of the entry at pointer p
+abbrev pub entryRows : Geometry → (ℕ → List ℕ) → ℕ → ℕ → List Store
+entryRows g S d p = logRows d (storedRow g S true (stripeOf (g .drives) (g .unit) p) p) 0 (min (fillOf g p) (g .unit) - 0)
+
 abbrev pub entryParts : Geometry → ℕ → ℕ → ℕ → (ℕ → List ℕ) → ℕ → List Store
-entryParts g d z n S p = (append d parityZone (encode g d (entryHeader g z n p)) ∷ []) ++ logRows d (storedRow g S true (stripeOf (g .drives) (g .unit) p) p) 0 (min (fillOf g p) (g .unit) - 0)
+entryParts g d z n S p = (append d parityZone (encode g d (entryHeader g z n p)) ∷ []) ++ entryRows g S d p
 
 pub entry-parts : (g : Geometry) (d z n : ℕ) (S : ℕ → List ℕ) (p : ℕ) → appendAll d parityZone (sectorsOf g d true (entryAt g z n S p)) ≡ entryParts g d z n S p
 unfolding entryAt

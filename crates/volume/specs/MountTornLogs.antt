@@ -1,4 +1,4 @@
--- Step 6 of a mount on the tables: "rows missing from a torn entry". The code finds the torn entry of a parity log and how many of its rows
+-- Step 6 of a mount on the tables: "rows missing from torn entries". The code finds the torn entry of a parity log and how many of its rows
 -- are there; it appends the others. Steps 6 to 8 rely on the values of the look, which stay while a mount appends (`filled`).
 use mathlib.Core.Path.{_≡_, refl, sym, ap, ap₂, _∙_}
 use mathlib.Core.Logic.{_≢_}

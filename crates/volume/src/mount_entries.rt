@@ -19,7 +19,7 @@ ghost use Rattle.volume.specs.MountTables.{seen};
 ghost use Rattle.volume.specs.MountLook.{zoneLook, LookWithin};
 ghost use Rattle.volume.specs.MountValues.{shownAt, Restoring};
 ghost use Rattle.volume.specs.MountTornLogs.{Filling};
-ghost use Rattle.volume.specs.MountLastEntries.{Entering, entryDue, newEntry, entryStores, entryStoresBelow};
+ghost use Rattle.volume.specs.MountLastEntries.{Entering, entryDue, entryRows, newEntry, entryStores, entryStoresBelow};
 
 // Whether an entry at a zone's pointer is due on a drive: the pointer lies inside a stripe, the drive holds the stripe's parity, and its log had no
 // whole current entry that ends there.
@@ -54,7 +54,56 @@ fn entry_due(
     !there
 }
 
-// The entry at a zone's pointer, which lies inside a stripe: its header and then its rows, on the parity log of a drive.
+// The rows of the entry at a zone's pointer, which lies inside a stripe, on the parity log of a drive.
+fn append_entry_rows(
+    sectors: &mut [u8],
+    written: &mut [u32],
+    pointers: &[u32],
+    value: &mut [u8],
+    out: &mut [u8],
+    g: Geometry,
+    here: [bool; 8],
+    look: Look,
+    drive: usize,
+    z: usize,
+    budget: u64,
+) -> u64
+    requires { ⌜ Valid g ⌝ }
+    requires { ⌜ (drive < g .drives) × (length (now value) ≡ g .sector) × (length (now out) ≡ g .sector) × Filling g here look (now pointers) (now sectors) (now written)
+        × (z < g .zones) × (stripeOf (g .drives) (g .unit) (zoneLook look z .pointer) * stripeSectors g < zoneLook look z .pointer) ⌝ }
+    ensures { λ r. ⌜ MadeAppends g budget r (entryRows g (shownAt g here look (now (sectors .entry)) (now (pointers .entry)) .zone z .value) drive (zoneLook look z .pointer)) (now (sectors .entry)) (now (written .entry)) (now (sectors .exit)) (now (written .exit)) ⌝ }
+{
+    let zones = look.zones;
+    let zone = zones[z];
+    let generation = zone.generation;
+    let pointer = zone.pointer;
+    let k = tables::bounds::stripe_sectors(g);
+    let s = pointer / k;
+    let limit = super::knowing::seal_limit(sectors, pointers, g, here, z, generation);
+    let u = g.unit;
+    let m = tables::placement::smaller(pointer - s * k, u);
+    super::mount_log_rows::append_rows(
+        sectors,
+        written,
+        pointers,
+        value,
+        out,
+        g,
+        here,
+        drive,
+        z,
+        generation,
+        limit,
+        true,
+        s,
+        pointer,
+        0,
+        m,
+        budget,
+    )
+}
+
+// That entry: its header and then its rows.
 fn append_entry(
     sectors: &mut [u8],
     written: &mut [u32],
@@ -79,8 +128,6 @@ fn append_entry(
     let pointer = zone.pointer;
     let k = tables::bounds::stripe_sectors(g);
     let s = pointer / k;
-    let fill = pointer - s * k;
-    let limit = super::knowing::seal_limit(sectors, pointers, g, here, z, generation);
     let rest = super::write_stores::append_partial(
         sectors,
         written,
@@ -89,13 +136,11 @@ fn append_entry(
         drive,
         z,
         s,
-        fill,
+        pointer - s * k,
         generation,
         budget,
     );
-    let u = g.unit;
-    let m = tables::placement::smaller(fill, u);
-    super::mount_log_rows::append_rows(
+    append_entry_rows(
         sectors,
         written,
         pointers,
@@ -103,15 +148,9 @@ fn append_entry(
         out,
         g,
         here,
+        look,
         drive,
         z,
-        generation,
-        limit,
-        true,
-        s,
-        pointer,
-        0,
-        m,
         rest,
     )
 }

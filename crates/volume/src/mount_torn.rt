@@ -1,5 +1,5 @@
-// Step 6 of a mount: "rows missing from a torn entry: the true rows if it is current and ends at or below the pointer, else zeros". A parity log is
-// read below the pointers of the mount's look.
+// Step 6 of a mount: "rows missing from torn entries (the true rows if current and end is at or below the pointer, else zeros)". A parity log is read
+// below the pointers of the mount's look; what is missing from its torn entry goes at the written pointer.
 use super::Look;
 use logs::Found;
 use tables::Geometry;

@@ -1,8 +1,7 @@
-use Rattle.volume.specs.MountLastEntries.{entry-parts, entry-rowing, header-in}
-use Rattle.volume.specs.MountParityRows.{storedRow, logRows, parityOnly, rowing-kept}
-use Rattle.volume.specs.MountValues.{limitAt}
+use Rattle.volume.specs.MountLastEntries.{entryRows, entry-parts, header-in}
+use Rattle.volume.specs.MountTornLogs.{filled}
 use Rattle.volume.specs.MountRows.{valuesOf}
-use Rattle.volume.specs.MountLook.{zoneLook}
+use Rattle.volume.specs.MountLook.{zoneLook, stays, log-stays}
 use Rattle.volume.specs.OnTables.{appends-append}
 use Rattle.volume.specs.Content.{fillOf, entryHeader}
 use Rattle.logs.specs.Entry.{parityZone, encode}
@@ -14,10 +13,8 @@ use Rattle.tables.specs.Geometry.{stripeSectors}
 use denote.Ref.{now}
 use native.Mathlib.Omega.{arith}
 use native.Mathlib.Nat.{div-add-mod'}
-use Prim.Native.Nat.{_-_, min}
 use mathlib.Core.List.{List, [], _∷_}
-use mathlib.Core.Bool.{true}
-use mathlib.Core.Path.{refl, sym, subst}
+use mathlib.Core.Path.{sym, subst}
 use borrow.Author.Needs.{needs}
 use Rattle.volume.proofs.mount_entries.append_entry.Statement.{statement}
 use Rattle.volume.proofs.mount_entries.append_entry.Tie as tie
@@ -34,41 +31,32 @@ stripe-sectors-requires c κs = search needs
 div-s : tie.Need-div-s
 div-s c = search needs
 
-mul-fill : tie.Need-mul-fill
-mul-fill c =
-    let s = c .before .before .before .before .before .before .before .before in
+mul-append-partial : tie.Need-mul-append-partial
+mul-append-partial c =
+    let s = c .before .before .before .before .before .before .before .before .before .before in
     let a = s .args in
-    omega (arith, div-add-mod' (zoneLook (a .look) (a .z) .pointer) (c .stripe-sectors .result), s .pre .1 .3 .logging .within .pointer-most (a .z) (s .pre .1 .4), zone-small (a .g) (s .pre .0) .1)
+    omega (arith, div-add-mod' (zoneLook (a .look) (a .z) .pointer) (c .before .before .stripe-sectors .result), s .pre .1 .3 .logging .within .pointer-most (a .z) (s .pre .1 .4), zone-small (a .g) (s .pre .0) .1)
 
-sub-fill : tie.Need-sub-fill
-sub-fill c =
-    let a = c .before .before .before .before .before .before .before .before .args in
-    omega (arith, div-add-mod' (zoneLook (a .look) (a .z) .pointer) (c .stripe-sectors .result))
-
-seal-limit-requires : tie.Need-seal-limit-requires
-seal-limit-requires c κs =
-    let s = c .before .before .before .before .before .before .before .before .before in (s .pre .0, s .pre .1 .3 .known-below (s .args .z) (s .pre .1 .4) .readable)
+sub-append-partial : tie.Need-sub-append-partial
+sub-append-partial c =
+    let a = c .before .before .before .before .before .before .before .before .before .before .args in
+    omega (arith, div-add-mod' (zoneLook (a .look) (a .z) .pointer) (c .before .before .stripe-sectors .result))
 
 append-partial-requires : tie.Need-append-partial-requires
 append-partial-requires c κs =
-    let s = c .before .before .before .before .before .before .before .before .before .before .before .before in
+    let s = c .before .before .before .before .before .before .before .before .before .before in
     let a = s .args in
     let l = s .pre .1 .3 .logging in
-    (s .pre .0, (s .pre .1 .0, s .pre .1 .4, rw (c .before .before .before .before .stripe-sectors .ensures .0) (omega (arith, div-add-mod' (zoneLook (a .look) (a .z) .pointer) (stripeSectors (a .g)), l .within .pointer-most (a .z) (s .pre .1 .4))), l .sectors-long, l .written-long))
+    (s .pre .0, (s .pre .1 .0, s .pre .1 .4, rw (c .before .before .stripe-sectors .ensures .0) (omega (arith, div-add-mod' (zoneLook (a .look) (a .z) .pointer) (stripeSectors (a .g)), l .within .pointer-most (a .z) (s .pre .1 .4))), l .sectors-long, l .written-long))
 
-smaller-requires : tie.Need-smaller-requires
-smaller-requires c κs = search needs
-
-append-rows-requires : tie.Need-append-rows-requires
+append-entry-rows-requires : tie.Need-append-entry-rows-requires
 unfolding stripeOf
-append-rows-requires c κs =
-    let s = c .before .before .before .before .before .before .before .before .before .before .before .before .before .before .before .before .before .before .before .before .before .before in
+append-entry-rows-requires c κs =
+    let s = c .before .before .before .before .before .before .before .before .before .before .before .before .before .before .before .before .before .before .before in
     let a = s .args in
-    let k = c .before .before .before .before .before .before .before .before .before .before .before .before .before .before .stripe-sectors in
-    let f = c .before .before .before .before .before .before .before .before .before .append-partial in
-    let h : MadeAppends (a .g) (a .budget) (f .result) (append (a .drive) parityZone (encode (a .g) (a .drive) (entryHeader (a .g) (a .z) (zoneLook (a .look) (a .z) .generation) (zoneLook (a .look) (a .z) .pointer))) ∷ []) (now (a .sectors)) (now (a .written)) (f .last .0) (f .last .1 .0) = rw (k .ensures .0) at (f .ensures) in
-    rw (c .before .before .before .before .smaller .ensures, c .before .before .before .before .before .before .before .before .before .before .before .before .seal-limit .ensures .0, k .ensures .0)
-    (s .pre .0, (s .pre .1 .0, omega arith, s .pre .1 .1, s .pre .1 .2, rowing-kept (a .g) (a .here) (now (a .pointers)) (now (a .sectors)) (now (a .written)) (a .z) (zoneLook (a .look) (a .z) .generation) (limitAt (a .g) (a .here) (a .look) (now (a .sectors)) (now (a .pointers)) (a .z)) true (stripeOf (a .g .drives) (a .g .unit) (zoneLook (a .look) (a .z) .pointer)) (zoneLook (a .look) (a .z) .pointer) (min (fillOf (a .g) (zoneLook (a .look) (a .z) .pointer)) (a .g .unit)) (entry-rowing (a .g) (a .here) (a .look) (now (a .pointers)) (now (a .sectors)) (now (a .written)) (s .pre .0) (s .pre .1 .3) (a .z) (s .pre .1 .4) (s .pre .1 .5)) (a .budget) (f .result) (append (a .drive) parityZone (encode (a .g) (a .drive) (entryHeader (a .g) (a .z) (zoneLook (a .look) (a .z) .generation) (zoneLook (a .look) (a .z) .pointer))) ∷ []) (f .last .0) (f .last .1 .0) (header-in (a .g) parityOnly (a .drive) (a .z) (stripeOf (a .g .drives) (a .g .unit) (zoneLook (a .look) (a .z) .pointer)) (fillOf (a .g) (zoneLook (a .look) (a .z) .pointer)) (zoneLook (a .look) (a .z) .generation) (s .pre .0) (s .pre .1 .0) refl) h .0))
+    let f = c .before .before .before .before .before .before .before .before .append-partial in
+    let h : MadeAppends (a .g) (a .budget) (f .result) (append (a .drive) parityZone (encode (a .g) (a .drive) (entryHeader (a .g) (a .z) (zoneLook (a .look) (a .z) .generation) (zoneLook (a .look) (a .z) .pointer))) ∷ []) (now (a .sectors)) (now (a .written)) (f .last .0) (f .last .1 .0) = rw (c .before .before .before .before .before .before .before .before .before .before .before .stripe-sectors .ensures .0) at (f .ensures) in
+    (s .pre .0, (s .pre .1 .0, s .pre .1 .1, s .pre .1 .2, filled (a .g) (a .here) (a .look) (a .budget) (f .result) (append (a .drive) parityZone (encode (a .g) (a .drive) (entryHeader (a .g) (a .z) (zoneLook (a .look) (a .z) .generation) (zoneLook (a .look) (a .z) .pointer))) ∷ []) (now (a .pointers)) (now (a .sectors)) (now (a .written)) (f .last .0) (f .last .1 .0) (s .pre .1 .3) (header-in (a .g) (stays (a .look)) (a .drive) (a .z) (stripeOf (a .g .drives) (a .g .unit) (zoneLook (a .look) (a .z) .pointer)) (fillOf (a .g) (zoneLook (a .look) (a .z) .pointer)) (zoneLook (a .look) (a .z) .generation) (s .pre .0) (s .pre .1 .0) (log-stays (a .look) parityZone (omega arith))) h .0, s .pre .1 .4, s .pre .1 .5))
 
 same-length : tie.Need-same-length
 same-length c = search needs
@@ -85,15 +73,14 @@ same-length-4 c = search needs
 returns : tie.Need-returns
 unfolding stripeOf
 returns c =
-    let s = c .before .before .before .before .before .before .before .before .before .before .before .before .before .before .before .before .before .before .before .before .before .before .before .before .before .before .before .before .before .before .before in
+    let s = c .before .before .before .before .before .before .before .before .before .before .before .before .before .before .before .before .before .before .before .before .before .before .before .before .before .before .before .before in
     let a = s .args in
-    let k = c .before .before .before .before .before .before .before .before .before .before .before .before .before .before .before .before .before .before .before .before .before .before .before .stripe-sectors in
-    let f = c .before .before .before .before .before .before .before .before .before .before .before .before .before .before .before .before .before .before .append-partial in
-    let r = c .before .before .before .before .before .before .before .before .append-rows in
-    let h : MadeAppends (a .g) (a .budget) (f .result) (append (a .drive) parityZone (encode (a .g) (a .drive) (entryHeader (a .g) (a .z) (zoneLook (a .look) (a .z) .generation) (zoneLook (a .look) (a .z) .pointer))) ∷ []) (now (a .sectors)) (now (a .written)) (f .last .0) (f .last .1 .0) = rw (k .ensures .0) at (f .ensures) in
-    let e = rowing-kept (a .g) (a .here) (now (a .pointers)) (now (a .sectors)) (now (a .written)) (a .z) (zoneLook (a .look) (a .z) .generation) (limitAt (a .g) (a .here) (a .look) (now (a .sectors)) (now (a .pointers)) (a .z)) true (stripeOf (a .g .drives) (a .g .unit) (zoneLook (a .look) (a .z) .pointer)) (zoneLook (a .look) (a .z) .pointer) (min (fillOf (a .g) (zoneLook (a .look) (a .z) .pointer)) (a .g .unit)) (entry-rowing (a .g) (a .here) (a .look) (now (a .pointers)) (now (a .sectors)) (now (a .written)) (s .pre .0) (s .pre .1 .3) (a .z) (s .pre .1 .4) (s .pre .1 .5)) (a .budget) (f .result) (append (a .drive) parityZone (encode (a .g) (a .drive) (entryHeader (a .g) (a .z) (zoneLook (a .look) (a .z) .generation) (zoneLook (a .look) (a .z) .pointer))) ∷ []) (f .last .0) (f .last .1 .0) (header-in (a .g) parityOnly (a .drive) (a .z) (stripeOf (a .g .drives) (a .g .unit) (zoneLook (a .look) (a .z) .pointer)) (fillOf (a .g) (zoneLook (a .look) (a .z) .pointer)) (zoneLook (a .look) (a .z) .generation) (s .pre .0) (s .pre .1 .0) refl) h .1 in
+    let f = c .before .before .before .before .before .before .before .before .before .before .before .before .before .before .before .before .before .append-partial in
+    let r = c .before .before .before .before .before .before .before .before .append-entry-rows in
+    let h : MadeAppends (a .g) (a .budget) (f .result) (append (a .drive) parityZone (encode (a .g) (a .drive) (entryHeader (a .g) (a .z) (zoneLook (a .look) (a .z) .generation) (zoneLook (a .look) (a .z) .pointer))) ∷ []) (now (a .sectors)) (now (a .written)) (f .last .0) (f .last .1 .0) = rw (c .before .before .before .before .before .before .before .before .before .before .before .before .before .before .before .before .before .before .before .before .stripe-sectors .ensures .0) at (f .ensures) in
+    let e = filled (a .g) (a .here) (a .look) (a .budget) (f .result) (append (a .drive) parityZone (encode (a .g) (a .drive) (entryHeader (a .g) (a .z) (zoneLook (a .look) (a .z) .generation) (zoneLook (a .look) (a .z) .pointer))) ∷ []) (now (a .pointers)) (now (a .sectors)) (now (a .written)) (f .last .0) (f .last .1 .0) (s .pre .1 .3) (header-in (a .g) (stays (a .look)) (a .drive) (a .z) (stripeOf (a .g .drives) (a .g .unit) (zoneLook (a .look) (a .z) .pointer)) (fillOf (a .g) (zoneLook (a .look) (a .z) .pointer)) (zoneLook (a .look) (a .z) .generation) (s .pre .0) (s .pre .1 .0) (log-stays (a .look) parityZone (omega arith))) h .1 in
     subst (λ (stores : List Store). MadeAppends (a .g) (a .budget) (r .result) stores (now (a .sectors)) (now (a .written)) (r .last .0) (r .last .1 .0)) (sym (entry-parts (a .g) (a .drive) (a .z) (zoneLook (a .look) (a .z) .generation) (valuesOf (a .g) (a .here) (now (a .sectors)) (now (a .pointers)) (a .z) (zoneLook (a .look) (a .z) .generation)) (zoneLook (a .look) (a .z) .pointer)))
-    (appends-append (a .g) (a .budget) (f .result) (r .result) (append (a .drive) parityZone (encode (a .g) (a .drive) (entryHeader (a .g) (a .z) (zoneLook (a .look) (a .z) .generation) (zoneLook (a .look) (a .z) .pointer))) ∷ []) (logRows (a .drive) (storedRow (a .g) (valuesOf (a .g) (a .here) (now (a .sectors)) (now (a .pointers)) (a .z) (zoneLook (a .look) (a .z) .generation)) true (stripeOf (a .g .drives) (a .g .unit) (zoneLook (a .look) (a .z) .pointer)) (zoneLook (a .look) (a .z) .pointer)) 0 ((min (fillOf (a .g) (zoneLook (a .look) (a .z) .pointer)) (a .g .unit)) - 0)) (now (a .sectors)) (now (a .written)) (f .last .0) (f .last .1 .0) (r .last .0) (r .last .1 .0) h (rw (e, c .before .before .before .before .before .before .before .before .before .before .before .before .before .smaller .ensures, k .ensures .0) at (r .ensures)))
+    (appends-append (a .g) (a .budget) (f .result) (r .result) (append (a .drive) parityZone (encode (a .g) (a .drive) (entryHeader (a .g) (a .z) (zoneLook (a .look) (a .z) .generation) (zoneLook (a .look) (a .z) .pointer))) ∷ []) (entryRows (a .g) (valuesOf (a .g) (a .here) (now (a .sectors)) (now (a .pointers)) (a .z) (zoneLook (a .look) (a .z) .generation)) (a .drive) (zoneLook (a .look) (a .z) .pointer)) (now (a .sectors)) (now (a .written)) (f .last .0) (f .last .1 .0) (r .last .0) (r .last .1 .0) h (rw e at (r .ensures)))
 
 pub append-entry-spec : {M : Type 1} → statement M
 append-entry-spec =
@@ -103,12 +90,10 @@ append-entry-spec =
     array-copy-out-zone
     stripe-sectors-requires
     div-s
-    mul-fill
-    sub-fill
-    seal-limit-requires
+    mul-append-partial
+    sub-append-partial
     append-partial-requires
-    smaller-requires
-    append-rows-requires
+    append-entry-rows-requires
     same-length
     same-length-2
     same-length-3

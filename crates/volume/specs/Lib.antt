@@ -110,10 +110,12 @@ pub mod MountTornLogs
 pub mod MountLastEntries
 pub mod MountRestoring
 pub mod MountFillOn
+pub mod GenerationRange
 pub mod MountStart
 pub mod MountTold
 pub mod MountJoins
 pub mod Mounting
+pub mod MountAllSteps
 -- The promise on the tables.
 pub mod TablesClaim
 pub mod TablesSettled

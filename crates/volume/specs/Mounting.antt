@@ -18,6 +18,7 @@ use Rattle.tables.specs.Device.{Device, Store}
 use Rattle.tables.specs.Phases.{onPresent, flushAll}
 use Rattle.tables.specs.GeometryTest.{isValid}
 use Rattle.tables.specs.Tables.{Tables, tablesOf, cell, deviceOf, runStores, Made, lengthsFit, pointersBad}
+use Rattle.tables.specs.TablesFrame.{lengths-are}
 use Rattle.logs.specs.Entry.{generalZone, parityZone}
 use Rattle.volume.specs.declared.State.{State}
 use Rattle.volume.specs.declared.Look.{Look}
@@ -96,6 +97,16 @@ module _ (g : Geometry) (named : List Bool) (xs ws ds : List ℕ) where
   -- what a look does not refuse has the right shape
   pub passed-shape : verdictNumber (lookVerdict g named (tablesOf xs ws ds)) ≡ 0 → shapeNumber g named (length xs) ws ds ≡ 0
   passed-shape h = look-passed g named (record { lost = 0; zones = [] }) xs ws ds h
+
+  -- the durable pointers too are as many as the geometry gives
+  pub passed-durable : shapeNumber g named (length xs) ws ds ≡ 0 → length ds ≡ cells g
+  unfolding shapeNumber
+  passed-durable h = lengths-are g (length xs) (length ws) (length ds) (fit (isValid g) (lengthsFit g (length xs) (length ws) (length ds)) (pointersBad g named ws ds) h) .2
+    where
+      fit : (a b c : Bool) → verdictNumber (leastApplying ((1, not a) ∷ (2, not b) ∷ (3, c) ∷ [])) ≡ 0 → b ≡ true
+      fit false b c e = absurd (omega arith)
+      fit true true c e = refl
+      fit true false c e = absurd (omega arith)
 
   -- what is not refused has passed the look's refusals
   pub passed-look : verdictNumber (mountVerdict g named (tablesOf xs ws ds)) ≡ 0 → verdictNumber (lookVerdict g named (tablesOf xs ws ds)) ≡ 0

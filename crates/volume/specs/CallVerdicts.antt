@@ -1,10 +1,9 @@
 -- On tables whose pointers are in order each call's refusal is the rules' on the device that they stand for; and a refusal's number is never 0.
 use mathlib.Core.Path.{_≡_, refl}
-use mathlib.Core.Logic.{_≢_}
 use mathlib.Core.Bool.{Bool, false}
 use Prim.Native.Nat.{ℕ}
 use native.Mathlib.Omega.{arith}
-use mathlib.Core.List.{List, [], _∷_}
+use mathlib.Core.List.{List}
 use Rattle.tables.specs.declared.Geometry.{Geometry}
 use Rattle.tables.specs.Tables.{Tables, deviceOf, pointersBad}
 use Rattle.volume.specs.declared.State.{State}

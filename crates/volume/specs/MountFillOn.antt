@@ -28,7 +28,7 @@ use Rattle.volume.specs.Mount.{fillStep}
 use Rattle.volume.specs.WriteRows.{present-all}
 use Rattle.volume.specs.WriteContent.{row-long}
 use Rattle.volume.specs.MountTables.{seen, StoresIn, each-in, on-present-in}
-use Rattle.volume.specs.MountLook.{zoneLook, stays, LookWithin, pointed-stays}
+use Rattle.volume.specs.MountLook.{zoneLook, stays, pointed-stays}
 use Rattle.volume.specs.MountRows.{KnownBelow, valuesOf}
 use Rattle.volume.specs.MountValues.{shownAt, limitAt}
 use Rattle.volume.specs.MountRestoring.{known-long, Restorable}

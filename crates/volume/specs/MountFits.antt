@@ -1,13 +1,11 @@
 -- The stores of an accepted mount fit where the invariant holds: each step's have their place, since what the look shows is sectors of B bytes, and
 -- after each of them the invariant says that no zone is longer than C.
-use mathlib.Core.Path.{_≡_, refl, sym, ap, ap₂, subst, _∙_}
-use mathlib.Core.Logic.{_≢_, _⊎_, inl, inr}
+use mathlib.Core.Path.{_≡_, sym, ap, subst, _∙_}
 use mathlib.Core.Bool.{Bool, true, false}
-use Prim.Native.Nat.{ℕ, zero, suc, _+_, _-_, _^_, _≤_, _<_}
-use native.Mathlib.Nat.{le-refl, le-trans, le-of-eq}
-use native.Mathlib.Omega.{arith}
+use Prim.Native.Nat.{ℕ, _-_}
+use native.Mathlib.Nat.{le-refl}
 use mathlib.Core.List.{List, [], _∷_, _++_}
-use lib.ListN.{length, replicate}
+use lib.ListN.{replicate}
 use Rattle.tables.specs.declared.Geometry.{Geometry}
 use Rattle.tables.specs.Basics.{pick}
 use Rattle.tables.specs.Below.{tabulate}
@@ -16,7 +14,7 @@ use Rattle.tables.specs.Drives.{presentBut, present-not}
 use Rattle.tables.specs.Lists.{concat, concat-append, isNil}
 use Rattle.tables.specs.Phases.{onPresent, flushAll}
 use Rattle.tables.specs.Device.{Device, Store, append, reset, flush, applyAll}
-use Rattle.tables.specs.Tables.{Tables, tablesOf, deviceOf, Placed, AllPlaced, FitsAll}
+use Rattle.tables.specs.Tables.{deviceOf, Placed, AllPlaced, FitsAll}
 use Rattle.tables.specs.TablesRefine.{all-placed-append}
 use Rattle.volume.specs.declared.Look.{Look}
 use Rattle.volume.specs.Rules.{isPresent, lostDrive}
@@ -27,11 +25,10 @@ use Rattle.volume.specs.MountKeeps.{mount-keeps}
 use Rattle.volume.specs.OnTables.{among, lengthsOf}
 use Rattle.volume.specs.Knowing.{readDevice}
 use Rattle.volume.specs.DrivesLost.{presentOf, saidList, look-present-is, lost-drive-is}
-use Rattle.volume.specs.Looking.{lookOf, Lookable, present-read, lost-drive-read, shown-read}
-use Rattle.volume.specs.MountTables.{StoreIn, StoresIn}
-use Rattle.volume.specs.MountLook.{zoneLook, stays}
+use Rattle.volume.specs.Looking.{lookOf, Lookable, present-read, lost-drive-read}
+use Rattle.volume.specs.MountTables.{StoreIn, StoresIn, seen}
+use Rattle.volume.specs.MountLook.{stays}
 use Rattle.volume.specs.MountSteps.{AllIn, labels-in, reset-entries-in, resets-in, counter-step-in, seals-in}
-use Rattle.volume.specs.MountTables.{seen}
 use Rattle.volume.specs.MountValues.{shownAt, Restoring}
 use Rattle.volume.specs.MountTornLogs.{filling, torn-rows-in}
 use Rattle.volume.specs.MountLastEntries.{entries-in}

@@ -2,7 +2,7 @@
 -- stage, the later one makes nothing, whatever it is.
 use mathlib.Core.Path.{_≡_, refl, sym, ap, ap₂, _∙_, subst}
 use mathlib.Core.Bool.{Bool, true, false}
-use Prim.Native.Nat.{ℕ, zero, suc, _+_, _-_, _≤_, _<_, zero-le}
+use Prim.Native.Nat.{ℕ, zero, suc, _+_, _-_, _≤_, zero-le}
 use native.Mathlib.Decide.{ℕ-discrete}
 use native.Mathlib.Omega.{arith}
 use mathlib.Core.List.{List, [], _∷_, _++_}
@@ -12,7 +12,7 @@ use Rattle.tables.specs.declared.Geometry.{Geometry}
 use Rattle.tables.specs.Basics.{pick}
 use Rattle.tables.specs.Device.{Store, append, reset, flush}
 use Rattle.tables.specs.Phases.{onPresent, on-present-append, flushAll}
-use Rattle.tables.specs.Tables.{Tables, tablesOf, cell, hasRoom, sectorsAfterAppend, writtenAfterAppend, pointersAfterReset, makeStore, runStores, Made}
+use Rattle.tables.specs.Tables.{Tables, cell, hasRoom, sectorsAfterAppend, writtenAfterAppend, pointersAfterReset, makeStore, runStores, Made}
 use Rattle.tables.specs.Counted.{run-none, run-append, made-append}
 
 -- a count that covers a list makes all of it

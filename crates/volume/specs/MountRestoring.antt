@@ -5,7 +5,7 @@ use mathlib.Core.Bool.{Bool, true, false, true≢false}
 use Prim.Native.Nat.{ℕ, _+_, _-_, _≤_, _<_, zero-le}
 use native.Mathlib.Omega.{arith}
 use mathlib.Core.List.{List, []}
-use lib.ListN.{length, take, drop, length-take}
+use lib.ListN.{length, length-take}
 use lib.Dec.{ltb, eqb}
 use Rattle.tables.specs.declared.Geometry.{Geometry}
 use Rattle.tables.specs.Basics.{pick}
@@ -20,9 +20,9 @@ use Rattle.logs.specs.Entry.{parityZone}
 use Rattle.volume.specs.declared.Look.{Look}
 use Rattle.volume.specs.declared.knowing.Way.{Way}
 use Rattle.volume.specs.declared.knowing.Way.the-variants.{Unknown, Held, Row, Entry}
-use Rattle.volume.specs.Rules.{Shown, sealLimit, known, zoneView, valueAt, parityOf, rowDrive, rowAddress}
+use Rattle.volume.specs.Rules.{sealLimit, known, zoneView, valueAt, parityOf, rowDrive, rowAddress}
 use Rattle.volume.specs.OnTables.{among}
-use Rattle.volume.specs.Knowing.{Readable, readDevice, stripeEnd, wayTo, isWay, wayValue, WayFits, rowXor, rowXorBelow, entryEnd}
+use Rattle.volume.specs.Knowing.{Readable, readDevice, stripeEnd, wayTo, isWay, wayValue, WayFits, rowXor, entryEnd}
 use Rattle.volume.specs.KnowingEntries.{known-is}
 use Rattle.volume.specs.KnowingValues.{sector-within, sector-long, value-is}
 use Rattle.volume.specs.Mount.{withFlush, withFlushes}

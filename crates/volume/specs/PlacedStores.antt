@@ -1,25 +1,25 @@
 -- The stores of each call have their place: a drive and zone of the geometry, and a sector of B bytes. (Mount: MountPlaced.)
-use mathlib.Core.Path.{_≡_, refl, sym, _∙_}
+use mathlib.Core.Path.{_≡_, refl}
 use mathlib.Core.Bool.{Bool, true, false}
 use Prim.Native.Nat.{ℕ, zero, suc, _+_, _-_, _*_, _%_, _≤_, _<_, min}
 use native.Mathlib.Nat.{le-refl}
 use native.Mathlib.Omega.{arith}
 use mathlib.Core.List.{List, [], _∷_, _++_}
 use lib.ListN.{length, replicate, length-append, length-replicate}
-use lib.Dec.{ltb, eqb}
-use borrow.Author.Tests.{eqb-true, ltb-true}
+use lib.Dec.{eqb}
+use borrow.Author.Tests.{eqb-true}
 use Rattle.tables.specs.declared.Geometry.{Geometry}
 use Rattle.tables.specs.Basics.{pick}
 use Rattle.tables.specs.Below.{eachBelow, tabulateFrom}
 use Rattle.tables.specs.Geometry.{Valid, stripeSectors, physicalZones}
-use Rattle.tables.specs.Placement.{driveOf, stripeOf, stripeLength, parityDrive, address}
+use Rattle.tables.specs.Placement.{stripeOf, stripeLength, parityDrive, address}
 use Rattle.tables.specs.PlacementLaws.{drive-below, parity-drive-below, unit-row-lt}
-use Rattle.tables.specs.Device.{Device, Store, append, reset}
-use Rattle.tables.specs.Phases.{onPresent, flushAll, each-on-present}
+use Rattle.tables.specs.Device.{Device, reset}
+use Rattle.tables.specs.Phases.{each-on-present}
 use Rattle.tables.specs.Lists.{concat}
 use Rattle.tables.specs.Tables.{AllPlaced}
 use Rattle.tables.specs.TablesRefine.{all-placed-append}
-use Rattle.logs.specs.Entry.{generalZone, parityZone, Header, label, counters, zoneReset, partialParity, seal, encode, frame, labelBytes}
+use Rattle.logs.specs.Entry.{parityZone, Header, label, counters, zoneReset, partialParity, seal, encode, frame, labelBytes}
 use Rattle.logs.specs.Lays.{length-words}
 use Rattle.tables.specs.LittleEndian.{wordsLE}
 use Rattle.logs.specs.Walk.{sectorsOf}

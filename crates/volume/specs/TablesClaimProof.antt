@@ -2,15 +2,15 @@
 -- here it is carried to what the calls' contracts say.
 use mathlib.Core.Path.{_≡_, refl, sym, ap, _∙_}
 use mathlib.Core.Logic.{_≢_}
-use mathlib.Core.Bool.{Bool, true, false, _&&_, not}
-use Prim.Native.Nat.{ℕ, zero, suc, _+_, _-_, _*_, _^_, _≤_, _<_}
+use mathlib.Core.Bool.{Bool, true, false, _&&_}
+use Prim.Native.Nat.{ℕ, zero, suc, _+_, _*_, _^_, _≤_, _<_}
 use native.Mathlib.Decide.{decLt}
 use native.Mathlib.Omega.{arith}
 use mathlib.Core.List.{List, [], _∷_}
-use lib.ListN.{length, getD, take}
+use lib.ListN.{length, getD}
 use lib.Seq.{take-all}
 use lib.Dec.{ltb, eqb}
-use borrow.Author.Tests.{eq-eqb, eqb-true, ne-eqb, ltb-false, ltb-true}
+use borrow.Author.Tests.{eq-eqb, eqb-true, ltb-false, ltb-true}
 use Rattle.tables.specs.declared.Geometry.{Geometry}
 use Rattle.tables.specs.Basics.{pick, and-split, not-not}
 use Rattle.tables.specs.Drives.{presentBut, present-not, present-below, present-other}
@@ -27,20 +27,17 @@ use Rattle.tables.specs.TablesRefine.{run-refines, run-sized}
 use Rattle.tables.specs.TablesFrame.{lengths-sized, sized-lengths}
 use Rattle.tables.specs.PointerOrder.{order-passed, run-order}
 use Rattle.volume.specs.declared.State.{State}
-use Rattle.volume.specs.declared.Answer.{Answer}
-use Rattle.volume.specs.declared.Answer.the-variants.{Finished, Unfinished, Refused}
-use Rattle.volume.specs.declared.Outcome.{Outcome}
+use Rattle.volume.specs.declared.Answer.the-variants.{Finished, Refused}
 use Rattle.volume.specs.State.{StateView, callPresent, pointerIn}
 use Rattle.volume.specs.Content.{at}
-use Rattle.volume.specs.Rules.{Shown, isPresent, lostDrive, showing, valueAt, zoneView, viewOf}
-use Rattle.volume.specs.Refusals.{Verdict, refuse, accept, leastApplying, zoneOf, offsetOf, notHeld, twoUnnamed, formatRows, lookRows, mountRows, readRows, peekRows}
+use Rattle.volume.specs.Rules.{valueAt, zoneView, viewOf}
+use Rattle.volume.specs.Refusals.{accept, leastApplying, zoneOf, offsetOf, notHeld, twoUnnamed, formatRows, lookRows, readRows, peekRows}
 use Rattle.volume.specs.Calls.{formatStores, formatState}
-use Rattle.volume.specs.Mount.{mountStores}
 use Rattle.volume.specs.Answers.{finished, leftOut, namedDrives, placeOf, readCall, peekCall}
 use Rattle.volume.specs.Ledger.{freshLedger, Fits}
 use Rattle.volume.specs.Claim.{Promise, ready, allBut}
 use Rattle.volume.specs.AcceptedCalls.{passes, giving-is}
-use Rattle.volume.specs.ClaimEvents.{Ok, rest-of, drives-of-call}
+use Rattle.volume.specs.ClaimEvents.{rest-of, drives-of-call}
 use Rattle.volume.specs.ClaimProof.{kept}
 use Rattle.volume.specs.AtRestAnswers.{left-out, drives-named}
 use Rattle.volume.specs.FormatKeeps.{format-rests}
@@ -48,8 +45,8 @@ use Rattle.volume.specs.OnTables.{recordAt, viewState, among, verdictNum
 use Rattle.volume.specs.StoresFit.{fits-all-placed}
 use Rattle.volume.specs.Formatting.{formatVerdict, formatOn, freshState}
 use Rattle.volume.specs.CallRefines.{Numbered, numbered-least}
-use Rattle.volume.specs.CallVerdicts.{numbered-accept, look-verdict, look-numbered, read-number, read-numbered, peek-number, peek-numbered}
-use Rattle.volume.specs.Looking.{lookOn, lookVerdict, stateShown}
+use Rattle.volume.specs.CallVerdicts.{numbered-accept, look-verdict, read-number, read-numbered, peek-number, peek-numbered}
+use Rattle.volume.specs.Looking.{lookOn, stateShown}
 use Rattle.volume.specs.Reading.{readNumber, readOn, valuesOn}
 use Rattle.volume.specs.Peeking.{peekNumber, peekOn, partAt}
 use Rattle.volume.specs.TablesClaim.{TablesSystem, TablesEvent, looks, mounts, writes, flushes, resets, reads, peeks, formats, cuts, loses, next, Names, Duty, Dutiful, shownIn, contentBytes, TablesPromise, Throughout, start, TablesClaim}

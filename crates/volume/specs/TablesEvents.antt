@@ -1,17 +1,16 @@
 -- Every event on the tables keeps the invariant: the tables have their lengths, the pointers of the drives that are not lost are in order, the
 -- state has its sixteen records, and the device that the tables stand for is as ClaimEvents.antt says.
 use mathlib.Core.Path.{_≡_, refl, sym, ap, _∙_}
-use mathlib.Core.Logic.{_≢_, _⊎_}
+use mathlib.Core.Logic.{_≢_}
 use mathlib.Core.Bool.{Bool, true, false, not, true≢false}
-use Prim.Native.Nat.{ℕ, zero, suc, _+_, _-_, _^_, _≤_, _<_}
+use Prim.Native.Nat.{ℕ, _+_, _^_, _≤_, _<_}
 use native.Mathlib.Omega.{arith}
-use mathlib.Core.List.{List, [], _∷_, _++_}
-use lib.ListN.{length, take, getD, set, replicate, length-set, length-append, length-replicate}
-use lib.Dec.{ltb, eqb}
+use mathlib.Core.List.{List}
+use lib.ListN.{length, take, length-set}
+use lib.Dec.{ltb}
 use borrow.Author.Tests.{eq-eqb}
 use Rattle.tables.specs.declared.Geometry.{Geometry}
 use Rattle.tables.specs.Geometry.{Valid, physicalZones}
-use Rattle.tables.specs.Below.{length-tabulate}
 use Rattle.tables.specs.Drives.{noDrive, presentBut, present-below}
 use Rattle.tables.specs.TablesLaws.{device-length}
 use Rattle.tables.specs.Basics.{pick}
@@ -19,7 +18,7 @@ use Rattle.volume.specs.declared.Outcome.{Outcome}
 use Rattle.volume.specs.Formatting.{formatOn, freshState, format-views}
 use Rattle.volume.specs.AtRestAnswers.{format-lost, format-drives}
 use Rattle.tables.specs.Device.{Device, Store, applyAll}
-use Rattle.tables.specs.Tables.{Tables, deviceOf, runStores, TablesCut, pointersBad, WellSized, FitsAll}
+use Rattle.tables.specs.Tables.{Tables, deviceOf, TablesCut, pointersBad, WellSized, FitsAll}
 use Rattle.tables.specs.TablesRefine.{cut-refines}
 use Rattle.tables.specs.PointerOrder.{InOrder, order-passes, cut-order}
 use Rattle.volume.specs.declared.State.{State}
@@ -30,12 +29,12 @@ use Rattle.volume.specs.Ledger.{Ledger, noteWrite, noteFlush, noteReset,
 use Rattle.volume.specs.Calls.{writeStores, writeState, flushStores, flushState, resetStores, resetState, formatStores, formatState}
 use Rattle.volume.specs.Refusals.{Verdict, refuse, accept, leastApplying, zoneOf, formatRows, writeRows, flushRows, resetRows}
 use Rattle.volume.specs.Answers.{CallAnswer, refused, unfinished, finished, storing, lostIn, leftOut, namedDrives, sectorsIn}
-use Rattle.volume.specs.Claim.{Input, Obeys, System, Mode, ready, allBut, after, replyOf}
+use Rattle.volume.specs.Claim.{Input, Obeys, ready, after, replyOf}
 use Rattle.volume.specs.Claim as rules
 use Rattle.volume.specs.Obligations.{WriteOk, ResetOk}
 use Rattle.volume.specs.AcceptedCalls.{write-ok, reset-ok}
 use Rattle.volume.specs.ClaimEvents.{Ok, rest-of, drives-of-call, event-keeps}
-use Rattle.volume.specs.OnTables.{recordAt, viewState, among, verdictNumber, lengthsOf, storingOn}
+use Rattle.volume.specs.OnTables.{viewState, among, verdictNumber, lengthsOf, storingOn}
 use Rattle.volume.specs.CallRefines.{Numbered, flush-verdict, flush-numbered, flush-fits}
 use Rattle.volume.specs.CallVerdicts.{format-verdict, format-numbered, write-verdict, write-numbered, reset-verdict, reset-numbered}
 use Rattle.volume.specs.Flushing.{flushOn, withLost, flush-stores}

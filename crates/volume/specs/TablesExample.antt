@@ -1,19 +1,17 @@
 -- The hypotheses of the promise on the tables can be met, for every valid geometry: tables of zeros are formatted, power goes, drive 1 is lost, and
 -- the volume is mounted. (Histories with writes, flushes and resets run in the gate: crates/replay.)
 use mathlib.Core.Path.{_≡_, refl, sym, ap, _∙_}
-use mathlib.Core.Logic.{_≢_, _⊎_, inl, inr}
-use mathlib.Core.Bool.{Bool, true, false, _&&_, not, true≢false}
-use Prim.Native.Nat.{ℕ, zero, suc, _+_, _-_, _^_, _≤_, _<_}
+use mathlib.Core.Logic.{_⊎_, inl, inr}
+use mathlib.Core.Bool.{Bool, true, false, not, true≢false}
+use Prim.Native.Nat.{ℕ, zero, suc, _<_}
 use native.Mathlib.Nat.{le-refl}
 use native.Mathlib.Omega.{arith}
 use mathlib.Core.List.{List, [], _∷_}
 use lib.ListN.{length, getD, replicate, length-replicate}
-use lib.Dec.{ltb, eqb}
-use borrow.Author.Tests.{le-ltb, ne-eqb, eq-eqb}
+use borrow.Author.Tests.{le-ltb, ne-eqb}
 use Rattle.tables.specs.declared.Geometry.{Geometry}
-use Rattle.tables.specs.Basics.{pick}
 use Rattle.tables.specs.Below.{countBelow}
-use Rattle.tables.specs.Geometry.{Valid, cells, totalBytes, physicalZones}
+use Rattle.tables.specs.Geometry.{Valid, cells, totalBytes}
 use Rattle.tables.specs.GeometryTest.{isValid, valid-if-test}
 use Rattle.tables.specs.Drives.{findBelow, find-below-is, noDrive}
 use Rattle.tables.specs.Tables.{Tables, WellSized, cell, deviceOf, pointersBad}
@@ -21,14 +19,14 @@ use Rattle.tables.specs.TablesFrame.{sized-lengths}
 use Rattle.tables.specs.PointerOrder.{InOrder, order-passes, cut-to-durable}
 use Rattle.volume.specs.declared.State.{State}
 use Rattle.volume.specs.declared.Answer.the-variants.{Finished}
-use Rattle.volume.specs.Refusals.{accept, leastApplying, formatRows, twoUnnamed}
+use Rattle.volume.specs.Refusals.{accept, formatRows, twoUnnamed}
 use Rattle.volume.specs.Calls.{formatStores}
 use Rattle.volume.specs.Answers.{leftOut, namedDrives}
 use Rattle.volume.specs.AcceptedCalls.{passed}
 use Rattle.volume.specs.Claim.{allBut}
-use Rattle.volume.specs.OnTables.{among, verdictNumber, lengthsOf, decided, refusalOn, storingOn}
-use Rattle.volume.specs.Formatting.{formatVerdict, formatOn, freshState}
-use Rattle.volume.specs.TablesClaim.{TablesSystem, TablesEvent, mounts, cuts, loses, Names, Dutiful, Throughout, start}
+use Rattle.volume.specs.OnTables.{among, lengthsOf, decided, refusalOn}
+use Rattle.volume.specs.Formatting.{formatVerdict, formatOn}
+use Rattle.volume.specs.TablesClaim.{TablesSystem, TablesEvent, mounts, cuts, loses, Dutiful, Throughout, start}
 use Rattle.volume.specs.TablesEvents.{TablesOk}
 use Rattle.volume.specs.TablesClaimProof.{FormatPassed, start-ok, tables-keep-the-promise}
 

@@ -1,13 +1,13 @@
 -- The stores of write, reset and format fit where the invariant holds: every store has its place, and after each of them the invariant says that
 -- no zone is longer than C. (Flush: CallRefines; mount: MountFits.)
-use mathlib.Core.Path.{_≡_, refl, sym, ap, _∙_}
+use mathlib.Core.Path.{_≡_, ap, _∙_}
 use mathlib.Core.Logic.{_⊎_}
-use mathlib.Core.Bool.{Bool, true, false}
+use mathlib.Core.Bool.{Bool, true}
 use Prim.Native.Nat.{ℕ, _+_, _-_, _^_, _≤_, _<_}
 use native.Mathlib.Decide.{decLt}
 use native.Mathlib.Omega.{arith}
 use mathlib.Core.List.{List, []}
-use lib.ListN.{length, getD, take}
+use lib.ListN.{length}
 use lib.Seq.{getD-take}
 use borrow.Author.Tests.{lt-ltb, le-ltb}
 use Rattle.tables.specs.declared.Geometry.{Geometry}
@@ -15,7 +15,7 @@ use Rattle.tables.specs.Basics.{pick}
 use Rattle.volume.specs.Rules.{valueAt}
 use lib.Dec.{ltb}
 use Rattle.tables.specs.Geometry.{Valid, physicalZones}
-use Rattle.tables.specs.Device.{Device, applyAll}
+use Rattle.tables.specs.Device.{Device}
 use Rattle.tables.specs.Drives.{presentBut, noDrive}
 use Rattle.tables.specs.Lists.{Prefix, prefix-length, prefix-is-take, concat}
 use Rattle.tables.specs.Phases.{each-on-present}

@@ -1,16 +1,15 @@
 -- A mount on the tables. Where its stores fit, those made on the tables are the rules', step 8 included, which goes by what the tables have become;
 -- so a mount keeps the invariant, and what it shows is what the rules' mount shows.
 use mathlib.Core.Path.{_≡_, refl, sym, ap, _∙_}
-use mathlib.Core.Bool.{Bool, true, false}
-use Prim.Native.Nat.{ℕ, zero, suc, _+_, _-_, _≤_, _<_}
+use mathlib.Core.Bool.{Bool, false}
+use Prim.Native.Nat.{ℕ, zero, suc, _-_, _≤_}
 use native.Mathlib.Omega.{arith}
 use mathlib.Core.List.{List, [], _∷_, _++_}
-use lib.ListN.{length, take, replicate, length-append, length-replicate}
+use lib.ListN.{length, replicate, length-append, length-replicate}
 use lib.Seq.{take-length}
-use lib.Dec.{ltb, eqb}
-use borrow.Author.Tests.{ltb-false, ne-eqb}
+use lib.Dec.{ltb}
+use borrow.Author.Tests.{ltb-false}
 use Rattle.tables.specs.declared.Geometry.{Geometry}
-use Rattle.tables.specs.Basics.{pick}
 use Rattle.tables.specs.Below.{tabulate, length-tabulate}
 use Rattle.tables.specs.Geometry.{Valid}
 use Rattle.tables.specs.Lists.{concat, concat-append}
@@ -20,23 +19,19 @@ use Rattle.tables.specs.TablesRefine.{run-refines}
 use Rattle.volume.specs.declared.State.{State}
 use Rattle.volume.specs.declared.ZoneRecord.{ZoneRecord}
 use Rattle.volume.specs.ZoneLooking.{zoneLookOf}
-use Rattle.volume.specs.declared.Answer.{Answer}
-use Rattle.volume.specs.declared.Answer.the-variants.{Finished, Unfinished, Refused}
-use Rattle.volume.specs.declared.Outcome.{Outcome}
-use Rattle.volume.specs.State.{StateView}
+use Rattle.volume.specs.declared.Answer.the-variants.{Finished, Refused}
 use Rattle.volume.specs.Rules.{Shown, isPresent, lostDrive, showing}
-use Rattle.volume.specs.Refusals.{Verdict, refuse, accept, leastApplying, mountRows}
+use Rattle.volume.specs.Refusals.{Verdict, accept, leastApplying, mountRows}
 use Rattle.volume.specs.Mount.{withFlush, entryStep, afterOpening, mountLook, phasesBeforeEntries, mountPhases, mountStores, mountShows, mountState}
-use Rattle.volume.specs.Answers.{CallAnswer, finished, refused, storing, mountCall}
-use Rattle.volume.specs.Ledger.{Ledger, noteMount, noted, Fits}
+use Rattle.volume.specs.Answers.{finished, mountCall}
+use Rattle.volume.specs.Ledger.{noteMount, noted, Fits}
 use Rattle.volume.specs.Claim.{Promise, MayMount, mountNote}
 use Rattle.volume.specs.Claim as rules
 use Rattle.volume.specs.ClaimEvents.{event-keeps}
 use Rattle.volume.specs.OnTables.{blankRecord, viewState, among, verdictNumber, lengthsOf, Result, storingOn}
-use Rattle.volume.specs.CallRefines.{Numbered}
 use Rattle.volume.specs.CallVerdicts.{mount-verdict, mount-numbered}
 use Rattle.volume.specs.Looking.{recordFrom, stateShown, state-shown-in, state-shown-lost}
-use Rattle.volume.specs.Mounting.{mountVerdict, storesBefore, mountStoresOn, mountShownOn, mountOn}
+use Rattle.volume.specs.Mounting.{storesBefore, mountStoresOn, mountShownOn, mountOn}
 use Rattle.volume.specs.TablesClaim.{TablesSystem, shownIn, noteOfMount, next, Names, mounts}
 use Rattle.volume.specs.TablesSettled.{viewSystem, Agree, all-made, answer-finished, answer-refused}
 use Rattle.volume.specs.TablesEvents.{TablesOk, inputOf, obeys, pointers-fine, storing-keeps}

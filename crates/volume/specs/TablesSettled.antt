@@ -1,11 +1,10 @@
 -- What a storing call leaves of the tables is, seen as a device and a state, what the rules' call leaves of the device: so the invariant, which
 -- the rules' call keeps, holds of the tables after the code's.
-use mathlib.Core.Path.{_≡_, refl, sym, ap, _∙_}
-use mathlib.Core.Logic.{_≢_}
+use mathlib.Core.Path.{_≡_, refl, ap, _∙_}
 use mathlib.Core.Bool.{Bool, true, false}
-use Prim.Native.Nat.{ℕ, zero, suc, _≤_, _<_}
+use Prim.Native.Nat.{ℕ, _<_}
 use native.Mathlib.Omega.{arith}
-use mathlib.Core.List.{List, [], _∷_}
+use mathlib.Core.List.{List}
 use lib.ListN.{length, take}
 use lib.Seq.{take-all}
 use lib.Dec.{ltb}
@@ -16,14 +15,13 @@ use Rattle.tables.specs.Device.{Device, Store, applyAll}
 use Rattle.tables.specs.Tables.{Tables, deviceOf, runStores, WellSized, AllPlaced, FitsAll}
 use Rattle.tables.specs.TablesRefine.{run-refines, run-sized}
 use Rattle.tables.specs.PointerOrder.{InOrder, run-order}
-use Rattle.volume.specs.declared.Condition.{Condition}
 use Rattle.volume.specs.declared.State.{State}
 use Rattle.volume.specs.declared.Outcome.{Outcome}
 use Rattle.volume.specs.declared.Answer.{Answer}
 use Rattle.volume.specs.declared.Answer.the-variants.{Finished, Unfinished, Refused}
 use Rattle.volume.specs.State.{StateView, pointerIn}
 use Rattle.volume.specs.Ledger.{Ledger}
-use Rattle.volume.specs.Invariant.{Ghost, Rest, RestZone, Shape}
+use Rattle.volume.specs.Invariant.{Ghost, Rest}
 use Rattle.volume.specs.Refusals.{Verdict, refuse, accept}
 use Rattle.volume.specs.Answers.{CallAnswer, refused, unfinished, finished, storing}
 use Rattle.volume.specs.Claim.{System, Mode, ready, stopped, down, after}

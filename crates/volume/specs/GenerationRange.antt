@@ -1,8 +1,8 @@
 -- A zone's generation is a number of 8 bytes: every counter of a legal entry is, for the entry's bytes are what its numbers are written as.
 use mathlib.Core.Path.{_≡_, refl, sym, ap, _∙_}
-use mathlib.Core.Logic.{_≢_, _⊎_, inl, inr}
+use mathlib.Core.Logic.{_⊎_, inl, inr}
 use mathlib.Core.Bool.{Bool, true, false, true≢false}
-use Prim.Native.Nat.{ℕ, zero, suc, _+_, _-_, _*_, _/_, _^_, _≤_, _<_, min}
+use Prim.Native.Nat.{ℕ, zero, suc, _+_, _-_, _*_, _/_, _^_, _≤_, _<_}
 use native.Mathlib.Nat.{mod-lt, pow-suc}
 use native.Mathlib.Decide.{ℕ-discrete}
 use native.Mathlib.Omega.{arith}
@@ -12,14 +12,14 @@ use lib.Seq.{drop-drop}
 use Rattle.tables.specs.declared.Geometry.{Geometry}
 use Rattle.tables.specs.Basics.{pick}
 use Rattle.tables.specs.Below.{maxBelow, max-below-is}
-use Rattle.tables.specs.LittleEndian.{bytesLE, numberLE, wordsLE, readLE}
+use Rattle.tables.specs.LittleEndian.{bytesLE, numberLE, wordsLE}
 use Rattle.tables.specs.Device.{Device}
 use Rattle.logs.specs.Entry.{generalZone, Header, label, counters, zoneReset, partialParity, seal, encode, frame, legal}
 use Rattle.logs.specs.Legal.{legal-written-again}
 use Rattle.logs.specs.Walk.{walkLog}
 use Rattle.logs.specs.Heads.{isCounters, generationIn}
 use Rattle.logs.specs.Query.{headsOf}
-use Rattle.logs.specs.Places.{LastSuch, last-there}
+use Rattle.logs.specs.Places.{last-there}
 use Rattle.logs.specs.Generations.{countersPlace, no-generation, generation-there}
 use Rattle.volume.specs.Rules.{generalHeads, generationOf}
 

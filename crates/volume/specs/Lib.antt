@@ -104,9 +104,9 @@ pub mod MountRows
 pub mod MountValues
 pub mod KnownLengths
 pub mod MountParityRows
+pub mod MountRestoring
 pub mod MountTornLogs
 pub mod MountLastEntries
-pub mod MountRestoring
 pub mod MountFillOn
 pub mod GenerationRange
 pub mod MountStart
@@ -114,3 +114,4 @@ pub mod MountTold
 pub mod MountJoins
 pub mod Mounting
 pub mod MountAllSteps
+pub mod MountRefines

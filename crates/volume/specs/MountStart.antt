@@ -2,13 +2,13 @@
 use mathlib.Core.Path.{_≡_, refl, sym, ap, _∙_}
 use mathlib.Core.Logic.{_≢_, _⊎_, inl, inr}
 use mathlib.Core.Bool.{Bool, true, false, _||_, not, true≢false}
-use Prim.Native.Nat.{ℕ, zero, suc, _+_, _-_, _^_, _≤_, _<_, min, zero-le}
+use Prim.Native.Nat.{ℕ, zero, suc, _-_, _^_, _≤_, _<_, min, zero-le}
 use native.Mathlib.Nat.{le-refl}
 use native.Mathlib.Omega.{arith}
-use mathlib.Core.List.{List, []}
+use mathlib.Core.List.{List}
 use lib.ListN.{length, getD}
 use lib.Dec.{eqb}
-use borrow.Author.Tests.{eqb-true, eq-eqb}
+use borrow.Author.Tests.{eq-eqb}
 use Rattle.tables.specs.declared.Geometry.{Geometry}
 use Rattle.tables.specs.Basics.{pick}
 use Rattle.tables.specs.Drives.{findBelow, find-below-is, noDrive}
@@ -19,9 +19,8 @@ use Rattle.tables.specs.Tables.{tablesOf, cell}
 use Rattle.logs.specs.Entry.{wornGeneration}
 use Rattle.volume.specs.declared.Condition.the-variants.{Empty, Open, Sealed, Worn}
 use Rattle.volume.specs.declared.ZoneLook.{ZoneLook}
-use Rattle.volume.specs.declared.Look.{Look}
 use Rattle.volume.specs.State.{isEmpty}
-use Rattle.volume.specs.Rules.{Shown, ZoneShown, known, zoneView, knownPrefix, sealLimit, resetSeen, pointerAt, generationOf, cleanAt, sealSeen, conditionOf, zoneAt, zoneShown, showing}
+use Rattle.volume.specs.Rules.{Shown, known, zoneView, knownPrefix, sealLimit, resetSeen, pointerAt, generationOf, cleanAt, sealSeen, conditionOf, zoneAt, zoneShown, showing}
 use Rattle.volume.specs.OnTables.{among}
 use Rattle.volume.specs.Knowing.{readDevice}
 use Rattle.volume.specs.DrivesLost.{fill-at}

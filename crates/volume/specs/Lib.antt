@@ -106,9 +106,9 @@ pub mod MountRows
 pub mod MountValues
 pub mod KnownLengths
 pub mod MountParityRows
+pub mod MountRestoring
 pub mod MountTornLogs
 pub mod MountLastEntries
-pub mod MountRestoring
 pub mod MountFillOn
 pub mod GenerationRange
 pub mod MountStart

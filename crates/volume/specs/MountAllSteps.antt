@@ -16,8 +16,8 @@ use Rattle.volume.specs.MountTables.{seen}
 use Rattle.volume.specs.MountLook.{stays}
 use Rattle.volume.specs.MountSteps.{AllIn, headerPhases, labels-in, reset-entries-in, resets-in, counter-step-in, seals-in, steps-join, steps-append, steps-none}
 use Rattle.volume.specs.MountValues.{shownAt, Restoring}
-use Rattle.volume.specs.MountRestoring.{restorable, restoring-kept, restoring-steps}
-use Rattle.volume.specs.MountTornLogs.{filling, torn-rows-in}
+use Rattle.volume.specs.MountRestoring.{filling, restoring-kept, restoring-steps}
+use Rattle.volume.specs.MountTornLogs.{torn-rows-in}
 use Rattle.volume.specs.MountFillOn.{fill-in}
 use Rattle.volume.specs.Mounting.{stepsBy, stepStores}
 
@@ -41,7 +41,7 @@ module _ (g : Geometry) (ok : Valid g) (here : List Bool) (k : Look) (ps : List 
   steps-restoring budget rest t u r m =
       let w = seen g (t .sectors) ps in
       restoring-steps g here k ps (among here) budget rest (stepsBy g here k (t .sectors) ps) t u r
-      (labels-in g k w ok, (reset-entries-in g k w ok, (resets-in g k w ok, (counter-step-in g k w ok (among here), (seals-in g k w ok, (torn-rows-in g here k ps (t .sectors) (t .written) ok (filling g here k ps t r), (fill-in g here k ps (t .sectors) (t .written) ok (restorable g here k ps t r), tt))))))) m
+      (labels-in g k w ok, (reset-entries-in g k w ok, (resets-in g k w ok, (counter-step-in g k w ok (among here), (seals-in g k w ok, (torn-rows-in g here k ps (t .sectors) (t .written) ok (filling g here k ps t r), (fill-in g here k ps (t .sectors) (t .written) ok (filling g here k ps t r), tt))))))) m
 
   pub steps-made : (budget first second rest : ℕ) (t u v w : Tables) → Restoring g here k ps t
       → Made g budget first (concat (withFlushes g (among here) (headerPhases g (among here) k (seen g (t .sectors) ps)))) t u

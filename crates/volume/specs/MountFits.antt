@@ -30,9 +30,9 @@ use Rattle.volume.specs.MountTables.{StoreIn, StoresIn, seen}
 use Rattle.volume.specs.MountLook.{stays}
 use Rattle.volume.specs.MountSteps.{AllIn, labels-in, reset-entries-in, resets-in, counter-step-in, seals-in}
 use Rattle.volume.specs.MountValues.{shownAt, Restoring}
-use Rattle.volume.specs.MountTornLogs.{filling, torn-rows-in}
+use Rattle.volume.specs.MountTornLogs.{torn-rows-in}
 use Rattle.volume.specs.MountLastEntries.{entries-in}
-use Rattle.volume.specs.MountRestoring.{restorable}
+use Rattle.volume.specs.MountRestoring.{filling}
 use Rattle.volume.specs.MountFillOn.{fill-in}
 use Rattle.volume.specs.MountStart.{shownHere, restoring-start}
 use Rattle.volume.specs.Mounting.{stepsBy, lostHere, steps-are, entries-are}
@@ -159,7 +159,7 @@ module _ (g : Geometry) (ok : Valid g) (s : TablesSystem) (o : TablesOk g s) (na
               counter-step-in g k v ok (among here),
               (
                 seals-in g k v ok,
-                (torn-rows-in g here k ws xs ws ok (filling g here k ws (s .tables) restoring), (fill-in g here k ws xs ws ok (restorable g here k ws (s .tables) restoring), tt)),
+                (torn-rows-in g here k ws xs ws ok (filling g here k ws (s .tables) restoring), (fill-in g here k ws xs ws ok (filling g here k ws (s .tables) restoring), tt)),
               ),
             ),
           ),

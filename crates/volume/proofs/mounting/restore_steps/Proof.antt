@@ -1,5 +1,4 @@
 use mathlib.Core.Path.{_≡_, sym, _∙_}
-use lib.ListN.{length}
 use denote.Ref.{now}
 use Rattle.tables.specs.Lists.{overlay-all}
 use Rattle.tables.specs.Tables.{tablesOf}

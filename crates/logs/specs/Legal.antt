@@ -60,11 +60,19 @@ module _ (g : Geometry) (ok : Valid g) (d : ℕ) (par : Bool) where
   pub fits-reads-back : (h : Header) → fitsLog g d par h ≡ true → NumbersFit h → decode g d par (encode g d h) ≡ legal h
   fits-reads-back h f n = reads g ok d par h (fits-has-room h f n) f
 
+-- a counters entry has a counter for each zone
+abbrev pub CountersFit : Geometry → Header → Type 0
+CountersFit g (label x a) = Unit {0}
+CountersFit g (counters cs) = length cs ≡ g .zones
+CountersFit g (zoneReset z n) = Unit {0}
+CountersFit g (partialParity z s f n) = Unit {0}
+CountersFit g (seal z p n) = Unit {0}
+
 -- a header is one sector
-pub header-long : (g : Geometry) (d : ℕ) (h : Header) → Valid g → FieldsFit g h → length (encode g d h) ≡ g .sector
+pub header-long : (g : Geometry) (d : ℕ) (h : Header) → Valid g → CountersFit g h → length (encode g d h) ≡ g .sector
 unfolding encode frame labelBytes
 header-long g d (label x a) ok r = rw (length-replicate {A = ℕ} (g .sector - 56) 0) (omega (arith, ok .sector-least))
-header-long g d (counters cs) ok r = rw (length-append (wordsLE cs) (replicate (g .sector - (32 + 8 * length cs)) 0), length-words cs, length-replicate {A = ℕ} (g .sector - (32 + 8 * length cs)) 0) (omega (arith, r .0, ok .counters-fit))
+header-long g d (counters cs) ok r = rw (length-append (wordsLE cs) (replicate (g .sector - (32 + 8 * length cs)) 0), length-words cs, length-replicate {A = ℕ} (g .sector - (32 + 8 * length cs)) 0) (omega (arith, r, ok .counters-fit))
 header-long g d (zoneReset z n) ok r = rw (length-replicate {A = ℕ} (g .sector - 32) 0) (omega (arith, ok .sector-least))
 header-long g d (partialParity z s f n) ok r = rw (length-replicate {A = ℕ} (g .sector - 32) 0) (omega (arith, ok .sector-least))
 header-long g d (seal z p n) ok r = rw (length-replicate {A = ℕ} (g .sector - 32) 0) (omega (arith, ok .sector-least))

@@ -1,10 +1,11 @@
 -- Stores under a count: what is made of a list when only the first so many are, one store after the other. A function that stores states
 -- `Made`; these are the laws by which such statements are joined.
-use mathlib.Core.Path.{_≡_, refl, sym, ap, _∙_}
+use mathlib.Core.Path.{_≡_, refl, sym, ap, ap₂, _∙_, subst}
 use mathlib.Core.Logic.{_≢_}
-use mathlib.Core.Bool.{Bool, true, false, _&&_, not, true≢false}
-use Prim.Native.Nat.{ℕ, zero, suc, _+_, _-_, _<_}
+use mathlib.Core.Bool.{Bool, true, false, _&&_, true≢false}
+use Prim.Native.Nat.{ℕ, zero, suc, _-_, _≤_, _<_}
 use native.Mathlib.Nat.{sub-zero}
+use native.Mathlib.Decide.{ℕ-discrete}
 use native.Mathlib.Omega.{arith}
 use mathlib.Core.List.{List, [], _∷_, _++_}
 use lib.ListN.{length, length-append}
@@ -84,3 +85,41 @@ budget-unfinished count rest n e z = lt-ltb count n (omega arith)
 
 pub budget-finished : (count rest n : ℕ) → rest ≡ suc count - n → rest ≢ 0 → ltb count n ≡ false
 budget-finished count rest n e z = le-ltb count n (omega arith)
+
+-- a count that covers a list makes all of it
+pub run-covered : (g : Geometry) (k : ℕ) (xs : List Store) (t : Tables) → length xs ≤ k → runStores g k xs t ≡ runStores g (length xs) xs t
+run-covered g k [] t h = refl
+run-covered g zero (x ∷ xs) t h = absurd (omega arith)
+run-covered g (suc k) (x ∷ xs) t h = run-covered g k xs (makeStore g x t) (omega arith)
+
+-- two lists, all of both
+pub run-both : (g : Geometry) (p q : List Store) (t : Tables) → runStores g (length q) q (runStores g (length p) p t) ≡ runStores g (length (p ++ q)) (p ++ q) t
+run-both g p q t =
+    let e : length (p ++ q) - length p ≡ length q = rw length-append (omega arith) in
+    let l : length p ≤ length (p ++ q) = rw length-append (omega arith) in
+    sym (run-append g (length (p ++ q)) p q t ∙ ap₂ (λ (j : ℕ) (u : Tables). runStores g j q u) e (run-covered g (length (p ++ q)) p t l))
+
+-- a spent count stays spent
+spent-more : (g : Geometry) (budget : ℕ) (p q : List Store) (t u : Tables) → Made g budget 0 p t u → Made g budget 0 (p ++ q) t u
+spent-more g budget p q t u m =
+    let l : budget ≤ length p = omega (arith, m .rest-is) in
+    let e : budget - 1 - length p ≡ 0 = omega arith in
+    record {
+      rest-is = rw length-append (omega arith);
+      tables-are = m .tables-are ∙ sym (run-append g (budget - 1) p q t ∙ ap (λ (j : ℕ). runStores g j q (runStores g (budget - 1) p t)) e ∙ run-none g q (runStores g (budget - 1) p t));
+    }
+
+-- the second stage, e, by the tables that the first has left
+pub joined : (g : Geometry) (budget mid rest : ℕ) (p : List Store) (e : Tables → List Store) (t u v : Tables) → Made g budget mid p t u → Made g mid rest (e u) u v → Made g budget rest (p ++ e (runStores g (length p) p t)) t v
+joined g budget mid rest p e t u v a b = go (ℕ-discrete mid 0)
+  where
+    go : Dec (mid ≡ 0) → Made g budget rest (p ++ e (runStores g (length p) p t)) t v
+    go (yes z) =
+        let r : rest ≡ 0 = omega (arith, b .rest-is) in
+        let k : mid - 1 ≡ 0 = omega arith in
+        let w : v ≡ u = b .tables-are ∙ ap (λ (j : ℕ). runStores g j (e u) u) k ∙ run-none g (e u) u in
+        rw (r, w) (spent-more g budget p (e (runStores g (length p) p t)) t u (rw z at a))
+    go (no n) =
+        let l : length p ≤ budget - 1 = omega (arith, a .rest-is, n) in
+        let w : u ≡ runStores g (length p) p t = a .tables-are ∙ run-covered g (budget - 1) p t l in
+        made-append g budget mid rest p (e (runStores g (length p) p t)) t u v a (subst (λ (x : Tables). Made g mid rest (e x) u v) w b)

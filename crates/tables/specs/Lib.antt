@@ -19,3 +19,4 @@ pub mod TablesLaws
 pub mod TablesRefine
 pub mod TablesFrame
 pub mod PointerOrder
+pub mod StoresFit

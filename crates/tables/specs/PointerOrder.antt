@@ -3,7 +3,7 @@
 use mathlib.Core.Path.{_≡_, refl, sym, _∙_}
 use mathlib.Core.Logic.{_≢_, _⊎_, inl, inr}
 use mathlib.Core.Bool.{Bool, true, false, _&&_}
-use Prim.Native.Nat.{ℕ, zero, suc, _+_, _≤_, _<_}
+use Prim.Native.Nat.{ℕ, zero, suc, _+_, _≤_, _<_, zero-le}
 use native.Mathlib.Nat.{le-refl}
 use native.Mathlib.Decide.{ℕ-discrete}
 use native.Mathlib.Omega.{arith}
@@ -114,3 +114,25 @@ cut-to-durable g x t w o = record {
   most = λ d z hd hz n. o d hd n .durable-most z hz;
   durable-is = λ d z hd hz n. refl;
 }
+
+-- ---- no written pointer passes its zone's end, whatever is stored
+set-most : (xs : List ℕ) (c x k n : ℕ) → x ≤ n → getD xs k 0 ≤ n → getD (set xs c x) k 0 ≤ n
+set-most [] c x k n h l = l
+set-most (y ∷ xs) zero x zero n h l = h
+set-most (y ∷ xs) zero x (suc k) n h l = l
+set-most (y ∷ xs) (suc c) x zero n h l = l
+set-most (y ∷ xs) (suc c) x (suc k) n h l = set-most xs c x k n h l
+
+store-most : (g : Geometry) (x : Store) (t : Tables) (k : ℕ) → getD (t .written) k 0 ≤ g .capacity → getD (makeStore g x t .written) k 0 ≤ g .capacity
+store-most g (append d z s) t k h = go (hasRoom g d z (t .written)) refl
+  where
+    go : (b : Bool) → hasRoom g d z (t .written) ≡ b → getD (pick b (record { sectors = sectorsAfterAppend g d z s (t .sectors) (t .written); written = writtenAfterAppend g d z (t .written); durable = t .durable }) t .written) k 0 ≤ g .capacity
+    go true e = unfold writtenAfterAppend in set-most (t .written) (cell g d z) (getD (t .written) (cell g d z) 0 + 1) k (g .capacity) (omega (arith, ltb-true (getD (t .written) (cell g d z) 0) (g .capacity) e)) h
+    go false e = h
+store-most g (reset d z) t k h = unfold pointersAfterReset in set-most (t .written) (cell g d z) 0 k (g .capacity) zero-le h
+store-most g (flush d) t k h = h
+
+pub run-most : (g : Geometry) (n : ℕ) (xs : List Store) (t : Tables) (k : ℕ) → getD (t .written) k 0 ≤ g .capacity → getD (runStores g n xs t .written) k 0 ≤ g .capacity
+run-most g n [] t k h = h
+run-most g zero (x ∷ xs) t k h = h
+run-most g (suc n) (x ∷ xs) t k h = run-most g n xs (makeStore g x t) k (store-most g x t k h)

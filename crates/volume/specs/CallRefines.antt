@@ -7,7 +7,7 @@ use mathlib.Core.Bool.{Bool, true, false, _&&_, _||_}
 use Prim.Native.Nat.{ℕ, zero, suc, _≤_, _<_}
 use native.Mathlib.Nat.{le-refl}
 use native.Mathlib.Omega.{arith}
-use mathlib.Core.List.{List, [], _∷_, _++_}
+use mathlib.Core.List.{List, [], _∷_}
 use lib.ListN.{length, take}
 use lib.Seq.{take-all}
 use lib.Dec.{ltb}
@@ -16,10 +16,11 @@ use Rattle.tables.specs.declared.Geometry.{Geometry}
 use Rattle.tables.specs.Basics.{pick}
 use Rattle.tables.specs.Below.{anyBelow, none-any-below}
 use Rattle.tables.specs.Geometry.{physicalZones}
-use Rattle.tables.specs.Device.{Device, Store, flush, apply, applyAll}
+use Rattle.tables.specs.Device.{Device, Store, flush, applyAll}
 use Rattle.tables.specs.Tables.{storeIf, Tables, deviceOf, runStores, pointersBad, WellSized, FitsAll}
 use Rattle.tables.specs.TablesLaws.{device-length, device-durable-min}
 use Rattle.tables.specs.TablesRefine.{run-refines}
+use Rattle.tables.specs.StoresFit.{fits-append}
 use Rattle.tables.specs.TablesFrame.{pointers-good}
 use Rattle.volume.specs.declared.State.{State}
 use Rattle.volume.specs.declared.Answer.{Answer}
@@ -82,11 +83,6 @@ numbered-least ((n, b) ∷ rows) p = go b (numbered-least rows (p .1))
     go : (c : Bool) → Numbered (leastApplying rows) → Numbered (pick c (refuse n) (leastApplying rows))
     go true h = p .0
     go false h = h
-
--- stores that fit, one list after the other
-pub fits-append : (g : Geometry) (xs ys : List Store) (v : Device) → FitsAll g xs v → FitsAll g ys (applyAll xs v) → FitsAll g (xs ++ ys) v
-fits-append g [] ys v p q = q
-fits-append g (x ∷ xs) ys v p q = (p .0, fits-append g xs ys (apply x v) (p .1) q)
 
 -- ---- flush: its stores always have their place
 pub flush-fits : (g : Geometry) (present : ℕ → Bool) (n : ℕ) (v : Device) → n ≤ g .drives → FitsAll g (flushTo present n) v

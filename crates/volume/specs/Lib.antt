@@ -72,7 +72,6 @@ pub mod OnTables
 pub mod CheckLaws
 pub mod Flushing
 pub mod CallRefines
-pub mod StoresFit
 pub mod ZoneChecks
 pub mod Logging
 pub mod StoreLoops
@@ -113,7 +112,6 @@ pub mod MountFillOn
 pub mod GenerationRange
 pub mod MountStart
 pub mod MountTold
-pub mod MountJoins
 pub mod Mounting
 pub mod MountAllSteps
 -- The promise on the tables.

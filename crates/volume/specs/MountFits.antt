@@ -36,7 +36,7 @@ use Rattle.volume.specs.MountRestoring.{filling}
 use Rattle.volume.specs.MountFillOn.{fill-in}
 use Rattle.volume.specs.MountStart.{shownHere, restoring-start}
 use Rattle.volume.specs.Mounting.{stepsBy, lostHere, steps-are, entries-are}
-use Rattle.volume.specs.StoresFit.{AllOn, on-present-on, stores-fit, placed-present, placed-flushes, EachPlaced}
+use Rattle.tables.specs.StoresFit.{on-append, AllOn, on-present-on, stores-fit, placed-present, placed-flushes, EachPlaced}
 use Rattle.volume.specs.TablesClaim.{TablesSystem, Names}
 use Rattle.volume.specs.TablesSettled.{viewSystem}
 use Rattle.volume.specs.TablesEvents.{TablesOk}
@@ -68,12 +68,8 @@ module _ (g : Geometry) (a : ℕ → Bool) where
   placed-steps [] p = tt
   placed-steps (xs ∷ steps) p = rw (concat-append (withFlush g a xs) (withFlushes g a steps)) (all-placed-append g (concat (withFlush g a xs)) (concat (withFlushes g a steps)) (placed-step xs (p .0)) (placed-steps steps (p .1)))
 
-  on-append : (xs ys : List Store) → AllOn a xs → AllOn a ys → AllOn a (xs ++ ys)
-  on-append [] ys p q = q
-  on-append (x ∷ xs) ys p q = (p .0, on-append xs ys (p .1) q)
-
   on-step : (xs : List Store) → AllOn a (concat (withFlush g a xs))
-  on-step xs = on-append (onPresent a xs) (pick (isNil (onPresent a xs)) [] (onPresent a (flushAll (g .drives))) ++ []) (on-present-on a xs) (on-append (pick (isNil (onPresent a xs)) [] (onPresent a (flushAll (g .drives)))) [] (go (isNil (onPresent a xs))) tt)
+  on-step xs = on-append a (onPresent a xs) (pick (isNil (onPresent a xs)) [] (onPresent a (flushAll (g .drives))) ++ []) (on-present-on a xs) (on-append a (pick (isNil (onPresent a xs)) [] (onPresent a (flushAll (g .drives)))) [] (go (isNil (onPresent a xs))) tt)
     where
       go : (b : Bool) → AllOn a (pick b [] (onPresent a (flushAll (g .drives))))
       go true = tt
@@ -81,7 +77,7 @@ module _ (g : Geometry) (a : ℕ → Bool) where
 
   on-steps : (steps : List (List Store)) → AllOn a (concat (withFlushes g a steps))
   on-steps [] = tt
-  on-steps (xs ∷ steps) = rw (concat-append (withFlush g a xs) (withFlushes g a steps)) (on-append (concat (withFlush g a xs)) (concat (withFlushes g a steps)) (on-step xs) (on-steps steps))
+  on-steps (xs ∷ steps) = rw (concat-append (withFlush g a xs) (withFlushes g a steps)) (on-append a (concat (withFlush g a xs)) (concat (withFlushes g a steps)) (on-step xs) (on-steps steps))
 
 -- ---- the stores of a mount, step by step (k: its look; w: the device after the first flush)
 module _ (g : Geometry) (a : ℕ → Bool) (x : ℕ) (v : Device) where
@@ -94,8 +90,8 @@ module _ (g : Geometry) (a : ℕ → Bool) (x : ℕ) (v : Device) where
 
   mount-on : AllOn a (mountStores g a x v)
   unfolding phasesBeforeEntries
-  mount-on = rw stores-split (on-append g a before (concat (withFlush g a (entryStep g (mountLook g a x v) (applyAll before v))))
-      (on-append g a (onPresent a (flushAll (g .drives))) (concat (withFlushes g a (stepsBeforeEntries g a x (mountLook g a x v) (afterOpening g a v)))) (on-present-on a (flushAll (g .drives))) (on-steps g a (stepsBeforeEntries g a x (mountLook g a x v) (afterOpening g a v))))
+  mount-on = rw stores-split (on-append a before (concat (withFlush g a (entryStep g (mountLook g a x v) (applyAll before v))))
+      (on-append a (onPresent a (flushAll (g .drives))) (concat (withFlushes g a (stepsBeforeEntries g a x (mountLook g a x v) (afterOpening g a v)))) (on-present-on a (flushAll (g .drives))) (on-steps g a (stepsBeforeEntries g a x (mountLook g a x v) (afterOpening g a v))))
       (on-step g a (entryStep g (mountLook g a x v) (applyAll before v))))
 
   mount-placed : EachPlaced g (stepsBeforeEntries g a x (mountLook g a x v) (afterOpening g a v)) → ((u : Device) → AllPlaced g (entryStep g (mountLook g a x v) u)) → AllPlaced g (mountStores g a x v)

@@ -7,25 +7,25 @@ use Prim.Native.Nat.{ℕ, zero, suc, _+_, _-_, _*_, _≤_, _<_}
 use native.Mathlib.Decide.{ℕ-discrete}
 use native.Mathlib.Omega.{arith}
 use mathlib.Core.List.{List, [], _∷_, _++_}
-use lib.ListN.{length, getD, set, take, replicate, length-append, length-replicate}
+use lib.ListN.{length, getD, set, take, replicate, length-append}
 use lib.Seq.{take-at}
 use lib.Dec.{eqb}
 use borrow.Author.Tests.{eqb-true, eq-eqb, ne-eqb}
 use Rattle.tables.specs.declared.Geometry.{Geometry}
 use Rattle.tables.specs.Basics.{pick, eqb-same}
 use Rattle.tables.specs.Below.{eachBelow, anyBelow, allBelow, all-below-all, all-all-below, tabulate, length-tabulate}
-use Rattle.tables.specs.LittleEndian.{sameBytes, same-bytes-eq, same-bytes-refl, wordsLE, readLE}
+use Rattle.tables.specs.LittleEndian.{sameBytes, same-bytes-eq, same-bytes-refl, readLE}
 use Rattle.tables.specs.Geometry.{Valid}
 use Rattle.tables.specs.Device.{Device, Store, append}
 use Rattle.tables.specs.Phases.{onPresent}
 use Rattle.tables.specs.Tables.{storeIf}
-use Rattle.logs.specs.Entry.{generalZone, counters, encode, frame}
+use Rattle.logs.specs.Entry.{generalZone, counters, encode}
 use Rattle.logs.specs.Walk.{walkLog}
 use Rattle.logs.specs.Query.{headsOf}
 use Rattle.logs.specs.Heads.{lastCounters}
-use Rattle.logs.specs.Lays.{length-words}
 use Rattle.logs.specs.Generations.{generation-there, countersPlace, no-counters, counters-long}
 use Rattle.volume.specs.KnowingLaws.{all-below-cong}
+use Rattle.logs.specs.Legal.{header-long}
 use Rattle.volume.specs.declared.Look.{Look}
 use Rattle.volume.specs.State.{isEmpty}
 use Rattle.volume.specs.Calls.{appendGeneral, generationsFrom}
@@ -124,12 +124,8 @@ counter-one g a cs d = go (a d) refl
     go true e = rw e refl
     go false e = rw e refl
 
-pub counters-sector : (g : Geometry) (d : ℕ) (cs : List ℕ) → Valid g → length cs ≡ g .zones → length (encode g d (counters cs)) ≡ g .sector
-unfolding encode frame
-counters-sector g d cs ok r = rw (length-append (wordsLE cs) (replicate (g .sector - (32 + 8 * length cs)) 0), length-words cs, length-replicate {A = ℕ} (g .sector - (32 + 8 * length cs)) 0) (omega (arith, r, ok .counters-fit))
-
 pub counters-in : (g : Geometry) (k : Look) (cs : List ℕ) (m : ℕ) → Valid g → length cs ≡ g .zones → m ≤ g .drives → StoresIn g (stays k) (counterStores g cs m)
-counters-in g k cs m ok l h = each-in g (stays k) (λ d. appendGeneral g (counters cs) d) m (λ d q. ((omega arith, omega arith, counters-sector g d cs ok l, log-stays k generalZone (omega arith)), tt))
+counters-in g k cs m ok l h = each-in g (stays k) (λ d. appendGeneral g (counters cs) d) m (λ d q. ((omega arith, omega arith, header-long g d (counters cs) ok l, log-stays k generalZone (omega arith)), tt))
 
 -- ---- two drives' last counters, by where they stand
 module _ (g : Geometry) (d e : ℕ) (ss ts : List (List ℕ)) (some : 1 ≤ g .zones) where
@@ -154,7 +150,3 @@ module _ (g : Geometry) (d e : ℕ) (ss ts : List (List ℕ)) (some : 1 ≤ g .z
 
 pub filled-long : (f : ℕ → ℕ) (n : ℕ) → n ≤ length (filled f n)
 filled-long f n = rw (length-append (tabulate f n) (replicate (16 - n) 0), length-tabulate f n) (omega arith)
-
-pub length-generations : (f : ℕ → ℕ) (i n : ℕ) → length (generationsFrom f i n) ≡ n
-length-generations f i zero = refl
-length-generations f i (suc n) = ap suc (length-generations f (suc i) n)

@@ -2,10 +2,10 @@
 -- 5 seal) tells the steps apart; labels are stored once a drive.
 use mathlib.Core.Path.{_≡_, refl, ap}
 use mathlib.Core.Bool.{Bool, true, false, _&&_, not}
-use Prim.Native.Nat.{ℕ, _-_, _≤_, _<_, min}
+use Prim.Native.Nat.{ℕ, _≤_, _<_, min}
 use native.Mathlib.Omega.{arith}
 use mathlib.Core.List.{List, [], _∷_}
-use lib.ListN.{length, getD, length-replicate}
+use lib.ListN.{length, getD}
 use lib.Dec.{ltb, eqb}
 use Rattle.tables.specs.declared.Geometry.{Geometry}
 use Rattle.tables.specs.Basics.{pick}
@@ -16,11 +16,12 @@ use Rattle.tables.specs.Geometry.{Valid, cells, totalBytes}
 use Rattle.tables.specs.Device.{Device, Store, append}
 use Rattle.tables.specs.Phases.{onPresent}
 use Rattle.tables.specs.Tables.{cell, tablesOf, storeIf, MadeAppends}
-use Rattle.logs.specs.Entry.{generalZone, Header, label, zoneReset, seal, encode, frame, labelBytes}
+use Rattle.logs.specs.Entry.{generalZone, Header, label, zoneReset, seal, encode}
 use Rattle.logs.specs.Walk.{walkLog}
 use Rattle.logs.specs.WalkCode.{logSectors}
 use Rattle.logs.specs.Query.{headsOf}
 use Rattle.logs.specs.Heads.{lastLost, isSealAt}
+use Rattle.logs.specs.Legal.{header-long}
 use Rattle.volume.specs.declared.Look.{Look}
 use Rattle.volume.specs.State.{isSealed}
 use Rattle.volume.specs.Rules.{generalHeads}
@@ -91,26 +92,14 @@ pub header-made : (g : Geometry) (kind : ℕ) (k : Look) (w : Device) (a : ℕ �
 header-made g kind k w a d z e f = rw f (general-one a d (encode g d (headerFor kind k z)) true e)
 
 -- ---- they are appends to general logs
-label-long : (g : Geometry) (d x a : ℕ) → Valid g → length (encode g d (label x a)) ≡ g .sector
-unfolding encode frame labelBytes
-label-long g d x a ok = rw (length-replicate {A = ℕ} (g .sector - 56) 0) (omega (arith, ok .sector-least))
-
-reset-long : (g : Geometry) (d z n : ℕ) → Valid g → length (encode g d (zoneReset z n)) ≡ g .sector
-unfolding encode frame
-reset-long g d z n ok = rw (length-replicate {A = ℕ} (g .sector - 32) 0) (omega (arith, ok .sector-least))
-
-seal-long : (g : Geometry) (d z p n : ℕ) → Valid g → length (encode g d (seal z p n)) ≡ g .sector
-unfolding encode frame
-seal-long g d z p n ok = rw (length-replicate {A = ℕ} (g .sector - 32) 0) (omega (arith, ok .sector-least))
-
 pub header-for-long : (g : Geometry) (d kind : ℕ) (k : Look) (z : ℕ) → Valid g → length (encode g d (headerFor kind k z)) ≡ g .sector
 unfolding headerFor
 header-for-long g d kind k z ok = go (eqb kind 1) (eqb kind 3)
   where
     go : (a b : Bool) → length (encode g d (pick a (label (k .lost) (k .array)) (pick b (zoneReset z (zoneLook k z .generation)) (seal z (zoneLook k z .pointer) (zoneLook k z .generation))))) ≡ g .sector
-    go true b = label-long g d (k .lost) (k .array) ok
-    go false true = reset-long g d z (zoneLook k z .generation) ok
-    go false false = seal-long g d z (zoneLook k z .pointer) (zoneLook k z .generation) ok
+    go true b = header-long g d (label (k .lost) (k .array)) ok tt
+    go false true = header-long g d (zoneReset z (zoneLook k z .generation)) ok tt
+    go false false = header-long g d (seal z (zoneLook k z .pointer) (zoneLook k z .generation)) ok tt
 
 module _ (g : Geometry) (kind : ℕ) (k : Look) (w : Device) (a : ℕ → Bool) (ok : Valid g) where
   pub header-in : (d z : ℕ) → d < g .drives → StoresIn g (stays k) (headerStores g kind k w d z)

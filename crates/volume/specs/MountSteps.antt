@@ -18,7 +18,8 @@ use Rattle.volume.specs.MountTables.{seen, StoresIn, stores-in-append, w
 use Rattle.volume.specs.MountLook.{shownBy, stays}
 use Rattle.volume.specs.MountHeaders.{Logging, headers-in, label-steps, reset-entry-steps, seal-steps}
 use Rattle.volume.specs.MountResets.{zone-reset-steps, zone-reset-steps-in}
-use Rattle.volume.specs.MountGenerations.{countersDue, counterStores, counter-steps, counters-in, length-generations}
+use Rattle.volume.specs.CountersLaws.{generations-length}
+use Rattle.volume.specs.MountGenerations.{countersDue, counterStores, counter-steps, counters-in}
 
 -- what the code relies on between two steps
 pub record Underway (g : Geometry) (k : Look) (ps : List ℕ) (t : Tables) : Type 0 where
@@ -52,7 +53,7 @@ module _ (g : Geometry) (k : Look) (w : Device) (ok : Valid g) where
   resets-in = rw (zone-reset-steps g k) (zone-reset-steps-in g k (g .drives) (le-refl (g .drives)))
 
   pub counter-step-in : (a : ℕ → Bool) → StoresIn g (stays k) (counterStep g a (shownBy k) w)
-  counter-step-in a = rw (counter-steps g a k w) (pick-in g (stays k) (countersDue g a k w) (counterStores g (generationsFrom (nextGeneration (shownBy k)) zero (g .zones)) (g .drives)) (λ e. counters-in g k (generationsFrom (nextGeneration (shownBy k)) zero (g .zones)) (g .drives) ok (length-generations (nextGeneration (shownBy k)) zero (g .zones)) (le-refl (g .drives))))
+  counter-step-in a = rw (counter-steps g a k w) (pick-in g (stays k) (countersDue g a k w) (counterStores g (generationsFrom (nextGeneration (shownBy k)) zero (g .zones)) (g .drives)) (λ e. counters-in g k (generationsFrom (nextGeneration (shownBy k)) zero (g .zones)) (g .drives) ok (generations-length (nextGeneration (shownBy k)) zero (g .zones)) (le-refl (g .drives))))
 
   pub seals-in : StoresIn g (stays k) (sealStep g (shownBy k) w)
   seals-in = rw (seal-steps g k w) (headers-in g 5 k w (g .zones) ok)

@@ -38,7 +38,8 @@ use Rattle.volume.specs.MountTells.{labels-told, reset-entries-told, zon
 use Rattle.volume.specs.MountValues.{shownAt}
 use Rattle.volume.specs.MountStart.{shownHere, look-tells, shown-at}
 use Rattle.volume.specs.MountTold.{fill-told, entries-told, torn-told, torn-same, fill-same, opening-sectors, mount-look-is}
-use Rattle.volume.specs.MountJoins.{run-covered, run-both, run-most, joined}
+use Rattle.tables.specs.Counted.{run-covered, run-both, joined}
+use Rattle.tables.specs.PointerOrder.{run-most}
 
 -- ---- the call
 unfoldable pub mountVerdict : Geometry → List Bool → Tables → Verdict

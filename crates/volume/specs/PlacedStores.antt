@@ -1,11 +1,11 @@
 -- The stores of each call have their place: a drive and zone of the geometry, and a sector of B bytes. (Mount: MountPlaced.)
 use mathlib.Core.Path.{_≡_, refl}
 use mathlib.Core.Bool.{Bool, true, false}
-use Prim.Native.Nat.{ℕ, zero, suc, _+_, _-_, _*_, _%_, _≤_, _<_, min}
+use Prim.Native.Nat.{ℕ, zero, suc, _+_, _*_, _%_, _≤_, _<_, min}
 use native.Mathlib.Nat.{le-refl}
 use native.Mathlib.Omega.{arith}
 use mathlib.Core.List.{List, [], _∷_, _++_}
-use lib.ListN.{length, replicate, length-append, length-replicate}
+use lib.ListN.{length}
 use lib.Dec.{eqb}
 use borrow.Author.Tests.{eqb-true}
 use Rattle.tables.specs.declared.Geometry.{Geometry}
@@ -19,38 +19,28 @@ use Rattle.tables.specs.Phases.{each-on-present}
 use Rattle.tables.specs.Lists.{concat}
 use Rattle.tables.specs.Tables.{AllPlaced}
 use Rattle.tables.specs.TablesRefine.{all-placed-append}
-use Rattle.logs.specs.Entry.{parityZone, Header, label, counters, zoneReset, partialParity, seal, encode, frame, labelBytes}
-use Rattle.logs.specs.Lays.{length-words}
-use Rattle.tables.specs.LittleEndian.{wordsLE}
+use Rattle.logs.specs.Entry.{parityZone, Header, label, counters, zoneReset, partialParity}
 use Rattle.logs.specs.Walk.{sectorsOf}
 use Rattle.volume.specs.State.{StateView, pointerIn}
 use Rattle.volume.specs.Content.{rowXor, rowXorBelow, insideStripe, fillOf, entryAt, parityDriveAt}
 use Rattle.volume.specs.Calls.{appendAll, appendGeneral, generationsFrom, parityStores, sectorStores, dataStores, entryStores, writeWith, zoneContent, writeStores, logsReset, raisedAt, resetPhases, resetStores, formatPhases, formatStores}
+use Rattle.logs.specs.Legal.{CountersFit, header-long}
+use Rattle.volume.specs.CountersLaws.{generations-length}
 use Rattle.volume.specs.WriteContent.{row-long, row-complete, stripe-last}
-use Rattle.volume.specs.StoresFit.{placed-each, placed-present, placed-pick, placed-flushes, placed-concat, AllLong, placed-appends}
+use Rattle.tables.specs.StoresFit.{placed-each, placed-present, placed-pick, placed-flushes, placed-concat}
 
--- ---- a header is one sector
-abbrev pub CountersFit : Geometry → Header → Type 0
-CountersFit g (label x a) = Unit {0}
-CountersFit g (counters cs) = length cs ≡ g .zones
-CountersFit g (zoneReset z n) = Unit {0}
-CountersFit g (partialParity z s f n) = Unit {0}
-CountersFit g (seal z p n) = Unit {0}
-
-pub one-sector : (g : Geometry) (d : ℕ) (h : Header) → Valid g → CountersFit g h → length (encode g d h) ≡ g .sector
-unfolding encode frame labelBytes
-one-sector g d (label x a) ok r = rw (length-replicate {A = ℕ} (g .sector - 56) 0) (omega (arith, ok .sector-least))
-one-sector g d (counters cs) ok r = rw (length-append (wordsLE cs) (replicate (g .sector - (32 + 8 * length cs)) 0), length-words cs, length-replicate {A = ℕ} (g .sector - (32 + 8 * length cs)) 0) (omega (arith, r, ok .counters-fit))
-one-sector g d (zoneReset z n) ok r = rw (length-replicate {A = ℕ} (g .sector - 32) 0) (omega (arith, ok .sector-least))
-one-sector g d (partialParity z s f n) ok r = rw (length-replicate {A = ℕ} (g .sector - 32) 0) (omega (arith, ok .sector-least))
-one-sector g d (seal z p n) ok r = rw (length-replicate {A = ℕ} (g .sector - 32) 0) (omega (arith, ok .sector-least))
-
+-- ---- a header on a general log
 pub placed-general : (g : Geometry) (h : Header) (d : ℕ) → Valid g → CountersFit g h → d < g .drives → AllPlaced g (appendGeneral g h d)
-placed-general g h d ok r hd = ((hd, omega arith, one-sector g d h ok r), tt)
+placed-general g h d ok r hd = ((hd, omega arith, header-long g d h ok r), tt)
 
-generations-long : (f : ℕ → ℕ) (i n : ℕ) → length (generationsFrom f i n) ≡ n
-generations-long f i zero = refl
-generations-long f i (suc n) = let e = generations-long f (suc i) n in omega arith
+-- ---- sectors appended to one zone
+abbrev pub AllLong : ℕ → List (List ℕ) → Type 0
+AllLong B [] = Unit {0}
+AllLong B (s ∷ ss) = (length s ≡ B) × AllLong B ss
+
+pub placed-appends : (g : Geometry) (d y : ℕ) (ss : List (List ℕ)) → d < g .drives → y < physicalZones g → AllLong (g .sector) ss → AllPlaced g (appendAll d y ss)
+placed-appends g d y [] hd hy p = tt
+placed-appends g d y (s ∷ ss) hd hy p = ((hd, hy, p .0), placed-appends g d y ss hd hy (p .1))
 
 -- ---- rows of sectors of B bytes
 pub long-from : (B : ℕ) (f : ℕ → List ℕ) (i n : ℕ) → ((k : ℕ) → k < n → length (f (i + k)) ≡ B) → AllLong B (tabulateFrom f i n)
@@ -98,7 +88,7 @@ module _ (g : Geometry) (ok : Valid g) (z : ℕ) (hz : z < g .zones) (S : ℕ �
   unfolding entryAt
   placed-entry generation n h =
       placed-appends g (parityDriveAt g z n) parityZone (sectorsOf g (parityDriveAt g z n) true (entryAt g z generation S n)) (parity-drive-below D U z hD (ok .unit-least) (stripeOf D U n)) (omega arith)
-      (one-sector g (parityDriveAt g z n) (partialParity z (stripeOf D U n) (fillOf g n) generation) ok tt, long-from (g .sector) (rowXorBelow D U S (stripeOf D U n) n) zero (min (fillOf g n) U) (λ r hr. let e : 0 + r ≡ r = omega arith in rw e (entry-row-long n r h hr)))
+      (header-long g (parityDriveAt g z n) (partialParity z (stripeOf D U n) (fillOf g n) generation) ok tt, long-from (g .sector) (rowXorBelow D U S (stripeOf D U n) n) zero (min (fillOf g n) U) (λ r hr. let e : 0 + r ≡ r = omega arith in rw e (entry-row-long n r h hr)))
 
   placed-write : (generation n k : ℕ) → n + k ≤ end → AllPlaced g (writeWith g z generation S n k)
   unfolding writeWith
@@ -116,7 +106,7 @@ write-placed g present v state z ss ok hz long =
 -- ---- reset and format
 module _ (g : Geometry) (ok : Valid g) where
   placed-counters : (f : ℕ → ℕ) (d : ℕ) → d < g .drives → AllPlaced g (appendGeneral g (counters (generationsFrom f zero (g .zones))) d)
-  placed-counters f d hd = placed-general g (counters (generationsFrom f zero (g .zones))) d ok (generations-long f zero (g .zones)) hd
+  placed-counters f d hd = placed-general g (counters (generationsFrom f zero (g .zones))) d ok (generations-length f zero (g .zones)) hd
 
   pub reset-placed : (present : ℕ → Bool) (state : StateView) (z : ℕ) → z < g .zones → AllPlaced g (resetStores g present state z)
   unfolding resetStores

@@ -42,7 +42,7 @@ use Rattle.volume.specs.ClaimProof.{kept}
 use Rattle.volume.specs.AtRestAnswers.{left-out, drives-named}
 use Rattle.volume.specs.FormatKeeps.{format-rests}
 use Rattle.volume.specs.OnTables.{recordAt, viewState, among, verdictNumber, lengthsOf, decided, refusalOn, storingOn}
-use Rattle.volume.specs.StoresFit.{fits-all-placed}
+use Rattle.tables.specs.StoresFit.{fits-all-placed}
 use Rattle.volume.specs.Formatting.{formatVerdict, formatOn, freshState}
 use Rattle.volume.specs.CallRefines.{Numbered, numbered-least}
 use Rattle.volume.specs.CallVerdicts.{numbered-accept, look-verdict, read-number, read-numbered, peek-number, peek-numbered}

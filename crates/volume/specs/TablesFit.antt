@@ -29,7 +29,7 @@ use Rattle.volume.specs.LookFits.{rest-known}
 use Rattle.volume.specs.WriteKeeps.{write-keeps}
 use Rattle.volume.specs.ResetKeeps.{reset-keeps}
 use Rattle.volume.specs.FormatKeeps.{format-room}
-use Rattle.volume.specs.StoresFit.{AllOn, on-present-on, stores-fit}
+use Rattle.tables.specs.StoresFit.{AllOn, on-present-on, stores-fit}
 use Rattle.volume.specs.PlacedStores.{write-placed, reset-placed, format-placed}
 
 -- a beginning has the same sectors

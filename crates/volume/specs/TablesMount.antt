@@ -2,9 +2,9 @@
 -- so a mount keeps the invariant, and what it shows is what the rules' mount shows.
 use mathlib.Core.Path.{_≡_, refl, sym, ap, _∙_}
 use mathlib.Core.Bool.{Bool, false}
-use Prim.Native.Nat.{ℕ, zero, suc, _-_, _≤_}
+use Prim.Native.Nat.{ℕ, _-_}
 use native.Mathlib.Omega.{arith}
-use mathlib.Core.List.{List, [], _∷_, _++_}
+use mathlib.Core.List.{List, _++_}
 use lib.ListN.{length, replicate, length-append, length-replicate}
 use lib.Seq.{take-length}
 use lib.Dec.{ltb}
@@ -13,9 +13,11 @@ use Rattle.tables.specs.declared.Geometry.{Geometry}
 use Rattle.tables.specs.Below.{tabulate, length-tabulate}
 use Rattle.tables.specs.Geometry.{Valid}
 use Rattle.tables.specs.Lists.{concat, concat-append}
-use Rattle.tables.specs.Device.{Device, Store, apply, applyAll}
-use Rattle.tables.specs.Tables.{Tables, deviceOf, runStores, makeStore, WellSized, FitsAll}
+use Rattle.tables.specs.Device.{Device, Store, applyAll}
+use Rattle.tables.specs.Tables.{Tables, deviceOf, runStores, WellSized, FitsAll}
 use Rattle.tables.specs.TablesRefine.{run-refines}
+use Rattle.tables.specs.Counted.{run-covered}
+use Rattle.tables.specs.StoresFit.{fits-front}
 use Rattle.volume.specs.declared.State.{State}
 use Rattle.volume.specs.declared.ZoneRecord.{ZoneRecord}
 use Rattle.volume.specs.ZoneLooking.{zoneLookOf}
@@ -37,16 +39,6 @@ use Rattle.volume.specs.TablesSettled.{viewSystem, Agree, all-made, answ
 use Rattle.volume.specs.TablesEvents.{TablesOk, inputOf, obeys, pointers-fine, storing-keeps}
 
 -- ---- the stores
-fits-front : (g : Geometry) (xs ys : List Store) (v : Device) → FitsAll g (xs ++ ys) v → FitsAll g xs v
-fits-front g [] ys v f = tt
-fits-front g (x ∷ xs) ys v f = (f .0, fits-front g xs ys (apply x v) (f .1))
-
--- all of a list's stores are made if the count reaches its length
-run-all : (g : Geometry) (k : ℕ) (xs : List Store) (t : Tables) → length xs ≤ k → runStores g k xs t ≡ runStores g (length xs) xs t
-run-all g k [] t h = refl
-run-all g zero (x ∷ xs) t h = absurd (omega arith)
-run-all g (suc k) (x ∷ xs) t h = run-all g k xs (makeStore g x t) (omega arith)
-
 pub mount-stores-same : (g : Geometry) (present : ℕ → Bool) (x : ℕ) (t : Tables) → WellSized g t → FitsAll g (mountStores g present x (deviceOf g t)) (deviceOf g t) → mountStoresOn g present x t ≡ mountStores g present x (deviceOf g t)
 unfolding mountStores mountPhases mountStoresOn storesBefore
 mount-stores-same g present x t sized fit =
@@ -108,7 +100,7 @@ module _ (g : Geometry) (ok : Valid g) (s : TablesSystem) (o : TablesOk g s) (na
     shows stop p e = ap (λ (u : Device). showing g present lost u) (all-made g s verdict (mount-numbered g named t) ss xs new stop (mountShows g present lost w) mountState (λ ans. s .ledger) (λ c. s .ledger) (o .sized) same fits p e)
 
     shows-end : (stop : ℕ) → verdict ≡ accept → ltb stop (length xs) ≡ false → showing g present lost (deviceOf g (runStores g (length ss) ss t)) ≡ mountShows g present lost w
-    shows-end stop p e = ap (λ (u : Tables). showing g present lost (deviceOf g u)) (sym (run-all g stop ss t (rw (same p) (ltb-false stop (length xs) e)))) ∙ shows stop p e
+    shows-end stop p e = ap (λ (u : Tables). showing g present lost (deviceOf g u)) (sym (run-covered g stop ss t (rw (same p) (ltb-false stop (length xs) e)))) ∙ shows stop p e
 
     tables-made : (stop : ℕ) → verdict ≡ accept → result stop .tables ≡ runStores g stop ss t
     tables-made stop p = rw p refl
@@ -133,7 +125,7 @@ module _ (g : Geometry) (ok : Valid g) (s : TablesSystem) (o : TablesOk g s) (na
         let q′ : ltb stop (length xs) ≡ false = rw (← same p) q in
         let shown = shows stop p q′ in
         let c : mountCall g (lengthsOf t) (among named) stop w ≡ finished (applyAll xs w) (mountShows g present lost w) = rw (p, q′) refl in
-        rw (v, p, q) (ap (λ (u : Tables). stateShown g (showing g present lost (deviceOf g u))) (sym (run-all g stop ss t (ltb-false stop (length ss) q))), rw shown (promised .mount-fits (inputOf g named) (obeys g s named n) m stop (applyAll xs w) (mountShows g present lost w) c))
+        rw (v, p, q) (ap (λ (u : Tables). stateShown g (showing g present lost (deviceOf g u))) (sym (run-covered g stop ss t (ltb-false stop (length ss) q))), rw shown (promised .mount-fits (inputOf g named) (obeys g s named n) m stop (applyAll xs w) (mountShows g present lost w) c))
 
     pub mount-refusal : Promise g (lengthsOf t) (viewSystem g s) → (stop k : ℕ) → mountOn g named (s .state) stop t .outcome .answer ≡ Refused k → k ≡ 14
     unfolding mountOn mountShownOn

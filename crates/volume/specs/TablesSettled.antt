@@ -28,7 +28,7 @@ use Rattle.volume.specs.Claim.{System, Mode, ready, stopped, down, after
 use Rattle.volume.specs.ClaimEvents.{OkIn, Ok}
 use Rattle.volume.specs.OnTables.{viewState, verdictNumber, Result, storingOn}
 use Rattle.volume.specs.CallRefines.{Numbered}
-use Rattle.volume.specs.StoresFit.{fits-all-placed}
+use Rattle.tables.specs.StoresFit.{fits-all-placed}
 use Rattle.volume.specs.TablesClaim.{TablesSystem, settled}
 
 -- the system of the rules

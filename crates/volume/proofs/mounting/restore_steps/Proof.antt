@@ -4,7 +4,7 @@ use Rattle.tables.specs.Lists.{overlay-all}
 use Rattle.tables.specs.Tables.{tablesOf}
 use Rattle.volume.specs.MountTables.{seen}
 use Rattle.volume.specs.MountValues.{Restoring}
-use Rattle.volume.specs.MountJoins.{joined}
+use Rattle.tables.specs.Counted.{joined}
 use Rattle.volume.specs.MountAllSteps.{steps-restoring}
 use Rattle.volume.specs.Mounting.{stepStores, entryStores, restoreStores}
 use borrow.Author.Needs.{needs}

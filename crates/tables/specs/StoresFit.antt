@@ -1,26 +1,34 @@
--- Stores that have their place and their room: then a list of stores on the tables is that list on the device (run-refines of TablesRefine).
--- A call whose stores keep the invariant one by one has its room, since no zone is ever longer than C (stores-fit).
+-- Stores that have their place and their room: then a list of them on the tables is that list on the device (`run-refines`). Stores that have
+-- their place have their room if no zone is ever longer than C (`stores-fit`).
 use mathlib.Core.Path.{_≡_, refl}
 use mathlib.Core.Bool.{Bool, true, false}
 use Prim.Native.Nat.{ℕ, zero, suc, _+_, _≤_, _<_}
 use native.Mathlib.Omega.{arith}
-use mathlib.Core.List.{List, [], _∷_}
+use mathlib.Core.List.{List, [], _∷_, _++_}
 use lib.ListN.{length, take, length-append}
 use Rattle.tables.specs.declared.Geometry.{Geometry}
 use Rattle.tables.specs.Basics.{pick}
 use Rattle.tables.specs.Below.{eachBelow}
 use Rattle.tables.specs.Geometry.{physicalZones}
 use Rattle.tables.specs.Device.{Device, Store, append, reset, flush, storeDrive, apply, applyAll, put-zone-same}
 use Rattle.tables.specs.Phases.{onPresent, flushAll}
 use Rattle.tables.specs.Lists.{concat}
 use Rattle.tables.specs.Tables.{Placed, AllPlaced, Fits, FitsAll}
 use Rattle.tables.specs.TablesRefine.{fits-placed, all-placed-append}
-use Rattle.volume.specs.Calls.{appendAll}
 
 -- stores that fit have their place
 pub fits-all-placed : (g : Geometry) (xs : List Store) (v : Device) → FitsAll g xs v → AllPlaced g xs
 fits-all-placed g [] v f = tt
 fits-all-placed g (x ∷ xs) v f = (fits-placed g x v (f .0), fits-all-placed g xs (apply x v) (f .1))
+
+-- stores that fit, one list after the other
+pub fits-append : (g : Geometry) (xs ys : List Store) (v : Device) → FitsAll g xs v → FitsAll g ys (applyAll xs v) → FitsAll g (xs ++ ys) v
+fits-append g [] ys v p q = q
+fits-append g (x ∷ xs) ys v p q = (p .0, fits-append g xs ys (apply x v) (p .1) q)
+
+pub fits-front : (g : Geometry) (xs ys : List Store) (v : Device) → FitsAll g (xs ++ ys) v → FitsAll g xs v
+fits-front g [] ys v f = tt
+fits-front g (x ∷ xs) ys v f = (f .0, fits-front g xs ys (apply x v) (f .1))
 
 -- every store is on a drive that is present
 abbrev pub AllOn : (ℕ → Bool) → List Store → Type 0
@@ -34,6 +42,10 @@ on-present-on present (x ∷ xs) = go (present (storeDrive x)) refl (on-present-
     go : (b : Bool) → present (storeDrive x) ≡ b → AllOn present (onPresent present xs) → AllOn present (pick b (x ∷ onPresent present xs) (onPresent present xs))
     go true e p = (e, p)
     go false e p = p
+
+pub on-append : (present : ℕ → Bool) (xs ys : List Store) → AllOn present xs → AllOn present ys → AllOn present (xs ++ ys)
+on-append present [] ys p q = q
+on-append present (x ∷ xs) ys p q = (p .0, on-append present xs ys (p .1) q)
 
 -- THE LAW: placed stores on present drives, none of which is ever longer than C, fit
 pub stores-fit : (g : Geometry) (present : ℕ → Bool) (xs : List Store) (v : Device) → AllPlaced g xs → AllOn present xs
@@ -77,12 +89,3 @@ EachPlaced g (p ∷ ps) = AllPlaced g p × EachPlaced g ps
 pub placed-concat : (g : Geometry) (ps : List (List Store)) → EachPlaced g ps → AllPlaced g (concat ps)
 placed-concat g [] q = tt
 placed-concat g (p ∷ ps) q = all-placed-append g p (concat ps) (q .0) (placed-concat g ps (q .1))
-
--- sectors appended to one zone
-abbrev pub AllLong : ℕ → List (List ℕ) → Type 0
-AllLong B [] = Unit {0}
-AllLong B (s ∷ ss) = (length s ≡ B) × AllLong B ss
-
-pub placed-appends : (g : Geometry) (d y : ℕ) (ss : List (List ℕ)) → d < g .drives → y < physicalZones g → AllLong (g .sector) ss → AllPlaced g (appendAll d y ss)
-placed-appends g d y [] hd hy p = tt
-placed-appends g d y (s ∷ ss) hd hy p = ((hd, hy, p .0), placed-appends g d y ss hd hy (p .1))

@@ -1,0 +1,86 @@
+use mathlib.Core.Path.{sym}
+use borrow.Author.Needs.{needs}
+use lib.Seq.{length-take-le}
+use Rattle.replaying.proofs.showing.read_zone.Statement.{statement}
+use Rattle.replaying.proofs.showing.read_zone.Tie as tie
+
+returns : tie.Need-returns
+returns c = search needs
+
+mul-r : tie.Need-mul-r
+mul-r c = search needs
+
+element-copy-out-r : tie.Need-element-copy-out-r
+element-copy-out-r c = search needs
+
+pointer-of-requires : tie.Need-pointer-of-requires
+pointer-of-requires c κs = search needs
+
+returns-2 : tie.Need-returns-2
+returns-2 c = search needs
+
+zone-start-requires : tie.Need-zone-start-requires
+zone-start-requires c κs = search needs
+
+run-bytes-requires : tie.Need-run-bytes-requires
+run-bytes-requires c κs = search needs
+
+lend-requires : tie.Need-lend-requires
+lend-requires c κs = search needs
+
+lend-requires-2 : tie.Need-lend-requires-2
+lend-requires-2 c κs = search needs
+
+lend-requires-3 : tie.Need-lend-requires-3
+lend-requires-3 c κs = search needs
+
+lend-requires-4 : tie.Need-lend-requires-4
+lend-requires-4 c κs = search needs
+
+slice-aggregate-read-run : tie.Need-slice-aggregate-read-run
+slice-aggregate-read-run c = sym (length-take-le _ _ (c .before .before .before .before .lend .ensures .1))
+
+slice-aggregate-read-run-2 : tie.Need-slice-aggregate-read-run-2
+slice-aggregate-read-run-2 c = sym (length-take-le _ _ (c .before .before .before .before .lend2 .ensures .1))
+
+slice-aggregate-read-run-3 : tie.Need-slice-aggregate-read-run-3
+slice-aggregate-read-run-3 c = sym (length-take-le _ _ (c .before .before .before .before .lend3 .ensures .1))
+
+slice-relend-prefix-read-run : tie.Need-slice-relend-prefix-read-run
+slice-relend-prefix-read-run c = search needs
+
+slice-aggregate-read-run-4 : tie.Need-slice-aggregate-read-run-4
+slice-aggregate-read-run-4 c = sym (length-take-le _ _ (c .before .before .before .before .lend4 .ensures .1))
+
+read-run-requires : tie.Need-read-run-requires
+read-run-requires c κs = search needs
+
+same-length : tie.Need-same-length
+same-length c = search needs
+
+returns-3 : tie.Need-returns-3
+returns-3 c = search needs
+
+pub read-zone-spec : {M : Type 1} → statement M
+read-zone-spec =
+    tie.close
+    (tie.spec
+    returns
+    mul-r
+    element-copy-out-r
+    pointer-of-requires
+    returns-2
+    zone-start-requires
+    run-bytes-requires
+    lend-requires
+    lend-requires-2
+    lend-requires-3
+    lend-requires-4
+    slice-aggregate-read-run
+    slice-aggregate-read-run-2
+    slice-aggregate-read-run-3
+    slice-relend-prefix-read-run
+    slice-aggregate-read-run-4
+    read-run-requires
+    same-length
+    returns-3)

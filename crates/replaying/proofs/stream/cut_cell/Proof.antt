@@ -1,0 +1,56 @@
+use borrow.Author.Needs.{needs}
+use Rattle.replaying.proofs.stream.cut_cell.Statement.{statement}
+use Rattle.replaying.proofs.stream.cut_cell.Tie as tie
+
+mul-w : tie.Need-mul-w
+mul-w c = search needs
+
+slice-read-w : tie.Need-slice-read-w
+slice-read-w c = search needs
+
+mul-d : tie.Need-mul-d
+mul-d c = search needs
+
+slice-read-d : tie.Need-slice-read-d
+slice-read-d c = search needs
+
+cut-pointer-requires : tie.Need-cut-pointer-requires
+cut-pointer-requires c κs = search needs
+
+mul-written : tie.Need-mul-written
+mul-written c = search needs
+
+slice-write-written : tie.Need-slice-write-written
+slice-write-written c = search needs
+
+mul-durable : tie.Need-mul-durable
+mul-durable c = search needs
+
+slice-write-durable : tie.Need-slice-write-durable
+slice-write-durable c = search needs
+
+same-length : tie.Need-same-length
+same-length c = search needs
+
+same-length-2 : tie.Need-same-length-2
+same-length-2 c = search needs
+
+returns : tie.Need-returns
+returns c = ((cc), (cc))
+
+pub cut-cell-spec : {M : Type 1} → statement M
+cut-cell-spec =
+    tie.close
+    (tie.spec
+    mul-w
+    slice-read-w
+    mul-d
+    slice-read-d
+    cut-pointer-requires
+    mul-written
+    slice-write-written
+    mul-durable
+    slice-write-durable
+    same-length
+    same-length-2
+    returns)

@@ -1,0 +1,232 @@
+// Replays the conformance vectors: reads a script from standard input and writes one answer line for each command. The file `stdout` beside
+// src/ holds the lines that document 01's model gives.
+use replaying::Command;
+use replaying::Host;
+use replaying::Reply;
+use volume::State;
+ghost use mathlib.Core.Path.{_≡_};
+ghost use lib.ListN.{length};
+
+// Space for the script.
+fn script_space() -> [u8; 163840]
+    ensures { λ r. ⌜ 163840 ≡ length r ⌝ }
+{
+    [0; 163840]
+}
+
+// Space for the sectors of a shelf.
+fn shelf_space() -> [u8; 65536]
+    ensures { λ r. ⌜ 65536 ≡ length r ⌝ }
+{
+    [0; 65536]
+}
+
+fn text(s: &[u8]) {
+    io::write_all(1, s);
+}
+
+fn number(n: u64) {
+    io::print_decimal(1, n);
+}
+
+// A space and a number.
+fn field(n: u64) {
+    text(b" ");
+    number(n);
+}
+
+// One zone's record: generation, condition, pointer.
+fn show_record(s: State, z: usize) {
+    if 16 <= z {
+        return;
+    }
+    let r = s.zones[z];
+    let c = r.condition;
+    let p = volume::checks::pointer_of(c);
+    field(r.generation);
+    text(b":");
+    number(replaying::showing::condition_number(c));
+    text(b":");
+    number(p as u64);
+}
+
+// A state: the lost drive, then the zones' records.
+fn show_state(s: State, zones: usize) {
+    text(b" lost");
+    field(s.lost as u64);
+    let mut z = 0;
+    while z < zones {
+        show_record(s, z);
+        z += 1;
+    }
+}
+
+// What the line says of the host's state: none, the state after a call that may change it, else that it is the same.
+fn show_kept(h: Host, letter: u8) {
+    let zones = h.zones;
+    let s = h.state;
+    if !h.held {
+        text(b" none");
+        return;
+    }
+    let changes = replaying::showing::may_keep(letter);
+    if changes {
+        show_state(s, zones);
+        return;
+    }
+    text(b" same");
+}
+
+// A zone read whole, as its checksum or the refusal.
+fn show_zone(
+    space: &[u8],
+    written: &[u32],
+    durable: &[u32],
+    buffer: &mut [u8],
+    r: Reply,
+    c: Command,
+    z: usize,
+) {
+    let h = r.host;
+    let shown = r.shown;
+    let g = replaying::showing::read_zone(space, written, durable, buffer, h, c, shown, z);
+    if g.code == 0 {
+        field(g.sum);
+        return;
+    }
+    text(b" r");
+    number(g.code as u64);
+}
+
+// What a look shows: the state, then each zone read.
+fn show_look(
+    space: &[u8],
+    written: &[u32],
+    durable: &[u32],
+    buffer: &mut [u8],
+    r: Reply,
+    c: Command,
+) {
+    let h = r.host;
+    let shown = r.shown;
+    let g = h.geometry;
+    let zones = replaying::hosting::lend(g.zones, 0, 16);
+    show_state(shown, zones);
+    let mut z = 0;
+    while z < zones {
+        show_zone(space, written, durable, buffer, r, c, z);
+        z += 1;
+    }
+}
+
+// What a finished look, read or peek adds to the line.
+fn show_rest(
+    space: &[u8],
+    written: &[u32],
+    durable: &[u32],
+    buffer: &mut [u8],
+    places: &[u8],
+    r: Reply,
+    c: Command,
+) {
+    let h = r.host;
+    let letter = c.letter;
+    if r.code != 0 {
+        return;
+    }
+    if letter == b'l' {
+        show_look(space, written, durable, buffer, r, c);
+        return;
+    }
+    if letter == b'd' {
+        field(replaying::showing::read_sum(buffer, h, c));
+        return;
+    }
+    if letter == b'p' {
+        field(replaying::showing::peek_place(places, written, durable, h, c));
+        field(replaying::showing::peek_sum(space, written, durable, h, c));
+    }
+}
+
+// The answer line.
+fn show(
+    space: &[u8],
+    written: &[u32],
+    durable: &[u32],
+    buffer: &mut [u8],
+    places: &[u8],
+    r: Reply,
+    c: Command,
+) {
+    let letter = [c.letter];
+    let h = r.host;
+    text(&letter);
+    field(r.code as u64);
+    field(replaying::showing::sectors_sum(space, h));
+    field(replaying::showing::pointers_sum(written, durable, h));
+    show_kept(h, c.letter);
+    show_rest(space, written, durable, buffer, places, r, c);
+    text(b"\n");
+}
+
+// The host after an answer: its shortage is over unless it was just announced.
+fn answered(h: Host, letter: u8) -> Host {
+    if letter == b'n' {
+        return h;
+    }
+    replaying::hosting::without_shortage(h)
+}
+
+// One command: carried out and answered.
+fn step(
+    space: &mut [u8],
+    written: &mut [u32],
+    durable: &mut [u32],
+    buffer: &mut [u8],
+    places: &[u8],
+    h: Host,
+    c: Command,
+) -> Host {
+    let r = replaying::performing::perform(space, written, durable, buffer, h, c);
+    show(space, written, durable, buffer, places, r, c);
+    let t = r.host;
+    answered(t, c.letter)
+}
+
+// The script, line after line.
+fn replay(
+    script: &[u8],
+    space: &mut [u8],
+    written: &mut [u32],
+    durable: &mut [u32],
+    buffer: &mut [u8],
+    places: &[u8],
+) {
+    let n = script.len();
+    let mut h = replaying::hosting::first_host();
+    let mut at = 0;
+    while at < n {
+        let c = replaying::parsing::command_at(script, at);
+        h = step(space, written, durable, buffer, places, h, c);
+        at = c.next;
+    }
+}
+
+fn main() {
+    let mut script = script_space();
+    let n = io::read_full(0, &mut script);
+    let mut space = shelf_space();
+    let mut places = shelf_space();
+    let mut buffer = [0u8; 16384];
+    let mut written = [0u32; 152];
+    let mut durable = [0u32; 152];
+    replaying::showing::mark_places(&mut places);
+    replay(
+        &script[..n],
+        &mut space,
+        &mut written,
+        &mut durable,
+        &mut buffer,
+        &places,
+    );
+}

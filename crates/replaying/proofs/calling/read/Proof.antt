@@ -1,0 +1,34 @@
+use mathlib.Core.Path.{refl, _∙_}
+use Rattle.replaying.specs.Calling.{readMade}
+use Rattle.replaying.proofs.calling.read.Statement.{statement}
+use Rattle.replaying.proofs.calling.read.Tie as tie
+
+named-in-requires : tie.Need-named-in-requires
+named-in-requires c κs = tt
+
+narrow-requires : tie.Need-narrow-requires
+narrow-requires c κs = tt
+
+read-requires : tie.Need-read-requires
+read-requires c κs = tt
+
+answer-number-requires : tie.Need-answer-number-requires
+answer-number-requires c κs = tt
+
+same-length : tie.Need-same-length
+same-length c = c .before .before .before .read .kept .1 .1 .1 .1 .1 .1 .1 .1 .0
+
+returns : tie.Need-returns
+unfolding readMade
+returns c = let f = c .before .before .before .read in let n = c .before .before .before .before .before .before .named-in .ensures in let k = c .before .before .before .before .before .narrow .ensures in (rw (c .answer-number .ensures, f .ensures .0, n, k) refl, f .ensures .1 ∙ rw (n, k) refl)
+
+pub read-spec : {M : Type 1} → statement M
+read-spec =
+    tie.close
+    (tie.spec
+    named-in-requires
+    narrow-requires
+    read-requires
+    answer-number-requires
+    same-length
+    returns)

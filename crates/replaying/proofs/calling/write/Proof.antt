@@ -1,0 +1,50 @@
+use mathlib.Core.Path.{refl, _∙_, ap}
+use Rattle.replaying.specs.Calling.{keptReply, writeMade}
+use Rattle.replaying.proofs.calling.write.Statement.{statement}
+use Rattle.replaying.proofs.calling.write.Tie as tie
+
+named-in-requires : tie.Need-named-in-requires
+named-in-requires c κs = tt
+
+narrow-requires : tie.Need-narrow-requires
+narrow-requires c κs = tt
+
+narrow-requires-2 : tie.Need-narrow-requires-2
+narrow-requires-2 c κs = tt
+
+fill-requires : tie.Need-fill-requires
+fill-requires c κs = tt
+
+write-requires : tie.Need-write-requires
+write-requires c κs = tt
+
+kept-requires : tie.Need-kept-requires
+kept-requires c κs = tt
+
+same-length : tie.Need-same-length
+same-length c = c .before .before .before .before .before .write .kept .0
+
+same-length-2 : tie.Need-same-length-2
+same-length-2 c = c .before .before .before .before .before .write .kept .1 .0
+
+same-length-3 : tie.Need-same-length-3
+same-length-3 c = c .before .before .before .before .before .before .before .before .before .before .before .fill .kept .0
+
+returns : tie.Need-returns
+unfolding writeMade
+returns c = let a = c .before .before .before .before .before .before .before .before .before .before .before .before .before .before .before .before .before .before .before .before .before .before .args in let f = c .before .before .before .before .before .write in let b = c .before .before .before .before .before .before .before .before .before .before .before .fill .ensures in let n = c .before .before .before .before .before .before .before .before .before .before .before .before .before .before .before .named-in .ensures in let k = c .before .before .before .before .before .before .before .before .before .before .before .before .before .before .narrow .ensures in let m = c .before .before .before .before .before .before .before .before .before .before .before .before .before .narrow2 .ensures in (c .kept .ensures ∙ ap (keptReply (a .h)) (f .ensures .0 ∙ rw (b, n, k, m) refl), f .ensures .1 ∙ rw (b, n, k, m) refl, b)
+
+pub write-spec : {M : Type 1} → statement M
+write-spec =
+    tie.close
+    (tie.spec
+    named-in-requires
+    narrow-requires
+    narrow-requires-2
+    fill-requires
+    write-requires
+    kept-requires
+    same-length
+    same-length-2
+    same-length-3
+    returns)

@@ -1,0 +1,91 @@
+-- What the host keeps between commands, and how each command changes it.
+use mathlib.Core.Bool.{Bool, true, false}
+use mathlib.Core.List.{List, [], _∷_}
+use Prim.Native.Nat.{ℕ, _-_, _*_, _/_, _%_, min}
+use lib.Dec.{leb, eqb}
+use lib.ListN.{replicate, set}
+use Rattle.tables.specs.declared.Geometry.{Geometry}
+use Rattle.tables.specs.Basics.{pick}
+use Rattle.tables.specs.Geometry.{cells, totalBytes}
+use Rattle.tables.specs.GeometryTest.{isValid}
+use Rattle.volume.specs.declared.Condition.{Condition}
+use Rattle.volume.specs.declared.Condition.the-variants.{Empty, Open, Sealed, Worn}
+use Rattle.volume.specs.declared.ZoneRecord.{ZoneRecord}
+use Rattle.volume.specs.declared.State.{State}
+use Rattle.volume.specs.OnTables.{blankRecord}
+use Rattle.replaying.specs.declared.Command.{Command}
+use Rattle.replaying.specs.declared.Shortage.{Shortage}
+use Rattle.replaying.specs.declared.Host.{Host}
+use Rattle.replaying.specs.declared.Reply.{Reply}
+
+-- ---- numbers of a command
+-- a length, less what it is short of, and never more than there is
+abbrev pub lent : ℕ → ℕ → ℕ → ℕ
+lent n short most = min (n - short) most
+
+-- as a 32-bit number
+abbrev pub narrowed : ℕ → ℕ
+narrowed x = min x 4294967295
+
+-- the bytes of so many sectors
+unfoldable pub runBytes : Geometry → ℕ → ℕ
+runBytes g n = pick (leb (g .sector) 4096) (narrowed n * g .sector) 0
+
+-- "the drives named": bit d of the mask
+unfoldable pub namedIn : ℕ → List Bool
+namedIn m =
+    eqb (m % 2) 1 ∷ eqb (m / 2 % 2) 1 ∷ eqb (m / 4 % 2) 1 ∷ eqb (m / 8 % 2) 1 ∷ eqb (m / 16 % 2) 1 ∷ eqb (m / 32 % 2) 1 ∷ eqb (m / 64 % 2) 1 ∷ eqb (m / 128 % 2) 1 ∷ []
+
+abbrev pub geometryIn : Command → Geometry
+geometryIn c = record { drives = c .first; sector = c .second; unit = c .third; zones = c .fourth; capacity = c .fifth }
+
+abbrev pub shortageIn : Command → Shortage
+shortageIn c = record { sectors = c .first; written = c .second; durable = c .third; buffer = c .fourth }
+
+abbrev pub noShortage : Shortage
+noShortage = record { sectors = 0; written = 0; durable = 0; buffer = 0 }
+
+-- ---- the host
+abbrev pub blankState : State
+blankState = record { lost = 255; zones = replicate 16 blankRecord }
+
+-- no state
+abbrev pub emptyHost : Geometry → ℕ → ℕ → Host
+emptyHost g bytes n = record { geometry = g; bytes = bytes; cells = n; held = false; zones = 0; state = blankState; shortage = noShortage }
+
+abbrev pub noGeometry : Geometry
+noGeometry = record { drives = 0; sector = 0; unit = 0; zones = 0; capacity = 0 }
+
+-- a new shelf: its tables have the geometry's lengths, if it is valid and there is space for it
+unfoldable pub shelfHost : Geometry → ℕ → Host
+shelfHost g space = pick (isValid g) (pick (leb (totalBytes g) space) (emptyHost g (totalBytes g) (cells g)) (emptyHost g 0 0)) (emptyHost g 0 0)
+
+abbrev pub withGeometry : Host → Geometry → Host
+withGeometry h g = record { geometry = g; bytes = h .bytes; cells = h .cells; held = h .held; zones = h .zones; state = h .state; shortage = h .shortage }
+
+abbrev pub withShortage : Host → Shortage → Host
+withShortage h s = record { geometry = h .geometry; bytes = h .bytes; cells = h .cells; held = h .held; zones = h .zones; state = h .state; shortage = s }
+
+abbrev pub withState : Host → State → Host
+withState h s = record { geometry = h .geometry; bytes = h .bytes; cells = h .cells; held = h .held; zones = h .zones; state = s; shortage = h .shortage }
+
+-- a state that a call left, with a record for each of the geometry's zones
+abbrev pub holding : Host → State → Host
+holding h s = record { geometry = h .geometry; bytes = h .bytes; cells = h .cells; held = true; zones = h .geometry .zones; state = s; shortage = h .shortage }
+
+-- ---- damage to the state
+unfoldable pub conditionFrom : ℕ → ℕ → Condition
+conditionFrom n p = pick (eqb n 0) Empty (pick (eqb n 1) (Open p) (pick (eqb n 2) (Sealed p) (Worn p)))
+
+abbrev pub recordIn : Command → ZoneRecord
+recordIn c = record { generation = c .second; condition = conditionFrom (c .third) (c .fourth) }
+
+unfoldable pub withRecord : Host → Command → Host
+withRecord h c = pick (leb 16 (c .first)) h (withState h (record { lost = h .state .lost; zones = set (h .state .zones) (c .first) (recordIn c) }))
+
+abbrev pub withLost : Host → ℕ → Host
+withLost h x = withState h (record { lost = x; zones = h .state .zones })
+
+-- ---- what a command leaves that is no call
+abbrev pub quietReply : Host → Reply
+quietReply h = record { host = h; code = 0; shown = h .state }

@@ -1,0 +1,214 @@
+// The calls: each command's numbers handed to the public call, and what the host keeps of its outcome.
+use super::Command;
+use super::Host;
+use super::Reply;
+use volume::Answer;
+use volume::Outcome;
+ghost use mathlib.Core.Path.{_≡_};
+ghost use Rattle.tables.specs.Tables.{tablesOf};
+ghost use Rattle.volume.specs.OnTables.{answerNumber};
+ghost use Rattle.replaying.specs.Calling.{plainReply, statelessReply, keptReply, lookReply, readReply, writeBuffer, formatMade, lookMade, writeMade, flushMade, resetMade, readMade, peekMade};
+
+// The number of an answer: 0 finished, 255 unfinished, else the refusal's.
+fn answer_number(a: Answer) -> u8
+    ensures { λ r. ⌜ r ≡ answerNumber a ⌝ }
+{
+    match a {
+        Answer::Finished => 0,
+        Answer::Unfinished => 255,
+        Answer::Refused(n) => n,
+    }
+}
+
+// A call while there is no state.
+pub fn stateless(h: Host) -> Reply
+    ensures { λ r. ⌜ r ≡ statelessReply h ⌝ }
+{
+    let shown = h.state;
+    Reply {
+        host: h,
+        code: 254,
+        shown,
+    }
+}
+
+// The host keeps the state that a finished call left.
+fn kept(h: Host, o: Outcome) -> Reply
+    ensures { λ r. ⌜ r ≡ keptReply h o ⌝ }
+{
+    let a = o.answer;
+    let s = o.state;
+    let code = answer_number(a);
+    if code != 0 {
+        return Reply {
+            host: h,
+            code,
+            shown: s,
+        };
+    }
+    let g = h.geometry;
+    let l = g.zones;
+    let mut t = h;
+    t.held = true;
+    t.zones = l;
+    t.state = s;
+    Reply {
+        host: t,
+        code,
+        shown: s,
+    }
+}
+
+// Format.
+pub fn format(
+    sectors: &mut [u8],
+    written: &mut [u32],
+    durable: &mut [u32],
+    h: Host,
+    c: Command,
+) -> Reply
+    ensures { λ r. ⌜ (r ≡ keptReply h (formatMade h c (tablesOf (now (sectors .entry)) (now (written .entry)) (now (durable .entry))) .outcome))
+        × (tablesOf (now (sectors .exit)) (now (written .exit)) (now (durable .exit)) ≡ formatMade h c (tablesOf (now (sectors .entry)) (now (written .entry)) (now (durable .entry))) .tables) ⌝ }
+{
+    let g = h.geometry;
+    let s = h.state;
+    let named = super::hosting::named_in(c.first);
+    let count = super::hosting::narrow(c.third);
+    let o = volume::formatting::format(sectors, written, durable, g, named, c.second, s, count);
+    kept(h, o)
+}
+
+// Look: its state is shown and not kept.
+pub fn look(sectors: &[u8], written: &[u32], durable: &[u32], h: Host, c: Command) -> Reply
+    ensures { λ r. ⌜ r ≡ lookReply h (lookMade h c (tablesOf (now (sectors .entry)) (now (written .entry)) (now (durable .entry)))) ⌝ }
+{
+    let g = h.geometry;
+    let s = h.state;
+    let named = super::hosting::named_in(c.first);
+    let o = volume::looking::look(sectors, written, durable, g, named, s);
+    let a = o.answer;
+    let shown = o.state;
+    let code = answer_number(a);
+    Reply {
+        host: h,
+        code,
+        shown,
+    }
+}
+
+// Write of the stream's bytes.
+pub fn write(
+    sectors: &mut [u8],
+    written: &mut [u32],
+    durable: &[u32],
+    buffer: &mut [u8],
+    h: Host,
+    c: Command,
+) -> Reply
+    ensures { λ r. ⌜ (r ≡ keptReply h (writeMade h c (now (buffer .entry)) (tablesOf (now (sectors .entry)) (now (written .entry)) (now (durable .entry))) .outcome))
+        × (tablesOf (now (sectors .exit)) (now (written .exit)) (now (durable .entry)) ≡ writeMade h c (now (buffer .entry)) (tablesOf (now (sectors .entry)) (now (written .entry)) (now (durable .entry))) .tables)
+        × (now (buffer .exit) ≡ writeBuffer c (now (buffer .entry))) ⌝ }
+{
+    let g = h.geometry;
+    let s = h.state;
+    let named = super::hosting::named_in(c.first);
+    let run = super::hosting::narrow(c.third);
+    let count = super::hosting::narrow(c.fifth);
+    super::stream::fill(buffer, c.fourth);
+    let o = volume::writing::write(
+        sectors,
+        written,
+        durable,
+        g,
+        named,
+        s,
+        c.second,
+        run,
+        buffer,
+        count,
+    );
+    kept(h, o)
+}
+
+// Flush.
+pub fn flush(sectors: &[u8], written: &[u32], durable: &mut [u32], h: Host, c: Command) -> Reply
+    ensures { λ r. ⌜ (r ≡ keptReply h (flushMade h c (tablesOf (now (sectors .entry)) (now (written .entry)) (now (durable .entry))) .outcome))
+        × (tablesOf (now (sectors .entry)) (now (written .entry)) (now (durable .exit)) ≡ flushMade h c (tablesOf (now (sectors .entry)) (now (written .entry)) (now (durable .entry))) .tables) ⌝ }
+{
+    let g = h.geometry;
+    let s = h.state;
+    let named = super::hosting::named_in(c.first);
+    let count = super::hosting::narrow(c.second);
+    let o = volume::flushing::flush(sectors, written, durable, g, named, s, count);
+    kept(h, o)
+}
+
+// Reset.
+pub fn reset(
+    sectors: &mut [u8],
+    written: &mut [u32],
+    durable: &mut [u32],
+    h: Host,
+    c: Command,
+) -> Reply
+    ensures { λ r. ⌜ (r ≡ keptReply h (resetMade h c (tablesOf (now (sectors .entry)) (now (written .entry)) (now (durable .entry))) .outcome))
+        × (tablesOf (now (sectors .exit)) (now (written .exit)) (now (durable .exit)) ≡ resetMade h c (tablesOf (now (sectors .entry)) (now (written .entry)) (now (durable .entry))) .tables) ⌝ }
+{
+    let g = h.geometry;
+    let s = h.state;
+    let named = super::hosting::named_in(c.first);
+    let zone = c.second as usize;
+    let count = super::hosting::narrow(c.third);
+    let o = volume::resetting::reset(sectors, written, durable, g, named, s, zone, count);
+    kept(h, o)
+}
+
+// Read into the buffer.
+pub fn read(
+    sectors: &[u8],
+    written: &[u32],
+    durable: &[u32],
+    buffer: &mut [u8],
+    h: Host,
+    c: Command,
+) -> Reply
+    ensures { λ r. ⌜ (r ≡ readReply h (readMade h c (now (buffer .entry)) (tablesOf (now (sectors .entry)) (now (written .entry)) (now (durable .entry)))))
+        × (now (buffer .exit) ≡ readMade h c (now (buffer .entry)) (tablesOf (now (sectors .entry)) (now (written .entry)) (now (durable .entry))) .buffer) ⌝ }
+{
+    let g = h.geometry;
+    let s = h.state;
+    let named = super::hosting::named_in(c.first);
+    let run = super::hosting::narrow(c.third);
+    let a = volume::reading::read(
+        sectors,
+        written,
+        durable,
+        g,
+        named,
+        s,
+        c.second,
+        run,
+        buffer,
+    );
+    let code = answer_number(a);
+    Reply {
+        host: h,
+        code,
+        shown: s,
+    }
+}
+
+// Peek: whether it is refused. What it gives is looked at when the answer is shown.
+pub fn peek(sectors: &[u8], written: &[u32], durable: &[u32], h: Host, c: Command) -> Reply
+    ensures { λ r. ⌜ r ≡ plainReply h (peekMade h c (tablesOf (now (sectors .entry)) (now (written .entry)) (now (durable .entry)))) (h .state) ⌝ }
+{
+    let g = h.geometry;
+    let s = h.state;
+    let named = super::hosting::named_in(c.first);
+    let code = volume::reading::peek_refusal(sectors, written, durable, g, named, s, c.second);
+    Reply {
+        host: h,
+        code,
+        shown: s,
+    }
+}

@@ -1,0 +1,245 @@
+// What the host keeps, and the commands that change it alone: a new shelf, another geometry, a shortage, damage to its state.
+use super::Command;
+use super::Host;
+use super::Reply;
+use super::Shortage;
+use tables::Geometry;
+use volume::Condition;
+use volume::State;
+use volume::ZoneRecord;
+ghost use mathlib.Core.Path.{_≡_};
+ghost use Prim.Native.Nat.{_≤_};
+ghost use Rattle.replaying.specs.Hosting.{lent, narrowed, runBytes, namedIn, geometryIn, shortageIn, noShortage, blankState, emptyHost, noGeometry, shelfHost, withGeometry, withShortage, conditionFrom, withRecord, withLost, quietReply};
+
+// A length, less what it is short of, and never more than there is.
+pub fn lend(length: usize, short: usize, most: usize) -> usize
+    ensures { λ r. ⌜ (r ≡ lent length short most) × (r ≤ most) ⌝ }
+{
+    let n = tables::placement::excess(length, short);
+    if n <= most {
+        return n;
+    }
+    most
+}
+
+// A number as one of 32 bits; one past the largest is the largest.
+pub fn narrow(x: u64) -> u32
+    ensures { λ r. ⌜ r ≡ narrowed x ⌝ }
+{
+    if x <= 4294967295 {
+        return x as u32;
+    }
+    4294967295
+}
+
+// The bytes of so many sectors; none where a sector is larger than any drive's.
+pub fn run_bytes(g: Geometry, sectors: u64) -> usize
+    ensures { λ r. ⌜ r ≡ runBytes g sectors ⌝ }
+{
+    let b = g.sector;
+    let n = narrow(sectors) as usize;
+    if b <= 4096 {
+        return n * b;
+    }
+    0
+}
+
+// The drives that a mask names.
+pub fn named_in(mask: u64) -> [bool; 8]
+    ensures { λ r. ⌜ r ≡ namedIn mask ⌝ }
+{
+    [
+        mask % 2 == 1,
+        mask / 2 % 2 == 1,
+        mask / 4 % 2 == 1,
+        mask / 8 % 2 == 1,
+        mask / 16 % 2 == 1,
+        mask / 32 % 2 == 1,
+        mask / 64 % 2 == 1,
+        mask / 128 % 2 == 1,
+    ]
+}
+
+// No shortage.
+fn no_shortage() -> Shortage
+    ensures { λ r. ⌜ r ≡ noShortage ⌝ }
+{
+    Shortage {
+        sectors: 0,
+        written: 0,
+        durable: 0,
+        buffer: 0,
+    }
+}
+
+// A state that says nothing, for a host that has none.
+fn blank_state() -> State
+    ensures { λ r. ⌜ r ≡ blankState ⌝ }
+{
+    let blank = ZoneRecord {
+        generation: 0,
+        condition: Condition::Empty,
+    };
+    let zones = [blank; 16];
+    State { lost: 255, zones }
+}
+
+// A host with a shelf of so many bytes and cells, and no state.
+fn empty_host(geometry: Geometry, bytes: usize, cells: usize) -> Host
+    ensures { λ r. ⌜ r ≡ emptyHost geometry bytes cells ⌝ }
+{
+    let state = blank_state();
+    let shortage = no_shortage();
+    Host {
+        geometry,
+        bytes,
+        cells,
+        held: false,
+        zones: 0,
+        state,
+        shortage,
+    }
+}
+
+// A host before its first command.
+pub fn first_host() -> Host
+    ensures { λ r. ⌜ r ≡ emptyHost noGeometry 0 0 ⌝ }
+{
+    let g = Geometry {
+        drives: 0,
+        sector: 0,
+        unit: 0,
+        zones: 0,
+        capacity: 0,
+    };
+    empty_host(g, 0, 0)
+}
+
+// The geometry of a command: D, B, U, L, C.
+pub fn geometry_in(c: Command) -> Geometry
+    ensures { λ r. ⌜ r ≡ geometryIn c ⌝ }
+{
+    Geometry {
+        drives: c.first as usize,
+        sector: c.second as usize,
+        unit: c.third as usize,
+        zones: c.fourth as usize,
+        capacity: c.fifth as usize,
+    }
+}
+
+// The host of a new shelf: with no tables where the geometry is none, or needs more than the space that there is.
+pub fn shelf_host(g: Geometry, space: usize) -> Host
+    ensures { λ r. ⌜ r ≡ shelfHost g space ⌝ }
+{
+    let ok = tables::bounds::valid(g);
+    if !ok {
+        return empty_host(g, 0, 0);
+    }
+    let bytes = tables::bounds::total_bytes(g);
+    let cells = tables::bounds::table_cells(g);
+    if bytes <= space {
+        return empty_host(g, bytes, cells);
+    }
+    empty_host(g, 0, 0)
+}
+
+// The geometry that is handed to the calls from here on.
+pub fn with_geometry(h: Host, g: Geometry) -> Host
+    ensures { λ r. ⌜ r ≡ withGeometry h g ⌝ }
+{
+    let mut t = h;
+    t.geometry = g;
+    t
+}
+
+// The shortage that a command announces.
+fn shortage_in(c: Command) -> Shortage
+    ensures { λ r. ⌜ r ≡ shortageIn c ⌝ }
+{
+    Shortage {
+        sectors: c.first as usize,
+        written: c.second as usize,
+        durable: c.third as usize,
+        buffer: c.fourth as usize,
+    }
+}
+
+// The shortage of the next command.
+pub fn with_shortage(h: Host, c: Command) -> Host
+    ensures { λ r. ⌜ r ≡ withShortage h (shortageIn c) ⌝ }
+{
+    let s = shortage_in(c);
+    let mut t = h;
+    t.shortage = s;
+    t
+}
+
+// The shortage is that of one command alone.
+pub fn without_shortage(h: Host) -> Host
+    ensures { λ r. ⌜ r ≡ withShortage h noShortage ⌝ }
+{
+    let s = no_shortage();
+    let mut t = h;
+    t.shortage = s;
+    t
+}
+
+// A condition by its number: 0 empty, 1 open, 2 sealed, 3 worn.
+fn condition_from(number: u64, pointer: usize) -> Condition
+    ensures { λ r. ⌜ r ≡ conditionFrom number pointer ⌝ }
+{
+    if number == 0 {
+        return Condition::Empty;
+    }
+    if number == 1 {
+        return Condition::Open(pointer);
+    }
+    if number == 2 {
+        return Condition::Sealed(pointer);
+    }
+    Condition::Worn(pointer)
+}
+
+// One zone's record in the host's state.
+pub fn with_record(h: Host, c: Command) -> Host
+    ensures { λ r. ⌜ r ≡ withRecord h c ⌝ }
+{
+    let z = c.first as usize;
+    if 16 <= z {
+        return h;
+    }
+    let condition = condition_from(c.third, c.fourth as usize);
+    let r = ZoneRecord {
+        generation: c.second,
+        condition,
+    };
+    let mut s = h.state;
+    s.zones[z] = r;
+    let mut t = h;
+    t.state = s;
+    t
+}
+
+// The lost drive in the host's state.
+pub fn with_lost(h: Host, lost: usize) -> Host
+    ensures { λ r. ⌜ r ≡ withLost h lost ⌝ }
+{
+    let mut s = h.state;
+    s.lost = lost;
+    let mut t = h;
+    t.state = s;
+    t
+}
+
+// What a command leaves that is no call.
+pub fn quiet(h: Host) -> Reply
+    ensures { λ r. ⌜ r ≡ quietReply h ⌝ }
+{
+    let shown = h.state;
+    Reply {
+        host: h,
+        code: 0,
+        shown,
+    }
+}

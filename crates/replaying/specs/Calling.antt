@@ -12,6 +12,7 @@ use Rattle.volume.specs.declared.State.{State}
 use Rattle.volume.specs.declared.Outcome.{Outcome}
 use Rattle.volume.specs.OnTables.{Result, answerNumber}
 use Rattle.volume.specs.Formatting.{formatOn}
+use Rattle.volume.specs.Mounting.{mountOn}
 use Rattle.volume.specs.Looking.{lookOn}
 use Rattle.volume.specs.Writing.{writeOn}
 use Rattle.volume.specs.Flushing.{flushOn}
@@ -52,6 +53,9 @@ lookMade h c t = lookOn (h .geometry) (namedIn (c .first)) (h .state) t
 abbrev pub lookReply : Host → Outcome → Reply
 lookReply h o = plainReply h (answerNumber (o .answer)) (o .state)
 
+unfoldable pub mountMade : Host → Command → Tables → Result
+mountMade h c t = mountOn (h .geometry) (namedIn (c .first)) (h .state) (narrowed (c .second)) t
+
 -- the bytes that a write is handed
 abbrev pub writeBuffer : Command → List ℕ → List ℕ
 writeBuffer c out = streamOver (c .fourth) out (length out)
@@ -90,13 +94,14 @@ stateDone h c out t =
     (pick (eqb (c .letter) 100) (readingDone (readReply h (readMade h c out t)) (readMade h c out t .buffer) t)
     (readingDone (plainReply h (peekMade h c t) (h .state)) out t))))
 
--- a call: f and l ask for no state
+-- a call: f, m and l ask for no state
 unfoldable pub callDone : Host → Command → List ℕ → Tables → Done
 callDone h c out t =
     pick (eqb (c .letter) 102) (storingDone h out (formatMade h c t))
+    (pick (eqb (c .letter) 109) (storingDone h out (mountMade h c t))
     (pick (eqb (c .letter) 108) (readingDone (lookReply h (lookMade h c t)) out t)
     (pick (h .held) (stateDone h c out t)
-    (readingDone (statelessReply h) out t)))
+    (readingDone (statelessReply h) out t))))
 
 -- ---- laws: case by case
 pub picked : {A : Type 0} (b : Bool) (x y : A) → b ≡ true → pick b x y ≡ x
@@ -112,17 +117,21 @@ module _ (h : Host) (c : Command) (out : List ℕ) (t : Tables) where
   unfolding callDone
   call-format a = picked _ _ _ a
 
-  pub call-look : eqb (c .letter) 102 ≡ false → eqb (c .letter) 108 ≡ true → callDone h c out t ≡ readingDone (lookReply h (lookMade h c t)) out t
+  pub call-mount : eqb (c .letter) 102 ≡ false → eqb (c .letter) 109 ≡ true → callDone h c out t ≡ storingDone h out (mountMade h c t)
   unfolding callDone
-  call-look a b = passed-over _ _ _ a ∙ picked _ _ _ b
+  call-mount a b = passed-over _ _ _ a ∙ picked _ _ _ b
 
-  pub call-stateless : eqb (c .letter) 102 ≡ false → eqb (c .letter) 108 ≡ false → h .held ≡ false → callDone h c out t ≡ readingDone (statelessReply h) out t
+  pub call-look : eqb (c .letter) 102 ≡ false → eqb (c .letter) 109 ≡ false → eqb (c .letter) 108 ≡ true → callDone h c out t ≡ readingDone (lookReply h (lookMade h c t)) out t
   unfolding callDone
-  call-stateless a b d = passed-over _ _ _ a ∙ passed-over _ _ _ b ∙ passed-over _ _ _ d
+  call-look a m b = passed-over _ _ _ a ∙ passed-over _ _ _ m ∙ picked _ _ _ b
 
-  pub call-state : eqb (c .letter) 102 ≡ false → eqb (c .letter) 108 ≡ false → h .held ≡ true → callDone h c out t ≡ stateDone h c out t
+  pub call-stateless : eqb (c .letter) 102 ≡ false → eqb (c .letter) 109 ≡ false → eqb (c .letter) 108 ≡ false → h .held ≡ false → callDone h c out t ≡ readingDone (statelessReply h) out t
   unfolding callDone
-  call-state a b d = passed-over _ _ _ a ∙ passed-over _ _ _ b ∙ picked _ _ _ d
+  call-stateless a m b d = passed-over _ _ _ a ∙ passed-over _ _ _ m ∙ passed-over _ _ _ b ∙ passed-over _ _ _ d
+
+  pub call-state : eqb (c .letter) 102 ≡ false → eqb (c .letter) 109 ≡ false → eqb (c .letter) 108 ≡ false → h .held ≡ true → callDone h c out t ≡ stateDone h c out t
+  unfolding callDone
+  call-state a m b d = passed-over _ _ _ a ∙ passed-over _ _ _ m ∙ passed-over _ _ _ b ∙ picked _ _ _ d
 
   pub state-write : eqb (c .letter) 119 ≡ true → stateDone h c out t ≡ storingDone h (writeBuffer c out) (writeMade h c out t)
   unfolding stateDone

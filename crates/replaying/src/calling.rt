@@ -7,7 +7,7 @@ use volume::Outcome;
 ghost use mathlib.Core.Path.{_≡_};
 ghost use Rattle.tables.specs.Tables.{tablesOf};
 ghost use Rattle.volume.specs.OnTables.{answerNumber};
-ghost use Rattle.replaying.specs.Calling.{plainReply, statelessReply, keptReply, lookReply, readReply, writeBuffer, formatMade, lookMade, writeMade, flushMade, resetMade, readMade, peekMade};
+ghost use Rattle.replaying.specs.Calling.{plainReply, statelessReply, keptReply, lookReply, readReply, writeBuffer, formatMade, mountMade, lookMade, writeMade, flushMade, resetMade, readMade, peekMade};
 
 // The number of an answer: 0 finished, 255 unfinished, else the refusal's.
 fn answer_number(a: Answer) -> u8
@@ -75,6 +75,25 @@ pub fn format(
     let named = super::hosting::named_in(c.first);
     let count = super::hosting::narrow(c.third);
     let o = volume::formatting::format(sectors, written, durable, g, named, c.second, s, count);
+    kept(h, o)
+}
+
+// Mount.
+pub fn mount(
+    sectors: &mut [u8],
+    written: &mut [u32],
+    durable: &mut [u32],
+    h: Host,
+    c: Command,
+) -> Reply
+    ensures { λ r. ⌜ (r ≡ keptReply h (mountMade h c (tablesOf (now (sectors .entry)) (now (written .entry)) (now (durable .entry))) .outcome))
+        × (tablesOf (now (sectors .exit)) (now (written .exit)) (now (durable .exit)) ≡ mountMade h c (tablesOf (now (sectors .entry)) (now (written .entry)) (now (durable .entry))) .tables) ⌝ }
+{
+    let g = h.geometry;
+    let s = h.state;
+    let named = super::hosting::named_in(c.first);
+    let count = super::hosting::narrow(c.second);
+    let o = volume::mounting::mount(sectors, written, durable, g, named, s, count);
     kept(h, o)
 }
 

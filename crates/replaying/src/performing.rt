@@ -56,6 +56,9 @@ fn call(
     if letter == b'f' {
         return super::calling::format(sectors, written, durable, h, c);
     }
+    if letter == b'm' {
+        return super::calling::mount(sectors, written, durable, h, c);
+    }
     if letter == b'l' {
         return super::calling::look(sectors, written, durable, h, c);
     }
@@ -209,9 +212,11 @@ fn is_call(letter: u8) -> bool
     ensures { λ r. ⌜ r ≡ isCall letter ⌝ }
 {
     (letter == b'f')
-        | ((letter == b'l')
-            | ((letter == b'w')
-                | ((letter == b'u') | ((letter == b'r') | ((letter == b'd') | (letter == b'p'))))))
+        | ((letter == b'm')
+            | ((letter == b'l')
+                | ((letter == b'w')
+                    | ((letter == b'u')
+                        | ((letter == b'r') | ((letter == b'd') | (letter == b'p')))))))
 }
 
 // Whether a letter is that of a change of the tables.

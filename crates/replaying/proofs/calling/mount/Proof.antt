@@ -1,0 +1,42 @@
+use mathlib.Core.Path.{refl, _∙_, ap}
+use Rattle.replaying.specs.Calling.{keptReply, mountMade}
+use Rattle.replaying.proofs.calling.mount.Statement.{statement}
+use Rattle.replaying.proofs.calling.mount.Tie as tie
+
+named-in-requires : tie.Need-named-in-requires
+named-in-requires c κs = tt
+
+narrow-requires : tie.Need-narrow-requires
+narrow-requires c κs = tt
+
+mount-requires : tie.Need-mount-requires
+mount-requires c κs = tt
+
+kept-requires : tie.Need-kept-requires
+kept-requires c κs = tt
+
+same-length : tie.Need-same-length
+same-length c = c .before .before .before .before .before .before .before .mount .kept .0
+
+same-length-2 : tie.Need-same-length-2
+same-length-2 c = c .before .before .before .before .before .before .before .mount .kept .1 .0
+
+same-length-3 : tie.Need-same-length-3
+same-length-3 c = c .before .before .before .before .before .before .before .mount .kept .1 .1 .0
+
+returns : tie.Need-returns
+unfolding mountMade
+returns c = let a = c .before .before .before .before .before .before .before .before .before .before .before .before .before .before .before .before .before .before .args in let f = c .before .before .before .before .before .before .before .mount in let n = c .before .before .before .before .before .before .before .before .before .before .before .before .named-in .ensures in let k = c .before .before .before .before .before .before .before .before .before .before .before .narrow .ensures in (c .kept .ensures ∙ ap (keptReply (a .h)) (f .ensures .0 ∙ rw (n, k) refl), f .ensures .1 ∙ rw (n, k) refl)
+
+pub mount-spec : {M : Type 1} → statement M
+mount-spec =
+    tie.close
+    (tie.spec
+    named-in-requires
+    narrow-requires
+    mount-requires
+    kept-requires
+    same-length
+    same-length-2
+    same-length-3
+    returns)

@@ -1,23 +1,22 @@
 use mathlib.Core.Path.{refl, _∙_, ap}
-use borrow.Author.Needs.{needs}
 use Rattle.replaying.specs.Calling.{keptReply, flushMade}
 use Rattle.replaying.proofs.calling.flush.Statement.{statement}
 use Rattle.replaying.proofs.calling.flush.Tie as tie
 
 named-in-requires : tie.Need-named-in-requires
-named-in-requires c κs = search needs
+named-in-requires c κs = tt
 
 narrow-requires : tie.Need-narrow-requires
-narrow-requires c κs = search needs
+narrow-requires c κs = tt
 
 flush-requires : tie.Need-flush-requires
-flush-requires c κs = search needs
+flush-requires c κs = tt
 
 kept-requires : tie.Need-kept-requires
-kept-requires c κs = search needs
+kept-requires c κs = tt
 
 same-length : tie.Need-same-length
-same-length c = search needs
+same-length c = c .before .before .before .flush .kept .1 .1 .0
 
 returns : tie.Need-returns
 unfolding flushMade

@@ -1,13 +1,12 @@
 use mathlib.Core.Path.{_≡_, refl, sym, _∙_}
 use native.Mathlib.Omega.{arith}
-use borrow.Author.Needs.{needs}
 use borrow.Author.Tests.{eq-eqb, ne-eqb}
 use Rattle.replaying.specs.Calling.{keptReply}
 use Rattle.replaying.proofs.calling.kept.Statement.{statement}
 use Rattle.replaying.proofs.calling.kept.Tie as tie
 
 answer-number-requires : tie.Need-answer-number-requires
-answer-number-requires c κs = search needs
+answer-number-requires c κs = tt
 
 returns : tie.Need-returns
 unfolding keptReply

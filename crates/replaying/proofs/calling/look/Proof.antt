@@ -1,17 +1,16 @@
 use mathlib.Core.Path.{refl}
-use borrow.Author.Needs.{needs}
 use Rattle.replaying.specs.Calling.{lookMade}
 use Rattle.replaying.proofs.calling.look.Statement.{statement}
 use Rattle.replaying.proofs.calling.look.Tie as tie
 
 named-in-requires : tie.Need-named-in-requires
-named-in-requires c κs = search needs
+named-in-requires c κs = tt
 
 look-requires : tie.Need-look-requires
-look-requires c κs = search needs
+look-requires c κs = tt
 
 answer-number-requires : tie.Need-answer-number-requires
-answer-number-requires c κs = search needs
+answer-number-requires c κs = tt
 
 returns : tie.Need-returns
 unfolding lookMade

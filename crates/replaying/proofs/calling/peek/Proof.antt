@@ -1,14 +1,13 @@
 use mathlib.Core.Path.{refl}
-use borrow.Author.Needs.{needs}
 use Rattle.replaying.specs.Calling.{peekMade}
 use Rattle.replaying.proofs.calling.peek.Statement.{statement}
 use Rattle.replaying.proofs.calling.peek.Tie as tie
 
 named-in-requires : tie.Need-named-in-requires
-named-in-requires c κs = search needs
+named-in-requires c κs = tt
 
 peek-refusal-requires : tie.Need-peek-refusal-requires
-peek-refusal-requires c κs = search needs
+peek-refusal-requires c κs = tt
 
 returns : tie.Need-returns
 unfolding peekMade

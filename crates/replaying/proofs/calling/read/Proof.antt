@@ -1,23 +1,22 @@
 use mathlib.Core.Path.{refl, _∙_}
-use borrow.Author.Needs.{needs}
 use Rattle.replaying.specs.Calling.{readMade}
 use Rattle.replaying.proofs.calling.read.Statement.{statement}
 use Rattle.replaying.proofs.calling.read.Tie as tie
 
 named-in-requires : tie.Need-named-in-requires
-named-in-requires c κs = search needs
+named-in-requires c κs = tt
 
 narrow-requires : tie.Need-narrow-requires
-narrow-requires c κs = search needs
+narrow-requires c κs = tt
 
 read-requires : tie.Need-read-requires
-read-requires c κs = search needs
+read-requires c κs = tt
 
 answer-number-requires : tie.Need-answer-number-requires
-answer-number-requires c κs = search needs
+answer-number-requires c κs = tt
 
 same-length : tie.Need-same-length
-same-length c = search needs
+same-length c = c .before .before .before .read .kept .1 .1 .1 .1 .1 .1 .1 .1 .0
 
 returns : tie.Need-returns
 unfolding readMade

@@ -1,35 +1,34 @@
 use mathlib.Core.Path.{refl, _∙_, ap}
-use borrow.Author.Needs.{needs}
 use Rattle.replaying.specs.Calling.{keptReply, writeMade}
 use Rattle.replaying.proofs.calling.write.Statement.{statement}
 use Rattle.replaying.proofs.calling.write.Tie as tie
 
 named-in-requires : tie.Need-named-in-requires
-named-in-requires c κs = search needs
+named-in-requires c κs = tt
 
 narrow-requires : tie.Need-narrow-requires
-narrow-requires c κs = search needs
+narrow-requires c κs = tt
 
 narrow-requires-2 : tie.Need-narrow-requires-2
-narrow-requires-2 c κs = search needs
+narrow-requires-2 c κs = tt
 
 fill-requires : tie.Need-fill-requires
-fill-requires c κs = search needs
+fill-requires c κs = tt
 
 write-requires : tie.Need-write-requires
-write-requires c κs = search needs
+write-requires c κs = tt
 
 kept-requires : tie.Need-kept-requires
-kept-requires c κs = search needs
+kept-requires c κs = tt
 
 same-length : tie.Need-same-length
-same-length c = search needs
+same-length c = c .before .before .before .before .before .write .kept .0
 
 same-length-2 : tie.Need-same-length-2
-same-length-2 c = search needs
+same-length-2 c = c .before .before .before .before .before .write .kept .1 .0
 
 same-length-3 : tie.Need-same-length-3
-same-length-3 c = search needs
+same-length-3 c = c .before .before .before .before .before .before .before .before .before .before .before .fill .kept .0
 
 returns : tie.Need-returns
 unfolding writeMade

@@ -1,15 +1,14 @@
 use mathlib.Core.Path.{refl}
 use native.Mathlib.Omega.{arith}
-use borrow.Author.Needs.{needs}
 use Rattle.replaying.specs.Adler.{addByte}
 use Rattle.replaying.proofs.checksum.add_byte.Statement.{statement}
 use Rattle.replaying.proofs.checksum.add_byte.Tie as tie
 
 add-low : tie.Need-add-low
-add-low c = search needs
+add-low c = omega arith
 
 add-high : tie.Need-add-high
-add-high c = search needs
+add-high c = omega arith
 
 returns : tie.Need-returns
 unfolding addByte

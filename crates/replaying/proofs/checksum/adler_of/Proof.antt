@@ -8,7 +8,7 @@ use Rattle.replaying.proofs.checksum.adler_of.Statement.{statement}
 use Rattle.replaying.proofs.checksum.adler_of.Tie as tie
 
 start-sums-requires : tie.Need-start-sums-requires
-start-sums-requires c κs = search needs
+start-sums-requires c κs = tt
 
 sum-bytes-requires : tie.Need-sum-bytes-requires
 sum-bytes-requires c κs = search needs

@@ -8,7 +8,7 @@ use Rattle.replaying.proofs.checksum.adler_of_tables.Statement.{stateme
 use Rattle.replaying.proofs.checksum.adler_of_tables.Tie as tie
 
 start-sums-requires : tie.Need-start-sums-requires
-start-sums-requires c κs = search needs
+start-sums-requires c κs = tt
 
 sum-words-requires : tie.Need-sum-words-requires
 sum-words-requires c κs = search needs

@@ -1,14 +1,14 @@
+use native.Mathlib.Omega.{arith}
 use mathlib.Core.Path.{refl}
-use borrow.Author.Needs.{needs}
 use Rattle.replaying.specs.Adler.{adlerNumber}
 use Rattle.replaying.proofs.checksum.sum_number.Statement.{statement}
 use Rattle.replaying.proofs.checksum.sum_number.Tie as tie
 
 mul-result : tie.Need-mul-result
-mul-result c = search needs
+mul-result c = omega arith
 
 add-result : tie.Need-add-result
-add-result c = search needs
+add-result c = omega arith
 
 returns : tie.Need-returns
 unfolding adlerNumber

@@ -19,22 +19,22 @@ loop-holds : tie.Need-loop-holds Inv-loop μ-loop
 loop-holds c = (omega arith, (cc), refl, search needs)
 
 mul-wide-pointer : tie.Need-mul-wide-pointer Inv-loop μ-loop
-mul-wide-pointer c = search needs
+mul-wide-pointer c = omega arith
 
 shared-slice-read-wide-pointer : tie.Need-shared-slice-read-wide-pointer Inv-loop μ-loop
-shared-slice-read-wide-pointer c = search needs
+shared-slice-read-wide-pointer c = omega arith
 
 wide-pointer-requires : tie.Need-wide-pointer-requires Inv-loop μ-loop
-wide-pointer-requires c κs = search needs
+wide-pointer-requires c κs = tt
 
 add-word-requires : tie.Need-add-word-requires Inv-loop μ-loop
 add-word-requires c κs = search needs
 
 add-i : tie.Need-add-i Inv-loop μ-loop
-add-i c = search needs
+add-i c = omega arith
 
 loop-less : tie.Need-loop-less Inv-loop μ-loop
-loop-less c = search needs
+loop-less c = omega arith
 
 loop-again : tie.Need-loop-again Inv-loop μ-loop
 loop-again c = (omega arith, (cc), rw add-one (cc), search needs)

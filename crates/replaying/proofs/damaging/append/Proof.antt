@@ -1,5 +1,4 @@
 use mathlib.Core.Path.{_≡_, refl, sym, _∙_, ap}
-use borrow.Author.Needs.{needs}
 use lib.ListN.{length}
 use denote.Ref.{now}
 use mathlib.Core.Bool.{true}
@@ -16,7 +15,7 @@ passed : (c : tie.Else1) → mayAppend (c .before .before .before .before .befor
 passed c = sym (c .before .may-append .ensures) ∙ not-false (c .before .may-append .result) (c .if1 .left)
 
 may-append-requires : tie.Need-may-append-requires
-may-append-requires c κs = search needs
+may-append-requires c κs = tt
 
 returns : tie.Need-returns
 unfolding appendOdd
@@ -26,10 +25,10 @@ append-counted-requires : tie.Need-append-counted-requires
 append-counted-requires c κs = let a = c .before .before .before .before .before .before .before .args in let m = may-append (a .g) (length (a .sectors .now)) (length (a .written .now)) (length (a .src .now)) (a .drive) (a .zone) (passed (c .before .before)) in let l = lengths-are (a .g) _ _ _ (m .lengths) in (m .valid, ((m .drive-in, m .zone-in), (l .0, l .1, m .whole)))
 
 same-length : tie.Need-same-length
-same-length c = search needs
+same-length c = c .before .before .before .before .append-counted .kept .0
 
 same-length-2 : tie.Need-same-length-2
-same-length-2 c = search needs
+same-length-2 c = c .before .before .before .before .append-counted .kept .1 .0
 
 returns-2 : tie.Need-returns-2
 unfolding appendOdd

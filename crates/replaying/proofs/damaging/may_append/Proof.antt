@@ -1,6 +1,5 @@
 use mathlib.Core.Path.{_≡_, refl, sym, _∙_}
 use native.Mathlib.Omega.{arith}
-use borrow.Author.Needs.{needs}
 use mathlib.Core.Bool.{true}
 use borrow.Author.Tests.{not-true, not-false}
 use Rattle.replaying.specs.Damaging.{mayAppend}
@@ -13,7 +12,7 @@ valid : (c : tie.Else1) → isValid (c .before .before .args .g) ≡ true
 valid c = sym (c .before .valid .ensures) ∙ not-false (c .before .valid .result) (c .if1 .left)
 
 valid-requires : tie.Need-valid-requires
-valid-requires c κs = search needs
+valid-requires c κs = tt
 
 returns : tie.Need-returns
 unfolding mayAppend

@@ -1,6 +1,5 @@
 use mathlib.Core.Path.{_≡_, refl, sym, _∙_}
 use native.Mathlib.Omega.{arith}
-use borrow.Author.Needs.{needs}
 use lib.ListN.{length, length-set}
 use denote.Ref.{now}
 use mathlib.Core.Bool.{true}
@@ -19,7 +18,7 @@ long : (c : tie.Else2) → length (c .before .before .before .before .args .out 
 long c = omega arith
 
 valid-requires : tie.Need-valid-requires
-valid-requires c κs = search needs
+valid-requires c κs = tt
 
 returns : tie.Need-returns
 unfolding oddHeader
@@ -33,7 +32,7 @@ write-seal-requires : tie.Need-write-seal-requires
 write-seal-requires c κs = let v = valid-if-test _ (valid (c .before .before)) in (v, (long (c .before), omega arith, omega arith))
 
 cast-out : tie.Need-cast-out
-cast-out c = search needs
+cast-out c = omega arith
 
 slice-write-out : tie.Need-slice-write-out
 slice-write-out c = let v = valid-if-test _ (valid (c .before .before .before .before .before)) in let h = long (c .before .before .before .before) in let k = c .before .before .write-seal .kept .0 in omega arith

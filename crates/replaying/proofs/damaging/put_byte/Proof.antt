@@ -1,3 +1,4 @@
+use native.Mathlib.Omega.{arith}
 use mathlib.Core.Path.{sym}
 use borrow.Author.Needs.{needs}
 use denote.Ref.{now}
@@ -10,10 +11,10 @@ returns : tie.Need-returns
 returns c = sym (set-out (c .before .args .sectors .now) (c .before .args .at) (c .before .args .value % 256) (c .if1 .taken))
 
 cast-sectors : tie.Need-cast-sectors
-cast-sectors c = search needs
+cast-sectors c = omega arith
 
 slice-write-sectors : tie.Need-slice-write-sectors
-slice-write-sectors c = search needs
+slice-write-sectors c = omega arith
 
 same-length : tie.Need-same-length
 same-length c = search needs

@@ -1,3 +1,4 @@
+use native.Mathlib.Omega.{arith}
 use mathlib.Core.Path.{refl, sym}
 use borrow.Author.Needs.{needs}
 use denote.Ref.{now}
@@ -10,13 +11,13 @@ returns : tie.Need-returns
 returns c = let a = c .before .before .args in sym (set-out (a .table .now) (a .at) (narrowed (a .value)) (c .if1 .taken))
 
 narrow-requires : tie.Need-narrow-requires
-narrow-requires c κs = search needs
+narrow-requires c κs = tt
 
 mul-table : tie.Need-mul-table
-mul-table c = search needs
+mul-table c = omega arith
 
 slice-write-table : tie.Need-slice-write-table
-slice-write-table c = search needs
+slice-write-table c = omega arith
 
 same-length : tie.Need-same-length
 same-length c = search needs

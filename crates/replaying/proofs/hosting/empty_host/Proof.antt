@@ -1,12 +1,11 @@
-use borrow.Author.Needs.{needs}
 use Rattle.replaying.proofs.hosting.empty_host.Statement.{statement}
 use Rattle.replaying.proofs.hosting.empty_host.Tie as tie
 
 blank-state-requires : tie.Need-blank-state-requires
-blank-state-requires c κs = search needs
+blank-state-requires c κs = tt
 
 no-shortage-requires : tie.Need-no-shortage-requires
-no-shortage-requires c κs = search needs
+no-shortage-requires c κs = tt
 
 returns : tie.Need-returns
 returns c = cc

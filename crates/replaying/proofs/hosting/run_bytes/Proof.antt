@@ -1,6 +1,5 @@
 use mathlib.Core.Path.{refl}
 use native.Mathlib.Omega.{arith}
-use borrow.Author.Needs.{needs}
 use native.Mathlib.Nat.{mul-le-mul}
 use Prim.Native.Nat.{_≤_}
 use borrow.Author.Tests.{le-leb, lt-leb}
@@ -9,10 +8,10 @@ use Rattle.replaying.proofs.hosting.run_bytes.Statement.{statement}
 use Rattle.replaying.proofs.hosting.run_bytes.Tie as tie
 
 narrow-requires : tie.Need-narrow-requires
-narrow-requires c κs = search needs
+narrow-requires c κs = tt
 
 cast-n : tie.Need-cast-n
-cast-n c = search needs
+cast-n c = omega arith
 
 mul-result : tie.Need-mul-result
 mul-result c = let h : c .before .narrow .result ≤ 4294967295 = omega arith in omega (arith, mul-le-mul {n₂ = 4294967295} {m₂ = 4096} h (c .if1 .taken))

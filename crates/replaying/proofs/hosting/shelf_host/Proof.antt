@@ -1,5 +1,4 @@
 use mathlib.Core.Path.{_≡_, refl, sym, _∙_}
-use borrow.Author.Needs.{needs}
 use mathlib.Core.Bool.{true}
 use borrow.Author.Tests.{not-true, not-false, le-leb, lt-leb}
 use Rattle.replaying.specs.Hosting.{shelfHost}
@@ -12,10 +11,10 @@ valid : (c : tie.Else1) → isValid (c .before .before .args .g) ≡ true
 valid c = sym (c .before .valid .ensures) ∙ not-false (c .before .valid .result) (c .if1 .left)
 
 valid-requires : tie.Need-valid-requires
-valid-requires c κs = search needs
+valid-requires c κs = tt
 
 empty-host-requires : tie.Need-empty-host-requires
-empty-host-requires c κs = search needs
+empty-host-requires c κs = tt
 
 returns : tie.Need-returns
 unfolding shelfHost
@@ -28,14 +27,14 @@ table-cells-requires : tie.Need-table-cells-requires
 table-cells-requires c κs = valid-if-test _ (valid (c .before))
 
 empty-host-requires-2 : tie.Need-empty-host-requires-2
-empty-host-requires-2 c κs = search needs
+empty-host-requires-2 c κs = tt
 
 returns-2 : tie.Need-returns-2
 unfolding shelfHost
 returns-2 c = let h = rw (c .before .before .before .total-bytes .ensures) at (c .before .if2 .taken) in c .empty-host2 .ensures ∙ rw (c .before .before .before .total-bytes .ensures, c .before .before .table-cells .ensures .0, valid (c .before .before .before .before), le-leb _ _ h) refl
 
 empty-host-requires-3 : tie.Need-empty-host-requires-3
-empty-host-requires-3 c κs = search needs
+empty-host-requires-3 c κs = tt
 
 returns-3 : tie.Need-returns-3
 unfolding shelfHost

@@ -1,5 +1,5 @@
+use native.Mathlib.Omega.{arith}
 use mathlib.Core.Path.{refl}
-use borrow.Author.Needs.{needs}
 use borrow.Author.Tests.{le-leb, lt-leb}
 use Rattle.replaying.specs.Hosting.{withRecord}
 use Rattle.replaying.proofs.hosting.with_record.Statement.{statement}
@@ -10,13 +10,13 @@ unfolding withRecord
 returns c = rw (le-leb _ _ (c .if1 .taken))
 
 condition-from-requires : tie.Need-condition-from-requires
-condition-from-requires c κs = search needs
+condition-from-requires c κs = tt
 
 mul-r : tie.Need-mul-r
-mul-r c = search needs
+mul-r c = omega arith
 
 element-set-from-r : tie.Need-element-set-from-r
-element-set-from-r c = search needs
+element-set-from-r c = omega arith
 
 returns-2 : tie.Need-returns-2
 unfolding withRecord

@@ -1,9 +1,8 @@
-use borrow.Author.Needs.{needs}
 use Rattle.replaying.proofs.hosting.with_shortage.Statement.{statement}
 use Rattle.replaying.proofs.hosting.with_shortage.Tie as tie
 
 shortage-in-requires : tie.Need-shortage-in-requires
-shortage-in-requires c κs = search needs
+shortage-in-requires c κs = tt
 
 returns : tie.Need-returns
 returns c = cc

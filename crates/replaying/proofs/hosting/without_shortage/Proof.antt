@@ -1,9 +1,8 @@
-use borrow.Author.Needs.{needs}
 use Rattle.replaying.proofs.hosting.without_shortage.Statement.{statement}
 use Rattle.replaying.proofs.hosting.without_shortage.Tie as tie
 
 no-shortage-requires : tie.Need-no-shortage-requires
-no-shortage-requires c κs = search needs
+no-shortage-requires c κs = tt
 
 returns : tie.Need-returns
 returns c = cc

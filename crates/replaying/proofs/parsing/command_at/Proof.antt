@@ -1,36 +1,35 @@
 use mathlib.Core.Path.{refl}
 use native.Mathlib.Omega.{arith}
-use borrow.Author.Needs.{needs}
 use Rattle.replaying.specs.Decimal.{commandAt}
 use Rattle.replaying.proofs.parsing.command_at.Statement.{statement}
 use Rattle.replaying.proofs.parsing.command_at.Tie as tie
 
 shared-slice-read-letter : tie.Need-shared-slice-read-letter
-shared-slice-read-letter c = search needs
+shared-slice-read-letter c = omega arith
 
 add-field-at : tie.Need-add-field-at
-add-field-at c = search needs
+add-field-at c = omega arith
 
 field-at-requires : tie.Need-field-at-requires
-field-at-requires c κs = search needs
+field-at-requires c κs = tt
 
 field-at-requires-2 : tie.Need-field-at-requires-2
-field-at-requires-2 c κs = search needs
+field-at-requires-2 c κs = tt
 
 field-at-requires-3 : tie.Need-field-at-requires-3
-field-at-requires-3 c κs = search needs
+field-at-requires-3 c κs = tt
 
 field-at-requires-4 : tie.Need-field-at-requires-4
-field-at-requires-4 c κs = search needs
+field-at-requires-4 c κs = tt
 
 field-at-requires-5 : tie.Need-field-at-requires-5
-field-at-requires-5 c κs = search needs
+field-at-requires-5 c κs = tt
 
 field-at-requires-6 : tie.Need-field-at-requires-6
-field-at-requires-6 c κs = search needs
+field-at-requires-6 c κs = tt
 
 line-end-requires : tie.Need-line-end-requires
-line-end-requires c κs = search needs
+line-end-requires c κs = tt
 
 returns : tie.Need-returns
 unfolding commandAt

@@ -1,23 +1,22 @@
 use native.Mathlib.Omega.{arith}
-use borrow.Author.Needs.{needs}
 use Rattle.replaying.specs.Decimal.{decimalStep, digit-range}
 use Rattle.replaying.proofs.parsing.decimal_step.Statement.{statement}
 use Rattle.replaying.proofs.parsing.decimal_step.Tie as tie
 
 wide-requires : tie.Need-wide-requires
-wide-requires c κs = search needs
+wide-requires c κs = tt
 
 sub-digit : tie.Need-sub-digit
 sub-digit c = let r = digit-range (c .before .args .b) (c .before .pre) in omega arith
 
 sub-most : tie.Need-sub-most
-sub-most c = search needs
+sub-most c = omega arith
 
 mul-result : tie.Need-mul-result
-mul-result c = search needs
+mul-result c = omega arith
 
 add-result : tie.Need-add-result
-add-result c = search needs
+add-result c = omega arith
 
 returns : tie.Need-returns
 unfolding decimalStep

@@ -13,17 +13,17 @@ unfolding fieldAt
 returns c = (rw (le-ltb _ _ (c .if1 .taken)), search needs)
 
 shared-slice-read-b : tie.Need-shared-slice-read-b
-shared-slice-read-b c = search needs
+shared-slice-read-b c = omega arith
 
 returns-2 : tie.Need-returns-2
 unfolding fieldAt
 returns-2 c = (rw (lt-ltb _ _ (c .before .before .if1 .left), ne-eqb _ 32 (c .if2 .taken)), search needs)
 
 add-number-at : tie.Need-add-number-at
-add-number-at c = search needs
+add-number-at c = omega arith
 
 number-at-requires : tie.Need-number-at-requires
-number-at-requires c κs = search needs
+number-at-requires c κs = tt
 
 returns-3 : tie.Need-returns-3
 unfolding fieldAt

@@ -25,10 +25,10 @@ loop-holds : tie.Need-loop-holds Inv-loop μ-loop
 loop-holds c = (refl, refl)
 
 shared-slice-read-b : tie.Need-shared-slice-read-b Inv-loop μ-loop
-shared-slice-read-b c = search needs
+shared-slice-read-b c = omega arith
 
 is-digit-requires : tie.Need-is-digit-requires Inv-loop μ-loop
-is-digit-requires c κs = search needs
+is-digit-requires c κs = tt
 
 returns : tie.Need-returns Inv-loop μ-loop
 unfolding numberAt
@@ -38,7 +38,7 @@ decimal-step-requires : tie.Need-decimal-step-requires Inv-loop μ-loop
 decimal-step-requires c κs = digit c
 
 add-i : tie.Need-add-i Inv-loop μ-loop
-add-i c = search needs
+add-i c = omega arith
 
 loop-less : tie.Need-loop-less Inv-loop μ-loop
 loop-less c = search needs

@@ -1,5 +1,4 @@
-use mathlib.Core.Path.{sym, _∙_, ap}
-use borrow.Author.Needs.{needs}
+use mathlib.Core.Path.{refl, sym, _∙_, ap}
 use denote.Ref.{now}
 use borrow.Author.Tests.{not-true, not-false, eq-eqb, ne-eqb}
 use Rattle.replaying.specs.Calling.{Done, call-format, call-look, call-stateless, call-state}
@@ -8,55 +7,55 @@ use Rattle.replaying.proofs.performing.call.Statement.{statement}
 use Rattle.replaying.proofs.performing.call.Tie as tie
 
 format-requires : tie.Need-format-requires
-format-requires c κs = search needs
+format-requires c κs = tt
 
 same-length : tie.Need-same-length
-same-length c = search needs
+same-length c = c .before .before .before .before .before .before .format .kept .0
 
 same-length-2 : tie.Need-same-length-2
-same-length-2 c = search needs
+same-length-2 c = c .before .before .before .before .before .before .format .kept .1 .0
 
 same-length-3 : tie.Need-same-length-3
-same-length-3 c = search needs
+same-length-3 c = c .before .before .before .before .before .before .format .kept .1 .1 .0
 
 returns : tie.Need-returns
 returns c = let a = c .before .before .before .before .before .before .before .before .before .before .before .before .before .before .before .args in let q = call-format (a .h) (a .c) (a .buffer .now) (tablesOf (a .sectors .now) (a .written .now) (a .durable .now)) (eq-eqb _ 102 (c .before .before .before .before .before .before .before .before .before .before .if1 .taken)) in (c .before .before .before .before .before .before .format .ensures .0 ∙ sym (ap (λ (x : Done). x .reply) q), c .before .before .before .before .before .before .format .ensures .1 ∙ sym (ap (λ (x : Done). x .tables) q), sym (ap (λ (x : Done). x .buffer) q))
 
 look-requires : tie.Need-look-requires
-look-requires c κs = search needs
+look-requires c κs = tt
 
 same-length-4 : tie.Need-same-length-4
-same-length-4 c = search needs
+same-length-4 c = refl
 
 same-length-5 : tie.Need-same-length-5
-same-length-5 c = search needs
+same-length-5 c = refl
 
 same-length-6 : tie.Need-same-length-6
-same-length-6 c = search needs
+same-length-6 c = refl
 
 returns-2 : tie.Need-returns-2
 returns-2 c = let a = c .before .before .before .before .before .before .before .before .before .before .args in let q = call-look (a .h) (a .c) (a .buffer .now) (tablesOf (a .sectors .now) (a .written .now) (a .durable .now)) (ne-eqb _ 102 (c .before .before .before .before .before .if1 .left)) (eq-eqb _ 108 (c .before .before .before .before .if2 .taken)) in (c .look .ensures ∙ sym (ap (λ (x : Done). x .reply) q), sym (ap (λ (x : Done). x .tables) q), sym (ap (λ (x : Done). x .buffer) q))
 
 stateless-requires : tie.Need-stateless-requires
-stateless-requires c κs = search needs
+stateless-requires c κs = tt
 
 returns-3 : tie.Need-returns-3
 returns-3 c = let a = c .before .before .before .before .before .before .before .before .args in let q = call-stateless (a .h) (a .c) (a .buffer .now) (tablesOf (a .sectors .now) (a .written .now) (a .durable .now)) (ne-eqb _ 102 (c .before .before .before .if1 .left)) (ne-eqb _ 108 (c .before .before .if2 .left)) (not-true (c .before .before .before .before .before .before .before .before .args .h .held) (c .before .if3 .taken)) in (c .stateless .ensures ∙ sym (ap (λ (x : Done). x .reply) q), sym (ap (λ (x : Done). x .tables) q), sym (ap (λ (x : Done). x .buffer) q))
 
 call-with-state-requires : tie.Need-call-with-state-requires
-call-with-state-requires c κs = search needs
+call-with-state-requires c κs = tt
 
 same-length-7 : tie.Need-same-length-7
-same-length-7 c = search needs
+same-length-7 c = c .before .before .before .before .before .before .before .before .call-with-state .kept .0
 
 same-length-8 : tie.Need-same-length-8
-same-length-8 c = search needs
+same-length-8 c = c .before .before .before .before .before .before .before .before .call-with-state .kept .1 .0
 
 same-length-9 : tie.Need-same-length-9
-same-length-9 c = search needs
+same-length-9 c = c .before .before .before .before .before .before .before .before .call-with-state .kept .1 .1 .0
 
 same-length-10 : tie.Need-same-length-10
-same-length-10 c = search needs
+same-length-10 c = c .before .before .before .before .before .before .before .before .call-with-state .kept .1 .1 .1 .0
 
 returns-4 : tie.Need-returns-4
 returns-4 c = let a = c .before .before .before .before .before .before .before .before .before .before .before .before .before .before .before .before .before .before .before .before .args in let q = call-state (a .h) (a .c) (a .buffer .now) (tablesOf (a .sectors .now) (a .written .now) (a .durable .now)) (ne-eqb _ 102 (c .before .before .before .before .before .before .before .before .before .before .before .before .before .before .before .if1 .left)) (ne-eqb _ 108 (c .before .before .before .before .before .before .before .before .before .before .before .before .before .before .if2 .left)) (not-false (c .before .before .before .before .before .before .before .before .before .before .before .before .before .before .before .before .before .before .before .before .args .h .held) (c .before .before .before .before .before .before .before .before .before .before .before .before .before .if3 .left)) in (c .before .before .before .before .before .before .before .before .call-with-state .ensures .0 ∙ sym (ap (λ (x : Done). x .reply) q), c .before .before .before .before .before .before .before .before .call-with-state .ensures .1 ∙ sym (ap (λ (x : Done). x .tables) q), c .before .before .before .before .before .before .before .before .call-with-state .ensures .2 ∙ sym (ap (λ (x : Done). x .buffer) q))

@@ -4,65 +4,65 @@ use lib.ListN.{drop}
 use Prim.Native.Nat.{ℕ}
 use denote.Ref.{now}
 use mathlib.Core.List.{List, _++_}
-use lib.Seq.{length-take-le}
+use lib.Seq.{length-front, length-take-le}
 use Rattle.replaying.specs.Performing.{calledLent}
 use Rattle.tables.specs.Tables.{Tables}
 use Rattle.replaying.proofs.performing.call_lent.Statement.{statement}
 use Rattle.replaying.proofs.performing.call_lent.Tie as tie
 
 run-bytes-requires : tie.Need-run-bytes-requires
-run-bytes-requires c κs = search needs
+run-bytes-requires c κs = tt
 
 lend-requires : tie.Need-lend-requires
-lend-requires c κs = search needs
+lend-requires c κs = tt
 
 lend-requires-2 : tie.Need-lend-requires-2
-lend-requires-2 c κs = search needs
+lend-requires-2 c κs = tt
 
 lend-requires-3 : tie.Need-lend-requires-3
-lend-requires-3 c κs = search needs
+lend-requires-3 c κs = tt
 
 lend-requires-4 : tie.Need-lend-requires-4
-lend-requires-4 c κs = search needs
+lend-requires-4 c κs = tt
 
 slice-relend-prefix-call : tie.Need-slice-relend-prefix-call
-slice-relend-prefix-call c = search needs
+slice-relend-prefix-call c = c .before .before .before .lend .ensures .1
 
 slice-aggregate-call : tie.Need-slice-aggregate-call
 slice-aggregate-call c = sym (length-take-le _ _ (c .before .before .before .before .lend .ensures .1))
 
 slice-relend-prefix-call-2 : tie.Need-slice-relend-prefix-call-2
-slice-relend-prefix-call-2 c = search needs
+slice-relend-prefix-call-2 c = c .before .before .before .lend2 .ensures .1
 
 slice-aggregate-call-2 : tie.Need-slice-aggregate-call-2
 slice-aggregate-call-2 c = sym (length-take-le _ _ (c .before .before .before .before .lend2 .ensures .1))
 
 slice-relend-prefix-call-3 : tie.Need-slice-relend-prefix-call-3
-slice-relend-prefix-call-3 c = search needs
+slice-relend-prefix-call-3 c = c .before .before .before .lend3 .ensures .1
 
 slice-aggregate-call-3 : tie.Need-slice-aggregate-call-3
 slice-aggregate-call-3 c = sym (length-take-le _ _ (c .before .before .before .before .lend3 .ensures .1))
 
 slice-relend-prefix-call-4 : tie.Need-slice-relend-prefix-call-4
-slice-relend-prefix-call-4 c = search needs
+slice-relend-prefix-call-4 c = c .before .before .before .lend4 .ensures .1
 
 slice-aggregate-call-4 : tie.Need-slice-aggregate-call-4
 slice-aggregate-call-4 c = sym (length-take-le _ _ (c .before .before .before .before .lend4 .ensures .1))
 
 call-requires : tie.Need-call-requires
-call-requires c κs = search needs
+call-requires c κs = tt
 
 same-length : tie.Need-same-length
-same-length c = search needs
+same-length c = length-front (c .before .before .before .before .before .before .before .before .before .before .before .before .before .before .before .before .before .before .before .before .before .before .before .before .args .space .now) (c .before .before .before .before .before .before .before .before .call .last .0) (c .before .before .before .before .before .before .before .before .before .before .before .before .before .before .before .before .lend .result) (c .before .before .before .before .before .before .before .before .call .kept .0)
 
 same-length-2 : tie.Need-same-length-2
-same-length-2 c = search needs
+same-length-2 c = length-front (c .before .before .before .before .before .before .before .before .before .before .before .before .before .before .before .before .before .before .before .before .before .before .before .before .args .written .now) (c .before .before .before .before .before .before .before .before .call .last .1 .0) (c .before .before .before .before .before .before .before .before .before .before .before .before .before .before .before .lend2 .result) (c .before .before .before .before .before .before .before .before .call .kept .1 .0)
 
 same-length-3 : tie.Need-same-length-3
-same-length-3 c = search needs
+same-length-3 c = length-front (c .before .before .before .before .before .before .before .before .before .before .before .before .before .before .before .before .before .before .before .before .before .before .before .before .args .durable .now) (c .before .before .before .before .before .before .before .before .call .last .1 .1 .0) (c .before .before .before .before .before .before .before .before .before .before .before .before .before .before .lend3 .result) (c .before .before .before .before .before .before .before .before .call .kept .1 .1 .0)
 
 same-length-4 : tie.Need-same-length-4
-same-length-4 c = search needs
+same-length-4 c = length-front (c .before .before .before .before .before .before .before .before .before .before .before .before .before .before .before .before .before .before .before .before .before .before .before .before .args .buffer .now) (c .before .before .before .before .before .before .before .before .call .last .1 .1 .1 .0) (c .before .before .before .before .before .before .before .before .before .before .before .before .before .lend4 .result) (c .before .before .before .before .before .before .before .before .call .kept .1 .1 .1 .0)
 
 returns : tie.Need-returns
 unfolding calledLent

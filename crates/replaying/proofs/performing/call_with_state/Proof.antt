@@ -1,5 +1,4 @@
-use mathlib.Core.Path.{sym, _∙_, ap}
-use borrow.Author.Needs.{needs}
+use mathlib.Core.Path.{refl, sym, _∙_, ap}
 use denote.Ref.{now}
 use borrow.Author.Tests.{eq-eqb, ne-eqb}
 use Rattle.replaying.specs.Calling.{Done, state-write, state-flush, state-reset, state-read, state-peek}
@@ -8,82 +7,82 @@ use Rattle.replaying.proofs.performing.call_with_state.Statement.{state
 use Rattle.replaying.proofs.performing.call_with_state.Tie as tie
 
 write-requires : tie.Need-write-requires
-write-requires c κs = search needs
+write-requires c κs = tt
 
 same-length : tie.Need-same-length
-same-length c = search needs
+same-length c = c .before .before .before .before .before .before .write .kept .0
 
 same-length-2 : tie.Need-same-length-2
-same-length-2 c = search needs
+same-length-2 c = c .before .before .before .before .before .before .write .kept .1 .0
 
 same-length-3 : tie.Need-same-length-3
-same-length-3 c = search needs
+same-length-3 c = refl
 
 same-length-4 : tie.Need-same-length-4
-same-length-4 c = search needs
+same-length-4 c = c .before .before .before .before .before .before .write .kept .1 .1 .1 .0
 
 returns : tie.Need-returns
 returns c = let a = c .before .before .before .before .before .before .before .before .before .before .before .before .before .before .before .before .args in let q = state-write (a .h) (a .c) (a .buffer .now) (tablesOf (a .sectors .now) (a .written .now) (a .durable .now)) (eq-eqb _ 119 (c .before .before .before .before .before .before .before .before .before .before .before .if1 .taken)) in (c .before .before .before .before .before .before .write .ensures .0 ∙ sym (ap (λ (x : Done). x .reply) q), c .before .before .before .before .before .before .write .ensures .1 ∙ sym (ap (λ (x : Done). x .tables) q), c .before .before .before .before .before .before .write .ensures .2 ∙ sym (ap (λ (x : Done). x .buffer) q))
 
 flush-requires : tie.Need-flush-requires
-flush-requires c κs = search needs
+flush-requires c κs = tt
 
 same-length-5 : tie.Need-same-length-5
-same-length-5 c = search needs
+same-length-5 c = refl
 
 same-length-6 : tie.Need-same-length-6
-same-length-6 c = search needs
+same-length-6 c = refl
 
 same-length-7 : tie.Need-same-length-7
-same-length-7 c = search needs
+same-length-7 c = c .before .before .flush .kept .1 .1 .0
 
 returns-2 : tie.Need-returns-2
 returns-2 c = let a = c .before .before .before .before .before .before .before .before .before .before .before .before .args in let q = state-flush (a .h) (a .c) (a .buffer .now) (tablesOf (a .sectors .now) (a .written .now) (a .durable .now)) (ne-eqb _ 119 (c .before .before .before .before .before .before .before .if1 .left)) (eq-eqb _ 117 (c .before .before .before .before .before .before .if2 .taken)) in (c .before .before .flush .ensures .0 ∙ sym (ap (λ (x : Done). x .reply) q), c .before .before .flush .ensures .1 ∙ sym (ap (λ (x : Done). x .tables) q), sym (ap (λ (x : Done). x .buffer) q))
 
 reset-requires : tie.Need-reset-requires
-reset-requires c κs = search needs
+reset-requires c κs = tt
 
 same-length-8 : tie.Need-same-length-8
-same-length-8 c = search needs
+same-length-8 c = c .before .before .before .before .before .before .reset .kept .0
 
 same-length-9 : tie.Need-same-length-9
-same-length-9 c = search needs
+same-length-9 c = c .before .before .before .before .before .before .reset .kept .1 .0
 
 same-length-10 : tie.Need-same-length-10
-same-length-10 c = search needs
+same-length-10 c = c .before .before .before .before .before .before .reset .kept .1 .1 .0
 
 returns-3 : tie.Need-returns-3
 returns-3 c = let a = c .before .before .before .before .before .before .before .before .before .before .before .before .before .before .before .before .before .args in let q = state-reset (a .h) (a .c) (a .buffer .now) (tablesOf (a .sectors .now) (a .written .now) (a .durable .now)) (ne-eqb _ 119 (c .before .before .before .before .before .before .before .before .before .before .before .before .if1 .left)) (ne-eqb _ 117 (c .before .before .before .before .before .before .before .before .before .before .before .if2 .left)) (eq-eqb _ 114 (c .before .before .before .before .before .before .before .before .before .before .if3 .taken)) in (c .before .before .before .before .before .before .reset .ensures .0 ∙ sym (ap (λ (x : Done). x .reply) q), c .before .before .before .before .before .before .reset .ensures .1 ∙ sym (ap (λ (x : Done). x .tables) q), sym (ap (λ (x : Done). x .buffer) q))
 
 read-requires : tie.Need-read-requires
-read-requires c κs = search needs
+read-requires c κs = tt
 
 same-length-11 : tie.Need-same-length-11
-same-length-11 c = search needs
+same-length-11 c = refl
 
 same-length-12 : tie.Need-same-length-12
-same-length-12 c = search needs
+same-length-12 c = refl
 
 same-length-13 : tie.Need-same-length-13
-same-length-13 c = search needs
+same-length-13 c = refl
 
 same-length-14 : tie.Need-same-length-14
-same-length-14 c = search needs
+same-length-14 c = c .before .before .read .kept .1 .1 .1 .0
 
 returns-4 : tie.Need-returns-4
 returns-4 c = let a = c .before .before .before .before .before .before .before .before .before .before .before .before .before .before .before .args in let q = state-read (a .h) (a .c) (a .buffer .now) (tablesOf (a .sectors .now) (a .written .now) (a .durable .now)) (ne-eqb _ 119 (c .before .before .before .before .before .before .before .before .before .before .if1 .left)) (ne-eqb _ 117 (c .before .before .before .before .before .before .before .before .before .if2 .left)) (ne-eqb _ 114 (c .before .before .before .before .before .before .before .before .if3 .left)) (eq-eqb _ 100 (c .before .before .before .before .before .before .before .if4 .taken)) in (c .before .before .read .ensures .0 ∙ sym (ap (λ (x : Done). x .reply) q), sym (ap (λ (x : Done). x .tables) q), c .before .before .read .ensures .1 ∙ sym (ap (λ (x : Done). x .buffer) q))
 
 peek-requires : tie.Need-peek-requires
-peek-requires c κs = search needs
+peek-requires c κs = tt
 
 same-length-15 : tie.Need-same-length-15
-same-length-15 c = search needs
+same-length-15 c = refl
 
 same-length-16 : tie.Need-same-length-16
-same-length-16 c = search needs
+same-length-16 c = refl
 
 same-length-17 : tie.Need-same-length-17
-same-length-17 c = search needs
+same-length-17 c = refl
 
 returns-5 : tie.Need-returns-5
 returns-5 c = let a = c .before .before .before .before .before .before .before .before .before .before .before .before .args in let q = state-peek (a .h) (a .c) (a .buffer .now) (tablesOf (a .sectors .now) (a .written .now) (a .durable .now)) (ne-eqb _ 119 (c .before .before .before .before .before .before .before .if1 .left)) (ne-eqb _ 117 (c .before .before .before .before .before .before .if2 .left)) (ne-eqb _ 114 (c .before .before .before .before .before .if3 .left)) (ne-eqb _ 100 (c .before .before .before .before .if4 .left)) in (c .peek .ensures ∙ sym (ap (λ (x : Done). x .reply) q), sym (ap (λ (x : Done). x .tables) q), sym (ap (λ (x : Done). x .buffer) q))

@@ -1,5 +1,4 @@
 use mathlib.Core.Path.{sym, _∙_, ap}
-use borrow.Author.Needs.{needs}
 use borrow.Author.Tests.{not-true, not-false, eq-eqb, ne-eqb}
 use Rattle.replaying.specs.Calling.{picked, passed-over}
 use Rattle.replaying.specs.Hosting.{withGeometry}
@@ -8,17 +7,17 @@ use Rattle.replaying.proofs.performing.change_host.Statement.{statement
 use Rattle.replaying.proofs.performing.change_host.Tie as tie
 
 geometry-in-requires : tie.Need-geometry-in-requires
-geometry-in-requires c κs = search needs
+geometry-in-requires c κs = tt
 
 with-geometry-requires : tie.Need-with-geometry-requires
-with-geometry-requires c κs = search needs
+with-geometry-requires c κs = tt
 
 returns : tie.Need-returns
 unfolding changedHost
 returns c = c .with-geometry .ensures ∙ ap (withGeometry (c .before .before .before .args .h)) (c .before .geometry-in .ensures) ∙ sym (picked _ _ _ (eq-eqb _ 121 (c .before .before .if1 .taken)))
 
 with-shortage-requires : tie.Need-with-shortage-requires
-with-shortage-requires c κs = search needs
+with-shortage-requires c κs = tt
 
 returns-2 : tie.Need-returns-2
 unfolding changedHost
@@ -29,14 +28,14 @@ unfolding changedHost
 returns-3 c = sym (passed-over _ _ _ (ne-eqb _ 121 (c .before .before .before .if1 .left)) ∙ passed-over _ _ _ (ne-eqb _ 110 (c .before .before .if2 .left)) ∙ passed-over _ _ _ (not-true (c .before .before .before .before .args .h .held) (c .if3 .taken)))
 
 with-record-requires : tie.Need-with-record-requires
-with-record-requires c κs = search needs
+with-record-requires c κs = tt
 
 returns-4 : tie.Need-returns-4
 unfolding changedHost
 returns-4 c = c .with-record .ensures ∙ sym (passed-over _ _ _ (ne-eqb _ 121 (c .before .before .before .before .before .if1 .left)) ∙ passed-over _ _ _ (ne-eqb _ 110 (c .before .before .before .before .if2 .left)) ∙ picked _ _ _ (not-false (c .before .before .before .before .before .before .args .h .held) (c .before .before .if3 .left)) ∙ picked _ _ _ (eq-eqb _ 115 (c .before .if4 .taken)))
 
 with-lost-requires : tie.Need-with-lost-requires
-with-lost-requires c κs = search needs
+with-lost-requires c κs = tt
 
 returns-5 : tie.Need-returns-5
 unfolding changedHost

@@ -1,27 +1,26 @@
 use mathlib.Core.Path.{sym, _∙_}
 use native.Mathlib.Omega.{arith}
-use borrow.Author.Needs.{needs}
 use lib.ListN.{length}
 use Prim.Native.Nat.{_≤_}
 use denote.Ref.{now}
-use lib.Seq.{length-take-le}
+use lib.Seq.{length-front, length-take-le}
 use Rattle.replaying.proofs.performing.cut_lent.Statement.{statement}
 use Rattle.replaying.proofs.performing.cut_lent.Tie as tie
 
 lend-requires : tie.Need-lend-requires
-lend-requires c κs = search needs
+lend-requires c κs = tt
 
 lend-requires-2 : tie.Need-lend-requires-2
-lend-requires-2 c κs = search needs
+lend-requires-2 c κs = tt
 
 slice-relend-prefix-cut : tie.Need-slice-relend-prefix-cut
-slice-relend-prefix-cut c = search needs
+slice-relend-prefix-cut c = omega arith
 
 slice-aggregate-cut : tie.Need-slice-aggregate-cut
 slice-aggregate-cut c = let h : c .before .lend2 .result ≤ length (c .before .before .before .before .before .args .written .now) = omega arith in sym (length-take-le _ _ h)
 
 slice-relend-prefix-cut-2 : tie.Need-slice-relend-prefix-cut-2
-slice-relend-prefix-cut-2 c = search needs
+slice-relend-prefix-cut-2 c = omega arith
 
 slice-aggregate-cut-2 : tie.Need-slice-aggregate-cut-2
 slice-aggregate-cut-2 c = sym (length-take-le _ _ (c .before .before .lend2 .ensures .1))
@@ -30,13 +29,13 @@ cut-requires : tie.Need-cut-requires
 cut-requires c κs = let h : c .before .before .lend2 .result ≤ length (c .before .before .before .before .before .before .args .written .now) = omega arith in length-take-le _ _ h ∙ sym (length-take-le _ _ (c .before .before .lend2 .ensures .1))
 
 same-length : tie.Need-same-length
-same-length c = search needs
+same-length c = length-front (c .before .before .before .before .before .before .before .before .before .before .before .args .written .now) (c .before .before .before .before .cut .last .0) (c .before .before .before .before .before .before .before .lend2 .result) (c .before .before .before .before .cut .kept .0)
 
 same-length-2 : tie.Need-same-length-2
-same-length-2 c = search needs
+same-length-2 c = length-front (c .before .before .before .before .before .before .before .before .before .before .before .args .durable .now) (c .before .before .before .before .cut .last .1 .0) (c .before .before .before .before .before .before .before .lend2 .result) (c .before .before .before .before .cut .kept .1 .0)
 
 returns : tie.Need-returns
-returns c = search needs
+returns c = tt
 
 pub cut-lent-spec : {M : Type 1} → statement M
 cut-lent-spec =

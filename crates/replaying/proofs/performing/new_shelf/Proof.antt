@@ -1,35 +1,34 @@
 use mathlib.Core.Path.{refl, _∙_, ap}
-use borrow.Author.Needs.{needs}
 use Rattle.replaying.specs.Hosting.{quietReply}
 use Rattle.replaying.proofs.performing.new_shelf.Statement.{statement}
 use Rattle.replaying.proofs.performing.new_shelf.Tie as tie
 
 geometry-in-requires : tie.Need-geometry-in-requires
-geometry-in-requires c κs = search needs
+geometry-in-requires c κs = tt
 
 shelf-host-requires : tie.Need-shelf-host-requires
-shelf-host-requires c κs = search needs
+shelf-host-requires c κs = tt
 
 clear-requires : tie.Need-clear-requires
-clear-requires c κs = search needs
+clear-requires c κs = tt
 
 clear-pointers-requires : tie.Need-clear-pointers-requires
-clear-pointers-requires c κs = search needs
+clear-pointers-requires c κs = tt
 
 clear-pointers-requires-2 : tie.Need-clear-pointers-requires-2
-clear-pointers-requires-2 c κs = search needs
+clear-pointers-requires-2 c κs = tt
 
 quiet-requires : tie.Need-quiet-requires
-quiet-requires c κs = search needs
+quiet-requires c κs = tt
 
 same-length : tie.Need-same-length
-same-length c = search needs
+same-length c = c .before .before .before .before .before .before .before .before .before .before .before .clear .kept .0
 
 same-length-2 : tie.Need-same-length-2
-same-length-2 c = search needs
+same-length-2 c = c .before .before .before .before .before .before .before .clear-pointers .kept .0
 
 same-length-3 : tie.Need-same-length-3
-same-length-3 c = search needs
+same-length-3 c = c .before .before .before .clear-pointers2 .kept .0
 
 returns : tie.Need-returns
 returns c = (c .quiet .ensures ∙ ap quietReply (c .before .before .before .before .before .before .before .before .before .before .before .before .before .shelf-host .ensures ∙ rw (c .before .before .before .before .before .before .before .before .before .before .before .before .before .before .geometry-in .ensures) refl), rw (c .before .before .before .before .before .before .before .before .before .before .before .clear .ensures, c .before .before .before .before .before .before .before .clear-pointers .ensures, c .before .before .before .clear-pointers2 .ensures) refl)

@@ -1,21 +1,20 @@
 use mathlib.Core.Path.{refl, sym, _∙_, ap}
-use borrow.Author.Needs.{needs}
 use lib.Seq.{length-take-le}
 use Rattle.replaying.specs.Showing.{placeIn, partShown}
 use Rattle.replaying.proofs.showing.peek_place.Statement.{statement}
 use Rattle.replaying.proofs.showing.peek_place.Tie as tie
 
 lend-requires : tie.Need-lend-requires
-lend-requires c κs = search needs
+lend-requires c κs = tt
 
 lend-requires-2 : tie.Need-lend-requires-2
-lend-requires-2 c κs = search needs
+lend-requires-2 c κs = tt
 
 lend-requires-3 : tie.Need-lend-requires-3
-lend-requires-3 c κs = search needs
+lend-requires-3 c κs = tt
 
 named-in-requires : tie.Need-named-in-requires
-named-in-requires c κs = search needs
+named-in-requires c κs = tt
 
 slice-aggregate-peek : tie.Need-slice-aggregate-peek
 slice-aggregate-peek c = sym (length-take-le _ _ (c .before .before .before .before .before .before .lend .ensures .1))
@@ -27,10 +26,10 @@ slice-aggregate-peek-3 : tie.Need-slice-aggregate-peek-3
 slice-aggregate-peek-3 c = sym (length-take-le _ _ (c .before .before .before .before .before .before .lend3 .ensures .1))
 
 peek-requires : tie.Need-peek-requires
-peek-requires c κs = search needs
+peek-requires c κs = tt
 
 place-in-requires : tie.Need-place-in-requires
-place-in-requires c κs = search needs
+place-in-requires c κs = tt
 
 returns : tie.Need-returns
 unfolding partShown

@@ -1,5 +1,4 @@
 use mathlib.Core.Path.{refl, sym, _∙_, ap}
-use borrow.Author.Needs.{needs}
 use lib.Seq.{length-take-le}
 use Rattle.replaying.specs.Adler.{adlerOfBytes}
 use Rattle.replaying.specs.Showing.{partShown}
@@ -7,16 +6,16 @@ use Rattle.replaying.proofs.showing.peek_sum.Statement.{statement}
 use Rattle.replaying.proofs.showing.peek_sum.Tie as tie
 
 lend-requires : tie.Need-lend-requires
-lend-requires c κs = search needs
+lend-requires c κs = tt
 
 lend-requires-2 : tie.Need-lend-requires-2
-lend-requires-2 c κs = search needs
+lend-requires-2 c κs = tt
 
 lend-requires-3 : tie.Need-lend-requires-3
-lend-requires-3 c κs = search needs
+lend-requires-3 c κs = tt
 
 named-in-requires : tie.Need-named-in-requires
-named-in-requires c κs = search needs
+named-in-requires c κs = tt
 
 slice-aggregate-peek : tie.Need-slice-aggregate-peek
 slice-aggregate-peek c = sym (length-take-le _ _ (c .before .before .before .before .before .before .lend .ensures .1))
@@ -28,10 +27,10 @@ slice-aggregate-peek-3 : tie.Need-slice-aggregate-peek-3
 slice-aggregate-peek-3 c = sym (length-take-le _ _ (c .before .before .before .before .before .before .lend3 .ensures .1))
 
 peek-requires : tie.Need-peek-requires
-peek-requires c κs = search needs
+peek-requires c κs = tt
 
 adler-of-requires : tie.Need-adler-of-requires
-adler-of-requires c κs = search needs
+adler-of-requires c κs = tt
 
 returns : tie.Need-returns
 unfolding partShown

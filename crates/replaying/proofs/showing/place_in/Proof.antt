@@ -1,5 +1,5 @@
+use native.Mathlib.Omega.{arith}
 use mathlib.Core.Path.{refl}
-use borrow.Author.Needs.{needs}
 use borrow.Author.Tests.{lt-ltb, le-ltb}
 use Rattle.replaying.specs.Showing.{placeIn}
 use Rattle.replaying.proofs.showing.place_in.Statement.{statement}
@@ -10,10 +10,10 @@ unfolding placeIn
 returns c = rw (lt-ltb _ _ (c .if1 .taken)) refl
 
 read-u32-requires : tie.Need-read-u32-requires
-read-u32-requires c κs = search needs
+read-u32-requires c κs = omega arith
 
 cast-result : tie.Need-cast-result
-cast-result c = search needs
+cast-result c = omega arith
 
 returns-2 : tie.Need-returns-2
 unfolding placeIn

@@ -1,20 +1,19 @@
 use mathlib.Core.Path.{refl, sym, _∙_}
-use borrow.Author.Needs.{needs}
 use lib.Seq.{length-take-le}
 use Rattle.replaying.proofs.showing.read_sum.Statement.{statement}
 use Rattle.replaying.proofs.showing.read_sum.Tie as tie
 
 run-bytes-requires : tie.Need-run-bytes-requires
-run-bytes-requires c κs = search needs
+run-bytes-requires c κs = tt
 
 lend-requires : tie.Need-lend-requires
-lend-requires c κs = search needs
+lend-requires c κs = tt
 
 slice-aggregate-adler-of : tie.Need-slice-aggregate-adler-of
 slice-aggregate-adler-of c = sym (length-take-le _ _ (c .before .lend .ensures .1))
 
 adler-of-requires : tie.Need-adler-of-requires
-adler-of-requires c κs = search needs
+adler-of-requires c κs = tt
 
 returns : tie.Need-returns
 returns c = c .adler-of .ensures ∙ rw (c .before .before .lend .ensures .0, c .before .before .before .run-bytes .ensures) refl

@@ -1,41 +1,41 @@
+use native.Mathlib.Omega.{arith}
 use mathlib.Core.Path.{sym}
-use borrow.Author.Needs.{needs}
-use lib.Seq.{length-take-le}
+use lib.Seq.{length-front, length-take-le}
 use Rattle.replaying.proofs.showing.read_zone.Statement.{statement}
 use Rattle.replaying.proofs.showing.read_zone.Tie as tie
 
 returns : tie.Need-returns
-returns c = search needs
+returns c = tt
 
 mul-r : tie.Need-mul-r
-mul-r c = search needs
+mul-r c = omega arith
 
 element-copy-out-r : tie.Need-element-copy-out-r
-element-copy-out-r c = search needs
+element-copy-out-r c = omega arith
 
 pointer-of-requires : tie.Need-pointer-of-requires
-pointer-of-requires c κs = search needs
+pointer-of-requires c κs = tt
 
 returns-2 : tie.Need-returns-2
-returns-2 c = search needs
+returns-2 c = tt
 
 zone-start-requires : tie.Need-zone-start-requires
-zone-start-requires c κs = search needs
+zone-start-requires c κs = tt
 
 run-bytes-requires : tie.Need-run-bytes-requires
-run-bytes-requires c κs = search needs
+run-bytes-requires c κs = tt
 
 lend-requires : tie.Need-lend-requires
-lend-requires c κs = search needs
+lend-requires c κs = tt
 
 lend-requires-2 : tie.Need-lend-requires-2
-lend-requires-2 c κs = search needs
+lend-requires-2 c κs = tt
 
 lend-requires-3 : tie.Need-lend-requires-3
-lend-requires-3 c κs = search needs
+lend-requires-3 c κs = tt
 
 lend-requires-4 : tie.Need-lend-requires-4
-lend-requires-4 c κs = search needs
+lend-requires-4 c κs = tt
 
 slice-aggregate-read-run : tie.Need-slice-aggregate-read-run
 slice-aggregate-read-run c = sym (length-take-le _ _ (c .before .before .before .before .lend .ensures .1))
@@ -47,19 +47,19 @@ slice-aggregate-read-run-3 : tie.Need-slice-aggregate-read-run-3
 slice-aggregate-read-run-3 c = sym (length-take-le _ _ (c .before .before .before .before .lend3 .ensures .1))
 
 slice-relend-prefix-read-run : tie.Need-slice-relend-prefix-read-run
-slice-relend-prefix-read-run c = search needs
+slice-relend-prefix-read-run c = c .before .before .before .lend4 .ensures .1
 
 slice-aggregate-read-run-4 : tie.Need-slice-aggregate-read-run-4
 slice-aggregate-read-run-4 c = sym (length-take-le _ _ (c .before .before .before .before .lend4 .ensures .1))
 
 read-run-requires : tie.Need-read-run-requires
-read-run-requires c κs = search needs
+read-run-requires c κs = tt
 
 same-length : tie.Need-same-length
-same-length c = search needs
+same-length c = length-front (c .before .before .before .before .before .before .before .before .before .before .before .before .before .before .before .before .before .before .before .before .before .args .buffer .now) (c .before .before .read-run .last .1 .1 .1 .0) (c .before .before .before .before .before .before .before .lend4 .result) (c .before .before .read-run .kept .1 .1 .1 .0)
 
 returns-3 : tie.Need-returns-3
-returns-3 c = search needs
+returns-3 c = tt
 
 pub read-zone-spec : {M : Type 1} → statement M
 read-zone-spec =

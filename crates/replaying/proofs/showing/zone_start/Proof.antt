@@ -1,6 +1,5 @@
 use mathlib.Core.Path.{refl, sym, _∙_}
 use native.Mathlib.Omega.{arith}
-use borrow.Author.Needs.{needs}
 use native.Mathlib.Nat.{mul-le-mul}
 use Prim.Native.Nat.{_≤_}
 use borrow.Author.Tests.{not-true, not-false, le-leb, lt-leb}
@@ -10,7 +9,7 @@ use Rattle.replaying.proofs.showing.zone_start.Statement.{statement}
 use Rattle.replaying.proofs.showing.zone_start.Tie as tie
 
 valid-requires : tie.Need-valid-requires
-valid-requires c κs = search needs
+valid-requires c κs = tt
 
 returns : tie.Need-returns
 unfolding zoneStart

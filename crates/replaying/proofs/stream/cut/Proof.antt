@@ -16,19 +16,19 @@ abbrev μ-loop : tie.MeasureT-loop
 μ-loop written₀ durable₀ seed n x₀ i₀ written durable x i = n - i
 
 seed-start-requires : tie.Need-seed-start-requires Inv-loop μ-loop
-seed-start-requires c κs = search needs
+seed-start-requires c κs = tt
 
 loop-holds : tie.Need-loop-holds Inv-loop μ-loop
 loop-holds c = (omega arith, refl, refl, refl, refl, refl, (cc), search needs)
 
 next-draw-requires : tie.Need-next-draw-requires Inv-loop μ-loop
-next-draw-requires c κs = search needs
+next-draw-requires c κs = omega arith
 
 cut-cell-requires : tie.Need-cut-cell-requires Inv-loop μ-loop
 cut-cell-requires c κs = search needs
 
 add-i : tie.Need-add-i Inv-loop μ-loop
-add-i c = search needs
+add-i c = omega arith
 
 loop-less : tie.Need-loop-less Inv-loop μ-loop
 loop-less c = search needs

@@ -1,33 +1,34 @@
+use native.Mathlib.Omega.{arith}
 use borrow.Author.Needs.{needs}
 use Rattle.replaying.proofs.stream.cut_cell.Statement.{statement}
 use Rattle.replaying.proofs.stream.cut_cell.Tie as tie
 
 mul-w : tie.Need-mul-w
-mul-w c = search needs
+mul-w c = omega arith
 
 slice-read-w : tie.Need-slice-read-w
-slice-read-w c = search needs
+slice-read-w c = omega arith
 
 mul-d : tie.Need-mul-d
-mul-d c = search needs
+mul-d c = omega arith
 
 slice-read-d : tie.Need-slice-read-d
-slice-read-d c = search needs
+slice-read-d c = omega arith
 
 cut-pointer-requires : tie.Need-cut-pointer-requires
-cut-pointer-requires c κs = search needs
+cut-pointer-requires c κs = tt
 
 mul-written : tie.Need-mul-written
-mul-written c = search needs
+mul-written c = omega arith
 
 slice-write-written : tie.Need-slice-write-written
-slice-write-written c = search needs
+slice-write-written c = omega arith
 
 mul-durable : tie.Need-mul-durable
-mul-durable c = search needs
+mul-durable c = omega arith
 
 slice-write-durable : tie.Need-slice-write-durable
-slice-write-durable c = search needs
+slice-write-durable c = omega arith
 
 same-length : tie.Need-same-length
 same-length c = search needs

@@ -1,6 +1,5 @@
 use mathlib.Core.Path.{_≡_, refl}
 use native.Mathlib.Omega.{arith}
-use borrow.Author.Needs.{needs}
 use native.Mathlib.Nat.{mod-lt}
 use Prim.Native.Nat.{_-_, _≤_, _+_, _/_}
 use Rattle.replaying.specs.Stream.{cutPointer}
@@ -12,13 +11,13 @@ unfolding cutPointer
 returns c = let e : c .before .args .written - c .before .args .durable + 1 ≡ 1 = omega arith in rw e (omega arith)
 
 cast-gap : tie.Need-cast-gap
-cast-gap c = search needs
+cast-gap c = omega arith
 
 add-gap : tie.Need-add-gap
-add-gap c = search needs
+add-gap c = omega arith
 
 rem-result : tie.Need-rem-result
-rem-result c = search needs
+rem-result c = omega arith
 
 cast-result : tie.Need-cast-result
 cast-result c = let h : 1 ≤ c .before .args .written - c .before .args .durable + 1 = omega arith in omega (arith, mod-lt (c .before .args .x / 65536) h)

@@ -1,11 +1,11 @@
+use native.Mathlib.Omega.{arith}
 use mathlib.Core.Path.{refl}
-use borrow.Author.Needs.{needs}
 use Rattle.replaying.specs.Stream.{drawByte}
 use Rattle.replaying.proofs.stream.draw_byte.Statement.{statement}
 use Rattle.replaying.proofs.stream.draw_byte.Tie as tie
 
 cast-result : tie.Need-cast-result
-cast-result c = search needs
+cast-result c = omega arith
 
 returns : tie.Need-returns
 unfolding drawByte

@@ -16,22 +16,22 @@ abbrev μ-loop : tie.MeasureT-loop
 μ-loop out₀ seed n x₀ i₀ out x i = n - i
 
 seed-start-requires : tie.Need-seed-start-requires Inv-loop μ-loop
-seed-start-requires c κs = search needs
+seed-start-requires c κs = tt
 
 loop-holds : tie.Need-loop-holds Inv-loop μ-loop
 loop-holds c = (omega arith, (cc), refl, (cc), (cc), search needs)
 
 next-draw-requires : tie.Need-next-draw-requires Inv-loop μ-loop
-next-draw-requires c κs = search needs
+next-draw-requires c κs = omega arith
 
 draw-byte-requires : tie.Need-draw-byte-requires Inv-loop μ-loop
-draw-byte-requires c κs = search needs
+draw-byte-requires c κs = tt
 
 slice-write-out : tie.Need-slice-write-out Inv-loop μ-loop
-slice-write-out c = search needs
+slice-write-out c = omega arith
 
 add-i : tie.Need-add-i Inv-loop μ-loop
-add-i c = search needs
+add-i c = omega arith
 
 loop-less : tie.Need-loop-less Inv-loop μ-loop
 loop-less c = search needs

@@ -1,15 +1,14 @@
 use mathlib.Core.Path.{refl}
 use native.Mathlib.Omega.{arith}
-use borrow.Author.Needs.{needs}
 use Rattle.replaying.specs.Stream.{nextDraw}
 use Rattle.replaying.proofs.stream.next_draw.Statement.{statement}
 use Rattle.replaying.proofs.stream.next_draw.Tie as tie
 
 mul-result : tie.Need-mul-result
-mul-result c = search needs
+mul-result c = omega arith
 
 add-result : tie.Need-add-result
-add-result c = search needs
+add-result c = omega arith
 
 returns : tie.Need-returns
 unfolding nextDraw

@@ -14,6 +14,8 @@ use Rattle.volume.specs.declared.Answer.the-variants.{Finished, Unfinished, Ref
 use Rattle.volume.specs.declared.Condition.{Condition}
 use Rattle.volume.specs.declared.Condition.the-variants.{Empty, Open, Sealed, Worn}
 use Rattle.volume.specs.declared.State.{State}
+use Rattle.volume.specs.State.{pointerIn}
+use Rattle.volume.specs.OnTables.{recordAt}
 use Rattle.volume.specs.Reading.{ReadResult, readOn}
 use Rattle.volume.specs.Peeking.{peekOn}
 use Rattle.replaying.specs.declared.Command.{Command}
@@ -56,6 +58,20 @@ runRead h c shown address n out t = readOn (h .geometry) (namedIn (c .first)) sh
 -- a zone's first address
 unfoldable pub zoneStart : Host → ℕ → ℕ
 zoneStart h z = pick (isValid (h .geometry)) (pick (leb 16 z) 0 (z * zoneSectors (h .geometry))) 0
+
+-- a read that gave no byte
+abbrev pub glimpse : ℕ → ℕ → Glimpse
+glimpse n x = record { code = n; sum = x }
+
+abbrev pub pointerShown : State → ℕ → ℕ
+pointerShown s z = pointerIn (recordAt s z .condition)
+
+-- "of a read of the whole zone up to its pointer", "1 where the pointer is 0"
+unfoldable pub zoneRead : Host → Command → State → ℕ → List ℕ → Tables → Glimpse
+zoneRead h c shown z out t =
+    pick (leb 16 z) (glimpse 8 0)
+    (pick (eqb (pointerShown shown z) 0) (glimpse 0 1)
+    (glimpseOf (runRead h c shown (zoneStart h z) (pointerShown shown z) (take (lent (runBytes (h .geometry) (pointerShown shown z)) 0 (length out)) out) (tablesOf (shelfSectors h (t .sectors)) (shelfPointers h (t .written)) (shelfPointers h (t .durable))))))
 
 -- ---- peeks
 -- sectors that tell their own place: of the first k fours of bytes, each is the number of its first byte

@@ -3,12 +3,12 @@ use super::Command;
 use super::Host;
 use super::Reply;
 ghost use mathlib.Core.Path.{_≡_};
-ghost use mathlib.Core.List.{_++_};
+ghost use mathlib.Core.List.{[], _++_};
 ghost use lib.ListN.{length, drop};
 ghost use Rattle.tables.specs.Tables.{tablesOf};
 ghost use Rattle.replaying.specs.Hosting.{geometryIn, shelfHost, quietReply};
 ghost use Rattle.replaying.specs.Calling.{stateDone, callDone};
-ghost use Rattle.replaying.specs.Performing.{sectorsLent, writtenLent, durableLent, bufferLent, calledLent, zeroTables, changedHost, isCall, isChange};
+ghost use Rattle.replaying.specs.Performing.{sectorsLent, writtenLent, durableLent, bufferLent, calledLent, zeroTables, changedHost, isCall, isChange, cutShelf, oddSector, oddStored, oddShelf, changed, performed};
 
 // A call that asks for a state, on tables that are lent.
 fn call_with_state(
@@ -136,14 +136,21 @@ fn change_host(h: Host, c: Command) -> Host
 }
 
 // A cut of all drives of the shelf.
-fn cut_lent(written: &mut [u32], durable: &mut [u32], h: Host, c: Command) {
+fn cut_lent(written: &mut [u32], durable: &mut [u32], h: Host, c: Command)
+    ensures { λ _. ⌜ (now (written .exit) ≡ cutShelf h c (now (written .entry)) (now (durable .entry)) .written)
+        × (now (durable .exit) ≡ cutShelf h c (now (written .entry)) (now (durable .entry)) .durable) ⌝ }
+{
     let w = super::hosting::lend(h.cells, 0, written.len());
     let n = super::hosting::lend(w, 0, durable.len());
     super::stream::cut(&mut written[..n], &mut durable[..n], c.first);
 }
 
 // An odd header, or a sector of the stream, at a zone's written pointer.
-fn append_odd(sectors: &mut [u8], written: &mut [u32], buffer: &mut [u8], h: Host, c: Command) {
+fn append_odd(sectors: &mut [u8], written: &mut [u32], buffer: &mut [u8], h: Host, c: Command)
+    ensures { λ _. ⌜ (now (sectors .exit) ≡ oddStored h c (oddSector h c (now (buffer .entry))) (now (sectors .entry)) (now (written .entry)) .sectors)
+        × (now (written .exit) ≡ oddStored h c (oddSector h c (now (buffer .entry))) (now (sectors .entry)) (now (written .entry)) .written)
+        × (now (buffer .exit) ≡ oddSector h c (now (buffer .entry))) ⌝ }
+{
     let g = h.geometry;
     let drive = c.first as usize;
     let zone = c.second as usize;
@@ -157,7 +164,11 @@ fn append_odd(sectors: &mut [u8], written: &mut [u32], buffer: &mut [u8], h: Hos
 }
 
 // The same, with the shelf's tables and a buffer of one sector.
-fn append_lent(space: &mut [u8], written: &mut [u32], buffer: &mut [u8], h: Host, c: Command) {
+fn append_lent(space: &mut [u8], written: &mut [u32], buffer: &mut [u8], h: Host, c: Command)
+    ensures { λ _. ⌜ (now (space .exit) ≡ oddShelf h c (now (buffer .entry)) (tablesOf (now (space .entry)) (now (written .entry)) []) .tables .sectors)
+        × (now (written .exit) ≡ oddShelf h c (now (buffer .entry)) (tablesOf (now (space .entry)) (now (written .entry)) []) .tables .written)
+        × (now (buffer .exit) ≡ oddShelf h c (now (buffer .entry)) (tablesOf (now (space .entry)) (now (written .entry)) []) .buffer) ⌝ }
+{
     let g = h.geometry;
     let a = super::hosting::lend(h.bytes, 0, space.len());
     let w = super::hosting::lend(h.cells, 0, written.len());
@@ -173,7 +184,10 @@ fn change_tables(
     buffer: &mut [u8],
     h: Host,
     c: Command,
-) {
+)
+    ensures { λ _. ⌜ (tablesOf (now (space .exit)) (now (written .exit)) (now (durable .exit)) ≡ changed h c (now (buffer .entry)) (tablesOf (now (space .entry)) (now (written .entry)) (now (durable .entry))) .tables)
+        × (now (buffer .exit) ≡ changed h c (now (buffer .entry)) (tablesOf (now (space .entry)) (now (written .entry)) (now (durable .entry))) .buffer) ⌝ }
+{
     let letter = c.letter;
     if letter == b'c' {
         cut_lent(written, durable, h, c);
@@ -216,7 +230,11 @@ pub fn perform(
     buffer: &mut [u8],
     h: Host,
     c: Command,
-) -> Reply {
+) -> Reply
+    ensures { λ r. ⌜ (r ≡ performed h c (now (buffer .entry)) (tablesOf (now (space .entry)) (now (written .entry)) (now (durable .entry))) .reply)
+        × (tablesOf (now (space .exit)) (now (written .exit)) (now (durable .exit)) ≡ performed h c (now (buffer .entry)) (tablesOf (now (space .entry)) (now (written .entry)) (now (durable .entry))) .tables)
+        × (now (buffer .exit) ≡ performed h c (now (buffer .entry)) (tablesOf (now (space .entry)) (now (written .entry)) (now (durable .entry))) .buffer) ⌝ }
+{
     let letter = c.letter;
     if letter == b'g' {
         return new_shelf(space, written, durable, c);

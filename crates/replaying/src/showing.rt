@@ -10,7 +10,7 @@ ghost use lib.ListN.{length, take};
 ghost use Rattle.tables.specs.Tables.{tablesOf};
 ghost use Rattle.replaying.specs.Adler.{adlerOfBytes, adlerOfTables};
 ghost use Rattle.replaying.specs.Hosting.{lent, runBytes};
-ghost use Rattle.replaying.specs.Showing.{mayKeep, conditionNumber, shelfSectors, shelfPointers, glimpseBy, glimpseOf, runRead, zoneStart, markedAll, placeIn, partShown};
+ghost use Rattle.replaying.specs.Showing.{mayKeep, conditionNumber, shelfSectors, shelfPointers, glimpseBy, glimpseOf, runRead, zoneStart, zoneRead, markedAll, placeIn, partShown};
 
 // Whether a command's line shows the host's state whole: those of format, mount, write, flush and reset do.
 pub fn may_keep(letter: u8) -> bool
@@ -104,7 +104,9 @@ pub fn read_zone(
     c: Command,
     shown: State,
     z: usize,
-) -> Glimpse {
+) -> Glimpse
+    ensures { λ r. ⌜ r ≡ zoneRead h c shown z (now (buffer .entry)) (tablesOf (now (space .entry)) (now (written .entry)) (now (durable .entry))) ⌝ }
+{
     if 16 <= z {
         return Glimpse { code: 8, sum: 0 };
     }

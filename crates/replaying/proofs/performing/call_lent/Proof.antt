@@ -1,5 +1,4 @@
 use mathlib.Core.Path.{refl, sym, _∙_, ap}
-use borrow.Author.Needs.{needs}
 use lib.ListN.{drop}
 use Prim.Native.Nat.{ℕ}
 use denote.Ref.{now}

@@ -1,7 +1,9 @@
-use mathlib.Core.Path.{sym, _∙_}
+use Rattle.replaying.specs.Performing.{cutShelf}
+use mathlib.Core.List.{List, _++_}
+use mathlib.Core.Path.{sym, _∙_, ap, refl}
 use native.Mathlib.Omega.{arith}
-use lib.ListN.{length}
-use Prim.Native.Nat.{_≤_}
+use lib.ListN.{length, drop}
+use Prim.Native.Nat.{_≤_, ℕ}
 use denote.Ref.{now}
 use lib.Seq.{length-front, length-take-le}
 use Rattle.replaying.proofs.performing.cut_lent.Statement.{statement}
@@ -35,7 +37,8 @@ same-length-2 : tie.Need-same-length-2
 same-length-2 c = length-front (c .before .before .before .before .before .before .before .before .before .before .before .args .durable .now) (c .before .before .before .before .cut .last .1 .0) (c .before .before .before .before .before .before .before .lend2 .result) (c .before .before .before .before .cut .kept .1 .0)
 
 returns : tie.Need-returns
-returns c = tt
+unfolding cutShelf
+returns c = let a = c .before .before .before .before .before .before .before .before .before .before .before .args in (ap (λ (l : List ℕ). l ++ drop (c .before .before .before .before .before .before .before .lend2 .result) (a .written .now)) (c .before .before .before .before .cut .ensures .0) ∙ rw (c .before .before .before .before .before .before .before .lend2 .ensures .0, c .before .before .before .before .before .before .before .before .lend .ensures .0) refl, ap (λ (l : List ℕ). l ++ drop (c .before .before .before .before .before .before .before .lend2 .result) (a .durable .now)) (c .before .before .before .before .cut .ensures .1) ∙ rw (c .before .before .before .before .before .before .before .lend2 .ensures .0, c .before .before .before .before .before .before .before .before .lend .ensures .0) refl)
 
 pub cut-lent-spec : {M : Type 1} → statement M
 cut-lent-spec =

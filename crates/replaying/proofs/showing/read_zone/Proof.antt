@@ -1,11 +1,14 @@
+use Rattle.replaying.specs.Showing.{zoneRead}
+use borrow.Author.Tests.{le-leb, lt-leb, eq-eqb, ne-eqb}
 use native.Mathlib.Omega.{arith}
-use mathlib.Core.Path.{sym}
+use mathlib.Core.Path.{sym, _∙_, refl}
 use lib.Seq.{length-front, length-take-le}
 use Rattle.replaying.proofs.showing.read_zone.Statement.{statement}
 use Rattle.replaying.proofs.showing.read_zone.Tie as tie
 
 returns : tie.Need-returns
-returns c = tt
+unfolding zoneRead
+returns c = rw (le-leb _ _ (c .if1 .taken)) refl
 
 mul-r : tie.Need-mul-r
 mul-r c = omega arith
@@ -17,7 +20,8 @@ pointer-of-requires : tie.Need-pointer-of-requires
 pointer-of-requires c κs = tt
 
 returns-2 : tie.Need-returns-2
-returns-2 c = tt
+unfolding zoneRead
+returns-2 c = rw (lt-leb _ _ (c .before .before .before .if1 .left), ← c .before .pointer-of .ensures, eq-eqb _ 0 (c .if2 .taken)) refl
 
 zone-start-requires : tie.Need-zone-start-requires
 zone-start-requires c κs = tt
@@ -59,7 +63,8 @@ same-length : tie.Need-same-length
 same-length c = length-front (c .before .before .before .before .before .before .before .before .before .before .before .before .before .before .before .before .before .before .before .before .before .args .buffer .now) (c .before .before .read-run .last .1 .1 .1 .0) (c .before .before .before .before .before .before .before .lend4 .result) (c .before .before .read-run .kept .1 .1 .1 .0)
 
 returns-3 : tie.Need-returns-3
-returns-3 c = tt
+unfolding zoneRead
+returns-3 c = rw (lt-leb _ _ (c .before .before .before .before .before .before .before .before .before .before .before .before .before .before .before .before .if1 .left), ← c .before .before .before .before .before .before .before .before .before .before .before .before .before .before .pointer-of .ensures, ne-eqb _ 0 (c .before .before .before .before .before .before .before .before .before .before .before .before .before .if2 .left)) (c .before .before .read-run .ensures .0 ∙ rw (c .before .before .before .before .before .before .before .before .before .before .lend .ensures .0, c .before .before .before .before .before .before .before .before .before .lend2 .ensures .0, c .before .before .before .before .before .before .before .before .lend3 .ensures .0, c .before .before .before .before .before .before .before .lend4 .ensures .0, c .before .before .before .before .before .before .before .before .before .before .before .run-bytes .ensures, c .before .before .before .before .before .before .before .before .before .before .before .before .zone-start .ensures) refl)
 
 pub read-zone-spec : {M : Type 1} → statement M
 read-zone-spec =

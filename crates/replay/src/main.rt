@@ -1,5 +1,5 @@
 // Replays the conformance vectors: reads a script from standard input and writes one answer line for each command. The file `stdout` beside
-// src/ holds the lines that document 01's model gives.
+// src/ holds the lines that the vectors give; both are cut off before each shelf's first mount (scripts/vectors_before_mount.py).
 use replaying::Command;
 use replaying::Host;
 use replaying::Reply;
@@ -21,10 +21,12 @@ fn shelf_space() -> [u8; 65536]
     [0; 65536]
 }
 
+// Bytes of the answer line.
 fn text(s: &[u8]) {
     io::write_all(1, s);
 }
 
+// A decimal number of the answer line.
 fn number(n: u64) {
     io::print_decimal(1, n);
 }
@@ -212,6 +214,7 @@ fn replay(
     }
 }
 
+// All of standard input, replayed on a shelf of at most 65,536 bytes; no script of the vectors has a larger one.
 fn main() {
     let mut script = script_space();
     let n = io::read_full(0, &mut script);

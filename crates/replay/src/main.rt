@@ -1,5 +1,5 @@
 // Replays the conformance vectors: reads a script from standard input and writes one answer line for each command. The file `stdout` beside
-// src/ holds the lines that the vectors give; both are cut off before each shelf's first mount (scripts/vectors_before_mount.py).
+// src/ holds the lines that the vectors give: four scripts and their answers, one after the other.
 use replaying::Command;
 use replaying::Host;
 use replaying::Reply;

@@ -172,9 +172,22 @@ module _ (g : Geometry) (ok : Valid g) (s : TablesSystem) (o : TablesOk g s) (na
   steps-placed : EachPlaced g (stepsBy g here k xs ws)
   steps-placed =
       let v = seen g xs ws in
-      each-in-placed g (stays k) (stepsBy g here k xs ws)
-      (labels-in g k v ok, (reset-entries-in g k v ok, (resets-in g k v ok, (counter-step-in g k v ok (among here), (seals-in g k v ok,
-      (torn-rows-in g here k ws xs ws ok (filling g here k ws (s .tables) restoring), (fill-in g here k ws xs ws ok (restorable g here k ws (s .tables) restoring), tt)))))))
+      each-in-placed g (stays k) (stepsBy g here k xs ws) (
+        labels-in g k v ok,
+        (
+          reset-entries-in g k v ok,
+          (
+            resets-in g k v ok,
+            (
+              counter-step-in g k v ok (among here),
+              (
+                seals-in g k v ok,
+                (torn-rows-in g here k ws xs ws ok (filling g here k ws (s .tables) restoring), (fill-in g here k ws xs ws ok (restorable g here k ws (s .tables) restoring), tt)),
+              ),
+            ),
+          ),
+        ),
+      )
 
   all-placed : AllPlaced g (mountStores g (among here) (lostHere g ok here xs ws ds) w)
   all-placed =

@@ -20,7 +20,9 @@ add-read-sector c = search needs
 read-sector-requires : tie.Need-read-sector-requires
 read-sector-requires c κs =
     let s = c .before .before .before .before .before in
-    (s .pre .0, (c .before .before .drive-of .ensures .1, omega (arith, s .pre .1 .0), rw (c .before .sector-of .ensures) (sector-within (s .args .g) (s .args .a) (s .pre .0) (s .pre .1 .1)), s .pre .1 .2, s .pre .1 .3))
+    let drive = c .before .before .drive-of .ensures .1 in
+    let sector = sector-within (s .args .g) (s .args .a) (s .pre .0) (s .pre .1 .1) in
+    (s .pre .0, (omega (arith, drive), omega (arith, s .pre .1 .0), omega (arith, sector, c .before .sector-of .ensures), s .pre .1 .2, s .pre .1 .3))
 
 same-length : tie.Need-same-length
 same-length c = search needs

@@ -106,14 +106,17 @@ pub mod MountRows
 pub mod MountValues
 pub mod KnownLengths
 pub mod MountParityRows
+pub mod MountRestoring
 pub mod MountTornLogs
 pub mod MountLastEntries
-pub mod MountRestoring
 pub mod MountFillOn
+pub mod GenerationRange
 pub mod MountStart
 pub mod MountTold
 pub mod MountJoins
 pub mod Mounting
+pub mod MountAllSteps
+pub mod MountRefines
 -- The promise on the tables.
 pub mod TablesClaim
 pub mod TablesSettled

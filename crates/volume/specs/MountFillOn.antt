@@ -26,12 +26,12 @@ use Rattle.volume.specs.Calls.{appendAll}
 use Rattle.volume.specs.Rules.{Shown}
 use Rattle.volume.specs.Mount.{fillStep}
 use Rattle.volume.specs.WriteRows.{present-all}
-use Rattle.volume.specs.WriteContent.{row-long}
 use Rattle.volume.specs.MountTables.{seen, StoresIn, each-in, on-present-in}
-use Rattle.volume.specs.MountLook.{zoneLook, stays, LookWithin, pointed-stays}
+use Rattle.volume.specs.MountLook.{zoneLook, stays, pointed-stays}
 use Rattle.volume.specs.MountRows.{KnownBelow, valuesOf}
 use Rattle.volume.specs.MountValues.{shownAt, limitAt}
-use Rattle.volume.specs.MountRestoring.{known-long, Restorable}
+use Rattle.volume.specs.KnownLengths.{known-long, known-row-long}
+use Rattle.volume.specs.MountRestoring.{Filling}
 
 -- ---- the stores: zone z of drive d, from the sectors that were there up to those needed
 abbrev pub missing : Geometry → Shown → Device → ℕ → ℕ → List (List ℕ)
@@ -123,17 +123,17 @@ content-long g here xs ps z generation limit end d x ok k hd h = go (ℕ-discret
         let c = parity-complete (g .drives) (g .unit) z two (ok .unit-least) end d x h e in
         let r : x % g .unit < g .unit = mod-lt x (ok .unit-least) in
         ap (λ (l : List ℕ). length l) (content-parity (g .drives) (g .unit) z two (ok .unit-least) (valuesOf g here xs ps z generation) d x e ∙ sym (row-all (g .drives) (g .unit) z two (ok .unit-least) (valuesOf g here xs ps z generation) end (x / g .unit) (x % g .unit) c r))
-        ∙ row-long g ok (valuesOf g here xs ps z generation) (x / g .unit) end (x % g .unit) r (parity-first (g .drives) (g .unit) z two (ok .unit-least) end (x / g .unit) (x % g .unit) c r) (λ j hj l. known-long g here xs ps z generation limit end _ ok k l)
+        ∙ known-row-long g ok here xs ps z generation limit end k (x / g .unit) (x % g .unit) r (parity-first (g .drives) (g .unit) z two (ok .unit-least) end (x / g .unit) (x % g .unit) c r)
     go (no e) =
         ap (λ (l : List ℕ). length l) (content-data (g .drives) (g .unit) z two (ok .unit-least) (valuesOf g here xs ps z generation) d x e)
-        ∙ known-long g here xs ps z generation limit end _ ok k (data-below (g .drives) (g .unit) z two (ok .unit-least) end d x hd h e)
+        ∙ known-long g ok here xs ps z generation limit end k (addressAt (g .drives) (g .unit) z d x) (data-below (g .drives) (g .unit) z two (ok .unit-least) end d x hd h e)
 
 -- ---- the stores leave alone what the look found
 tabulated-in : (g : Geometry) (b : ℕ → Bool) (d y : ℕ) (f : ℕ → List ℕ) (i n : ℕ) → d < g .drives → y < physicalZones g → b y ≡ true → ((x : ℕ) → i ≤ x → x < i + n → length (f x) ≡ g .sector) → StoresIn g b (appendAll d y (tabulateFrom f i n))
 tabulated-in g b d y f i zero hd hy hb h = tt
 tabulated-in g b d y f i (suc n) hd hy hb h = ((hd, hy, h i (omega arith) (omega arith), hb), tabulated-in g b d y f (suc i) n hd hy hb (λ x l m. h x (omega arith) (omega arith)))
 
-module _ (g : Geometry) (here : List Bool) (k : Look) (ps xs ws : List ℕ) (ok : Valid g) (r : Restorable g here k ps xs ws) where
+module _ (g : Geometry) (here : List Bool) (k : Look) (ps xs ws : List ℕ) (ok : Valid g) (r : Filling g here k ps xs ws) where
   -- a zone of which something is needed is not reset
   pub filled-stays : (d z x : ℕ) → z < g .zones → x < needed (g .drives) (g .unit) z (zoneLook k z .pointer) d → stays k (3 + z) ≡ true
   filled-stays d z x hz h = pointed-stays g k z (r .logging .within) hz (λ e. let q : needed (g .drives) (g .unit) z (zoneLook k z .pointer) d ≡ 0 = rw e (needed-none (g .drives) (g .unit) z (omega (arith, ok .drives-least)) (ok .unit-least) d) in omega arith)

@@ -1,12 +1,11 @@
 -- The stores of an accepted mount fit where the invariant holds: each step's have their place, since what the look shows is sectors of B bytes, and
 -- after each of them the invariant says that no zone is longer than C.
-use mathlib.Core.Path.{_≡_, refl, sym, ap, ap₂, subst, _∙_}
-use mathlib.Core.Logic.{_≢_, _⊎_, inl, inr}
+use mathlib.Core.Path.{_≡_, refl, sym, ap, subst, _∙_}
 use mathlib.Core.Bool.{Bool, true, false}
-use Prim.Native.Nat.{ℕ, zero, suc, _+_, _-_, _^_, _≤_, _<_}
-use native.Mathlib.Nat.{le-refl, le-trans, le-of-eq}
+use Prim.Native.Nat.{ℕ, _-_}
+use native.Mathlib.Nat.{le-refl}
 use native.Mathlib.Omega.{arith}
-use mathlib.Core.List.{List, [], _∷_, _++_}
+use mathlib.Core.List.{List, [], _++_, _∷_}
 use lib.ListN.{length, replicate}
 use Rattle.tables.specs.declared.Geometry.{Geometry}
 use Rattle.tables.specs.Basics.{pick}
@@ -16,34 +15,29 @@ use Rattle.tables.specs.Drives.{presentBut, present-not}
 use Rattle.tables.specs.Lists.{concat, concat-append, isNil}
 use Rattle.tables.specs.Phases.{onPresent, flushAll}
 use Rattle.tables.specs.Device.{Device, Store, append, reset, flush, applyAll}
-use Rattle.tables.specs.Tables.{Tables, tablesOf, deviceOf, Placed, AllPlaced, FitsAll}
+use Rattle.tables.specs.Tables.{Tables, deviceOf, Placed, AllPlaced, FitsAll}
 use Rattle.tables.specs.TablesRefine.{all-placed-append}
-use Rattle.logs.specs.Entry.{wornGeneration}
-use Rattle.logs.specs.Heads.{generationIn}
 use Rattle.volume.specs.declared.Look.{Look}
-use Rattle.volume.specs.declared.ZoneLook.{ZoneLook}
-use Rattle.volume.specs.Rules.{Shown, ZoneShown, isPresent, lostDrive, generationOf, zoneAt, zoneShown, showing}
+use Rattle.volume.specs.Rules.{isPresent, lostDrive}
 use Rattle.volume.specs.Refusals.{accept, leastApplying, mountRows}
 use Rattle.volume.specs.Mount.{withFlush, withFlushes, entryStep, mountLook, stepsBeforeEntries, afterOpening, phasesBeforeEntries, mountPhases, mountStores}
-use Rattle.volume.specs.Ledger.{Ledger}
-use Rattle.volume.specs.Invariant.{Ghost, Here, Inv, Live, Dying}
-use Rattle.volume.specs.LookLive.{counts-now, generation-most}
+use Rattle.volume.specs.Invariant.{Here}
 use Rattle.volume.specs.ClaimEvents.{inv-of, drives-of-look, lost-of-look, mount-accepted}
 use Rattle.volume.specs.MountKeeps.{mount-keeps}
 use Rattle.volume.specs.OnTables.{among, lengthsOf}
 use Rattle.volume.specs.Knowing.{readDevice}
 use Rattle.volume.specs.DrivesLost.{presentOf, saidList, look-present-is, lost-drive-is}
-use Rattle.volume.specs.Looking.{lookOf, Lookable, present-read, lost-drive-read, shown-read}
+use Rattle.volume.specs.Looking.{lookOf, Lookable, present-read, lost-drive-read}
 use Rattle.volume.specs.MountTables.{StoreIn, StoresIn}
-use Rattle.volume.specs.MountLook.{zoneLook, stays}
+use Rattle.volume.specs.MountLook.{stays}
 use Rattle.volume.specs.MountSteps.{AllIn, labels-in, reset-entries-in, resets-in, counter-step-in, seals-in}
 use Rattle.volume.specs.MountTables.{seen}
 use Rattle.volume.specs.MountValues.{shownAt, Restoring}
-use Rattle.volume.specs.MountTornLogs.{filling, torn-rows-in}
+use Rattle.volume.specs.MountTornLogs.{torn-rows-in}
 use Rattle.volume.specs.MountLastEntries.{entries-in}
-use Rattle.volume.specs.MountRestoring.{restorable}
+use Rattle.volume.specs.MountRestoring.{filling}
 use Rattle.volume.specs.MountFillOn.{fill-in}
-use Rattle.volume.specs.MountStart.{shownHere, worn-top, generation-here, restoring-start}
+use Rattle.volume.specs.MountStart.{shownHere, restoring-start}
 use Rattle.volume.specs.Mounting.{stepsBy, lostHere, steps-are, entries-are}
 use Rattle.volume.specs.StoresFit.{AllOn, on-present-on, stores-fit, placed-present, placed-flushes, EachPlaced}
 use Rattle.volume.specs.TablesClaim.{TablesSystem, Names}
@@ -148,25 +142,11 @@ module _ (g : Geometry) (ok : Valid g) (s : TablesSystem) (o : TablesOk g s) (na
     pointers = λ d y hd p hy. o .order d hd (present-not g (s .lost) d (sym (ap (λ (f : ℕ → Bool). f d) here-not-lost) ∙ p)) .written-most y hy;
   }
 
-  -- no generation is past the last
-  generation-small : (z : ℕ) → z < g .zones → generationOf g (presentBut g (s .lost)) w z ≤ wornGeneration
-  generation-small z hz =
-      let (γ, i) = inv-of g (viewSystem g s) (o .holds) in
-      generation-most g ok (s .lost) w γ (i .logs) z wornGeneration (λ d a. by γ i (i .zones z hz) d a)
-    where
-      by : (γ : Ghost) (i : Inv g (s .lost) w (s .ledger) γ) → Live g (s .lost) w γ (s .ledger) z ⊎ Dying g (s .lost) w γ (s .ledger) z → (d : ℕ) → Here g (s .lost) d → generationIn z (γ .general d) ≤ wornGeneration
-      by γ i (inl q) d a = omega (arith, counts-now g ok (s .lost) w γ (i .logs) z (λ m. m ≡ γ .generation z) (q .counts) d a, q .generation-top)
-      by γ i (inr q) d a = counts-now g ok (s .lost) w γ (i .logs) z (λ m. (γ .generation z ≤ m) × (m ≤ wornGeneration)) (q .counts) d a .1
-
-  generation-read : (z : ℕ) → generationOf g (among here) (readDevice g xs ws) z ≡ generationOf g (presentBut g (s .lost)) w z
-  unfolding showing zoneShown zoneAt
-  generation-read z = ap (λ (k : Shown). k .zone z .generation) (sym (shown-read g xs ws ds (among here) 0)) ∙ ap (λ (f : ℕ → Bool). generationOf g f w z) here-not-lost
-
   abbrev k : Look
   k = lookOf g (shownHere g ok here xs ws)
 
   restoring : Restoring g here k ws (s .tables)
-  restoring = restoring-start g ok here xs ws (λ z h. omega (arith, generation-here g ok here xs ws z h, generation-read z, generation-small z h, worn-top)) ds lookable-here (o .sized .durable-long)
+  restoring = restoring-start g ok here xs ws ds lookable-here (o .sized .durable-long)
 
   -- each step's stores have their place
   steps-placed : EachPlaced g (stepsBy g here k xs ws)
@@ -182,7 +162,7 @@ module _ (g : Geometry) (ok : Valid g) (s : TablesSystem) (o : TablesOk g s) (na
               counter-step-in g k v ok (among here),
               (
                 seals-in g k v ok,
-                (torn-rows-in g here k ws xs ws ok (filling g here k ws (s .tables) restoring), (fill-in g here k ws xs ws ok (restorable g here k ws (s .tables) restoring), tt)),
+                (torn-rows-in g here k ws xs ws ok (filling g here k ws (s .tables) restoring), (fill-in g here k ws xs ws ok (filling g here k ws (s .tables) restoring), tt)),
               ),
             ),
           ),

@@ -2,7 +2,7 @@
 -- stage, the later one makes nothing, whatever it is.
 use mathlib.Core.Path.{_≡_, refl, sym, ap, ap₂, _∙_, subst}
 use mathlib.Core.Bool.{Bool, true, false}
-use Prim.Native.Nat.{ℕ, zero, suc, _+_, _-_, _≤_, _<_, zero-le}
+use Prim.Native.Nat.{ℕ, zero, suc, _+_, _-_, _≤_, zero-le}
 use native.Mathlib.Decide.{ℕ-discrete}
 use native.Mathlib.Omega.{arith}
 use mathlib.Core.List.{List, [], _∷_, _++_}
@@ -11,8 +11,7 @@ use borrow.Author.Tests.{ltb-true}
 use Rattle.tables.specs.declared.Geometry.{Geometry}
 use Rattle.tables.specs.Basics.{pick}
 use Rattle.tables.specs.Device.{Store, append, reset, flush}
-use Rattle.tables.specs.Phases.{onPresent, on-present-append, flushAll}
-use Rattle.tables.specs.Tables.{Tables, tablesOf, cell, hasRoom, sectorsAfterAppend, writtenAfterAppend, pointersAfterReset, makeStore, runStores, Made}
+use Rattle.tables.specs.Tables.{Tables, cell, hasRoom, sectorsAfterAppend, writtenAfterAppend, pointersAfterReset, makeStore, runStores, Made}
 use Rattle.tables.specs.Counted.{run-none, run-append, made-append}
 
 -- a count that covers a list makes all of it
@@ -75,16 +74,3 @@ pub run-most : (g : Geometry) (n : ℕ) (xs : List Store) (t : Tables) (k : ℕ)
 run-most g n [] t k h = h
 run-most g zero (x ∷ xs) t k h = h
 run-most g (suc n) (x ∷ xs) t k h = run-most g n xs (makeStore g x t) k (store-most g x t k h)
-
--- flushes keep the bytes
-pub flushes-keep : (g : Geometry) (a : ℕ → Bool) (n k : ℕ) (t : Tables) → runStores g k (onPresent a (flushAll n)) t .sectors ≡ t .sectors
-flushes-keep g a zero k t = refl
-flushes-keep g a (suc n) k t =
-    ap (λ (ss : List Store). runStores g k ss t .sectors) (on-present-append a (flushAll n) (flush n ∷ []))
-    ∙ ap (λ (u : Tables). u .sectors) (run-append g k (onPresent a (flushAll n)) (onPresent a (flush n ∷ [])) t)
-    ∙ one (a n) (k - length (onPresent a (flushAll n))) (runStores g k (onPresent a (flushAll n)) t) ∙ flushes-keep g a n k t
-  where
-    one : (b : Bool) (j : ℕ) (u : Tables) → runStores g j (pick b (flush n ∷ []) []) u .sectors ≡ u .sectors
-    one true zero u = refl
-    one true (suc j) u = refl
-    one false j u = refl

@@ -3,7 +3,7 @@
 use mathlib.Core.Path.{_≡_, refl, sym, ap, _∙_, fun-ext, subst}
 use mathlib.Core.Logic.{_≢_}
 use mathlib.Core.Bool.{Bool, true, false, _&&_, _||_, not}
-use Prim.Native.Nat.{ℕ, _+_, _-_, _*_, _≤_, _<_, min}
+use Prim.Native.Nat.{ℕ, _-_, _*_, _≤_, _<_, min}
 use native.Mathlib.Nat.{le-refl, sub-zero}
 use native.Mathlib.Omega.{arith}
 use mathlib.Core.List.{List, [], _∷_, _++_, map}
@@ -35,7 +35,7 @@ use Rattle.volume.specs.MountTables.{seen, seen-sectors, StoresIn, each-
 use Rattle.volume.specs.MountLook.{zoneLook, shownWith, stays, log-stays}
 use Rattle.volume.specs.MountValues.{shownAt, limitAt, Restoring}
 use Rattle.volume.specs.MountParityRows.{storedRow, logRows, Rowing, behind-logs, stored-rows-in}
-use Rattle.volume.specs.MountTornLogs.{Filling, filling, filled}
+use Rattle.volume.specs.MountRestoring.{Filling, filling, filled}
 
 -- ---- what the code relies on: as in the steps before, and that nothing was reset since the step began, with pointers ss
 pub record Entering (g : Geometry) (here : List Bool) (k : Look) (ps ss xs ws : List ℕ) : Type 0 where

@@ -2,13 +2,13 @@
 use mathlib.Core.Path.{_≡_, refl, sym, ap, _∙_}
 use mathlib.Core.Logic.{_≢_, _⊎_, inl, inr}
 use mathlib.Core.Bool.{Bool, true, false, _||_, not, true≢false}
-use Prim.Native.Nat.{ℕ, zero, suc, _+_, _-_, _^_, _≤_, _<_, min, zero-le}
+use Prim.Native.Nat.{ℕ, zero, suc, _-_, _^_, _≤_, _<_, min, zero-le}
 use native.Mathlib.Nat.{le-refl}
 use native.Mathlib.Omega.{arith}
-use mathlib.Core.List.{List, []}
+use mathlib.Core.List.{List}
 use lib.ListN.{length, getD}
 use lib.Dec.{eqb}
-use borrow.Author.Tests.{eqb-true, eq-eqb}
+use borrow.Author.Tests.{eq-eqb}
 use Rattle.tables.specs.declared.Geometry.{Geometry}
 use Rattle.tables.specs.Basics.{pick}
 use Rattle.tables.specs.Drives.{findBelow, find-below-is, noDrive}
@@ -19,14 +19,14 @@ use Rattle.tables.specs.Tables.{tablesOf, cell}
 use Rattle.logs.specs.Entry.{wornGeneration}
 use Rattle.volume.specs.declared.Condition.the-variants.{Empty, Open, Sealed, Worn}
 use Rattle.volume.specs.declared.ZoneLook.{ZoneLook}
-use Rattle.volume.specs.declared.Look.{Look}
 use Rattle.volume.specs.State.{isEmpty}
-use Rattle.volume.specs.Rules.{Shown, ZoneShown, known, zoneView, knownPrefix, sealLimit, resetSeen, pointerAt, generationOf, cleanAt, sealSeen, conditionOf, zoneAt, zoneShown, showing}
+use Rattle.volume.specs.Rules.{Shown, known, zoneView, knownPrefix, sealLimit, resetSeen, pointerAt, generationOf, cleanAt, sealSeen, conditionOf, zoneAt, zoneShown, showing}
 use Rattle.volume.specs.OnTables.{among}
 use Rattle.volume.specs.Knowing.{readDevice}
 use Rattle.volume.specs.DrivesLost.{fill-at}
 use Rattle.volume.specs.ZoneLooking.{zoneLookOf, pointer-reset}
 use Rattle.volume.specs.Looking.{looksFrom, lookOf, Lookable, lookable-zone}
+use Rattle.volume.specs.GenerationRange.{generation-range}
 use Rattle.volume.specs.MountLook.{blankLook, zoneLook, zoneWith, Tells, LookWithin}
 use Rattle.volume.specs.MountRows.{valuesOf}
 use Rattle.volume.specs.MountValues.{shownAt, Restoring}
@@ -105,35 +105,37 @@ module _ (g : Geometry) (ok : Valid g) (here : List Bool) (xs ws : List ℕ) whe
   unfolding showing zoneShown zoneAt
   shown-at z h = ap (λ (l : ZoneLook). zoneWith l (valuesOf g here xs ws z (l .generation))) (zone-here z h)
 
-  module _ (small : (z : ℕ) → z < g .zones → zoneLook (lookOf g shownHere) z .generation < 2 ^ 64) where
-    pub look-within : LookWithin g (lookOf g shownHere)
-    look-within = record {
-      lost-small = lost-of;
-      pointer-most = λ z h. rw (pointer-here z h) (pointer-within g (among here) (readDevice g xs ws) z (generationOf g (among here) (readDevice g xs ws) z));
-      generation-small = small;
-      raises = λ z h e. raised z h e;
-      reset-empty = λ z h e. pointer-here z h ∙ sym (pointer-reset g (among here) (readDevice g xs ws) z (generationOf g (among here) (readDevice g xs ws) z) (sym (reset-here z h) ∙ e));
-    }
-      where
-        lost-of : lookOf g shownHere .lost < 256
-        lost-of = unfold showing in lost-small (λ (d : ℕ). not (among here d)) (g .drives) (ok .drives-most)
+  pub look-within : LookWithin g (lookOf g shownHere)
+  look-within = record {
+    lost-small = lost-of;
+    pointer-most = λ z h. rw (pointer-here z h) (pointer-within g (among here) (readDevice g xs ws) z (generationOf g (among here) (readDevice g xs ws) z));
+    generation-small = small;
+    raises = λ z h e. raised z h e;
+    reset-empty = λ z h e. pointer-here z h ∙ sym (pointer-reset g (among here) (readDevice g xs ws) z (generationOf g (among here) (readDevice g xs ws) z) (sym (reset-here z h) ∙ e));
+  }
+    where
+      small : (z : ℕ) → z < g .zones → zoneLook (lookOf g shownHere) z .generation < 2 ^ 64
+      small z h = rw (generation-here z h) (generation-range g (among here) (readDevice g xs ws) z h)
 
-        raised : (z : ℕ) → z < g .zones → isEmpty (zoneLook (lookOf g shownHere) z .condition) ≡ true → suc (zoneLook (lookOf g shownHere) z .generation) < 2 ^ 64
-        raised z h e =
-            let n : zoneLook (lookOf g shownHere) z .generation ≢ 2 ^ 64 - 1 = λ q. empty-here z h e (sym (generation-here z h) ∙ q ∙ sym worn-top) in
-            omega (arith, small z h, n)
+      lost-of : lookOf g shownHere .lost < 256
+      lost-of = unfold showing in lost-small (λ (d : ℕ). not (among here d)) (g .drives) (ok .drives-most)
 
-    -- nothing is stored yet
-    pub restoring-start : (ds : List ℕ) → Lookable g here xs ws → length ds ≡ cells g → Restoring g here (lookOf g shownHere) ws (tablesOf xs ws ds)
-    restoring-start ds r l = record {
-      underway = record {
-        logging = record { sectors-long = r .sectors-long; written-long = r .written-long; pointers-long = r .written-long; within = look-within; behind = record { least = λ d z hd hz b. le-refl (getD ws (cell g d z) 0) } };
-        durable-long = l;
-      };
-      known-below = λ z h. record {
-        readable = lookable-zone g here xs ws z r h;
-        limit-is = refl;
-        end-most = rw (pointer-here z h) (pointer-within g (among here) (readDevice g xs ws) z (generationOf g (among here) (readDevice g xs ws) z));
-        all-known = λ a k. rw (generation-here z h) (below-known g (among here) (readDevice g xs ws) z (generationOf g (among here) (readDevice g xs ws) z) a (rw (pointer-here z h) at k));
-      };
-    }
+      raised : (z : ℕ) → z < g .zones → isEmpty (zoneLook (lookOf g shownHere) z .condition) ≡ true → suc (zoneLook (lookOf g shownHere) z .generation) < 2 ^ 64
+      raised z h e =
+          let n : zoneLook (lookOf g shownHere) z .generation ≢ 2 ^ 64 - 1 = λ q. empty-here z h e (sym (generation-here z h) ∙ q ∙ sym worn-top) in
+          omega (arith, small z h, n)
+
+  -- nothing is stored yet
+  pub restoring-start : (ds : List ℕ) → Lookable g here xs ws → length ds ≡ cells g → Restoring g here (lookOf g shownHere) ws (tablesOf xs ws ds)
+  restoring-start ds r l = record {
+    underway = record {
+      logging = record { sectors-long = r .sectors-long; written-long = r .written-long; pointers-long = r .written-long; within = look-within; behind = record { least = λ d z hd hz b. le-refl (getD ws (cell g d z) 0) } };
+      durable-long = l;
+    };
+    known-below = λ z h. record {
+      readable = lookable-zone g here xs ws z r h;
+      limit-is = refl;
+      end-most = rw (pointer-here z h) (pointer-within g (among here) (readDevice g xs ws) z (generationOf g (among here) (readDevice g xs ws) z));
+      all-known = λ a k. rw (generation-here z h) (below-known g (among here) (readDevice g xs ws) z (generationOf g (among here) (readDevice g xs ws) z) a (rw (pointer-here z h) at k));
+    };
+  }

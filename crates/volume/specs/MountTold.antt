@@ -1,18 +1,17 @@
 -- Steps 6 to 8 of a mount as the code makes them are the rules': what is shown, with the values read below the look's pointers, is the mount's look.
-use mathlib.Core.Path.{_≡_, refl, sym, ap, ap₂, _∙_, fun-ext}
+use mathlib.Core.Path.{_≡_, refl, sym, ap, _∙_, fun-ext}
 use mathlib.Core.Bool.{Bool, true, false}
 use Prim.Native.Nat.{ℕ, zero, suc, _+_, _-_, _<_, min}
-use native.Mathlib.Omega.{arith}
-use mathlib.Core.List.{List, [], _∷_, _++_}
+use mathlib.Core.List.{List, [], _∷_}
 use lib.ListN.{length, getD}
 use lib.Dec.{eqb}
 use Rattle.tables.specs.declared.Geometry.{Geometry}
 use Rattle.tables.specs.Basics.{pick}
-use Rattle.tables.specs.Below.{eachBelow, tabulateFrom}
+use Rattle.tables.specs.Below.{tabulateFrom}
 use Rattle.tables.specs.Placement.{needed}
 use Rattle.tables.specs.Device.{Device, ZoneView, Store, flush, applyAll, apply-all-append}
 use Rattle.tables.specs.Phases.{onPresent, on-present-append, flushAll}
-use Rattle.logs.specs.Entry.{parityZone, Header, label, counters, zoneReset, partialParity, seal, decode-legal}
+use Rattle.logs.specs.Entry.{parityZone, label, counters, zoneReset, partialParity, seal, decode-legal}
 use Rattle.logs.specs.Judge.{partial-small}
 use Rattle.logs.specs.Walk.{Ending, atPointer, noEntry, torn, walkLog}
 use Rattle.logs.specs.Places.{EndsAt, walk-places}

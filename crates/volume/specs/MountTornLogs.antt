@@ -1,5 +1,5 @@
 -- Step 6 of a mount on the tables: "rows missing from torn entries". The code finds the torn entry of a parity log and how many of its rows
--- are there; it appends the others. Steps 6 to 8 rely on the values of the look, which stay while a mount appends (`filled`).
+-- are there; it appends the others. Steps 6 to 8 rely on the values of the look, which stay while a mount appends (MountRestoring: `filled`).
 use mathlib.Core.Path.{_≡_, refl, sym, ap, ap₂, _∙_}
 use mathlib.Core.Logic.{_≢_}
 use mathlib.Core.Bool.{Bool, true, false, _&&_}
@@ -17,7 +17,7 @@ use Rattle.tables.specs.Below.{eachBelow, tabulateFrom, length-tabulate}
 use Rattle.tables.specs.Geometry.{Valid, stripeSectors, zoneSectors}
 use Rattle.tables.specs.Device.{Device, Store}
 use Rattle.tables.specs.Phases.{onPresent}
-use Rattle.tables.specs.Tables.{Tables, tablesOf, cell, sectorAt, MadeAppends}
+use Rattle.tables.specs.Tables.{tablesOf, cell, sectorAt}
 use Rattle.logs.specs.declared.Found.{Found}
 use Rattle.logs.specs.declared.Found.the-variants.{Bad, Label, Counters, Resets, Partial, Seal}
 use Rattle.logs.specs.Entry.{parityZone, Header, label, counters, zoneReset, partialParity, seal, rowsOf, decode, decode-legal, fitsLog}
@@ -33,33 +33,11 @@ use Rattle.volume.specs.Mount.{rowFor, missingRows, tornRowStep}
 use Rattle.volume.specs.WriteRows.{present-all}
 use Rattle.volume.specs.MountTables.{seen, seen-sectors, StoresIn, each-in}
 use Rattle.volume.specs.MountLook.{zoneLook, stays, log-stays}
-use Rattle.volume.specs.MountHeaders.{Logging, logged}
 use Rattle.volume.specs.MountRows.{KnownBelow}
-use Rattle.volume.specs.MountValues.{shownAt, limitAt, Restoring}
-use Rattle.volume.specs.MountParityRows.{Rowing, behind-logs, known-kept, stored-rows-in}
+use Rattle.volume.specs.MountValues.{shownAt, limitAt}
+use Rattle.volume.specs.MountParityRows.{Rowing, behind-logs, stored-rows-in}
+use Rattle.volume.specs.MountRestoring.{Filling}
 use Rattle.logs.specs.Judge as judge
-
--- ---- what steps 6 to 8 rely on while they append: as `Restoring`, without the durable pointers
-pub record Filling (g : Geometry) (here : List Bool) (k : Look) (ps xs ws : List ℕ) : Type 0 where
-  pub logging : Logging g k ps xs ws
-  pub known-below : (z : ℕ) → z < g .zones → KnownBelow g here xs ps z (zoneLook k z .generation) (limitAt g here k xs ps z) (zoneLook k z .pointer)
-
-pub filling : (g : Geometry) (here : List Bool) (k : Look) (ps : List ℕ) (t : Tables) → Restoring g here k ps t → Filling g here k ps (t .sectors) (t .written)
-filling g here k ps t r = record { logging = r .underway .logging; known-below = r .known-below }
-
--- and they can go on relying on it
-pub filled : (g : Geometry) (here : List Bool) (k : Look) (budget rest : ℕ) (ss : List Store) (ps xs ws xs′ ws′ : List ℕ) → Filling g here k ps xs ws → StoresIn g (stays k) ss → MadeAppends g budget rest ss xs ws xs′ ws′
-    → Filling g here k ps xs′ ws′ × (seen g xs′ ps ≡ seen g xs ps)
-filled g here k budget rest ss ps xs ws xs′ ws′ f p m =
-    let (l, e) = logged g k budget rest ss ps xs ws xs′ ws′ (f .logging) p m in (
-      record {
-        logging = l;
-        known-below = λ z h.
-            let q = known-kept g here xs xs′ ps z (zoneLook k z .generation) (limitAt g here k xs ps z) (zoneLook k z .pointer) (l .sectors-long) e (f .known-below z h) in
-            record { readable = q .readable; limit-is = refl; end-most = q .end-most; all-known = q .all-known };
-      },
-      e,
-    )
 
 -- known below the pointer, so below any end at or below it
 pub known-lower : (g : Geometry) (here : List Bool) (xs ps : List ℕ) (z generation limit end low : ℕ) → low ≤ end → KnownBelow g here xs ps z generation limit end → KnownBelow g here xs ps z generation limit low

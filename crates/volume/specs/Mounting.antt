@@ -6,18 +6,19 @@ use Prim.Native.Nat.{ℕ, suc, _+_, _-_, _≤_, _<_}
 use native.Mathlib.Decide.{ℕ-discrete}
 use native.Mathlib.Omega.{arith}
 use mathlib.Core.List.{List, [], _∷_, _++_, append-assoc}
-use lib.ListN.{length, getD}
+use lib.ListN.{length}
 use lib.Dec.{eqb}
 use borrow.Author.Tests.{eq-eqb, ne-eqb}
 use Rattle.tables.specs.declared.Geometry.{Geometry}
 use Rattle.tables.specs.Basics.{pick}
 use Rattle.tables.specs.Lists.{concat}
 use Rattle.tables.specs.Drives.{findBelow}
-use Rattle.tables.specs.Geometry.{Valid, physicalZones, cells, totalBytes}
+use Rattle.tables.specs.Geometry.{Valid, cells, totalBytes}
 use Rattle.tables.specs.Device.{Device, Store}
 use Rattle.tables.specs.Phases.{onPresent, flushAll}
 use Rattle.tables.specs.GeometryTest.{isValid}
 use Rattle.tables.specs.Tables.{Tables, tablesOf, cell, deviceOf, runStores, Made, lengthsFit, pointersBad}
+use Rattle.tables.specs.TablesFrame.{lengths-are}
 use Rattle.logs.specs.Entry.{generalZone, parityZone}
 use Rattle.volume.specs.declared.State.{State}
 use Rattle.volume.specs.declared.Look.{Look}
@@ -26,19 +27,18 @@ use Rattle.volume.specs.declared.Answer.the-variants.{Finished, Unfinish
 use Rattle.volume.specs.Refusals.{Verdict, leastApplying, mountRows, lookRows, twoLost, badLabels, badLogs, mountFull, reserve}
 use Rattle.volume.specs.Rules.{Shown, showing, isPresent, lostDrive}
 use Rattle.volume.specs.Mount.{withFlush, withFlushes, stepsBeforeEntries, phasesBeforeEntries, tornRowStep, fillStep, entryStep, afterOpening, mountLook}
-use Rattle.volume.specs.OnTables.{among, verdictNumber, lengthsOf, refusalOn, Result, storingOn, storing-refused, storing-unfinished, storing-finished}
+use Rattle.volume.specs.OnTables.{among, verdictNumber, lengthsOf, refusalOn, Result, storingOn, storing-unfinished, storing-finished}
 use Rattle.volume.specs.Knowing.{readDevice}
 use Rattle.volume.specs.ZoneChecks.{unusedOn, unused-is}
 use Rattle.volume.specs.DrivesLost.{lost-drive-is}
-use Rattle.volume.specs.Looking.{lookVerdict, look-passed, shapeNumber, lookOf, stateShown, recordsOf, state-of-look, Lookable, present-read, lost-drive-read, shown-read}
+use Rattle.volume.specs.Looking.{lookVerdict, look-passed, shapeNumber, lookOf, stateShown, Lookable, present-read, lost-drive-read, shown-read}
 use Rattle.volume.specs.MountTables.{seen}
-use Rattle.volume.specs.MountLook.{Tells}
 use Rattle.volume.specs.MountSteps.{headerPhases}
 use Rattle.volume.specs.MountTells.{labels-told, reset-entries-told, zone-resets-told, counters-told, seals-told, labels-same, counters-same, seals-same, seen-same}
 use Rattle.volume.specs.MountValues.{shownAt}
 use Rattle.volume.specs.MountStart.{shownHere, look-tells, shown-at}
 use Rattle.volume.specs.MountTold.{fill-told, entries-told, torn-told, torn-same, fill-same, opening-sectors, mount-look-is}
-use Rattle.volume.specs.MountJoins.{run-covered, run-both, run-most, flushes-keep, joined}
+use Rattle.volume.specs.MountJoins.{run-covered, run-both, run-most, joined}
 
 -- ---- the call
 unfoldable pub mountVerdict : Geometry → List Bool → Tables → Verdict
@@ -96,6 +96,16 @@ module _ (g : Geometry) (named : List Bool) (xs ws ds : List ℕ) where
   -- what a look does not refuse has the right shape
   pub passed-shape : verdictNumber (lookVerdict g named (tablesOf xs ws ds)) ≡ 0 → shapeNumber g named (length xs) ws ds ≡ 0
   passed-shape h = look-passed g named (record { lost = 0; zones = [] }) xs ws ds h
+
+  -- the durable pointers too are as many as the geometry gives
+  pub passed-durable : shapeNumber g named (length xs) ws ds ≡ 0 → length ds ≡ cells g
+  unfolding shapeNumber
+  passed-durable h = lengths-are g (length xs) (length ws) (length ds) (fit (isValid g) (lengthsFit g (length xs) (length ws) (length ds)) (pointersBad g named ws ds) h) .2
+    where
+      fit : (a b c : Bool) → verdictNumber (leastApplying ((1, not a) ∷ (2, not b) ∷ (3, c) ∷ [])) ≡ 0 → b ≡ true
+      fit false b c e = absurd (omega arith)
+      fit true true c e = refl
+      fit true false c e = absurd (omega arith)
 
   -- what is not refused has passed the look's refusals
   pub passed-look : verdictNumber (mountVerdict g named (tablesOf xs ws ds)) ≡ 0 → verdictNumber (lookVerdict g named (tablesOf xs ws ds)) ≡ 0

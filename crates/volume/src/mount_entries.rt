@@ -18,7 +18,7 @@ ghost use Rattle.volume.specs.OnTables.{among};
 ghost use Rattle.volume.specs.MountTables.{seen};
 ghost use Rattle.volume.specs.MountLook.{zoneLook, LookWithin};
 ghost use Rattle.volume.specs.MountValues.{shownAt, Restoring};
-ghost use Rattle.volume.specs.MountTornLogs.{Filling};
+ghost use Rattle.volume.specs.MountRestoring.{Filling};
 ghost use Rattle.volume.specs.MountLastEntries.{Entering, entryDue, entryRows, newEntry, entryStores, entryStoresBelow};
 
 // Whether an entry at a zone's pointer is due on a drive: the pointer lies inside a stripe, the drive holds the stripe's parity, and its log had no

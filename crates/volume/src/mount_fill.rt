@@ -21,7 +21,7 @@ ghost use Rattle.volume.specs.MountTables.{seen};
 ghost use Rattle.volume.specs.MountLook.{zoneLook};
 ghost use Rattle.volume.specs.MountRows.{KnownBelow, valuesOf};
 ghost use Rattle.volume.specs.MountValues.{shownAt, limitAt, Restoring};
-ghost use Rattle.volume.specs.MountRestoring.{Restorable};
+ghost use Rattle.volume.specs.MountRestoring.{Filling};
 ghost use Rattle.volume.specs.MountFillOn.{fillZone, fillDrives};
 
 // What a zone's sectors below `end` put at sector x of a drive: a row's parity, or a data sector. `value` is scratch.
@@ -85,7 +85,7 @@ fn fill_sector(
     budget: u64,
 ) -> u64
     requires { ⌜ Valid g ⌝ }
-    requires { ⌜ (length (now value) ≡ g .sector) × (length (now out) ≡ g .sector) × Restorable g here look (now pointers) (now sectors) (now written) ⌝ }
+    requires { ⌜ (length (now value) ≡ g .sector) × (length (now out) ≡ g .sector) × Filling g here look (now pointers) (now sectors) (now written) ⌝ }
     requires { ⌜ (drive < g .drives) × (z < g .zones) × (limit ≡ limitAt g here look (now sectors) (now pointers) z) × (x < needed (g .drives) (g .unit) z (zoneLook look z .pointer) drive) ⌝ }
     ensures { λ r. ⌜ MadeAppends g budget r (append drive (3 + z) (contentAt (g .drives) (g .unit) z (valuesOf g here (now (sectors .entry)) (now (pointers .entry)) z (zoneLook look z .generation)) drive x) ∷ []) (now (sectors .entry)) (now (written .entry)) (now (sectors .exit)) (now (written .exit)) ⌝ }
 {
@@ -128,7 +128,7 @@ fn fill_sectors(
     budget: u64,
 ) -> u64
     requires { ⌜ Valid g ⌝ }
-    requires { ⌜ (length (now value) ≡ g .sector) × (length (now out) ≡ g .sector) × Restorable g here look (now pointers) (now sectors) (now written) ⌝ }
+    requires { ⌜ (length (now value) ≡ g .sector) × (length (now out) ≡ g .sector) × Filling g here look (now pointers) (now sectors) (now written) ⌝ }
     requires { ⌜ (drive < g .drives) × (z < g .zones) × (limit ≡ limitAt g here look (now sectors) (now pointers) z) × (from ≤ to) × (to ≤ needed (g .drives) (g .unit) z (zoneLook look z .pointer) drive) ⌝ }
     ensures { λ r. ⌜ MadeAppends g budget r (appendAll drive (3 + z) (tabulateFrom (contentAt (g .drives) (g .unit) z (valuesOf g here (now (sectors .entry)) (now (pointers .entry)) z (zoneLook look z .generation)) drive) from (to - from))) (now (sectors .entry)) (now (written .entry)) (now (sectors .exit)) (now (written .exit)) ⌝ }
 {
@@ -170,7 +170,7 @@ fn fill_zone(
     budget: u64,
 ) -> u64
     requires { ⌜ Valid g ⌝ }
-    requires { ⌜ (length (now value) ≡ g .sector) × (length (now out) ≡ g .sector) × Restorable g here look (now pointers) (now sectors) (now written) ⌝ }
+    requires { ⌜ (length (now value) ≡ g .sector) × (length (now out) ≡ g .sector) × Filling g here look (now pointers) (now sectors) (now written) ⌝ }
     requires { ⌜ (drive < g .drives) × (z < g .zones) ⌝ }
     ensures { λ r. ⌜ MadeAppends g budget r (onPresent (among here) (fillZone g (shownAt g here look (now (sectors .entry)) (now (pointers .entry))) (seen g (now (sectors .entry)) (now (pointers .entry))) drive z)) (now (sectors .entry)) (now (written .entry)) (now (sectors .exit)) (now (written .exit)) ⌝ }
 {
@@ -220,7 +220,7 @@ fn fill_drive(
     budget: u64,
 ) -> u64
     requires { ⌜ Valid g ⌝ }
-    requires { ⌜ (drive < g .drives) × (length (now value) ≡ g .sector) × (length (now out) ≡ g .sector) × Restorable g here look (now pointers) (now sectors) (now written) ⌝ }
+    requires { ⌜ (drive < g .drives) × (length (now value) ≡ g .sector) × (length (now out) ≡ g .sector) × Filling g here look (now pointers) (now sectors) (now written) ⌝ }
     ensures { λ r. ⌜ MadeAppends g budget r (onPresent (among here) (eachBelow (fillZone g (shownAt g here look (now (sectors .entry)) (now (pointers .entry))) (seen g (now (sectors .entry)) (now (pointers .entry))) drive) (g .zones))) (now (sectors .entry)) (now (written .entry)) (now (sectors .exit)) (now (written .exit)) ⌝ }
 {
     let n = g.zones;
@@ -258,7 +258,7 @@ fn fill_drives(
     budget: u64,
 ) -> u64
     requires { ⌜ Valid g ⌝ }
-    requires { ⌜ (length (now value) ≡ g .sector) × (length (now out) ≡ g .sector) × Restorable g here look (now pointers) (now sectors) (now written) ⌝ }
+    requires { ⌜ (length (now value) ≡ g .sector) × (length (now out) ≡ g .sector) × Filling g here look (now pointers) (now sectors) (now written) ⌝ }
     ensures { λ r. ⌜ MadeAppends g budget r (onPresent (among here) (fillDrives g (shownAt g here look (now (sectors .entry)) (now (pointers .entry))) (seen g (now (sectors .entry)) (now (pointers .entry))) (g .drives))) (now (sectors .entry)) (now (written .entry)) (now (sectors .exit)) (now (written .exit)) ⌝ }
 {
     let m = g.drives;

@@ -18,7 +18,8 @@ ghost use Rattle.volume.specs.OnTables.{among};
 ghost use Rattle.volume.specs.MountTables.{seen};
 ghost use Rattle.volume.specs.MountValues.{shownAt, Restoring};
 ghost use Rattle.volume.specs.MountParityRows.{logRows};
-ghost use Rattle.volume.specs.MountTornLogs.{Filling, missingSeen, TornFits, tornStores};
+ghost use Rattle.volume.specs.MountRestoring.{Filling};
+ghost use Rattle.volume.specs.MountTornLogs.{missingSeen, TornFits, tornStores};
 
 // The rows that are missing from an entry of zone z, stripe s, its first `fill` sectors and a generation n: it has `rows` of them.
 fn complete_rows(

@@ -1,5 +1,5 @@
 use Rattle.volume.specs.MountLastEntries.{entryRows, entry-parts, header-in}
-use Rattle.volume.specs.MountTornLogs.{filled}
+use Rattle.volume.specs.MountRestoring.{filled}
 use Rattle.volume.specs.MountRows.{valuesOf}
 use Rattle.volume.specs.MountLook.{zoneLook, stays, log-stays}
 use Rattle.volume.specs.OnTables.{appends-append}

@@ -9,7 +9,7 @@ use Rattle.tables.specs.Tables.{MadeAppends}
 use Rattle.volume.specs.OnTables.{among, appends-nil}
 use Rattle.volume.specs.MountTables.{seen, appends-more}
 use Rattle.volume.specs.MountValues.{shownAt}
-use Rattle.volume.specs.MountRestoring.{restored}
+use Rattle.volume.specs.MountRestoring.{filled}
 use Rattle.volume.specs.MountFillOn.{fillZone, fill-drive-in}
 use Rattle.volume.proofs.mount_fill.fill_drive.Statement.{statement}
 use Rattle.volume.proofs.mount_fill.fill_drive.Tie as tie
@@ -30,7 +30,7 @@ fill-zone-requires c κs =
     let s = c .before .before .before .before .before .before .before .before .before .before .before in
     let a = s .args in
     let l = c .before .before .before .before .before .loop in
-    let k = restored (a .g) (a .here) (a .look) (a .budget) (l .rest) (onPresent (among (a .here)) (eachBelow (fillZone (a .g) (shownAt (a .g) (a .here) (a .look) (a .sectors .now) (a .pointers .now)) (seen (a .g) (a .sectors .now) (a .pointers .now)) (a .drive)) (l .z))) (a .pointers .now) (a .sectors .now) (a .written .now) (l .sectors) (l .written) (s .pre .1 .3) (fill-drive-in (a .g) (a .here) (a .look) (a .pointers .now) (a .sectors .now) (a .written .now) (s .pre .0) (s .pre .1 .3) (among (a .here)) (a .drive) (l .z) (s .pre .1 .0) (l .inv .0)) (l .inv .5) in
+    let k = filled (a .g) (a .here) (a .look) (a .budget) (l .rest) (onPresent (among (a .here)) (eachBelow (fillZone (a .g) (shownAt (a .g) (a .here) (a .look) (a .sectors .now) (a .pointers .now)) (seen (a .g) (a .sectors .now) (a .pointers .now)) (a .drive)) (l .z))) (a .pointers .now) (a .sectors .now) (a .written .now) (l .sectors) (l .written) (s .pre .1 .3) (fill-drive-in (a .g) (a .here) (a .look) (a .pointers .now) (a .sectors .now) (a .written .now) (s .pre .0) (s .pre .1 .3) (among (a .here)) (a .drive) (l .z) (s .pre .1 .0) (l .inv .0)) (l .inv .5) in
     (s .pre .0, ((l .inv .3 ∙ s .pre .1 .1, l .inv .4 ∙ s .pre .1 .2, k .0), (s .pre .1 .0, c .before .before .before .before .loop-test .taken)))
 
 add-z : tie.Need-add-z Inv-loop μ-loop
@@ -46,7 +46,7 @@ loop-again c =
     let l = c .before .before .before .before .before .before .before .before .before .before .before .before .before .before .loop in
     let f = c .before .before .before .before .before .before .before .before .fill-zone in
     let row = fillZone (a .g) (shownAt (a .g) (a .here) (a .look) (a .sectors .now) (a .pointers .now)) (seen (a .g) (a .sectors .now) (a .pointers .now)) (a .drive) in
-    let k = restored (a .g) (a .here) (a .look) (a .budget) (l .rest) (onPresent (among (a .here)) (eachBelow row (l .z))) (a .pointers .now) (a .sectors .now) (a .written .now) (l .sectors) (l .written) (s .pre .1 .3) (fill-drive-in (a .g) (a .here) (a .look) (a .pointers .now) (a .sectors .now) (a .written .now) (s .pre .0) (s .pre .1 .3) (among (a .here)) (a .drive) (l .z) (s .pre .1 .0) (l .inv .0)) (l .inv .5) in (
+    let k = filled (a .g) (a .here) (a .look) (a .budget) (l .rest) (onPresent (among (a .here)) (eachBelow row (l .z))) (a .pointers .now) (a .sectors .now) (a .written .now) (l .sectors) (l .written) (s .pre .1 .3) (fill-drive-in (a .g) (a .here) (a .look) (a .pointers .now) (a .sectors .now) (a .written .now) (s .pre .0) (s .pre .1 .3) (among (a .here)) (a .drive) (l .z) (s .pre .1 .0) (l .inv .0)) (l .inv .5) in (
       omega (arith, c .before .before .before .before .before .before .before .before .before .before .before .before .before .loop-test .taken),
       f .kept .0 ∙ l .inv .1,
       f .kept .1 .0 ∙ l .inv .2,

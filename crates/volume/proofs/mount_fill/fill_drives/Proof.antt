@@ -11,7 +11,7 @@ use Rattle.tables.specs.Tables.{MadeAppends}
 use Rattle.volume.specs.OnTables.{among, appends-nil}
 use Rattle.volume.specs.MountTables.{seen, appends-more}
 use Rattle.volume.specs.MountValues.{shownAt}
-use Rattle.volume.specs.MountRestoring.{restored}
+use Rattle.volume.specs.MountRestoring.{filled}
 use Rattle.volume.specs.MountFillOn.{fillZone, fillDrives, fill-drives-in}
 use Rattle.volume.proofs.mount_fill.fill_drives.Statement.{statement}
 use Rattle.volume.proofs.mount_fill.fill_drives.Tie as tie
@@ -32,7 +32,7 @@ fill-drive-requires c κs =
     let s = c .before .before .before .before .before .before .before .before .before .before .before in
     let a = s .args in
     let l = c .before .before .before .before .before .loop in
-    let k = restored (a .g) (a .here) (a .look) (a .budget) (l .rest) (onPresent (among (a .here)) (fillDrives (a .g) (shownAt (a .g) (a .here) (a .look) (a .sectors .now) (a .pointers .now)) (seen (a .g) (a .sectors .now) (a .pointers .now)) (l .d))) (a .pointers .now) (a .sectors .now) (a .written .now) (l .sectors) (l .written) (s .pre .1 .2) (fill-drives-in (a .g) (a .here) (a .look) (a .pointers .now) (a .sectors .now) (a .written .now) (s .pre .0) (s .pre .1 .2) (among (a .here)) (l .d) (l .inv .0)) (l .inv .5) in
+    let k = filled (a .g) (a .here) (a .look) (a .budget) (l .rest) (onPresent (among (a .here)) (fillDrives (a .g) (shownAt (a .g) (a .here) (a .look) (a .sectors .now) (a .pointers .now)) (seen (a .g) (a .sectors .now) (a .pointers .now)) (l .d))) (a .pointers .now) (a .sectors .now) (a .written .now) (l .sectors) (l .written) (s .pre .1 .2) (fill-drives-in (a .g) (a .here) (a .look) (a .pointers .now) (a .sectors .now) (a .written .now) (s .pre .0) (s .pre .1 .2) (among (a .here)) (l .d) (l .inv .0)) (l .inv .5) in
     (s .pre .0, (c .before .before .before .before .loop-test .taken, l .inv .3 ∙ s .pre .1 .0, l .inv .4 ∙ s .pre .1 .1, k .0))
 
 add-d : tie.Need-add-d Inv-loop μ-loop
@@ -48,7 +48,7 @@ loop-again c =
     let l = c .before .before .before .before .before .before .before .before .before .before .before .before .before .before .loop in
     let f = c .before .before .before .before .before .before .before .before .fill-drive in
     let row : ℕ → List Store = λ e. eachBelow (fillZone (a .g) (shownAt (a .g) (a .here) (a .look) (a .sectors .now) (a .pointers .now)) (seen (a .g) (a .sectors .now) (a .pointers .now)) e) (a .g .zones) in
-    let k = restored (a .g) (a .here) (a .look) (a .budget) (l .rest) (onPresent (among (a .here)) (fillDrives (a .g) (shownAt (a .g) (a .here) (a .look) (a .sectors .now) (a .pointers .now)) (seen (a .g) (a .sectors .now) (a .pointers .now)) (l .d))) (a .pointers .now) (a .sectors .now) (a .written .now) (l .sectors) (l .written) (s .pre .1 .2) (fill-drives-in (a .g) (a .here) (a .look) (a .pointers .now) (a .sectors .now) (a .written .now) (s .pre .0) (s .pre .1 .2) (among (a .here)) (l .d) (l .inv .0)) (l .inv .5) in (
+    let k = filled (a .g) (a .here) (a .look) (a .budget) (l .rest) (onPresent (among (a .here)) (fillDrives (a .g) (shownAt (a .g) (a .here) (a .look) (a .sectors .now) (a .pointers .now)) (seen (a .g) (a .sectors .now) (a .pointers .now)) (l .d))) (a .pointers .now) (a .sectors .now) (a .written .now) (l .sectors) (l .written) (s .pre .1 .2) (fill-drives-in (a .g) (a .here) (a .look) (a .pointers .now) (a .sectors .now) (a .written .now) (s .pre .0) (s .pre .1 .2) (among (a .here)) (l .d) (l .inv .0)) (l .inv .5) in (
       omega (arith, c .before .before .before .before .before .before .before .before .before .before .before .before .before .loop-test .taken),
       f .kept .0 ∙ l .inv .1,
       f .kept .1 .0 ∙ l .inv .2,

@@ -1,4 +1,4 @@
-use Prim.Native.Nat.{suc, _+_, _-_, _≤_}
+use Prim.Native.Nat.{_+_, _-_, _≤_}
 use mathlib.Core.Path.{_≡_, refl, _∙_}
 use native.Mathlib.Nat.{le-refl}
 use native.Mathlib.Numerals.{add-one}
@@ -11,10 +11,10 @@ use Rattle.tables.specs.Device.{append}
 use Rattle.tables.specs.Tables.{MadeAppends}
 use Rattle.volume.specs.Content.{contentAt}
 use Rattle.volume.specs.Calls.{appendAll}
-use Rattle.volume.specs.OnTables.{among, appends-nil, appends-append}
+use Rattle.volume.specs.OnTables.{appends-nil, appends-append}
 use Rattle.volume.specs.MountLook.{zoneLook}
 use Rattle.volume.specs.MountRows.{valuesOf}
-use Rattle.volume.specs.MountRestoring.{restored}
+use Rattle.volume.specs.MountRestoring.{filled}
 use Rattle.volume.specs.MountFillOn.{fill-more, fill-part-in}
 use Rattle.volume.proofs.mount_fill.fill_sectors.Statement.{statement}
 use Rattle.volume.proofs.mount_fill.fill_sectors.Tie as tie
@@ -39,7 +39,7 @@ fill-sector-requires c κs =
     let s = c .before .before .before .before .before .before .before .before .before .before .before in
     let a = s .args in
     let l = c .before .before .before .before .before .loop in
-    let k = restored (a .g) (a .here) (a .look) (a .budget) (l .rest) (appendAll (a .drive) (3 + a .z) (tabulateFrom (contentAt (a .g .drives) (a .g .unit) (a .z) (valuesOf (a .g) (a .here) (a .sectors .now) (a .pointers .now) (a .z) (zoneLook (a .look) (a .z) .generation)) (a .drive)) (a .from) (l .x - a .from))) (a .pointers .now) (a .sectors .now) (a .written .now) (l .sectors) (l .written) (s .pre .1 .0 .2) (fill-part-in (a .g) (a .here) (a .look) (a .pointers .now) (a .sectors .now) (a .written .now) (s .pre .0) (s .pre .1 .0 .2) (a .drive) (a .z) (a .from) (l .x - a .from) (s .pre .1 .1 .0) (s .pre .1 .1 .1) (omega (arith, l .inv .0, l .inv .1, s .pre .1 .1 .4))) (l .inv .6) in
+    let k = filled (a .g) (a .here) (a .look) (a .budget) (l .rest) (appendAll (a .drive) (3 + a .z) (tabulateFrom (contentAt (a .g .drives) (a .g .unit) (a .z) (valuesOf (a .g) (a .here) (a .sectors .now) (a .pointers .now) (a .z) (zoneLook (a .look) (a .z) .generation)) (a .drive)) (a .from) (l .x - a .from))) (a .pointers .now) (a .sectors .now) (a .written .now) (l .sectors) (l .written) (s .pre .1 .0 .2) (fill-part-in (a .g) (a .here) (a .look) (a .pointers .now) (a .sectors .now) (a .written .now) (s .pre .0) (s .pre .1 .0 .2) (a .drive) (a .z) (a .from) (l .x - a .from) (s .pre .1 .1 .0) (s .pre .1 .1 .1) (omega (arith, l .inv .0, l .inv .1, s .pre .1 .1 .4))) (l .inv .6) in
     (s .pre .0, ((l .inv .4 ∙ s .pre .1 .0 .0, l .inv .5 ∙ s .pre .1 .0 .1, k .0), (s .pre .1 .1 .0, s .pre .1 .1 .1, rw (k .1) (s .pre .1 .1 .2), omega (arith, c .before .before .before .before .loop-test .taken, s .pre .1 .1 .4))))
 
 add-x : tie.Need-add-x Inv-loop μ-loop
@@ -57,7 +57,7 @@ loop-again c =
     let a = s .args in
     let l = c .before .before .before .before .before .before .before .before .before .before .before .before .before .before .loop in
     let f = c .before .before .before .before .before .before .before .before .fill-sector in
-    let k = restored (a .g) (a .here) (a .look) (a .budget) (l .rest) (appendAll (a .drive) (3 + a .z) (tabulateFrom (contentAt (a .g .drives) (a .g .unit) (a .z) (valuesOf (a .g) (a .here) (a .sectors .now) (a .pointers .now) (a .z) (zoneLook (a .look) (a .z) .generation)) (a .drive)) (a .from) (l .x - a .from))) (a .pointers .now) (a .sectors .now) (a .written .now) (l .sectors) (l .written) (s .pre .1 .0 .2) (fill-part-in (a .g) (a .here) (a .look) (a .pointers .now) (a .sectors .now) (a .written .now) (s .pre .0) (s .pre .1 .0 .2) (a .drive) (a .z) (a .from) (l .x - a .from) (s .pre .1 .1 .0) (s .pre .1 .1 .1) (omega (arith, l .inv .0, l .inv .1, s .pre .1 .1 .4))) (l .inv .6) in
+    let k = filled (a .g) (a .here) (a .look) (a .budget) (l .rest) (appendAll (a .drive) (3 + a .z) (tabulateFrom (contentAt (a .g .drives) (a .g .unit) (a .z) (valuesOf (a .g) (a .here) (a .sectors .now) (a .pointers .now) (a .z) (zoneLook (a .look) (a .z) .generation)) (a .drive)) (a .from) (l .x - a .from))) (a .pointers .now) (a .sectors .now) (a .written .now) (l .sectors) (l .written) (s .pre .1 .0 .2) (fill-part-in (a .g) (a .here) (a .look) (a .pointers .now) (a .sectors .now) (a .written .now) (s .pre .0) (s .pre .1 .0 .2) (a .drive) (a .z) (a .from) (l .x - a .from) (s .pre .1 .1 .0) (s .pre .1 .1 .1) (omega (arith, l .inv .0, l .inv .1, s .pre .1 .1 .4))) (l .inv .6) in
     let S = (contentAt (a .g .drives) (a .g .unit) (a .z) (valuesOf (a .g) (a .here) (a .sectors .now) (a .pointers .now) (a .z) (zoneLook (a .look) (a .z) .generation)) (a .drive)) in (
       omega (arith, l .inv .0),
       omega (arith, c .before .before .before .before .before .before .before .before .before .before .before .before .before .loop-test .taken),

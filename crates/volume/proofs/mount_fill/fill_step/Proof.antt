@@ -3,7 +3,7 @@ use denote.Ref.{now}
 use Rattle.tables.specs.Tables.{tablesOf}
 use Rattle.volume.specs.MountTables.{seen}
 use Rattle.volume.specs.MountValues.{shownAt}
-use Rattle.volume.specs.MountRestoring.{restorable}
+use Rattle.volume.specs.MountRestoring.{filling}
 use Rattle.volume.specs.MountFillOn.{fillDrives, fill-steps}
 use borrow.Author.Needs.{needs}
 use Rattle.volume.proofs.mount_fill.fill_step.Statement.{statement}
@@ -13,7 +13,7 @@ fill-drives-requires : tie.Need-fill-drives-requires
 fill-drives-requires c κs =
     let s = c .before .before .before .before .before .before .before .before .before .before in
     let a = s .args in
-    (s .pre .0, (s .pre .1 .0, s .pre .1 .1, restorable (a .g) (a .here) (a .look) (now (a .pointers)) (tablesOf (now (a .sectors)) (now (a .written)) (now (a .durable))) (s .pre .1 .2)))
+    (s .pre .0, (s .pre .1 .0, s .pre .1 .1, filling (a .g) (a .here) (a .look) (now (a .pointers)) (tablesOf (now (a .sectors)) (now (a .written)) (now (a .durable))) (s .pre .1 .2)))
 
 flush-after-requires : tie.Need-flush-after-requires
 flush-after-requires c κs =

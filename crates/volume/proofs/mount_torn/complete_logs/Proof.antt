@@ -1,4 +1,5 @@
-use Rattle.volume.specs.MountTornLogs.{tornStores, filled, torn-drives-in}
+use Rattle.volume.specs.MountRestoring.{filled}
+use Rattle.volume.specs.MountTornLogs.{tornStores, torn-drives-in}
 use Rattle.volume.specs.MountValues.{shownAt}
 use Rattle.volume.specs.MountLook.{stays}
 use Rattle.volume.specs.MountTables.{seen, appends-more, on-present-in}

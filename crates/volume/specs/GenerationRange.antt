@@ -1,0 +1,104 @@
+-- A zone's generation is a number of 8 bytes: every counter of a legal entry is, for the entry's bytes are what its numbers are written as.
+use mathlib.Core.Path.{_≡_, refl, sym, ap, _∙_}
+use mathlib.Core.Logic.{_⊎_, inl, inr}
+use mathlib.Core.Bool.{Bool, true, false, true≢false}
+use Prim.Native.Nat.{ℕ, zero, suc, _+_, _-_, _*_, _/_, _^_, _≤_, _<_}
+use native.Mathlib.Nat.{mod-lt, pow-suc}
+use native.Mathlib.Decide.{ℕ-discrete}
+use native.Mathlib.Omega.{arith}
+use mathlib.Core.List.{List, [], _∷_, _++_}
+use lib.ListN.{length, getD, take, drop, replicate, length-take}
+use lib.Seq.{drop-drop}
+use Rattle.tables.specs.declared.Geometry.{Geometry}
+use Rattle.tables.specs.Basics.{pick}
+use Rattle.tables.specs.Below.{maxBelow, max-below-is}
+use Rattle.tables.specs.LittleEndian.{bytesLE, numberLE, wordsLE}
+use Rattle.tables.specs.Device.{Device}
+use Rattle.logs.specs.Entry.{generalZone, Header, label, counters, zoneReset, partialParity, seal, encode, frame, legal}
+use Rattle.logs.specs.Legal.{legal-written-again}
+use Rattle.logs.specs.Walk.{walkLog}
+use Rattle.logs.specs.Heads.{isCounters, generationIn}
+use Rattle.logs.specs.Query.{headsOf}
+use Rattle.logs.specs.Places.{last-there}
+use Rattle.logs.specs.Generations.{countersPlace, no-generation, generation-there}
+use Rattle.volume.specs.Rules.{generalHeads, generationOf}
+
+-- ---- lists of bytes
+abbrev Bytes : List ℕ → Type 0
+Bytes [] = Unit {0}
+Bytes (b ∷ bs) = (b < 256) × Bytes bs
+
+bytes-append : (xs ys : List ℕ) → Bytes xs → Bytes ys → Bytes (xs ++ ys)
+bytes-append [] ys p q = q
+bytes-append (x ∷ xs) ys p q = (p .0, bytes-append xs ys (p .1) q)
+
+bytes-drop : (n : ℕ) (xs : List ℕ) → Bytes xs → Bytes (drop n xs)
+bytes-drop zero xs p = p
+bytes-drop (suc n) [] p = tt
+bytes-drop (suc n) (x ∷ xs) p = bytes-drop n xs (p .1)
+
+bytes-take : (n : ℕ) (xs : List ℕ) → Bytes xs → Bytes (take n xs)
+bytes-take zero xs p = tt
+bytes-take (suc n) [] p = tt
+bytes-take (suc n) (x ∷ xs) p = (p .0, bytes-take n xs (p .1))
+
+bytes-zeros : (n : ℕ) → Bytes (replicate n 0)
+bytes-zeros zero = tt
+bytes-zeros (suc n) = (omega arith, bytes-zeros n)
+
+bytes-number : (n x : ℕ) → Bytes (bytesLE n x)
+bytes-number zero x = tt
+bytes-number (suc n) x = (mod-lt x (omega arith), bytes-number n (x / 256))
+
+bytes-words : (xs : List ℕ) → Bytes (wordsLE xs)
+bytes-words [] = tt
+bytes-words (x ∷ xs) = bytes-append (bytesLE 8 x) (wordsLE xs) (bytes-number 8 x) (bytes-words xs)
+
+number-small : (n : ℕ) (xs : List ℕ) → length xs ≤ n → Bytes xs → numberLE xs < 256 ^ n
+number-small zero [] h p = omega arith
+number-small zero (x ∷ xs) h p = absurd (omega arith)
+number-small (suc n) [] h p = let k : 0 < 256 ^ n = number-small n [] (omega arith) tt in rw pow-suc (omega (arith, k))
+number-small (suc n) (x ∷ xs) h p = let k = number-small n xs (omega arith) (p .1) in rw pow-suc (omega (arith, k, p .0))
+
+-- ---- counters
+counters-bytes : (g : Geometry) (d : ℕ) (cs : List ℕ) → Bytes (drop 32 (encode g d (counters cs)))
+unfolding encode frame
+counters-bytes g d cs = bytes-append (wordsLE cs) (replicate (g .sector - (32 + 8 * length cs)) 0) (bytes-words cs) (bytes-zeros (g .sector - (32 + 8 * length cs)))
+
+counters-of : (h : Header) → isCounters h ≡ true → (cs : List ℕ) × (h ≡ counters cs)
+counters-of (label x a) e = absurd (true≢false (sym e))
+counters-of (counters cs) e = (cs, refl)
+counters-of (zoneReset z n) e = absurd (true≢false (sym e))
+counters-of (partialParity z s f n) e = absurd (true≢false (sym e))
+counters-of (seal z p n) e = absurd (true≢false (sym e))
+
+module _ (g : Geometry) (d : ℕ) (ss : List (List ℕ)) (z : ℕ) (hz : z < g .zones) where
+  there : (p : ℕ) → countersPlace g d ss ≡ p + 1 → generationIn z (headsOf (walkLog g d false ss)) < 256 ^ 8
+  there p e =
+      let l = last-there g d false ss isCounters p e in
+      let (cs, c) = counters-of (l .entry .head) (l .passes) in
+      let w : encode g d (counters cs) ≡ getD ss p [] = legal-written-again g d false (getD ss p []) (counters cs) (l .stands .reads ∙ ap legal c) in
+      let b : Bytes (drop 32 (getD ss p [])) = rw (← w) (counters-bytes g d cs) in
+      let q : Bytes (drop (32 + 8 * z) (getD ss p [])) = rw (← drop-drop (8 * z) 32 (getD ss p [])) (bytes-drop (8 * z) (drop 32 (getD ss p [])) b) in
+      rw (← generation-there g d ss p z e hz) (number-small 8 (take 8 (drop (32 + 8 * z) (getD ss p []))) (rw length-take (omega arith)) (bytes-take 8 (drop (32 + 8 * z) (getD ss p [])) q))
+
+  pub generation-fits : generationIn z (headsOf (walkLog g d false ss)) < 256 ^ 8
+  generation-fits = go (ℕ-discrete (countersPlace g d ss) 0)
+    where
+      go : Dec (countersPlace g d ss ≡ 0) → generationIn z (headsOf (walkLog g d false ss)) < 256 ^ 8
+      go (yes e) = rw (← no-generation g d ss z e) (omega arith)
+      go (no n) = there (countersPlace g d ss - 1) (omega (arith, n))
+
+-- ---- rule 2
+pub generation-range : (g : Geometry) (present : ℕ → Bool) (v : Device) (z : ℕ) → z < g .zones → generationOf g present v z < 2 ^ 64
+unfolding generationOf generalHeads
+generation-range g present v z hz = go (max-below-is (λ d. pick (present d) (generationIn z (generalHeads g v d)) zero) (g .drives))
+  where
+    one : (b : Bool) (d : ℕ) → pick b (generationIn z (headsOf (walkLog g d false (v d generalZone .sectors)))) zero < 2 ^ 64
+    one true d = generation-fits g d (v d generalZone .sectors) z hz
+    one false d = omega arith
+
+    go : (maxBelow (λ d. pick (present d) (generationIn z (generalHeads g v d)) zero) (g .drives) ≡ zero) ⊎ ((k : ℕ) × (k < g .drives) × (maxBelow (λ d. pick (present d) (generationIn z (generalHeads g v d)) zero) (g .drives) ≡ pick (present k) (generationIn z (generalHeads g v k)) zero))
+        → maxBelow (λ d. pick (present d) (generationIn z (generalHeads g v d)) zero) (g .drives) < 2 ^ 64
+    go (inl e) = rw e (omega arith)
+    go (inr (k, l, e)) = rw e (one (present k) k)

@@ -1,6 +1,7 @@
 # check: prove every crate and run the programs (only what changed since the last time)
-# test:  the layout, the expected output of log_walks worked out anew, then everything from nothing with the edits that must be refused; the merge gate
-.PHONY: check test fmt
+# test:  the layout, the expected output of log_walks worked out anew, then everything from nothing with the edits that must be refused, and beside it the wrong volumes; the merge gate
+# wrong: the wrong volumes alone (`scripts/wrong_volumes .` takes over this folder's target/, and need not check the volume from nothing)
+.PHONY: check test wrong fmt
 
 check:
 	@rt check
@@ -8,7 +9,10 @@ check:
 test:
 	@rt fmt --check
 	@python3 scripts/expect_log_walks.py | cmp - crates/log_walks/stdout
-	@rt ci
+	@scripts/gate
+
+wrong:
+	@scripts/wrong_volumes
 
 fmt:
 	@rt fmt

@@ -20,8 +20,7 @@ use Rattle.tables.specs.PlacementLaws.{parity-drive-below, unit-drive-below, un
 use Rattle.tables.specs.Device.{blankZone}
 use Rattle.tables.specs.Tables.{tablesOf, deviceOf, zoneAtCell, cell, sectorAt}
 use Rattle.tables.specs.TablesLaws.{device-sectors, device-pointer}
-use Rattle.logs.specs.Entry.{Header, generalZone, parityZone}
-use Rattle.logs.specs.Heads.{leastSeal}
+use Rattle.logs.specs.Entry.{generalZone, parityZone}
 use Rattle.logs.specs.Walk.{walkLog}
 use Rattle.logs.specs.WalkCode.{logSectors}
 use Rattle.logs.specs.Query.{headsOf}
@@ -48,8 +47,7 @@ entries-alike g xs ws ds d = ap (λ (ss : List (List ℕ)). walkLog g d true ss 
 
 limit-below-durable : (g : Geometry) (present : ℕ → Bool) (xs ws ds : List ℕ) (z n d : ℕ) → sealLimitBelow g present (deviceOf g (tablesOf xs ws ds)) z n d ≡ sealLimitBelow g present (readDevice g xs ws) z n d
 limit-below-durable g present xs ws ds z n zero = refl
-limit-below-durable g present xs ws ds z n (suc d) =
-    ap₂ (λ (l : ℕ) (hs : List Header). pick (present d) (leastSeal z n l hs) l) (limit-below-durable g present xs ws ds z n d) (heads-alike g xs ws ds d)
+limit-below-durable g present xs ws ds z n (suc d) = rw (limit-below-durable g present xs ws ds z n d, heads-alike g xs ws ds d) refl
 
 pub limit-durable : (g : Geometry) (present : ℕ → Bool) (xs ws ds : List ℕ) (z n : ℕ) → sealLimit g present (deviceOf g (tablesOf xs ws ds)) z n ≡ sealLimit g present (readDevice g xs ws) z n
 unfolding sealLimit

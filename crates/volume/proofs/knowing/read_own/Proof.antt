@@ -1,4 +1,4 @@
-use mathlib.Core.Path.{ap₂, _∙_}
+use mathlib.Core.Path.{_≡_, ap₂, _∙_}
 use Prim.Native.Nat.{ℕ, _+_}
 use native.Mathlib.Omega.{arith}
 use denote.Ref.{now}
@@ -20,7 +20,9 @@ add-read-sector c = search needs
 read-sector-requires : tie.Need-read-sector-requires
 read-sector-requires c κs =
     let s = c .before .before .before .before .before in
-    (s .pre .0, (c .before .before .drive-of .ensures .1, omega (arith, s .pre .1 .0), rw (c .before .sector-of .ensures) (sector-within (s .args .g) (s .args .a) (s .pre .0) (s .pre .1 .1)), s .pre .1 .2, s .pre .1 .3))
+    let drive = c .before .before .drive-of .ensures .1 in
+    let sector = sector-within (s .args .g) (s .args .a) (s .pre .0) (s .pre .1 .1) in
+    (s .pre .0, (omega (arith, drive), omega (arith, s .pre .1 .0), omega (arith, sector, c .before .sector-of .ensures), s .pre .1 .2, s .pre .1 .3))
 
 same-length : tie.Need-same-length
 same-length c = search needs
@@ -28,7 +30,11 @@ same-length c = search needs
 returns : tie.Need-returns
 returns c =
     let a = c .before .before .before .before .before .before .before .before .args in
-    c .before .before .read-sector .ensures ∙ ap₂ (λ (d x : ℕ). sectorAt (a .g) (now (a .sectors)) d (3 + a .z) x) (c .before .before .before .before .before .drive-of .ensures .0) (c .before .before .before .before .sector-of .ensures)
+    let drive = c .before .before .before .before .before .drive-of in
+    let sector = c .before .before .before .before .sector-of in
+    let f = c .before .before .read-sector in
+    let bytes : f .last .1 .1 .1 .1 .1 .0 ≡ sectorAt (a .g) (now (a .sectors)) (drive .result) (3 + a .z) (sector .result) = f .ensures in
+    bytes ∙ ap₂ (λ (d x : ℕ). sectorAt (a .g) (now (a .sectors)) d (3 + a .z) x) (drive .ensures .0) (sector .ensures)
 
 pub read-own-spec : {M : Type 1} → statement M
 read-own-spec =

@@ -1,5 +1,11 @@
-use mathlib.Core.Path.{refl}
+use mathlib.Core.Path.{_≡_, refl, ap₂, _∙_}
+use mathlib.Core.Bool.{Bool, _&&_, not}
 use denote.Ref.{now}
+use Rattle.tables.specs.Lists.{anyOf}
+use Rattle.logs.specs.Heads.{isSealAt}
+use Rattle.volume.specs.Rules.{generalHeads}
+use Rattle.volume.specs.MountTables.{seen}
+use Rattle.volume.specs.MountLook.{zoneLook}
 use Rattle.volume.specs.MountHeaders.{sealDue, seen-heads}
 use borrow.Author.Needs.{needs}
 use Rattle.volume.proofs.mount_logs.seal_due.Statement.{statement}
@@ -25,7 +31,8 @@ unfolding sealDue
 returns c =
     let s = c .before .before .before .before .before .before .before in
     let a = s .args in
-    rw (c .before .before .is-sealed .ensures, c .has-seal-at .ensures, c .before .sectors-then .ensures .0, seen-heads (a .g) (now (a .sectors)) (now (a .pointers)) (a .drive) (s .pre .1 .0)) refl
+    let there : c .has-seal-at .result ≡ anyOf (isSealAt (a .z) (zoneLook (a .look) (a .z) .generation) (zoneLook (a .look) (a .z) .pointer)) (generalHeads (a .g) (seen (a .g) (now (a .sectors)) (now (a .pointers))) (a .drive)) = c .has-seal-at .ensures ∙ rw (c .before .sectors-then .ensures .0, seen-heads (a .g) (now (a .sectors)) (now (a .pointers)) (a .drive) (s .pre .1 .0)) refl in
+    ap₂ (λ (sealed found : Bool). sealed && not found) (c .before .before .is-sealed .ensures) there
 
 pub seal-due-spec : {M : Type 1} → statement M
 seal-due-spec =

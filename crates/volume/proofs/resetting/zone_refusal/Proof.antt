@@ -1,6 +1,6 @@
 use Prim.Native.Nat.{_<_}
 use mathlib.Core.Path.{_≡_, refl, sym, _∙_}
-use mathlib.Core.Bool.{_||_, false}
+use mathlib.Core.Bool.{_||_, true, false}
 use native.Mathlib.Omega.{arith}
 use lib.Dec.{leb}
 use denote.Ref.{now}
@@ -47,7 +47,8 @@ is-worn-requires c κs = search needs
 returns-3 : tie.Need-returns-3
 returns-3 c =
     let a = c .before .before .before .before .before .before .before .before .args in
-    reset-12 (a .g) (among (a .here)) (a .state) (a .z) (now (a .written)) (omega arith) (fresh (c .before .before)) (sym (worn-is (c .before)) ∙ c .if3 .taken)
+    let worn : c .before .is-worn .result || leb 18446744073709551615 (recordAt (a .state) (a .z) .generation) ≡ true = c .if3 .taken in
+    reset-12 (a .g) (among (a .here)) (a .state) (a .z) (now (a .written)) (omega arith) (fresh (c .before .before)) (sym (worn-is (c .before)) ∙ worn)
 
 add-unused-below : tie.Need-add-unused-below
 add-unused-below c = search needs

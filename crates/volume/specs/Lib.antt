@@ -130,3 +130,4 @@ pub mod TablesExample
 pub mod EdgeBytes
 pub mod EdgeCalls
 pub mod EdgeStoring
+pub mod EdgeReading

@@ -5,7 +5,7 @@ use denote.Ref.{now}
 use Rattle.tables.specs.Geometry.{cells}
 use Rattle.volume.specs.EdgeBytes.{tableFrom}
 use Rattle.volume.specs.EdgeCalls.{flushes-made}
-use Rattle.volume.specs.EdgeStoring.{flushCall}
+use Rattle.volume.specs.EdgeStoring.{flushOfBytes}
 use borrow.Author.Needs.{needs}
 use Rattle.volume.proofs.edge_storing.flush_lent.Statement.{statement}
 use Rattle.volume.proofs.edge_storing.flush_lent.Tie as tie
@@ -52,7 +52,7 @@ returns c =
     let tw : c .before .before .before .before .before .before .before .before .before .before .before .before .before .before .before .before .before .before .before .before .before .table-from .last .1 .0 ≡ tableFrom (cells (a .g)) (now (a .written)) = c .before .before .before .before .before .before .before .before .before .before .before .before .before .before .before .before .before .before .before .before .before .table-from .ensures ∙ ap (λ (n : ℕ). tableFrom n (now (a .written))) (k .scratch-written) in
     let td : c .before .before .before .before .before .before .before .before .before .before .before .before .before .before .before .before .table-from2 .last .1 .0 ≡ tableFrom (cells (a .g)) (now (a .durable)) = c .before .before .before .before .before .before .before .before .before .before .before .before .before .before .before .before .table-from2 .ensures ∙ ap (λ (n : ℕ). tableFrom n (now (a .durable))) (k .scratch-durable) in
     let (p, q) = rw (c .before .before .before .before .before .before .before .before .before .before .before .before .before .before .before .before .before .before .before .before .before .before .before .before .before .named-drives .ensures, c .before .before .before .before .before .before .before .before .before .before .before .before .before .before .before .before .before .before .before .before .before .before .before .state-from .ensures, tw, td) at (f .ensures) in
-    let (x, y, z) = flushes-made (a .g) (flushCall (a .g) (a .named) (a .count) (now (a .sectors)) (now (a .written)) (now (a .durable)) (now (a .state))) (now (a .sectors)) (now (a .written)) (now (a .durable)) (now (a .state)) (tableFrom (cells (a .g)) (now (a .written))) (f .last .1 .1 .0) (now (a .sectors)) (f .result) p q in
+    let (x, y, z) = flushes-made (a .g) (flushOfBytes (a .g) (a .named) (a .count) (now (a .sectors)) (now (a .written)) (now (a .durable)) (now (a .state))) (now (a .sectors)) (now (a .written)) (now (a .durable)) (now (a .state)) (tableFrom (cells (a .g)) (now (a .written))) (f .last .1 .1 .0) (now (a .sectors)) (f .result) p q in
     (h .0 ∙ x, c .before .before .before .before .before .before .table-to .ensures ∙ y, h .1 ∙ z)
 
 pub flush-lent-spec : {M : Type 1} → statement M

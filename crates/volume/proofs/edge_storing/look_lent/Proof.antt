@@ -4,7 +4,7 @@ use denote.Ref.{now}
 use Rattle.tables.specs.Geometry.{cells}
 use Rattle.volume.specs.EdgeBytes.{tableFrom}
 use Rattle.volume.specs.EdgeCalls.{shown-made}
-use Rattle.volume.specs.EdgeStoring.{lookCall}
+use Rattle.volume.specs.EdgeStoring.{lookOfBytes}
 use borrow.Author.Needs.{needs}
 use Rattle.volume.proofs.edge_storing.look_lent.Statement.{statement}
 use Rattle.volume.proofs.edge_storing.look_lent.Tie as tie
@@ -44,7 +44,7 @@ returns c =
     let h = c .before .before .hand-back .ensures in
     let tw : c .before .before .before .before .before .before .before .before .before .before .before .before .before .table-from .last .1 .0 ≡ tableFrom (cells (a .g)) (now (a .written)) = c .before .before .before .before .before .before .before .before .before .before .before .before .before .table-from .ensures ∙ ap (λ (n : ℕ). tableFrom n (now (a .written))) (k .scratch-written) in
     let td : c .before .before .before .before .before .before .before .before .before .table-from2 .last .1 .0 ≡ tableFrom (cells (a .g)) (now (a .durable)) = c .before .before .before .before .before .before .before .before .before .table-from2 .ensures ∙ ap (λ (n : ℕ). tableFrom n (now (a .durable))) (k .scratch-durable) in
-    let (x, z) = shown-made (a .g) (now (a .sectors)) (now (a .written)) (now (a .durable)) (now (a .state)) (f .result) (lookCall (a .g) (a .named) (now (a .sectors)) (now (a .written)) (now (a .durable))) (rw (c .before .before .before .before .before .before .before .before .before .before .before .before .before .before .before .before .named-drives .ensures, c .before .before .before .before .before .before .before .before .before .before .before .before .before .before .before .unread-state .ensures, tw, td) at (f .ensures)) in
+    let (x, z) = shown-made (a .g) (now (a .sectors)) (now (a .written)) (now (a .durable)) (now (a .state)) (f .result) (lookOfBytes (a .g) (a .named) (now (a .sectors)) (now (a .written)) (now (a .durable))) (rw (c .before .before .before .before .before .before .before .before .before .before .before .before .before .before .before .before .named-drives .ensures, c .before .before .before .before .before .before .before .before .before .before .before .before .before .before .before .unread-state .ensures, tw, td) at (f .ensures)) in
     (h .0 ∙ x, h .1 ∙ z)
 
 pub look-lent-spec : {M : Type 1} → statement M

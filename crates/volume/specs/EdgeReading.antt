@@ -101,3 +101,16 @@ place-passed g st w d p h = let (x, y) = by (inputNumber g st w d) (eqb (inputNu
 -- the part that a peek gives is the sector's bytes from that offset
 pub peeked-at : (g : Geometry) (named : List Bool) (s : State) (a : ℕ) (t : Tables) → peekNumber g named s a t ≡ 0 → take (g .sector) (drop (offsetAt g a) (t .sectors)) ≡ peekOn g named s a t
 peeked-at g named s a t h = peek-done g named s a t h
+
+module _ (g : Geometry) (st : List ℕ) (w d p : ℕ) where
+  pub place-first : inputNumber g st w d ≢ 0 → inputNumber g st w d ≡ placeInput g st w d p
+  unfolding placeInput
+  place-first h = ap (λ (b : Bool). pick b (pick (eqb p 8) 0 2) (inputNumber g st w d)) (sym (ne-eqb (inputNumber g st w d) 0 h))
+
+  pub place-right : inputNumber g st w d ≡ 0 → p ≡ 8 → 0 ≡ placeInput g st w d p
+  unfolding placeInput
+  place-right h e = rw (eq-eqb (inputNumber g st w d) 0 h, eq-eqb p 8 e) refl
+
+  pub place-wrong : inputNumber g st w d ≡ 0 → p ≢ 8 → 2 ≡ placeInput g st w d p
+  unfolding placeInput
+  place-wrong h e = rw (eq-eqb (inputNumber g st w d) 0 h, ne-eqb p 8 e) refl

@@ -4,6 +4,7 @@ pub mod checks;
 pub mod drive_logs;
 pub mod drives_lost;
 pub mod edge_input;
+pub mod edge_reading;
 pub mod edge_restoring;
 pub mod edge_state;
 pub mod edge_storing;

@@ -1,6 +1,7 @@
 -- What the C edge writes reads back: tables and states, from numbers to bytes and back, and from bytes to numbers and back.
 use mathlib.Core.Path.{_≡_, refl, sym, ap, ap₂, _∙_}
 use mathlib.Core.Logic.{_≢_}
+use mathlib.Core.Bool.{true}
 use Prim.Native.Nat.{ℕ, zero, suc, _+_, _-_, _*_, _/_, _%_, _^_, _≤_, _<_}
 use native.Mathlib.Decide.{decLt}
 use native.Mathlib.Nat.{mod-lt, mod-eq-of-lt, div-add-mod'}
@@ -11,7 +12,7 @@ use lib.Seq.{take-at, drop-at, drop-drop, take-add, take-length, take-append-le,
 use Rattle.tables.specs.declared.Geometry.{Geometry}
 use Rattle.tables.specs.Geometry.{cells}
 use Rattle.tables.specs.Below.{tabulate, length-tabulate, getD-tabulate}
-use Rattle.tables.specs.LittleEndian.{bytesLE, numberLE, readLE, number-bytes-le}
+use Rattle.tables.specs.LittleEndian.{bytesLE, numberLE, readLE, number-bytes-le, sameBytes, same-bytes-refl}
 use Rattle.volume.specs.declared.Condition.{Condition}
 use Rattle.volume.specs.declared.Condition.the-variants.{Empty, Open, Sealed, Worn}
 use Rattle.volume.specs.declared.ZoneRecord.{ZoneRecord}
@@ -19,7 +20,7 @@ use Rattle.volume.specs.declared.State.{State}
 use Rattle.volume.specs.State.{pointerIn}
 use Rattle.volume.specs.OnTables.{blankRecord, recordAt, answerNumber, Result}
 use Rattle.volume.specs.DrivesLost.{fill-at, fill-past}
-use Rattle.volume.specs.EdgeBytes.{tableFrom, tableTo, wordsTo, length-words-to, kindOf, conditionFrom, recordTo, recordFrom, recordsTo, length-records-to, noState, stateTo, stateFrom}
+use Rattle.volume.specs.EdgeBytes.{tableFrom, tableTo, wordsTo, length-words-to, kindOf, conditionFrom, recordTo, recordFrom, recordsTo, length-records-to, noState, stateTo, stateFrom, stateWellFormed}
 use Rattle.volume.specs.EdgeCalls.{tablesIn, storedAll, unchanged, state-kept}
 
 -- ---- a list of bytes, as its number
@@ -167,3 +168,35 @@ pub refused-unchanged : (g : Geometry) (r : Result) (xs wb db st : List ℕ) →
 unfolding storedAll
 refused-unchanged g r xs wb db st a b c d q n =
     rw (q, bytes-table-bytes (cells g) wb a c, bytes-table-bytes (cells g) db b d, sym (state-kept g (r .outcome) st n)) refl
+
+-- ---- the bytes that a finished call hands on have the form, so the next call takes them
+-- a state whose numbers fit their fields
+pub record StateNumbers (zones : ℕ) (s : State) : Type 0 where
+  pub lost-byte : s .lost < 256
+  pub generations : (z : ℕ) → z < zones → recordAt s z .generation < 256 ^ 8
+  pub pointers : (z : ℕ) → z < zones → pointerIn (recordAt s z .condition) < 4294967296
+
+-- bytes are made of the lost drive and the records of the volume's zones alone
+same-records : (zones n : ℕ) (s t : State) → n ≤ zones → s .lost ≡ t .lost → ((z : ℕ) → z < zones → recordAt s z ≡ recordAt t z) → recordsTo n s ≡ recordsTo n t
+same-records zones zero s t h l e = ap (λ (x : ℕ). bytesLE 8 (x % 256)) l
+same-records zones (suc n) s t h l e = ap₂ (λ (xs : List ℕ) (r : ZoneRecord). xs ++ recordTo r) (same-records zones n s t (omega arith) l e) (e n (omega arith))
+
+pub handed-on-well-formed : (zones : ℕ) (s : State) → StateNumbers zones s → stateWellFormed zones (stateTo zones s) ≡ true
+unfolding stateWellFormed stateFrom stateTo
+handed-on-well-formed zones s h =
+    let t : State = stateFrom zones (stateTo zones s) in
+    let e : recordsTo zones t ≡ recordsTo zones s = same-records zones zones t s (omega arith) lost each in
+    ap (λ (l : List ℕ). sameBytes (l ++ drop (8 + 16 * zones) noState) (recordsTo zones s ++ drop (8 + 16 * zones) noState)) e ∙ same-bytes-refl (recordsTo zones s ++ drop (8 + 16 * zones) noState)
+  where
+    lost : readLE 8 (recordsTo zones s ++ drop (8 + 16 * zones) noState) 0 ≡ s .lost
+    lost =
+        let (rest, e) = lost-at zones s (drop (8 + 16 * zones) noState) in
+        let b : s .lost % 256 < 256 = mod-lt (s .lost) (omega arith) in
+        let m : s .lost % 256 < 18446744073709551616 = omega (arith, b) in
+        ap (λ (l : List ℕ). numberLE (take 8 l)) e ∙ number-bytes-le 8 (s .lost % 256) m ∙ mod-eq-of-lt (h .lost-byte)
+
+    each : (z : ℕ) → z < zones → getD (tabulate (λ y. recordFrom (recordsTo zones s ++ drop (8 + 16 * zones) noState) (8 + 16 * y)) zones ++ replicate (16 - zones) blankRecord) z blankRecord ≡ recordAt s z
+    each z k =
+        let (rest, e) = record-at zones z s (drop (8 + 16 * zones) noState) k in
+        fill-at (λ y. recordFrom (recordsTo zones s ++ drop (8 + 16 * zones) noState) (8 + 16 * y)) blankRecord blankRecord zones (16 - zones) z k
+        ∙ record-back (recordsTo zones s ++ drop (8 + 16 * zones) noState) (8 + 16 * z) (recordAt s z) rest e (h .generations z k) (h .pointers z k)

@@ -124,3 +124,8 @@ pub mod TablesClaimProof
 pub mod TablesMount
 pub mod MountFits
 pub mod TablesExample
+-- The C edge: what its bytes mean, and its calls on bytes.
+pub mod EdgeBytes
+pub mod EdgeCalls
+pub mod EdgeStoring
+pub mod EdgeReading

@@ -48,7 +48,7 @@ fn pointers_within(g: Geometry, state: State) -> bool
 }
 
 // Refusal 1, as far as it is about the state.
-fn state_within(g: Geometry, state: State) -> bool
+pub fn state_within(g: Geometry, state: State) -> bool
     requires { ⌜ Valid g ⌝ }
     ensures { λ r. ⌜ r ≡ stateWithin g (viewState state) ⌝ }
 {

@@ -3,6 +3,12 @@
 pub mod checks;
 pub mod drive_logs;
 pub mod drives_lost;
+pub mod edge_input;
+pub mod edge_reading;
+pub mod edge_restoring;
+pub mod edge_state;
+pub mod edge_storing;
+pub mod edge_tables;
 pub mod flushing;
 pub mod formatting;
 pub mod knowing;

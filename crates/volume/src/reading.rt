@@ -215,7 +215,7 @@ fn read_run(
 }
 
 // The zone of an address.
-fn zone_of(g: Geometry, address: u64) -> usize
+pub fn zone_of(g: Geometry, address: u64) -> usize
     requires { ⌜ Valid g ⌝ }
     ensures { λ r. ⌜ r ≡ zoneOf g address ⌝ }
 {
@@ -224,7 +224,7 @@ fn zone_of(g: Geometry, address: u64) -> usize
 }
 
 // Where an address lies in its zone.
-fn offset_of(g: Geometry, address: u64) -> usize
+pub fn offset_of(g: Geometry, address: u64) -> usize
     requires { ⌜ Valid g ⌝ }
     ensures { λ r. ⌜ (r ≡ offsetOf g address) × (r < zoneSectors g) ⌝ }
 {

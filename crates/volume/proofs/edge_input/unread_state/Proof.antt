@@ -1,0 +1,12 @@
+use mathlib.Core.Path.{_≡_, sym, _∙_, refl, ap, ap₂}
+use native.Mathlib.Omega.{arith}
+use Rattle.volume.specs.EdgeCalls.{unreadState}
+use Rattle.volume.proofs.edge_input.unread_state.Statement.{statement}
+use Rattle.volume.proofs.edge_input.unread_state.Tie as tie
+
+returns : tie.Need-returns
+unfolding unreadState
+returns c = refl
+
+pub unread-state-spec : {M : Type 1} → statement M
+unread-state-spec = tie.close (tie.spec returns)

@@ -127,5 +127,6 @@ pub mod TablesExample
 -- The C edge: what its bytes mean, and its calls on bytes.
 pub mod EdgeBytes
 pub mod EdgeCalls
+pub mod EdgeRoundTrips
 pub mod EdgeStoring
 pub mod EdgeReading

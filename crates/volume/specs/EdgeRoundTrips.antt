@@ -1,0 +1,202 @@
+-- What the C edge writes reads back: tables and states, from numbers to bytes and back, and from bytes to numbers and back.
+use mathlib.Core.Path.{_≡_, refl, sym, ap, ap₂, _∙_}
+use mathlib.Core.Logic.{_≢_}
+use mathlib.Core.Bool.{true}
+use Prim.Native.Nat.{ℕ, zero, suc, _+_, _-_, _*_, _/_, _%_, _^_, _≤_, _<_}
+use native.Mathlib.Decide.{decLt}
+use native.Mathlib.Nat.{mod-lt, mod-eq-of-lt, div-add-mod'}
+use native.Mathlib.Omega.{arith}
+use mathlib.Core.List.{append-assoc, List, [], _∷_, _++_}
+use lib.ListN.{length, getD, take, drop, replicate, length-append, length-drop, length-replicate}
+use lib.Seq.{take-at, drop-at, drop-drop, take-add, take-length, take-append-le, drop-append-le, length-take-le, ext-getD}
+use Rattle.tables.specs.declared.Geometry.{Geometry}
+use Rattle.tables.specs.Geometry.{cells}
+use Rattle.tables.specs.Below.{tabulate, length-tabulate, getD-tabulate}
+use Rattle.tables.specs.LittleEndian.{bytesLE, numberLE, readLE, number-bytes-le, sameBytes, same-bytes-refl}
+use Rattle.volume.specs.declared.Condition.{Condition}
+use Rattle.volume.specs.declared.Condition.the-variants.{Empty, Open, Sealed, Worn}
+use Rattle.volume.specs.declared.ZoneRecord.{ZoneRecord}
+use Rattle.volume.specs.declared.State.{State}
+use Rattle.volume.specs.State.{pointerIn}
+use Rattle.volume.specs.OnTables.{blankRecord, recordAt, answerNumber, Result}
+use Rattle.volume.specs.DrivesLost.{fill-at, fill-past}
+use Rattle.volume.specs.EdgeBytes.{tableFrom, tableTo, wordsTo, length-words-to, kindOf, conditionFrom, recordTo, recordFrom, recordsTo, length-records-to, noState, stateTo, stateFrom, stateWellFormed}
+use Rattle.volume.specs.EdgeCalls.{tablesIn, storedAll, unchanged, state-kept}
+
+-- ---- a list of bytes, as its number
+abbrev pub Bytes : List ℕ → Type 0
+Bytes [] = Unit {0}
+Bytes (x ∷ xs) = (x < 256) × Bytes xs
+
+bytes-take : (n : ℕ) (xs : List ℕ) → Bytes xs → Bytes (take n xs)
+bytes-take zero xs b = tt
+bytes-take (suc n) [] b = tt
+bytes-take (suc n) (x ∷ xs) b = (b .0, bytes-take n xs (b .1))
+
+bytes-drop : (n : ℕ) (xs : List ℕ) → Bytes xs → Bytes (drop n xs)
+bytes-drop zero xs b = b
+bytes-drop (suc n) [] b = tt
+bytes-drop (suc n) (x ∷ xs) b = bytes-drop n xs (b .1)
+
+pub bytes-number : (xs : List ℕ) → Bytes xs → bytesLE (length xs) (numberLE xs) ≡ xs
+bytes-number [] b = refl
+bytes-number (x ∷ xs) b =
+    let n = x + 256 * numberLE xs in
+    let h : n % 256 < 256 = mod-lt n (omega arith) in
+    let e : n % 256 ≡ x = omega (arith, b .0, h, div-add-mod' n 256) in
+    let f : n / 256 ≡ numberLE xs = omega (arith, b .0, h, div-add-mod' n 256) in
+    ap₂ (λ (y : ℕ) (ys : List ℕ). y ∷ ys) e (ap (bytesLE (length xs)) f ∙ bytes-number xs (b .1))
+
+-- ---- tables
+word-at : (n i : ℕ) (ts : List ℕ) → i < n → getD ts i 0 < 256 ^ 4 → readLE 4 (wordsTo n ts) (i * 4) ≡ getD ts i 0
+word-at zero i ts l h = absurd (omega arith)
+word-at (suc n) i ts l h = go (decLt i n) (λ k. word-at n i ts k h)
+  where
+    go : Dec (i < n) → (i < n → readLE 4 (wordsTo n ts) (i * 4) ≡ getD ts i 0) → readLE 4 (wordsTo n ts ++ bytesLE 4 (getD ts n 0)) (i * 4) ≡ getD ts i 0
+    go (yes k) ih =
+        let long : length (wordsTo n ts) ≡ n * 4 = length-words-to n ts in
+        let inside : i * 4 ≤ length (wordsTo n ts) = omega arith in
+        let left : 4 ≤ length (drop (i * 4) (wordsTo n ts)) = rw (length-drop (i * 4) (wordsTo n ts)) (omega arith) in
+        ap (λ (l : List ℕ). numberLE (take 4 l)) (drop-append-le (i * 4) (wordsTo n ts) (bytesLE 4 (getD ts n 0)) inside)
+        ∙ ap numberLE (take-append-le 4 (drop (i * 4) (wordsTo n ts)) (bytesLE 4 (getD ts n 0)) left)
+        ∙ ih k
+    go (no k) ih =
+        let e : i ≡ n = omega arith in
+        ap (λ (j : ℕ). readLE 4 (wordsTo n ts ++ bytesLE 4 (getD ts n 0)) (j * 4)) e
+        ∙ ap (λ (l : List ℕ). numberLE (take 4 l)) (drop-at (wordsTo n ts) (bytesLE 4 (getD ts n 0)) (n * 4) (length-words-to n ts))
+        ∙ number-bytes-le 4 (getD ts n 0) (rw (← e) h)
+        ∙ ap (λ (j : ℕ). getD ts j 0) (sym e)
+
+-- a table of 32-bit numbers, written, reads back
+pub table-bytes-table : (ts : List ℕ) → ((i : ℕ) → i < length ts → getD ts i 0 < 256 ^ 4) → tableFrom (length ts) (tableTo ts) ≡ ts
+unfolding tableFrom tableTo
+table-bytes-table ts h =
+    let f : ℕ → ℕ = λ i. readLE 4 (wordsTo (length ts) ts) (i * 4) in
+    ext-getD 0 (tabulate f (length ts)) ts (length-tabulate f (length ts)) (λ i l. let k : i < length ts = rw (length-tabulate f (length ts)) at l in getD-tabulate f (length ts) i 0 k ∙ word-at (length ts) i ts k (h i k))
+
+-- bytes, read as a table and written again, are the same
+pub bytes-table-bytes : (n : ℕ) (xs : List ℕ) → Bytes xs → length xs ≡ n * 4 → tableTo (tableFrom n xs) ≡ xs
+unfolding tableFrom tableTo
+bytes-table-bytes n xs b e =
+    let f : ℕ → ℕ = λ i. readLE 4 xs (i * 4) in
+    ap (λ (k : ℕ). wordsTo k (tabulate f n)) (length-tabulate f n) ∙ go n (omega arith) ∙ ap (λ (k : ℕ). take k xs) (sym e) ∙ take-length xs
+  where
+    go : (k : ℕ) → k ≤ n → wordsTo k (tabulate (λ i. readLE 4 xs (i * 4)) n) ≡ take (k * 4) xs
+    go zero h = refl
+    go (suc k) h =
+        let part = take 4 (drop (k * 4) xs) in
+        let long : length (take 4 (drop (k * 4) xs)) ≡ 4 = length-take-le 4 (drop (k * 4) xs) (rw (length-drop (k * 4) xs) (omega arith)) in
+        let s : k * 4 + 4 ≡ suc k * 4 = omega arith in
+        ap₂ (λ (u v : List ℕ). u ++ v) (go k (omega arith))
+        (ap (bytesLE 4) (getD-tabulate (λ i. readLE 4 xs (i * 4)) n k 0 (omega arith)) ∙ ap (λ (m : ℕ). bytesLE m (numberLE part)) (sym long) ∙ bytes-number part (bytes-take 4 (drop (k * 4) xs) (bytes-drop (k * 4) xs b)))
+        ∙ sym (take-add (k * 4) 4 xs) ∙ ap (λ (m : ℕ). take m xs) s
+
+-- ---- states
+-- a state that 264 bytes can hold, of a volume of so many zones
+pub record StateRange (zones : ℕ) (s : State) : Type 0 where
+  pub zones-most : zones ≤ 16
+  pub lost-byte : s .lost < 256
+  pub sixteen : length (s .zones) ≡ 16
+  pub generations : (z : ℕ) → z < zones → recordAt s z .generation < 256 ^ 8
+  pub pointers : (z : ℕ) → z < zones → pointerIn (recordAt s z .condition) < 4294967296
+  pub past : (z : ℕ) → zones ≤ z → recordAt s z ≡ blankRecord
+
+-- where its parts lie
+lost-at : (n : ℕ) (s : State) (t : List ℕ) → (rest : List ℕ) × (recordsTo n s ++ t ≡ bytesLE 8 (s .lost % 256) ++ rest)
+lost-at zero s t = (t, refl)
+lost-at (suc n) s t = let (rest, e) = lost-at n s (recordTo (recordAt s n) ++ t) in (rest, append-assoc (recordsTo n s) (recordTo (recordAt s n)) t ∙ e)
+
+record-at : (n z : ℕ) (s : State) (t : List ℕ) → z < n → (rest : List ℕ) × (drop (8 + 16 * z) (recordsTo n s ++ t) ≡ recordTo (recordAt s z) ++ rest)
+record-at zero z s t h = absurd (omega arith)
+record-at (suc n) z s t h = go (decLt z n) (λ k. record-at n z s (recordTo (recordAt s n) ++ t) k)
+  where
+    go : Dec (z < n) → (z < n → (rest : List ℕ) × (drop (8 + 16 * z) (recordsTo n s ++ (recordTo (recordAt s n) ++ t)) ≡ recordTo (recordAt s z) ++ rest))
+        → (rest : List ℕ) × (drop (8 + 16 * z) (recordsTo n s ++ recordTo (recordAt s n) ++ t) ≡ recordTo (recordAt s z) ++ rest)
+    go (yes k) ih = let (rest, e) = ih k in (rest, ap (drop (8 + 16 * z)) (append-assoc (recordsTo n s) (recordTo (recordAt s n)) t) ∙ e)
+    go (no k) ih =
+        let e : z ≡ n = omega arith in (
+          t,
+          ap (drop (8 + 16 * z)) (append-assoc (recordsTo n s) (recordTo (recordAt s n)) t)
+              ∙ ap (λ (y : ℕ). drop (8 + 16 * y) (recordsTo n s ++ (recordTo (recordAt s n) ++ t))) e
+              ∙ drop-at (recordsTo n s) (recordTo (recordAt s n) ++ t) (8 + 16 * n) (length-records-to n s)
+              ∙ ap (λ (y : ℕ). recordTo (recordAt s y) ++ t) (sym e),
+        )
+
+-- a condition's two numbers
+condition-back : (c : Condition) → pointerIn c < 4294967296 → conditionFrom (numberLE (bytesLE 4 (kindOf c))) (numberLE (bytesLE 4 (pointerIn c % 4294967296))) ≡ c
+condition-back c h = let m : pointerIn c % 4294967296 < 4294967296 = mod-lt (pointerIn c) (omega arith) in by c (number-bytes-le 4 (pointerIn c % 4294967296) m ∙ mod-eq-of-lt h)
+  where
+    by : (d : Condition) → numberLE (bytesLE 4 (pointerIn d % 4294967296)) ≡ pointerIn d → conditionFrom (numberLE (bytesLE 4 (kindOf d))) (numberLE (bytesLE 4 (pointerIn d % 4294967296))) ≡ d
+    by Empty e = refl
+    by (Open n) e = ap Open e
+    by (Sealed n) e = ap Sealed e
+    by (Worn n) e = ap Worn e
+
+record-back : (xs : List ℕ) (at : ℕ) (r : ZoneRecord) (rest : List ℕ) → drop at xs ≡ recordTo r ++ rest → r .generation < 256 ^ 8 → pointerIn (r .condition) < 4294967296 → recordFrom xs at ≡ r
+unfolding recordFrom recordTo
+record-back xs at r rest e g p =
+    let a : readLE 8 xs at ≡ r .generation = ap (λ (l : List ℕ). numberLE (take 8 l)) e ∙ number-bytes-le 8 (r .generation) g in
+    let k : readLE 4 xs (at + 8) ≡ numberLE (bytesLE 4 (kindOf (r .condition))) = ap (λ (l : List ℕ). numberLE (take 4 l)) (sym (drop-drop 8 at xs) ∙ ap (drop 8) e) in
+    let q : readLE 4 xs (at + 12) ≡ numberLE (bytesLE 4 (pointerIn (r .condition) % 4294967296)) = ap (λ (l : List ℕ). numberLE (take 4 l)) (sym (drop-drop 12 at xs) ∙ ap (drop 12) e) in
+    ap₂ (λ (n : ℕ) (c : Condition). record { generation = n; condition = c }) a (ap₂ conditionFrom k q ∙ condition-back (r .condition) p)
+
+-- a state in range, written, reads back
+pub state-bytes-state : (zones : ℕ) (s : State) → StateRange zones s → stateFrom zones (stateTo zones s) ≡ s
+unfolding stateFrom stateTo
+state-bytes-state zones s h =
+    let xs = recordsTo zones s ++ drop (8 + 16 * zones) noState in
+    let f : ℕ → ZoneRecord = λ z. recordFrom (recordsTo zones s ++ drop (8 + 16 * zones) noState) (8 + 16 * z) in
+    let (rest, e) = lost-at zones s (drop (8 + 16 * zones) noState) in
+    let b : s .lost % 256 < 256 = mod-lt (s .lost) (omega arith) in
+    let m : s .lost % 256 < 18446744073709551616 = omega (arith, b) in
+    let a : readLE 8 xs 0 ≡ s .lost = ap (λ (l : List ℕ). numberLE (take 8 l)) e ∙ number-bytes-le 8 (s .lost % 256) m ∙ mod-eq-of-lt (h .lost-byte) in
+    let long : length (tabulate f zones ++ replicate (16 - zones) blankRecord) ≡ 16 =
+    length-append (tabulate f zones) (replicate (16 - zones) blankRecord) ∙ omega (arith, length-tabulate f zones, length-replicate (16 - zones) blankRecord, h .zones-most) in
+    ap₂ (λ (n : ℕ) (rs : List ZoneRecord). record { lost = n; zones = rs }) a
+    (ext-getD blankRecord (tabulate f zones ++ replicate (16 - zones) blankRecord) (s .zones) (long ∙ sym (h .sixteen)) (λ z l. each z (decLt z zones)))
+  where
+    each : (z : ℕ) → Dec (z < zones) → getD (tabulate (λ y. recordFrom (recordsTo zones s ++ drop (8 + 16 * zones) noState) (8 + 16 * y)) zones ++ replicate (16 - zones) blankRecord) z blankRecord ≡ recordAt s z
+    each z (yes k) =
+        let (rest, e) = record-at zones z s (drop (8 + 16 * zones) noState) k in
+        fill-at (λ y. recordFrom (recordsTo zones s ++ drop (8 + 16 * zones) noState) (8 + 16 * y)) blankRecord blankRecord zones (16 - zones) z k
+        ∙ record-back (recordsTo zones s ++ drop (8 + 16 * zones) noState) (8 + 16 * z) (recordAt s z) rest e (h .generations z k) (h .pointers z k)
+    each z (no k) = fill-past (λ y. recordFrom (recordsTo zones s ++ drop (8 + 16 * zones) noState) (8 + 16 * y)) blankRecord zones (16 - zones) z (omega arith) ∙ sym (h .past z (omega arith))
+
+-- ---- a refused call on bytes leaves every range as it was: its tables are written again, as the same bytes
+pub refused-unchanged : (g : Geometry) (r : Result) (xs wb db st : List ℕ) → Bytes wb → Bytes db → length wb ≡ cells g * 4 → length db ≡ cells g * 4
+    → r .tables ≡ tablesIn g xs wb db → answerNumber (r .outcome .answer) ≢ 0 → storedAll g r st ≡ unchanged (answerNumber (r .outcome .answer)) xs wb db st
+unfolding storedAll
+refused-unchanged g r xs wb db st a b c d q n =
+    rw (q, bytes-table-bytes (cells g) wb a c, bytes-table-bytes (cells g) db b d, sym (state-kept g (r .outcome) st n)) refl
+
+-- ---- the bytes that a finished call hands on have the form, so the next call takes them
+-- a state whose numbers fit their fields
+pub record StateNumbers (zones : ℕ) (s : State) : Type 0 where
+  pub lost-byte : s .lost < 256
+  pub generations : (z : ℕ) → z < zones → recordAt s z .generation < 256 ^ 8
+  pub pointers : (z : ℕ) → z < zones → pointerIn (recordAt s z .condition) < 4294967296
+
+-- bytes are made of the lost drive and the records of the volume's zones alone
+same-records : (zones n : ℕ) (s t : State) → n ≤ zones → s .lost ≡ t .lost → ((z : ℕ) → z < zones → recordAt s z ≡ recordAt t z) → recordsTo n s ≡ recordsTo n t
+same-records zones zero s t h l e = ap (λ (x : ℕ). bytesLE 8 (x % 256)) l
+same-records zones (suc n) s t h l e = ap₂ (λ (xs : List ℕ) (r : ZoneRecord). xs ++ recordTo r) (same-records zones n s t (omega arith) l e) (e n (omega arith))
+
+pub handed-on-well-formed : (zones : ℕ) (s : State) → StateNumbers zones s → stateWellFormed zones (stateTo zones s) ≡ true
+unfolding stateWellFormed stateFrom stateTo
+handed-on-well-formed zones s h =
+    let t : State = stateFrom zones (stateTo zones s) in
+    let e : recordsTo zones t ≡ recordsTo zones s = same-records zones zones t s (omega arith) lost each in
+    ap (λ (l : List ℕ). sameBytes (l ++ drop (8 + 16 * zones) noState) (recordsTo zones s ++ drop (8 + 16 * zones) noState)) e ∙ same-bytes-refl (recordsTo zones s ++ drop (8 + 16 * zones) noState)
+  where
+    lost : readLE 8 (recordsTo zones s ++ drop (8 + 16 * zones) noState) 0 ≡ s .lost
+    lost =
+        let (rest, e) = lost-at zones s (drop (8 + 16 * zones) noState) in
+        let b : s .lost % 256 < 256 = mod-lt (s .lost) (omega arith) in
+        let m : s .lost % 256 < 18446744073709551616 = omega (arith, b) in
+        ap (λ (l : List ℕ). numberLE (take 8 l)) e ∙ number-bytes-le 8 (s .lost % 256) m ∙ mod-eq-of-lt (h .lost-byte)
+
+    each : (z : ℕ) → z < zones → getD (tabulate (λ y. recordFrom (recordsTo zones s ++ drop (8 + 16 * zones) noState) (8 + 16 * y)) zones ++ replicate (16 - zones) blankRecord) z blankRecord ≡ recordAt s z
+    each z k =
+        let (rest, e) = record-at zones z s (drop (8 + 16 * zones) noState) k in
+        fill-at (λ y. recordFrom (recordsTo zones s ++ drop (8 + 16 * zones) noState) (8 + 16 * y)) blankRecord blankRecord zones (16 - zones) z k
+        ∙ record-back (recordsTo zones s ++ drop (8 + 16 * zones) noState) (8 + 16 * z) (recordAt s z) rest e (h .generations z k) (h .pointers z k)

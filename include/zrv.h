@@ -1,0 +1,139 @@
+/* zrv.h: a volume of zones over three to eight zoned drives, with one parity.
+ *
+ * The functions below are those of the archive that `make archive` writes (target/staticlib/libvolume.a). They allocate nothing, keep nothing between
+ * calls and may be called from any thread, as long as no two calls at once are handed memory that one of them changes.
+ *
+ * Every function takes the geometry first:
+ *   drives        D, 3 to 8
+ *   sector_bytes  B, 64, 128 and so on by doubling to 4096
+ *   unit          U, the sectors of a stripe unit, 1 to 16
+ *   zones         L, the logical zones, 1 to 16, with 32 + 8 * L at most B
+ *   zone_sectors  C, the sectors of a physical zone: a multiple of U, at most 65536, at least the larger of L * (1 + U) + 2 * U + 1 and L + 6
+ * then `named`, the drives present: drive d by bit d; bits at or above D name no drive; then its own numbers; then, if it stores, `count`, the count of
+ * stores after which it stops (ZRV_ALL_STORES stops none); then byte ranges, each a pointer and a length:
+ *   sectors   D * Z * C * B bytes, Z = L + 3: drive by drive, zone by zone
+ *   written   D * Z little-endian 32-bit numbers, 4 bytes each: the sectors written in each drive and zone
+ *   durable   the same, of those that a power cut keeps
+ *   state     ZRV_STATE_BYTES bytes: what the host keeps between calls (below)
+ *
+ * Each returns 0 (finished), 1 to 15 (refused, the least number that applies) or 255 (unfinished: stores were left when the count ran out). On anything
+ * but 0 every byte range keeps what it held, but for the stores that an unfinished call has made in sectors, written and durable.
+ *
+ * The state: byte 0 the lost drive or 255, bytes 1 to 7 zero; then 16 records of 16 bytes, one a zone: the generation (8 bytes), the condition (1 byte:
+ * 0 empty, 1 open, 2 sealed, 3 worn), three zeros, the zone's pointer (4 bytes), all little-endian. An empty zone's pointer field is 0. The records past
+ * zone L - 1 are all zero. A state that breaks this form or document 01's bounds is refusal 1, one of another length 2.
+ *
+ * The host's duties: no two ranges of a call overlap; an empty range has a pointer that is not null too; every call gets the geometry of the format and
+ * the state that the last finished call left; after a power cut a mount is finished before anything but looks and mounts; every drive that is not lost
+ * is named, and a lost one never again; after an unfinished call only a power cut, then a mount.
+ */
+#ifndef ZRV_H
+#define ZRV_H
+
+#include <stddef.h>
+#include <stdint.h>
+
+#ifdef __cplusplus
+extern "C" {
+#endif
+
+/* Sizes. */
+#define ZRV_STATE_BYTES 264u
+#define ZRV_STATE_HEAD_BYTES 8u
+#define ZRV_STATE_RECORD_BYTES 16u
+#define ZRV_STATE_RECORDS 16u
+#define ZRV_PLACE_BYTES 8u
+#define ZRV_LOG_ZONES 3u
+#define ZRV_TABLE_BYTES(drives, zones) ((size_t)(drives) * ((size_t)(zones) + ZRV_LOG_ZONES) * 4u)
+#define ZRV_SECTORS_BYTES(drives, sector_bytes, zones, zone_sectors) \
+    ((size_t)(drives) * ((size_t)(zones) + ZRV_LOG_ZONES) * (size_t)(zone_sectors) * (size_t)(sector_bytes))
+
+/* A count of stores that stops no call; the lost drive where none is. */
+#define ZRV_ALL_STORES UINT32_MAX
+#define ZRV_NO_DRIVE 255u
+
+/* Conditions of a zone, in its record. */
+#define ZRV_EMPTY 0u
+#define ZRV_OPEN 1u
+#define ZRV_SEALED 2u
+#define ZRV_WORN 3u
+
+/* Answers. */
+#define ZRV_FINISHED 0u
+#define ZRV_GEOMETRY 1u  /* a bound is broken, by the geometry or by the state */
+#define ZRV_LENGTH 2u    /* a byte range has not its length */
+#define ZRV_POINTER 3u   /* a named drive has written > C or durable > written */
+#define ZRV_TWO_LOST 4u  /* more than one drive is lost */
+#define ZRV_LABEL 5u     /* look, mount: a present drive's general log has no fitting first label */
+#define ZRV_LOG 6u       /* look, mount: a present drive's log is broken */
+#define ZRV_STALE 7u     /* a present drive's pointer in the zone is not what the state needs */
+#define ZRV_ADDRESS 8u   /* no such zone or address */
+#define ZRV_RUN 9u       /* no sectors, or past the zone's end */
+#define ZRV_ORDER 10u    /* a write that is not at the pointer */
+#define ZRV_ZONE_SEALED 11u /* a write to a sealed zone */
+#define ZRV_ZONE_WORN 12u   /* a write or reset of a worn zone */
+#define ZRV_UNWRITTEN 13u   /* a read or peek past the pointer */
+#define ZRV_LOG_FULL 14u    /* mount, reset, write: too little unused log */
+#define ZRV_GONE 15u        /* a sector needed is not known; in a peek, not held */
+#define ZRV_UNFINISHED 255u
+
+/* Format: an empty volume. array: the number that every label carries. Finished, `state` is the first state; what it held is never read.
+ * Refusals 1 to 4. */
+uint32_t zrv_format(uint32_t drives, uint32_t sector_bytes, uint32_t unit, uint32_t zones, uint32_t zone_sectors, uint32_t named,
+                    uint64_t array, uint32_t count,
+                    uint8_t *sectors, size_t sectors_bytes, uint8_t *written, size_t written_bytes,
+                    uint8_t *durable, size_t durable_bytes, uint8_t *state, size_t state_bytes);
+
+/* Look: what the present drives show. It stores nothing. Finished, `state` is what is shown; what it held is never read. Refusals 1 to 6. */
+uint32_t zrv_look(uint32_t drives, uint32_t sector_bytes, uint32_t unit, uint32_t zones, uint32_t zone_sectors, uint32_t named,
+                  const uint8_t *sectors, size_t sectors_bytes, const uint8_t *written, size_t written_bytes,
+                  const uint8_t *durable, size_t durable_bytes, uint8_t *state, size_t state_bytes);
+
+/* Mount: brings the volume back after a power cut or the loss of a drive. Finished, `state` is what it shows; what it held is never read.
+ * Refusals 1 to 6 and 14. */
+uint32_t zrv_mount(uint32_t drives, uint32_t sector_bytes, uint32_t unit, uint32_t zones, uint32_t zone_sectors, uint32_t named,
+                   uint32_t count,
+                   uint8_t *sectors, size_t sectors_bytes, uint8_t *written, size_t written_bytes,
+                   uint8_t *durable, size_t durable_bytes, uint8_t *state, size_t state_bytes);
+
+/* Write: sectors_to_write sectors, the bytes of `data` (sectors_to_write * B of them), at an address that is its zone's pointer. Finished, `state` has
+ * the zone open at its new pointer. `durable` is read only. Refusals 1 to 4, 7 to 12, 14 and 15. */
+uint32_t zrv_write(uint32_t drives, uint32_t sector_bytes, uint32_t unit, uint32_t zones, uint32_t zone_sectors, uint32_t named,
+                   uint64_t address, uint32_t sectors_to_write, uint32_t count,
+                   uint8_t *sectors, size_t sectors_bytes, uint8_t *written, size_t written_bytes,
+                   const uint8_t *durable, size_t durable_bytes, uint8_t *state, size_t state_bytes,
+                   const uint8_t *data, size_t data_bytes);
+
+/* Flush: every present drive is flushed: what is written becomes durable. Finished, a drive that is not named is lost in `state`.
+ * Refusals 1 to 4. */
+uint32_t zrv_flush(uint32_t drives, uint32_t sector_bytes, uint32_t unit, uint32_t zones, uint32_t zone_sectors, uint32_t named,
+                   uint32_t count,
+                   const uint8_t *sectors, size_t sectors_bytes, const uint8_t *written, size_t written_bytes,
+                   uint8_t *durable, size_t durable_bytes, uint8_t *state, size_t state_bytes);
+
+/* Reset of a logical zone: finished, it is empty, or worn where its generation is now 2^64 - 1. Refusals 1 to 4, 7, 8, 12 and 14. */
+uint32_t zrv_reset(uint32_t drives, uint32_t sector_bytes, uint32_t unit, uint32_t zones, uint32_t zone_sectors, uint32_t named,
+                   uint32_t zone, uint32_t count,
+                   uint8_t *sectors, size_t sectors_bytes, uint8_t *written, size_t written_bytes,
+                   uint8_t *durable, size_t durable_bytes, uint8_t *state, size_t state_bytes);
+
+/* Read: sectors_to_read sectors from an address, into `answer` (sectors_to_read * B bytes). Refusals 1 to 4, 7 to 9, 13 and 15. */
+uint32_t zrv_read(uint32_t drives, uint32_t sector_bytes, uint32_t unit, uint32_t zones, uint32_t zone_sectors, uint32_t named,
+                  uint64_t address, uint32_t sectors_to_read,
+                  const uint8_t *sectors, size_t sectors_bytes, const uint8_t *written, size_t written_bytes,
+                  const uint8_t *durable, size_t durable_bytes, const uint8_t *state, size_t state_bytes,
+                  uint8_t *answer, size_t answer_bytes);
+
+/* Peek: where the sector of an address sits in `sectors`, without copying it: its offset, little-endian, in the ZRV_PLACE_BYTES bytes of `place` (another
+ * length is refusal 2). Refusals 1 to 4, 7, 8, 13 and 15. */
+uint32_t zrv_peek(uint32_t drives, uint32_t sector_bytes, uint32_t unit, uint32_t zones, uint32_t zone_sectors, uint32_t named,
+                  uint64_t address,
+                  const uint8_t *sectors, size_t sectors_bytes, const uint8_t *written, size_t written_bytes,
+                  const uint8_t *durable, size_t durable_bytes, const uint8_t *state, size_t state_bytes,
+                  uint8_t *place, size_t place_bytes);
+
+#ifdef __cplusplus
+}
+#endif
+
+#endif

@@ -1,0 +1,267 @@
+/* Bad input through the C edge: every length one short and one long, every number at its bound and past it, a state with each of its bytes damaged, masks,
+ * addresses, counts of stores. Each call must answer the number that document 01's table gives, and keep every byte of every range where it refuses.
+ * Prints the count of cases; leaves with 1 at the first that is wrong and says which. */
+#include <inttypes.h>
+#include <stdio.h>
+#include <stdlib.h>
+#include <string.h>
+
+#include "bytes.h"
+#include "fixture.h"
+#include "shelf.h"
+
+static const enum call_kind every_kind[] = {CALL_FORMAT, CALL_LOOK, CALL_MOUNT, CALL_WRITE, CALL_FLUSH, CALL_RESET, CALL_READ, CALL_PEEK};
+enum { KINDS = sizeof every_kind / sizeof *every_kind };
+
+static unsigned long cases, refused;
+
+static void fail(const struct fixture *f, const char *class, const struct call *c, const char *what, uint64_t wanted, uint64_t got) {
+    printf("bad_input: %s: %s: call %c: %s: wanted %" PRIu64 ", got %" PRIu64 "\n", f->name, class, c->kind, what, wanted, got);
+    printf("  geometry %u %u %u %u %u named %u address %" PRIu64 " run %u zone %u count %u lengths", c->geometry.drives, c->geometry.sector_bytes,
+           c->geometry.unit, c->geometry.zones, c->geometry.zone_sectors, c->named, c->address, c->run, c->zone, c->count);
+    for (int i = 0; i < RANGES; i++)
+        printf(" %zu", c->range[i].length);
+    for (size_t i = 0; i < f->memory_bytes; i++)
+        if (f->before[i] != f->base[i])
+            printf("\n  before the call byte %zu of the memory was %u in place of %u", i, f->before[i], f->base[i]);
+    putchar('\n');
+    exit(1);
+}
+
+/* The first byte of the memory that differs from what it was before the call. */
+static size_t first_changed(const struct fixture *f) {
+    size_t i = 0;
+    while (i < f->memory_bytes && f->memory[i] == f->before[i])
+        i++;
+    return i;
+}
+
+/* Whether the guards about the ranges are as they were. */
+static bool guards_kept(const struct fixture *f) {
+    size_t at = 0;
+    for (int r = 0; r < RANGES; r++) {
+        if (memcmp(f->memory + at, f->before + at, GUARD_BYTES) != 0)
+            return false;
+        at += GUARD_BYTES + f->range[r].length;
+    }
+    return memcmp(f->memory + at, f->before + at, GUARD_BYTES) == 0;
+}
+
+/* One case: the memory holds what the call is to find. The class may fix the number that must come (or ZRV_FINISHED for any). */
+static void judge(struct fixture *f, const char *class, const struct call *call, uint32_t fixed) {
+    struct expected *e = &f->expected;
+    cases++;
+    memcpy(f->before, f->memory, f->memory_bytes);
+    expect(e, call, &f->made);
+    if (fixed != ZRV_FINISHED && e->code != fixed)
+        fail(f, class, call, "the expectation", fixed, e->code);
+    uint32_t code = make_call(call);
+    if (code != e->code)
+        fail(f, class, call, "answer", e->code, code);
+    bool kept = code != ZRV_FINISHED && code != ZRV_UNFINISHED;
+    bool none_made = code == ZRV_UNFINISHED && call->count == 0;
+    refused += kept;
+    if ((kept || none_made) && memcmp(f->memory, f->before, f->memory_bytes) != 0)
+        fail(f, class, call, "changed byte of the memory", f->memory_bytes, first_changed(f));
+    if (!guards_kept(f))
+        fail(f, class, call, "guards kept", 1, 0);
+    if (!kept && e->bytes_known && !bytes_as_expected(e, call))
+        fail(f, class, call, "bytes left", 0, 1);
+    restore(f);
+}
+
+static bool has_buffer(enum call_kind kind) { return kind == CALL_WRITE || kind == CALL_READ || kind == CALL_PEEK; }
+
+static void lengths(struct fixture *f) {
+    for (int k = 0; k < KINDS; k++)
+        for (int r = 0; r < RANGES; r++) {
+            const int by[] = {-1, 1, -4, 4, -8, 8, -64, 64};
+            struct call call = usual_call(f, every_kind[k]);
+            if (r == BUFFER && !has_buffer(call.kind))
+                continue;
+            size_t whole = call.range[r].length;
+            for (size_t i = 0; i < sizeof by / sizeof *by; i++) {
+                if (by[i] < 0 && (size_t)-by[i] > whole)
+                    continue;
+                call.range[r].length = whole + (size_t)by[i];
+                judge(f, "length", &call, ZRV_LENGTH);
+            }
+            call.range[r].length = 0;
+            judge(f, "no bytes", &call, ZRV_LENGTH);
+        }
+}
+
+static void one_geometry(struct fixture *f, enum call_kind kind, int field, uint32_t value) {
+    struct call call = usual_call(f, kind);
+    uint32_t *number[] = {&call.geometry.drives, &call.geometry.sector_bytes, &call.geometry.unit, &call.geometry.zones, &call.geometry.zone_sectors};
+    *number[field] = value;
+    judge(f, "geometry", &call, geometry_fits(call.geometry) ? ZRV_FINISHED : ZRV_GEOMETRY);
+}
+
+/* Each number of the geometry: small ones, those about every bound, those about a power of two. */
+static void geometries(struct fixture *f) {
+    for (int k = 0; k < KINDS; k++)
+        for (int field = 0; field < 5; field++) {
+            for (uint32_t value = 0; value <= 130; value++)
+                one_geometry(f, every_kind[k], field, value);
+            for (int bit = 8; bit < 32; bit++)
+                for (uint32_t by = 0; by < 3; by++)
+                    one_geometry(f, every_kind[k], field, (1u << bit) - 1 + by);
+            one_geometry(f, every_kind[k], field, UINT32_MAX);
+        }
+}
+
+/* Every set of drives, also with bits that name no drive. */
+static void masks(struct fixture *f) {
+    uint32_t drives = f->made.geometry.drives, all = (1u << drives) - 1;
+    for (int k = 0; k < KINDS; k++)
+        for (uint32_t mask = 0; mask <= all; mask++) {
+            const uint32_t beyond[] = {0, 1u << drives, 0x100, 1u << 31, ~all};
+            for (size_t i = 0; i < sizeof beyond / sizeof *beyond; i++) {
+                struct call call = usual_call(f, every_kind[k]);
+                call.named = mask | beyond[i];
+                judge(f, "mask", &call, ZRV_FINISHED);
+            }
+        }
+}
+
+static void one_pointer(struct fixture *f, enum call_kind kind, size_t index, uint32_t named, uint32_t written, uint32_t durable) {
+    struct call call = usual_call(f, kind);
+    call.named = named;
+    put32(f->range[WRITTEN].bytes + 4 * index, written);
+    put32(f->range[DURABLE].bytes + 4 * index, durable);
+    judge(f, "write pointer", &call, ZRV_FINISHED);
+}
+
+/* Each write pointer at a zone's end and past it, and durable past written; its drive named and not. */
+static void pointers(struct fixture *f) {
+    struct geometry g = f->made.geometry;
+    size_t zones = (size_t)g.zones + ZRV_LOG_ZONES;
+    for (int k = 0; k < KINDS; k++)
+        for (size_t index = 0; index < g.drives * zones; index++)
+            for (int unnamed = 0; unnamed < 2; unnamed++) {
+                uint32_t all = (1u << g.drives) - 1, c = g.zone_sectors, had = get32(f->range[WRITTEN].bytes + 4 * index);
+                uint32_t named = unnamed ? all & ~(1u << index / zones) : all;
+                const uint32_t pair[][2] = {
+                    {c, c}, {c, 0}, {c + 1, c}, {c + 1, c + 1}, {1u << 31, 0}, {UINT32_MAX, 0}, {UINT32_MAX, UINT32_MAX}, {had, had + 1}, {had, UINT32_MAX}, {c, c + 1},
+                };
+                for (size_t i = 0; i < sizeof pair / sizeof *pair; i++)
+                    one_pointer(f, every_kind[k], index, named, pair[i][0], pair[i][1]);
+            }
+}
+
+static void one_run(struct fixture *f, enum call_kind kind, uint64_t address, uint32_t run) {
+    struct call call = usual_call(f, kind);
+    call.address = address;
+    call.run = run;
+    if (kind != CALL_PEEK)
+        call.range[BUFFER] = buffer_of(f, run);
+    judge(f, "address and run", &call, ZRV_FINISHED);
+}
+
+/* Addresses about every pointer and zone's end, those past the last, those that would wrap; runs of none, one, up to a zone's end and past it. */
+static void addresses(struct fixture *f) {
+    struct geometry g = f->made.geometry;
+    uint64_t whole = zone_addresses(g), last = whole * g.zones;
+    for (uint32_t zone = 0; zone <= g.zones; zone++) {
+        uint64_t start = zone * whole, pointer = zone < g.zones ? zone_pointer(f, zone) : 0;
+        const uint64_t address[] = {start,       start + 1,   start + pointer, start + pointer - 1, start + pointer + 1, start + whole - 1, last,
+                                    last + 1,    UINT32_MAX,  1ull << 32,      whole << 32,         1ull << 63,          UINT64_MAX,        UINT64_MAX - whole};
+        const uint32_t run[] = {0, 1, 2, (uint32_t)pointer, (uint32_t)pointer + 1, (uint32_t)whole - (uint32_t)pointer, (uint32_t)whole,
+                                (uint32_t)whole + 1, 1u << 31, UINT32_MAX};
+        for (size_t a = 0; a < sizeof address / sizeof *address; a++) {
+            one_run(f, CALL_PEEK, address[a], 1);
+            for (size_t r = 0; r < sizeof run / sizeof *run; r++) {
+                one_run(f, CALL_WRITE, address[a], run[r]);
+                one_run(f, CALL_READ, address[a], run[r]);
+            }
+        }
+    }
+}
+
+/* Runs whose bytes, counted in 32 bits, would be those of one sector. */
+static void wrapping_runs(struct fixture *f) {
+    const enum call_kind kind[] = {CALL_WRITE, CALL_READ};
+    for (size_t k = 0; k < 2; k++) {
+        struct call call = usual_call(f, kind[k]);
+        call.range[BUFFER] = buffer_of(f, 1);
+        call.run = (uint32_t)((1ull << 32) / f->made.geometry.sector_bytes + 1);
+        judge(f, "run that wraps", &call, ZRV_LENGTH);
+    }
+}
+
+static void zones(struct fixture *f) {
+    uint32_t l = f->made.geometry.zones;
+    const uint32_t zone[] = {0, 1, l - 1, l, l + 1, 16, 17, 255, 256, 1u << 16, 1u << 31, UINT32_MAX - 1, UINT32_MAX};
+    for (size_t i = 0; i < sizeof zone / sizeof *zone; i++) {
+        struct call call = usual_call(f, CALL_RESET);
+        call.zone = zone[i];
+        judge(f, "zone", &call, zone[i] < l ? ZRV_FINISHED : ZRV_ADDRESS);
+    }
+}
+
+/* A count of 0 stops every storing call before its first store; format, write and flush are followed store by store. */
+static void counts(struct fixture *f) {
+    const enum call_kind stores[] = {CALL_FORMAT, CALL_MOUNT, CALL_WRITE, CALL_FLUSH, CALL_RESET};
+    for (size_t k = 0; k < sizeof stores / sizeof *stores; k++) {
+        struct call call = usual_call(f, stores[k]);
+        call.count = 0;
+        judge(f, "no stores", &call, ZRV_UNFINISHED);
+        for (uint32_t count = 1; count < 80 && call.kind != CALL_MOUNT && call.kind != CALL_RESET; count++) {
+            call.count = count;
+            judge(f, "count of stores", &call, ZRV_FINISHED);
+        }
+    }
+    struct call call = usual_call(f, CALL_FORMAT);
+    call.array = UINT64_MAX;
+    judge(f, "array number", &call, ZRV_FINISHED);
+}
+
+/* Every byte of the state, with each bit turned and with some values set. */
+static void states(struct fixture *f) {
+    for (int k = 0; k < KINDS; k++)
+        for (size_t i = 0; i < ZRV_STATE_BYTES; i++)
+            for (int change = 0; change < 14; change++) {
+                const uint8_t value[] = {0, 1, 2, 3, 4, 255};
+                struct call call = usual_call(f, every_kind[k]);
+                uint8_t *byte = f->range[STATE].bytes + i;
+                *byte = change < 8 ? *byte ^ (uint8_t)(1 << change) : value[change - 8];
+                judge(f, "state's byte", &call, ZRV_FINISHED);
+            }
+}
+
+/* Each zone's record at and past its bounds. */
+static void records(struct fixture *f) {
+    uint32_t whole = (uint32_t)zone_addresses(f->made.geometry);
+    const uint32_t pointer[] = {0, 1, whole - 1, whole, whole + 1, 1u << 31, UINT32_MAX};
+    const uint64_t generation[] = {0, 1, UINT32_MAX, UINT64_MAX - 1, UINT64_MAX};
+    for (int k = 0; k < KINDS; k++)
+        for (uint32_t zone = 0; zone < ZRV_STATE_RECORDS; zone++)
+            for (uint32_t i = 0; i < 5 * 7 * 5; i++) {
+                struct call call = usual_call(f, every_kind[k]);
+                uint8_t *record = zone_record(f->range[STATE].bytes, zone);
+                put64(record, generation[i % 5]);
+                record[RECORD_CONDITION] = (uint8_t)(i / 35);
+                put32(record + RECORD_POINTER, pointer[i / 5 % 7]);
+                judge(f, "zone's record", &call, ZRV_FINISHED);
+            }
+}
+
+int main(void) {
+    for (int which = 0; which < FIXTURES; which++) {
+        struct fixture f = new_fixture(which);
+        lengths(&f);
+        geometries(&f);
+        masks(&f);
+        pointers(&f);
+        addresses(&f);
+        wrapping_runs(&f);
+        zones(&f);
+        counts(&f);
+        states(&f);
+        records(&f);
+        free_fixture(&f);
+    }
+    printf("bad_input: %lu cases as document 01 says, %lu of them refused with nothing changed\n", cases, refused);
+    return 0;
+}

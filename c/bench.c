@@ -1,0 +1,228 @@
+/* The archive's times as ratios to plain C's, measured in one run by turns on the same work, medians of repeated passes, in processor time; and a look's and
+ * a mount's time per written sector as ratios to the smallest volume's. Before it is timed, each pass is held against plain C's result byte by byte. */
+#define _POSIX_C_SOURCE 199309L /* clock_gettime */
+
+#include <stdio.h>
+#include <stdlib.h>
+#include <string.h>
+#include <time.h>
+
+#include "bytes.h"
+#include "plain.h"
+#include "shelf.h"
+
+enum { PASSES = 9, SLOW_PASSES = 3 };
+
+/* One volume, once for the archive and once for plain C. */
+struct bench {
+    struct shelf shelf;
+    uint8_t state[ZRV_STATE_BYTES];
+    struct volume plain;
+    uint32_t all, named; /* every drive; those that reads name */
+    uint32_t run;        /* sectors of one call */
+    uint8_t *data, *answer, *plain_answer;
+};
+
+static void *memory(size_t length) {
+    void *bytes = calloc(length, 1);
+    if (bytes == NULL)
+        exit(2);
+    return bytes;
+}
+
+static double seconds(void) {
+    struct timespec now;
+    clock_gettime(CLOCK_PROCESS_CPUTIME_ID, &now);
+    return (double)now.tv_sec + (double)now.tv_nsec * 1e-9;
+}
+
+static int ascending(const void *a, const void *b) {
+    double x = *(const double *)a, y = *(const double *)b;
+    return (x > y) - (x < y);
+}
+
+static double median(double *times, int count) {
+    qsort(times, (size_t)count, sizeof *times, ascending);
+    return times[count / 2];
+}
+
+static struct call bench_call(struct bench *b, enum call_kind kind) {
+    struct call call = {.kind = kind, .geometry = b->shelf.geometry, .named = b->all, .array = 1, .count = ZRV_ALL_STORES};
+    call.range[SECTORS] = b->shelf.sectors;
+    call.range[WRITTEN] = b->shelf.written;
+    call.range[DURABLE] = b->shelf.durable;
+    call.range[STATE] = (struct range){b->state, sizeof b->state};
+    call.range[BUFFER] = (struct range){b->answer, 0};
+    return call;
+}
+
+static void must_be(uint32_t code, uint32_t wanted, const char *what) {
+    if (code != wanted) {
+        printf("bench: %s answered %u in place of %u\n", what, code, wanted);
+        exit(1);
+    }
+}
+
+/* Both volumes formatted anew: empty, the logs short. */
+static void format_both(struct bench *b) {
+    struct call call = bench_call(b, CALL_FORMAT);
+    must_be(make_call(&call), ZRV_FINISHED, "format");
+    must_be(plain_format(&b->plain, b->all, 1, ZRV_ALL_STORES), ZRV_FINISHED, "plain format");
+}
+
+static struct bench new_bench(struct geometry g) {
+    size_t cells = shelf_cells(g), zone = zone_addresses(g) * g.sector_bytes;
+    struct bench b = {.shelf = new_shelf(g), .all = (1u << g.drives) - 1, .named = (1u << g.drives) - 1, .run = (g.drives - 1) * g.unit};
+    b.data = memory(zone);
+    b.answer = memory(zone);
+    b.plain_answer = memory(zone);
+    b.plain = (struct volume){g, memory(b.shelf.sectors.length), b.shelf.sectors.length, memory(cells * 4), memory(cells * 4), cells, cells, {0}};
+    fill_from_stream(b.data, zone, 5);
+    format_both(&b);
+    return b;
+}
+
+static void free_bench(struct bench *b) {
+    free_shelf(&b->shelf);
+    free(b->data);
+    free(b->answer);
+    free(b->plain_answer);
+    free(b->plain.sectors);
+    free(b->plain.written);
+    free(b->plain.durable);
+}
+
+/* Zone 0 written from its start in runs, until it is full or the parity log is; the sectors written. */
+static uint64_t write_archive(struct bench *b) {
+    struct call call = bench_call(b, CALL_WRITE);
+    uint32_t code = ZRV_FINISHED;
+    uint64_t bytes = b->shelf.geometry.sector_bytes, whole = zone_addresses(b->shelf.geometry);
+    for (call.run = b->run; call.address + b->run <= whole; call.address += b->run) {
+        call.range[BUFFER] = (struct range){b->data + call.address * bytes, b->run * bytes};
+        code = make_call(&call);
+        if (code != ZRV_FINISHED)
+            break;
+    }
+    if (code != ZRV_LOG_FULL)
+        must_be(code, ZRV_FINISHED, "write");
+    return call.address;
+}
+
+static uint64_t write_plain(struct bench *b) {
+    uint64_t bytes = b->shelf.geometry.sector_bytes, whole = zone_addresses(b->shelf.geometry), address = 0;
+    for (; address + b->run <= whole; address += b->run)
+        if (plain_write(&b->plain, b->all, address, b->run, ZRV_ALL_STORES, b->data + address * bytes, b->run * bytes) != ZRV_FINISHED)
+            break;
+    return address;
+}
+
+static uint64_t read_archive(struct bench *b) {
+    struct call call = bench_call(b, CALL_READ);
+    uint64_t bytes = b->shelf.geometry.sector_bytes, whole = zone_addresses(b->shelf.geometry);
+    call.named = b->named;
+    for (call.run = b->run; call.address < whole; call.address += b->run) {
+        call.range[BUFFER] = (struct range){b->answer + call.address * bytes, b->run * bytes};
+        must_be(make_call(&call), ZRV_FINISHED, "read");
+    }
+    return call.address;
+}
+
+static uint64_t read_plain(struct bench *b) {
+    uint64_t bytes = b->shelf.geometry.sector_bytes, whole = zone_addresses(b->shelf.geometry), address = 0;
+    for (; address < whole; address += b->run)
+        must_be(plain_read(&b->plain, b->named, address, b->run, b->plain_answer + address * bytes, b->run * bytes), ZRV_FINISHED, "plain read");
+    return address;
+}
+
+/* The same bytes copied, for the writes to be held against. */
+static uint64_t copy_bytes(struct bench *b) {
+    uint64_t length = zone_addresses(b->shelf.geometry) * b->shelf.geometry.sector_bytes;
+    memcpy(b->plain_answer, b->data, length);
+    return length;
+}
+
+static void must_agree(struct bench *b, const char *what) {
+    bool same = memcmp(b->shelf.sectors.bytes, b->plain.sectors, b->plain.sectors_bytes) == 0;
+    for (size_t i = 0; i < b->plain.written_cells; i++)
+        same &= get32(b->shelf.written.bytes + 4 * i) == b->plain.written[i] && get32(b->shelf.durable.bytes + 4 * i) == b->plain.durable[i];
+    same &= memcmp(b->answer, b->plain_answer, zone_addresses(b->shelf.geometry) * b->shelf.geometry.sector_bytes) == 0;
+    must_be(same, true, what);
+}
+
+/* The median time of the first over that of the second, by turns. */
+static double ratio(struct bench *b, uint64_t (*one)(struct bench *), uint64_t (*other)(struct bench *), bool writes) {
+    double first[PASSES], second[PASSES];
+    for (int i = 0; i < PASSES; i++) {
+        if (writes)
+            format_both(b);
+        double start = seconds();
+        one(b);
+        double middle = seconds();
+        other(b);
+        second[i] = seconds() - middle;
+        first[i] = middle - start;
+    }
+    return median(first, PASSES) / median(second, PASSES);
+}
+
+static void ratios(uint32_t drives) {
+    struct bench b = new_bench((struct geometry){drives, 4096, 4, 1, 128});
+    double copies = ratio(&b, write_archive, copy_bytes, true);
+    memset(b.plain_answer, 0, zone_addresses(b.shelf.geometry) * 4096);
+    double stripes = ratio(&b, write_archive, write_plain, true);
+    must_agree(&b, "whole-stripe writes");
+    double reads = ratio(&b, read_archive, read_plain, false);
+    must_agree(&b, "reads");
+    b.named = b.all & ~1u;
+    double missing = ratio(&b, read_archive, read_plain, false);
+    must_agree(&b, "reads with a drive missing");
+    b.run = 1;
+    double single = ratio(&b, write_archive, write_plain, true);
+    must_agree(&b, "single-sector writes");
+    printf("%6u %14.2f %14.2f %14.2f %14.2f %14.2f\n", drives, stripes, reads, missing, single, copies);
+    free_bench(&b);
+}
+
+static double median_call(struct bench *b, enum call_kind kind) {
+    double times[SLOW_PASSES];
+    for (int i = 0; i < SLOW_PASSES; i++) {
+        struct call call = bench_call(b, kind);
+        double start = seconds();
+        must_be(make_call(&call), ZRV_FINISHED, "look or mount");
+        times[i] = seconds() - start;
+    }
+    return median(times, SLOW_PASSES);
+}
+
+static uint64_t sectors_written(const struct bench *b) {
+    uint64_t sum = 0;
+    for (size_t at = 0; at < b->shelf.written.length; at += 4)
+        sum += get32(b->shelf.written.bytes + at);
+    return sum;
+}
+
+/* Look and mount of a full zone: nanoseconds per written sector, as ratios to the smallest. */
+static void sizes(void) {
+    const uint32_t zone_sectors[] = {4096, 16384, 32768, 65536};
+    double look_least = 0, mount_least = 0;
+    printf("\nlook and mount, time per written sector against the smallest (D 4, 64-byte sectors)\n%8s %12s %12s\n", "C", "look", "mount");
+    for (size_t i = 0; i < sizeof zone_sectors / sizeof *zone_sectors; i++) {
+        struct bench b = new_bench((struct geometry){4, 64, 4, 1, zone_sectors[i]});
+        write_archive(&b);
+        double look = median_call(&b, CALL_LOOK) / (double)sectors_written(&b);
+        double mount = median_call(&b, CALL_MOUNT) / (double)sectors_written(&b);
+        look_least = i == 0 ? look : look_least;
+        mount_least = i == 0 ? mount : mount_least;
+        printf("%8u %12.2f %12.2f\n", zone_sectors[i], look / look_least, mount / mount_least);
+        free_bench(&b);
+    }
+}
+
+int main(void) {
+    printf("archive / plain C (4,096-byte sectors, U 4, C 128)\n%6s %14s %14s %14s %14s %14s\n", "drives", "stripe writes", "reads", "drive missing",
+           "1-sector writes", "writes/memcpy");
+    ratios(4);
+    ratios(8);
+    sizes();
+    return 0;
+}

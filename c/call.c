@@ -1,0 +1,29 @@
+/* A call's fields handed to the function of the C edge that its kind names. */
+#include "call.h"
+
+#define NUMBERS(c) \
+    (c)->geometry.drives, (c)->geometry.sector_bytes, (c)->geometry.unit, (c)->geometry.zones, (c)->geometry.zone_sectors, (c)->named
+#define RANGE(c, i) (c)->range[i].bytes, (c)->range[i].length
+#define TABLES(c) RANGE(c, SECTORS), RANGE(c, WRITTEN), RANGE(c, DURABLE), RANGE(c, STATE)
+
+uint32_t make_call(const struct call *call) {
+    switch (call->kind) {
+    case CALL_FORMAT:
+        return zrv_format(NUMBERS(call), call->array, call->count, TABLES(call));
+    case CALL_LOOK:
+        return zrv_look(NUMBERS(call), TABLES(call));
+    case CALL_MOUNT:
+        return zrv_mount(NUMBERS(call), call->count, TABLES(call));
+    case CALL_WRITE:
+        return zrv_write(NUMBERS(call), call->address, call->run, call->count, TABLES(call), RANGE(call, BUFFER));
+    case CALL_FLUSH:
+        return zrv_flush(NUMBERS(call), call->count, TABLES(call));
+    case CALL_RESET:
+        return zrv_reset(NUMBERS(call), call->zone, call->count, TABLES(call));
+    case CALL_READ:
+        return zrv_read(NUMBERS(call), call->address, call->run, TABLES(call), RANGE(call, BUFFER));
+    case CALL_PEEK:
+        return zrv_peek(NUMBERS(call), call->address, TABLES(call), RANGE(call, BUFFER));
+    }
+    return ZRV_UNFINISHED;
+}

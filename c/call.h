@@ -1,0 +1,53 @@
+/* One call of the C edge as a value: its kind, its numbers and the byte ranges that it is lent. The programs here fill one in, change a field or a
+ * length, and make the call; make_call hands the fields to the function of include/zrv.h and does nothing else. */
+#ifndef CALL_H
+#define CALL_H
+
+#include "zrv.h"
+
+/* Where a zone record's fields are. */
+enum { RECORD_CONDITION = 8, RECORD_POINTER = 12, MOST_DRIVES = 8 };
+
+enum call_kind {
+    CALL_FORMAT = 'f',
+    CALL_LOOK = 'l',
+    CALL_MOUNT = 'm',
+    CALL_WRITE = 'w',
+    CALL_FLUSH = 'u',
+    CALL_RESET = 'r',
+    CALL_READ = 'd',
+    CALL_PEEK = 'p'
+};
+
+struct geometry {
+    uint32_t drives, sector_bytes, unit, zones, zone_sectors;
+};
+
+struct range {
+    uint8_t *bytes;
+    size_t length;
+};
+
+/* The byte ranges of a call, in their order; the buffer is a write's data, a read's answer, a peek's place. */
+enum { SECTORS, WRITTEN, DURABLE, STATE, BUFFER, RANGES };
+
+struct call {
+    enum call_kind kind;
+    struct geometry geometry;
+    uint32_t named;
+    uint64_t array;   /* format */
+    uint64_t address; /* write, read, peek */
+    uint32_t run;     /* write, read: sectors */
+    uint32_t zone;    /* reset */
+    uint32_t count;   /* of stores */
+    struct range range[RANGES];
+};
+
+uint32_t make_call(const struct call *call);
+
+/* The record of a zone in a state. */
+static inline uint8_t *zone_record(uint8_t *state, uint32_t zone) {
+    return state + ZRV_STATE_HEAD_BYTES + (size_t)zone * ZRV_STATE_RECORD_BYTES;
+}
+
+#endif

@@ -1,0 +1,124 @@
+/* The commands of a conformance script that are no calls. */
+#include "damage.h"
+
+#include <stdlib.h>
+#include <string.h>
+
+#include "bytes.h"
+
+static struct geometry geometry_in(const struct command *command) {
+    const uint64_t *number = command->number;
+    struct geometry geometry = {narrowed(number[0]), narrowed(number[1]), narrowed(number[2]), narrowed(number[3]), narrowed(number[4])};
+    return geometry;
+}
+
+static void renew(struct host *host, struct geometry geometry) {
+    free_shelf(&host->shelf);
+    memset(host, 0, sizeof *host);
+    host->geometry = geometry;
+    host->shelf = new_shelf(geometry);
+}
+
+/* Of what is not durable each zone keeps as much as the stream says. */
+static void cut_power(struct host *host, uint64_t seed) {
+    uint32_t draw = (uint32_t)(seed % 2147483648);
+    for (size_t at = 0; at < host->shelf.written.length; at += sizeof(uint32_t)) {
+        uint32_t written = get32(host->shelf.written.bytes + at);
+        uint32_t durable = get32(host->shelf.durable.bytes + at);
+        draw = next_draw(draw);
+        uint32_t kept = durable;
+        if (durable < written)
+            kept += (uint32_t)(draw / 65536 % ((uint64_t)(written - durable) + 1));
+        put32(host->shelf.written.bytes + at, kept);
+        put32(host->shelf.durable.bytes + at, kept);
+    }
+}
+
+static void put_pointers(struct host *host, uint64_t index, uint32_t written, uint32_t durable) {
+    if (index >= shelf_cells(host->shelf.geometry))
+        return;
+    put32(host->shelf.written.bytes + index * sizeof(uint32_t), written);
+    put32(host->shelf.durable.bytes + index * sizeof(uint32_t), durable);
+}
+
+static void put_record(struct host *host, const uint64_t *number) {
+    if (!host->has_state || number[0] >= ZRV_STATE_RECORDS)
+        return;
+    uint8_t *record = zone_record(host->state, (uint32_t)number[0]);
+    put64(record, number[1]);
+    put32(record + RECORD_CONDITION, (uint32_t)number[2]);
+    put32(record + RECORD_POINTER, number[2] == ZRV_EMPTY ? 0 : narrowed(number[3]));
+}
+
+/* A sector at a zone's write pointer, which rises by 1; nothing where the zone is full. */
+static void append_odd(struct host *host, uint64_t drive, uint64_t zone, const uint8_t *sector) {
+    struct geometry geometry = host->shelf.geometry;
+    uint64_t zones = (uint64_t)geometry.zones + ZRV_LOG_ZONES;
+    if (drive >= geometry.drives || zone >= zones)
+        return;
+    uint8_t *pointer = host->shelf.written.bytes + (drive * zones + zone) * sizeof(uint32_t);
+    uint32_t at = get32(pointer);
+    if (at >= geometry.zone_sectors)
+        return;
+    uint64_t place = ((drive * zones + zone) * geometry.zone_sectors + at) * geometry.sector_bytes;
+    memcpy(host->shelf.sectors.bytes + place, sector, geometry.sector_bytes);
+    put32(pointer, at + 1);
+}
+
+static void append_of(struct host *host, const struct command *command) {
+    const uint64_t *number = command->number;
+    uint8_t *sector = calloc(host->shelf.geometry.sector_bytes + 32, 1);
+    if (sector == NULL)
+        exit(2);
+    if (command->letter == 'q') {
+        fill_from_stream(sector, host->shelf.geometry.sector_bytes, number[2]);
+    } else {
+        memcpy(sector, "ZRV", 3);
+        sector[3] = (uint8_t)number[2];
+        sector[4] = 1;
+        for (int i = 0; i < 3; i++)
+            put64(sector + 8 + 8 * i, number[3 + i]);
+    }
+    append_odd(host, number[0], number[1], sector);
+    free(sector);
+}
+
+static void put_byte(struct host *host, uint64_t offset, uint8_t value) {
+    if (offset < host->shelf.sectors.length)
+        host->shelf.sectors.bytes[offset] = value;
+}
+
+void change_host(struct host *host, const struct command *command) {
+    const uint64_t *number = command->number;
+    switch (command->letter) {
+    case 'g':
+        renew(host, geometry_in(command));
+        break;
+    case 'y':
+        host->geometry = geometry_in(command);
+        break;
+    case 'n':
+        host->shortage = (struct shortage){number[0], number[1], number[2], number[3]};
+        break;
+    case 'c':
+        cut_power(host, number[0]);
+        break;
+    case 'b':
+        put_byte(host, number[0], (uint8_t)number[1]);
+        break;
+    case 't':
+        put_pointers(host, number[0], narrowed(number[1]), narrowed(number[2]));
+        break;
+    case 's':
+        put_record(host, number);
+        break;
+    case 'x':
+        if (host->has_state)
+            host->state[0] = (uint8_t)number[0];
+        break;
+    case 'e':
+    case 'q':
+        append_of(host, command);
+        break;
+    }
+}

@@ -1,0 +1,165 @@
+/* The expectation of a call. Form and length of the state's and the tables' bytes are judged here; the refusals' other conditions are those of the plain
+ * volume. */
+#include "expected.h"
+
+#include <string.h>
+
+#include "bytes.h"
+#include "plain_layout.h"
+
+static bool reads_state(enum call_kind kind) {
+    return kind != CALL_FORMAT && kind != CALL_LOOK && kind != CALL_MOUNT;
+}
+
+static void state_from_bytes(struct volume_state *state, uint8_t *bytes) {
+    state->lost = bytes[0];
+    for (uint32_t z = 0; z < ZRV_STATE_RECORDS; z++) {
+        const uint8_t *record = zone_record(bytes, z);
+        state->zone[z] = (struct zone_state){get64(record), record[RECORD_CONDITION], get32(record + RECORD_POINTER)};
+    }
+}
+
+void state_to_bytes(const struct volume_state *state, uint32_t zones, uint8_t *bytes) {
+    memset(bytes, 0, ZRV_STATE_BYTES);
+    bytes[0] = (uint8_t)state->lost;
+    for (uint32_t z = 0; z < zones; z++) {
+        uint8_t *record = zone_record(bytes, z);
+        put64(record, state->zone[z].generation);
+        record[RECORD_CONDITION] = (uint8_t)state->zone[z].condition;
+        put32(record + RECORD_POINTER, state->zone[z].pointer);
+    }
+}
+
+static bool all_zero(const uint8_t *bytes, size_t length) {
+    for (size_t i = 0; i < length; i++)
+        if (bytes[i] != 0)
+            return false;
+    return true;
+}
+
+/* The form of a state's bytes: zeros where zeros belong, a condition that there is, no pointer in an empty zone. */
+static bool state_form(uint8_t *bytes, uint32_t zones) {
+    if (!all_zero(bytes + 1, ZRV_STATE_HEAD_BYTES - 1))
+        return false;
+    for (uint32_t z = 0; z < ZRV_STATE_RECORDS; z++) {
+        const uint8_t *record = zone_record(bytes, z);
+        uint8_t condition = record[RECORD_CONDITION];
+        if (z >= zones && !all_zero(record, ZRV_STATE_RECORD_BYTES))
+            return false;
+        if (condition > ZRV_WORN || !all_zero(record + RECORD_CONDITION + 1, 3))
+            return false;
+        if (condition == ZRV_EMPTY && !all_zero(record + RECORD_POINTER, 4))
+            return false;
+    }
+    return true;
+}
+
+/* A table's cells; a length that is no whole number of them is none that fits. */
+static size_t cells_in(struct range range, uint32_t *table) {
+    size_t cells = range.length / 4;
+    for (size_t i = 0; i < cells && i < 256; i++)
+        table[i] = get32(range.bytes + 4 * i);
+    return range.length % 4 == 0 ? cells : SIZE_MAX;
+}
+
+static void volume_of(struct expected *e, const struct call *call, const struct made_by *made) {
+    const struct range *range = call->range;
+    memcpy(e->sectors, range[SECTORS].bytes, range[SECTORS].length);
+    e->volume = (struct volume){
+        .geometry = call->geometry,
+        .sectors = e->sectors,
+        .sectors_bytes = range[SECTORS].length,
+        .written = e->written,
+        .durable = e->durable,
+        .written_cells = cells_in(range[WRITTEN], e->written),
+        .durable_cells = cells_in(range[DURABLE], e->durable),
+        .state.lost = call->geometry.unit == made->geometry.unit ? made->labelled_lost : ZRV_NO_DRIVE, /* a label that is not legal says nothing */
+    };
+    if (reads_state(call->kind) && range[STATE].length == ZRV_STATE_BYTES)
+        state_from_bytes(&e->volume.state, range[STATE].bytes);
+}
+
+/* Refusals 5 and 6 of tables whose logs were legal: a geometry that the labels do not tell, no label, zeros where an entry should be. */
+static uint32_t log_refusal(const struct volume *v, uint32_t named, const struct made_by *made) {
+    uint32_t absent = absent_drive(v->geometry, named, v->state.lost);
+    if (v->geometry.unit != made->geometry.unit)
+        return ZRV_LABEL;
+    for (uint32_t d = 0; d < v->geometry.drives; d++)
+        if (d != absent && v->written[cell(v->geometry, d, GENERAL_LOG)] == 0)
+            return ZRV_LABEL;
+    for (uint32_t d = 0; d < v->geometry.drives; d++)
+        for (uint32_t log = GENERAL_LOG; log <= PARITY_LOG; log++) {
+            size_t at = cell(v->geometry, d, log);
+            if (d != absent && v->written[at] > get32(made->written + 4 * at))
+                return ZRV_LOG;
+        }
+    return 0;
+}
+
+static uint32_t look_code(const struct volume *v, const struct call *call, const struct made_by *made) {
+    uint32_t refusal = look_refusal(v, call->named);
+    if (refusal == 0)
+        refusal = log_refusal(v, call->named, made);
+    if (refusal == 0 && call->kind == CALL_MOUNT && mount_log_full(v, call->named))
+        refusal = ZRV_LOG_FULL;
+    return refusal;
+}
+
+/* The answer of a call whose state has its form and length. */
+static uint32_t code_of(struct expected *e, const struct call *call, const struct made_by *made) {
+    struct volume *v = &e->volume;
+    const struct range *buffer = &call->range[BUFFER];
+    switch (call->kind) {
+    case CALL_FORMAT:
+        return plain_format(v, call->named, call->array, call->count);
+    case CALL_LOOK:
+    case CALL_MOUNT:
+        return look_code(v, call, made);
+    case CALL_WRITE:
+        return plain_write(v, call->named, call->address, call->run, call->count, buffer->bytes, buffer->length);
+    case CALL_FLUSH:
+        return plain_flush(v, call->named, call->count);
+    case CALL_RESET:
+        return reset_refusal(v, call->named, call->zone);
+    case CALL_READ:
+        return plain_read(v, call->named, call->address, call->run, e->answer, buffer->length);
+    case CALL_PEEK:
+        return peek_refusal(v, call->named, call->address);
+    }
+    return 0;
+}
+
+void expect(struct expected *e, const struct call *call, const struct made_by *made) {
+    const struct range *state = &call->range[STATE];
+    bool state_length = state->length == ZRV_STATE_BYTES;
+    bool place_length = call->kind != CALL_PEEK || call->range[BUFFER].length == ZRV_PLACE_BYTES;
+    volume_of(e, call, made);
+    e->bytes_known = call->kind == CALL_FORMAT || call->kind == CALL_WRITE || call->kind == CALL_FLUSH || call->kind == CALL_READ;
+    if (!geometry_fits(call->geometry) || (reads_state(call->kind) && state_length && !state_form(state->bytes, call->geometry.zones))) {
+        e->code = ZRV_GEOMETRY;
+        return;
+    }
+    e->code = code_of(e, call, made);
+    if (e->code != ZRV_GEOMETRY && (!state_length || !place_length))
+        e->code = ZRV_LENGTH;
+    bool stores = call->kind == CALL_MOUNT || call->kind == CALL_RESET;
+    if (e->code == ZRV_FINISHED && stores && call->count == 0)
+        e->code = ZRV_UNFINISHED;
+}
+
+static bool table_is(const uint32_t *table, struct range range) {
+    for (size_t i = 0; i < range.length / 4; i++)
+        if (table[i] != get32(range.bytes + 4 * i))
+            return false;
+    return true;
+}
+
+bool bytes_as_expected(const struct expected *e, const struct call *call) {
+    const struct range *range = call->range;
+    uint8_t state[ZRV_STATE_BYTES];
+    state_to_bytes(&e->volume.state, call->geometry.zones, state);
+    bool state_is = call->kind == CALL_READ || e->code != ZRV_FINISHED || memcmp(state, range[STATE].bytes, sizeof state) == 0;
+    bool answer_is = call->kind != CALL_READ || memcmp(e->answer, range[BUFFER].bytes, range[BUFFER].length) == 0;
+    return state_is && answer_is && memcmp(e->sectors, range[SECTORS].bytes, range[SECTORS].length) == 0 && table_is(e->written, range[WRITTEN]) &&
+           table_is(e->durable, range[DURABLE]);
+}

@@ -1,0 +1,31 @@
+/* What a call should answer: the number that document 01's table gives for its numbers and bytes, worked out in plain C, and for format, write, read and
+ * flush the bytes that it should leave. */
+#ifndef EXPECTED_H
+#define EXPECTED_H
+
+#include "plain.h"
+
+/* What is known of the tables beside their bytes: how they were made. */
+struct made_by {
+    struct geometry geometry;      /* of the format */
+    uint32_t labelled_lost;        /* the drive that the labels name lost */
+    const uint8_t *written;        /* where the legal part of each log ends; zeros follow */
+};
+
+struct expected {
+    uint32_t code;
+    bool bytes_known;                  /* the bytes below are those that the call should leave */
+    struct volume volume;              /* its sectors and tables are the caller's, below */
+    uint8_t *sectors;                  /* space for as many sectors as the call is lent */
+    uint8_t *answer;                   /* space for a read's answer */
+    uint32_t written[256], durable[256];
+};
+
+void expect(struct expected *expected, const struct call *call, const struct made_by *made);
+
+/* Whether the byte ranges hold what is expected. */
+bool bytes_as_expected(const struct expected *expected, const struct call *call);
+
+void state_to_bytes(const struct volume_state *state, uint32_t zones, uint8_t *bytes);
+
+#endif

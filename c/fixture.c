@@ -1,0 +1,140 @@
+/* Fixtures, made through the C edge: format, writes that end inside a stripe and at a stripe's end, a flush; then a loss or a power cut, and a mount. */
+#include "fixture.h"
+
+#include <stdio.h>
+#include <stdlib.h>
+#include <string.h>
+
+#include "bytes.h"
+#include "shelf.h"
+
+static const struct {
+    const char *name;
+    struct geometry geometry;
+    uint32_t lost; /* lost after the writes */
+    bool cut;      /* power is cut after the writes */
+} plan[FIXTURES] = {
+    {"healthy", {4, 64, 2, 2, 32}, ZRV_NO_DRIVE, false},
+    {"a drive lost", {5, 64, 3, 3, 48}, 1, false},
+    {"a zone sealed", {3, 128, 1, 4, 24}, ZRV_NO_DRIVE, true},
+};
+
+static uint8_t *new_memory(size_t length) {
+    uint8_t *memory = malloc(length);
+    if (memory == NULL) {
+        fprintf(stderr, "no memory for %zu bytes\n", length);
+        exit(2);
+    }
+    memset(memory, GUARD, length);
+    return memory;
+}
+
+static void lay_out(struct fixture *f, struct geometry g) {
+    size_t table = shelf_cells(g) * 4, buffer = (zone_addresses(g) + 2) * g.sector_bytes;
+    size_t length[RANGES] = {shelf_cells(g) * g.zone_sectors * g.sector_bytes, table, table, ZRV_STATE_BYTES, buffer};
+    f->memory_bytes = GUARD_BYTES;
+    for (int i = 0; i < RANGES; i++)
+        f->memory_bytes += length[i] + GUARD_BYTES;
+    f->memory = new_memory(f->memory_bytes);
+    f->base = new_memory(f->memory_bytes);
+    f->before = new_memory(f->memory_bytes);
+    f->expected.sectors = new_memory(length[SECTORS] + GUARD_BYTES);
+    f->expected.answer = new_memory(buffer + GUARD_BYTES);
+    uint8_t *at = f->memory + GUARD_BYTES;
+    for (int i = 0; i < RANGES; i++) {
+        f->range[i] = (struct range){at, length[i]};
+        at += length[i] + GUARD_BYTES;
+    }
+    for (int i = 0; i < STATE; i++)
+        memset(f->range[i].bytes, 0, length[i]);
+    fill_from_stream(f->range[BUFFER].bytes, buffer, 1);
+}
+
+static void must_finish(const struct call *call) {
+    uint32_t code = make_call(call);
+    if (code != ZRV_FINISHED) {
+        printf("a fixture's call %c answered %u\n", call->kind, code);
+        exit(1);
+    }
+}
+
+static void write_at_pointer(struct fixture *f, uint32_t zone, uint32_t run) {
+    struct call call = usual_call(f, CALL_WRITE);
+    call.address = zone * zone_addresses(f->made.geometry) + zone_pointer(f, zone);
+    call.run = run;
+    call.range[BUFFER] = buffer_of(f, run);
+    must_finish(&call);
+}
+
+/* Zone 0 ends inside a stripe after a complete one, zone 1 inside its first, by two writes. */
+static void write_zones(struct fixture *f) {
+    struct geometry g = f->made.geometry;
+    uint32_t stripe = (g.drives - 1) * g.unit;
+    write_at_pointer(f, 0, stripe + 1);
+    write_at_pointer(f, 1, 1);
+    if (stripe > 2)
+        write_at_pointer(f, 1, stripe - 2);
+}
+
+/* A cut that keeps everything but the first unit of zone 1, whose entry stays: a mount seals what it cannot keep whole. */
+static void cut_and_mount(struct fixture *f) {
+    struct geometry g = f->made.geometry;
+    size_t zones = (size_t)g.zones + ZRV_LOG_ZONES;
+    for (uint32_t d = 0; d < g.drives; d++)
+        put32(f->range[WRITTEN].bytes + 4 * (d * zones + ZRV_LOG_ZONES), d == 0 ? 0 : 1);
+    memcpy(f->range[DURABLE].bytes, f->range[WRITTEN].bytes, f->range[WRITTEN].length);
+    struct call call = usual_call(f, CALL_MOUNT);
+    must_finish(&call);
+}
+
+struct fixture new_fixture(int which) {
+    struct fixture f = {.name = plan[which].name, .made = {plan[which].geometry, ZRV_NO_DRIVE, NULL}};
+    lay_out(&f, plan[which].geometry);
+    struct call call = usual_call(&f, CALL_FORMAT);
+    must_finish(&call);
+    write_zones(&f);
+    call = usual_call(&f, CALL_FLUSH);
+    must_finish(&call);
+    if (plan[which].lost != ZRV_NO_DRIVE) {
+        call = usual_call(&f, CALL_MOUNT);
+        call.named &= ~(1u << plan[which].lost);
+        must_finish(&call);
+        f.made.labelled_lost = plan[which].lost;
+    }
+    if (plan[which].cut)
+        cut_and_mount(&f);
+    memcpy(f.base, f.memory, f.memory_bytes);
+    f.made.written = f.base + (f.range[WRITTEN].bytes - f.memory);
+    return f;
+}
+
+void free_fixture(struct fixture *f) {
+    free(f->memory);
+    free(f->base);
+    free(f->before);
+    free(f->expected.sectors);
+    free(f->expected.answer);
+}
+
+void restore(struct fixture *f) { memcpy(f->memory, f->base, f->memory_bytes); }
+
+struct range buffer_of(const struct fixture *f, uint32_t run) {
+    struct range buffer = f->range[BUFFER];
+    size_t wanted = (size_t)run * f->made.geometry.sector_bytes;
+    buffer.length = wanted < buffer.length ? wanted : buffer.length;
+    return buffer;
+}
+
+uint32_t zone_pointer(const struct fixture *f, uint32_t zone) { return get32(zone_record(f->range[STATE].bytes, zone) + RECORD_POINTER); }
+
+struct call usual_call(const struct fixture *f, enum call_kind kind) {
+    struct call call = {.kind = kind, .geometry = f->made.geometry, .named = (1u << f->made.geometry.drives) - 1, .array = 77, .count = ZRV_ALL_STORES};
+    memcpy(call.range, f->range, sizeof f->range);
+    call.run = kind == CALL_WRITE ? 2 : 1;
+    if (kind == CALL_WRITE)
+        call.address = zone_pointer(f, 0);
+    call.range[BUFFER] = buffer_of(f, call.run);
+    if (kind == CALL_PEEK)
+        call.range[BUFFER].length = ZRV_PLACE_BYTES;
+    return call;
+}

@@ -1,0 +1,105 @@
+/* Calls of a conformance script: its numbers and the shelf's byte ranges, less the shortage, handed to the C edge. */
+#include "host.h"
+
+#include <stdlib.h>
+#include <string.h>
+
+#include "damage.h"
+
+static struct range shortened(struct range range, uint64_t by) {
+    range.length = by < range.length ? range.length - by : 0;
+    return range;
+}
+
+static struct call call_of(const struct host *host, uint8_t *state) {
+    const struct shortage *shortage = &host->shortage;
+    struct call call = {
+        .geometry = host->geometry,
+        .range[SECTORS] = shortened(host->shelf.sectors, shortage->sectors),
+        .range[WRITTEN] = shortened(host->shelf.written, shortage->written * sizeof(uint32_t)),
+        .range[DURABLE] = shortened(host->shelf.durable, shortage->durable * sizeof(uint32_t)),
+        .range[STATE] = {state, ZRV_STATE_BYTES},
+    };
+    return call;
+}
+
+static struct range new_buffer(size_t length) {
+    struct range buffer = {calloc(length + 1, 1), length};
+    if (buffer.bytes == NULL) {
+        fprintf(stderr, "no memory for %zu bytes\n", length);
+        exit(2);
+    }
+    return buffer;
+}
+
+/* The numbers of each call, in the order of the script language. */
+static void take_numbers(struct call *call, const struct command *command) {
+    const uint64_t *number = command->number;
+    call->kind = (enum call_kind)command->letter;
+    call->named = (uint32_t)number[0];
+    call->array = number[1];
+    call->address = number[1];
+    call->zone = narrowed(number[1]);
+    call->run = narrowed(number[2]);
+    switch (call->kind) {
+    case CALL_WRITE:
+        call->count = narrowed(number[4]);
+        break;
+    case CALL_FORMAT:
+    case CALL_RESET:
+        call->count = narrowed(number[2]);
+        break;
+    default:
+        call->count = narrowed(number[1]);
+    }
+}
+
+static struct range buffer_for(const struct host *host, const struct command *command) {
+    if (command->letter == CALL_PEEK)
+        return new_buffer(ZRV_PLACE_BYTES);
+    if (command->letter != CALL_WRITE && command->letter != CALL_READ)
+        return new_buffer(0);
+    struct range buffer = new_buffer((size_t)narrowed(command->number[2]) * host->geometry.sector_bytes);
+    if (command->letter == CALL_WRITE)
+        fill_from_stream(buffer.bytes, buffer.length, command->number[3]);
+    return shortened(buffer, host->shortage.buffer);
+}
+
+static void keep_state(struct host *host, const struct reply *reply) {
+    host->has_state = true;
+    host->state_zones = host->geometry.zones;
+    memcpy(host->state, reply->shown, ZRV_STATE_BYTES);
+}
+
+static struct reply perform_call(struct host *host, const struct command *command) {
+    struct reply reply = {.code = CODE_NO_STATE};
+    if (!host->has_state && strchr("wurdp", command->letter) != NULL)
+        return reply;
+    memcpy(reply.shown, host->state, ZRV_STATE_BYTES);
+    struct call call = call_of(host, reply.shown);
+    take_numbers(&call, command);
+    reply.buffer = buffer_for(host, command);
+    call.range[BUFFER] = reply.buffer;
+    reply.code = make_call(&call);
+    if (reply.code == ZRV_FINISHED && strchr("fmwur", command->letter) != NULL)
+        keep_state(host, &reply);
+    return reply;
+}
+
+uint32_t host_read(const struct host *host, uint32_t named, uint64_t address, uint32_t run, uint8_t *state, struct range buffer) {
+    struct call call = call_of(host, state);
+    call.kind = CALL_READ;
+    call.named = named;
+    call.address = address;
+    call.run = run;
+    call.range[BUFFER] = buffer;
+    return make_call(&call);
+}
+
+struct reply perform(struct host *host, const struct command *command) {
+    if (strchr("flmwurdp", command->letter) != NULL)
+        return perform_call(host, command);
+    change_host(host, command);
+    struct reply reply = {.code = ZRV_FINISHED};
+    return reply;
+}

@@ -1,0 +1,39 @@
+/* The host of a conformance script: the shelf that it lends, the geometry that it hands to the calls, the state that the last finished call left, and
+ * by how much the next command's byte ranges are lent short. A call is made through the C edge; no rule of the volume is written here. */
+#ifndef HOST_H
+#define HOST_H
+
+#include <stdbool.h>
+
+#include "script.h"
+#include "shelf.h"
+
+enum { CODE_NO_STATE = 254 };
+
+struct shortage {
+    uint64_t sectors, written, durable, buffer;
+};
+
+struct host {
+    struct shelf shelf;
+    struct geometry geometry; /* handed to the calls; a script may change it under the same shelf */
+    bool has_state;
+    uint32_t state_zones; /* the zones that the state speaks of */
+    uint8_t state[ZRV_STATE_BYTES];
+    struct shortage shortage;
+};
+
+/* What a command leaves beside the host: its code, the state that a call handed back, the buffer that it wrote from or read into. */
+struct reply {
+    uint32_t code;
+    uint8_t shown[ZRV_STATE_BYTES];
+    struct range buffer;
+};
+
+/* A read or peek with a state and drives, on the shelf's whole byte ranges. */
+uint32_t host_read(const struct host *host, uint32_t named, uint64_t address, uint32_t run, uint8_t *state, struct range buffer);
+
+/* Carries a command out. The reply's buffer is the caller's to free. */
+struct reply perform(struct host *host, const struct command *command);
+
+#endif

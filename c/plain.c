@@ -1,0 +1,285 @@
+/* Format, write, read and flush in plain C. A write appends its data sectors by address, keeps the exclusive or of each row beside them, and appends the
+ * rows as the stripe's parity where the stripe is complete, or as a partial parity entry in the log where the write ends inside one. A read takes a
+ * sector's own bytes, else the exclusive or of its row with the parity in place, else that with the last fitting log entry. */
+#include "plain.h"
+
+#include <string.h>
+
+#include "plain_layout.h"
+#include "plain_logs.h"
+
+enum { MOST_SECTOR_BYTES = 4096, MOST_UNIT = 16 };
+
+/* A storing call: the drive that it goes without and the stores that it may still make. */
+struct storing {
+    struct volume *v;
+    uint32_t absent, left;
+};
+
+static void xor_into(uint8_t *restrict to, const uint8_t *restrict from, size_t length) {
+    for (size_t i = 0; i < length; i++)
+        to[i] ^= from[i];
+}
+
+/* False where the count of stores has run out. A store to an absent drive is skipped. */
+static bool append(struct storing *storing, uint32_t drive, uint32_t physical_zone, const uint8_t *sector) {
+    struct volume *v = storing->v;
+    if (drive == storing->absent)
+        return true;
+    if (storing->left == 0)
+        return false;
+    storing->left--;
+    uint32_t *written = &v->written[cell(v->geometry, drive, physical_zone)];
+    memcpy(sector_at(v, drive, physical_zone, *written), sector, v->geometry.sector_bytes);
+    (*written)++;
+    return true;
+}
+
+static bool flush_all(struct storing *storing) {
+    struct volume *v = storing->v;
+    size_t zones = physical_zones(v->geometry);
+    for (uint32_t d = 0; d < v->geometry.drives; d++) {
+        if (d == storing->absent)
+            continue;
+        if (storing->left == 0)
+            return false;
+        storing->left--;
+        memcpy(v->durable + d * zones, v->written + d * zones, zones * sizeof *v->durable);
+    }
+    return true;
+}
+
+static bool held(const struct volume *v, uint32_t absent, uint32_t zone, uint32_t drive, uint32_t sector) {
+    return drive != absent && v->written[cell(v->geometry, drive, ZRV_LOG_ZONES + zone)] > sector;
+}
+
+/* A sector of a zone by its stripe, unit and row, and the drive that the call goes without. */
+struct sector_place {
+    uint32_t absent, zone, stripe, unit, row;
+};
+
+/* Whether the other data of the row below an end is held. */
+static bool row_held(const struct volume *v, const void *asked, uint64_t end) {
+    const struct sector_place *lost = asked;
+    struct geometry g = v->geometry;
+    uint64_t start = (uint64_t)lost->zone * addresses_of_zone(g) + (uint64_t)lost->stripe * stripe_sectors(g);
+    uint32_t parity = parity_drive(g, lost->zone, lost->stripe);
+    for (uint32_t j = 0; j < g.drives - 1; j++) {
+        bool below = start + j * g.unit + lost->row < end;
+        if (j != lost->unit && below && !held(v, lost->absent, lost->zone, unit_drive(g, parity, j), lost->stripe * g.unit + lost->row))
+            return false;
+    }
+    return true;
+}
+
+/* The parity's bytes with the other data of the row below an end taken off. */
+static void take_off_row(const struct volume *v, const struct sector_place *lost, const uint8_t *parity_bytes, uint64_t end, uint8_t *out) {
+    struct geometry g = v->geometry;
+    uint64_t start = (uint64_t)lost->zone * addresses_of_zone(g) + (uint64_t)lost->stripe * stripe_sectors(g);
+    uint32_t parity = parity_drive(g, lost->zone, lost->stripe);
+    memcpy(out, parity_bytes, g.sector_bytes);
+    for (uint32_t j = 0; j < g.drives - 1; j++)
+        if (j != lost->unit && start + j * g.unit + lost->row < end)
+            xor_into(out, sector_at(v, unit_drive(g, parity, j), ZRV_LOG_ZONES + lost->zone, lost->stripe * g.unit + lost->row), g.sector_bytes);
+}
+
+/* A sector rebuilt from its row; false where it is not known. Without `out` it is only asked whether it is. */
+static bool rebuild(const struct volume *v, const struct sector_place *lost, uint8_t *out) {
+    struct geometry g = v->geometry;
+    uint32_t parity = parity_drive(g, lost->zone, lost->stripe), at = lost->stripe * g.unit + lost->row;
+    uint64_t start = (uint64_t)lost->zone * addresses_of_zone(g) + (uint64_t)lost->stripe * stripe_sectors(g);
+    if (held(v, lost->absent, lost->zone, parity, at) && row_held(v, lost, UINT64_MAX)) {
+        if (out != NULL)
+            take_off_row(v, lost, sector_at(v, parity, ZRV_LOG_ZONES + lost->zone, at), UINT64_MAX, out);
+        return true;
+    }
+    if (parity == lost->absent)
+        return false;
+    struct partial_query query = {
+        lost->zone, lost->stripe, start + lost->unit * g.unit + lost->row, least_seal(v, lost->absent, lost->zone),
+    };
+    const uint8_t *rows;
+    uint64_t end = last_partial(v, &query, row_held, lost, &rows);
+    if (end != 0 && out != NULL)
+        take_off_row(v, lost, rows + (size_t)lost->row * g.sector_bytes, end, out);
+    return end != 0;
+}
+
+static struct sector_place place_of(struct geometry g, uint32_t absent, uint32_t zone, uint32_t offset) {
+    struct sector_place place = {absent, zone, offset / stripe_sectors(g), offset % stripe_sectors(g) / g.unit, offset % g.unit};
+    return place;
+}
+
+/* A sector's own bytes; none where it is not held. */
+static const uint8_t *held_bytes(const struct volume *v, const struct sector_place *place) {
+    struct geometry g = v->geometry;
+    uint32_t drive = unit_drive(g, parity_drive(g, place->zone, place->stripe), place->unit), at = place->stripe * g.unit + place->row;
+    return held(v, place->absent, place->zone, drive, at) ? sector_at(v, drive, ZRV_LOG_ZONES + place->zone, at) : NULL;
+}
+
+/* The bytes of a sector: its own if it is held, else rebuilt in `space`; none where it is not known. */
+static const uint8_t *known_bytes(const struct volume *v, const struct sector_place *place, uint8_t *space) {
+    const uint8_t *own = held_bytes(v, place);
+    if (own != NULL)
+        return own;
+    return rebuild(v, place, space) ? space : NULL;
+}
+
+static bool run_known(const struct volume *v, uint32_t absent, uint32_t zone, uint32_t offset, uint32_t run) {
+    for (uint32_t i = 0; i < run; i++) {
+        struct sector_place place = place_of(v->geometry, absent, zone, offset + i);
+        if (held_bytes(v, &place) == NULL && !rebuild(v, &place, NULL))
+            return false;
+    }
+    return true;
+}
+
+uint32_t plain_read(const struct volume *v, uint32_t named, uint64_t address, uint32_t run, uint8_t *answer, size_t answer_bytes) {
+    uint32_t refusal = read_refusal(v, named, address, run, answer_bytes);
+    if (refusal != 0)
+        return refusal;
+    uint32_t whole = addresses_of_zone(v->geometry), zone = (uint32_t)(address / whole), offset = (uint32_t)(address % whole);
+    uint32_t absent = absent_drive(v->geometry, named, v->state.lost);
+    if (!run_known(v, absent, zone, offset, run))
+        return ZRV_GONE;
+    for (uint32_t i = 0; i < run; i++) {
+        uint8_t *to = answer + (size_t)i * v->geometry.sector_bytes;
+        struct sector_place place = place_of(v->geometry, absent, zone, offset + i);
+        const uint8_t *from = known_bytes(v, &place, to);
+        if (from != to)
+            memcpy(to, from, v->geometry.sector_bytes);
+    }
+    return ZRV_FINISHED;
+}
+
+/* A sector joins its row: the first of the row begins it. */
+static void join_row(struct geometry g, uint8_t *rows, uint32_t inside, const uint8_t *sector) {
+    uint8_t *row = rows + (size_t)(inside % g.unit) * g.sector_bytes;
+    if (inside < g.unit)
+        memcpy(row, sector, g.sector_bytes);
+    else
+        xor_into(row, sector, g.sector_bytes);
+}
+
+/* The rows of a stripe's sectors before a write; false where one is not known. */
+static bool earlier_rows(const struct volume *v, uint32_t absent, uint32_t zone, uint32_t offset, uint8_t *rows) {
+    uint8_t space[MOST_SECTOR_BYTES];
+    uint32_t inside = offset % stripe_sectors(v->geometry);
+    for (uint32_t i = 0; i < inside; i++) {
+        struct sector_place place = place_of(v->geometry, absent, zone, offset - inside + i);
+        const uint8_t *sector = known_bytes(v, &place, space);
+        if (sector == NULL)
+            return false;
+        join_row(v->geometry, rows, i, sector);
+    }
+    return true;
+}
+
+static bool append_rows(struct storing *storing, uint32_t drive, uint32_t physical_zone, const uint8_t *rows, uint32_t count) {
+    for (uint32_t r = 0; r < count; r++)
+        if (!append(storing, drive, physical_zone, rows + (size_t)r * storing->v->geometry.sector_bytes))
+            return false;
+    return true;
+}
+
+/* A partial parity entry for a zone that ends at `end`, inside a stripe. */
+static bool append_partial(struct storing *storing, uint32_t zone, uint32_t end, const uint8_t *rows) {
+    struct geometry g = storing->v->geometry;
+    uint32_t inside = end % stripe_sectors(g), drive = parity_drive(g, zone, end / stripe_sectors(g));
+    uint64_t start = (uint64_t)zone * addresses_of_zone(g) + end - inside;
+    uint8_t sector[MOST_SECTOR_BYTES];
+    partial_header(sector, g, start, start + inside, storing->v->state.zone[zone].generation);
+    return append(storing, drive, PARITY_LOG, sector) && append_rows(storing, drive, PARITY_LOG, rows, inside < g.unit ? inside : g.unit);
+}
+
+/* The sectors of one stripe that a write brings, from `offset` to `end` in its zone. */
+static bool write_stripe(struct storing *storing, uint32_t zone, uint32_t offset, uint32_t end, const uint8_t *data, uint8_t *rows) {
+    struct geometry g = storing->v->geometry;
+    uint32_t parity = parity_drive(g, zone, offset / stripe_sectors(g));
+    for (; offset < end; offset++, data += g.sector_bytes) {
+        uint32_t inside = offset % stripe_sectors(g);
+        if (!append(storing, unit_drive(g, parity, inside / g.unit), ZRV_LOG_ZONES + zone, data))
+            return false;
+        if (parity != storing->absent)
+            join_row(g, rows, inside, data);
+    }
+    if (end % stripe_sectors(g) == 0)
+        return append_rows(storing, parity, ZRV_LOG_ZONES + zone, rows, g.unit);
+    return append_partial(storing, zone, end, rows);
+}
+
+uint32_t plain_write(struct volume *v, uint32_t named, uint64_t address, uint32_t run, uint32_t count, const uint8_t *data, size_t data_bytes) {
+    uint32_t refusal = write_refusal(v, named, address, run, data_bytes);
+    if (refusal != 0)
+        return refusal;
+    struct geometry g = v->geometry;
+    uint32_t whole = addresses_of_zone(g), zone = (uint32_t)(address / whole), offset = (uint32_t)(address % whole), end = offset + run;
+    struct storing storing = {v, absent_drive(g, named, v->state.lost), count};
+    uint8_t rows[MOST_UNIT * MOST_SECTOR_BYTES];
+    if (parity_drive(g, zone, offset / stripe_sectors(g)) != storing.absent && !earlier_rows(v, storing.absent, zone, offset, rows))
+        return ZRV_GONE;
+    while (offset < end) {
+        uint32_t stop = offset - offset % stripe_sectors(g) + stripe_sectors(g);
+        stop = stop < end ? stop : end;
+        if (!write_stripe(&storing, zone, offset, stop, data, rows))
+            return ZRV_UNFINISHED;
+        data += (size_t)(stop - offset) * g.sector_bytes;
+        offset = stop;
+    }
+    v->state.lost = storing.absent;
+    v->state.zone[zone].condition = ZRV_OPEN;
+    v->state.zone[zone].pointer = end;
+    return ZRV_FINISHED;
+}
+
+uint32_t plain_flush(struct volume *v, uint32_t named, uint32_t count) {
+    uint32_t refusal = flush_refusal(v, named);
+    if (refusal != 0)
+        return refusal;
+    struct storing storing = {v, absent_drive(v->geometry, named, v->state.lost), count};
+    if (!flush_all(&storing))
+        return ZRV_UNFINISHED;
+    v->state.lost = storing.absent;
+    return ZRV_FINISHED;
+}
+
+static bool reset_all(struct storing *storing) {
+    struct volume *v = storing->v;
+    size_t zones = physical_zones(v->geometry);
+    for (size_t i = 0; i < v->geometry.drives * zones; i++) {
+        if (i / zones == storing->absent)
+            continue;
+        if (storing->left == 0)
+            return false;
+        storing->left--;
+        v->written[i] = 0;
+        v->durable[i] = 0;
+    }
+    return true;
+}
+
+static bool append_labels(struct storing *storing, const struct volume_state *state, uint64_t array) {
+    struct geometry g = storing->v->geometry;
+    uint8_t label[MOST_SECTOR_BYTES], counters[MOST_SECTOR_BYTES];
+    counters_header(counters, g, state);
+    for (uint32_t d = 0; d < g.drives; d++) {
+        label_header(label, g, d, state->lost, array);
+        if (!append(storing, d, GENERAL_LOG, label) || !append(storing, d, GENERAL_LOG, counters))
+            return false;
+    }
+    return true;
+}
+
+uint32_t plain_format(struct volume *v, uint32_t named, uint64_t array, uint32_t count) {
+    uint32_t refusal = format_refusal(v, named);
+    if (refusal != 0)
+        return refusal;
+    struct storing storing = {v, absent_drive(v->geometry, named, ZRV_NO_DRIVE), count};
+    struct volume_state fresh = {.lost = storing.absent};
+    for (uint32_t z = 0; z < v->geometry.zones; z++)
+        fresh.zone[z].generation = 1;
+    if (!reset_all(&storing) || !append_labels(&storing, &fresh, array) || !flush_all(&storing))
+        return ZRV_UNFINISHED;
+    v->state = fresh;
+    return ZRV_FINISHED;
+}

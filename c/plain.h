@@ -1,0 +1,48 @@
+/* The same volume in plain C, with no proof: the same layout, the same log entries, the same refusals, on the same tables in memory (write pointers as
+ * arrays of numbers). It has format, write, read and flush. The bench holds the archive's times against it, and the test of bad input takes from it
+ * which refusal document 01's table gives. */
+#ifndef PLAIN_H
+#define PLAIN_H
+
+#include <stdbool.h>
+
+#include "call.h"
+
+struct zone_state {
+    uint64_t generation;
+    uint32_t condition, pointer;
+};
+
+struct volume_state {
+    uint32_t lost; /* or ZRV_NO_DRIVE */
+    struct zone_state zone[ZRV_STATE_RECORDS];
+};
+
+struct volume {
+    struct geometry geometry;
+    uint8_t *sectors;
+    size_t sectors_bytes;
+    uint32_t *written, *durable;
+    size_t written_cells, durable_cells;
+    struct volume_state state;
+};
+
+/* Each answers as the C edge does: 0 finished, 1 to 15 the refusal's number, 255 unfinished. */
+uint32_t plain_format(struct volume *volume, uint32_t named, uint64_t array, uint32_t count);
+uint32_t plain_write(struct volume *volume, uint32_t named, uint64_t address, uint32_t run, uint32_t count, const uint8_t *data, size_t data_bytes);
+uint32_t plain_read(const struct volume *volume, uint32_t named, uint64_t address, uint32_t run, uint8_t *answer, size_t answer_bytes);
+uint32_t plain_flush(struct volume *volume, uint32_t named, uint32_t count);
+
+/* What is refused, 0 if nothing is, up to refusal 14 (of a peek 15 too). Of look and mount 1 to 4, with the lost drive that the labels name in the
+ * volume's state; and a mount's 14 apart, because 5 and 6 come before it. */
+bool geometry_fits(struct geometry geometry);
+uint32_t format_refusal(const struct volume *volume, uint32_t named);
+uint32_t look_refusal(const struct volume *volume, uint32_t named);
+bool mount_log_full(const struct volume *volume, uint32_t named);
+uint32_t flush_refusal(const struct volume *volume, uint32_t named);
+uint32_t write_refusal(const struct volume *volume, uint32_t named, uint64_t address, uint32_t run, size_t data_bytes);
+uint32_t read_refusal(const struct volume *volume, uint32_t named, uint64_t address, uint32_t run, size_t answer_bytes);
+uint32_t reset_refusal(const struct volume *volume, uint32_t named, uint32_t zone);
+uint32_t peek_refusal(const struct volume *volume, uint32_t named, uint64_t address);
+
+#endif

@@ -1,0 +1,186 @@
+/* The refusals of document 01's table, least number first: 1 to 4 of every call, then those of each call from 7 on. Refusals 5 and 6 belong to look
+ * and mount, which have no plain version; 15 of a read and a write is found where the sectors are sought. */
+#include "plain_layout.h"
+
+static const struct { uint32_t least_drives, most_drives, least_bytes, most_bytes, most_unit, most_zones, most_sectors; } bound = {
+    3, 8, 64, 4096, 16, 16, 65536,
+};
+
+static uint32_t larger(uint32_t a, uint32_t b) { return a > b ? a : b; }
+
+bool geometry_fits(struct geometry g) {
+    if (g.drives < bound.least_drives || g.drives > bound.most_drives)
+        return false;
+    if (g.sector_bytes < bound.least_bytes || g.sector_bytes > bound.most_bytes || (g.sector_bytes & (g.sector_bytes - 1)) != 0)
+        return false;
+    if (g.unit < 1 || g.unit > bound.most_unit || g.zones < 1 || g.zones > bound.most_zones || 32 + 8 * g.zones > g.sector_bytes)
+        return false;
+    if (g.zone_sectors > bound.most_sectors || g.zone_sectors % g.unit != 0)
+        return false;
+    return g.zone_sectors >= larger(g.zones * (1 + g.unit) + 2 * g.unit + 1, g.zones + 6);
+}
+
+static bool state_fits(const struct volume *v) {
+    if (v->state.lost != ZRV_NO_DRIVE && v->state.lost >= v->geometry.drives)
+        return false;
+    for (uint32_t z = 0; z < v->geometry.zones; z++)
+        if (v->state.zone[z].pointer > addresses_of_zone(v->geometry))
+            return false;
+    return true;
+}
+
+static bool lengths_fit(const struct volume *v) {
+    size_t cells = v->geometry.drives * physical_zones(v->geometry);
+    return v->written_cells == cells && v->durable_cells == cells && v->sectors_bytes == cells * v->geometry.zone_sectors * v->geometry.sector_bytes;
+}
+
+static bool pointers_fit(const struct volume *v, uint32_t named) {
+    size_t zones = physical_zones(v->geometry);
+    for (size_t i = 0; i < v->geometry.drives * zones; i++) {
+        if ((named >> (i / zones) & 1) != 0 && (v->written[i] > v->geometry.zone_sectors || v->durable[i] > v->written[i]))
+            return false;
+    }
+    return true;
+}
+
+static bool two_lost(const struct volume *v, uint32_t named, uint32_t lost) {
+    uint32_t count = 0;
+    for (uint32_t d = 0; d < v->geometry.drives; d++)
+        count += (named >> d & 1) == 0 || lost == d;
+    return count > 1;
+}
+
+/* Refusals 1 to 4 of a call that reads no state. */
+static uint32_t tables_refusal(const struct volume *v, uint32_t named, uint32_t lost) {
+    if (!geometry_fits(v->geometry))
+        return ZRV_GEOMETRY;
+    if (!lengths_fit(v))
+        return ZRV_LENGTH;
+    if (!pointers_fit(v, named))
+        return ZRV_POINTER;
+    return two_lost(v, named, lost) ? ZRV_TWO_LOST : 0;
+}
+
+uint32_t format_refusal(const struct volume *v, uint32_t named) { return tables_refusal(v, named, ZRV_NO_DRIVE); }
+uint32_t look_refusal(const struct volume *v, uint32_t named) { return tables_refusal(v, named, v->state.lost); }
+
+/* Refusals 1 to 4 of a call that reads the state, and has a buffer that is or is not as long as it should be. */
+static uint32_t input_refusal(const struct volume *v, uint32_t named, bool buffer_fits) {
+    if (!geometry_fits(v->geometry) || !state_fits(v))
+        return ZRV_GEOMETRY;
+    if (!lengths_fit(v) || !buffer_fits)
+        return ZRV_LENGTH;
+    if (!pointers_fit(v, named))
+        return ZRV_POINTER;
+    return two_lost(v, named, v->state.lost) ? ZRV_TWO_LOST : 0;
+}
+
+uint32_t flush_refusal(const struct volume *v, uint32_t named) { return input_refusal(v, named, true); }
+
+/* Refusals 7 and 8 of a zone. */
+static uint32_t zone_refusal(const struct volume *v, uint32_t named, uint64_t zone) {
+    if (zone >= v->geometry.zones)
+        return ZRV_ADDRESS;
+    const struct zone_state *state = &v->state.zone[zone];
+    bool exact = state->condition == ZRV_EMPTY || state->condition == ZRV_OPEN;
+    uint32_t absent = absent_drive(v->geometry, named, v->state.lost);
+    for (uint32_t d = 0; d < v->geometry.drives; d++) {
+        uint32_t has = v->written[cell(v->geometry, d, ZRV_LOG_ZONES + (uint32_t)zone)];
+        uint32_t needs = sectors_needed(v->geometry, (uint32_t)zone, state->pointer, d);
+        if (d != absent && (has < needs || (exact && has != needs)))
+            return ZRV_STALE;
+    }
+    return 0;
+}
+
+static uint32_t unused(const struct volume *v, uint32_t drive, uint32_t log) {
+    return v->geometry.zone_sectors - v->written[cell(v->geometry, drive, log)];
+}
+
+static bool log_below(const struct volume *v, uint32_t absent, uint32_t log, uint32_t least) {
+    for (uint32_t d = 0; d < v->geometry.drives; d++)
+        if (d != absent && unused(v, d, log) < least)
+            return true;
+    return false;
+}
+
+/* Room that the parity log keeps for a mount. */
+static uint32_t parity_reserve(struct geometry g) { return g.zones * (1 + g.unit) + g.unit; }
+
+/* Refusal 14 of a write that ends at `end` in its zone. */
+static bool parity_log_full(const struct volume *v, uint32_t absent, uint32_t zone, uint32_t end) {
+    struct geometry g = v->geometry;
+    uint32_t inside = end % stripe_sectors(g), parity = parity_drive(g, zone, end / stripe_sectors(g));
+    if (inside == 0 || parity == absent)
+        return false;
+    uint32_t entry = 1 + (inside < g.unit ? inside : g.unit);
+    return unused(v, parity, PARITY_LOG) < entry + parity_reserve(g);
+}
+
+bool mount_log_full(const struct volume *v, uint32_t named) {
+    uint32_t absent = absent_drive(v->geometry, named, v->state.lost);
+    return log_below(v, absent, GENERAL_LOG, v->geometry.zones + 2) || log_below(v, absent, PARITY_LOG, parity_reserve(v->geometry));
+}
+
+uint32_t write_refusal(const struct volume *v, uint32_t named, uint64_t address, uint32_t run, size_t data_bytes) {
+    uint32_t refusal = input_refusal(v, named, data_bytes == (uint64_t)run * v->geometry.sector_bytes);
+    if (refusal != 0)
+        return refusal;
+    uint32_t whole = addresses_of_zone(v->geometry);
+    refusal = zone_refusal(v, named, address / whole);
+    if (refusal != 0)
+        return refusal;
+    uint32_t zone = (uint32_t)(address / whole), offset = (uint32_t)(address % whole);
+    const struct zone_state *state = &v->state.zone[zone];
+    if (run == 0 || run > whole - offset)
+        return ZRV_RUN;
+    if (offset != state->pointer)
+        return ZRV_ORDER;
+    if (state->condition == ZRV_SEALED)
+        return ZRV_ZONE_SEALED;
+    if (state->condition == ZRV_WORN)
+        return ZRV_ZONE_WORN;
+    return parity_log_full(v, absent_drive(v->geometry, named, v->state.lost), zone, offset + run) ? ZRV_LOG_FULL : 0;
+}
+
+uint32_t read_refusal(const struct volume *v, uint32_t named, uint64_t address, uint32_t run, size_t answer_bytes) {
+    uint32_t refusal = input_refusal(v, named, answer_bytes == (uint64_t)run * v->geometry.sector_bytes);
+    if (refusal != 0)
+        return refusal;
+    uint32_t whole = addresses_of_zone(v->geometry);
+    refusal = zone_refusal(v, named, address / whole);
+    if (refusal != 0)
+        return refusal;
+    uint32_t offset = (uint32_t)(address % whole);
+    if (run == 0 || run > whole - offset)
+        return ZRV_RUN;
+    return offset + run > v->state.zone[address / whole].pointer ? ZRV_UNWRITTEN : 0;
+}
+
+uint32_t reset_refusal(const struct volume *v, uint32_t named, uint32_t zone) {
+    uint32_t refusal = input_refusal(v, named, true);
+    if (refusal == 0)
+        refusal = zone_refusal(v, named, zone);
+    if (refusal != 0)
+        return refusal;
+    if (v->state.zone[zone].condition == ZRV_WORN || v->state.zone[zone].generation == UINT64_MAX)
+        return ZRV_ZONE_WORN;
+    return log_below(v, absent_drive(v->geometry, named, v->state.lost), GENERAL_LOG, v->geometry.zones + 4) ? ZRV_LOG_FULL : 0;
+}
+
+uint32_t peek_refusal(const struct volume *v, uint32_t named, uint64_t address) {
+    uint32_t refusal = input_refusal(v, named, true);
+    if (refusal != 0)
+        return refusal;
+    struct geometry g = v->geometry;
+    uint32_t whole = addresses_of_zone(g);
+    refusal = zone_refusal(v, named, address / whole);
+    if (refusal != 0)
+        return refusal;
+    uint32_t zone = (uint32_t)(address / whole), offset = (uint32_t)(address % whole);
+    if (offset >= v->state.zone[zone].pointer)
+        return ZRV_UNWRITTEN;
+    uint32_t parity = parity_drive(g, zone, offset / stripe_sectors(g));
+    uint32_t drive = unit_drive(g, parity, offset % stripe_sectors(g) / g.unit);
+    return drive == absent_drive(v->geometry, named, v->state.lost) ? ZRV_GONE : 0;
+}

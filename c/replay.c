@@ -1,0 +1,99 @@
+/* Replays a conformance script through the C edge: reads the script from standard input and prints one answer line for each command,
+ * `LETTER CODE SECTORS POINTERS STATE REST`. Two suppliers whose lines are equal come to the same result down to the sector. */
+#include <inttypes.h>
+#include <stdio.h>
+#include <stdlib.h>
+#include <string.h>
+
+#include "bytes.h"
+#include "host.h"
+
+enum { ADLER_BASE = 65521, ADLER_RUN = 5552 };
+
+/* Adler-32 carried on over further bytes; it starts at 1. ADLER_RUN bytes fit before a sum must be reduced. */
+static uint32_t adler(uint32_t sum, const uint8_t *bytes, size_t length) {
+    uint32_t low = sum & 0xffff, high = sum >> 16;
+    while (length > 0) {
+        size_t run = length < ADLER_RUN ? length : ADLER_RUN;
+        for (size_t i = 0; i < run; i++) {
+            low += bytes[i];
+            high += low;
+        }
+        low %= ADLER_BASE;
+        high %= ADLER_BASE;
+        bytes += run;
+        length -= run;
+    }
+    return high << 16 | low;
+}
+
+static void show_state(const uint8_t *state, uint32_t zones) {
+    printf(" lost %u", state[0]);
+    for (uint32_t z = 0; z < zones && z < ZRV_STATE_RECORDS; z++) {
+        const uint8_t *record = zone_record((uint8_t *)(uintptr_t)state, z);
+        printf(" %" PRIu64 ":%u:%" PRIu32, get64(record), record[RECORD_CONDITION], get32(record + RECORD_POINTER));
+    }
+}
+
+/* A read of a whole zone up to its pointer, under the state that a look showed. */
+static void show_zone(const struct host *host, uint32_t named, uint8_t *shown, uint32_t zone) {
+    uint32_t pointer = get32(zone_record(shown, zone) + RECORD_POINTER);
+    if (pointer == 0) {
+        printf(" 1");
+        return;
+    }
+    struct range buffer = {NULL, (size_t)pointer * host->geometry.sector_bytes};
+    buffer.bytes = malloc(buffer.length);
+    if (buffer.bytes == NULL)
+        exit(2);
+    uint32_t code = host_read(host, named, zone * zone_addresses(host->geometry), pointer, shown, buffer);
+    if (code == ZRV_FINISHED)
+        printf(" %" PRIu32, adler(1, buffer.bytes, buffer.length));
+    else
+        printf(" r%" PRIu32, code);
+    free(buffer.bytes);
+}
+
+/* What a finished look, read or peek adds to its line. */
+static void show_rest(const struct host *host, const struct command *command, struct reply *reply) {
+    if (command->letter == CALL_LOOK) {
+        show_state(reply->shown, host->geometry.zones);
+        for (uint32_t z = 0; z < host->geometry.zones; z++)
+            show_zone(host, (uint32_t)command->number[0], reply->shown, z);
+    } else if (command->letter == CALL_READ) {
+        printf(" %" PRIu32, adler(1, reply->buffer.bytes, reply->buffer.length));
+    } else if (command->letter == CALL_PEEK) {
+        uint64_t place = get64(reply->buffer.bytes);
+        printf(" %" PRIu64 " %" PRIu32, place, adler(1, host->shelf.sectors.bytes + place, host->geometry.sector_bytes));
+    }
+}
+
+static void show(const struct host *host, const struct command *command, struct reply *reply) {
+    uint32_t sectors = adler(1, host->shelf.sectors.bytes, host->shelf.sectors.length);
+    uint32_t pointers = adler(1, host->shelf.written.bytes, host->shelf.written.length);
+    pointers = adler(pointers, host->shelf.durable.bytes, host->shelf.durable.length);
+    printf("%c %" PRIu32 " %" PRIu32 " %" PRIu32, command->letter, reply->code, sectors, pointers);
+    if (!host->has_state)
+        printf(" none");
+    else if (strchr("fmwur", command->letter) != NULL)
+        show_state(host->state, host->state_zones);
+    else
+        printf(" same");
+    if (reply->code == ZRV_FINISHED)
+        show_rest(host, command, reply);
+    putchar('\n');
+}
+
+int main(void) {
+    struct host host = {.shelf = new_shelf((struct geometry){0})};
+    struct command command;
+    while (next_command(stdin, &command)) {
+        struct reply reply = perform(&host, &command);
+        show(&host, &command, &reply);
+        free(reply.buffer.bytes);
+        if (command.letter != 'n')
+            host.shortage = (struct shortage){0};
+    }
+    free_shelf(&host.shelf);
+    return 0;
+}

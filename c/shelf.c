@@ -1,0 +1,51 @@
+/* The memory that a host lends, and the stream of a seed. */
+#include "shelf.h"
+
+#include <stdio.h>
+#include <stdlib.h>
+
+size_t shelf_cells(struct geometry geometry) {
+    return (size_t)geometry.drives * ((size_t)geometry.zones + ZRV_LOG_ZONES);
+}
+
+uint64_t zone_addresses(struct geometry geometry) {
+    return (uint64_t)(geometry.drives - 1) * geometry.zone_sectors;
+}
+
+static struct range new_range(size_t length) {
+    struct range range = {calloc(length + 1, 1), length};
+    if (range.bytes == NULL) {
+        fprintf(stderr, "no memory for %zu bytes\n", length);
+        exit(2);
+    }
+    return range;
+}
+
+struct shelf new_shelf(struct geometry geometry) {
+    size_t cells = shelf_cells(geometry);
+    struct shelf shelf = {
+        .geometry = geometry,
+        .sectors = new_range(cells * geometry.zone_sectors * geometry.sector_bytes),
+        .written = new_range(cells * sizeof(uint32_t)),
+        .durable = new_range(cells * sizeof(uint32_t)),
+    };
+    return shelf;
+}
+
+void free_shelf(struct shelf *shelf) {
+    free(shelf->sectors.bytes);
+    free(shelf->written.bytes);
+    free(shelf->durable.bytes);
+}
+
+uint32_t next_draw(uint32_t draw) {
+    return (uint32_t)(((uint64_t)draw * 1103515245 + 12345) % 2147483648);
+}
+
+void fill_from_stream(uint8_t *bytes, size_t length, uint64_t seed) {
+    uint32_t draw = (uint32_t)(seed % 2147483648);
+    for (size_t i = 0; i < length; i++) {
+        draw = next_draw(draw);
+        bytes[i] = (uint8_t)(draw / 65536);
+    }
+}

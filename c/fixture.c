@@ -76,15 +76,19 @@ static void write_zones(struct fixture *f) {
         write_at_pointer(f, 1, stripe - 2);
 }
 
-/* A cut that keeps everything but the first unit of zone 1, whose entry stays: a mount seals what it cannot keep whole. */
+/* A cut that keeps of zone 0 its first sector, while its partial parity entry of a later end stays: the mount must seal the zone. */
 static void cut_and_mount(struct fixture *f) {
     struct geometry g = f->made.geometry;
     size_t zones = (size_t)g.zones + ZRV_LOG_ZONES;
     for (uint32_t d = 0; d < g.drives; d++)
-        put32(f->range[WRITTEN].bytes + 4 * (d * zones + ZRV_LOG_ZONES), d == 0 ? 0 : 1);
+        put32(f->range[WRITTEN].bytes + 4 * (d * zones + ZRV_LOG_ZONES), d == 0 ? 1 : 0);
     memcpy(f->range[DURABLE].bytes, f->range[WRITTEN].bytes, f->range[WRITTEN].length);
     struct call call = usual_call(f, CALL_MOUNT);
     must_finish(&call);
+    if (zone_record(f->range[STATE].bytes, 0)[RECORD_CONDITION] != ZRV_SEALED) {
+        printf("a fixture's zone is not sealed\n");
+        exit(1);
+    }
 }
 
 struct fixture new_fixture(int which) {

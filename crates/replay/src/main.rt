@@ -15,7 +15,7 @@ fn script_space() -> [u8; 163840]
 }
 
 // Space for the sectors of a shelf.
-fn shelf_space() -> [u8; 65536]
+fn sector_space() -> [u8; 65536]
     ensures { λ r. ⌜ 65536 ≡ length r ⌝ }
 {
     [0; 65536]
@@ -218,8 +218,8 @@ fn replay(
 fn main() {
     let mut script = script_space();
     let n = io::read_full(0, &mut script);
-    let mut space = shelf_space();
-    let mut places = shelf_space();
+    let mut space = sector_space();
+    let mut places = sector_space();
     let mut buffer = [0u8; 16384];
     let mut written = [0u32; 152];
     let mut durable = [0u32; 152];

@@ -57,8 +57,8 @@ abbrev pub noGeometry : Geometry
 noGeometry = record { drives = 0; sector = 0; unit = 0; zones = 0; capacity = 0 }
 
 -- a new shelf: its tables have the geometry's lengths, if it is valid and there is space for it
-unfoldable pub shelfHost : Geometry → ℕ → Host
-shelfHost g space = pick (isValid g) (pick (leb (totalBytes g) space) (emptyHost g (totalBytes g) (cells g)) (emptyHost g 0 0)) (emptyHost g 0 0)
+unfoldable pub freshHost : Geometry → ℕ → Host
+freshHost g space = pick (isValid g) (pick (leb (totalBytes g) space) (emptyHost g (totalBytes g) (cells g)) (emptyHost g 0 0)) (emptyHost g 0 0)
 
 abbrev pub withGeometry : Host → Geometry → Host
 withGeometry h g = record { geometry = g; bytes = h .bytes; cells = h .cells; held = h .held; zones = h .zones; state = h .state; shortage = h .shortage }

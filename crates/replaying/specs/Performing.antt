@@ -9,7 +9,7 @@ use Rattle.tables.specs.Basics.{pick}
 use Rattle.tables.specs.Tables.{Tables, tablesOf}
 use Rattle.replaying.specs.declared.Command.{Command}
 use Rattle.replaying.specs.declared.Host.{Host}
-use Rattle.replaying.specs.Hosting.{lent, narrowed, runBytes, geometryIn, shortageIn, shelfHost, withGeometry, withShortage, withRecord, withLost, quietReply}
+use Rattle.replaying.specs.Hosting.{lent, narrowed, runBytes, geometryIn, shortageIn, freshHost, withGeometry, withShortage, withRecord, withLost, quietReply}
 use Rattle.replaying.specs.Stream.{streamOver, Pointers, cutsOver}
 use Rattle.replaying.specs.Damaging.{appendOdd, oddHeader}
 use Rattle.replaying.specs.Calling.{Done, callDone, picked, passed-over}
@@ -57,8 +57,8 @@ cutLength h ws ds = lent (lent (h .cells) 0 (length ws)) 0 (length ds)
 abbrev pub cutFront : Host → Command → List ℕ → List ℕ → Pointers
 cutFront h c ws ds = cutsOver (c .first) (take (cutLength h ws ds) ws) (take (cutLength h ws ds) ds) (length (take (cutLength h ws ds) ws))
 
-unfoldable pub cutShelf : Host → Command → List ℕ → List ℕ → Pointers
-cutShelf h c ws ds = record { written = cutFront h c ws ds .written ++ drop (cutLength h ws ds) ws; durable = cutFront h c ws ds .durable ++ drop (cutLength h ws ds) ds }
+unfoldable pub cutDrives : Host → Command → List ℕ → List ℕ → Pointers
+cutDrives h c ws ds = record { written = cutFront h c ws ds .written ++ drop (cutLength h ws ds) ws; durable = cutFront h c ws ds .durable ++ drop (cutLength h ws ds) ds }
 
 -- ---- a sector that no call stored: an odd header, or the stream's bytes
 unfoldable pub oddSector : Host → Command → List ℕ → List ℕ
@@ -79,8 +79,8 @@ abbrev pub oddFront : Host → Command → List ℕ → List ℕ → List ℕ �
 oddFront h c out xs ws = oddStored h c (oddSource h c out) (take (lent (h .bytes) 0 (length xs)) xs) (take (lent (h .cells) 0 (length ws)) ws)
 
 -- with the shelf's tables and a buffer of one sector
-unfoldable pub oddShelf : Host → Command → List ℕ → Tables → Left
-oddShelf h c out t = record {
+unfoldable pub oddDrives : Host → Command → List ℕ → Tables → Left
+oddDrives h c out t = record {
   tables = tablesOf (oddFront h c out (t .sectors) (t .written) .sectors ++ drop (lent (h .bytes) 0 (length (t .sectors))) (t .sectors)) (oddFront h c out (t .sectors) (t .written) .written ++ drop (lent (h .cells) 0 (length (t .written))) (t .written)) (t .durable);
   buffer = oddSource h c out ++ drop (lent (h .geometry .sector) 0 (length out)) out;
 }
@@ -89,7 +89,7 @@ abbrev pub left : Tables → List ℕ → Left
 left t out = record { tables = t; buffer = out }
 
 abbrev pub cutLeft : Host → Command → List ℕ → Tables → Left
-cutLeft h c out t = left (tablesOf (t .sectors) (cutShelf h c (t .written) (t .durable) .written) (cutShelf h c (t .written) (t .durable) .durable)) out
+cutLeft h c out t = left (tablesOf (t .sectors) (cutDrives h c (t .written) (t .durable) .written) (cutDrives h c (t .written) (t .durable) .durable)) out
 
 abbrev pub byteLeft : Command → List ℕ → Tables → Left
 byteLeft c out t = left (tablesOf (set (t .sectors) (c .first) (c .second % 256)) (t .written) (t .durable)) out
@@ -99,7 +99,7 @@ pairLeft c out t = left (tablesOf (t .sectors) (set (t .written) (c .first) (nar
 
 -- the change that a letter names: c, b, t, else e and q
 unfoldable pub changed : Host → Command → List ℕ → Tables → Left
-changed h c out t = pick (eqb (c .letter) 99) (cutLeft h c out t) (pick (eqb (c .letter) 98) (byteLeft c out t) (pick (eqb (c .letter) 116) (pairLeft c out t) (oddShelf h c out t)))
+changed h c out t = pick (eqb (c .letter) 99) (cutLeft h c out t) (pick (eqb (c .letter) 98) (byteLeft c out t) (pick (eqb (c .letter) 116) (pairLeft c out t) (oddDrives h c out t)))
 
 -- ---- a command
 -- the tables given back behind what was not lent
@@ -110,8 +110,8 @@ calledBack h c out t = record {
   buffer = calledLent h c out t .buffer ++ drop (bufferLent h c out) out;
 }
 
-abbrev pub shelved : Command → List ℕ → Tables → Done
-shelved c out t = record { reply = quietReply (shelfHost (geometryIn c) (length (t .sectors))); tables = zeroTables t; buffer = out }
+abbrev pub renewed : Command → List ℕ → Tables → Done
+renewed c out t = record { reply = quietReply (freshHost (geometryIn c) (length (t .sectors))); tables = zeroTables t; buffer = out }
 
 abbrev pub changedDone : Host → Command → List ℕ → Tables → Done
 changedDone h c out t = record { reply = quietReply h; tables = changed h c out t .tables; buffer = changed h c out t .buffer }
@@ -120,7 +120,7 @@ abbrev pub hostDone : Host → Command → List ℕ → Tables → Done
 hostDone h c out t = record { reply = quietReply (changedHost h c); tables = t; buffer = out }
 
 unfoldable pub performed : Host → Command → List ℕ → Tables → Done
-performed h c out t = pick (eqb (c .letter) 103) (shelved c out t) (pick (isCall (c .letter)) (calledBack h c out t) (pick (isChange (c .letter)) (changedDone h c out t) (hostDone h c out t)))
+performed h c out t = pick (eqb (c .letter) 103) (renewed c out t) (pick (isCall (c .letter)) (calledBack h c out t) (pick (isChange (c .letter)) (changedDone h c out t) (hostDone h c out t)))
 
 -- ---- laws: case by case
 module _ (h : Host) (c : Command) (out : List ℕ) where
@@ -145,13 +145,13 @@ module _ (h : Host) (c : Command) (out : List ℕ) (t : Tables) where
   unfolding changed
   changed-pair a b d = passed-over _ _ _ a ∙ passed-over _ _ _ b ∙ picked _ _ _ d
 
-  pub changed-odd : eqb (c .letter) 99 ≡ false → eqb (c .letter) 98 ≡ false → eqb (c .letter) 116 ≡ false → changed h c out t ≡ oddShelf h c out t
+  pub changed-odd : eqb (c .letter) 99 ≡ false → eqb (c .letter) 98 ≡ false → eqb (c .letter) 116 ≡ false → changed h c out t ≡ oddDrives h c out t
   unfolding changed
   changed-odd a b d = passed-over _ _ _ a ∙ passed-over _ _ _ b ∙ passed-over _ _ _ d
 
-  pub performed-shelf : eqb (c .letter) 103 ≡ true → performed h c out t ≡ shelved c out t
+  pub performed-new : eqb (c .letter) 103 ≡ true → performed h c out t ≡ renewed c out t
   unfolding performed
-  performed-shelf a = picked _ _ _ a
+  performed-new a = picked _ _ _ a
 
   pub performed-call : eqb (c .letter) 103 ≡ false → isCall (c .letter) ≡ true → performed h c out t ≡ calledBack h c out t
   unfolding performed

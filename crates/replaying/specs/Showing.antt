@@ -35,11 +35,11 @@ conditionNumber (Sealed n) = 2
 conditionNumber (Worn n) = 3
 
 -- ---- the shelf's tables
-abbrev pub shelfSectors : Host → List ℕ → List ℕ
-shelfSectors h xs = take (lent (h .bytes) 0 (length xs)) xs
+abbrev pub allSectors : Host → List ℕ → List ℕ
+allSectors h xs = take (lent (h .bytes) 0 (length xs)) xs
 
-abbrev pub shelfPointers : Host → List ℕ → List ℕ
-shelfPointers h ws = take (lent (h .cells) 0 (length ws)) ws
+abbrev pub allPointers : Host → List ℕ → List ℕ
+allPointers h ws = take (lent (h .cells) 0 (length ws)) ws
 
 -- ---- reads
 -- the checksum of what a finished read gave
@@ -71,7 +71,7 @@ unfoldable pub zoneRead : Host → Command → State → ℕ → List ℕ → Ta
 zoneRead h c shown z out t =
     pick (leb 16 z) (glimpse 8 0)
     (pick (eqb (pointerShown shown z) 0) (glimpse 0 1)
-    (glimpseOf (runRead h c shown (zoneStart h z) (pointerShown shown z) (take (lent (runBytes (h .geometry) (pointerShown shown z)) 0 (length out)) out) (tablesOf (shelfSectors h (t .sectors)) (shelfPointers h (t .written)) (shelfPointers h (t .durable))))))
+    (glimpseOf (runRead h c shown (zoneStart h z) (pointerShown shown z) (take (lent (runBytes (h .geometry) (pointerShown shown z)) 0 (length out)) out) (tablesOf (allSectors h (t .sectors)) (allPointers h (t .written)) (allPointers h (t .durable))))))
 
 -- ---- peeks
 -- sectors that tell their own place: of the first k fours of bytes, each is the number of its first byte
@@ -88,4 +88,4 @@ placeIn part = pick (ltb (length part) 4) 0 (readLE 4 part 0)
 
 -- the part that a peek gives
 unfoldable pub partShown : Host → Command → List ℕ → List ℕ → List ℕ → List ℕ
-partShown h c xs ws ds = peekOn (h .geometry) (namedIn (c .first)) (h .state) (c .second) (tablesOf (shelfSectors h xs) (shelfPointers h ws) (shelfPointers h ds))
+partShown h c xs ws ds = peekOn (h .geometry) (namedIn (c .first)) (h .state) (c .second) (tablesOf (allSectors h xs) (allPointers h ws) (allPointers h ds))

@@ -9,7 +9,7 @@ use volume::State;
 use volume::ZoneRecord;
 ghost use mathlib.Core.Path.{_≡_};
 ghost use Prim.Native.Nat.{_≤_};
-ghost use Rattle.replaying.specs.Hosting.{lent, narrowed, runBytes, namedIn, geometryIn, shortageIn, noShortage, blankState, emptyHost, noGeometry, shelfHost, withGeometry, withShortage, conditionFrom, withRecord, withLost, quietReply};
+ghost use Rattle.replaying.specs.Hosting.{lent, narrowed, runBytes, namedIn, geometryIn, shortageIn, noShortage, blankState, emptyHost, noGeometry, freshHost, withGeometry, withShortage, conditionFrom, withRecord, withLost, quietReply};
 
 // A length, less what it is short of, and never more than there is.
 pub fn lend(length: usize, short: usize, most: usize) -> usize
@@ -129,8 +129,8 @@ pub fn geometry_in(c: Command) -> Geometry
 }
 
 // The host of a new shelf: with no tables where the geometry is none, or needs more than the space that there is.
-pub fn shelf_host(g: Geometry, space: usize) -> Host
-    ensures { λ r. ⌜ r ≡ shelfHost g space ⌝ }
+pub fn fresh_host(g: Geometry, space: usize) -> Host
+    ensures { λ r. ⌜ r ≡ freshHost g space ⌝ }
 {
     let ok = tables::bounds::valid(g);
     if !ok {

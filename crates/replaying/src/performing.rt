@@ -6,9 +6,9 @@ ghost use mathlib.Core.Path.{_≡_};
 ghost use mathlib.Core.List.{[], _++_};
 ghost use lib.ListN.{length, drop};
 ghost use Rattle.tables.specs.Tables.{tablesOf};
-ghost use Rattle.replaying.specs.Hosting.{geometryIn, shelfHost, quietReply};
+ghost use Rattle.replaying.specs.Hosting.{geometryIn, freshHost, quietReply};
 ghost use Rattle.replaying.specs.Calling.{stateDone, callDone};
-ghost use Rattle.replaying.specs.Performing.{sectorsLent, writtenLent, durableLent, bufferLent, calledLent, zeroTables, changedHost, isCall, isChange, cutShelf, oddSector, oddStored, oddShelf, changed, performed};
+ghost use Rattle.replaying.specs.Performing.{sectorsLent, writtenLent, durableLent, bufferLent, calledLent, zeroTables, changedHost, isCall, isChange, cutDrives, oddSector, oddStored, oddDrives, changed, performed};
 
 // A call that asks for a state, on tables that are lent.
 fn call_with_state(
@@ -102,12 +102,12 @@ fn call_lent(
 }
 
 // A new shelf: sectors all zero, pointers all 0, no state.
-fn new_shelf(space: &mut [u8], written: &mut [u32], durable: &mut [u32], c: Command) -> Reply
-    ensures { λ r. ⌜ (r ≡ quietReply (shelfHost (geometryIn c) (length (now (space .entry)))))
+fn new_drives(space: &mut [u8], written: &mut [u32], durable: &mut [u32], c: Command) -> Reply
+    ensures { λ r. ⌜ (r ≡ quietReply (freshHost (geometryIn c) (length (now (space .entry)))))
         × (tablesOf (now (space .exit)) (now (written .exit)) (now (durable .exit)) ≡ zeroTables (tablesOf (now (space .entry)) (now (written .entry)) (now (durable .entry)))) ⌝ }
 {
     let g = super::hosting::geometry_in(c);
-    let h = super::hosting::shelf_host(g, space.len());
+    let h = super::hosting::fresh_host(g, space.len());
     tables::sectors::clear(space);
     super::damaging::clear_pointers(written);
     super::damaging::clear_pointers(durable);
@@ -140,8 +140,8 @@ fn change_host(h: Host, c: Command) -> Host
 
 // A cut of all drives of the shelf.
 fn cut_lent(written: &mut [u32], durable: &mut [u32], h: Host, c: Command)
-    ensures { λ _. ⌜ (now (written .exit) ≡ cutShelf h c (now (written .entry)) (now (durable .entry)) .written)
-        × (now (durable .exit) ≡ cutShelf h c (now (written .entry)) (now (durable .entry)) .durable) ⌝ }
+    ensures { λ _. ⌜ (now (written .exit) ≡ cutDrives h c (now (written .entry)) (now (durable .entry)) .written)
+        × (now (durable .exit) ≡ cutDrives h c (now (written .entry)) (now (durable .entry)) .durable) ⌝ }
 {
     let w = super::hosting::lend(h.cells, 0, written.len());
     let n = super::hosting::lend(w, 0, durable.len());
@@ -168,9 +168,9 @@ fn append_odd(sectors: &mut [u8], written: &mut [u32], buffer: &mut [u8], h: Hos
 
 // The same, with the shelf's tables and a buffer of one sector.
 fn append_lent(space: &mut [u8], written: &mut [u32], buffer: &mut [u8], h: Host, c: Command)
-    ensures { λ _. ⌜ (now (space .exit) ≡ oddShelf h c (now (buffer .entry)) (tablesOf (now (space .entry)) (now (written .entry)) []) .tables .sectors)
-        × (now (written .exit) ≡ oddShelf h c (now (buffer .entry)) (tablesOf (now (space .entry)) (now (written .entry)) []) .tables .written)
-        × (now (buffer .exit) ≡ oddShelf h c (now (buffer .entry)) (tablesOf (now (space .entry)) (now (written .entry)) []) .buffer) ⌝ }
+    ensures { λ _. ⌜ (now (space .exit) ≡ oddDrives h c (now (buffer .entry)) (tablesOf (now (space .entry)) (now (written .entry)) []) .tables .sectors)
+        × (now (written .exit) ≡ oddDrives h c (now (buffer .entry)) (tablesOf (now (space .entry)) (now (written .entry)) []) .tables .written)
+        × (now (buffer .exit) ≡ oddDrives h c (now (buffer .entry)) (tablesOf (now (space .entry)) (now (written .entry)) []) .buffer) ⌝ }
 {
     let g = h.geometry;
     let a = super::hosting::lend(h.bytes, 0, space.len());
@@ -242,7 +242,7 @@ pub fn perform(
 {
     let letter = c.letter;
     if letter == b'g' {
-        return new_shelf(space, written, durable, c);
+        return new_drives(space, written, durable, c);
     }
     let calls = is_call(letter);
     if calls {

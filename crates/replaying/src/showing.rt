@@ -10,7 +10,7 @@ ghost use lib.ListN.{length, take};
 ghost use Rattle.tables.specs.Tables.{tablesOf};
 ghost use Rattle.replaying.specs.Adler.{adlerOfBytes, adlerOfTables};
 ghost use Rattle.replaying.specs.Hosting.{lent, runBytes};
-ghost use Rattle.replaying.specs.Showing.{mayKeep, conditionNumber, shelfSectors, shelfPointers, glimpseBy, glimpseOf, runRead, zoneStart, zoneRead, markedAll, placeIn, partShown};
+ghost use Rattle.replaying.specs.Showing.{mayKeep, conditionNumber, allSectors, allPointers, glimpseBy, glimpseOf, runRead, zoneStart, zoneRead, markedAll, placeIn, partShown};
 
 // Whether a command's line shows the host's state whole: those of format, mount, write, flush and reset do.
 pub fn may_keep(letter: u8) -> bool
@@ -218,7 +218,7 @@ pub fn read_sum(buffer: &[u8], h: Host, c: Command) -> u64
 
 // The checksum of the shelf's sectors.
 pub fn sectors_sum(space: &[u8], h: Host) -> u64
-    ensures { λ r. ⌜ r ≡ adlerOfBytes (shelfSectors h (now (space .entry))) ⌝ }
+    ensures { λ r. ⌜ r ≡ adlerOfBytes (allSectors h (now (space .entry))) ⌝ }
 {
     let a = super::hosting::lend(h.bytes, 0, space.len());
     super::checksum::adler_of(&space[..a])
@@ -226,7 +226,7 @@ pub fn sectors_sum(space: &[u8], h: Host) -> u64
 
 // The checksum of the shelf's pointers.
 pub fn pointers_sum(written: &[u32], durable: &[u32], h: Host) -> u64
-    ensures { λ r. ⌜ r ≡ adlerOfTables (shelfPointers h (now (written .entry))) (shelfPointers h (now (durable .entry))) ⌝ }
+    ensures { λ r. ⌜ r ≡ adlerOfTables (allPointers h (now (written .entry))) (allPointers h (now (durable .entry))) ⌝ }
 {
     let w = super::hosting::lend(h.cells, 0, written.len());
     let d = super::hosting::lend(h.cells, 0, durable.len());

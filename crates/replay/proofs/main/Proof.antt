@@ -11,11 +11,11 @@ slice-aggregate-read-full c = search needs
 read-full-requires : tie.Need-read-full-requires
 read-full-requires c κs = search needs
 
-shelf-space-requires : tie.Need-shelf-space-requires
-shelf-space-requires c κs = search needs
+sector-space-requires : tie.Need-sector-space-requires
+sector-space-requires c κs = search needs
 
-shelf-space-requires-2 : tie.Need-shelf-space-requires-2
-shelf-space-requires-2 c κs = search needs
+sector-space-requires-2 : tie.Need-sector-space-requires-2
+sector-space-requires-2 c κs = search needs
 
 slice-aggregate-mark-places : tie.Need-slice-aggregate-mark-places
 slice-aggregate-mark-places c = search needs
@@ -57,8 +57,8 @@ main-spec =
     script-space-requires
     slice-aggregate-read-full
     read-full-requires
-    shelf-space-requires
-    shelf-space-requires-2
+    sector-space-requires
+    sector-space-requires-2
     slice-aggregate-mark-places
     mark-places-requires
     array-share-prefix-script

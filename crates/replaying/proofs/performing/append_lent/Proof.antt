@@ -1,4 +1,4 @@
-use Rattle.replaying.specs.Performing.{oddShelf}
+use Rattle.replaying.specs.Performing.{oddDrives}
 use lib.ListN.{drop}
 use Prim.Native.Nat.{ℕ}
 use mathlib.Core.List.{List, _++_}
@@ -47,7 +47,7 @@ same-length-3 : tie.Need-same-length-3
 same-length-3 c = length-front (c .before .before .before .before .before .before .before .before .before .before .before .before .before .before .before .before .before .args .buffer .now) (c .before .before .before .before .before .before .append-odd .last .1 .1 .0) (c .before .before .before .before .before .before .before .before .before .before .lend3 .result) (c .before .before .before .before .before .before .append-odd .kept .1 .1 .0)
 
 returns : tie.Need-returns
-unfolding oddShelf
+unfolding oddDrives
 returns c = let a = c .before .before .before .before .before .before .before .before .before .before .before .before .before .before .before .before .before .args in (ap (λ (l : List ℕ). l ++ drop (c .before .before .before .before .before .before .before .before .before .before .before .before .lend .result) (a .space .now)) (c .before .before .before .before .before .before .append-odd .ensures .0) ∙ rw (c .before .before .before .before .before .before .before .before .before .before .before .before .lend .ensures .0, c .before .before .before .before .before .before .before .before .before .before .before .lend2 .ensures .0, c .before .before .before .before .before .before .before .before .before .before .lend3 .ensures .0) refl, ap (λ (l : List ℕ). l ++ drop (c .before .before .before .before .before .before .before .before .before .before .before .lend2 .result) (a .written .now)) (c .before .before .before .before .before .before .append-odd .ensures .1) ∙ rw (c .before .before .before .before .before .before .before .before .before .before .before .before .lend .ensures .0, c .before .before .before .before .before .before .before .before .before .before .before .lend2 .ensures .0, c .before .before .before .before .before .before .before .before .before .before .lend3 .ensures .0) refl, ap (λ (l : List ℕ). l ++ drop (c .before .before .before .before .before .before .before .before .before .before .lend3 .result) (a .buffer .now)) (c .before .before .before .before .before .before .append-odd .ensures .2) ∙ rw (c .before .before .before .before .before .before .before .before .before .before .lend3 .ensures .0) refl)
 
 pub append-lent-spec : {M : Type 1} → statement M

@@ -4,7 +4,7 @@ use denote.Ref.{now}
 use mathlib.Core.List.{List}
 use borrow.Author.Tests.{eq-eqb, ne-eqb}
 use Rattle.tables.specs.Tables.{tablesOf}
-use Rattle.replaying.specs.Performing.{Left, oddShelf, left, changed-cut, changed-byte, changed-pair, changed-odd}
+use Rattle.replaying.specs.Performing.{Left, oddDrives, left, changed-cut, changed-byte, changed-pair, changed-odd}
 use Rattle.replaying.proofs.performing.change_tables.Statement.{statement}
 use Rattle.replaying.proofs.performing.change_tables.Tie as tie
 
@@ -54,7 +54,7 @@ same-length-8 : tie.Need-same-length-8
 same-length-8 c = c .before .before .before .before .before .before .append-lent .kept .1 .1 .0
 
 returns-4 : tie.Need-returns-4
-unfolding oddShelf
+unfolding oddDrives
 returns-4 c = let a = c .before .before .before .before .before .before .before .before .before .before .before .before .before .before .before .before .before .args in let q = changed-odd (a .h) (a .c) (a .buffer .now) (tablesOf (a .space .now) (a .written .now) (a .durable .now)) (ne-eqb _ 99 (c .before .before .before .before .before .before .before .before .before .before .before .before .if1 .left)) (ne-eqb _ 98 (c .before .before .before .before .before .before .before .before .before .before .before .if2 .left)) (ne-eqb _ 116 (c .before .before .before .before .before .before .before .before .before .before .if3 .left)) in (ap₂ (λ (s w : List ℕ). tablesOf s w (a .durable .now)) (c .before .before .before .before .before .before .append-lent .ensures .0) (c .before .before .before .before .before .before .append-lent .ensures .1) ∙ sym (ap (λ (x : Left). x .tables) q), c .before .before .before .before .before .before .append-lent .ensures .2 ∙ sym (ap (λ (x : Left). x .buffer) q))
 
 pub change-tables-spec : {M : Type 1} → statement M

@@ -6,24 +6,24 @@ use borrow.Author.Tests.{eq-eqb, ne-eqb}
 use Rattle.replaying.specs.Calling.{Done}
 use Rattle.replaying.specs.Hosting.{quietReply}
 use Rattle.tables.specs.Tables.{tablesOf}
-use Rattle.replaying.specs.Performing.{left, performed-shelf, performed-call, performed-change, performed-host}
+use Rattle.replaying.specs.Performing.{left, performed-new, performed-call, performed-change, performed-host}
 use Rattle.replaying.proofs.performing.perform.Statement.{statement}
 use Rattle.replaying.proofs.performing.perform.Tie as tie
 
-new-shelf-requires : tie.Need-new-shelf-requires
-new-shelf-requires c κs = tt
+new-drives-requires : tie.Need-new-drives-requires
+new-drives-requires c κs = tt
 
 same-length : tie.Need-same-length
-same-length c = c .before .before .before .before .before .before .new-shelf .kept .0
+same-length c = c .before .before .before .before .before .before .new-drives .kept .0
 
 same-length-2 : tie.Need-same-length-2
-same-length-2 c = c .before .before .before .before .before .before .new-shelf .kept .1 .0
+same-length-2 c = c .before .before .before .before .before .before .new-drives .kept .1 .0
 
 same-length-3 : tie.Need-same-length-3
-same-length-3 c = c .before .before .before .before .before .before .new-shelf .kept .1 .1 .0
+same-length-3 c = c .before .before .before .before .before .before .new-drives .kept .1 .1 .0
 
 returns : tie.Need-returns
-returns c = let a = c .before .before .before .before .before .before .before .before .before .before .before .before .before .before .before .args in let q = performed-shelf (a .h) (a .c) (a .buffer .now) (tablesOf (a .space .now) (a .written .now) (a .durable .now)) (eq-eqb _ 103 (c .before .before .before .before .before .before .before .before .before .before .if1 .taken)) in (c .before .before .before .before .before .before .new-shelf .ensures .0 ∙ sym (ap (λ (x : Done). x .reply) q), c .before .before .before .before .before .before .new-shelf .ensures .1 ∙ sym (ap (λ (x : Done). x .tables) q), sym (ap (λ (x : Done). x .buffer) q))
+returns c = let a = c .before .before .before .before .before .before .before .before .before .before .before .before .before .before .before .args in let q = performed-new (a .h) (a .c) (a .buffer .now) (tablesOf (a .space .now) (a .written .now) (a .durable .now)) (eq-eqb _ 103 (c .before .before .before .before .before .before .before .before .before .before .if1 .taken)) in (c .before .before .before .before .before .before .new-drives .ensures .0 ∙ sym (ap (λ (x : Done). x .reply) q), c .before .before .before .before .before .before .new-drives .ensures .1 ∙ sym (ap (λ (x : Done). x .tables) q), sym (ap (λ (x : Done). x .buffer) q))
 
 is-call-requires : tie.Need-is-call-requires
 is-call-requires c κs = tt
@@ -83,7 +83,7 @@ pub perform-spec : {M : Type 1} → statement M
 perform-spec =
     tie.close
     (tie.spec
-    new-shelf-requires
+    new-drives-requires
     same-length
     same-length-2
     same-length-3

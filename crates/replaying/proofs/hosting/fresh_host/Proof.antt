@@ -1,10 +1,10 @@
 use mathlib.Core.Path.{_≡_, refl, sym, _∙_}
 use mathlib.Core.Bool.{true}
 use borrow.Author.Tests.{not-true, not-false, le-leb, lt-leb}
-use Rattle.replaying.specs.Hosting.{shelfHost}
+use Rattle.replaying.specs.Hosting.{freshHost}
 use Rattle.tables.specs.GeometryTest.{valid-if-test, isValid}
-use Rattle.replaying.proofs.hosting.shelf_host.Statement.{statement}
-use Rattle.replaying.proofs.hosting.shelf_host.Tie as tie
+use Rattle.replaying.proofs.hosting.fresh_host.Statement.{statement}
+use Rattle.replaying.proofs.hosting.fresh_host.Tie as tie
 
 -- the test that was passed
 valid : (c : tie.Else1) → isValid (c .before .before .args .g) ≡ true
@@ -17,7 +17,7 @@ empty-host-requires : tie.Need-empty-host-requires
 empty-host-requires c κs = tt
 
 returns : tie.Need-returns
-unfolding shelfHost
+unfolding freshHost
 returns c = let e = sym (c .before .before .valid .ensures) ∙ not-true (c .before .before .valid .result) (c .before .if1 .taken) in c .empty-host .ensures ∙ rw e refl
 
 total-bytes-requires : tie.Need-total-bytes-requires
@@ -30,18 +30,18 @@ empty-host-requires-2 : tie.Need-empty-host-requires-2
 empty-host-requires-2 c κs = tt
 
 returns-2 : tie.Need-returns-2
-unfolding shelfHost
+unfolding freshHost
 returns-2 c = let h = rw (c .before .before .before .total-bytes .ensures) at (c .before .if2 .taken) in c .empty-host2 .ensures ∙ rw (c .before .before .before .total-bytes .ensures, c .before .before .table-cells .ensures .0, valid (c .before .before .before .before), le-leb _ _ h) refl
 
 empty-host-requires-3 : tie.Need-empty-host-requires-3
 empty-host-requires-3 c κs = tt
 
 returns-3 : tie.Need-returns-3
-unfolding shelfHost
+unfolding freshHost
 returns-3 c = let h = rw (c .before .before .before .total-bytes .ensures) at (c .before .if2 .left) in c .empty-host3 .ensures ∙ rw (valid (c .before .before .before .before), lt-leb _ _ h) refl
 
-pub shelf-host-spec : {M : Type 1} → statement M
-shelf-host-spec =
+pub fresh-host-spec : {M : Type 1} → statement M
+fresh-host-spec =
     tie.close
     (tie.spec
     valid-requires

@@ -1,13 +1,13 @@
 use mathlib.Core.Path.{refl, _∙_, ap}
 use Rattle.replaying.specs.Hosting.{quietReply}
-use Rattle.replaying.proofs.performing.new_shelf.Statement.{statement}
-use Rattle.replaying.proofs.performing.new_shelf.Tie as tie
+use Rattle.replaying.proofs.performing.new_drives.Statement.{statement}
+use Rattle.replaying.proofs.performing.new_drives.Tie as tie
 
 geometry-in-requires : tie.Need-geometry-in-requires
 geometry-in-requires c κs = tt
 
-shelf-host-requires : tie.Need-shelf-host-requires
-shelf-host-requires c κs = tt
+fresh-host-requires : tie.Need-fresh-host-requires
+fresh-host-requires c κs = tt
 
 clear-requires : tie.Need-clear-requires
 clear-requires c κs = tt
@@ -31,14 +31,14 @@ same-length-3 : tie.Need-same-length-3
 same-length-3 c = c .before .before .before .clear-pointers2 .kept .0
 
 returns : tie.Need-returns
-returns c = (c .quiet .ensures ∙ ap quietReply (c .before .before .before .before .before .before .before .before .before .before .before .before .before .shelf-host .ensures ∙ rw (c .before .before .before .before .before .before .before .before .before .before .before .before .before .before .geometry-in .ensures) refl), rw (c .before .before .before .before .before .before .before .before .before .before .before .clear .ensures, c .before .before .before .before .before .before .before .clear-pointers .ensures, c .before .before .before .clear-pointers2 .ensures) refl)
+returns c = (c .quiet .ensures ∙ ap quietReply (c .before .before .before .before .before .before .before .before .before .before .before .before .before .fresh-host .ensures ∙ rw (c .before .before .before .before .before .before .before .before .before .before .before .before .before .before .geometry-in .ensures) refl), rw (c .before .before .before .before .before .before .before .before .before .before .before .clear .ensures, c .before .before .before .before .before .before .before .clear-pointers .ensures, c .before .before .before .clear-pointers2 .ensures) refl)
 
-pub new-shelf-spec : {M : Type 1} → statement M
-new-shelf-spec =
+pub new-drives-spec : {M : Type 1} → statement M
+new-drives-spec =
     tie.close
     (tie.spec
     geometry-in-requires
-    shelf-host-requires
+    fresh-host-requires
     clear-requires
     clear-pointers-requires
     clear-pointers-requires-2

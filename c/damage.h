@@ -3,7 +3,7 @@
 #ifndef DAMAGE_H
 #define DAMAGE_H
 
-#include "host.h"
+#include "script_host.h"
 
 void change_host(struct host *host, const struct command *command);
 

@@ -6,7 +6,7 @@
 #include <string.h>
 
 #include "bytes.h"
-#include "host.h"
+#include "script_host.h"
 
 enum { ADLER_BASE = 65521, ADLER_RUN = 5552 };
 

@@ -1,5 +1,5 @@
 /* Calls of a conformance script: its numbers and the shelf's byte ranges, less the shortage, handed to the C edge. */
-#include "host.h"
+#include "script_host.h"
 
 #include <stdlib.h>
 #include <string.h>

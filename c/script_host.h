@@ -1,7 +1,7 @@
 /* The host of a conformance script: the shelf that it lends, the geometry that it hands to the calls, the state that the last finished call left, and
  * by how much the next command's byte ranges are lent short. A call is made through the C edge; no rule of the volume is written here. */
-#ifndef HOST_H
-#define HOST_H
+#ifndef SCRIPT_HOST_H
+#define SCRIPT_HOST_H
 
 #include <stdbool.h>
 

@@ -1,5 +1,6 @@
-/* The archive's times as ratios to plain C's, measured in one run by turns on the same work, medians of repeated passes, in processor time; and a look's and
- * a mount's time per written sector as ratios to the smallest volume's. Before it is timed, each pass is held against plain C's result byte by byte. */
+/* The archive's speed as a share of plain C's and of memcpy's, measured in one run by turns on the same work, medians of repeated passes, in processor time;
+ * how a write's time grows with what zone and logs hold; and a look's and a mount's time per written sector as ratios to the smallest volume's. What is
+ * timed is held against plain C's result byte by byte. */
 #define _POSIX_C_SOURCE 199309L /* clock_gettime */
 
 #include <stdio.h>
@@ -149,8 +150,8 @@ static void must_agree(struct bench *b, const char *what) {
     must_be(same, true, what);
 }
 
-/* The median time of the first over that of the second, by turns. */
-static double ratio(struct bench *b, uint64_t (*one)(struct bench *), uint64_t (*other)(struct bench *), bool writes) {
+/* The speed of the first as a share of the second's: the second's median time over the first's, by turns. */
+static double speed(struct bench *b, uint64_t (*one)(struct bench *), uint64_t (*other)(struct bench *), bool writes) {
     double first[PASSES], second[PASSES];
     for (int i = 0; i < PASSES; i++) {
         if (writes)
@@ -162,24 +163,78 @@ static double ratio(struct bench *b, uint64_t (*one)(struct bench *), uint64_t (
         second[i] = seconds() - middle;
         first[i] = middle - start;
     }
-    return median(first, PASSES) / median(second, PASSES);
+    return median(second, PASSES) / median(first, PASSES);
 }
 
-static void ratios(uint32_t drives) {
+static void speeds(uint32_t drives) {
     struct bench b = new_bench((struct geometry){drives, 4096, 4, 1, 128});
-    double copies = ratio(&b, write_archive, copy_bytes, true);
+    double copies = speed(&b, write_archive, copy_bytes, true);
     memset(b.plain_answer, 0, zone_addresses(b.shelf.geometry) * 4096);
-    double stripes = ratio(&b, write_archive, write_plain, true);
+    double stripes = speed(&b, write_archive, write_plain, true);
     must_agree(&b, "whole-stripe writes");
-    double reads = ratio(&b, read_archive, read_plain, false);
+    double reads = speed(&b, read_archive, read_plain, false);
     must_agree(&b, "reads");
     b.named = b.all & ~1u;
-    double missing = ratio(&b, read_archive, read_plain, false);
+    double missing = speed(&b, read_archive, read_plain, false);
     must_agree(&b, "reads with a drive missing");
     b.run = 1;
-    double single = ratio(&b, write_archive, write_plain, true);
+    double single = speed(&b, write_archive, write_plain, true);
     must_agree(&b, "single-sector writes");
-    printf("%6u %14.2f %14.2f %14.2f %14.2f %14.2f\n", drives, stripes, reads, missing, single, copies);
+    printf("%6u %15.2f %15.2f %15.2f %15.2f %15.2f\n", drives, stripes, reads, missing, single, copies);
+    free_bench(&b);
+}
+
+/* The archive's time for `calls` writes in a row from an address on. */
+static double time_writes(struct bench *b, uint64_t address, uint32_t calls) {
+    struct call call = bench_call(b, CALL_WRITE);
+    uint64_t bytes = b->shelf.geometry.sector_bytes;
+    double start = seconds();
+    call.run = b->run;
+    for (call.address = address; calls > 0; calls--, call.address += b->run) {
+        call.range[BUFFER] = (struct range){b->data + call.address * bytes, b->run * bytes};
+        must_be(make_call(&call), ZRV_FINISHED, "write");
+    }
+    return seconds() - start;
+}
+
+/* Resets of zone 0 until the general logs have no room for one more. */
+static void fill_general_logs(struct bench *b) {
+    struct call call = bench_call(b, CALL_RESET);
+    uint32_t code = ZRV_FINISHED;
+    while (code == ZRV_FINISHED)
+        code = make_call(&call);
+    must_be(code, ZRV_LOG_FULL, "reset");
+}
+
+/* Forty stripes from the zone's start: the times of the first four and of the last four. */
+static void time_ends(struct bench *b, double *first, double *last) {
+    uint32_t stripe = (b->shelf.geometry.drives - 1) * b->shelf.geometry.unit, calls = 4 * stripe / b->run;
+    *first = time_writes(b, 0, calls);
+    time_writes(b, 4 * stripe, 8 * calls);
+    *last = time_writes(b, 36 * stripe, calls);
+}
+
+/* How writes in runs of so many sectors grow: stripes far into the zone against its first, and the first beside full general logs against those beside fresh
+ * ones. With runs of one sector the parity logs fill as the zone does. */
+static void growth_of(struct bench *b, const char *what, uint32_t run) {
+    double first[PASSES], last[PASSES], beside_full[PASSES], unused;
+    b->run = run;
+    for (int i = 0; i < PASSES; i++) {
+        format_both(b);
+        time_ends(b, &first[i], &last[i]);
+        format_both(b);
+        fill_general_logs(b);
+        time_ends(b, &beside_full[i], &unused);
+    }
+    double fresh = median(first, PASSES);
+    printf("%16s %16.2f %18.2f\n", what, median(last, PASSES) / fresh, median(beside_full, PASSES) / fresh);
+}
+
+static void growth(void) {
+    struct bench b = new_bench((struct geometry){4, 4096, 4, 1, 512});
+    printf("\na write's time against the same in a fresh volume (D 4, 4,096-byte sectors, U 4, C 512)\n%16s %16s %18s\n", "", "far in the zone", "general logs full");
+    growth_of(&b, "stripe writes", 12);
+    growth_of(&b, "1-sector writes", 1);
     free_bench(&b);
 }
 
@@ -219,10 +274,12 @@ static void sizes(void) {
 }
 
 int main(void) {
-    printf("archive / plain C (4,096-byte sectors, U 4, C 128)\n%6s %14s %14s %14s %14s %14s\n", "drives", "stripe writes", "reads", "drive missing",
-           "1-sector writes", "writes/memcpy");
-    ratios(4);
-    ratios(8);
+    printf("speed as a share of plain C's, the last of memcpy's (4,096-byte sectors, U 4, C 128)\n%6s %15s %15s %15s %15s %15s\n", "drives", "stripe writes",
+           "reads", "drive missing", "1-sector writes", "stripes/memcpy");
+    speeds(4);
+    speeds(8);
+    printf("%6s %15s %15s %15s %15s %15s\n", "wanted", "0.90", "0.90", "0.90", "0.60", "0.50");
+    growth();
     sizes();
     return 0;
 }

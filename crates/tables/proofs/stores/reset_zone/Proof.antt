@@ -1,3 +1,6 @@
+use Prim.Native.Nat.{ℕ}
+use mathlib.Core.Path.{ap}
+use lib.ListN.{set}
 use Rattle.tables.specs.Tables.{pointersAfterReset}
 use borrow.Author.Needs.{needs}
 use Rattle.tables.proofs.stores.reset_zone.Statement.{statement}
@@ -26,7 +29,10 @@ same-length-2 c = search needs
 
 returns : tie.Need-returns
 unfolding pointersAfterReset
-returns c = ((cc), (cc))
+returns c =
+    let a = c .before .before .before .args in
+    let e = c .cell-of .ensures .0 in
+    (ap (λ (at : ℕ). set (a .written .now) at 0) e, ap (λ (at : ℕ). set (a .durable .now) at 0) e)
 
 pub reset-zone-spec : {M : Type 1} → statement M
 reset-zone-spec =

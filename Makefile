@@ -4,7 +4,8 @@
 # archive: prove the volume and write target/staticlib/libvolume.a, which C links with include/zrv.h
 # edge-test: the archive called from C: the conformance vectors replayed, bad input; then both once more with the C side's sanitizers
 # bench: the archive's times against plain C's, as ratios
-.PHONY: check test wrong archive edge-test bench fmt
+# example: the program of docs/USING.md, built and run
+.PHONY: check test wrong archive edge-test bench example fmt
 
 check:
 	@rt check
@@ -47,6 +48,11 @@ bench: $(LIBRARY)
 	@mkdir -p $(EDGE)
 	@$(EDGE_C) -O3 $(BENCH_C) $(LIBRARY) -o $(EDGE)/bench
 	@$(EDGE)/bench
+
+example: $(LIBRARY)
+	@mkdir -p target
+	@$(EDGE_C) -O2 host/example.c $(LIBRARY) -o target/example
+	@target/example
 
 fmt:
 	@rt fmt

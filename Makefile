@@ -5,7 +5,8 @@
 # from-c: all tests of the archive in C
 # edge-test: the conformance vectors replayed, and bad input; then both once more with the C side's sanitizers
 # bench: the archive's speed as a share of plain C's
-.PHONY: check test wrong archive from-c edge-test bench fmt
+# example: the program of docs/USING.md, built and run
+.PHONY: check test wrong archive from-c edge-test bench example fmt
 
 check:
 	@rt check
@@ -32,7 +33,7 @@ PLAIN_C = c/plain.c c/plain_logs.c c/plain_refusals.c
 BAD_INPUT_C = c/bad_input.c c/fixture.c c/expected.c $(PLAIN_C) host/shelf.c host/call.c
 BENCH_C = c/bench.c $(PLAIN_C) host/shelf.c host/call.c
 
-from-c: edge-test
+from-c: edge-test example
 
 edge-test:
 	@mkdir -p $(EDGE)
@@ -49,6 +50,11 @@ bench:
 	@mkdir -p $(EDGE)
 	@$(EDGE_C) -O3 $(BENCH_C) $(LIBRARY) -o $(EDGE)/bench
 	@$(EDGE)/bench
+
+example: $(LIBRARY)
+	@mkdir -p target
+	@$(EDGE_C) -O2 host/example.c $(LIBRARY) -o target/example
+	@target/example
 
 fmt:
 	@rt fmt

@@ -6,6 +6,7 @@ pub mod Judge
 pub mod JudgeMore
 pub mod Lays
 pub mod WalkCode
+pub mod ZoneWalk
 pub mod Steps
 pub mod Query
 pub mod QueryLaws

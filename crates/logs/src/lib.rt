@@ -1,11 +1,12 @@
 // The logs of a drive: entries of five types, one sector for each header, laid one after the other from the start of a physical zone.
-// `headers` writes a header, `judging` tells what a sector holds, `walking` finds where a log's legal part ends, `asking`
-// carries an answer through a log, and `folds` asks what the volume wants to know of it. Which physical zone holds a log is a parameter of
-// each function.
+// `headers` writes a header, `judging` tells what a sector holds, `walking` finds where a log's legal part ends, with a `reader` laid over its
+// zone, `asking` carries an answer through a log, and `folds` asks what the volume wants to know of it. Which physical zone holds a log is a
+// parameter of each function of the lent sectors.
 pub mod asking;
 pub mod folds;
 pub mod headers;
 pub mod judging;
+pub mod reader;
 pub mod walking;
 
 // The ASCII mark "ZRV" with which each header begins.

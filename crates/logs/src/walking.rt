@@ -17,6 +17,7 @@ ghost use Rattle.logs.specs.Judge.{found};
 ghost use Rattle.logs.specs.Walk.{walkLog};
 ghost use Rattle.logs.specs.WalkCode.{InLog, logSectors, reason, leftAt};
 ghost use Rattle.logs.specs.Steps.{stepOf};
+ghost use Rattle.logs.specs.ZoneWalk.{InZone, LegalEnd, sectorsIn};
 
 // What sector p of a log holds.
 pub fn judge_at(
@@ -72,7 +73,62 @@ pub fn next_entry(
     Step::Whole(f, q)
 }
 
-// Where the legal part of a log ends, and why: over its entries and their rows.
+// What sector p of a zone holds, in the zone's own bytes.
+fn judge_in_zone(
+    bytes: &[u8],
+    g: Geometry,
+    drive: usize,
+    parity: bool,
+    written: usize,
+    p: usize,
+) -> Found
+    requires { ⌜ Valid g ⌝ }
+    requires { ⌜ InZone g written (now bytes) × (p < written) ⌝ }
+    ensures { λ r. ⌜ r ≡ found (decode g drive parity (getD (sectorsIn (g .sector) (now (bytes .entry)) written) p [])) ⌝ }
+{
+    let b = g.sector;
+    let at = p * b;
+    let end = at + b;
+    super::judging::judge(&bytes[at..end], g, drive, parity)
+}
+
+// Where the legal part of a log ends, and why: over its entries and their rows, in the zone's own bytes.
+pub fn walk_zone(bytes: &[u8], g: Geometry, drive: usize, parity: bool, written: usize) -> Walked
+    requires { ⌜ Valid g × InZone g written (now bytes) ⌝ }
+    ensures { λ r. ⌜ LegalEnd g drive parity written (now (bytes .entry)) r ⌝ }
+{
+    let c = g.capacity;
+    let mut p = 0;
+    let mut why = 0u8;
+    'walk: loop {
+        if written <= p {
+            break 'walk;
+        }
+        let f = judge_in_zone(bytes, g, drive, parity, written, p);
+        let rows = super::judging::rows_of(f, g);
+        let bad = super::judging::is_bad(f);
+        if bad {
+            why = 1;
+            break 'walk;
+        }
+        if c < p + 1 + rows {
+            why = 1;
+            break 'walk;
+        }
+        let mut k = 0;
+        'rows: while k < rows {
+            if written <= p + 1 + k {
+                why = 2;
+                break 'walk;
+            }
+            k += 1;
+        }
+        p = p + 1 + rows;
+    }
+    Walked { position: p, why }
+}
+
+// The same for a zone of the lent sectors: a reader is laid over the zone's part of them, and walked.
 pub fn walk_log(
     sectors: &[u8],
     g: Geometry,
@@ -88,32 +144,10 @@ pub fn walk_log(
         × (r .position ≤ n) ⌝ }
 {
     let c = g.capacity;
-    let mut p = 0;
-    let mut why = 0u8;
-    'walk: loop {
-        if n <= p {
-            break 'walk;
-        }
-        let f = judge_at(sectors, g, drive, zone, parity, n, p);
-        let rows = super::judging::rows_of(f, g);
-        let bad = super::judging::is_bad(f);
-        if bad {
-            why = 1;
-            break 'walk;
-        }
-        if c < p + 1 + rows {
-            why = 1;
-            break 'walk;
-        }
-        let mut k = 0;
-        'rows: while k < rows {
-            if n <= p + 1 + k {
-                why = 2;
-                break 'walk;
-            }
-            k += 1;
-        }
-        p = p + 1 + rows;
-    }
-    Walked { position: p, why }
+    let b = g.sector;
+    let cell = tables::stores::cell_of(g, drive, zone);
+    let size = c * b;
+    let at = cell * size;
+    let end = at + size;
+    super::reader::legal_end(&sectors[at..end], g, drive, parity, n)
 }

@@ -1,171 +1,63 @@
-use Rattle.logs.specs.WalkCode.{logSectors, reason, rowsSeen, leftAt, Same, same-trans, same-sym, at-end, stops-bad, stops-past, stops-torn, goes-on}
-use Rattle.tables.specs.Below.{length-tabulate}
-use Rattle.logs.specs.Walk.{Walked, walkLog}
-use lib.ListN.{length}
-use denote.Ref.{now}
-use mathlib.Core.List.{List}
-use mathlib.Core.Path.{_≡_, _∙_, refl, sym, ap}
-use Prim.Native.Nat.{ℕ, _+_, _-_, _≤_, _<_}
+use Rattle.logs.specs.ZoneWalk.{zone-in-lent, legal-end-of-log}
+use Rattle.tables.specs.Geometry.{totalBytes}
+use Rattle.tables.specs.Sizes.{bytes-small}
+use mathlib.Core.Path.{_≡_}
+use Prim.Native.Nat.{_+_, _-_, _*_, _≤_}
 use native.Mathlib.Omega.{arith}
+use borrow.Author.Needs.{needs}
 use Rattle.logs.proofs.walking.walk_log.Statement.{statement}
 use Rattle.logs.proofs.walking.walk_log.Tie as tie
 
-abbrev Inv-rows : tie.InvT-rows
-Inv-rows sectors g drive zone par n c p why₀ rows bad k₀ why k = (k ≤ rows) × (p + 1 + k ≤ n) × (why ≡ 0)
+-- the zone's part lies within the lent bytes, which are not many
+within : (c : tie.After-cell-of) → c .cell-of .result * (c .before .before .args .g .capacity * c .before .before .args .g .sector) + c .before .before .args .g .capacity * c .before .before .args .g .sector ≤ totalBytes (c .before .before .args .g)
+within c = let s = c .before .before in rw (c .cell-of .ensures .0) (zone-in-lent (s .args .g) (s .args .drive) (s .args .zone) (s .pre .1 .drive-in) (s .pre .1 .zone-in))
 
-abbrev μ-rows : tie.MeasureT-rows
-μ-rows sectors g drive zone par n c p why₀ rows bad k₀ why k = rows - k
+small : (c : tie.After-cell-of) → totalBytes (c .before .before .args .g) ≤ 40802189312
+small c = let s = c .before .before in bytes-small (s .args .g) (s .pre .0) .1
 
-abbrev Inv-walk : tie.InvT-walk
-Inv-walk sectors g drive zone par n c p₀ why₀ p why = (p ≤ n) × (why ≡ 0) × Same (leftAt g drive par (logSectors g drive zone sectors n) p) (walkLog g drive par (logSectors g drive zone sectors n))
+cell-of-requires : tie.Need-cell-of-requires
+cell-of-requires c κs = search needs
 
-abbrev μ-walk : tie.MeasureT-walk
-μ-walk sectors g drive zone par n c p₀ why₀ p why = n - p
+mul-size : tie.Need-mul-size
+mul-size c = omega (arith, within c, small c)
 
-walk-holds : tie.Need-walk-holds Inv-rows μ-rows Inv-walk μ-walk
-walk-holds c = (omega arith, refl, record { place = refl; why = refl })
+mul-at : tie.Need-mul-at
+mul-at c = omega (arith, within c, small c)
 
-abbrev sectorsOf : tie.At-walk Inv-rows μ-rows Inv-walk μ-walk → List (List ℕ)
-sectorsOf w = logSectors (w .before .before .args .g) (w .before .before .args .drive) (w .before .before .args .zone) (w .before .before .args .sectors .now) (w .before .before .args .n)
+add-end : tie.Need-add-end
+add-end c = omega (arith, within c, small c)
 
--- where the walk is left
-leave : (w : tie.At-walk Inv-rows μ-rows Inv-walk μ-walk) {x : ℕ} → leftAt (w .before .before .args .g) (w .before .before .args .drive) (w .before .before .args .parity) (sectorsOf w) (w .walk .p) .position ≡ w .walk .p
-    → reason (leftAt (w .before .before .args .g) (w .before .before .args .drive) (w .before .before .args .parity) (sectorsOf w) (w .walk .p) .last) ≡ x
-    → (w .walk .p ≡ walkLog (w .before .before .args .g) (w .before .before .args .drive) (w .before .before .args .parity) (sectorsOf w) .position)
-    × (x ≡ reason (walkLog (w .before .before .args .g) (w .before .before .args .drive) (w .before .before .args .parity) (sectorsOf w) .last))
-    × (w .walk .p ≤ w .before .before .args .n)
-leave w p q = (sym p ∙ w .walk .inv .2 .place, sym q ∙ w .walk .inv .2 .why, w .walk .inv .0)
+sub-legal-end : tie.Need-sub-legal-end
+sub-legal-end c = search needs
 
-below : (c : tie.In-walk Inv-rows μ-rows Inv-walk μ-walk) → c .before .walk .p < c .before .before .before .args .n
-below c = omega arith
+part-legal-end-start : tie.Need-part-legal-end-start
+part-legal-end-start c = search needs
 
-small : (c : tie.In-walk Inv-rows μ-rows Inv-walk μ-walk) → c .before .before .before .args .n ≤ 65536
-small c = let s = c .before .before .before in omega (arith, s .pre .1 .short, s .pre .0 .zone-most)
+part-legal-end-end : tie.Need-part-legal-end-end
+part-legal-end-end c = omega (arith, within c, c .before .before .pre .1 .long)
 
-judge-at-requires : tie.Need-judge-at-requires Inv-rows μ-rows Inv-walk μ-walk
-judge-at-requires c κs = let s = c .before .before .before in (s .pre .0, (s .pre .1, below c))
+legal-end-requires : tie.Need-legal-end-requires
+legal-end-requires c κs = search needs
 
-inside : (c : tie.After-judge-at Inv-rows μ-rows Inv-walk μ-walk) → c .before .before .walk .p < length (sectorsOf (c .before .before))
-inside c = rw length-tabulate (below (c .before))
-
-rows-of-requires : tie.Need-rows-of-requires Inv-rows μ-rows Inv-walk μ-walk
-rows-of-requires c κs = c .before .before .before .before .pre .0
-
-is-bad-requires : tie.Need-is-bad-requires Inv-rows μ-rows Inv-walk μ-walk
-is-bad-requires c κs = tt
-
-fits : (c : tie.Else2 Inv-rows μ-rows Inv-walk μ-walk) → c .before .before .before .before .before .before .walk .p + 1 + c .before .before .before .rows-of .result ≤ c .before .before .before .before .before .before .before .before .args .g .capacity
-fits c = omega arith
-
-add-if2 : tie.Need-add-if2 Inv-rows μ-rows Inv-walk μ-walk
-add-if2 c = omega (arith, below (c .before .before .before .before), small (c .before .before .before .before))
-
-add-if2-2 : tie.Need-add-if2-2 Inv-rows μ-rows Inv-walk μ-walk
-add-if2-2 c = omega (arith, below (c .before .before .before .before), small (c .before .before .before .before), c .before .before .rows-of .ensures .1)
-
-rows-holds : tie.Need-rows-holds Inv-rows μ-rows Inv-walk μ-walk
-rows-holds c = (omega arith, omega (arith, below (c .before .before .before .before .before)), c .before .before .before .before .before .before .walk .inv .1)
-
-add-if3 : tie.Need-add-if3 Inv-rows μ-rows Inv-walk μ-walk
-add-if3 c = omega (arith, below (c .before .before .before .before .before .before .before), small (c .before .before .before .before .before .before .before))
-
-add-if3-2 : tie.Need-add-if3-2 Inv-rows μ-rows Inv-walk μ-walk
-add-if3-2 c = omega (arith, below (c .before .before .before .before .before .before .before), small (c .before .before .before .before .before .before .before), c .before .before .before .before .before .rows-of .ensures .1)
-
-add-k : tie.Need-add-k Inv-rows μ-rows Inv-walk μ-walk
-add-k c = omega (arith, c .before .before .before .before .before .before .rows-of .ensures .1)
-
-rows-less : tie.Need-rows-less Inv-rows μ-rows Inv-walk μ-walk
-rows-less c = omega arith
-
-rows-again : tie.Need-rows-again Inv-rows μ-rows Inv-walk μ-walk
-rows-again c = (omega arith, omega arith, c .before .before .rows .inv .2)
-
-add-p : tie.Need-add-p Inv-rows μ-rows Inv-walk μ-walk
-add-p c = omega (arith, below (c .before .before .before .before .before .before .before), small (c .before .before .before .before .before .before .before))
-
-add-p-2 : tie.Need-add-p-2 Inv-rows μ-rows Inv-walk μ-walk
-add-p-2 c = omega (arith, below (c .before .before .before .before .before .before .before), small (c .before .before .before .before .before .before .before), c .before .before .before .before .before .rows-of .ensures .1)
-
-walk-less : tie.Need-walk-less Inv-rows μ-rows Inv-walk μ-walk
-walk-less c = omega (arith, below (c .before .before .before .before .before .before .before))
-
-walk-again : tie.Need-walk-again Inv-rows μ-rows Inv-walk μ-walk
-walk-again c =
-    let w = c .before .before .before .before .before .before .before .before .walk in
-    let a = c .before .before .before .before .before .before .before .before .before .before .args in
-    let j = c .before .before .before .before .before .before in
-    let r = c .before .before .before .before .before .rows-of .ensures .0 in
-    let ss = logSectors (a .g) (a .drive) (a .zone) (a .sectors .now) (a .n) in
-    let on = leftAt (a .g) (a .drive) (a .parity) ss (w .p + 1 + rowsSeen (a .g) (j .judge-at .result)) in
-    let whole : w .p + 1 + c .before .before .before .before .before .rows-of .result ≤ a .n = omega arith in (
-      whole,
-      c .before .rows .inv .2,
-      rw r (same-trans on (leftAt (a .g) (a .drive) (a .parity) ss (w .p)) (walkLog (a .g) (a .drive) (a .parity) ss)
-          (same-sym (leftAt (a .g) (a .drive) (a .parity) ss (w .p)) on
-          (goes-on (a .g) (a .drive) (a .parity) ss (w .p) (j .judge-at .result) (inside j) (j .judge-at .ensures) (sym (c .before .before .before .before .is-bad .ensures) ∙ c .before .before .before .if1 .left) (rw (← r) (fits (c .before .before))) (rw (← r, length-tabulate) whole)))
-          (w .inv .2)),
-    )
-
-returns : tie.Need-returns Inv-rows μ-rows Inv-walk μ-walk
+returns : tie.Need-returns
 returns c =
-    let w = c .before .walk in
-    let a = c .before .before .before .args in
-    let e : w .p ≡ a .n = omega arith in
-    let t = at-end (a .g) (a .drive) (a .parity) (sectorsOf (c .before)) (w .p) (rw length-tabulate e) in
-    leave (c .before) (ap (λ (x : Walked). x .position) t) (ap (λ (x : Walked). reason (x .last)) t ∙ sym (w .inv .1))
-
-returns-2 : tie.Need-returns-2 Inv-rows μ-rows Inv-walk μ-walk
-returns-2 c =
-    let w = c .before .before .before .before .before in
-    let a = w .before .before .args in
-    let j = c .before .before .before in
-    let t = stops-bad (a .g) (a .drive) (a .parity) (sectorsOf w) (w .walk .p) (j .judge-at .result) (inside j) (j .judge-at .ensures) (sym (c .before .is-bad .ensures) ∙ c .if1 .taken) in
-    leave w (ap (λ (x : Walked). x .position) t) (ap (λ (x : Walked). reason (x .last)) t)
-
-returns-3 : tie.Need-returns-3 Inv-rows μ-rows Inv-walk μ-walk
-returns-3 c =
-    let w = c .before .before .before .before .before .before in
-    let a = w .before .before .args in
-    let j = c .before .before .before .before in
-    let t = stops-past (a .g) (a .drive) (a .parity) (sectorsOf w) (w .walk .p) (j .judge-at .result) (inside j) (j .judge-at .ensures) (rw (← c .before .before .before .rows-of .ensures .0) (c .if2 .taken)) in
-    leave w (ap (λ (x : Walked). x .position) t) (ap (λ (x : Walked). reason (x .last)) t)
-
-returns-4 : tie.Need-returns-4 Inv-rows μ-rows Inv-walk μ-walk
-returns-4 c =
-    let w = c .before .before .before .before .before .before .before .before .before in
-    let a = w .before .before .args in
-    let j = c .before .before .before .before .before .before .before in
-    let r = c .before .before .before .before .before .before .rows-of .ensures .0 in
-    let short : a .n < w .walk .p + 1 + c .before .before .before .before .before .before .rows-of .result = omega arith in
-    let (h, t) = stops-torn (a .g) (a .drive) (a .parity) (sectorsOf w) (w .walk .p) (j .judge-at .result) (inside j) (j .judge-at .ensures) (sym (c .before .before .before .before .before .is-bad .ensures) ∙ c .before .before .before .before .if1 .left) (rw (← r) (fits (c .before .before .before))) (rw (← r, length-tabulate) short) in
-    leave w (ap (λ (x : Walked). x .position) t) (ap (λ (x : Walked). reason (x .last)) t)
+    let s = c .before .before .before .before in
+    let a = s .args in
+    let m = c .before .before .cell-of in
+    let size = a .g .capacity * a .g .sector in
+    let d : m .result * size + size - m .result * size ≡ size = omega arith in
+    legal-end-of-log (a .g) (a .drive) (a .zone) (a .parity) (a .n) (a .sectors .now) (c .legal-end .result) (s .pre .1) (rw (d, m .ensures .0) at (c .legal-end .ensures))
 
 pub walk-log-spec : {M : Type 1} → statement M
 walk-log-spec =
     tie.close
     (tie.spec
-    Inv-rows
-    μ-rows
-    Inv-walk
-    μ-walk
-    walk-holds
-    judge-at-requires
-    rows-of-requires
-    is-bad-requires
-    add-if2
-    add-if2-2
-    rows-holds
-    add-if3
-    add-if3-2
-    add-k
-    rows-less
-    rows-again
-    add-p
-    add-p-2
-    walk-less
-    walk-again
-    returns
-    returns-2
-    returns-3
-    returns-4)
+    cell-of-requires
+    mul-size
+    mul-at
+    add-end
+    sub-legal-end
+    part-legal-end-start
+    part-legal-end-end
+    legal-end-requires
+    returns)

@@ -1,0 +1,46 @@
+use Rattle.logs.specs.ZoneWalk.{sector-in-zone, zone-bytes-small}
+use Rattle.logs.specs.Judge.{found}
+use Rattle.logs.specs.Entry.{decode}
+use Rattle.tables.specs.Below.{getD-tabulate}
+use Rattle.tables.specs.Tables.{sectorNo}
+use mathlib.Core.Path.{_≡_, _∙_, refl, sym, ap}
+use mathlib.Core.List.{List, []}
+use Prim.Native.Nat.{ℕ, _+_, _-_, _*_, _≤_}
+use native.Mathlib.Omega.{arith}
+use borrow.Author.Needs.{needs}
+use Rattle.logs.proofs.walking.judge_in_zone.Statement.{statement}
+use Rattle.logs.proofs.walking.judge_in_zone.Tie as tie
+
+within : (c : tie.Start) → (c .args .p * c .args .g .sector + c .args .g .sector ≤ c .args .g .capacity * c .args .g .sector) × (c .args .g .capacity * c .args .g .sector ≤ 268435456)
+within c = (sector-in-zone (c .args .g) (c .args .p) (c .args .written) (c .pre .1 .1) (c .pre .1 .0 .short), zone-bytes-small (c .args .g) (c .pre .0))
+
+mul-at : tie.Need-mul-at
+mul-at c = let k = within (c .before) in omega (arith, k .0, k .1)
+
+add-end : tie.Need-add-end
+add-end c = let k = within (c .before) in omega (arith, k .0, k .1)
+
+sub-judge : tie.Need-sub-judge
+sub-judge c = search needs
+
+part-judge-start : tie.Need-part-judge-start
+part-judge-start c = search needs
+
+part-judge-end : tie.Need-part-judge-end
+part-judge-end c = let k = within (c .before) in omega (arith, k .0, c .before .pre .1 .0 .long)
+
+judge-requires : tie.Need-judge-requires
+judge-requires c κs = search needs
+
+returns : tie.Need-returns
+returns c =
+    let s = c .before .before .before in
+    let a = s .args in
+    let d : a .p * a .g .sector + a .g .sector - a .p * a .g .sector ≡ a .g .sector = omega arith in
+    c .judge .ensures ∙ ap (λ (t : List ℕ). found (decode (a .g) (a .drive) (a .parity) t))
+    (rw d refl ∙ sym (getD-tabulate (λ (i : ℕ). sectorNo (a .g .sector) (a .bytes .now) i) (a .written) (a .p) [] (s .pre .1 .1)))
+
+pub judge-in-zone-spec : {M : Type 1} → statement M
+judge-in-zone-spec =
+    tie.close
+    (tie.spec mul-at add-end sub-judge part-judge-start part-judge-end judge-requires returns)

@@ -17,11 +17,12 @@ use Rattle.volume.specs.declared.Condition.{Condition}
 use Rattle.volume.specs.declared.Condition.the-variants.{Empty, Open, Sealed, Worn}
 use Rattle.volume.specs.declared.ZoneRecord.{ZoneRecord}
 use Rattle.volume.specs.declared.State.{State}
+use Rattle.volume.specs.declared.Outcome.{Outcome}
 use Rattle.volume.specs.State.{pointerIn}
 use Rattle.volume.specs.OnTables.{blankRecord, recordAt, answerNumber, Result}
 use Rattle.volume.specs.DrivesLost.{fill-at, fill-past}
 use Rattle.volume.specs.EdgeBytes.{tableFrom, tableTo, wordsTo, length-words-to, kindOf, conditionFrom, recordTo, recordFrom, recordsTo, length-records-to, noState, stateTo, stateFrom, stateWellFormed}
-use Rattle.volume.specs.EdgeCalls.{tablesIn, storedAll, unchanged, state-kept}
+use Rattle.volume.specs.EdgeCalls.{tablesIn, storedAll, storedAppends, storedFlushes, shownOnly, unchanged, state-kept}
 
 -- ---- a list of bytes, as its number
 abbrev pub Bytes : List ℕ → Type 0
@@ -162,12 +163,27 @@ state-bytes-state zones s h =
         ∙ record-back (recordsTo zones s ++ drop (8 + 16 * zones) noState) (8 + 16 * z) (recordAt s z) rest e (h .generations z k) (h .pointers z k)
     each z (no k) = fill-past (λ y. recordFrom (recordsTo zones s ++ drop (8 + 16 * zones) noState) (8 + 16 * y)) blankRecord zones (16 - zones) z (omega arith) ∙ sym (h .past z (omega arith))
 
--- ---- a refused call on bytes leaves every range as it was: its tables are written again, as the same bytes
-pub refused-unchanged : (g : Geometry) (r : Result) (xs wb db st : List ℕ) → Bytes wb → Bytes db → length wb ≡ cells g * 4 → length db ≡ cells g * 4
+-- ---- a refused call on bytes leaves every range as it was: tables that it might have changed are written again, as the same bytes. One law for each
+-- of the four forms of EdgeCalls
+pub refused-all : (g : Geometry) (r : Result) (xs wb db st : List ℕ) → Bytes wb → Bytes db → length wb ≡ cells g * 4 → length db ≡ cells g * 4
     → r .tables ≡ tablesIn g xs wb db → answerNumber (r .outcome .answer) ≢ 0 → storedAll g r st ≡ unchanged (answerNumber (r .outcome .answer)) xs wb db st
 unfolding storedAll
-refused-unchanged g r xs wb db st a b c d q n =
+refused-all g r xs wb db st a b c d q n =
     rw (q, bytes-table-bytes (cells g) wb a c, bytes-table-bytes (cells g) db b d, sym (state-kept g (r .outcome) st n)) refl
+
+pub refused-appends : (g : Geometry) (r : Result) (xs wb db st : List ℕ) → Bytes wb → length wb ≡ cells g * 4
+    → r .tables ≡ tablesIn g xs wb db → answerNumber (r .outcome .answer) ≢ 0 → storedAppends g r db st ≡ unchanged (answerNumber (r .outcome .answer)) xs wb db st
+unfolding storedAppends
+refused-appends g r xs wb db st a c q n = rw (q, bytes-table-bytes (cells g) wb a c, sym (state-kept g (r .outcome) st n)) refl
+
+pub refused-flushes : (g : Geometry) (r : Result) (xs wb db st : List ℕ) → Bytes db → length db ≡ cells g * 4
+    → r .tables ≡ tablesIn g xs wb db → answerNumber (r .outcome .answer) ≢ 0 → storedFlushes g r xs wb st ≡ unchanged (answerNumber (r .outcome .answer)) xs wb db st
+unfolding storedFlushes
+refused-flushes g r xs wb db st b d q n = rw (q, bytes-table-bytes (cells g) db b d, sym (state-kept g (r .outcome) st n)) refl
+
+pub refused-shown : (g : Geometry) (o : Outcome) (xs wb db st : List ℕ) → answerNumber (o .answer) ≢ 0 → shownOnly g o xs wb db st ≡ unchanged (answerNumber (o .answer)) xs wb db st
+unfolding shownOnly
+refused-shown g o xs wb db st n = rw (sym (state-kept g o st n)) refl
 
 -- ---- the bytes that a finished call hands on have the form, so the next call takes them
 -- a state whose numbers fit their fields

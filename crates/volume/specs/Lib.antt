@@ -109,6 +109,7 @@ pub mod MountRestoring
 pub mod MountTornLogs
 pub mod MountLastEntries
 pub mod MountFillOn
+pub mod ByteLists
 pub mod GenerationRange
 pub mod MountStart
 pub mod MountTold

@@ -130,4 +130,5 @@ pub mod EdgeBytes
 pub mod EdgeCalls
 pub mod EdgeRoundTrips
 pub mod EdgeStoring
+pub mod EdgeHandsOn
 pub mod EdgeReading

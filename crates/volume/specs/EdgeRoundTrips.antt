@@ -2,13 +2,13 @@
 use mathlib.Core.Path.{_≡_, refl, sym, ap, ap₂, _∙_}
 use mathlib.Core.Logic.{_≢_}
 use mathlib.Core.Bool.{true}
-use Prim.Native.Nat.{ℕ, zero, suc, _+_, _-_, _*_, _/_, _%_, _^_, _≤_, _<_}
+use Prim.Native.Nat.{ℕ, zero, suc, _+_, _-_, _*_, _%_, _^_, _≤_, _<_}
 use native.Mathlib.Decide.{decLt}
-use native.Mathlib.Nat.{mod-lt, mod-eq-of-lt, div-add-mod'}
+use native.Mathlib.Nat.{mod-lt, mod-eq-of-lt}
 use native.Mathlib.Omega.{arith}
-use mathlib.Core.List.{append-assoc, List, [], _∷_, _++_}
+use mathlib.Core.List.{append-assoc, List, _++_}
 use lib.ListN.{length, getD, take, drop, replicate, length-append, length-drop, length-replicate}
-use lib.Seq.{take-at, drop-at, drop-drop, take-add, take-length, take-append-le, drop-append-le, length-take-le, ext-getD}
+use lib.Seq.{drop-at, drop-drop, take-add, take-length, take-append-le, drop-append-le, length-take-le, ext-getD}
 use Rattle.tables.specs.declared.Geometry.{Geometry}
 use Rattle.tables.specs.Geometry.{cells}
 use Rattle.tables.specs.Below.{tabulate, length-tabulate, getD-tabulate}
@@ -21,32 +21,9 @@ use Rattle.volume.specs.declared.Outcome.{Outcome}
 use Rattle.volume.specs.State.{pointerIn}
 use Rattle.volume.specs.OnTables.{blankRecord, recordAt, answerNumber, Result}
 use Rattle.volume.specs.DrivesLost.{fill-at, fill-past}
-use Rattle.volume.specs.EdgeBytes.{tableFrom, tableTo, wordsTo, length-words-to, kindOf, conditionFrom, recordTo, recordFrom, recordsTo, length-records-to, noState, stateTo, stateFrom, stateWellFormed}
+use Rattle.volume.specs.ByteLists.{Bytes, bytes-take, bytes-drop, number-in-bytes, number-small, bytes-number-bytes}
+use Rattle.volume.specs.EdgeBytes.{tableFrom, tableTo, wordsTo, length-words-to, kindOf, conditionFrom, recordTo, recordFrom, recordsTo, length-records-to, noState, stateTo, stateFrom, stateWellFormed, bytes-state-bytes}
 use Rattle.volume.specs.EdgeCalls.{tablesIn, storedAll, storedAppends, storedFlushes, shownOnly, unchanged, state-kept}
-
--- ---- a list of bytes, as its number
-abbrev pub Bytes : List ℕ → Type 0
-Bytes [] = Unit {0}
-Bytes (x ∷ xs) = (x < 256) × Bytes xs
-
-bytes-take : (n : ℕ) (xs : List ℕ) → Bytes xs → Bytes (take n xs)
-bytes-take zero xs b = tt
-bytes-take (suc n) [] b = tt
-bytes-take (suc n) (x ∷ xs) b = (b .0, bytes-take n xs (b .1))
-
-bytes-drop : (n : ℕ) (xs : List ℕ) → Bytes xs → Bytes (drop n xs)
-bytes-drop zero xs b = b
-bytes-drop (suc n) [] b = tt
-bytes-drop (suc n) (x ∷ xs) b = bytes-drop n xs (b .1)
-
-pub bytes-number : (xs : List ℕ) → Bytes xs → bytesLE (length xs) (numberLE xs) ≡ xs
-bytes-number [] b = refl
-bytes-number (x ∷ xs) b =
-    let n = x + 256 * numberLE xs in
-    let h : n % 256 < 256 = mod-lt n (omega arith) in
-    let e : n % 256 ≡ x = omega (arith, b .0, h, div-add-mod' n 256) in
-    let f : n / 256 ≡ numberLE xs = omega (arith, b .0, h, div-add-mod' n 256) in
-    ap₂ (λ (y : ℕ) (ys : List ℕ). y ∷ ys) e (ap (bytesLE (length xs)) f ∙ bytes-number xs (b .1))
 
 -- ---- tables
 word-at : (n i : ℕ) (ts : List ℕ) → i < n → getD ts i 0 < 256 ^ 4 → readLE 4 (wordsTo n ts) (i * 4) ≡ getD ts i 0
@@ -89,7 +66,7 @@ bytes-table-bytes n xs b e =
         let long : length (take 4 (drop (k * 4) xs)) ≡ 4 = length-take-le 4 (drop (k * 4) xs) (rw (length-drop (k * 4) xs) (omega arith)) in
         let s : k * 4 + 4 ≡ suc k * 4 = omega arith in
         ap₂ (λ (u v : List ℕ). u ++ v) (go k (omega arith))
-        (ap (bytesLE 4) (getD-tabulate (λ i. readLE 4 xs (i * 4)) n k 0 (omega arith)) ∙ ap (λ (m : ℕ). bytesLE m (numberLE part)) (sym long) ∙ bytes-number part (bytes-take 4 (drop (k * 4) xs) (bytes-drop (k * 4) xs b)))
+        (ap (bytesLE 4) (getD-tabulate (λ i. readLE 4 xs (i * 4)) n k 0 (omega arith)) ∙ ap (λ (m : ℕ). bytesLE m (numberLE part)) (sym long) ∙ bytes-number-bytes part (bytes-take 4 (drop (k * 4) xs) (bytes-drop (k * 4) xs b)))
         ∙ sym (take-add (k * 4) 4 xs) ∙ ap (λ (m : ℕ). take m xs) s
 
 -- ---- states
@@ -101,6 +78,9 @@ pub record StateRange (zones : ℕ) (s : State) : Type 0 where
   pub generations : (z : ℕ) → z < zones → recordAt s z .generation < 256 ^ 8
   pub pointers : (z : ℕ) → z < zones → pointerIn (recordAt s z .condition) < 4294967296
   pub past : (z : ℕ) → zones ≤ z → recordAt s z ≡ blankRecord
+
+pub sixteen-records : (f : ℕ → ZoneRecord) (zones : ℕ) → zones ≤ 16 → length (tabulate f zones ++ replicate (16 - zones) blankRecord) ≡ 16
+sixteen-records f zones h = length-append (tabulate f zones) (replicate (16 - zones) blankRecord) ∙ omega (arith, length-tabulate f zones, length-replicate (16 - zones) blankRecord, h)
 
 -- where its parts lie
 lost-at : (n : ℕ) (s : State) (t : List ℕ) → (rest : List ℕ) × (recordsTo n s ++ t ≡ bytesLE 8 (s .lost % 256) ++ rest)
@@ -151,8 +131,7 @@ state-bytes-state zones s h =
     let b : s .lost % 256 < 256 = mod-lt (s .lost) (omega arith) in
     let m : s .lost % 256 < 18446744073709551616 = omega (arith, b) in
     let a : readLE 8 xs 0 ≡ s .lost = ap (λ (l : List ℕ). numberLE (take 8 l)) e ∙ number-bytes-le 8 (s .lost % 256) m ∙ mod-eq-of-lt (h .lost-byte) in
-    let long : length (tabulate f zones ++ replicate (16 - zones) blankRecord) ≡ 16 =
-    length-append (tabulate f zones) (replicate (16 - zones) blankRecord) ∙ omega (arith, length-tabulate f zones, length-replicate (16 - zones) blankRecord, h .zones-most) in
+    let long : length (tabulate f zones ++ replicate (16 - zones) blankRecord) ≡ 16 = sixteen-records f zones (h .zones-most) in
     ap₂ (λ (n : ℕ) (rs : List ZoneRecord). record { lost = n; zones = rs }) a
     (ext-getD blankRecord (tabulate f zones ++ replicate (16 - zones) blankRecord) (s .zones) (long ∙ sym (h .sixteen)) (λ z l. each z (decLt z zones)))
   where
@@ -162,6 +141,49 @@ state-bytes-state zones s h =
         fill-at (λ y. recordFrom (recordsTo zones s ++ drop (8 + 16 * zones) noState) (8 + 16 * y)) blankRecord blankRecord zones (16 - zones) z k
         ∙ record-back (recordsTo zones s ++ drop (8 + 16 * zones) noState) (8 + 16 * z) (recordAt s z) rest e (h .generations z k) (h .pointers z k)
     each z (no k) = fill-past (λ y. recordFrom (recordsTo zones s ++ drop (8 + 16 * zones) noState) (8 + 16 * y)) blankRecord zones (16 - zones) z (omega arith) ∙ sym (h .past z (omega arith))
+
+-- ---- the bytes of a state in range have the form
+pub length-state-to : (zones : ℕ) (s : State) → zones ≤ 16 → length (stateTo zones s) ≡ 264
+unfolding stateTo
+length-state-to zones s h =
+    let e : length (drop (8 + 16 * zones) noState) ≡ 264 - (8 + 16 * zones) = length-drop (8 + 16 * zones) noState in
+    length-append (recordsTo zones s) (drop (8 + 16 * zones) noState) ∙ omega (arith, e, length-records-to zones s, h)
+
+pub state-well-formed : (zones : ℕ) (s : State) → StateRange zones s → stateWellFormed zones (stateTo zones s) ≡ true
+unfolding stateWellFormed
+state-well-formed zones s h = ap (λ (t : State). sameBytes (stateTo zones t) (stateTo zones s)) (state-bytes-state zones s h) ∙ same-bytes-refl (stateTo zones s)
+
+-- bytes of the form hold generations of 8 bytes: a generation written again is the one that was read
+pub read-generation : (zones : ℕ) (xs : List ℕ) (z : ℕ) → stateWellFormed zones xs ≡ true → z < zones → recordAt (stateFrom zones xs) z .generation < 256 ^ 8
+unfolding stateFrom stateTo recordFrom recordTo
+read-generation zones xs z w h =
+    let s = stateFrom zones xs in
+    let (rest, e) = record-at zones z s (drop (8 + 16 * zones) noState) h in
+    let d : drop (8 + 16 * z) xs ≡ recordTo (recordAt s z) ++ rest = ap (drop (8 + 16 * z)) (sym (bytes-state-bytes zones xs w)) ∙ e in
+    let r : recordAt s z .generation ≡ readLE 8 xs (8 + 16 * z) = ap (λ (t : ZoneRecord). t .generation) (fill-at (λ y. recordFrom xs (8 + 16 * y)) blankRecord blankRecord zones (16 - zones) z h) in
+    let q : recordAt s z .generation ≡ numberLE (bytesLE 8 (recordAt s z .generation)) = r ∙ ap (λ (l : List ℕ). numberLE (take 8 l)) d in
+    rw q (number-small 8 (bytesLE 8 (recordAt s z .generation)) (omega arith) (number-in-bytes 8 (recordAt s z .generation)))
+
+-- ---- what bytes hold of any state: its lost drive and the records of the volume's zones
+unfoldable pub zonesOnly : ℕ → State → State
+zonesOnly zones s = record { lost = s .lost; zones = tabulate (λ z. recordAt s z) zones ++ replicate (16 - zones) blankRecord }
+
+pub zones-only-lost : (zones : ℕ) (s : State) → zonesOnly zones s .lost ≡ s .lost
+unfolding zonesOnly
+zones-only-lost zones s = refl
+
+pub zones-only-at : (zones : ℕ) (s : State) (z : ℕ) → z < zones → recordAt (zonesOnly zones s) z ≡ recordAt s z
+unfolding zonesOnly
+zones-only-at zones s z h = fill-at (λ y. recordAt s y) blankRecord blankRecord zones (16 - zones) z h
+
+-- bytes are made of those alone
+same-records : (zones n : ℕ) (s t : State) → n ≤ zones → s .lost ≡ t .lost → ((z : ℕ) → z < zones → recordAt s z ≡ recordAt t z) → recordsTo n s ≡ recordsTo n t
+same-records zones zero s t h l e = ap (λ (x : ℕ). bytesLE 8 (x % 256)) l
+same-records zones (suc n) s t h l e = ap₂ (λ (xs : List ℕ) (r : ZoneRecord). xs ++ recordTo r) (same-records zones n s t (omega arith) l e) (e n (omega arith))
+
+pub zones-only-bytes : (zones : ℕ) (s : State) → stateTo zones (zonesOnly zones s) ≡ stateTo zones s
+unfolding stateTo
+zones-only-bytes zones s = ap (λ (l : List ℕ). l ++ drop (8 + 16 * zones) noState) (same-records zones zones (zonesOnly zones s) s (omega arith) (zones-only-lost zones s) (zones-only-at zones s))
 
 -- ---- a refused call on bytes leaves every range as it was: tables that it might have changed are written again, as the same bytes. One law for each
 -- of the four forms of EdgeCalls
@@ -184,35 +206,3 @@ refused-flushes g r xs wb db st b d q n = rw (q, bytes-table-bytes (cells g) db 
 pub refused-shown : (g : Geometry) (o : Outcome) (xs wb db st : List ℕ) → answerNumber (o .answer) ≢ 0 → shownOnly g o xs wb db st ≡ unchanged (answerNumber (o .answer)) xs wb db st
 unfolding shownOnly
 refused-shown g o xs wb db st n = rw (sym (state-kept g o st n)) refl
-
--- ---- the bytes that a finished call hands on have the form, so the next call takes them
--- a state whose numbers fit their fields
-pub record StateNumbers (zones : ℕ) (s : State) : Type 0 where
-  pub lost-byte : s .lost < 256
-  pub generations : (z : ℕ) → z < zones → recordAt s z .generation < 256 ^ 8
-  pub pointers : (z : ℕ) → z < zones → pointerIn (recordAt s z .condition) < 4294967296
-
--- bytes are made of the lost drive and the records of the volume's zones alone
-same-records : (zones n : ℕ) (s t : State) → n ≤ zones → s .lost ≡ t .lost → ((z : ℕ) → z < zones → recordAt s z ≡ recordAt t z) → recordsTo n s ≡ recordsTo n t
-same-records zones zero s t h l e = ap (λ (x : ℕ). bytesLE 8 (x % 256)) l
-same-records zones (suc n) s t h l e = ap₂ (λ (xs : List ℕ) (r : ZoneRecord). xs ++ recordTo r) (same-records zones n s t (omega arith) l e) (e n (omega arith))
-
-pub handed-on-well-formed : (zones : ℕ) (s : State) → StateNumbers zones s → stateWellFormed zones (stateTo zones s) ≡ true
-unfolding stateWellFormed stateFrom stateTo
-handed-on-well-formed zones s h =
-    let t : State = stateFrom zones (stateTo zones s) in
-    let e : recordsTo zones t ≡ recordsTo zones s = same-records zones zones t s (omega arith) lost each in
-    ap (λ (l : List ℕ). sameBytes (l ++ drop (8 + 16 * zones) noState) (recordsTo zones s ++ drop (8 + 16 * zones) noState)) e ∙ same-bytes-refl (recordsTo zones s ++ drop (8 + 16 * zones) noState)
-  where
-    lost : readLE 8 (recordsTo zones s ++ drop (8 + 16 * zones) noState) 0 ≡ s .lost
-    lost =
-        let (rest, e) = lost-at zones s (drop (8 + 16 * zones) noState) in
-        let b : s .lost % 256 < 256 = mod-lt (s .lost) (omega arith) in
-        let m : s .lost % 256 < 18446744073709551616 = omega (arith, b) in
-        ap (λ (l : List ℕ). numberLE (take 8 l)) e ∙ number-bytes-le 8 (s .lost % 256) m ∙ mod-eq-of-lt (h .lost-byte)
-
-    each : (z : ℕ) → z < zones → getD (tabulate (λ y. recordFrom (recordsTo zones s ++ drop (8 + 16 * zones) noState) (8 + 16 * y)) zones ++ replicate (16 - zones) blankRecord) z blankRecord ≡ recordAt s z
-    each z k =
-        let (rest, e) = record-at zones z s (drop (8 + 16 * zones) noState) k in
-        fill-at (λ y. recordFrom (recordsTo zones s ++ drop (8 + 16 * zones) noState) (8 + 16 * y)) blankRecord blankRecord zones (16 - zones) z k
-        ∙ record-back (recordsTo zones s ++ drop (8 + 16 * zones) noState) (8 + 16 * z) (recordAt s z) rest e (h .generations z k) (h .pointers z k)

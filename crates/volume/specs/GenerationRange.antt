@@ -2,17 +2,16 @@
 use mathlib.Core.Path.{_≡_, refl, sym, ap, _∙_}
 use mathlib.Core.Logic.{_⊎_, inl, inr}
 use mathlib.Core.Bool.{Bool, true, false, true≢false}
-use Prim.Native.Nat.{ℕ, zero, suc, _+_, _-_, _*_, _/_, _^_, _≤_, _<_}
-use native.Mathlib.Nat.{mod-lt, pow-suc}
+use Prim.Native.Nat.{ℕ, zero, _+_, _-_, _*_, _^_, _<_}
 use native.Mathlib.Decide.{ℕ-discrete}
 use native.Mathlib.Omega.{arith}
-use mathlib.Core.List.{List, [], _∷_, _++_}
+use mathlib.Core.List.{List, []}
 use lib.ListN.{length, getD, take, drop, replicate, length-take}
 use lib.Seq.{drop-drop}
 use Rattle.tables.specs.declared.Geometry.{Geometry}
 use Rattle.tables.specs.Basics.{pick}
 use Rattle.tables.specs.Below.{maxBelow, max-below-is}
-use Rattle.tables.specs.LittleEndian.{bytesLE, numberLE, wordsLE}
+use Rattle.tables.specs.LittleEndian.{wordsLE}
 use Rattle.tables.specs.Device.{Device}
 use Rattle.logs.specs.Entry.{generalZone, Header, label, counters, zoneReset, partialParity, seal, encode, frame, legal}
 use Rattle.logs.specs.Legal.{legal-written-again}
@@ -22,48 +21,12 @@ use Rattle.logs.specs.Query.{headsOf}
 use Rattle.logs.specs.Places.{last-there}
 use Rattle.logs.specs.Generations.{countersPlace, no-generation, generation-there}
 use Rattle.volume.specs.Rules.{generalHeads, generationOf}
-
--- ---- lists of bytes
-abbrev Bytes : List ℕ → Type 0
-Bytes [] = Unit {0}
-Bytes (b ∷ bs) = (b < 256) × Bytes bs
-
-bytes-append : (xs ys : List ℕ) → Bytes xs → Bytes ys → Bytes (xs ++ ys)
-bytes-append [] ys p q = q
-bytes-append (x ∷ xs) ys p q = (p .0, bytes-append xs ys (p .1) q)
-
-bytes-drop : (n : ℕ) (xs : List ℕ) → Bytes xs → Bytes (drop n xs)
-bytes-drop zero xs p = p
-bytes-drop (suc n) [] p = tt
-bytes-drop (suc n) (x ∷ xs) p = bytes-drop n xs (p .1)
-
-bytes-take : (n : ℕ) (xs : List ℕ) → Bytes xs → Bytes (take n xs)
-bytes-take zero xs p = tt
-bytes-take (suc n) [] p = tt
-bytes-take (suc n) (x ∷ xs) p = (p .0, bytes-take n xs (p .1))
-
-bytes-zeros : (n : ℕ) → Bytes (replicate n 0)
-bytes-zeros zero = tt
-bytes-zeros (suc n) = (omega arith, bytes-zeros n)
-
-bytes-number : (n x : ℕ) → Bytes (bytesLE n x)
-bytes-number zero x = tt
-bytes-number (suc n) x = (mod-lt x (omega arith), bytes-number n (x / 256))
-
-bytes-words : (xs : List ℕ) → Bytes (wordsLE xs)
-bytes-words [] = tt
-bytes-words (x ∷ xs) = bytes-append (bytesLE 8 x) (wordsLE xs) (bytes-number 8 x) (bytes-words xs)
-
-number-small : (n : ℕ) (xs : List ℕ) → length xs ≤ n → Bytes xs → numberLE xs < 256 ^ n
-number-small zero [] h p = omega arith
-number-small zero (x ∷ xs) h p = absurd (omega arith)
-number-small (suc n) [] h p = let k : 0 < 256 ^ n = number-small n [] (omega arith) tt in rw pow-suc (omega (arith, k))
-number-small (suc n) (x ∷ xs) h p = let k = number-small n xs (omega arith) (p .1) in rw pow-suc (omega (arith, k, p .0))
+use Rattle.volume.specs.ByteLists.{Bytes, bytes-append, bytes-take, bytes-drop, bytes-zeros, words-in-bytes, number-small}
 
 -- ---- counters
 counters-bytes : (g : Geometry) (d : ℕ) (cs : List ℕ) → Bytes (drop 32 (encode g d (counters cs)))
 unfolding encode frame
-counters-bytes g d cs = bytes-append (wordsLE cs) (replicate (g .sector - (32 + 8 * length cs)) 0) (bytes-words cs) (bytes-zeros (g .sector - (32 + 8 * length cs)))
+counters-bytes g d cs = bytes-append (wordsLE cs) (replicate (g .sector - (32 + 8 * length cs)) 0) (words-in-bytes cs) (bytes-zeros (g .sector - (32 + 8 * length cs)))
 
 counters-of : (h : Header) → isCounters h ≡ true → (cs : List ℕ) × (h ≡ counters cs)
 counters-of (label x a) e = absurd (true≢false (sym e))

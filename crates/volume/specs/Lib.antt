@@ -109,6 +109,7 @@ pub mod MountRestoring
 pub mod MountTornLogs
 pub mod MountLastEntries
 pub mod MountFillOn
+pub mod ByteLists
 pub mod GenerationRange
 pub mod MountStart
 pub mod MountTold
@@ -129,4 +130,5 @@ pub mod EdgeBytes
 pub mod EdgeCalls
 pub mod EdgeRoundTrips
 pub mod EdgeStoring
+pub mod EdgeHandsOn
 pub mod EdgeReading

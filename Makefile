@@ -25,7 +25,7 @@ LIBRARY = target/staticlib/libvolume.a
 EDGE_C = gcc -std=c11 -Wall -Wextra -Werror -pedantic -Iinclude -Ihost
 SANITIZE = -O1 -g -fsanitize=address,undefined -fno-sanitize-recover=all
 REPLAY_C = c/replay.c c/script_host.c c/damage.c c/script.c host/shelf.c host/call.c
-PLAIN_C = c/plain.c c/plain_logs.c c/plain_refusals.c
+PLAIN_C = c/plain.c c/plain_logs.c c/plain_refusals.c host/journal.c
 BAD_INPUT_C = c/bad_input.c c/fixture.c c/expected.c $(PLAIN_C) host/shelf.c host/call.c
 BENCH_C = c/bench.c $(PLAIN_C) host/shelf.c host/call.c
 

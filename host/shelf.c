@@ -4,15 +4,11 @@
 #include <stdio.h>
 #include <stdlib.h>
 
-size_t shelf_cells(struct geometry geometry) {
-    return (size_t)geometry.drives * ((size_t)geometry.zones + ZRV_LOG_ZONES);
-}
+#include "bytes.h"
 
-uint64_t zone_addresses(struct geometry geometry) {
-    return (uint64_t)(geometry.drives - 1) * geometry.zone_sectors;
-}
+size_t shelf_cells(struct geometry geometry) { return geometry.drives * physical_zones(geometry); }
 
-static struct range new_range(size_t length) {
+struct range new_range(size_t length) {
     struct range range = {calloc(length + 1, 1), length};
     if (range.bytes == NULL) {
         fprintf(stderr, "no memory for %zu bytes\n", length);
@@ -36,6 +32,23 @@ void free_shelf(struct shelf *shelf) {
     free(shelf->sectors.bytes);
     free(shelf->written.bytes);
     free(shelf->durable.bytes);
+}
+
+void cut_cell(struct shelf *shelf, size_t cell, uint32_t kept) {
+    put32(shelf->written.bytes + cell * sizeof(uint32_t), kept);
+    put32(shelf->durable.bytes + cell * sizeof(uint32_t), kept);
+}
+
+void cut_at_random(struct shelf *shelf, uint64_t seed) {
+    uint32_t draw = (uint32_t)(seed % 2147483648);
+    for (size_t cell = 0; cell < shelf_cells(shelf->geometry); cell++) {
+        uint32_t written = get32(shelf->written.bytes + cell * sizeof(uint32_t));
+        uint32_t kept = get32(shelf->durable.bytes + cell * sizeof(uint32_t));
+        draw = next_draw(draw);
+        if (kept < written)
+            kept += (uint32_t)(draw / 65536 % ((uint64_t)(written - kept) + 1));
+        cut_cell(shelf, cell, kept);
+    }
 }
 
 uint32_t next_draw(uint32_t draw) {

@@ -3,6 +3,7 @@
 
 #include <stdio.h>
 #include <stdlib.h>
+#include <string.h>
 
 #include "bytes.h"
 
@@ -28,6 +29,19 @@ struct shelf new_shelf(struct geometry geometry) {
     return shelf;
 }
 
+struct shelf copy_shelf(const struct shelf *shelf) {
+    struct geometry g = shelf->geometry;
+    struct shelf copy = new_shelf(g);
+    memcpy(copy.written.bytes, shelf->written.bytes, shelf->written.length);
+    memcpy(copy.durable.bytes, shelf->durable.bytes, shelf->durable.length);
+    for (size_t cell = 0; cell < shelf_cells(g); cell++) {
+        uint32_t written = get32(shelf->written.bytes + cell * sizeof(uint32_t));
+        size_t at = cell * g.zone_sectors * g.sector_bytes, sectors = written < g.zone_sectors ? written : g.zone_sectors;
+        memcpy(copy.sectors.bytes + at, shelf->sectors.bytes + at, sectors * g.sector_bytes);
+    }
+    return copy;
+}
+
 void free_shelf(struct shelf *shelf) {
     free(shelf->sectors.bytes);
     free(shelf->written.bytes);
@@ -49,6 +63,13 @@ void cut_at_random(struct shelf *shelf, uint64_t seed) {
             kept += (uint32_t)(draw / 65536 % ((uint64_t)(written - kept) + 1));
         cut_cell(shelf, cell, kept);
     }
+}
+
+uint64_t table_sum(struct range table) {
+    uint64_t sum = 0;
+    for (size_t at = 0; at < table.length; at += sizeof(uint32_t))
+        sum += get32(table.bytes + at);
+    return sum;
 }
 
 uint32_t next_draw(uint32_t draw) {

@@ -13,6 +13,7 @@ struct shelf {
 /* All zero. Each leaves the program where there is no memory. */
 struct range new_range(size_t length);
 struct shelf new_shelf(struct geometry geometry);
+struct shelf copy_shelf(const struct shelf *shelf); /* below the written pointers; zero past them */
 void free_shelf(struct shelf *shelf);
 
 /* A power cut: of what is not durable each zone keeps as much as the stream of the seed says. */
@@ -22,6 +23,9 @@ void cut_at_random(struct shelf *shelf, uint64_t seed);
 void cut_cell(struct shelf *shelf, size_t cell, uint32_t kept);
 
 size_t shelf_cells(struct geometry geometry); /* drives times physical zones */
+
+/* The sum of a table's numbers. */
+uint64_t table_sum(struct range table);
 
 uint32_t next_draw(uint32_t draw);
 void fill_from_stream(uint8_t *bytes, size_t length, uint64_t seed);

@@ -94,7 +94,8 @@ static void check_labels(const struct driver *driver) {
     for (uint32_t d = 0; d < drives->record.geometry.drives; d++) {
         uint32_t against = labels_against(driver, d);
         if ((drives->record.given_up >> d & 1) != 0)
-            found(&line, "drive %u: given up by this host%s; labels that say so: %u", d, (drives->returned >> d & 1) != 0 ? ", and its file is left unread" : "", against);
+            found(&line, "drive %u: given up by this host%s; labels that say so: %u", d,
+                  (drives->returned >> d & 1) != 0 ? ", its file is back and left unread" : "", against);
         else if (!is_present(driver, d))
             found(&line, "drive %u: not there: drive-%u.zrv is missing; labels that give it up: %u", d, d, against);
         else
@@ -122,8 +123,8 @@ static void check_pointers(const struct driver *driver, bool shown) {
             uint32_t has = written_in(driver, d, ZRV_LOG_ZONES + z), needs = sectors_needed(g, z, pointer, d);
             if (!is_present(driver, d) || d == driver->shown[0] || has == needs)
                 continue;
-            found(&line, "zone %u: drive %u has %u sectors, the zone's pointer %u needs %u; %s", z, d, has, pointer, needs,
-                  has > needs ? fate_of_excess(zone) : "the next mount fills in what is missing");
+            found(&line, "zone %u: drive %u has %u sector%s, the zone's pointer %u needs %u; %s", z, d, has, plural(has), pointer, needs,
+                  has > needs ? fate_of_excess(zone) : "a mount fills in what is missing");
         }
     }
     end_line(&line, "%s", shown ? "ok, every drive has what the zones' pointers need" : NO_LOOK);
@@ -139,8 +140,8 @@ static uint32_t check_log(struct line *line, uint32_t drive, uint32_t log) {
     while ((step = next_entry(&reader, &header)) == JOURNAL_ENTRY)
         entries++;
     if (step == JOURNAL_TORN)
-        found(line, "drive %u: the entry at sector %u, ending at address %llu, is cut in half: %u of its %u rows are there; the next mount completes it", drive, reader.at,
-              (unsigned long long)get64(header + ENTRY_END), written_in(line->driver, drive, log) - reader.at - 1, entry_rows(g, header));
+        found(line, "drive %u: the entry at sector %u, ending at address %llu, is cut in half: %u of its %u rows are there; the next mount completes it",
+              drive, reader.at, (unsigned long long)get64(header + ENTRY_END), written_in(line->driver, drive, log) - reader.at - 1, entry_rows(g, header));
     if (step == JOURNAL_NO_ENTRY)
         found(line, "drive %u: sector %u is no entry", drive, reader.at);
     return entries;
@@ -183,7 +184,7 @@ static void check_reset_log(const struct driver *driver, bool shown) {
     for (uint32_t z = 0; shown && z < g.zones; z++) {
         uint32_t count = drives_with_reset(driver, z);
         if (count != 0)
-            found(&line, "zone %u: a reset is under way, logged on %u drive%s; the next mount finishes it", z, count, count == 1 ? "" : "s");
+            found(&line, "zone %u: a reset is under way, logged on %u drive%s; the next mount finishes it", z, count, plural(count));
     }
     if (!shown)
         end_line(&line, "read to the last sector; %s", NO_LOOK);
@@ -195,7 +196,7 @@ static void check_reset_log(const struct driver *driver, bool shown) {
 static const char *reason_for_length(const struct driver *driver, uint32_t zone) {
     if (driver->drives.record.phase == PHASE_READY)
         return "on healthy drives both are the same";
-    return drives_with_reset(driver, zone) != 0 ? "its reset is under way" : "on healthy drives that is data that no finished flush covered";
+    return drives_with_reset(driver, zone) != 0 ? "its reset is under way" : "on healthy drives that is data that no finished flush or mount covered";
 }
 
 static void tell_left_out(void *listener, const struct difference *d) {
@@ -204,13 +205,12 @@ static void tell_left_out(void *listener, const struct difference *d) {
         found(line, "zone %u, address %llu: other bytes with drive %u left out; parity and data of its row do not match", d->zone, (unsigned long long)d->address,
               d->drive);
     else if (d->kind == DIFFERENT_LENGTH)
-        found(line, "zone %u: %u sectors with drive %u left out, %u with all; %s", d->zone, d->without, d->drive, d->with_all, reason_for_length(line->driver, d->zone));
-    else if (d->drive == ZRV_NO_DRIVE)
-        found(line, "not compared: a mount is refused: %u %s", d->answer, refusal_word(d->answer));
+        found(line, "zone %u: %u sector%s with drive %u left out, %u with all; %s", d->zone, d->without, plural(d->without), d->drive, d->with_all,
+              reason_for_length(line->driver, d->zone));
     else if (d->zone == ZRV_STATE_RECORDS)
-        found(line, "drive %u cannot be left out: refused: %u %s", d->drive, d->answer, refusal_word(d->answer));
+        found(line, "drive %u cannot be left out: the look is refused: %u %s", d->drive, d->answer, refusal_word(d->answer));
     else
-        found(line, "zone %u cannot be read with drive %u left out: refused: %u %s", d->zone, d->drive, d->answer, refusal_word(d->answer));
+        found(line, "zone %u was not compared with drive %u left out: a read is refused: %u %s", d->zone, d->drive, d->answer, refusal_word(d->answer));
 }
 
 static void check_left_out(const struct driver *driver, bool shown) {

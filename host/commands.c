@@ -184,7 +184,8 @@ static int cut_and_save(struct driver *driver, const struct power_cut *cut) {
         return usage_error("cut", "%s", message.text);
     if (!save_drives(&driver->drives, false, &message))
         return file_error(&message);
-    printf("power cut: the caches kept %llu of %llu sectors; mount next\n", (unsigned long long)(table_sum(shelf->written) - durable), (unsigned long long)cached);
+    printf("power cut: the caches kept %llu of %llu sector%s; mount next\n", (unsigned long long)(table_sum(shelf->written) - durable),
+           (unsigned long long)cached, plural(cached));
     return EXIT_DONE;
 }
 

@@ -60,8 +60,8 @@ static bool fits_shelf(const uint8_t *head, uint64_t length, const struct file_p
     if (get32(head + INDEX) != drive)
         return fail(message, "%s/%s: this is drive %u, not drive %u", place->folder, place->name, get32(head + INDEX), drive);
     if (length != drive_file_length(g))
-        return fail(message, "%s/%s: %s: %llu bytes, a drive of this shelf has %llu", place->folder, place->name, length < drive_file_length(g) ? "short" : "long",
-                    (unsigned long long)length, (unsigned long long)drive_file_length(g));
+        return fail(message, "%s/%s: %s: %llu bytes, a drive of this shelf has %llu", place->folder, place->name,
+                    length < drive_file_length(g) ? "short" : "long", (unsigned long long)length, (unsigned long long)drive_file_length(g));
     return true;
 }
 

@@ -14,7 +14,8 @@ struct drive_tag {
 /* The tag at a file's beginning; false where the file is none of a drive. */
 bool read_drive_tag(const struct file_place *place, struct drive_tag *tag);
 
-/* Reads a drive into its part of the shelf; progress goes on by one for each physical zone, as it does in write_drive. False, with a message, where the file is short, foreign or damaged. */
+/* Reads a drive into its part of the shelf; progress goes on by one for each physical zone, as it does in write_drive. False, with a message, where the
+ * file is short, foreign or damaged. */
 bool read_drive(FILE *file, uint64_t length, const struct file_place *place, struct shelf *shelf, uint32_t drive, struct drive_tag *tag,
                 struct progress *progress, struct message *message);
 

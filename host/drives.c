@@ -17,7 +17,16 @@
 #define RECORD_NAME "state.zrv"
 #define RECORD_MAGIC "zrvstate"
 
-enum { PHASE = HEAD_OWN, GIVEN_UP = 36, ARRAY = 40, SAVES = 48, STATE_AT = SAVES + 8 * MOST_DRIVES, CHECKSUM = STATE_AT + ZRV_STATE_BYTES, RECORD_BYTES = CHECKSUM + 8 };
+/* Where the record's fields are. */
+enum {
+    PHASE = HEAD_OWN,
+    GIVEN_UP = 36,
+    ARRAY = 40,
+    SAVES = 48,
+    STATE_AT = SAVES + 8 * MOST_DRIVES,
+    CHECKSUM = STATE_AT + ZRV_STATE_BYTES,
+    RECORD_BYTES = CHECKSUM + 8
+};
 enum { NAME_BYTES = 32 };
 
 static struct file_place place_of(const struct drives *drives, const char *name) {

@@ -2,7 +2,8 @@
  *
  * drive-N.zrv, drive N; numbers little-endian:
  *   bytes 0 to 7 "zrvdrive", 8 the version (4 bytes, 1), 12 the geometry (4 bytes each: drives, sector bytes, unit, zones, zone sectors),
- *   32 the drive's index (4), 36 zero (4), 40 the array number (8), 48 the save that wrote this file (8), 56 a checksum of bytes 0 to 55 and of the pointers (8);
+ *   32 the drive's index (4), 36 zero (4), 40 the array number (8), 48 the save that wrote this file (8),
+ *   56 a checksum of bytes 0 to 55 and of the pointers (8);
  *   64 the written pointers of its physical zones (4 each), then the durable ones: what lies between the two is its write cache;
  *   then its sectors, zone by zone. Only those below the written pointer are kept; the others read as zeros.
  * The sectors have no checksum of the host's: what they hold is the volume's to judge.
@@ -10,9 +11,9 @@
  * state.zrv, the host's: bytes 0 to 7 "zrvstate", version and geometry as above, 32 the phase (4), 36 the drives given up by bit (4), 40 the array number (8),
  *   48 for each of eight drives the save that its file must be of (8 each), 112 the volume's state, 376 a checksum of all before it (8).
  *
- * A save is all or nothing: the changed drives go to drive-N.new first, then state.zrv is replaced by rename, and from then on each drive-N.new counts and takes
- * its drive's place, if need be when the folder is opened next. A drive whose file is missing is not there. One whose file is of another save or array
- * is strange: the folder opens, and its host has to keep to looks. */
+ * A save is all or nothing: the changed drives go to drive-N.new first, then state.zrv is replaced by rename, and from then on each drive-N.new counts
+ * and takes its drive's place, if need be when the folder is opened next. A drive whose file is missing is not there. One whose file is of another
+ * save or array is strange: the folder opens, and its host has to keep to looks. */
 #ifndef DRIVES_H
 #define DRIVES_H
 

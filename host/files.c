@@ -41,17 +41,16 @@ uint64_t checksum(uint64_t before, const uint8_t *bytes, size_t length) {
 }
 
 FILE *open_file(const struct file_place *place, uint64_t *length) {
-    int descriptor = openat(place->directory, place->name, O_RDONLY);
     struct stat status;
-    if (descriptor < 0 || fstat(descriptor, &status) != 0)
+    if (fstatat(place->directory, place->name, &status, 0) != 0)
         return NULL;
     if (!S_ISREG(status.st_mode)) {
-        close(descriptor);
-        errno = EINVAL;
+        errno = S_ISDIR(status.st_mode) ? EISDIR : EINVAL;
         return NULL;
     }
     *length = (uint64_t)status.st_size;
-    return fdopen(descriptor, "rb");
+    int descriptor = openat(place->directory, place->name, O_RDONLY);
+    return descriptor < 0 ? NULL : fdopen(descriptor, "rb");
 }
 
 FILE *create_file(const struct file_place *place) {

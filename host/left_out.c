@@ -1,4 +1,5 @@
-/* Looks of copies, each without one drive. A copy on which a mount is due is mounted before it is read, since reads come after mounts. */
+/* Looks of copies, each without one drive. A copy is mounted before it is read, since that is how the volume would come up without the drive; where too
+ * little log is left for a mount it is read as it is. */
 #include "left_out.h"
 
 #include <stdlib.h>
@@ -30,10 +31,8 @@ static struct view view_of(const struct driver *driver, uint32_t named) {
     struct call look = view_call(&view, CALL_LOOK, view.shown);
     view.answer = make_call(&look);
     memcpy(view.state, view.shown, ZRV_STATE_BYTES);
-    if (view.answer == ZRV_FINISHED && driver->drives.record.phase != PHASE_READY) {
-        struct call mount = view_call(&view, CALL_MOUNT, view.state);
-        view.answer = make_call(&mount);
-    }
+    struct call mount = view_call(&view, CALL_MOUNT, view.state);
+    make_call(&mount);
     return view;
 }
 
@@ -71,7 +70,7 @@ static void compare_zone(struct view *all, struct view *part, struct difference 
     uint32_t answer_all = read_view(all, difference.zone, run, &a), answer_part = read_view(part, difference.zone, run, &b);
     uint32_t sector = first_difference(a, b, run, g.sector_bytes);
     difference.answer = answer_all != ZRV_FINISHED ? answer_all : answer_part;
-    difference.kind = difference.answer != ZRV_FINISHED ? DIFFERENT_REFUSAL : DIFFERENT_BYTES;
+    difference.kind = difference.answer != ZRV_FINISHED ? NOT_COMPARED : DIFFERENT_BYTES;
     difference.address = difference.zone * zone_addresses(g) + sector;
     if (difference.answer != ZRV_FINISHED || sector < run)
         tell(listener, &difference);
@@ -81,7 +80,7 @@ static void compare_zone(struct view *all, struct view *part, struct difference 
 
 static void compare_drive(const struct driver *driver, struct view *all, uint32_t drive, tell_difference tell, void *listener) {
     struct view part = view_of(driver, all->named & ~(1u << drive));
-    struct difference difference = {.kind = DIFFERENT_REFUSAL, .drive = drive, .zone = ZRV_STATE_RECORDS, .answer = part.answer};
+    struct difference difference = {.kind = NOT_COMPARED, .drive = drive, .zone = ZRV_STATE_RECORDS, .answer = part.answer};
     if (part.answer != ZRV_FINISHED)
         tell(listener, &difference);
     else
@@ -94,10 +93,7 @@ void compare_left_out(const struct driver *driver, tell_difference tell, void *l
     uint32_t count = driver->drives.record.geometry.drives;
     struct progress progress = start_progress("looking with each drive left out", count);
     struct view all = view_of(driver, driver->drives.present);
-    struct difference refusal = {.kind = DIFFERENT_REFUSAL, .drive = ZRV_NO_DRIVE, .zone = ZRV_STATE_RECORDS, .answer = all.answer};
-    if (all.answer != ZRV_FINISHED)
-        tell(listener, &refusal);
-    for (uint32_t drive = 0; all.answer == ZRV_FINISHED && drive < count; drive++) {
+    for (uint32_t drive = 0; drive < count; drive++) {
         compare_drive(driver, &all, drive, tell, listener);
         step_progress(&progress, 1);
     }

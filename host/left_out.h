@@ -9,14 +9,14 @@
 #include "driver.h"
 
 enum difference_kind {
-    DIFFERENT_REFUSAL, /* the look, or a read of what it shows, is refused */
-    DIFFERENT_LENGTH,  /* another count of sectors is shown */
+    NOT_COMPARED,     /* the look, or a read of what one of the looks shows, is refused */
+    DIFFERENT_LENGTH, /* another count of sectors is shown */
     DIFFERENT_BYTES
 };
 
 struct difference {
     enum difference_kind kind;
-    uint32_t drive, zone;       /* the drive left out; the zone, but for a refusal of the look */
+    uint32_t drive, zone;       /* the drive left out; the zone, or ZRV_STATE_RECORDS where none was compared */
     uint32_t answer;            /* the refusal */
     uint32_t with_all, without; /* sectors shown */
     uint64_t address;           /* the first with other bytes */

@@ -10,9 +10,9 @@
 static const struct {
     const char *word, *sentence;
 } refusals[] = {
-    [ZRV_GEOMETRY] = {"geometry", "a number is out of bounds; take 3 to 8 drives, sectors of 64 bytes and so on by doubling to 4096, units of 1 to 16 sectors, 1 to 16 zones "
-                                  "with 32 + 8 * zones at most the bytes of a sector, zone sectors a multiple of the unit, at most 65536 and at least "
-                                  "zones * (1 + unit) + 2 * unit + 1 and zones + 6"},
+    [ZRV_GEOMETRY] = {"geometry", "a number is out of bounds; take 3 to 8 drives, sectors of 64 bytes and so on by doubling to 4096, units of 1 to 16 sectors, "
+                                  "1 to 16 zones with 32 + 8 * zones at most the bytes of a sector, zone sectors a multiple of the unit, at most 65536 and "
+                                  "at least zones * (1 + unit) + 2 * unit + 1 and zones + 6"},
     [ZRV_LENGTH] = {"length", "a table or a buffer has not its length; give whole sectors"},
     [ZRV_POINTER] = {"pointer", "a drive's write pointers are out of order; pull that drive"},
     [ZRV_TWO_LOST] = {"two lost", "more than one drive is lost; put back one that is missing and was not given up"},

@@ -13,7 +13,7 @@ struct range new_range(size_t length) {
     struct range range = {calloc(length + 1, 1), length};
     if (range.bytes == NULL) {
         fprintf(stderr, "no memory for %zu bytes\n", length);
-        exit(2);
+        exit(3);
     }
     return range;
 }

@@ -40,7 +40,7 @@ int tell_answer(const struct driver *driver, const struct call *call, uint32_t a
     if (answer == ANSWER_NOT_NOW) {
         fprintf(stderr, "zrv: %s\n", message->text);
     } else if (answer == ZRV_UNFINISHED) {
-        fprintf(stderr, "zrv: unfinished: stopped at %u stores with more to make; a power cut comes next (zrv cut)\n", call->count);
+        fprintf(stderr, "zrv: unfinished: stopped after %u store%s with more to make; a power cut comes next (zrv cut)\n", call->count, plural(call->count));
     } else {
         fprintf(stderr, "zrv: refused: ");
         print_refusal(stderr, answer, call, record->geometry, record->state);

@@ -79,7 +79,7 @@ static int write_data(struct driver *driver, const struct option *option, const 
     int code = store_and_save(driver, &call);
     if (code != EXIT_DONE)
         return code;
-    printf("wrote %u sectors at address %llu; ", call.run, (unsigned long long)call.address);
+    printf("wrote %u sector%s at address %llu; ", call.run, plural(call.run), (unsigned long long)call.address);
     print_zone(g, driver->shown, (uint32_t)(call.address / zone_addresses(g)));
     putchar('\n');
     return EXIT_DONE;
@@ -165,7 +165,7 @@ static int read_data(struct driver *driver, const struct option *option) {
     if (code == EXIT_DONE && !put_data(&option[FILE_NAME], &call.range[BUFFER], &message))
         code = file_error(&message);
     if (code == EXIT_DONE && option[FILE_NAME].given)
-        printf("read %u sectors from address %llu\n", call.run, (unsigned long long)call.address);
+        printf("read %u sector%s from address %llu\n", call.run, plural(call.run), (unsigned long long)call.address);
     free(call.range[BUFFER].bytes);
     return code;
 }

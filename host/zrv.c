@@ -35,33 +35,40 @@ static const struct command commands[] = {
      "  --zone Z          at this zone's pointer, wherever that is\n"
      "  --from FILE       the data; without it standard input\n"
      "  --pad             fill the last sector up with zeros\n" STORES_HELP},
-    {"flush", flush_main, "make what is written last through a power cut", "FOLDER [options]", "Flushes the write cache of every drive.\n" STORES_HELP},
-    {"reset", reset_main, "empty a zone", "FOLDER --zone Z [options]", "Wipes a zone, so that it can be written from its beginning.\n  --zone Z          the zone\n" STORES_HELP},
+    {"flush", flush_main, "make what is written last through a power cut", "FOLDER [options]",
+     "Flushes the write cache of every drive.\n" STORES_HELP},
+    {"reset", reset_main, "empty a zone", "FOLDER --zone Z [options]",
+     "Wipes a zone, so that it can be written from its beginning.\n"
+     "  --zone Z          the zone\n" STORES_HELP},
     {"read", read_main, "read sectors", "FOLDER (--at ADDRESS --count N | --zone Z) [options]",
      "Reads to a file or to standard output. What a missing drive held is rebuilt from parity.\n"
      "  --at ADDRESS      the first sector's address\n"
      "  --count N         sectors to read\n"
      "  --zone Z          all of this zone, up to its pointer\n"
      "  --to FILE         where the data goes; without it standard output\n"},
-    {"peek", peek_main, "tell where a sector lies", "FOLDER --at ADDRESS", "Tells the drive, physical zone, sector and place in the drive's file, and the first bytes there.\n"
-                                                                             "  --at ADDRESS      the sector's address\n"},
+    {"peek", peek_main, "tell where a sector lies", "FOLDER --at ADDRESS",
+     "Tells the drive, physical zone, sector and place in the drive's file, and the first bytes there.\n"
+     "  --at ADDRESS      the sector's address\n"},
     {"cut", cut_main, "cut the power", "FOLDER [options]",
-     "What is durable stays; of the rest the write caches keep what is said here. After a cut the volume takes only looks and mounts until a mount is finished.\n"
+     "What is durable stays; of the rest the write caches keep what is said here. After a cut the volume takes only looks and mounts until a mount is\n"
+     "finished.\n"
      "  --keep none       nothing (the default)\n"
      "  --keep all        everything\n"
      "  --keep random     by chance, drive by drive and zone by zone, from --seed\n"
      "  --keep D:Z=N,..   the first N sectors of physical zone Z of drive D, a list; nothing of the others\n"
      "  --seed N          the seed for random\n"},
-    {"pull", pull_main, "take a drive out", "FOLDER --drive N", "Renames the drive's file to drive-N.pulled. The drive is given up: it is not used again, even if the file comes back.\n"
-                                                                "  --drive N         the drive\n"},
+    {"pull", pull_main, "take a drive out", "FOLDER --drive N",
+     "Renames the drive's file to drive-N.pulled. The drive is given up: it is not used again, even if the file comes back.\n"
+     "  --drive N         the drive\n"},
     {"look", look_main, "go through the checklist; nothing is stored", "FOLDER",
      "Prints line by line what was looked at, what that catches, and ok or what was found; then the zones. It ends with 0 where the volume shows its zones,\n"
      "whatever was found, and with 1 where it refuses to.\n"},
-    {"mount", mount_main, "bring the volume up after a power cut or the loss of a drive", "FOLDER [options]", "Completes what was cut short and shows the zones.\n" STORES_HELP},
+    {"mount", mount_main, "bring the volume up after a power cut or the loss of a drive", "FOLDER [options]",
+     "Completes what was cut short and shows the zones.\n" STORES_HELP},
 };
 
-static const char exit_codes[] = "Exit codes: 0 done; 1 the volume refused, the call was left unfinished, or it is not its turn; 2 bad usage; 3 a file could not be used.\n"
-                                 "Errors go to standard error, results to standard output.\n";
+static const char exit_codes[] = "Exit codes: 0 done; 1 the volume refused, the call was left unfinished, or it is not its turn; 2 bad usage;\n"
+                                 "3 a file could not be used, or memory ran out. Errors go to standard error, results to standard output.\n";
 
 static const struct command *find_command(const char *name) {
     for (size_t i = 0; i < COUNT(commands); i++)
@@ -70,11 +77,11 @@ static const struct command *find_command(const char *name) {
     return NULL;
 }
 
-static void print_help(FILE *to) {
-    fprintf(to, "zrv COMMAND FOLDER [options]: a volume of zones over three to eight zoned drives, kept as files in a folder\n\n");
+static void print_help(void) {
+    printf("zrv COMMAND FOLDER [options]: a volume of zones over three to eight zoned drives, kept as files in a folder\n\n");
     for (size_t i = 0; i < COUNT(commands); i++)
-        fprintf(to, "  %-8s %s\n", commands[i].name, commands[i].does);
-    fprintf(to, "  %-8s %s\n\n%s", "help", "this, or with a command's name its options", exit_codes);
+        printf("  %-8s %s\n", commands[i].name, commands[i].does);
+    printf("  %-8s %s\n\n%s", "help", "this, or with a command's name its options", exit_codes);
 }
 
 static void print_command_help(const struct command *command) {
@@ -93,7 +100,7 @@ static int help_main(int argc, char **argv) {
     if (command != NULL)
         print_command_help(command);
     else
-        print_help(stdout);
+        print_help();
     return EXIT_DONE;
 }
 
@@ -104,23 +111,30 @@ static bool asks_for_help(int argc, char **argv) {
     return false;
 }
 
-int main(int argc, char **argv) {
-    if (argc < 2) {
-        print_help(stderr);
-        return EXIT_USAGE;
-    }
-    if (strcmp(argv[1], "help") == 0 || strcmp(argv[1], "--help") == 0)
-        return help_main(argc - 1, argv + 1);
-    if (strcmp(argv[1], "--version") == 0) {
+static int run_command(int argc, char **argv) {
+    if (strcmp(argv[0], "help") == 0 || strcmp(argv[0], "--help") == 0)
+        return help_main(argc, argv);
+    if (strcmp(argv[0], "--version") == 0) {
         printf("zrv " VERSION "\n");
         return EXIT_DONE;
     }
-    const struct command *command = find_command(argv[1]);
+    const struct command *command = find_command(argv[0]);
     if (command == NULL)
-        return unknown_command(argv[1]);
-    if (asks_for_help(argc - 1, argv + 1)) {
-        print_command_help(command);
-        return EXIT_DONE;
+        return unknown_command(argv[0]);
+    if (!asks_for_help(argc, argv))
+        return command->run(argc, argv);
+    print_command_help(command);
+    return EXIT_DONE;
+}
+
+int main(int argc, char **argv) {
+    if (argc < 2) {
+        fprintf(stderr, "zrv: a command is wanted (see zrv help)\n");
+        return EXIT_USAGE;
     }
-    return command->run(argc - 1, argv + 1);
+    int code = run_command(argc - 1, argv + 1);
+    if (fflush(stdout) == 0)
+        return code;
+    perror("zrv: standard output");
+    return EXIT_FILES;
 }

@@ -86,7 +86,7 @@ void change_host(struct host *host, const struct command *command) {
         host->shortage = (struct shortage){number[0], number[1], number[2], number[3]};
         break;
     case 'c':
-        cut_at_random(&host->shelf, number[0]);
+        lose_power_at_random(&host->shelf, number[0]);
         break;
     case 'b':
         put_byte(host, number[0], (uint8_t)number[1]);

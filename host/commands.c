@@ -136,51 +136,60 @@ int look_main(int argc, char **argv) {
     return code;
 }
 
-/* Reads "DRIVE:ZONE=SECTORS,.." into a list, which is the caller's to free; its length, or 0 where the text has another form. */
-static size_t parse_kept(const char *text, struct kept_zone **list) {
-    size_t count = 0;
-    *list = calloc(strlen(text) + 1, sizeof **list);
-    if (*list == NULL)
-        return 0;
-    for (const char *at = text;; at++) {
-        uint64_t drive, zone, sectors;
-        const char *next;
-        if ((at = parse_number(at, ':', UINT32_MAX, &drive)) == NULL || (at = parse_number(at + 1, '=', UINT32_MAX, &zone)) == NULL)
-            return 0;
-        bool last = (next = parse_number(at + 1, ',', UINT32_MAX, &sectors)) == NULL;
-        if (last && (next = parse_number(at + 1, '\0', UINT32_MAX, &sectors)) == NULL)
-            return 0;
-        (*list)[count++] = (struct kept_zone){(uint32_t)drive, (uint32_t)zone, (uint32_t)sectors};
-        if (last)
-            return count;
-        at = next;
-    }
+/* Reads "DRIVE:ZONE=SECTORS" up to a comma or the end; where that is, or NULL where the text has another form. */
+static const char *parse_kept_zone(const char *text, struct kept_zone *kept) {
+    uint64_t drive, zone, sectors;
+    const char *at = parse_number(text, ':', UINT32_MAX, &drive);
+    if (at != NULL)
+        at = parse_number(at + 1, '=', UINT32_MAX, &zone);
+    if (at == NULL)
+        return NULL;
+    const char *end = parse_number(at + 1, ',', UINT32_MAX, &sectors);
+    if (end == NULL)
+        end = parse_number(at + 1, '\0', UINT32_MAX, &sectors);
+    if (end != NULL)
+        *kept = (struct kept_zone){(uint32_t)drive, (uint32_t)zone, (uint32_t)sectors};
+    return end;
 }
 
-static bool parse_cut(const struct option *keep, const struct option *seed, struct power_cut *cut, struct kept_zone **list, struct message *message) {
+/* Reads a list of them, which is the caller's to free; its length, or 0 where the text has another form. */
+static size_t parse_kept_zones(const char *text, struct kept_zone **list) {
+    *list = calloc(strlen(text) + 1, sizeof **list);
+    for (size_t count = 0; *list != NULL; count++) {
+        const char *end = parse_kept_zone(text, &(*list)[count]);
+        if (end == NULL)
+            return 0;
+        if (*end == '\0')
+            return count + 1;
+        text = end + 1;
+    }
+    return 0;
+}
+
+static bool parse_power_loss(const struct option *keep, const struct option *seed, struct power_loss *loss, struct kept_zone **list, struct message *message) {
     static const char *const words[] = {[KEEP_NONE] = "none", [KEEP_ALL] = "all", [KEEP_RANDOM] = "random"};
-    *cut = (struct power_cut){.keeps = KEEP_NONE, .seed = seed->number};
+    *loss = (struct power_loss){.keeps = KEEP_NONE, .seed = seed->number};
     bool is_word = !keep->given;
     for (size_t i = 0; keep->given && i < COUNT(words); i++)
         if (strcmp(keep->text, words[i]) == 0) {
-            cut->keeps = (enum cache_keeps)i;
+            loss->keeps = (enum cache_keeps)i;
             is_word = true;
         }
-    if (!is_word && (cut->given_count = parse_kept(keep->text, list)) == 0)
+    if (!is_word && (loss->given_count = parse_kept_zones(keep->text, list)) == 0)
         return fail(message, "--keep: \"%s\" is not none, all, random or DRIVE:ZONE=SECTORS,..", keep->text);
-    cut->given = *list;
-    if (seed->given != (cut->keeps == KEEP_RANDOM))
+    loss->given = *list;
+    if (seed->given != (loss->keeps == KEEP_RANDOM))
         return fail(message, "--seed goes with --keep random, and only with it");
     return true;
 }
 
-static int cut_and_save(struct driver *driver, const struct power_cut *cut) {
+static int lose_power_and_save(struct driver *driver, const struct power_loss *loss) {
     struct message message;
     if (strange_drive(driver, &message) != ZRV_FINISHED)
         return file_error(&message);
     const struct shelf *shelf = &driver->drives.shelf;
     uint64_t durable = table_sum(shelf->durable), cached = table_sum(shelf->written) - durable;
-    if (!cut_power(driver, cut, &message))
+    if (!lose_power(driver, loss, &message))
         return usage_error("cut", "%s", message.text);
     if (!save_drives(&driver->drives, false, &message))
         return file_error(&message);
@@ -192,12 +201,12 @@ static int cut_and_save(struct driver *driver, const struct power_cut *cut) {
 int cut_main(int argc, char **argv) {
     struct option option[] = {{.name = "keep", .kind = OPTION_TEXT}, {.name = "seed", .kind = OPTION_NUMBER, .most = UINT64_MAX}};
     struct kept_zone *list = NULL;
-    struct power_cut cut;
+    struct power_loss loss;
     struct driver driver;
     struct message message;
     int code = begin_command(argc, argv, option, COUNT(option), &driver);
     if (code == EXIT_DONE)
-        code = parse_cut(&option[0], &option[1], &cut, &list, &message) ? cut_and_save(&driver, &cut) : usage_error(argv[0], "%s", message.text);
+        code = parse_power_loss(&option[0], &option[1], &loss, &list, &message) ? lose_power_and_save(&driver, &loss) : usage_error(argv[0], "%s", message.text);
     free(list);
     close_drives(&driver.drives);
     return code;
@@ -214,7 +223,7 @@ int pull_main(int argc, char **argv) {
     int code = EXIT_DONE;
     if (!open_folder(&drives, folder, &message)) {
         code = file_error(&message);
-    } else if (cut_is_due(&drives.record, &message)) {
+    } else if (power_loss_is_due(&drives.record, &message)) {
         fprintf(stderr, "zrv: %s\n", message.text);
         code = EXIT_REFUSED;
     } else if (!pull_drive(&drives, (uint32_t)option[0].number, &message)) {

@@ -21,15 +21,15 @@ uint32_t strange_drive(const struct driver *driver, struct message *message) {
     return ZRV_FINISHED;
 }
 
-bool cut_is_due(const struct host_record *record, struct message *message) {
+bool power_loss_is_due(const struct host_record *record, struct message *message) {
     fail(message, "not now: the last call was left unfinished; a power cut comes next (zrv cut)");
-    return record->phase == PHASE_CUT_DUE;
+    return record->phase == PHASE_POWER_LOSS_DUE;
 }
 
 /* Whether a duty stands against a call. */
 static uint32_t may_call(const struct driver *driver, enum call_kind kind, struct message *message) {
     const struct host_record *record = &driver->drives.record;
-    if (cut_is_due(record, message))
+    if (power_loss_is_due(record, message))
         return ANSWER_NOT_NOW;
     if (record->phase == PHASE_MOUNT_DUE && kind != CALL_LOOK && kind != CALL_MOUNT) {
         fail(message, "not now: power was cut; a finished mount comes first (zrv mount)");
@@ -54,7 +54,7 @@ static void take_finished(struct driver *driver) {
 }
 
 static void take_unfinished(struct driver *driver) {
-    driver->drives.record.phase = PHASE_CUT_DUE;
+    driver->drives.record.phase = PHASE_POWER_LOSS_DUE;
     give_up_absent(driver);
 }
 
@@ -90,18 +90,18 @@ static bool can_keep(const struct driver *driver, const struct kept_zone *kept, 
     return true;
 }
 
-bool cut_power(struct driver *driver, const struct power_cut *cut, struct message *message) {
+bool lose_power(struct driver *driver, const struct power_loss *loss, struct message *message) {
     struct shelf *shelf = &driver->drives.shelf;
-    for (size_t i = 0; i < cut->given_count; i++)
-        if (!can_keep(driver, &cut->given[i], message))
+    for (size_t i = 0; i < loss->given_count; i++)
+        if (!can_keep(driver, &loss->given[i], message))
             return false;
-    if (cut->keeps == KEEP_RANDOM)
-        cut_at_random(shelf, cut->seed);
+    if (loss->keeps == KEEP_RANDOM)
+        lose_power_at_random(shelf, loss->seed);
     else
         for (size_t at = 0; at < shelf_cells(shelf->geometry); at++)
-            cut_cell(shelf, at, get32((cut->keeps == KEEP_ALL ? shelf->written.bytes : shelf->durable.bytes) + 4 * at));
-    for (size_t i = 0; i < cut->given_count; i++)
-        cut_cell(shelf, cell(shelf->geometry, cut->given[i].drive, cut->given[i].zone), cut->given[i].sectors);
+            keep_sectors(shelf, at, get32((loss->keeps == KEEP_ALL ? shelf->written.bytes : shelf->durable.bytes) + 4 * at));
+    for (size_t i = 0; i < loss->given_count; i++)
+        keep_sectors(shelf, cell(shelf->geometry, loss->given[i].drive, loss->given[i].zone), loss->given[i].sectors);
     driver->drives.record.phase = PHASE_MOUNT_DUE;
     return true;
 }

@@ -30,7 +30,7 @@ struct kept_zone {
 /* What the write caches keep of a power cut: nothing, everything, as much as a seed says; and beside that the zones given. */
 enum cache_keeps { KEEP_NONE, KEEP_ALL, KEEP_RANDOM };
 
-struct power_cut {
+struct power_loss {
     enum cache_keeps keeps;
     uint64_t seed;
     const struct kept_zone *given;
@@ -38,10 +38,10 @@ struct power_cut {
 };
 
 /* False, with a message and nothing changed, where a given zone cannot keep what is given. */
-bool cut_power(struct driver *driver, const struct power_cut *cut, struct message *message);
+bool lose_power(struct driver *driver, const struct power_loss *loss, struct message *message);
 
 /* Whether an unfinished call was the last, with a message. */
-bool cut_is_due(const struct host_record *record, struct message *message);
+bool power_loss_is_due(const struct host_record *record, struct message *message);
 
 /* The driver's answer where a drive is strange, else ZRV_FINISHED. */
 uint32_t strange_drive(const struct driver *driver, struct message *message);

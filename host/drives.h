@@ -21,7 +21,7 @@
 #include "shelf.h"
 
 /* What may come next: any call; looks and mounts, after a power cut; a power cut, after an unfinished call. */
-enum phase { PHASE_READY = 0, PHASE_MOUNT_DUE = 1, PHASE_CUT_DUE = 2 };
+enum phase { PHASE_READY = 0, PHASE_MOUNT_DUE = 1, PHASE_POWER_LOSS_DUE = 2 };
 
 struct host_record {
     struct geometry geometry;

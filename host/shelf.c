@@ -48,12 +48,12 @@ void free_shelf(struct shelf *shelf) {
     free(shelf->durable.bytes);
 }
 
-void cut_cell(struct shelf *shelf, size_t cell, uint32_t kept) {
+void keep_sectors(struct shelf *shelf, size_t cell, uint32_t kept) {
     put32(shelf->written.bytes + cell * sizeof(uint32_t), kept);
     put32(shelf->durable.bytes + cell * sizeof(uint32_t), kept);
 }
 
-void cut_at_random(struct shelf *shelf, uint64_t seed) {
+void lose_power_at_random(struct shelf *shelf, uint64_t seed) {
     uint32_t draw = (uint32_t)(seed % 2147483648);
     for (size_t cell = 0; cell < shelf_cells(shelf->geometry); cell++) {
         uint32_t written = get32(shelf->written.bytes + cell * sizeof(uint32_t));
@@ -61,7 +61,7 @@ void cut_at_random(struct shelf *shelf, uint64_t seed) {
         draw = next_draw(draw);
         if (kept < written)
             kept += (uint32_t)(draw / 65536 % ((uint64_t)(written - kept) + 1));
-        cut_cell(shelf, cell, kept);
+        keep_sectors(shelf, cell, kept);
     }
 }
 

@@ -16,11 +16,11 @@ struct shelf new_shelf(struct geometry geometry);
 struct shelf copy_shelf(const struct shelf *shelf); /* below the written pointers; zero past them */
 void free_shelf(struct shelf *shelf);
 
-/* A power cut: of what is not durable each zone keeps as much as the stream of the seed says. */
-void cut_at_random(struct shelf *shelf, uint64_t seed);
+/* The power is lost (document 01: a cut): of what is not durable each zone keeps as much as the stream of the seed says. */
+void lose_power_at_random(struct shelf *shelf, uint64_t seed);
 
-/* A power cut in one cell (a drive's physical zone): its first `kept` sectors stay, and are durable. */
-void cut_cell(struct shelf *shelf, size_t cell, uint32_t kept);
+/* The same in one cell, a drive's physical zone: its first `kept` sectors stay, and are durable. */
+void keep_sectors(struct shelf *shelf, size_t cell, uint32_t kept);
 
 size_t shelf_cells(struct geometry geometry); /* drives times physical zones */
 

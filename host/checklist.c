@@ -202,8 +202,8 @@ static const char *reason_for_length(const struct driver *driver, uint32_t zone)
 static void tell_left_out(void *listener, const struct difference *d) {
     struct line *line = listener;
     if (d->kind == DIFFERENT_BYTES)
-        found(line, "zone %u, address %llu: other bytes with drive %u left out; parity and data of its row do not match", d->zone, (unsigned long long)d->address,
-              d->drive);
+        found(line, "zone %u, address %llu: other bytes with drive %u left out; parity and data of its row do not match", d->zone,
+              (unsigned long long)d->address, d->drive);
     else if (d->kind == DIFFERENT_LENGTH)
         found(line, "zone %u: %u sector%s with drive %u left out, %u with all; %s", d->zone, d->without, plural(d->without), d->drive, d->with_all,
               reason_for_length(line->driver, d->zone));

@@ -18,6 +18,14 @@ static uint64_t array_by_time(void) {
     return (uint64_t)now.tv_sec * 1000000000 + (uint64_t)now.tv_nsec;
 }
 
+/* Whether a folder holds a shelf whose last call was left unfinished; the message says so. */
+static bool was_left_unfinished(const char *folder, struct message *message) {
+    struct drives drives;
+    bool due = open_folder(&drives, folder, message) && power_loss_is_due(&drives.record, message);
+    close_drives(&drives);
+    return due;
+}
+
 static int format_drives(struct driver *driver, const struct option *option) {
     struct call call = {.kind = CALL_FORMAT, .count = (uint32_t)option[FORMAT_STORES].number};
     struct drives *drives = &driver->drives;
@@ -58,6 +66,8 @@ int format_main(int argc, char **argv) {
     }
     if (option[WITHOUT].given && option[WITHOUT].number >= geometry.drives)
         return usage_error(argv[0], "--without: there is no drive %u", (uint32_t)option[WITHOUT].number);
+    if (was_left_unfinished(folder, &message))
+        return not_now(&message);
     int code = new_drives(&driver.drives, folder, geometry, option[FORCE].given, &message) ? format_drives(&driver, option) : file_error(&message);
     close_drives(&driver.drives);
     return code;
@@ -205,8 +215,10 @@ int cut_main(int argc, char **argv) {
     struct driver driver;
     struct message message;
     int code = begin_command(argc, argv, option, COUNT(option), &driver);
+    if (code == EXIT_DONE && !parse_power_loss(&option[0], &option[1], &loss, &list, &message))
+        code = usage_error(argv[0], "%s", message.text);
     if (code == EXIT_DONE)
-        code = parse_power_loss(&option[0], &option[1], &loss, &list, &message) ? lose_power_and_save(&driver, &loss) : usage_error(argv[0], "%s", message.text);
+        code = lose_power_and_save(&driver, &loss);
     free(list);
     close_drives(&driver.drives);
     return code;
@@ -224,8 +236,7 @@ int pull_main(int argc, char **argv) {
     if (!open_folder(&drives, folder, &message)) {
         code = file_error(&message);
     } else if (power_loss_is_due(&drives.record, &message)) {
-        fprintf(stderr, "zrv: %s\n", message.text);
-        code = EXIT_REFUSED;
+        code = not_now(&message);
     } else if (!pull_drive(&drives, (uint32_t)option[0].number, &message)) {
         code = file_error(&message);
     } else {

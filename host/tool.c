@@ -22,6 +22,11 @@ int file_error(const struct message *message) {
     return EXIT_FILES;
 }
 
+int not_now(const struct message *message) {
+    fprintf(stderr, "zrv: %s\n", message->text);
+    return EXIT_REFUSED;
+}
+
 int begin_command(int argc, char **argv, struct option *options, size_t count, struct driver *driver) {
     struct message message;
     const char *folder;
@@ -37,9 +42,9 @@ int tell_answer(const struct driver *driver, const struct call *call, uint32_t a
         return EXIT_DONE;
     if (answer == ANSWER_STRANGE_DRIVE)
         return file_error(message);
-    if (answer == ANSWER_NOT_NOW) {
-        fprintf(stderr, "zrv: %s\n", message->text);
-    } else if (answer == ZRV_UNFINISHED) {
+    if (answer == ANSWER_NOT_NOW)
+        return not_now(message);
+    if (answer == ZRV_UNFINISHED) {
         fprintf(stderr, "zrv: unfinished: stopped after %u store%s with more to make; a power cut comes next (zrv cut)\n", call->count, plural(call->count));
     } else {
         fprintf(stderr, "zrv: refused: ");

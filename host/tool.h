@@ -17,6 +17,9 @@ int begin_command(int argc, char **argv, struct option *options, size_t count, s
 int usage_error(const char *command, const char *format, ...) __attribute__((format(printf, 2, 3)));
 int file_error(const struct message *message);
 
+/* Tells that a duty of the host stands against a command; the exit code. */
+int not_now(const struct message *message);
+
 /* Tells what came of a call if it did not finish; the exit code. */
 int tell_answer(const struct driver *driver, const struct call *call, uint32_t answer, const struct message *message);
 

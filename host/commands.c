@@ -200,7 +200,7 @@ static int lose_power_and_save(struct driver *driver, const struct power_loss *l
     const struct shelf *shelf = &driver->drives.shelf;
     uint64_t durable = table_sum(shelf->durable), cached = table_sum(shelf->written) - durable;
     if (!lose_power(driver, loss, &message))
-        return usage_error("cut", "%s", message.text);
+        return usage_error("cut", "--keep: %s", message.text);
     if (!save_drives(&driver->drives, false, &message))
         return file_error(&message);
     printf("power cut: the caches kept %llu of %llu sector%s; mount next\n", (unsigned long long)(table_sum(shelf->written) - durable),

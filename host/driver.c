@@ -24,7 +24,7 @@ uint32_t strange_drive(const struct driver *driver, struct message *message) {
 bool power_loss_is_due(const struct host_record *record, struct message *message) {
     if (record->phase != PHASE_POWER_LOSS_DUE)
         return false;
-    fail(message, "not now: the last call was left unfinished; a power cut comes next (zrv cut)");
+    fail(message, "not now: the last call was left unfinished; a power cut comes next");
     return true;
 }
 
@@ -34,7 +34,7 @@ static uint32_t may_call(const struct driver *driver, enum call_kind kind, struc
     if (power_loss_is_due(record, message))
         return ANSWER_NOT_NOW;
     if (record->phase == PHASE_MOUNT_DUE && kind != CALL_LOOK && kind != CALL_MOUNT) {
-        fail(message, "not now: power was cut; a finished mount comes first (zrv mount)");
+        fail(message, "not now: power was cut; a finished mount comes first");
         return ANSWER_NOT_NOW;
     }
     return kind == CALL_LOOK ? ZRV_FINISHED : strange_drive(driver, message);
@@ -84,11 +84,11 @@ static bool can_keep(const struct driver *driver, const struct kept_zone *kept, 
     const struct drives *drives = &driver->drives;
     struct geometry g = drives->record.geometry;
     if (kept->drive >= g.drives || (drives->present >> kept->drive & 1) == 0 || kept->zone >= physical_zones(g))
-        return fail(message, "--keep: there is no drive %u with a zone %u here", kept->drive, kept->zone);
+        return fail(message, "there is no drive %u with a zone %u here", kept->drive, kept->zone);
     size_t at = 4 * cell(g, kept->drive, kept->zone);
     uint32_t durable = get32(drives->shelf.durable.bytes + at), written = get32(drives->shelf.written.bytes + at);
     if (kept->sectors < durable || kept->sectors > written)
-        return fail(message, "--keep: zone %u of drive %u can keep %u to %u sectors, not %u", kept->zone, kept->drive, durable, written, kept->sectors);
+        return fail(message, "zone %u of drive %u can keep %u to %u sectors, not %u", kept->zone, kept->drive, durable, written, kept->sectors);
     return true;
 }
 

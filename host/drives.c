@@ -96,6 +96,7 @@ static bool write_record(const struct drives *drives, struct message *message) {
     memcpy(bytes + STATE_AT, record->state, ZRV_STATE_BYTES);
     put64(bytes + CHECKSUM, checksum(CHECKSUM_START, bytes, CHECKSUM));
     struct file_place place = place_of(drives, "state.new");
+    fsync(drives->directory); /* the names of the drives' new files last before the record that makes them count */
     FILE *file = create_file(&place);
     if (file == NULL)
         return fail_by_errno(message, &place);
@@ -183,7 +184,7 @@ bool new_drives(struct drives *drives, const char *folder, struct geometry geome
     if (!lock_folder(drives, folder, message))
         return false;
     if (!replace && faccessat(drives->directory, RECORD_NAME, F_OK, 0) == 0)
-        return fail(message, "%s/%s: there is a shelf in this folder; --force formats it anew", folder, RECORD_NAME);
+        return fail(message, "%s/%s: there is a shelf in this folder, which is replaced only by force", folder, RECORD_NAME);
     drives->record.geometry = geometry;
     drives->present = (1u << geometry.drives) - 1;
     new_memory(drives);

@@ -19,21 +19,6 @@ static void renew(struct host *host, struct geometry geometry) {
     host->shelf = new_shelf(geometry);
 }
 
-/* Of what is not durable each zone keeps as much as the stream says. */
-static void cut_power(struct host *host, uint64_t seed) {
-    uint32_t draw = (uint32_t)(seed % 2147483648);
-    for (size_t at = 0; at < host->shelf.written.length; at += sizeof(uint32_t)) {
-        uint32_t written = get32(host->shelf.written.bytes + at);
-        uint32_t durable = get32(host->shelf.durable.bytes + at);
-        draw = next_draw(draw);
-        uint32_t kept = durable;
-        if (durable < written)
-            kept += (uint32_t)(draw / 65536 % ((uint64_t)(written - durable) + 1));
-        put32(host->shelf.written.bytes + at, kept);
-        put32(host->shelf.durable.bytes + at, kept);
-    }
-}
-
 static void put_pointers(struct host *host, uint64_t index, uint32_t written, uint32_t durable) {
     if (index >= shelf_cells(host->shelf.geometry))
         return;
@@ -101,7 +86,7 @@ void change_host(struct host *host, const struct command *command) {
         host->shortage = (struct shortage){number[0], number[1], number[2], number[3]};
         break;
     case 'c':
-        cut_power(host, number[0]);
+        lose_power_at_random(&host->shelf, number[0]);
         break;
     case 'b':
         put_byte(host, number[0], (uint8_t)number[1]);

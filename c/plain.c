@@ -62,7 +62,7 @@ struct sector_place {
 static bool row_held(const struct volume *v, const void *asked, uint64_t end) {
     const struct sector_place *lost = asked;
     struct geometry g = v->geometry;
-    uint64_t start = (uint64_t)lost->zone * addresses_of_zone(g) + (uint64_t)lost->stripe * stripe_sectors(g);
+    uint64_t start = (uint64_t)lost->zone * zone_addresses(g) + (uint64_t)lost->stripe * stripe_sectors(g);
     uint32_t parity = parity_drive(g, lost->zone, lost->stripe);
     for (uint32_t j = 0; j < g.drives - 1; j++) {
         bool below = start + j * g.unit + lost->row < end;
@@ -75,7 +75,7 @@ static bool row_held(const struct volume *v, const void *asked, uint64_t end) {
 /* The parity's bytes with the other data of the row below an end taken off. */
 static void take_off_row(const struct volume *v, const struct sector_place *lost, const uint8_t *parity_bytes, uint64_t end, uint8_t *out) {
     struct geometry g = v->geometry;
-    uint64_t start = (uint64_t)lost->zone * addresses_of_zone(g) + (uint64_t)lost->stripe * stripe_sectors(g);
+    uint64_t start = (uint64_t)lost->zone * zone_addresses(g) + (uint64_t)lost->stripe * stripe_sectors(g);
     uint32_t parity = parity_drive(g, lost->zone, lost->stripe);
     memcpy(out, parity_bytes, g.sector_bytes);
     for (uint32_t j = 0; j < g.drives - 1; j++)
@@ -87,7 +87,7 @@ static void take_off_row(const struct volume *v, const struct sector_place *lost
 static bool rebuild(const struct volume *v, const struct sector_place *lost, uint8_t *out) {
     struct geometry g = v->geometry;
     uint32_t parity = parity_drive(g, lost->zone, lost->stripe), at = lost->stripe * g.unit + lost->row;
-    uint64_t start = (uint64_t)lost->zone * addresses_of_zone(g) + (uint64_t)lost->stripe * stripe_sectors(g);
+    uint64_t start = (uint64_t)lost->zone * zone_addresses(g) + (uint64_t)lost->stripe * stripe_sectors(g);
     if (held(v, lost->absent, lost->zone, parity, at) && row_held(v, lost, UINT64_MAX)) {
         if (out != NULL)
             take_off_row(v, lost, sector_at(v, parity, ZRV_LOG_ZONES + lost->zone, at), UINT64_MAX, out);
@@ -138,7 +138,7 @@ uint32_t plain_read(const struct volume *v, uint32_t named, uint64_t address, ui
     uint32_t refusal = read_refusal(v, named, address, run, answer_bytes);
     if (refusal != 0)
         return refusal;
-    uint32_t whole = addresses_of_zone(v->geometry), zone = (uint32_t)(address / whole), offset = (uint32_t)(address % whole);
+    uint32_t whole = (uint32_t)zone_addresses(v->geometry), zone = (uint32_t)(address / whole), offset = (uint32_t)(address % whole);
     uint32_t absent = absent_drive(v->geometry, named, v->state.lost);
     if (!run_known(v, absent, zone, offset, run))
         return ZRV_GONE;
@@ -186,7 +186,7 @@ static bool append_rows(struct storing *storing, uint32_t drive, uint32_t physic
 static bool append_partial(struct storing *storing, uint32_t zone, uint32_t end, const uint8_t *rows) {
     struct geometry g = storing->v->geometry;
     uint32_t inside = end % stripe_sectors(g), drive = parity_drive(g, zone, end / stripe_sectors(g));
-    uint64_t start = (uint64_t)zone * addresses_of_zone(g) + end - inside;
+    uint64_t start = (uint64_t)zone * zone_addresses(g) + end - inside;
     uint8_t sector[MOST_SECTOR_BYTES];
     partial_header(sector, g, start, start + inside, storing->v->state.zone[zone].generation);
     return append(storing, drive, PARITY_LOG, sector) && append_rows(storing, drive, PARITY_LOG, rows, inside < g.unit ? inside : g.unit);
@@ -213,7 +213,7 @@ uint32_t plain_write(struct volume *v, uint32_t named, uint64_t address, uint32_
     if (refusal != 0)
         return refusal;
     struct geometry g = v->geometry;
-    uint32_t whole = addresses_of_zone(g), zone = (uint32_t)(address / whole), offset = (uint32_t)(address % whole), end = offset + run;
+    uint32_t whole = (uint32_t)zone_addresses(g), zone = (uint32_t)(address / whole), offset = (uint32_t)(address % whole), end = offset + run;
     struct storing storing = {v, absent_drive(g, named, v->state.lost), count};
     uint8_t rows[MOST_UNIT * MOST_SECTOR_BYTES];
     if (parity_drive(g, zone, offset / stripe_sectors(g)) != storing.absent && !earlier_rows(v, storing.absent, zone, offset, rows))

@@ -24,7 +24,7 @@ static bool state_fits(const struct volume *v) {
     if (v->state.lost != ZRV_NO_DRIVE && v->state.lost >= v->geometry.drives)
         return false;
     for (uint32_t z = 0; z < v->geometry.zones; z++)
-        if (v->state.zone[z].pointer > addresses_of_zone(v->geometry))
+        if (v->state.zone[z].pointer > zone_addresses(v->geometry))
             return false;
     return true;
 }
@@ -126,7 +126,7 @@ uint32_t write_refusal(const struct volume *v, uint32_t named, uint64_t address,
     uint32_t refusal = input_refusal(v, named, data_bytes == (uint64_t)run * v->geometry.sector_bytes);
     if (refusal != 0)
         return refusal;
-    uint32_t whole = addresses_of_zone(v->geometry);
+    uint32_t whole = (uint32_t)zone_addresses(v->geometry);
     refusal = zone_refusal(v, named, address / whole);
     if (refusal != 0)
         return refusal;
@@ -147,7 +147,7 @@ uint32_t read_refusal(const struct volume *v, uint32_t named, uint64_t address, 
     uint32_t refusal = input_refusal(v, named, answer_bytes == (uint64_t)run * v->geometry.sector_bytes);
     if (refusal != 0)
         return refusal;
-    uint32_t whole = addresses_of_zone(v->geometry);
+    uint32_t whole = (uint32_t)zone_addresses(v->geometry);
     refusal = zone_refusal(v, named, address / whole);
     if (refusal != 0)
         return refusal;
@@ -173,7 +173,7 @@ uint32_t peek_refusal(const struct volume *v, uint32_t named, uint64_t address) 
     if (refusal != 0)
         return refusal;
     struct geometry g = v->geometry;
-    uint32_t whole = addresses_of_zone(g);
+    uint32_t whole = (uint32_t)zone_addresses(g);
     refusal = zone_refusal(v, named, address / whole);
     if (refusal != 0)
         return refusal;

@@ -1,7 +1,6 @@
 /* Calls of a conformance script: its numbers and the shelf's byte ranges, less the shortage, handed to the C edge. */
 #include "script_host.h"
 
-#include <stdlib.h>
 #include <string.h>
 
 #include "damage.h"
@@ -21,15 +20,6 @@ static struct call call_of(const struct host *host, uint8_t *state) {
         .range[STATE] = {state, ZRV_STATE_BYTES},
     };
     return call;
-}
-
-static struct range new_buffer(size_t length) {
-    struct range buffer = {calloc(length + 1, 1), length};
-    if (buffer.bytes == NULL) {
-        fprintf(stderr, "no memory for %zu bytes\n", length);
-        exit(2);
-    }
-    return buffer;
 }
 
 /* The numbers of each call, in the order of the script language. */
@@ -56,10 +46,10 @@ static void take_numbers(struct call *call, const struct command *command) {
 
 static struct range buffer_for(const struct host *host, const struct command *command) {
     if (command->letter == CALL_PEEK)
-        return new_buffer(ZRV_PLACE_BYTES);
+        return new_range(ZRV_PLACE_BYTES);
     if (command->letter != CALL_WRITE && command->letter != CALL_READ)
-        return new_buffer(0);
-    struct range buffer = new_buffer((size_t)narrowed(command->number[2]) * host->geometry.sector_bytes);
+        return new_range(0);
+    struct range buffer = new_range((size_t)narrowed(command->number[2]) * host->geometry.sector_bytes);
     if (command->letter == CALL_WRITE)
         fill_from_stream(buffer.bytes, buffer.length, command->number[3]);
     return shortened(buffer, host->shortage.buffer);

@@ -27,3 +27,12 @@ uint32_t make_call(const struct call *call) {
     }
     return ZRV_UNFINISHED;
 }
+
+/* A format with byte ranges of no length is refused in any case: for its geometry first, and for the lengths only if that is taken. */
+bool geometry_is_taken(struct geometry geometry) {
+    uint8_t nothing[1] = {0};
+    struct call call = {.kind = CALL_FORMAT, .geometry = geometry};
+    for (int i = 0; i < RANGES; i++)
+        call.range[i].bytes = nothing;
+    return make_call(&call) != ZRV_GEOMETRY;
+}

@@ -3,6 +3,8 @@
 #ifndef CALL_H
 #define CALL_H
 
+#include <stdbool.h>
+
 #include "zrv.h"
 
 /* Where a zone record's fields are. */
@@ -44,6 +46,9 @@ struct call {
 };
 
 uint32_t make_call(const struct call *call);
+
+/* Whether a geometry is inside document 01's bounds, asked of the volume itself. */
+bool geometry_is_taken(struct geometry geometry);
 
 /* The record of a zone in a state. */
 static inline uint8_t *zone_record(uint8_t *state, uint32_t zone) {

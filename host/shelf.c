@@ -3,20 +3,17 @@
 
 #include <stdio.h>
 #include <stdlib.h>
+#include <string.h>
 
-size_t shelf_cells(struct geometry geometry) {
-    return (size_t)geometry.drives * ((size_t)geometry.zones + ZRV_LOG_ZONES);
-}
+#include "bytes.h"
 
-uint64_t zone_addresses(struct geometry geometry) {
-    return (uint64_t)(geometry.drives - 1) * geometry.zone_sectors;
-}
+size_t shelf_cells(struct geometry geometry) { return geometry.drives * physical_zones(geometry); }
 
-static struct range new_range(size_t length) {
+struct range new_range(size_t length) {
     struct range range = {calloc(length + 1, 1), length};
     if (range.bytes == NULL) {
         fprintf(stderr, "no memory for %zu bytes\n", length);
-        exit(2);
+        exit(3);
     }
     return range;
 }
@@ -32,10 +29,47 @@ struct shelf new_shelf(struct geometry geometry) {
     return shelf;
 }
 
+struct shelf copy_shelf(const struct shelf *shelf) {
+    struct geometry g = shelf->geometry;
+    struct shelf copy = new_shelf(g);
+    memcpy(copy.written.bytes, shelf->written.bytes, shelf->written.length);
+    memcpy(copy.durable.bytes, shelf->durable.bytes, shelf->durable.length);
+    for (size_t cell = 0; cell < shelf_cells(g); cell++) {
+        uint32_t written = get32(shelf->written.bytes + cell * sizeof(uint32_t));
+        size_t at = cell * g.zone_sectors * g.sector_bytes, sectors = written < g.zone_sectors ? written : g.zone_sectors;
+        memcpy(copy.sectors.bytes + at, shelf->sectors.bytes + at, sectors * g.sector_bytes);
+    }
+    return copy;
+}
+
 void free_shelf(struct shelf *shelf) {
     free(shelf->sectors.bytes);
     free(shelf->written.bytes);
     free(shelf->durable.bytes);
+}
+
+void keep_sectors(struct shelf *shelf, size_t cell, uint32_t kept) {
+    put32(shelf->written.bytes + cell * sizeof(uint32_t), kept);
+    put32(shelf->durable.bytes + cell * sizeof(uint32_t), kept);
+}
+
+void lose_power_at_random(struct shelf *shelf, uint64_t seed) {
+    uint32_t draw = (uint32_t)(seed % 2147483648);
+    for (size_t cell = 0; cell < shelf_cells(shelf->geometry); cell++) {
+        uint32_t written = get32(shelf->written.bytes + cell * sizeof(uint32_t));
+        uint32_t kept = get32(shelf->durable.bytes + cell * sizeof(uint32_t));
+        draw = next_draw(draw);
+        if (kept < written)
+            kept += (uint32_t)(draw / 65536 % ((uint64_t)(written - kept) + 1));
+        keep_sectors(shelf, cell, kept);
+    }
+}
+
+uint64_t table_sum(struct range table) {
+    uint64_t sum = 0;
+    for (size_t at = 0; at < table.length; at += sizeof(uint32_t))
+        sum += get32(table.bytes + at);
+    return sum;
 }
 
 uint32_t next_draw(uint32_t draw) {

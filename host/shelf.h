@@ -3,19 +3,29 @@
 #ifndef SHELF_H
 #define SHELF_H
 
-#include "call.h"
+#include "placement.h"
 
 struct shelf {
     struct geometry geometry;
     struct range sectors, written, durable;
 };
 
-/* All zero. Leaves the program where there is no memory. */
+/* All zero. Each leaves the program where there is no memory. */
+struct range new_range(size_t length);
 struct shelf new_shelf(struct geometry geometry);
+struct shelf copy_shelf(const struct shelf *shelf); /* below the written pointers; zero past them */
 void free_shelf(struct shelf *shelf);
 
-size_t shelf_cells(struct geometry geometry);      /* drives times physical zones */
-uint64_t zone_addresses(struct geometry geometry); /* sectors of a logical zone */
+/* The power is lost (document 01: a cut): of what is not durable each zone keeps as much as the stream of the seed says. */
+void lose_power_at_random(struct shelf *shelf, uint64_t seed);
+
+/* The same in one cell, a drive's physical zone: its first `kept` sectors stay, and are durable. */
+void keep_sectors(struct shelf *shelf, size_t cell, uint32_t kept);
+
+size_t shelf_cells(struct geometry geometry); /* drives times physical zones */
+
+/* The sum of a table's numbers. */
+uint64_t table_sum(struct range table);
 
 uint32_t next_draw(uint32_t draw);
 void fill_from_stream(uint8_t *bytes, size_t length, uint64_t seed);

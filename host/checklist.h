@@ -1,0 +1,10 @@
+/* The field engineer's checklist over a shelf, printed line by line: what each line looks at, what that catches, and "ok" or what was found. */
+#ifndef CHECKLIST_H
+#define CHECKLIST_H
+
+#include "driver.h"
+
+/* The answer is that of the look; what it shows is in driver->shown if it finished. */
+void print_checklist(const struct driver *driver, uint32_t answer);
+
+#endif

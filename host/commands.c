@@ -1,0 +1,247 @@
+/* The commands that carry no data: format, flush, reset, mount, look, cut and pull. */
+#include "commands.h"
+
+#include <stdio.h>
+#include <stdlib.h>
+#include <string.h>
+#include <time.h>
+
+#include "checklist.h"
+#include "tool.h"
+
+enum { DRIVES, SECTOR_BYTES, UNIT, ZONES, ZONE_SECTORS, ARRAY, WITHOUT, FORMAT_STORES, FORCE };
+
+/* An array number for a format that is given none: the time tells shelves apart. */
+static uint64_t array_by_time(void) {
+    struct timespec now;
+    timespec_get(&now, TIME_UTC);
+    return (uint64_t)now.tv_sec * 1000000000 + (uint64_t)now.tv_nsec;
+}
+
+/* Whether a folder holds a shelf whose last call was left unfinished; the message says so. */
+static bool was_left_unfinished(const char *folder, struct message *message) {
+    struct drives drives;
+    bool due = open_folder(&drives, folder, message) && power_loss_is_due(&drives.record, message);
+    close_drives(&drives);
+    return due;
+}
+
+static int format_drives(struct driver *driver, const struct option *option) {
+    struct call call = {.kind = CALL_FORMAT, .count = (uint32_t)option[FORMAT_STORES].number};
+    struct drives *drives = &driver->drives;
+    drives->record.array = call.array = option[ARRAY].given ? option[ARRAY].number : array_by_time();
+    if (option[WITHOUT].given)
+        drives->present &= ~(1u << option[WITHOUT].number);
+    int code = store_and_save(driver, &call);
+    struct geometry g = drives->record.geometry;
+    if (code == EXIT_DONE)
+        printf("formatted as array %llu: %u drives, %u zones of %llu sectors of %u bytes\n", (unsigned long long)call.array, g.drives, g.zones,
+               (unsigned long long)zone_addresses(g), g.sector_bytes);
+    return code;
+}
+
+int format_main(int argc, char **argv) {
+    struct option option[] = {
+        [DRIVES] = {.name = "drives", .kind = OPTION_NUMBER, .most = UINT32_MAX, .number = 4},
+        [SECTOR_BYTES] = {.name = "sector-bytes", .kind = OPTION_NUMBER, .most = UINT32_MAX, .number = 4096},
+        [UNIT] = {.name = "unit", .kind = OPTION_NUMBER, .most = UINT32_MAX, .number = 4},
+        [ZONES] = {.name = "zones", .kind = OPTION_NUMBER, .most = UINT32_MAX, .number = 4},
+        [ZONE_SECTORS] = {.name = "zone-sectors", .kind = OPTION_NUMBER, .most = UINT32_MAX, .number = 256},
+        [ARRAY] = {.name = "array", .kind = OPTION_NUMBER, .most = UINT64_MAX},
+        [WITHOUT] = {.name = "without", .kind = OPTION_NUMBER, .most = MOST_DRIVES - 1},
+        [FORMAT_STORES] = STORES_OPTION,
+        [FORCE] = {.name = "force", .kind = OPTION_FLAG},
+    };
+    struct message message;
+    struct driver driver;
+    const char *folder;
+    if (!parse_options(argc, argv, option, COUNT(option), &folder, &message))
+        return usage_error(argv[0], "%s", message.text);
+    struct geometry geometry = {(uint32_t)option[DRIVES].number, (uint32_t)option[SECTOR_BYTES].number, (uint32_t)option[UNIT].number,
+                                (uint32_t)option[ZONES].number, (uint32_t)option[ZONE_SECTORS].number};
+    if (!geometry_is_taken(geometry)) {
+        struct call call = {.kind = CALL_FORMAT};
+        driver = (struct driver){.drives.record.geometry = geometry};
+        return tell_answer(&driver, &call, ZRV_GEOMETRY, &message);
+    }
+    if (option[WITHOUT].given && option[WITHOUT].number >= geometry.drives)
+        return usage_error(argv[0], "--without: there is no drive %u", (uint32_t)option[WITHOUT].number);
+    if (was_left_unfinished(folder, &message))
+        return not_now(&message);
+    int code = new_drives(&driver.drives, folder, geometry, option[FORCE].given, &message) ? format_drives(&driver, option) : file_error(&message);
+    close_drives(&driver.drives);
+    return code;
+}
+
+static uint32_t drives_named(const struct driver *driver) {
+    uint32_t named = 0;
+    for (uint32_t d = 0; d < MOST_DRIVES; d++)
+        named += driver->drives.present >> d & 1;
+    return named;
+}
+
+int flush_main(int argc, char **argv) {
+    struct option option[] = {STORES_OPTION};
+    struct driver driver;
+    int code = begin_command(argc, argv, option, COUNT(option), &driver);
+    if (code == EXIT_DONE) {
+        struct call call = {.kind = CALL_FLUSH, .count = (uint32_t)option[0].number};
+        code = store_and_save(&driver, &call);
+        if (code == EXIT_DONE)
+            printf("flushed %u drives\n", drives_named(&driver));
+    }
+    close_drives(&driver.drives);
+    return code;
+}
+
+int reset_main(int argc, char **argv) {
+    struct option option[] = {STORES_OPTION, {.name = "zone", .kind = OPTION_NUMBER, .needed = true, .most = UINT32_MAX}};
+    struct driver driver;
+    int code = begin_command(argc, argv, option, COUNT(option), &driver);
+    if (code == EXIT_DONE) {
+        struct call call = {.kind = CALL_RESET, .zone = (uint32_t)option[1].number, .count = (uint32_t)option[0].number};
+        code = store_and_save(&driver, &call);
+        if (code == EXIT_DONE) {
+            print_zone(driver.drives.record.geometry, driver.shown, call.zone);
+            putchar('\n');
+        }
+    }
+    close_drives(&driver.drives);
+    return code;
+}
+
+int mount_main(int argc, char **argv) {
+    struct option option[] = {STORES_OPTION};
+    struct driver driver;
+    int code = begin_command(argc, argv, option, COUNT(option), &driver);
+    if (code == EXIT_DONE) {
+        struct call call = {.kind = CALL_MOUNT, .count = (uint32_t)option[0].number};
+        code = store_and_save(&driver, &call);
+        if (code == EXIT_DONE) {
+            printf("mounted %u of %u drives\n", drives_named(&driver), driver.drives.record.geometry.drives);
+            print_zones(driver.drives.record.geometry, driver.shown);
+        }
+    }
+    close_drives(&driver.drives);
+    return code;
+}
+
+int look_main(int argc, char **argv) {
+    struct driver driver;
+    struct message message;
+    int code = begin_command(argc, argv, NULL, 0, &driver);
+    if (code == EXIT_DONE) {
+        struct call call = {.kind = CALL_LOOK};
+        uint32_t answer = driver_call(&driver, call, &message);
+        if (answer != ANSWER_NOT_NOW)
+            print_checklist(&driver, answer);
+        if (answer == ZRV_FINISHED)
+            print_zones(driver.drives.record.geometry, driver.shown);
+        if (driver.drives.record.phase == PHASE_MOUNT_DUE)
+            printf("power was cut: a mount comes next\n");
+        fflush(stdout);
+        code = tell_answer(&driver, &call, answer, &message);
+    }
+    close_drives(&driver.drives);
+    return code;
+}
+
+/* Reads "DRIVE:ZONE=SECTORS" up to a comma or the end; where that is, or NULL where the text has another form. */
+static const char *parse_kept_zone(const char *text, struct kept_zone *kept) {
+    uint64_t drive, zone, sectors;
+    const char *at = parse_number(text, ':', UINT32_MAX, &drive);
+    if (at != NULL)
+        at = parse_number(at + 1, '=', UINT32_MAX, &zone);
+    if (at == NULL)
+        return NULL;
+    const char *end = parse_number(at + 1, ',', UINT32_MAX, &sectors);
+    if (end == NULL)
+        end = parse_number(at + 1, '\0', UINT32_MAX, &sectors);
+    if (end != NULL)
+        *kept = (struct kept_zone){(uint32_t)drive, (uint32_t)zone, (uint32_t)sectors};
+    return end;
+}
+
+/* Reads a list of them, which is the caller's to free; its length, or 0 where the text has another form. */
+static size_t parse_kept_zones(const char *text, struct kept_zone **list) {
+    *list = calloc(strlen(text) + 1, sizeof **list);
+    for (size_t count = 0; *list != NULL; count++) {
+        const char *end = parse_kept_zone(text, &(*list)[count]);
+        if (end == NULL)
+            return 0;
+        if (*end == '\0')
+            return count + 1;
+        text = end + 1;
+    }
+    return 0;
+}
+
+static bool parse_power_loss(const struct option *keep, const struct option *seed, struct power_loss *loss, struct kept_zone **list, struct message *message) {
+    static const char *const words[] = {[KEEP_NONE] = "none", [KEEP_ALL] = "all", [KEEP_RANDOM] = "random"};
+    *loss = (struct power_loss){.keeps = KEEP_NONE, .seed = seed->number};
+    bool is_word = !keep->given;
+    for (size_t i = 0; keep->given && i < COUNT(words); i++)
+        if (strcmp(keep->text, words[i]) == 0) {
+            loss->keeps = (enum cache_keeps)i;
+            is_word = true;
+        }
+    if (!is_word && (loss->given_count = parse_kept_zones(keep->text, list)) == 0)
+        return fail(message, "--keep: \"%s\" is not none, all, random or DRIVE:ZONE=SECTORS,..", keep->text);
+    loss->given = *list;
+    if (seed->given != (loss->keeps == KEEP_RANDOM))
+        return fail(message, "--seed goes with --keep random, and only with it");
+    return true;
+}
+
+static int lose_power_and_save(struct driver *driver, const struct power_loss *loss) {
+    struct message message;
+    if (strange_drive(driver, &message) != ZRV_FINISHED)
+        return file_error(&message);
+    const struct shelf *shelf = &driver->drives.shelf;
+    uint64_t durable = table_sum(shelf->durable), cached = table_sum(shelf->written) - durable;
+    if (!lose_power(driver, loss, &message))
+        return usage_error("cut", "--keep: %s", message.text);
+    if (!save_drives(&driver->drives, false, &message))
+        return file_error(&message);
+    printf("power cut: the caches kept %llu of %llu sector%s; mount next\n", (unsigned long long)(table_sum(shelf->written) - durable),
+           (unsigned long long)cached, plural(cached));
+    return EXIT_DONE;
+}
+
+int cut_main(int argc, char **argv) {
+    struct option option[] = {{.name = "keep", .kind = OPTION_TEXT}, {.name = "seed", .kind = OPTION_NUMBER, .most = UINT64_MAX}};
+    struct kept_zone *list = NULL;
+    struct power_loss loss;
+    struct driver driver;
+    struct message message;
+    int code = begin_command(argc, argv, option, COUNT(option), &driver);
+    if (code == EXIT_DONE && !parse_power_loss(&option[0], &option[1], &loss, &list, &message))
+        code = usage_error(argv[0], "%s", message.text);
+    if (code == EXIT_DONE)
+        code = lose_power_and_save(&driver, &loss);
+    free(list);
+    close_drives(&driver.drives);
+    return code;
+}
+
+/* Only the host's record is read: a drive that cannot be read can be pulled too. */
+int pull_main(int argc, char **argv) {
+    struct option option[] = {{.name = "drive", .kind = OPTION_NUMBER, .needed = true, .most = MOST_DRIVES - 1}};
+    struct drives drives;
+    struct message message;
+    const char *folder;
+    if (!parse_options(argc, argv, option, COUNT(option), &folder, &message))
+        return usage_error(argv[0], "%s", message.text);
+    int code = EXIT_DONE;
+    if (!open_folder(&drives, folder, &message)) {
+        code = file_error(&message);
+    } else if (power_loss_is_due(&drives.record, &message)) {
+        code = not_now(&message);
+    } else if (!pull_drive(&drives, (uint32_t)option[0].number, &message)) {
+        code = file_error(&message);
+    } else {
+        printf("drive %u is pulled: its file is now %s/drive-%u.pulled\n", (uint32_t)option[0].number, folder, (uint32_t)option[0].number);
+    }
+    close_drives(&drives);
+    return code;
+}

@@ -1,0 +1,121 @@
+/* The file of one drive: read with every check that the host can make, written sparse. */
+#define _POSIX_C_SOURCE 200809L
+#include "drive_file.h"
+
+#include <string.h>
+#include <unistd.h>
+
+#include "bytes.h"
+
+#define MAGIC "zrvdrive"
+
+enum { INDEX = HEAD_OWN, ARRAY = 40, SAVE = 48, CHECKSUM = 56, HEAD_BYTES = 64 };
+
+static size_t row_bytes(struct geometry g) { return physical_zones(g) * sizeof(uint32_t); }
+
+uint64_t drive_file_sectors(struct geometry g) { return HEAD_BYTES + 2 * row_bytes(g); }
+
+uint64_t drive_file_length(struct geometry g) { return drive_file_sectors(g) + (uint64_t)physical_zones(g) * g.zone_sectors * g.sector_bytes; }
+
+/* The bytes of a physical zone that are kept. A pointer past the zone's end is the volume's to refuse. */
+static size_t kept_bytes(const struct shelf *shelf, uint32_t drive, uint32_t zone) {
+    struct geometry g = shelf->geometry;
+    uint32_t written = get32(shelf->written.bytes + 4 * cell(g, drive, zone));
+    return (size_t)(written < g.zone_sectors ? written : g.zone_sectors) * g.sector_bytes;
+}
+
+/* Where a physical zone's sectors begin in the file. */
+static off_t zone_offset(struct geometry g, uint32_t zone) { return (off_t)(drive_file_sectors(g) + (uint64_t)zone * g.zone_sectors * g.sector_bytes); }
+
+static uint64_t head_checksum(const uint8_t *head, const struct shelf *shelf, uint32_t drive) {
+    size_t row = row_bytes(shelf->geometry);
+    uint64_t sum = checksum(CHECKSUM_START, head, CHECKSUM);
+    sum = checksum(sum, shelf->written.bytes + drive * row, row);
+    return checksum(sum, shelf->durable.bytes + drive * row, row);
+}
+
+bool read_drive_tag(const struct file_place *place, struct drive_tag *tag) {
+    uint64_t length;
+    uint8_t head[HEAD_BYTES];
+    struct message unused;
+    FILE *file = open_file(place, &length);
+    if (file == NULL)
+        return false;
+    bool good = fread(head, 1, HEAD_BYTES, file) == HEAD_BYTES && head_fits(head, MAGIC, place, &unused);
+    fclose(file);
+    if (good)
+        *tag = (struct drive_tag){get64(head + ARRAY), get64(head + SAVE)};
+    return good;
+}
+
+static bool same_geometry(struct geometry a, struct geometry b) {
+    return a.drives == b.drives && a.sector_bytes == b.sector_bytes && a.unit == b.unit && a.zones == b.zones && a.zone_sectors == b.zone_sectors;
+}
+
+static bool fits_shelf(const uint8_t *head, uint64_t length, const struct file_place *place, struct geometry g, uint32_t drive, struct message *message) {
+    struct geometry own = get_geometry(head);
+    if (!same_geometry(own, g))
+        return fail(message, "%s/%s: of a shelf with another geometry: %u drives, sectors of %u bytes, units of %u, %u zones, %u sectors a zone", place->folder,
+                    place->name, own.drives, own.sector_bytes, own.unit, own.zones, own.zone_sectors);
+    if (get32(head + INDEX) != drive)
+        return fail(message, "%s/%s: this is drive %u, not drive %u", place->folder, place->name, get32(head + INDEX), drive);
+    if (length != drive_file_length(g))
+        return fail(message, "%s/%s: %s: %llu bytes, a drive of this shelf has %llu", place->folder, place->name,
+                    length < drive_file_length(g) ? "short" : "long", (unsigned long long)length, (unsigned long long)drive_file_length(g));
+    return true;
+}
+
+static bool read_sectors(FILE *file, struct shelf *shelf, uint32_t drive, struct progress *progress) {
+    struct geometry g = shelf->geometry;
+    for (uint32_t zone = 0; zone < physical_zones(g); zone++) {
+        size_t kept = kept_bytes(shelf, drive, zone);
+        if (fseeko(file, zone_offset(g, zone), SEEK_SET) != 0 || fread(shelf->sectors.bytes + sector_offset(g, drive, zone, 0), 1, kept, file) != kept)
+            return false;
+        step_progress(progress, 1);
+    }
+    return true;
+}
+
+bool read_drive(FILE *file, uint64_t length, const struct file_place *place, struct shelf *shelf, uint32_t drive, struct drive_tag *tag,
+                struct progress *progress, struct message *message) {
+    uint8_t head[HEAD_BYTES];
+    size_t row = row_bytes(shelf->geometry);
+    if (fread(head, 1, HEAD_BYTES, file) != HEAD_BYTES)
+        return fail(message, "%s/%s: short: %llu bytes, not even a head", place->folder, place->name, (unsigned long long)length);
+    if (!head_fits(head, MAGIC, place, message) || !fits_shelf(head, length, place, shelf->geometry, drive, message))
+        return false;
+    if (fread(shelf->written.bytes + drive * row, 1, row, file) != row || fread(shelf->durable.bytes + drive * row, 1, row, file) != row)
+        return fail_by_errno(message, place);
+    if (head_checksum(head, shelf, drive) != get64(head + CHECKSUM))
+        return fail(message, "%s/%s: damaged: the checksum of its head and pointers does not match", place->folder, place->name);
+    *tag = (struct drive_tag){get64(head + ARRAY), get64(head + SAVE)};
+    return read_sectors(file, shelf, drive, progress) || fail_by_errno(message, place);
+}
+
+static bool write_sectors(FILE *file, const struct shelf *shelf, uint32_t drive, struct progress *progress) {
+    struct geometry g = shelf->geometry;
+    for (uint32_t zone = 0; zone < physical_zones(g); zone++) {
+        size_t kept = kept_bytes(shelf, drive, zone);
+        if (fseeko(file, zone_offset(g, zone), SEEK_SET) != 0 || fwrite(shelf->sectors.bytes + sector_offset(g, drive, zone, 0), 1, kept, file) != kept)
+            return false;
+        step_progress(progress, 1);
+    }
+    return fflush(file) == 0 && ftruncate(fileno(file), (off_t)drive_file_length(g)) == 0;
+}
+
+bool write_drive(const struct file_place *place, const struct shelf *shelf, uint32_t drive, struct drive_tag tag, struct progress *progress,
+                 struct message *message) {
+    uint8_t head[HEAD_BYTES] = {0};
+    size_t row = row_bytes(shelf->geometry);
+    put_head(head, MAGIC, shelf->geometry);
+    put32(head + INDEX, drive);
+    put64(head + ARRAY, tag.array);
+    put64(head + SAVE, tag.save);
+    put64(head + CHECKSUM, head_checksum(head, shelf, drive));
+    FILE *file = create_file(place);
+    if (file == NULL)
+        return fail_by_errno(message, place);
+    bool good = fwrite(head, 1, HEAD_BYTES, file) == HEAD_BYTES && fwrite(shelf->written.bytes + drive * row, 1, row, file) == row &&
+                fwrite(shelf->durable.bytes + drive * row, 1, row, file) == row && write_sectors(file, shelf, drive, progress);
+    return (finish_file(file) && good) || fail_by_errno(message, place);
+}

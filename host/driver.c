@@ -1,0 +1,109 @@
+/* The calls with the host's duties kept. */
+#include "driver.h"
+
+#include <string.h>
+
+#include "bytes.h"
+
+bool open_driver(struct driver *driver, const char *folder, struct message *message) {
+    return open_folder(&driver->drives, folder, message) && load_drives(&driver->drives, message);
+}
+
+bool is_storing(enum call_kind kind) { return kind != CALL_LOOK && kind != CALL_READ && kind != CALL_PEEK; }
+
+uint32_t strange_drive(const struct driver *driver, struct message *message) {
+    for (uint32_t d = 0; d < driver->drives.record.geometry.drives; d++)
+        if ((driver->drives.strange >> d & 1) != 0) {
+            fail(message, "%s/drive-%u.zrv: not as this shelf left it (another shelf's, or an older copy); put the right file back or pull drive %u",
+                 driver->drives.folder, d, d);
+            return ANSWER_STRANGE_DRIVE;
+        }
+    return ZRV_FINISHED;
+}
+
+bool power_loss_is_due(const struct host_record *record, struct message *message) {
+    if (record->phase != PHASE_POWER_LOSS_DUE)
+        return false;
+    fail(message, "not now: the last call was left unfinished; a power cut comes next");
+    return true;
+}
+
+/* Whether a duty stands against a call. */
+static uint32_t may_call(const struct driver *driver, enum call_kind kind, struct message *message) {
+    const struct host_record *record = &driver->drives.record;
+    if (power_loss_is_due(record, message))
+        return ANSWER_NOT_NOW;
+    if (record->phase == PHASE_MOUNT_DUE && kind != CALL_LOOK && kind != CALL_MOUNT) {
+        fail(message, "not now: power was cut; a finished mount comes first");
+        return ANSWER_NOT_NOW;
+    }
+    return kind == CALL_LOOK ? ZRV_FINISHED : strange_drive(driver, message);
+}
+
+static void give_up_absent(struct driver *driver) {
+    struct host_record *record = &driver->drives.record;
+    record->given_up |= ~driver->drives.present & ((1u << record->geometry.drives) - 1);
+    driver->drives.present &= ~record->given_up;
+}
+
+static void take_finished(struct driver *driver) {
+    struct host_record *record = &driver->drives.record;
+    memcpy(record->state, driver->shown, ZRV_STATE_BYTES);
+    record->phase = PHASE_READY;
+    if (record->state[0] != ZRV_NO_DRIVE)
+        driver->drives.present &= ~(1u << record->state[0]);
+    give_up_absent(driver);
+}
+
+static void take_unfinished(struct driver *driver) {
+    driver->drives.record.phase = PHASE_POWER_LOSS_DUE;
+    give_up_absent(driver);
+}
+
+uint32_t driver_call(struct driver *driver, struct call call, struct message *message) {
+    struct drives *drives = &driver->drives;
+    uint32_t answer = may_call(driver, call.kind, message);
+    if (answer != ZRV_FINISHED)
+        return answer;
+    memcpy(driver->shown, drives->record.state, ZRV_STATE_BYTES);
+    call.geometry = drives->record.geometry;
+    call.named = drives->present;
+    call.range[SECTORS] = drives->shelf.sectors;
+    call.range[WRITTEN] = drives->shelf.written;
+    call.range[DURABLE] = drives->shelf.durable;
+    call.range[STATE] = (struct range){driver->shown, ZRV_STATE_BYTES};
+    answer = make_call(&call);
+    if (is_storing(call.kind) && answer == ZRV_FINISHED)
+        take_finished(driver);
+    if (answer == ZRV_UNFINISHED)
+        take_unfinished(driver);
+    return answer;
+}
+
+static bool can_keep(const struct driver *driver, const struct kept_zone *kept, struct message *message) {
+    const struct drives *drives = &driver->drives;
+    struct geometry g = drives->record.geometry;
+    if (kept->drive >= g.drives || (drives->present >> kept->drive & 1) == 0 || kept->zone >= physical_zones(g))
+        return fail(message, "there is no drive %u with a zone %u here", kept->drive, kept->zone);
+    size_t at = 4 * cell(g, kept->drive, kept->zone);
+    uint32_t durable = get32(drives->shelf.durable.bytes + at), written = get32(drives->shelf.written.bytes + at);
+    if (kept->sectors < durable || kept->sectors > written)
+        return fail(message, "zone %u of drive %u can keep %u to %u sectors, not %u", kept->zone, kept->drive, durable, written, kept->sectors);
+    return true;
+}
+
+bool lose_power(struct driver *driver, const struct power_loss *loss, struct message *message) {
+    struct shelf *shelf = &driver->drives.shelf;
+    for (size_t i = 0; i < loss->given_count; i++)
+        if (!can_keep(driver, &loss->given[i], message))
+            return false;
+    if (loss->keeps == KEEP_RANDOM)
+        lose_power_at_random(shelf, loss->seed);
+    else
+        for (size_t at = 0; at < shelf_cells(shelf->geometry); at++)
+            keep_sectors(shelf, at, get32((loss->keeps == KEEP_ALL ? shelf->written.bytes : shelf->durable.bytes) + 4 * at));
+    for (size_t i = 0; i < loss->given_count; i++)
+        keep_sectors(shelf, cell(shelf->geometry, loss->given[i].drive, loss->given[i].zone), loss->given[i].sectors);
+    driver->drives.record.phase = PHASE_MOUNT_DUE;
+    return true;
+}

@@ -1,0 +1,49 @@
+/* The host's driver: the volume's calls over a shelf of drives, with the host's duties kept. Every call gets the format's geometry and the state that the last
+ * finished call left; every drive that is there and not given up is named, and a drive that a storing call went without is given up; after a power cut only
+ * looks and mounts are made until a mount is finished; after an unfinished call only a power cut. What a call stored lasts once save_drives has saved it. */
+#ifndef DRIVER_H
+#define DRIVER_H
+
+#include "drives.h"
+
+struct driver {
+    struct drives drives;
+    uint8_t shown[ZRV_STATE_BYTES]; /* what the last finished look or storing call shows */
+};
+
+/* Answers of the driver's own, beside the volume's: a duty stands against the call; a drive is not the one that this shelf was left with. */
+enum { ANSWER_NOT_NOW = 256, ANSWER_STRANGE_DRIVE = 257 };
+
+/* After either answer close_drives is due. */
+bool open_driver(struct driver *driver, const char *folder, struct message *message);
+
+/* Makes a call: the kind, its numbers and its buffer are the caller's, the rest is filled in. The message is for the driver's own answers. */
+uint32_t driver_call(struct driver *driver, struct call call, struct message *message);
+
+bool is_storing(enum call_kind kind);
+
+/* A drive's physical zone and the sectors that it keeps in a power cut. */
+struct kept_zone {
+    uint32_t drive, zone, sectors;
+};
+
+/* What the write caches keep of a power cut: nothing, everything, as much as a seed says; and beside that the zones given. */
+enum cache_keeps { KEEP_NONE, KEEP_ALL, KEEP_RANDOM };
+
+struct power_loss {
+    enum cache_keeps keeps;
+    uint64_t seed;
+    const struct kept_zone *given;
+    size_t given_count;
+};
+
+/* False, with a message and nothing changed, where a given zone cannot keep what is given. */
+bool lose_power(struct driver *driver, const struct power_loss *loss, struct message *message);
+
+/* Whether an unfinished call was the last, with a message. */
+bool power_loss_is_due(const struct host_record *record, struct message *message);
+
+/* The driver's answer where a drive is strange, else ZRV_FINISHED. */
+uint32_t strange_drive(const struct driver *driver, struct message *message);
+
+#endif

@@ -1,0 +1,41 @@
+/* Files of a folder that begin with a magic, a version and the geometry, and a checksum for them. */
+#ifndef FILES_H
+#define FILES_H
+
+#include <stdio.h>
+
+#include "call.h"
+#include "message.h"
+
+enum { MAGIC_BYTES = 8, HEAD_VERSION = 8, HEAD_GEOMETRY = 12, HEAD_OWN = 32 };
+
+/* A file by its folder and name; the folder's name is for messages. */
+struct file_place {
+    const char *folder, *name;
+    int directory;
+};
+
+void put_head(uint8_t *bytes, const char *magic, struct geometry geometry);
+struct geometry get_geometry(const uint8_t *bytes);
+
+/* Whether a file begins as one of its kind. */
+bool head_fits(const uint8_t *bytes, const char *magic, const struct file_place *place, struct message *message);
+
+/* FNV-1a of 64 bits, from CHECKSUM_START or from the checksum of what comes before. */
+#define CHECKSUM_START 14695981039346656037u
+uint64_t checksum(uint64_t before, const uint8_t *bytes, size_t length);
+
+/* Opens a file and tells its length. NULL, and errno says why, where it cannot be opened. */
+FILE *open_file(const struct file_place *place, uint64_t *length);
+FILE *create_file(const struct file_place *place);
+
+/* Brings what was written to the disk and closes the file. */
+bool finish_file(FILE *file);
+
+/* Gives a file another name; what has that name is replaced. */
+bool rename_file(const struct file_place *from, const char *to, struct message *message);
+
+/* "folder/name: what errno says". */
+bool fail_by_errno(struct message *message, const struct file_place *place);
+
+#endif

@@ -1,0 +1,102 @@
+/* Looks of copies, each without one drive. A copy is mounted before it is read, since that is how the volume would come up without the drive; where too
+ * little log is left for a mount it is read as it is. */
+#include "left_out.h"
+
+#include <stdlib.h>
+#include <string.h>
+
+#include "bytes.h"
+#include "progress.h"
+
+/* A copy of the shelf, what a look of it shows, and the state by which it is read. */
+struct view {
+    struct shelf shelf;
+    uint32_t named, answer;
+    uint8_t shown[ZRV_STATE_BYTES], state[ZRV_STATE_BYTES];
+};
+
+static struct call view_call(struct view *view, enum call_kind kind, uint8_t *state) {
+    struct call call = {
+        .kind = kind,
+        .geometry = view->shelf.geometry,
+        .named = view->named,
+        .count = ZRV_ALL_STORES,
+        .range = {[SECTORS] = view->shelf.sectors, [WRITTEN] = view->shelf.written, [DURABLE] = view->shelf.durable, [STATE] = {state, ZRV_STATE_BYTES}},
+    };
+    return call;
+}
+
+static struct view view_of(const struct driver *driver, uint32_t named) {
+    struct view view = {.shelf = copy_shelf(&driver->drives.shelf), .named = named};
+    struct call look = view_call(&view, CALL_LOOK, view.shown);
+    view.answer = make_call(&look);
+    memcpy(view.state, view.shown, ZRV_STATE_BYTES);
+    struct call mount = view_call(&view, CALL_MOUNT, view.state);
+    make_call(&mount);
+    return view;
+}
+
+static uint32_t shown_sectors(const struct view *view, uint32_t zone) {
+    return get32(view->shown + ZRV_STATE_HEAD_BYTES + (size_t)zone * ZRV_STATE_RECORD_BYTES + RECORD_POINTER);
+}
+
+/* Reads a zone's first sectors into a new buffer. */
+static uint32_t read_view(struct view *view, uint32_t zone, uint32_t run, struct range *buffer) {
+    struct call call = view_call(view, CALL_READ, view->state);
+    *buffer = new_range((size_t)run * view->shelf.geometry.sector_bytes);
+    call.address = zone * zone_addresses(view->shelf.geometry);
+    call.run = run;
+    call.range[BUFFER] = *buffer;
+    return run == 0 ? ZRV_FINISHED : make_call(&call);
+}
+
+/* The first sector in which two buffers of a run differ; the run if none does. */
+static uint32_t first_difference(struct range a, struct range b, uint32_t run, uint32_t sector_bytes) {
+    uint32_t sector = 0;
+    while (sector < run && memcmp(a.bytes + (size_t)sector * sector_bytes, b.bytes + (size_t)sector * sector_bytes, sector_bytes) == 0)
+        sector++;
+    return sector;
+}
+
+static void compare_zone(struct view *all, struct view *part, struct difference difference, tell_difference tell, void *listener) {
+    struct geometry g = all->shelf.geometry;
+    struct range a, b;
+    difference.with_all = shown_sectors(all, difference.zone);
+    difference.without = shown_sectors(part, difference.zone);
+    difference.kind = DIFFERENT_LENGTH;
+    if (difference.with_all != difference.without)
+        tell(listener, &difference);
+    uint32_t run = difference.with_all < difference.without ? difference.with_all : difference.without;
+    uint32_t answer_all = read_view(all, difference.zone, run, &a), answer_part = read_view(part, difference.zone, run, &b);
+    uint32_t sector = first_difference(a, b, run, g.sector_bytes);
+    difference.answer = answer_all != ZRV_FINISHED ? answer_all : answer_part;
+    difference.kind = difference.answer != ZRV_FINISHED ? NOT_COMPARED : DIFFERENT_BYTES;
+    difference.address = difference.zone * zone_addresses(g) + sector;
+    if (difference.answer != ZRV_FINISHED || sector < run)
+        tell(listener, &difference);
+    free(a.bytes);
+    free(b.bytes);
+}
+
+static void compare_drive(const struct driver *driver, struct view *all, uint32_t drive, tell_difference tell, void *listener) {
+    struct view part = view_of(driver, all->named & ~(1u << drive));
+    struct difference difference = {.kind = NOT_COMPARED, .drive = drive, .zone = ZRV_STATE_RECORDS, .answer = part.answer};
+    if (part.answer != ZRV_FINISHED)
+        tell(listener, &difference);
+    else
+        for (difference.zone = 0; difference.zone < all->shelf.geometry.zones; difference.zone++)
+            compare_zone(all, &part, difference, tell, listener);
+    free_shelf(&part.shelf);
+}
+
+void compare_left_out(const struct driver *driver, tell_difference tell, void *listener) {
+    uint32_t count = driver->drives.record.geometry.drives;
+    struct progress progress = start_progress("looking with each drive left out", count);
+    struct view all = view_of(driver, driver->drives.present);
+    for (uint32_t drive = 0; drive < count; drive++) {
+        compare_drive(driver, &all, drive, tell, listener);
+        step_progress(&progress, 1);
+    }
+    end_progress(&progress);
+    free_shelf(&all.shelf);
+}

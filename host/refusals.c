@@ -1,0 +1,77 @@
+/* The refusals' words. In a sentence {pointer} is the address at which the call's zone goes on, {end} the one past its end, {zones} and {addresses} how many
+ * the volume has, {stripe} the sectors of a stripe. */
+#include "refusals.h"
+
+#include <string.h>
+
+#include "bytes.h"
+#include "placement.h"
+
+static const struct {
+    const char *word, *sentence;
+} refusals[] = {
+    [ZRV_GEOMETRY] = {"geometry", "a number is out of bounds; take 3 to 8 drives, sectors of 64 bytes and so on by doubling to 4096, units of 1 to 16 sectors, "
+                                  "1 to 16 zones with 32 + 8 * zones at most the bytes of a sector, zone sectors a multiple of the unit, at most 65536 and "
+                                  "at least zones * (1 + unit) + 2 * unit + 1 and zones + 6"},
+    [ZRV_LENGTH] = {"length", "a table or a buffer has not its length; give whole sectors"},
+    [ZRV_POINTER] = {"pointer", "a drive's write pointers are out of order; pull that drive"},
+    [ZRV_TWO_LOST] = {"two lost", "more than one drive is lost; put back one that is missing and was not given up"},
+    [ZRV_LABEL] = {"label", "a drive's log does not begin with its label of this shelf; pull the drive that zrv look names"},
+    [ZRV_LOG] = {"log", "a drive's log has a sector that is no entry; pull the drive that zrv look names"},
+    [ZRV_STALE] = {"stale", "a drive's write pointer in this zone is not what the zone needs; mount the volume (zrv mount)"},
+    [ZRV_ADDRESS] = {"address", "there is no such zone or address; zones lie below {zones}, addresses below {addresses}"},
+    [ZRV_RUN] = {"run", "there are no sectors, or they pass the zone's end; stay below address {end}"},
+    [ZRV_ORDER] = {"order", "the write is not at the zone's pointer; write at address {pointer}"},
+    [ZRV_ZONE_SEALED] = {"sealed", "the zone takes no more; read it, then reset it or write to another zone"},
+    [ZRV_ZONE_WORN] = {"worn", "the zone's generations are used up; read it and write to another zone"},
+    [ZRV_UNWRITTEN] = {"unwritten", "nothing is written there yet; stay below address {pointer}"},
+    [ZRV_LOG_FULL] = {"log full", "too little of a log is unused; end writes at a stripe's end (every {stripe} sectors), copy the data out and format anew"},
+    [ZRV_GONE] = {"gone", "no drive that is here holds the sector; read it, which rebuilds it from parity"},
+};
+
+/* The sentence of refusal 10 where the zone has no room. */
+static const char *const order_when_full = "the zone is full; reset it or write to another zone";
+
+const char *refusal_word(uint32_t number) { return refusals[number].word; }
+
+struct number {
+    const char *name;
+    uint64_t value;
+};
+
+enum { NUMBERS = 5 };
+
+/* What the names in a sentence stand for. Where there is no such zone none of its numbers is asked for. */
+static void find_numbers(struct number number[NUMBERS], const struct call *call, struct geometry g, const uint8_t *state) {
+    uint64_t whole = g.drives == 0 ? 0 : zone_addresses(g);
+    uint64_t zone = whole == 0 ? 0 : call->address / whole;
+    uint64_t pointer = zone < ZRV_STATE_RECORDS ? get32(state + ZRV_STATE_HEAD_BYTES + zone * ZRV_STATE_RECORD_BYTES + RECORD_POINTER) : 0;
+    number[0] = (struct number){"{pointer}", zone * whole + pointer};
+    number[1] = (struct number){"{end}", (zone + 1) * whole};
+    number[2] = (struct number){"{zones}", g.zones};
+    number[3] = (struct number){"{addresses}", whole * g.zones};
+    number[4] = (struct number){"{stripe}", stripe_sectors(g)};
+}
+
+/* Prints a number if a name stands here; how far to go on. */
+static size_t print_number(FILE *to, const char *at, const struct number number[NUMBERS]) {
+    for (int i = 0; i < NUMBERS; i++) {
+        size_t length = strlen(number[i].name);
+        if (strncmp(at, number[i].name, length) == 0) {
+            fprintf(to, "%llu", (unsigned long long)number[i].value);
+            return length;
+        }
+    }
+    fputc(*at, to);
+    return 1;
+}
+
+void print_refusal(FILE *to, uint32_t number, const struct call *call, struct geometry g, const uint8_t *state) {
+    struct number numbers[NUMBERS];
+    find_numbers(numbers, call, g, state);
+    bool full = number == ZRV_ORDER && numbers[0].value == numbers[1].value;
+    fprintf(to, "%u %s: ", number, refusals[number].word);
+    for (const char *at = full ? order_when_full : refusals[number].sentence; *at != '\0';)
+        at += print_number(to, at, numbers);
+    fputc('\n', to);
+}

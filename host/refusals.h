@@ -1,0 +1,15 @@
+/* Document 01's fifteen refusals in words: the number, its word, what it means and what to do. */
+#ifndef REFUSALS_H
+#define REFUSALS_H
+
+#include <stdio.h>
+
+#include "call.h"
+
+/* The word of a refusal. */
+const char *refusal_word(uint32_t number);
+
+/* Prints "NUMBER WORD: sentence" and a new line. The call and the state tell the addresses that a sentence names. */
+void print_refusal(FILE *to, uint32_t number, const struct call *call, struct geometry geometry, const uint8_t *state);
+
+#endif

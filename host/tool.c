@@ -1,0 +1,79 @@
+/* What the commands share. */
+#include "tool.h"
+
+#include <stdarg.h>
+#include <stdio.h>
+
+#include "bytes.h"
+#include "refusals.h"
+
+int usage_error(const char *command, const char *format, ...) {
+    va_list words;
+    va_start(words, format);
+    fprintf(stderr, "zrv: %s: ", command);
+    vfprintf(stderr, format, words);
+    fprintf(stderr, " (see zrv help %s)\n", command);
+    va_end(words);
+    return EXIT_USAGE;
+}
+
+int file_error(const struct message *message) {
+    fprintf(stderr, "zrv: %s\n", message->text);
+    return EXIT_FILES;
+}
+
+int not_now(const struct message *message) {
+    fprintf(stderr, "zrv: %s\n", message->text);
+    return EXIT_REFUSED;
+}
+
+int begin_command(int argc, char **argv, struct option *options, size_t count, struct driver *driver) {
+    struct message message;
+    const char *folder;
+    *driver = (struct driver){.drives.directory = -1};
+    if (!parse_options(argc, argv, options, count, &folder, &message))
+        return usage_error(argv[0], "%s", message.text);
+    return open_driver(driver, folder, &message) ? EXIT_DONE : file_error(&message);
+}
+
+int tell_answer(const struct driver *driver, const struct call *call, uint32_t answer, const struct message *message) {
+    const struct host_record *record = &driver->drives.record;
+    if (answer == ZRV_FINISHED)
+        return EXIT_DONE;
+    if (answer == ANSWER_STRANGE_DRIVE)
+        return file_error(message);
+    if (answer == ANSWER_NOT_NOW)
+        return not_now(message);
+    if (answer == ZRV_UNFINISHED) {
+        fprintf(stderr, "zrv: unfinished: stopped after %u store%s with more to make; a power cut comes next (zrv cut)\n", call->count, plural(call->count));
+    } else {
+        fprintf(stderr, "zrv: refused: ");
+        print_refusal(stderr, answer, call, record->geometry, record->state);
+    }
+    return EXIT_REFUSED;
+}
+
+int store_and_save(struct driver *driver, const struct call *call) {
+    struct message message;
+    uint32_t answer = driver_call(driver, *call, &message);
+    bool stored = answer == ZRV_FINISHED || answer == ZRV_UNFINISHED;
+    if (stored && !save_drives(&driver->drives, call->kind == CALL_FORMAT, &message))
+        return file_error(&message);
+    return tell_answer(driver, call, answer, &message);
+}
+
+void print_zone(struct geometry g, const uint8_t *state, uint32_t zone) {
+    static const char *const condition[] = {[ZRV_EMPTY] = "empty", [ZRV_OPEN] = "open", [ZRV_SEALED] = "sealed", [ZRV_WORN] = "worn"};
+    const uint8_t *record = state + ZRV_STATE_HEAD_BYTES + (size_t)zone * ZRV_STATE_RECORD_BYTES;
+    printf("zone %u: %s", zone, condition[record[RECORD_CONDITION]]);
+    if (record[RECORD_CONDITION] != ZRV_EMPTY)
+        printf(" at %u of %llu sectors", get32(record + RECORD_POINTER), (unsigned long long)zone_addresses(g));
+    printf(", generation %llu", (unsigned long long)get64(record));
+}
+
+void print_zones(struct geometry g, const uint8_t *state) {
+    for (uint32_t zone = 0; zone < g.zones; zone++) {
+        print_zone(g, state, zone);
+        putchar('\n');
+    }
+}

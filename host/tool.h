@@ -1,0 +1,35 @@
+/* What the commands of `zrv` share: exit codes, and how answers are told. */
+#ifndef TOOL_H
+#define TOOL_H
+
+#include "driver.h"
+#include "options.h"
+
+enum { EXIT_DONE = 0, EXIT_REFUSED = 1, EXIT_USAGE = 2, EXIT_FILES = 3 };
+
+#define COUNT(array) (sizeof(array) / sizeof *(array))
+#define STORES_OPTION {.name = "stores", .kind = OPTION_NUMBER, .most = UINT32_MAX, .number = ZRV_ALL_STORES}
+
+/* The words of a command read and its shelf opened; 0, or the exit code after the reason was told. After any of them close_drives is due. */
+int begin_command(int argc, char **argv, struct option *options, size_t count, struct driver *driver);
+
+/* Tells bad usage of a command, or a file that cannot be used; the exit code. */
+int usage_error(const char *command, const char *format, ...) __attribute__((format(printf, 2, 3)));
+int file_error(const struct message *message);
+
+/* Tells that a duty of the host stands against a command; the exit code. */
+int not_now(const struct message *message);
+
+/* Tells what came of a call if it did not finish; the exit code. */
+int tell_answer(const struct driver *driver, const struct call *call, uint32_t answer, const struct message *message);
+
+/* Makes a storing call, saves what it left, and tells what came of it if it did not finish; the exit code. */
+int store_and_save(struct driver *driver, const struct call *call);
+
+/* A line for each zone of a state: its condition, pointer and generation. */
+void print_zones(struct geometry geometry, const uint8_t *state);
+
+/* "zone 1: open at 5 of 96 sectors, generation 1", without a new line. */
+void print_zone(struct geometry geometry, const uint8_t *state, uint32_t zone);
+
+#endif

@@ -1,0 +1,140 @@
+/* zrv: a volume of zones over drives that are kept as files in a folder. This file has the table of the commands and their help. */
+#include <stdio.h>
+#include <string.h>
+
+#include "commands.h"
+#include "tool.h"
+
+#define VERSION "1.0"
+
+#define STORES_HELP "  --stores N        stop after N stores, with the call unfinished; only a power cut can follow\n"
+
+struct command {
+    const char *name;
+    int (*run)(int argc, char **argv); /* its own name and the words after it; the exit code */
+    const char *does;                  /* in half a line */
+    const char *usage;                 /* the words after its name */
+    const char *help;
+};
+
+/* A command that needs no folder, such as one that explores histories in memory, joins here with a line and the header that declares it. */
+static const struct command commands[] = {
+    {"format", format_main, "make an empty volume", "FOLDER [options]",
+     "Makes the folder if it is not there, and in it one file a drive and one for the host's state.\n"
+     "  --drives D        drives, 3 to 8 (4)\n"
+     "  --sector-bytes B  bytes of a sector, 64 and so on by doubling to 4096 (4096)\n"
+     "  --unit U          sectors of a stripe unit, 1 to 16 (4)\n"
+     "  --zones L         zones of the volume, 1 to 16 (4)\n"
+     "  --zone-sectors C  sectors of a zone on one drive, a multiple of U (256)\n"
+     "  --array N         the number that every drive's label carries (by the clock)\n"
+     "  --without DRIVE   leave a drive out from the start\n"
+     "  --force           format a folder that holds a volume; all its data goes\n" STORES_HELP},
+    {"write", write_main, "write sectors at a zone's pointer", "FOLDER (--at ADDRESS | --zone Z) [options]",
+     "Writes a file or standard input, whole sectors of it, in one call.\n"
+     "  --at ADDRESS      the first sector's address; it must be its zone's pointer\n"
+     "  --zone Z          at this zone's pointer, wherever that is\n"
+     "  --from FILE       the data; without it standard input\n"
+     "  --pad             fill the last sector up with zeros\n" STORES_HELP},
+    {"flush", flush_main, "make what is written last through a power cut", "FOLDER [options]",
+     "Flushes the write cache of every drive.\n" STORES_HELP},
+    {"reset", reset_main, "empty a zone", "FOLDER --zone Z [options]",
+     "Wipes a zone, so that it can be written from its beginning.\n"
+     "  --zone Z          the zone\n" STORES_HELP},
+    {"read", read_main, "read sectors", "FOLDER (--at ADDRESS --count N | --zone Z) [options]",
+     "Reads to a file or to standard output. What a missing drive held is rebuilt from parity.\n"
+     "  --at ADDRESS      the first sector's address\n"
+     "  --count N         sectors to read\n"
+     "  --zone Z          all of this zone, up to its pointer\n"
+     "  --to FILE         where the data goes; without it standard output\n"},
+    {"peek", peek_main, "tell where a sector lies", "FOLDER --at ADDRESS",
+     "Tells the drive, physical zone, sector and place in the drive's file, and the first bytes there.\n"
+     "  --at ADDRESS      the sector's address\n"},
+    {"cut", cut_main, "cut the power", "FOLDER [options]",
+     "What is durable stays; of the rest the write caches keep what is said here. After a cut the volume takes only looks and mounts until a mount is\n"
+     "finished.\n"
+     "  --keep none       nothing (the default)\n"
+     "  --keep all        everything\n"
+     "  --keep random     by chance, drive by drive and zone by zone, from --seed\n"
+     "  --keep D:Z=N,..   the first N sectors of physical zone Z of drive D, a list; nothing of the others\n"
+     "  --seed N          the seed for random\n"},
+    {"pull", pull_main, "take a drive out", "FOLDER --drive N",
+     "Renames the drive's file to drive-N.pulled. The drive is given up: it is not used again, even if the file comes back.\n"
+     "  --drive N         the drive\n"},
+    {"look", look_main, "go through the checklist; nothing is stored", "FOLDER",
+     "Prints line by line what was looked at, what that catches, and ok or what was found; then the zones. It ends with 0 where the volume shows its zones,\n"
+     "whatever was found, and with 1 where it refuses to.\n"},
+    {"mount", mount_main, "bring the volume up after a power cut or the loss of a drive", "FOLDER [options]",
+     "Completes what was cut short and shows the zones.\n" STORES_HELP},
+};
+
+static const char exit_codes[] = "Exit codes: 0 done; 1 the volume refused, the call was left unfinished, or it is not its turn; 2 bad usage;\n"
+                                 "3 a file could not be used, or memory ran out. Errors go to standard error, results to standard output.\n";
+
+static const struct command *find_command(const char *name) {
+    for (size_t i = 0; i < COUNT(commands); i++)
+        if (strcmp(commands[i].name, name) == 0)
+            return &commands[i];
+    return NULL;
+}
+
+static void print_help(void) {
+    printf("zrv COMMAND FOLDER [options]: a volume of zones over three to eight zoned drives, kept as files in a folder\n\n");
+    for (size_t i = 0; i < COUNT(commands); i++)
+        printf("  %-8s %s\n", commands[i].name, commands[i].does);
+    printf("  %-8s %s\n\n%s", "help", "this, or with a command's name its options", exit_codes);
+}
+
+static void print_command_help(const struct command *command) {
+    printf("zrv %s %s: %s\n\n%s\n%s", command->name, command->usage, command->does, command->help, exit_codes);
+}
+
+static int unknown_command(const char *name) {
+    fprintf(stderr, "zrv: there is no command %s (see zrv help)\n", name);
+    return EXIT_USAGE;
+}
+
+static int help_main(int argc, char **argv) {
+    const struct command *command = argc > 1 ? find_command(argv[1]) : NULL;
+    if (argc > 1 && command == NULL)
+        return unknown_command(argv[1]);
+    if (command != NULL)
+        print_command_help(command);
+    else
+        print_help();
+    return EXIT_DONE;
+}
+
+static bool asks_for_help(int argc, char **argv) {
+    for (int i = 1; i < argc; i++)
+        if (strcmp(argv[i], "--help") == 0)
+            return true;
+    return false;
+}
+
+static int run_command(int argc, char **argv) {
+    if (strcmp(argv[0], "help") == 0 || strcmp(argv[0], "--help") == 0)
+        return help_main(argc, argv);
+    if (strcmp(argv[0], "--version") == 0) {
+        printf("zrv " VERSION "\n");
+        return EXIT_DONE;
+    }
+    const struct command *command = find_command(argv[0]);
+    if (command == NULL)
+        return unknown_command(argv[0]);
+    if (!asks_for_help(argc, argv))
+        return command->run(argc, argv);
+    print_command_help(command);
+    return EXIT_DONE;
+}
+
+int main(int argc, char **argv) {
+    if (argc < 2) {
+        fprintf(stderr, "zrv: a command is wanted (see zrv help)\n");
+        return EXIT_USAGE;
+    }
+    int code = run_command(argc - 1, argv + 1);
+    if (fflush(stdout) == 0)
+        return code;
+    perror("zrv: standard output");
+    return EXIT_FILES;
+}

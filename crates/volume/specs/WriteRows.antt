@@ -9,7 +9,7 @@ use mathlib.Core.Path.{_≡_, refl, sym, ap, _∙_}
 use mathlib.Core.Bool.{Bool, true, false}
 use native.Mathlib.Omega.{arith}
 use mathlib.Core.List.{List, [], _∷_, _++_, append-assoc}
-use lib.ListN.{length, replicate, take, drop, length-drop}
+use lib.ListN.{length, replicate, take, drop, length-drop, length-replicate}
 use lib.Seq.{drop-drop, length-take-le}
 use lib.Dec.{eqb}
 use borrow.Author.Tests.{eq-eqb, ne-eqb, lt-ltb, le-ltb}
@@ -79,6 +79,9 @@ rows-small g ok = mul-le-mul {n₂ = 16} {m₂ = 4096} (ok .unit-most) (ok .sect
 
 pub part-length : (xs : List ℕ) (from n : ℕ) → from + n ≤ length xs → length (take n (drop from xs)) ≡ n
 part-length xs from n h = length-take-le n (drop from xs) (rw length-drop (omega arith))
+
+pub zeros-front : (n m : ℕ) → m ≤ n → length (take {A = ℕ} m (replicate n 0)) ≡ m
+zeros-front n m h = length-take-le m (replicate n 0) (rw (length-replicate {A = ℕ} n 0) h)
 
 -- a part of a list changed in place
 pub put-overlay : (xs ys : List ℕ) (from n : ℕ) → length ys ≡ n → take from xs ++ (ys ++ drop n (drop from xs)) ≡ overlay xs from ys

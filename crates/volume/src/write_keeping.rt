@@ -133,10 +133,12 @@ fn keep_rows(
     );
 }
 
-// The stores of a write of `count` sectors from pointer n of a zone, as far as the budget of stores goes: what is left of it.
-pub fn write_all(
+// The stores of a write of `count` sectors from pointer n of a zone, as far as the budget of stores goes: what is left of it. The rows are kept in a
+// buffer of U sectors.
+fn write_with_rows(
     sectors: &mut [u8],
     written: &mut [u32],
+    rows: &mut [u8],
     g: Geometry,
     here: [bool; 8],
     z: usize,
@@ -148,14 +150,14 @@ pub fn write_all(
 ) -> u64
     requires { ⌜ Valid g ⌝ }
     requires { ⌜ WriteReady g here (now sectors) (now written) z generation n count (now buffer) ⌝ }
+    requires { ⌜ g .unit * g .sector ≤ length (now rows) ⌝ }
     ensures { λ r. ⌜ MadeAppends g budget r (onPresent (among here) (writeWith g z generation (runContent g (among here) (readDevice g (now (sectors .entry)) (now (written .entry))) z generation n (sectorsIn g count (now (buffer .entry)))) n count)) (now (sectors .entry)) (now (written .entry)) (now (sectors .exit)) (now (written .exit)) ⌝ }
 {
-    let mut rows = [0u8; 65536];
-    keep_rows(sectors, written, g, here, z, generation, n, &mut rows);
+    keep_rows(sectors, written, g, here, z, generation, n, rows);
     let rest = super::write_stores::write_run(
         sectors,
         written,
-        &mut rows,
+        rows,
         g,
         here,
         z,
@@ -172,7 +174,59 @@ pub fn write_all(
         z,
         generation,
         n + count,
-        &rows,
+        rows,
         rest,
+    )
+}
+
+// The same, with a buffer as small as the rows allow: every call begins by clearing it.
+pub fn write_all(
+    sectors: &mut [u8],
+    written: &mut [u32],
+    g: Geometry,
+    here: [bool; 8],
+    z: usize,
+    generation: u64,
+    n: usize,
+    count: usize,
+    buffer: &[u8],
+    budget: u64,
+) -> u64
+    requires { ⌜ Valid g ⌝ }
+    requires { ⌜ WriteReady g here (now sectors) (now written) z generation n count (now buffer) ⌝ }
+    ensures { λ r. ⌜ MadeAppends g budget r (onPresent (among here) (writeWith g z generation (runContent g (among here) (readDevice g (now (sectors .entry)) (now (written .entry))) z generation n (sectorsIn g count (now (buffer .entry)))) n count)) (now (sectors .entry)) (now (written .entry)) (now (sectors .exit)) (now (written .exit)) ⌝ }
+{
+    let u = g.unit;
+    let b = g.sector;
+    let m = u * b;
+    if m <= 16384 {
+        let mut few = [0u8; 16384];
+        return write_with_rows(
+            sectors,
+            written,
+            &mut few[..m],
+            g,
+            here,
+            z,
+            generation,
+            n,
+            count,
+            buffer,
+            budget,
+        );
+    }
+    let mut rows = [0u8; 65536];
+    write_with_rows(
+        sectors,
+        written,
+        &mut rows[..m],
+        g,
+        here,
+        z,
+        generation,
+        n,
+        count,
+        buffer,
+        budget,
     )
 }

@@ -30,7 +30,7 @@ use Rattle.volume.specs.declared.knowing.Way.{Way}
 use Rattle.volume.specs.declared.knowing.Way.the-variants.{Unknown, Held, Row}
 use Rattle.volume.specs.Rules.{found, nothing, fromEntry, parityOf, rowDrive, rowAddress, entryFor, sealLimit, zoneView, valueAt}
 use Rattle.volume.specs.OnTables.{among}
-use Rattle.volume.specs.Knowing.{readDevice, Readable, heldOn, stripeEnd, reachOf, servingPlace, rowComplete, wayTo, isWay, rowXorBelow, rowXor, endSeen, entryEnd, wayValue, WayFits}
+use Rattle.volume.specs.Knowing.{readDevice, Readable, heldOn, ownSector, stripeEnd, reachOf, servingPlace, rowComplete, wayTo, isWay, rowXorBelow, rowXor, endSeen, entryEnd, wayValue, WayFits}
 use Rattle.volume.specs.KnowingLaws.{leb-min, row-address-below, parity-in, row-drive-in, held-is, held-sector, reach-held, reach-most, by-parity-is, stripe-end-is, stripe-end-small}
 use Rattle.volume.specs.KnowingEntries.{endIn, partial-inside, same-stripe, Serving, serving-is}
 use Rattle.logs.specs.Judge as judge
@@ -48,6 +48,10 @@ sector-within g a ok h =
 
 pub sector-long : (g : Geometry) (xs : List ℕ) (d y i : ℕ) → length xs ≡ totalBytes g → d < g .drives → y < physicalZones g → i < g .capacity → length (sectorAt g xs d y i) ≡ g .sector
 sector-long g xs d y i e hd hy hi = length-take-le (g .sector) (drop ((cell g d y * g .capacity + i) * g .sector) xs) (rw (length-drop, e) (omega (arith, sector-in g d y i hd hy hi)))
+
+pub own-long : (g : Geometry) (xs : List ℕ) (z a : ℕ) → Valid g → z < g .zones → a < zoneSectors g → length xs ≡ totalBytes g → length (ownSector g xs z a) ≡ g .sector
+own-long g xs z a ok hz ha e =
+    sector-long g xs (driveOf (g .drives) (g .unit) z a) (3 + z) (sectorOf (g .drives) (g .unit) a) e (drive-below (g .drives) (g .unit) z (omega (arith, ok .drives-least)) (ok .unit-least) a) (omega (arith, hz)) (sector-within g a ok ha)
 
 -- ---- the loop over a row: one more unit, skipped if it is the sector's own or not below the end
 pub row-more : (zs : List ℕ) (s : ℕ → List ℕ) (f : ℕ → ℕ) (e i k : ℕ)

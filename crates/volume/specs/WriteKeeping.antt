@@ -12,7 +12,7 @@ use lib.Dec.{ltb}
 use borrow.Author.Tests.{lt-ltb, le-ltb}
 use Rattle.tables.specs.declared.Geometry.{Geometry}
 use Rattle.tables.specs.Basics.{pick, not-not}
-use Rattle.tables.specs.Below.{any-below-false, tabulateFrom, getD-tabulate-from}
+use Rattle.tables.specs.Below.{all-below-all, any-below-false, tabulateFrom, getD-tabulate-from}
 use Rattle.tables.specs.Device.{Device}
 use Rattle.tables.specs.Geometry.{Valid, stripeSectors, zoneSectors}
 use Rattle.tables.specs.Placement.{stripeOf, address}
@@ -24,10 +24,11 @@ use Rattle.volume.specs.Rules.{known, zoneView, valueAt}
 use Rattle.volume.specs.Refusals.{goneIn, goneBefore}
 use Rattle.volume.specs.Answers.{sectorsIn}
 use Rattle.volume.specs.OnTables.{among}
-use Rattle.volume.specs.Knowing.{Readable, readDevice}
+use Rattle.volume.specs.Knowing.{Readable, readDevice, ownHeld, allHeld, ownSector}
+use Rattle.volume.specs.KnowingValues.{own-long, value-held}
 use Rattle.volume.specs.WriteRows.{part-length}
 use Rattle.volume.specs.WriteContent.{Holds}
-use Rattle.volume.specs.WriteStores.{Kept, rowsWith, rows-begin}
+use Rattle.volume.specs.WriteStores.{Kept, rowsWith, rows-with-cong, rows-begin}
 
 -- ---- the values that are kept
 -- count sectors from `start` on are as long as a sector
@@ -54,6 +55,17 @@ pub known-before : (g : Geometry) (present : ℕ → Bool) (v : Device) (z n poi
     → goneIn g present v z n (stripeOf (g .drives) (g .unit) pointer * stripeSectors g) (fillOf g pointer) ≡ false
 unfolding goneBefore
 known-before g present v z n pointer h p = rw p at h
+
+-- sectors that are held are added straight from the tables: their own bytes are their values
+module _ (g : Geometry) (ok : Valid g) (here : List Bool) (xs ws : List ℕ) (z : ℕ) (r : Readable g here xs ws z) (n start count : ℕ) (inside : start + count ≤ zoneSectors g) (held : allHeld g here ws z start count ≡ true) where
+  own-value : (i : ℕ) → i < count → ownSector g xs z (start + i) ≡ valueAt g (among here) (readDevice g xs ws) z n (start + i)
+  own-value i h = sym (value-held g here xs ws z r ok n (start + i) (omega (arith, h, inside)) (all-below-all (λ i. ownHeld g here ws z (start + i)) count i held h))
+
+  pub held-rows : (rows : List ℕ) → rowsWith g (ownSector g xs z) start rows count ≡ rowsWith g (valueAt g (among here) (readDevice g xs ws) z n) start rows count
+  held-rows rows = rows-with-cong g (ownSector g xs z) (valueAt g (among here) (readDevice g xs ws) z n) start rows count own-value
+
+  pub held-long : SectorsLong g (valueAt g (among here) (readDevice g xs ws) z n) start count
+  held-long = record { long = λ j h. sym (ap (λ (x : List ℕ). length x) (own-value j h)) ∙ own-long g xs z (start + j) ok (r .zone-in) (omega (arith, h, inside)) (r .sectors-long) }
 
 -- ---- the buffer that is kept
 module _ (g : Geometry) (ok : Valid g) (present : ℕ → Bool) (z : ℕ) (S : ℕ → List ℕ) where

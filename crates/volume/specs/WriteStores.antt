@@ -143,6 +143,10 @@ abbrev pub rowsWith : Geometry → (ℕ → List ℕ) → ℕ → List ℕ → �
 rowsWith g f start rows zero = rows
 rowsWith g f start rows (suc i) = withSector g (start + i) (f (start + i)) (rowsWith g f start rows i)
 
+pub rows-with-cong : (g : Geometry) (f h : ℕ → List ℕ) (start : ℕ) (rows : List ℕ) (n : ℕ) → ((i : ℕ) → i < n → f (start + i) ≡ h (start + i)) → rowsWith g f start rows n ≡ rowsWith g h start rows n
+rows-with-cong g f h start rows zero e = refl
+rows-with-cong g f h start rows (suc n) e = ap₂ (λ (s r : List ℕ). withSector g (start + n) s r) (e n (omega arith)) (rows-with-cong g f h start rows n (λ i l. e i (omega arith)))
+
 pub rows-begin : (g : Geometry) → Valid g → (S : ℕ → List ℕ) (s n : ℕ) → g .unit * g .sector ≤ n → (i : ℕ) → i ≤ stripeSectors g → ((j : ℕ) → j < i → length (S (s * stripeSectors g + j)) ≡ g .sector)
     → Holds g S s (s * stripeSectors g + i) (rowsWith g S (s * stripeSectors g) (replicate n 0) i) × (length (rowsWith g S (s * stripeSectors g) (replicate n 0) i) ≡ n)
 rows-begin g ok S s n h zero l full = let e : s * stripeSectors g + zero ≡ s * stripeSectors g = omega arith in (rw e (holds-start g ok S s n h), length-replicate {A = ℕ} n 0)

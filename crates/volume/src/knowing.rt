@@ -22,7 +22,7 @@ ghost use Rattle.logs.specs.QueryLaws.{SmallSeen};
 ghost use Rattle.volume.specs.declared.knowing.Way.the-variants.{Held, Row, Entry};
 ghost use Rattle.volume.specs.Rules.{generalHeads, sealLimit, known, zoneView, valueAt, parityOf, rowDrive, rowAddress};
 ghost use Rattle.volume.specs.OnTables.{among};
-ghost use Rattle.volume.specs.Knowing.{Readable, readDevice, heldOn, rowHeld, rowComplete, stripeEnd, reachOf, servingPlace, wayTo, isWay, rowXor, endSeen, entryEnd, wayValue, wayLeft, WayFits};
+ghost use Rattle.volume.specs.Knowing.{Readable, readDevice, heldOn, ownHeld, allHeld, rowHeld, rowComplete, stripeEnd, reachOf, servingPlace, wayTo, isWay, rowXor, endSeen, entryEnd, wayValue, wayLeft, WayFits};
 
 // How a sector is known (specs: `wayTo`): not at all, held, by its row, or by the entry at a place of its parity drive's log, counted from 1.
 pub enum Way {
@@ -89,6 +89,40 @@ pub fn is_held(written: &[u32], g: Geometry, here: [bool; 8], z: usize, d: usize
     let at = tables::stores::cell_of(g, d, 3 + z);
     let n = tables::bounds::widen(written[at]);
     present & (x < n)
+}
+
+// Whether the drive of address a holds it.
+pub fn own_held(written: &[u32], g: Geometry, here: [bool; 8], z: usize, a: usize) -> bool
+    requires { ⌜ Valid g ⌝ }
+    requires { ⌜ (z < g .zones) × (length (now written) ≡ cells g) × (a < zoneSectors g) ⌝ }
+    ensures { λ r. ⌜ r ≡ ownHeld g here (now (written .entry)) z a ⌝ }
+{
+    let d = tables::placement::drive_of(g, z, a);
+    let x = tables::placement::sector_of(g, a);
+    is_held(written, g, here, z, d, x)
+}
+
+// Whether all sectors of a run are held. Then no log need be walked to know them.
+pub fn all_held(
+    written: &[u32],
+    g: Geometry,
+    here: [bool; 8],
+    z: usize,
+    offset: usize,
+    count: usize,
+) -> bool
+    requires { ⌜ Valid g ⌝ }
+    requires { ⌜ (z < g .zones) × (length (now written) ≡ cells g) × (offset + count ≤ zoneSectors g) ⌝ }
+    ensures { λ r. ⌜ r ≡ allHeld g here (now (written .entry)) z offset count ⌝ }
+{
+    let mut ok = true;
+    let mut i = 0;
+    while i < count {
+        let held = own_held(written, g, here, z, offset + i);
+        ok = ok & held;
+        i += 1;
+    }
+    ok
 }
 
 // The parity drive of the stripe of address a.
@@ -234,9 +268,7 @@ fn way_to(
     requires { ⌜ Readable g here (now sectors) (now written) z × (a < zoneSectors g) ⌝ }
     ensures { λ r. ⌜ r ≡ wayTo g here (now (sectors .entry)) (now (written .entry)) z generation limit a ⌝ }
 {
-    let d = tables::placement::drive_of(g, z, a);
-    let x = tables::placement::sector_of(g, a);
-    let held = is_held(written, g, here, z, d, x);
+    let held = own_held(written, g, here, z, a);
     if held {
         return Way::Held;
     }

@@ -15,43 +15,9 @@ ghost use Rattle.tables.specs.Tables.{tablesOf};
 ghost use Rattle.volume.specs.Rules.{valueAt, known, sealLimit};
 ghost use Rattle.volume.specs.Refusals.{goneIn, zoneOf, offsetOf};
 ghost use Rattle.volume.specs.OnTables.{among, viewState};
-ghost use Rattle.volume.specs.Knowing.{Readable, readDevice};
-ghost use Rattle.volume.specs.Reading.{ownHeld, allHeld, ownSector, valuesOn, StateFits, zoneNumberOn, runNumber, readNumber, readOn};
+ghost use Rattle.volume.specs.Knowing.{Readable, readDevice, ownSector};
+ghost use Rattle.volume.specs.Reading.{valuesOn, StateFits, zoneNumberOn, runNumber, readNumber, readOn};
 ghost use Rattle.volume.specs.Peeking.{placeNumberOn, peekNumber, peekOn};
-
-// Whether the drive of address a holds it.
-fn own_held(written: &[u32], g: Geometry, here: [bool; 8], z: usize, a: usize) -> bool
-    requires { ⌜ Valid g ⌝ }
-    requires { ⌜ (z < g .zones) × (length (now written) ≡ cells g) × (a < zoneSectors g) ⌝ }
-    ensures { λ r. ⌜ r ≡ ownHeld g here (now (written .entry)) z a ⌝ }
-{
-    let d = tables::placement::drive_of(g, z, a);
-    let x = tables::placement::sector_of(g, a);
-    super::knowing::is_held(written, g, here, z, d, x)
-}
-
-// Whether all sectors of a run are held.
-fn all_held(
-    written: &[u32],
-    g: Geometry,
-    here: [bool; 8],
-    z: usize,
-    offset: usize,
-    count: usize,
-) -> bool
-    requires { ⌜ Valid g ⌝ }
-    requires { ⌜ (z < g .zones) × (length (now written) ≡ cells g) × (offset + count ≤ zoneSectors g) ⌝ }
-    ensures { λ r. ⌜ r ≡ allHeld g here (now (written .entry)) z offset count ⌝ }
-{
-    let mut ok = true;
-    let mut i = 0;
-    while i < count {
-        let held = own_held(written, g, here, z, offset + i);
-        ok = ok & held;
-        i += 1;
-    }
-    ok
-}
 
 // Whether some sector of a run is not known; limit is the zone's least current seal.
 fn some_gone(
@@ -104,7 +70,7 @@ fn is_gone(
     requires { ⌜ Readable g here (now sectors) (now written) z × (offset + count ≤ zoneSectors g) ⌝ }
     ensures { λ r. ⌜ r ≡ goneIn g (among here) (readDevice g (now (sectors .entry)) (now (written .entry))) z generation offset count ⌝ }
 {
-    let held = all_held(written, g, here, z, offset, count);
+    let held = super::knowing::all_held(written, g, here, z, offset, count);
     if held {
         return false;
     }
@@ -194,7 +160,7 @@ fn read_run(
         × (goneIn g (among here) (readDevice g (now sectors) (now written)) z generation offset count ≡ false) ⌝ }
     ensures { λ _. ⌜ now (out .exit) ≡ valuesOn g (among here) (readDevice g (now (sectors .entry)) (now (written .entry))) z generation offset count ⌝ }
 {
-    let held = all_held(written, g, here, z, offset, count);
+    let held = super::knowing::all_held(written, g, here, z, offset, count);
     if held {
         copy_run(sectors, g, z, offset, count, out);
         return;
@@ -395,7 +361,7 @@ fn place_refusal(
     if pointer < offset + 1 {
         return 13;
     }
-    let held = own_held(written, g, here, z, offset);
+    let held = super::knowing::own_held(written, g, here, z, offset);
     if !held {
         return 15;
     }

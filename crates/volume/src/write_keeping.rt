@@ -5,7 +5,7 @@ ghost use mathlib.Core.Path.{_≡_};
 ghost use mathlib.Core.Bool.{true, false};
 ghost use Prim.Native.Nat.{_+_, _*_, _≤_, _<_};
 ghost use lib.ListN.{length};
-ghost use Rattle.tables.specs.Geometry.{Valid, zoneSectors};
+ghost use Rattle.tables.specs.Geometry.{Valid, totalBytes, zoneSectors};
 ghost use Rattle.tables.specs.Phases.{onPresent};
 ghost use Rattle.tables.specs.Tables.{MadeAppends};
 ghost use Rattle.volume.specs.Rules.{known, zoneView, sealLimit, valueAt};
@@ -13,7 +13,7 @@ ghost use Rattle.volume.specs.Refusals.{goneIn, goneBefore};
 ghost use Rattle.volume.specs.Calls.{writeWith};
 ghost use Rattle.volume.specs.Answers.{sectorsIn};
 ghost use Rattle.volume.specs.OnTables.{among};
-ghost use Rattle.volume.specs.Knowing.{Readable, readDevice};
+ghost use Rattle.volume.specs.Knowing.{Readable, readDevice, ownSector};
 ghost use Rattle.volume.specs.WriteRows.{withSector};
 ghost use Rattle.volume.specs.WriteStores.{Kept, rowsWith};
 ghost use Rattle.volume.specs.WriteKeeping.{SectorsLong, WriteReady, runContent};
@@ -92,6 +92,33 @@ fn add_values(
     }
 }
 
+// Adds a held sector to its row, straight from the tables.
+fn add_own(sectors: &[u8], g: Geometry, z: usize, a: usize, rows: &mut [u8])
+    requires { ⌜ Valid g ⌝ }
+    requires { ⌜ (z < g .zones) × (a < zoneSectors g) × (length (now sectors) ≡ totalBytes g) × (g .unit * g .sector ≤ length (now rows)) ⌝ }
+    ensures { λ _. ⌜ now (rows .exit) ≡ withSector g a (ownSector g (now (sectors .entry)) z a) (now (rows .entry)) ⌝ }
+{
+    let d = tables::placement::drive_of(g, z, a);
+    let x = tables::placement::sector_of(g, a);
+    let from = tables::stores::byte_at(g, d, 3 + z, x);
+    let b = g.sector;
+    let end = from + b;
+    super::write_rows::add_sector(rows, g, a, &sectors[from..end]);
+}
+
+// Adds `count` sectors from `start` on, all held.
+fn add_held(sectors: &[u8], g: Geometry, z: usize, start: usize, count: usize, rows: &mut [u8])
+    requires { ⌜ Valid g ⌝ }
+    requires { ⌜ (z < g .zones) × (start + count ≤ zoneSectors g) × (length (now sectors) ≡ totalBytes g) × (g .unit * g .sector ≤ length (now rows)) ⌝ }
+    ensures { λ _. ⌜ now (rows .exit) ≡ rowsWith g (ownSector g (now (sectors .entry)) z) start (now (rows .entry)) count ⌝ }
+{
+    let mut i = 0;
+    while i < count {
+        add_own(sectors, g, z, start + i, rows);
+        i += 1;
+    }
+}
+
 // The rows of the stripe of pointer n, of its sectors below n. Where the stripe's parity drive is not here no row is ever stored, and zeros will do.
 fn keep_rows(
     sectors: &[u8],
@@ -117,8 +144,13 @@ fn keep_rows(
     if !present {
         return;
     }
-    let limit = super::knowing::seal_limit(sectors, written, g, here, z, generation);
     let start = s * k;
+    let held = super::knowing::all_held(written, g, here, z, start, n - start);
+    if held {
+        add_held(sectors, g, z, start, n - start, rows);
+        return;
+    }
+    let limit = super::knowing::seal_limit(sectors, written, g, here, z, generation);
     add_values(
         sectors,
         written,

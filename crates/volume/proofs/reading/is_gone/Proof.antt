@@ -1,6 +1,6 @@
 use mathlib.Core.Path.{sym, _∙_}
 use denote.Ref.{now}
-use Rattle.volume.specs.Reading.{held-none-gone}
+use Rattle.volume.specs.KnowingLaws.{held-none-gone}
 use borrow.Author.Needs.{needs}
 use Rattle.volume.proofs.reading.is_gone.Statement.{statement}
 use Rattle.volume.proofs.reading.is_gone.Tie as tie

@@ -119,7 +119,7 @@ fn add_held(sectors: &[u8], g: Geometry, z: usize, start: usize, count: usize, r
     }
 }
 
-// The rows of the stripe of pointer n, of its sectors below n. Where the stripe's parity drive is not here no row is ever stored, and zeros will do.
+// The rows of the stripe of pointer n, of its sectors below n. Where the stripe's parity drive is not here no row is ever stored, and any buffer will do.
 fn keep_rows(
     sectors: &[u8],
     written: &[u32],
@@ -135,7 +135,6 @@ fn keep_rows(
         × (goneBefore g (among here) (readDevice g (now sectors) (now written)) z generation n ≡ false) × (g .unit * g .sector ≤ length (now rows)) ⌝ }
     ensures { λ _. ⌜ Kept g (among here) z (valueAt g (among here) (readDevice g (now (sectors .entry)) (now (written .entry))) z generation) n (now (rows .exit)) ⌝ }
 {
-    tables::sectors::clear(rows);
     let k = tables::bounds::stripe_sectors(g);
     let s = n / k;
     let d = g.drives;

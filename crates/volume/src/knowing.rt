@@ -410,6 +410,29 @@ fn value_by(sectors: &[u8], g: Geometry, z: usize, a: usize, way: Way, out: &mut
     }
 }
 
+// The value of address a of a zone, which is known under a generation; limit finds the way to it that the zone's least current seal finds.
+pub fn served_value(
+    sectors: &[u8],
+    written: &[u32],
+    g: Geometry,
+    here: [bool; 8],
+    z: usize,
+    generation: u64,
+    limit: usize,
+    a: usize,
+    out: &mut [u8],
+)
+    requires { ⌜ Valid g ⌝ }
+    requires { ⌜ Readable g here (now sectors) (now written) z × (a < zoneSectors g)
+        × (wayTo g here (now sectors) (now written) z generation limit a ≡ wayTo g here (now sectors) (now written) z generation (sealLimit g (among here) (readDevice g (now sectors) (now written)) z generation) a)
+        × (known (g .drives) (g .unit) z (zoneView g (among here) (readDevice g (now sectors) (now written)) z generation) a ≡ true)
+        × (length (now out) ≡ g .sector) ⌝ }
+    ensures { λ _. ⌜ now (out .exit) ≡ valueAt g (among here) (readDevice g (now (sectors .entry)) (now (written .entry))) z generation a ⌝ }
+{
+    let way = way_to(sectors, written, g, here, z, generation, limit, a);
+    value_by(sectors, g, z, a, way, out);
+}
+
 // The value of address a of a zone, which is known under a generation; limit is the zone's least current seal.
 pub fn sector_value(
     sectors: &[u8],
@@ -429,6 +452,5 @@ pub fn sector_value(
         × (length (now out) ≡ g .sector) ⌝ }
     ensures { λ _. ⌜ now (out .exit) ≡ valueAt g (among here) (readDevice g (now (sectors .entry)) (now (written .entry))) z generation a ⌝ }
 {
-    let way = way_to(sectors, written, g, here, z, generation, limit, a);
-    value_by(sectors, g, z, a, way, out);
+    served_value(sectors, written, g, here, z, generation, limit, a, out);
 }

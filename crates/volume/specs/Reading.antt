@@ -26,7 +26,7 @@ use Rattle.volume.specs.declared.Answer.{Answer}
 use Rattle.volume.specs.declared.Answer.the-variants.{Finished, Refused}
 use Rattle.volume.specs.State.{pointerIn, StateView, callPresent}
 use Rattle.volume.specs.Rules.{View, valueOf, known, zoneView, valueAt}
-use Rattle.volume.specs.ZoneChecks.{staleOn}
+use Rattle.volume.specs.ZoneChecks.{staleOn, Reached, reached}
 use Rattle.volume.specs.Refusals.{stateWithin, twoAbsent, leastApplying, staleIn, stale, noZone, badRun, unwritten, goneIn, zoneOf, offsetOf, readRows}
 use Rattle.tables.specs.Drives.{noDrive}
 use Rattle.tables.specs.GeometryTest.{isValid}
@@ -208,6 +208,14 @@ zone-on-in g here ws s z h = go (ltb z (g .zones)) refl h
     go true e k = ltb-true z (g .zones) e
     go false e k = absurd (omega (arith, k))
 
+pub zone-on-fresh : (g : Geometry) (here : List Bool) (ws : List ℕ) (s : State) (z : ℕ) → zoneNumberOn g here ws s z ≡ 0 → staleOn g (among here) ws (recordAt s z .condition) z ≡ false
+unfolding zoneNumberOn
+zone-on-fresh g here ws s z h = go (staleOn g (among here) ws (recordAt s z .condition) z) (rw (lt-ltb z (g .zones) (zone-on-in g here ws s z h)) at h)
+  where
+    go : (b : Bool) → _≡_ {A = ℕ} (pick b 7 0) 0 → b ≡ false
+    go true k = absurd (omega (arith, k))
+    go false k = refl
+
 module _ (g : Geometry) (named : List Bool) (s : State) (a count bytes : ℕ) (xs ws ds : List ℕ) where
   abbrev first : ℕ
   first = openingNumber g named s count bytes (length xs) ws ds
@@ -258,6 +266,8 @@ module _ (g : Geometry) (named : List Bool) (s : State) (a count bytes : ℕ) (x
     pub passed : Opened g named s count bytes (length xs) ws ds
     pub zone-in : zoneOf g a < g .zones
     pub run-in : offsetOf g a + count ≤ zoneSectors g
+    pub reached-here : Reached g (presentList g named (s .lost)) ws (zoneOf g a) (pointerIn (recordAt s (zoneOf g a) .condition))
+    pub run-written : offsetOf g a + count ≤ pointerIn (recordAt s (zoneOf g a) .condition)
     pub none-gone : goneIn g (among (presentList g named (s .lost))) (readDevice g xs ws) (zoneOf g a) (recordAt s (zoneOf g a) .generation) (offsetOf g a) count ≡ false
 
   pub read-accepted : readNumber g named s a count bytes (tablesOf xs ws ds) ≡ 0 → ReadFits
@@ -267,7 +277,14 @@ module _ (g : Geometry) (named : List Bool) (s : State) (a count bytes : ℕ) (x
       let o = opened g named s count bytes (length xs) ws ds p in
       let z = zone-on-in g (presentList g named (s .lost)) ws s (zoneOf g a) (second-is o ∙ q) in
       let (u, v, w) = run-none (badRun g (offsetOf g a) count) (unwritten (viewState s) (zoneOf g a) (offsetOf g a) count) (goneIn g (among (presentList g named (s .lost))) (readDevice g xs ws) (zoneOf g a) (recordAt s (zoneOf g a) .generation) (offsetOf g a) count) (third-is ∙ t) in
-      record { passed = o; zone-in = z; run-in = ltb-false (zoneSectors g) (offsetOf g a + count) (or-none (eqb count 0) (ltb (zoneSectors g) (offsetOf g a + count)) u .1); none-gone = w }
+      record {
+        passed = o;
+        zone-in = z;
+        run-in = ltb-false (zoneSectors g) (offsetOf g a + count) (or-none (eqb count 0) (ltb (zoneSectors g) (offsetOf g a + count)) u .1);
+        reached-here = reached g (presentList g named (s .lost)) ws (recordAt s (zoneOf g a) .condition) (zoneOf g a) (o .drives) (zone-on-fresh g (presentList g named (s .lost)) ws s (zoneOf g a) (second-is o ∙ q));
+        run-written = ltb-false (pointerIn (recordAt s (zoneOf g a) .condition)) (offsetOf g a + count) v;
+        none-gone = w;
+      }
 
 -- ---- how a read ends
 module _ (g : Geometry) (named : List Bool) (s : State) (a count : ℕ) (out : List ℕ) (t : Tables) where

@@ -8,6 +8,7 @@ use lib.ListN.{length, getD}
 use lib.Dec.{ltb, leb, eqb}
 use Rattle.tables.specs.declared.Geometry.{Geometry}
 use Rattle.tables.specs.Basics.{pick}
+use Rattle.tables.specs.Below.{allBelow}
 use Rattle.tables.specs.Geometry.{physicalZones, cells, totalBytes, stripeSectors}
 use Rattle.tables.specs.Placement.{driveOf, sectorOf, stripeOf, unitIndex, rowIndex}
 use Rattle.tables.specs.Device.{Device}
@@ -42,6 +43,17 @@ pub record Readable (g : Geometry) (here : List Bool) (xs ws : List ℕ) (z : �
 -- ---- held: sector x of drive d
 abbrev pub heldOn : Geometry → List Bool → List ℕ → ℕ → ℕ → ℕ → Bool
 heldOn g here ws z d x = among here d && ltb x (getD ws (cell g d (3 + z)) 0)
+
+-- address a, by its own drive; all of a run
+abbrev pub ownHeld : Geometry → List Bool → List ℕ → ℕ → ℕ → Bool
+ownHeld g here ws z a = heldOn g here ws z (driveOf (g .drives) (g .unit) z a) (sectorOf (g .drives) (g .unit) a)
+
+abbrev pub allHeld : Geometry → List Bool → List ℕ → ℕ → ℕ → ℕ → Bool
+allHeld g here ws z offset count = allBelow (λ i. ownHeld g here ws z (offset + i)) count
+
+-- its own bytes
+abbrev pub ownSector : Geometry → List ℕ → ℕ → ℕ → List ℕ
+ownSector g xs z a = sectorAt g xs (driveOf (g .drives) (g .unit) z a) (3 + z) (sectorOf (g .drives) (g .unit) a)
 
 -- ---- how far the other sectors of a row are held
 -- the least of f over the numbers below n that fail a test, and of m
@@ -78,7 +90,7 @@ servingPlace g here xs ws z n limit a =
 -- ---- the three ways, in order
 unfoldable pub wayTo : Geometry → List Bool → List ℕ → List ℕ → ℕ → ℕ → ℕ → ℕ → Way
 wayTo g here xs ws z n limit a =
-    pick (heldOn g here ws z (driveOf (g .drives) (g .unit) z a) (sectorOf (g .drives) (g .unit) a)) Held
+    pick (ownHeld g here ws z a) Held
     (pick (rowComplete g here ws z a) Row
     (pick (eqb (servingPlace g here xs ws z n limit a) 0) Unknown (Entry (servingPlace g here xs ws z n limit a))))
 
@@ -112,7 +124,7 @@ entryEnd g xs d place = endSeen g (found (decode g d true (sectorAt g xs d parit
 
 abbrev pub wayValue : Geometry → List ℕ → ℕ → ℕ → Way → List ℕ
 wayValue g xs z a Unknown = []
-wayValue g xs z a Held = sectorAt g xs (driveOf (g .drives) (g .unit) z a) (3 + z) (sectorOf (g .drives) (g .unit) a)
+wayValue g xs z a Held = ownSector g xs z a
 wayValue g xs z a Row = xorBytes (rowXor g xs z a (stripeEnd g a)) (sectorAt g xs (parityOf (g .drives) (g .unit) z a) (3 + z) (sectorOf (g .drives) (g .unit) a))
 wayValue g xs z a (Entry place) =
     xorBytes (rowXor g xs z a (entryEnd g xs (parityOf (g .drives) (g .unit) z a) place)) (sectorAt g xs (parityOf (g .drives) (g .unit) z a) parityZone (place + rowIndex (g .drives) (g .unit) a))

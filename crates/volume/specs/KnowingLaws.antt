@@ -12,11 +12,11 @@ use lib.Dec.{ltb, leb, eqb}
 use borrow.Author.Tests.{ltb-true, le-leb, lt-leb, leb-true}
 use Rattle.tables.specs.declared.Geometry.{Geometry}
 use Rattle.tables.specs.Basics.{pick, and-split}
-use Rattle.tables.specs.Below.{allBelow, all-below-all, getD-tabulate}
+use Rattle.tables.specs.Below.{allBelow, all-below-all, none-any-below, getD-tabulate}
 use Rattle.tables.specs.Geometry.{Valid, physicalZones, stripeSectors, zoneSectors}
 use Rattle.tables.specs.Sizes.{stripe-small, zone-small}
-use Rattle.tables.specs.Placement.{sectorOf, unitIndex, rowIndex, stripeOf, address}
-use Rattle.tables.specs.PlacementLaws.{parity-drive-below, unit-drive-below, unit-row-lt, row-index-below}
+use Rattle.tables.specs.Placement.{driveOf, sectorOf, unitIndex, rowIndex, stripeOf, address}
+use Rattle.tables.specs.PlacementLaws.{drive-below, parity-drive-below, unit-drive-below, unit-row-lt, row-index-below}
 use Rattle.tables.specs.Device.{blankZone}
 use Rattle.tables.specs.Tables.{tablesOf, deviceOf, zoneAtCell, cell, sectorAt}
 use Rattle.tables.specs.TablesLaws.{device-sectors, device-pointer}
@@ -24,9 +24,10 @@ use Rattle.logs.specs.Entry.{generalZone, parityZone}
 use Rattle.logs.specs.Walk.{walkLog}
 use Rattle.logs.specs.WalkCode.{logSectors}
 use Rattle.logs.specs.Query.{headsOf}
-use Rattle.volume.specs.Rules.{heldAt, parityOf, rowDrive, rowAddress, byParity, generalHeads, parityEntries, sealLimitBelow, sealLimit, servingEntries, viewOf, zoneView}
+use Rattle.volume.specs.Rules.{heldAt, known, parityOf, rowDrive, rowAddress, byParity, generalHeads, parityEntries, sealLimitBelow, sealLimit, servingEntries, viewOf, zoneView}
+use Rattle.volume.specs.Refusals.{goneIn}
 use Rattle.volume.specs.OnTables.{among}
-use Rattle.volume.specs.Knowing.{readDevice, Readable, heldOn, leastFailing, stripeEnd, rowHeld, reachOf, rowComplete}
+use Rattle.volume.specs.Knowing.{readDevice, Readable, heldOn, ownHeld, allHeld, leastFailing, stripeEnd, rowHeld, reachOf, rowComplete}
 
 -- ---- rules 4 and 5 do not look at durable pointers
 pub sectors-alike : (g : Geometry) (xs ws ds : List ℕ) (d y : ℕ) → deviceOf g (tablesOf xs ws ds) d y .sectors ≡ readDevice g xs ws d y .sectors
@@ -168,6 +169,16 @@ module _ (g : Geometry) (here : List Bool) (xs ws : List ℕ) (z : ℕ) (r : Rea
       let (p, q) = and-split (among here d) (ltb x (getD ws (cell g d (3 + z)) 0)) h in
       ap (λ (ss : List (List ℕ)). getD ss x []) (sectors-are d (3 + z) hd p (omega (arith, r .zone-in)))
       ∙ getD-tabulate (λ i. sectorAt g xs d (3 + z) i) (getD ws (cell g d (3 + z)) 0) x [] (ltb-true x (getD ws (cell g d (3 + z)) 0) q)
+
+  -- what is held is known: no sector of a run that is held is gone
+  pub held-known : (n a : ℕ) → Valid g → ownHeld g here ws z a ≡ true → known (g .drives) (g .unit) z (zoneView g (among here) (readDevice g xs ws) z n) a ≡ true
+  held-known n a ok h = rw (held-is n (driveOf (g .drives) (g .unit) z a) (sectorOf (g .drives) (g .unit) a) (drive-below (g .drives) (g .unit) z (omega (arith, ok .drives-least)) (ok .unit-least) a) ∙ h) refl
+
+  pub held-none-gone : (n offset count : ℕ) → Valid g → allHeld g here ws z offset count ≡ true → goneIn g (among here) (readDevice g xs ws) z n offset count ≡ false
+  unfolding goneIn
+  held-none-gone n offset count ok h =
+      none-any-below (λ i. not (known (g .drives) (g .unit) z (zoneView g (among here) (readDevice g xs ws) z n) (offset + i))) count
+      (λ i l. ap not (held-known n (offset + i) ok (all-below-all (λ i. ownHeld g here ws z (offset + i)) count i h l)))
 
   -- ---- rows
   module _ (ok : Valid g) (n a : ℕ) where

@@ -1,12 +1,12 @@
 -- The value of a sector by each of the three ways, as the code makes it: that it is rule 4's.
 use mathlib.Core.Path.{_≡_, refl, sym, ap, ap₂, _∙_}
 use mathlib.Core.Logic.{_≢_, _⊎_, inl, inr}
-use mathlib.Core.Bool.{Bool, true, false, _&&_, _||_, not, true≢false}
-use Prim.Native.Nat.{ℕ, zero, suc, _+_, _-_, _*_, _/_, _≤_, _<_, min, zero-le}
+use mathlib.Core.Bool.{Bool, true, false, _&&_, _||_, true≢false}
+use Prim.Native.Nat.{ℕ, zero, suc, _+_, _-_, _*_, _/_, _≤_, _<_, min}
 use native.Mathlib.Nat.{div-lt-iff-lt-mul}
 use native.Mathlib.Omega.{arith}
 use mathlib.Core.List.{List, []}
-use lib.ListN.{length, getD, drop, replicate, length-take, length-drop}
+use lib.ListN.{length, getD, drop, length-drop}
 use lib.Seq.{getD-take, getD-drop, length-take-le}
 use lib.Arith.{digits-lt}
 use lib.Dec.{ltb, leb, eqb}
@@ -20,7 +20,7 @@ use Rattle.tables.specs.PlacementLaws.{row-index-below, address-parts, drive-be
 use Rattle.tables.specs.Sizes.{stripe-small}
 use Rattle.tables.specs.Tables.{cell, sectorAt}
 use Rattle.tables.specs.TablesLaws.{sector-in}
-use Rattle.tables.specs.Xor.{xorBytes, xor-nil, xor-bytes-assoc, xor-bytes-comm, xorBelow, xor-below-cong, xor-below-length, without, length-xor, xor-zeros}
+use Rattle.tables.specs.Xor.{xorBytes, xor-nil, xor-bytes-assoc, xorBelow, xor-below-cong, without}
 use Rattle.logs.specs.Entry.{Header, label, counters, zoneReset, partialParity, seal, Entry, parityZone, rowsOf, Decoded, decode, legal, decode-legal, fitsLog}
 use Rattle.logs.specs.Judge.{seen, partial-small}
 use Rattle.logs.specs.Heads.{endsWithin}
@@ -30,7 +30,7 @@ use Rattle.volume.specs.declared.knowing.Way.{Way}
 use Rattle.volume.specs.declared.knowing.Way.the-variants.{Unknown, Held, Row}
 use Rattle.volume.specs.Rules.{found, nothing, fromEntry, parityOf, rowDrive, rowAddress, entryFor, sealLimit, zoneView, valueAt}
 use Rattle.volume.specs.OnTables.{among}
-use Rattle.volume.specs.Knowing.{readDevice, Readable, heldOn, stripeEnd, reachOf, servingPlace, rowComplete, wayTo, isWay, rowXorBelow, rowXor, endSeen, entryEnd, wayValue, WayFits}
+use Rattle.volume.specs.Knowing.{readDevice, Readable, heldOn, ownSector, stripeEnd, reachOf, servingPlace, rowComplete, wayTo, isWay, rowXor, endSeen, entryEnd, wayValue, WayFits}
 use Rattle.volume.specs.KnowingLaws.{leb-min, row-address-below, parity-in, row-drive-in, held-is, held-sector, reach-held, reach-most, by-parity-is, stripe-end-is, stripe-end-small}
 use Rattle.volume.specs.KnowingEntries.{endIn, partial-inside, same-stripe, Serving, serving-is}
 use Rattle.logs.specs.Judge as judge
@@ -48,6 +48,10 @@ sector-within g a ok h =
 
 pub sector-long : (g : Geometry) (xs : List ℕ) (d y i : ℕ) → length xs ≡ totalBytes g → d < g .drives → y < physicalZones g → i < g .capacity → length (sectorAt g xs d y i) ≡ g .sector
 sector-long g xs d y i e hd hy hi = length-take-le (g .sector) (drop ((cell g d y * g .capacity + i) * g .sector) xs) (rw (length-drop, e) (omega (arith, sector-in g d y i hd hy hi)))
+
+pub own-long : (g : Geometry) (xs : List ℕ) (z a : ℕ) → Valid g → z < g .zones → a < zoneSectors g → length xs ≡ totalBytes g → length (ownSector g xs z a) ≡ g .sector
+own-long g xs z a ok hz ha e =
+    sector-long g xs (driveOf (g .drives) (g .unit) z a) (3 + z) (sectorOf (g .drives) (g .unit) a) e (drive-below (g .drives) (g .unit) z (omega (arith, ok .drives-least)) (ok .unit-least) a) (omega (arith, hz)) (sector-within g a ok ha)
 
 -- ---- the loop over a row: one more unit, skipped if it is the sector's own or not below the end
 pub row-more : (zs : List ℕ) (s : ℕ → List ℕ) (f : ℕ → ℕ) (e i k : ℕ)
@@ -71,28 +75,6 @@ row-more zs s f e i k = go (eqb k i) refl (leb e (f k)) refl
         let w : without h i k ≡ h k = rw (q, without) refl in
         let v : without h i k ≡ s k = w ∙ ap (λ (b : Bool). pick b (s k) []) (lt-ltb (f k) e (leb-false e (f k) t)) in
         xor-bytes-assoc zs acc (s k) ∙ sym (ap (λ (l : List ℕ). xorBytes zs (xorBytes acc l)) v)
-
-xor-long : (n : ℕ) (xs ys : List ℕ) → length xs ≤ n → length ys ≡ n → length (xorBytes xs ys) ≡ n
-xor-long n xs ys h e = ap (λ (l : List ℕ). length l) (xor-bytes-comm xs ys) ∙ length-xor ys xs (omega arith) ∙ e
-
--- begun with zeros, and with a sector added
-pub row-rebuilt : (g : Geometry) (xs : List ℕ) (z a e : ℕ) (ys : List ℕ) → length ys ≡ g .sector
-    → xorBytes (xorBytes (replicate (g .sector) 0) (rowXor g xs z a e)) ys ≡ xorBytes (rowXor g xs z a e) ys
-unfolding rowXor
-row-rebuilt g xs z a e ys l =
-    xor-bytes-assoc (replicate (g .sector) 0) (rowXorBelow g xs z a e (g .drives - 1)) ys
-    ∙ xor-zeros (g .sector) (xorBytes (rowXorBelow g xs z a e (g .drives - 1)) ys) (xor-long (g .sector) (rowXorBelow g xs z a e (g .drives - 1)) ys (xor-below-length (g .sector) (without (λ (k : ℕ). pick (ltb (rowAddress (g .drives) (g .unit) a k) e) (sectorAt g xs (rowDrive (g .drives) (g .unit) z a k) (3 + z) (sectorOf (g .drives) (g .unit) a)) []) (unitIndex (g .drives) (g .unit) a)) (g .drives - 1) (λ k m. short k)) l)
-  where
-    short : (k : ℕ) → length (without (λ (k : ℕ). pick (ltb (rowAddress (g .drives) (g .unit) a k) e) (sectorAt g xs (rowDrive (g .drives) (g .unit) z a k) (3 + z) (sectorOf (g .drives) (g .unit) a)) []) (unitIndex (g .drives) (g .unit) a) k) ≤ g .sector
-    short k = go (eqb k (unitIndex (g .drives) (g .unit) a)) refl
-      where
-        below : (b : Bool) → length (pick b (sectorAt g xs (rowDrive (g .drives) (g .unit) z a k) (3 + z) (sectorOf (g .drives) (g .unit) a)) []) ≤ g .sector
-        below true = rw length-take (omega arith)
-        below false = zero-le
-
-        go : (b : Bool) → eqb k (unitIndex (g .drives) (g .unit) a) ≡ b → length (without (λ (k : ℕ). pick (ltb (rowAddress (g .drives) (g .unit) a k) e) (sectorAt g xs (rowDrive (g .drives) (g .unit) z a k) (3 + z) (sectorOf (g .drives) (g .unit) a)) []) (unitIndex (g .drives) (g .unit) a) k) ≤ g .sector
-        go true q = let w : without (λ (k : ℕ). pick (ltb (rowAddress (g .drives) (g .unit) a k) e) (sectorAt g xs (rowDrive (g .drives) (g .unit) z a k) (3 + z) (sectorOf (g .drives) (g .unit) a)) []) (unitIndex (g .drives) (g .unit) a) k ≡ [] = rw (q, without) refl in rw w zero-le
-        go false q = let w : without (λ (k : ℕ). pick (ltb (rowAddress (g .drives) (g .unit) a k) e) (sectorAt g xs (rowDrive (g .drives) (g .unit) z a k) (3 + z) (sectorOf (g .drives) (g .unit) a)) []) (unitIndex (g .drives) (g .unit) a) k ≡ (pick (ltb (rowAddress (g .drives) (g .unit) a k) e) (sectorAt g xs (rowDrive (g .drives) (g .unit) z a k) (3 + z) (sectorOf (g .drives) (g .unit) a)) []) = rw (q, without) refl in rw w (below (ltb (rowAddress (g .drives) (g .unit) a k) e))
 
 -- ---- headers
 end-seen : (g : Geometry) (h : Header) → endSeen g (seen h) ≡ endIn g h

@@ -93,6 +93,7 @@ pub mod WriteChecks
 pub mod WriteKeeping
 pub mod Writing
 pub mod Reading
+pub mod ReadingHeld
 pub mod Peeking
 pub mod MountTables
 pub mod MountLook

@@ -23,9 +23,9 @@ use Rattle.volume.specs.Refusals.{leastApplying, stateWithin, twoAbsent,
 use Rattle.volume.specs.Answers.{Place, placeOf}
 use Rattle.volume.specs.OnTables.{viewState, among, verdictNumber, lengthsOf, refusalOn}
 use Rattle.volume.specs.CheckLaws.{presentList, present-is, absent-two, openingNumber, Opened, opened, after-four}
-use Rattle.volume.specs.Knowing.{readDevice, Readable}
+use Rattle.volume.specs.Knowing.{readDevice, Readable, ownHeld}
 use Rattle.volume.specs.KnowingLaws.{view-durable, held-is}
-use Rattle.volume.specs.Reading.{ownHeld, zoneRows, zoneNumber, after-two, three, zone-on-in, second-is}
+use Rattle.volume.specs.Reading.{zoneRows, zoneNumber, after-two, three, zone-on-in, second-is}
 
 -- ---- the rows after those of its zone
 abbrev pub placeRows : Geometry → (ℕ → Bool) → Device → StateView → ℕ → ℕ → List (ℕ × Bool)

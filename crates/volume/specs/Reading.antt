@@ -14,40 +14,28 @@ use lib.Dec.{ltb, leb, eqb}
 use borrow.Author.Tests.{lt-ltb, le-ltb, ltb-true, ltb-false, leb-true, eqb-true, eq-eqb, ne-eqb}
 use Rattle.tables.specs.declared.Geometry.{Geometry}
 use Rattle.tables.specs.Basics.{pick, not-not, and-split, or-none}
-use Rattle.tables.specs.Below.{anyBelow, allBelow, all-below-all, none-any-below, any-below-cong, any-below-false, tabulateFrom, tabulate-from-add, tabulate-from-cong}
+use Rattle.tables.specs.Below.{anyBelow, allBelow, all-below-all, any-below-cong, any-below-false, tabulateFrom, tabulate-from-add, tabulate-from-cong}
 use Rattle.tables.specs.Lists.{concat, concat-append}
 use Rattle.tables.specs.Geometry.{Valid, zoneSectors}
 use Rattle.tables.specs.Sizes.{zone-small}
-use Rattle.tables.specs.Placement.{needed, driveOf, sectorOf}
-use Rattle.tables.specs.PlacementLaws.{drive-below}
+use Rattle.tables.specs.Placement.{needed}
 use Rattle.tables.specs.Device.{Device}
-use Rattle.tables.specs.Tables.{lengthsFit, bufferFits, pointersBad, Tables, tablesOf, deviceOf, cell, sectorAt}
+use Rattle.tables.specs.Tables.{lengthsFit, bufferFits, pointersBad, Tables, tablesOf, deviceOf, cell}
 use Rattle.volume.specs.declared.State.{State}
 use Rattle.volume.specs.declared.Answer.{Answer}
 use Rattle.volume.specs.declared.Answer.the-variants.{Finished, Refused}
 use Rattle.volume.specs.State.{pointerIn, StateView, callPresent}
 use Rattle.volume.specs.Rules.{View, valueOf, known, zoneView, valueAt}
-use Rattle.volume.specs.ZoneChecks.{staleOn}
+use Rattle.volume.specs.ZoneChecks.{staleOn, Reached, reached}
 use Rattle.volume.specs.Refusals.{stateWithin, twoAbsent, leastApplying, staleIn, stale, noZone, badRun, unwritten, goneIn, zoneOf, offsetOf, readRows}
 use Rattle.tables.specs.Drives.{noDrive}
 use Rattle.tables.specs.GeometryTest.{isValid}
 use Rattle.tables.specs.TablesFrame.{lengths-are, pointers-good}
 use Rattle.volume.specs.CheckLaws.{presentList, present-is, absent-two, openingNumber, Opened, opened, after-four}
 use Rattle.volume.specs.OnTables.{recordAt, viewState, among, verdictNumber, lengthsOf, refusalOn}
-use Rattle.volume.specs.Knowing.{readDevice, Readable, heldOn}
-use Rattle.volume.specs.KnowingLaws.{sectors-alike, view-durable, written-is, held-is}
+use Rattle.volume.specs.Knowing.{readDevice, Readable, ownHeld, allHeld, ownSector}
+use Rattle.volume.specs.KnowingLaws.{sectors-alike, view-durable, written-is}
 use Rattle.volume.specs.KnowingValues.{value-held}
-
--- ---- address a is held
-abbrev pub ownHeld : Geometry → List Bool → List ℕ → ℕ → ℕ → Bool
-ownHeld g here ws z a = heldOn g here ws z (driveOf (g .drives) (g .unit) z a) (sectorOf (g .drives) (g .unit) a)
-
-abbrev pub allHeld : Geometry → List Bool → List ℕ → ℕ → ℕ → ℕ → Bool
-allHeld g here ws z offset count = allBelow (λ i. ownHeld g here ws z (offset + i)) count
-
--- its own bytes
-abbrev pub ownSector : Geometry → List ℕ → ℕ → ℕ → List ℕ
-ownSector g xs z a = sectorAt g xs (driveOf (g .drives) (g .unit) z a) (3 + z) (sectorOf (g .drives) (g .unit) a)
 
 -- ---- the rows after the opening: of a zone, and of count sectors from offset in it
 abbrev pub zoneRows : Geometry → (ℕ → Bool) → Device → StateView → ℕ → List (ℕ × Bool)
@@ -125,16 +113,6 @@ module _ (g : Geometry) (here : List Bool) (xs ws : List ℕ) (z : ℕ) (r : Rea
           ≡ b && staleIn (recordAt s z .condition) (getD ws (cell g d (3 + z)) 0) (needed (g .drives) (g .unit) z (pointerIn (recordAt s z .condition)) d)
       at d hd true e = ap (λ (n : ℕ). staleIn (recordAt s z .condition) n (needed (g .drives) (g .unit) z (pointerIn (recordAt s z .condition)) d)) (written-is g here xs ws z r d (3 + z) hd e (omega (arith, r .zone-in)))
       at d hd false e = refl
-
-  -- ---- what is held is known
-  pub held-known : (n a : ℕ) → Valid g → ownHeld g here ws z a ≡ true → known (g .drives) (g .unit) z (zoneView g (among here) (readDevice g xs ws) z n) a ≡ true
-  held-known n a ok h = rw (held-is g here xs ws z r n (driveOf (g .drives) (g .unit) z a) (sectorOf (g .drives) (g .unit) a) (drive-below (g .drives) (g .unit) z (omega (arith, ok .drives-least)) (ok .unit-least) a) ∙ h) refl
-
-  pub held-none-gone : (n offset count : ℕ) → Valid g → allHeld g here ws z offset count ≡ true → goneIn g (among here) (readDevice g xs ws) z n offset count ≡ false
-  unfolding goneIn
-  held-none-gone n offset count ok h =
-      none-any-below (λ i. not (known (g .drives) (g .unit) z (zoneView g (among here) (readDevice g xs ws) z n) (offset + i))) count
-      (λ i l. ap not (held-known n (offset + i) ok (all-below-all (λ i. ownHeld g here ws z (offset + i)) count i h l)))
 
   pub gone-none : (n offset count i : ℕ) → goneIn g (among here) (readDevice g xs ws) z n offset count ≡ false → i < count → known (g .drives) (g .unit) z (zoneView g (among here) (readDevice g xs ws) z n) (offset + i) ≡ true
   unfolding goneIn
@@ -230,6 +208,14 @@ zone-on-in g here ws s z h = go (ltb z (g .zones)) refl h
     go true e k = ltb-true z (g .zones) e
     go false e k = absurd (omega (arith, k))
 
+pub zone-on-fresh : (g : Geometry) (here : List Bool) (ws : List ℕ) (s : State) (z : ℕ) → zoneNumberOn g here ws s z ≡ 0 → staleOn g (among here) ws (recordAt s z .condition) z ≡ false
+unfolding zoneNumberOn
+zone-on-fresh g here ws s z h = go (staleOn g (among here) ws (recordAt s z .condition) z) (rw (lt-ltb z (g .zones) (zone-on-in g here ws s z h)) at h)
+  where
+    go : (b : Bool) → _≡_ {A = ℕ} (pick b 7 0) 0 → b ≡ false
+    go true k = absurd (omega (arith, k))
+    go false k = refl
+
 module _ (g : Geometry) (named : List Bool) (s : State) (a count bytes : ℕ) (xs ws ds : List ℕ) where
   abbrev first : ℕ
   first = openingNumber g named s count bytes (length xs) ws ds
@@ -280,6 +266,8 @@ module _ (g : Geometry) (named : List Bool) (s : State) (a count bytes : ℕ) (x
     pub passed : Opened g named s count bytes (length xs) ws ds
     pub zone-in : zoneOf g a < g .zones
     pub run-in : offsetOf g a + count ≤ zoneSectors g
+    pub reached-here : Reached g (presentList g named (s .lost)) ws (zoneOf g a) (pointerIn (recordAt s (zoneOf g a) .condition))
+    pub run-written : offsetOf g a + count ≤ pointerIn (recordAt s (zoneOf g a) .condition)
     pub none-gone : goneIn g (among (presentList g named (s .lost))) (readDevice g xs ws) (zoneOf g a) (recordAt s (zoneOf g a) .generation) (offsetOf g a) count ≡ false
 
   pub read-accepted : readNumber g named s a count bytes (tablesOf xs ws ds) ≡ 0 → ReadFits
@@ -289,7 +277,14 @@ module _ (g : Geometry) (named : List Bool) (s : State) (a count bytes : ℕ) (x
       let o = opened g named s count bytes (length xs) ws ds p in
       let z = zone-on-in g (presentList g named (s .lost)) ws s (zoneOf g a) (second-is o ∙ q) in
       let (u, v, w) = run-none (badRun g (offsetOf g a) count) (unwritten (viewState s) (zoneOf g a) (offsetOf g a) count) (goneIn g (among (presentList g named (s .lost))) (readDevice g xs ws) (zoneOf g a) (recordAt s (zoneOf g a) .generation) (offsetOf g a) count) (third-is ∙ t) in
-      record { passed = o; zone-in = z; run-in = ltb-false (zoneSectors g) (offsetOf g a + count) (or-none (eqb count 0) (ltb (zoneSectors g) (offsetOf g a + count)) u .1); none-gone = w }
+      record {
+        passed = o;
+        zone-in = z;
+        run-in = ltb-false (zoneSectors g) (offsetOf g a + count) (or-none (eqb count 0) (ltb (zoneSectors g) (offsetOf g a + count)) u .1);
+        reached-here = reached g (presentList g named (s .lost)) ws (recordAt s (zoneOf g a) .condition) (zoneOf g a) (o .drives) (zone-on-fresh g (presentList g named (s .lost)) ws s (zoneOf g a) (second-is o ∙ q));
+        run-written = ltb-false (pointerIn (recordAt s (zoneOf g a) .condition)) (offsetOf g a + count) v;
+        none-gone = w;
+      }
 
 -- ---- how a read ends
 module _ (g : Geometry) (named : List Bool) (s : State) (a count : ℕ) (out : List ℕ) (t : Tables) where

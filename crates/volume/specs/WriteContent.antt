@@ -1,34 +1,32 @@
--- The buffer of rows holds the content: while a write goes on from address to address it has, of each row of the stripe at hand, the exclusive or of
--- the content's sectors below the pointer. So the stores that follow from the buffer are those of the rules (dataStores, entryStores).
+-- The buffer of rows holds the content: while a write goes on from address to address it has, of each row begun of the stripe at hand, the exclusive or
+-- of the content's sectors below the pointer. So the stores that follow from the buffer are those of the rules (dataStores, entryStores).
 use mathlib.Core.Path.{_≡_, refl, sym, ap, ap₂, _∙_}
 use mathlib.Core.Logic.{_≢_}
 use mathlib.Core.Bool.{Bool, true, false}
 use Prim.Native.Nat.{ℕ, zero, suc, _+_, _-_, _*_, _/_, _%_, _≤_, _<_}
-use native.Mathlib.Nat.{div-add-mod'}
+use native.Mathlib.Nat.{div-add-mod', mod-eq-of-lt}
 use native.Mathlib.Decide.{ℕ-discrete, decLt}
 use native.Mathlib.Omega.{arith}
-use mathlib.Core.List.{List, [], _∷_}
-use lib.ListN.{length, take, drop, replicate}
+use mathlib.Core.List.{List, []}
+use lib.ListN.{length}
 use lib.Arith.{digits-div}
 use lib.Dec.{ltb}
 use borrow.Author.Tests.{lt-ltb, le-ltb, ltb-true}
 use Rattle.tables.specs.declared.Geometry.{Geometry}
 use Rattle.tables.specs.Basics.{pick}
 use Rattle.tables.specs.Lists.{overlay, length-overlay}
-use Rattle.tables.specs.Xor.{xorBytes, xorBelow, without, xor-nil, xor-bytes-assoc, xor-bytes-comm, xor-below-cong, xor-below-split, xor-below-length, without-self, without-other, length-xor}
+use Rattle.tables.specs.Xor.{xorBytes, xorBelow, without, xor-bytes-comm, xor-below-cong, xor-below-split, xor-below-length, without-self, without-other, length-xor}
 use Rattle.tables.specs.Geometry.{Valid, stripeSectors}
 use Rattle.tables.specs.Placement.{stripeOf, stripeLength, unitIndex, rowIndex, address}
 use Rattle.tables.specs.PlacementLaws.{stripe-pos, unit-index-below, row-index-below, unit-at, row-at, unit-row-lt, address-own}
 use Rattle.tables.specs.TablesLaws.{sector-laid, sector-elsewhere}
 use Rattle.volume.specs.Content.{rowXor, rowXorBelow}
 use Rattle.volume.specs.Columns.{row-xor-none}
-use Rattle.volume.specs.Calls.{dataStores, entryStores}
-use Rattle.volume.specs.WriteRows.{rowOf, withSector, row-inside, part-length}
+use Rattle.volume.specs.WriteRows.{rowOf, rowWith, withSector, row-inside, part-length}
 
--- the rows of stripe s, of the content's sectors below e
+-- the rows of stripe s that are begun, of the content's sectors below e
 pub record Holds (g : Geometry) (S : ℕ → List ℕ) (s e : ℕ) (rows : List ℕ) : Type 0 where
-  pub size : (k r : ℕ) → k + 1 < g .drives → r < g .unit → address (g .drives) (g .unit) s k r < e → length (S (address (g .drives) (g .unit) s k r)) ≡ g .sector
-  pub row : (r : ℕ) → r < g .unit → rowOf g rows r ≡ xorBytes (replicate (g .sector) 0) (rowXorBelow (g .drives) (g .unit) S s e r)
+  pub row : (r : ℕ) → r < g .unit → s * stripeSectors g + r < e → rowOf g rows r ≡ rowXorBelow (g .drives) (g .unit) S s e r
 
 -- ---- general laws
 ltb-suc : (x a : ℕ) → x ≢ a → ltb x (suc a) ≡ ltb x a
@@ -48,12 +46,6 @@ xor-below-full B f n i h e most = rw (xor-below-split f i n h, xor-bytes-comm (x
         go : Dec (k ≡ i) → length (without f i k) ≤ B
         go (yes q) = rw (q, without-self f i) (omega arith)
         go (no q) = rw (without-other f i k q) (most k l)
-
-replicate-part : (n m k : ℕ) → k + m ≤ n → take {A = ℕ} m (drop k (replicate n 0)) ≡ replicate m 0
-replicate-part n zero k h = refl
-replicate-part zero (suc m) k h = absurd (omega arith)
-replicate-part (suc n) (suc m) zero h = ap (λ (r : List ℕ). 0 ∷ r) (replicate-part n m zero (omega arith))
-replicate-part (suc n) (suc m) (suc k) h = replicate-part n (suc m) k (omega arith)
 
 -- ---- one address more: its own row gains its sector, the others stay
 module _ (D U : ℕ) (hD : 1 < D) (hU : zero < U) (S : ℕ → List ℕ) (a : ℕ) where
@@ -130,44 +122,65 @@ module _ (g : Geometry) (ok : Valid g) where
       let e : suc a ≡ suc (a / stripeSectors g) * stripeSectors g + zero = omega (arith, div-add-mod' a (stripeSectors g)) in
       (ap (λ (n : ℕ). n / stripeSectors g) e ∙ digits-div (suc (a / stripeSectors g)) (stripe-pos (g .drives) (g .unit) 0 two-drives (ok .unit-least)), omega (arith, e))
 
-  -- ---- the buffer: zeros hold the beginning of a stripe
-  pub holds-start : (S : ℕ → List ℕ) (s n : ℕ) → g .unit * g .sector ≤ n → Holds g S s (s * stripeSectors g) (replicate n 0)
-  unfolding address
-  holds-start S s n h = record {
-    size = λ k r hk hr l. absurd (omega arith);
-    row = λ r hr. replicate-part n (g .sector) (r * g .sector) (omega (arith, row-inside g r hr, h)) ∙ rw (row-xor-none (g .drives) (g .unit) S s (s * stripeSectors g) r (omega arith)) (sym (xor-nil (replicate (g .sector) 0)));
-  }
+  -- ---- the buffer: at a stripe's beginning no row is begun
+  pub holds-start : (S : ℕ → List ℕ) (s : ℕ) (rows : List ℕ) → Holds g S s (s * stripeSectors g) rows
+  holds-start S s rows = record { row = λ r hr l. absurd (omega arith) }
 
   -- the sector of address a added
   module _ (S : ℕ → List ℕ) (a : ℕ) (rows : List ℕ) (long : g .unit * g .sector ≤ length rows) (full : length (S a) ≡ g .sector) where
-    sum-long : length (xorBytes (rowOf g rows (rowIndex (g .drives) (g .unit) a)) (S a)) ≡ g .sector
-    sum-long =
-        let r = rowIndex (g .drives) (g .unit) a in
-        let l : length (rowOf g rows r) ≡ g .sector = part-length rows (r * g .sector) (g .sector) (omega (arith, row-inside g r (row-index-below (g .drives) (g .unit) 0 two-drives (ok .unit-least) a), long)) in
-        length-xor (rowOf g rows r) (S a) (omega arith) ∙ l
+    abbrev stripe : ℕ
+    stripe = stripeOf (g .drives) (g .unit) a
 
-    place-in : rowIndex (g .drives) (g .unit) a * g .sector + g .sector ≤ length rows
-    place-in = omega (arith, row-inside g (rowIndex (g .drives) (g .unit) a) (row-index-below (g .drives) (g .unit) 0 two-drives (ok .unit-least) a), long)
+    abbrev own : ℕ
+    own = rowIndex (g .drives) (g .unit) a
+
+    place-in : own * g .sector + g .sector ≤ length rows
+    place-in = omega (arith, row-inside g own (row-index-below (g .drives) (g .unit) 0 two-drives (ok .unit-least) a), long)
+
+    row-full : length (rowWith g a (S a) (rowOf g rows own)) ≡ g .sector
+    row-full = go (ltb (a % stripeSectors g) (g .unit))
+      where
+        go : (b : Bool) → length (pick b (S a) (xorBytes (rowOf g rows own) (S a))) ≡ g .sector
+        go true = full
+        go false =
+            let l : length (rowOf g rows own) ≡ g .sector = part-length rows (own * g .sector) (g .sector) place-in in
+            length-xor (rowOf g rows own) (S a) (omega arith) ∙ l
 
     pub added-length : length (withSector g a (S a) rows) ≡ length rows
     unfolding withSector
-    added-length = length-overlay rows (rowIndex (g .drives) (g .unit) a * g .sector) (xorBytes (rowOf g rows (rowIndex (g .drives) (g .unit) a)) (S a)) (omega (arith, sum-long, place-in))
+    added-length = length-overlay rows (own * g .sector) (rowWith g a (S a) (rowOf g rows own)) (omega (arith, row-full, place-in))
 
-    pub holds-more : Holds g S (stripeOf (g .drives) (g .unit) a) a rows → Holds g S (stripeOf (g .drives) (g .unit) a) (suc a) (withSector g a (S a) rows)
-    unfolding withSector
-    holds-more h = record { size = λ k r hk hr l. fits k r hk hr l (ℕ-discrete (address (g .drives) (g .unit) (stripeOf (g .drives) (g .unit) a) k r) a); row = λ r hr. go r hr (ℕ-discrete r (rowIndex (g .drives) (g .unit) a)) }
+    -- its place in the stripe: in the first unit it is its row's first sector, past it the row is begun
+    place : a ≡ stripe * stripeSectors g + a % stripeSectors g
+    unfolding stripeOf
+    place = omega (arith, div-add-mod' a (stripeSectors g))
+
+    row-first : a % stripeSectors g < g .unit → a ≤ stripe * stripeSectors g + own
+    unfolding rowIndex
+    row-first l = omega (arith, place, mod-eq-of-lt l)
+
+    row-begun : g .unit ≤ a % stripeSectors g → stripe * stripeSectors g + own < a
+    row-begun l = omega (arith, place, row-index-below (g .drives) (g .unit) 0 two-drives (ok .unit-least) a)
+
+    first-own : (r : ℕ) → r < g .unit → stripe * stripeSectors g + r ≡ a → r ≡ own
+    unfolding address
+    first-own r hr e = own-place (g .drives) (g .unit) two-drives (ok .unit-least) S a 0 r (omega (arith, ok .drives-least)) hr (omega (arith, e)) .1
+
+    own-with : Holds g S stripe a rows → rowWith g a (S a) (rowOf g rows own) ≡ rowXorBelow (g .drives) (g .unit) S stripe (suc a) own
+    own-with h = go (decLt (a % stripeSectors g) (g .unit)) ∙ sym (own-row (g .drives) (g .unit) two-drives (ok .unit-least) S a)
       where
-        fits : (k r : ℕ) → k + 1 < g .drives → r < g .unit → address (g .drives) (g .unit) (stripeOf (g .drives) (g .unit) a) k r < suc a → Dec (address (g .drives) (g .unit) (stripeOf (g .drives) (g .unit) a) k r ≡ a)
-            → length (S (address (g .drives) (g .unit) (stripeOf (g .drives) (g .unit) a) k r)) ≡ g .sector
-        fits k r hk hr l (yes e) = rw e full
-        fits k r hk hr l (no ne) = h .size k r hk hr (omega arith)
+        go : Dec (a % stripeSectors g < g .unit) → rowWith g a (S a) (rowOf g rows own) ≡ xorBytes (rowXorBelow (g .drives) (g .unit) S stripe a own) (S a)
+        go (yes l) = rw (lt-ltb (a % stripeSectors g) (g .unit) l, row-xor-none (g .drives) (g .unit) S stripe a own (row-first l)) refl
+        go (no l) =
+            let m : g .unit ≤ a % stripeSectors g = omega arith in
+            rw (le-ltb (a % stripeSectors g) (g .unit) m, h .row own (row-index-below (g .drives) (g .unit) 0 two-drives (ok .unit-least) a) (row-begun m)) refl
 
-        go : (r : ℕ) → r < g .unit → Dec (r ≡ rowIndex (g .drives) (g .unit) a)
-            → rowOf g (overlay rows (rowIndex (g .drives) (g .unit) a * g .sector) (xorBytes (rowOf g rows (rowIndex (g .drives) (g .unit) a)) (S a))) r ≡ xorBytes (replicate (g .sector) 0) (rowXorBelow (g .drives) (g .unit) S (stripeOf (g .drives) (g .unit) a) (suc a) r)
-        go r hr (yes e) =
-            let i = rowIndex (g .drives) (g .unit) a in
-            rw e (sector-laid (g .sector) rows i (xorBytes (rowOf g rows i) (S a)) sum-long place-in ∙ rw (own-row (g .drives) (g .unit) two-drives (ok .unit-least) S a, h .row i (row-index-below (g .drives) (g .unit) 0 two-drives (ok .unit-least) a))
-            (xor-bytes-assoc (replicate (g .sector) 0) (rowXorBelow (g .drives) (g .unit) S (stripeOf (g .drives) (g .unit) a) a i) (S a)))
-        go r hr (no ne) =
-            let i = rowIndex (g .drives) (g .unit) a in
-            sector-elsewhere (g .sector) rows i (xorBytes (rowOf g rows i) (S a)) sum-long place-in r ne ∙ h .row r hr ∙ rw (other-row (g .drives) (g .unit) two-drives (ok .unit-least) S a r hr ne) refl
+    pub holds-more : Holds g S stripe a rows → Holds g S stripe (suc a) (withSector g a (S a) rows)
+    unfolding withSector
+    holds-more h = record { row = λ r hr l. go r hr l (ℕ-discrete r own) }
+      where
+        go : (r : ℕ) → r < g .unit → stripe * stripeSectors g + r < suc a → Dec (r ≡ own) → rowOf g (overlay rows (own * g .sector) (rowWith g a (S a) (rowOf g rows own))) r ≡ rowXorBelow (g .drives) (g .unit) S stripe (suc a) r
+        go r hr l (yes e) = rw e (sector-laid (g .sector) rows own (rowWith g a (S a) (rowOf g rows own)) row-full place-in ∙ own-with h)
+        go r hr l (no ne) =
+            let n : stripe * stripeSectors g + r ≢ a = λ q. ne (first-own r hr q) in
+            sector-elsewhere (g .sector) rows own (rowWith g a (S a) (rowOf g rows own)) row-full place-in r ne ∙ h .row r hr (omega (arith, n)) ∙ sym (other-row (g .drives) (g .unit) two-drives (ok .unit-least) S a r hr ne)

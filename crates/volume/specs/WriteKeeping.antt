@@ -7,15 +7,15 @@ use native.Mathlib.Nat.{mul-le-mul-right, suc-mul}
 use native.Mathlib.Decide.{decLt}
 use native.Mathlib.Omega.{arith}
 use mathlib.Core.List.{List}
-use lib.ListN.{length, take, drop, replicate, length-replicate}
+use lib.ListN.{length, take, drop}
 use lib.Dec.{ltb}
 use borrow.Author.Tests.{lt-ltb, le-ltb}
 use Rattle.tables.specs.declared.Geometry.{Geometry}
 use Rattle.tables.specs.Basics.{pick, not-not}
-use Rattle.tables.specs.Below.{any-below-false, tabulateFrom, getD-tabulate-from}
+use Rattle.tables.specs.Below.{all-below-all, any-below-false, tabulateFrom, getD-tabulate-from}
 use Rattle.tables.specs.Device.{Device}
 use Rattle.tables.specs.Geometry.{Valid, stripeSectors, zoneSectors}
-use Rattle.tables.specs.Placement.{stripeOf, address}
+use Rattle.tables.specs.Placement.{stripeOf}
 use Rattle.tables.specs.PlacementLaws.{stripe-below, stripe-above}
 use Rattle.tables.specs.Tables.{sectorNo}
 use Rattle.volume.specs.Content.{at, fillOf, parityDriveAt}
@@ -24,10 +24,11 @@ use Rattle.volume.specs.Rules.{known, zoneView, valueAt}
 use Rattle.volume.specs.Refusals.{goneIn, goneBefore}
 use Rattle.volume.specs.Answers.{sectorsIn}
 use Rattle.volume.specs.OnTables.{among}
-use Rattle.volume.specs.Knowing.{Readable, readDevice}
+use Rattle.volume.specs.Knowing.{Readable, readDevice, ownHeld, allHeld, ownSector}
+use Rattle.volume.specs.KnowingValues.{own-long, value-held}
 use Rattle.volume.specs.WriteRows.{part-length}
 use Rattle.volume.specs.WriteContent.{Holds}
-use Rattle.volume.specs.WriteStores.{Kept, rowsWith, rows-begin}
+use Rattle.volume.specs.WriteStores.{Kept, rowsWith, rows-with-cong, rows-begin}
 
 -- ---- the values that are kept
 -- count sectors from `start` on are as long as a sector
@@ -55,30 +56,38 @@ pub known-before : (g : Geometry) (present : ℕ → Bool) (v : Device) (z n poi
 unfolding goneBefore
 known-before g present v z n pointer h p = rw p at h
 
+-- sectors that are held are added straight from the tables: their own bytes are their values
+module _ (g : Geometry) (ok : Valid g) (here : List Bool) (xs ws : List ℕ) (z : ℕ) (r : Readable g here xs ws z) (n start count : ℕ) (inside : start + count ≤ zoneSectors g) (held : allHeld g here ws z start count ≡ true) where
+  own-value : (i : ℕ) → i < count → ownSector g xs z (start + i) ≡ valueAt g (among here) (readDevice g xs ws) z n (start + i)
+  own-value i h = sym (value-held g here xs ws z r ok n (start + i) (omega (arith, h, inside)) (all-below-all (λ i. ownHeld g here ws z (start + i)) count i held h))
+
+  pub held-rows : (rows : List ℕ) → rowsWith g (ownSector g xs z) start rows count ≡ rowsWith g (valueAt g (among here) (readDevice g xs ws) z n) start rows count
+  held-rows rows = rows-with-cong g (ownSector g xs z) (valueAt g (among here) (readDevice g xs ws) z n) start rows count own-value
+
+  pub held-long : SectorsLong g (valueAt g (among here) (readDevice g xs ws) z n) start count
+  held-long = record { long = λ j h. sym (ap (λ (x : List ℕ). length x) (own-value j h)) ∙ own-long g xs z (start + j) ok (r .zone-in) (omega (arith, h, inside)) (r .sectors-long) }
+
 -- ---- the buffer that is kept
 module _ (g : Geometry) (ok : Valid g) (present : ℕ → Bool) (z : ℕ) (S : ℕ → List ℕ) where
-  pub kept-rows : (n m : ℕ) → g .unit * g .sector ≤ m → SectorsLong g S (stripeOf (g .drives) (g .unit) n * stripeSectors g) (fillOf g n)
-      → Kept g present z S n (rowsWith g S (stripeOf (g .drives) (g .unit) n * stripeSectors g) (replicate m 0) (fillOf g n))
-  kept-rows n m h l =
+  pub kept-rows : (n : ℕ) (rows : List ℕ) → g .unit * g .sector ≤ length rows → SectorsLong g S (stripeOf (g .drives) (g .unit) n * stripeSectors g) (fillOf g n)
+      → Kept g present z S n (rowsWith g S (stripeOf (g .drives) (g .unit) n * stripeSectors g) rows (fillOf g n))
+  kept-rows n rows h l =
       let s = stripeOf (g .drives) (g .unit) n in
       let lo = stripe-below (g .drives) (g .unit) 0 (omega (arith, ok .drives-least)) (ok .unit-least) n in
       let hi = stripe-above (g .drives) (g .unit) 0 (omega (arith, ok .drives-least)) (ok .unit-least) n in
       let e : s * stripeSectors g + fillOf g n ≡ n = omega (arith, lo) in
-      let (p, q) = rows-begin g ok S s m h (fillOf g n) (omega (arith, lo, hi)) (l .long) in
-      record { long = omega (arith, q, h); held = λ _. subst (λ (x : ℕ). Holds g S s x (rowsWith g S (s * stripeSectors g) (replicate m 0) (fillOf g n))) e p }
+      let (p, q) = rows-begin g ok S s rows h (fillOf g n) (omega (arith, lo, hi)) (l .long) in
+      record { long = omega (arith, q, h); held = λ _. subst (λ (x : ℕ). Holds g S s x (rowsWith g S (s * stripeSectors g) rows (fillOf g n))) e p }
 
-  -- zeros will do where the parity drive is not present
-  pub kept-none : (n m : ℕ) → g .unit * g .sector ≤ m → present (parityDriveAt g z n) ≡ false → Kept g present z S n (replicate m 0)
-  kept-none n m h p = record { long = rw (length-replicate {A = ℕ} m 0) h; held = λ q. absurd (true≢false (sym q ∙ p)) }
+  -- any buffer will do where the parity drive is not present
+  pub kept-none : (n : ℕ) (rows : List ℕ) → g .unit * g .sector ≤ length rows → present (parityDriveAt g z n) ≡ false → Kept g present z S n rows
+  kept-none n rows h p = record { long = h; held = λ q. absurd (true≢false (sym q ∙ p)) }
 
   -- only the content below the pointer matters
   pub kept-cong : (S′ : ℕ → List ℕ) (n : ℕ) (rows : List ℕ) → ((a : ℕ) → a < n → S a ≡ S′ a) → Kept g present z S n rows → Kept g present z S′ n rows
   kept-cong S′ n rows h k = record {
     long = k .long;
-    held = λ p. record {
-      size = λ j r hj hr l. sym (ap (λ (x : List ℕ). length x) (h (address (g .drives) (g .unit) (stripeOf (g .drives) (g .unit) n) j r) l)) ∙ k .held p .size j r hj hr l;
-      row = λ r hr. k .held p .row r hr ∙ rw (row-xor-below-cong (g .drives) (g .unit) S S′ (stripeOf (g .drives) (g .unit) n) n r h) refl;
-    };
+    held = λ p. record { row = λ r hr l. k .held p .row r hr l ∙ row-xor-below-cong (g .drives) (g .unit) S S′ (stripeOf (g .drives) (g .unit) n) n r h };
   }
 
 -- ---- the content

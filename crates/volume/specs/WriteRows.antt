@@ -4,14 +4,14 @@ use Rattle.tables.specs.Below.{tabulate-from-add, tabulateFrom}
 use Rattle.tables.specs.Geometry.{Valid, stripeSectors, cells, totalBytes}
 use Rattle.tables.specs.Tables.{storeIf, sectorNo}
 use native.Mathlib.Nat.{suc-mul, mul-le-mul, mul-le-mul-right}
-use Prim.Native.Nat.{ℕ, zero, suc, _+_, _-_, _*_, _%_, _≤_, _<_, min}
+use Prim.Native.Nat.{ℕ, zero, suc, _+_, _*_, _%_, _≤_, _<_, min}
 use mathlib.Core.Path.{_≡_, refl, sym, ap, _∙_}
 use mathlib.Core.Bool.{Bool, true, false}
 use native.Mathlib.Omega.{arith}
 use mathlib.Core.List.{List, [], _∷_, _++_, append-assoc}
-use lib.ListN.{length, replicate, take, drop, length-drop}
+use lib.ListN.{length, replicate, take, drop, length-drop, length-replicate}
 use lib.Seq.{drop-drop, length-take-le}
-use lib.Dec.{eqb}
+use lib.Dec.{eqb, ltb}
 use borrow.Author.Tests.{eq-eqb, ne-eqb, lt-ltb, le-ltb}
 use Rattle.tables.specs.Phases.{onPresent, on-present-append}
 use Rattle.tables.specs.declared.Geometry.{Geometry}
@@ -29,17 +29,17 @@ use Rattle.volume.specs.Calls.{appendAll}
 abbrev pub rowOf : Geometry → List ℕ → ℕ → List ℕ
 rowOf g rows r = sectorNo (g .sector) rows r
 
+-- the row of address a with its sector: one of the stripe's first unit begins the row, whatever the row held
+abbrev pub rowWith : Geometry → ℕ → List ℕ → List ℕ → List ℕ
+rowWith g a src row = pick (ltb (a % stripeSectors g) (g .unit)) src (xorBytes row src)
+
 -- the buffer with the sector of address a added to its row
 unfoldable pub withSector : Geometry → ℕ → List ℕ → List ℕ → List ℕ
-withSector g a src rows = overlay rows (rowIndex (g .drives) (g .unit) a * g .sector) (xorBytes (rowOf g rows (rowIndex (g .drives) (g .unit) a)) src)
+withSector g a src rows = overlay rows (rowIndex (g .drives) (g .unit) a * g .sector) (rowWith g a src (rowOf g rows (rowIndex (g .drives) (g .unit) a)))
 
 -- a is its stripe's last address
 abbrev pub endsStripe : Geometry → ℕ → Bool
 endsStripe g a = eqb (suc (a % stripeSectors g)) (stripeSectors g)
-
--- the buffer after address a: with the stripe's end a new one begins
-unfoldable pub rowsAfter : Geometry → ℕ → List ℕ → List ℕ → List ℕ
-rowsAfter g a src rows = pick (endsStripe g a) (replicate (length rows) 0) (withSector g a src rows)
 
 -- ---- the stores that follow from it
 -- its first n rows, on zone y of drive d
@@ -53,7 +53,7 @@ addressStores g z a src rows = append (driveOf (g .drives) (g .unit) z a) (3 + z
 -- the sectors of a list of bytes, written from address n on: the buffer after i of them, and their stores
 abbrev pub rowsAt : Geometry → ℕ → List ℕ → List ℕ → ℕ → List ℕ
 rowsAt g n bytes rows zero = rows
-rowsAt g n bytes rows (suc i) = rowsAfter g (n + i) (sectorNo (g .sector) bytes i) (rowsAt g n bytes rows i)
+rowsAt g n bytes rows (suc i) = withSector g (n + i) (sectorNo (g .sector) bytes i) (rowsAt g n bytes rows i)
 
 abbrev pub runOf : Geometry → ℕ → ℕ → List ℕ → List ℕ → ℕ → List Store
 runOf g z n bytes rows zero = []
@@ -79,6 +79,9 @@ rows-small g ok = mul-le-mul {n₂ = 16} {m₂ = 4096} (ok .unit-most) (ok .sect
 
 pub part-length : (xs : List ℕ) (from n : ℕ) → from + n ≤ length xs → length (take n (drop from xs)) ≡ n
 part-length xs from n h = length-take-le n (drop from xs) (rw length-drop (omega arith))
+
+pub zeros-front : (n m : ℕ) → m ≤ n → length (take {A = ℕ} m (replicate n 0)) ≡ m
+zeros-front n m h = length-take-le m (replicate n 0) (rw (length-replicate {A = ℕ} n 0) h)
 
 -- a part of a list changed in place
 pub put-overlay : (xs ys : List ℕ) (from n : ℕ) → length ys ≡ n → take from xs ++ (ys ++ drop n (drop from xs)) ≡ overlay xs from ys
@@ -123,20 +126,20 @@ present-one p d y s = go (p d)
 
 module _ (g : Geometry) (present : ℕ → Bool) (z a : ℕ) (src rows : List ℕ) where
   pub address-inside : suc (a % stripeSectors g) < stripeSectors g
-      → (onPresent present (addressStores g z a src rows) ≡ storeIf (present (driveOf (g .drives) (g .unit) z a)) (append (driveOf (g .drives) (g .unit) z a) (3 + z) src)) × (rowsAfter g a src rows ≡ withSector g a src rows)
-  unfolding addressStores rowsAfter
+      → onPresent present (addressStores g z a src rows) ≡ storeIf (present (driveOf (g .drives) (g .unit) z a)) (append (driveOf (g .drives) (g .unit) z a) (3 + z) src)
+  unfolding addressStores
   address-inside h =
       let e : eqb (suc (a % stripeSectors g)) (stripeSectors g) ≡ false = ne-eqb (suc (a % stripeSectors g)) (stripeSectors g) (omega arith) in
-      rw e (present-one present (driveOf (g .drives) (g .unit) z a) (3 + z) src, refl)
+      rw e (present-one present (driveOf (g .drives) (g .unit) z a) (3 + z) src)
 
   pub address-last : suc (a % stripeSectors g) ≡ stripeSectors g
-      → (onPresent present (addressStores g z a src rows) ≡ storeIf (present (driveOf (g .drives) (g .unit) z a)) (append (driveOf (g .drives) (g .unit) z a) (3 + z) src) ++ onPresent present (rowStores g (parityDrive (g .drives) z (stripeOf (g .drives) (g .unit) a)) (3 + z) (withSector g a src rows) (g .unit)))
-      × (rowsAfter g a src rows ≡ replicate (length rows) 0)
-  unfolding addressStores rowsAfter
+      → onPresent present (addressStores g z a src rows)
+      ≡ storeIf (present (driveOf (g .drives) (g .unit) z a)) (append (driveOf (g .drives) (g .unit) z a) (3 + z) src) ++ onPresent present (rowStores g (parityDrive (g .drives) z (stripeOf (g .drives) (g .unit) a)) (3 + z) (withSector g a src rows) (g .unit))
+  unfolding addressStores
   address-last h =
       let d = driveOf (g .drives) (g .unit) z a in
       let r = rowStores g (parityDrive (g .drives) z (stripeOf (g .drives) (g .unit) a)) (3 + z) (withSector g a src rows) (g .unit) in
-      rw (eq-eqb (suc (a % stripeSectors g)) (stripeSectors g) h) (on-present-append present (append d (3 + z) src ∷ []) r ∙ ap (λ (l : List Store). l ++ onPresent present r) (present-one present d (3 + z) src), refl)
+      rw (eq-eqb (suc (a % stripeSectors g)) (stripeSectors g) h) (on-present-append present (append d (3 + z) src ∷ []) r ∙ ap (λ (l : List Store). l ++ onPresent present r) (present-one present d (3 + z) src))
 
 -- ---- laws: the entry
 pub entry-stores : (g : Geometry) (present : ℕ → Bool) (z generation : ℕ) (rows : List ℕ) (n : ℕ) → stripeOf (g .drives) (g .unit) n * stripeSectors g < n

@@ -7,13 +7,12 @@ use native.Mathlib.Nat.{mod-lt, mul-le-mul-right}
 use native.Mathlib.Decide.{ℕ-discrete, decLt}
 use native.Mathlib.Omega.{arith}
 use mathlib.Core.List.{List, [], _∷_, _++_, append-assoc, append-nil}
-use lib.ListN.{length, replicate, length-replicate}
+use lib.ListN.{length}
 use lib.Arith.{digits-div}
 use borrow.Author.Tests.{lt-ltb, le-ltb, eq-eqb, ne-eqb}
 use Rattle.tables.specs.declared.Geometry.{Geometry}
 use Rattle.tables.specs.Basics.{pick}
 use Rattle.tables.specs.Below.{tabulateFrom, tabulate-from-cong}
-use Rattle.tables.specs.Xor.{xor-zeros}
 use Rattle.tables.specs.Device.{Store, append}
 use Rattle.tables.specs.Phases.{onPresent, on-present-append}
 use Rattle.tables.specs.Geometry.{Valid, stripeSectors}
@@ -23,8 +22,8 @@ use Rattle.tables.specs.Tables.{sectorNo}
 use Rattle.logs.specs.Entry.{parityZone, encode}
 use Rattle.volume.specs.Content.{rowXor, rowXorBelow, insideStripe, fillOf, parityDriveAt, entryHeader, entryAt}
 use Rattle.volume.specs.Calls.{appendAll, sectorStores, dataStores, entryStores, writeWith}
-use Rattle.volume.specs.WriteRows.{rowOf, withSector, rowsAfter, rowStores, addressStores, rowsAt, runOf, entryOf, present-all}
-use Rattle.volume.specs.WriteContent.{Holds, row-long, row-complete, stripe-next, stripe-last, holds-start, added-length, holds-more}
+use Rattle.volume.specs.WriteRows.{rowOf, withSector, rowStores, addressStores, rowsAt, runOf, entryOf, present-all}
+use Rattle.volume.specs.WriteContent.{Holds, row-complete, stripe-next, stripe-last, holds-start, added-length, holds-more}
 
 -- the buffer at pointer a, as far as it matters: no row is stored on a parity drive that is not present
 pub record Kept (g : Geometry) (present : ℕ → Bool) (z : ℕ) (S : ℕ → List ℕ) (a : ℕ) (rows : List ℕ) : Type 0 where
@@ -64,8 +63,7 @@ module _ (g : Geometry) (ok : Valid g) (present : ℕ → Bool) (z : ℕ) (S : �
         let s = stripeOf (g .drives) (g .unit) a in
         let e : suc a ≡ suc s * stripeSectors g = stripe-last g ok a h .1 in
         let k : r < stripeSectors g = (unfold stripeLength in omega (arith, le-times′)) in
-        added p .row r hr ∙ xor-zeros (g .sector) (rowXorBelow (g .drives) (g .unit) S s (suc a) r) (row-long g ok S s (suc a) r hr (omega arith) (λ k hk l. added p .size k r hk hr l))
-        ∙ ap (λ (n : ℕ). rowXorBelow (g .drives) (g .unit) S s n r) e ∙ row-complete (g .drives) (g .unit) two-drives S s r (ok .unit-least) hr
+        added p .row r hr (omega (arith, e, k)) ∙ ap (λ (n : ℕ). rowXorBelow (g .drives) (g .unit) S s n r) e ∙ row-complete (g .drives) (g .unit) two-drives S s r (ok .unit-least) hr
       where
         le-times′ : g .unit ≤ (g .drives - 1) * g .unit
         le-times′ = let q : 1 ≤ g .drives - 1 = omega (arith, ok .drives-least) in omega (arith, mul-le-mul-right (g .unit) q)
@@ -79,21 +77,16 @@ module _ (g : Geometry) (ok : Valid g) (present : ℕ → Bool) (z : ℕ) (S : �
             (rows-same g present (parityDrive (g .drives) z (stripeOf (g .drives) (g .unit) a)) (3 + z) (withSector g a (S a) rows) (rowXor (g .drives) (g .unit) S (stripeOf (g .drives) (g .unit) a)) (g .unit) (parity-rows e)))
         go (no ne) = rw (ne-eqb (suc (a % stripeSectors g)) (stripeSectors g) ne) refl
 
-    pub address-kept : Kept g present z S (suc a) (rowsAfter g a (S a) rows)
-    unfolding rowsAfter
-    address-kept = go (ℕ-discrete (suc (a % stripeSectors g)) (stripeSectors g))
+    pub address-kept : Kept g present z S (suc a) (withSector g a (S a) rows)
+    address-kept = record { long = rw (added-length g ok S a rows (kept .long) full) (kept .long); held = λ p. go p (ℕ-discrete (suc (a % stripeSectors g)) (stripeSectors g)) }
       where
-        go : Dec (suc (a % stripeSectors g) ≡ stripeSectors g) → Kept g present z S (suc a) (rowsAfter g a (S a) rows)
-        go (yes e) = rw (eq-eqb (suc (a % stripeSectors g)) (stripeSectors g) e) (record {
-          long = rw (length-replicate {A = ℕ} (length rows) 0) (kept .long);
-          held = λ p. rw (stripe-last g ok a e .0) (subst (λ (n : ℕ). Holds g S (suc (stripeOf (g .drives) (g .unit) a)) n (replicate (length rows) 0)) (sym (stripe-last g ok a e .1)) (holds-start g ok S (suc (stripeOf (g .drives) (g .unit) a)) (length rows) (kept .long)));
-        })
-        go (no ne) =
+        go : present (parityDrive (g .drives) z (stripeOf (g .drives) (g .unit) (suc a))) ≡ true → Dec (suc (a % stripeSectors g) ≡ stripeSectors g) → Holds g S (stripeOf (g .drives) (g .unit) (suc a)) (suc a) (withSector g a (S a) rows)
+        go p (yes e) =
+            let s = suc (stripeOf (g .drives) (g .unit) a) in
+            rw (stripe-last g ok a e .0) (subst (λ (n : ℕ). Holds g S s n (withSector g a (S a) rows)) (sym (stripe-last g ok a e .1)) (holds-start g ok S s (withSector g a (S a) rows)))
+        go p (no ne) =
             let h : suc (a % stripeSectors g) < stripeSectors g = omega (arith, mod-lt a (stripe-pos (g .drives) (g .unit) 0 two-drives (ok .unit-least))) in
-            rw (ne-eqb (suc (a % stripeSectors g)) (stripeSectors g) ne) (record {
-              long = rw (added-length g ok S a rows (kept .long) full) (kept .long);
-              held = λ p. rw (stripe-next g ok a h) (added (rw (stripe-next g ok a h) at p));
-            })
+            rw (stripe-next g ok a h) (added (rw (stripe-next g ok a h) at p))
 
   -- ---- a run of addresses, its sectors those of a list of bytes
   pub run-is : (n : ℕ) (bytes rows : List ℕ) (k : ℕ) → ((i : ℕ) → i < k → (S (n + i) ≡ sectorNo (g .sector) bytes i) × (length (S (n + i)) ≡ g .sector)) → Kept g present z S n rows
@@ -108,7 +101,7 @@ module _ (g : Geometry) (ok : Valid g) (present : ℕ → Bool) (z : ℕ) (S : �
             ∙ ap₂ (λ (x y : List Store). x ++ y) p (ap (λ (s : List ℕ). onPresent present (addressStores g z (n + k) s before)) (sym e) ∙ address-stores (n + k) before full q)
             ∙ sym (on-present-append present (dataStores (g .drives) (g .unit) z S n k) (sectorStores (g .drives) (g .unit) z S (n + k)))
             ∙ ap (onPresent present) (sym (data-snoc (g .drives) (g .unit) z S n k)),
-        rw f (subst (λ (s : List ℕ). Kept g present z S (suc (n + k)) (rowsAfter g (n + k) s before)) e (address-kept (n + k) before full q)),
+        rw f (subst (λ (s : List ℕ). Kept g present z S (suc (n + k)) (withSector g (n + k) s before)) e (address-kept (n + k) before full q)),
       )
 
   -- ---- the entry at pointer n
@@ -118,10 +111,7 @@ module _ (g : Geometry) (ok : Valid g) (present : ℕ → Bool) (z : ℕ) (S : �
   entry-is generation n rows kept = go (decLt (stripeOf (g .drives) (g .unit) n * stripeSectors g) n)
     where
       row : present (parityDriveAt g z n) ≡ true → (r : ℕ) → r < min (fillOf g n) (g .unit) → rowOf g rows r ≡ rowXorBelow (g .drives) (g .unit) S (stripeOf (g .drives) (g .unit) n) n r
-      row p r h =
-          let s = stripeOf (g .drives) (g .unit) n in
-          let hr : r < g .unit = omega arith in
-          kept .held p .row r hr ∙ xor-zeros (g .sector) (rowXorBelow (g .drives) (g .unit) S s n r) (row-long g ok S s n r hr (omega arith) (λ k hk l. kept .held p .size k r hk hr l))
+      row p r h = kept .held p .row r (omega arith) (omega arith)
 
       go : Dec (stripeOf (g .drives) (g .unit) n * stripeSectors g < n) → onPresent present (pick (insideStripe g n) (entryOf g z generation rows n) []) ≡ onPresent present (pick (insideStripe g n) (entryStores g z generation S n) [])
       go (yes h) = rw (lt-ltb (stripeOf (g .drives) (g .unit) n * stripeSectors g) n h)
@@ -143,14 +133,18 @@ abbrev pub rowsWith : Geometry → (ℕ → List ℕ) → ℕ → List ℕ → �
 rowsWith g f start rows zero = rows
 rowsWith g f start rows (suc i) = withSector g (start + i) (f (start + i)) (rowsWith g f start rows i)
 
-pub rows-begin : (g : Geometry) → Valid g → (S : ℕ → List ℕ) (s n : ℕ) → g .unit * g .sector ≤ n → (i : ℕ) → i ≤ stripeSectors g → ((j : ℕ) → j < i → length (S (s * stripeSectors g + j)) ≡ g .sector)
-    → Holds g S s (s * stripeSectors g + i) (rowsWith g S (s * stripeSectors g) (replicate n 0) i) × (length (rowsWith g S (s * stripeSectors g) (replicate n 0) i) ≡ n)
-rows-begin g ok S s n h zero l full = let e : s * stripeSectors g + zero ≡ s * stripeSectors g = omega arith in (rw e (holds-start g ok S s n h), length-replicate {A = ℕ} n 0)
-rows-begin g ok S s n h (suc i) l full =
-    let (p, q) = rows-begin g ok S s n h i (omega arith) (λ j m. full j (omega arith)) in
+pub rows-with-cong : (g : Geometry) (f h : ℕ → List ℕ) (start : ℕ) (rows : List ℕ) (n : ℕ) → ((i : ℕ) → i < n → f (start + i) ≡ h (start + i)) → rowsWith g f start rows n ≡ rowsWith g h start rows n
+rows-with-cong g f h start rows zero e = refl
+rows-with-cong g f h start rows (suc n) e = ap₂ (λ (s r : List ℕ). withSector g (start + n) s r) (e n (omega arith)) (rows-with-cong g f h start rows n (λ i l. e i (omega arith)))
+
+pub rows-begin : (g : Geometry) → Valid g → (S : ℕ → List ℕ) (s : ℕ) (rows : List ℕ) → g .unit * g .sector ≤ length rows → (i : ℕ) → i ≤ stripeSectors g → ((j : ℕ) → j < i → length (S (s * stripeSectors g + j)) ≡ g .sector)
+    → Holds g S s (s * stripeSectors g + i) (rowsWith g S (s * stripeSectors g) rows i) × (length (rowsWith g S (s * stripeSectors g) rows i) ≡ length rows)
+rows-begin g ok S s rows h zero l full = let e : s * stripeSectors g + zero ≡ s * stripeSectors g = omega arith in (rw e (holds-start g ok S s rows), refl)
+rows-begin g ok S s rows h (suc i) l full =
+    let (p, q) = rows-begin g ok S s rows h i (omega arith) (λ j m. full j (omega arith)) in
     let a = s * stripeSectors g + i in
-    let rows = rowsWith g S (s * stripeSectors g) (replicate n 0) i in
-    let long : g .unit * g .sector ≤ length rows = omega arith in
+    let before = rowsWith g S (s * stripeSectors g) rows i in
+    let long : g .unit * g .sector ≤ length before = omega arith in
     let e : s * stripeSectors g + suc i ≡ suc a = omega arith in
     let t : stripeOf (g .drives) (g .unit) a ≡ s = (unfold stripeOf in digits-div s (omega arith)) in
-    (rw e (subst (λ (y : ℕ). Holds g S y (suc a) (withSector g a (S a) rows)) t (holds-more g ok S a rows long (full i (omega arith)) (subst (λ (y : ℕ). Holds g S y a rows) (sym t) p))), added-length g ok S a rows long (full i (omega arith)) ∙ q)
+    (rw e (subst (λ (y : ℕ). Holds g S y (suc a) (withSector g a (S a) before)) t (holds-more g ok S a before long (full i (omega arith)) (subst (λ (y : ℕ). Holds g S y a before) (sym t) p))), added-length g ok S a before long (full i (omega arith)) ∙ q)

@@ -2,22 +2,23 @@
 -- they are what the rules say of the device that the tables stand for.
 use mathlib.Core.Path.{_≡_, refl, ap}
 use mathlib.Core.Bool.{Bool, true, false, _&&_, _||_, not}
-use Prim.Native.Nat.{ℕ, _+_, _-_, _≤_, _<_}
+use Prim.Native.Nat.{ℕ, _+_, _-_, _*_, _≤_, _<_}
 use native.Mathlib.Omega.{arith}
 use mathlib.Core.List.{List}
 use lib.ListN.{length, getD}
 use lib.Dec.{ltb, leb, eqb}
-use borrow.Author.Tests.{lt-ltb, leb-true}
+use borrow.Author.Tests.{lt-ltb, ltb-false, leb-true, eqb-true}
 use Rattle.tables.specs.declared.Geometry.{Geometry}
-use Rattle.tables.specs.Basics.{and-split}
+use Rattle.tables.specs.Basics.{and-split, not-not, not-both}
 use Rattle.tables.specs.Drives.{noDrive}
-use Rattle.tables.specs.Below.{allBelow, anyBelow, any-below-cong, all-below-all}
-use Rattle.tables.specs.Geometry.{physicalZones, zoneSectors}
-use Rattle.tables.specs.Placement.{needed}
+use Rattle.tables.specs.Below.{allBelow, anyBelow, any-below-cong, any-below-false, all-below-all, countBelow}
+use Rattle.tables.specs.Geometry.{physicalZones, zoneSectors, stripeSectors}
+use Rattle.tables.specs.Placement.{needed, stripeOf}
 use Rattle.tables.specs.Tables.{Tables, tablesOf, cell, deviceOf, pointersBad}
 use Rattle.tables.specs.TablesLaws.{device-pointer, device-length}
 use Rattle.tables.specs.TablesFrame.{pointers-good}
 use Rattle.volume.specs.declared.Condition.{Condition}
+use Rattle.volume.specs.declared.Condition.the-variants.{Empty, Open, Sealed, Worn}
 use Rattle.volume.specs.declared.State.{State}
 use Rattle.volume.specs.State.{pointerIn, StateView, callPresent}
 use Rattle.volume.specs.Refusals.{staleIn, stale, unusedBelow, stateWithin}
@@ -30,6 +31,33 @@ staleOn g present ws c z = anyBelow (λ d. present d && staleIn c (getD ws (cell
 -- some present drive has fewer than n sectors of that log unused
 unfoldable pub unusedOn : Geometry → (ℕ → Bool) → List ℕ → ℕ → ℕ → Bool
 unusedOn g present ws log n = anyBelow (λ d. present d && ltb (g .capacity - getD ws (cell g d log) 0) n) (g .drives)
+
+-- reading below `end`, which is at or below pointer n, needs the logs: a drive is absent, and the pointer's own stripe is read
+unfoldable pub needsLog : Geometry → List Bool → ℕ → ℕ → Bool
+needsLog g here n end = ltb 0 (countBelow (λ d. not (among here d)) (g .drives)) && ltb (stripeOf (g .drives) (g .unit) n * stripeSectors g) end
+
+-- ---- what passing refusals 4 and 7 gives of a zone with pointer n: at most one drive is absent, and every other has at least what n needs
+pub record Reached (g : Geometry) (here : List Bool) (ws : List ℕ) (z n : ℕ) : Type 0 where
+  pub one-absent : countBelow (λ d. not (among here d)) (g .drives) ≤ 1
+  pub reaches : (d : ℕ) → d < g .drives → among here d ≡ true → needed (g .drives) (g .unit) z n d ≤ getD ws (cell g d (3 + z)) 0
+
+pub second-fails : (p q : Bool) → p ≡ true → p && q ≡ false → q ≡ false
+second-fails true q e h = h
+second-fails false q e h = not-both false e refl
+
+not-stale-reaches : (c : Condition) (written needs : ℕ) → staleIn c written needs ≡ false → needs ≤ written
+not-stale-reaches Empty written needs h = omega (arith, eqb-true written needs (not-not (eqb written needs) h))
+not-stale-reaches (Open n) written needs h = omega (arith, eqb-true written needs (not-not (eqb written needs) h))
+not-stale-reaches (Sealed n) written needs h = ltb-false written needs h
+not-stale-reaches (Worn n) written needs h = ltb-false written needs h
+
+pub reached : (g : Geometry) (here : List Bool) (ws : List ℕ) (c : Condition) (z : ℕ) → ltb 1 (countBelow (λ d. not (among here d)) (g .drives)) ≡ false → staleOn g (among here) ws c z ≡ false → Reached g here ws z (pointerIn c)
+unfolding staleOn
+reached g here ws c z h fresh = record {
+  one-absent = ltb-false 1 (countBelow (λ d. not (among here d)) (g .drives)) h;
+  reaches = λ d hd e. not-stale-reaches c (getD ws (cell g d (3 + z)) 0) (needed (g .drives) (g .unit) z (pointerIn c) d)
+      (second-fails (among here d) (staleIn c (getD ws (cell g d (3 + z)) 0) (needed (g .drives) (g .unit) z (pointerIn c) d)) e (any-below-false (λ d. among here d && staleIn c (getD ws (cell g d (3 + z)) 0) (needed (g .drives) (g .unit) z (pointerIn c) d)) (g .drives) d fresh hd));
+}
 
 -- ---- they are the rules'
 and-cong : (a b c : Bool) → (a ≡ true → b ≡ c) → a && b ≡ a && c

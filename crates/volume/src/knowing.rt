@@ -9,7 +9,7 @@ ghost use mathlib.Core.Path.{_≡_};
 ghost use mathlib.Core.Bool.{true, _||_};
 ghost use Prim.Native.Nat.{_+_, _-_, _≤_, _<_, min};
 ghost use lib.Dec.{leb, eqb};
-ghost use lib.ListN.{length, replicate};
+ghost use lib.ListN.{length};
 ghost use Rattle.tables.specs.Basics.{pick};
 ghost use Rattle.tables.specs.Geometry.{Valid, cells, physicalZones, totalBytes, zoneSectors};
 ghost use Rattle.tables.specs.Placement.{sectorOf, unitIndex};
@@ -22,7 +22,7 @@ ghost use Rattle.logs.specs.QueryLaws.{SmallSeen};
 ghost use Rattle.volume.specs.declared.knowing.Way.the-variants.{Held, Row, Entry};
 ghost use Rattle.volume.specs.Rules.{generalHeads, sealLimit, known, zoneView, valueAt, parityOf, rowDrive, rowAddress};
 ghost use Rattle.volume.specs.OnTables.{among};
-ghost use Rattle.volume.specs.Knowing.{Readable, readDevice, heldOn, rowHeld, rowComplete, stripeEnd, reachOf, servingPlace, wayTo, isWay, rowXor, endSeen, entryEnd, wayValue, wayLeft, WayFits};
+ghost use Rattle.volume.specs.Knowing.{Readable, readDevice, heldOn, ownHeld, allHeld, rowHeld, rowComplete, stripeEnd, reachOf, servingPlace, wayTo, isWay, rowXor, endSeen, entryEnd, wayValue, wayLeft, WayFits};
 
 // How a sector is known (specs: `wayTo`): not at all, held, by its row, or by the entry at a place of its parity drive's log, counted from 1.
 pub enum Way {
@@ -89,6 +89,40 @@ pub fn is_held(written: &[u32], g: Geometry, here: [bool; 8], z: usize, d: usize
     let at = tables::stores::cell_of(g, d, 3 + z);
     let n = tables::bounds::widen(written[at]);
     present & (x < n)
+}
+
+// Whether the drive of address a holds it.
+pub fn own_held(written: &[u32], g: Geometry, here: [bool; 8], z: usize, a: usize) -> bool
+    requires { ⌜ Valid g ⌝ }
+    requires { ⌜ (z < g .zones) × (length (now written) ≡ cells g) × (a < zoneSectors g) ⌝ }
+    ensures { λ r. ⌜ r ≡ ownHeld g here (now (written .entry)) z a ⌝ }
+{
+    let d = tables::placement::drive_of(g, z, a);
+    let x = tables::placement::sector_of(g, a);
+    is_held(written, g, here, z, d, x)
+}
+
+// Whether all sectors of a run are held. Then no log need be walked to know them.
+pub fn all_held(
+    written: &[u32],
+    g: Geometry,
+    here: [bool; 8],
+    z: usize,
+    offset: usize,
+    count: usize,
+) -> bool
+    requires { ⌜ Valid g ⌝ }
+    requires { ⌜ (z < g .zones) × (length (now written) ≡ cells g) × (offset + count ≤ zoneSectors g) ⌝ }
+    ensures { λ r. ⌜ r ≡ allHeld g here (now (written .entry)) z offset count ⌝ }
+{
+    let mut ok = true;
+    let mut i = 0;
+    while i < count {
+        let held = own_held(written, g, here, z, offset + i);
+        ok = ok & held;
+        i += 1;
+    }
+    ok
 }
 
 // The parity drive of the stripe of address a.
@@ -234,9 +268,7 @@ fn way_to(
     requires { ⌜ Readable g here (now sectors) (now written) z × (a < zoneSectors g) ⌝ }
     ensures { λ r. ⌜ r ≡ wayTo g here (now (sectors .entry)) (now (written .entry)) z generation limit a ⌝ }
 {
-    let d = tables::placement::drive_of(g, z, a);
-    let x = tables::placement::sector_of(g, a);
-    let held = is_held(written, g, here, z, d, x);
+    let held = own_held(written, g, here, z, a);
     if held {
         return Way::Held;
     }
@@ -299,13 +331,12 @@ fn xor_unit(sectors: &[u8], g: Geometry, z: usize, a: usize, end: usize, k: usiz
     tables::sectors::xor_sector(sectors, g, d, 3 + z, x, skip, out);
 }
 
-// The exclusive or of the other sectors in the row of a below an end.
+// Adds the other sectors in the row of a below an end to a buffer.
 fn xor_row(sectors: &[u8], g: Geometry, z: usize, a: usize, end: usize, out: &mut [u8])
     requires { ⌜ Valid g ⌝ }
     requires { ⌜ (z < g .zones) × (a < zoneSectors g) × (length (now sectors) ≡ totalBytes g) × (length (now out) ≡ g .sector) ⌝ }
-    ensures { λ _. ⌜ now (out .exit) ≡ xorBytes (replicate (g .sector) 0) (rowXor g (now (sectors .entry)) z a end) ⌝ }
+    ensures { λ _. ⌜ now (out .exit) ≡ xorBytes (now (out .entry)) (rowXor g (now (sectors .entry)) z a end) ⌝ }
 {
-    tables::sectors::clear(out);
     let n = g.drives - 1;
     let mut k = 0;
     while k < n {
@@ -314,7 +345,7 @@ fn xor_row(sectors: &[u8], g: Geometry, z: usize, a: usize, end: usize, out: &mu
     }
 }
 
-// That, with sector n of a zone of the parity drive: the row's parity in place, or a row of an entry.
+// Their exclusive or with sector n of a zone of the parity drive: the row's parity in place, or a row of an entry.
 fn rebuild(
     sectors: &[u8],
     g: Geometry,
@@ -329,9 +360,9 @@ fn rebuild(
     requires { ⌜ (z < g .zones) × (a < zoneSectors g) × (zone < physicalZones g) × (n < g .capacity) × (length (now sectors) ≡ totalBytes g) × (length (now out) ≡ g .sector) ⌝ }
     ensures { λ _. ⌜ now (out .exit) ≡ xorBytes (rowXor g (now (sectors .entry)) z a end) (sectorAt g (now (sectors .entry)) (parityOf (g .drives) (g .unit) z a) zone n) ⌝ }
 {
-    xor_row(sectors, g, z, a, end, out);
     let p = parity_of(g, z, a);
-    tables::sectors::xor_sector(sectors, g, p, zone, n, false, out);
+    tables::sectors::read_sector(sectors, g, p, zone, n, out);
+    xor_row(sectors, g, z, a, end, out);
 }
 
 // The end of a partial parity entry.
@@ -411,6 +442,29 @@ fn value_by(sectors: &[u8], g: Geometry, z: usize, a: usize, way: Way, out: &mut
     }
 }
 
+// The value of address a of a zone, which is known under a generation; limit finds the way to it that the zone's least current seal finds.
+pub fn served_value(
+    sectors: &[u8],
+    written: &[u32],
+    g: Geometry,
+    here: [bool; 8],
+    z: usize,
+    generation: u64,
+    limit: usize,
+    a: usize,
+    out: &mut [u8],
+)
+    requires { ⌜ Valid g ⌝ }
+    requires { ⌜ Readable g here (now sectors) (now written) z × (a < zoneSectors g)
+        × (wayTo g here (now sectors) (now written) z generation limit a ≡ wayTo g here (now sectors) (now written) z generation (sealLimit g (among here) (readDevice g (now sectors) (now written)) z generation) a)
+        × (known (g .drives) (g .unit) z (zoneView g (among here) (readDevice g (now sectors) (now written)) z generation) a ≡ true)
+        × (length (now out) ≡ g .sector) ⌝ }
+    ensures { λ _. ⌜ now (out .exit) ≡ valueAt g (among here) (readDevice g (now (sectors .entry)) (now (written .entry))) z generation a ⌝ }
+{
+    let way = way_to(sectors, written, g, here, z, generation, limit, a);
+    value_by(sectors, g, z, a, way, out);
+}
+
 // The value of address a of a zone, which is known under a generation; limit is the zone's least current seal.
 pub fn sector_value(
     sectors: &[u8],
@@ -430,6 +484,5 @@ pub fn sector_value(
         × (length (now out) ≡ g .sector) ⌝ }
     ensures { λ _. ⌜ now (out .exit) ≡ valueAt g (among here) (readDevice g (now (sectors .entry)) (now (written .entry))) z generation a ⌝ }
 {
-    let way = way_to(sectors, written, g, here, z, generation, limit, a);
-    value_by(sectors, g, z, a, way, out);
+    served_value(sectors, written, g, here, z, generation, limit, a, out);
 }

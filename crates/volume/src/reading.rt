@@ -1,5 +1,6 @@
 // Read and peek: the calls that store nothing. Read gives the values of rule 4; before it writes to the caller's buffer it knows that every
-// sector of the run is known. Peek gives the part of the lent sectors where a held sector sits. A run that is held costs no walk of a log.
+// sector of the run is known. Such a run lies below the pointer of a zone that is not stale, so it needs no log unless a drive is absent and the
+// pointer's own stripe is read. Peek gives the part of the lent sectors where a held sector sits.
 use super::Answer;
 use super::Condition;
 use super::State;
@@ -8,50 +9,20 @@ ghost use mathlib.Core.Path.{_≡_};
 ghost use mathlib.Core.Bool.{false};
 ghost use Prim.Native.Nat.{_+_, _*_, _≤_, _<_};
 ghost use lib.ListN.{length};
+ghost use Rattle.tables.specs.Basics.{pick};
 ghost use Rattle.tables.specs.Below.{tabulateFrom};
 ghost use Rattle.tables.specs.Lists.{concat};
 ghost use Rattle.tables.specs.Geometry.{Valid, cells, totalBytes, zoneSectors};
 ghost use Rattle.tables.specs.Tables.{tablesOf};
-ghost use Rattle.volume.specs.Rules.{valueAt, known, sealLimit};
+ghost use Rattle.volume.specs.Rules.{valueAt, sealLimit};
 ghost use Rattle.volume.specs.Refusals.{goneIn, zoneOf, offsetOf};
-ghost use Rattle.volume.specs.OnTables.{among, viewState};
-ghost use Rattle.volume.specs.Knowing.{Readable, readDevice};
-ghost use Rattle.volume.specs.Reading.{ownHeld, allHeld, ownSector, valuesOn, StateFits, zoneNumberOn, runNumber, readNumber, readOn};
+ghost use Rattle.volume.specs.State.{pointerIn};
+ghost use Rattle.volume.specs.OnTables.{among, recordAt, viewState};
+ghost use Rattle.volume.specs.ZoneChecks.{Reached, needsLog};
+ghost use Rattle.volume.specs.Knowing.{Readable, readDevice, ownSector};
+ghost use Rattle.volume.specs.Reading.{valuesOn, StateFits, zoneNumberOn, runNumber, readNumber, readOn};
+ghost use Rattle.volume.specs.ReadingHeld.{LimitServes};
 ghost use Rattle.volume.specs.Peeking.{placeNumberOn, peekNumber, peekOn};
-
-// Whether the drive of address a holds it.
-fn own_held(written: &[u32], g: Geometry, here: [bool; 8], z: usize, a: usize) -> bool
-    requires { ⌜ Valid g ⌝ }
-    requires { ⌜ (z < g .zones) × (length (now written) ≡ cells g) × (a < zoneSectors g) ⌝ }
-    ensures { λ r. ⌜ r ≡ ownHeld g here (now (written .entry)) z a ⌝ }
-{
-    let d = tables::placement::drive_of(g, z, a);
-    let x = tables::placement::sector_of(g, a);
-    super::knowing::is_held(written, g, here, z, d, x)
-}
-
-// Whether all sectors of a run are held.
-fn all_held(
-    written: &[u32],
-    g: Geometry,
-    here: [bool; 8],
-    z: usize,
-    offset: usize,
-    count: usize,
-) -> bool
-    requires { ⌜ Valid g ⌝ }
-    requires { ⌜ (z < g .zones) × (length (now written) ≡ cells g) × (offset + count ≤ zoneSectors g) ⌝ }
-    ensures { λ r. ⌜ r ≡ allHeld g here (now (written .entry)) z offset count ⌝ }
-{
-    let mut ok = true;
-    let mut i = 0;
-    while i < count {
-        let held = own_held(written, g, here, z, offset + i);
-        ok = ok & held;
-        i += 1;
-    }
-    ok
-}
 
 // Whether some sector of a run is not known; limit is the zone's least current seal.
 fn some_gone(
@@ -89,7 +60,7 @@ fn some_gone(
     gone
 }
 
-// Refusal 15: whether some sector of a run is not known.
+// Refusal 15: whether some sector of a run below the pointer is not known.
 fn is_gone(
     sectors: &[u8],
     written: &[u32],
@@ -97,15 +68,16 @@ fn is_gone(
     here: [bool; 8],
     z: usize,
     generation: u64,
+    pointer: usize,
     offset: usize,
     count: usize,
 ) -> bool
     requires { ⌜ Valid g ⌝ }
-    requires { ⌜ Readable g here (now sectors) (now written) z × (offset + count ≤ zoneSectors g) ⌝ }
+    requires { ⌜ Readable g here (now sectors) (now written) z × (offset + count ≤ zoneSectors g) × Reached g here (now written) z pointer × (offset + count ≤ pointer) ⌝ }
     ensures { λ r. ⌜ r ≡ goneIn g (among here) (readDevice g (now (sectors .entry)) (now (written .entry))) z generation offset count ⌝ }
 {
-    let held = all_held(written, g, here, z, offset, count);
-    if held {
+    let logged = super::zone_checks::needs_log(g, here, pointer, offset + count);
+    if !logged {
         return false;
     }
     let limit = super::knowing::seal_limit(sectors, written, g, here, z, generation);
@@ -138,7 +110,7 @@ fn copy_run(sectors: &[u8], g: Geometry, z: usize, offset: usize, count: usize, 
     }
 }
 
-// The values of a run that is known, sector after sector; limit is the zone's least current seal.
+// The values of a run that is known, sector after sector; limit serves it as the zone's least current seal does.
 fn rebuild_run(
     sectors: &[u8],
     written: &[u32],
@@ -154,7 +126,7 @@ fn rebuild_run(
     requires { ⌜ Valid g ⌝ }
     requires { ⌜ Readable g here (now sectors) (now written) z × (offset + count ≤ zoneSectors g) × (length (now out) ≡ count * g .sector)
         × (goneIn g (among here) (readDevice g (now sectors) (now written)) z generation offset count ≡ false)
-        × (limit ≡ sealLimit g (among here) (readDevice g (now sectors) (now written)) z generation) ⌝ }
+        × LimitServes g here (now sectors) (now written) z generation limit offset count ⌝ }
     ensures { λ _. ⌜ now (out .exit) ≡ concat (tabulateFrom (valueAt g (among here) (readDevice g (now (sectors .entry)) (now (written .entry))) z generation) offset count) ⌝ }
 {
     let b = g.sector;
@@ -162,7 +134,7 @@ fn rebuild_run(
     while i < count {
         let at = i * b;
         let end = at + b;
-        super::knowing::sector_value(
+        super::knowing::served_value(
             sectors,
             written,
             g,
@@ -177,7 +149,29 @@ fn rebuild_run(
     }
 }
 
-// The values of a run that is known, sector after sector.
+// A limit that serves a run that ends at `end`, at or below the pointer: the zone's least current seal where the logs are needed.
+fn limit_of(
+    sectors: &[u8],
+    written: &[u32],
+    g: Geometry,
+    here: [bool; 8],
+    z: usize,
+    generation: u64,
+    pointer: usize,
+    end: usize,
+) -> usize
+    requires { ⌜ Valid g ⌝ }
+    requires { ⌜ Readable g here (now sectors) (now written) z ⌝ }
+    ensures { λ r. ⌜ r ≡ pick (needsLog g here pointer end) (sealLimit g (among here) (readDevice g (now (sectors .entry)) (now (written .entry))) z generation) 0 ⌝ }
+{
+    let logged = super::zone_checks::needs_log(g, here, pointer, end);
+    if !logged {
+        return 0;
+    }
+    super::knowing::seal_limit(sectors, written, g, here, z, generation)
+}
+
+// The values of a run below the pointer that is known, sector after sector.
 fn read_run(
     sectors: &[u8],
     written: &[u32],
@@ -185,21 +179,23 @@ fn read_run(
     here: [bool; 8],
     z: usize,
     generation: u64,
+    pointer: usize,
     offset: usize,
     count: usize,
     out: &mut [u8],
 )
     requires { ⌜ Valid g ⌝ }
     requires { ⌜ Readable g here (now sectors) (now written) z × (offset + count ≤ zoneSectors g) × (length (now out) ≡ count * g .sector)
-        × (goneIn g (among here) (readDevice g (now sectors) (now written)) z generation offset count ≡ false) ⌝ }
+        × (goneIn g (among here) (readDevice g (now sectors) (now written)) z generation offset count ≡ false) × Reached g here (now written) z pointer × (offset + count ≤ pointer) ⌝ }
     ensures { λ _. ⌜ now (out .exit) ≡ valuesOn g (among here) (readDevice g (now (sectors .entry)) (now (written .entry))) z generation offset count ⌝ }
 {
-    let held = all_held(written, g, here, z, offset, count);
-    if held {
+    let absent = super::checks::count_absent(g, here);
+    if absent == 0 {
         copy_run(sectors, g, z, offset, count, out);
         return;
     }
-    let limit = super::knowing::seal_limit(sectors, written, g, here, z, generation);
+    let end = offset + count;
+    let limit = limit_of(sectors, written, g, here, z, generation, pointer, end);
     rebuild_run(
         sectors,
         written,
@@ -264,7 +260,7 @@ fn run_refusal(
     count: usize,
 ) -> u8
     requires { ⌜ Valid g ⌝ }
-    requires { ⌜ Readable g here (now sectors) (now written) z × (offset ≤ zoneSectors g) × (count ≤ 4294967295) ⌝ }
+    requires { ⌜ Readable g here (now sectors) (now written) z × (offset ≤ zoneSectors g) × (count ≤ 4294967295) × Reached g here (now written) z (pointerIn (recordAt state z .condition)) ⌝ }
     ensures { λ r. ⌜ r ≡ runNumber g (among here) (readDevice g (now (sectors .entry)) (now (written .entry))) (viewState state) z offset count ⌝ }
 {
     let most = tables::bounds::zone_sectors(g);
@@ -280,7 +276,17 @@ fn run_refusal(
         return 13;
     }
     let generation = record.generation;
-    let gone = is_gone(sectors, written, g, here, z, generation, offset, count);
+    let gone = is_gone(
+        sectors,
+        written,
+        g,
+        here,
+        z,
+        generation,
+        pointer,
+        offset,
+        count,
+    );
     if gone {
         return 15;
     }
@@ -361,6 +367,8 @@ pub fn read(
     let zones = state.zones;
     let record = zones[z];
     let generation = record.generation;
+    let c = record.condition;
+    let pointer = super::checks::pointer_of(c);
     read_run(
         sectors,
         written,
@@ -368,6 +376,7 @@ pub fn read(
         here,
         z,
         generation,
+        pointer,
         offset,
         count as usize,
         out,
@@ -395,7 +404,7 @@ fn place_refusal(
     if pointer < offset + 1 {
         return 13;
     }
-    let held = own_held(written, g, here, z, offset);
+    let held = super::knowing::own_held(written, g, here, z, offset);
     if !held {
         return 15;
     }

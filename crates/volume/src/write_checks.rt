@@ -134,8 +134,12 @@ fn gone_before(
     if !present {
         return false;
     }
-    let limit = super::knowing::seal_limit(sectors, written, g, here, z, generation);
     let start = s * k;
+    let held = super::knowing::all_held(written, g, here, z, start, n - start);
+    if held {
+        return false;
+    }
+    let limit = super::knowing::seal_limit(sectors, written, g, here, z, generation);
     some_unknown(
         sectors,
         written,

@@ -5,7 +5,7 @@ ghost use mathlib.Core.Path.{_≡_};
 ghost use mathlib.Core.Bool.{true, false};
 ghost use Prim.Native.Nat.{_+_, _*_, _≤_, _<_};
 ghost use lib.ListN.{length};
-ghost use Rattle.tables.specs.Geometry.{Valid, zoneSectors};
+ghost use Rattle.tables.specs.Geometry.{Valid, totalBytes, zoneSectors};
 ghost use Rattle.tables.specs.Phases.{onPresent};
 ghost use Rattle.tables.specs.Tables.{MadeAppends};
 ghost use Rattle.volume.specs.Rules.{known, zoneView, sealLimit, valueAt};
@@ -13,7 +13,7 @@ ghost use Rattle.volume.specs.Refusals.{goneIn, goneBefore};
 ghost use Rattle.volume.specs.Calls.{writeWith};
 ghost use Rattle.volume.specs.Answers.{sectorsIn};
 ghost use Rattle.volume.specs.OnTables.{among};
-ghost use Rattle.volume.specs.Knowing.{Readable, readDevice};
+ghost use Rattle.volume.specs.Knowing.{Readable, readDevice, ownSector};
 ghost use Rattle.volume.specs.WriteRows.{withSector};
 ghost use Rattle.volume.specs.WriteStores.{Kept, rowsWith};
 ghost use Rattle.volume.specs.WriteKeeping.{SectorsLong, WriteReady, runContent};
@@ -92,7 +92,34 @@ fn add_values(
     }
 }
 
-// The rows of the stripe of pointer n, of its sectors below n. Where the stripe's parity drive is not here no row is ever stored, and zeros will do.
+// Adds a held sector to its row, straight from the tables.
+fn add_own(sectors: &[u8], g: Geometry, z: usize, a: usize, rows: &mut [u8])
+    requires { ⌜ Valid g ⌝ }
+    requires { ⌜ (z < g .zones) × (a < zoneSectors g) × (length (now sectors) ≡ totalBytes g) × (g .unit * g .sector ≤ length (now rows)) ⌝ }
+    ensures { λ _. ⌜ now (rows .exit) ≡ withSector g a (ownSector g (now (sectors .entry)) z a) (now (rows .entry)) ⌝ }
+{
+    let d = tables::placement::drive_of(g, z, a);
+    let x = tables::placement::sector_of(g, a);
+    let from = tables::stores::byte_at(g, d, 3 + z, x);
+    let b = g.sector;
+    let end = from + b;
+    super::write_rows::add_sector(rows, g, a, &sectors[from..end]);
+}
+
+// Adds `count` sectors from `start` on, all held.
+fn add_held(sectors: &[u8], g: Geometry, z: usize, start: usize, count: usize, rows: &mut [u8])
+    requires { ⌜ Valid g ⌝ }
+    requires { ⌜ (z < g .zones) × (start + count ≤ zoneSectors g) × (length (now sectors) ≡ totalBytes g) × (g .unit * g .sector ≤ length (now rows)) ⌝ }
+    ensures { λ _. ⌜ now (rows .exit) ≡ rowsWith g (ownSector g (now (sectors .entry)) z) start (now (rows .entry)) count ⌝ }
+{
+    let mut i = 0;
+    while i < count {
+        add_own(sectors, g, z, start + i, rows);
+        i += 1;
+    }
+}
+
+// The rows of the stripe of pointer n, of its sectors below n. Where the stripe's parity drive is not here no row is ever stored, and any buffer will do.
 fn keep_rows(
     sectors: &[u8],
     written: &[u32],
@@ -108,7 +135,6 @@ fn keep_rows(
         × (goneBefore g (among here) (readDevice g (now sectors) (now written)) z generation n ≡ false) × (g .unit * g .sector ≤ length (now rows)) ⌝ }
     ensures { λ _. ⌜ Kept g (among here) z (valueAt g (among here) (readDevice g (now (sectors .entry)) (now (written .entry))) z generation) n (now (rows .exit)) ⌝ }
 {
-    tables::sectors::clear(rows);
     let k = tables::bounds::stripe_sectors(g);
     let s = n / k;
     let d = g.drives;
@@ -117,8 +143,13 @@ fn keep_rows(
     if !present {
         return;
     }
-    let limit = super::knowing::seal_limit(sectors, written, g, here, z, generation);
     let start = s * k;
+    let held = super::knowing::all_held(written, g, here, z, start, n - start);
+    if held {
+        add_held(sectors, g, z, start, n - start, rows);
+        return;
+    }
+    let limit = super::knowing::seal_limit(sectors, written, g, here, z, generation);
     add_values(
         sectors,
         written,
@@ -133,10 +164,12 @@ fn keep_rows(
     );
 }
 
-// The stores of a write of `count` sectors from pointer n of a zone, as far as the budget of stores goes: what is left of it.
-pub fn write_all(
+// The stores of a write of `count` sectors from pointer n of a zone, as far as the budget of stores goes: what is left of it. The rows are kept in a
+// buffer of U sectors.
+fn write_with_rows(
     sectors: &mut [u8],
     written: &mut [u32],
+    rows: &mut [u8],
     g: Geometry,
     here: [bool; 8],
     z: usize,
@@ -148,14 +181,14 @@ pub fn write_all(
 ) -> u64
     requires { ⌜ Valid g ⌝ }
     requires { ⌜ WriteReady g here (now sectors) (now written) z generation n count (now buffer) ⌝ }
+    requires { ⌜ g .unit * g .sector ≤ length (now rows) ⌝ }
     ensures { λ r. ⌜ MadeAppends g budget r (onPresent (among here) (writeWith g z generation (runContent g (among here) (readDevice g (now (sectors .entry)) (now (written .entry))) z generation n (sectorsIn g count (now (buffer .entry)))) n count)) (now (sectors .entry)) (now (written .entry)) (now (sectors .exit)) (now (written .exit)) ⌝ }
 {
-    let mut rows = [0u8; 65536];
-    keep_rows(sectors, written, g, here, z, generation, n, &mut rows);
+    keep_rows(sectors, written, g, here, z, generation, n, rows);
     let rest = super::write_stores::write_run(
         sectors,
         written,
-        &mut rows,
+        rows,
         g,
         here,
         z,
@@ -172,7 +205,59 @@ pub fn write_all(
         z,
         generation,
         n + count,
-        &rows,
+        rows,
         rest,
+    )
+}
+
+// The same, with a buffer as small as the rows allow: every call begins by clearing it.
+pub fn write_all(
+    sectors: &mut [u8],
+    written: &mut [u32],
+    g: Geometry,
+    here: [bool; 8],
+    z: usize,
+    generation: u64,
+    n: usize,
+    count: usize,
+    buffer: &[u8],
+    budget: u64,
+) -> u64
+    requires { ⌜ Valid g ⌝ }
+    requires { ⌜ WriteReady g here (now sectors) (now written) z generation n count (now buffer) ⌝ }
+    ensures { λ r. ⌜ MadeAppends g budget r (onPresent (among here) (writeWith g z generation (runContent g (among here) (readDevice g (now (sectors .entry)) (now (written .entry))) z generation n (sectorsIn g count (now (buffer .entry)))) n count)) (now (sectors .entry)) (now (written .entry)) (now (sectors .exit)) (now (written .exit)) ⌝ }
+{
+    let u = g.unit;
+    let b = g.sector;
+    let m = u * b;
+    if m <= 16384 {
+        let mut few = [0u8; 16384];
+        return write_with_rows(
+            sectors,
+            written,
+            &mut few[..m],
+            g,
+            here,
+            z,
+            generation,
+            n,
+            count,
+            buffer,
+            budget,
+        );
+    }
+    let mut rows = [0u8; 65536];
+    write_with_rows(
+        sectors,
+        written,
+        &mut rows[..m],
+        g,
+        here,
+        z,
+        generation,
+        n,
+        count,
+        buffer,
+        budget,
     )
 }

@@ -1,5 +1,6 @@
 // The rows of the stripe that a write is at: for each row the exclusive or of its sectors so far, in a buffer of U sectors. A complete
-// stripe's parity and the rows of a partial parity entry are taken from it.
+// stripe's parity and the rows of a partial parity entry are taken from it. A row is begun by a copy of its first sector, so what the buffer
+// holds before that does not matter.
 use tables::Geometry;
 ghost use mathlib.Core.Path.{_≡_};
 ghost use Prim.Native.Nat.{_+_, _*_, _≤_, _<_};
@@ -10,7 +11,7 @@ ghost use Rattle.tables.specs.Tables.{MadeAppends};
 ghost use Rattle.volume.specs.OnTables.{among};
 ghost use Rattle.volume.specs.WriteRows.{withSector, rowStores};
 
-// Adds the sector of address a to its row.
+// Adds the sector of address a to its row: of the stripe's first unit it begins the row.
 pub fn add_sector(rows: &mut [u8], g: Geometry, a: usize, src: &[u8])
     requires { ⌜ Valid g ⌝ }
     requires { ⌜ (g .unit * g .sector ≤ length (now rows)) × (length (now src) ≡ g .sector) ⌝ }
@@ -19,7 +20,12 @@ pub fn add_sector(rows: &mut [u8], g: Geometry, a: usize, src: &[u8])
     let k = tables::bounds::stripe_sectors(g);
     let u = g.unit;
     let b = g.sector;
-    let from = a % k % u * b;
+    let inside = a % k;
+    let from = inside % u * b;
+    if inside < u {
+        tables::sectors::copy_in(rows, from, src);
+        return;
+    }
     let end = from + b;
     tables::sectors::xor_into(&mut rows[from..end], src);
 }

@@ -13,7 +13,7 @@ ghost use Rattle.tables.specs.Device.{append};
 ghost use Rattle.logs.specs.Entry.{parityZone, encode, partialParity};
 ghost use Rattle.volume.specs.Content.{insideStripe};
 ghost use mathlib.Core.List.{[]};
-ghost use Rattle.volume.specs.WriteRows.{entryOf, rowsAfter, addressStores, rowsAt, runOf, WriteSized};
+ghost use Rattle.volume.specs.WriteRows.{entryOf, withSector, addressStores, rowsAt, runOf, WriteSized};
 
 // One address: its sector, and the stripe's parity if it is the last of its stripe. What is left of the budget of stores.
 fn write_sector(
@@ -31,7 +31,7 @@ fn write_sector(
     requires { ⌜ WriteSized g z (now sectors) (now written) (now rows) ⌝ }
     requires { ⌜ (a < zoneSectors g) × (length (now src) ≡ g .sector) ⌝ }
     ensures { λ r. ⌜ MadeAppends g budget r (onPresent (among here) (addressStores g z a (now (src .entry)) (now (rows .entry)))) (now (sectors .entry)) (now (written .entry)) (now (sectors .exit)) (now (written .exit))
-        × (now (rows .exit) ≡ rowsAfter g a (now (src .entry)) (now (rows .entry))) ⌝ }
+        × (now (rows .exit) ≡ withSector g a (now (src .entry)) (now (rows .entry))) ⌝ }
 {
     let d = tables::placement::drive_of(g, z, a);
     let rest = tables::stores::append_counted(sectors, written, g, here[d], d, 3 + z, src, budget);
@@ -43,9 +43,7 @@ fn write_sector(
     let n = g.drives;
     let u = g.unit;
     let p = tables::placement::parity_drive(n, z, a / k);
-    let left = super::write_rows::store_rows(sectors, written, g, here, p, 3 + z, rows, u, rest);
-    tables::sectors::clear(rows);
-    left
+    super::write_rows::store_rows(sectors, written, g, here, p, 3 + z, rows, u, rest)
 }
 
 // The sectors of the data, from an address on.

@@ -1,4 +1,5 @@
-// What a call checks of its zone: refusal 7, and how far a log is used, which refusal 14 asks. Only present drives are looked at.
+// What a call checks of its zone: refusal 7, how far a log is used, which refusal 14 asks, and whether a read needs the logs. Only present
+// drives are looked at.
 use super::Condition;
 use tables::Geometry;
 ghost use mathlib.Core.Path.{_≡_};
@@ -12,7 +13,7 @@ ghost use Rattle.tables.specs.Tables.{cell};
 ghost use Rattle.volume.specs.State.{pointerIn, isWorn};
 ghost use Rattle.volume.specs.Refusals.{staleIn};
 ghost use Rattle.volume.specs.OnTables.{among};
-ghost use Rattle.volume.specs.ZoneChecks.{staleOn, unusedOn};
+ghost use Rattle.volume.specs.ZoneChecks.{staleOn, unusedOn, needsLog};
 
 // The written pointer of a drive's physical zone.
 pub fn written_at(written: &[u32], g: Geometry, drive: usize, zone: usize) -> usize
@@ -123,4 +124,15 @@ pub fn unused_below(written: &[u32], g: Geometry, here: [bool; 8], log: usize, n
         d += 1;
     }
     below
+}
+
+// Whether reading below `end`, which is at or below the pointer, needs the logs: a drive is absent, and the pointer's own stripe is read.
+pub fn needs_log(g: Geometry, here: [bool; 8], pointer: usize, end: usize) -> bool
+    requires { ⌜ Valid g ⌝ }
+    ensures { λ r. ⌜ r ≡ needsLog g here pointer end ⌝ }
+{
+    let absent = super::checks::count_absent(g, here);
+    let k = tables::bounds::stripe_sectors(g);
+    let complete = pointer / k * k;
+    (0 < absent) & (complete < end)
 }

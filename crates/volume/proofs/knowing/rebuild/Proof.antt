@@ -1,39 +1,37 @@
-use mathlib.Core.Path.{ap, ap₂, _∙_}
+use mathlib.Core.Path.{ap, _∙_}
 use Prim.Native.Nat.{ℕ}
+use mathlib.Core.List.{List}
 use denote.Ref.{now}
 use Rattle.tables.specs.Tables.{sectorAt}
-use Rattle.tables.specs.Xor.{xorBytes}
+use Rattle.tables.specs.Xor.{xorBytes, xor-bytes-comm}
 use Rattle.volume.specs.Rules.{parityOf}
-use Rattle.volume.specs.KnowingLaws.{parity-in}
-use Rattle.volume.specs.KnowingValues.{row-rebuilt, sector-long}
+use Rattle.volume.specs.Knowing.{rowXor}
 use borrow.Author.Needs.{needs}
 use Rattle.volume.proofs.knowing.rebuild.Statement.{statement}
 use Rattle.volume.proofs.knowing.rebuild.Tie as tie
 
-xor-row-requires : tie.Need-xor-row-requires
-xor-row-requires c κs = search needs
-
 parity-of-requires : tie.Need-parity-of-requires
 parity-of-requires c κs = search needs
 
-xor-sector-requires : tie.Need-xor-sector-requires
-xor-sector-requires c κs =
-    let s = c .before .before .before .before .before .before .before .before in
-    (s .pre .0, (c .before .parity-of .ensures .1, s .pre .1 .2, s .pre .1 .3, s .pre .1 .4, c .before .before .before .before .xor-row .kept .1 .1 .1 .1 .1 .0 ∙ s .pre .1 .5))
+read-sector-requires : tie.Need-read-sector-requires
+read-sector-requires c κs = search needs
+
+xor-row-requires : tie.Need-xor-row-requires
+xor-row-requires c κs = search needs
 
 same-length : tie.Need-same-length
 same-length c = search needs
 
 returns : tie.Need-returns
 returns c =
-    let s = c .before .before .before .before .before .before .before .before .before .before .before in
-    let a = s .args in
-    let f = c .before .before .before .before .parity-of in
-    let P = parityOf (a .g .drives) (a .g .unit) (a .z) (a .a) in
-    c .before .before .xor-sector .ensures ∙ ap₂ xorBytes (c .before .before .before .before .before .before .before .xor-row .ensures) (ap (λ (p : ℕ). sectorAt (a .g) (now (a .sectors)) p (a .zone) (a .n)) (f .ensures .0))
-    ∙ row-rebuilt (a .g) (now (a .sectors)) (a .z) (a .a) (a .end) (sectorAt (a .g) (now (a .sectors)) P (a .zone) (a .n)) (sector-long (a .g) (now (a .sectors)) P (a .zone) (a .n) (s .pre .1 .4) (parity-in (a .g) (a .z) (a .a) (s .pre .0)) (s .pre .1 .2) (s .pre .1 .3))
+    let a = c .before .before .before .before .before .before .before .before .before .before .before .args in
+    let row = rowXor (a .g) (now (a .sectors)) (a .z) (a .a) (a .end) in
+    let parity = sectorAt (a .g) (now (a .sectors)) (parityOf (a .g .drives) (a .g .unit) (a .z) (a .a)) (a .zone) (a .n) in
+    c .before .before .xor-row .ensures
+    ∙ ap (λ (v : List ℕ). xorBytes v row) (c .before .before .before .before .before .before .read-sector .ensures ∙ ap (λ (p : ℕ). sectorAt (a .g) (now (a .sectors)) p (a .zone) (a .n)) (c .before .before .before .before .before .before .before .before .parity-of .ensures .0))
+    ∙ xor-bytes-comm parity row
 
 pub rebuild-spec : {M : Type 1} → statement M
 rebuild-spec =
     tie.close
-    (tie.spec xor-row-requires parity-of-requires xor-sector-requires same-length returns)
+    (tie.spec parity-of-requires read-sector-requires xor-row-requires same-length returns)

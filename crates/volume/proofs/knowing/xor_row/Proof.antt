@@ -2,10 +2,11 @@ use Prim.Native.Nat.{ℕ, _+_, _-_, _≤_}
 use Rattle.tables.specs.Tables.{sectorAt}
 use Rattle.tables.specs.Placement.{sectorOf, unitIndex}
 use Rattle.volume.specs.Rules.{rowDrive, rowAddress}
-use mathlib.Core.Path.{_≡_, refl, sym, ap, _∙_}
+use mathlib.Core.Path.{_≡_, refl, sym, _∙_}
 use native.Mathlib.Omega.{arith}
 use native.Mathlib.Numerals.{add-one}
-use lib.ListN.{length, replicate}
+use lib.ListN.{length}
+use denote.Ref.{now}
 use Rattle.tables.specs.Xor.{xorBytes, xor-nil}
 use Rattle.volume.specs.Knowing.{rowXorBelow, rowXor}
 use Rattle.volume.specs.KnowingValues.{row-more}
@@ -13,49 +14,46 @@ use Rattle.volume.proofs.knowing.xor_row.Statement.{statement}
 use Rattle.volume.proofs.knowing.xor_row.Tie as tie
 
 abbrev Inv-loop : tie.InvT-loop
-Inv-loop sectors g z a end out₀ n k₀ out k = (k ≤ n) × (length out ≡ g .sector) × (out ≡ xorBytes (replicate (g .sector) 0) (rowXorBelow g sectors z a end k))
+Inv-loop sectors g z a end out₀ n k₀ out k = (k ≤ n) × (length out ≡ g .sector) × (out ≡ xorBytes out₀ (rowXorBelow g sectors z a end k))
 
 abbrev μ-loop : tie.MeasureT-loop
 μ-loop sectors g z a end out₀ n k₀ out k = n - k
 
-clear-requires : tie.Need-clear-requires Inv-loop μ-loop
-clear-requires c κs = tt
-
 sub-n : tie.Need-sub-n Inv-loop μ-loop
-sub-n c = omega (arith, c .before .before .before .before .before .before .before .pre .0 .drives-least)
+sub-n c = omega (arith, c .before .before .before .pre .0 .drives-least)
 
 loop-holds : tie.Need-loop-holds Inv-loop μ-loop
 loop-holds c =
-    let s = c .before .before .before .before .before .before .before in
-    (omega arith, c .before .before .before .clear .kept .0 ∙ s .pre .1 .3, c .before .before .before .clear .ensures ∙ ap (λ (n : ℕ). replicate n 0) (s .pre .1 .3) ∙ sym (xor-nil (replicate (s .args .g .sector) 0)))
+    let s = c .before .before .before in
+    (omega arith, s .pre .1 .3, sym (xor-nil (now (s .args .out))))
 
 xor-unit-requires : tie.Need-xor-unit-requires Inv-loop μ-loop
-xor-unit-requires c κs = let s = c .before .before .before .before .before .before .before .before .before .before in (s .pre .0, (s .pre .1 .0, s .pre .1 .1, omega arith, s .pre .1 .2, c .before .before .loop .inv .1))
+xor-unit-requires c κs = let s = c .before .before .before .before .before .before in (s .pre .0, (s .pre .1 .0, s .pre .1 .1, omega arith, s .pre .1 .2, c .before .before .loop .inv .1))
 
 add-k : tie.Need-add-k Inv-loop μ-loop
-add-k c = omega (arith, c .before .before .before .before .before .before .before .before .before .before .before .before .before .pre .0 .drives-most)
+add-k c = omega (arith, c .before .before .before .before .before .before .before .before .before .pre .0 .drives-most)
 
 loop-less : tie.Need-loop-less Inv-loop μ-loop
 loop-less c = omega arith
 
 loop-again : tie.Need-loop-again Inv-loop μ-loop
 loop-again c =
-    let a = c .before .before .before .before .before .before .before .before .before .before .before .before .before .args in
+    let a = c .before .before .before .before .before .before .before .before .before .args in
     let l = c .before .before .before .before .before .loop in
     let f = c .before .before .xor-unit in (
       omega arith,
       f .kept .1 .1 .1 .1 .1 .1 .0 ∙ l .inv .1,
-      f .ensures ∙ rw (l .inv .2, add-one) (row-more (replicate (a .g .sector) 0) (λ (m : ℕ). sectorAt (a .g) (a .sectors .now) (rowDrive (a .g .drives) (a .g .unit) (a .z) (a .a) m) (3 + a .z) (sectorOf (a .g .drives) (a .g .unit) (a .a))) (rowAddress (a .g .drives) (a .g .unit) (a .a)) (a .end) (unitIndex (a .g .drives) (a .g .unit) (a .a)) (l .k)),
+      f .ensures ∙ rw (l .inv .2, add-one) (row-more (now (a .out)) (λ (m : ℕ). sectorAt (a .g) (a .sectors .now) (rowDrive (a .g .drives) (a .g .unit) (a .z) (a .a) m) (3 + a .z) (sectorOf (a .g .drives) (a .g .unit) (a .a))) (rowAddress (a .g .drives) (a .g .unit) (a .a)) (a .end) (unitIndex (a .g .drives) (a .g .unit) (a .a)) (l .k)),
     )
 
 same-length : tie.Need-same-length Inv-loop μ-loop
-same-length c = c .before .loop .inv .1 ∙ sym (c .before .before .before .before .before .before .before .before .before .pre .1 .3)
+same-length c = c .before .loop .inv .1 ∙ sym (c .before .before .before .before .before .pre .1 .3)
 
 returns : tie.Need-returns Inv-loop μ-loop
 unfolding rowXor
 returns c =
     let l = c .before .loop in
-    let e : l .k ≡ c .before .before .before .before .before .before .before .before .before .args .g .drives - 1 = omega arith in
+    let e : l .k ≡ c .before .before .before .before .before .args .g .drives - 1 = omega arith in
     l .inv .2 ∙ rw e refl
 
 pub xor-row-spec : {M : Type 1} → statement M
@@ -64,7 +62,6 @@ xor-row-spec =
     (tie.spec
     Inv-loop
     μ-loop
-    clear-requires
     sub-n
     loop-holds
     xor-unit-requires

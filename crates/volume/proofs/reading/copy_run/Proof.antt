@@ -1,6 +1,7 @@
 use borrow.Rule.Slice.PartMut.{same-len-mid}
 use lib.ListN.{drop, length, take}
-use Rattle.volume.specs.Reading.{run-small, part-long, filled-more, filled-all, ownSector}
+use Rattle.volume.specs.Reading.{run-small, part-long, filled-more, filled-all}
+use Rattle.volume.specs.Knowing.{ownSector}
 use native.Mathlib.Nat.{zero-mul}
 use mathlib.Core.Path.{_≡_, refl, sym, _∙_}
 use Prim.Native.Nat.{_+_, _-_, _*_, _≤_}

@@ -48,26 +48,39 @@ mul-record c = let f = fits (c .before .before .before .before) in omega (arith,
 array-copy-out-record : tie.Need-array-copy-out-record
 array-copy-out-record c = let f = fits (c .before .before .before .before) in omega (arith, c .before .before .zone-of .ensures, f .zone-in, f .passed .valid .zones-most)
 
+pointer-of-requires : tie.Need-pointer-of-requires
+pointer-of-requires c κs = search needs
+
 read-run-requires : tie.Need-read-run-requires
 read-run-requires c κs =
-    let a = c .before .before .before .before .before .before .before .before .before .before .before .before .args in
-    let f = fits (c .before .before .before .before .before .before) in
-    let h = c .before .before .before .before .before .present-drives .ensures in
-    let z = c .before .before .before .before .zone-of .ensures in
-    let o = c .before .before .before .offset-of .ensures .0 in
-    (f .passed .valid, (rw (h, z) (opened-readable (a .g) (a .named) (a .state) (a .count) (length (now (a .out))) (now (a .sectors)) (now (a .written)) (now (a .durable)) (zoneOf (a .g) (a .address)) (f .passed) (f .zone-in)), rw o (f .run-in), buffer-long (a .g) (a .count) (length (now (a .out))) (f .passed .buffer), rw (h, z, o) (f .none-gone)))
+    let a = c .before .before .before .before .before .before .before .before .before .before .before .before .before .args in
+    let f = fits (c .before .before .before .before .before .before .before) in
+    let h = c .before .before .before .before .before .before .present-drives .ensures in
+    let z = c .before .before .before .before .before .zone-of .ensures in
+    let o = c .before .before .before .before .offset-of .ensures .0 in
+    let p = c .before .pointer-of .ensures in (
+      f .passed .valid,
+      (
+        rw (h, z) (opened-readable (a .g) (a .named) (a .state) (a .count) (length (now (a .out))) (now (a .sectors)) (now (a .written)) (now (a .durable)) (zoneOf (a .g) (a .address)) (f .passed) (f .zone-in)),
+        rw o (f .run-in),
+        buffer-long (a .g) (a .count) (length (now (a .out))) (f .passed .buffer),
+        rw (h, z, o) (f .none-gone),
+        rw (p, h, z) (f .reached-here),
+        rw (p, z, o) (f .run-written),
+      ),
+    )
 
 same-length : tie.Need-same-length
 same-length c = search needs
 
 returns-2 : tie.Need-returns-2
 returns-2 c =
-    let a = c .before .before .before .before .before .before .before .before .before .before .before .before .before .before .before .args in
-    let (p, q) = read-done (a .g) (a .named) (a .state) (a .address) (a .count) (now (a .out)) (tablesOf (now (a .sectors)) (now (a .written)) (now (a .durable))) (accepted (c .before .before .before .before .before .before .before .before .before)) in (
+    let a = c .before .before .before .before .before .before .before .before .before .before .before .before .before .before .before .before .args in
+    let (p, q) = read-done (a .g) (a .named) (a .state) (a .address) (a .count) (now (a .out)) (tablesOf (now (a .sectors)) (now (a .written)) (now (a .durable))) (accepted (c .before .before .before .before .before .before .before .before .before .before)) in (
       sym p,
       c .before .before .read-run .ensures
-          ∙ ap (λ (h : List Bool). valuesOn (a .g) (among h) (readDevice (a .g) (now (a .sectors)) (now (a .written))) (c .before .before .before .before .before .before .before .zone-of .result) (recordAt (a .state) (c .before .before .before .before .before .before .before .zone-of .result) .generation) (c .before .before .before .before .before .before .offset-of .result) (a .count)) (c .before .before .before .before .before .before .before .before .present-drives .ensures)
-          ∙ ap₂ (λ (z o : ℕ). valuesOn (a .g) (among (presentList (a .g) (a .named) (a .state .lost))) (readDevice (a .g) (now (a .sectors)) (now (a .written))) z (recordAt (a .state) z .generation) o (a .count)) (c .before .before .before .before .before .before .before .zone-of .ensures) (c .before .before .before .before .before .before .offset-of .ensures .0)
+          ∙ ap (λ (h : List Bool). valuesOn (a .g) (among h) (readDevice (a .g) (now (a .sectors)) (now (a .written))) (c .before .before .before .before .before .before .before .before .zone-of .result) (recordAt (a .state) (c .before .before .before .before .before .before .before .before .zone-of .result) .generation) (c .before .before .before .before .before .before .before .offset-of .result) (a .count)) (c .before .before .before .before .before .before .before .before .before .present-drives .ensures)
+          ∙ ap₂ (λ (z o : ℕ). valuesOn (a .g) (among (presentList (a .g) (a .named) (a .state .lost))) (readDevice (a .g) (now (a .sectors)) (now (a .written))) z (recordAt (a .state) z .generation) o (a .count)) (c .before .before .before .before .before .before .before .before .zone-of .ensures) (c .before .before .before .before .before .before .before .offset-of .ensures .0)
           ∙ ap (λ (h : ℕ → Bool). valuesOn (a .g) h (readDevice (a .g) (now (a .sectors)) (now (a .written))) (zoneOf (a .g) (a .address)) (recordAt (a .state) (zoneOf (a .g) (a .address)) .generation) (offsetOf (a .g) (a .address)) (a .count)) (present-is (a .g) (a .named) (a .state))
           ∙ sym (values-durable (a .g) (callPresent (a .g) (among (a .named)) (viewState (a .state))) (now (a .sectors)) (now (a .written)) (now (a .durable)) (zoneOf (a .g) (a .address)) (recordAt (a .state) (zoneOf (a .g) (a .address)) .generation) (offsetOf (a .g) (a .address)) (a .count)) ∙ sym q,
     )
@@ -83,6 +96,7 @@ read-spec =
     offset-of-requires
     mul-record
     array-copy-out-record
+    pointer-of-requires
     read-run-requires
     same-length
     returns-2)

@@ -9,10 +9,11 @@ use Rattle.tables.specs.Tables.{tablesOf, deviceOf}
 use Rattle.tables.specs.TablesFrame.{lengths-are}
 use Rattle.volume.specs.State.{callPresent}
 use Rattle.volume.specs.Refusals.{zoneOf}
-use Rattle.volume.specs.OnTables.{among, viewState}
+use Rattle.volume.specs.OnTables.{recordAt, among, viewState}
+use Rattle.volume.specs.ZoneChecks.{reached}
 use Rattle.volume.specs.CheckLaws.{presentList, openingNumber, Opened, opened}
 use Rattle.volume.specs.Knowing.{readDevice}
-use Rattle.volume.specs.Reading.{zoneNumber, zoneNumberOn, runNumber, state-fits, opened-readable, zone-on-in, read-first, read-second, read-third, second-is, third-is}
+use Rattle.volume.specs.Reading.{zoneNumber, zoneNumberOn, runNumber, state-fits, opened-readable, zone-on-in, zone-on-fresh, read-first, read-second, read-third, second-is, third-is}
 use borrow.Author.Needs.{needs}
 use Rattle.volume.proofs.reading.read_refusal.Statement.{statement}
 use Rattle.volume.proofs.reading.read_refusal.Tie as tie
@@ -65,8 +66,19 @@ run-refusal-requires : tie.Need-run-refusal-requires
 run-refusal-requires c κs =
     let a = c .before .before .before .before .before .before .before .before .before .before .args in
     let o = passed (c .before .before .before .before .before) in
-    let z : zoneOf (a .g) (a .address) < a .g .zones = zone-on-in (a .g) (presentList (a .g) (a .named) (a .state .lost)) (now (a .written)) (a .state) (zoneOf (a .g) (a .address)) (second-is (a .g) (a .named) (a .state) (a .address) (a .count) (a .bytes) (now (a .sectors)) (now (a .written)) (now (a .durable)) o ∙ zone-zero (c .before)) in
-    (o .valid, (rw (c .before .before .before .before .present-drives .ensures, c .before .before .before .zone-of .ensures) (opened-readable (a .g) (a .named) (a .state) (a .count) (a .bytes) (now (a .sectors)) (now (a .written)) (now (a .durable)) (zoneOf (a .g) (a .address)) o z), omega (arith, c .offset-of .ensures .1), omega arith))
+    let here = presentList (a .g) (a .named) (a .state .lost) in
+    let zero = second-is (a .g) (a .named) (a .state) (a .address) (a .count) (a .bytes) (now (a .sectors)) (now (a .written)) (now (a .durable)) o ∙ zone-zero (c .before) in
+    let z : zoneOf (a .g) (a .address) < a .g .zones = zone-on-in (a .g) here (now (a .written)) (a .state) (zoneOf (a .g) (a .address)) zero in
+    let h = c .before .before .before .before .present-drives .ensures in
+    let e = c .before .before .before .zone-of .ensures in (
+      o .valid,
+      (
+        rw (h, e) (opened-readable (a .g) (a .named) (a .state) (a .count) (a .bytes) (now (a .sectors)) (now (a .written)) (now (a .durable)) (zoneOf (a .g) (a .address)) o z),
+        omega (arith, c .offset-of .ensures .1),
+        omega arith,
+        rw (h, e) (reached (a .g) here (now (a .written)) (recordAt (a .state) (zoneOf (a .g) (a .address)) .condition) (zoneOf (a .g) (a .address)) (o .drives) (zone-on-fresh (a .g) here (now (a .written)) (a .state) (zoneOf (a .g) (a .address)) zero)),
+      ),
+    )
 
 returns-3 : tie.Need-returns-3
 returns-3 c =

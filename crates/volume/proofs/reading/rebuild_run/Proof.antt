@@ -30,25 +30,25 @@ mul-at c = let k = run-small (c .before .before .before .before .before .args .g
 add-end : tie.Need-add-end Inv-loop μ-loop
 add-end c = let k = run-small (c .before .before .before .before .before .args .g) (c .before .before .before .before .before .args .offset) (c .before .before .before .before .before .args .count) (c .before .loop .i) (c .before .before .before .before .before .pre .0) (c .before .before .before .before .before .pre .1 .1) (omega arith) in omega (arith, k .0, k .1)
 
-add-sector-value : tie.Need-add-sector-value Inv-loop μ-loop
-add-sector-value c = let s = c .before .before .before .before .before in omega (arith, s .pre .1 .1, zone-small (s .args .g) (s .pre .0) .1)
+add-served-value : tie.Need-add-served-value Inv-loop μ-loop
+add-served-value c = let s = c .before .before .before .before .before in omega (arith, s .pre .1 .1, zone-small (s .args .g) (s .pre .0) .1)
 
-sub-sector-value : tie.Need-sub-sector-value Inv-loop μ-loop
-sub-sector-value c = omega arith
+sub-served-value : tie.Need-sub-served-value Inv-loop μ-loop
+sub-served-value c = omega arith
 
-part-sector-value-start : tie.Need-part-sector-value-start Inv-loop μ-loop
-part-sector-value-start c = omega arith
+part-served-value-start : tie.Need-part-served-value-start Inv-loop μ-loop
+part-served-value-start c = omega arith
 
-part-sector-value-end : tie.Need-part-sector-value-end Inv-loop μ-loop
-part-sector-value-end c = let k = run-small (c .before .before .before .before .before .args .g) (c .before .before .before .before .before .args .offset) (c .before .before .before .before .before .args .count) (c .before .loop .i) (c .before .before .before .before .before .pre .0) (c .before .before .before .before .before .pre .1 .1) (omega arith) in omega (arith, k .0, c .before .loop .inv .1)
+part-served-value-end : tie.Need-part-served-value-end Inv-loop μ-loop
+part-served-value-end c = let k = run-small (c .before .before .before .before .before .args .g) (c .before .before .before .before .before .args .offset) (c .before .before .before .before .before .args .count) (c .before .loop .i) (c .before .before .before .before .before .pre .0) (c .before .before .before .before .before .pre .1 .1) (omega arith) in omega (arith, k .0, c .before .loop .inv .1)
 
-sector-value-requires : tie.Need-sector-value-requires Inv-loop μ-loop
-sector-value-requires c κs =
+served-value-requires : tie.Need-served-value-requires Inv-loop μ-loop
+served-value-requires c κs =
     let s = c .before .before .before .before .before .before in
     let a = s .args in
     let l = c .before .before .loop in
     let k = run-small (c .before .before .before .before .before .before .args .g) (c .before .before .before .before .before .before .args .offset) (c .before .before .before .before .before .before .args .count) (c .before .before .loop .i) (c .before .before .before .before .before .before .pre .0) (c .before .before .before .before .before .before .pre .1 .1) (omega arith) in
-    (s .pre .0, (s .pre .1 .0, omega (arith, s .pre .1 .1), s .pre .1 .4, gone-none (a .g) (a .here) (now (a .sectors)) (now (a .written)) (a .z) (s .pre .1 .0) (a .generation) (a .offset) (a .count) (l .i) (s .pre .1 .3) (omega arith), part-long (a .g .sector) (l .i) (a .count * a .g .sector) (l .out) (k .0) (l .inv .1)))
+    (s .pre .0, (s .pre .1 .0, omega (arith, s .pre .1 .1), s .pre .1 .4 .same-way (l .i) (omega arith), gone-none (a .g) (a .here) (now (a .sectors)) (now (a .written)) (a .z) (s .pre .1 .0) (a .generation) (a .offset) (a .count) (l .i) (s .pre .1 .3) (omega arith), part-long (a .g .sector) (l .i) (a .count * a .g .sector) (l .out) (k .0) (l .inv .1)))
 
 add-i : tie.Need-add-i Inv-loop μ-loop
 add-i c = let s = c .before .before .before .before .before .before .before .before .before in omega (arith, s .pre .1 .1, zone-small (s .args .g) (s .pre .0) .1)
@@ -61,7 +61,7 @@ loop-again c =
     let s = c .before .before .before .before .before .before .before .before .before in
     let a = s .args in
     let l = c .before .before .before .before .before .loop in
-    let f = c .before .before .sector-value in
+    let f = c .before .before .served-value in
     let b = a .g .sector in
     let v = f .last .1 .1 .1 .1 .1 .1 .1 .1 .0 in
     let k = run-small (c .before .before .before .before .before .before .before .before .before .args .g) (c .before .before .before .before .before .before .before .before .before .args .offset) (c .before .before .before .before .before .before .before .before .before .args .count) (c .before .before .before .before .before .loop .i) (c .before .before .before .before .before .before .before .before .before .pre .0) (c .before .before .before .before .before .before .before .before .before .pre .1 .1) (omega arith) in
@@ -91,11 +91,11 @@ rebuild-run-spec =
     loop-holds
     mul-at
     add-end
-    add-sector-value
-    sub-sector-value
-    part-sector-value-start
-    part-sector-value-end
-    sector-value-requires
+    add-served-value
+    sub-served-value
+    part-served-value-start
+    part-served-value-end
+    served-value-requires
     add-i
     loop-less
     loop-again

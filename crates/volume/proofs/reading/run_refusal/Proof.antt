@@ -48,7 +48,7 @@ is-gone-requires c κs =
     let a = s .args in
     let z = c .before .before .before .before .before .zone-sectors in
     let q = or-none (eqb (a .count) 0) (ltb (z .result) (a .offset + a .count)) (c .before .before .before .before .if1 .left) in
-    (s .pre .0, (s .pre .1 .0, omega (arith, z .ensures .0, ltb-false (z .result) (a .offset + a .count) (q .1))))
+    (s .pre .0, (s .pre .1 .0, omega (arith, z .ensures .0, ltb-false (z .result) (a .offset + a .count) (q .1)), rw (c .before .pointer-of .ensures) (s .pre .1 .3), omega (arith, c .if2 .left)))
 
 returns-3 : tie.Need-returns-3
 unfolding runNumber

@@ -1,11 +1,14 @@
-use Prim.Native.Nat.{_-_}
-use mathlib.Core.Path.{_≡_, refl, _∙_}
+use Prim.Native.Nat.{_*_, _/_, _≤_}
+use mathlib.Core.Path.{_≡_, refl, sym, _∙_}
 use mathlib.Core.Bool.{true, false}
 use native.Mathlib.Omega.{arith}
 use lib.ListN.{getD}
+use denote.Ref.{now}
 use borrow.Author.Needs.{needs}
+use Rattle.tables.specs.Geometry.{zoneSectors}
 use Rattle.tables.specs.Placement.{stripeOf}
 use Rattle.volume.specs.OnTables.{among}
+use Rattle.volume.specs.KnowingLaws.{held-none-gone}
 use Rattle.tables.specs.Sizes.{stripes-most, zone-small}
 use native.Mathlib.Nat.{div-add-mod'}
 use borrow.Author.Tests.{not-true, not-false}
@@ -40,26 +43,42 @@ returns c =
     let e : among (a .t4) (parityDriveAt (a .g) (a .z) (a .n)) ≡ false = rw (drive-is (c .before)) at (not-true (getD (a .t4) (c .before .parity-drive .result) false) (c .if1 .taken)) in
     rw e refl
 
-seal-limit-requires : tie.Need-seal-limit-requires
-seal-limit-requires c κs = search needs
+-- the parity drive is here
+here : (c : tie.Else1) → among (c .before .before .before .before .before .args .t4) (parityDriveAt (c .before .before .before .before .before .args .g) (c .before .before .before .before .before .args .z) (c .before .before .before .before .before .args .n)) ≡ true
+here c = rw (drive-is (c .before)) at (not-false (getD (c .before .before .before .before .before .args .t4) (c .before .parity-drive .result) false) (c .if1 .left))
+
+-- the stripe's earlier sectors lie in the zone
+earlier : (c : tie.Else1) → (c .before .before .before .before .before .args .n / c .before .before .stripe-sectors .result * c .before .before .stripe-sectors .result ≤ c .before .before .before .before .before .args .n) × (c .before .before .before .before .before .args .n ≤ zoneSectors (c .before .before .before .before .before .args .g))
+earlier c = (omega (arith, div-add-mod' (c .before .before .before .before .before .args .n) (c .before .before .stripe-sectors .result)), c .before .before .before .before .before .pre .1 .1)
 
 mul-start : tie.Need-mul-start
-mul-start c = omega (arith, div-add-mod' (c .before .before .before .before .before .before .args .n) (c .before .before .before .stripe-sectors .result), c .before .before .before .before .before .before .pre .1 .1, zone-small (c .before .before .before .before .before .before .args .g) (c .before .before .before .before .before .before .pre .0))
+mul-start c = omega (arith, earlier c, zone-small (c .before .before .before .before .before .args .g) (c .before .before .before .before .before .pre .0))
 
-sub-some-unknown : tie.Need-sub-some-unknown
-sub-some-unknown c = omega (arith, div-add-mod' (c .before .before .before .before .before .before .args .n) (c .before .before .before .stripe-sectors .result))
+sub-all-held : tie.Need-sub-all-held
+sub-all-held c = omega (arith, earlier c)
 
-some-unknown-requires : tie.Need-some-unknown-requires
-some-unknown-requires c κs =
-    let s = c .before .before .before .before .before .before in
-    (s .pre .0, (s .pre .1 .0, omega (arith, div-add-mod' (s .args .n) (c .before .before .before .stripe-sectors .result), s .pre .1 .1), c .seal-limit .ensures .0))
+all-held-requires : tie.Need-all-held-requires
+all-held-requires c κs = let s = c .before .before .before .before .before in (s .pre .0, (s .pre .1 .0 .zone-in, s .pre .1 .0 .written-long, omega (arith, earlier c)))
 
 returns-2 : tie.Need-returns-2
 unfolding goneBefore stripeOf
 returns-2 c =
-    let a = c .before .before .before .before .before .before .before .args in
-    let e : among (a .t4) (parityDriveAt (a .g) (a .z) (a .n)) ≡ true = rw (drive-is (c .before .before .before)) at (not-false (getD (a .t4) (c .before .before .before .parity-drive .result) false) (c .before .before .if1 .left)) in
-    rw e (c .some-unknown .ensures ∙ rw (c .before .before .before .before .stripe-sectors .ensures .0) refl)
+    let s = c .before .before .before .before .before .before .before in
+    let a = s .args in
+    rw (here (c .before .before)) (sym (held-none-gone (a .g) (a .t4) (now (a .sectors)) (now (a .written)) (a .z) (s .pre .1 .0) (a .generation) _ _ (s .pre .0) (rw (c .before .before .before .before .stripe-sectors .ensures .0) at (sym (c .before .all-held .ensures) ∙ c .if2 .taken))))
+
+seal-limit-requires : tie.Need-seal-limit-requires
+seal-limit-requires c κs = search needs
+
+sub-some-unknown : tie.Need-sub-some-unknown
+sub-some-unknown c = omega (arith, earlier (c .before .before .before))
+
+some-unknown-requires : tie.Need-some-unknown-requires
+some-unknown-requires c κs = let s = c .before .before .before .before .before .before .before .before in (s .pre .0, (s .pre .1 .0, omega (arith, earlier (c .before .before .before)), c .seal-limit .ensures .0))
+
+returns-3 : tie.Need-returns-3
+unfolding goneBefore stripeOf
+returns-3 c = rw (here (c .before .before .before .before)) (c .some-unknown .ensures ∙ rw (c .before .before .before .before .before .before .stripe-sectors .ensures .0) refl)
 
 pub gone-before-spec : {M : Type 1} → statement M
 gone-before-spec =
@@ -70,8 +89,11 @@ gone-before-spec =
     parity-drive-requires
     array-read-present
     returns
-    seal-limit-requires
     mul-start
+    sub-all-held
+    all-held-requires
+    returns-2
+    seal-limit-requires
     sub-some-unknown
     some-unknown-requires
-    returns-2)
+    returns-3)

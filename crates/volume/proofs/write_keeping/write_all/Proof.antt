@@ -1,55 +1,26 @@
-use Rattle.volume.specs.Answers.{sectorsIn}
-use mathlib.Core.Path.{subst, _∙_}
-use Prim.Native.Nat.{_+_, _-_}
-use mathlib.Core.List.{List, []}
+use mathlib.Core.Path.{sym}
+use Prim.Native.Nat.{_*_, _≤_}
 use native.Mathlib.Omega.{arith}
-use denote.Ref.{now}
 use borrow.Author.Needs.{needs}
-use Rattle.tables.specs.Basics.{pick}
-use Rattle.tables.specs.Device.{Store}
-use Rattle.tables.specs.Phases.{onPresent}
-use Rattle.tables.specs.Tables.{MadeAppends}
-use Rattle.volume.specs.OnTables.{among, appends-append}
-use Rattle.volume.specs.WriteRows.{rowsAt, runOf, entryOf, rows-small}
-use Rattle.volume.specs.WriteStores.{write-is}
-use Rattle.volume.specs.Knowing.{readDevice}
-use Rattle.volume.specs.WriteKeeping.{kept-cong, runContent, content-below, content-run}
-use Rattle.tables.specs.Sizes.{zone-small}
-use Rattle.volume.specs.Content.{insideStripe}
-use Rattle.volume.specs.Rules.{valueAt}
+use Rattle.volume.specs.WriteRows.{rows-small, zeros-front}
 use Rattle.volume.proofs.write_keeping.write_all.Statement.{statement}
 use Rattle.volume.proofs.write_keeping.write_all.Tie as tie
 
-slice-aggregate-keep-rows : tie.Need-slice-aggregate-keep-rows
-slice-aggregate-keep-rows c = search needs
+mul-m : tie.Need-mul-m
+mul-m c = let s = c .before .before .before in omega (arith, rows-small (s .args .g) (s .pre .0))
 
-keep-rows-requires : tie.Need-keep-rows-requires
-keep-rows-requires c κs =
-    let s = c .before .before .before .before .before .before in
-    let w = s .pre .1 in
-    (s .pre .0, (w .readable, omega (arith, w .inside), w .earlier-known, rows-small (s .args .g) (s .pre .0)))
+array-borrow-prefix-few : tie.Need-array-borrow-prefix-few
+array-borrow-prefix-few c = search needs
 
-slice-aggregate-write-run : tie.Need-slice-aggregate-write-run
-slice-aggregate-write-run c = search needs
+slice-aggregate-write-with-rows : tie.Need-slice-aggregate-write-with-rows
+slice-aggregate-write-with-rows c = let g = c .before .before .before .before .before .before .before .args .g in sym (zeros-front 16384 (g .unit * g .sector) (omega arith))
 
-write-run-requires : tie.Need-write-run-requires
-write-run-requires c κs =
-    let s = c .before .before .before .before .before .before .before .before .before .before .before in
-    let w = s .pre .1 in
-    (s .pre .0, (record { zone = w .readable .zone-in; sectors-long = w .readable .sectors-long; written-long = w .readable .written-long; rows-long = c .before .before .before .before .keep-rows .ensures .long }, (w .inside, w .buffer-long)))
-
-add-write-entry : tie.Need-add-write-entry
-add-write-entry c = omega (arith, c .before .before .before .before .before .before .before .before .before .before .before .before .before .before .before .before .before .before .before .pre .1 .inside, zone-small (c .before .before .before .before .before .before .before .before .before .before .before .before .before .before .before .before .before .before .before .args .g) (c .before .before .before .before .before .before .before .before .before .before .before .before .before .before .before .before .before .before .before .pre .0))
-
-slice-aggregate-write-entry : tie.Need-slice-aggregate-write-entry
-slice-aggregate-write-entry c = search needs
-
-write-entry-requires : tie.Need-write-entry-requires
-write-entry-requires c κs =
-    let s = c .before .before .before .before .before .before .before .before .before .before .before .before .before .before .before .before .before .before .before .before in
-    let w = s .pre .1 in
-    let f = c .before .before .before .before .before .before .before .before .write-run in
-    (s .pre .0, (record { zone = w .readable .zone-in; sectors-long = f .kept .0 ∙ w .readable .sectors-long; written-long = f .kept .1 .0 ∙ w .readable .written-long; rows-long = omega (arith, f .kept .1 .1 .0, c .before .before .before .before .before .before .before .before .before .before .before .before .before .keep-rows .ensures .long) }, w .inside))
+write-with-rows-requires : tie.Need-write-with-rows-requires
+write-with-rows-requires c κs =
+    let s = c .before .before .before .before .before .before .before in
+    let g = s .args .g in
+    let l = zeros-front 16384 (g .unit * g .sector) (omega arith) in
+    (s .pre .0, (s .pre .1, omega (arith, l)))
 
 same-length : tie.Need-same-length
 same-length c = search needs
@@ -58,34 +29,44 @@ same-length-2 : tie.Need-same-length-2
 same-length-2 c = search needs
 
 returns : tie.Need-returns
-returns c =
-    let s = c .before .before .before .before .before .before .before .before .before .before .before .before .before .before .before .before .before .before .before .before .before .before .before .before .before in
-    let a = s .args in
-    let w = s .pre .1 in
-    let q = c .before .before .before .before .before .before .before .before .before .before .before .before .before .before .before .before .before .before .keep-rows in
-    let f = c .before .before .before .before .before .before .before .before .before .before .before .before .before .write-run in
-    let e = c .before .before .before .before .write-entry in
-    let v = readDevice (a .g) (now (a .sectors)) (now (a .written)) in
-    let rows = q .last .1 .1 .1 .1 .1 .1 .1 .0 in
-    let content = runContent (a .g) (among (a .here)) v (a .z) (a .generation) (a .n) (sectorsIn (a .g) (a .count) (now (a .buffer))) in
-    let kept = kept-cong (a .g) (s .pre .0) (among (a .here)) (a .z) (valueAt (a .g) (among (a .here)) v (a .z) (a .generation)) content (a .n) rows (content-below (a .g) (among (a .here)) v (a .z) (a .generation) (a .n) (sectorsIn (a .g) (a .count) (now (a .buffer)))) (q .ensures) in
-    let same = write-is (a .g) (s .pre .0) (among (a .here)) (a .z) content (a .generation) (a .n) (now (a .buffer)) rows (a .count) (λ i l. content-run (a .g) (among (a .here)) v (a .z) (a .generation) (a .n) (now (a .buffer)) (a .count) i (w .buffer-long) l) kept in
-    let run = runOf (a .g) (a .z) (a .n) (now (a .buffer)) rows (a .count) in
-    let entry = pick (insideStripe (a .g) (a .n + a .count)) (entryOf (a .g) (a .z) (a .generation) (rowsAt (a .g) (a .n) (now (a .buffer)) rows (a .count)) (a .n + a .count)) [] in
-    subst (λ (l : List Store). MadeAppends (a .g) (a .budget) (e .result) l (now (a .sectors)) (now (a .written)) (e .last .0) (e .last .1 .0)) same
-    (appends-append (a .g) (a .budget) (f .result) (e .result) (onPresent (among (a .here)) run) (onPresent (among (a .here)) entry) (now (a .sectors)) (now (a .written)) (f .last .0) (f .last .1 .0) (e .last .0) (e .last .1 .0) (f .ensures .0) (rw (f .ensures .1) at (e .ensures)))
+returns c = search needs
+
+array-borrow-prefix-rows : tie.Need-array-borrow-prefix-rows
+array-borrow-prefix-rows c = let s = c .before .before .before .before .before .before in rows-small (s .args .g) (s .pre .0)
+
+slice-aggregate-write-with-rows-2 : tie.Need-slice-aggregate-write-with-rows-2
+slice-aggregate-write-with-rows-2 c = let s = c .before .before .before .before .before .before .before in let g = s .args .g in sym (zeros-front 65536 (g .unit * g .sector) (rows-small g (s .pre .0)))
+
+write-with-rows-requires-2 : tie.Need-write-with-rows-requires-2
+write-with-rows-requires-2 c κs =
+    let s = c .before .before .before .before .before .before .before in
+    let g = s .args .g in
+    let l = zeros-front 65536 (g .unit * g .sector) (rows-small g (s .pre .0)) in
+    (s .pre .0, (s .pre .1, omega (arith, l)))
+
+same-length-3 : tie.Need-same-length-3
+same-length-3 c = search needs
+
+same-length-4 : tie.Need-same-length-4
+same-length-4 c = search needs
+
+returns-2 : tie.Need-returns-2
+returns-2 c = search needs
 
 pub write-all-spec : {M : Type 1} → statement M
 write-all-spec =
     tie.close
     (tie.spec
-    slice-aggregate-keep-rows
-    keep-rows-requires
-    slice-aggregate-write-run
-    write-run-requires
-    add-write-entry
-    slice-aggregate-write-entry
-    write-entry-requires
+    mul-m
+    array-borrow-prefix-few
+    slice-aggregate-write-with-rows
+    write-with-rows-requires
     same-length
     same-length-2
-    returns)
+    returns
+    array-borrow-prefix-rows
+    slice-aggregate-write-with-rows-2
+    write-with-rows-requires-2
+    same-length-3
+    same-length-4
+    returns-2)

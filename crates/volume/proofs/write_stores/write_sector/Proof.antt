@@ -1,9 +1,8 @@
-use Prim.Native.Nat.{ℕ, suc, _+_, _-_, _%_, _≤_, _<_}
-use mathlib.Core.Path.{_≡_, sym, ap, _∙_}
+use Prim.Native.Nat.{suc, _+_, _%_, _≤_, _<_}
+use mathlib.Core.Path.{_≡_, _∙_}
 use native.Mathlib.Omega.{arith}
 use native.Mathlib.Numerals.{add-one}
 use native.Mathlib.Nat.{mod-lt}
-use lib.ListN.{replicate}
 use denote.Ref.{now}
 use borrow.Author.Needs.{needs}
 use Rattle.tables.specs.Geometry.{stripeSectors, zoneSectors}
@@ -60,8 +59,8 @@ returns c =
     let a = s .args in
     let k = c .before .stripe-sectors in
     let h : suc (a .a % stripeSectors (a .g)) < stripeSectors (a .g) = rw (k .ensures .0, add-one) at (c .if1 .taken) in
-    let (x, y) = address-inside (a .g) (among (a .t5)) (a .z) (a .a) (now (a .src)) (now (a .rows)) h in
-    (rw x (rw (c .before .before .before .before .before .before .before .before .before .before .before .before .before .drive-of .ensures .0) at (c .before .before .before .before .before .before .before .before .before .before .append-counted .ensures)), c .before .before .before .before .add-sector .ensures ∙ sym y)
+    let x = address-inside (a .g) (among (a .t5)) (a .z) (a .a) (now (a .src)) (now (a .rows)) h in
+    (rw x (rw (c .before .before .before .before .before .before .before .before .before .before .before .before .before .drive-of .ensures .0) at (c .before .before .before .before .before .before .before .before .before .before .append-counted .ensures)), c .before .before .before .before .add-sector .ensures)
 
 div-parity-drive : tie.Need-div-parity-drive
 div-parity-drive c = search needs
@@ -83,9 +82,6 @@ store-rows-requires c κs =
     let f = c .before .before .before .before .before .before .before .before .before .before .before .before .before .before .append-counted in
     (s .pre .0, (c .before .before .before .parity-drive .ensures .1, omega (arith, s .pre .1 .0 .zone), f .kept .0 ∙ s .pre .1 .0 .sectors-long, f .kept .1 .0 ∙ s .pre .1 .0 .written-long, omega arith, omega (arith, c .before .before .before .before .before .before .before .before .add-sector .kept .0, s .pre .1 .0 .rows-long)))
 
-clear-requires : tie.Need-clear-requires
-clear-requires c κs = search needs
-
 same-length-4 : tie.Need-same-length-4
 same-length-4 c = search needs
 
@@ -98,21 +94,21 @@ same-length-6 c = search needs
 returns-2 : tie.Need-returns-2
 unfolding stripeOf
 returns-2 c =
-    let s = c .before .before .before .before .before .before .before .before .before .before .before .before .before .before .before .before .before .before .before .before .before .before .before .before .before .before .before .before .before .before .before in
+    let s = c .before .before .before .before .before .before .before .before .before .before .before .before .before .before .before .before .before .before .before .before .before .before .before .before .before .before .before in
     let a = s .args in
-    let d = c .before .before .before .before .before .before .before .before .before .before .before .before .before .before .before .before .before .before .before .before .before .before .before .before .before .before .drive-of in
-    let f = c .before .before .before .before .before .before .before .before .before .before .before .before .before .before .before .before .before .before .before .before .before .before .before .append-counted in
-    let q = c .before .before .before .before .before .before .before .before .before .before .before .before .before .before .before .before .before .add-sector in
-    let k = c .before .before .before .before .before .before .before .before .before .before .before .before .before .before .stripe-sectors in
-    let p = c .before .before .before .before .before .before .before .before .before .before .before .before .parity-drive in
-    let r = c .before .before .before .before .before .before .before .before .store-rows in
+    let d = c .before .before .before .before .before .before .before .before .before .before .before .before .before .before .before .before .before .before .before .before .before .before .drive-of in
+    let f = c .before .before .before .before .before .before .before .before .before .before .before .before .before .before .before .before .before .before .before .append-counted in
+    let q = c .before .before .before .before .before .before .before .before .before .before .before .before .before .add-sector in
+    let k = c .before .before .before .before .before .before .before .before .before .before .stripe-sectors in
+    let p = c .before .before .before .before .before .before .before .before .parity-drive in
+    let r = c .before .before .before .before .store-rows in
     let m : a .a % k .result < k .result = mod-lt (a .a) (k .ensures .1) in
-    let e : suc (a .a % k .result) ≡ k .result = omega (arith, c .before .before .before .before .before .before .before .before .before .before .before .before .before .if1 .left) in
-    let (x, y) = address-last (a .g) (among (a .t5)) (a .z) (a .a) (now (a .src)) (now (a .rows)) (rw (k .ensures .0) at e) in (
+    let e : suc (a .a % k .result) ≡ k .result = omega (arith, c .before .before .before .before .before .before .before .before .before .if1 .left) in
+    let x = address-last (a .g) (among (a .t5)) (a .z) (a .a) (now (a .src)) (now (a .rows)) (rw (k .ensures .0) at e) in (
       rw x (appends-append (a .g) (a .budget) (f .result) (r .result) (storeIf (among (a .t5) (driveOf (a .g .drives) (a .g .unit) (a .z) (a .a))) (append (driveOf (a .g .drives) (a .g .unit) (a .z) (a .a)) (3 + a .z) (now (a .src))))
           (onPresent (among (a .t5)) (rowStores (a .g) (parityDrive (a .g .drives) (a .z) (stripeOf (a .g .drives) (a .g .unit) (a .a))) (3 + a .z) (withSector (a .g) (a .a) (now (a .src)) (now (a .rows))) (a .g .unit)))
           (now (a .sectors)) (now (a .written)) (f .last .0) (f .last .1 .0) (r .last .0) (r .last .1 .0) (rw (d .ensures .0) at (f .ensures)) (rw (p .ensures .0, k .ensures .0, q .ensures) at (r .ensures))),
-      c .before .before .clear .ensures ∙ ap (λ (n : ℕ). replicate n 0) (q .kept .0) ∙ sym y,
+      q .ensures,
     )
 
 pub write-sector-spec : {M : Type 1} → statement M
@@ -135,7 +131,6 @@ write-sector-spec =
     parity-drive-requires
     add-store-rows
     store-rows-requires
-    clear-requires
     same-length-4
     same-length-5
     same-length-6

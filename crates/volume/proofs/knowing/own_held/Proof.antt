@@ -3,8 +3,8 @@ use Prim.Native.Nat.{ℕ}
 use denote.Ref.{now}
 use Rattle.volume.specs.Knowing.{heldOn}
 use borrow.Author.Needs.{needs}
-use Rattle.volume.proofs.reading.own_held.Statement.{statement}
-use Rattle.volume.proofs.reading.own_held.Tie as tie
+use Rattle.volume.proofs.knowing.own_held.Statement.{statement}
+use Rattle.volume.proofs.knowing.own_held.Tie as tie
 
 drive-of-requires : tie.Need-drive-of-requires
 drive-of-requires c κs = search needs

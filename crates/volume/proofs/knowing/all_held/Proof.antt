@@ -4,9 +4,9 @@ use Prim.Native.Nat.{_-_, _≤_}
 use native.Mathlib.Omega.{arith}
 use native.Mathlib.Numerals.{add-one}
 use Rattle.tables.specs.Sizes.{zone-small}
-use Rattle.volume.specs.Reading.{allHeld}
-use Rattle.volume.proofs.reading.all_held.Statement.{statement}
-use Rattle.volume.proofs.reading.all_held.Tie as tie
+use Rattle.volume.specs.Knowing.{allHeld}
+use Rattle.volume.proofs.knowing.all_held.Statement.{statement}
+use Rattle.volume.proofs.knowing.all_held.Tie as tie
 
 abbrev Inv-loop : tie.InvT-loop
 Inv-loop written g here z offset count ok₀ i₀ ok i = (i ≤ count) × (ok ≡ allHeld g here written z offset i)

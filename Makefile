@@ -32,7 +32,7 @@ SANITIZE = -O1 -g -fsanitize=address,undefined -fno-sanitize-recover=all
 EDGE = target/edge
 
 REPLAY_C = c/replay.c c/script_host.c c/damage.c c/script.c host/shelf.c host/call.c
-PLAIN_C = c/plain.c c/plain_logs.c c/plain_refusals.c
+PLAIN_C = c/plain.c c/plain_logs.c c/plain_refusals.c host/journal.c
 BAD_INPUT_C = c/bad_input.c c/fixture.c c/expected.c $(PLAIN_C) host/shelf.c host/call.c
 BENCH_C = c/bench.c $(PLAIN_C) host/shelf.c host/call.c
 ZRV_C = host/zrv.c host/commands.c host/transfer.c host/checklist.c host/left_out.c host/tool.c host/options.c host/refusals.c host/driver.c \

@@ -6,7 +6,8 @@
 # edge-test: the conformance vectors replayed, and bad input; then both once more with the C side's sanitizers
 # bench: the archive's speed as a share of plain C's
 # example: the program of docs/USING.md, built and run
-.PHONY: check test wrong archive from-c edge-test bench example fmt
+# format-test: the model of docs/FORMAT.md in Python: the conformance vectors replayed, then the worked values of the page
+.PHONY: check test wrong archive from-c edge-test bench example format-test fmt
 
 check:
 	@rt check
@@ -55,6 +56,10 @@ example: $(LIBRARY)
 	@mkdir -p target
 	@$(EDGE_C) -O2 host/example.c $(LIBRARY) -o target/example
 	@target/example
+
+format-test:
+	@scripts/format_model.py replay < crates/replay/stdin | cmp - crates/replay/stdout && echo "format model: $$(wc -l < crates/replay/stdout) lines equal"
+	@scripts/format_model.py check docs/FORMAT.md
 
 fmt:
 	@rt fmt

@@ -1,6 +1,6 @@
 """The model of docs/FORMAT.md, first half: sections 1 to 6 and 10, what lies on the drives and what it shows.
 
-Written along that page alone, to be read beside it, not to be fast. Each part names its section; one-letter names are the page's letters.
+Written along that page, to be read beside it, not to be fast. Each part names its section; one-letter names are the page's letters.
 """
 import struct
 from collections import namedtuple

@@ -63,6 +63,9 @@ class Page:
         if len(matches) != 1:
             self.not_found("'%s', once" % words)
             return
+        if words.count("{}") != len(values):
+            self.differ(matches[0].start(), "'%s', the model gives %d values" % (matches[0][0], len(values)))
+            return
         for slot, value in enumerate(values, 1):
             stands = matches[0][slot].replace(",", "").lower()
             gives = written_out(value)

@@ -195,7 +195,7 @@ def check_stores(page):
     for _, match in page.matches("V, fresh: write of", r"write of (\d+) at (\d+)"):
         volume.write(int(match[2]), int(match[1]))
         lists.append([(number, *listed(volume, store)) for number, store in enumerate(volume.stores, 1)])
-    pattern = r"(\d+)  (drive \d+ zone \d+ sector \d+: (?:type 4, \d+ to \d+|[0-9a-f]{2}))(?:  (\w+))?"
+    pattern = r"(\d+)  (drive \d+ zone \d+ sector \d+: (?:type 4, \d+ to \d+|[0-9a-f]{2}))(?:  (parity|row \d+))?"
     found = page.matches("V, fresh: write of", pattern)
     found.sort(key=lambda pair: (pair[1].start(2), pair[0]))
     page.compare(found[0][0], "%d stores in all" % len(found), "%d stores in all" % sum(map(len, lists)))
@@ -212,7 +212,10 @@ def listed(volume, store):
     """A store of a write as the page lists it, and the word that may follow."""
     where = "drive %d zone %d sector %d: " % (store.drive, store.zone, store.sector)
     if store.zone == PARITY_LOG:
-        return (where + "type 4, %d to %d" % ends(store), "") if volume.entry(store) else (where + written_out(store.data), "row")
+        header_at = max(x for x, _ in walk(volume.drives, store.drive, PARITY_LOG).whole if x <= store.sector)
+        if header_at == store.sector:
+            return where + "type 4, %d to %d" % ends(store), ""
+        return where + written_out(store.data), "row %d" % (store.sector - header_at - 1)
     is_parity = store.drive == V.parity_drive(store.zone - FIRST_DATA_ZONE, store.sector // V.U)
     return where + written_out(store.data), "parity" if is_parity else ""
 

@@ -1,0 +1,330 @@
+"""The model of docs/FORMAT.md, second half: sections 7 to 9, the calls, their refusals and their stores.
+
+A call that stores is a generator: it raises Refused before its first store, yields its stores in order, and returns the state that it
+hands on.
+"""
+from format_volume import (ALL_STORES, COUNTERS, EMPTY, FIRST_DATA_ZONE, GENERAL_LOG, LABEL, LAST_GENERATION, NO_DRIVE, OPEN, PARITY_LOG,
+                           SEALED, UNFINISHED, WORN, Drives, Logs, Memory, Refused, State, Store, Unfinished, Zone, ZoneRecord,
+                           counters, exclusive_or, label, partial_parity, reset_entry, seal, walk)
+
+
+class Call:
+    """One call: the geometry, memory and state handed over, and the drives named. Refusals are in the order of section 7's table."""
+
+    def __init__(self, geometry, memory, named, state=None, lengths=None):
+        self.geometry, self.memory, self.state = geometry, memory, state
+        self.named_mask, self.lengths = named, lengths or (len(memory.sectors), len(memory.written), len(memory.durable))
+        self.drives = Drives(geometry, memory)
+        self.made = []
+
+    def carry_out(self, stores, count):
+        """Section 2, budgets of stores."""
+        while True:
+            try:
+                store = next(stores)
+            except StopIteration as end:
+                return end.value
+            if len(self.made) == count != ALL_STORES:
+                raise Unfinished
+            sector = self.drives.written(store.drive, store.zone) if store.kind == "append" else None
+            self.drives.make(store)
+            self.made.append(store._replace(sector=sector))
+
+    # ---- section 7: refusals
+
+    def check_input(self, state=None, buffer=0, sectors=0):
+        """Refusals 1 to 3."""
+        g, memory = self.geometry, self.memory
+        if not g.in_bounds():
+            raise Refused(1)
+        if state and (g.D <= state.lost != NO_DRIVE or any(record.pointer > g.Q for record in state.zones)):
+            raise Refused(1)
+        if self.lengths != g.lengths() or buffer != sectors * g.B:
+            raise Refused(2)
+        self.named = [d for d in range(g.D) if self.named_mask >> d & 1]
+        for d in self.named:
+            for i in range(d * g.Z, d * g.Z + g.Z):
+                if not memory.durable[i] <= memory.written[i] <= g.C:
+                    raise Refused(3)
+
+    def settle_present(self, lost):
+        """Refusal 4. `lost` are drives that count as lost although they may be named."""
+        self.present = [d for d in self.named if d not in lost]
+        missing = [d for d in range(self.geometry.D) if d not in self.present]
+        if len(missing) > 1:
+            raise Refused(4)
+        self.lost = missing[0] if missing else NO_DRIVE
+
+    def settle_by_labels(self):
+        """Look and mount: rule 1 and refusals 4 to 6."""
+        self.logs = logs = Logs(self.drives, self.named)
+        self.settle_present([logs.last(d, LABEL).lost for d in self.named if logs.first_label(d)])
+        firsts = [logs.first_label(d) for d in self.present]
+        if None in firsts or len({first.array for first in firsts}) > 1:
+            raise Refused(5)
+        self.array = firsts[0].array
+        if any(logs.walks[d, log].broken_at is not None for d in self.present for log in (GENERAL_LOG, PARITY_LOG)):
+            raise Refused(6)
+
+    def check_zone(self, z):
+        """Refusals 7 and 8; the zone's record in the state."""
+        g = self.geometry
+        if z >= g.L:
+            raise Refused(8)
+        record = self.state.zones[z]
+        for d in self.present:
+            written, need = self.drives.written(d, FIRST_DATA_ZONE + z), g.need(z, record.pointer, d)
+            if written < need or (written > need and record.condition in (EMPTY, OPEN)):
+                raise Refused(7)
+        return record
+
+    def check_run(self, address, sectors, buffer):
+        """Refusals 1 to 4 and 7 to 9 of a write or a read: zone, offset and record."""
+        self.check_input(self.state, buffer, sectors)
+        self.settle_present([self.state.lost])
+        z, a = divmod(address, self.geometry.Q)
+        record = self.check_zone(z)
+        if sectors == 0 or a + sectors > self.geometry.Q:
+            raise Refused(9)
+        return z, a, record
+
+    def known(self, z, record, offsets):
+        """Refusal 15: the values of these offsets by rule 4, with the state's generation."""
+        zone = Zone(self.drives, Logs(self.drives, self.present), self.present, z, record.generation)
+        values = {a: zone.value(a) for a in offsets}
+        if None in values.values():
+            raise Refused(15)
+        return values
+
+    # ---- section 8: the calls and their stores
+
+    def append(self, d, y, data):
+        if d in self.present:
+            yield Store("append", d, y, data)
+
+    def on_all(self, kind, y=None, data=None):
+        for d in self.present:
+            yield Store(kind, d, y, data)
+
+    def row_sum(self, values, s, r, end):
+        """The exclusive or of the sectors of row r of stripe s that lie below end."""
+        return exclusive_or([values[a] for a in self.geometry.row_offsets(s, r) if a < end], self.geometry.B)
+
+    def parity_entry(self, z, n, generation, values):
+        """One type 4 entry for the pointer n, inside a stripe: header, then rows, on the stripe's parity drive."""
+        g = self.geometry
+        s, f = divmod(n, g.K)
+        p = g.parity_drive(z, s)
+        if p in self.present:
+            yield from self.append(p, PARITY_LOG, partial_parity(g, z, n, generation))
+            for r in range(min(f, g.U)):
+                yield from self.append(p, PARITY_LOG, self.row_sum(values, s, r, n))
+
+    def format(self, array):
+        self.check_input()
+        self.settle_present([])
+        g = self.geometry
+        for d in self.present:
+            for y in range(g.Z):
+                yield Store("reset", d, y)
+        for d in self.present:
+            yield Store("append", d, GENERAL_LOG, label(g, d, self.lost, array))
+            yield Store("append", d, GENERAL_LOG, counters(g, [1] * g.L))
+        yield from self.on_all("flush")
+        return State(self.lost, [ZoneRecord(1, EMPTY, 0)] * g.L)
+
+    def write(self, address, sectors, data):
+        g = self.geometry
+        z, a, record = self.check_run(address, sectors, len(data))
+        self.check_write(z, a, record, a + sectors)
+        first = a // g.K
+        needed = range(first * g.K, a) if g.parity_drive(z, first) in self.present else ()
+        values = self.known(z, record, needed)
+        values.update((a + i, data[i * g.B:(i + 1) * g.B]) for i in range(sectors))
+        for b in range(a, a + sectors):
+            at = g.place(z, b)
+            yield from self.append(at.drive, FIRST_DATA_ZONE + z, values[b])
+            if (b + 1) % g.K == 0 and at.parity_drive in self.present:
+                for r in range(g.U):
+                    yield from self.append(at.parity_drive, FIRST_DATA_ZONE + z, self.row_sum(values, at.stripe, r, b + 1))
+        if (a + sectors) % g.K:
+            yield from self.parity_entry(z, a + sectors, record.generation, values)
+        return self.state.with_zone(self.lost, z, ZoneRecord(record.generation, OPEN, a + sectors))
+
+    def check_write(self, z, a, record, end):
+        """Refusals 10 to 12 and 14 of a write from offset a to end."""
+        g = self.geometry
+        if a != record.pointer:
+            raise Refused(10)
+        if record.condition in (SEALED, WORN):
+            raise Refused(11 if record.condition == SEALED else 12)
+        s, f = divmod(end, g.K)
+        p = g.parity_drive(z, s)
+        if f and p in self.present and self.drives.room(p, PARITY_LOG) < 1 + min(f, g.U) + g.R:
+            raise Refused(14)
+
+    def flush(self):
+        self.check_input(self.state)
+        self.settle_present([self.state.lost])
+        yield from self.on_all("flush")
+        return self.state.with_zone(self.lost)
+
+    def reset(self, z):
+        g = self.geometry
+        self.check_input(self.state)
+        self.settle_present([self.state.lost])
+        record = self.check_zone(z)
+        if record.condition == WORN or record.generation == LAST_GENERATION:
+            raise Refused(12)
+        if any(self.drives.room(d, GENERAL_LOG) < g.L + 4 for d in self.present):
+            raise Refused(14)
+        for d in sorted(g.reset_drives(z)):
+            yield from self.append(d, GENERAL_LOG, reset_entry(g, z, record.generation))
+        yield from self.on_all("flush")
+        yield from self.on_all("reset", FIRST_DATA_ZONE + z)
+        raised = record.generation + 1
+        after = self.state.with_zone(self.lost, z, ZoneRecord(raised, WORN if raised == LAST_GENERATION else EMPTY, 0))
+        yield from self.on_all("append", GENERAL_LOG, counters(g, [zone.generation for zone in after.zones]))
+        yield from self.on_all("flush")
+        return after
+
+    def read(self, address, sectors, buffer):
+        z, a, record = self.check_run(address, sectors, buffer)
+        if a + sectors > record.pointer:
+            raise Refused(13)
+        return b"".join(self.known(z, record, range(a, a + sectors)).values())
+
+    def peek(self, address):
+        g = self.geometry
+        self.check_input(self.state)
+        self.settle_present([self.state.lost])
+        z, a = divmod(address, g.Q)
+        if a >= self.check_zone(z).pointer:
+            raise Refused(13)
+        at = g.place(z, a)
+        if at.drive not in self.present or self.drives.written(at.drive, FIRST_DATA_ZONE + z) <= at.sector:
+            raise Refused(15)
+        return g.byte_of(at.drive, FIRST_DATA_ZONE + z, at.sector)
+
+    def look(self):
+        self.check_input()
+        self.settle_by_labels()
+        return self.show()
+
+    def show(self):
+        """Section 6: rule 2, and the zones by rules 3 to 6."""
+        self.zones = []
+        lasts = [last for last in (self.logs.last(d, COUNTERS) for d in self.present) if last]
+        for z in range(self.geometry.L):
+            generation = max((last.generations[z] for last in lasts), default=0)
+            self.zones.append(Zone(self.drives, self.logs, self.present, z, generation))
+        return State(self.lost, [zone.shown() for zone in self.zones])
+
+    # ---- section 9: mount
+
+    def mount(self):
+        g = self.geometry
+        self.check_input()
+        self.settle_by_labels()
+        if any(self.drives.room(d, GENERAL_LOG) < g.L + 2 or self.drives.room(d, PARITY_LOG) < g.R for d in self.present):
+            raise Refused(14)
+        yield from self.on_all("flush")
+        self.show()
+        for step in (self.labels_step, self.type_3_step, self.resets_step, self.counters_step, self.seals_step, self.torn_rows_step,
+                     self.sectors_step, self.type_4_step):
+            stored = False
+            for store in step():
+                stored = True
+                yield store
+            if stored:
+                yield from self.on_all("flush")
+        self.logs = Logs(self.drives, self.present)
+        return self.show()
+
+    def each_zone(self):
+        """Drives ascend, and zones in each drive."""
+        return ((d, z, zone) for d in self.present for z, zone in enumerate(self.zones))
+
+    def labels_step(self):
+        for d in self.present:
+            if self.lost not in (NO_DRIVE, self.logs.last(d, LABEL).lost):
+                yield Store("append", d, GENERAL_LOG, label(self.geometry, d, self.lost, self.array))
+
+    def type_3_step(self):
+        for d, z, zone in self.each_zone():
+            if zone.emptied and d in self.geometry.reset_drives(z):
+                yield Store("append", d, GENERAL_LOG, reset_entry(self.geometry, z, zone.generation))
+
+    def resets_step(self):
+        for d, z, zone in self.each_zone():
+            if zone.record.condition != WORN and (zone.emptied or (zone.record.pointer == 0 and not zone.clean)):
+                yield Store("reset", d, FIRST_DATA_ZONE + z)
+
+    def counters_step(self):
+        empty = [zone.record.condition == EMPTY for zone in self.zones]
+        if any(empty) or len({self.logs.last(d, COUNTERS) for d in self.present}) > 1:
+            generations = [zone.generation + raised for zone, raised in zip(self.zones, empty)]
+            yield from self.on_all("append", GENERAL_LOG, counters(self.geometry, generations))
+
+    def seals_step(self):
+        for d, z, zone in self.each_zone():
+            if zone.record.condition == SEALED and zone.record.pointer not in zone.seals[d]:
+                yield Store("append", d, GENERAL_LOG, seal(self.geometry, z, zone.record.pointer, zone.generation))
+
+    def torn_rows_step(self):
+        for d in self.present:
+            if self.logs.torn(d):
+                x, entry = self.logs.torn(d)
+                zone = self.zones[entry.zone]
+                true = zone.current(entry) and entry.end <= zone.record.pointer
+                for r in range(self.drives.written(d, PARITY_LOG) - x - 1, entry.rows):
+                    row = self.row_sum(zone.values, entry.stripe, r, entry.end) if true else bytes(self.geometry.B)
+                    yield Store("append", d, PARITY_LOG, row)
+
+    def sectors_step(self):
+        g = self.geometry
+        for d, z, zone in self.each_zone():
+            for x in range(self.drives.written(d, FIRST_DATA_ZONE + z), g.need(z, zone.record.pointer, d)):
+                s, r = divmod(x, g.U)
+                if d == g.parity_drive(z, s):
+                    data = self.row_sum(zone.values, s, r, zone.record.pointer)
+                else:
+                    data = zone.values[g.row_offsets(s, r)[g.unit_of(z, s, d)]]
+                yield Store("append", d, FIRST_DATA_ZONE + z, data)
+
+    def type_4_step(self):
+        g = self.geometry
+        for d, z, zone in self.each_zone():
+            n = zone.record.pointer
+            if n % g.K and d == g.parity_drive(z, n // g.K):
+                whole = walk(self.drives, d, PARITY_LOG).whole
+                if not any(zone.current(entry) and entry.end == n for _, entry in whole):
+                    yield from self.parity_entry(z, n, zone.generation, zone.values)
+
+
+class Host:
+    """What a host has (sections 2 and 10): the drives' memory, the geometry for the calls, and the state of the last finished call."""
+
+    def __init__(self, geometry):
+        self.geometry, self.memory, self.state = geometry, Memory(geometry), None
+        self.stores = []
+
+    def store(self, name, named, *arguments, count=ALL_STORES, lengths=None):
+        """A call that stores: its answer, a number. Finished, its state is kept."""
+        call = Call(self.geometry, self.memory, named, self.state, lengths)
+        self.stores = call.made
+        try:
+            self.state = call.carry_out(getattr(call, name)(*arguments), count)
+            return 0
+        except Refused as refused:
+            return refused.number
+        except Unfinished:
+            return UNFINISHED
+
+    def ask(self, name, named, *arguments, state=None, lengths=None):
+        """A look, read or peek: its answer, and what it gives if that is 0."""
+        call = Call(self.geometry, self.memory, named, state or self.state, lengths)
+        try:
+            return 0, getattr(call, name)(*arguments)
+        except Refused as refused:
+            return refused.number, None

@@ -1,0 +1,381 @@
+"""The worked values of docs/FORMAT.md, section by section: each is computed by the model on the page's volume V and compared."""
+import re
+from random import Random
+
+from format_cases import (ALL_DRIVES, ARRAY, FILLS, V, Volume, before_mount, either, ends, five_written, formatted, in_words, kept, sector,
+                          without)
+from format_page import NotFound, Page, written_out
+from format_volume import (COUNTERS, FIRST_DATA_ZONE, GENERAL_LOG, EMPTY, LABEL, OPEN, PARITY_LOG, RESET, SEAL, SECTOR_SIZES, Geometry,
+                           ZoneRecord, counters, partial_parity, reset_entry, seal, walk)
+
+DRAWN_CUTS = 6
+
+
+def check_geometry(page):
+    """Introduction, sections 1 and 2."""
+    page.phrase("V: D = {} drives, B = {} bytes, U = {} sectors, L = {} zones, C = {} sectors; array number {}",
+                V.D, V.B, V.U, V.L, V.C, hex(ARRAY))
+    page.phrase("one byte each: {}, {}, {}, {}, {}, {}, {}, {} for offsets 0 to 7 of a zone", *(sector(a) for a in range(len(FILLS))))
+    page.phrase("(offsets 8 to 13 hold the bytes {} to {})", sector(8), sector(13))
+    page.phrase("| Z, physical zones of a drive | L + 3 | {} |", V.Z)
+    page.phrase("| K, data sectors of a stripe | (D − 1) × U | {} |", V.K)
+    page.phrase("| Q, sectors of a logical zone | (D − 1) × C | {} |", V.Q)
+    page.phrase("| R, what a mount may need of a parity log | L × (1 + U) + U | {} |", V.R)
+    most = [max(L for L in range(1, 17) if Geometry(V.D, B, 1, L, 64).in_bounds()) for B in SECTOR_SIZES[:2]]
+    page.phrase("at most {} for B = 64, {} for B = 128", *most)
+    page.phrase("With V's D, B, U and L the least C is {}.", min(C for C in range(65537) if Geometry(V.D, V.B, V.U, V.L, C).in_bounds()))
+    page.phrase("D × Z × C × B bytes (V: {})", V.lengths()[0])
+    page.phrase("D × Z numbers of 32 bits (V: {})", V.lengths()[1])
+
+
+def check_placement(page):
+    """Section 3: the picture, the addresses, the needs."""
+    page.phrase("zone 0 (physical zone {}) zone 1 (physical zone {}) sectors " + "drive {} " * V.D * V.L + "0, 1",
+                FIRST_DATA_ZONE, FIRST_DATA_ZONE + 1, *list(range(V.D)) * V.L)
+    for position, line in page.block("V, addresses by drive (P: parity)")[3:]:
+        sectors, *cells = re.findall(r"(P|\d+), ?(P|\d+)", line)
+        page.compare(position, line.split()[-1], str(int(sectors[0]) // V.U))
+        for column, cell in enumerate(cells):
+            for x, stands in zip(map(int, sectors), cell):
+                page.compare(position, stands, address_at(*divmod(column, V.D), x))
+    for position, cells in page.table("| Address | s, j, r | p |")[1:]:
+        z, a = divmod(int(cells[0]), V.Q)
+        at = V.place(z, a)
+        y = FIRST_DATA_ZONE + z
+        page.compare(position, cells[1], "%d, %d, %d" % (at.stripe, at.unit, at.row) + (" (zone %d)" % z if z else ""))
+        page.compare(position, cells[2], str(at.parity_drive))
+        page.compare(position, cells[3], "%d, %d, %d" % (at.drive, y, at.sector))
+        page.compare(position, cells[4], format(V.byte_of(at.drive, y, at.sector), ","))
+    page.phrase("| needs of drives {}, {}, {}, {} |", *range(V.D))
+    (_, pointers), (position, needs) = page.table("| V, zone 0, pointer n |")
+    for pointer, need in zip(pointers[1:], needs[1:]):
+        page.compare(position, need, " ".join(str(V.need(0, int(pointer), d)) for d in range(V.D)))
+
+
+def address_at(z, d, x):
+    """The address that lies in sector x of a drive, or P."""
+    s, r = divmod(x, V.U)
+    return "P" if d == V.parity_drive(z, s) else str(z * V.Q + V.row_offsets(s, r)[V.unit_of(z, s, d)])
+
+
+def check_entries(page):
+    """Sections 4 and 10: every dump, and the words about the dumped entries."""
+    five, reset, lost, mounted = five_written(), formatted(), formatted(), before_mount()
+    reset.store("reset", ALL_DRIVES, 0)
+    lost.store("mount", without(0))
+    sealed = kept([2, 1, 1, 0], 0)
+    sealed.store("mount", ALL_DRIVES)
+    mounted.store("mount", without(2))
+    page.dumps({
+        "drive 2 of V after a format with all drives": formatted().drives.sector(2, GENERAL_LOG, 0),
+        "the same, on drive 1, by a mount without drive 0": only(lost, LABEL, 1),
+        "every drive of V after a format: generations 1 and 1": formatted().drives.sector(1, GENERAL_LOG, 1),
+        "after a reset of zone 0: 2 and 1": only(reset, COUNTERS, 1),
+        "type 3: zone 0 of V, 0 to 96, generation 1 (drives 0 and 3)": only(reset, RESET, 3),
+        "type 5: zone 0 of V sealed at 3, generation 1": only(sealed, SEAL, 2),
+        "V, addresses 0 to 4 written to zone 0: sectors 0, 1 and 2 of drive 3's parity log": five.drives.sector(3, PARITY_LOG, 0),
+        "V after the write of 5 at 0": five.state.to_bytes(),
+        "V after the mount of section 9": mounted.state.to_bytes(),
+    })
+    page.phrase("At the C edge it is {} bytes, whatever L:", len(five.state.to_bytes()))
+    page.phrase("type 3: zone 0 of V, 0 to 96, generation 1 (drives {} and {})", *sorted(V.reset_drives(0)))
+    page.phrase("start {} 10: 05 00 00 00 00 00 00 00 01 00 00 00 00 00 00 00 end {}, generation {};", *ends(five.stores[-3]), 1)
+    rows = [five.drives.sector(3, PARITY_LOG, x) for x in (1, 2)]
+    page.phrase("row 0 {} in all {} bytes = {} ⊕ {} ⊕ {} addresses 0, 2, 4", rows[0], V.B, *(sector(a) for a in (0, 2, 4)))
+    page.phrase("row 1 {} in all {} bytes = {} ⊕ {} addresses 1, 3", rows[1], V.B, *(sector(a) for a in (1, 3)))
+
+
+def only(volume, kind, d):
+    """The one entry of a type that the last call appended to a drive's general log."""
+    general = [store for store in volume.stores if (store.kind, store.drive, store.zone) == ("append", d, GENERAL_LOG)]
+    data, = [store.data for store in general if volume.entry(store).type == kind]
+    return data
+
+
+def check_walks(page):
+    """Section 5: the table of walks."""
+    row = bytes(V.B)
+    first = log_of(0, [partial_parity(V, 1, 2, 1), row, row, partial_parity(V, 1, 5, 1)])
+    fifteen = [partial_parity(V, 0, 1, 0), row] * 15
+    two_rows, one_row = (log_of(3, fifteen + [partial_parity(V, 0, n, 0)]) for n in (2, 1))
+    page.phrase("header 96 to 98, two rows, header 96 to 101; written 4 (drive 0) | one whole entry at {}, a torn one at {} without rows",
+                first.whole[0][0], first.torn[0])
+    page.phrase("header that wants two rows at sector 30; written 31 | no entry at {}: {} is past C",
+                two_rows.broken_at, two_rows.broken_at + 3)
+    page.phrase("header that wants one row at sector 30; written 31 | torn at {}", one_row.torn[0])
+
+
+def log_of(d, sectors):
+    """The walk of a parity log that holds these sectors."""
+    volume = Volume()
+    for sector in sectors:
+        volume.drives.append(d, PARITY_LOG, sector)
+    return walk(volume.drives, d, PARITY_LOG)
+
+
+def check_looks(page):
+    """Section 6: the table of kept sectors, and the two entries."""
+    before = None
+    for position, (_, left, log, named, zone_0, _) in page.table("| | Kept of zone 0 | Of the parity log |")[1:]:
+        left = before = before if left == "the same" else left
+        volume = kept([int(count) for count in left.split(",")[0].split()], int(log))
+        if "a seal at 3 on drive 0" in left:
+            volume.drives.append(0, GENERAL_LOG, seal(V, 0, 3, 1))
+        if "a type 3 on drive 0" in left:
+            volume.drives.append(0, GENERAL_LOG, reset_entry(V, 0, 1))
+        page.compare(position, zone_0, either(volume.shown(0, mask) for mask in masks_named(named)))
+    row_0, row_1 = (five_written().drives.sector(3, PARITY_LOG, x) for x in (1, 2))
+    page.phrase("3 is row 1 ⊕ address 1 = {} ⊕ {} = {}", row_1, sector(1), sector(3))
+    page.phrase("0 is {} ⊕ {} ⊕ {}; 1 would need 3", row_0, sector(2), sector(4))
+    check_two_entries(page)
+
+
+def masks_named(words):
+    """The masks of the column Named: all drives, each set of three too, or the drives listed."""
+    if words.startswith("all"):
+        return [ALL_DRIVES] + [without(d) for d in range(V.D) if words == "all, or any three"]
+    return [sum(1 << int(d) for d in words.split(", "))]
+
+
+def check_two_entries(page):
+    volume = formatted()
+    volume.write(0, 3)
+    volume.write(3, 2)
+    log = [volume.drives.sector(3, PARITY_LOG, x) for x in range(volume.drives.written(3, PARITY_LOG))]
+    end = [entry.end for _, entry in walk(volume.drives, 3, PARITY_LOG).whole]
+    page.phrase("two entries in drive 3's log: end {} with rows {} and {}, end {} with rows {} and {}.",
+                end[0], *log[1:3], end[1], *log[4:])
+    page.phrase("Kept 2 1 0 0 and the whole log, drives 1, 2, 3 named: offset 0 is {} ⊕ {} by the older entry", log[1], sector(2))
+    page.phrase("1 is {} by the older", log[2])
+    volume.keep({(d, FIRST_DATA_ZONE): count for d, count in enumerate([2, 1, 0, 0])})
+    page.phrase("3 needs 1 held. {} at {}. With all four drives named: 3 and 4 come from the newer entry, and the zone is {} at {}.",
+                *volume.shown(0, without(0)).split(" at "), *volume.shown().split(" at "))
+
+
+def check_refusals(page):
+    """Section 7: the room that the calls want, and the answers worked out."""
+    mount, reset = (lambda volume: volume.store("mount", ALL_DRIVES)), (lambda volume: volume.store("reset", ALL_DRIVES, 0))
+    write_1, write_5 = (lambda volume: volume.write(0, 1)), (lambda volume: volume.write(0, 5))
+    cases = ((GENERAL_LOG, mount), (PARITY_LOG, mount), (GENERAL_LOG, reset), (PARITY_LOG, write_1))
+    rooms = [least_room(log, call) for log, call in cases]
+    page.phrase("V: mount {} and {}, reset {}, write of one sector at 0 {} ({} is refused), of five sectors {}.",
+                *rooms, rooms[-1] - 1, least_room(PARITY_LOG, write_5))
+    five = five_written()
+    page.phrase("read of 4 to 5: {}. Read of 95 and 96: {}. Read of 192: {}, of no sectors there too.",
+                five.read(4, 2)[0], five.read(95, 2)[0], either(five.read(192, count)[0] for count in (0, 1)))
+    page.phrase("Write at 4 or 6: {}, of no sectors at 6: {}.", either(five.write(at, 1) for at in (4, 6)), five.write(6, 0))
+    page.phrase("Peek of 4: byte {}; without drive 2: {}, while a read of it without drive 2 gives its bytes, {}.",
+                five.ask("peek", ALL_DRIVES, 4)[1], five.ask("peek", without(2), 4)[0], five.read(4, 1, without(2))[1])
+    page.phrase("Mask 3 (drives 0 and 1): {}.", five.read(0, 1, 3)[0])
+    at_0 = five.state.with_zone(five.state.lost, 0, ZoneRecord(1, OPEN, 0))
+    page.phrase("State open at 0: {}.", five.ask("read", ALL_DRIVES, 0, 1, V.B, state=at_0)[0])
+    five.memory.written[V.Z + 4] = 33
+    page.phrase("With a write pointer of 33 in zone 4 of drive 1: {}, also for a read in zone 0.", five.read(0, 1)[0])
+
+
+def least_room(log, call):
+    """The least room in one log of drive 3 with which a call on V, formatted, is not refused 14. The log is filled with old entries."""
+    row = bytes(V.B)
+    for room in range(V.C - 3, -1, -1):
+        volume = formatted()
+        while volume.drives.room(3, log) > room:
+            more = volume.drives.room(3, log) - room
+            rows = 0 if log == GENERAL_LOG else 2 if more == 3 else 1
+            for sector in [partial_parity(V, 0, rows, 0) if rows else counters(V, [1] * V.L)] + [row] * rows:
+                volume.drives.append(3, log, sector)
+        if call(volume) == 14:
+            return room + 1
+    return 0
+
+
+def check_stores(page):
+    """Section 8: the stores of format, write and reset."""
+    page.phrase("V: {} stores; with one drive left out {}.", len(formatted().stores), len(formatted(without(1)).stores))
+    lists, volume = [], formatted()
+    for _, match in page.matches("V, fresh: write of", r"write of (\d+) at (\d+)"):
+        volume.write(int(match[2]), int(match[1]))
+        lists.append([(number, *listed(volume, store)) for number, store in enumerate(volume.stores, 1)])
+    pattern = r"(\d+)  (drive \d+ zone \d+ sector \d+: (?:type 4, \d+ to \d+|[0-9a-f]{2}))(?:  (parity|row \d+))?"
+    found = page.matches("V, fresh: write of", pattern)
+    found.sort(key=lambda pair: (pair[1].start(2), pair[0]))
+    page.compare(found[0][0], "%d stores in all" % len(found), "%d stores in all" % sum(map(len, lists)))
+    for (position, match), (number, store, note) in zip(found, sum(lists, [])):
+        page.compare(position, "%s  %s" % match.groups()[:2], "%d  %s" % (number, store))
+        if match[3]:
+            page.compare(position, match[3], note)
+    page.phrase("({} and {}: parity)", *(number for number, _, note in lists[1] if note == "parity"))
+    check_stores_with_a_loss(page)
+    check_reset(page)
+
+
+def listed(volume, store):
+    """A store of a write as the page lists it, and the word that may follow."""
+    where = "drive %d zone %d sector %d: " % (store.drive, store.zone, store.sector)
+    if store.zone == PARITY_LOG:
+        header_at = max(x for x, _ in walk(volume.drives, store.drive, PARITY_LOG).whole if x <= store.sector)
+        if header_at == store.sector:
+            return where + "type 4, %d to %d" % ends(store), ""
+        return where + written_out(store.data), "row %d" % (store.sector - header_at - 1)
+    is_parity = store.drive == V.parity_drive(store.zone - FIRST_DATA_ZONE, store.sector // V.U)
+    return where + written_out(store.data), "parity" if is_parity else ""
+
+
+def check_stores_with_a_loss(page):
+    volume = five_written()
+    volume.write(5, 3, without(0))
+    data = [store.data for store in volume.stores]
+    page.phrase("Without drive 0, a write of 3 at 5 after the first list makes {} stores: {}, parity {} and {} on drive {}",
+                len(data), *data[:3], volume.stores[1].drive)
+    page.phrase("(offsets 0 and 1 taken from the entry), {}, {}; no entry, since drive {} is the parity drive of stripe 1.",
+                *data[3:], V.parity_drive(0, 1))
+    volume = five_written()
+    volume.write(5, 3, without(3))
+    data = [store.data for store in volume.stores]
+    page.phrase("Without drive 3: {}, {}, {}, and the entry {} to {} with rows {} and {} on drive {}.",
+                *data[:3], *ends(volume.stores[3]), *data[4:], volume.stores[3].drive)
+
+
+def check_reset(page):
+    volume = formatted()
+    volume.store("reset", ALL_DRIVES, 0)
+    (type_3, flush, reset, raised, last) = volume.runs()
+    page.phrase("V, zone 0, {} stores: {}, {} type 3 on drives {} and {} {} to {} flush of {}, {}, {}, {}",
+                len(volume.stores), *type_3.span, *type_3.drives, *flush.span, *flush.drives)
+    page.phrase("{} to {} reset of zone {} on {}, {}, {}, {}", *reset.span, reset.stores[0].zone, *reset.drives)
+    page.phrase("{} to {} counters {} and {} on {}, {}, {}, {} {} to {} flush of {}, {}, {}, {}",
+                *raised.span, *volume.entry(raised.stores[0]).generations, *raised.drives, *last.span, *last.drives)
+    page.phrase("Reset of V's zone 0 ({} at {}, flushed), then a cut, after stores", *five_written().shown().split(" at "))
+    (position, counts), *rows = page.table("| Reset of V's zone 0 (")
+    page.compare(position, counts[-1].split()[-1], str(len(volume.stores)))
+    for (position, cells), choose in zip(rows, (max, min)):
+        for count, stands in zip(counts[1:], cells[1:]):
+            first, final = re.search(r"(\d+)(?:(?:,| to) (\d+))?$", count).groups()
+            gives = (after_reset(stores, choose) for stores in range(int(first), int(final or first) + 1))
+            page.compare(position, stands.replace("generation ", ""), either(gives))
+
+
+def after_reset(count, choose):
+    """What a look shows of zone 0 after a reset of so many stores and a cut."""
+    volume = five_written()
+    volume.store("flush", ALL_DRIVES)
+    volume.store("reset", ALL_DRIVES, 0, count=count)
+    volume.keep({}, choose)
+    record = volume.ask("look", ALL_DRIVES)[1].zones[0]
+    return "empty, %d" % record.generation if record.condition == EMPTY else in_words(record)
+
+
+def check_mount(page):
+    """Section 9: the worked mount, and the other mounts told beside it."""
+    page.phrase("V: write of 5 at 0, flush; write of 2 at 96, of 3 at 98; a reset of zone 0 stopped after one store. Power goes; drive 2 "
+                "does not come back. Drive 0 keeps its type 3 and 4 sectors of its parity log, drives 1 and 3 keep one sector each of zone "
+                "4. A look by drives 0, 1, 3:")
+    volume = before_mount()
+    zone_0, zone_1 = volume.ask("look", without(2))[1].zones
+    type_3, torn = walk(volume.drives, 0, GENERAL_LOG).whole[-1][1], walk(volume.drives, 0, PARITY_LOG).torn[1]
+    page.phrase("zone 0: type 3 of generation {} on drive 0 -> {}, generation {}", type_3.generation, in_words(zone_0), zone_0.generation)
+    page.phrase("zone 1: offset 0 held on drive {}; 1 by the entry 96 to 98 on drive {} (row 1: {}); 2 was on drive {},",
+                V.place(1, 0).drive, V.parity_drive(1, 0), volume.drives.sector(0, PARITY_LOG, 2), V.place(1, 2).drive)
+    page.phrase("drive 3 has a sector too many -> {} at {}, generation {}", *in_words(zone_1).split(" at "), zone_1.generation)
+    volume.store("mount", without(2))
+    page.phrase("mount, {} stores drives", len(volume.stores))
+    found = page.matches("stores drives", r"^ +(\d+ to \d+) +(\S.*?) {2,}(\d[\d ]*(?:, flush \d[\d ]*)?)$")
+    steps = list(mount_steps(volume))
+    page.compare(found[0][0], "%d steps that stored" % len(found), "%d steps that stored" % len(steps))
+    for (position, match), (span, words, drives) in zip(found, steps):
+        page.compare(position, match[1], span)
+        page.compare(position, match[2].split(": the torn entry")[0], words)
+        page.compare(position, match[3], drives)
+    page.phrase("the torn entry ends at {}, past {}", torn.end, zone_1.pointer)
+    page.phrase("8 nothing: the entry {} to {} is whole,", V.Q, V.Q + walk(volume.drives, 0, PARITY_LOG).whole[0][1].end)
+    page.phrase("written drive 0: {} {} {} {} {} drive 1: {} {} {} {} {} drive 3: {} {} {} {} {}",
+                *(volume.drives.written(d, y) for d in (0, 1, 3) for y in range(V.Z)))
+    page.phrase("Stopped after any of the {} stores, and whatever a cut then keeps, the next look shows zone 0 {} and zone 1 {} at {}.",
+                len(volume.stores), *stopped_mounts(len(volume.stores)))
+    check_other_mounts(page)
+
+
+def mount_steps(volume):
+    """The page's lines of a mount: numbers, what was stored, drives; a step's flush is told with it."""
+    parts = list(volume.runs())
+    opening = parts[0]
+    yield "%d to %d" % opening.span, "flush", joined(opening.drives)
+    for step, flush in zip(parts[1::2], parts[2::2]):
+        drives = "%s, flush %s" % (joined(step.drives), joined(flush.drives))
+        yield "%d to %d" % (step.span[0], flush.span[1]), step_words(volume, step), drives
+
+
+def joined(drives):
+    return " ".join(str(d) for d in drives)
+
+
+def step_words(volume, step):
+    store = step.stores[0]
+    if store.kind == "reset":
+        return "3 reset of physical zone %d" % store.zone
+    if store.zone == PARITY_LOG:
+        return "6 %s of zeros" % {1: "one row", 2: "two rows"}[len(step.stores)] if not any(store.data) else "6 true rows"
+    if store.zone >= FIRST_DATA_ZONE:
+        return "7 zone %d of drive %d, sector %d: %s" % (store.zone, store.drive, store.sector, written_out(store.data))
+    entry = volume.entry(store)
+    if entry.type == LABEL:
+        return "1 labels: lost drive %d" % entry.lost
+    if entry.type == RESET:
+        return "2 type 3 of zone %d, generation %d" % (entry.zone, entry.generation)
+    if entry.type == COUNTERS:
+        return "4 counters %d and %d" % entry.generations
+    return "5 seal %d to %d, generation %d" % (*ends(store), entry.generation)
+
+
+def stopped_mounts(stores):
+    """What a look shows after the worked mount stopped anywhere, and a cut: the first zone, the second one and its pointer."""
+    seen, draw = set(), Random(1)
+    for count in range(stores + 1):
+        for choose in [max, min] + [lambda pair: draw.randint(*pair)] * DRAWN_CUTS:
+            volume = before_mount()
+            volume.store("mount", without(2), count=count)
+            volume.keep({}, choose)
+            seen.add((volume.shown(0, without(2)), volume.shown(1, without(2))))
+    zone_0, zone_1 = (either(zones) for zones in zip(*seen))
+    return zone_0, *zone_1.split(" at ", 1)
+
+
+def check_other_mounts(page):
+    j, k, torn, fresh = kept([2, 1, 1, 0], 0), kept([2, 1, 1, 0], 3), kept([2, 2, 1, 0], 1), formatted()
+    page.phrase("so the entry is torn and the zone {} at {};", *torn.shown().split(" at "))
+    for volume in (j, k, torn, fresh):
+        volume.store("mount", ALL_DRIVES)
+    entry, = [run for run in j.runs() if run.stores[0].zone == PARITY_LOG]
+    page.phrase("case j of section 6 (sealed at 3) mounts with {} stores, of which {} to {} are a type 4 entry {} to {} on drive {}",
+                len(j.stores), *entry.span, *ends(entry.stores[0]), *entry.drives)
+    page.phrase("on drive 3 with rows {} and {}. Case k", *(store.data for store in entry.stores[1:]))
+    _, raised, _, sector, _ = k.runs()
+    page.phrase("Case k (open at 5) with {}: flush, counters {} and {}, flush, the sector {} on drive {}, flush.",
+                len(k.stores), *k.entry(raised.stores[0]).generations, sector.stores[0].data, *sector.drives)
+    rows, = [run.stores for run in torn.runs() if run.stores[0].zone == PARITY_LOG]
+    page.phrase("the mount appends the rows {} and {}.", *(store.data for store in rows))
+    page.phrase("One that finds an empty zone always stores counters: V, fresh: {} stores.", len(fresh.stores))
+
+
+def check_script(page, replay):
+    """Section 12: the first commands with their answers."""
+    found = page.matches("g 4 64 2 2 32 g 0", r"^ +(\S.*?) {2,}(\S.*)$")
+    for (position, match), gives in zip(found, replay([match[1] for _, match in found])):
+        page.compare(position, match[2], gives)
+
+
+def check(path, replay):
+    """Compares the page with the model; 0 if they agree. `replay` gives the answers to the lines of a script."""
+    page = Page(path)
+    for section in (check_geometry, check_placement, check_entries, check_walks, check_looks, check_refusals, check_stores, check_mount,
+                    lambda page: check_script(page, replay)):
+        try:
+            section(page)
+        except NotFound as missing:
+            page.not_found(missing)
+    for difference in page.differences:
+        print(difference)
+    if page.differences:
+        print("format: %d differences between %s and the model" % (len(page.differences), path))
+        return 1
+    print("format: %d worked values of %s are as the model gives them" % (page.compared, path))
+    return 0

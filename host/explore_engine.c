@@ -1,0 +1,323 @@
+/* The search. A moment of the calls, what the caches kept, the drives that come back: a return of power. After it a look; then the mount, stopped after
+ * each of its stores with what the caches kept then; then the mount to its end, and the calls that follow it, if any. */
+#include "explore_engine.h"
+
+#include <stdlib.h>
+#include <string.h>
+
+#include "explore_check.h"
+
+enum { PROGRESS_STEP = 256 };
+
+typedef void moment_step(struct explorer *explorer, struct level *level);
+
+static void *grown(void *memory, size_t bytes) {
+    void *larger = realloc(memory, bytes);
+    if (larger == NULL) {
+        fprintf(stderr, "no memory for %zu bytes\n", bytes);
+        exit(2);
+    }
+    return larger;
+}
+
+static uint64_t saturated_sum(uint64_t a, uint64_t b) { return a > UINT64_MAX - b ? UINT64_MAX : a + b; }
+
+/* ---- calls, stopped after every store */
+
+/* One request: a moment after each count of its stores. A refused one leaves everything as it was. */
+static void send_one(struct explorer *explorer, struct level *level, const struct request *request, moment_step *step) {
+    struct outcome *outcome = &level->outcome[level->sent++];
+    uint32_t pointer = pointer_in_state(level->base.state, request->zone);
+    for (level->stores = 0;; level->stores++) {
+        copy_world(&level->moment, &level->base);
+        uint32_t answer = send_request(&level->moment, request, level->stores, explorer->options->breakage);
+        *outcome = (struct outcome){level->stores, answer};
+        push_event(explorer, (struct event){.kind = EVENT_CALL, .request = request, .pointer = pointer, .stores = level->stores, .answer = answer});
+        if (answer != ZRV_UNFINISHED && answer != ZRV_FINISHED)
+            return;
+        step(explorer, level);
+        if (answer == ZRV_FINISHED) {
+            copy_world(&level->base, &level->moment);
+            return;
+        }
+        explorer->trail.length--;
+    }
+}
+
+static void send_all(struct explorer *explorer, struct level *level, const struct request_list *list, moment_step *step) {
+    size_t events = explorer->trail.length;
+    level->sent = 0;
+    level->stores = 0;
+    copy_world(&level->moment, &level->base);
+    step(explorer, level);
+    for (size_t i = 0; i < list->length; i++)
+        send_one(explorer, level, &list->request[i], step);
+    explorer->trail.length = events;
+}
+
+/* ---- the second loss of power */
+
+static void second_return(struct explorer *explorer, const struct world *world, const struct caches *caches, const struct shelf *torn_from, uint32_t named) {
+    struct world *again = &explorer->again;
+    uint8_t shown[ZRV_STATE_BYTES];
+    size_t events = explorer->trail.length;
+    copy_world(again, world);
+    lose_power(again, caches, torn_from);
+    for (uint32_t d = 0; d < world->shelf.geometry.drives; d++) {
+        if ((named ^ world->named) >> d & 1)
+            push_event(explorer, (struct event){.kind = named >> d & 1 ? EVENT_DRIVE_NAMED : EVENT_DRIVE_GONE, .drive = d});
+    }
+    again->named = named;
+    explorer->counts.second_returns++;
+    explorer->pool--;
+    if (look_fits(explorer, again, shown, false))
+        mount_fits(explorer, again);
+    explorer->trail.length = events;
+}
+
+/* The drives named after the second loss: those from before, unless the host breaks its duty. */
+static void each_naming(struct explorer *explorer, const struct world *world, const struct caches *caches, const struct shelf *torn_from) {
+    uint32_t drives = world->shelf.geometry.drives;
+    switch (explorer->options->breakage) {
+    case BREAK_LOST_AGAIN:
+        second_return(explorer, world, caches, torn_from, (1u << drives) - 1);
+        return;
+    case BREAK_SECOND_DRIVE:
+        for (uint32_t d = 0; d < drives; d++) {
+            if (world->named >> d & 1)
+                second_return(explorer, world, caches, torn_from, world->named & ~(1u << d));
+        }
+        return;
+    default:
+        second_return(explorer, world, caches, torn_from, world->named);
+    }
+}
+
+static void second_loss(struct explorer *explorer, const struct world *world, uint64_t limit, const struct shelf *before) {
+    struct caches caches = new_caches(&world->shelf, limit, explorer->options->seed + (uint32_t)explorer->counts.second_returns);
+    const struct shelf *torn_from = explorer->options->breakage == BREAK_SECTOR ? before : NULL;
+    explorer->counts.drawn += caches_are_drawn(&caches);
+    push_event(explorer, (struct event){.kind = EVENT_POWER, .caches = &caches});
+    while (next_caches(&caches))
+        each_naming(explorer, world, &caches, torn_from);
+    explorer->trail.length--;
+}
+
+/* How many contents of the caches are gone through at each of some moments: all of them, or what the budget leaves. */
+static uint64_t second_limit(const struct explorer *explorer, uint64_t moments, uint64_t contents) {
+    uint32_t namings = explorer->options->breakage == BREAK_SECOND_DRIVE ? explorer->options->geometry.drives - 1 : 1;
+    uint64_t allowance = explorer->pool / explorer->returns_left / namings;
+    return contents <= allowance ? UINT64_MAX : allowance / moments;
+}
+
+/* ---- the mount, stopped after every store */
+
+static struct stop *stop_at(struct explorer *explorer, size_t at) {
+    if (at == explorer->stop_room) {
+        explorer->stop = grown(explorer->stop, (at + 1) * sizeof *explorer->stop);
+        explorer->stop[at].world = new_world(explorer->options->geometry);
+        explorer->stop_room++;
+    }
+    return &explorer->stop[at];
+}
+
+/* After a flush the pointers are those from before it, and all that a cut can leave then it could leave before: such stops are left out. */
+static void gather_stops(struct explorer *explorer) {
+    explorer->stops = 0;
+    for (uint32_t count = 1;; count++) {
+        struct stop *stop = stop_at(explorer, explorer->stops);
+        copy_world(&stop->world, &explorer->returned);
+        stop->stores = count;
+        if (mount_world(&stop->world, count, explorer->options->breakage) != ZRV_UNFINISHED)
+            return;
+        const struct world *last = explorer->stops == 0 ? &explorer->returned : &explorer->stop[explorer->stops - 1].world;
+        if (memcmp(stop->world.shelf.written.bytes, last->shelf.written.bytes, last->shelf.written.length) != 0)
+            explorer->stops++;
+    }
+}
+
+static void stop_mount(struct explorer *explorer) {
+    uint64_t contents = 0;
+    gather_stops(explorer);
+    for (size_t i = 0; i < explorer->stops; i++)
+        contents = saturated_sum(contents, new_caches(&explorer->stop[i].world.shelf, 0, 0).contents);
+    uint64_t limit = second_limit(explorer, explorer->stops, contents);
+    explorer->counts.stopped_mounts += explorer->stops;
+    for (size_t i = 0; i < explorer->stops; i++) {
+        push_event(explorer, (struct event){.kind = EVENT_MOUNT, .stores = explorer->stop[i].stores, .answer = ZRV_UNFINISHED});
+        second_loss(explorer, &explorer->stop[i].world, limit, &explorer->returned.shelf);
+        explorer->trail.length--;
+    }
+}
+
+/* ---- calls after the mount */
+
+static void tally_moment(struct explorer *explorer, struct level *level) {
+    explorer->tally.moments++;
+    explorer->tally.contents = saturated_sum(explorer->tally.contents, new_caches(&level->moment.shelf, 0, 0).contents);
+}
+
+static void later_loss(struct explorer *explorer, struct level *level) {
+    second_loss(explorer, &level->moment, explorer->later_limit, &explorer->returned.shelf);
+}
+
+static void send_later(struct explorer *explorer, const struct world *start) {
+    explorer->tally.moments = explorer->tally.contents = 0;
+    copy_world(&explorer->later.base, start);
+    send_all(explorer, &explorer->later, &explorer->options->later, tally_moment);
+    explorer->later_limit = second_limit(explorer, explorer->tally.moments, explorer->tally.contents);
+    copy_world(&explorer->later.base, start);
+    send_all(explorer, &explorer->later, &explorer->options->later, later_loss);
+}
+
+/* ---- the first loss of power */
+
+static bool finish_mount(struct explorer *explorer) {
+    copy_world(&explorer->mounted, &explorer->returned);
+    return mount_fits(explorer, &explorer->mounted);
+}
+
+/* After a look that fitted. stops: stop the mount after each of its stores too. */
+static void go_on(struct explorer *explorer, uint8_t *shown, bool drive_gone, bool stops) {
+    switch (explorer->options->breakage) {
+    case BREAK_MOUNT:
+        explorer->trail.event[explorer->trail.length - 1].kind = EVENT_LOOK_FOR_MOUNT;
+        memcpy(explorer->returned.state, shown, ZRV_STATE_BYTES);
+        tell_oracle(&explorer->returned, shown);
+        send_later(explorer, &explorer->returned);
+        return;
+    case BREAK_SECOND_DRIVE:
+    case BREAK_LOST_AGAIN:
+        if (drive_gone && finish_mount(explorer))
+            send_later(explorer, &explorer->mounted);
+        return;
+    default:
+        if (stops)
+            stop_mount(explorer);
+        if (finish_mount(explorer) && explorer->options->later.length > 0)
+            send_later(explorer, &explorer->mounted);
+    }
+}
+
+static void count_shown(struct moment *moment, uint8_t *shown, uint32_t zones, bool fits) {
+    for (uint32_t z = 0; z < zones; z++)
+        (fits ? moment->zone[z].shown : moment->zone[z].misfit)[pointer_in_state(shown, z)]++;
+}
+
+static void show_progress(const struct explorer *explorer) {
+    if (explorer->shows_progress && explorer->counts.returns % PROGRESS_STEP == 0)
+        fprintf(stderr, "\r%llu to go ", (unsigned long long)explorer->returns_left);
+}
+
+/* Power is back; drive: the one that is not, or none. What a drive's cache kept is in nobody's sight once it is gone, so of those contents the mount is
+ * stopped after its stores for one. */
+static void first_return(struct explorer *explorer, const struct caches *caches, uint32_t drive) {
+    struct moment *moment = &explorer->moments[explorer->moment_at];
+    struct world *returned = &explorer->returned;
+    uint8_t shown[ZRV_STATE_BYTES];
+    size_t events = explorer->trail.length;
+    bool gone = drive != ZRV_NO_DRIVE;
+    copy_world(returned, &explorer->first.moment);
+    lose_power(returned, caches, explorer->options->breakage == BREAK_SECTOR ? &explorer->formatted.shelf : NULL);
+    if (gone) {
+        returned->named &= ~(1u << drive);
+        push_event(explorer, (struct event){.kind = EVENT_DRIVE_GONE, .drive = drive});
+    }
+    explorer->counts.returns++;
+    show_progress(explorer);
+    bool fits = look_fits(explorer, returned, shown, false);
+    if (explorer->trail.event[explorer->trail.length - 1].answer == ZRV_FINISHED)
+        count_shown(moment, shown, returned->shelf.geometry.zones, fits);
+    if (fits)
+        go_on(explorer, shown, gone, !gone || caches_are_drawn(caches) || keeps_only_durable(caches, drive));
+    explorer->returns_left--;
+    explorer->trail.length = events;
+}
+
+static void first_loss(struct explorer *explorer, struct level *level) {
+    uint64_t limit = explorer->moments[explorer->moment_at].limit;
+    struct caches caches = new_caches(&level->moment.shelf, limit, explorer->options->seed + (uint32_t)explorer->moment_at);
+    push_event(explorer, (struct event){.kind = EVENT_POWER, .caches = &caches});
+    while (next_caches(&caches)) {
+        first_return(explorer, &caches, ZRV_NO_DRIVE);
+        for (uint32_t d = 0; d < explorer->options->geometry.drives; d++)
+            first_return(explorer, &caches, d);
+    }
+    explorer->trail.length--;
+    explorer->moment_at++;
+}
+
+/* ---- counting first, then everything */
+
+static void plan_moment(struct explorer *explorer, struct level *level) {
+    struct geometry g = explorer->options->geometry;
+    size_t pointers = zone_addresses(g) + 1;
+    explorer->moments = grown(explorer->moments, (explorer->moments_length + 1) * sizeof *explorer->moments);
+    struct moment *moment = &explorer->moments[explorer->moments_length++];
+    *moment = (struct moment){.sent = level->sent, .stores = level->stores, .contents = new_caches(&level->moment.shelf, 0, 0).contents};
+    for (uint32_t z = 0; z < g.zones; z++) {
+        moment->zone[z].length = level->moment.oracle.zone[z].length;
+        moment->zone[z].flushed = level->moment.oracle.zone[z].flushed;
+        moment->zone[z].shown = grown(NULL, 2 * pointers * sizeof *moment->zone[z].shown);
+        memset(moment->zone[z].shown, 0, 2 * pointers * sizeof *moment->zone[z].shown);
+        moment->zone[z].misfit = moment->zone[z].shown + pointers;
+    }
+    explorer->contents = saturated_sum(explorer->contents, moment->contents);
+}
+
+uint32_t prepare_explorer(struct explorer *explorer, const struct options *options) {
+    struct geometry g = options->geometry;
+    *explorer = (struct explorer){
+        .options = options,
+        .formatted = new_world(g),
+        .first = {.base = new_world(g), .moment = new_world(g)},
+        .later = {.base = new_world(g), .moment = new_world(g)},
+        .returned = new_world(g),
+        .mounted = new_world(g),
+        .again = new_world(g),
+        .answer = grown(NULL, zone_addresses(g) * g.sector_bytes),
+    };
+    uint32_t answer = format_world(&explorer->formatted);
+    if (answer != ZRV_FINISHED)
+        return answer;
+    copy_world(&explorer->first.base, &explorer->formatted);
+    send_all(explorer, &explorer->first, &options->calls, plan_moment);
+    return answer;
+}
+
+/* Half of the budget is for the first loss of power, what that leaves for the second. */
+bool share_budget(struct explorer *explorer) {
+    uint64_t drives = (uint64_t)explorer->options->geometry.drives + 1, half = explorer->options->budget / 2 / drives;
+    uint64_t limit = explorer->contents <= half ? UINT64_MAX : half / explorer->moments_length;
+    for (size_t i = 0; i < explorer->moments_length; i++) {
+        struct moment *moment = &explorer->moments[i];
+        moment->limit = limit;
+        explorer->returns_left += drives * (moment->contents < limit ? moment->contents : limit);
+    }
+    explorer->pool = explorer->options->budget - explorer->returns_left;
+    return limit > 0;
+}
+
+void explore(struct explorer *explorer) {
+    copy_world(&explorer->first.base, &explorer->formatted);
+    send_all(explorer, &explorer->first, &explorer->options->calls, first_loss);
+    if (explorer->shows_progress)
+        fputs("\r                        \r", stderr);
+}
+
+void free_explorer(struct explorer *explorer) {
+    struct world *worlds[] = {&explorer->formatted, &explorer->first.base, &explorer->first.moment, &explorer->later.base, &explorer->later.moment,
+                              &explorer->returned,  &explorer->mounted,    &explorer->again};
+    for (size_t i = 0; i < sizeof worlds / sizeof *worlds; i++)
+        free_world(worlds[i]);
+    for (size_t i = 0; i < explorer->stop_room; i++)
+        free_world(&explorer->stop[i].world);
+    for (size_t i = 0; i < explorer->moments_length; i++) {
+        for (uint32_t z = 0; z < explorer->options->geometry.zones; z++)
+            free(explorer->moments[i].zone[z].shown);
+    }
+    free(explorer->stop);
+    free(explorer->moments);
+    free(explorer->answer);
+    free(explorer->story);
+}

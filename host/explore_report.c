@@ -1,0 +1,121 @@
+/* The report: the question in words, the counts, the verdict. */
+#include "explore_report.h"
+
+#include <string.h>
+
+#include "answer.h"
+
+static const char *in_words(uint32_t number) {
+    static const char *const words[] = {"no", "one", "two", "three", "four", "five", "six", "seven", "eight"};
+    return words[number];
+}
+
+/* A number with its thousands apart, at the end of a field. */
+static void print_number(uint64_t number, const char *after) {
+    char digits[32], grouped[48];
+    int length = snprintf(digits, sizeof digits, "%llu", (unsigned long long)number), at = 0;
+    for (int i = 0; i < length; i++) {
+        if (i > 0 && (length - i) % 3 == 0)
+            grouped[at++] = ',';
+        grouped[at++] = digits[i];
+    }
+    grouped[at] = '\0';
+    printf("  %14s  %s\n", grouped, after);
+}
+
+static void report_calls(const struct request_list *list, const struct outcome *outcome) {
+    for (size_t i = 0; i < list->length; i++) {
+        printf("             ");
+        tell_request(stdout, &list->request[i]);
+        if (outcome == NULL)
+            printf("\n");
+        else if (outcome[i].answer == ZRV_FINISHED)
+            printf(": %u stores\n", outcome[i].stores);
+        else
+            printf(": refused with %u (%s)\n", outcome[i].answer, refusal_word(outcome[i].answer));
+    }
+}
+
+void report_question(const struct explorer *explorer) {
+    const struct options *options = explorer->options;
+    struct geometry g = options->geometry;
+    printf("Calls are sent to a volume on %s drives, and power goes. What does it show when power is back?\n\n", in_words(g.drives));
+    printf("  geometry   sectors of %u bytes, stripe units of %u sectors, %u to a stripe; logical zones: %u, of %u sectors on each drive\n", g.sector_bytes,
+           g.unit, (g.drives - 1) * g.unit, g.zones, g.zone_sectors);
+    printf("  calls      format\n");
+    report_calls(&options->calls, explorer->first.outcome);
+    printf("  power      goes before the first call, and after 0, 1, 2 .. stores of each: %zu moments\n", explorer->moments_length);
+    printf("  caches     each drive and zone keeps any pointer from durable to written\n");
+    printf("  drives     all come back, or all but any one\n");
+    if (options->breakage == BREAK_NOTHING || options->breakage == BREAK_FLUSH || options->breakage == BREAK_SECTOR)
+        printf("  then       a look, and a mount: to its end, and stopped after each of its stores; then power goes again, a look, a mount\n");
+    if (options->later.length > 0) {
+        printf("  after it   power goes again at every store of\n");
+        report_calls(&options->later, NULL);
+    }
+    if (options->breakage != BREAK_NOTHING)
+        printf("  BROKEN     %s\n", breakage_in_words(options->breakage));
+    printf("\n");
+    fflush(stdout);
+}
+
+static void report_counts(const struct explorer *explorer) {
+    const struct counts *counts = &explorer->counts;
+    bool drawn = explorer->moments[0].limit != UINT64_MAX;
+    print_number(explorer->contents, "contents of the caches, over all moments");
+    print_number(counts->returns, drawn ? "returns of power: moments x caches x drives; the budget is too small for all, caches are drawn"
+                                        : "returns of power: moments x caches x drives, all of them");
+    print_number(counts->stopped_mounts, "mounts stopped after a store that changed something");
+    print_number(counts->second_returns, counts->drawn > 0 ? "second returns of power" : "second returns of power: all contents of the caches then");
+    if (counts->drawn > 0)
+        print_number(counts->drawn, "second losses of power for which the caches were drawn: nothing, everything, each drive's, by the seed");
+    print_number(counts->looks, "looks");
+    print_number(counts->mounts, "mounts finished");
+    print_number(counts->sectors, "sectors read back and compared");
+    print_number(counts->unread, "zones shown by a look whose sectors could be read back only after the mount");
+    if (counts->full_mounts > 0)
+        print_number(counts->full_mounts, "mounts refused with 14 (log full), as the rules allow");
+}
+
+static void report_troubles(const struct counts *counts) {
+    static const char *const words[TROUBLES] = {
+        [LOOK_REFUSED] = "looks refused",
+        [MOUNT_REFUSED] = "mounts refused",
+        [READ_REFUSED] = "reads below the pointer refused",
+        [SHOWN_SHORT] = "showings that end before what was flushed",
+        [SHOWN_LONG] = "showings that go past what was written",
+        [SHOWN_OTHER] = "showings with other bytes than were written",
+    };
+    for (int i = LOOK_REFUSED; i < TROUBLES; i++)
+        if (counts->trouble[i] > 0)
+            print_number(counts->trouble[i], words[i]);
+    for (uint32_t answer = ZRV_GEOMETRY; answer <= ZRV_GONE; answer++) {
+        char text[64];
+        snprintf(text, sizeof text, "of these refused with %u (%s)", answer, refusal_word(answer));
+        if (counts->refused[answer] > 0)
+            print_number(counts->refused[answer], text);
+    }
+    if (counts->trouble[SHOWN_SHORT] + counts->trouble[SHOWN_LONG] + counts->trouble[SHOWN_OTHER] == 0)
+        printf("  nothing wrong was shown: only refusals\n");
+}
+
+void report_outcome(const struct explorer *explorer, double seconds) {
+    const struct counts *counts = &explorer->counts;
+    bool quiet = explorer->options->quiet;
+    if (!quiet) {
+        report_counts(explorer);
+        printf("  %14.1f  seconds\n\n", seconds);
+    }
+    if (counts->misfits == 0) {
+        printf("every look fitted\n");
+        if (explorer->options->breakage == BREAK_LOST_AGAIN && !quiet)
+            printf("The duty was broken each time, and the rules caught it: the other drives' labels name the drive lost, so it stays out.\n");
+        return;
+    }
+    printf("a look did not fit; the first history in which one does not:\n%s", explorer->story);
+    if (!quiet) {
+        printf("\n");
+        print_number(counts->misfits, "histories end so:");
+        report_troubles(counts);
+    }
+}

@@ -19,7 +19,7 @@ struct caches new_caches(const struct shelf *shelf, uint64_t limit, uint32_t see
     }
     caches.limit = limit;
     caches.taken = 0;
-    caches.draw = seed % 2147483648u;
+    caches.draw = seed;
     return caches;
 }
 
@@ -53,17 +53,18 @@ bool next_caches(struct caches *caches) {
     bool drawn = caches_are_drawn(caches);
     if (caches->taken == (drawn ? caches->limit : caches->contents))
         return false;
-    uint64_t turn = caches->taken++;
-    if (turn == 0)
+    uint64_t turn = caches->taken++, drives = caches->cells / caches->cells_of_drive;
+    bool only_draws = drawn && caches->limit < 2 * (2 + drives);
+    if (only_draws || (drawn && turn >= 2 + drives))
+        draw_content(caches);
+    else if (turn == 0)
         memcpy(caches->kept, caches->durable, caches->cells * sizeof *caches->kept);
     else if (!drawn)
         count_on(caches);
     else if (turn == 1)
         memcpy(caches->kept, caches->written, caches->cells * sizeof *caches->kept);
-    else if (turn - 2 < caches->cells / caches->cells_of_drive)
-        keep_drive(caches, turn - 2);
     else
-        draw_content(caches);
+        keep_drive(caches, turn - 2);
     return true;
 }
 

@@ -1,5 +1,5 @@
 /* What the drives' caches may keep when power goes: in each drive and zone any pointer from durable to written. All of these contents in turn, or, where
- * there are more than the limit, a choice: nothing kept, everything, each drive's alone, and draws from a seed. */
+ * there are more than the limit, draws from a seed, after nothing kept, everything, and each drive's alone if the limit is well above that. */
 #ifndef EXPLORE_CACHES_H
 #define EXPLORE_CACHES_H
 

@@ -11,21 +11,28 @@ struct event *push_event(struct explorer *explorer, struct event event) {
     return place;
 }
 
-/* Counts what does not fit; the first is told. Always false. */
+static void keep_story(struct explorer *explorer, const struct world *world, const struct verdict *verdict) {
+    free(explorer->story);
+    FILE *out = open_memstream(&explorer->story, &explorer->story_bytes);
+    if (out == NULL) {
+        fputs("no memory for a history that does not fit\n", stderr);
+        exit(2);
+    }
+    tell_story(out, &explorer->trail, world, verdict);
+    fclose(out);
+}
+
+/* Counts what does not fit, and keeps the history that is best to be told. Always false. */
 static bool misfit(struct explorer *explorer, const struct world *world, struct verdict verdict) {
     struct counts *counts = &explorer->counts;
     counts->misfits++;
     counts->trouble[verdict.trouble]++;
     if (verdict.answer <= ZRV_GONE)
         counts->refused[verdict.answer]++;
-    if (explorer->story == NULL) {
-        FILE *out = open_memstream(&explorer->story, &explorer->story_length);
-        if (out == NULL) {
-            fputs("no memory for the first history that does not fit\n", stderr);
-            exit(2);
-        }
-        tell_story(out, &explorer->trail, world, &verdict);
-        fclose(out);
+    size_t rank = explorer->trail.length + (verdict.answer == ZRV_FINISHED ? 0 : MOST_EVENTS);
+    if (explorer->story == NULL || rank < explorer->story_rank) {
+        keep_story(explorer, world, &verdict);
+        explorer->story_rank = rank;
     }
     return false;
 }
@@ -80,7 +87,6 @@ void tell_oracle(struct world *world, uint8_t *shown) {
 bool mount_fits(struct explorer *explorer, struct world *world) {
     uint8_t shown[ZRV_STATE_BYTES];
     uint32_t answer = mount_world(world, ZRV_ALL_STORES, explorer->options->breakage);
-    explorer->counts.mounts++;
     push_event(explorer, (struct event){.kind = EVENT_MOUNT, .answer = answer, .shown = world->state});
     if (answer == ZRV_LOG_FULL) {
         explorer->counts.full_mounts++;
@@ -88,6 +94,7 @@ bool mount_fits(struct explorer *explorer, struct world *world) {
     }
     if (answer != ZRV_FINISHED)
         return misfit(explorer, world, (struct verdict){.trouble = MOUNT_REFUSED, .answer = answer});
+    explorer->counts.mounts++;
     if (!zones_fit(explorer, world, world->state, true))
         return false;
     tell_oracle(world, world->state);

@@ -57,12 +57,12 @@ static void send_all(struct explorer *explorer, struct level *level, const struc
 
 /* ---- the second loss of power */
 
-static void second_return(struct explorer *explorer, const struct world *world, const struct caches *caches, const struct shelf *torn_from, uint32_t named) {
+static void second_return(struct explorer *explorer, const struct world *world, const struct caches *caches, uint32_t named) {
     struct world *again = &explorer->again;
     uint8_t shown[ZRV_STATE_BYTES];
     size_t events = explorer->trail.length;
     copy_world(again, world);
-    lose_power(again, caches, torn_from);
+    lose_power(again, caches, explorer->options->breakage == BREAK_SECTOR ? &explorer->returned.shelf : NULL);
     for (uint32_t d = 0; d < world->shelf.geometry.drives; d++) {
         if ((named ^ world->named) >> d & 1)
             push_event(explorer, (struct event){.kind = named >> d & 1 ? EVENT_DRIVE_NAMED : EVENT_DRIVE_GONE, .drive = d});
@@ -76,38 +76,52 @@ static void second_return(struct explorer *explorer, const struct world *world, 
 }
 
 /* The drives named after the second loss: those from before, unless the host breaks its duty. */
-static void each_naming(struct explorer *explorer, const struct world *world, const struct caches *caches, const struct shelf *torn_from) {
+static void each_naming(struct explorer *explorer, const struct world *world, const struct caches *caches) {
     uint32_t drives = world->shelf.geometry.drives;
     switch (explorer->options->breakage) {
     case BREAK_LOST_AGAIN:
-        second_return(explorer, world, caches, torn_from, (1u << drives) - 1);
+    case BREAK_LEFT_OUT:
+        second_return(explorer, world, caches, (1u << drives) - 1);
         return;
     case BREAK_SECOND_DRIVE:
         for (uint32_t d = 0; d < drives; d++) {
             if (world->named >> d & 1)
-                second_return(explorer, world, caches, torn_from, world->named & ~(1u << d));
+                second_return(explorer, world, caches, world->named & ~(1u << d));
         }
         return;
     default:
-        second_return(explorer, world, caches, torn_from, world->named);
+        second_return(explorer, world, caches, world->named);
     }
 }
 
-static void second_loss(struct explorer *explorer, const struct world *world, uint64_t limit, const struct shelf *before) {
-    struct caches caches = new_caches(&world->shelf, limit, explorer->options->seed + (uint32_t)explorer->counts.second_returns);
-    const struct shelf *torn_from = explorer->options->breakage == BREAK_SECTOR ? before : NULL;
-    explorer->counts.drawn += caches_are_drawn(&caches);
-    push_event(explorer, (struct event){.kind = EVENT_POWER, .caches = &caches});
-    while (next_caches(&caches))
-        each_naming(explorer, world, &caches, torn_from);
-    explorer->trail.length--;
-}
-
-/* How many contents of the caches are gone through at each of some moments: all of them, or what the budget leaves. */
-static uint64_t second_limit(const struct explorer *explorer, uint64_t moments, uint64_t contents) {
+/* What the budget leaves for the moments of one mount, or of the calls after it: everything, or an even share for each. */
+static void open_share(struct explorer *explorer, uint64_t moments, uint64_t contents) {
     uint32_t namings = explorer->options->breakage == BREAK_SECOND_DRIVE ? explorer->options->geometry.drives - 1 : 1;
     uint64_t allowance = explorer->pool / explorer->returns_left / namings;
-    return contents <= allowance ? UINT64_MAX : allowance / moments;
+    explorer->share = (struct share){.all = contents <= allowance, .moments = moments, .allowance = allowance, .most = explorer->pool / namings};
+}
+
+/* How many contents of the caches are gone through at the next moment; what does not divide evenly falls to moments by draw. */
+static uint64_t take_share(struct explorer *explorer) {
+    struct share *share = &explorer->share;
+    if (share->all)
+        return UINT64_MAX;
+    explorer->draw = next_draw(explorer->draw);
+    uint64_t limit = share->allowance / share->moments + ((explorer->draw >> 8) % share->moments < share->allowance % share->moments);
+    limit = limit < share->most ? limit : share->most;
+    share->most -= limit;
+    return limit;
+}
+
+static void second_loss(struct explorer *explorer, const struct world *world) {
+    uint64_t limit = take_share(explorer);
+    struct caches caches = new_caches(&world->shelf, limit, explorer->draw);
+    explorer->counts.drawn += limit > 0 && caches_are_drawn(&caches);
+    explorer->counts.left_out += limit == 0;
+    push_event(explorer, (struct event){.kind = EVENT_POWER, .caches = &caches});
+    while (next_caches(&caches))
+        each_naming(explorer, world, &caches);
+    explorer->trail.length--;
 }
 
 /* ---- the mount, stopped after every store */
@@ -141,11 +155,11 @@ static void stop_mount(struct explorer *explorer) {
     gather_stops(explorer);
     for (size_t i = 0; i < explorer->stops; i++)
         contents = saturated_sum(contents, new_caches(&explorer->stop[i].world.shelf, 0, 0).contents);
-    uint64_t limit = second_limit(explorer, explorer->stops, contents);
+    open_share(explorer, explorer->stops, contents);
     explorer->counts.stopped_mounts += explorer->stops;
     for (size_t i = 0; i < explorer->stops; i++) {
         push_event(explorer, (struct event){.kind = EVENT_MOUNT, .stores = explorer->stop[i].stores, .answer = ZRV_UNFINISHED});
-        second_loss(explorer, &explorer->stop[i].world, limit, &explorer->returned.shelf);
+        second_loss(explorer, &explorer->stop[i].world);
         explorer->trail.length--;
     }
 }
@@ -157,15 +171,13 @@ static void tally_moment(struct explorer *explorer, struct level *level) {
     explorer->tally.contents = saturated_sum(explorer->tally.contents, new_caches(&level->moment.shelf, 0, 0).contents);
 }
 
-static void later_loss(struct explorer *explorer, struct level *level) {
-    second_loss(explorer, &level->moment, explorer->later_limit, &explorer->returned.shelf);
-}
+static void later_loss(struct explorer *explorer, struct level *level) { second_loss(explorer, &level->moment); }
 
 static void send_later(struct explorer *explorer, const struct world *start) {
     explorer->tally.moments = explorer->tally.contents = 0;
     copy_world(&explorer->later.base, start);
     send_all(explorer, &explorer->later, &explorer->options->later, tally_moment);
-    explorer->later_limit = second_limit(explorer, explorer->tally.moments, explorer->tally.contents);
+    open_share(explorer, explorer->tally.moments, explorer->tally.contents);
     copy_world(&explorer->later.base, start);
     send_all(explorer, &explorer->later, &explorer->options->later, later_loss);
 }
@@ -247,6 +259,20 @@ static void first_loss(struct explorer *explorer, struct level *level) {
     explorer->moment_at++;
 }
 
+/* The duty broken by the host: after the calls a drive is left out of those that follow, with no mount to record it. */
+static void leave_out(struct explorer *explorer, struct level *level) {
+    if (++explorer->moment_at < explorer->moments_length)
+        return;
+    for (uint32_t d = 0; d < explorer->options->geometry.drives; d++) {
+        copy_world(&explorer->returned, &level->moment);
+        explorer->returned.named &= ~(1u << d);
+        push_event(explorer, (struct event){.kind = EVENT_DRIVE_LEFT_OUT, .drive = d});
+        send_later(explorer, &explorer->returned);
+        explorer->returns_left--;
+        explorer->trail.length--;
+    }
+}
+
 /* ---- counting first, then everything */
 
 static void plan_moment(struct explorer *explorer, struct level *level) {
@@ -258,6 +284,7 @@ static void plan_moment(struct explorer *explorer, struct level *level) {
     for (uint32_t z = 0; z < g.zones; z++) {
         moment->zone[z].length = level->moment.oracle.zone[z].length;
         moment->zone[z].flushed = level->moment.oracle.zone[z].flushed;
+        moment->zone[z].reset_begun = level->moment.oracle.zone[z].reset_begun;
         moment->zone[z].shown = grown(NULL, 2 * pointers * sizeof *moment->zone[z].shown);
         memset(moment->zone[z].shown, 0, 2 * pointers * sizeof *moment->zone[z].shown);
         moment->zone[z].misfit = moment->zone[z].shown + pointers;
@@ -285,8 +312,14 @@ uint32_t prepare_explorer(struct explorer *explorer, const struct options *optio
     return answer;
 }
 
-/* Half of the budget is for the first loss of power, what that leaves for the second. */
+/* Half of the budget is for the first loss of power, what that leaves for the second. A drive left out needs no first loss. */
 bool share_budget(struct explorer *explorer) {
+    explorer->draw = explorer->options->seed;
+    explorer->pool = explorer->options->budget;
+    if (explorer->options->breakage == BREAK_LEFT_OUT) {
+        explorer->returns_left = explorer->options->geometry.drives;
+        return true;
+    }
     uint64_t drives = (uint64_t)explorer->options->geometry.drives + 1, half = explorer->options->budget / 2 / drives;
     uint64_t limit = explorer->contents <= half ? UINT64_MAX : half / explorer->moments_length;
     for (size_t i = 0; i < explorer->moments_length; i++) {
@@ -294,13 +327,13 @@ bool share_budget(struct explorer *explorer) {
         moment->limit = limit;
         explorer->returns_left += drives * (moment->contents < limit ? moment->contents : limit);
     }
-    explorer->pool = explorer->options->budget - explorer->returns_left;
+    explorer->pool -= explorer->returns_left;
     return limit > 0;
 }
 
 void explore(struct explorer *explorer) {
     copy_world(&explorer->first.base, &explorer->formatted);
-    send_all(explorer, &explorer->first, &explorer->options->calls, first_loss);
+    send_all(explorer, &explorer->first, &explorer->options->calls, explorer->options->breakage == BREAK_LEFT_OUT ? leave_out : first_loss);
     if (explorer->shows_progress)
         fputs("\r                        \r", stderr);
 }

@@ -25,6 +25,7 @@ struct moment {
     uint64_t contents, limit; /* of the caches: how many there are, and how many are gone through */
     struct {
         uint32_t length, flushed;
+        bool reset_begun;
         uint64_t *shown, *misfit; /* how many looks showed the zone at each pointer, fitting or not */
     } zone[ZRV_STATE_RECORDS];
 };
@@ -36,7 +37,8 @@ struct counts {
     uint64_t looks, mounts, sectors;
     uint64_t unread;      /* zones that a look showed and a read gave only after the mount */
     uint64_t full_mounts; /* mounts that refused for a full log, which is no misfit */
-    uint64_t drawn;       /* second losses whose caches were drawn */
+    uint64_t drawn;       /* second losses of power whose caches were drawn */
+    uint64_t left_out;    /* second losses of power for which nothing was left of the budget */
     uint64_t misfits, trouble[TROUBLES], refused[ZRV_GONE + 1];
 };
 
@@ -56,12 +58,16 @@ struct explorer {
     uint8_t *answer; /* a zone's sectors, read back */
     uint64_t contents;           /* of the caches, over all moments */
     uint64_t returns_left, pool; /* first returns to come; final states left in the budget */
-    uint64_t later_limit;        /* of the caches after calls that follow the mount */
+    struct share {
+        bool all;
+        uint64_t moments, allowance, most;
+    } share; /* of the second losses at hand */
+    uint32_t draw;
     struct {
         uint64_t moments, contents;
     } tally; /* of the calls that follow a mount */
-    char *story; /* the first history that does not fit, NULL if none */
-    size_t story_length;
+    char *story; /* a history that does not fit, NULL if none: the shortest, but one that shows something wrong goes before one that refuses */
+    size_t story_bytes, story_rank;
     bool shows_progress;
 };
 

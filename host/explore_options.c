@@ -16,12 +16,13 @@
 static const struct {
     const char *name, *calls, *later, *words;
 } breakages[BREAKAGES] = {
-    [BREAK_NOTHING] = {"nothing", "w4,w5", "", "none"},
-    [BREAK_FLUSH] = {"flush", "w4,f,w5", "", "a flush keeps nothing: durable does not move"},
-    [BREAK_SECTOR] = {"sector", "w4,w5", "", "a sector is torn: the last one that a cache keeps has its second half from before"},
-    [BREAK_SECOND_DRIVE] = {"second-drive", "w4,f", "", "a second drive is lost after the mount recorded the first"},
-    [BREAK_LOST_AGAIN] = {"lost-again", "w4,f", "w5", "a lost drive is named again after the mount recorded its loss and writes went on"},
-    [BREAK_MOUNT] = {"mount", "w4", "w5", "a mount is left out: a look is taken for it, and writes go on"},
+    [BREAK_NOTHING] = {"nothing", "w3,w4", "", "none"},
+    [BREAK_FLUSH] = {"flush", "w3,f", "", "a flush keeps nothing: durable does not move"},
+    [BREAK_SECTOR] = {"sector", "w3,w4", "", "a sector is torn: the last one that a cache keeps has its second half from before"},
+    [BREAK_SECOND_DRIVE] = {"second-drive", "w3,f", "", "a second drive is lost after the mount recorded the first"},
+    [BREAK_LOST_AGAIN] = {"lost-again", "w3,f", "w4", "a lost drive is named again after the mount recorded its loss and writes went on"},
+    [BREAK_LEFT_OUT] = {"left-out", "w3,f", "r0,w4", "a drive is left out of calls, no mount records it, and after power went it is named again"},
+    [BREAK_MOUNT] = {"mount", "w3", "w4", "a mount is left out: a look is taken for it, and writes go on"},
 };
 
 static const char *const help =
@@ -30,10 +31,10 @@ static const char *const help =
     "Formats a shelf in memory, sends calls, and lets power go after every store. Each cache keeps anything from durable to written, every drive\n"
     "or all but one come back, and a look and a mount follow. That mount is stopped after each of its stores too, power goes again, and a second\n"
     "mount follows. Whatever is shown must fit: a beginning of what was written, at least as far as it was flushed. Ends with `every look fitted`\n"
-    "or with the first history that did not.\n"
+    "or with a shortest history in which one did not, event by event.\n"
     "\n"
     "  --calls LIST       the calls, by commas: wN writes N sectors, f flushes, rZ resets zone Z, zZ chooses the zone of the writes that follow\n"
-    "                     (default w4,w5: the first ends inside a stripe, the second goes past that stripe's end)\n"
+    "                     (default w3,w4: the first ends inside a stripe, the second goes past that stripe's end)\n"
     "  --then LIST        calls sent after the first mount, at every store of which power goes once more (default none)\n"
     "  --drives N         3 to 8 (4)\n"
     "  --sector N         bytes of a sector, 64 to 4096 by doubling (64)\n"
@@ -45,14 +46,16 @@ static const char *const help =
     "  --picture FILE     an SVG chart of what was shown after power went at each moment\n"
     "  --quiet            the verdict alone\n"
     "  --break DUTY       break a duty of the drives or the host, to see what it is for:\n"
-    "      flush          a flush keeps nothing (calls w4,f,w5). Fails where less is shown than was flushed.\n"
+    "      flush          a flush keeps nothing (calls w3,f). Fails where less is shown than was flushed, or a stopped mount did not keep its order.\n"
     "      sector         the last sector that each cache keeps has its second half from before. Fails where other bytes are shown than were\n"
     "                     written, or a look is refused for a broken log.\n"
-    "      second-drive   a second drive is lost after the mount recorded the first (calls w4,f). Every look is then refused with 4; that is the\n"
-    "                     failure, and nothing wrong is shown.\n"
-    "      lost-again     a lost drive is named again after the mount recorded its loss and writes went on (calls w4,f, then w5). The labels of\n"
-    "                     the others keep it out, so this fits: it fails only if one of its old sectors is shown.\n"
-    "      mount          a look is taken for the mount and writes go on (calls w4, then w5). Fails where a journal entry from before power went\n"
+    "      second-drive   a second drive is lost after the mount recorded the first (calls w3,f). Every look is then refused with 4: that is the\n"
+    "                     failure, nothing wrong is shown.\n"
+    "      lost-again     a lost drive is named again after the mount recorded its loss and writes went on (calls w3,f, then w4). The labels of\n"
+    "                     the others keep it out, so this fits; it would fail if one of its old sectors were shown.\n"
+    "      left-out       a drive is left out of calls with no mount to record it, and named again after power went (calls w3,f, then r0,w4).\n"
+    "                     Fails where its sectors from before the reset are shown.\n"
+    "      mount          a look is taken for the mount and writes go on (calls w3, then w4). Fails where a journal entry from before power went\n"
     "                     gives other bytes than were written, or breaks the log.\n"
     "\n"
     "Exit status: 0 every look fitted, 1 one did not, 2 bad usage.\n";
@@ -129,7 +132,7 @@ static enum parsed parse_breakage(const char *word, enum breakage *breakage) {
             return PARSED;
         }
     }
-    return complain("'%s' is no duty to break; duties are flush, sector, second-drive, lost-again and mount", word);
+    return complain("'%s' is no duty to break; duties are flush, sector, second-drive, lost-again, left-out and mount", word);
 }
 
 /* An option with a value, and where the value goes: the one pointer that is not NULL. */
@@ -217,6 +220,8 @@ enum parsed parse_options(int argc, char **argv, struct options *options) {
                               "least zones x (1 + unit) + 2 x unit + 1 and zones + 6");
     if (ZRV_SECTORS_BYTES(g.drives, g.sector_bytes, g.zones, g.zone_sectors) > MOST_SHELF_BYTES)
         return complain("%s", "a shelf of more than 64 MiB is too large to go through");
+    if (options->breakage == BREAK_LEFT_OUT && options->picture != NULL)
+        return complain("%s", "--picture shows the first loss of power; --break left-out has none before its calls");
     if (options->calls_text == NULL)
         options->calls_text = breakages[options->breakage].calls;
     if (options->later_text == NULL)

@@ -36,23 +36,35 @@ static void report_calls(const struct request_list *list, const struct outcome *
     }
 }
 
+/* What happens after the calls; a broken duty takes the place of some of it. */
+static void report_course(const struct explorer *explorer) {
+    const struct options *options = explorer->options;
+    enum breakage breakage = options->breakage;
+    if (breakage == BREAK_LEFT_OUT) {
+        printf("  drives     all but any one are named in the calls that follow\n");
+    } else {
+        printf("  power      goes before the first call, and after 0, 1, 2 .. stores of each: %zu moments\n", explorer->moments_length);
+        printf("  caches     each drive and zone keeps any pointer from durable to written\n");
+        printf("  drives     all come back, or all but any one\n");
+        printf("  then       a look%s\n", breakage == BREAK_MOUNT ? "" : ", and a mount");
+    }
+    if (breakage == BREAK_NOTHING || breakage == BREAK_FLUSH || breakage == BREAK_SECTOR)
+        printf("  once more  that mount is stopped after each of its stores, power goes, the caches keep anything; a look and a second mount\n");
+    if (options->later.length > 0) {
+        printf("  calls      with power going at every store of them, the caches keeping anything; then a look and a mount\n");
+        report_calls(&options->later, NULL);
+    }
+}
+
 void report_question(const struct explorer *explorer) {
     const struct options *options = explorer->options;
     struct geometry g = options->geometry;
     printf("Calls are sent to a volume on %s drives, and power goes. What does it show when power is back?\n\n", in_words(g.drives));
-    printf("  geometry   sectors of %u bytes, stripe units of %u sectors, %u to a stripe; logical zones: %u, of %u sectors on each drive\n", g.sector_bytes,
+    printf("  geometry   sectors of %u bytes, stripe unit %u, %u sectors to a stripe; logical zones: %u, of %u sectors on each drive\n", g.sector_bytes,
            g.unit, (g.drives - 1) * g.unit, g.zones, g.zone_sectors);
     printf("  calls      format\n");
     report_calls(&options->calls, explorer->first.outcome);
-    printf("  power      goes before the first call, and after 0, 1, 2 .. stores of each: %zu moments\n", explorer->moments_length);
-    printf("  caches     each drive and zone keeps any pointer from durable to written\n");
-    printf("  drives     all come back, or all but any one\n");
-    if (options->breakage == BREAK_NOTHING || options->breakage == BREAK_FLUSH || options->breakage == BREAK_SECTOR)
-        printf("  then       a look, and a mount: to its end, and stopped after each of its stores; then power goes again, a look, a mount\n");
-    if (options->later.length > 0) {
-        printf("  after it   power goes again at every store of\n");
-        report_calls(&options->later, NULL);
-    }
+    report_course(explorer);
     if (options->breakage != BREAK_NOTHING)
         printf("  BROKEN     %s\n", breakage_in_words(options->breakage));
     printf("\n");
@@ -62,13 +74,18 @@ void report_question(const struct explorer *explorer) {
 static void report_counts(const struct explorer *explorer) {
     const struct counts *counts = &explorer->counts;
     bool drawn = explorer->moments[0].limit != UINT64_MAX;
-    print_number(explorer->contents, "contents of the caches, over all moments");
-    print_number(counts->returns, drawn ? "returns of power: moments x caches x drives; the budget is too small for all, caches are drawn"
-                                        : "returns of power: moments x caches x drives, all of them");
-    print_number(counts->stopped_mounts, "mounts stopped after a store that changed something");
-    print_number(counts->second_returns, counts->drawn > 0 ? "second returns of power" : "second returns of power: all contents of the caches then");
+    if (counts->returns > 0) {
+        print_number(explorer->contents, "contents of the caches, over all moments");
+        print_number(counts->returns, drawn ? "returns of power: moments x caches x drives; the budget is too small for all, caches are drawn"
+                                            : "returns of power: moments x caches x drives, all of them");
+    }
+    if (counts->stopped_mounts > 0)
+        print_number(counts->stopped_mounts, "mounts stopped after a store that changed something");
+    print_number(counts->second_returns, counts->drawn + counts->left_out > 0 ? "second returns of power" : "second returns of power: all contents of the caches then");
     if (counts->drawn > 0)
-        print_number(counts->drawn, "second losses of power for which the caches were drawn: nothing, everything, each drive's, by the seed");
+        print_number(counts->drawn, "second losses of power for which the budget made the caches' contents draws from the seed");
+    if (counts->left_out > 0)
+        print_number(counts->left_out, "second losses of power left out, for which the budget left nothing");
     print_number(counts->looks, "looks");
     print_number(counts->mounts, "mounts finished");
     print_number(counts->sectors, "sectors read back and compared");
@@ -112,10 +129,10 @@ void report_outcome(const struct explorer *explorer, double seconds) {
             printf("The duty was broken each time, and the rules caught it: the other drives' labels name the drive lost, so it stays out.\n");
         return;
     }
-    printf("a look did not fit; the first history in which one does not:\n%s", explorer->story);
+    printf("a look did not fit; a shortest history in which one does not:\n%s", explorer->story);
     if (!quiet) {
         printf("\n");
-        print_number(counts->misfits, "histories end so:");
+        print_number(counts->misfits, "histories do not fit:");
         report_troubles(counts);
     }
 }

@@ -65,7 +65,7 @@ static void tell_shown(FILE *out, const struct event *event, uint32_t zones) {
     }
     for (uint32_t z = 0; z < zones; z++) {
         uint32_t pointer = pointer_in_state(event->shown, z);
-        fprintf(out, "%szone %u %s", z == 0 ? "shows " : ", ", z, conditions[zone_record(event->shown, z)[RECORD_CONDITION]]);
+        fprintf(out, "%szone %u %s", z == 0 ? "" : ", ", z, conditions[zone_record(event->shown, z)[RECORD_CONDITION]]);
         if (pointer > 0)
             fprintf(out, " at %u", pointer);
     }
@@ -83,6 +83,9 @@ static void tell_event(FILE *out, const struct event *event, uint32_t zones) {
     case EVENT_DRIVE_GONE:
         fprintf(out, "drive %u does not come back\n", event->drive);
         return;
+    case EVENT_DRIVE_LEFT_OUT:
+        fprintf(out, "drive %u is left out from here on\n", event->drive);
+        return;
     case EVENT_DRIVE_NAMED:
         fprintf(out, "drive %u is named again\n", event->drive);
         return;
@@ -91,20 +94,20 @@ static void tell_event(FILE *out, const struct event *event, uint32_t zones) {
             fprintf(out, "mount stopped after %u store%s\n", event->stores, event->stores == 1 ? "" : "s");
             return;
         }
-        fputs("mount ", out);
+        fputs("mount: ", out);
         break;
     case EVENT_LOOK_FOR_MOUNT:
-        fputs("look taken for a mount ", out);
+        fputs("look taken for a mount: ", out);
         break;
     case EVENT_LOOK:
-        fputs("look ", out);
+        fputs("look: ", out);
         break;
     }
     tell_shown(out, event, zones);
 }
 
 static void tell_wanted(FILE *out, const struct oracle_zone *zone) {
-    fprintf(out, "; wanted is a beginning of the %u sector%s written, from %u on", zone->length, zone->length == 1 ? "" : "s", zone->flushed);
+    fprintf(out, "; wanted: a beginning of the %u sector%s written, %u at least", zone->length, zone->length == 1 ? "" : "s", zone->flushed);
     fputs(zone->reset_begun ? ", or empty\n" : "\n", out);
 }
 

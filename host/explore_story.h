@@ -6,14 +6,14 @@
 
 #include "explore_world.h"
 
-enum event_kind { EVENT_CALL, EVENT_POWER, EVENT_DRIVE_GONE, EVENT_DRIVE_NAMED, EVENT_LOOK, EVENT_LOOK_FOR_MOUNT, EVENT_MOUNT };
+enum event_kind { EVENT_CALL, EVENT_POWER, EVENT_DRIVE_GONE, EVENT_DRIVE_LEFT_OUT, EVENT_DRIVE_NAMED, EVENT_LOOK, EVENT_LOOK_FOR_MOUNT, EVENT_MOUNT };
 
 struct event {
     enum event_kind kind;
     const struct request *request; /* call */
     uint32_t pointer;              /* write: the zone's, before it */
     uint32_t stores, answer;       /* call, look, mount */
-    uint32_t drive;                /* drive gone or named again */
+    uint32_t drive;                /* drive gone, left out or named again */
     const struct caches *caches;   /* power: what was kept */
     uint8_t *shown;                /* look, mount */
 };

@@ -3,8 +3,10 @@
 # wrong: the wrong volumes alone (`scripts/wrong_volumes .` takes over this folder's target/, and need not check the volume from nothing)
 # archive: prove the volume and write target/staticlib/libvolume.a, which C links with include/zrv.h
 # edge-test: the archive called from C: the conformance vectors replayed, bad input; then both once more with the C side's sanitizers
+# explore: the question that the volume is for: every moment at which power can go, all that the caches may keep, every drive that may be lost
+# explore-test: its counts, its histories that do not fit, its messages and its picture; a part of it once more with the C side's sanitizers
 # bench: the archive's times against plain C's, as ratios
-.PHONY: check test wrong archive edge-test bench fmt
+.PHONY: check test wrong archive edge-test explore explore-test bench fmt
 
 check:
 	@rt check
@@ -42,6 +44,24 @@ edge-test: $(LIBRARY)
 	@$(EDGE)/bad_input
 	@$(EDGE)/replay_sanitized < crates/replay/stdin | cmp - crates/replay/stdout
 	@$(EDGE)/bad_input_sanitized
+
+EXPLORE_C = host/explore.c host/explore_options.c host/explore_oracle.c host/explore_caches.c host/explore_world.c host/explore_story.c \
+	host/explore_check.c host/explore_engine.c host/explore_report.c host/explore_picture.c host/shelf.c host/call.c
+EXPLORE_H = $(wildcard host/*.h) include/zrv.h
+
+target/zrv_explore: $(EXPLORE_C) $(EXPLORE_H) host/explore_main.c $(LIBRARY)
+	@mkdir -p target
+	@$(EDGE_C) -O2 $(EXPLORE_C) host/explore_main.c $(LIBRARY) -o $@
+
+target/zrv_explore_sanitized: $(EXPLORE_C) $(EXPLORE_H) host/explore_main.c $(LIBRARY)
+	@mkdir -p target
+	@$(EDGE_C) $(SANITIZE) $(EXPLORE_C) host/explore_main.c $(LIBRARY) -o $@
+
+explore: target/zrv_explore
+	@target/zrv_explore
+
+explore-test: target/zrv_explore target/zrv_explore_sanitized
+	@host/test/explore target/zrv_explore target/zrv_explore_sanitized
 
 bench: $(LIBRARY)
 	@mkdir -p $(EDGE)

@@ -18,6 +18,12 @@ static double seconds_now(void) {
     return (double)now.tv_sec + (double)now.tv_nsec / 1e9;
 }
 
+static int cannot_write(const char *path) {
+    fprintf(stderr, "zrv explore: cannot write '%s'\n", path);
+    return BAD_CALL;
+}
+
+/* The picture's file is opened before the search, which may take its time. */
 static int explore_and_report(struct explorer *explorer) {
     const struct options *options = explorer->options;
     double start = seconds_now();
@@ -26,24 +32,25 @@ static int explore_and_report(struct explorer *explorer) {
                 options->geometry.drives, 2 * explorer->moments_length * (options->geometry.drives + 1));
         return BAD_CALL;
     }
+    FILE *picture = options->picture == NULL ? NULL : fopen(options->picture, "w");
+    if (options->picture != NULL && picture == NULL)
+        return cannot_write(options->picture);
     if (!options->quiet)
         report_question(explorer);
     explorer->shows_progress = !options->quiet && isatty(STDERR_FILENO);
     explore(explorer);
     report_outcome(explorer, seconds_now() - start);
-    if (options->picture != NULL && !draw_picture(explorer, options->picture)) {
-        fprintf(stderr, "zrv explore: cannot write '%s'\n", options->picture);
-        return BAD_CALL;
-    }
+    if (picture != NULL && !draw_picture(explorer, picture))
+        return cannot_write(options->picture);
     return explorer->counts.misfits == 0 ? ALL_FITTED : ONE_DID_NOT;
 }
 
 int explore_main(int argc, char **argv) {
     struct options options;
     struct explorer explorer;
-    enum parsed parsed = parse_options(argc, argv, &options);
+    enum parsed parsed = parse_explore_options(argc, argv, &options);
     if (parsed != PARSED) {
-        free_options(&options);
+        free_explore_options(&options);
         return parsed == HELPED ? ALL_FITTED : BAD_CALL;
     }
     uint32_t answer = prepare_explorer(&explorer, &options);
@@ -53,6 +60,6 @@ int explore_main(int argc, char **argv) {
     else
         fprintf(stderr, "zrv explore: the format is refused with %u (%s)\n", answer, refusal_word(answer));
     free_explorer(&explorer);
-    free_options(&options);
+    free_explore_options(&options);
     return status;
 }

@@ -7,7 +7,8 @@
 
 #include "explore_check.h"
 
-enum { PROGRESS_STEP = 256 };
+/* LEAST_SHARE: where the budget leaves fewer final states than this to each return of power, some returns get as many and the others none. */
+enum { PROGRESS_STEP = 256, LEAST_SHARE = 16 };
 
 typedef void moment_step(struct explorer *explorer, struct level *level);
 
@@ -94,10 +95,24 @@ static void each_naming(struct explorer *explorer, const struct world *world, co
     }
 }
 
+/* Is there a share of the budget for a second loss after the return at hand? */
+static bool affords_second_loss(struct explorer *explorer) {
+    uint64_t allowance = explorer->pool / explorer->returns_left;
+    if (allowance >= LEAST_SHARE)
+        return true;
+    explorer->draw = next_draw(explorer->draw);
+    bool affords = (explorer->draw >> 8) % LEAST_SHARE < allowance;
+    explorer->counts.unaffordable += !affords;
+    return affords;
+}
+
 /* What the budget leaves for the moments of one mount, or of the calls after it: everything, or an even share for each. */
 static void open_share(struct explorer *explorer, uint64_t moments, uint64_t contents) {
     uint32_t namings = explorer->options->breakage == BREAK_SECOND_DRIVE ? explorer->options->geometry.drives - 1 : 1;
-    uint64_t allowance = explorer->pool / explorer->returns_left / namings;
+    uint64_t allowance = explorer->pool / explorer->returns_left;
+    if (allowance < LEAST_SHARE)
+        allowance = LEAST_SHARE < explorer->pool ? LEAST_SHARE : explorer->pool;
+    allowance /= namings;
     explorer->share = (struct share){.all = contents <= allowance, .moments = moments, .allowance = allowance, .most = explorer->pool / namings};
 }
 
@@ -196,17 +211,18 @@ static void go_on(struct explorer *explorer, uint8_t *shown, bool drive_gone, bo
         explorer->trail.event[explorer->trail.length - 1].kind = EVENT_LOOK_FOR_MOUNT;
         memcpy(explorer->returned.state, shown, ZRV_STATE_BYTES);
         tell_oracle(&explorer->returned, shown);
-        send_later(explorer, &explorer->returned);
+        if (affords_second_loss(explorer))
+            send_later(explorer, &explorer->returned);
         return;
     case BREAK_SECOND_DRIVE:
     case BREAK_LOST_AGAIN:
-        if (drive_gone && finish_mount(explorer))
+        if (drive_gone && finish_mount(explorer) && affords_second_loss(explorer))
             send_later(explorer, &explorer->mounted);
         return;
     default:
-        if (stops)
+        if (stops && affords_second_loss(explorer))
             stop_mount(explorer);
-        if (finish_mount(explorer) && explorer->options->later.length > 0)
+        if (finish_mount(explorer) && explorer->options->later.length > 0 && affords_second_loss(explorer))
             send_later(explorer, &explorer->mounted);
     }
 }

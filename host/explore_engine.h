@@ -38,6 +38,7 @@ struct counts {
     uint64_t unread;      /* zones that a look showed and a read gave only after the mount */
     uint64_t full_mounts; /* mounts that refused for a full log, which is no misfit */
     uint64_t drawn;       /* second losses of power whose caches were drawn */
+    uint64_t unaffordable; /* first returns without second losses, for which nothing was left of the budget */
     uint64_t left_out;    /* second losses of power for which nothing was left of the budget */
     uint64_t misfits, trouble[TROUBLES], refused[ZRV_GONE + 1];
 };

@@ -10,7 +10,7 @@
 
 /* A shelf larger than this is not for going through state by state. */
 #define MOST_SHELF_BYTES ((size_t)64 * 1024 * 1024)
-#define DEFAULT_BUDGET 20000000
+#define DEFAULT_BUDGET 2000000
 #define MOST_BUDGET UINT64_C(1000000000000)
 
 static const struct {
@@ -41,7 +41,7 @@ static const char *const help =
     "  --unit N           sectors of a stripe unit, 1 to 16 (2)\n"
     "  --zones N          logical zones, 1 to 16 (1)\n"
     "  --zone-sectors N   sectors of a drive's zone, a multiple of the unit (16)\n"
-    "  --budget N         at most N times does power come back for good (20000000); beyond it the caches are drawn, and the report says so\n"
+    "  --budget N         at most N times does power come back for good (2000000); beyond it the caches are drawn, and the report says so\n"
     "  --seed N           of these draws (1)\n"
     "  --picture FILE     an SVG chart of what was shown after power went at each moment\n"
     "  --quiet            the verdict alone\n"
@@ -209,7 +209,7 @@ static bool geometry_holds(struct geometry g) {
     return (g.sector_bytes & (g.sector_bytes - 1)) == 0 && 32 + 8 * g.zones <= g.sector_bytes && g.zone_sectors % g.unit == 0 && g.zone_sectors >= least;
 }
 
-enum parsed parse_options(int argc, char **argv, struct options *options) {
+enum parsed parse_explore_options(int argc, char **argv, struct options *options) {
     *options = (struct options){.geometry = {4, 64, 2, 1, 16}, .budget = DEFAULT_BUDGET, .seed = 1};
     enum parsed words = parse_words(argc, argv, options);
     if (words != PARSED)
@@ -228,10 +228,12 @@ enum parsed parse_options(int argc, char **argv, struct options *options) {
         options->later_text = breakages[options->breakage].later;
     if (parse_requests(options->calls_text, g, 1, &options->calls) != PARSED)
         return BAD_USAGE;
+    if (options->calls.length == 0)
+        return complain("'%s' names no call to send", options->calls_text);
     return parse_requests(options->later_text, g, 1 + MOST_REQUESTS, &options->later);
 }
 
-void free_options(struct options *options) {
+void free_explore_options(struct options *options) {
     for (size_t i = 0; i < options->calls.length; i++)
         free(options->calls.request[i].data);
     for (size_t i = 0; i < options->later.length; i++)

@@ -38,8 +38,8 @@ struct options {
 enum parsed { PARSED, HELPED, BAD_USAGE };
 
 /* BAD_USAGE after a message on standard error, HELPED after the help on standard output. */
-enum parsed parse_options(int argc, char **argv, struct options *options);
-void free_options(struct options *options);
+enum parsed parse_explore_options(int argc, char **argv, struct options *options);
+void free_explore_options(struct options *options);
 
 const char *breakage_in_words(enum breakage breakage);
 

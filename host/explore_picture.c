@@ -2,7 +2,7 @@
  * as large as its share, and the lines between which it has to lie. */
 #include "explore_picture.h"
 
-enum { LEFT = 74, RIGHT = 28, HEADER = 84, CALL_NAMES = 26, AXIS = 62, LEGEND = 64, LEAST_WIDTH = 760, PLOT_HEIGHT = 300, LEAST_STEP = 14, MOST_STEP = 44 };
+enum { LEFT = 74, RIGHT = 28, HEADER = 84, CALL_NAMES = 26, AXIS = 62, LEGEND = 64, LEAST_WIDTH = 760, PLOT_HEIGHT = 300, LEAST_STEP = 16, MOST_STEP = 44 };
 
 static const char *const style =
     "<style>\n"
@@ -48,12 +48,14 @@ static uint32_t largest_pointer(const struct explorer *explorer, uint32_t zone) 
 
 static void draw_call_name(const struct panel *panel, const struct request *request, double x) {
     fprintf(panel->out, "<text class=\"call\" text-anchor=\"middle\" x=\"%.1f\" y=\"%.1f\">", x, plot_top(panel) - 9);
-    if (request->kind == CALL_WRITE)
-        fprintf(panel->out, "write %u%s", request->sectors, request->zone == panel->zone ? "" : " elsewhere");
-    else if (request->kind == CALL_RESET)
-        fprintf(panel->out, "reset zone %u", request->zone);
-    else
+    if (request->kind == CALL_FLUSH)
         fputs("flush", panel->out);
+    else if (request->kind == CALL_RESET)
+        fprintf(panel->out, "reset z%u", request->zone);
+    else if (request->zone == panel->zone)
+        fprintf(panel->out, "write %u", request->sectors);
+    else
+        fprintf(panel->out, "write %u z%u", request->sectors, request->zone);
     fputs("</text>\n", panel->out);
 }
 
@@ -99,7 +101,8 @@ static void put_steps(const struct panel *panel, bool flushed, bool back) {
     for (size_t k = 0; k < length; k++) {
         size_t i = back ? length - 1 - k : k;
         const struct moment *moment = &panel->explorer->moments[i];
-        double y = y_of(panel, flushed ? moment->zone[panel->zone].flushed : moment->zone[panel->zone].length), half = back ? -panel->step / 2 : panel->step / 2;
+        double y = y_of(panel, flushed ? moment->zone[panel->zone].flushed : moment->zone[panel->zone].length);
+        double half = back ? -panel->step / 2 : panel->step / 2;
         fprintf(panel->out, "%.1f,%.1f %.1f,%.1f ", x_of(panel, i) - half, y, x_of(panel, i) + half, y);
     }
 }
@@ -185,7 +188,7 @@ static bool is_touched(const struct request_list *list, uint32_t zone) {
     return false;
 }
 
-bool draw_picture(const struct explorer *explorer, const char *path) {
+bool draw_picture(const struct explorer *explorer, FILE *out) {
     const struct options *options = explorer->options;
     double step = (double)(LEAST_WIDTH - LEFT - RIGHT) / (double)explorer->moments_length, top = HEADER;
     step = step > MOST_STEP ? MOST_STEP : step < LEAST_STEP ? LEAST_STEP : step;
@@ -194,9 +197,6 @@ bool draw_picture(const struct explorer *explorer, const char *path) {
     for (uint32_t z = 0; z < options->geometry.zones; z++)
         panels += is_touched(&options->calls, z);
     double height = HEADER + LEGEND + panels * (double)(CALL_NAMES + PLOT_HEIGHT + AXIS);
-    FILE *out = fopen(path, "w");
-    if (out == NULL)
-        return false;
     width = width < LEAST_WIDTH ? LEAST_WIDTH : width;
     fprintf(out, "<svg xmlns=\"http://www.w3.org/2000/svg\" width=\"%.0f\" height=\"%.0f\" viewBox=\"0 0 %.0f %.0f\">\n", width, height, width, height);
     fprintf(out, "%s<rect width=\"100%%\" height=\"100%%\" fill=\"#fff\"/>\n", style);

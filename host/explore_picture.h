@@ -4,7 +4,7 @@
 
 #include "explore_engine.h"
 
-/* An SVG file. False where it cannot be written. */
-bool draw_picture(const struct explorer *explorer, const char *path);
+/* As SVG, to a file that is closed then. False where it could not be written. */
+bool draw_picture(const struct explorer *explorer, FILE *out);
 
 #endif

@@ -5,9 +5,13 @@
 
 #include "answer.h"
 
-static const char *in_words(uint32_t number) {
-    static const char *const words[] = {"no", "one", "two", "three", "four", "five", "six", "seven", "eight"};
-    return words[number];
+/* A small number in words, with a capital where it begins a sentence. */
+static const char *in_words(size_t number, bool capital) {
+    static const char *const words[] = {"No", "One", "Two", "Three", "Four", "Five", "Six", "Seven", "Eight"};
+    static const char *const small[] = {"no", "one", "two", "three", "four", "five", "six", "seven", "eight"};
+    if (number >= sizeof words / sizeof *words)
+        return capital ? "Many" : "many";
+    return capital ? words[number] : small[number];
 }
 
 /* A number with its thousands apart, at the end of a field. */
@@ -21,6 +25,16 @@ static void print_number(uint64_t number, const char *after) {
     }
     grouped[at] = '\0';
     printf("  %14s  %s\n", grouped, after);
+}
+
+/* The question, in a sentence. */
+static void report_first_line(const struct options *options) {
+    const struct request_list *calls = &options->calls;
+    bool writes = true;
+    for (size_t i = 0; i < calls->length; i++)
+        writes = writes && calls->request[i].kind == CALL_WRITE;
+    printf("%s %s%s sent in succession to a volume on %s drives, and power goes. What does it show when power is back?\n\n",
+           in_words(calls->length, true), writes ? "write" : "call", calls->length == 1 ? " is" : "s are", in_words(options->geometry.drives, false));
 }
 
 static void report_calls(const struct request_list *list, const struct outcome *outcome) {
@@ -43,7 +57,7 @@ static void report_course(const struct explorer *explorer) {
     if (breakage == BREAK_LEFT_OUT) {
         printf("  drives     all but any one are named in the calls that follow\n");
     } else {
-        printf("  power      goes before the first call, and after 0, 1, 2 .. stores of each: %zu moments\n", explorer->moments_length);
+        printf("  power      goes at one of %zu moments: before the first call, and after 0, 1, 2 .. stores of each\n", explorer->moments_length);
         printf("  caches     each drive and zone keeps any pointer from durable to written\n");
         printf("  drives     all come back, or all but any one\n");
         printf("  then       a look%s\n", breakage == BREAK_MOUNT ? "" : ", and a mount");
@@ -59,7 +73,7 @@ static void report_course(const struct explorer *explorer) {
 void report_question(const struct explorer *explorer) {
     const struct options *options = explorer->options;
     struct geometry g = options->geometry;
-    printf("Calls are sent to a volume on %s drives, and power goes. What does it show when power is back?\n\n", in_words(g.drives));
+    report_first_line(options);
     printf("  geometry   sectors of %u bytes, stripe unit %u, %u sectors to a stripe; logical zones: %u, of %u sectors on each drive\n", g.sector_bytes,
            g.unit, (g.drives - 1) * g.unit, g.zones, g.zone_sectors);
     printf("  calls      format\n");
@@ -71,21 +85,27 @@ void report_question(const struct explorer *explorer) {
     fflush(stdout);
 }
 
+/* Was something of the second losses drawn or left out? */
+static bool is_partial(const struct counts *counts) { return counts->drawn + counts->left_out + counts->unaffordable > 0; }
+
 static void report_counts(const struct explorer *explorer) {
     const struct counts *counts = &explorer->counts;
     bool drawn = explorer->moments[0].limit != UINT64_MAX;
     if (counts->returns > 0) {
-        print_number(explorer->contents, "contents of the caches, over all moments");
+        print_number(explorer->contents, "contents of the caches that power can leave, over all moments");
         print_number(counts->returns, drawn ? "returns of power: moments x caches x drives; the budget is too small for all, caches are drawn"
                                             : "returns of power: moments x caches x drives, all of them");
     }
     if (counts->stopped_mounts > 0)
-        print_number(counts->stopped_mounts, "mounts stopped after a store that changed something");
-    print_number(counts->second_returns, counts->drawn + counts->left_out > 0 ? "second returns of power" : "second returns of power: all contents of the caches then");
+        print_number(counts->stopped_mounts, "mounts stopped after a store that changed something (of what a lost drive's cache kept: once)");
+    print_number(counts->second_returns, is_partial(counts) ? "second returns of power"
+                                                                              : "second returns of power: all contents of the caches then");
     if (counts->drawn > 0)
         print_number(counts->drawn, "second losses of power for which the budget made the caches' contents draws from the seed");
     if (counts->left_out > 0)
-        print_number(counts->left_out, "second losses of power left out, for which the budget left nothing");
+        print_number(counts->left_out, "second losses of power left out, for want of budget");
+    if (counts->unaffordable > 0)
+        print_number(counts->unaffordable, "returns of power whose second losses are all left out, for want of budget");
     print_number(counts->looks, "looks");
     print_number(counts->mounts, "mounts finished");
     print_number(counts->sectors, "sectors read back and compared");

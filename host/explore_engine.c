@@ -1,5 +1,12 @@
-/* The search. A moment of the calls, what the caches kept, the drives that come back: a return of power. After it a look; then the mount, stopped after
- * each of its stores with what the caches kept then; then the mount to its end, and the calls that follow it, if any. */
+/* The search.
+ *
+ * A history is: the format; the calls, up to a count of stores; power goes, and each drive and zone keeps some pointer from durable to written; all drives
+ * come back, or all but one. Then a look. Then the mount, to its end, and the calls that follow it, if any. And from the same look on, the mount once more
+ * for each count of its stores: stopped there, power goes again, the caches keep something, a look, a second mount to its end.
+ *
+ * Two kinds of history are left out because another one has the same bytes. A mount stopped after a flush has the sectors and written pointers from before
+ * that flush, and what can be kept then could be kept before. And a drive that is lost is neither read nor changed: whatever its cache kept, the mount makes
+ * the same stores on the others, so it is stopped after them for one such content; its look and its whole mount are made for each. */
 #include "explore_engine.h"
 
 #include <stdlib.h>
@@ -7,8 +14,9 @@
 
 #include "explore_check.h"
 
-/* LEAST_SHARE: where the budget leaves fewer final states than this to each return of power, some returns get as many and the others none. */
-enum { PROGRESS_STEP = 256, LEAST_SHARE = 16 };
+/* LEAST_SHARE: where the budget leaves fewer final states than this to each return of power, some returns get as many and the others none.
+ * MOST_SHARES: a return that can be gone through whole may take so many times its share, as long as that is not below half of what it was at first. */
+enum { PROGRESS_STEP = 256, LEAST_SHARE = 16, MOST_SHARES = 4 };
 
 typedef void moment_step(struct explorer *explorer, struct level *level);
 
@@ -76,6 +84,19 @@ static void second_return(struct explorer *explorer, const struct world *world, 
     explorer->trail.length = events;
 }
 
+/* May a drive be lost with the second loss of power? Only one ever is. */
+static bool may_lose_later(const struct explorer *explorer, const struct world *world) {
+    return explorer->options->loses_later && world->named == (1u << world->shelf.geometry.drives) - 1;
+}
+
+/* How often power comes back for one content of the caches at the second loss. */
+static uint32_t namings(const struct explorer *explorer, const struct world *world) {
+    uint32_t drives = world->shelf.geometry.drives;
+    if (explorer->options->breakage == BREAK_SECOND_DRIVE)
+        return drives - 1;
+    return may_lose_later(explorer, world) ? drives + 1 : 1;
+}
+
 /* The drives named after the second loss: those from before, unless the host breaks its duty. */
 static void each_naming(struct explorer *explorer, const struct world *world, const struct caches *caches) {
     uint32_t drives = world->shelf.geometry.drives;
@@ -92,6 +113,8 @@ static void each_naming(struct explorer *explorer, const struct world *world, co
         return;
     default:
         second_return(explorer, world, caches, world->named);
+        for (uint32_t d = 0; d < drives && may_lose_later(explorer, world); d++)
+            second_return(explorer, world, caches, world->named & ~(1u << d));
     }
 }
 
@@ -107,13 +130,15 @@ static bool affords_second_loss(struct explorer *explorer) {
 }
 
 /* What the budget leaves for the moments of one mount, or of the calls after it: everything, or an even share for each. */
-static void open_share(struct explorer *explorer, uint64_t moments, uint64_t contents) {
-    uint32_t namings = explorer->options->breakage == BREAK_SECOND_DRIVE ? explorer->options->geometry.drives - 1 : 1;
-    uint64_t allowance = explorer->pool / explorer->returns_left;
+static void open_share(struct explorer *explorer, const struct world *world, uint64_t moments, uint64_t contents) {
+    uint32_t times = namings(explorer, world);
+    uint64_t allowance = explorer->pool / explorer->returns_left, most = explorer->pool / times;
+    uint64_t whole = allowance >= explorer->first_share / 2 ? MOST_SHARES * allowance : allowance;
     if (allowance < LEAST_SHARE)
         allowance = LEAST_SHARE < explorer->pool ? LEAST_SHARE : explorer->pool;
-    allowance /= namings;
-    explorer->share = (struct share){.all = contents <= allowance, .moments = moments, .allowance = allowance, .most = explorer->pool / namings};
+    allowance /= times;
+    whole = whole / times < most ? whole / times : most;
+    explorer->share = (struct share){.all = contents <= whole || contents <= allowance, .moments = moments, .allowance = allowance, .most = most};
 }
 
 /* How many contents of the caches are gone through at the next moment; what does not divide evenly falls to moments by draw. */
@@ -150,7 +175,7 @@ static struct stop *stop_at(struct explorer *explorer, size_t at) {
     return &explorer->stop[at];
 }
 
-/* After a flush the pointers are those from before it, and all that a cut can leave then it could leave before: such stops are left out. */
+/* A stop whose written pointers are those of the one before adds nothing (above). */
 static void gather_stops(struct explorer *explorer) {
     explorer->stops = 0;
     for (uint32_t count = 1;; count++) {
@@ -170,7 +195,7 @@ static void stop_mount(struct explorer *explorer) {
     gather_stops(explorer);
     for (size_t i = 0; i < explorer->stops; i++)
         contents = saturated_sum(contents, new_caches(&explorer->stop[i].world.shelf, 0, 0).contents);
-    open_share(explorer, explorer->stops, contents);
+    open_share(explorer, &explorer->returned, explorer->stops, contents);
     explorer->counts.stopped_mounts += explorer->stops;
     for (size_t i = 0; i < explorer->stops; i++) {
         push_event(explorer, (struct event){.kind = EVENT_MOUNT, .stores = explorer->stop[i].stores, .answer = ZRV_UNFINISHED});
@@ -192,7 +217,7 @@ static void send_later(struct explorer *explorer, const struct world *start) {
     explorer->tally.moments = explorer->tally.contents = 0;
     copy_world(&explorer->later.base, start);
     send_all(explorer, &explorer->later, &explorer->options->later, tally_moment);
-    open_share(explorer, explorer->tally.moments, explorer->tally.contents);
+    open_share(explorer, start, explorer->tally.moments, explorer->tally.contents);
     copy_world(&explorer->later.base, start);
     send_all(explorer, &explorer->later, &explorer->options->later, later_loss);
 }
@@ -234,11 +259,10 @@ static void count_shown(struct moment *moment, uint8_t *shown, uint32_t zones, b
 
 static void show_progress(const struct explorer *explorer) {
     if (explorer->shows_progress && explorer->counts.returns % PROGRESS_STEP == 0)
-        fprintf(stderr, "\r%llu to go ", (unsigned long long)explorer->returns_left);
+        fprintf(stderr, "\r%llu returns of power to go ", (unsigned long long)explorer->returns_left);
 }
 
-/* Power is back; drive: the one that is not, or none. What a drive's cache kept is in nobody's sight once it is gone, so of those contents the mount is
- * stopped after its stores for one. */
+/* Power is back; drive: the one that is not, or none. */
 static void first_return(struct explorer *explorer, const struct caches *caches, uint32_t drive) {
     struct moment *moment = &explorer->moments[explorer->moment_at];
     struct world *returned = &explorer->returned;
@@ -344,6 +368,7 @@ bool share_budget(struct explorer *explorer) {
         explorer->returns_left += drives * (moment->contents < limit ? moment->contents : limit);
     }
     explorer->pool -= explorer->returns_left;
+    explorer->first_share = limit > 0 ? explorer->pool / explorer->returns_left : 0;
     return limit > 0;
 }
 
@@ -351,7 +376,7 @@ void explore(struct explorer *explorer) {
     copy_world(&explorer->first.base, &explorer->formatted);
     send_all(explorer, &explorer->first, &explorer->options->calls, explorer->options->breakage == BREAK_LEFT_OUT ? leave_out : first_loss);
     if (explorer->shows_progress)
-        fputs("\r                        \r", stderr);
+        fputs("\r                                        \r", stderr);
 }
 
 void free_explorer(struct explorer *explorer) {

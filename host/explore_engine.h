@@ -35,11 +35,11 @@ struct counts {
     uint64_t stopped_mounts; /* mounts stopped after a store that changed something */
     uint64_t second_returns; /* times power came back after the second loss */
     uint64_t looks, mounts, sectors;
-    uint64_t unread;      /* zones that a look showed and a read gave only after the mount */
-    uint64_t full_mounts; /* mounts that refused for a full log, which is no misfit */
-    uint64_t drawn;       /* second losses of power whose caches were drawn */
-    uint64_t unaffordable; /* first returns without second losses, for which nothing was left of the budget */
-    uint64_t left_out;    /* second losses of power for which nothing was left of the budget */
+    uint64_t unread;       /* zones that a look showed and a read gave only after the mount */
+    uint64_t full_mounts;  /* mounts that refused for a full log, which is no misfit */
+    uint64_t drawn;        /* second losses of power whose caches were drawn */
+    uint64_t left_out;     /* second losses of power for which nothing was left of the budget */
+    uint64_t unaffordable; /* returns of power for whose second losses nothing was left */
     uint64_t misfits, trouble[TROUBLES], refused[ZRV_GONE + 1];
 };
 
@@ -56,9 +56,10 @@ struct explorer {
     size_t stops, stop_room;
     struct moment *moments;
     size_t moments_length, moment_at;
-    uint8_t *answer; /* a zone's sectors, read back */
+    uint8_t *answer;             /* a zone's sectors, read back */
     uint64_t contents;           /* of the caches, over all moments */
     uint64_t returns_left, pool; /* first returns to come; final states left in the budget */
+    uint64_t first_share;        /* of the pool for each return, at the start */
     struct share {
         bool all;
         uint64_t moments, allowance, most;
@@ -67,7 +68,8 @@ struct explorer {
     struct {
         uint64_t moments, contents;
     } tally; /* of the calls that follow a mount */
-    char *story; /* a history that does not fit, NULL if none: the shortest, but one that shows something wrong goes before one that refuses */
+    /* A history that does not fit, NULL if none: the shortest, where one that shows something wrong goes before one that ends in a refusal. */
+    char *story;
     size_t story_bytes, story_rank;
     bool shows_progress;
 };

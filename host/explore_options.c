@@ -36,6 +36,7 @@ static const char *const help =
     "  --calls LIST       the calls, by commas: wN writes N sectors, f flushes, rZ resets zone Z, zZ chooses the zone of the writes that follow\n"
     "                     (default w3,w4: the first ends inside a stripe, the second goes past that stripe's end)\n"
     "  --then LIST        calls sent after the first mount, at every store of which power goes once more (default none)\n"
+    "  --lose-later       where all drives came back, any one may be lost when power goes for the second time\n"
     "  --drives N         3 to 8 (4)\n"
     "  --sector N         bytes of a sector, 64 to 4096 by doubling (64)\n"
     "  --unit N           sectors of a stripe unit, 1 to 16 (2)\n"
@@ -193,11 +194,13 @@ static enum parsed parse_words(int argc, char **argv, struct options *options) {
         }
         if (strcmp(argv[i], "--quiet") == 0) {
             options->quiet = true;
-            continue;
+        } else if (strcmp(argv[i], "--lose-later") == 0) {
+            options->loses_later = true;
+        } else {
+            if (parse_option(argv[i], i + 1 < argc ? argv[i + 1] : NULL, options) != PARSED)
+                return BAD_USAGE;
+            i++;
         }
-        if (parse_option(argv[i], i + 1 < argc ? argv[i + 1] : NULL, options) != PARSED)
-            return BAD_USAGE;
-        i++;
     }
     return PARSED;
 }

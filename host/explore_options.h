@@ -31,6 +31,7 @@ struct options {
     enum breakage breakage;
     uint64_t budget;
     uint32_t seed;
+    bool loses_later; /* a drive may be lost with the second loss of power too */
     bool quiet;
     const char *picture; /* NULL: none */
 };

@@ -64,6 +64,8 @@ static void report_course(const struct explorer *explorer) {
     }
     if (breakage == BREAK_NOTHING || breakage == BREAK_FLUSH || breakage == BREAK_SECTOR)
         printf("  once more  that mount is stopped after each of its stores, power goes, the caches keep anything; a look and a second mount\n");
+    if (options->loses_later)
+        printf("             where all drives came back the first time, all do again, or all but any one\n");
     if (options->later.length > 0) {
         printf("  calls      with power going at every store of them, the caches keeping anything; then a look and a mount\n");
         report_calls(&options->later, NULL);

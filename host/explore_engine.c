@@ -252,9 +252,13 @@ static void go_on(struct explorer *explorer, uint8_t *shown, bool drive_gone, bo
     }
 }
 
-static void count_shown(struct moment *moment, uint8_t *shown, uint32_t zones, bool fits) {
-    for (uint32_t z = 0; z < zones; z++)
-        (fits ? moment->zone[z].shown : moment->zone[z].misfit)[pointer_in_state(shown, z)]++;
+/* A pointer past the zone's end, which only a wrong volume shows, has no place in the count. */
+static void count_shown(struct moment *moment, uint8_t *shown, struct geometry geometry, bool fits) {
+    for (uint32_t z = 0; z < geometry.zones; z++) {
+        uint32_t pointer = pointer_in_state(shown, z);
+        if (pointer <= zone_addresses(geometry))
+            (fits ? moment->zone[z].shown : moment->zone[z].misfit)[pointer]++;
+    }
 }
 
 static void show_progress(const struct explorer *explorer) {
@@ -279,7 +283,7 @@ static void first_return(struct explorer *explorer, const struct caches *caches,
     show_progress(explorer);
     bool fits = look_fits(explorer, returned, shown, false);
     if (explorer->trail.event[explorer->trail.length - 1].answer == ZRV_FINISHED)
-        count_shown(moment, shown, returned->shelf.geometry.zones, fits);
+        count_shown(moment, shown, returned->shelf.geometry, fits);
     if (fits)
         go_on(explorer, shown, gone, !gone || caches_are_drawn(caches) || keeps_only_durable(caches, drive));
     explorer->returns_left--;

@@ -1,0 +1,28 @@
+/* What the drives' caches may keep when power goes: in each drive and zone any pointer from durable to written. All of these contents in turn, or, where
+ * there are more than the limit, draws from a seed, after nothing kept, everything, and each drive's alone if the limit is well above that. */
+#ifndef EXPLORE_CACHES_H
+#define EXPLORE_CACHES_H
+
+#include <stdbool.h>
+
+#include "shelf.h"
+
+enum { MOST_CELLS = MOST_DRIVES * (ZRV_STATE_RECORDS + ZRV_LOG_ZONES) };
+
+struct caches {
+    size_t cells, cells_of_drive;
+    uint32_t durable[MOST_CELLS], written[MOST_CELLS];
+    uint32_t kept[MOST_CELLS]; /* the content at hand */
+    uint64_t contents;         /* how many there are; UINT64_MAX stands for that many and more */
+    uint64_t limit, taken;
+    uint32_t draw;
+};
+
+struct caches new_caches(const struct shelf *shelf, uint64_t limit, uint32_t seed);
+bool caches_are_drawn(const struct caches *caches);
+/* The next content into kept; false after the last. */
+bool next_caches(struct caches *caches);
+/* Does the content at hand keep nothing of this drive but what is durable? */
+bool keeps_only_durable(const struct caches *caches, uint32_t drive);
+
+#endif

@@ -1,0 +1,146 @@
+/* A history told event by event, one on a line, and what its last look or mount should have shown. */
+#include "explore_story.h"
+
+#include "answer.h"
+
+static const char *condition_word(uint8_t condition) {
+    static const char *const words[] = {[ZRV_EMPTY] = "empty", [ZRV_OPEN] = "open", [ZRV_SEALED] = "sealed", [ZRV_WORN] = "worn"};
+    return condition <= ZRV_WORN ? words[condition] : "in no condition";
+}
+
+static void tell_answer(FILE *out, uint32_t answer) {
+    if (answer == ZRV_FINISHED)
+        fputs("finished", out);
+    else if (answer == ZRV_UNFINISHED)
+        fputs("not finished", out);
+    else
+        fprintf(out, "refused with %u (%s)", answer, refusal_word(answer));
+}
+
+void tell_request(FILE *out, const struct request *request) {
+    if (request->kind == CALL_WRITE)
+        fprintf(out, "write of %u sector%s to zone %u", request->sectors, request->sectors == 1 ? "" : "s", request->zone);
+    else if (request->kind == CALL_RESET)
+        fprintf(out, "reset of zone %u", request->zone);
+    else
+        fputs("flush", out);
+}
+
+static void tell_call(FILE *out, const struct event *event) {
+    tell_request(out, event->request);
+    if (event->request->kind == CALL_WRITE)
+        fprintf(out, " at %u", event->pointer);
+    fprintf(out, ": %u store%s, ", event->stores, event->stores == 1 ? "" : "s");
+    tell_answer(out, event->answer);
+    fputs("\n", out);
+}
+
+static void tell_place(FILE *out, size_t zone) {
+    static const char *const names[ZRV_LOG_ZONES] = {"general log", "parity log", "spare zone"};
+    if (zone < ZRV_LOG_ZONES)
+        fputs(names[zone], out);
+    else
+        fprintf(out, "zone %zu", zone - ZRV_LOG_ZONES);
+}
+
+/* Of each drive that had something at stake, where, and how much of it was kept. */
+static void tell_power(FILE *out, const struct caches *caches) {
+    fputs("power goes", out);
+    const char *separator = ": ";
+    for (size_t cell = 0; cell < caches->cells; cell++) {
+        if (caches->durable[cell] == caches->written[cell])
+            continue;
+        fprintf(out, "%sdrive %zu ", separator, cell / caches->cells_of_drive);
+        tell_place(out, cell % caches->cells_of_drive);
+        fprintf(out, " keeps %u of %u", caches->kept[cell], caches->written[cell]);
+        if (caches->durable[cell] > 0)
+            fprintf(out, " (%u durable)", caches->durable[cell]);
+        separator = "; ";
+    }
+    fputs(separator[0] == ':' ? ", everything was durable\n" : "\n", out);
+}
+
+static void tell_shown(FILE *out, const struct event *event, uint32_t zones) {
+    if (event->answer != ZRV_FINISHED) {
+        tell_answer(out, event->answer);
+        fputs("\n", out);
+        return;
+    }
+    for (uint32_t z = 0; z < zones; z++) {
+        uint32_t pointer = pointer_in_state(event->shown, z);
+        fprintf(out, "%szone %u %s", z == 0 ? "" : ", ", z, condition_word(zone_record(event->shown, z)[RECORD_CONDITION]));
+        if (pointer > 0)
+            fprintf(out, " at %u", pointer);
+    }
+    fputs("\n", out);
+}
+
+static void tell_event(FILE *out, const struct event *event, uint32_t zones) {
+    switch (event->kind) {
+    case EVENT_CALL:
+        tell_call(out, event);
+        return;
+    case EVENT_POWER:
+        tell_power(out, event->caches);
+        return;
+    case EVENT_DRIVE_GONE:
+        fprintf(out, "drive %u does not come back\n", event->drive);
+        return;
+    case EVENT_DRIVE_LEFT_OUT:
+        fprintf(out, "drive %u is left out from here on\n", event->drive);
+        return;
+    case EVENT_DRIVE_NAMED:
+        fprintf(out, "drive %u is named again\n", event->drive);
+        return;
+    case EVENT_MOUNT:
+        if (event->answer == ZRV_UNFINISHED) {
+            fprintf(out, "mount stopped after %u store%s\n", event->stores, event->stores == 1 ? "" : "s");
+            return;
+        }
+        fputs("mount: ", out);
+        break;
+    case EVENT_LOOK_FOR_MOUNT:
+        fputs("look taken for a mount: ", out);
+        break;
+    case EVENT_LOOK:
+        fputs("look: ", out);
+        break;
+    }
+    tell_shown(out, event, zones);
+}
+
+static void tell_wanted(FILE *out, const struct oracle_zone *zone) {
+    fprintf(out, "; wanted: a beginning of the %u sector%s written, %u at least", zone->length, zone->length == 1 ? "" : "s", zone->flushed);
+    fputs(zone->reset_begun ? ", or empty\n" : "\n", out);
+}
+
+static void tell_verdict(FILE *out, const struct world *world, const struct verdict *verdict) {
+    switch (verdict->trouble) {
+    case LOOK_REFUSED:
+        fprintf(out, "the look is refused with %u (%s): nothing is shown\n", verdict->answer, refusal_word(verdict->answer));
+        return;
+    case MOUNT_REFUSED:
+        fprintf(out, "the mount is refused with %u (%s)\n", verdict->answer, refusal_word(verdict->answer));
+        return;
+    case READ_REFUSED:
+        fprintf(out, "zone %u at %u: a read below it is refused with %u (%s)\n", verdict->zone, verdict->pointer, verdict->answer,
+                refusal_word(verdict->answer));
+        return;
+    case SHOWN_OTHER:
+        fprintf(out, "zone %u at %u: sector %u has other bytes than were written", verdict->zone, verdict->pointer, verdict->sector);
+        break;
+    default:
+        fprintf(out, "zone %u is shown at %u", verdict->zone, verdict->pointer);
+    }
+    tell_wanted(out, &world->oracle.zone[verdict->zone]);
+}
+
+void tell_story(FILE *out, const struct trail *trail, const struct world *world, const struct verdict *verdict) {
+    fprintf(out, "   1. format: every zone empty\n");
+    for (size_t i = 0; i < trail->length; i++) {
+        fprintf(out, "  %2zu. ", i + 2);
+        tell_event(out, &trail->event[i], world->shelf.geometry.zones);
+    }
+    fputs("  does not fit: ", out);
+    tell_verdict(out, world, verdict);
+}

@@ -1,0 +1,126 @@
+/* The drives, the host and the oracle of one moment: calls made, power lost, everything copied. */
+#include "explore_world.h"
+
+#include <string.h>
+
+enum { ARRAY_NUMBER = 1 };
+
+struct world new_world(struct geometry geometry) {
+    struct world world = {.shelf = new_shelf(geometry), .named = (1u << geometry.drives) - 1, .oracle = new_oracle(geometry)};
+    return world;
+}
+
+void free_world(struct world *world) {
+    free_shelf(&world->shelf);
+    free_oracle(&world->oracle);
+}
+
+/* Only sectors that were ever touched in one of the two are copied: the others are zero in both. */
+void copy_world(struct world *to, const struct world *from) {
+    struct geometry g = from->shelf.geometry;
+    size_t sector = g.sector_bytes, cell_bytes = g.zone_sectors * sector;
+    for (size_t cell = 0; cell < shelf_cells(g); cell++) {
+        uint32_t touched = to->touched[cell] > from->touched[cell] ? to->touched[cell] : from->touched[cell];
+        memcpy(to->shelf.sectors.bytes + cell * cell_bytes, from->shelf.sectors.bytes + cell * cell_bytes, touched * sector);
+        to->touched[cell] = from->touched[cell];
+    }
+    memcpy(to->shelf.written.bytes, from->shelf.written.bytes, from->shelf.written.length);
+    memcpy(to->shelf.durable.bytes, from->shelf.durable.bytes, from->shelf.durable.length);
+    memcpy(to->state, from->state, sizeof to->state);
+    to->named = from->named;
+    copy_oracle(&to->oracle, &from->oracle);
+}
+
+static struct call call_on(struct world *world, enum call_kind kind, uint8_t *state) {
+    static uint8_t no_buffer[1];
+    struct call call = {
+        .kind = kind,
+        .geometry = world->shelf.geometry,
+        .named = world->named,
+        .array = ARRAY_NUMBER,
+        .count = ZRV_ALL_STORES,
+        .range = {world->shelf.sectors, world->shelf.written, world->shelf.durable, {state, ZRV_STATE_BYTES}, {no_buffer, 0}},
+    };
+    return call;
+}
+
+/* Durable goes back to what it was, but for zones that were reset: a flush that kept nothing. */
+static void take_flush_back(struct shelf *shelf, const uint8_t *before) {
+    for (size_t at = 0; at < shelf->durable.length; at += 4) {
+        uint32_t durable = get32(before + at), written = get32(shelf->written.bytes + at);
+        put32(shelf->durable.bytes + at, durable < written ? durable : written);
+    }
+}
+
+/* A call that stores, on drives that keep the duties less the broken one. */
+static uint32_t store_by(struct world *world, const struct call *call, enum breakage breakage) {
+    uint8_t durable[MOST_CELLS * 4];
+    memcpy(durable, world->shelf.durable.bytes, world->shelf.durable.length);
+    uint32_t answer = make_call(call);
+    for (size_t cell = 0; cell < shelf_cells(world->shelf.geometry); cell++) {
+        uint32_t written = get32(world->shelf.written.bytes + 4 * cell);
+        world->touched[cell] = written > world->touched[cell] ? written : world->touched[cell];
+    }
+    if (breakage == BREAK_FLUSH)
+        take_flush_back(&world->shelf, durable);
+    return answer;
+}
+
+uint32_t format_world(struct world *world) {
+    struct call call = call_on(world, CALL_FORMAT, world->state);
+    return store_by(world, &call, BREAK_NOTHING);
+}
+
+uint32_t look_at_world(struct world *world, uint8_t *shown) {
+    struct call call = call_on(world, CALL_LOOK, shown);
+    return make_call(&call);
+}
+
+uint32_t mount_world(struct world *world, uint32_t count, enum breakage breakage) {
+    struct call call = call_on(world, CALL_MOUNT, world->state);
+    call.count = count;
+    return store_by(world, &call, breakage);
+}
+
+uint32_t read_world(struct world *world, uint8_t *shown, uint32_t zone, struct range answer) {
+    struct call call = call_on(world, CALL_READ, shown);
+    call.address = zone * zone_addresses(call.geometry);
+    call.run = (uint32_t)(answer.length / call.geometry.sector_bytes);
+    call.range[BUFFER] = answer;
+    return make_call(&call);
+}
+
+uint32_t send_request(struct world *world, const struct request *request, uint32_t count, enum breakage breakage) {
+    struct call call = call_on(world, request->kind, world->state);
+    call.count = count;
+    call.zone = request->zone;
+    if (request->kind == CALL_WRITE) {
+        call.address = request->zone * zone_addresses(call.geometry) + pointer_in_state(world->state, request->zone);
+        call.run = request->sectors;
+        call.range[BUFFER] = (struct range){request->data, (size_t)request->sectors * call.geometry.sector_bytes};
+    }
+    uint32_t answer = store_by(world, &call, breakage);
+    bool finished = answer == ZRV_FINISHED;
+    if (!finished && answer != ZRV_UNFINISHED)
+        return answer;
+    if (request->kind == CALL_WRITE)
+        oracle_write(&world->oracle, request->zone, request->data, request->sectors);
+    else if (request->kind == CALL_RESET)
+        oracle_reset(&world->oracle, request->zone, finished);
+    else if (finished)
+        oracle_flush(&world->oracle);
+    return answer;
+}
+
+void lose_power(struct world *world, const struct caches *caches, const struct shelf *torn_from) {
+    size_t sector = world->shelf.geometry.sector_bytes, cell_sectors = world->shelf.geometry.zone_sectors;
+    for (size_t cell = 0; cell < caches->cells; cell++) {
+        uint32_t kept = caches->kept[cell];
+        put32(world->shelf.written.bytes + 4 * cell, kept);
+        put32(world->shelf.durable.bytes + 4 * cell, kept);
+        if (torn_from != NULL && kept > caches->durable[cell]) {
+            size_t second_half = (cell * cell_sectors + kept - 1) * sector + sector / 2;
+            memcpy(world->shelf.sectors.bytes + second_half, torn_from->sectors.bytes + second_half, sector / 2);
+        }
+    }
+}

@@ -1,22 +1,28 @@
+# explore: four drives, two writes in succession: every moment at which power can go, times what the caches kept, times the drive that does not come back
+# test:  the layout, the worked values of log_walks and of docs/FORMAT.md, then everything proved from nothing, and beside it the wrong programs and the archive; the merge gate
 # check: prove every crate and run the programs (only what changed since the last time)
-# test:  the layout, the expected output of log_walks worked out anew, then everything from nothing, and beside it the wrong programs and the archive; the merge gate
 # wrong: the wrong programs alone (`scripts/wrong_programs .` takes over this folder's target/, and need not check the crates from nothing)
 # archive: prove the volume and write lib/libvolume.a anew, which C links with include/zrv.h
 # zrv: the command-line tool over a shelf kept as files, target/zrv (`target/zrv help`)
-# from-c: all tests of the archive and of the tool
-# edge-test: the conformance vectors replayed, and bad input; then both once more with the C side's sanitizers
-# tool-test: the tool used as a person would, with the exact words and exit codes; then once more with the sanitizers
-# example: the program of docs/USING.md, built and run
+# from-c: all tests of the archive and of the tool:
+#   edge-test: the conformance vectors replayed, and bad input; then both once more with the C side's sanitizers
+#   tool-test: the tool used as a person would, with the exact words and exit codes; then once more with the sanitizers
+#   explore-test: explore's counts, its histories that do not fit, its messages and its picture; a part of it once more with the sanitizers
+#   example: the program of docs/USING.md, built and run
+# format-test: the model of docs/FORMAT.md in Python: the conformance vectors replayed, then the worked values of the page
 # bench: the archive's speed as a share of plain C's
-.PHONY: check test wrong archive zrv from-c edge-test tool-test example bench fmt
+.PHONY: explore test check wrong archive zrv from-c edge-test tool-test explore-test example format-test bench fmt
 
-check:
-	@rt check
+explore: target/zrv
+	@target/zrv explore
 
-test:
+test: format-test
 	@rt fmt --check
 	@python3 scripts/expect_log_walks.py | cmp - crates/log_walks/stdout
 	@scripts/gate
+
+check:
+	@rt check
 
 wrong:
 	@scripts/wrong_programs
@@ -27,7 +33,7 @@ archive:
 	@cp target/staticlib/libvolume.a lib/libvolume.a
 
 LIBRARY = lib/libvolume.a
-COMPILE = gcc -std=c11 -Wall -Wextra -Werror -pedantic -Iinclude -Ihost
+COMPILE = gcc -std=c11 -Wall -Wextra -Werror -pedantic -Iinclude -Ihost -Itool
 SANITIZE = -O1 -g -fsanitize=address,undefined -fno-sanitize-recover=all
 EDGE = target/edge
 
@@ -35,20 +41,23 @@ REPLAY_C = c/replay.c c/script_host.c c/damage.c c/script.c host/shelf.c host/ca
 PLAIN_C = c/plain.c c/plain_logs.c c/plain_refusals.c host/journal.c
 BAD_INPUT_C = c/bad_input.c c/fixture.c c/expected.c $(PLAIN_C) host/shelf.c host/call.c
 BENCH_C = c/bench.c $(PLAIN_C) host/shelf.c host/call.c
-ZRV_C = host/zrv.c host/commands.c host/transfer.c host/checklist.c host/left_out.c host/tool.c host/options.c host/refusals.c host/driver.c \
-	host/drives.c host/drive_file.c host/files.c host/journal.c host/progress.c host/message.c host/shelf.c host/call.c
+HOST_C = host/driver.c host/drives.c host/drive_file.c host/files.c host/journal.c host/progress.c host/message.c host/shelf.c host/call.c
+EXPLORE_C = tool/explore/explore.c tool/explore/options.c tool/explore/oracle.c tool/explore/caches.c tool/explore/world.c tool/explore/story.c \
+	tool/explore/check.c tool/explore/engine.c tool/explore/report.c tool/explore/picture.c
+ZRV_C = tool/zrv.c tool/commands.c tool/transfer.c tool/checklist.c tool/left_out.c tool/tool.c tool/options.c tool/refusals.c $(EXPLORE_C) $(HOST_C)
+ZRV_H = include/zrv.h $(wildcard host/*.h tool/*.h tool/explore/*.h)
 
 zrv: target/zrv
 
-target/zrv: $(ZRV_C) $(wildcard host/*.h) include/zrv.h $(LIBRARY)
+target/zrv: $(ZRV_C) $(ZRV_H) $(LIBRARY)
 	@mkdir -p target
 	@$(COMPILE) -O2 $(ZRV_C) $(LIBRARY) -o $@
 
-target/zrv_sanitized: $(ZRV_C) $(wildcard host/*.h) include/zrv.h $(LIBRARY)
+target/zrv_sanitized: $(ZRV_C) $(ZRV_H) $(LIBRARY)
 	@mkdir -p target
 	@$(COMPILE) $(SANITIZE) $(ZRV_C) $(LIBRARY) -o $@
 
-from-c: edge-test tool-test example
+from-c: edge-test tool-test explore-test example
 
 edge-test:
 	@mkdir -p $(EDGE)
@@ -63,13 +72,20 @@ edge-test:
 	@$(EDGE)/bad_input_sanitized
 
 tool-test: target/zrv target/zrv_sanitized
-	@host/test/tool target/zrv
-	@host/test/tool target/zrv_sanitized
+	@tool/test/tool target/zrv
+	@tool/test/tool target/zrv_sanitized
+
+explore-test: target/zrv target/zrv_sanitized
+	@tool/test/explore target/zrv target/zrv_sanitized
 
 example:
 	@mkdir -p target
 	@$(COMPILE) -O2 host/example.c $(LIBRARY) -o target/example
 	@target/example
+
+format-test:
+	@model/format_model.py replay < crates/replay/stdin | cmp - crates/replay/stdout && echo "format model: $$(wc -l < crates/replay/stdout) lines equal"
+	@model/format_model.py check docs/FORMAT.md
 
 bench:
 	@mkdir -p $(EDGE)

@@ -2,7 +2,7 @@
 #ifndef EXPLORE_CHECK_H
 #define EXPLORE_CHECK_H
 
-#include "explore_engine.h"
+#include "explore/engine.h"
 
 struct event *push_event(struct explorer *explorer, struct event event);
 

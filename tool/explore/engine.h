@@ -3,7 +3,7 @@
 #ifndef EXPLORE_ENGINE_H
 #define EXPLORE_ENGINE_H
 
-#include "explore_story.h"
+#include "explore/story.h"
 
 /* How a request ended, sent without a loss of power. */
 struct outcome {

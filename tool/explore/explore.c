@@ -1,14 +1,14 @@
 /* `zrv explore`: options, the search, the report, the picture. */
 #define _POSIX_C_SOURCE 200809L
 
-#include "explore.h"
+#include "explore/explore.h"
 
 #include <time.h>
 #include <unistd.h>
 
-#include "answer.h"
-#include "explore_picture.h"
-#include "explore_report.h"
+#include "refusals.h"
+#include "explore/picture.h"
+#include "explore/report.h"
 
 enum { ALL_FITTED = 0, ONE_DID_NOT = 1, BAD_CALL = 2 };
 

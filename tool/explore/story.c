@@ -1,7 +1,7 @@
 /* A history told event by event, one on a line, and what its last look or mount should have shown. */
-#include "explore_story.h"
+#include "explore/story.h"
 
-#include "answer.h"
+#include "refusals.h"
 
 static const char *condition_word(uint8_t condition) {
     static const char *const words[] = {[ZRV_EMPTY] = "empty", [ZRV_OPEN] = "open", [ZRV_SEALED] = "sealed", [ZRV_WORN] = "worn"};

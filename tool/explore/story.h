@@ -4,7 +4,7 @@
 
 #include <stdio.h>
 
-#include "explore_world.h"
+#include "explore/world.h"
 
 enum event_kind { EVENT_CALL, EVENT_POWER, EVENT_DRIVE_GONE, EVENT_DRIVE_LEFT_OUT, EVENT_DRIVE_NAMED, EVENT_LOOK, EVENT_LOOK_FOR_MOUNT, EVENT_MOUNT };
 

@@ -32,7 +32,7 @@ static const struct {
 /* The sentence of refusal 10 where the zone has no room. */
 static const char *const order_when_full = "the zone is full; reset it or write to another zone";
 
-const char *refusal_word(uint32_t number) { return refusals[number].word; }
+const char *refusal_word(uint32_t number) { return number >= ZRV_GEOMETRY && number <= ZRV_GONE ? refusals[number].word : "no refusal"; }
 
 struct number {
     const char *name;

@@ -3,9 +3,9 @@
 #define EXPLORE_WORLD_H
 
 #include "bytes.h"
-#include "explore_caches.h"
-#include "explore_options.h"
-#include "explore_oracle.h"
+#include "explore/caches.h"
+#include "explore/options.h"
+#include "explore/oracle.h"
 
 struct world {
     struct shelf shelf;
@@ -30,7 +30,7 @@ uint32_t send_request(struct world *world, const struct request *request, uint32
 
 /* Power goes: a cut. Each drive and zone keeps what the caches say. torn_from: where not NULL, the last sector that a cache keeps past its durable
  * pointer has its second half from there. */
-void lose_power(struct world *world, const struct caches *caches, const struct shelf *torn_from);
+void world_loses_power(struct world *world, const struct caches *caches, const struct shelf *torn_from);
 
 /* The pointer of a zone in a state. */
 static inline uint32_t pointer_in_state(uint8_t *state, uint32_t zone) { return get32(zone_record(state, zone) + RECORD_POINTER); }

@@ -3,6 +3,7 @@
 #include <string.h>
 
 #include "commands.h"
+#include "explore/explore.h"
 #include "tool.h"
 
 #define VERSION "1.0"
@@ -14,10 +15,9 @@ struct command {
     int (*run)(int argc, char **argv); /* its own name and the words after it; the exit code */
     const char *does;                  /* in half a line */
     const char *usage;                 /* the words after its name */
-    const char *help;
+    const char *help;                  /* none: the command has help of its own */
 };
 
-/* A command that needs no folder, such as one that explores histories in memory, joins here with a line and the header that declares it. */
 static const struct command commands[] = {
     {"format", format_main, "make an empty volume", "FOLDER [options]",
      "Makes the folder if it is not there, and in it one file a drive and one for the host's state.\n"
@@ -65,6 +65,7 @@ static const struct command commands[] = {
      "whatever was found, and with 1 where it refuses to.\n"},
     {"mount", mount_main, "bring the volume up after a power cut or the loss of a drive", "FOLDER [options]",
      "Completes what was cut short and shows the zones.\n" STORES_HELP},
+    {"explore", explore_main, "go through every moment at which power can go, in memory", "[options]", NULL},
 };
 
 static const char exit_codes[] = "Exit codes: 0 done; 1 the volume refused, the call was left unfinished, or it is not its turn; 2 bad usage;\n"
@@ -84,8 +85,12 @@ static void print_help(void) {
     printf("  %-8s %s\n\n%s", "help", "this, or with a command's name its options", exit_codes);
 }
 
-static void print_command_help(const struct command *command) {
+static int print_command_help(const struct command *command) {
+    char *own[] = {(char *)command->name, "--help"};
+    if (command->help == NULL)
+        return command->run(2, own);
     printf("zrv %s %s: %s\n\n%s\n%s", command->name, command->usage, command->does, command->help, exit_codes);
+    return EXIT_DONE;
 }
 
 static int unknown_command(const char *name) {
@@ -98,9 +103,8 @@ static int help_main(int argc, char **argv) {
     if (argc > 1 && command == NULL)
         return unknown_command(argv[1]);
     if (command != NULL)
-        print_command_help(command);
-    else
-        print_help();
+        return print_command_help(command);
+    print_help();
     return EXIT_DONE;
 }
 
@@ -121,10 +125,7 @@ static int run_command(int argc, char **argv) {
     const struct command *command = find_command(argv[0]);
     if (command == NULL)
         return unknown_command(argv[0]);
-    if (!asks_for_help(argc, argv))
-        return command->run(argc, argv);
-    print_command_help(command);
-    return EXIT_DONE;
+    return asks_for_help(argc, argv) ? print_command_help(command) : command->run(argc, argv);
 }
 
 int main(int argc, char **argv) {

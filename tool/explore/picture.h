@@ -2,7 +2,7 @@
 #ifndef EXPLORE_PICTURE_H
 #define EXPLORE_PICTURE_H
 
-#include "explore_engine.h"
+#include "explore/engine.h"
 
 /* As SVG, to a file that is closed then. False where it could not be written. */
 bool draw_picture(const struct explorer *explorer, FILE *out);

@@ -1,7 +1,7 @@
 /* What is shown, held against document 01's book. */
 #define _POSIX_C_SOURCE 200809L
 
-#include "explore_check.h"
+#include "explore/check.h"
 
 #include <stdlib.h>
 

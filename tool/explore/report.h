@@ -2,7 +2,7 @@
 #ifndef EXPLORE_REPORT_H
 #define EXPLORE_REPORT_H
 
-#include "explore_engine.h"
+#include "explore/engine.h"
 
 /* Before the search, and after it. */
 void report_question(const struct explorer *explorer);

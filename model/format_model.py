@@ -1,8 +1,8 @@
 #!/usr/bin/env python3
 """A second implementation of the volume, written along docs/FORMAT.md (format_volume.py and format_calls.py), and two uses of it.
 
-    scripts/format_model.py replay < crates/replay/stdin     the answers to a script of commands (section 12), one a line
-    scripts/format_model.py check docs/FORMAT.md             the page's worked values against the model's
+    model/format_model.py replay < crates/replay/stdin     the answers to a script of commands (section 12), one a line
+    model/format_model.py check docs/FORMAT.md             the page's worked values against the model's
 """
 import struct
 import sys

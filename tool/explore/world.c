@@ -1,5 +1,5 @@
 /* The drives, the host and the oracle of one moment: calls made, power lost, everything copied. */
-#include "explore_world.h"
+#include "explore/world.h"
 
 #include <string.h>
 
@@ -112,7 +112,7 @@ uint32_t send_request(struct world *world, const struct request *request, uint32
     return answer;
 }
 
-void lose_power(struct world *world, const struct caches *caches, const struct shelf *torn_from) {
+void world_loses_power(struct world *world, const struct caches *caches, const struct shelf *torn_from) {
     size_t sector = world->shelf.geometry.sector_bytes, cell_sectors = world->shelf.geometry.zone_sectors;
     for (size_t cell = 0; cell < caches->cells; cell++) {
         uint32_t kept = caches->kept[cell];

@@ -1,5 +1,5 @@
 /* The contents of the caches, counted and gone through. */
-#include "explore_caches.h"
+#include "explore/caches.h"
 
 #include <string.h>
 

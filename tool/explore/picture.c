@@ -1,6 +1,6 @@
 /* The chart, as SVG written line by line: for each zone that the calls touch a panel, with a column for each moment, a dot for each pointer that was shown,
  * as large as its share, and the lines between which it has to lie. */
-#include "explore_picture.h"
+#include "explore/picture.h"
 
 enum { LEFT = 74, RIGHT = 28, HEADER = 84, CALL_NAMES = 26, AXIS = 62, LEGEND = 64, LEAST_WIDTH = 760, PLOT_HEIGHT = 300, LEAST_STEP = 16, MOST_STEP = 44 };
 

@@ -7,12 +7,12 @@
  * Two kinds of history are left out because another one has the same bytes. A mount stopped after a flush has the sectors and written pointers from before
  * that flush, and what can be kept then could be kept before. And a drive that is lost is neither read nor changed: whatever its cache kept, the mount makes
  * the same stores on the others, so it is stopped after them for one such content; its look and its whole mount are made for each. */
-#include "explore_engine.h"
+#include "explore/engine.h"
 
 #include <stdlib.h>
 #include <string.h>
 
-#include "explore_check.h"
+#include "explore/check.h"
 
 /* LEAST_SHARE: where the budget leaves fewer final states than this to each return of power, some returns get as many and the others none.
  * MOST_SHARES: a return that can be gone through whole may take so many times its share, as long as that is not below half of what it was at first. */
@@ -71,7 +71,7 @@ static void second_return(struct explorer *explorer, const struct world *world, 
     uint8_t shown[ZRV_STATE_BYTES];
     size_t events = explorer->trail.length;
     copy_world(again, world);
-    lose_power(again, caches, explorer->options->breakage == BREAK_SECTOR ? &explorer->returned.shelf : NULL);
+    world_loses_power(again, caches, explorer->options->breakage == BREAK_SECTOR ? &explorer->returned.shelf : NULL);
     for (uint32_t d = 0; d < world->shelf.geometry.drives; d++) {
         if ((named ^ world->named) >> d & 1)
             push_event(explorer, (struct event){.kind = named >> d & 1 ? EVENT_DRIVE_NAMED : EVENT_DRIVE_GONE, .drive = d});
@@ -274,7 +274,7 @@ static void first_return(struct explorer *explorer, const struct caches *caches,
     size_t events = explorer->trail.length;
     bool gone = drive != ZRV_NO_DRIVE;
     copy_world(returned, &explorer->first.moment);
-    lose_power(returned, caches, explorer->options->breakage == BREAK_SECTOR ? &explorer->formatted.shelf : NULL);
+    world_loses_power(returned, caches, explorer->options->breakage == BREAK_SECTOR ? &explorer->formatted.shelf : NULL);
     if (gone) {
         returned->named &= ~(1u << drive);
         push_event(explorer, (struct event){.kind = EVENT_DRIVE_GONE, .drive = drive});

@@ -6,7 +6,7 @@
 
 #include "call.h"
 
-/* The word of a refusal. */
+/* The word of a refusal; "no refusal" for any other number. */
 const char *refusal_word(uint32_t number);
 
 /* Prints "NUMBER WORD: sentence" and a new line. The call and the state tell the addresses that a sentence names. */

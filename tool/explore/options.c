@@ -1,5 +1,5 @@
 /* The options of `zrv explore` and the small language of its calls. */
-#include "explore_options.h"
+#include "explore/options.h"
 
 #include <inttypes.h>
 #include <stdio.h>

@@ -1,5 +1,5 @@
 /* Document 01's book: of each zone what was written, how far it was flushed, and whether a reset was begun. */
-#include "explore_oracle.h"
+#include "explore/oracle.h"
 
 #include <stdio.h>
 #include <stdlib.h>

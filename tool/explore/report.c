@@ -1,9 +1,9 @@
 /* The report: the question in words, the counts, the verdict. */
-#include "explore_report.h"
+#include "explore/report.h"
 
 #include <string.h>
 
-#include "answer.h"
+#include "refusals.h"
 
 /* A small number in words, with a capital where it begins a sentence. */
 static const char *in_words(size_t number, bool capital) {

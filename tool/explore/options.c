@@ -38,7 +38,7 @@ static const char *const help =
     "  --then LIST        calls sent after the first mount, at every store of which power goes once more (default none)\n"
     "  --lose-later       where all drives came back, any one may be lost when power goes for the second time\n"
     "  --drives N         3 to 8 (4)\n"
-    "  --sector N         bytes of a sector, 64 to 4096 by doubling (64)\n"
+    "  --sector-bytes N   bytes of a sector, 64 to 4096 by doubling (64)\n"
     "  --unit N           sectors of a stripe unit, 1 to 16 (2)\n"
     "  --zones N          logical zones, 1 to 16 (1)\n"
     "  --zone-sectors N   sectors of a drive's zone, a multiple of the unit (16)\n"
@@ -168,7 +168,7 @@ static enum parsed take_value(const struct option *option, const char *value) {
 static enum parsed parse_option(const char *name, const char *value, struct options *options) {
     const struct option table[] = {
         {.name = "--drives", .number = &options->geometry.drives, .least = 3, .most = MOST_DRIVES},
-        {.name = "--sector", .number = &options->geometry.sector_bytes, .least = 64, .most = 4096},
+        {.name = "--sector-bytes", .number = &options->geometry.sector_bytes, .least = 64, .most = 4096},
         {.name = "--unit", .number = &options->geometry.unit, .least = 1, .most = 16},
         {.name = "--zones", .number = &options->geometry.zones, .least = 1, .most = ZRV_STATE_RECORDS},
         {.name = "--zone-sectors", .number = &options->geometry.zone_sectors, .least = 1, .most = 65536},

@@ -8,7 +8,7 @@ use native.Mathlib.Nat.{mod-lt, mod-eq-of-lt, div-add-mod'}
 use native.Mathlib.Omega.{arith}
 use mathlib.Core.List.{append-assoc, List, [], _∷_, _++_}
 use lib.ListN.{length, getD, take, drop, replicate, length-append, length-drop, length-replicate}
-use lib.Seq.{take-at, drop-at, drop-drop, take-add, take-length, take-append-le, drop-append-le, length-take-le, ext-getD}
+use lib.Seq.{drop-at, drop-drop, take-add, take-length, take-append-le, drop-append-le, length-take-le, ext-getD}
 use Rattle.tables.specs.declared.Geometry.{Geometry}
 use Rattle.tables.specs.Geometry.{cells}
 use Rattle.tables.specs.Below.{tabulate, length-tabulate, getD-tabulate}

@@ -2,17 +2,16 @@
 -- A state is 264 bytes: byte 0 the lost drive or 255, bytes 1 to 7 zero, then 16 records of 16 bytes (generation 8, condition 1, three zeros, pointer 4).
 use mathlib.Core.Path.{_≡_, refl, sym, ap, ap₂, _∙_}
 use mathlib.Core.Bool.{Bool, true, false, _&&_}
-use Prim.Native.Nat.{ℕ, zero, suc, _+_, _-_, _*_, _/_, _%_, _≤_, _<_}
+use Prim.Native.Nat.{ℕ, zero, suc, _+_, _-_, _*_, _%_, _≤_, _<_}
 use native.Mathlib.Omega.{arith}
-use native.Mathlib.Numerals.{add-one}
-use mathlib.Core.List.{append-assoc, append-nil, List, [], _∷_, _++_}
+use mathlib.Core.List.{append-nil, List, [], _∷_, _++_}
 use lib.ListN.{length, getD, take, drop, set, replicate, length-append}
 use lib.Seq.{take-at, drop-cons, drop-drop, drop-append-add, set-at, append-snoc, drop-length}
 use lib.Dec.{eqb}
 use Rattle.tables.specs.Basics.{pick}
 use Rattle.tables.specs.Below.{tabulate, length-tabulate}
 use Rattle.tables.specs.Lists.{overlay}
-use Rattle.tables.specs.LittleEndian.{bytesLE, readLE, writeLE, length-bytes-le, sameBytes, same-bytes-eq}
+use Rattle.tables.specs.LittleEndian.{bytesLE, readLE, writeLE, sameBytes, same-bytes-eq}
 use Rattle.logs.specs.Lays.{lay-lay}
 use Rattle.volume.specs.declared.Condition.{Condition}
 use Rattle.volume.specs.declared.Condition.the-variants.{Empty, Open, Sealed, Worn}

@@ -11,13 +11,13 @@ use lib.ListN.{length, getD}
 use lib.Dec.{ltb, leb, eqb}
 use borrow.Author.Tests.{ltb-true, le-leb, lt-leb, leb-true}
 use Rattle.tables.specs.declared.Geometry.{Geometry}
-use Rattle.tables.specs.Basics.{pick, and-split}
-use Rattle.tables.specs.Below.{allBelow, all-below-all, none-any-below, getD-tabulate}
+use Rattle.tables.specs.Basics.{pick, and-split, not-not}
+use Rattle.tables.specs.Below.{allBelow, all-below-all, any-below-false, none-any-below, getD-tabulate}
 use Rattle.tables.specs.Geometry.{Valid, physicalZones, stripeSectors, zoneSectors}
 use Rattle.tables.specs.Sizes.{stripe-small, zone-small}
 use Rattle.tables.specs.Placement.{driveOf, sectorOf, unitIndex, rowIndex, stripeOf, address}
 use Rattle.tables.specs.PlacementLaws.{drive-below, parity-drive-below, unit-drive-below, unit-row-lt, row-index-below}
-use Rattle.tables.specs.Device.{blankZone}
+use Rattle.tables.specs.Device.{Device, blankZone}
 use Rattle.tables.specs.Tables.{tablesOf, deviceOf, zoneAtCell, cell, sectorAt}
 use Rattle.tables.specs.TablesLaws.{device-sectors, device-pointer}
 use Rattle.logs.specs.Entry.{generalZone, parityZone}
@@ -229,3 +229,8 @@ module _ (g : Geometry) (here : List Bool) (xs ws : List ℕ) (z : ℕ) (r : Rea
         (λ k. eqb k (unitIndex (g .drives) (g .unit) a) || (leb (stripeEnd g a) (rowAddress (g .drives) (g .unit) a k) || heldAt (zoneView g (among here) (readDevice g xs ws) z n) (rowDrive (g .drives) (g .unit) z a k) (sectorOf (g .drives) (g .unit) a))) (g .drives - 1)
         (λ k l. ap (λ (b : Bool). eqb k (unitIndex (g .drives) (g .unit) a) || (b || heldAt (zoneView g (among here) (readDevice g xs ws) z n) (rowDrive (g .drives) (g .unit) z a k) (sectorOf (g .drives) (g .unit) a))) (sym (lt-leb (stripeEnd g a) (rowAddress (g .drives) (g .unit) a k) (row-address-below g a k ok l))))
         ∙ sym (reach-is (stripeEnd g a) (omega arith)))
+
+-- a sector of a run of which none is gone is known
+pub known-in : (g : Geometry) (present : ℕ → Bool) (v : Device) (z n start count i : ℕ) → goneIn g present v z n start count ≡ false → i < count → known (g .drives) (g .unit) z (zoneView g present v z n) (start + i) ≡ true
+unfolding goneIn
+known-in g present v z n start count i h l = not-not (known (g .drives) (g .unit) z (zoneView g present v z n) (start + i)) (any-below-false (λ (j : ℕ). not (known (g .drives) (g .unit) z (zoneView g present v z n) (start + j))) count i h l)

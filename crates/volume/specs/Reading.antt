@@ -13,8 +13,8 @@ use lib.Seq.{take-at, take-all, length-take-le}
 use lib.Dec.{ltb, leb, eqb}
 use borrow.Author.Tests.{lt-ltb, le-ltb, ltb-true, ltb-false, leb-true, eqb-true, eq-eqb, ne-eqb}
 use Rattle.tables.specs.declared.Geometry.{Geometry}
-use Rattle.tables.specs.Basics.{pick, not-not, and-split, or-none}
-use Rattle.tables.specs.Below.{anyBelow, allBelow, all-below-all, any-below-cong, any-below-false, tabulateFrom, tabulate-from-add, tabulate-from-cong}
+use Rattle.tables.specs.Basics.{pick, and-split, or-none}
+use Rattle.tables.specs.Below.{anyBelow, allBelow, all-below-all, any-below-cong, tabulateFrom, tabulate-from-add, tabulate-from-cong}
 use Rattle.tables.specs.Lists.{concat, concat-append}
 use Rattle.tables.specs.Geometry.{Valid, zoneSectors}
 use Rattle.tables.specs.Sizes.{zone-small}
@@ -25,7 +25,7 @@ use Rattle.volume.specs.declared.State.{State}
 use Rattle.volume.specs.declared.Answer.{Answer}
 use Rattle.volume.specs.declared.Answer.the-variants.{Finished, Refused}
 use Rattle.volume.specs.State.{pointerIn, StateView, callPresent}
-use Rattle.volume.specs.Rules.{View, valueOf, known, zoneView, valueAt}
+use Rattle.volume.specs.Rules.{View, valueOf, known, valueAt}
 use Rattle.volume.specs.ZoneChecks.{staleOn, Reached, reached}
 use Rattle.volume.specs.Refusals.{stateWithin, twoAbsent, leastApplying, staleIn, stale, noZone, badRun, unwritten, goneIn, zoneOf, offsetOf, readRows}
 use Rattle.tables.specs.Drives.{noDrive}
@@ -113,11 +113,6 @@ module _ (g : Geometry) (here : List Bool) (xs ws : List ℕ) (z : ℕ) (r : Rea
           ≡ b && staleIn (recordAt s z .condition) (getD ws (cell g d (3 + z)) 0) (needed (g .drives) (g .unit) z (pointerIn (recordAt s z .condition)) d)
       at d hd true e = ap (λ (n : ℕ). staleIn (recordAt s z .condition) n (needed (g .drives) (g .unit) z (pointerIn (recordAt s z .condition)) d)) (written-is g here xs ws z r d (3 + z) hd e (omega (arith, r .zone-in)))
       at d hd false e = refl
-
-  pub gone-none : (n offset count i : ℕ) → goneIn g (among here) (readDevice g xs ws) z n offset count ≡ false → i < count → known (g .drives) (g .unit) z (zoneView g (among here) (readDevice g xs ws) z n) (offset + i) ≡ true
-  unfolding goneIn
-  gone-none n offset count i h l =
-      not-not (known (g .drives) (g .unit) z (zoneView g (among here) (readDevice g xs ws) z n) (offset + i)) (any-below-false (λ i. not (known (g .drives) (g .unit) z (zoneView g (among here) (readDevice g xs ws) z n) (offset + i))) count i h l)
 
   pub held-values : (n offset count : ℕ) → Valid g → offset + count ≤ zoneSectors g → allHeld g here ws z offset count ≡ true
       → concat (tabulateFrom (ownSector g xs z) offset count) ≡ valuesOn g (among here) (readDevice g xs ws) z n offset count

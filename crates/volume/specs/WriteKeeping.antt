@@ -11,8 +11,8 @@ use lib.ListN.{length, take, drop}
 use lib.Dec.{ltb}
 use borrow.Author.Tests.{lt-ltb, le-ltb}
 use Rattle.tables.specs.declared.Geometry.{Geometry}
-use Rattle.tables.specs.Basics.{pick, not-not}
-use Rattle.tables.specs.Below.{all-below-all, any-below-false, tabulateFrom, getD-tabulate-from}
+use Rattle.tables.specs.Basics.{pick}
+use Rattle.tables.specs.Below.{all-below-all, tabulateFrom, getD-tabulate-from}
 use Rattle.tables.specs.Device.{Device}
 use Rattle.tables.specs.Geometry.{Valid, stripeSectors, zoneSectors}
 use Rattle.tables.specs.Placement.{stripeOf}
@@ -20,7 +20,7 @@ use Rattle.tables.specs.PlacementLaws.{stripe-below, stripe-above}
 use Rattle.tables.specs.Tables.{sectorNo}
 use Rattle.volume.specs.Content.{at, fillOf, parityDriveAt}
 use Rattle.volume.specs.Columns.{row-xor-below-cong}
-use Rattle.volume.specs.Rules.{known, zoneView, valueAt}
+use Rattle.volume.specs.Rules.{valueAt}
 use Rattle.volume.specs.Refusals.{goneIn, goneBefore}
 use Rattle.volume.specs.Answers.{sectorsIn}
 use Rattle.volume.specs.OnTables.{among}
@@ -44,11 +44,6 @@ long-more g f start i h e = record { long = λ j l. go j l (decLt j i) }
     go : (j : ℕ) → j < suc i → Dec (j < i) → length (f (start + j)) ≡ g .sector
     go j l (yes k) = h .long j k
     go j l (no k) = let q : j ≡ i = omega arith in rw q e
-
--- a sector of a run of which none is gone is known
-pub known-in : (g : Geometry) (present : ℕ → Bool) (v : Device) (z n start count i : ℕ) → goneIn g present v z n start count ≡ false → i < count → known (g .drives) (g .unit) z (zoneView g present v z n) (start + i) ≡ true
-unfolding goneIn
-known-in g present v z n start count i h l = not-not (known (g .drives) (g .unit) z (zoneView g present v z n) (start + i)) (any-below-false (λ (j : ℕ). not (known (g .drives) (g .unit) z (zoneView g present v z n) (start + j))) count i h l)
 
 -- what passing refusal 15 gives, where the parity drive is present
 pub known-before : (g : Geometry) (present : ℕ → Bool) (v : Device) (z n pointer : ℕ) → goneBefore g present v z n pointer ≡ false → present (parityDriveAt g z pointer) ≡ true

@@ -25,7 +25,7 @@ ghost use Rattle.volume.specs.ReadingHeld.{LimitServes};
 ghost use Rattle.volume.specs.Peeking.{placeNumberOn, peekNumber, peekOn};
 
 // Whether some sector of a run is not known; limit is the zone's least current seal.
-fn some_gone(
+pub fn some_gone(
     sectors: &[u8],
     written: &[u32],
     g: Geometry,

@@ -6,9 +6,8 @@ ghost use Prim.Native.Nat.{_+_, _≤_, _<_};
 ghost use lib.ListN.{length};
 ghost use Rattle.tables.specs.Geometry.{Valid, zoneSectors, cells};
 ghost use Rattle.volume.specs.State.{pointerIn, isSealed};
-ghost use Rattle.volume.specs.Refusals.{goneIn, goneBefore};
+ghost use Rattle.volume.specs.Refusals.{goneBefore};
 ghost use Rattle.volume.specs.OnTables.{among};
-ghost use Rattle.volume.specs.Rules.{sealLimit};
 ghost use Rattle.volume.specs.Knowing.{Readable, readDevice};
 ghost use Rattle.volume.specs.WriteChecks.{fullOn, runNumber, zoneNumber};
 
@@ -76,42 +75,6 @@ fn log_full(written: &[u32], g: Geometry, here: [bool; 8], z: usize, end: usize)
     unused < m + 1 + (l * (1 + u) + u)
 }
 
-// Whether one of the `count` sectors from `start` is not known; limit is the zone's least current seal.
-fn some_unknown(
-    sectors: &[u8],
-    written: &[u32],
-    g: Geometry,
-    here: [bool; 8],
-    z: usize,
-    generation: u64,
-    limit: usize,
-    start: usize,
-    count: usize,
-) -> bool
-    requires { ⌜ Valid g ⌝ }
-    requires { ⌜ Readable g here (now sectors) (now written) z × (start + count ≤ zoneSectors g)
-        × (limit ≡ sealLimit g (among here) (readDevice g (now sectors) (now written)) z generation) ⌝ }
-    ensures { λ r. ⌜ r ≡ goneIn g (among here) (readDevice g (now (sectors .entry)) (now (written .entry))) z generation start count ⌝ }
-{
-    let mut gone = false;
-    let mut i = 0;
-    while i < count {
-        let known = super::knowing::is_known(
-            sectors,
-            written,
-            g,
-            here,
-            z,
-            generation,
-            limit,
-            start + i,
-        );
-        gone = gone | !known;
-        i += 1;
-    }
-    gone
-}
-
 // Refusal 15: whether the stripe's parity drive is here and one of the stripe's earlier sectors is not known.
 fn gone_before(
     sectors: &[u8],
@@ -140,7 +103,7 @@ fn gone_before(
         return false;
     }
     let limit = super::knowing::seal_limit(sectors, written, g, here, z, generation);
-    some_unknown(
+    super::reading::some_gone(
         sectors,
         written,
         g,

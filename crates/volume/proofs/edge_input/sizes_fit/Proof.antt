@@ -1,5 +1,4 @@
-use mathlib.Core.Path.{_≡_, sym, _∙_, refl, ap, ap₂}
-use native.Mathlib.Omega.{arith}
+use mathlib.Core.Path.{refl}
 use Rattle.volume.specs.EdgeCalls.{sizesFit}
 use borrow.Author.Needs.{needs}
 use Rattle.volume.proofs.edge_input.sizes_fit.Statement.{statement}

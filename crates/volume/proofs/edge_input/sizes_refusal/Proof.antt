@@ -1,7 +1,6 @@
-use mathlib.Core.Path.{_≡_, sym, _∙_, refl, ap, ap₂}
-use native.Mathlib.Omega.{arith}
+use mathlib.Core.Path.{_≡_, sym, _∙_, refl}
 use borrow.Author.Tests.{not-true, not-false}
-use mathlib.Core.Bool.{true, false}
+use mathlib.Core.Bool.{true}
 use Rattle.tables.specs.GeometryTest.{isValid, valid-if-test}
 use Rattle.volume.specs.EdgeCalls.{sizesNumber}
 use borrow.Author.Needs.{needs}

@@ -1,5 +1,4 @@
-use mathlib.Core.Path.{_≡_, sym, _∙_, refl, ap, ap₂}
-use native.Mathlib.Omega.{arith}
+use mathlib.Core.Path.{refl}
 use borrow.Author.Tests.{eq-eqb, ne-eqb}
 use Rattle.volume.specs.EdgeCalls.{stateBad}
 use borrow.Author.Needs.{needs}

@@ -1,10 +1,9 @@
-use mathlib.Core.Path.{_≡_, ap₂, _∙_}
+use mathlib.Core.Path.{ap₂, _∙_}
 use Prim.Native.Nat.{ℕ, _+_}
 use native.Mathlib.Omega.{arith}
 use Rattle.tables.specs.Placement.{driveOf, sectorOf}
 use Rattle.tables.specs.Tables.{byteAt}
 use Rattle.volume.specs.KnowingValues.{sector-within}
-use borrow.Author.Needs.{needs}
 use Rattle.volume.proofs.edge_reading.offset_at.Statement.{statement}
 use Rattle.volume.proofs.edge_reading.offset_at.Tie as tie
 

@@ -8,7 +8,7 @@ use Rattle.tables.specs.LittleEndian.{bytesLE}
 use Rattle.volume.specs.Refusals.{zoneOf}
 use Rattle.volume.specs.Peeking.{peek-accepted}
 use Rattle.volume.specs.EdgeCalls.{namedOf, stateIn}
-use Rattle.volume.specs.EdgeReading.{peekOfBytes, placeAnswer, BufferResult, place-refused, place-made}
+use Rattle.volume.specs.EdgeReading.{peekOfBytes, place-refused, place-made}
 use borrow.Author.Needs.{needs}
 use Rattle.volume.proofs.edge_reading.peek_lent.Statement.{statement}
 use Rattle.volume.proofs.edge_reading.peek_lent.Tie as tie

@@ -1,7 +1,6 @@
 use denote.Ref.{now}
 use Rattle.volume.specs.EdgeBytes.{record-laid}
-use mathlib.Core.Path.{_≡_, sym, _∙_, refl}
-use native.Mathlib.Omega.{arith}
+use mathlib.Core.Path.{_∙_}
 use borrow.Author.Needs.{needs}
 use Rattle.volume.proofs.edge_state.record_to.Statement.{statement}
 use Rattle.volume.proofs.edge_state.record_to.Tie as tie

@@ -1,11 +1,10 @@
 use mathlib.Core.Path.{ap, ap₂}
 use denote.Ref.{now}
-use mathlib.Core.Path.{_≡_, sym, _∙_, refl}
+use mathlib.Core.Path.{_≡_, _∙_, refl}
 use native.Mathlib.Omega.{arith}
-use Prim.Native.Nat.{_-_, _+_, _*_, _≤_, _<_, ℕ}
+use Prim.Native.Nat.{_-_, _+_, _≤_, _<_, ℕ}
 use native.Mathlib.Numerals.{add-one}
-use lib.ListN.{length, getD, take, drop, replicate, length-set}
-use mathlib.Core.List.{_++_}
+use lib.ListN.{length, take}
 use lib.Seq.{take-length}
 use Rattle.tables.specs.LittleEndian.{sameBytes}
 use Rattle.volume.specs.EdgeBytes.{same-more}

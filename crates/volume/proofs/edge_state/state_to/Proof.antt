@@ -1,10 +1,9 @@
 use mathlib.Core.Path.{_≡_, sym, _∙_, refl}
 use native.Mathlib.Omega.{arith}
-use Prim.Native.Nat.{_-_, _+_, _*_, _≤_, _<_, ℕ}
+use Prim.Native.Nat.{_-_, _+_, _≤_}
 use native.Mathlib.Numerals.{add-one}
-use lib.ListN.{length, getD, take, drop, replicate, length-set}
-use mathlib.Core.List.{_++_}
-use Rattle.volume.specs.EdgeBytes.{stateTo, recordTo, noState, state-start, state-more}
+use lib.ListN.{length}
+use Rattle.volume.specs.EdgeBytes.{stateTo, state-start, state-more}
 use Rattle.volume.proofs.edge_state.state_to.Statement.{statement}
 use Rattle.volume.proofs.edge_state.state_to.Tie as tie
 

@@ -1,9 +1,9 @@
 use mathlib.Core.Path.{ap}
-use mathlib.Core.Path.{_≡_, sym, _∙_, refl}
+use mathlib.Core.Path.{_≡_, _∙_, refl}
 use native.Mathlib.Omega.{arith}
 use Prim.Native.Nat.{_-_, _+_, _*_, _≤_, _<_, ℕ}
 use native.Mathlib.Numerals.{add-one}
-use lib.ListN.{length, getD, take, drop, replicate, length-set}
+use lib.ListN.{length, drop, length-set}
 use mathlib.Core.List.{_++_}
 use Rattle.tables.specs.Below.{tabulate}
 use Rattle.tables.specs.LittleEndian.{readLE}

@@ -2,7 +2,7 @@ use borrow.Rule.Slice.PartMut.{same-len-mid}
 use lib.ListN.{drop, length, take}
 use denote.Ref.{now}
 use native.Mathlib.Nat.{zero-mul}
-use Rattle.volume.specs.Reading.{run-small, part-long, filled-more, filled-all, gone-none}
+use Rattle.volume.specs.Reading.{run-small, part-long, filled-more, filled-all}
 use mathlib.Core.Path.{_≡_, refl, sym, _∙_}
 use Prim.Native.Nat.{_+_, _-_, _*_, _≤_}
 use native.Mathlib.Omega.{arith}
@@ -12,6 +12,7 @@ use Rattle.tables.specs.Sizes.{zone-small}
 use Rattle.volume.specs.Rules.{valueAt}
 use Rattle.volume.specs.OnTables.{among}
 use Rattle.volume.specs.Knowing.{readDevice}
+use Rattle.volume.specs.KnowingLaws.{known-in}
 use Rattle.volume.proofs.reading.rebuild_run.Statement.{statement}
 use Rattle.volume.proofs.reading.rebuild_run.Tie as tie
 
@@ -48,7 +49,7 @@ served-value-requires c κs =
     let a = s .args in
     let l = c .before .before .loop in
     let k = run-small (c .before .before .before .before .before .before .args .g) (c .before .before .before .before .before .before .args .offset) (c .before .before .before .before .before .before .args .count) (c .before .before .loop .i) (c .before .before .before .before .before .before .pre .0) (c .before .before .before .before .before .before .pre .1 .1) (omega arith) in
-    (s .pre .0, (s .pre .1 .0, omega (arith, s .pre .1 .1), s .pre .1 .4 .same-way (l .i) (omega arith), gone-none (a .g) (a .here) (now (a .sectors)) (now (a .written)) (a .z) (s .pre .1 .0) (a .generation) (a .offset) (a .count) (l .i) (s .pre .1 .3) (omega arith), part-long (a .g .sector) (l .i) (a .count * a .g .sector) (l .out) (k .0) (l .inv .1)))
+    (s .pre .0, (s .pre .1 .0, omega (arith, s .pre .1 .1), s .pre .1 .4 .same-way (l .i) (omega arith), known-in (a .g) (among (a .here)) (readDevice (a .g) (now (a .sectors)) (now (a .written))) (a .z) (a .generation) (a .offset) (a .count) (l .i) (s .pre .1 .3) (omega arith), part-long (a .g .sector) (l .i) (a .count * a .g .sector) (l .out) (k .0) (l .inv .1)))
 
 add-i : tie.Need-add-i Inv-loop μ-loop
 add-i c = let s = c .before .before .before .before .before .before .before .before .before in omega (arith, s .pre .1 .1, zone-small (s .args .g) (s .pre .0) .1)

@@ -70,15 +70,15 @@ returns-2 c =
 seal-limit-requires : tie.Need-seal-limit-requires
 seal-limit-requires c κs = search needs
 
-sub-some-unknown : tie.Need-sub-some-unknown
-sub-some-unknown c = omega (arith, earlier (c .before .before .before))
+sub-some-gone : tie.Need-sub-some-gone
+sub-some-gone c = omega (arith, earlier (c .before .before .before))
 
-some-unknown-requires : tie.Need-some-unknown-requires
-some-unknown-requires c κs = let s = c .before .before .before .before .before .before .before .before in (s .pre .0, (s .pre .1 .0, omega (arith, earlier (c .before .before .before)), c .seal-limit .ensures .0))
+some-gone-requires : tie.Need-some-gone-requires
+some-gone-requires c κs = let s = c .before .before .before .before .before .before .before .before in (s .pre .0, (s .pre .1 .0, omega (arith, earlier (c .before .before .before)), c .seal-limit .ensures .0))
 
 returns-3 : tie.Need-returns-3
 unfolding goneBefore stripeOf
-returns-3 c = rw (here (c .before .before .before .before)) (c .some-unknown .ensures ∙ rw (c .before .before .before .before .before .before .stripe-sectors .ensures .0) refl)
+returns-3 c = rw (here (c .before .before .before .before)) (c .some-gone .ensures ∙ rw (c .before .before .before .before .before .before .stripe-sectors .ensures .0) refl)
 
 pub gone-before-spec : {M : Type 1} → statement M
 gone-before-spec =
@@ -94,6 +94,6 @@ gone-before-spec =
     all-held-requires
     returns-2
     seal-limit-requires
-    sub-some-unknown
-    some-unknown-requires
+    sub-some-gone
+    some-gone-requires
     returns-3)

@@ -8,7 +8,8 @@ use denote.Ref.{now}
 use Rattle.volume.specs.OnTables.{among}
 use Rattle.volume.specs.WriteStores.{rowsWith}
 use Rattle.volume.specs.Knowing.{readDevice}
-use Rattle.volume.specs.WriteKeeping.{SectorsLong, long-none, long-more, known-in}
+use Rattle.volume.specs.KnowingLaws.{known-in}
+use Rattle.volume.specs.WriteKeeping.{SectorsLong, long-none, long-more}
 use Rattle.tables.specs.Sizes.{zone-small}
 use Rattle.volume.specs.Rules.{valueAt}
 use Rattle.volume.proofs.write_keeping.add_values.Statement.{statement}

@@ -1,5 +1,5 @@
 use mathlib.Core.Path.{sym}
-use Prim.Native.Nat.{_*_, _≤_}
+use Prim.Native.Nat.{_*_}
 use native.Mathlib.Omega.{arith}
 use borrow.Author.Needs.{needs}
 use Rattle.volume.specs.WriteRows.{rows-small, zeros-front}

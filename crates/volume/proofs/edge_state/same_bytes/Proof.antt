@@ -2,7 +2,7 @@ use mathlib.Core.Path.{ap, ap₂}
 use denote.Ref.{now}
 use mathlib.Core.Path.{_≡_, _∙_, refl}
 use native.Mathlib.Omega.{arith}
-use Prim.Native.Nat.{_-_, _+_, _≤_, _<_, ℕ}
+use Prim.Native.Nat.{_-_, _≤_, _<_, ℕ}
 use native.Mathlib.Numerals.{add-one}
 use lib.ListN.{length, take}
 use lib.Seq.{take-length}

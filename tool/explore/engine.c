@@ -101,8 +101,8 @@ static uint32_t namings(const struct explorer *explorer, const struct world *wor
 static void each_naming(struct explorer *explorer, const struct world *world, const struct caches *caches) {
     uint32_t drives = world->shelf.geometry.drives;
     switch (explorer->options->breakage) {
+    case BREAK_KEPT_OUT:
     case BREAK_LOST_AGAIN:
-    case BREAK_LEFT_OUT:
         second_return(explorer, world, caches, (1u << drives) - 1);
         return;
     case BREAK_SECOND_DRIVE:
@@ -240,7 +240,7 @@ static void go_on(struct explorer *explorer, uint8_t *shown, bool drive_gone, bo
             send_later(explorer, &explorer->returned);
         return;
     case BREAK_SECOND_DRIVE:
-    case BREAK_LOST_AGAIN:
+    case BREAK_KEPT_OUT:
         if (drive_gone && finish_mount(explorer) && affords_second_loss(explorer))
             send_later(explorer, &explorer->mounted);
         return;
@@ -360,7 +360,7 @@ uint32_t prepare_explorer(struct explorer *explorer, const struct options *optio
 bool share_budget(struct explorer *explorer) {
     explorer->draw = explorer->options->seed;
     explorer->pool = explorer->options->budget;
-    if (explorer->options->breakage == BREAK_LEFT_OUT) {
+    if (explorer->options->breakage == BREAK_LOST_AGAIN) {
         explorer->returns_left = explorer->options->geometry.drives;
         return true;
     }
@@ -378,7 +378,7 @@ bool share_budget(struct explorer *explorer) {
 
 void explore(struct explorer *explorer) {
     copy_world(&explorer->first.base, &explorer->formatted);
-    send_all(explorer, &explorer->first, &explorer->options->calls, explorer->options->breakage == BREAK_LEFT_OUT ? leave_out : first_loss);
+    send_all(explorer, &explorer->first, &explorer->options->calls, explorer->options->breakage == BREAK_LOST_AGAIN ? leave_out : first_loss);
     if (explorer->shows_progress)
         fputs("\r                                        \r", stderr);
 }

@@ -20,8 +20,8 @@ static const struct {
     [BREAK_FLUSH] = {"flush", "w3,f", "", "a flush keeps nothing: durable does not move"},
     [BREAK_SECTOR] = {"sector", "w3,w4", "", "a sector is torn: the last one that a cache keeps has its second half from before"},
     [BREAK_SECOND_DRIVE] = {"second-drive", "w3,f", "", "a second drive is lost after the mount recorded the first"},
-    [BREAK_LOST_AGAIN] = {"lost-again", "w3,f", "w4", "a lost drive is named again after the mount recorded its loss and writes went on"},
-    [BREAK_LEFT_OUT] = {"left-out", "w3,f", "r0,w4", "a drive is left out of calls, no mount records it, and after power went it is named again"},
+    [BREAK_LOST_AGAIN] = {"lost-again", "w3,f", "r0,w4", "a drive is lost, calls go on without it, no mount records it, and after power went it is named again"},
+    [BREAK_KEPT_OUT] = {"kept-out", "w3,f", "w4", "a lost drive is named again after the mount recorded its loss and writes went on"},
     [BREAK_MOUNT] = {"mount", "w3", "w4", "a mount is left out: a look is taken for it, and writes go on"},
 };
 
@@ -52,10 +52,10 @@ static const char *const help =
     "                     written, or a look is refused for a broken log.\n"
     "      second-drive   a second drive is lost after the mount recorded the first (calls w3,f). Every look is then refused with 4: that is the\n"
     "                     failure, nothing wrong is shown.\n"
-    "      lost-again     a lost drive is named again after the mount recorded its loss and writes went on (calls w3,f, then w4). The labels of\n"
+    "      lost-again     a drive is lost, calls go on without it, no mount records it, and after power went it is named again (calls w3,f, then\n"
+    "                     r0,w4). Fails where its sectors from before the reset are shown.\n"
+    "      kept-out       a lost drive is named again after the mount recorded its loss and writes went on (calls w3,f, then w4). The labels of\n"
     "                     the others keep it out, so this fits; it would fail if one of its old sectors were shown.\n"
-    "      left-out       a drive is left out of calls with no mount to record it, and named again after power went (calls w3,f, then r0,w4).\n"
-    "                     Fails where its sectors from before the reset are shown.\n"
     "      mount          a look is taken for the mount and writes go on (calls w3, then w4). Fails where a journal entry from before power went\n"
     "                     gives other bytes than were written, or breaks the log.\n"
     "\n"
@@ -133,7 +133,7 @@ static enum parsed parse_breakage(const char *word, enum breakage *breakage) {
             return PARSED;
         }
     }
-    return complain("'%s' is no duty to break; duties are flush, sector, second-drive, lost-again, left-out and mount", word);
+    return complain("'%s' is no duty to break; duties are flush, sector, second-drive, lost-again, kept-out and mount", word);
 }
 
 /* An option with a value, and where the value goes: the one pointer that is not NULL. */
@@ -223,8 +223,8 @@ enum parsed parse_explore_options(int argc, char **argv, struct options *options
                               "least zones x (1 + unit) + 2 x unit + 1 and zones + 6");
     if (ZRV_SECTORS_BYTES(g.drives, g.sector_bytes, g.zones, g.zone_sectors) > MOST_SHELF_BYTES)
         return complain("%s", "a shelf of more than 64 MiB is too large to go through");
-    if (options->breakage == BREAK_LEFT_OUT && options->picture != NULL)
-        return complain("%s", "--picture shows the first loss of power; --break left-out has none before its calls");
+    if (options->breakage == BREAK_LOST_AGAIN && options->picture != NULL)
+        return complain("%s", "--picture shows the first loss of power; --break lost-again has none before its calls");
     if (options->calls_text == NULL)
         options->calls_text = breakages[options->breakage].calls;
     if (options->later_text == NULL)

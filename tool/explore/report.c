@@ -54,7 +54,7 @@ static void report_calls(const struct request_list *list, const struct outcome *
 static void report_course(const struct explorer *explorer) {
     const struct options *options = explorer->options;
     enum breakage breakage = options->breakage;
-    if (breakage == BREAK_LEFT_OUT) {
+    if (breakage == BREAK_LOST_AGAIN) {
         printf("  drives     all but any one are named in the calls that follow\n");
     } else {
         printf("  power      goes at one of %zu moments: before the first call, and after 0, 1, 2 .. stores of each\n", explorer->moments_length);
@@ -147,7 +147,7 @@ void report_outcome(const struct explorer *explorer, double seconds) {
     }
     if (counts->misfits == 0) {
         printf("every look fitted\n");
-        if (explorer->options->breakage == BREAK_LOST_AGAIN && !quiet)
+        if (explorer->options->breakage == BREAK_KEPT_OUT && !quiet)
             printf("The duty was broken each time, and the rules caught it: the other drives' labels name the drive lost, so it stays out.\n");
         return;
     }

@@ -55,7 +55,9 @@ add-result-3 : tie.Need-add-result-3
 add-result-3 c = search needs
 
 returns : tie.Need-returns
-returns c = let s = c .before .before .before .before .before .before .before .before .before in cc (read-bytes 2 (s .args .s .now) (s .args .at) (s .pre))
+returns c =
+    let s = c .before .before .before .before .before .before .before .before .before in
+    rw (c .before .before .before .before .before .before .wide32 .ensures .0, c .before .before .before .before .wide322 .ensures .0, c .before .before .wide323 .ensures .0, c .wide324 .ensures .0) (read-bytes 2 (s .args .s .now) (s .args .at) (s .pre))
 
 pub read-u32-spec : {M : Type 1} → statement M
 read-u32-spec =

@@ -6,8 +6,8 @@ pub mod Judge
 pub mod JudgeMore
 pub mod Lays
 pub mod WalkCode
-pub mod ZoneWalk
 pub mod Steps
+pub mod ZoneWalk
 pub mod Query
 pub mod QueryLaws
 pub mod Places

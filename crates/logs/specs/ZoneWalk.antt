@@ -1,5 +1,5 @@
 -- A log in its zone's own bytes: what the reader is laid over. The zone's part of the lent bytes has the sectors that the lent bytes have at
--- that zone, so the walk of the one is the walk of the other.
+-- that zone, so the walk of the one, and each step of it, is that of the other.
 use mathlib.Core.Path.{_≡_, sym, ap, _∙_}
 use mathlib.Core.Bool.{Bool}
 use Prim.Native.Nat.{ℕ, suc, _+_, _-_, _*_, _≤_, _<_}
@@ -13,9 +13,11 @@ use Rattle.tables.specs.Geometry.{Valid, physicalZones, cells, totalBytes}
 use Rattle.tables.specs.Tables.{sectorNo, cell}
 use Rattle.tables.specs.TablesLaws.{cell-in}
 use Rattle.tables.specs.Below.{tabulate, tabulate-cong}
+use Rattle.logs.specs.declared.Step.{Step}
 use Rattle.logs.specs.declared.Walked as code
 use Rattle.logs.specs.Walk.{walkLog}
-use Rattle.logs.specs.WalkCode.{InLog, logSectors, reason}
+use Rattle.logs.specs.WalkCode.{InLog, logSectors, reason, leftAt}
+use Rattle.logs.specs.Steps.{stepOf}
 
 -- a log's place in its zone's own bytes: the first n sectors
 pub record InZone (g : Geometry) (n : ℕ) (bytes : List ℕ) : Type 0 where
@@ -31,6 +33,10 @@ pub record LegalEnd (g : Geometry) (drive : ℕ) (parity : Bool) (n : ℕ) (byte
   pub place : w .position ≡ walkLog g drive parity (sectorsIn (g .sector) bytes n) .position
   pub why : w .why ≡ reason (walkLog g drive parity (sectorsIn (g .sector) bytes n) .last)
   pub within : w .position ≤ n
+
+-- the step of the walk at sector p
+unfoldable pub stepInZone : Geometry → ℕ → Bool → ℕ → List ℕ → ℕ → Step
+stepInZone g drive parity n bytes p = stepOf g p (leftAt g drive parity (sectorsIn (g .sector) bytes n) p)
 
 -- the bytes of a zone, of all that are lent
 abbrev pub zoneBytes : Geometry → ℕ → ℕ → List ℕ → List ℕ
@@ -68,9 +74,21 @@ zone-sectors-are-log g d z n xs ok =
     (λ i l. ap (λ (m : ℕ). sectorNo (g .sector) (take (g .capacity * g .sector) (drop m xs)) i) start
     ∙ part-sector (g .sector) (g .capacity) (cell g d z * g .capacity) i xs (omega (arith, ok .short)) fits)
 
+-- and the log has its place in the zone's part
+pub zone-part-in-zone : (g : Geometry) (d z n : ℕ) (xs : List ℕ) → InLog g d z n xs → InZone g n (zoneBytes g d z xs)
+zone-part-in-zone g d z n xs ok =
+    let start = cell g d z * (g .capacity * g .sector) in
+    let fits : g .capacity * g .sector ≤ length xs - start = omega (arith, zone-in-lent g d z (ok .drive-in) (ok .zone-in), ok .long) in
+    record { short = ok .short; long = length-take-le (g .capacity * g .sector) (drop start xs) (rw length-drop fits) }
+
 -- so the log's legal part ends where the zone's own bytes say
 pub legal-end-of-log : (g : Geometry) (d z : ℕ) (par : Bool) (n : ℕ) (xs : List ℕ) (w : code.Walked) → InLog g d z n xs → LegalEnd g d par n (zoneBytes g d z xs) w
     → (w .position ≡ walkLog g d par (logSectors g d z xs n) .position) × (w .why ≡ reason (walkLog g d par (logSectors g d z xs n) .last)) × (w .position ≤ n)
 legal-end-of-log g d z par n xs w ok e =
     let same = zone-sectors-are-log g d z n xs ok in
     (e .place ∙ ap (λ (ss : List (List ℕ)). walkLog g d par ss .position) same, e .why ∙ ap (λ (ss : List (List ℕ)). reason (walkLog g d par ss .last)) same, e .within)
+
+-- and its steps are those of the zone's own bytes
+pub step-of-log : (g : Geometry) (d z : ℕ) (par : Bool) (n p : ℕ) (xs : List ℕ) → InLog g d z n xs → stepInZone g d par n (zoneBytes g d z xs) p ≡ stepOf g p (leftAt g d par (logSectors g d z xs n) p)
+unfolding stepInZone
+step-of-log g d z par n p xs ok = ap (λ (ss : List (List ℕ)). stepOf g p (leftAt g d par ss p)) (zone-sectors-are-log g d z n xs ok)

@@ -1,7 +1,7 @@
 // The logs of a drive: entries of five types, one sector for each header, laid one after the other from the start of a physical zone.
-// `headers` writes a header, `judging` tells what a sector holds, `walking` finds where a log's legal part ends, with a `reader` laid over its
-// zone, `asking` carries an answer through a log, and `folds` asks what the volume wants to know of it. Which physical zone holds a log is a
-// parameter of each function of the lent sectors.
+// `headers` writes a header, `judging` tells what a sector holds, `walking` steps through a log and finds where its legal part ends, with a
+// `reader` laid over its zone, `asking` carries an answer through a log, and `folds` asks what the volume wants to know of it. Which physical
+// zone holds a log is a parameter of each function of the lent sectors.
 pub mod asking;
 pub mod folds;
 pub mod headers;

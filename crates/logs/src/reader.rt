@@ -1,11 +1,13 @@
 // The reader of a log: it is laid over the zone's own sectors, holds a reference to their bytes and copies none. The prover covers no function
-// over a struct that holds a reference. So these are thin, with no loop or branch, and proved by hand over the contract of the covered walk,
-// `walk_zone`; and a caller of `legal_end`, whose parameters are plain, is covered again.
+// over a struct that holds a reference. So these are thin, with no loop or branch, and proved by hand over the contracts of the covered
+// `walk_zone` and `step_in_zone`; and a caller of `legal_end` or `next_step`, whose parameters are plain, is covered again.
+use super::Step;
 use super::Walked;
 use tables::Geometry;
 ghost use mathlib.Core.Path.{_≡_};
+ghost use Prim.Native.Nat.{_≤_};
 ghost use Rattle.tables.specs.Geometry.{Valid};
-ghost use Rattle.logs.specs.ZoneWalk.{InZone, LegalEnd};
+ghost use Rattle.logs.specs.ZoneWalk.{InZone, LegalEnd, stepInZone};
 
 // A log in its zone: the zone's bytes, the drive, whether it is a parity log, and the zone's written pointer.
 pub struct LogReader<'a> {
@@ -43,7 +45,15 @@ pub fn walk<'a>(r: LogReader<'a>) -> Walked
     super::walking::walk_zone(r.bytes, r.geometry, r.drive, r.parity, r.written)
 }
 
-// The same, for a caller with plain parameters.
+// One step of the walk of the reader's log, at sector p.
+pub fn step<'a>(r: LogReader<'a>, p: usize) -> Step
+    requires { ⌜ Valid (r .geometry) × (InZone (r .geometry) (r .written) (now (r .bytes)) × (p ≤ r .written)) ⌝ }
+    ensures { λ s. ⌜ s ≡ stepInZone (r .entry .geometry) (r .entry .drive) (r .entry .parity) (r .entry .written) (now (r .entry .bytes)) p ⌝ }
+{
+    super::walking::step_in_zone(r.bytes, r.geometry, r.drive, r.parity, r.written, p)
+}
+
+// The walk, for a caller with plain parameters.
 pub fn legal_end(
     bytes: &[u8],
     geometry: Geometry,
@@ -55,4 +65,19 @@ pub fn legal_end(
     ensures { λ w. ⌜ LegalEnd geometry drive parity written (now (bytes .entry)) w ⌝ }
 {
     walk(lay(bytes, geometry, drive, parity, written))
+}
+
+// The step, for a caller with plain parameters.
+pub fn next_step(
+    bytes: &[u8],
+    geometry: Geometry,
+    drive: usize,
+    parity: bool,
+    written: usize,
+    p: usize,
+) -> Step
+    requires { ⌜ Valid geometry × (InZone geometry written (now bytes) × (p ≤ written)) ⌝ }
+    ensures { λ s. ⌜ s ≡ stepInZone geometry drive parity written (now (bytes .entry)) p ⌝ }
+{
+    step(lay(bytes, geometry, drive, parity, written), p)
 }

@@ -10,14 +10,14 @@ use tables::Geometry;
 ghost use mathlib.Core.Path.{_≡_};
 ghost use mathlib.Core.List.{[]};
 ghost use Prim.Native.Nat.{_≤_, _<_};
-ghost use lib.ListN.{getD};
-ghost use Rattle.tables.specs.Geometry.{Valid};
+ghost use lib.ListN.{getD, length};
+ghost use Rattle.tables.specs.Geometry.{Valid, physicalZones, totalBytes};
 ghost use Rattle.logs.specs.Entry.{decode};
 ghost use Rattle.logs.specs.Judge.{found};
 ghost use Rattle.logs.specs.Walk.{walkLog};
 ghost use Rattle.logs.specs.WalkCode.{InLog, logSectors, reason, leftAt};
 ghost use Rattle.logs.specs.Steps.{stepOf};
-ghost use Rattle.logs.specs.ZoneWalk.{InZone, LegalEnd, sectorsIn};
+ghost use Rattle.logs.specs.ZoneWalk.{InZone, LegalEnd, sectorsIn, stepInZone, zoneBytes};
 
 // What sector p of a log holds.
 pub fn judge_at(
@@ -39,40 +39,6 @@ pub fn judge_at(
     super::judging::judge(&sectors[at..end], g, drive, parity)
 }
 
-// One step of the walk: the entry that begins at sector p, or why the walk is left there.
-pub fn next_entry(
-    sectors: &[u8],
-    g: Geometry,
-    drive: usize,
-    zone: usize,
-    parity: bool,
-    n: usize,
-    p: usize,
-) -> Step
-    requires { ⌜ Valid g ⌝ }
-    requires { ⌜ InLog g drive zone n (now sectors) × (p ≤ n) ⌝ }
-    ensures { λ r. ⌜ r ≡ stepOf g p (leftAt g drive parity (logSectors g drive zone (now (sectors .entry)) n) p) ⌝ }
-{
-    if n <= p {
-        return Step::Left(0);
-    }
-    let c = g.capacity;
-    let f = judge_at(sectors, g, drive, zone, parity, n, p);
-    let rows = super::judging::rows_of(f, g);
-    let bad = super::judging::is_bad(f);
-    let q = p + 1 + rows;
-    if bad {
-        return Step::Left(1);
-    }
-    if c < q {
-        return Step::Left(1);
-    }
-    if n < q {
-        return Step::Left(2);
-    }
-    Step::Whole(f, q)
-}
-
 // What sector p of a zone holds, in the zone's own bytes.
 fn judge_in_zone(
     bytes: &[u8],
@@ -90,6 +56,38 @@ fn judge_in_zone(
     let at = p * b;
     let end = at + b;
     super::judging::judge(&bytes[at..end], g, drive, parity)
+}
+
+// One step of the walk, in the zone's own bytes: the entry that begins at sector p, or why the walk is left there.
+pub fn step_in_zone(
+    bytes: &[u8],
+    g: Geometry,
+    drive: usize,
+    parity: bool,
+    written: usize,
+    p: usize,
+) -> Step
+    requires { ⌜ Valid g × (InZone g written (now bytes) × (p ≤ written)) ⌝ }
+    ensures { λ r. ⌜ r ≡ stepInZone g drive parity written (now (bytes .entry)) p ⌝ }
+{
+    if written <= p {
+        return Step::Left(0);
+    }
+    let c = g.capacity;
+    let f = judge_in_zone(bytes, g, drive, parity, written, p);
+    let rows = super::judging::rows_of(f, g);
+    let bad = super::judging::is_bad(f);
+    let q = p + 1 + rows;
+    if bad {
+        return Step::Left(1);
+    }
+    if c < q {
+        return Step::Left(1);
+    }
+    if written < q {
+        return Step::Left(2);
+    }
+    Step::Whole(f, q)
 }
 
 // Where the legal part of a log ends, and why: over its entries and their rows, in the zone's own bytes.
@@ -128,7 +126,40 @@ pub fn walk_zone(bytes: &[u8], g: Geometry, drive: usize, parity: bool, written:
     Walked { position: p, why }
 }
 
-// The same for a zone of the lent sectors: a reader is laid over the zone's part of them, and walked.
+// A zone's part of the lent sectors: what a reader is laid over.
+fn zone_part<'a>(sectors: &'a [u8], g: Geometry, drive: usize, zone: usize) -> &'a [u8]
+    requires { ⌜ Valid g ⌝ }
+    requires { ⌜ (drive < g .drives) × ((zone < physicalZones g) × (length (now sectors) ≡ totalBytes g)) ⌝ }
+    ensures { λ r. ⌜ now r ≡ zoneBytes g drive zone (now (sectors .entry)) ⌝ }
+{
+    let c = g.capacity;
+    let b = g.sector;
+    let cell = tables::stores::cell_of(g, drive, zone);
+    let size = c * b;
+    let at = cell * size;
+    let end = at + size;
+    &sectors[at..end]
+}
+
+// One step of the walk, for a zone of the lent sectors: a reader is laid over the zone's part of them, and takes it.
+pub fn next_entry(
+    sectors: &[u8],
+    g: Geometry,
+    drive: usize,
+    zone: usize,
+    parity: bool,
+    n: usize,
+    p: usize,
+) -> Step
+    requires { ⌜ Valid g ⌝ }
+    requires { ⌜ InLog g drive zone n (now sectors) × (p ≤ n) ⌝ }
+    ensures { λ r. ⌜ r ≡ stepOf g p (leftAt g drive parity (logSectors g drive zone (now (sectors .entry)) n) p) ⌝ }
+{
+    let bytes = zone_part(sectors, g, drive, zone);
+    super::reader::next_step(bytes, g, drive, parity, n, p)
+}
+
+// Where the legal part of a log ends, and why, for a zone of the lent sectors: by a reader too.
 pub fn walk_log(
     sectors: &[u8],
     g: Geometry,
@@ -143,11 +174,6 @@ pub fn walk_log(
         × (r .why ≡ reason (walkLog g drive parity (logSectors g drive zone (now (sectors .entry)) n) .last))
         × (r .position ≤ n) ⌝ }
 {
-    let c = g.capacity;
-    let b = g.sector;
-    let cell = tables::stores::cell_of(g, drive, zone);
-    let size = c * b;
-    let at = cell * size;
-    let end = at + size;
-    super::reader::legal_end(&sectors[at..end], g, drive, parity, n)
+    let bytes = zone_part(sectors, g, drive, zone);
+    super::reader::legal_end(bytes, g, drive, parity, n)
 }

@@ -11,7 +11,6 @@ ghost use Prim.Native.Nat.{_+_, _≤_, _<_};
 ghost use Rattle.tables.specs.Geometry.{Valid, zoneSectors};
 ghost use Rattle.tables.specs.Phases.{onPresent};
 ghost use Rattle.tables.specs.Tables.{tablesOf, MadeAppends};
-ghost use Rattle.volume.specs.Refusals.{zoneOf, offsetOf};
 ghost use Rattle.volume.specs.Calls.{writeWith};
 ghost use Rattle.volume.specs.Answers.{sectorsIn};
 ghost use Rattle.volume.specs.OnTables.{recordAt, among};
@@ -19,24 +18,6 @@ ghost use Rattle.volume.specs.Knowing.{Readable, readDevice};
 ghost use Rattle.volume.specs.WriteChecks.{zoneNumber};
 ghost use Rattle.volume.specs.WriteKeeping.{WriteReady, runContent};
 ghost use Rattle.volume.specs.Writing.{pointerOf, writtenState, writeNumber, writeOn};
-
-// The zone of an address, if there is one; else a number past the last zone.
-fn zone_index(g: Geometry, address: u64) -> u64
-    requires { ⌜ Valid g ⌝ }
-    ensures { λ r. ⌜ r ≡ zoneOf g address ⌝ }
-{
-    let most = tables::bounds::zone_sectors(g);
-    address / (most as u64)
-}
-
-// An address, counted from its zone's first.
-fn zone_offset(g: Geometry, address: u64) -> usize
-    requires { ⌜ Valid g ⌝ }
-    ensures { λ r. ⌜ (r ≡ offsetOf g address) × (r < zoneSectors g) ⌝ }
-{
-    let most = tables::bounds::zone_sectors(g);
-    (address % (most as u64)) as usize
-}
 
 // Refusals 7 and 9 to 15, by the state's record of the zone.
 fn record_refusal(
@@ -88,24 +69,15 @@ fn refusal(
     if number != 0 {
         return number;
     }
-    let z = zone_index(g, address);
+    let z = super::reading::zone_of(g, address);
     let zones = g.zones;
-    if zones as u64 <= z {
+    if zones <= z {
         return 8;
     }
-    let offset = zone_offset(g, address);
+    let offset = super::reading::offset_of(g, address);
     let lost = state.lost;
     let here = super::checks::present_drives(g, named, lost);
-    record_refusal(
-        sectors,
-        written,
-        g,
-        here,
-        state,
-        z as usize,
-        offset,
-        count as usize,
-    )
+    record_refusal(sectors, written, g, here, state, z, offset, count as usize)
 }
 
 // The stores of a write that has passed its refusals: what is left of the budget.
@@ -197,7 +169,7 @@ pub fn write(
     }
     let lost = state.lost;
     let here = super::checks::present_drives(g, named, lost);
-    let z = zone_index(g, address) as usize;
+    let z = super::reading::zone_of(g, address);
     let n = run as usize;
     let budget = count as u64 + 1;
     let rest = carry_out(sectors, written, g, here, state, z, n, buffer, budget);

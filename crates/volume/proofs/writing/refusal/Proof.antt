@@ -22,19 +22,19 @@ open-is : (c : tie.Else1) → Opened (c .before .before .before .before .before 
 open-is c = opened (c .before .before .before .before .before .args .g) (c .before .before .before .before .before .args .named) (c .before .before .before .before .before .args .state) (c .before .before .before .before .before .args .count) (c .before .before .before .before .before .args .bytes) (length (now (c .before .before .before .before .before .args .sectors))) (now (c .before .before .before .before .before .args .written)) (now (c .before .before .before .before .before .args .durable)) (passed c)
 
 in-zone : (c : tie.Else2) → zoneOf (c .before .before .before .before .before .before .before .args .g) (c .before .before .before .before .before .before .before .args .address) < c .before .before .before .before .before .before .before .args .g .zones
-in-zone c = rw (c .before .zone-index .ensures) at (c .if2 .left)
+in-zone c = rw (c .before .zone-of .ensures) at (c .if2 .left)
 
 returns : tie.Need-returns
 returns c = c .before .opening .ensures ∙ number-opening (c .before .before .before .before .before .args .g) (c .before .before .before .before .before .args .named) (c .before .before .before .before .before .args .state) (c .before .before .before .before .before .args .address) (c .before .before .before .before .before .args .count) (c .before .before .before .before .before .args .bytes) (now (c .before .before .before .before .before .args .sectors)) (now (c .before .before .before .before .before .args .written)) (now (c .before .before .before .before .before .args .durable)) (rw (c .before .opening .ensures) at (c .if1 .taken))
 
-zone-index-requires : tie.Need-zone-index-requires
-zone-index-requires c κs = open-is c .valid
+zone-of-requires : tie.Need-zone-of-requires
+zone-of-requires c κs = open-is c .valid
 
 returns-2 : tie.Need-returns-2
-returns-2 c = number-8 (c .before .before .before .before .before .before .before .args .g) (c .before .before .before .before .before .before .before .args .named) (c .before .before .before .before .before .before .before .args .state) (c .before .before .before .before .before .before .before .args .address) (c .before .before .before .before .before .before .before .args .count) (c .before .before .before .before .before .before .before .args .bytes) (now (c .before .before .before .before .before .before .before .args .sectors)) (now (c .before .before .before .before .before .before .before .args .written)) (now (c .before .before .before .before .before .before .before .args .durable)) (passed (c .before .before)) (rw (c .before .zone-index .ensures) at (c .if2 .taken))
+returns-2 c = number-8 (c .before .before .before .before .before .before .before .args .g) (c .before .before .before .before .before .before .before .args .named) (c .before .before .before .before .before .before .before .args .state) (c .before .before .before .before .before .before .before .args .address) (c .before .before .before .before .before .before .before .args .count) (c .before .before .before .before .before .before .before .args .bytes) (now (c .before .before .before .before .before .before .before .args .sectors)) (now (c .before .before .before .before .before .before .before .args .written)) (now (c .before .before .before .before .before .before .before .args .durable)) (passed (c .before .before)) (rw (c .before .zone-of .ensures) at (c .if2 .taken))
 
-zone-offset-requires : tie.Need-zone-offset-requires
-zone-offset-requires c κs = open-is (c .before .before) .valid
+offset-of-requires : tie.Need-offset-of-requires
+offset-of-requires c κs = open-is (c .before .before) .valid
 
 present-drives-requires : tie.Need-present-drives-requires
 present-drives-requires c κs = open-is (c .before .before .before) .valid
@@ -47,15 +47,15 @@ record-refusal-requires c κs =
       o .valid,
       (
         (
-          rw (c .present-drives .ensures, c .before .before .before .zone-index .ensures) (readable-zone (a .g) (a .named) (a .state) (a .count) (a .bytes) (now (a .sectors)) (now (a .written)) (now (a .durable)) (zoneOf (a .g) (a .address)) o h),
-          rw (c .before .before .before .zone-index .ensures) (pointer-within (a .g) (a .state) (zoneOf (a .g) (a .address)) (o .within) h),
+          rw (c .present-drives .ensures, c .before .before .before .zone-of .ensures) (readable-zone (a .g) (a .named) (a .state) (a .count) (a .bytes) (now (a .sectors)) (now (a .written)) (now (a .durable)) (zoneOf (a .g) (a .address)) o h),
+          rw (c .before .before .before .zone-of .ensures) (pointer-within (a .g) (a .state) (zoneOf (a .g) (a .address)) (o .within) h),
         ),
-        (c .before .zone-offset .ensures .1, omega arith),
+        (c .before .offset-of .ensures .1, omega arith),
       ),
     )
 
 returns-3 : tie.Need-returns-3
-returns-3 c = c .record-refusal .ensures ∙ rw (c .before .present-drives .ensures, c .before .before .before .before .zone-index .ensures, c .before .before .zone-offset .ensures .0) (number-zone (c .before .before .before .before .before .before .before .before .before .before .args .g) (c .before .before .before .before .before .before .before .before .before .before .args .named) (c .before .before .before .before .before .before .before .before .before .before .args .state) (c .before .before .before .before .before .before .before .before .before .before .args .address) (c .before .before .before .before .before .before .before .before .before .before .args .count) (c .before .before .before .before .before .before .before .before .before .before .args .bytes) (now (c .before .before .before .before .before .before .before .before .before .before .args .sectors)) (now (c .before .before .before .before .before .before .before .before .before .before .args .written)) (now (c .before .before .before .before .before .before .before .before .before .before .args .durable)) (passed (c .before .before .before .before .before)) (in-zone (c .before .before .before)))
+returns-3 c = c .record-refusal .ensures ∙ rw (c .before .present-drives .ensures, c .before .before .before .before .zone-of .ensures, c .before .before .offset-of .ensures .0) (number-zone (c .before .before .before .before .before .before .before .before .before .before .args .g) (c .before .before .before .before .before .before .before .before .before .before .args .named) (c .before .before .before .before .before .before .before .before .before .before .args .state) (c .before .before .before .before .before .before .before .before .before .before .args .address) (c .before .before .before .before .before .before .before .before .before .before .args .count) (c .before .before .before .before .before .before .before .before .before .before .args .bytes) (now (c .before .before .before .before .before .before .before .before .before .before .args .sectors)) (now (c .before .before .before .before .before .before .before .before .before .before .args .written)) (now (c .before .before .before .before .before .before .before .before .before .before .args .durable)) (passed (c .before .before .before .before .before)) (in-zone (c .before .before .before)))
 
 pub refusal-spec : {M : Type 1} → statement M
 refusal-spec =
@@ -63,9 +63,9 @@ refusal-spec =
     (tie.spec
     opening-requires
     returns
-    zone-index-requires
+    zone-of-requires
     returns-2
-    zone-offset-requires
+    offset-of-requires
     present-drives-requires
     record-refusal-requires
     returns-3)

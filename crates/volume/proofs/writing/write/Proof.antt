@@ -64,8 +64,8 @@ returns c =
 present-drives-requires : tie.Need-present-drives-requires
 present-drives-requires c κs = accepted c .opened .valid
 
-zone-index-requires : tie.Need-zone-index-requires
-zone-index-requires c κs = accepted (c .before) .opened .valid
+zone-of-requires : tie.Need-zone-of-requires
+zone-of-requires c κs = accepted (c .before) .opened .valid
 
 add-budget : tie.Need-add-budget
 add-budget c = search needs
@@ -74,7 +74,7 @@ carry-out-requires : tie.Need-carry-out-requires
 carry-out-requires c κs =
     let a = c .before .before .before .before .before .before .before .before .before .before .before .before .args in
     let w = accepted (c .before .before .before .before) in
-    (w .opened .valid, rw (c .before .before .before .present-drives .ensures, c .before .before .zone-index .ensures) (write-ready (a .g) (a .named) (a .state) (a .address) (a .run) (now (a .buffer)) (now (a .sectors)) (now (a .written)) (now (a .durable)) w))
+    (w .opened .valid, rw (c .before .before .before .present-drives .ensures, c .before .before .zone-of .ensures) (write-ready (a .g) (a .named) (a .state) (a .address) (a .run) (now (a .buffer)) (now (a .sectors)) (now (a .written)) (now (a .durable)) w))
 
 same-length-3 : tie.Need-same-length-3
 same-length-3 c = search needs
@@ -90,7 +90,7 @@ made c =
     let f = c .carry-out in
     subst (λ (l : List Store). Made (a .g) (suc (a .count)) (f .result) l (tables s) (tablesOf (f .last .0) (f .last .1 .0) (now (a .durable))))
     (stores-are (a .g) (a .named) (a .state) (zoneOf (a .g) (a .address)) (a .run) (now (a .buffer)) (now (a .sectors)) (now (a .written)) (now (a .durable)))
-    (rw (c .before .before .before .before .present-drives .ensures, c .before .before .before .zone-index .ensures, add-one) at (f .ensures .made (now (a .durable))))
+    (rw (c .before .before .before .before .present-drives .ensures, c .before .before .before .zone-of .ensures, add-one) at (f .ensures .made (now (a .durable))))
 
 returns-2 : tie.Need-returns-2
 unfolding writeOn
@@ -107,7 +107,7 @@ left-out-requires c κs = accepted (c .before .before .before .before .before .b
 next-state-requires : tie.Need-next-state-requires
 next-state-requires c κs =
     let w = accepted (c .before .before .before .before .before .before .before .before .before .before .before) in
-    let e = c .before .before .before .before .before .before .before .before .before .zone-index .ensures in
+    let e = c .before .before .before .before .before .before .before .before .before .zone-of .ensures in
     (w .opened .valid, (rw e (w .zone), rw e (omega (arith, w .fits .inside, w .fits .pointer))))
 
 same-length-5 : tie.Need-same-length-5
@@ -123,7 +123,7 @@ returns-3 c =
     let a = s .args in
     let f = c .before .before .before .before .before .before .before .carry-out in
     let x : c .before .left-out .result ≡ lostIn (a .g) (among (a .named)) (viewState (a .state)) = c .before .left-out .ensures ∙ rw (c .before .before .before .before .before .before .before .before .before .before .before .present-drives .ensures) (left-out-is (a .g) (a .named) (a .state)) in
-    let n : c .next-state .result ≡ next s = c .next-state .ensures ∙ rw (c .before .before .before .before .before .before .before .before .before .before .zone-index .ensures, x) refl in
+    let n : c .next-state .result ≡ next s = c .next-state .ensures ∙ rw (c .before .before .before .before .before .before .before .before .before .before .zone-of .ensures, x) refl in
     let (p, q) = storing-finished (a .g) (number s) (stores s) (next s) (a .state) (a .count) (tables s) (f .result) (tablesOf (f .last .0) (f .last .1 .0) (now (a .durable))) (passed (c .before .before .before .before .before .before .before .before .before .before .before .before)) (made (c .before .before .before .before .before .before .before)) (c .before .before .if2 .left) in
     (rw n (sym p), sym q)
 
@@ -136,7 +136,7 @@ write-spec =
     same-length-2
     returns
     present-drives-requires
-    zone-index-requires
+    zone-of-requires
     add-budget
     carry-out-requires
     same-length-3

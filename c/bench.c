@@ -12,7 +12,7 @@
 #include "plain.h"
 #include "shelf.h"
 
-enum { PASSES = 9, SLOW_PASSES = 3 };
+enum { PASSES = 31, SLOW_PASSES = 3 };
 
 /* One volume, once for the archive and once for plain C. */
 struct bench {

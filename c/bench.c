@@ -1,6 +1,6 @@
 /* The archive's speed as a share of plain C's and of memcpy's, measured in one run by turns on the same work, medians of repeated passes, in processor time;
  * how a write's time grows with what zone and logs hold; and a look's and a mount's time per written sector as ratios to the smallest volume's. What is
- * timed is held against plain C's result byte by byte. */
+ * timed beside plain C is held against its result byte by byte. */
 #define _POSIX_C_SOURCE 199309L /* clock_gettime */
 
 #include <stdio.h>

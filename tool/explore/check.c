@@ -16,7 +16,7 @@ static void keep_story(struct explorer *explorer, const struct world *world, con
     FILE *out = open_memstream(&explorer->story, &explorer->story_bytes);
     if (out == NULL) {
         fputs("no memory for a history that does not fit\n", stderr);
-        exit(2);
+        exit(3);
     }
     tell_story(out, &explorer->trail, world, verdict);
     fclose(out);

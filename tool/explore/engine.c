@@ -24,7 +24,7 @@ static void *grown(void *memory, size_t bytes) {
     void *larger = realloc(memory, bytes);
     if (larger == NULL) {
         fprintf(stderr, "no memory for %zu bytes\n", bytes);
-        exit(2);
+        exit(3);
     }
     return larger;
 }

@@ -10,7 +10,7 @@
 #include "explore/picture.h"
 #include "explore/report.h"
 
-enum { ALL_FITTED = 0, ONE_DID_NOT = 1, BAD_CALL = 2 };
+enum { ALL_FITTED = 0, ONE_DID_NOT = 1, BAD_CALL = 2, NO_FILE = 3 };
 
 static double seconds_now(void) {
     struct timespec now;
@@ -20,7 +20,7 @@ static double seconds_now(void) {
 
 static int cannot_write(const char *path) {
     fprintf(stderr, "zrv explore: cannot write '%s'\n", path);
-    return BAD_CALL;
+    return NO_FILE;
 }
 
 /* The picture's file is opened before the search, which may take its time. */

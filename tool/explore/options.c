@@ -59,7 +59,7 @@ static const char *const help =
     "      mount          a look is taken for the mount and writes go on (calls w3, then w4). Fails where a journal entry from before power went\n"
     "                     gives other bytes than were written, or breaks the log.\n"
     "\n"
-    "Exit status: 0 every look fitted, 1 one did not, 2 bad usage.\n";
+    "Exit status: 0 every look fitted, 1 one did not, 2 bad usage, 3 a file could not be written or memory ran out.\n";
 
 static enum parsed complain(const char *format, const char *word) {
     fputs("zrv explore: ", stderr);

@@ -13,7 +13,7 @@ struct oracle new_oracle(struct geometry geometry) {
         oracle.zone[z].content = calloc(zone_addresses(geometry), sizeof *oracle.zone[z].content);
         if (oracle.zone[z].content == NULL) {
             fprintf(stderr, "no memory for what zone %u holds\n", z);
-            exit(2);
+            exit(3);
         }
     }
     return oracle;

@@ -9,7 +9,7 @@ use lib.Dec.{eqb, ltb}
 use lib.ListN.{length, set}
 use Rattle.tables.specs.declared.Geometry.{Geometry}
 use Rattle.tables.specs.Basics.{pick}
-use Rattle.tables.specs.Geometry.{Valid, physicalZones, cells, totalBytes}
+use Rattle.tables.specs.Geometry.{Valid, physicalZones}
 use Rattle.tables.specs.GeometryTest.{isValid, valid-if-test}
 use Rattle.tables.specs.Device.{append}
 use Rattle.tables.specs.LittleEndian.{writeLE}

@@ -20,8 +20,8 @@ use Rattle.replaying.specs.declared.Reply.{Reply}
 
 -- ---- numbers of a command
 -- a length, less what it is short of, and never more than there is
-abbrev pub lent : ℕ → ℕ → ℕ → ℕ
-lent n short most = min (n - short) most
+abbrev pub handedLength : ℕ → ℕ → ℕ → ℕ
+handedLength n short most = min (n - short) most
 
 -- as a 32-bit number
 abbrev pub narrowed : ℕ → ℕ

@@ -1,7 +1,7 @@
 -- What a command leaves: the tables lent as the host's shelf and its shortage say, and given back.
 use mathlib.Core.Bool.{Bool, true, false, _||_}
 use mathlib.Core.List.{List, _++_}
-use mathlib.Core.Path.{_≡_, refl, _∙_}
+use mathlib.Core.Path.{_≡_, _∙_}
 use Prim.Native.Nat.{ℕ, _%_}
 use lib.Dec.{eqb}
 use lib.ListN.{length, take, drop, replicate, set}
@@ -9,28 +9,28 @@ use Rattle.tables.specs.Basics.{pick}
 use Rattle.tables.specs.Tables.{Tables, tablesOf}
 use Rattle.replaying.specs.declared.Command.{Command}
 use Rattle.replaying.specs.declared.Host.{Host}
-use Rattle.replaying.specs.Hosting.{lent, narrowed, runBytes, geometryIn, shortageIn, freshHost, withGeometry, withShortage, withRecord, withLost, quietReply}
+use Rattle.replaying.specs.Hosting.{handedLength, narrowed, runBytes, geometryIn, shortageIn, freshHost, withGeometry, withShortage, withRecord, withLost, quietReply}
 use Rattle.replaying.specs.Stream.{streamOver, Pointers, cutsOver}
 use Rattle.replaying.specs.Damaging.{appendOdd, oddHeader}
 use Rattle.replaying.specs.Calling.{Done, callDone, picked, passed-over}
 
 -- ---- a call
 -- the lengths that are lent
-abbrev pub sectorsLent : Host → List ℕ → ℕ
-sectorsLent h xs = lent (h .bytes) (h .shortage .sectors) (length xs)
+abbrev pub sectorsHanded : Host → List ℕ → ℕ
+sectorsHanded h xs = handedLength (h .bytes) (h .shortage .sectors) (length xs)
 
-abbrev pub writtenLent : Host → List ℕ → ℕ
-writtenLent h ws = lent (h .cells) (h .shortage .written) (length ws)
+abbrev pub writtenHanded : Host → List ℕ → ℕ
+writtenHanded h ws = handedLength (h .cells) (h .shortage .written) (length ws)
 
-abbrev pub durableLent : Host → List ℕ → ℕ
-durableLent h ds = lent (h .cells) (h .shortage .durable) (length ds)
+abbrev pub durableHanded : Host → List ℕ → ℕ
+durableHanded h ds = handedLength (h .cells) (h .shortage .durable) (length ds)
 
-abbrev pub bufferLent : Host → Command → List ℕ → ℕ
-bufferLent h c out = lent (runBytes (h .geometry) (c .third)) (h .shortage .buffer) (length out)
+abbrev pub bufferHanded : Host → Command → List ℕ → ℕ
+bufferHanded h c out = handedLength (runBytes (h .geometry) (c .third)) (h .shortage .buffer) (length out)
 
 -- the call on what is lent
-unfoldable pub calledLent : Host → Command → List ℕ → Tables → Done
-calledLent h c out t = callDone h c (take (bufferLent h c out) out) (tablesOf (take (sectorsLent h (t .sectors)) (t .sectors)) (take (writtenLent h (t .written)) (t .written)) (take (durableLent h (t .durable)) (t .durable)))
+unfoldable pub calledOn : Host → Command → List ℕ → Tables → Done
+calledOn h c out t = callDone h c (take (bufferHanded h c out) out) (tablesOf (take (sectorsHanded h (t .sectors)) (t .sectors)) (take (writtenHanded h (t .written)) (t .written)) (take (durableHanded h (t .durable)) (t .durable)))
 
 -- ---- a new shelf: "sectors all zero, pointers all 0, no state"
 abbrev pub zeroTables : Tables → Tables
@@ -52,7 +52,7 @@ isChange x = eqb x 99 || (eqb x 98 || (eqb x 116 || (eqb x 101 || eqb x 113)))
 
 -- ---- a cut of all drives of the shelf
 abbrev pub cutLength : Host → List ℕ → List ℕ → ℕ
-cutLength h ws ds = lent (lent (h .cells) 0 (length ws)) 0 (length ds)
+cutLength h ws ds = handedLength (handedLength (h .cells) 0 (length ws)) 0 (length ds)
 
 abbrev pub cutFront : Host → Command → List ℕ → List ℕ → Pointers
 cutFront h c ws ds = cutsOver (c .first) (take (cutLength h ws ds) ws) (take (cutLength h ws ds) ds) (length (take (cutLength h ws ds) ws))
@@ -73,16 +73,16 @@ pub record Left : Type 0 where
   pub buffer : List ℕ
 
 abbrev pub oddSource : Host → Command → List ℕ → List ℕ
-oddSource h c out = oddSector h c (take (lent (h .geometry .sector) 0 (length out)) out)
+oddSource h c out = oddSector h c (take (handedLength (h .geometry .sector) 0 (length out)) out)
 
 abbrev pub oddFront : Host → Command → List ℕ → List ℕ → List ℕ → Tables
-oddFront h c out xs ws = oddStored h c (oddSource h c out) (take (lent (h .bytes) 0 (length xs)) xs) (take (lent (h .cells) 0 (length ws)) ws)
+oddFront h c out xs ws = oddStored h c (oddSource h c out) (take (handedLength (h .bytes) 0 (length xs)) xs) (take (handedLength (h .cells) 0 (length ws)) ws)
 
 -- with the shelf's tables and a buffer of one sector
 unfoldable pub oddDrives : Host → Command → List ℕ → Tables → Left
 oddDrives h c out t = record {
-  tables = tablesOf (oddFront h c out (t .sectors) (t .written) .sectors ++ drop (lent (h .bytes) 0 (length (t .sectors))) (t .sectors)) (oddFront h c out (t .sectors) (t .written) .written ++ drop (lent (h .cells) 0 (length (t .written))) (t .written)) (t .durable);
-  buffer = oddSource h c out ++ drop (lent (h .geometry .sector) 0 (length out)) out;
+  tables = tablesOf (oddFront h c out (t .sectors) (t .written) .sectors ++ drop (handedLength (h .bytes) 0 (length (t .sectors))) (t .sectors)) (oddFront h c out (t .sectors) (t .written) .written ++ drop (handedLength (h .cells) 0 (length (t .written))) (t .written)) (t .durable);
+  buffer = oddSource h c out ++ drop (handedLength (h .geometry .sector) 0 (length out)) out;
 }
 
 abbrev pub left : Tables → List ℕ → Left
@@ -105,9 +105,9 @@ changed h c out t = pick (eqb (c .letter) 99) (cutLeft h c out t) (pick (eqb (c 
 -- the tables given back behind what was not lent
 abbrev pub calledBack : Host → Command → List ℕ → Tables → Done
 calledBack h c out t = record {
-  reply = calledLent h c out t .reply;
-  tables = tablesOf (calledLent h c out t .tables .sectors ++ drop (sectorsLent h (t .sectors)) (t .sectors)) (calledLent h c out t .tables .written ++ drop (writtenLent h (t .written)) (t .written)) (calledLent h c out t .tables .durable ++ drop (durableLent h (t .durable)) (t .durable));
-  buffer = calledLent h c out t .buffer ++ drop (bufferLent h c out) out;
+  reply = calledOn h c out t .reply;
+  tables = tablesOf (calledOn h c out t .tables .sectors ++ drop (sectorsHanded h (t .sectors)) (t .sectors)) (calledOn h c out t .tables .written ++ drop (writtenHanded h (t .written)) (t .written)) (calledOn h c out t .tables .durable ++ drop (durableHanded h (t .durable)) (t .durable));
+  buffer = calledOn h c out t .buffer ++ drop (bufferHanded h c out) out;
 }
 
 abbrev pub renewed : Command → List ℕ → Tables → Done

@@ -1,9 +1,9 @@
 -- What an answer line shows: checksums of the shelf's tables, a zone read whole, a part that a peek gives.
 use mathlib.Core.Bool.{Bool, _||_}
 use mathlib.Core.List.{List}
-use Prim.Native.Nat.{ℕ, zero, suc, _+_, _*_, _/_}
+use Prim.Native.Nat.{ℕ, zero, suc, _*_, _/_}
 use lib.Dec.{eqb, leb, ltb}
-use lib.ListN.{length, take, getD}
+use lib.ListN.{length, take}
 use Rattle.tables.specs.Basics.{pick}
 use Rattle.tables.specs.Geometry.{zoneSectors}
 use Rattle.tables.specs.GeometryTest.{isValid}
@@ -21,8 +21,8 @@ use Rattle.volume.specs.Peeking.{peekOn}
 use Rattle.replaying.specs.declared.Command.{Command}
 use Rattle.replaying.specs.declared.Glimpse.{Glimpse}
 use Rattle.replaying.specs.declared.Host.{Host}
-use Rattle.replaying.specs.Adler.{adlerOfBytes, adlerOfTables}
-use Rattle.replaying.specs.Hosting.{lent, narrowed, namedIn, runBytes}
+use Rattle.replaying.specs.Adler.{adlerOfBytes}
+use Rattle.replaying.specs.Hosting.{handedLength, narrowed, namedIn, runBytes}
 
 -- ---- letters and conditions
 unfoldable pub mayKeep : ℕ → Bool
@@ -36,10 +36,10 @@ conditionNumber (Worn n) = 3
 
 -- ---- the shelf's tables
 abbrev pub allSectors : Host → List ℕ → List ℕ
-allSectors h xs = take (lent (h .bytes) 0 (length xs)) xs
+allSectors h xs = take (handedLength (h .bytes) 0 (length xs)) xs
 
 abbrev pub allPointers : Host → List ℕ → List ℕ
-allPointers h ws = take (lent (h .cells) 0 (length ws)) ws
+allPointers h ws = take (handedLength (h .cells) 0 (length ws)) ws
 
 -- ---- reads
 -- the checksum of what a finished read gave
@@ -71,7 +71,7 @@ unfoldable pub zoneRead : Host → Command → State → ℕ → List ℕ → Ta
 zoneRead h c shown z out t =
     pick (leb 16 z) (glimpse 8 0)
     (pick (eqb (pointerShown shown z) 0) (glimpse 0 1)
-    (glimpseOf (runRead h c shown (zoneStart h z) (pointerShown shown z) (take (lent (runBytes (h .geometry) (pointerShown shown z)) 0 (length out)) out) (tablesOf (allSectors h (t .sectors)) (allPointers h (t .written)) (allPointers h (t .durable))))))
+    (glimpseOf (runRead h c shown (zoneStart h z) (pointerShown shown z) (take (handedLength (runBytes (h .geometry) (pointerShown shown z)) 0 (length out)) out) (tablesOf (allSectors h (t .sectors)) (allPointers h (t .written)) (allPointers h (t .durable))))))
 
 -- ---- peeks
 -- sectors that tell their own place: of the first k fours of bytes, each is the number of its first byte

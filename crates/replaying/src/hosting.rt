@@ -9,11 +9,11 @@ use volume::State;
 use volume::ZoneRecord;
 ghost use mathlib.Core.Path.{_≡_};
 ghost use Prim.Native.Nat.{_≤_};
-ghost use Rattle.replaying.specs.Hosting.{lent, narrowed, runBytes, namedIn, geometryIn, shortageIn, noShortage, blankState, emptyHost, noGeometry, freshHost, withGeometry, withShortage, conditionFrom, withRecord, withLost, quietReply};
+ghost use Rattle.replaying.specs.Hosting.{handedLength, narrowed, runBytes, namedIn, geometryIn, shortageIn, noShortage, blankState, emptyHost, noGeometry, freshHost, withGeometry, withShortage, conditionFrom, withRecord, withLost, quietReply};
 
 // A length, less what it is short of, and never more than there is.
 pub fn lend(length: usize, short: usize, most: usize) -> usize
-    ensures { λ r. ⌜ (r ≡ lent length short most) × (r ≤ most) ⌝ }
+    ensures { λ r. ⌜ (r ≡ handedLength length short most) × (r ≤ most) ⌝ }
 {
     let n = tables::placement::excess(length, short);
     if n <= most {

@@ -8,7 +8,7 @@ ghost use lib.ListN.{length, drop};
 ghost use Rattle.tables.specs.Tables.{tablesOf};
 ghost use Rattle.replaying.specs.Hosting.{geometryIn, freshHost, quietReply};
 ghost use Rattle.replaying.specs.Calling.{stateDone, callDone};
-ghost use Rattle.replaying.specs.Performing.{sectorsLent, writtenLent, durableLent, bufferLent, calledLent, zeroTables, changedHost, isCall, isChange, cutDrives, oddSector, oddStored, oddDrives, changed, performed};
+ghost use Rattle.replaying.specs.Performing.{sectorsHanded, writtenHanded, durableHanded, bufferHanded, calledOn, zeroTables, changedHost, isCall, isChange, cutDrives, oddSector, oddStored, oddDrives, changed, performed};
 
 // A call that asks for a state, on tables that are lent.
 fn call_with_state(
@@ -78,11 +78,11 @@ fn call_lent(
     h: Host,
     c: Command,
 ) -> Reply
-    ensures { λ r. ⌜ (r ≡ calledLent h c (now (buffer .entry)) (tablesOf (now (space .entry)) (now (written .entry)) (now (durable .entry))) .reply)
-        × (now (space .exit) ≡ calledLent h c (now (buffer .entry)) (tablesOf (now (space .entry)) (now (written .entry)) (now (durable .entry))) .tables .sectors ++ drop (sectorsLent h (now (space .entry))) (now (space .entry)))
-        × (now (written .exit) ≡ calledLent h c (now (buffer .entry)) (tablesOf (now (space .entry)) (now (written .entry)) (now (durable .entry))) .tables .written ++ drop (writtenLent h (now (written .entry))) (now (written .entry)))
-        × (now (durable .exit) ≡ calledLent h c (now (buffer .entry)) (tablesOf (now (space .entry)) (now (written .entry)) (now (durable .entry))) .tables .durable ++ drop (durableLent h (now (durable .entry))) (now (durable .entry)))
-        × (now (buffer .exit) ≡ calledLent h c (now (buffer .entry)) (tablesOf (now (space .entry)) (now (written .entry)) (now (durable .entry))) .buffer ++ drop (bufferLent h c (now (buffer .entry))) (now (buffer .entry))) ⌝ }
+    ensures { λ r. ⌜ (r ≡ calledOn h c (now (buffer .entry)) (tablesOf (now (space .entry)) (now (written .entry)) (now (durable .entry))) .reply)
+        × (now (space .exit) ≡ calledOn h c (now (buffer .entry)) (tablesOf (now (space .entry)) (now (written .entry)) (now (durable .entry))) .tables .sectors ++ drop (sectorsHanded h (now (space .entry))) (now (space .entry)))
+        × (now (written .exit) ≡ calledOn h c (now (buffer .entry)) (tablesOf (now (space .entry)) (now (written .entry)) (now (durable .entry))) .tables .written ++ drop (writtenHanded h (now (written .entry))) (now (written .entry)))
+        × (now (durable .exit) ≡ calledOn h c (now (buffer .entry)) (tablesOf (now (space .entry)) (now (written .entry)) (now (durable .entry))) .tables .durable ++ drop (durableHanded h (now (durable .entry))) (now (durable .entry)))
+        × (now (buffer .exit) ≡ calledOn h c (now (buffer .entry)) (tablesOf (now (space .entry)) (now (written .entry)) (now (durable .entry))) .buffer ++ drop (bufferHanded h c (now (buffer .entry))) (now (buffer .entry))) ⌝ }
 {
     let s = h.shortage;
     let g = h.geometry;

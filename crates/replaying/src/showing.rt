@@ -9,7 +9,7 @@ ghost use mathlib.Core.Path.{_≡_};
 ghost use lib.ListN.{length, take};
 ghost use Rattle.tables.specs.Tables.{tablesOf};
 ghost use Rattle.replaying.specs.Adler.{adlerOfBytes, adlerOfTables};
-ghost use Rattle.replaying.specs.Hosting.{lent, runBytes};
+ghost use Rattle.replaying.specs.Hosting.{handedLength, runBytes};
 ghost use Rattle.replaying.specs.Showing.{mayKeep, conditionNumber, allSectors, allPointers, glimpseBy, glimpseOf, runRead, zoneStart, zoneRead, markedAll, placeIn, partShown};
 
 // Whether a command's line shows the host's state whole: those of format, mount, write, flush and reset do.
@@ -208,7 +208,7 @@ pub fn peek_sum(space: &[u8], written: &[u32], durable: &[u32], h: Host, c: Comm
 
 // The checksum of what a finished read left in the buffer.
 pub fn read_sum(buffer: &[u8], h: Host, c: Command) -> u64
-    ensures { λ r. ⌜ r ≡ adlerOfBytes (take (lent (runBytes (h .geometry) (c .third)) 0 (length (now (buffer .entry)))) (now (buffer .entry))) ⌝ }
+    ensures { λ r. ⌜ r ≡ adlerOfBytes (take (handedLength (runBytes (h .geometry) (c .third)) 0 (length (now (buffer .entry)))) (now (buffer .entry))) ⌝ }
 {
     let g = h.geometry;
     let run = super::hosting::run_bytes(g, c.third);

@@ -4,7 +4,7 @@ use Prim.Native.Nat.{ℕ}
 use denote.Ref.{now}
 use mathlib.Core.List.{List, _++_}
 use lib.Seq.{length-front, length-take-le}
-use Rattle.replaying.specs.Performing.{calledLent}
+use Rattle.replaying.specs.Performing.{calledOn}
 use Rattle.tables.specs.Tables.{Tables}
 use Rattle.replaying.proofs.performing.call_lent.Statement.{statement}
 use Rattle.replaying.proofs.performing.call_lent.Tie as tie
@@ -64,7 +64,7 @@ same-length-4 : tie.Need-same-length-4
 same-length-4 c = length-front (c .before .before .before .before .before .before .before .before .before .before .before .before .before .before .before .before .before .before .before .before .before .before .before .before .args .buffer .now) (c .before .before .before .before .before .before .before .before .call .last .1 .1 .1 .0) (c .before .before .before .before .before .before .before .before .before .before .before .before .before .lend4 .result) (c .before .before .before .before .before .before .before .before .call .kept .1 .1 .1 .0)
 
 returns : tie.Need-returns
-unfolding calledLent
+unfolding calledOn
 returns c = let m = c .before .before .before .before .before .before .before .before .call .ensures .1 in (c .before .before .before .before .before .before .before .before .call .ensures .0 ∙ rw (c .before .before .before .before .before .before .before .before .before .before .before .before .before .before .before .before .lend .ensures .0, c .before .before .before .before .before .before .before .before .before .before .before .before .before .before .before .lend2 .ensures .0, c .before .before .before .before .before .before .before .before .before .before .before .before .before .before .lend3 .ensures .0, c .before .before .before .before .before .before .before .before .before .before .before .before .before .lend4 .ensures .0, c .before .before .before .before .before .before .before .before .before .before .before .before .before .before .before .before .before .run-bytes .ensures) refl, ap (λ (t : Tables). t .sectors ++ drop (c .before .before .before .before .before .before .before .before .before .before .before .before .before .before .before .before .lend .result) (c .before .before .before .before .before .before .before .before .before .before .before .before .before .before .before .before .before .before .before .before .before .before .before .before .args .space .now)) m ∙ rw (c .before .before .before .before .before .before .before .before .before .before .before .before .before .before .before .before .lend .ensures .0, c .before .before .before .before .before .before .before .before .before .before .before .before .before .before .before .lend2 .ensures .0, c .before .before .before .before .before .before .before .before .before .before .before .before .before .before .lend3 .ensures .0, c .before .before .before .before .before .before .before .before .before .before .before .before .before .lend4 .ensures .0, c .before .before .before .before .before .before .before .before .before .before .before .before .before .before .before .before .before .run-bytes .ensures) refl, ap (λ (t : Tables). t .written ++ drop (c .before .before .before .before .before .before .before .before .before .before .before .before .before .before .before .lend2 .result) (c .before .before .before .before .before .before .before .before .before .before .before .before .before .before .before .before .before .before .before .before .before .before .before .before .args .written .now)) m ∙ rw (c .before .before .before .before .before .before .before .before .before .before .before .before .before .before .before .before .lend .ensures .0, c .before .before .before .before .before .before .before .before .before .before .before .before .before .before .before .lend2 .ensures .0, c .before .before .before .before .before .before .before .before .before .before .before .before .before .before .lend3 .ensures .0, c .before .before .before .before .before .before .before .before .before .before .before .before .before .lend4 .ensures .0, c .before .before .before .before .before .before .before .before .before .before .before .before .before .before .before .before .before .run-bytes .ensures) refl, ap (λ (t : Tables). t .durable ++ drop (c .before .before .before .before .before .before .before .before .before .before .before .before .before .before .lend3 .result) (c .before .before .before .before .before .before .before .before .before .before .before .before .before .before .before .before .before .before .before .before .before .before .before .before .args .durable .now)) m ∙ rw (c .before .before .before .before .before .before .before .before .before .before .before .before .before .before .before .before .lend .ensures .0, c .before .before .before .before .before .before .before .before .before .before .before .before .before .before .before .lend2 .ensures .0, c .before .before .before .before .before .before .before .before .before .before .before .before .before .before .lend3 .ensures .0, c .before .before .before .before .before .before .before .before .before .before .before .before .before .lend4 .ensures .0, c .before .before .before .before .before .before .before .before .before .before .before .before .before .before .before .before .before .run-bytes .ensures) refl, ap (λ (l : List ℕ). l ++ drop (c .before .before .before .before .before .before .before .before .before .before .before .before .before .lend4 .result) (c .before .before .before .before .before .before .before .before .before .before .before .before .before .before .before .before .before .before .before .before .before .before .before .before .args .buffer .now)) (c .before .before .before .before .before .before .before .before .call .ensures .2) ∙ rw (c .before .before .before .before .before .before .before .before .before .before .before .before .before .before .before .before .lend .ensures .0, c .before .before .before .before .before .before .before .before .before .before .before .before .before .before .before .lend2 .ensures .0, c .before .before .before .before .before .before .before .before .before .before .before .before .before .before .lend3 .ensures .0, c .before .before .before .before .before .before .before .before .before .before .before .before .before .lend4 .ensures .0, c .before .before .before .before .before .before .before .before .before .before .before .before .before .before .before .before .before .run-bytes .ensures) refl)
 
 pub call-lent-spec : {M : Type 1} → statement M

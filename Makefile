@@ -1,8 +1,8 @@
 # explore: four drives, two writes in succession: every moment at which power can go, times what the caches kept, times the drive that does not come back
 # test:  the layout, the worked values of log_walks and of docs/FORMAT.md, then everything proved from nothing, and beside it the wrong programs and the archive; the merge gate
 # check: prove every crate and run the programs (only what changed since the last time)
-# wrong: the wrong programs alone (`scripts/wrong_programs .` takes over this folder's target/, and need not check the crates from nothing)
-# archive: prove the volume and write lib/libvolume.a anew, which C links with include/zrv.h
+# wrong: the wrong programs and wrong rules alone (`scripts/wrong_programs .` takes over this folder's target/, and need not check the crates from nothing)
+# archive: prove the C edge and write lib/libzrv.a anew, which C links with include/zrv.h
 # zrv: the command-line tool over a shelf kept as files, target/zrv (`target/zrv help`)
 # from-c: all tests of the archive and of the tool:
 #   edge-test: the conformance vectors replayed, and bad input; then both once more with the C side's sanitizers
@@ -28,11 +28,11 @@ wrong:
 	@scripts/wrong_programs
 
 archive:
-	@rt staticlib volume
+	@rt staticlib zrv
 	@mkdir -p lib
-	@cp target/staticlib/libvolume.a lib/libvolume.a
+	@cp target/staticlib/libzrv.a lib/libzrv.a
 
-LIBRARY = lib/libvolume.a
+LIBRARY = lib/libzrv.a
 COMPILE = gcc -std=c11 -Wall -Wextra -Werror -pedantic -Iinclude -Ihost -Itool
 SANITIZE = -O1 -g -fsanitize=address,undefined -fno-sanitize-recover=all
 EDGE = target/edge

@@ -1,6 +1,6 @@
 /* zrv.h: a volume of zones over three to eight zoned drives, with one parity.
  *
- * The functions below are those of the archive lib/libvolume.a. They allocate nothing, keep nothing between
+ * The functions below are those of the archive lib/libzrv.a. They allocate nothing, keep nothing between
  * calls and may be called from any thread, as long as no two calls at once are handed memory that one of them changes.
  *
  * Every function takes the geometry first:

@@ -1,9 +1,10 @@
 -- The geometry of document 01's worked cases: D 4, U 2, C 32, B 64, L 2.
 use mathlib.Core.Path.{_≡_, refl}
 use Rattle.tables.specs.declared.Geometry.{Geometry}
-use Rattle.tables.specs.Geometry.{Valid, log2, stripeSectors, zoneSectors, physicalZones, totalBytes}
-use Rattle.tables.specs.GeometryTest.{isValid, valid-if-test}
-use Rattle.tables.specs.Placement.{stripeLength}
+use Rattle.tables.specs.meaning.Geometry.{Valid, log2, stripeSectors, zoneSectors, physicalZones, totalBytes}
+use Rattle.tables.specs.meaning.GeometryTest.{isValid}
+use Rattle.tables.specs.laws.GeometryTest.{valid-if-test}
+use Rattle.tables.specs.meaning.Placement.{stripeLength}
 
 pub record Worked (g : Geometry) : Type 0 where
   pub valid : Valid g

@@ -8,12 +8,13 @@
 // drive of the last label, the place of the last counters and their number for zone 0, a reset of zone 0 in generation 2, the least seal
 // of zone 1 in generation 9. A parity log with the places of the last whole entries of zone 0 in generation 7 that end past 0 and past 2,
 // and the rows that its torn entry has.
+use logs::WalkEnd;
 use tables::Geometry;
 ghost use mathlib.Core.Path.{_≡_};
 ghost use Prim.Native.Nat.{_≤_, _<_};
 ghost use lib.ListN.{length};
-ghost use Rattle.tables.specs.Geometry.{Valid};
-ghost use Rattle.logs.specs.WalkCode.{InLog};
+ghost use Rattle.tables.specs.meaning.Geometry.{Valid};
+ghost use Rattle.logs.specs.code.WalkCode.{InLog};
 ghost use Rattle.log_walks.specs.Worked.{Worked};
 
 const ARRAY: u64 = 81985529216486895;
@@ -89,15 +90,33 @@ fn place(sectors: &mut [u8], g: Geometry, zone: usize, i: usize, kind: usize, x:
     tables::sectors::copy_in(sectors, at, &h);
 }
 
+fn show_place(p: usize, why: u64) {
+    field(p as u64);
+    field(why);
+}
+
+fn show_end(end: WalkEnd) {
+    match end {
+        WalkEnd::AtPointer(p) => show_place(p, 0),
+        WalkEnd::NoEntry(p) => show_place(p, 1),
+        WalkEnd::Torn(p) => show_place(p, 2),
+    }
+}
+
+// The rows that a torn entry has.
+fn show_rows(end: WalkEnd, n: usize) {
+    let WalkEnd::Torn(p) = end else {
+        return;
+    };
+    let behind = tables::placement::saturating_sub(n, p);
+    field(tables::placement::saturating_sub(behind, 1) as u64);
+}
+
 fn show_walk(sectors: &[u8], g: Geometry, zone: usize, par: bool, n: usize)
     requires { ⌜ Valid g ⌝ }
     requires { ⌜ InLog g 3 zone n (now sectors) ⌝ }
 {
-    let w = logs::walking::walk_log(sectors, g, 3, zone, par, n);
-    let p = w.position;
-    let why = w.why;
-    field(p as u64);
-    field(why as u64);
+    show_end(logs::walking::walk_log(sectors, g, 3, zone, par, n));
 }
 
 fn show_general(sectors: &[u8], g: Geometry, n: usize)
@@ -125,14 +144,10 @@ fn show_parity(sectors: &[u8], g: Geometry, n: usize)
     show_walk(sectors, g, 1, true, n);
     let any = logs::folds::last_partial(sectors, g, 3, 1, n, 0, 7, 0, 96);
     let past = logs::folds::last_partial(sectors, g, 3, 1, n, 0, 7, 2, 96);
-    let w = logs::walking::walk_log(sectors, g, 3, 1, true, n);
-    let p = w.position;
-    let why = w.why;
+    let end = logs::walking::walk_log(sectors, g, 3, 1, true, n);
     field(any as u64);
     field(past as u64);
-    if why == 2 {
-        field(tables::placement::excess(n, p + 1) as u64);
-    }
+    show_rows(end, n);
     io::write_all(1, b"\n");
 }
 

@@ -5,15 +5,15 @@ use super::Step;
 use tables::Geometry;
 ghost use mathlib.Core.Path.{_≡_};
 ghost use Prim.Native.Nat.{_<_};
-ghost use Rattle.tables.specs.Basics.{pick};
-ghost use Rattle.tables.specs.Geometry.{Valid};
-ghost use Rattle.logs.specs.Walk.{walkLog};
-ghost use Rattle.logs.specs.WalkCode.{InLog, logSectors};
-ghost use Rattle.logs.specs.Query.{headsOf, afterLabel, afterCounters, afterReset, afterSeal, afterPartial, after, answer};
-ghost use Rattle.logs.specs.QueryLaws.{SmallSeen};
+ghost use Rattle.tables.specs.meaning.Basics.{pick};
+ghost use Rattle.tables.specs.meaning.Geometry.{Valid};
+ghost use Rattle.logs.specs.meaning.Walk.{walkLog};
+ghost use Rattle.logs.specs.code.WalkCode.{InLog, logSectors};
+ghost use Rattle.logs.specs.code.Query.{headsOf, afterLabel, afterCounters, afterReset, afterSeal, afterPartial, after, answer};
+ghost use Rattle.logs.specs.code.QueryLaws.{SmallSeen};
 
 // One of two numbers.
-fn choose(first: bool, a: usize, b: usize) -> usize
+fn pick(first: bool, a: usize, b: usize) -> usize
     ensures { λ r. ⌜ r ≡ pick first a b ⌝ }
 {
     if first {
@@ -60,7 +60,7 @@ fn after_reset(query: Query, zone: usize, generation: u64, x: usize) -> usize
     match query {
         Query::LastLost => x,
         Query::LastCounters => x,
-        Query::ResetOf(z, n) => choose((zone == z) & (generation == n), 1, x),
+        Query::ResetOf(z, n) => pick((zone == z) & (generation == n), 1, x),
         Query::SealOf(_, _) => x,
         Query::SealAt(_, _, _) => x,
         Query::LeastSeal(_, _) => x,
@@ -72,14 +72,14 @@ fn after_reset(query: Query, zone: usize, generation: u64, x: usize) -> usize
 fn after_seal(query: Query, zone: usize, pointer: usize, generation: u64, x: usize) -> usize
     ensures { λ r. ⌜ r ≡ afterSeal query zone pointer generation x ⌝ }
 {
-    let least = tables::placement::smaller(x, pointer);
+    let least = tables::placement::min(x, pointer);
     match query {
         Query::LastLost => x,
         Query::LastCounters => x,
         Query::ResetOf(_, _) => x,
-        Query::SealOf(z, n) => choose((zone == z) & (generation == n), 1, x),
-        Query::SealAt(z, n, q) => choose((zone == z) & ((generation == n) & (pointer == q)), 1, x),
-        Query::LeastSeal(z, n) => choose((zone == z) & (generation == n), least, x),
+        Query::SealOf(z, n) => pick((zone == z) & (generation == n), 1, x),
+        Query::SealAt(z, n, q) => pick((zone == z) & ((generation == n) & (pointer == q)), 1, x),
+        Query::LeastSeal(z, n) => pick((zone == z) & (generation == n), least, x),
         Query::LastPartial(_, _, _, _) => x,
     }
 }
@@ -105,7 +105,7 @@ fn after_partial(
         Query::SealAt(_, _, _) => x,
         Query::LeastSeal(_, _) => x,
         Query::LastPartial(z, n, low, high) => {
-            choose(
+            pick(
                 (zone == z) & ((generation == n) & ((low < end) & (end <= high))),
                 here,
                 x,

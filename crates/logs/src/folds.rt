@@ -2,6 +2,8 @@
 use super::Found;
 use super::Query;
 use super::Step;
+use super::WalkEnd;
+use super::asking::ask_log;
 use tables::Geometry;
 ghost use mathlib.Core.Path.{_≡_};
 ghost use mathlib.Core.Logic.{_⊎_};
@@ -9,36 +11,37 @@ ghost use mathlib.Core.Bool.{true, false};
 ghost use mathlib.Core.List.{[]};
 ghost use Prim.Native.Nat.{_+_, _*_, _≤_, _<_};
 ghost use lib.ListN.{getD};
-ghost use Rattle.tables.specs.Lists.{anyOf};
-ghost use Rattle.tables.specs.LittleEndian.{readLE};
-ghost use Rattle.tables.specs.Geometry.{Valid};
-ghost use Rattle.logs.specs.WalkCode.{InLog, logSectors};
-ghost use Rattle.logs.specs.Walk.{walkLog};
-ghost use Rattle.logs.specs.Heads.{lastLost, labelled, arrayIn, generationIn, isCounters, isReset, isSeal, isSealAt, leastSeal, endsWithin, endsPast, endsAt};
-ghost use Rattle.logs.specs.Query.{headsOf, firstSeen, labelSeen, arraySeen, tornSeen};
-ghost use Rattle.logs.specs.Places.{lastPlace};
+ghost use Rattle.tables.specs.meaning.Lists.{anyOf};
+ghost use Rattle.tables.specs.meaning.LittleEndian.{readLE};
+ghost use Rattle.tables.specs.meaning.Geometry.{Valid};
+ghost use Rattle.logs.specs.code.WalkCode.{InLog, logSectors};
+ghost use Rattle.logs.specs.meaning.Walk.{walkLog};
+ghost use Rattle.logs.specs.meaning.Heads.{lastLost, labelled, arrayIn, generationIn, isReset, isSeal, isSealAt, leastSeal, endsPast, endsAt};
+ghost use Rattle.logs.specs.laws.Heads.{isCounters, endsWithin};
+ghost use Rattle.logs.specs.code.Query.{logHeads, firstSeen, labelSeen, arraySeen, tornSeen};
+ghost use Rattle.logs.specs.laws.Places.{lastPlace};
 
 // The lost drive of the last label of a drive's general log; 255 if there is none.
 pub fn last_lost(sectors: &[u8], g: Geometry, drive: usize, zone: usize, n: usize) -> usize
     requires { ⌜ Valid g ⌝ }
     requires { ⌜ InLog g drive zone n (now sectors) ⌝ }
-    ensures { λ r. ⌜ (r ≡ lastLost 255 (headsOf (walkLog g drive false (logSectors g drive zone (now (sectors .entry)) n))))
+    ensures { λ r. ⌜ (r ≡ lastLost 255 (logHeads g drive false zone n (now (sectors .entry))))
         × ((r < g .drives) ⊎ (r ≡ 255)) ⌝ }
 {
-    super::asking::ask_log(Query::LastLost, sectors, g, drive, zone, false, n, 255)
+    ask_log(Query::LastLost, sectors, g, drive, zone, false, n, 255)
 }
 
 // The place of the last counters, counted from 1; 0 if there are none.
 pub fn last_counters(sectors: &[u8], g: Geometry, drive: usize, zone: usize, n: usize) -> usize
     requires { ⌜ Valid g ⌝ }
     requires { ⌜ InLog g drive zone n (now sectors) ⌝ }
-    ensures { λ r. ⌜ (r ≡ lastPlace g isCounters 0 0 (headsOf (walkLog g drive false (logSectors g drive zone (now (sectors .entry)) n))))
+    ensures { λ r. ⌜ (r ≡ lastPlace g isCounters 0 0 (logHeads g drive false zone n (now (sectors .entry))))
         × (r ≤ n) ⌝ }
 {
-    super::asking::ask_log(Query::LastCounters, sectors, g, drive, zone, false, n, 0)
+    ask_log(Query::LastCounters, sectors, g, drive, zone, false, n, 0)
 }
 
-// Is there a reset of a zone and generation?
+// Whether there is a reset of a zone and generation.
 pub fn has_reset(
     sectors: &[u8],
     g: Geometry,
@@ -50,22 +53,13 @@ pub fn has_reset(
 ) -> bool
     requires { ⌜ Valid g ⌝ }
     requires { ⌜ InLog g drive zone n (now sectors) ⌝ }
-    ensures { λ r. ⌜ r ≡ anyOf (isReset z generation) (headsOf (walkLog g drive false (logSectors g drive zone (now (sectors .entry)) n))) ⌝ }
+    ensures { λ r. ⌜ r ≡ anyOf (isReset z generation) (logHeads g drive false zone n (now (sectors .entry))) ⌝ }
 {
-    let x = super::asking::ask_log(
-        Query::ResetOf(z, generation),
-        sectors,
-        g,
-        drive,
-        zone,
-        false,
-        n,
-        0,
-    );
-    x == 1
+    let query = Query::ResetOf(z, generation);
+    ask_log(query, sectors, g, drive, zone, false, n, 0) == 1
 }
 
-// Is there a seal of a zone and generation?
+// Whether there is a seal of a zone and generation.
 pub fn has_seal(
     sectors: &[u8],
     g: Geometry,
@@ -77,22 +71,13 @@ pub fn has_seal(
 ) -> bool
     requires { ⌜ Valid g ⌝ }
     requires { ⌜ InLog g drive zone n (now sectors) ⌝ }
-    ensures { λ r. ⌜ r ≡ anyOf (isSeal z generation) (headsOf (walkLog g drive false (logSectors g drive zone (now (sectors .entry)) n))) ⌝ }
+    ensures { λ r. ⌜ r ≡ anyOf (isSeal z generation) (logHeads g drive false zone n (now (sectors .entry))) ⌝ }
 {
-    let x = super::asking::ask_log(
-        Query::SealOf(z, generation),
-        sectors,
-        g,
-        drive,
-        zone,
-        false,
-        n,
-        0,
-    );
-    x == 1
+    let query = Query::SealOf(z, generation);
+    ask_log(query, sectors, g, drive, zone, false, n, 0) == 1
 }
 
-// Is there one with just that pointer?
+// Whether there is one with just that pointer.
 pub fn has_seal_at(
     sectors: &[u8],
     g: Geometry,
@@ -105,19 +90,10 @@ pub fn has_seal_at(
 ) -> bool
     requires { ⌜ Valid g ⌝ }
     requires { ⌜ InLog g drive zone n (now sectors) ⌝ }
-    ensures { λ r. ⌜ r ≡ anyOf (isSealAt z generation pointer) (headsOf (walkLog g drive false (logSectors g drive zone (now (sectors .entry)) n))) ⌝ }
+    ensures { λ r. ⌜ r ≡ anyOf (isSealAt z generation pointer) (logHeads g drive false zone n (now (sectors .entry))) ⌝ }
 {
-    let x = super::asking::ask_log(
-        Query::SealAt(z, generation, pointer),
-        sectors,
-        g,
-        drive,
-        zone,
-        false,
-        n,
-        0,
-    );
-    x == 1
+    let query = Query::SealAt(z, generation, pointer);
+    ask_log(query, sectors, g, drive, zone, false, n, 0) == 1
 }
 
 // The least pointer of the seals of a zone and generation, and of `most`.
@@ -133,19 +109,11 @@ pub fn least_seal(
 ) -> usize
     requires { ⌜ Valid g ⌝ }
     requires { ⌜ InLog g drive zone n (now sectors) ⌝ }
-    ensures { λ r. ⌜ (r ≡ leastSeal z generation most (headsOf (walkLog g drive false (logSectors g drive zone (now (sectors .entry)) n))))
+    ensures { λ r. ⌜ (r ≡ leastSeal z generation most (logHeads g drive false zone n (now (sectors .entry))))
         × (r ≤ most) ⌝ }
 {
-    super::asking::ask_log(
-        Query::LeastSeal(z, generation),
-        sectors,
-        g,
-        drive,
-        zone,
-        false,
-        n,
-        most,
-    )
+    let query = Query::LeastSeal(z, generation);
+    ask_log(query, sectors, g, drive, zone, false, n, most)
 }
 
 // The place, counted from 1, of the last whole partial parity entry of a zone and generation that ends past `low` and at most at `high`;
@@ -163,22 +131,14 @@ pub fn last_partial(
 ) -> usize
     requires { ⌜ Valid g ⌝ }
     requires { ⌜ InLog g drive zone n (now sectors) ⌝ }
-    ensures { λ r. ⌜ (r ≡ lastPlace g (endsWithin g z generation low high) 0 0 (headsOf (walkLog g drive true (logSectors g drive zone (now (sectors .entry)) n))))
+    ensures { λ r. ⌜ (r ≡ lastPlace g (endsWithin g z generation low high) 0 0 (logHeads g drive true zone n (now (sectors .entry))))
         × (r ≤ n) ⌝ }
 {
-    super::asking::ask_log(
-        Query::LastPartial(z, generation, low, high),
-        sectors,
-        g,
-        drive,
-        zone,
-        true,
-        n,
-        0,
-    )
+    let query = Query::LastPartial(z, generation, low, high);
+    ask_log(query, sectors, g, drive, zone, true, n, 0)
 }
 
-// Is there a whole partial parity entry of a zone and generation that ends past a pointer?
+// Whether there is a whole partial parity entry of a zone and generation that ends past a pointer.
 pub fn has_partial_past(
     sectors: &[u8],
     g: Geometry,
@@ -191,14 +151,13 @@ pub fn has_partial_past(
 ) -> bool
     requires { ⌜ Valid g ⌝ }
     requires { ⌜ InLog g drive zone n (now sectors) ⌝ }
-    ensures { λ r. ⌜ r ≡ anyOf (endsPast g z generation pointer) (headsOf (walkLog g drive true (logSectors g drive zone (now (sectors .entry)) n))) ⌝ }
+    ensures { λ r. ⌜ r ≡ anyOf (endsPast g z generation pointer) (logHeads g drive true zone n (now (sectors .entry))) ⌝ }
 {
     let q = tables::bounds::zone_sectors(g);
-    let place = last_partial(sectors, g, drive, zone, n, z, generation, pointer, q);
-    0 < place
+    0 < last_partial(sectors, g, drive, zone, n, z, generation, pointer, q)
 }
 
-// Is there one that ends just at a pointer?
+// Whether there is one that ends just at a pointer.
 pub fn has_partial_at(
     sectors: &[u8],
     g: Geometry,
@@ -211,20 +170,10 @@ pub fn has_partial_at(
 ) -> bool
     requires { ⌜ Valid g ⌝ }
     requires { ⌜ InLog g drive zone n (now sectors) × (0 < pointer) ⌝ }
-    ensures { λ r. ⌜ r ≡ anyOf (endsAt g z generation pointer) (headsOf (walkLog g drive true (logSectors g drive zone (now (sectors .entry)) n))) ⌝ }
+    ensures { λ r. ⌜ r ≡ anyOf (endsAt g z generation pointer) (logHeads g drive true zone n (now (sectors .entry))) ⌝ }
 {
-    let place = last_partial(
-        sectors,
-        g,
-        drive,
-        zone,
-        n,
-        z,
-        generation,
-        pointer - 1,
-        pointer,
-    );
-    0 < place
+    let low = pointer - 1;
+    0 < last_partial(sectors, g, drive, zone, n, z, generation, low, pointer)
 }
 
 // The generation that the last counters give zone z; 0 if there are none.
@@ -238,7 +187,7 @@ pub fn last_generation(
 ) -> u64
     requires { ⌜ Valid g ⌝ }
     requires { ⌜ InLog g drive zone n (now sectors) × (z < g .zones) ⌝ }
-    ensures { λ r. ⌜ r ≡ generationIn z (headsOf (walkLog g drive false (logSectors g drive zone (now (sectors .entry)) n))) ⌝ }
+    ensures { λ r. ⌜ r ≡ generationIn z (logHeads g drive false zone n (now (sectors .entry))) ⌝ }
 {
     let place = last_counters(sectors, g, drive, zone, n);
     if place == 0 {
@@ -278,7 +227,7 @@ pub fn first_entry(
 ) -> Found
     requires { ⌜ Valid g ⌝ }
     requires { ⌜ InLog g drive zone n (now sectors) ⌝ }
-    ensures { λ r. ⌜ r ≡ firstSeen (headsOf (walkLog g drive parity (logSectors g drive zone (now (sectors .entry)) n))) ⌝ }
+    ensures { λ r. ⌜ r ≡ firstSeen (logHeads g drive parity zone n (now (sectors .entry))) ⌝ }
 {
     let step = super::walking::next_entry(sectors, g, drive, zone, parity, n, 0);
     match step {
@@ -287,7 +236,7 @@ pub fn first_entry(
     }
 }
 
-// A label?
+// Whether it is a label.
 fn is_label(f: Found) -> bool
     ensures { λ r. ⌜ r ≡ labelSeen f ⌝ }
 {
@@ -315,11 +264,11 @@ fn array_of(f: Found) -> u64
     }
 }
 
-// Does a drive's general log begin with a label?
+// Whether a drive's general log begins with a label.
 pub fn begins_labelled(sectors: &[u8], g: Geometry, drive: usize, zone: usize, n: usize) -> bool
     requires { ⌜ Valid g ⌝ }
     requires { ⌜ InLog g drive zone n (now sectors) ⌝ }
-    ensures { λ r. ⌜ r ≡ labelled (headsOf (walkLog g drive false (logSectors g drive zone (now (sectors .entry)) n))) ⌝ }
+    ensures { λ r. ⌜ r ≡ labelled (logHeads g drive false zone n (now (sectors .entry))) ⌝ }
 {
     let f = first_entry(sectors, g, drive, zone, false, n);
     is_label(f)
@@ -329,7 +278,7 @@ pub fn begins_labelled(sectors: &[u8], g: Geometry, drive: usize, zone: usize, n
 pub fn first_array(sectors: &[u8], g: Geometry, drive: usize, zone: usize, n: usize) -> u64
     requires { ⌜ Valid g ⌝ }
     requires { ⌜ InLog g drive zone n (now sectors) ⌝ }
-    ensures { λ r. ⌜ r ≡ arrayIn (headsOf (walkLog g drive false (logSectors g drive zone (now (sectors .entry)) n))) ⌝ }
+    ensures { λ r. ⌜ r ≡ arrayIn (logHeads g drive false zone n (now (sectors .entry))) ⌝ }
 {
     let f = first_entry(sectors, g, drive, zone, false, n);
     array_of(f)
@@ -349,10 +298,8 @@ pub fn torn_entry(
     ensures { λ r. ⌜ r ≡ tornSeen (walkLog g drive parity (logSectors g drive zone (now (sectors .entry)) n) .last) ⌝ }
 {
     let w = super::walking::walk_log(sectors, g, drive, zone, parity, n);
-    let why = w.why;
-    let p = w.position;
-    if why != 2 {
+    let WalkEnd::Torn(p) = w else {
         return Found::Bad;
-    }
+    };
     super::walking::judge_at(sectors, g, drive, zone, parity, n, p)
 }

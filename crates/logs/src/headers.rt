@@ -3,11 +3,11 @@ use tables::Geometry;
 ghost use mathlib.Core.Path.{_≡_};
 ghost use Prim.Native.Nat.{_+_, _*_, _-_, _≤_, _<_};
 ghost use lib.ListN.{length, take, drop, replicate};
-ghost use Rattle.tables.specs.Lists.{overlay};
-ghost use Rattle.tables.specs.Geometry.{Valid, stripeSectors, zoneSectors};
-ghost use Rattle.tables.specs.LittleEndian.{wordsLE};
-ghost use Rattle.logs.specs.Lays.{labelStart};
-ghost use Rattle.logs.specs.Entry.{markBytes, frame, encode, label, counters, zoneReset, partialParity, seal};
+ghost use Rattle.tables.specs.meaning.Lists.{overlay};
+ghost use Rattle.tables.specs.meaning.Geometry.{Valid, stripeSectors, zoneSectors};
+ghost use Rattle.tables.specs.meaning.LittleEndian.{wordsLE};
+ghost use Rattle.logs.specs.code.Lays.{labelStart};
+ghost use Rattle.logs.specs.meaning.Entry.{markBytes, frame, encode, label, counters, zoneReset, partialParity, seal};
 
 // The first eight bytes: mark, type, version 1, zeros.
 fn write_mark(out: &mut [u8], kind: u8)
@@ -119,7 +119,7 @@ pub fn write_label(out: &mut [u8], g: Geometry, drive: usize, lost: usize, array
     write_span(out, 1, 0, 0, 0);
     write_label_start(out, g, drive, lost);
     tables::bytes::write_u32(out, 40, c as u32);
-    tables::bytes::write_u32(out, 44, (l + 3) as u32);
+    tables::bytes::write_u32(out, 44, (l + tables::DATA_ZONES) as u32);
     tables::bytes::write_u64(out, 48, array);
 }
 

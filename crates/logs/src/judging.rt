@@ -6,58 +6,31 @@ ghost use mathlib.Core.Path.{_≡_};
 ghost use mathlib.Core.Logic.{_≢_};
 ghost use Prim.Native.Nat.{_+_, _*_, _-_, _≤_, _<_};
 ghost use lib.ListN.{length, take, drop, replicate};
-ghost use Rattle.tables.specs.Geometry.{Valid, stripeSectors, zoneSectors};
-ghost use Rattle.tables.specs.LittleEndian.{bytesLE, sameBytes, readLE};
-ghost use Rattle.logs.specs.Lays.{headSame};
-ghost use Rattle.logs.specs.Judge.{found};
-ghost use Rattle.logs.specs.JudgeMore.{eachSame, labelSame};
-ghost use Rattle.logs.specs.WalkCode.{rowsSeen, badSeen};
-ghost use Rattle.logs.specs.Entry.{markBytes, decode, fitsLog, kindOf, frame, zoneReset, partialParity, seal};
+ghost use Rattle.tables.specs.meaning.Geometry.{Valid, stripeSectors, zoneSectors};
+ghost use Rattle.tables.specs.meaning.LittleEndian.{bytesLE, sameBytes};
+ghost use Rattle.logs.specs.code.Lays.{headSame};
+ghost use Rattle.logs.specs.code.Judge.{found};
+ghost use Rattle.logs.specs.code.JudgeMore.{labelSame};
+ghost use Rattle.logs.specs.code.WalkCode.{rowsSeen, badSeen};
+ghost use Rattle.logs.specs.meaning.Entry.{markBytes, decode, fitsLog, kindOf, frame, zoneReset, partialParity, seal};
 
-// Do the eight bytes from `at` say n?
+// Whether the eight bytes from `at` say n.
 fn same_u64(s: &[u8], at: usize, n: u64) -> bool
     requires { ⌜ at + 8 ≤ length (now s) ⌝ }
     ensures { λ r. ⌜ r ≡ sameBytes (bytesLE 8 n) (take 8 (drop at (now (s .entry)))) ⌝ }
 {
-    let b0 = tables::bytes::wide(s[at]);
-    let b1 = tables::bytes::wide(s[at + 1]);
-    let b2 = tables::bytes::wide(s[at + 2]);
-    let b3 = tables::bytes::wide(s[at + 3]);
-    let b4 = tables::bytes::wide(s[at + 4]);
-    let b5 = tables::bytes::wide(s[at + 5]);
-    let b6 = tables::bytes::wide(s[at + 6]);
-    let b7 = tables::bytes::wide(s[at + 7]);
-    let n1 = n / 256;
-    let n2 = n1 / 256;
-    let n3 = n2 / 256;
-    let n4 = n3 / 256;
-    let n5 = n4 / 256;
-    let n6 = n5 / 256;
-    let n7 = n6 / 256;
-    (n % 256 == b0)
-        & ((n1 % 256 == b1)
-            & ((n2 % 256 == b2)
-                & ((n3 % 256 == b3)
-                    & ((n4 % 256 == b4)
-                        & ((n5 % 256 == b5) & ((n6 % 256 == b6) & (n7 % 256 == b7)))))))
+    tables::bytes::read_u64(s, at) == n
 }
 
-// Do the four bytes from `at` say n?
+// Whether the four bytes from `at` say n.
 fn same_u32(s: &[u8], at: usize, n: u32) -> bool
     requires { ⌜ at + 4 ≤ length (now s) ⌝ }
     ensures { λ r. ⌜ r ≡ sameBytes (bytesLE 4 n) (take 4 (drop at (now (s .entry)))) ⌝ }
 {
-    let b0 = tables::bytes::wide32(s[at]);
-    let b1 = tables::bytes::wide32(s[at + 1]);
-    let b2 = tables::bytes::wide32(s[at + 2]);
-    let b3 = tables::bytes::wide32(s[at + 3]);
-    let n1 = n / 256;
-    let n2 = n1 / 256;
-    let n3 = n2 / 256;
-    (n % 256 == b0) & ((n1 % 256 == b1) & ((n2 % 256 == b2) & (n3 % 256 == b3)))
+    tables::bytes::read_u32(s, at) == n
 }
 
-// Are all bytes from `at` on zero?
+// Whether all bytes from `at` on are zero.
 fn zeros_from(s: &[u8], at: usize) -> bool
     requires { ⌜ at ≤ length (now s) ⌝ }
     ensures { λ r. ⌜ r ≡ sameBytes (replicate (length (now (s .entry)) - at) 0) (drop at (now (s .entry))) ⌝ }
@@ -73,7 +46,7 @@ fn zeros_from(s: &[u8], at: usize) -> bool
     true
 }
 
-// Are the first eight bytes the mark, this type, version 1 and zeros?
+// Whether the first eight bytes are the mark, this type, version 1 and zeros.
 fn is_mark(s: &[u8], kind: u8) -> bool
     requires { ⌜ 8 ≤ length (now s) ⌝ }
     ensures { λ r. ⌜ r ≡ sameBytes (markBytes kind) (take 8 (now (s .entry))) ⌝ }
@@ -85,7 +58,7 @@ fn is_mark(s: &[u8], kind: u8) -> bool
                     & ((super::VERSION == s[4]) & ((0 == s[5]) & ((0 == s[6]) & (0 == s[7])))))))
 }
 
-// Do the first 32 bytes say so?
+// Whether the first 32 bytes say so.
 fn is_frame(s: &[u8], kind: u8, start: u64, end: u64, generation: u64) -> bool
     requires { ⌜ 32 ≤ length (now s) ⌝ }
     ensures { λ r. ⌜ r ≡ headSame kind start end generation (now (s .entry)) ⌝ }
@@ -97,7 +70,7 @@ fn is_frame(s: &[u8], kind: u8, start: u64, end: u64, generation: u64) -> bool
     m & (a & (b & c))
 }
 
-// Are all bytes those of a header with zeros from byte 32 on?
+// Whether all bytes are those of a header with zeros from byte 32 on.
 fn is_span(s: &[u8], kind: u8, start: u64, end: u64, generation: u64) -> bool
     requires { ⌜ 32 ≤ length (now s) ⌝ }
     ensures { λ r. ⌜ r ≡ sameBytes (frame kind start end generation (replicate (length (now (s .entry)) - 32) 0)) (now (s .entry)) ⌝ }
@@ -105,31 +78,6 @@ fn is_span(s: &[u8], kind: u8, start: u64, end: u64, generation: u64) -> bool
     let a = is_frame(s, kind, start, end, generation);
     let b = zeros_from(s, 32);
     a & b
-}
-
-// Are the eight bytes from `at` those of the number that they read as?
-fn same_word(s: &[u8], at: usize) -> bool
-    requires { ⌜ at + 8 ≤ length (now s) ⌝ }
-    ensures { λ r. ⌜ r ≡ sameBytes (bytesLE 8 (readLE 8 (now (s .entry)) at)) (take 8 (drop at (now (s .entry)))) ⌝ }
-{
-    let n = tables::bytes::read_u64(s, at);
-    same_u64(s, at, n)
-}
-
-// The same of l numbers from byte 32 on: a generation may be any number.
-fn words_same(s: &[u8], l: usize) -> bool
-    requires { ⌜ (32 + 8 * l ≤ length (now s)) × (l ≤ 16) ⌝ }
-    ensures { λ r. ⌜ r ≡ eachSame l (drop 32 (now (s .entry))) ⌝ }
-{
-    let mut i = 0;
-    while i < l {
-        let ok = same_word(s, 32 + 8 * i);
-        if !ok {
-            return false;
-        }
-        i += 1;
-    }
-    true
 }
 
 // Type 3 stands in the general log, on the drives of the first unit and of parity of its zone's stripe 0.
@@ -181,7 +129,7 @@ fn byte_value(x: u8) -> usize
     x as usize
 }
 
-// Are bytes 32 to 39 those of this drive's label with that lost drive?
+// Whether bytes 32 to 39 are those of this drive's label with that lost drive.
 fn names_label(s: &[u8], g: Geometry, drive: usize, lost: usize) -> bool
     requires { ⌜ Valid g ⌝ }
     requires { ⌜ 56 ≤ length (now s) ⌝ }
@@ -215,7 +163,7 @@ fn judge_label(s: &[u8], g: Geometry, drive: usize, parity: bool) -> Found
     let t1 = is_frame(s, 1, 0, 0, 0);
     let t2 = names_label(s, g, drive, lost);
     let t3 = same_u32(s, 40, c as u32);
-    let t4 = same_u32(s, 44, (l + 3) as u32);
+    let t4 = same_u32(s, 44, (l + tables::DATA_ZONES) as u32);
     let t5 = same_u64(s, 48, array);
     let t6 = zeros_from(s, 56);
     let ok = t1 & (t2 & (t3 & (t4 & (t5 & t6))));
@@ -229,7 +177,7 @@ fn judge_label(s: &[u8], g: Geometry, drive: usize, parity: bool) -> Found
     Found::Label(lost, array)
 }
 
-// Type 2.
+// Type 2. Its numbers may be any, so they say nothing.
 fn judge_counters(s: &[u8], g: Geometry, drive: usize, parity: bool) -> Found
     requires { ⌜ Valid g ⌝ }
     requires { ⌜ (length (now s) ≡ g .sector) × (kindOf (now s) ≡ 2) ⌝ }
@@ -237,9 +185,8 @@ fn judge_counters(s: &[u8], g: Geometry, drive: usize, parity: bool) -> Found
 {
     let l = g.zones;
     let a = is_frame(s, 2, 0, 0, 0);
-    let b = words_same(s, l);
-    let c = zeros_from(s, 32 + 8 * l);
-    let ok = a & (b & c);
+    let b = zeros_from(s, 32 + 8 * l);
+    let ok = a & b;
     if parity {
         return Found::Bad;
     }
@@ -282,7 +229,7 @@ fn judge_partial(s: &[u8], g: Geometry, drive: usize, parity: bool) -> Found
     let first = tables::bytes::read_u64(s, 8) as usize;
     let z = first / q;
     let t = first % q / k;
-    let f = tables::placement::excess(tables::bytes::read_u64(s, 16) as usize, first);
+    let f = tables::placement::saturating_sub(tables::bytes::read_u64(s, 16) as usize, first);
     let generation = tables::bytes::read_u64(s, 24);
     let fit = partial_fits(g, drive, parity, z, t, f);
     if !fit {
@@ -306,7 +253,7 @@ fn judge_seal(s: &[u8], g: Geometry, drive: usize, parity: bool) -> Found
     let q = tables::bounds::zone_sectors(g);
     let first = tables::bytes::read_u64(s, 8) as usize;
     let z = first / q;
-    let n = tables::placement::excess(tables::bytes::read_u64(s, 16) as usize, first);
+    let n = tables::placement::saturating_sub(tables::bytes::read_u64(s, 16) as usize, first);
     let generation = tables::bytes::read_u64(s, 24);
     let fit = seal_fits(g, parity, z, n);
     if !fit {
@@ -354,12 +301,12 @@ pub fn rows_of(f: Found, g: Geometry) -> usize
         Found::Label(_, _) => 0,
         Found::Counters => 0,
         Found::Resets(_, _) => 0,
-        Found::Partial(_, _, n, _) => tables::placement::smaller(n, u),
+        Found::Partial(_, _, n, _) => tables::placement::min(n, u),
         Found::Seal(_, _, _) => 0,
     }
 }
 
-// No legal header?
+// Whether there is no legal header.
 pub fn is_bad(f: Found) -> bool
     ensures { λ r. ⌜ r ≡ badSeen f ⌝ }
 {

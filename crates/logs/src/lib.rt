@@ -9,11 +9,19 @@ pub mod judging;
 pub mod reader;
 pub mod walking;
 
+// The physical zones of the two logs on each drive (specs: `generalZone`, `parityZone`).
+pub const GENERAL_LOG: usize = 0;
+
+pub const PARITY_LOG: usize = 1;
+
 // The ASCII mark "ZRV" with which each header begins.
 pub const MARK: [u8; 3] = [90, 82, 86];
 
 // The version that follows type and mark.
 pub const VERSION: u8 = 1;
+
+// The greatest generation: a zone that has it is worn (specs: `wornGeneration`).
+pub const WORN_GENERATION: u64 = 18446744073709551615;
 
 // What a sector of a log holds (specs: `found`): nothing legal, or the header of an entry of type 1 to 5. Counters stay in the sector.
 pub enum Found {
@@ -29,15 +37,19 @@ pub enum Found {
     Seal(usize, usize, u64),
 }
 
-// Where a log's legal part ends, and why (specs: `reason`): 0 at the written pointer, 1 at a sector that is no entry, 2 at a torn entry.
-pub struct Walked {
-    pub position: usize,
-    pub why: u8,
+// Where a log's legal part ends, and why (specs: `walkEndOf`). Each case holds the first sector that belongs to no whole entry.
+pub enum WalkEnd {
+    // the written pointer
+    AtPointer(usize),
+    // a sector that is no entry
+    NoEntry(usize),
+    // an entry whose rows reach past the written pointer
+    Torn(usize),
 }
 
-// One step of the walk (specs: `stepOf`): left, with the reason as above; or a whole entry and where the next one begins.
+// One step of the walk (specs: `stepOf`): the walk's end; or a whole entry and where the next one begins.
 pub enum Step {
-    Left(u8),
+    Left(WalkEnd),
     Whole(Found, usize),
 }
 

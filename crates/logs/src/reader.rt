@@ -2,12 +2,12 @@
 // over a struct that holds a reference. So these are thin, with no loop or branch, and proved by hand over the contracts of the covered
 // `walk_zone` and `step_in_zone`; and a caller of `legal_end` or `next_step`, whose parameters are plain, is covered again.
 use super::Step;
-use super::Walked;
+use super::WalkEnd;
 use tables::Geometry;
 ghost use mathlib.Core.Path.{_≡_};
 ghost use Prim.Native.Nat.{_≤_};
-ghost use Rattle.tables.specs.Geometry.{Valid};
-ghost use Rattle.logs.specs.ZoneWalk.{InZone, LegalEnd, stepInZone};
+ghost use Rattle.tables.specs.meaning.Geometry.{Valid};
+ghost use Rattle.logs.specs.code.ZoneWalk.{InZone, LegalEnd, stepInZone};
 
 // A log in its zone: the zone's bytes, the drive, whether it is a parity log, and the zone's written pointer.
 pub struct LogReader<'a> {
@@ -38,7 +38,7 @@ pub fn lay<'a>(
 }
 
 // Where the legal part of the reader's log ends, and why.
-pub fn walk<'a>(r: LogReader<'a>) -> Walked
+pub fn walk<'a>(r: LogReader<'a>) -> WalkEnd
     requires { ⌜ Valid (r .geometry) × InZone (r .geometry) (r .written) (now (r .bytes)) ⌝ }
     ensures { λ w. ⌜ LegalEnd (r .entry .geometry) (r .entry .drive) (r .entry .parity) (r .entry .written) (now (r .entry .bytes)) w ⌝ }
 {
@@ -60,7 +60,7 @@ pub fn legal_end(
     drive: usize,
     parity: bool,
     written: usize,
-) -> Walked
+) -> WalkEnd
     requires { ⌜ Valid geometry × InZone geometry written (now bytes) ⌝ }
     ensures { λ w. ⌜ LegalEnd geometry drive parity written (now (bytes .entry)) w ⌝ }
 {

@@ -5,19 +5,19 @@
 // The position is that of the first sector that belongs to no whole entry.
 use super::Found;
 use super::Step;
-use super::Walked;
+use super::WalkEnd;
 use tables::Geometry;
 ghost use mathlib.Core.Path.{_≡_};
 ghost use mathlib.Core.List.{[]};
 ghost use Prim.Native.Nat.{_≤_, _<_};
 ghost use lib.ListN.{getD, length};
-ghost use Rattle.tables.specs.Geometry.{Valid, physicalZones, totalBytes};
-ghost use Rattle.logs.specs.Entry.{decode};
-ghost use Rattle.logs.specs.Judge.{found};
-ghost use Rattle.logs.specs.Walk.{walkLog};
-ghost use Rattle.logs.specs.WalkCode.{InLog, logSectors, reason, leftAt};
-ghost use Rattle.logs.specs.Steps.{stepOf};
-ghost use Rattle.logs.specs.ZoneWalk.{InZone, LegalEnd, sectorsIn, stepInZone, zoneBytes};
+ghost use Rattle.tables.specs.meaning.Geometry.{Valid, physicalZones, totalBytes};
+ghost use Rattle.logs.specs.meaning.Entry.{decode};
+ghost use Rattle.logs.specs.code.Judge.{found};
+ghost use Rattle.logs.specs.meaning.Walk.{walkLog};
+ghost use Rattle.logs.specs.code.WalkCode.{InLog, logSectors, walkEndOf, endPlace, noEntryEnd, leftAt};
+ghost use Rattle.logs.specs.code.Steps.{stepOf};
+ghost use Rattle.logs.specs.code.ZoneWalk.{InZone, LegalEnd, sectorsIn, stepInZone, zoneBytes};
 
 // What sector p of a log holds.
 pub fn judge_at(
@@ -71,7 +71,7 @@ pub fn step_in_zone(
     ensures { λ r. ⌜ r ≡ stepInZone g drive parity written (now (bytes .entry)) p ⌝ }
 {
     if written <= p {
-        return Step::Left(0);
+        return Step::Left(WalkEnd::AtPointer(p));
     }
     let c = g.capacity;
     let f = judge_in_zone(bytes, g, drive, parity, written, p);
@@ -79,51 +79,57 @@ pub fn step_in_zone(
     let bad = super::judging::is_bad(f);
     let q = p + 1 + rows;
     if bad {
-        return Step::Left(1);
+        return Step::Left(WalkEnd::NoEntry(p));
     }
     if c < q {
-        return Step::Left(1);
+        return Step::Left(WalkEnd::NoEntry(p));
     }
     if written < q {
-        return Step::Left(2);
+        return Step::Left(WalkEnd::Torn(p));
     }
     Step::Whole(f, q)
 }
 
 // Where the legal part of a log ends, and why: over its entries and their rows, in the zone's own bytes.
-pub fn walk_zone(bytes: &[u8], g: Geometry, drive: usize, parity: bool, written: usize) -> Walked
+pub fn walk_zone(bytes: &[u8], g: Geometry, drive: usize, parity: bool, written: usize) -> WalkEnd
     requires { ⌜ Valid g × InZone g written (now bytes) ⌝ }
     ensures { λ r. ⌜ LegalEnd g drive parity written (now (bytes .entry)) r ⌝ }
 {
     let c = g.capacity;
     let mut p = 0;
-    let mut why = 0u8;
     'walk: loop {
         if written <= p {
-            break 'walk;
+            break 'walk WalkEnd::AtPointer(p);
         }
         let f = judge_in_zone(bytes, g, drive, parity, written, p);
         let rows = super::judging::rows_of(f, g);
         let bad = super::judging::is_bad(f);
         if bad {
-            why = 1;
-            break 'walk;
+            break 'walk WalkEnd::NoEntry(p);
         }
         if c < p + 1 + rows {
-            why = 1;
-            break 'walk;
+            break 'walk WalkEnd::NoEntry(p);
         }
         let mut k = 0;
         'rows: while k < rows {
             if written <= p + 1 + k {
-                why = 2;
-                break 'walk;
+                break 'walk WalkEnd::Torn(p);
             }
             k += 1;
         }
         p = p + 1 + rows;
     }
-    Walked { position: p, why }
+}
+
+// Whether the walk is left at a sector that is no entry.
+pub fn is_no_entry(end: WalkEnd) -> bool
+    ensures { λ r. ⌜ r ≡ noEntryEnd end ⌝ }
+{
+    match end {
+        WalkEnd::AtPointer(_) => false,
+        WalkEnd::NoEntry(_) => true,
+        WalkEnd::Torn(_) => false,
+    }
 }
 
 // A zone's part of the lent sectors: what a reader is laid over.
@@ -167,12 +173,11 @@ pub fn walk_log(
     zone: usize,
     parity: bool,
     n: usize,
-) -> Walked
+) -> WalkEnd
     requires { ⌜ Valid g ⌝ }
     requires { ⌜ InLog g drive zone n (now sectors) ⌝ }
-    ensures { λ r. ⌜ (r .position ≡ walkLog g drive parity (logSectors g drive zone (now (sectors .entry)) n) .position)
-        × (r .why ≡ reason (walkLog g drive parity (logSectors g drive zone (now (sectors .entry)) n) .last))
-        × (r .position ≤ n) ⌝ }
+    ensures { λ r. ⌜ (r ≡ walkEndOf (walkLog g drive parity (logSectors g drive zone (now (sectors .entry)) n)))
+        × (endPlace r ≤ n) ⌝ }
 {
     let bytes = zone_part(sectors, g, drive, zone);
     super::reader::legal_end(bytes, g, drive, parity, n)

@@ -1,7 +1,7 @@
 // Document 01's cases a to h, on D 4, U 2, C 32, B 64, L 2, computed by the proved placement functions. The file `stdout` beside src/ holds
 // what document 01 says of them.
 use tables::Geometry;
-ghost use Rattle.tables.specs.Geometry.{Valid};
+ghost use Rattle.tables.specs.meaning.Geometry.{Valid};
 
 fn text(s: &[u8]) {
     io::write_all(1, s);
@@ -27,7 +27,7 @@ fn place(name: &[u8], g: Geometry, address: usize)
     text(b" drive ");
     number(d);
     text(b" zone ");
-    number(3 + zone);
+    number(tables::DATA_ZONES + zone);
     text(b" sector ");
     number(x);
     text(b"\n");

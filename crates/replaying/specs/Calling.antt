@@ -6,19 +6,11 @@ use mathlib.Core.List.{List}
 use Prim.Native.Nat.{ℕ}
 use lib.Dec.{eqb}
 use lib.ListN.{length}
-use Rattle.tables.specs.Basics.{pick}
-use Rattle.tables.specs.Tables.{Tables}
+use Rattle.tables.specs.meaning.Basics.{pick}
+use Rattle.tables.specs.meaning.Tables.{Tables}
 use Rattle.volume.specs.declared.State.{State}
 use Rattle.volume.specs.declared.Outcome.{Outcome}
-use Rattle.volume.specs.OnTables.{Result, answerNumber}
-use Rattle.volume.specs.Formatting.{formatOn}
-use Rattle.volume.specs.Mounting.{mountOn}
-use Rattle.volume.specs.Looking.{lookOn}
-use Rattle.volume.specs.Writing.{writeOn}
-use Rattle.volume.specs.Flushing.{flushOn}
-use Rattle.volume.specs.Resetting.{resetOn}
-use Rattle.volume.specs.Reading.{ReadResult, readOn}
-use Rattle.volume.specs.Peeking.{peekNumber}
+use Rattle.volume.specs.meaning.CallContracts.{Result, answerNumber, formatOn, mountOn, lookOn, writeOn, flushOn, resetOn, ReadResult, readOn, peekNumber}
 use Rattle.replaying.specs.declared.Command.{Command}
 use Rattle.replaying.specs.declared.Host.{Host}
 use Rattle.replaying.specs.declared.Reply.{Reply}

@@ -8,13 +8,14 @@ use borrow.Author.Tests.{ltb-true, eqb-true}
 use lib.Dec.{eqb, ltb}
 use lib.ListN.{length, set}
 use Rattle.tables.specs.declared.Geometry.{Geometry}
-use Rattle.tables.specs.Basics.{pick}
-use Rattle.tables.specs.Geometry.{Valid, physicalZones}
-use Rattle.tables.specs.GeometryTest.{isValid, valid-if-test}
-use Rattle.tables.specs.Device.{append}
-use Rattle.tables.specs.LittleEndian.{writeLE}
-use Rattle.tables.specs.Tables.{Tables, tablesOf, lengthsFit, runStores}
-use Rattle.logs.specs.Entry.{encode, seal}
+use Rattle.tables.specs.meaning.Basics.{pick}
+use Rattle.tables.specs.meaning.Geometry.{Valid, physicalZones}
+use Rattle.tables.specs.meaning.GeometryTest.{isValid}
+use Rattle.tables.specs.laws.GeometryTest.{valid-if-test}
+use Rattle.tables.specs.meaning.Device.{append}
+use Rattle.tables.specs.laws.LittleEndian.{writeLE}
+use Rattle.tables.specs.meaning.Tables.{Tables, tablesOf, lengthsFit, runStores}
+use Rattle.logs.specs.meaning.Entry.{encode, seal}
 
 -- ---- sectors that no call stored
 -- the tables are the geometry's, the sector one of its sectors, the drive and its zone are there

@@ -8,7 +8,7 @@ use borrow.Author.Tests.{leb-true}
 use lib.Dec.{leb, ltb, eqb}
 use lib.ListN.{length, getD, drop, drop-of-length-le}
 use lib.Seq.{drop-cons}
-use Rattle.tables.specs.Basics.{pick}
+use Rattle.tables.specs.meaning.Basics.{pick}
 use Rattle.replaying.specs.declared.Number.{Number}
 use Rattle.replaying.specs.declared.Command.{Command}
 

@@ -5,14 +5,14 @@ use Prim.Native.Nat.{ℕ, _-_, _*_, _/_, _%_, min}
 use lib.Dec.{leb, eqb}
 use lib.ListN.{replicate, set}
 use Rattle.tables.specs.declared.Geometry.{Geometry}
-use Rattle.tables.specs.Basics.{pick}
-use Rattle.tables.specs.Geometry.{cells, totalBytes}
-use Rattle.tables.specs.GeometryTest.{isValid}
+use Rattle.tables.specs.meaning.Basics.{pick}
+use Rattle.tables.specs.meaning.Geometry.{cells, totalBytes}
+use Rattle.tables.specs.meaning.GeometryTest.{isValid}
 use Rattle.volume.specs.declared.Condition.{Condition}
 use Rattle.volume.specs.declared.Condition.the-variants.{Empty, Open, Sealed, Worn}
 use Rattle.volume.specs.declared.ZoneRecord.{ZoneRecord}
 use Rattle.volume.specs.declared.State.{State}
-use Rattle.volume.specs.OnTables.{blankRecord}
+use Rattle.volume.specs.meaning.CallContracts.{blankRecord}
 use Rattle.replaying.specs.declared.Command.{Command}
 use Rattle.replaying.specs.declared.Shortage.{Shortage}
 use Rattle.replaying.specs.declared.Host.{Host}

@@ -5,8 +5,8 @@ use mathlib.Core.Path.{_≡_, _∙_}
 use Prim.Native.Nat.{ℕ, _%_}
 use lib.Dec.{eqb}
 use lib.ListN.{length, take, drop, replicate, set}
-use Rattle.tables.specs.Basics.{pick}
-use Rattle.tables.specs.Tables.{Tables, tablesOf}
+use Rattle.tables.specs.meaning.Basics.{pick}
+use Rattle.tables.specs.meaning.Tables.{Tables, tablesOf}
 use Rattle.replaying.specs.declared.Command.{Command}
 use Rattle.replaying.specs.declared.Host.{Host}
 use Rattle.replaying.specs.Hosting.{handedLength, narrowed, runBytes, geometryIn, shortageIn, freshHost, withGeometry, withShortage, withRecord, withLost, quietReply}

@@ -4,20 +4,19 @@ use mathlib.Core.List.{List}
 use Prim.Native.Nat.{ℕ, zero, suc, _*_, _/_}
 use lib.Dec.{eqb, leb, ltb}
 use lib.ListN.{length, take}
-use Rattle.tables.specs.Basics.{pick}
-use Rattle.tables.specs.Geometry.{zoneSectors}
-use Rattle.tables.specs.GeometryTest.{isValid}
-use Rattle.tables.specs.LittleEndian.{readLE, writeLE}
-use Rattle.tables.specs.Tables.{Tables, tablesOf}
+use Rattle.tables.specs.meaning.Basics.{pick}
+use Rattle.tables.specs.meaning.Geometry.{zoneSectors}
+use Rattle.tables.specs.meaning.GeometryTest.{isValid}
+use Rattle.tables.specs.meaning.LittleEndian.{readLE}
+use Rattle.tables.specs.laws.LittleEndian.{writeLE}
+use Rattle.tables.specs.meaning.Tables.{Tables, tablesOf}
 use Rattle.volume.specs.declared.Answer.{Answer}
 use Rattle.volume.specs.declared.Answer.the-variants.{Finished, Unfinished, Refused}
 use Rattle.volume.specs.declared.Condition.{Condition}
 use Rattle.volume.specs.declared.Condition.the-variants.{Empty, Open, Sealed, Worn}
 use Rattle.volume.specs.declared.State.{State}
-use Rattle.volume.specs.State.{pointerIn}
-use Rattle.volume.specs.OnTables.{recordAt}
-use Rattle.volume.specs.Reading.{ReadResult, readOn}
-use Rattle.volume.specs.Peeking.{peekOn}
+use Rattle.volume.specs.meaning.State.{pointerIn}
+use Rattle.volume.specs.meaning.CallContracts.{recordAt, ReadResult, readOn, peekOn}
 use Rattle.replaying.specs.declared.Command.{Command}
 use Rattle.replaying.specs.declared.Glimpse.{Glimpse}
 use Rattle.replaying.specs.declared.Host.{Host}

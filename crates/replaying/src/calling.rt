@@ -5,8 +5,8 @@ use super::Reply;
 use volume::Answer;
 use volume::Outcome;
 ghost use mathlib.Core.Path.{_≡_};
-ghost use Rattle.tables.specs.Tables.{tablesOf};
-ghost use Rattle.volume.specs.OnTables.{answerNumber};
+ghost use Rattle.tables.specs.meaning.Tables.{tablesOf};
+ghost use Rattle.volume.specs.meaning.CallContracts.{answerNumber};
 ghost use Rattle.replaying.specs.Calling.{plainReply, statelessReply, keptReply, lookReply, readReply, writeBuffer, formatMade, mountMade, lookMade, writeMade, flushMade, resetMade, readMade, peekMade};
 
 // The number of an answer: 0 finished, 255 unfinished, else the refusal's.

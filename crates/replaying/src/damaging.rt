@@ -65,7 +65,7 @@ fn may_append(
     let d = g.drives;
     let l = g.zones;
     let b = g.sector;
-    fit & ((src == b) & ((drive < d) & (zone < l + 3)))
+    fit & ((src == b) & ((drive < d) & (zone < l + tables::DATA_ZONES)))
 }
 
 // A sector at a zone's written pointer, which rises by 1; nothing where the zone is full.

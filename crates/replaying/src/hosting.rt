@@ -15,7 +15,7 @@ ghost use Rattle.replaying.specs.Hosting.{handedLength, narrowed, runByt
 pub fn lend(length: usize, short: usize, most: usize) -> usize
     ensures { λ r. ⌜ (r ≡ handedLength length short most) × (r ≤ most) ⌝ }
 {
-    let n = tables::placement::excess(length, short);
+    let n = tables::placement::saturating_sub(length, short);
     if n <= most {
         return n;
     }

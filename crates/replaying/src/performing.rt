@@ -5,7 +5,7 @@ use super::Reply;
 ghost use mathlib.Core.Path.{_≡_};
 ghost use mathlib.Core.List.{[], _++_};
 ghost use lib.ListN.{length, drop};
-ghost use Rattle.tables.specs.Tables.{tablesOf};
+ghost use Rattle.tables.specs.meaning.Tables.{tablesOf};
 ghost use Rattle.replaying.specs.Hosting.{geometryIn, freshHost, quietReply};
 ghost use Rattle.replaying.specs.Calling.{stateDone, callDone};
 ghost use Rattle.replaying.specs.Performing.{sectorsHanded, writtenHanded, durableHanded, bufferHanded, calledOn, zeroTables, changedHost, isCall, isChange, cutDrives, oddSector, oddStored, oddDrives, changed, performed};
@@ -70,7 +70,7 @@ fn call(
 }
 
 // The tables as long as the shelf's, less the command's shortage; the buffer as long as the run, less its shortage.
-fn call_lent(
+fn call_on_tables(
     space: &mut [u8],
     written: &mut [u32],
     durable: &mut [u32],
@@ -139,7 +139,7 @@ fn change_host(h: Host, c: Command) -> Host
 }
 
 // A cut of all drives of the shelf.
-fn cut_lent(written: &mut [u32], durable: &mut [u32], h: Host, c: Command)
+fn cut_tables(written: &mut [u32], durable: &mut [u32], h: Host, c: Command)
     ensures { λ _. ⌜ (now (written .exit) ≡ cutDrives h c (now (written .entry)) (now (durable .entry)) .written)
         × (now (durable .exit) ≡ cutDrives h c (now (written .entry)) (now (durable .entry)) .durable) ⌝ }
 {
@@ -167,7 +167,7 @@ fn append_odd(sectors: &mut [u8], written: &mut [u32], buffer: &mut [u8], h: Hos
 }
 
 // The same, with the shelf's tables and a buffer of one sector.
-fn append_lent(space: &mut [u8], written: &mut [u32], buffer: &mut [u8], h: Host, c: Command)
+fn append_to_log(space: &mut [u8], written: &mut [u32], buffer: &mut [u8], h: Host, c: Command)
     ensures { λ _. ⌜ (now (space .exit) ≡ oddDrives h c (now (buffer .entry)) (tablesOf (now (space .entry)) (now (written .entry)) []) .tables .sectors)
         × (now (written .exit) ≡ oddDrives h c (now (buffer .entry)) (tablesOf (now (space .entry)) (now (written .entry)) []) .tables .written)
         × (now (buffer .exit) ≡ oddDrives h c (now (buffer .entry)) (tablesOf (now (space .entry)) (now (written .entry)) []) .buffer) ⌝ }
@@ -193,7 +193,7 @@ fn change_tables(
 {
     let letter = c.letter;
     if letter == b'c' {
-        cut_lent(written, durable, h, c);
+        cut_tables(written, durable, h, c);
         return;
     }
     if letter == b'b' {
@@ -204,7 +204,7 @@ fn change_tables(
         super::damaging::put_pair(written, durable, c.first as usize, c.second, c.third);
         return;
     }
-    append_lent(space, written, buffer, h, c);
+    append_to_log(space, written, buffer, h, c);
 }
 
 // Whether a letter is that of a call.
@@ -246,7 +246,7 @@ pub fn perform(
     }
     let calls = is_call(letter);
     if calls {
-        return call_lent(space, written, durable, buffer, h, c);
+        return call_on_tables(space, written, durable, buffer, h, c);
     }
     let changes = is_change(letter);
     if changes {

@@ -7,7 +7,7 @@ use volume::Condition;
 use volume::State;
 ghost use mathlib.Core.Path.{_≡_};
 ghost use lib.ListN.{length, take};
-ghost use Rattle.tables.specs.Tables.{tablesOf};
+ghost use Rattle.tables.specs.meaning.Tables.{tablesOf};
 ghost use Rattle.replaying.specs.Adler.{adlerOfBytes, adlerOfTables};
 ghost use Rattle.replaying.specs.Hosting.{handedLength, runBytes};
 ghost use Rattle.replaying.specs.Showing.{mayKeep, conditionNumber, allSectors, allPointers, glimpseBy, glimpseOf, runRead, zoneStart, zoneRead, markedAll, placeIn, partShown};

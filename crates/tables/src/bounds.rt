@@ -3,10 +3,10 @@ use super::Geometry;
 ghost use mathlib.Core.Path.{_≡_};
 ghost use Prim.Native.Nat.{_≤_, _<_};
 ghost use lib.ListN.{length};
-ghost use Rattle.tables.specs.Below.{anyBelow};
-ghost use Rattle.tables.specs.Geometry.{Valid, log2, zoneSectors, stripeSectors, physicalZones, cells, totalBytes};
-ghost use Rattle.tables.specs.GeometryTest.{isValid, all, ranges, sectorSize};
-ghost use Rattle.tables.specs.Tables.{lengthsFit, bufferFits, pointerBad, pointersBad};
+ghost use Rattle.tables.specs.meaning.Below.{anyBelow};
+ghost use Rattle.tables.specs.meaning.Geometry.{Valid, log2, zoneSectors, stripeSectors, physicalZones, cells, totalBytes};
+ghost use Rattle.tables.specs.meaning.GeometryTest.{isValid, all, ranges, sectorSize};
+ghost use Rattle.tables.specs.meaning.Tables.{lengthsFit, bufferFits, pointerBad, pointersBad};
 
 fn size_ok(b: usize) -> bool
     ensures { λ r. ⌜ r ≡ sectorSize b ⌝ }
@@ -96,7 +96,7 @@ pub fn table_cells(g: Geometry) -> usize
 {
     let d = g.drives;
     let l = g.zones;
-    d * (l + 3)
+    d * (l + super::DATA_ZONES)
 }
 
 // The bytes of all sectors.
@@ -141,7 +141,7 @@ fn drive_bad(written: &[u32], durable: &[u32], g: Geometry, d: usize) -> bool
     requires { ⌜ (d < g .drives) × (length (now written) ≡ cells g) × (length (now durable) ≡ cells g) ⌝ }
     ensures { λ r. ⌜ r ≡ anyBelow (pointerBad g (now (written .entry)) (now (durable .entry)) d) (physicalZones g) ⌝ }
 {
-    let z = g.zones + 3;
+    let z = g.zones + super::DATA_ZONES;
     let c = g.capacity;
     let mut bad = false;
     let mut y = 0;

@@ -6,6 +6,9 @@ pub mod placement;
 pub mod sectors;
 pub mod stores;
 
+// Logical zone z lies in physical zone DATA_ZONES + z of every drive (specs: `dataZone`): those before it hold the logs.
+pub const DATA_ZONES: usize = 3;
+
 // The shape of a volume (document 01: D, B, U, L and C).
 pub struct Geometry {
     pub drives: usize,

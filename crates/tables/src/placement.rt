@@ -3,8 +3,8 @@ use super::Geometry;
 ghost use mathlib.Core.Path.{_≡_};
 ghost use mathlib.Core.Logic.{_≢_};
 ghost use Prim.Native.Nat.{_+_, _*_, _-_, _/_, _≤_, _<_, min};
-ghost use Rattle.tables.specs.Placement.{parityDrive, unitDrive, unitOf, driveOf, sectorOf, addressAt, needed};
-ghost use Rattle.tables.specs.Geometry.{Valid, zoneSectors, firstDriveOf};
+ghost use Rattle.tables.specs.meaning.Placement.{parityDrive, unitDrive, unitOf, driveOf, sectorOf, addressAt, needed};
+ghost use Rattle.tables.specs.meaning.Geometry.{Valid, zoneSectors, firstDriveOf};
 
 // The drive that holds the parity of a stripe.
 pub fn parity_drive(d: usize, zone: usize, stripe: usize) -> usize
@@ -80,15 +80,15 @@ pub fn address_at(g: Geometry, zone: usize, drive: usize, x: usize) -> usize
     s * ((d - 1) * u) + (j * u + x % u)
 }
 
-// The smaller of two numbers.
-pub fn smaller(a: usize, b: usize) -> usize
+// The min of two numbers.
+pub fn min(a: usize, b: usize) -> usize
     ensures { λ r. ⌜ r ≡ min a b ⌝ }
 {
     if a <= b { a } else { b }
 }
 
 // How far a is past b, 0 if it is not.
-pub fn excess(a: usize, b: usize) -> usize
+pub fn saturating_sub(a: usize, b: usize) -> usize
     ensures { λ r. ⌜ r ≡ a - b ⌝ }
 {
     if b <= a { a - b } else { 0 }
@@ -109,7 +109,7 @@ pub fn sectors_needed(g: Geometry, zone: usize, n: usize, drive: usize) -> usize
         return s * u;
     }
     let j = unit_of(d, p, drive);
-    let more = excess(n % k, j * u);
-    let own = smaller(more, u);
+    let more = saturating_sub(n % k, j * u);
+    let own = min(more, u);
     s * u + own
 }

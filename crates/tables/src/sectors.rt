@@ -3,11 +3,11 @@ use super::Geometry;
 ghost use mathlib.Core.Path.{_≡_};
 ghost use Prim.Native.Nat.{_+_, _≤_, _<_};
 ghost use lib.ListN.{length, replicate};
-ghost use Rattle.tables.specs.Basics.{pick};
-ghost use Rattle.tables.specs.Lists.{overlay};
-ghost use Rattle.tables.specs.Xor.{xorBytes};
-ghost use Rattle.tables.specs.Geometry.{Valid, physicalZones, totalBytes};
-ghost use Rattle.tables.specs.Tables.{sectorAt};
+ghost use Rattle.tables.specs.meaning.Basics.{pick};
+ghost use Rattle.tables.specs.meaning.Lists.{overlay};
+ghost use Rattle.tables.specs.meaning.Xor.{xorBytes};
+ghost use Rattle.tables.specs.meaning.Geometry.{Valid, physicalZones, totalBytes};
+ghost use Rattle.tables.specs.meaning.Tables.{sectorAt};
 
 // Lays src over dst from `at`.
 pub fn copy_in(dst: &mut [u8], at: usize, src: &[u8])

@@ -5,10 +5,11 @@ ghost use mathlib.Core.Bool.{_&&_};
 ghost use lib.Dec.{ltb};
 ghost use Prim.Native.Nat.{_+_, _-_, _≤_, _<_};
 ghost use lib.ListN.{length, getD};
-ghost use Rattle.tables.specs.Basics.{pick};
-ghost use Rattle.tables.specs.Geometry.{Valid, physicalZones, cells, totalBytes};
-ghost use Rattle.tables.specs.Device.{append, reset, flush};
-ghost use Rattle.tables.specs.Tables.{hasRoom, MadeAppends, MadePointers, cell, byteAt, sectorsAfterAppend, writtenAfterAppend, pointersAfterReset, durableAfterFlush, storeIf};
+ghost use Rattle.tables.specs.meaning.Basics.{pick};
+ghost use Rattle.tables.specs.meaning.Geometry.{Valid, physicalZones, cells, totalBytes};
+ghost use Rattle.tables.specs.meaning.Device.{append, reset, flush};
+ghost use Rattle.tables.specs.meaning.Tables.{hasRoom, cell, byteAt, sectorsAfterAppend, writtenAfterAppend, pointersAfterReset, durableAfterFlush};
+ghost use Rattle.tables.specs.laws.Made.{MadeAppends, MadePointers, storeIf};
 
 // A zone's cell in the tables of pointers.
 pub fn cell_of(g: Geometry, drive: usize, zone: usize) -> usize
@@ -17,7 +18,7 @@ pub fn cell_of(g: Geometry, drive: usize, zone: usize) -> usize
     ensures { λ r. ⌜ (r ≡ cell g drive zone) × (r < cells g) ⌝ }
 {
     let l = g.zones;
-    drive * (l + 3) + zone
+    drive * (l + super::DATA_ZONES) + zone
 }
 
 // A drive's first cell.
@@ -27,7 +28,7 @@ pub fn row_of(g: Geometry, drive: usize) -> usize
     ensures { λ r. ⌜ (r ≡ cell g drive 0) × (r + physicalZones g ≤ cells g) ⌝ }
 {
     let l = g.zones;
-    drive * (l + 3)
+    drive * (l + super::DATA_ZONES)
 }
 
 // The first byte of a sector.
@@ -88,7 +89,7 @@ pub fn flush_drive(written: &[u32], durable: &mut [u32], g: Geometry, drive: usi
 {
     let at = row_of(g, drive);
     let l = g.zones;
-    let end = at + l + 3;
+    let end = at + l + super::DATA_ZONES;
     super::sectors::copy_pointers(durable, at, &written[at..end]);
 }
 

@@ -6,14 +6,14 @@ ghost use mathlib.Core.Path.{_≡_};
 ghost use mathlib.Core.Bool.{not};
 ghost use Prim.Native.Nat.{ℕ, _≤_, _<_};
 ghost use lib.Dec.{leb};
-ghost use Rattle.tables.specs.Basics.{pick};
-ghost use Rattle.tables.specs.Below.{allBelow, countBelow};
-ghost use Rattle.tables.specs.Drives.{findBelow};
-ghost use Rattle.tables.specs.Geometry.{Valid, zoneSectors};
-ghost use Rattle.volume.specs.State.{pointerIn};
-ghost use Rattle.volume.specs.Refusals.{stateWithin};
-ghost use Rattle.volume.specs.OnTables.{recordAt, viewState, among};
-ghost use Rattle.volume.specs.CheckLaws.{presentList, openingNumber};
+ghost use Rattle.tables.specs.meaning.Basics.{pick};
+ghost use Rattle.tables.specs.meaning.Below.{allBelow, countBelow};
+ghost use Rattle.tables.specs.meaning.Drives.{findBelow};
+ghost use Rattle.tables.specs.meaning.Geometry.{Valid, zoneSectors};
+ghost use Rattle.volume.specs.meaning.State.{pointerIn};
+ghost use Rattle.volume.specs.meaning.Refusals.{stateWithin};
+ghost use Rattle.volume.specs.meaning.CallContracts.{recordAt, viewState, isSet};
+ghost use Rattle.volume.specs.checks.CheckLaws.{presentList, openingNumber};
 
 // The pointer that a condition carries.
 pub fn pointer_of(c: Condition) -> usize
@@ -82,7 +82,7 @@ fn one_unless(b: bool) -> usize
 // How many drives are absent.
 pub fn count_absent(g: Geometry, here: [bool; 8]) -> usize
     requires { ⌜ Valid g ⌝ }
-    ensures { λ r. ⌜ r ≡ countBelow (λ (d : ℕ). not (among here d)) (g .drives) ⌝ }
+    ensures { λ r. ⌜ r ≡ countBelow (λ (d : ℕ). not (isSet here d)) (g .drives) ⌝ }
 {
     let n = g.drives;
     let mut k = 0;
@@ -95,22 +95,31 @@ pub fn count_absent(g: Geometry, here: [bool; 8]) -> usize
     k
 }
 
-fn choose(b: bool, d: usize, x: usize) -> usize
-    ensures { λ r. ⌜ r ≡ pick (not b) d x ⌝ }
+// The first value if b, else the second.
+pub fn choose(b: bool, x: usize, y: usize) -> usize
+    ensures { λ r. ⌜ r ≡ pick b x y ⌝ }
 {
-    if b { x } else { d }
+    if b { x } else { y }
+}
+
+// The same of generations.
+pub fn choose_generation(b: bool, x: u64, y: u64) -> u64
+    ensures { λ r. ⌜ r ≡ pick b x y ⌝ }
+{
+    if b { x } else { y }
 }
 
 // The drive that is absent, or 255.
 pub fn left_out(g: Geometry, here: [bool; 8]) -> usize
     requires { ⌜ Valid g ⌝ }
-    ensures { λ r. ⌜ r ≡ findBelow (λ (d : ℕ). not (among here d)) (g .drives) ⌝ }
+    ensures { λ r. ⌜ r ≡ findBelow (λ (d : ℕ). not (isSet here d)) (g .drives) ⌝ }
 {
     let n = g.drives;
     let mut x = 255;
     let mut d = 0;
     while d < n {
-        x = choose(here[d], d, x);
+        let present = here[d];
+        x = choose(!present, d, x);
         d += 1;
     }
     x

@@ -6,20 +6,15 @@ ghost use mathlib.Core.Path.{_≡_};
 ghost use mathlib.Core.Bool.{_||_};
 ghost use Prim.Native.Nat.{_≤_, _<_};
 ghost use lib.ListN.{length};
-ghost use Rattle.tables.specs.Geometry.{Valid, physicalZones, cells};
-ghost use Rattle.tables.specs.Lists.{anyOf};
-ghost use Rattle.logs.specs.Heads.{labelled, arrayIn, generationIn, isReset, isSeal, endsPast};
-ghost use Rattle.logs.specs.Entry.{Entry};
-ghost use Rattle.logs.specs.QueryLaws.{SmallSeen};
-ghost use Rattle.volume.specs.Rules.{generalHeads, generalEnding, parityEntries, parityEnding, endingPast};
-ghost use Rattle.volume.specs.Refusals.{isNoEntry};
-ghost use Rattle.volume.specs.DriveLogs.{Sized, zonePointer, saysLost, pastSeen};
-ghost use Rattle.volume.specs.Knowing.{readDevice};
-
-// The physical zones of the two logs.
-pub const GENERAL_LOG: usize = 0;
-
-pub const PARITY_LOG: usize = 1;
+ghost use Rattle.tables.specs.meaning.Geometry.{Valid, physicalZones, cells};
+ghost use Rattle.tables.specs.meaning.Lists.{anyOf};
+ghost use Rattle.logs.specs.meaning.Heads.{labelled, arrayIn, generationIn, isReset, isSeal, endsPast};
+ghost use Rattle.logs.specs.meaning.Entry.{Entry};
+ghost use Rattle.logs.specs.code.QueryLaws.{SmallSeen};
+ghost use Rattle.volume.specs.meaning.Rules.{generalHeads, generalEnding, parityEntries, parityEnding, endingPast};
+ghost use Rattle.volume.specs.meaning.Refusals.{isNoEntry};
+ghost use Rattle.volume.specs.looking.DriveLogs.{Sized, zonePointer, saysLost, pastSeen};
+ghost use Rattle.volume.specs.looking.Knowing.{readDevice};
 
 // How many sectors a zone of a drive has.
 pub fn zone_pointer(written: &[u32], g: Geometry, drive: usize, zone: usize) -> usize
@@ -30,17 +25,17 @@ pub fn zone_pointer(written: &[u32], g: Geometry, drive: usize, zone: usize) -> 
     let at = tables::stores::cell_of(g, drive, zone);
     let n = tables::bounds::widen(written[at]);
     let c = g.capacity;
-    tables::placement::smaller(n, c)
+    tables::placement::min(n, c)
 }
 
-// Does the general log begin with a label?
+// Whether the general log begins with a label.
 pub fn begins_labelled(sectors: &[u8], written: &[u32], g: Geometry, drive: usize) -> bool
     requires { ⌜ Valid g ⌝ }
     requires { ⌜ Sized g (now sectors) (now written) × (drive < g .drives) ⌝ }
     ensures { λ r. ⌜ r ≡ labelled (generalHeads g (readDevice g (now (sectors .entry)) (now (written .entry))) drive) ⌝ }
 {
-    let n = zone_pointer(written, g, drive, GENERAL_LOG);
-    logs::folds::begins_labelled(sectors, g, drive, GENERAL_LOG, n)
+    let n = zone_pointer(written, g, drive, logs::GENERAL_LOG);
+    logs::folds::begins_labelled(sectors, g, drive, logs::GENERAL_LOG, n)
 }
 
 // The array number of that label; 0 if there is none.
@@ -49,8 +44,8 @@ pub fn first_array(sectors: &[u8], written: &[u32], g: Geometry, drive: usize) -
     requires { ⌜ Sized g (now sectors) (now written) × (drive < g .drives) ⌝ }
     ensures { λ r. ⌜ r ≡ arrayIn (generalHeads g (readDevice g (now (sectors .entry)) (now (written .entry))) drive) ⌝ }
 {
-    let n = zone_pointer(written, g, drive, GENERAL_LOG);
-    logs::folds::first_array(sectors, g, drive, GENERAL_LOG, n)
+    let n = zone_pointer(written, g, drive, logs::GENERAL_LOG);
+    logs::folds::first_array(sectors, g, drive, logs::GENERAL_LOG, n)
 }
 
 // The drive that the log's last label says is lost; 255 if it names none or the log does not begin with a label.
@@ -63,8 +58,8 @@ pub fn says_lost(sectors: &[u8], written: &[u32], g: Geometry, drive: usize) -> 
     if !has_say {
         return 255;
     }
-    let n = zone_pointer(written, g, drive, GENERAL_LOG);
-    logs::folds::last_lost(sectors, g, drive, GENERAL_LOG, n)
+    let n = zone_pointer(written, g, drive, logs::GENERAL_LOG);
+    logs::folds::last_lost(sectors, g, drive, logs::GENERAL_LOG, n)
 }
 
 // Refusal 6: whether a sector where one of the two logs should have an entry is no legal one, or rows pass the zone's end.
@@ -74,13 +69,11 @@ pub fn logs_broken(sectors: &[u8], written: &[u32], g: Geometry, drive: usize) -
     ensures { λ r. ⌜ r ≡ isNoEntry (generalEnding g (readDevice g (now (sectors .entry)) (now (written .entry))) drive)
         || isNoEntry (parityEnding g (readDevice g (now (sectors .entry)) (now (written .entry))) drive) ⌝ }
 {
-    let n = zone_pointer(written, g, drive, GENERAL_LOG);
-    let general = logs::walking::walk_log(sectors, g, drive, GENERAL_LOG, false, n);
-    let m = zone_pointer(written, g, drive, PARITY_LOG);
-    let parity = logs::walking::walk_log(sectors, g, drive, PARITY_LOG, true, m);
-    let a = general.why;
-    let b = parity.why;
-    (a == 1) | (b == 1)
+    let n = zone_pointer(written, g, drive, logs::GENERAL_LOG);
+    let general = logs::walking::walk_log(sectors, g, drive, logs::GENERAL_LOG, false, n);
+    let m = zone_pointer(written, g, drive, logs::PARITY_LOG);
+    let parity = logs::walking::walk_log(sectors, g, drive, logs::PARITY_LOG, true, m);
+    logs::walking::is_no_entry(general) | logs::walking::is_no_entry(parity)
 }
 
 // The generation that the last counters give zone z; 0 if there are none.
@@ -89,11 +82,11 @@ pub fn last_generation(sectors: &[u8], written: &[u32], g: Geometry, drive: usiz
     requires { ⌜ Sized g (now sectors) (now written) × (drive < g .drives) × (z < g .zones) ⌝ }
     ensures { λ r. ⌜ r ≡ generationIn z (generalHeads g (readDevice g (now (sectors .entry)) (now (written .entry))) drive) ⌝ }
 {
-    let n = zone_pointer(written, g, drive, GENERAL_LOG);
-    logs::folds::last_generation(sectors, g, drive, GENERAL_LOG, n, z)
+    let n = zone_pointer(written, g, drive, logs::GENERAL_LOG);
+    logs::folds::last_generation(sectors, g, drive, logs::GENERAL_LOG, n, z)
 }
 
-// Is there a reset entry of a zone and generation?
+// Whether there is a reset entry of a zone and generation.
 pub fn has_reset(
     sectors: &[u8],
     written: &[u32],
@@ -106,11 +99,11 @@ pub fn has_reset(
     requires { ⌜ Sized g (now sectors) (now written) × (drive < g .drives) ⌝ }
     ensures { λ r. ⌜ r ≡ anyOf (isReset z generation) (generalHeads g (readDevice g (now (sectors .entry)) (now (written .entry))) drive) ⌝ }
 {
-    let n = zone_pointer(written, g, drive, GENERAL_LOG);
-    logs::folds::has_reset(sectors, g, drive, GENERAL_LOG, n, z, generation)
+    let n = zone_pointer(written, g, drive, logs::GENERAL_LOG);
+    logs::folds::has_reset(sectors, g, drive, logs::GENERAL_LOG, n, z, generation)
 }
 
-// Is there a seal of a zone and generation?
+// Whether there is a seal of a zone and generation.
 pub fn has_seal(
     sectors: &[u8],
     written: &[u32],
@@ -123,11 +116,11 @@ pub fn has_seal(
     requires { ⌜ Sized g (now sectors) (now written) × (drive < g .drives) ⌝ }
     ensures { λ r. ⌜ r ≡ anyOf (isSeal z generation) (generalHeads g (readDevice g (now (sectors .entry)) (now (written .entry))) drive) ⌝ }
 {
-    let n = zone_pointer(written, g, drive, GENERAL_LOG);
-    logs::folds::has_seal(sectors, g, drive, GENERAL_LOG, n, z, generation)
+    let n = zone_pointer(written, g, drive, logs::GENERAL_LOG);
+    logs::folds::has_seal(sectors, g, drive, logs::GENERAL_LOG, n, z, generation)
 }
 
-// Does a whole partial parity entry of a zone and generation end past pointer q?
+// Whether a whole partial parity entry of a zone and generation ends past pointer q.
 pub fn whole_past(
     sectors: &[u8],
     written: &[u32],
@@ -141,13 +134,23 @@ pub fn whole_past(
     requires { ⌜ Sized g (now sectors) (now written) × (drive < g .drives) ⌝ }
     ensures { λ r. ⌜ r ≡ anyOf (λ (e : Entry). endsPast g z generation q (e .head)) (parityEntries g (readDevice g (now (sectors .entry)) (now (written .entry))) drive) ⌝ }
 {
-    let n = zone_pointer(written, g, drive, PARITY_LOG);
+    let n = zone_pointer(written, g, drive, logs::PARITY_LOG);
     let most = tables::bounds::zone_sectors(g);
-    let place = logs::folds::last_partial(sectors, g, drive, PARITY_LOG, n, z, generation, q, most);
+    let place = logs::folds::last_partial(
+        sectors,
+        g,
+        drive,
+        logs::PARITY_LOG,
+        n,
+        z,
+        generation,
+        q,
+        most,
+    );
     place != 0
 }
 
-// Is what was found a partial parity entry of a zone and generation that ends past pointer q?
+// Whether what was found is a partial parity entry of a zone and generation that ends past pointer q.
 fn found_past(f: Found, g: Geometry, z: usize, generation: u64, q: usize) -> bool
     requires { ⌜ Valid g ⌝ }
     requires { ⌜ SmallSeen g f ⌝ }
@@ -164,7 +167,7 @@ fn found_past(f: Found, g: Geometry, z: usize, generation: u64, q: usize) -> boo
     }
 }
 
-// Does the torn entry, if there is one, do so?
+// Whether the torn entry, if there is one, does so.
 pub fn torn_past(
     sectors: &[u8],
     written: &[u32],
@@ -178,7 +181,7 @@ pub fn torn_past(
     requires { ⌜ Sized g (now sectors) (now written) × (drive < g .drives) ⌝ }
     ensures { λ r. ⌜ r ≡ endingPast g z generation q (parityEnding g (readDevice g (now (sectors .entry)) (now (written .entry))) drive) ⌝ }
 {
-    let n = zone_pointer(written, g, drive, PARITY_LOG);
-    let f = logs::folds::torn_entry(sectors, g, drive, PARITY_LOG, true, n);
+    let n = zone_pointer(written, g, drive, logs::PARITY_LOG);
+    let f = logs::folds::torn_entry(sectors, g, drive, logs::PARITY_LOG, true, n);
     found_past(f, g, z, generation, q)
 }

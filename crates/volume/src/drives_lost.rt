@@ -5,17 +5,17 @@ ghost use mathlib.Core.Path.{_≡_};
 ghost use mathlib.Core.Bool.{_&&_, _||_, not};
 ghost use Prim.Native.Nat.{ℕ, _<_};
 ghost use lib.Dec.{eqb};
-ghost use Rattle.tables.specs.Basics.{pick};
-ghost use Rattle.tables.specs.Below.{anyBelow};
-ghost use Rattle.tables.specs.Drives.{findBelow, noDrive};
-ghost use Rattle.tables.specs.Geometry.{Valid};
-ghost use Rattle.logs.specs.Heads.{labelled, arrayIn};
-ghost use Rattle.volume.specs.OnTables.{among};
-ghost use Rattle.volume.specs.Rules.{generalHeads, generalEnding, parityEnding, isPresent};
-ghost use Rattle.volume.specs.Refusals.{isNoEntry, badLabels, badLogs};
-ghost use Rattle.volume.specs.DriveLogs.{Sized, saysLost};
-ghost use Rattle.volume.specs.Knowing.{readDevice};
-ghost use Rattle.volume.specs.DrivesLost.{saidList, saidOf, labelBad};
+ghost use Rattle.tables.specs.meaning.Basics.{pick};
+ghost use Rattle.tables.specs.meaning.Below.{anyBelow};
+ghost use Rattle.tables.specs.meaning.Drives.{findBelow, noDrive};
+ghost use Rattle.tables.specs.meaning.Geometry.{Valid};
+ghost use Rattle.logs.specs.meaning.Heads.{labelled, arrayIn};
+ghost use Rattle.volume.specs.meaning.CallContracts.{isSet};
+ghost use Rattle.volume.specs.meaning.Rules.{generalHeads, generalEnding, parityEnding, isPresent};
+ghost use Rattle.volume.specs.meaning.Refusals.{isNoEntry, badLabels, badLogs};
+ghost use Rattle.volume.specs.looking.DriveLogs.{Sized, saysLost};
+ghost use Rattle.volume.specs.looking.Knowing.{readDevice};
+ghost use Rattle.volume.specs.looking.DrivesLost.{saidList, saidOf, labelBad};
 
 // What one drive says, if it is named: the drive that its last label names as lost, or 255.
 fn said_by(sectors: &[u8], written: &[u32], g: Geometry, named: bool, drive: usize) -> usize
@@ -46,7 +46,7 @@ fn said_lost(sectors: &[u8], written: &[u32], g: Geometry, named: [bool; 8]) -> 
     said
 }
 
-// Does some drive say that drive d is lost?
+// Whether some drive says that drive d is lost.
 fn is_said(g: Geometry, said: [usize; 8], d: usize) -> bool
     requires { ⌜ Valid g ⌝ }
     ensures { λ r. ⌜ r ≡ saidOf g said d ⌝ }
@@ -65,7 +65,7 @@ fn is_said(g: Geometry, said: [usize; 8], d: usize) -> bool
 pub fn look_present(sectors: &[u8], written: &[u32], g: Geometry, named: [bool; 8]) -> [bool; 8]
     requires { ⌜ Valid g ⌝ }
     requires { ⌜ Sized g (now sectors) (now written) ⌝ }
-    ensures { λ r. ⌜ among r ≡ isPresent g (among named) (readDevice g (now (sectors .entry)) (now (written .entry))) ⌝ }
+    ensures { λ r. ⌜ isSet r ≡ isPresent g (isSet named) (readDevice g (now (sectors .entry)) (now (written .entry))) ⌝ }
 {
     let n = g.drives;
     let said = said_lost(sectors, written, g, named);
@@ -79,11 +79,11 @@ pub fn look_present(sectors: &[u8], written: &[u32], g: Geometry, named: [bool; 
     here
 }
 
-// Does some present drive's log begin with another array number?
+// Whether some present drive's log begins with another array number.
 fn other_array(sectors: &[u8], written: &[u32], g: Geometry, here: [bool; 8], array: u64) -> bool
     requires { ⌜ Valid g ⌝ }
     requires { ⌜ Sized g (now sectors) (now written) ⌝ }
-    ensures { λ r. ⌜ r ≡ anyBelow (λ (e : ℕ). among here e && not (eqb array (arrayIn (generalHeads g (readDevice g (now (sectors .entry)) (now (written .entry))) e)))) (g .drives) ⌝ }
+    ensures { λ r. ⌜ r ≡ anyBelow (λ (e : ℕ). isSet here e && not (eqb array (arrayIn (generalHeads g (readDevice g (now (sectors .entry)) (now (written .entry))) e)))) (g .drives) ⌝ }
 {
     let n = g.drives;
     let mut other = false;
@@ -100,7 +100,7 @@ fn other_array(sectors: &[u8], written: &[u32], g: Geometry, here: [bool; 8], ar
 fn label_bad(sectors: &[u8], written: &[u32], g: Geometry, here: [bool; 8], d: usize) -> bool
     requires { ⌜ Valid g ⌝ }
     requires { ⌜ Sized g (now sectors) (now written) × (d < g .drives) ⌝ }
-    ensures { λ r. ⌜ r ≡ labelBad g (among here) (readDevice g (now (sectors .entry)) (now (written .entry))) d ⌝ }
+    ensures { λ r. ⌜ r ≡ labelBad g (isSet here) (readDevice g (now (sectors .entry)) (now (written .entry))) d ⌝ }
 {
     let labelled = super::drive_logs::begins_labelled(sectors, written, g, d);
     let a = super::drive_logs::first_array(sectors, written, g, d);
@@ -113,7 +113,7 @@ fn label_bad(sectors: &[u8], written: &[u32], g: Geometry, here: [bool; 8], d: u
 pub fn labels_bad(sectors: &[u8], written: &[u32], g: Geometry, here: [bool; 8]) -> bool
     requires { ⌜ Valid g ⌝ }
     requires { ⌜ Sized g (now sectors) (now written) ⌝ }
-    ensures { λ r. ⌜ r ≡ badLabels g (among here) (readDevice g (now (sectors .entry)) (now (written .entry))) ⌝ }
+    ensures { λ r. ⌜ r ≡ badLabels g (isSet here) (readDevice g (now (sectors .entry)) (now (written .entry))) ⌝ }
 {
     let n = g.drives;
     let mut bad = false;
@@ -143,7 +143,7 @@ fn log_bad(sectors: &[u8], written: &[u32], g: Geometry, present: bool, d: usize
 pub fn logs_bad(sectors: &[u8], written: &[u32], g: Geometry, here: [bool; 8]) -> bool
     requires { ⌜ Valid g ⌝ }
     requires { ⌜ Sized g (now sectors) (now written) ⌝ }
-    ensures { λ r. ⌜ r ≡ badLogs g (among here) (readDevice g (now (sectors .entry)) (now (written .entry))) ⌝ }
+    ensures { λ r. ⌜ r ≡ badLogs g (isSet here) (readDevice g (now (sectors .entry)) (now (written .entry))) ⌝ }
 {
     let n = g.drives;
     let mut bad = false;
@@ -156,22 +156,16 @@ pub fn logs_bad(sectors: &[u8], written: &[u32], g: Geometry, here: [bool; 8]) -
     bad
 }
 
-fn choose(b: bool, d: usize, x: usize) -> usize
-    ensures { λ r. ⌜ r ≡ pick b d x ⌝ }
-{
-    if b { d } else { x }
-}
-
 // The last present drive, or 255.
 fn last_present(g: Geometry, here: [bool; 8]) -> usize
     requires { ⌜ Valid g ⌝ }
-    ensures { λ r. ⌜ r ≡ findBelow (among here) (g .drives) ⌝ }
+    ensures { λ r. ⌜ r ≡ findBelow (isSet here) (g .drives) ⌝ }
 {
     let n = g.drives;
     let mut x = 255;
     let mut d = 0;
     while d < n {
-        x = choose(here[d], d, x);
+        x = super::checks::choose(here[d], d, x);
         d += 1;
     }
     x
@@ -181,7 +175,7 @@ fn last_present(g: Geometry, here: [bool; 8]) -> usize
 pub fn look_array(sectors: &[u8], written: &[u32], g: Geometry, here: [bool; 8]) -> u64
     requires { ⌜ Valid g ⌝ }
     requires { ⌜ Sized g (now sectors) (now written) ⌝ }
-    ensures { λ r. ⌜ r ≡ arrayIn (generalHeads g (readDevice g (now (sectors .entry)) (now (written .entry))) (findBelow (among here) (g .drives))) ⌝ }
+    ensures { λ r. ⌜ r ≡ arrayIn (generalHeads g (readDevice g (now (sectors .entry)) (now (written .entry))) (findBelow (isSet here) (g .drives))) ⌝ }
 {
     let n = g.drives;
     let d = last_present(g, here);

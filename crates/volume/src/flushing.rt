@@ -6,11 +6,11 @@ use tables::Geometry;
 ghost use mathlib.Core.Path.{_≡_};
 ghost use Prim.Native.Nat.{_<_};
 ghost use lib.ListN.{length};
-ghost use Rattle.tables.specs.Geometry.{Valid, cells};
-ghost use Rattle.tables.specs.Tables.{tablesOf, MadePointers};
-ghost use Rattle.volume.specs.Calls.{flushStores};
-ghost use Rattle.volume.specs.OnTables.{among};
-ghost use Rattle.volume.specs.Flushing.{flushOn};
+ghost use Rattle.tables.specs.meaning.Geometry.{Valid, cells};
+ghost use Rattle.tables.specs.meaning.Tables.{tablesOf};
+ghost use Rattle.tables.specs.laws.Made.{MadePointers};
+ghost use Rattle.volume.specs.meaning.Calls.{flushStores};
+ghost use Rattle.volume.specs.meaning.CallContracts.{isSet, flushOn};
 
 // Flushes every drive that is here, as far as the budget of stores goes: what is left of it.
 pub fn flush_all(
@@ -22,7 +22,7 @@ pub fn flush_all(
 ) -> u64
     requires { ⌜ Valid g ⌝ }
     requires { ⌜ (length (now written) ≡ cells g) × (length (now durable) ≡ cells g) ⌝ }
-    ensures { λ r. ⌜ MadePointers g budget r (flushStores g (among here)) (now (written .entry)) (now (durable .entry)) (now (written .entry)) (now (durable .exit)) ⌝ }
+    ensures { λ r. ⌜ MadePointers g budget r (flushStores g (isSet here)) (now (written .entry)) (now (durable .entry)) (now (written .entry)) (now (durable .exit)) ⌝ }
 {
     let n = g.drives;
     let mut rest = budget;

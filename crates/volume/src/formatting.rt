@@ -8,13 +8,14 @@ use tables::Geometry;
 ghost use mathlib.Core.Path.{_≡_};
 ghost use Prim.Native.Nat.{_<_};
 ghost use lib.ListN.{length};
-ghost use Rattle.tables.specs.Below.{eachBelow};
-ghost use Rattle.tables.specs.Geometry.{Valid, physicalZones, cells, totalBytes};
-ghost use Rattle.tables.specs.Phases.{onPresent};
-ghost use Rattle.tables.specs.Tables.{tablesOf, Made, MadeAppends, MadePointers};
-ghost use Rattle.volume.specs.Calls.{formatStores};
-ghost use Rattle.volume.specs.OnTables.{among};
-ghost use Rattle.volume.specs.Formatting.{formatOn, formatNumber, freshState, driveResets, driveEntries, resetsIf, entriesIf};
+ghost use Rattle.tables.specs.meaning.Below.{eachBelow};
+ghost use Rattle.tables.specs.meaning.Geometry.{Valid, physicalZones, cells, totalBytes};
+ghost use Rattle.tables.specs.meaning.Phases.{onPresent};
+ghost use Rattle.tables.specs.meaning.Tables.{tablesOf};
+ghost use Rattle.tables.specs.laws.Made.{Made, MadeAppends, MadePointers};
+ghost use Rattle.volume.specs.meaning.Calls.{formatStores};
+ghost use Rattle.volume.specs.meaning.CallContracts.{isSet, formatOn, freshState};
+ghost use Rattle.volume.specs.storing.Formatting.{formatNumber, driveResets, driveEntries, resetsIf, entriesIf};
 
 // Refusals 1 to 4, of a call that has no state yet; 0 if none applies.
 fn format_refusal(
@@ -78,7 +79,7 @@ fn reset_drives(
 ) -> u64
     requires { ⌜ Valid g ⌝ }
     requires { ⌜ (length (now written) ≡ cells g) × (length (now durable) ≡ cells g) ⌝ }
-    ensures { λ r. ⌜ MadePointers g budget r (onPresent (among here) (eachBelow (driveResets g) (g .drives))) (now (written .entry)) (now (durable .entry)) (now (written .exit)) (now (durable .exit)) ⌝ }
+    ensures { λ r. ⌜ MadePointers g budget r (onPresent (isSet here) (eachBelow (driveResets g) (g .drives))) (now (written .entry)) (now (durable .entry)) (now (written .exit)) (now (durable .exit)) ⌝ }
 {
     let n = g.drives;
     let mut rest = budget;
@@ -123,7 +124,7 @@ fn label_drives(
 ) -> u64
     requires { ⌜ Valid g ⌝ }
     requires { ⌜ (lost < 256) × (length (now sectors) ≡ totalBytes g) × (length (now written) ≡ cells g) ⌝ }
-    ensures { λ r. ⌜ MadeAppends g budget r (onPresent (among here) (eachBelow (driveEntries g lost array) (g .drives))) (now (sectors .entry)) (now (written .entry)) (now (sectors .exit)) (now (written .exit)) ⌝ }
+    ensures { λ r. ⌜ MadeAppends g budget r (onPresent (isSet here) (eachBelow (driveEntries g lost array) (g .drives))) (now (sectors .entry)) (now (written .entry)) (now (sectors .exit)) (now (written .exit)) ⌝ }
 {
     let n = g.drives;
     let mut rest = budget;
@@ -149,7 +150,7 @@ fn format_stores(
 ) -> u64
     requires { ⌜ Valid g ⌝ }
     requires { ⌜ (lost < 256) × (length (now sectors) ≡ totalBytes g) × (length (now written) ≡ cells g) × (length (now durable) ≡ cells g) ⌝ }
-    ensures { λ r. ⌜ Made g budget r (formatStores g (among here) lost array) (tablesOf (now (sectors .entry)) (now (written .entry)) (now (durable .entry))) (tablesOf (now (sectors .exit)) (now (written .exit)) (now (durable .exit))) ⌝ }
+    ensures { λ r. ⌜ Made g budget r (formatStores g (isSet here) lost array) (tablesOf (now (sectors .entry)) (now (written .entry)) (now (durable .entry))) (tablesOf (now (sectors .exit)) (now (written .exit)) (now (durable .exit))) ⌝ }
 {
     let cleared = reset_drives(written, durable, g, here, budget);
     let labelled = label_drives(sectors, written, g, here, lost, array, cleared);

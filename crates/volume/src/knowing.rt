@@ -10,22 +10,22 @@ ghost use mathlib.Core.Bool.{true, _||_};
 ghost use Prim.Native.Nat.{_+_, _-_, _≤_, _<_, min};
 ghost use lib.Dec.{leb, eqb};
 ghost use lib.ListN.{length};
-ghost use Rattle.tables.specs.Basics.{pick};
-ghost use Rattle.tables.specs.Geometry.{Valid, cells, physicalZones, totalBytes, zoneSectors};
-ghost use Rattle.tables.specs.Placement.{sectorOf, unitIndex};
-ghost use Rattle.tables.specs.Tables.{sectorAt};
-ghost use Rattle.tables.specs.Xor.{xorBytes};
-ghost use Rattle.logs.specs.Heads.{leastSeal};
-ghost use Rattle.logs.specs.Entry.{parityZone, decode};
-ghost use Rattle.logs.specs.Judge.{found};
-ghost use Rattle.logs.specs.QueryLaws.{SmallSeen};
-ghost use Rattle.volume.specs.declared.knowing.Way.the-variants.{Held, Row, Entry};
-ghost use Rattle.volume.specs.Rules.{generalHeads, sealLimit, known, zoneView, valueAt, parityOf, rowDrive, rowAddress};
-ghost use Rattle.volume.specs.OnTables.{among};
-ghost use Rattle.volume.specs.Knowing.{Readable, readDevice, heldOn, ownHeld, allHeld, rowHeld, rowComplete, stripeEnd, reachOf, servingPlace, wayTo, isWay, rowXor, endSeen, entryEnd, wayValue, wayLeft, WayFits};
+ghost use Rattle.tables.specs.meaning.Basics.{pick};
+ghost use Rattle.tables.specs.meaning.Geometry.{Valid, cells, physicalZones, totalBytes, zoneSectors, dataZone};
+ghost use Rattle.tables.specs.meaning.Placement.{sectorOf, unitIndex};
+ghost use Rattle.tables.specs.meaning.Tables.{sectorAt};
+ghost use Rattle.tables.specs.meaning.Xor.{xorBytes};
+ghost use Rattle.logs.specs.meaning.Heads.{leastSeal};
+ghost use Rattle.logs.specs.meaning.Entry.{parityZone, decode};
+ghost use Rattle.logs.specs.code.Judge.{found};
+ghost use Rattle.logs.specs.code.QueryLaws.{SmallSeen};
+ghost use Rattle.volume.specs.declared.knowing.Source.the-variants.{Held, Row, Entry};
+ghost use Rattle.volume.specs.meaning.Rules.{generalHeads, sealLimit, known, zoneView, valueAt, parityOf, rowDrive, rowAddress};
+ghost use Rattle.volume.specs.meaning.CallContracts.{isSet};
+ghost use Rattle.volume.specs.looking.Knowing.{Readable, readDevice, heldOn, ownHeld, allHeld, rowHeld, rowComplete, stripeEnd, reachOf, servingPlace, sourceOf, hasSource, rowXor, endSeen, entryEnd, wayValue, valueFrom, SourceFits};
 
-// How a sector is known (specs: `wayTo`): not at all, held, by its row, or by the entry at a place of its parity drive's log, counted from 1.
-pub enum Way {
+// How a sector is known (specs: `sourceOf`): not at all, held, by its row, or by the entry at a place of its parity drive's log, counted from 1.
+pub enum Source {
     Unknown,
     Held,
     Row,
@@ -45,15 +45,15 @@ fn seal_of(
 ) -> usize
     requires { ⌜ Valid g ⌝ }
     requires { ⌜ Readable g here (now sectors) (now written) z × (d < g .drives) ⌝ }
-    ensures { λ r. ⌜ (r ≡ pick (among here d) (leastSeal z generation most (generalHeads g (readDevice g (now (sectors .entry)) (now (written .entry))) d)) most) × (r ≤ most) ⌝ }
+    ensures { λ r. ⌜ (r ≡ pick (isSet here d) (leastSeal z generation most (generalHeads g (readDevice g (now (sectors .entry)) (now (written .entry))) d)) most) × (r ≤ most) ⌝ }
 {
     let present = here[d];
     if !present {
         return most;
     }
-    let at = tables::stores::cell_of(g, d, 0);
+    let at = tables::stores::cell_of(g, d, logs::GENERAL_LOG);
     let n = tables::bounds::widen(written[at]);
-    logs::folds::least_seal(sectors, g, d, 0, n, z, generation, most)
+    logs::folds::least_seal(sectors, g, d, logs::GENERAL_LOG, n, z, generation, most)
 }
 
 // The least current seal of a zone; its length if there is none.
@@ -67,7 +67,7 @@ pub fn seal_limit(
 ) -> usize
     requires { ⌜ Valid g ⌝ }
     requires { ⌜ Readable g here (now sectors) (now written) z ⌝ }
-    ensures { λ r. ⌜ (r ≡ sealLimit g (among here) (readDevice g (now (sectors .entry)) (now (written .entry))) z generation) × (r ≤ zoneSectors g) ⌝ }
+    ensures { λ r. ⌜ (r ≡ sealLimit g (isSet here) (readDevice g (now (sectors .entry)) (now (written .entry))) z generation) × (r ≤ zoneSectors g) ⌝ }
 {
     let n = g.drives;
     let mut limit = tables::bounds::zone_sectors(g);
@@ -86,7 +86,7 @@ pub fn is_held(written: &[u32], g: Geometry, here: [bool; 8], z: usize, d: usize
     ensures { λ r. ⌜ r ≡ heldOn g here (now (written .entry)) z d x ⌝ }
 {
     let present = here[d];
-    let at = tables::stores::cell_of(g, d, 3 + z);
+    let at = tables::stores::cell_of(g, d, tables::DATA_ZONES + z);
     let n = tables::bounds::widen(written[at]);
     present & (x < n)
 }
@@ -209,7 +209,7 @@ fn reach_past(
         return reach;
     }
     let b = row_address(g, a, k);
-    tables::placement::smaller(reach, b)
+    tables::placement::min(reach, b)
 }
 
 // The place, counted from 1, of the last entry that serves address a; 0 if there is none.
@@ -233,10 +233,10 @@ fn serving_place(
         return 0;
     }
     let reach = reach_of(written, g, here, z, a);
-    let high = tables::placement::smaller(limit, reach);
-    let at = tables::stores::cell_of(g, p, 1);
+    let high = tables::placement::min(limit, reach);
+    let at = tables::stores::cell_of(g, p, logs::PARITY_LOG);
     let n = tables::bounds::widen(written[at]);
-    logs::folds::last_partial(sectors, g, p, 1, n, z, generation, a, high)
+    logs::folds::last_partial(sectors, g, p, logs::PARITY_LOG, n, z, generation, a, high)
 }
 
 // Whether the row's parity is in place with all its other data.
@@ -254,7 +254,7 @@ fn row_complete(written: &[u32], g: Geometry, here: [bool; 8], z: usize, a: usiz
 }
 
 // How address a is known.
-fn way_to(
+fn source_of(
     sectors: &[u8],
     written: &[u32],
     g: Geometry,
@@ -263,34 +263,34 @@ fn way_to(
     generation: u64,
     limit: usize,
     a: usize,
-) -> Way
+) -> Source
     requires { ⌜ Valid g ⌝ }
     requires { ⌜ Readable g here (now sectors) (now written) z × (a < zoneSectors g) ⌝ }
-    ensures { λ r. ⌜ r ≡ wayTo g here (now (sectors .entry)) (now (written .entry)) z generation limit a ⌝ }
+    ensures { λ r. ⌜ r ≡ sourceOf g here (now (sectors .entry)) (now (written .entry)) z generation limit a ⌝ }
 {
     let held = own_held(written, g, here, z, a);
     if held {
-        return Way::Held;
+        return Source::Held;
     }
     let row = row_complete(written, g, here, z, a);
     if row {
-        return Way::Row;
+        return Source::Row;
     }
     let place = serving_place(sectors, written, g, here, z, generation, limit, a);
     if place == 0 {
-        return Way::Unknown;
+        return Source::Unknown;
     }
-    Way::Entry(place)
+    Source::Entry(place)
 }
 
-fn is_way(way: Way) -> bool
-    ensures { λ r. ⌜ r ≡ isWay way ⌝ }
+fn has_source(way: Source) -> bool
+    ensures { λ r. ⌜ r ≡ hasSource way ⌝ }
 {
     match way {
-        Way::Unknown => false,
-        Way::Held => true,
-        Way::Row => true,
-        Way::Entry(_) => true,
+        Source::Unknown => false,
+        Source::Held => true,
+        Source::Row => true,
+        Source::Entry(_) => true,
     }
 }
 
@@ -307,11 +307,11 @@ pub fn is_known(
 ) -> bool
     requires { ⌜ Valid g ⌝ }
     requires { ⌜ Readable g here (now sectors) (now written) z × (a < zoneSectors g)
-        × (limit ≡ sealLimit g (among here) (readDevice g (now sectors) (now written)) z generation) ⌝ }
-    ensures { λ r. ⌜ r ≡ known (g .drives) (g .unit) z (zoneView g (among here) (readDevice g (now (sectors .entry)) (now (written .entry))) z generation) a ⌝ }
+        × (limit ≡ sealLimit g (isSet here) (readDevice g (now sectors) (now written)) z generation) ⌝ }
+    ensures { λ r. ⌜ r ≡ known (g .drives) (g .unit) z (zoneView g (isSet here) (readDevice g (now (sectors .entry)) (now (written .entry))) z generation) a ⌝ }
 {
-    let way = way_to(sectors, written, g, here, z, generation, limit, a);
-    is_way(way)
+    let way = source_of(sectors, written, g, here, z, generation, limit, a);
+    has_source(way)
 }
 
 // Adds unit k of the row of a to a buffer, unless it is a's own or not below an end.
@@ -319,7 +319,7 @@ fn xor_unit(sectors: &[u8], g: Geometry, z: usize, a: usize, end: usize, k: usiz
     requires { ⌜ Valid g ⌝ }
     requires { ⌜ (z < g .zones) × (a < zoneSectors g) × (k < g .drives) × (length (now sectors) ≡ totalBytes g) × (length (now out) ≡ g .sector) ⌝ }
     ensures { λ _. ⌜ now (out .exit) ≡ pick (eqb k (unitIndex (g .drives) (g .unit) a) || leb end (rowAddress (g .drives) (g .unit) a k)) (now (out .entry))
-        (xorBytes (now (out .entry)) (sectorAt g (now (sectors .entry)) (rowDrive (g .drives) (g .unit) z a k) (3 + z) (sectorOf (g .drives) (g .unit) a))) ⌝ }
+        (xorBytes (now (out .entry)) (sectorAt g (now (sectors .entry)) (rowDrive (g .drives) (g .unit) z a k) (dataZone z) (sectorOf (g .drives) (g .unit) a))) ⌝ }
 {
     let own = unit_index(g, a);
     let b = row_address(g, a, k);
@@ -328,7 +328,7 @@ fn xor_unit(sectors: &[u8], g: Geometry, z: usize, a: usize, end: usize, k: usiz
     let d = tables::placement::unit_drive(drives, p, k);
     let x = tables::placement::sector_of(g, a);
     let skip = (k == own) | (end <= b);
-    tables::sectors::xor_sector(sectors, g, d, 3 + z, x, skip, out);
+    tables::sectors::xor_sector(sectors, g, d, tables::DATA_ZONES + z, x, skip, out);
 }
 
 // Adds the other sectors in the row of a below an end to a buffer.
@@ -389,7 +389,7 @@ fn entry_end(sectors: &[u8], g: Geometry, d: usize, place: usize) -> usize
     ensures { λ r. ⌜ r ≡ entryEnd g (now (sectors .entry)) d place ⌝ }
 {
     let c = g.capacity;
-    let f = logs::walking::judge_at(sectors, g, d, 1, true, c, place - 1);
+    let f = logs::walking::judge_at(sectors, g, d, logs::PARITY_LOG, true, c, place - 1);
     end_of(f, g)
 }
 
@@ -401,7 +401,7 @@ pub fn read_own(sectors: &[u8], g: Geometry, z: usize, a: usize, out: &mut [u8])
 {
     let d = tables::placement::drive_of(g, z, a);
     let x = tables::placement::sector_of(g, a);
-    tables::sectors::read_sector(sectors, g, d, 3 + z, x, out);
+    tables::sectors::read_sector(sectors, g, d, tables::DATA_ZONES + z, x, out);
 }
 
 // A sector by its row's parity in place.
@@ -412,13 +412,13 @@ fn rebuild_by_row(sectors: &[u8], g: Geometry, z: usize, a: usize, out: &mut [u8
 {
     let end = stripe_end(g, a);
     let x = tables::placement::sector_of(g, a);
-    rebuild(sectors, g, z, a, end, 3 + z, x, out);
+    rebuild(sectors, g, z, a, end, tables::DATA_ZONES + z, x, out);
 }
 
 // A sector by the entry at a place of its parity drive's log.
 fn rebuild_by_entry(sectors: &[u8], g: Geometry, z: usize, a: usize, place: usize, out: &mut [u8])
     requires { ⌜ Valid g ⌝ }
-    requires { ⌜ (z < g .zones) × (a < zoneSectors g) × (length (now sectors) ≡ totalBytes g) × (length (now out) ≡ g .sector) × WayFits g (now sectors) z a (Entry place) ⌝ }
+    requires { ⌜ (z < g .zones) × (a < zoneSectors g) × (length (now sectors) ≡ totalBytes g) × (length (now out) ≡ g .sector) × SourceFits g (now sectors) z a (Entry place) ⌝ }
     ensures { λ _. ⌜ now (out .exit) ≡ wayValue g (now (sectors .entry)) z a (Entry place) ⌝ }
 {
     let p = parity_of(g, z, a);
@@ -429,16 +429,16 @@ fn rebuild_by_entry(sectors: &[u8], g: Geometry, z: usize, a: usize, place: usiz
 }
 
 // The value by a way; without one the buffer stays as it is.
-fn value_by(sectors: &[u8], g: Geometry, z: usize, a: usize, way: Way, out: &mut [u8])
+fn value_by(sectors: &[u8], g: Geometry, z: usize, a: usize, way: Source, out: &mut [u8])
     requires { ⌜ Valid g ⌝ }
-    requires { ⌜ (z < g .zones) × (a < zoneSectors g) × (length (now sectors) ≡ totalBytes g) × (length (now out) ≡ g .sector) × WayFits g (now sectors) z a way ⌝ }
-    ensures { λ _. ⌜ now (out .exit) ≡ wayLeft g (now (sectors .entry)) z a way (now (out .entry)) ⌝ }
+    requires { ⌜ (z < g .zones) × (a < zoneSectors g) × (length (now sectors) ≡ totalBytes g) × (length (now out) ≡ g .sector) × SourceFits g (now sectors) z a way ⌝ }
+    ensures { λ _. ⌜ now (out .exit) ≡ valueFrom g (now (sectors .entry)) z a way (now (out .entry)) ⌝ }
 {
     match way {
-        Way::Unknown => {}
-        Way::Held => read_own(sectors, g, z, a, out),
-        Way::Row => rebuild_by_row(sectors, g, z, a, out),
-        Way::Entry(place) => rebuild_by_entry(sectors, g, z, a, place, out),
+        Source::Unknown => {}
+        Source::Held => read_own(sectors, g, z, a, out),
+        Source::Row => rebuild_by_row(sectors, g, z, a, out),
+        Source::Entry(place) => rebuild_by_entry(sectors, g, z, a, place, out),
     }
 }
 
@@ -456,12 +456,12 @@ pub fn served_value(
 )
     requires { ⌜ Valid g ⌝ }
     requires { ⌜ Readable g here (now sectors) (now written) z × (a < zoneSectors g)
-        × (wayTo g here (now sectors) (now written) z generation limit a ≡ wayTo g here (now sectors) (now written) z generation (sealLimit g (among here) (readDevice g (now sectors) (now written)) z generation) a)
-        × (known (g .drives) (g .unit) z (zoneView g (among here) (readDevice g (now sectors) (now written)) z generation) a ≡ true)
+        × (sourceOf g here (now sectors) (now written) z generation limit a ≡ sourceOf g here (now sectors) (now written) z generation (sealLimit g (isSet here) (readDevice g (now sectors) (now written)) z generation) a)
+        × (known (g .drives) (g .unit) z (zoneView g (isSet here) (readDevice g (now sectors) (now written)) z generation) a ≡ true)
         × (length (now out) ≡ g .sector) ⌝ }
-    ensures { λ _. ⌜ now (out .exit) ≡ valueAt g (among here) (readDevice g (now (sectors .entry)) (now (written .entry))) z generation a ⌝ }
+    ensures { λ _. ⌜ now (out .exit) ≡ valueAt g (isSet here) (readDevice g (now (sectors .entry)) (now (written .entry))) z generation a ⌝ }
 {
-    let way = way_to(sectors, written, g, here, z, generation, limit, a);
+    let way = source_of(sectors, written, g, here, z, generation, limit, a);
     value_by(sectors, g, z, a, way, out);
 }
 
@@ -479,10 +479,10 @@ pub fn sector_value(
 )
     requires { ⌜ Valid g ⌝ }
     requires { ⌜ Readable g here (now sectors) (now written) z × (a < zoneSectors g)
-        × (limit ≡ sealLimit g (among here) (readDevice g (now sectors) (now written)) z generation)
-        × (known (g .drives) (g .unit) z (zoneView g (among here) (readDevice g (now sectors) (now written)) z generation) a ≡ true)
+        × (limit ≡ sealLimit g (isSet here) (readDevice g (now sectors) (now written)) z generation)
+        × (known (g .drives) (g .unit) z (zoneView g (isSet here) (readDevice g (now sectors) (now written)) z generation) a ≡ true)
         × (length (now out) ≡ g .sector) ⌝ }
-    ensures { λ _. ⌜ now (out .exit) ≡ valueAt g (among here) (readDevice g (now (sectors .entry)) (now (written .entry))) z generation a ⌝ }
+    ensures { λ _. ⌜ now (out .exit) ≡ valueAt g (isSet here) (readDevice g (now (sectors .entry)) (now (written .entry))) z generation a ⌝ }
 {
     served_value(sectors, written, g, here, z, generation, limit, a, out);
 }

@@ -1,14 +1,9 @@
 // The volume: the eight calls over the tables that the host lends and the state that it keeps between calls.
+use tables::Geometry;
 
 pub mod checks;
 pub mod drive_logs;
 pub mod drives_lost;
-pub mod edge_input;
-pub mod edge_reading;
-pub mod edge_restoring;
-pub mod edge_state;
-pub mod edge_storing;
-pub mod edge_tables;
 pub mod flushing;
 pub mod formatting;
 pub mod knowing;
@@ -81,4 +76,11 @@ pub struct Look {
     pub lost: usize,
     pub array: u64,
     pub zones: [ZoneLook; 16],
+}
+
+// What the steps of a mount go by: the geometry, the drives that are here, and the look.
+pub struct Basis {
+    pub geometry: Geometry,
+    pub here: [bool; 8],
+    pub look: Look,
 }

@@ -3,13 +3,10 @@ use tables::Geometry;
 ghost use mathlib.Core.Path.{_≡_};
 ghost use Prim.Native.Nat.{_≤_, _<_};
 ghost use lib.ListN.{length, take};
-ghost use Rattle.tables.specs.Geometry.{Valid, cells, totalBytes};
-ghost use Rattle.tables.specs.Device.{append};
-ghost use Rattle.tables.specs.Tables.{MadeAppends, storeIf};
-ghost use Rattle.logs.specs.Entry.{generalZone, encode, label, counters, zoneReset};
-
-// The physical zone of the general log.
-pub const GENERAL_LOG: usize = 0;
+ghost use Rattle.tables.specs.meaning.Geometry.{Valid, cells, totalBytes};
+ghost use Rattle.tables.specs.meaning.Device.{append};
+ghost use Rattle.tables.specs.laws.Made.{MadeAppends, storeIf};
+ghost use Rattle.logs.specs.meaning.Entry.{generalZone, encode, label, counters, zoneReset};
 
 // A header of type 3.
 pub fn append_reset(
@@ -35,7 +32,7 @@ pub fn append_reset(
         g,
         here,
         drive,
-        GENERAL_LOG,
+        logs::GENERAL_LOG,
         &buffer[..b],
         budget,
     )
@@ -65,7 +62,7 @@ pub fn append_label(
         g,
         here,
         drive,
-        GENERAL_LOG,
+        logs::GENERAL_LOG,
         &buffer[..b],
         budget,
     )
@@ -94,7 +91,7 @@ pub fn append_counters(
         g,
         here,
         drive,
-        GENERAL_LOG,
+        logs::GENERAL_LOG,
         &buffer[..b],
         budget,
     )

@@ -10,14 +10,14 @@ use tables::Geometry;
 ghost use mathlib.Core.Path.{_≡_};
 ghost use mathlib.Core.Bool.{not};
 ghost use Prim.Native.Nat.{ℕ};
-ghost use Rattle.tables.specs.Drives.{findBelow};
-ghost use Rattle.tables.specs.Geometry.{Valid};
-ghost use Rattle.tables.specs.Tables.{tablesOf};
-ghost use Rattle.volume.specs.OnTables.{among, verdictNumber};
-ghost use Rattle.volume.specs.Rules.{showing, zoneShown};
-ghost use Rattle.volume.specs.DriveLogs.{Sized};
-ghost use Rattle.volume.specs.Knowing.{readDevice};
-ghost use Rattle.volume.specs.Looking.{Lookable, shapeNumber, logNumber, lookVerdict, looksFrom, lookOf, recordsOf, lookOn};
+ghost use Rattle.tables.specs.meaning.Drives.{findBelow};
+ghost use Rattle.tables.specs.meaning.Geometry.{Valid};
+ghost use Rattle.tables.specs.meaning.Tables.{tablesOf};
+ghost use Rattle.volume.specs.meaning.CallContracts.{isSet, verdictNumber, lookVerdict, lookOn};
+ghost use Rattle.volume.specs.meaning.Rules.{showing, zoneShown};
+ghost use Rattle.volume.specs.looking.DriveLogs.{Sized};
+ghost use Rattle.volume.specs.looking.Knowing.{readDevice};
+ghost use Rattle.volume.specs.looking.Looking.{Lookable, shapeNumber, logNumber, looksFrom, lookOf, recordsOf};
 
 // Refusals 1 to 3, of a call that is handed no state; 0 if none applies.
 pub fn shape_refusal(
@@ -87,7 +87,7 @@ pub fn look_refusal(
 fn look_zones(sectors: &[u8], written: &[u32], g: Geometry, here: [bool; 8]) -> [ZoneLook; 16]
     requires { ⌜ Valid g ⌝ }
     requires { ⌜ Lookable g here (now sectors) (now written) ⌝ }
-    ensures { λ r. ⌜ r ≡ looksFrom g (zoneShown g (among here) (readDevice g (now (sectors .entry)) (now (written .entry)))) ⌝ }
+    ensures { λ r. ⌜ r ≡ looksFrom g (zoneShown g (isSet here) (readDevice g (now (sectors .entry)) (now (written .entry)))) ⌝ }
 {
     let n = g.zones;
     let blank = ZoneLook {
@@ -111,7 +111,7 @@ fn look_zones(sectors: &[u8], written: &[u32], g: Geometry, here: [bool; 8]) -> 
 pub fn look_all(sectors: &[u8], written: &[u32], g: Geometry, here: [bool; 8]) -> Look
     requires { ⌜ Valid g ⌝ }
     requires { ⌜ Lookable g here (now sectors) (now written) ⌝ }
-    ensures { λ r. ⌜ r ≡ lookOf g (showing g (among here) (findBelow (λ (d : ℕ). not (among here d)) (g .drives)) (readDevice g (now (sectors .entry)) (now (written .entry)))) ⌝ }
+    ensures { λ r. ⌜ r ≡ lookOf g (showing g (isSet here) (findBelow (λ (d : ℕ). not (isSet here d)) (g .drives)) (readDevice g (now (sectors .entry)) (now (written .entry)))) ⌝ }
 {
     let lost = super::checks::left_out(g, here);
     let array = super::drives_lost::look_array(sectors, written, g, here);

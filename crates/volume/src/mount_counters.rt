@@ -9,21 +9,21 @@ ghost use mathlib.Core.List.{[]};
 ghost use Prim.Native.Nat.{ℕ, _+_, _*_, _≤_, _<_};
 ghost use lib.ListN.{length, getD, take};
 ghost use lib.Dec.{eqb};
-ghost use Rattle.tables.specs.Below.{anyBelow, allBelow};
-ghost use Rattle.tables.specs.LittleEndian.{sameBytes, readLE};
-ghost use Rattle.tables.specs.Geometry.{Valid, cells, totalBytes};
-ghost use Rattle.tables.specs.Phases.{onPresent};
-ghost use Rattle.tables.specs.Tables.{MadeAppends};
-ghost use Rattle.logs.specs.WalkCode.{logSectors};
-ghost use Rattle.logs.specs.Heads.{lastCounters};
-ghost use Rattle.volume.specs.State.{isEmpty};
-ghost use Rattle.volume.specs.Rules.{generalHeads};
-ghost use Rattle.volume.specs.Mount.{nextGeneration, countersDiffer, counterStep};
-ghost use Rattle.volume.specs.OnTables.{among};
-ghost use Rattle.volume.specs.MountTables.{seen};
-ghost use Rattle.volume.specs.MountLook.{zoneLook, shownBy, LookWithin};
-ghost use Rattle.volume.specs.MountHeaders.{Logging};
-ghost use Rattle.volume.specs.MountGenerations.{filled, counterStores, countersDue};
+ghost use Rattle.tables.specs.meaning.Below.{anyBelow, allBelow};
+ghost use Rattle.tables.specs.meaning.LittleEndian.{sameBytes, readLE};
+ghost use Rattle.tables.specs.meaning.Geometry.{Valid, cells, totalBytes};
+ghost use Rattle.tables.specs.meaning.Phases.{onPresent};
+ghost use Rattle.tables.specs.laws.Made.{MadeAppends};
+ghost use Rattle.logs.specs.code.WalkCode.{logSectors};
+ghost use Rattle.logs.specs.meaning.Heads.{lastCounters};
+ghost use Rattle.volume.specs.meaning.State.{isEmpty};
+ghost use Rattle.volume.specs.meaning.Rules.{generalHeads};
+ghost use Rattle.volume.specs.meaning.Mount.{nextGeneration, countersDiffer, counterStep};
+ghost use Rattle.volume.specs.meaning.CallContracts.{isSet};
+ghost use Rattle.volume.specs.mounting.MountLook.{zoneLook, shownBy, LookWithin};
+ghost use Rattle.volume.specs.mounting.MountHeaders.{Logging};
+ghost use Rattle.volume.specs.mounting.MountGenerations.{filled, counterStores, countersDue};
+ghost use Rattle.volume.specs.looking.Knowing.{readDevice};
 
 fn is_empty(c: Condition) -> bool
     ensures { λ r. ⌜ r ≡ isEmpty c ⌝ }
@@ -113,8 +113,8 @@ fn same_generations(
     let mut same = true;
     let mut z = 0;
     while z < l {
-        let a = logs::folds::generation_at(sectors, g, d, 0, n, p, z);
-        let b = logs::folds::generation_at(sectors, g, e, 0, m, q, z);
+        let a = logs::folds::generation_at(sectors, g, d, logs::GENERAL_LOG, n, p, z);
+        let b = logs::folds::generation_at(sectors, g, e, logs::GENERAL_LOG, m, q, z);
         same = same & (a == b);
         z += 1;
     }
@@ -125,12 +125,12 @@ fn same_generations(
 fn same_counters(sectors: &[u8], pointers: &[u32], g: Geometry, d: usize, e: usize) -> bool
     requires { ⌜ Valid g ⌝ }
     requires { ⌜ (d < g .drives) × (e < g .drives) × (length (now sectors) ≡ totalBytes g) × (length (now pointers) ≡ cells g) ⌝ }
-    ensures { λ r. ⌜ r ≡ sameBytes (lastCounters [] (generalHeads g (seen g (now (sectors .entry)) (now (pointers .entry))) d)) (lastCounters [] (generalHeads g (seen g (now (sectors .entry)) (now (pointers .entry))) e)) ⌝ }
+    ensures { λ r. ⌜ r ≡ sameBytes (lastCounters [] (generalHeads g (readDevice g (now (sectors .entry)) (now (pointers .entry))) d)) (lastCounters [] (generalHeads g (readDevice g (now (sectors .entry)) (now (pointers .entry))) e)) ⌝ }
 {
-    let n = super::mount_logs::sectors_then(pointers, g, d, 0);
-    let m = super::mount_logs::sectors_then(pointers, g, e, 0);
-    let p = logs::folds::last_counters(sectors, g, d, 0, n);
-    let q = logs::folds::last_counters(sectors, g, e, 0, m);
+    let n = super::mount_logs::sectors_then(pointers, g, d, logs::GENERAL_LOG);
+    let m = super::mount_logs::sectors_then(pointers, g, e, logs::GENERAL_LOG);
+    let p = logs::folds::last_counters(sectors, g, d, logs::GENERAL_LOG, n);
+    let q = logs::folds::last_counters(sectors, g, e, logs::GENERAL_LOG, m);
     if p == 0 {
         return q == 0;
     }
@@ -151,7 +151,7 @@ fn differs_from(
 ) -> bool
     requires { ⌜ Valid g ⌝ }
     requires { ⌜ (d < g .drives) × (e < g .drives) × (length (now sectors) ≡ totalBytes g) × (length (now pointers) ≡ cells g) ⌝ }
-    ensures { λ r. ⌜ r ≡ among here e && not (sameBytes (lastCounters [] (generalHeads g (seen g (now (sectors .entry)) (now (pointers .entry))) d)) (lastCounters [] (generalHeads g (seen g (now (sectors .entry)) (now (pointers .entry))) e))) ⌝ }
+    ensures { λ r. ⌜ r ≡ isSet here e && not (sameBytes (lastCounters [] (generalHeads g (readDevice g (now (sectors .entry)) (now (pointers .entry))) d)) (lastCounters [] (generalHeads g (readDevice g (now (sectors .entry)) (now (pointers .entry))) e))) ⌝ }
 {
     let present = here[e];
     if !present {
@@ -164,7 +164,7 @@ fn differs_from(
 fn any_differs(sectors: &[u8], pointers: &[u32], g: Geometry, here: [bool; 8], d: usize) -> bool
     requires { ⌜ Valid g ⌝ }
     requires { ⌜ (d < g .drives) × (length (now sectors) ≡ totalBytes g) × (length (now pointers) ≡ cells g) ⌝ }
-    ensures { λ r. ⌜ r ≡ anyBelow (λ (e : ℕ). among here e && not (sameBytes (lastCounters [] (generalHeads g (seen g (now (sectors .entry)) (now (pointers .entry))) d)) (lastCounters [] (generalHeads g (seen g (now (sectors .entry)) (now (pointers .entry))) e)))) (g .drives) ⌝ }
+    ensures { λ r. ⌜ r ≡ anyBelow (λ (e : ℕ). isSet here e && not (sameBytes (lastCounters [] (generalHeads g (readDevice g (now (sectors .entry)) (now (pointers .entry))) d)) (lastCounters [] (generalHeads g (readDevice g (now (sectors .entry)) (now (pointers .entry))) e)))) (g .drives) ⌝ }
 {
     let n = g.drives;
     let mut any = false;
@@ -181,7 +181,7 @@ fn any_differs(sectors: &[u8], pointers: &[u32], g: Geometry, here: [bool; 8], d
 fn differs_at(sectors: &[u8], pointers: &[u32], g: Geometry, here: [bool; 8], d: usize) -> bool
     requires { ⌜ Valid g ⌝ }
     requires { ⌜ (d < g .drives) × (length (now sectors) ≡ totalBytes g) × (length (now pointers) ≡ cells g) ⌝ }
-    ensures { λ r. ⌜ r ≡ among here d && anyBelow (λ (e : ℕ). among here e && not (sameBytes (lastCounters [] (generalHeads g (seen g (now (sectors .entry)) (now (pointers .entry))) d)) (lastCounters [] (generalHeads g (seen g (now (sectors .entry)) (now (pointers .entry))) e)))) (g .drives) ⌝ }
+    ensures { λ r. ⌜ r ≡ isSet here d && anyBelow (λ (e : ℕ). isSet here e && not (sameBytes (lastCounters [] (generalHeads g (readDevice g (now (sectors .entry)) (now (pointers .entry))) d)) (lastCounters [] (generalHeads g (readDevice g (now (sectors .entry)) (now (pointers .entry))) e)))) (g .drives) ⌝ }
 {
     let present = here[d];
     if !present {
@@ -193,7 +193,7 @@ fn differs_at(sectors: &[u8], pointers: &[u32], g: Geometry, here: [bool; 8], d:
 fn counters_differ(sectors: &[u8], pointers: &[u32], g: Geometry, here: [bool; 8]) -> bool
     requires { ⌜ Valid g ⌝ }
     requires { ⌜ (length (now sectors) ≡ totalBytes g) × (length (now pointers) ≡ cells g) ⌝ }
-    ensures { λ r. ⌜ r ≡ countersDiffer g (among here) (seen g (now (sectors .entry)) (now (pointers .entry))) ⌝ }
+    ensures { λ r. ⌜ r ≡ countersDiffer g (isSet here) (readDevice g (now (sectors .entry)) (now (pointers .entry))) ⌝ }
 {
     let n = g.drives;
     let mut any = false;
@@ -216,7 +216,7 @@ pub fn counters_due(
 ) -> bool
     requires { ⌜ Valid g ⌝ }
     requires { ⌜ (length (now sectors) ≡ totalBytes g) × (length (now pointers) ≡ cells g) ⌝ }
-    ensures { λ r. ⌜ r ≡ countersDue g (among here) look (seen g (now (sectors .entry)) (now (pointers .entry))) ⌝ }
+    ensures { λ r. ⌜ r ≡ countersDue g (isSet here) look (readDevice g (now (sectors .entry)) (now (pointers .entry))) ⌝ }
 {
     let empty = any_empty(g, look);
     let differ = counters_differ(sectors, pointers, g, here);
@@ -235,7 +235,7 @@ fn log_counters(
 ) -> u64
     requires { ⌜ Valid g ⌝ }
     requires { ⌜ (length (now sectors) ≡ totalBytes g) × (length (now written) ≡ cells g) × (length (now out) ≡ g .sector) × (g .zones ≤ length (now generations)) ⌝ }
-    ensures { λ r. ⌜ MadeAppends g budget r (onPresent (among here) (counterStores g (take (g .zones) (now (generations .entry))) (g .drives))) (now (sectors .entry)) (now (written .entry)) (now (sectors .exit)) (now (written .exit)) ⌝ }
+    ensures { λ r. ⌜ MadeAppends g budget r (onPresent (isSet here) (counterStores g (take (g .zones) (now (generations .entry))) (g .drives))) (now (sectors .entry)) (now (written .entry)) (now (sectors .exit)) (now (written .exit)) ⌝ }
 {
     let n = g.drives;
     let mut rest = budget;
@@ -243,7 +243,16 @@ fn log_counters(
     while d < n {
         logs::headers::write_counters(out, g, d, generations);
         let present = here[d];
-        rest = tables::stores::append_counted(sectors, written, g, present, d, 0, out, rest);
+        rest = tables::stores::append_counted(
+            sectors,
+            written,
+            g,
+            present,
+            d,
+            logs::GENERAL_LOG,
+            out,
+            rest,
+        );
         d += 1;
     }
     rest
@@ -262,7 +271,7 @@ pub fn store_counters(
 ) -> u64
     requires { ⌜ Valid g ⌝ }
     requires { ⌜ (length (now out) ≡ g .sector) × Logging g look (now pointers) (now sectors) (now written) ⌝ }
-    ensures { λ r. ⌜ MadeAppends g budget r (onPresent (among here) (counterStep g (among here) (shownBy look) (seen g (now (sectors .entry)) (now (pointers .entry))))) (now (sectors .entry)) (now (written .entry)) (now (sectors .exit)) (now (written .exit)) ⌝ }
+    ensures { λ r. ⌜ MadeAppends g budget r (onPresent (isSet here) (counterStep g (isSet here) (shownBy look) (readDevice g (now (sectors .entry)) (now (pointers .entry))))) (now (sectors .entry)) (now (written .entry)) (now (sectors .exit)) (now (written .exit)) ⌝ }
 {
     let due = counters_due(sectors, pointers, g, here, look);
     if !due {

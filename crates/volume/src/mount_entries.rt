@@ -2,24 +2,23 @@
 // mount's look, read below its pointers. Whether there is such an entry is asked of the logs as they were when the step began: below a copy of the
 // written pointers of that moment, `starts`.
 use super::Look;
+use super::mount_rows::Extent;
 use tables::Geometry;
 ghost use mathlib.Core.Path.{_≡_};
 ghost use Prim.Native.Nat.{_*_, _<_};
 ghost use lib.ListN.{length};
-ghost use Rattle.tables.specs.Below.{eachBelow};
-ghost use Rattle.tables.specs.Lists.{concat};
-ghost use Rattle.tables.specs.Geometry.{Valid, stripeSectors, cells, totalBytes};
-ghost use Rattle.tables.specs.Placement.{stripeOf};
-ghost use Rattle.tables.specs.Phases.{onPresent};
-ghost use Rattle.tables.specs.Tables.{tablesOf, deviceOf, Made, MadeAppends};
-ghost use Rattle.volume.specs.Rules.{parityEntries};
-ghost use Rattle.volume.specs.Mount.{withFlush, entryStep};
-ghost use Rattle.volume.specs.OnTables.{among};
-ghost use Rattle.volume.specs.MountTables.{seen};
-ghost use Rattle.volume.specs.MountLook.{zoneLook, LookWithin};
-ghost use Rattle.volume.specs.MountValues.{shownAt, Restoring};
-ghost use Rattle.volume.specs.MountRestoring.{Filling};
-ghost use Rattle.volume.specs.MountLastEntries.{Entering, entryDue, entryRows, newEntry, entryStores, entryStoresBelow};
+ghost use Rattle.tables.specs.meaning.Below.{eachBelow};
+ghost use Rattle.tables.specs.meaning.Geometry.{Valid, stripeSectors, cells, totalBytes};
+ghost use Rattle.tables.specs.meaning.Placement.{stripeOf};
+ghost use Rattle.tables.specs.meaning.Phases.{onPresent};
+ghost use Rattle.tables.specs.laws.Made.{MadeAppends};
+ghost use Rattle.volume.specs.meaning.Rules.{parityEntries};
+ghost use Rattle.volume.specs.meaning.CallContracts.{isSet};
+ghost use Rattle.volume.specs.mounting.MountLook.{zoneLook, LookWithin};
+ghost use Rattle.volume.specs.mounting.MountValues.{shownAt};
+ghost use Rattle.volume.specs.mounting.MountRestoring.{Filling};
+ghost use Rattle.volume.specs.mounting.MountLastEntries.{Entering, entryDue, entryRows, newEntry, zoneEntryStores, entryStoresBelow};
+ghost use Rattle.volume.specs.looking.Knowing.{readDevice};
 
 // Whether an entry at a zone's pointer is due on a drive: the pointer lies inside a stripe, the drive holds the stripe's parity, and its log had no
 // whole current entry that ends there.
@@ -33,7 +32,7 @@ fn entry_due(
 ) -> bool
     requires { ⌜ Valid g ⌝ }
     requires { ⌜ (drive < g .drives) × (z < g .zones) × (length (now sectors) ≡ totalBytes g) × (length (now starts) ≡ cells g) × LookWithin g look ⌝ }
-    ensures { λ r. ⌜ r ≡ entryDue g look (parityEntries g (seen g (now (sectors .entry)) (now (starts .entry))) drive) drive z ⌝ }
+    ensures { λ r. ⌜ r ≡ entryDue g look (parityEntries g (readDevice g (now (sectors .entry)) (now (starts .entry))) drive) drive z ⌝ }
 {
     let zones = look.zones;
     let zone = zones[z];
@@ -49,8 +48,17 @@ fn entry_due(
     if drive != parity {
         return false;
     }
-    let n = super::mount_logs::sectors_then(starts, g, drive, 1);
-    let there = logs::folds::has_partial_at(sectors, g, drive, 1, n, z, generation, pointer);
+    let n = super::mount_logs::sectors_then(starts, g, drive, logs::PARITY_LOG);
+    let there = logs::folds::has_partial_at(
+        sectors,
+        g,
+        drive,
+        logs::PARITY_LOG,
+        n,
+        z,
+        generation,
+        pointer,
+    );
     !there
 }
 
@@ -81,7 +89,7 @@ fn append_entry_rows(
     let s = pointer / k;
     let limit = super::knowing::seal_limit(sectors, pointers, g, here, z, generation);
     let u = g.unit;
-    let m = tables::placement::smaller(pointer - s * k, u);
+    let m = tables::placement::min(pointer - s * k, u);
     super::mount_log_rows::append_rows(
         sectors,
         written,
@@ -91,12 +99,14 @@ fn append_entry_rows(
         g,
         here,
         drive,
-        z,
-        generation,
-        limit,
+        Extent {
+            zone: z,
+            generation,
+            limit,
+            end: pointer,
+        },
         true,
         s,
-        pointer,
         0,
         m,
         budget,
@@ -172,7 +182,7 @@ fn log_entry(
 ) -> u64
     requires { ⌜ Valid g ⌝ }
     requires { ⌜ (drive < g .drives) × (z < g .zones) × (length (now value) ≡ g .sector) × (length (now out) ≡ g .sector) × Entering g here look (now pointers) (now starts) (now sectors) (now written) ⌝ }
-    ensures { λ r. ⌜ MadeAppends g budget r (onPresent (among here) (entryStores g look (shownAt g here look (now (sectors .entry)) (now (pointers .entry))) (parityEntries g (seen g (now (sectors .entry)) (now (starts .entry))) drive) drive z)) (now (sectors .entry)) (now (written .entry)) (now (sectors .exit)) (now (written .exit)) ⌝ }
+    ensures { λ r. ⌜ MadeAppends g budget r (onPresent (isSet here) (zoneEntryStores g look (shownAt g here look (now (sectors .entry)) (now (pointers .entry))) (parityEntries g (readDevice g (now (sectors .entry)) (now (starts .entry))) drive) drive z)) (now (sectors .entry)) (now (written .entry)) (now (sectors .exit)) (now (written .exit)) ⌝ }
 {
     let present = here[drive];
     if !present {
@@ -213,7 +223,7 @@ fn log_drive(
 ) -> u64
     requires { ⌜ Valid g ⌝ }
     requires { ⌜ (drive < g .drives) × (length (now value) ≡ g .sector) × (length (now out) ≡ g .sector) × Entering g here look (now pointers) (now starts) (now sectors) (now written) ⌝ }
-    ensures { λ r. ⌜ MadeAppends g budget r (onPresent (among here) (eachBelow (entryStores g look (shownAt g here look (now (sectors .entry)) (now (pointers .entry))) (parityEntries g (seen g (now (sectors .entry)) (now (starts .entry))) drive) drive) (g .zones))) (now (sectors .entry)) (now (written .entry)) (now (sectors .exit)) (now (written .exit)) ⌝ }
+    ensures { λ r. ⌜ MadeAppends g budget r (onPresent (isSet here) (eachBelow (zoneEntryStores g look (shownAt g here look (now (sectors .entry)) (now (pointers .entry))) (parityEntries g (readDevice g (now (sectors .entry)) (now (starts .entry))) drive) drive) (g .zones))) (now (sectors .entry)) (now (written .entry)) (now (sectors .exit)) (now (written .exit)) ⌝ }
 {
     let n = g.zones;
     let mut rest = budget;
@@ -239,7 +249,7 @@ fn log_drive(
 }
 
 // The entries of the step, drive by drive.
-fn log_entries(
+pub fn log_entries(
     sectors: &mut [u8],
     written: &mut [u32],
     pointers: &[u32],
@@ -253,7 +263,7 @@ fn log_entries(
 ) -> u64
     requires { ⌜ Valid g ⌝ }
     requires { ⌜ (length (now value) ≡ g .sector) × (length (now out) ≡ g .sector) × Entering g here look (now pointers) (now starts) (now sectors) (now written) ⌝ }
-    ensures { λ r. ⌜ MadeAppends g budget r (onPresent (among here) (entryStoresBelow g look (shownAt g here look (now (sectors .entry)) (now (pointers .entry))) (parityEntries g (seen g (now (sectors .entry)) (now (starts .entry)))) (g .drives))) (now (sectors .entry)) (now (written .entry)) (now (sectors .exit)) (now (written .exit)) ⌝ }
+    ensures { λ r. ⌜ MadeAppends g budget r (onPresent (isSet here) (entryStoresBelow g look (shownAt g here look (now (sectors .entry)) (now (pointers .entry))) (parityEntries g (readDevice g (now (sectors .entry)) (now (starts .entry)))) (g .drives))) (now (sectors .entry)) (now (written .entry)) (now (sectors .exit)) (now (written .exit)) ⌝ }
 {
     let m = g.drives;
     let mut rest = budget;
@@ -275,38 +285,4 @@ fn log_entries(
         d += 1;
     }
     rest
-}
-
-// The entries at the pointers, and their flush. `starts` is a copy of the written pointers; `value` and `out` are scratch of one sector.
-pub fn entry_step(
-    sectors: &mut [u8],
-    written: &mut [u32],
-    durable: &mut [u32],
-    pointers: &[u32],
-    starts: &[u32],
-    value: &mut [u8],
-    out: &mut [u8],
-    g: Geometry,
-    here: [bool; 8],
-    look: Look,
-    budget: u64,
-) -> u64
-    requires { ⌜ Valid g ⌝ }
-    requires { ⌜ (length (now value) ≡ g .sector) × (length (now out) ≡ g .sector) × (now starts ≡ now written) × Restoring g here look (now pointers) (tablesOf (now sectors) (now written) (now durable)) ⌝ }
-    ensures { λ r. ⌜ Made g budget r (concat (withFlush g (among here) (entryStep g (shownAt g here look (now (sectors .entry)) (now (pointers .entry))) (deviceOf g (tablesOf (now (sectors .entry)) (now (written .entry)) (now (durable .entry)))))))
-        (tablesOf (now (sectors .entry)) (now (written .entry)) (now (durable .entry))) (tablesOf (now (sectors .exit)) (now (written .exit)) (now (durable .exit))) ⌝ }
-{
-    let rest = log_entries(
-        sectors,
-        written,
-        pointers,
-        starts,
-        value,
-        out,
-        g,
-        here,
-        look,
-        budget,
-    );
-    super::mount_steps::flush_after(written, durable, g, here, budget, rest)
 }

@@ -7,16 +7,35 @@ use tables::Geometry;
 ghost use mathlib.Core.Path.{_≡_};
 ghost use Prim.Native.Nat.{_≤_, _<_, min};
 ghost use lib.ListN.{length, getD};
-ghost use Rattle.tables.specs.Below.{eachBelow};
-ghost use Rattle.tables.specs.Geometry.{Valid, physicalZones, cells, totalBytes};
-ghost use Rattle.tables.specs.Phases.{onPresent};
-ghost use Rattle.tables.specs.Tables.{cell, MadeAppends};
-ghost use Rattle.logs.specs.Entry.{encode};
-ghost use Rattle.volume.specs.State.{isSealed};
-ghost use Rattle.volume.specs.OnTables.{among};
-ghost use Rattle.volume.specs.MountTables.{seen};
-ghost use Rattle.volume.specs.MountLook.{LookWithin};
-ghost use Rattle.volume.specs.MountHeaders.{labelDue, resetDue, sealDue, headerDue, headerFor, headerStores, headerSteps, Logging};
+ghost use Rattle.tables.specs.meaning.Below.{eachBelow};
+ghost use Rattle.tables.specs.meaning.Geometry.{Valid, physicalZones, cells, totalBytes};
+ghost use Rattle.tables.specs.meaning.Phases.{onPresent};
+ghost use Rattle.tables.specs.meaning.Tables.{cell};
+ghost use Rattle.tables.specs.laws.Made.{MadeAppends};
+ghost use Rattle.logs.specs.meaning.Entry.{encode};
+ghost use Rattle.volume.specs.meaning.State.{isSealed};
+ghost use Rattle.volume.specs.meaning.CallContracts.{isSet};
+ghost use Rattle.volume.specs.mounting.MountLook.{LookWithin};
+ghost use Rattle.volume.specs.mounting.MountHeaders.{labelDue, resetDue, sealDue, headerZones, headerDue, headerFor, headerStores, headerSteps, Logging};
+ghost use Rattle.volume.specs.looking.Knowing.{readDevice};
+
+// The headers that a mount stores.
+pub enum HeaderKind {
+    Label,
+    Reset,
+    Seal,
+}
+
+// How many of a kind a drive may be due: one label, the others for each zone.
+pub fn header_zones(kind: HeaderKind, g: Geometry) -> usize
+    ensures { λ r. ⌜ r ≡ headerZones g kind ⌝ }
+{
+    match kind {
+        HeaderKind::Label => 1,
+        HeaderKind::Reset => g.zones,
+        HeaderKind::Seal => g.zones,
+    }
+}
 
 // How many sectors a zone had when the pointers were copied.
 pub fn sectors_then(pointers: &[u32], g: Geometry, drive: usize, zone: usize) -> usize
@@ -27,7 +46,7 @@ pub fn sectors_then(pointers: &[u32], g: Geometry, drive: usize, zone: usize) ->
     let at = tables::stores::cell_of(g, drive, zone);
     let n = tables::bounds::widen(pointers[at]);
     let c = g.capacity;
-    tables::placement::smaller(n, c)
+    tables::placement::min(n, c)
 }
 
 fn is_sealed(c: Condition) -> bool
@@ -45,10 +64,10 @@ fn is_sealed(c: Condition) -> bool
 fn label_due(sectors: &[u8], pointers: &[u32], g: Geometry, look: Look, drive: usize) -> bool
     requires { ⌜ Valid g ⌝ }
     requires { ⌜ (drive < g .drives) × (length (now sectors) ≡ totalBytes g) × (length (now pointers) ≡ cells g) ⌝ }
-    ensures { λ r. ⌜ r ≡ labelDue g look (seen g (now (sectors .entry)) (now (pointers .entry))) drive ⌝ }
+    ensures { λ r. ⌜ r ≡ labelDue g look (readDevice g (now (sectors .entry)) (now (pointers .entry))) drive ⌝ }
 {
-    let n = sectors_then(pointers, g, drive, 0);
-    let last = logs::folds::last_lost(sectors, g, drive, 0, n);
+    let n = sectors_then(pointers, g, drive, logs::GENERAL_LOG);
+    let last = logs::folds::last_lost(sectors, g, drive, logs::GENERAL_LOG, n);
     let lost = look.lost;
     let d = g.drives;
     (lost < d) & (last != lost)
@@ -80,7 +99,7 @@ fn seal_due(
 ) -> bool
     requires { ⌜ Valid g ⌝ }
     requires { ⌜ (drive < g .drives) × (z < g .zones) × (length (now sectors) ≡ totalBytes g) × (length (now pointers) ≡ cells g) ⌝ }
-    ensures { λ r. ⌜ r ≡ sealDue g look (seen g (now (sectors .entry)) (now (pointers .entry))) drive z ⌝ }
+    ensures { λ r. ⌜ r ≡ sealDue g look (readDevice g (now (sectors .entry)) (now (pointers .entry))) drive z ⌝ }
 {
     let zones = look.zones;
     let zone = zones[z];
@@ -88,14 +107,23 @@ fn seal_due(
     let pointer = zone.pointer;
     let condition = zone.condition;
     let sealed = is_sealed(condition);
-    let n = sectors_then(pointers, g, drive, 0);
-    let there = logs::folds::has_seal_at(sectors, g, drive, 0, n, z, generation, pointer);
+    let n = sectors_then(pointers, g, drive, logs::GENERAL_LOG);
+    let there = logs::folds::has_seal_at(
+        sectors,
+        g,
+        drive,
+        logs::GENERAL_LOG,
+        n,
+        z,
+        generation,
+        pointer,
+    );
     sealed & !there
 }
 
-// Whether a header of a type is due on a drive for a zone.
+// Whether a header of a kind is due on a drive for a zone.
 fn header_due(
-    kind: u8,
+    kind: HeaderKind,
     sectors: &[u8],
     pointers: &[u32],
     g: Geometry,
@@ -105,40 +133,37 @@ fn header_due(
 ) -> bool
     requires { ⌜ Valid g ⌝ }
     requires { ⌜ (drive < g .drives) × (z < g .zones) × (length (now sectors) ≡ totalBytes g) × (length (now pointers) ≡ cells g) ⌝ }
-    ensures { λ r. ⌜ r ≡ headerDue g kind look (seen g (now (sectors .entry)) (now (pointers .entry))) drive z ⌝ }
+    ensures { λ r. ⌜ r ≡ headerDue g kind look (readDevice g (now (sectors .entry)) (now (pointers .entry))) drive z ⌝ }
 {
-    if kind == 1 {
-        return label_due(sectors, pointers, g, look, drive);
+    match kind {
+        HeaderKind::Label => label_due(sectors, pointers, g, look, drive),
+        HeaderKind::Reset => reset_due(g, look, drive, z),
+        HeaderKind::Seal => seal_due(sectors, pointers, g, look, drive, z),
     }
-    if kind == 3 {
-        return reset_due(g, look, drive, z);
-    }
-    seal_due(sectors, pointers, g, look, drive, z)
 }
 
 // Writes that header.
-fn write_header(kind: u8, out: &mut [u8], g: Geometry, look: Look, drive: usize, z: usize)
+fn write_header(kind: HeaderKind, out: &mut [u8], g: Geometry, look: Look, drive: usize, z: usize)
     requires { ⌜ Valid g ⌝ }
     requires { ⌜ (drive < g .drives) × (z < g .zones) × (length (now out) ≡ g .sector) × LookWithin g look ⌝ }
     ensures { λ _. ⌜ now (out .exit) ≡ encode g drive (headerFor kind look z) ⌝ }
 {
-    if kind == 1 {
-        logs::headers::write_label(out, g, drive, look.lost, look.array);
-        return;
-    }
+    let lost = look.lost;
+    let array = look.array;
     let zones = look.zones;
     let zone = zones[z];
     let generation = zone.generation;
-    if kind == 3 {
-        logs::headers::write_reset(out, g, drive, z, generation);
-        return;
+    let pointer = zone.pointer;
+    match kind {
+        HeaderKind::Label => logs::headers::write_label(out, g, drive, lost, array),
+        HeaderKind::Reset => logs::headers::write_reset(out, g, drive, z, generation),
+        HeaderKind::Seal => logs::headers::write_seal(out, g, drive, z, pointer, generation),
     }
-    logs::headers::write_seal(out, g, drive, z, zone.pointer, generation);
 }
 
 // One header, if its drive is here and it is due: what is left of the budget of stores.
 fn log_header(
-    kind: u8,
+    kind: HeaderKind,
     sectors: &mut [u8],
     written: &mut [u32],
     pointers: &[u32],
@@ -152,7 +177,7 @@ fn log_header(
 ) -> u64
     requires { ⌜ Valid g ⌝ }
     requires { ⌜ (drive < g .drives) × (z < g .zones) × (length (now out) ≡ g .sector) × Logging g look (now pointers) (now sectors) (now written) ⌝ }
-    ensures { λ r. ⌜ MadeAppends g budget r (onPresent (among here) (headerStores g kind look (seen g (now (sectors .entry)) (now (pointers .entry))) drive z)) (now (sectors .entry)) (now (written .entry)) (now (sectors .exit)) (now (written .exit)) ⌝ }
+    ensures { λ r. ⌜ MadeAppends g budget r (onPresent (isSet here) (headerStores g kind look (readDevice g (now (sectors .entry)) (now (pointers .entry))) drive z)) (now (sectors .entry)) (now (written .entry)) (now (sectors .exit)) (now (written .exit)) ⌝ }
 {
     let present = here[drive];
     if !present {
@@ -163,12 +188,21 @@ fn log_header(
         return budget;
     }
     write_header(kind, out, g, look, drive, z);
-    tables::stores::append_counted(sectors, written, g, true, drive, 0, out, budget)
+    tables::stores::append_counted(
+        sectors,
+        written,
+        g,
+        true,
+        drive,
+        logs::GENERAL_LOG,
+        out,
+        budget,
+    )
 }
 
 // The headers of one drive, for the first n zones.
 fn log_drive(
-    kind: u8,
+    kind: HeaderKind,
     sectors: &mut [u8],
     written: &mut [u32],
     pointers: &[u32],
@@ -182,7 +216,7 @@ fn log_drive(
 ) -> u64
     requires { ⌜ Valid g ⌝ }
     requires { ⌜ (drive < g .drives) × (n ≤ g .zones) × (length (now out) ≡ g .sector) × Logging g look (now pointers) (now sectors) (now written) ⌝ }
-    ensures { λ r. ⌜ MadeAppends g budget r (onPresent (among here) (eachBelow (headerStores g kind look (seen g (now (sectors .entry)) (now (pointers .entry))) drive) n)) (now (sectors .entry)) (now (written .entry)) (now (sectors .exit)) (now (written .exit)) ⌝ }
+    ensures { λ r. ⌜ MadeAppends g budget r (onPresent (isSet here) (eachBelow (headerStores g kind look (readDevice g (now (sectors .entry)) (now (pointers .entry))) drive) n)) (now (sectors .entry)) (now (written .entry)) (now (sectors .exit)) (now (written .exit)) ⌝ }
 {
     let mut rest = budget;
     let mut z = 0;
@@ -207,7 +241,7 @@ fn log_drive(
 
 // The headers of a step, drive by drive.
 pub fn log_headers(
-    kind: u8,
+    kind: HeaderKind,
     sectors: &mut [u8],
     written: &mut [u32],
     pointers: &[u32],
@@ -220,7 +254,7 @@ pub fn log_headers(
 ) -> u64
     requires { ⌜ Valid g ⌝ }
     requires { ⌜ (n ≤ g .zones) × (length (now out) ≡ g .sector) × Logging g look (now pointers) (now sectors) (now written) ⌝ }
-    ensures { λ r. ⌜ MadeAppends g budget r (onPresent (among here) (headerSteps g kind look (seen g (now (sectors .entry)) (now (pointers .entry))) n (g .drives))) (now (sectors .entry)) (now (written .entry)) (now (sectors .exit)) (now (written .exit)) ⌝ }
+    ensures { λ r. ⌜ MadeAppends g budget r (onPresent (isSet here) (headerSteps g kind look (readDevice g (now (sectors .entry)) (now (pointers .entry))) n (g .drives))) (now (sectors .entry)) (now (written .entry)) (now (sectors .exit)) (now (written .exit)) ⌝ }
 {
     let m = g.drives;
     let mut rest = budget;

@@ -1,22 +1,26 @@
-// The steps of a mount, "with a flush of all present drives after each step that stored". A step that stored has spent of the budget.
-use super::Look;
+// The steps of a mount, one function each, "with a flush of all present drives after each step that stored"; a step that stored has spent of the
+// budget. Each relies on the same things (`Restoring`) and leaves them so for the next (`StepMade`); `restore_steps` is the list of them in
+// document 01's order.
+use super::Basis;
+use super::mount_logs::HeaderKind;
 use tables::Geometry;
 ghost use mathlib.Core.Path.{_≡_};
-ghost use mathlib.Core.List.{[], _∷_};
-ghost use Prim.Native.Nat.{_≤_};
 ghost use lib.ListN.{length};
-ghost use Rattle.tables.specs.Lists.{concat};
-ghost use Rattle.tables.specs.Geometry.{Valid, cells};
-ghost use Rattle.tables.specs.Tables.{tablesOf, Made, MadePointers};
-ghost use Rattle.volume.specs.Mount.{withFlush, withFlushes, labelStep, resetEntryStep, zoneResetStep, counterStep, sealStep};
-ghost use Rattle.volume.specs.OnTables.{among};
-ghost use Rattle.volume.specs.MountTables.{seen, FlushedAfter};
-ghost use Rattle.volume.specs.MountLook.{shownBy};
-ghost use Rattle.volume.specs.MountHeaders.{headerSteps, Logging};
-ghost use Rattle.volume.specs.MountSteps.{Underway, headerPhases};
+ghost use Rattle.tables.specs.meaning.Lists.{concat};
+ghost use Rattle.tables.specs.meaning.Geometry.{Valid, cells};
+ghost use Rattle.tables.specs.meaning.Tables.{tablesOf, deviceOf};
+ghost use Rattle.tables.specs.laws.Made.{Made};
+ghost use Rattle.volume.specs.declared.mount_logs.HeaderKind.the-variants.{Label, Reset, Seal};
+ghost use Rattle.volume.specs.meaning.Mount.{withFlush, entryStep};
+ghost use Rattle.volume.specs.meaning.CallContracts.{isSet};
+ghost use Rattle.volume.specs.mounting.MountTables.{FlushedAfter};
+ghost use Rattle.volume.specs.mounting.MountHeaders.{headersBy};
+ghost use Rattle.volume.specs.mounting.MountValues.{shownAt, Restoring};
+ghost use Rattle.volume.specs.mounting.MountSteps.{countersBy, tornRowsBy, fillsBy, StepMade, ZonesReset};
+ghost use Rattle.volume.specs.mounting.Mounting.{restoreStores};
 
 // The flush after a step, if the step stored: it had `before` and left `rest`.
-pub fn flush_after(
+fn flush_after(
     written: &[u32],
     durable: &mut [u32],
     g: Geometry,
@@ -26,7 +30,7 @@ pub fn flush_after(
 ) -> u64
     requires { ⌜ Valid g ⌝ }
     requires { ⌜ (length (now written) ≡ cells g) × (length (now durable) ≡ cells g) ⌝ }
-    ensures { λ r. ⌜ FlushedAfter g (among here) before rest r (now (written .entry)) (now (durable .entry)) (now (durable .exit)) ⌝ }
+    ensures { λ r. ⌜ FlushedAfter g (isSet here) before rest r (now (written .entry)) (now (durable .entry)) (now (durable .exit)) ⌝ }
 {
     if rest == before {
         return rest;
@@ -34,25 +38,26 @@ pub fn flush_after(
     super::flushing::flush_all(written, durable, g, here, rest)
 }
 
-// A step of headers on the general logs, n of them a drive, and its flush.
-pub fn header_step(
-    kind: u8,
+// A step of headers of one kind on the general logs.
+fn header_step(
+    kind: HeaderKind,
     sectors: &mut [u8],
     written: &mut [u32],
     durable: &mut [u32],
     pointers: &[u32],
     out: &mut [u8],
-    g: Geometry,
-    here: [bool; 8],
-    look: Look,
-    n: usize,
+    basis: Basis,
     budget: u64,
 ) -> u64
-    requires { ⌜ Valid g ⌝ }
-    requires { ⌜ (n ≤ g .zones) × (length (now out) ≡ g .sector) × (length (now durable) ≡ cells g) × Logging g look (now pointers) (now sectors) (now written) ⌝ }
-    ensures { λ r. ⌜ Made g budget r (concat (withFlush g (among here) (headerSteps g kind look (seen g (now (sectors .entry)) (now (pointers .entry))) n (g .drives))))
+    requires { ⌜ Valid (basis .geometry) ⌝ }
+    requires { ⌜ (length (now out) ≡ basis .geometry .sector) × Restoring (basis .geometry) (basis .here) (basis .look) (now pointers) (tablesOf (now sectors) (now written) (now durable)) ⌝ }
+    ensures { λ r. ⌜ StepMade (basis .geometry) (basis .here) (basis .look) (now (pointers .entry)) budget r (headersBy (basis .geometry) kind (basis .look))
         (tablesOf (now (sectors .entry)) (now (written .entry)) (now (durable .entry))) (tablesOf (now (sectors .exit)) (now (written .exit)) (now (durable .exit))) ⌝ }
 {
+    let g = basis.geometry;
+    let here = basis.here;
+    let look = basis.look;
+    let n = super::mount_logs::header_zones(kind, g);
     let rest = super::mount_logs::log_headers(
         kind,
         sectors,
@@ -68,23 +73,93 @@ pub fn header_step(
     flush_after(written, durable, g, here, budget, rest)
 }
 
-// The counters, and their flush.
-pub fn counter_step(
+// 1. "A new label on each present drive whose last doesn't name the lost one".
+fn label_step(
     sectors: &mut [u8],
     written: &mut [u32],
     durable: &mut [u32],
     pointers: &[u32],
     out: &mut [u8],
-    g: Geometry,
-    here: [bool; 8],
-    look: Look,
+    basis: Basis,
     budget: u64,
 ) -> u64
-    requires { ⌜ Valid g ⌝ }
-    requires { ⌜ (length (now out) ≡ g .sector) × (length (now durable) ≡ cells g) × Logging g look (now pointers) (now sectors) (now written) ⌝ }
-    ensures { λ r. ⌜ Made g budget r (concat (withFlush g (among here) (counterStep g (among here) (shownBy look) (seen g (now (sectors .entry)) (now (pointers .entry))))))
+    requires { ⌜ Valid (basis .geometry) ⌝ }
+    requires { ⌜ (length (now out) ≡ basis .geometry .sector) × Restoring (basis .geometry) (basis .here) (basis .look) (now pointers) (tablesOf (now sectors) (now written) (now durable)) ⌝ }
+    ensures { λ r. ⌜ StepMade (basis .geometry) (basis .here) (basis .look) (now (pointers .entry)) budget r (headersBy (basis .geometry) Label (basis .look))
         (tablesOf (now (sectors .entry)) (now (written .entry)) (now (durable .entry))) (tablesOf (now (sectors .exit)) (now (written .exit)) (now (durable .exit))) ⌝ }
 {
+    let kind = HeaderKind::Label;
+    header_step(
+        kind,
+        sectors,
+        written,
+        durable,
+        pointers,
+        out,
+        basis,
+        budget,
+    )
+}
+
+// 2. "Type 3 again on both its drives for each zone emptied by rule 3".
+fn reset_entry_step(
+    sectors: &mut [u8],
+    written: &mut [u32],
+    durable: &mut [u32],
+    pointers: &[u32],
+    out: &mut [u8],
+    basis: Basis,
+    budget: u64,
+) -> u64
+    requires { ⌜ Valid (basis .geometry) ⌝ }
+    requires { ⌜ (length (now out) ≡ basis .geometry .sector) × Restoring (basis .geometry) (basis .here) (basis .look) (now pointers) (tablesOf (now sectors) (now written) (now durable)) ⌝ }
+    ensures { λ r. ⌜ StepMade (basis .geometry) (basis .here) (basis .look) (now (pointers .entry)) budget r (headersBy (basis .geometry) Reset (basis .look))
+        (tablesOf (now (sectors .entry)) (now (written .entry)) (now (durable .entry))) (tablesOf (now (sectors .exit)) (now (written .exit)) (now (durable .exit))) ⌝ }
+{
+    let kind = HeaderKind::Reset;
+    header_step(
+        kind,
+        sectors,
+        written,
+        durable,
+        pointers,
+        out,
+        basis,
+        budget,
+    )
+}
+
+// 3. "Resets of those zones and of unclean ones with pointer 0, worn zones excepted".
+fn zone_reset_step(written: &mut [u32], durable: &mut [u32], basis: Basis, budget: u64) -> u64
+    requires { ⌜ Valid (basis .geometry) ⌝ }
+    requires { ⌜ (length (now written) ≡ cells (basis .geometry)) × (length (now durable) ≡ cells (basis .geometry)) ⌝ }
+    ensures { λ r. ⌜ ZonesReset (basis .geometry) (basis .here) (basis .look) budget r (now (written .entry)) (now (durable .entry)) (now (written .exit)) (now (durable .exit)) ⌝ }
+{
+    let g = basis.geometry;
+    let here = basis.here;
+    let look = basis.look;
+    let rest = super::mount_zones::reset_zones(written, durable, g, here, look, budget);
+    flush_after(written, durable, g, here, budget, rest)
+}
+
+// 4. The counters, "every empty zone's raised by 1".
+fn counter_step(
+    sectors: &mut [u8],
+    written: &mut [u32],
+    durable: &mut [u32],
+    pointers: &[u32],
+    out: &mut [u8],
+    basis: Basis,
+    budget: u64,
+) -> u64
+    requires { ⌜ Valid (basis .geometry) ⌝ }
+    requires { ⌜ (length (now out) ≡ basis .geometry .sector) × Restoring (basis .geometry) (basis .here) (basis .look) (now pointers) (tablesOf (now sectors) (now written) (now durable)) ⌝ }
+    ensures { λ r. ⌜ StepMade (basis .geometry) (basis .here) (basis .look) (now (pointers .entry)) budget r (countersBy (basis .geometry) (basis .here) (basis .look))
+        (tablesOf (now (sectors .entry)) (now (written .entry)) (now (durable .entry))) (tablesOf (now (sectors .exit)) (now (written .exit)) (now (durable .exit))) ⌝ }
+{
+    let g = basis.geometry;
+    let here = basis.here;
+    let look = basis.look;
     let rest = super::mount_counters::store_counters(
         sectors,
         written,
@@ -98,151 +173,170 @@ pub fn counter_step(
     flush_after(written, durable, g, here, budget, rest)
 }
 
-// The resets of zones, and their flush.
-pub fn reset_step(
+// 5. "The seal at its pointer of each zone shown sealed, on each present drive lacking it".
+fn seal_step(
+    sectors: &mut [u8],
     written: &mut [u32],
     durable: &mut [u32],
-    g: Geometry,
-    here: [bool; 8],
-    look: Look,
+    pointers: &[u32],
+    out: &mut [u8],
+    basis: Basis,
     budget: u64,
 ) -> u64
-    requires { ⌜ Valid g ⌝ }
-    requires { ⌜ (length (now written) ≡ cells g) × (length (now durable) ≡ cells g) ⌝ }
-    ensures { λ r. ⌜ MadePointers g budget r (concat (withFlush g (among here) (zoneResetStep g (shownBy look)))) (now (written .entry)) (now (durable .entry)) (now (written .exit)) (now (durable .exit)) ⌝ }
+    requires { ⌜ Valid (basis .geometry) ⌝ }
+    requires { ⌜ (length (now out) ≡ basis .geometry .sector) × Restoring (basis .geometry) (basis .here) (basis .look) (now pointers) (tablesOf (now sectors) (now written) (now durable)) ⌝ }
+    ensures { λ r. ⌜ StepMade (basis .geometry) (basis .here) (basis .look) (now (pointers .entry)) budget r (headersBy (basis .geometry) Seal (basis .look))
+        (tablesOf (now (sectors .entry)) (now (written .entry)) (now (durable .entry))) (tablesOf (now (sectors .exit)) (now (written .exit)) (now (durable .exit))) ⌝ }
 {
-    let rest = super::mount_zones::reset_zones(written, durable, g, here, look, budget);
+    let kind = HeaderKind::Seal;
+    header_step(
+        kind,
+        sectors,
+        written,
+        durable,
+        pointers,
+        out,
+        basis,
+        budget,
+    )
+}
+
+// 6. "Rows missing from torn entries". `value` and `out` are scratch of one sector, here and below.
+fn torn_row_step(
+    sectors: &mut [u8],
+    written: &mut [u32],
+    durable: &mut [u32],
+    pointers: &[u32],
+    value: &mut [u8],
+    out: &mut [u8],
+    basis: Basis,
+    budget: u64,
+) -> u64
+    requires { ⌜ Valid (basis .geometry) ⌝ }
+    requires { ⌜ (length (now value) ≡ basis .geometry .sector) × (length (now out) ≡ basis .geometry .sector) × Restoring (basis .geometry) (basis .here) (basis .look) (now pointers) (tablesOf (now sectors) (now written) (now durable)) ⌝ }
+    ensures { λ r. ⌜ StepMade (basis .geometry) (basis .here) (basis .look) (now (pointers .entry)) budget r (tornRowsBy (basis .geometry) (basis .here) (basis .look))
+        (tablesOf (now (sectors .entry)) (now (written .entry)) (now (durable .entry))) (tablesOf (now (sectors .exit)) (now (written .exit)) (now (durable .exit))) ⌝ }
+{
+    let g = basis.geometry;
+    let here = basis.here;
+    let look = basis.look;
+    let rest = super::mount_torn::complete_logs(
+        sectors,
+        written,
+        pointers,
+        value,
+        out,
+        g,
+        here,
+        look,
+        budget,
+    );
     flush_after(written, durable, g, here, budget, rest)
 }
 
-// Steps 1 and 2: labels, then type 3 again for each zone emptied by rule 3.
-fn label_steps(
+// 7. "Sectors missing below the pointer, and parity of complete stripes".
+fn fill_step(
     sectors: &mut [u8],
     written: &mut [u32],
     durable: &mut [u32],
     pointers: &[u32],
+    value: &mut [u8],
     out: &mut [u8],
-    g: Geometry,
-    here: [bool; 8],
-    look: Look,
+    basis: Basis,
     budget: u64,
 ) -> u64
-    requires { ⌜ Valid g ⌝ }
-    requires { ⌜ (length (now out) ≡ g .sector) × Underway g look (now pointers) (tablesOf (now sectors) (now written) (now durable)) ⌝ }
-    ensures { λ r. ⌜ Made g budget r (concat (withFlushes g (among here) (labelStep g (look .lost) (shownBy look) (seen g (now (sectors .entry)) (now (pointers .entry))) ∷ resetEntryStep g (shownBy look) ∷ [])))
+    requires { ⌜ Valid (basis .geometry) ⌝ }
+    requires { ⌜ (length (now value) ≡ basis .geometry .sector) × (length (now out) ≡ basis .geometry .sector) × Restoring (basis .geometry) (basis .here) (basis .look) (now pointers) (tablesOf (now sectors) (now written) (now durable)) ⌝ }
+    ensures { λ r. ⌜ StepMade (basis .geometry) (basis .here) (basis .look) (now (pointers .entry)) budget r (fillsBy (basis .geometry) (basis .here) (basis .look))
         (tablesOf (now (sectors .entry)) (now (written .entry)) (now (durable .entry))) (tablesOf (now (sectors .exit)) (now (written .exit)) (now (durable .exit))) ⌝ }
 {
-    let rest = header_step(
-        1,
+    let g = basis.geometry;
+    let here = basis.here;
+    let look = basis.look;
+    let rest = super::mount_fill::fill_drives(
         sectors,
         written,
-        durable,
         pointers,
+        value,
         out,
         g,
         here,
         look,
-        1,
         budget,
     );
-    let l = g.zones;
-    header_step(
-        3,
-        sectors,
-        written,
-        durable,
-        pointers,
-        out,
-        g,
-        here,
-        look,
-        l,
-        rest,
-    )
+    flush_after(written, durable, g, here, budget, rest)
 }
 
-// Steps 4 and 5: counters, then seals.
-fn seal_steps(
+// 8. "A type 4 entry at each pointer inside a stripe that by then has no whole current one ending there". `starts` is a copy of the written
+// pointers.
+fn entry_step(
     sectors: &mut [u8],
     written: &mut [u32],
     durable: &mut [u32],
     pointers: &[u32],
+    starts: &[u32],
+    value: &mut [u8],
     out: &mut [u8],
-    g: Geometry,
-    here: [bool; 8],
-    look: Look,
+    basis: Basis,
     budget: u64,
 ) -> u64
-    requires { ⌜ Valid g ⌝ }
-    requires { ⌜ (length (now out) ≡ g .sector) × Underway g look (now pointers) (tablesOf (now sectors) (now written) (now durable)) ⌝ }
-    ensures { λ r. ⌜ Made g budget r (concat (withFlushes g (among here) (counterStep g (among here) (shownBy look) (seen g (now (sectors .entry)) (now (pointers .entry))) ∷ sealStep g (shownBy look) (seen g (now (sectors .entry)) (now (pointers .entry))) ∷ [])))
+    requires { ⌜ Valid (basis .geometry) ⌝ }
+    requires { ⌜ (length (now value) ≡ basis .geometry .sector) × (length (now out) ≡ basis .geometry .sector) × (now starts ≡ now written) × Restoring (basis .geometry) (basis .here) (basis .look) (now pointers) (tablesOf (now sectors) (now written) (now durable)) ⌝ }
+    ensures { λ r. ⌜ Made (basis .geometry) budget r (concat (withFlush (basis .geometry) (isSet (basis .here)) (entryStep (basis .geometry) (shownAt (basis .geometry) (basis .here) (basis .look) (now (sectors .entry)) (now (pointers .entry))) (deviceOf (basis .geometry) (tablesOf (now (sectors .entry)) (now (written .entry)) (now (durable .entry)))))))
         (tablesOf (now (sectors .entry)) (now (written .entry)) (now (durable .entry))) (tablesOf (now (sectors .exit)) (now (written .exit)) (now (durable .exit))) ⌝ }
 {
-    let rest = counter_step(
+    let g = basis.geometry;
+    let here = basis.here;
+    let look = basis.look;
+    let rest = super::mount_entries::log_entries(
         sectors,
         written,
-        durable,
         pointers,
+        starts,
+        value,
         out,
         g,
         here,
         look,
         budget,
     );
-    let l = g.zones;
-    header_step(
-        5,
-        sectors,
-        written,
-        durable,
-        pointers,
-        out,
-        g,
-        here,
-        look,
-        l,
-        rest,
-    )
+    flush_after(written, durable, g, here, budget, rest)
 }
 
-// Steps 1 to 5.
-pub fn header_steps(
+// The steps, by the mount's look. Step 8 looks at the logs as the others have left them: `starts` is scratch for the pointers of that moment.
+pub fn restore_steps(
     sectors: &mut [u8],
     written: &mut [u32],
     durable: &mut [u32],
     pointers: &[u32],
+    starts: &mut [u32],
+    value: &mut [u8],
     out: &mut [u8],
-    g: Geometry,
-    here: [bool; 8],
-    look: Look,
+    basis: Basis,
     budget: u64,
 ) -> u64
-    requires { ⌜ Valid g ⌝ }
-    requires { ⌜ (length (now out) ≡ g .sector) × Underway g look (now pointers) (tablesOf (now sectors) (now written) (now durable)) ⌝ }
-    ensures { λ r. ⌜ Made g budget r (concat (withFlushes g (among here) (headerPhases g (among here) look (seen g (now (sectors .entry)) (now (pointers .entry))))))
+    requires { ⌜ Valid (basis .geometry) ⌝ }
+    requires { ⌜ (length (now starts) ≡ cells (basis .geometry)) × (length (now value) ≡ basis .geometry .sector) × (length (now out) ≡ basis .geometry .sector) × Restoring (basis .geometry) (basis .here) (basis .look) (now pointers) (tablesOf (now sectors) (now written) (now durable)) ⌝ }
+    ensures { λ r. ⌜ Made (basis .geometry) budget r (restoreStores (basis .geometry) (basis .here) (basis .look) (now (sectors .entry)) (now (pointers .entry)) (tablesOf (now (sectors .entry)) (now (written .entry)) (now (durable .entry))))
         (tablesOf (now (sectors .entry)) (now (written .entry)) (now (durable .entry))) (tablesOf (now (sectors .exit)) (now (written .exit)) (now (durable .exit))) ⌝ }
 {
-    let labelled = label_steps(
+    let rest = label_step(sectors, written, durable, pointers, out, basis, budget);
+    let rest = reset_entry_step(sectors, written, durable, pointers, out, basis, rest);
+    let rest = zone_reset_step(written, durable, basis, rest);
+    let rest = counter_step(sectors, written, durable, pointers, out, basis, rest);
+    let rest = seal_step(sectors, written, durable, pointers, out, basis, rest);
+    let rest = torn_row_step(sectors, written, durable, pointers, value, out, basis, rest);
+    let rest = fill_step(sectors, written, durable, pointers, value, out, basis, rest);
+    tables::sectors::copy_pointers(starts, 0, written);
+    entry_step(
         sectors,
         written,
         durable,
         pointers,
+        starts,
+        value,
         out,
-        g,
-        here,
-        look,
-        budget,
-    );
-    let emptied = reset_step(written, durable, g, here, look, labelled);
-    seal_steps(
-        sectors,
-        written,
-        durable,
-        pointers,
-        out,
-        g,
-        here,
-        look,
-        emptied,
+        basis,
+        rest,
     )
 }

@@ -1,25 +1,26 @@
 // Step 6 of a mount: "rows missing from torn entries (the true rows if current and end is at or below the pointer, else zeros)". A parity log is read
 // below the pointers of the mount's look; what is missing from its torn entry goes at the written pointer.
 use super::Look;
+use super::mount_rows::Extent;
 use logs::Found;
+use logs::WalkEnd;
 use tables::Geometry;
 ghost use mathlib.Core.Path.{_≡_};
 ghost use Prim.Native.Nat.{_+_, _-_, _*_, _≤_, _<_, min};
 ghost use lib.ListN.{length};
-ghost use Rattle.tables.specs.Below.{eachBelow};
-ghost use Rattle.tables.specs.Lists.{concat};
-ghost use Rattle.tables.specs.Geometry.{Valid, stripeSectors, zoneSectors};
-ghost use Rattle.tables.specs.Phases.{onPresent};
-ghost use Rattle.tables.specs.Tables.{tablesOf, Made, MadeAppends};
-ghost use Rattle.logs.specs.Entry.{parityZone};
-ghost use Rattle.volume.specs.Calls.{appendAll};
-ghost use Rattle.volume.specs.Mount.{rowFor, withFlush, tornRowStep};
-ghost use Rattle.volume.specs.OnTables.{among};
-ghost use Rattle.volume.specs.MountTables.{seen};
-ghost use Rattle.volume.specs.MountValues.{shownAt, Restoring};
-ghost use Rattle.volume.specs.MountParityRows.{logRows};
-ghost use Rattle.volume.specs.MountRestoring.{Filling};
-ghost use Rattle.volume.specs.MountTornLogs.{missingSeen, TornFits, tornStores};
+ghost use Rattle.tables.specs.meaning.Below.{eachBelow};
+ghost use Rattle.tables.specs.meaning.Geometry.{Valid, stripeSectors, zoneSectors};
+ghost use Rattle.tables.specs.meaning.Phases.{onPresent};
+ghost use Rattle.tables.specs.laws.Made.{MadeAppends};
+ghost use Rattle.logs.specs.meaning.Entry.{parityZone};
+ghost use Rattle.volume.specs.meaning.Calls.{appendAll};
+ghost use Rattle.volume.specs.meaning.Mount.{rowFor};
+ghost use Rattle.volume.specs.meaning.CallContracts.{isSet};
+ghost use Rattle.volume.specs.mounting.MountValues.{shownAt};
+ghost use Rattle.volume.specs.mounting.MountParityRows.{logRows};
+ghost use Rattle.volume.specs.mounting.MountRestoring.{Filling};
+ghost use Rattle.volume.specs.mounting.MountTornLogs.{missingSeen, TornFits, tornStores};
+ghost use Rattle.volume.specs.looking.Knowing.{readDevice};
 
 // The rows that are missing from an entry of zone z, stripe s, its first `fill` sectors and a generation n: it has `rows` of them.
 fn complete_rows(
@@ -53,7 +54,7 @@ fn complete_rows(
     let current = (n == generation) & (end <= pointer);
     let limit = super::knowing::seal_limit(sectors, pointers, g, here, z, generation);
     let u = g.unit;
-    let m = tables::placement::smaller(fill, u);
+    let m = tables::placement::min(fill, u);
     super::mount_log_rows::append_rows(
         sectors,
         written,
@@ -63,12 +64,14 @@ fn complete_rows(
         g,
         here,
         drive,
-        z,
-        generation,
-        limit,
+        Extent {
+            zone: z,
+            generation,
+            limit,
+            end,
+        },
         current,
         s,
-        end,
         rows,
         m,
         budget,
@@ -136,20 +139,18 @@ fn complete_log(
 ) -> u64
     requires { ⌜ Valid g ⌝ }
     requires { ⌜ (drive < g .drives) × (length (now value) ≡ g .sector) × (length (now out) ≡ g .sector) × Filling g here look (now pointers) (now sectors) (now written) ⌝ }
-    ensures { λ r. ⌜ MadeAppends g budget r (onPresent (among here) (tornStores g (shownAt g here look (now (sectors .entry)) (now (pointers .entry))) (seen g (now (sectors .entry)) (now (pointers .entry))) drive)) (now (sectors .entry)) (now (written .entry)) (now (sectors .exit)) (now (written .exit)) ⌝ }
+    ensures { λ r. ⌜ MadeAppends g budget r (onPresent (isSet here) (tornStores g (shownAt g here look (now (sectors .entry)) (now (pointers .entry))) (readDevice g (now (sectors .entry)) (now (pointers .entry))) drive)) (now (sectors .entry)) (now (written .entry)) (now (sectors .exit)) (now (written .exit)) ⌝ }
 {
     let present = here[drive];
     if !present {
         return budget;
     }
-    let n = super::mount_logs::sectors_then(pointers, g, drive, 1);
-    let w = logs::walking::walk_log(sectors, g, drive, 1, true, n);
-    let why = w.why;
-    let p = w.position;
-    if why != 2 {
+    let n = super::mount_logs::sectors_then(pointers, g, drive, logs::PARITY_LOG);
+    let w = logs::walking::walk_log(sectors, g, drive, logs::PARITY_LOG, true, n);
+    let WalkEnd::Torn(p) = w else {
         return budget;
-    }
-    let f = logs::walking::judge_at(sectors, g, drive, 1, true, n, p);
+    };
+    let f = logs::walking::judge_at(sectors, g, drive, logs::PARITY_LOG, true, n, p);
     complete_entry(
         sectors,
         written,
@@ -167,7 +168,7 @@ fn complete_log(
 }
 
 // The parity logs, drive by drive.
-fn complete_logs(
+pub fn complete_logs(
     sectors: &mut [u8],
     written: &mut [u32],
     pointers: &[u32],
@@ -180,7 +181,7 @@ fn complete_logs(
 ) -> u64
     requires { ⌜ Valid g ⌝ }
     requires { ⌜ (length (now value) ≡ g .sector) × (length (now out) ≡ g .sector) × Filling g here look (now pointers) (now sectors) (now written) ⌝ }
-    ensures { λ r. ⌜ MadeAppends g budget r (onPresent (among here) (eachBelow (tornStores g (shownAt g here look (now (sectors .entry)) (now (pointers .entry))) (seen g (now (sectors .entry)) (now (pointers .entry)))) (g .drives))) (now (sectors .entry)) (now (written .entry)) (now (sectors .exit)) (now (written .exit)) ⌝ }
+    ensures { λ r. ⌜ MadeAppends g budget r (onPresent (isSet here) (eachBelow (tornStores g (shownAt g here look (now (sectors .entry)) (now (pointers .entry))) (readDevice g (now (sectors .entry)) (now (pointers .entry)))) (g .drives))) (now (sectors .entry)) (now (written .entry)) (now (sectors .exit)) (now (written .exit)) ⌝ }
 {
     let m = g.drives;
     let mut rest = budget;
@@ -201,36 +202,4 @@ fn complete_logs(
         d += 1;
     }
     rest
-}
-
-// The rows missing from torn entries, and their flush. `value` and `out` are scratch of one sector.
-pub fn torn_row_step(
-    sectors: &mut [u8],
-    written: &mut [u32],
-    durable: &mut [u32],
-    pointers: &[u32],
-    value: &mut [u8],
-    out: &mut [u8],
-    g: Geometry,
-    here: [bool; 8],
-    look: Look,
-    budget: u64,
-) -> u64
-    requires { ⌜ Valid g ⌝ }
-    requires { ⌜ (length (now value) ≡ g .sector) × (length (now out) ≡ g .sector) × Restoring g here look (now pointers) (tablesOf (now sectors) (now written) (now durable)) ⌝ }
-    ensures { λ r. ⌜ Made g budget r (concat (withFlush g (among here) (tornRowStep g (shownAt g here look (now (sectors .entry)) (now (pointers .entry))) (seen g (now (sectors .entry)) (now (pointers .entry))))))
-        (tablesOf (now (sectors .entry)) (now (written .entry)) (now (durable .entry))) (tablesOf (now (sectors .exit)) (now (written .exit)) (now (durable .exit))) ⌝ }
-{
-    let rest = complete_logs(
-        sectors,
-        written,
-        pointers,
-        value,
-        out,
-        g,
-        here,
-        look,
-        budget,
-    );
-    super::mount_steps::flush_after(written, durable, g, here, budget, rest)
 }

@@ -5,14 +5,14 @@ use tables::Geometry;
 ghost use mathlib.Core.Path.{_≡_};
 ghost use Prim.Native.Nat.{_<_};
 ghost use lib.ListN.{length};
-ghost use Rattle.tables.specs.Geometry.{Valid, cells};
-ghost use Rattle.tables.specs.Phases.{onPresent};
-ghost use Rattle.tables.specs.Tables.{MadePointers};
-ghost use Rattle.volume.specs.State.{isWorn};
-ghost use Rattle.volume.specs.Mount.{zoneResetStep};
-ghost use Rattle.volume.specs.OnTables.{among};
-ghost use Rattle.volume.specs.MountLook.{zoneLook, shownBy, resetNeeded};
-ghost use Rattle.volume.specs.MountResets.{zoneResets};
+ghost use Rattle.tables.specs.meaning.Geometry.{Valid, cells};
+ghost use Rattle.tables.specs.meaning.Phases.{onPresent};
+ghost use Rattle.tables.specs.laws.Made.{MadePointers};
+ghost use Rattle.volume.specs.meaning.State.{isWorn};
+ghost use Rattle.volume.specs.meaning.Mount.{zoneResetStep};
+ghost use Rattle.volume.specs.meaning.CallContracts.{isSet};
+ghost use Rattle.volume.specs.mounting.MountLook.{zoneLook, shownBy, resetNeeded};
+ghost use Rattle.volume.specs.mounting.MountResets.{zoneResets};
 
 fn is_worn(c: Condition) -> bool
     ensures { λ r. ⌜ r ≡ isWorn c ⌝ }
@@ -53,7 +53,7 @@ fn reset_drive(
 ) -> u64
     requires { ⌜ Valid g ⌝ }
     requires { ⌜ (drive < g .drives) × (length (now written) ≡ cells g) × (length (now durable) ≡ cells g) ⌝ }
-    ensures { λ r. ⌜ MadePointers g budget r (onPresent (among here) (zoneResets look drive (g .zones))) (now (written .entry)) (now (durable .entry)) (now (written .exit)) (now (durable .exit)) ⌝ }
+    ensures { λ r. ⌜ MadePointers g budget r (onPresent (isSet here) (zoneResets look drive (g .zones))) (now (written .entry)) (now (durable .entry)) (now (written .exit)) (now (durable .exit)) ⌝ }
 {
     let n = g.zones;
     let mut rest = budget;
@@ -67,7 +67,7 @@ fn reset_drive(
             g,
             present & needed,
             drive,
-            3 + z,
+            tables::DATA_ZONES + z,
             rest,
         );
         z += 1;
@@ -86,7 +86,7 @@ pub fn reset_zones(
 ) -> u64
     requires { ⌜ Valid g ⌝ }
     requires { ⌜ (length (now written) ≡ cells g) × (length (now durable) ≡ cells g) ⌝ }
-    ensures { λ r. ⌜ MadePointers g budget r (onPresent (among here) (zoneResetStep g (shownBy look))) (now (written .entry)) (now (durable .entry)) (now (written .exit)) (now (durable .exit)) ⌝ }
+    ensures { λ r. ⌜ MadePointers g budget r (onPresent (isSet here) (zoneResetStep g (shownBy look))) (now (written .entry)) (now (durable .entry)) (now (written .exit)) (now (durable .exit)) ⌝ }
 {
     let m = g.drives;
     let mut rest = budget;

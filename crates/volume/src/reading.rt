@@ -9,20 +9,20 @@ ghost use mathlib.Core.Path.{_≡_};
 ghost use mathlib.Core.Bool.{false};
 ghost use Prim.Native.Nat.{_+_, _*_, _≤_, _<_};
 ghost use lib.ListN.{length};
-ghost use Rattle.tables.specs.Basics.{pick};
-ghost use Rattle.tables.specs.Below.{tabulateFrom};
-ghost use Rattle.tables.specs.Lists.{concat};
-ghost use Rattle.tables.specs.Geometry.{Valid, cells, totalBytes, zoneSectors};
-ghost use Rattle.tables.specs.Tables.{tablesOf};
-ghost use Rattle.volume.specs.Rules.{valueAt, sealLimit};
-ghost use Rattle.volume.specs.Refusals.{goneIn, zoneOf, offsetOf};
-ghost use Rattle.volume.specs.State.{pointerIn};
-ghost use Rattle.volume.specs.OnTables.{among, recordAt, viewState};
-ghost use Rattle.volume.specs.ZoneChecks.{Reached, needsLog};
-ghost use Rattle.volume.specs.Knowing.{Readable, readDevice, ownSector};
-ghost use Rattle.volume.specs.Reading.{valuesOn, StateFits, zoneNumberOn, runNumber, readNumber, readOn};
-ghost use Rattle.volume.specs.ReadingHeld.{LimitServes};
-ghost use Rattle.volume.specs.Peeking.{placeNumberOn, peekNumber, peekOn};
+ghost use Rattle.tables.specs.meaning.Basics.{pick};
+ghost use Rattle.tables.specs.meaning.Below.{tabulateFrom};
+ghost use Rattle.tables.specs.meaning.Lists.{concat};
+ghost use Rattle.tables.specs.meaning.Geometry.{Valid, cells, totalBytes, zoneSectors};
+ghost use Rattle.tables.specs.meaning.Tables.{tablesOf};
+ghost use Rattle.volume.specs.meaning.Rules.{valueAt, sealLimit};
+ghost use Rattle.volume.specs.meaning.Refusals.{goneIn, zoneOf, offsetOf};
+ghost use Rattle.volume.specs.meaning.State.{pointerIn};
+ghost use Rattle.volume.specs.meaning.CallContracts.{isSet, recordAt, viewState, valuesOn, readNumber, readOn, peekNumber, peekOn};
+ghost use Rattle.volume.specs.checks.ZoneChecks.{Reached, needsLog};
+ghost use Rattle.volume.specs.looking.Knowing.{Readable, readDevice, ownSector};
+ghost use Rattle.volume.specs.reading.Reading.{StateFits, zoneNumberOn, runNumber};
+ghost use Rattle.volume.specs.reading.ReadingHeld.{LimitServes};
+ghost use Rattle.volume.specs.reading.Peeking.{placeNumberOn};
 
 // Whether some sector of a run is not known; limit is the zone's least current seal.
 pub fn some_gone(
@@ -38,8 +38,8 @@ pub fn some_gone(
 ) -> bool
     requires { ⌜ Valid g ⌝ }
     requires { ⌜ Readable g here (now sectors) (now written) z × (offset + count ≤ zoneSectors g)
-        × (limit ≡ sealLimit g (among here) (readDevice g (now sectors) (now written)) z generation) ⌝ }
-    ensures { λ r. ⌜ r ≡ goneIn g (among here) (readDevice g (now (sectors .entry)) (now (written .entry))) z generation offset count ⌝ }
+        × (limit ≡ sealLimit g (isSet here) (readDevice g (now sectors) (now written)) z generation) ⌝ }
+    ensures { λ r. ⌜ r ≡ goneIn g (isSet here) (readDevice g (now (sectors .entry)) (now (written .entry))) z generation offset count ⌝ }
 {
     let mut gone = false;
     let mut i = 0;
@@ -74,7 +74,7 @@ fn is_gone(
 ) -> bool
     requires { ⌜ Valid g ⌝ }
     requires { ⌜ Readable g here (now sectors) (now written) z × (offset + count ≤ zoneSectors g) × Reached g here (now written) z pointer × (offset + count ≤ pointer) ⌝ }
-    ensures { λ r. ⌜ r ≡ goneIn g (among here) (readDevice g (now (sectors .entry)) (now (written .entry))) z generation offset count ⌝ }
+    ensures { λ r. ⌜ r ≡ goneIn g (isSet here) (readDevice g (now (sectors .entry)) (now (written .entry))) z generation offset count ⌝ }
 {
     let logged = super::zone_checks::needs_log(g, here, pointer, offset + count);
     if !logged {
@@ -125,9 +125,9 @@ fn rebuild_run(
 )
     requires { ⌜ Valid g ⌝ }
     requires { ⌜ Readable g here (now sectors) (now written) z × (offset + count ≤ zoneSectors g) × (length (now out) ≡ count * g .sector)
-        × (goneIn g (among here) (readDevice g (now sectors) (now written)) z generation offset count ≡ false)
+        × (goneIn g (isSet here) (readDevice g (now sectors) (now written)) z generation offset count ≡ false)
         × LimitServes g here (now sectors) (now written) z generation limit offset count ⌝ }
-    ensures { λ _. ⌜ now (out .exit) ≡ concat (tabulateFrom (valueAt g (among here) (readDevice g (now (sectors .entry)) (now (written .entry))) z generation) offset count) ⌝ }
+    ensures { λ _. ⌜ now (out .exit) ≡ concat (tabulateFrom (valueAt g (isSet here) (readDevice g (now (sectors .entry)) (now (written .entry))) z generation) offset count) ⌝ }
 {
     let b = g.sector;
     let mut i = 0;
@@ -162,7 +162,7 @@ fn limit_of(
 ) -> usize
     requires { ⌜ Valid g ⌝ }
     requires { ⌜ Readable g here (now sectors) (now written) z ⌝ }
-    ensures { λ r. ⌜ r ≡ pick (needsLog g here pointer end) (sealLimit g (among here) (readDevice g (now (sectors .entry)) (now (written .entry))) z generation) 0 ⌝ }
+    ensures { λ r. ⌜ r ≡ pick (needsLog g here pointer end) (sealLimit g (isSet here) (readDevice g (now (sectors .entry)) (now (written .entry))) z generation) 0 ⌝ }
 {
     let logged = super::zone_checks::needs_log(g, here, pointer, end);
     if !logged {
@@ -186,8 +186,8 @@ fn read_run(
 )
     requires { ⌜ Valid g ⌝ }
     requires { ⌜ Readable g here (now sectors) (now written) z × (offset + count ≤ zoneSectors g) × (length (now out) ≡ count * g .sector)
-        × (goneIn g (among here) (readDevice g (now sectors) (now written)) z generation offset count ≡ false) × Reached g here (now written) z pointer × (offset + count ≤ pointer) ⌝ }
-    ensures { λ _. ⌜ now (out .exit) ≡ valuesOn g (among here) (readDevice g (now (sectors .entry)) (now (written .entry))) z generation offset count ⌝ }
+        × (goneIn g (isSet here) (readDevice g (now sectors) (now written)) z generation offset count ≡ false) × Reached g here (now written) z pointer × (offset + count ≤ pointer) ⌝ }
+    ensures { λ _. ⌜ now (out .exit) ≡ valuesOn g (isSet here) (readDevice g (now (sectors .entry)) (now (written .entry))) z generation offset count ⌝ }
 {
     let absent = super::checks::count_absent(g, here);
     if absent == 0 {
@@ -261,7 +261,7 @@ fn run_refusal(
 ) -> u8
     requires { ⌜ Valid g ⌝ }
     requires { ⌜ Readable g here (now sectors) (now written) z × (offset ≤ zoneSectors g) × (count ≤ 4294967295) × Reached g here (now written) z (pointerIn (recordAt state z .condition)) ⌝ }
-    ensures { λ r. ⌜ r ≡ runNumber g (among here) (readDevice g (now (sectors .entry)) (now (written .entry))) (viewState state) z offset count ⌝ }
+    ensures { λ r. ⌜ r ≡ runNumber g (isSet here) (readDevice g (now (sectors .entry)) (now (written .entry))) (viewState state) z offset count ⌝ }
 {
     let most = tables::bounds::zone_sectors(g);
     let end = offset + count;
@@ -458,7 +458,7 @@ pub fn peek<'a>(
     let offset = offset_of(g, address);
     let d = tables::placement::drive_of(g, z, offset);
     let x = tables::placement::sector_of(g, offset);
-    let at = tables::stores::byte_at(g, d, 3 + z, x);
+    let at = tables::stores::byte_at(g, d, tables::DATA_ZONES + z, x);
     let b = g.sector;
     let end = at + b;
     &sectors[at..end]

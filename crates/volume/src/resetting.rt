@@ -9,25 +9,22 @@ ghost use mathlib.Core.Path.{_≡_};
 ghost use mathlib.Core.Bool.{true};
 ghost use Prim.Native.Nat.{_≤_, _<_};
 ghost use lib.ListN.{length, take};
-ghost use Rattle.tables.specs.Basics.{pick};
-ghost use Rattle.tables.specs.Below.{eachBelow};
-ghost use Rattle.tables.specs.Geometry.{Valid, cells, totalBytes};
-ghost use Rattle.tables.specs.Phases.{onPresent};
-ghost use Rattle.tables.specs.Tables.{tablesOf, Made, MadeAppends, MadePointers};
-ghost use Rattle.logs.specs.Entry.{wornGeneration, counters};
-ghost use Rattle.volume.specs.Refusals.{stateWithin};
-ghost use Rattle.volume.specs.Calls.{resetStores};
-ghost use Rattle.volume.specs.OnTables.{recordAt, viewState, among};
-ghost use Rattle.volume.specs.Resetting.{resetOn, resetNumber, resetRestNumber, resetEntry, zoneResetAt, countersAt, resetRecord, withReset, raisedList};
-
-// The greatest generation: a zone that has it is worn.
-const WORN_GENERATION: u64 = 18446744073709551615;
+ghost use Rattle.tables.specs.meaning.Below.{eachBelow};
+ghost use Rattle.tables.specs.meaning.Geometry.{Valid, cells, totalBytes};
+ghost use Rattle.tables.specs.meaning.Phases.{onPresent};
+ghost use Rattle.tables.specs.meaning.Tables.{tablesOf};
+ghost use Rattle.tables.specs.laws.Made.{Made, MadeAppends, MadePointers};
+ghost use Rattle.logs.specs.meaning.Entry.{wornGeneration};
+ghost use Rattle.volume.specs.meaning.Refusals.{stateWithin};
+ghost use Rattle.volume.specs.meaning.Calls.{resetStores};
+ghost use Rattle.volume.specs.meaning.CallContracts.{recordAt, viewState, isSet, resetOn, resetRecord, withReset};
+ghost use Rattle.volume.specs.storing.Resetting.{resetNumber, resetRestNumber, resetEntry, zoneResetAt, countersAt, raisedList};
 
 // Refusals 7, 8, 12 and 14; 0 if none applies. Where there is no zone, 7 has nothing to say.
 fn zone_refusal(written: &[u32], g: Geometry, here: [bool; 8], state: State, z: usize) -> u8
     requires { ⌜ Valid g ⌝ }
     requires { ⌜ (length (now written) ≡ cells g) × (stateWithin g (viewState state) ≡ true) ⌝ }
-    ensures { λ r. ⌜ r ≡ resetRestNumber g (among here) state z (now (written .entry)) ⌝ }
+    ensures { λ r. ⌜ r ≡ resetRestNumber g (isSet here) state z (now (written .entry)) ⌝ }
 {
     let l = g.zones;
     if l <= z {
@@ -41,17 +38,11 @@ fn zone_refusal(written: &[u32], g: Geometry, here: [bool; 8], state: State, z: 
         return 7;
     }
     let generation = r.generation;
-    let worn = super::zone_checks::is_worn(condition) | (WORN_GENERATION <= generation);
+    let worn = super::zone_checks::is_worn(condition) | (logs::WORN_GENERATION <= generation);
     if worn {
         return 12;
     }
-    let full = super::zone_checks::unused_below(
-        written,
-        g,
-        here,
-        super::logging::GENERAL_LOG,
-        l + 4,
-    );
+    let full = super::zone_checks::unused_below(written, g, here, logs::GENERAL_LOG, l + 4);
     if full {
         return 14;
     }
@@ -91,7 +82,7 @@ fn log_resets(
 ) -> u64
     requires { ⌜ Valid g ⌝ }
     requires { ⌜ (z < g .zones) × (length (now sectors) ≡ totalBytes g) × (length (now written) ≡ cells g) ⌝ }
-    ensures { λ r. ⌜ MadeAppends g budget r (onPresent (among here) (eachBelow (resetEntry g z generation) (g .drives))) (now (sectors .entry)) (now (written .entry)) (now (sectors .exit)) (now (written .exit)) ⌝ }
+    ensures { λ r. ⌜ MadeAppends g budget r (onPresent (isSet here) (eachBelow (resetEntry g z generation) (g .drives))) (now (sectors .entry)) (now (written .entry)) (now (sectors .exit)) (now (written .exit)) ⌝ }
 {
     let n = g.drives;
     let first = tables::placement::first_drive(g, z);
@@ -117,14 +108,22 @@ fn reset_zones(
 ) -> u64
     requires { ⌜ Valid g ⌝ }
     requires { ⌜ (z < g .zones) × (length (now written) ≡ cells g) × (length (now durable) ≡ cells g) ⌝ }
-    ensures { λ r. ⌜ MadePointers g budget r (onPresent (among here) (eachBelow (zoneResetAt z) (g .drives))) (now (written .entry)) (now (durable .entry)) (now (written .exit)) (now (durable .exit)) ⌝ }
+    ensures { λ r. ⌜ MadePointers g budget r (onPresent (isSet here) (eachBelow (zoneResetAt z) (g .drives))) (now (written .entry)) (now (durable .entry)) (now (written .exit)) (now (durable .exit)) ⌝ }
 {
     let n = g.drives;
     let mut rest = budget;
     let mut d = 0;
     while d < n {
         let present = here[d];
-        rest = tables::stores::reset_counted(written, durable, g, present, d, 3 + z, rest);
+        rest = tables::stores::reset_counted(
+            written,
+            durable,
+            g,
+            present,
+            d,
+            tables::DATA_ZONES + z,
+            rest,
+        );
         d += 1;
     }
     rest
@@ -141,7 +140,7 @@ fn log_counters(
 ) -> u64
     requires { ⌜ Valid g ⌝ }
     requires { ⌜ (g .zones ≤ length (now generations)) × (length (now sectors) ≡ totalBytes g) × (length (now written) ≡ cells g) ⌝ }
-    ensures { λ r. ⌜ MadeAppends g budget r (onPresent (among here) (eachBelow (countersAt g (take (g .zones) (now (generations .entry)))) (g .drives))) (now (sectors .entry)) (now (written .entry)) (now (sectors .exit)) (now (written .exit)) ⌝ }
+    ensures { λ r. ⌜ MadeAppends g budget r (onPresent (isSet here) (eachBelow (countersAt g (take (g .zones) (now (generations .entry)))) (g .drives))) (now (sectors .entry)) (now (written .entry)) (now (sectors .exit)) (now (written .exit)) ⌝ }
 {
     let n = g.drives;
     let mut rest = budget;
@@ -152,12 +151,6 @@ fn log_counters(
         d += 1;
     }
     rest
-}
-
-fn choose(b: bool, x: u64, y: u64) -> u64
-    ensures { λ r. ⌜ r ≡ pick b x y ⌝ }
-{
-    if b { x } else { y }
 }
 
 // The state's generations, that of zone z raised by one.
@@ -173,7 +166,7 @@ fn raised_generations(state: State, z: usize) -> [u64; 16]
     while i < 16 {
         let r = zones[i];
         let own = r.generation;
-        out[i] = choose(i == z, next, own);
+        out[i] = super::checks::choose_generation(i == z, next, own);
         i += 1;
     }
     out
@@ -192,7 +185,7 @@ fn reset_stores(
 ) -> u64
     requires { ⌜ Valid g ⌝ }
     requires { ⌜ (z < g .zones) × (recordAt state z .generation < wornGeneration) × (length (now sectors) ≡ totalBytes g) × (length (now written) ≡ cells g) × (length (now durable) ≡ cells g) ⌝ }
-    ensures { λ r. ⌜ Made g budget r (resetStores g (among here) (viewState state) z) (tablesOf (now (sectors .entry)) (now (written .entry)) (now (durable .entry))) (tablesOf (now (sectors .exit)) (now (written .exit)) (now (durable .exit))) ⌝ }
+    ensures { λ r. ⌜ Made g budget r (resetStores g (isSet here) (viewState state) z) (tablesOf (now (sectors .entry)) (now (written .entry)) (now (durable .entry))) (tablesOf (now (sectors .exit)) (now (written .exit)) (now (durable .exit))) ⌝ }
 {
     let zones = state.zones;
     let r = zones[z];
@@ -211,7 +204,7 @@ fn reset_record(r: ZoneRecord) -> ZoneRecord
     ensures { λ q. ⌜ q ≡ resetRecord r ⌝ }
 {
     let generation = r.generation + 1;
-    if generation == WORN_GENERATION {
+    if generation == logs::WORN_GENERATION {
         return ZoneRecord {
             generation,
             condition: Condition::Worn(0),

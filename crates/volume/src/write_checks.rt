@@ -4,12 +4,12 @@ use tables::Geometry;
 ghost use mathlib.Core.Path.{_≡_};
 ghost use Prim.Native.Nat.{_+_, _≤_, _<_};
 ghost use lib.ListN.{length};
-ghost use Rattle.tables.specs.Geometry.{Valid, zoneSectors, cells};
-ghost use Rattle.volume.specs.State.{pointerIn, isSealed};
-ghost use Rattle.volume.specs.Refusals.{goneBefore};
-ghost use Rattle.volume.specs.OnTables.{among};
-ghost use Rattle.volume.specs.Knowing.{Readable, readDevice};
-ghost use Rattle.volume.specs.WriteChecks.{fullOn, runNumber, zoneNumber};
+ghost use Rattle.tables.specs.meaning.Geometry.{Valid, zoneSectors, cells};
+ghost use Rattle.volume.specs.meaning.State.{pointerIn, isSealed};
+ghost use Rattle.volume.specs.meaning.Refusals.{goneBefore};
+ghost use Rattle.volume.specs.meaning.CallContracts.{isSet};
+ghost use Rattle.volume.specs.looking.Knowing.{Readable, readDevice};
+ghost use Rattle.volume.specs.writing.WriteChecks.{fullOn, runNumber, zoneNumber};
 
 // Whether a zone's condition is sealed.
 fn is_sealed(c: Condition) -> bool
@@ -52,7 +52,7 @@ fn run_refusal(g: Geometry, c: Condition, offset: usize, count: usize) -> u8
 fn log_full(written: &[u32], g: Geometry, here: [bool; 8], z: usize, end: usize) -> bool
     requires { ⌜ Valid g ⌝ }
     requires { ⌜ (z < g .zones) × (end ≤ zoneSectors g) × (length (now written) ≡ cells g) ⌝ }
-    ensures { λ r. ⌜ r ≡ fullOn g (among here) (now (written .entry)) z end ⌝ }
+    ensures { λ r. ⌜ r ≡ fullOn g (isSet here) (now (written .entry)) z end ⌝ }
 {
     let k = tables::bounds::stripe_sectors(g);
     let s = end / k;
@@ -66,11 +66,11 @@ fn log_full(written: &[u32], g: Geometry, here: [bool; 8], z: usize, end: usize)
     if !present {
         return false;
     }
-    let w = super::zone_checks::written_at(written, g, p, 1);
+    let w = super::zone_checks::written_at(written, g, p, logs::PARITY_LOG);
     let c = g.capacity;
-    let unused = tables::placement::excess(c, w);
+    let unused = tables::placement::saturating_sub(c, w);
     let u = g.unit;
-    let m = tables::placement::smaller(end - start, u);
+    let m = tables::placement::min(end - start, u);
     let l = g.zones;
     unused < m + 1 + (l * (1 + u) + u)
 }
@@ -87,7 +87,7 @@ fn gone_before(
 ) -> bool
     requires { ⌜ Valid g ⌝ }
     requires { ⌜ Readable g here (now sectors) (now written) z × (n ≤ zoneSectors g) ⌝ }
-    ensures { λ r. ⌜ r ≡ goneBefore g (among here) (readDevice g (now (sectors .entry)) (now (written .entry))) z generation n ⌝ }
+    ensures { λ r. ⌜ r ≡ goneBefore g (isSet here) (readDevice g (now (sectors .entry)) (now (written .entry))) z generation n ⌝ }
 {
     let k = tables::bounds::stripe_sectors(g);
     let s = n / k;
@@ -131,7 +131,7 @@ pub fn zone_refusal(
     requires { ⌜ Valid g ⌝ }
     requires { ⌜ Readable g here (now sectors) (now written) z × (pointerIn c ≤ zoneSectors g) ⌝ }
     requires { ⌜ (offset < zoneSectors g) × (count < 4294967296) ⌝ }
-    ensures { λ r. ⌜ r ≡ zoneNumber g (among here) (now (sectors .entry)) (now (written .entry)) c generation z offset count ⌝ }
+    ensures { λ r. ⌜ r ≡ zoneNumber g (isSet here) (now (sectors .entry)) (now (written .entry)) c generation z offset count ⌝ }
 {
     let stale = super::zone_checks::is_stale(written, g, here, c, z);
     if stale {

@@ -5,18 +5,18 @@ ghost use mathlib.Core.Path.{_≡_};
 ghost use mathlib.Core.Bool.{true, false};
 ghost use Prim.Native.Nat.{_+_, _*_, _≤_, _<_};
 ghost use lib.ListN.{length};
-ghost use Rattle.tables.specs.Geometry.{Valid, totalBytes, zoneSectors};
-ghost use Rattle.tables.specs.Phases.{onPresent};
-ghost use Rattle.tables.specs.Tables.{MadeAppends};
-ghost use Rattle.volume.specs.Rules.{known, zoneView, sealLimit, valueAt};
-ghost use Rattle.volume.specs.Refusals.{goneIn, goneBefore};
-ghost use Rattle.volume.specs.Calls.{writeWith};
-ghost use Rattle.volume.specs.Answers.{sectorsIn};
-ghost use Rattle.volume.specs.OnTables.{among};
-ghost use Rattle.volume.specs.Knowing.{Readable, readDevice, ownSector};
-ghost use Rattle.volume.specs.WriteRows.{withSector};
-ghost use Rattle.volume.specs.WriteStores.{Kept, rowsWith};
-ghost use Rattle.volume.specs.WriteKeeping.{SectorsLong, WriteReady, runContent};
+ghost use Rattle.tables.specs.meaning.Geometry.{Valid, totalBytes, zoneSectors};
+ghost use Rattle.tables.specs.meaning.Phases.{onPresent};
+ghost use Rattle.tables.specs.laws.Made.{MadeAppends};
+ghost use Rattle.volume.specs.meaning.Rules.{known, zoneView, sealLimit, valueAt};
+ghost use Rattle.volume.specs.meaning.Refusals.{goneIn, goneBefore};
+ghost use Rattle.volume.specs.meaning.Calls.{writeWith};
+ghost use Rattle.volume.specs.meaning.Answers.{sectorsIn};
+ghost use Rattle.volume.specs.meaning.CallContracts.{isSet};
+ghost use Rattle.volume.specs.looking.Knowing.{Readable, readDevice, ownSector};
+ghost use Rattle.volume.specs.writing.ParityBuffer.{withSector};
+ghost use Rattle.volume.specs.writing.WriteStores.{Kept, rowsWith};
+ghost use Rattle.volume.specs.writing.WriteParity.{SectorsLong, WriteReady, runContent};
 
 // Adds the value of a known sector to its row.
 fn add_value(
@@ -32,11 +32,11 @@ fn add_value(
 )
     requires { ⌜ Valid g ⌝ }
     requires { ⌜ Readable g here (now sectors) (now written) z × (a < zoneSectors g)
-        × (limit ≡ sealLimit g (among here) (readDevice g (now sectors) (now written)) z generation)
-        × (known (g .drives) (g .unit) z (zoneView g (among here) (readDevice g (now sectors) (now written)) z generation) a ≡ true)
+        × (limit ≡ sealLimit g (isSet here) (readDevice g (now sectors) (now written)) z generation)
+        × (known (g .drives) (g .unit) z (zoneView g (isSet here) (readDevice g (now sectors) (now written)) z generation) a ≡ true)
         × (g .unit * g .sector ≤ length (now rows)) ⌝ }
-    ensures { λ _. ⌜ (now (rows .exit) ≡ withSector g a (valueAt g (among here) (readDevice g (now (sectors .entry)) (now (written .entry))) z generation a) (now (rows .entry)))
-        × (length (valueAt g (among here) (readDevice g (now (sectors .entry)) (now (written .entry))) z generation a) ≡ g .sector) ⌝ }
+    ensures { λ _. ⌜ (now (rows .exit) ≡ withSector g a (valueAt g (isSet here) (readDevice g (now (sectors .entry)) (now (written .entry))) z generation a) (now (rows .entry)))
+        × (length (valueAt g (isSet here) (readDevice g (now (sectors .entry)) (now (written .entry))) z generation a) ≡ g .sector) ⌝ }
 {
     let mut value = [0u8; 4096];
     let b = g.sector;
@@ -69,11 +69,11 @@ fn add_values(
 )
     requires { ⌜ Valid g ⌝ }
     requires { ⌜ Readable g here (now sectors) (now written) z × (start + count ≤ zoneSectors g)
-        × (limit ≡ sealLimit g (among here) (readDevice g (now sectors) (now written)) z generation)
-        × (goneIn g (among here) (readDevice g (now sectors) (now written)) z generation start count ≡ false)
+        × (limit ≡ sealLimit g (isSet here) (readDevice g (now sectors) (now written)) z generation)
+        × (goneIn g (isSet here) (readDevice g (now sectors) (now written)) z generation start count ≡ false)
         × (g .unit * g .sector ≤ length (now rows)) ⌝ }
-    ensures { λ _. ⌜ (now (rows .exit) ≡ rowsWith g (valueAt g (among here) (readDevice g (now (sectors .entry)) (now (written .entry))) z generation) start (now (rows .entry)) count)
-        × SectorsLong g (valueAt g (among here) (readDevice g (now (sectors .entry)) (now (written .entry))) z generation) start count ⌝ }
+    ensures { λ _. ⌜ (now (rows .exit) ≡ rowsWith g (valueAt g (isSet here) (readDevice g (now (sectors .entry)) (now (written .entry))) z generation) start (now (rows .entry)) count)
+        × SectorsLong g (valueAt g (isSet here) (readDevice g (now (sectors .entry)) (now (written .entry))) z generation) start count ⌝ }
 {
     let mut i = 0;
     while i < count {
@@ -100,7 +100,7 @@ fn add_own(sectors: &[u8], g: Geometry, z: usize, a: usize, rows: &mut [u8])
 {
     let d = tables::placement::drive_of(g, z, a);
     let x = tables::placement::sector_of(g, a);
-    let from = tables::stores::byte_at(g, d, 3 + z, x);
+    let from = tables::stores::byte_at(g, d, tables::DATA_ZONES + z, x);
     let b = g.sector;
     let end = from + b;
     super::write_rows::add_sector(rows, g, a, &sectors[from..end]);
@@ -132,8 +132,8 @@ fn keep_rows(
 )
     requires { ⌜ Valid g ⌝ }
     requires { ⌜ Readable g here (now sectors) (now written) z × (n ≤ zoneSectors g)
-        × (goneBefore g (among here) (readDevice g (now sectors) (now written)) z generation n ≡ false) × (g .unit * g .sector ≤ length (now rows)) ⌝ }
-    ensures { λ _. ⌜ Kept g (among here) z (valueAt g (among here) (readDevice g (now (sectors .entry)) (now (written .entry))) z generation) n (now (rows .exit)) ⌝ }
+        × (goneBefore g (isSet here) (readDevice g (now sectors) (now written)) z generation n ≡ false) × (g .unit * g .sector ≤ length (now rows)) ⌝ }
+    ensures { λ _. ⌜ Kept g (isSet here) z (valueAt g (isSet here) (readDevice g (now (sectors .entry)) (now (written .entry))) z generation) n (now (rows .exit)) ⌝ }
 {
     let k = tables::bounds::stripe_sectors(g);
     let s = n / k;
@@ -182,7 +182,7 @@ fn write_with_rows(
     requires { ⌜ Valid g ⌝ }
     requires { ⌜ WriteReady g here (now sectors) (now written) z generation n count (now buffer) ⌝ }
     requires { ⌜ g .unit * g .sector ≤ length (now rows) ⌝ }
-    ensures { λ r. ⌜ MadeAppends g budget r (onPresent (among here) (writeWith g z generation (runContent g (among here) (readDevice g (now (sectors .entry)) (now (written .entry))) z generation n (sectorsIn g count (now (buffer .entry)))) n count)) (now (sectors .entry)) (now (written .entry)) (now (sectors .exit)) (now (written .exit)) ⌝ }
+    ensures { λ r. ⌜ MadeAppends g budget r (onPresent (isSet here) (writeWith g z generation (runContent g (isSet here) (readDevice g (now (sectors .entry)) (now (written .entry))) z generation n (sectorsIn g count (now (buffer .entry)))) n count)) (now (sectors .entry)) (now (written .entry)) (now (sectors .exit)) (now (written .exit)) ⌝ }
 {
     keep_rows(sectors, written, g, here, z, generation, n, rows);
     let rest = super::write_stores::write_run(
@@ -225,7 +225,7 @@ pub fn write_all(
 ) -> u64
     requires { ⌜ Valid g ⌝ }
     requires { ⌜ WriteReady g here (now sectors) (now written) z generation n count (now buffer) ⌝ }
-    ensures { λ r. ⌜ MadeAppends g budget r (onPresent (among here) (writeWith g z generation (runContent g (among here) (readDevice g (now (sectors .entry)) (now (written .entry))) z generation n (sectorsIn g count (now (buffer .entry)))) n count)) (now (sectors .entry)) (now (written .entry)) (now (sectors .exit)) (now (written .exit)) ⌝ }
+    ensures { λ r. ⌜ MadeAppends g budget r (onPresent (isSet here) (writeWith g z generation (runContent g (isSet here) (readDevice g (now (sectors .entry)) (now (written .entry))) z generation n (sectorsIn g count (now (buffer .entry)))) n count)) (now (sectors .entry)) (now (written .entry)) (now (sectors .exit)) (now (written .exit)) ⌝ }
 {
     let u = g.unit;
     let b = g.sector;

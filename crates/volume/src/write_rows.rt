@@ -5,11 +5,11 @@ use tables::Geometry;
 ghost use mathlib.Core.Path.{_≡_};
 ghost use Prim.Native.Nat.{_+_, _*_, _≤_, _<_};
 ghost use lib.ListN.{length};
-ghost use Rattle.tables.specs.Geometry.{Valid, physicalZones, cells, totalBytes};
-ghost use Rattle.tables.specs.Phases.{onPresent};
-ghost use Rattle.tables.specs.Tables.{MadeAppends};
-ghost use Rattle.volume.specs.OnTables.{among};
-ghost use Rattle.volume.specs.WriteRows.{withSector, rowStores};
+ghost use Rattle.tables.specs.meaning.Geometry.{Valid, physicalZones, cells, totalBytes};
+ghost use Rattle.tables.specs.meaning.Phases.{onPresent};
+ghost use Rattle.tables.specs.laws.Made.{MadeAppends};
+ghost use Rattle.volume.specs.meaning.CallContracts.{isSet};
+ghost use Rattle.volume.specs.writing.ParityBuffer.{withSector, rowStores};
 
 // Adds the sector of address a to its row: of the stripe's first unit it begins the row.
 pub fn add_sector(rows: &mut [u8], g: Geometry, a: usize, src: &[u8])
@@ -44,7 +44,7 @@ pub fn store_rows(
 ) -> u64
     requires { ⌜ Valid g ⌝ }
     requires { ⌜ (drive < g .drives) × (zone < physicalZones g) × (length (now sectors) ≡ totalBytes g) × (length (now written) ≡ cells g) × (n ≤ g .unit) × (g .unit * g .sector ≤ length (now rows)) ⌝ }
-    ensures { λ r. ⌜ MadeAppends g budget r (onPresent (among here) (rowStores g drive zone (now (rows .entry)) n)) (now (sectors .entry)) (now (written .entry)) (now (sectors .exit)) (now (written .exit)) ⌝ }
+    ensures { λ r. ⌜ MadeAppends g budget r (onPresent (isSet here) (rowStores g drive zone (now (rows .entry)) n)) (now (sectors .entry)) (now (written .entry)) (now (sectors .exit)) (now (written .exit)) ⌝ }
 {
     let b = g.sector;
     let present = here[drive];

@@ -4,16 +4,16 @@ use tables::Geometry;
 ghost use mathlib.Core.Path.{_≡_};
 ghost use Prim.Native.Nat.{_+_, _*_, _≤_, _<_};
 ghost use lib.ListN.{length};
-ghost use Rattle.tables.specs.Geometry.{Valid, zoneSectors, stripeSectors, cells, totalBytes};
-ghost use Rattle.tables.specs.Phases.{onPresent};
-ghost use Rattle.tables.specs.Tables.{MadeAppends, storeIf};
-ghost use Rattle.volume.specs.OnTables.{among};
-ghost use Rattle.tables.specs.Basics.{pick};
-ghost use Rattle.tables.specs.Device.{append};
-ghost use Rattle.logs.specs.Entry.{parityZone, encode, partialParity};
-ghost use Rattle.volume.specs.Content.{insideStripe};
+ghost use Rattle.tables.specs.meaning.Geometry.{Valid, zoneSectors, stripeSectors, cells, totalBytes};
+ghost use Rattle.tables.specs.meaning.Phases.{onPresent};
+ghost use Rattle.tables.specs.laws.Made.{MadeAppends, storeIf};
+ghost use Rattle.volume.specs.meaning.CallContracts.{isSet};
+ghost use Rattle.tables.specs.meaning.Basics.{pick};
+ghost use Rattle.tables.specs.meaning.Device.{append};
+ghost use Rattle.logs.specs.meaning.Entry.{parityZone, encode, partialParity};
+ghost use Rattle.volume.specs.meaning.Content.{insideStripe};
 ghost use mathlib.Core.List.{[]};
-ghost use Rattle.volume.specs.WriteRows.{entryOf, withSector, addressStores, rowsAt, runOf, WriteSized};
+ghost use Rattle.volume.specs.writing.ParityBuffer.{entryOf, withSector, addressStores, rowsAt, runOf, WriteSized};
 
 // One address: its sector, and the stripe's parity if it is the last of its stripe. What is left of the budget of stores.
 fn write_sector(
@@ -30,11 +30,12 @@ fn write_sector(
     requires { ⌜ Valid g ⌝ }
     requires { ⌜ WriteSized g z (now sectors) (now written) (now rows) ⌝ }
     requires { ⌜ (a < zoneSectors g) × (length (now src) ≡ g .sector) ⌝ }
-    ensures { λ r. ⌜ MadeAppends g budget r (onPresent (among here) (addressStores g z a (now (src .entry)) (now (rows .entry)))) (now (sectors .entry)) (now (written .entry)) (now (sectors .exit)) (now (written .exit))
+    ensures { λ r. ⌜ MadeAppends g budget r (onPresent (isSet here) (addressStores g z a (now (src .entry)) (now (rows .entry)))) (now (sectors .entry)) (now (written .entry)) (now (sectors .exit)) (now (written .exit))
         × (now (rows .exit) ≡ withSector g a (now (src .entry)) (now (rows .entry))) ⌝ }
 {
+    let zone = tables::DATA_ZONES + z;
     let d = tables::placement::drive_of(g, z, a);
-    let rest = tables::stores::append_counted(sectors, written, g, here[d], d, 3 + z, src, budget);
+    let rest = tables::stores::append_counted(sectors, written, g, here[d], d, zone, src, budget);
     super::write_rows::add_sector(rows, g, a, src);
     let k = tables::bounds::stripe_sectors(g);
     if a % k + 1 < k {
@@ -43,7 +44,7 @@ fn write_sector(
     let n = g.drives;
     let u = g.unit;
     let p = tables::placement::parity_drive(n, z, a / k);
-    super::write_rows::store_rows(sectors, written, g, here, p, 3 + z, rows, u, rest)
+    super::write_rows::store_rows(sectors, written, g, here, p, zone, rows, u, rest)
 }
 
 // The sectors of the data, from an address on.
@@ -62,7 +63,7 @@ pub fn write_run(
     requires { ⌜ Valid g ⌝ }
     requires { ⌜ WriteSized g z (now sectors) (now written) (now rows) ⌝ }
     requires { ⌜ (from + count ≤ zoneSectors g) × (length (now buffer) ≡ count * g .sector) ⌝ }
-    ensures { λ r. ⌜ MadeAppends g budget r (onPresent (among here) (runOf g z from (now (buffer .entry)) (now (rows .entry)) count)) (now (sectors .entry)) (now (written .entry)) (now (sectors .exit)) (now (written .exit))
+    ensures { λ r. ⌜ MadeAppends g budget r (onPresent (isSet here) (runOf g z from (now (buffer .entry)) (now (rows .entry)) count)) (now (sectors .entry)) (now (written .entry)) (now (sectors .exit)) (now (written .exit))
         × (now (rows .exit) ≡ rowsAt g from (now (buffer .entry)) (now (rows .entry)) count) ⌝ }
 {
     let b = g.sector;
@@ -107,7 +108,16 @@ pub fn append_partial(
     let mut header = [0u8; 4096];
     let b = g.sector;
     logs::headers::write_partial(&mut header[..b], g, drive, z, s, fill, generation);
-    tables::stores::append_counted(sectors, written, g, present, drive, 1, &header[..b], budget)
+    tables::stores::append_counted(
+        sectors,
+        written,
+        g,
+        present,
+        drive,
+        logs::PARITY_LOG,
+        &header[..b],
+        budget,
+    )
 }
 
 // If the pointer `end` lies inside a stripe: the partial parity entry that ends there, its header and then its rows, on the stripe's parity drive.
@@ -125,7 +135,7 @@ pub fn write_entry(
     requires { ⌜ Valid g ⌝ }
     requires { ⌜ WriteSized g z (now sectors) (now written) (now rows) ⌝ }
     requires { ⌜ end ≤ zoneSectors g ⌝ }
-    ensures { λ r. ⌜ MadeAppends g budget r (onPresent (among here) (pick (insideStripe g end) (entryOf g z generation (now (rows .entry)) end) [])) (now (sectors .entry)) (now (written .entry)) (now (sectors .exit)) (now (written .exit)) ⌝ }
+    ensures { λ r. ⌜ MadeAppends g budget r (onPresent (isSet here) (pick (insideStripe g end) (entryOf g z generation (now (rows .entry)) end) [])) (now (sectors .entry)) (now (written .entry)) (now (sectors .exit)) (now (written .exit)) ⌝ }
 {
     let k = tables::bounds::stripe_sectors(g);
     let s = end / k;
@@ -149,6 +159,16 @@ pub fn write_entry(
         generation,
         budget,
     );
-    let m = tables::placement::smaller(fill, u);
-    super::write_rows::store_rows(sectors, written, g, here, p, 1, rows, m, rest)
+    let m = tables::placement::min(fill, u);
+    super::write_rows::store_rows(
+        sectors,
+        written,
+        g,
+        here,
+        p,
+        logs::PARITY_LOG,
+        rows,
+        m,
+        rest,
+    )
 }

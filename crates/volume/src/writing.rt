@@ -8,19 +8,19 @@ use super::ZoneRecord;
 use tables::Geometry;
 ghost use mathlib.Core.Path.{_≡_};
 ghost use Prim.Native.Nat.{_+_, _≤_, _<_};
-ghost use Rattle.tables.specs.Geometry.{Valid, zoneSectors};
-ghost use Rattle.tables.specs.Phases.{onPresent};
-ghost use Rattle.tables.specs.Tables.{tablesOf, MadeAppends};
-ghost use Rattle.volume.specs.Calls.{writeWith};
-ghost use Rattle.volume.specs.Answers.{sectorsIn};
-ghost use Rattle.volume.specs.OnTables.{recordAt, among};
-ghost use Rattle.volume.specs.Knowing.{Readable, readDevice};
-ghost use Rattle.volume.specs.WriteChecks.{zoneNumber};
-ghost use Rattle.volume.specs.WriteKeeping.{WriteReady, runContent};
-ghost use Rattle.volume.specs.Writing.{pointerOf, writtenState, writeNumber, writeOn};
+ghost use Rattle.tables.specs.meaning.Geometry.{Valid, zoneSectors};
+ghost use Rattle.tables.specs.meaning.Phases.{onPresent};
+ghost use Rattle.tables.specs.meaning.Tables.{tablesOf};
+ghost use Rattle.tables.specs.laws.Made.{MadeAppends};
+ghost use Rattle.volume.specs.meaning.Calls.{writeWith};
+ghost use Rattle.volume.specs.meaning.Answers.{sectorsIn};
+ghost use Rattle.volume.specs.meaning.CallContracts.{recordAt, isSet, pointerOf, writtenState, writeOn};
+ghost use Rattle.volume.specs.looking.Knowing.{readDevice};
+ghost use Rattle.volume.specs.writing.WriteParity.{WriteReady, runContent};
+ghost use Rattle.volume.specs.writing.Writing.{Aimed, lateNumber};
 
-// Refusals 7 and 9 to 15, by the state's record of the zone.
-fn record_refusal(
+// Refusals 7 to 15 of a write of `count` sectors from `offset` of a zone, by the state's record of the zone; 0 if none applies.
+fn refusal(
     sectors: &[u8],
     written: &[u32],
     g: Geometry,
@@ -31,53 +31,18 @@ fn record_refusal(
     count: usize,
 ) -> u8
     requires { ⌜ Valid g ⌝ }
-    requires { ⌜ Readable g here (now sectors) (now written) z × (pointerOf state z ≤ zoneSectors g) ⌝ }
-    requires { ⌜ (offset < zoneSectors g) × (count < 4294967296) ⌝ }
-    ensures { λ r. ⌜ r ≡ zoneNumber g (among here) (now (sectors .entry)) (now (written .entry)) (recordAt state z .condition) (recordAt state z .generation) z offset count ⌝ }
+    requires { ⌜ Aimed g here state z offset count (now sectors) (now written) ⌝ }
+    ensures { λ r. ⌜ r ≡ lateNumber g here state z offset count (now (sectors .entry)) (now (written .entry)) ⌝ }
 {
+    let zones = g.zones;
+    if zones <= z {
+        return 8;
+    }
     let records = state.zones;
     let r = records[z];
     let c = r.condition;
     let generation = r.generation;
     super::write_checks::zone_refusal(sectors, written, g, here, c, generation, z, offset, count)
-}
-
-// The refusal of a write of `count` sectors at an address, out of a buffer of so many bytes; 0 if there is none.
-fn refusal(
-    sectors: &[u8],
-    written: &[u32],
-    durable: &[u32],
-    g: Geometry,
-    named: [bool; 8],
-    state: State,
-    address: u64,
-    count: u32,
-    bytes: usize,
-) -> u8
-    ensures { λ r. ⌜ r ≡ writeNumber g named state address count bytes (now (sectors .entry)) (now (written .entry)) (now (durable .entry)) ⌝ }
-{
-    let number = super::checks::opening(
-        sectors.len(),
-        written,
-        durable,
-        g,
-        named,
-        state,
-        count as u64,
-        bytes,
-    );
-    if number != 0 {
-        return number;
-    }
-    let z = super::reading::zone_of(g, address);
-    let zones = g.zones;
-    if zones <= z {
-        return 8;
-    }
-    let offset = super::reading::offset_of(g, address);
-    let lost = state.lost;
-    let here = super::checks::present_drives(g, named, lost);
-    record_refusal(sectors, written, g, here, state, z, offset, count as usize)
 }
 
 // The stores of a write that has passed its refusals: what is left of the budget.
@@ -94,7 +59,7 @@ fn carry_out(
 ) -> u64
     requires { ⌜ Valid g ⌝ }
     requires { ⌜ WriteReady g here (now sectors) (now written) z (recordAt state z .generation) (pointerOf state z) count (now buffer) ⌝ }
-    ensures { λ r. ⌜ MadeAppends g budget r (onPresent (among here) (writeWith g z (recordAt state z .generation) (runContent g (among here) (readDevice g (now (sectors .entry)) (now (written .entry))) z (recordAt state z .generation) (pointerOf state z) (sectorsIn g count (now (buffer .entry)))) (pointerOf state z) count)) (now (sectors .entry)) (now (written .entry)) (now (sectors .exit)) (now (written .exit)) ⌝ }
+    ensures { λ r. ⌜ MadeAppends g budget r (onPresent (isSet here) (writeWith g z (recordAt state z .generation) (runContent g (isSet here) (readDevice g (now (sectors .entry)) (now (written .entry))) z (recordAt state z .generation) (pointerOf state z) (sectorsIn g count (now (buffer .entry)))) (pointerOf state z) count)) (now (sectors .entry)) (now (written .entry)) (now (sectors .exit)) (now (written .exit)) ⌝ }
 {
     let records = state.zones;
     let r = records[z];
@@ -150,15 +115,14 @@ pub fn write(
     ensures { λ r. ⌜ (r ≡ writeOn g named state address run (now (buffer .entry)) count (tablesOf (now (sectors .entry)) (now (written .entry)) (now (durable .entry))) .outcome)
         × (tablesOf (now (sectors .exit)) (now (written .exit)) (now (durable .entry)) ≡ writeOn g named state address run (now (buffer .entry)) count (tablesOf (now (sectors .entry)) (now (written .entry)) (now (durable .entry))) .tables) ⌝ }
 {
-    let number = refusal(
-        sectors,
+    let number = super::checks::opening(
+        sectors.len(),
         written,
         durable,
         g,
         named,
         state,
-        address,
-        run,
+        run as u64,
         buffer.len(),
     );
     if number != 0 {
@@ -167,10 +131,18 @@ pub fn write(
             state,
         };
     }
+    let z = super::reading::zone_of(g, address);
+    let offset = super::reading::offset_of(g, address);
     let lost = state.lost;
     let here = super::checks::present_drives(g, named, lost);
-    let z = super::reading::zone_of(g, address);
     let n = run as usize;
+    let late = refusal(sectors, written, g, here, state, z, offset, n);
+    if late != 0 {
+        return Outcome {
+            answer: Answer::Refused(late),
+            state,
+        };
+    }
     let budget = count as u64 + 1;
     let rest = carry_out(sectors, written, g, here, state, z, n, buffer, budget);
     if rest == 0 {

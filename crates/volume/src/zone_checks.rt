@@ -7,13 +7,13 @@ ghost use mathlib.Core.Bool.{_&&_};
 ghost use Prim.Native.Nat.{_+_, _-_, _≤_, _<_};
 ghost use lib.Dec.{ltb};
 ghost use lib.ListN.{length, getD};
-ghost use Rattle.tables.specs.Geometry.{Valid, zoneSectors, physicalZones, cells};
-ghost use Rattle.tables.specs.Placement.{needed};
-ghost use Rattle.tables.specs.Tables.{cell};
-ghost use Rattle.volume.specs.State.{pointerIn, isWorn};
-ghost use Rattle.volume.specs.Refusals.{staleIn};
-ghost use Rattle.volume.specs.OnTables.{among};
-ghost use Rattle.volume.specs.ZoneChecks.{staleOn, unusedOn, needsLog};
+ghost use Rattle.tables.specs.meaning.Geometry.{Valid, zoneSectors, physicalZones, cells, dataZone};
+ghost use Rattle.tables.specs.meaning.Placement.{needed};
+ghost use Rattle.tables.specs.meaning.Tables.{cell};
+ghost use Rattle.volume.specs.meaning.State.{pointerIn, isWorn};
+ghost use Rattle.volume.specs.meaning.Refusals.{staleIn};
+ghost use Rattle.volume.specs.meaning.CallContracts.{isSet};
+ghost use Rattle.volume.specs.checks.ZoneChecks.{staleOn, unusedOn, needsLog};
 
 // The written pointer of a drive's physical zone.
 pub fn written_at(written: &[u32], g: Geometry, drive: usize, zone: usize) -> usize
@@ -60,13 +60,13 @@ fn drive_stale(
 ) -> bool
     requires { ⌜ Valid g ⌝ }
     requires { ⌜ (length (now written) ≡ cells g) × (z < g .zones) × (drive < g .drives) × (pointerIn condition ≤ zoneSectors g) ⌝ }
-    ensures { λ r. ⌜ r ≡ here && staleIn condition (getD (now (written .entry)) (cell g drive (3 + z)) 0) (needed (g .drives) (g .unit) z (pointerIn condition) drive) ⌝ }
+    ensures { λ r. ⌜ r ≡ here && staleIn condition (getD (now (written .entry)) (cell g drive (dataZone z)) 0) (needed (g .drives) (g .unit) z (pointerIn condition) drive) ⌝ }
 {
     if !here {
         return false;
     }
     let n = super::checks::pointer_of(condition);
-    let w = written_at(written, g, drive, 3 + z);
+    let w = written_at(written, g, drive, tables::DATA_ZONES + z);
     let needs = tables::placement::sectors_needed(g, z, n, drive);
     stale_in(condition, w, needs)
 }
@@ -81,7 +81,7 @@ pub fn is_stale(
 ) -> bool
     requires { ⌜ Valid g ⌝ }
     requires { ⌜ (length (now written) ≡ cells g) × (z < g .zones) × (pointerIn condition ≤ zoneSectors g) ⌝ }
-    ensures { λ r. ⌜ r ≡ staleOn g (among here) (now (written .entry)) condition z ⌝ }
+    ensures { λ r. ⌜ r ≡ staleOn g (isSet here) (now (written .entry)) condition z ⌝ }
 {
     let n = g.drives;
     let mut stale = false;
@@ -105,7 +105,7 @@ fn drive_below(written: &[u32], g: Geometry, here: bool, log: usize, n: usize, d
     }
     let c = g.capacity;
     let w = written_at(written, g, drive, log);
-    let unused = tables::placement::excess(c, w);
+    let unused = tables::placement::saturating_sub(c, w);
     unused < n
 }
 
@@ -113,7 +113,7 @@ fn drive_below(written: &[u32], g: Geometry, here: bool, log: usize, n: usize, d
 pub fn unused_below(written: &[u32], g: Geometry, here: [bool; 8], log: usize, n: usize) -> bool
     requires { ⌜ Valid g ⌝ }
     requires { ⌜ (length (now written) ≡ cells g) × (log < physicalZones g) ⌝ }
-    ensures { λ r. ⌜ r ≡ unusedOn g (among here) (now (written .entry)) log n ⌝ }
+    ensures { λ r. ⌜ r ≡ unusedOn g (isSet here) (now (written .entry)) log n ⌝ }
 {
     let drives = g.drives;
     let mut below = false;

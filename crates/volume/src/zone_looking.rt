@@ -5,16 +5,16 @@ use tables::Geometry;
 ghost use mathlib.Core.Path.{_≡_};
 ghost use mathlib.Core.Bool.{_&&_};
 ghost use Prim.Native.Nat.{_≤_, _<_, min};
-ghost use Rattle.tables.specs.Basics.{pick};
-ghost use Rattle.tables.specs.Below.{larger};
-ghost use Rattle.tables.specs.Geometry.{Valid, zoneSectors};
-ghost use Rattle.tables.specs.Lists.{anyOf};
-ghost use Rattle.logs.specs.Heads.{generationIn, isReset, isSeal};
-ghost use Rattle.volume.specs.OnTables.{among};
-ghost use Rattle.volume.specs.Rules.{generalHeads, generationOf, resetSeen, sealSeen, cleanAt, conditionOf, sealLimit, zoneView, knownPrefix, pointerAt, zoneShown};
-ghost use Rattle.volume.specs.DriveLogs.{Sized};
-ghost use Rattle.volume.specs.Knowing.{readDevice, Readable};
-ghost use Rattle.volume.specs.ZoneLooking.{driveClean, zoneLookOf};
+ghost use Rattle.tables.specs.meaning.Basics.{pick};
+ghost use Rattle.tables.specs.meaning.Below.{larger};
+ghost use Rattle.tables.specs.meaning.Geometry.{Valid, zoneSectors};
+ghost use Rattle.tables.specs.meaning.Lists.{anyOf};
+ghost use Rattle.logs.specs.meaning.Heads.{generationIn, isReset, isSeal};
+ghost use Rattle.volume.specs.meaning.CallContracts.{isSet, zoneLookOf};
+ghost use Rattle.volume.specs.meaning.Rules.{generalHeads, generationOf, resetSeen, sealSeen, cleanAt, conditionOf, sealLimit, zoneView, knownPrefix, pointerAt, zoneShown};
+ghost use Rattle.volume.specs.looking.DriveLogs.{Sized};
+ghost use Rattle.volume.specs.looking.Knowing.{readDevice, Readable};
+ghost use Rattle.volume.specs.looking.ZoneLooking.{driveClean};
 
 // The greater of two generations.
 fn later(a: u64, b: u64) -> u64
@@ -46,7 +46,7 @@ fn drive_generation(
 pub fn generation_of(sectors: &[u8], written: &[u32], g: Geometry, here: [bool; 8], z: usize) -> u64
     requires { ⌜ Valid g ⌝ }
     requires { ⌜ Sized g (now sectors) (now written) × (z < g .zones) ⌝ }
-    ensures { λ r. ⌜ r ≡ generationOf g (among here) (readDevice g (now (sectors .entry)) (now (written .entry))) z ⌝ }
+    ensures { λ r. ⌜ r ≡ generationOf g (isSet here) (readDevice g (now (sectors .entry)) (now (written .entry))) z ⌝ }
 {
     let n = g.drives;
     let mut most = 0;
@@ -89,7 +89,7 @@ pub fn reset_seen(
 ) -> bool
     requires { ⌜ Valid g ⌝ }
     requires { ⌜ Sized g (now sectors) (now written) ⌝ }
-    ensures { λ r. ⌜ r ≡ resetSeen g (among here) (readDevice g (now (sectors .entry)) (now (written .entry))) z generation ⌝ }
+    ensures { λ r. ⌜ r ≡ resetSeen g (isSet here) (readDevice g (now (sectors .entry)) (now (written .entry))) z generation ⌝ }
 {
     let n = g.drives;
     let mut seen = false;
@@ -132,7 +132,7 @@ pub fn seal_seen(
 ) -> bool
     requires { ⌜ Valid g ⌝ }
     requires { ⌜ Sized g (now sectors) (now written) ⌝ }
-    ensures { λ r. ⌜ r ≡ sealSeen g (among here) (readDevice g (now (sectors .entry)) (now (written .entry))) z generation ⌝ }
+    ensures { λ r. ⌜ r ≡ sealSeen g (isSet here) (readDevice g (now (sectors .entry)) (now (written .entry))) z generation ⌝ }
 {
     let n = g.drives;
     let mut seen = false;
@@ -158,13 +158,13 @@ fn drive_clean(
 ) -> bool
     requires { ⌜ Valid g ⌝ }
     requires { ⌜ Sized g (now sectors) (now written) × (d < g .drives) × (z < g .zones) × (q ≤ zoneSectors g) ⌝ }
-    ensures { λ r. ⌜ r ≡ driveClean g (among here) (readDevice g (now (sectors .entry)) (now (written .entry))) z generation q d ⌝ }
+    ensures { λ r. ⌜ r ≡ driveClean g (isSet here) (readDevice g (now (sectors .entry)) (now (written .entry))) z generation q d ⌝ }
 {
     let present = here[d];
     if !present {
         return true;
     }
-    let n = super::drive_logs::zone_pointer(written, g, d, 3 + z);
+    let n = super::drive_logs::zone_pointer(written, g, d, tables::DATA_ZONES + z);
     let needs = tables::placement::sectors_needed(g, z, q, d);
     let whole = super::drive_logs::whole_past(sectors, written, g, d, z, generation, q);
     let torn = super::drive_logs::torn_past(sectors, written, g, d, z, generation, q);
@@ -183,7 +183,7 @@ pub fn is_clean(
 ) -> bool
     requires { ⌜ Valid g ⌝ }
     requires { ⌜ Sized g (now sectors) (now written) × (z < g .zones) × (q ≤ zoneSectors g) ⌝ }
-    ensures { λ r. ⌜ r ≡ cleanAt g (among here) (readDevice g (now (sectors .entry)) (now (written .entry))) z generation q ⌝ }
+    ensures { λ r. ⌜ r ≡ cleanAt g (isSet here) (readDevice g (now (sectors .entry)) (now (written .entry))) z generation q ⌝ }
 {
     let n = g.drives;
     let mut clean = true;
@@ -196,14 +196,11 @@ pub fn is_clean(
     clean
 }
 
-// The generation at which a zone is worn: 2^64 − 1.
-const WORN: u64 = 18446744073709551615;
-
 // Rule 6: a zone's condition, the first that fits.
 fn condition_of(generation: u64, q: usize, clean: bool, sealed: bool) -> Condition
     ensures { λ r. ⌜ r ≡ conditionOf generation q clean sealed ⌝ }
 {
-    if generation == WORN {
+    if generation == logs::WORN_GENERATION {
         return Condition::Worn(q);
     }
     if q == 0 {
@@ -227,9 +224,9 @@ fn known_prefix(
 ) -> usize
     requires { ⌜ Valid g ⌝ }
     requires { ⌜ Readable g here (now sectors) (now written) z
-        × (limit ≡ sealLimit g (among here) (readDevice g (now sectors) (now written)) z generation)
+        × (limit ≡ sealLimit g (isSet here) (readDevice g (now sectors) (now written)) z generation)
         × (limit ≤ zoneSectors g) ⌝ }
-    ensures { λ r. ⌜ r ≡ min (knownPrefix (g .drives) (g .unit) z (zoneView g (among here) (readDevice g (now (sectors .entry)) (now (written .entry))) z generation) (zoneSectors g)) limit ⌝ }
+    ensures { λ r. ⌜ r ≡ min (knownPrefix (g .drives) (g .unit) z (zoneView g (isSet here) (readDevice g (now (sectors .entry)) (now (written .entry))) z generation) (zoneSectors g)) limit ⌝ }
 {
     let mut a = 0;
     'scan: while a < limit {
@@ -254,8 +251,8 @@ pub fn pointer_at(
 ) -> usize
     requires { ⌜ Valid g ⌝ }
     requires { ⌜ Readable g here (now sectors) (now written) z
-        × (reset ≡ resetSeen g (among here) (readDevice g (now sectors) (now written)) z generation) ⌝ }
-    ensures { λ r. ⌜ (r ≡ pointerAt g (among here) (readDevice g (now (sectors .entry)) (now (written .entry))) z generation) × (r ≤ zoneSectors g) ⌝ }
+        × (reset ≡ resetSeen g (isSet here) (readDevice g (now sectors) (now written)) z generation) ⌝ }
+    ensures { λ r. ⌜ (r ≡ pointerAt g (isSet here) (readDevice g (now (sectors .entry)) (now (written .entry))) z generation) × (r ≤ zoneSectors g) ⌝ }
 {
     if reset {
         return 0;
@@ -274,7 +271,7 @@ pub fn look_zone(
 ) -> ZoneLook
     requires { ⌜ Valid g ⌝ }
     requires { ⌜ Readable g here (now sectors) (now written) z ⌝ }
-    ensures { λ r. ⌜ r ≡ zoneLookOf (zoneShown g (among here) (readDevice g (now (sectors .entry)) (now (written .entry))) z) ⌝ }
+    ensures { λ r. ⌜ r ≡ zoneLookOf (zoneShown g (isSet here) (readDevice g (now (sectors .entry)) (now (written .entry))) z) ⌝ }
 {
     let generation = generation_of(sectors, written, g, here, z);
     let by_reset = reset_seen(sectors, written, g, here, z, generation);

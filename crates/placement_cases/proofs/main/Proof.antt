@@ -1,5 +1,5 @@
 use mathlib.Core.Path.{sym, _∙_}
-use Rattle.tables.specs.GeometryTest.{valid-if-test}
+use Rattle.tables.specs.laws.GeometryTest.{valid-if-test}
 use borrow.Author.Needs.{needs}
 use Rattle.placement_cases.proofs.main.Statement.{statement}
 use Rattle.placement_cases.proofs.main.Tie as tie

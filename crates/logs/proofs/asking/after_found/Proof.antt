@@ -1,41 +1,14 @@
 use Rattle.logs.specs.declared.Found.{Found}
 use Rattle.logs.specs.declared.Found.the-variants.{Partial}
-use Rattle.logs.specs.Query.{after}
-use Rattle.logs.specs.QueryLaws.{SmallSeen}
-use Rattle.tables.specs.Sizes.{zone-small, stripe-small}
+use Rattle.logs.specs.code.Query.{after}
+use Rattle.logs.specs.code.QueryLaws.{SmallSeen}
+use Rattle.tables.specs.laws.Sizes.{zone-small, stripe-small}
 use mathlib.Core.Path.{_∙_, refl, sym, ap}
 use Prim.Native.Nat.{_*_, _<_}
 use native.Mathlib.Omega.{arith}
 use borrow.Author.Needs.{needs}
 use Rattle.logs.proofs.asking.after_found.Statement.{statement}
 use Rattle.logs.proofs.asking.after_found.Tie as tie
-
-stripe-sectors-requires : tie.Need-stripe-sectors-requires
-stripe-sectors-requires c κs = search needs
-
-enum-told : tie.Need-enum-told
-enum-told c = search needs
-
-enum-known-f : tie.Need-enum-known-f
-enum-known-f c = search needs
-
-after-label-requires : tie.Need-after-label-requires
-after-label-requires c κs = search needs
-
-enum-told-2 : tie.Need-enum-told-2
-enum-told-2 c = search needs
-
-after-counters-requires : tie.Need-after-counters-requires
-after-counters-requires c κs = search needs
-
-enum-known-f-2 : tie.Need-enum-known-f-2
-enum-known-f-2 c = search needs
-
-after-reset-requires : tie.Need-after-reset-requires
-after-reset-requires c κs = search needs
-
-enum-known-f-3 : tie.Need-enum-known-f-3
-enum-known-f-3 c = search needs
 
 known : (c : tie.After-known-told3) → SmallSeen (c .before .before .before .before .args .g) (Partial (c .before .f3 .given .0 .0) (c .before .f3 .given .0 .1 .0) (c .before .f3 .given .0 .1 .1 .0) (c .before .f3 .given .0 .1 .1 .1 .0))
 known c = rw (c .before .f3 .given .1) at (c .before .before .before .before .pre .1 .1)
@@ -48,15 +21,6 @@ mul-after-partial c = omega (arith, small c)
 
 add-after-partial : tie.Need-add-after-partial
 add-after-partial c = let s = c .before .before .before .before in omega (arith, small c, known c .1, stripe-small (s .args .g) (s .pre .0) .1)
-
-after-partial-requires : tie.Need-after-partial-requires
-after-partial-requires c κs = search needs
-
-enum-known-f-4 : tie.Need-enum-known-f-4
-enum-known-f-4 c = search needs
-
-after-seal-requires : tie.Need-after-seal-requires
-after-seal-requires c κs = search needs
 
 returns : tie.Need-returns
 returns c = let a = c .before .before .before .args in sym (ap (λ (f : Found). after (a .g) (a .query) (a .place) f (a .x)) (c .enum-told .given .1))
@@ -79,24 +43,6 @@ returns-6 c = let a = c .before .before .before .before .before .args in c .afte
 pub after-found-spec : {M : Type 1} → statement M
 after-found-spec =
     tie.close
-    (tie.spec
-    stripe-sectors-requires
-    enum-told
-    enum-known-f
-    after-label-requires
-    enum-told-2
-    after-counters-requires
-    enum-known-f-2
-    after-reset-requires
-    enum-known-f-3
-    mul-after-partial
-    add-after-partial
-    after-partial-requires
-    enum-known-f-4
-    after-seal-requires
-    returns
-    returns-2
-    returns-3
-    returns-4
-    returns-5
-    returns-6)
+    (tie.spec (λ c κs. search needs) (λ c. search needs) (λ c. search needs) (λ c κs. search needs) (λ c. search needs) (λ c κs. search needs)
+    (λ c. search needs) (λ c κs. search needs) (λ c. search needs) mul-after-partial add-after-partial (λ c κs. search needs) (λ c. search needs)
+    (λ c κs. search needs) returns returns-2 returns-3 returns-4 returns-5 returns-6)

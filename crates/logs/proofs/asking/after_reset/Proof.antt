@@ -1,71 +1,16 @@
 use Rattle.logs.specs.declared.Query.{Query}
-use Rattle.logs.specs.Query.{afterReset}
+use Rattle.logs.specs.code.Query.{afterReset}
 use mathlib.Core.Path.{_∙_, sym, ap}
 use borrow.Author.Needs.{needs}
 use Rattle.logs.proofs.asking.after_reset.Statement.{statement}
 use Rattle.logs.proofs.asking.after_reset.Tie as tie
 
-enum-told : tie.Need-enum-told
-enum-told c = search needs
-
-enum-told-2 : tie.Need-enum-told-2
-enum-told-2 c = search needs
-
-enum-known-query : tie.Need-enum-known-query
-enum-known-query c = search needs
-
-choose-requires : tie.Need-choose-requires
-choose-requires c κs = search needs
-
-enum-told-3 : tie.Need-enum-told-3
-enum-told-3 c = search needs
-
-enum-told-4 : tie.Need-enum-told-4
-enum-told-4 c = search needs
-
-enum-told-5 : tie.Need-enum-told-5
-enum-told-5 c = search needs
-
-enum-told-6 : tie.Need-enum-told-6
-enum-told-6 c = search needs
-
-returns : tie.Need-returns
-returns c = search needs
-
-returns-2 : tie.Need-returns-2
-returns-2 c = search needs
-
 returns-3 : tie.Need-returns-3
-returns-3 c = let a = c .before .before .before .before .args in c .choose .ensures ∙ sym (ap (λ (q : Query). afterReset q (a .zone) (a .generation) (a .x)) (c .before .before .query .given .1))
-
-returns-4 : tie.Need-returns-4
-returns-4 c = search needs
-
-returns-5 : tie.Need-returns-5
-returns-5 c = search needs
-
-returns-6 : tie.Need-returns-6
-returns-6 c = search needs
-
-returns-7 : tie.Need-returns-7
-returns-7 c = search needs
+returns-3 c = let a = c .before .before .before .before .args in c .pick .ensures ∙ sym (ap (λ (q : Query). afterReset q (a .zone) (a .generation) (a .x)) (c .before .before .query .given .1))
 
 pub after-reset-spec : {M : Type 1} → statement M
 after-reset-spec =
     tie.close
-    (tie.spec
-    enum-told
-    enum-told-2
-    enum-known-query
-    choose-requires
-    enum-told-3
-    enum-told-4
-    enum-told-5
-    enum-told-6
-    returns
-    returns-2
-    returns-3
-    returns-4
-    returns-5
-    returns-6
-    returns-7)
+    (tie.spec (λ c. search needs) (λ c. search needs) (λ c. search needs) (λ c κs. search needs) (λ c. search needs) (λ c. search needs)
+    (λ c. search needs) (λ c. search needs) (λ c. search needs) (λ c. search needs) returns-3 (λ c. search needs) (λ c. search needs)
+    (λ c. search needs) (λ c. search needs))

@@ -1,11 +1,11 @@
-use Rattle.logs.specs.WalkCode.{logSectors, leftAt}
-use Rattle.logs.specs.Walk.{walkLog}
-use Rattle.logs.specs.Query.{headsOf, answer}
-use Rattle.logs.specs.QueryLaws.{answerAt, answer-left, answer-whole, whole-climbs, whole-small}
-use Rattle.tables.specs.Below.{length-tabulate}
+use Rattle.logs.specs.code.WalkCode.{logSectors, leftAt}
+use Rattle.logs.specs.meaning.Walk.{walkLog}
+use Rattle.logs.specs.code.Query.{headsOf, answer}
+use Rattle.logs.specs.code.QueryLaws.{answerAt, answer-left, answer-whole, whole-climbs, whole-small}
+use Rattle.tables.specs.laws.Below.{length-tabulate}
 use lib.ListN.{length}
 use mathlib.Core.List.{List}
-use Rattle.logs.specs.Steps.{stepOf}
+use Rattle.logs.specs.code.Steps.{stepOf}
 use Rattle.logs.specs.declared.Step.the-variants.{Whole}
 use mathlib.Core.Path.{_≡_, _∙_, refl, sym}
 use Prim.Native.Nat.{ℕ, _-_, _≤_, _<_}
@@ -26,14 +26,10 @@ walk-holds c = (omega arith, refl)
 next-entry-requires : tie.Need-next-entry-requires Inv-walk μ-walk
 next-entry-requires c κs = let s = c .before .before in (s .pre .0, (s .pre .1, c .walk .inv .0))
 
-enum-told : tie.Need-enum-told Inv-walk μ-walk
-enum-told c = search needs
-
-enum-known-step : tie.Need-enum-known-step Inv-walk μ-walk
-enum-known-step c = search needs
-
 abbrev sectorsOf : tie.At-walk Inv-walk μ-walk → List (List ℕ)
-sectorsOf w = logSectors (w .before .before .args .g) (w .before .before .args .drive) (w .before .before .args .zone) (w .before .before .args .sectors .now) (w .before .before .args .n)
+sectorsOf w =
+    let s = w .before .before in
+    logSectors (s .args .g) (s .args .drive) (s .args .zone) (s .args .sectors .now) (s .args .n)
 
 low : (w : tie.At-walk Inv-walk μ-walk) → w .walk .p ≤ length (sectorsOf w)
 low w = rw length-tabulate (w .walk .inv .0)
@@ -81,14 +77,5 @@ returns c =
 pub ask-log-spec : {M : Type 1} → statement M
 ask-log-spec =
     tie.close
-    (tie.spec
-    Inv-walk
-    μ-walk
-    walk-holds
-    next-entry-requires
-    enum-told
-    enum-known-step
-    after-found-requires
-    walk-less
-    walk-again
+    (tie.spec Inv-walk μ-walk walk-holds next-entry-requires (λ c. search needs) (λ c. search needs) after-found-requires walk-less walk-again
     returns)

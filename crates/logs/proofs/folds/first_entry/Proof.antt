@@ -1,19 +1,10 @@
-use Rattle.logs.specs.Walk.{walkLog}
-use Rattle.logs.specs.WalkCode.{logSectors}
+use Rattle.logs.specs.meaning.Walk.{walkLog}
+use Rattle.logs.specs.code.WalkCode.{logSectors}
 use mathlib.Core.Path.{_∙_, sym}
-use Rattle.logs.specs.Answers.{first-left, first-whole}
+use Rattle.logs.specs.code.Answers.{first-left, first-whole}
 use borrow.Author.Needs.{needs}
 use Rattle.logs.proofs.folds.first_entry.Statement.{statement}
 use Rattle.logs.proofs.folds.first_entry.Tie as tie
-
-next-entry-requires : tie.Need-next-entry-requires
-next-entry-requires c κs = search needs
-
-enum-told : tie.Need-enum-told
-enum-told c = search needs
-
-enum-known-step : tie.Need-enum-known-step
-enum-known-step c = search needs
 
 returns : tie.Need-returns
 returns c =
@@ -27,4 +18,4 @@ returns-2 c =
 
 pub first-entry-spec : {M : Type 1} → statement M
 first-entry-spec =
-    tie.close (tie.spec next-entry-requires enum-told enum-known-step returns returns-2)
+    tie.close (tie.spec (λ c κs. search needs) (λ c. search needs) (λ c. search needs) returns returns-2)

@@ -1,24 +1,15 @@
-use Rattle.logs.specs.Query.{headsOf}
-use Rattle.logs.specs.Walk.{walkLog}
-use Rattle.logs.specs.WalkCode.{logSectors}
-use mathlib.Core.Path.{_∙_, sym, ap}
+use Rattle.logs.specs.code.Query.{logHeads}
+use mathlib.Core.Path.{_∙_}
 use mathlib.Core.Bool.{false}
-use Rattle.logs.specs.Answers.{reset-answer, one-if}
-use Rattle.logs.specs.Heads.{isReset}
-use Rattle.tables.specs.Lists.{anyOf}
-use Prim.Native.Nat.{ℕ}
-use lib.Dec.{eqb}
+use Rattle.logs.specs.code.Answers.{reset-answer, told}
 use borrow.Author.Needs.{needs}
 use Rattle.logs.proofs.folds.has_reset.Statement.{statement}
 use Rattle.logs.proofs.folds.has_reset.Tie as tie
 
-ask-log-requires : tie.Need-ask-log-requires
-ask-log-requires c κs = search needs
-
 returns : tie.Need-returns
 returns c =
     let a = c .before .before .args in
-    ap (λ (x : ℕ). eqb x 1) (c .ask-log .ensures ∙ reset-answer (a .g) (a .z) (a .generation) 0 0 (headsOf (walkLog (a .g) (a .drive) false (logSectors (a .g) (a .drive) (a .zone) (a .sectors .now) (a .n))))) ∙ sym (one-if (anyOf (isReset (a .z) (a .generation)) (headsOf (walkLog (a .g) (a .drive) false (logSectors (a .g) (a .drive) (a .zone) (a .sectors .now) (a .n))))))
+    told _ _ (c .ask-log .ensures ∙ reset-answer (a .g) (a .z) (a .generation) 0 0 (logHeads (a .g) (a .drive) false (a .zone) (a .n) (a .sectors .now)))
 
 pub has-reset-spec : {M : Type 1} → statement M
-has-reset-spec = tie.close (tie.spec ask-log-requires returns)
+has-reset-spec = tie.close (tie.spec (λ c κs. search needs) returns)

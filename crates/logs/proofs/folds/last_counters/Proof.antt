@@ -1,24 +1,20 @@
-use Rattle.logs.specs.Query.{headsOf}
-use Rattle.logs.specs.Walk.{walkLog}
-use Rattle.logs.specs.WalkCode.{logSectors}
+use Rattle.logs.specs.code.Query.{logHeads}
+use Rattle.logs.specs.code.WalkCode.{logSectors}
 use mathlib.Core.Path.{_∙_}
 use mathlib.Core.Bool.{false}
-use Rattle.logs.specs.Answers.{counters-answer}
-use Rattle.logs.specs.Places.{last-place-most}
-use Rattle.logs.specs.Heads.{isCounters}
-use Rattle.tables.specs.Below.{length-tabulate}
+use Rattle.logs.specs.code.Answers.{counters-answer}
+use Rattle.logs.specs.laws.Places.{last-place-most}
+use Rattle.logs.specs.laws.Heads.{isCounters}
+use Rattle.tables.specs.laws.Below.{length-tabulate}
 use borrow.Author.Needs.{needs}
 use Rattle.logs.proofs.folds.last_counters.Statement.{statement}
 use Rattle.logs.proofs.folds.last_counters.Tie as tie
 
-ask-log-requires : tie.Need-ask-log-requires
-ask-log-requires c κs = search needs
-
 returns : tie.Need-returns
 returns c =
     let a = c .before .before .args in
-    let e = c .ask-log .ensures ∙ counters-answer (a .g) 0 0 (headsOf (walkLog (a .g) (a .drive) false (logSectors (a .g) (a .drive) (a .zone) (a .sectors .now) (a .n)))) in
+    let e = c .ask-log .ensures ∙ counters-answer (a .g) 0 0 (logHeads (a .g) (a .drive) false (a .zone) (a .n) (a .sectors .now)) in
     (e, rw e (rw length-tabulate at (last-place-most (a .g) (a .drive) false (logSectors (a .g) (a .drive) (a .zone) (a .sectors .now) (a .n)) isCounters)))
 
 pub last-counters-spec : {M : Type 1} → statement M
-last-counters-spec = tie.close (tie.spec ask-log-requires returns)
+last-counters-spec = tie.close (tie.spec (λ c κs. search needs) returns)

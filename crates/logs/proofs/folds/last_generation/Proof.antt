@@ -1,25 +1,16 @@
-use Rattle.logs.specs.WalkCode.{logSectors}
+use Rattle.logs.specs.code.WalkCode.{logSectors}
 use mathlib.Core.Path.{_≡_, _∙_, sym}
-use Rattle.logs.specs.Generations.{no-generation, generation-there}
+use Rattle.logs.specs.code.Generations.{no-generation, generation-there}
 use Prim.Native.Nat.{_+_, _-_}
 use native.Mathlib.Omega.{arith}
 use borrow.Author.Needs.{needs}
 use Rattle.logs.proofs.folds.last_generation.Statement.{statement}
 use Rattle.logs.proofs.folds.last_generation.Tie as tie
 
-last-counters-requires : tie.Need-last-counters-requires
-last-counters-requires c κs = search needs
-
 returns : tie.Need-returns
 returns c =
     let a = c .before .before .before .args in
     no-generation (a .g) (a .drive) (logSectors (a .g) (a .drive) (a .zone) (a .sectors .now) (a .n)) (a .z) (sym (c .before .last-counters .ensures .0) ∙ c .if1 .taken)
-
-sub-generation-at : tie.Need-sub-generation-at
-sub-generation-at c = search needs
-
-generation-at-requires : tie.Need-generation-at-requires
-generation-at-requires c κs = search needs
 
 returns-2 : tie.Need-returns-2
 returns-2 c =
@@ -32,4 +23,4 @@ returns-2 c =
 pub last-generation-spec : {M : Type 1} → statement M
 last-generation-spec =
     tie.close
-    (tie.spec last-counters-requires returns sub-generation-at generation-at-requires returns-2)
+    (tie.spec (λ c κs. search needs) returns (λ c. search needs) (λ c κs. search needs) returns-2)

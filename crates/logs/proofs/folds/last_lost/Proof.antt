@@ -1,21 +1,17 @@
-use Rattle.logs.specs.Query.{headsOf}
-use Rattle.logs.specs.Walk.{walkLog}
-use Rattle.logs.specs.WalkCode.{logSectors}
+use Rattle.logs.specs.code.Query.{logHeads}
+use Rattle.logs.specs.code.WalkCode.{logSectors}
 use mathlib.Core.Path.{_∙_}
 use mathlib.Core.Bool.{false}
-use Rattle.logs.specs.Answers.{lost-answer, lost-names}
+use Rattle.logs.specs.code.Answers.{lost-answer, lost-names}
 use borrow.Author.Needs.{needs}
 use Rattle.logs.proofs.folds.last_lost.Statement.{statement}
 use Rattle.logs.proofs.folds.last_lost.Tie as tie
 
-ask-log-requires : tie.Need-ask-log-requires
-ask-log-requires c κs = search needs
-
 returns : tie.Need-returns
 returns c =
     let a = c .before .before .args in
-    let e = c .ask-log .ensures ∙ lost-answer (a .g) 0 255 (headsOf (walkLog (a .g) (a .drive) false (logSectors (a .g) (a .drive) (a .zone) (a .sectors .now) (a .n)))) in
+    let e = c .ask-log .ensures ∙ lost-answer (a .g) 0 255 (logHeads (a .g) (a .drive) false (a .zone) (a .n) (a .sectors .now)) in
     (e, rw e (lost-names (a .g) (a .drive) (logSectors (a .g) (a .drive) (a .zone) (a .sectors .now) (a .n))))
 
 pub last-lost-spec : {M : Type 1} → statement M
-last-lost-spec = tie.close (tie.spec ask-log-requires returns)
+last-lost-spec = tie.close (tie.spec (λ c κs. search needs) returns)

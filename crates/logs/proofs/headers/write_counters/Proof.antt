@@ -1,19 +1,10 @@
-use Rattle.logs.specs.Lays.{counters-laid}
+use Rattle.logs.specs.code.Lays.{counters-laid}
 use lib.Seq.{length-take-le}
 use lib.ListN.{take}
 use mathlib.Core.Path.{_∙_}
 use borrow.Author.Needs.{needs}
 use Rattle.logs.proofs.headers.write_counters.Statement.{statement}
 use Rattle.logs.proofs.headers.write_counters.Tie as tie
-
-write-span-requires : tie.Need-write-span-requires
-write-span-requires c κs = search needs
-
-write-words-requires : tie.Need-write-words-requires
-write-words-requires c κs = search needs
-
-same-length : tie.Need-same-length
-same-length c = search needs
 
 returns : tie.Need-returns
 returns c =
@@ -24,4 +15,4 @@ returns c =
 
 pub write-counters-spec : {M : Type 1} → statement M
 write-counters-spec =
-    tie.close (tie.spec write-span-requires write-words-requires same-length returns)
+    tie.close (tie.spec (λ c κs. search needs) (λ c κs. search needs) (λ c. search needs) returns)

@@ -1,6 +1,6 @@
-use Rattle.logs.specs.Lays.{words-none, words-more}
-use Rattle.tables.specs.Lists.{overlay}
-use Rattle.tables.specs.LittleEndian.{wordsLE}
+use Rattle.logs.specs.code.Lays.{words-none, words-more}
+use Rattle.tables.specs.meaning.Lists.{overlay}
+use Rattle.tables.specs.meaning.LittleEndian.{wordsLE}
 use lib.ListN.{length, take}
 use mathlib.Core.Path.{_≡_, _∙_, refl}
 use Prim.Native.Nat.{_+_, _-_, _*_, _≤_, _<_}
@@ -17,34 +17,15 @@ abbrev μ-loop : tie.MeasureT-loop
 loop-holds : tie.Need-loop-holds Inv-loop μ-loop
 loop-holds c = let a = c .before .before .args in (omega arith, refl, words-none (a .out .now) (a .numbers .now))
 
-mul-write-u64 : tie.Need-mul-write-u64 Inv-loop μ-loop
-mul-write-u64 c = omega arith
-
-add-write-u64 : tie.Need-add-write-u64 Inv-loop μ-loop
-add-write-u64 c = omega arith
-
-mul-write-u64-2 : tie.Need-mul-write-u64-2 Inv-loop μ-loop
-mul-write-u64-2 c = omega arith
-
-shared-slice-read-write-u64 : tie.Need-shared-slice-read-write-u64 Inv-loop μ-loop
-shared-slice-read-write-u64 c = omega arith
-
-write-u64-requires : tie.Need-write-u64-requires Inv-loop μ-loop
-write-u64-requires c κs = omega arith
-
-add-i : tie.Need-add-i Inv-loop μ-loop
-add-i c = omega arith
-
-loop-less : tie.Need-loop-less Inv-loop μ-loop
-loop-less c = omega arith
-
 loop-again : tie.Need-loop-again Inv-loop μ-loop
 loop-again c =
-    let s = c .before .before .before .before .before .before .before .before .before in
-    let w = c .before .before .before .before .before .before .loop in
+    let at-write-u = c .before .before in
+    let l = at-write-u .before .before .before .before in
+    let s = l .before .before .before in
+    let w = l .loop in
     let h : w .i < length (s .args .numbers .now) = omega arith in
     let k : 32 + 8 * (w .i + 1) ≤ length (s .args .out .now) = omega arith in
-    (omega arith, c .before .before .write-u64 .kept .0 ∙ w .inv .1, c .before .before .write-u64 .ensures ∙ rw (w .inv .2) (words-more (s .args .out .now) (s .args .numbers .now) (w .i) h k))
+    (omega arith, at-write-u .write-u64 .kept .0 ∙ w .inv .1, at-write-u .write-u64 .ensures ∙ rw (w .inv .2) (words-more (s .args .out .now) (s .args .numbers .now) (w .i) h k))
 
 same-length : tie.Need-same-length Inv-loop μ-loop
 same-length c = c .before .loop .inv .1
@@ -55,17 +36,5 @@ returns c = let a = c .before .before .before .before .args in let e : c .before
 pub write-words-spec : {M : Type 1} → statement M
 write-words-spec =
     tie.close
-    (tie.spec
-    Inv-loop
-    μ-loop
-    loop-holds
-    mul-write-u64
-    add-write-u64
-    mul-write-u64-2
-    shared-slice-read-write-u64
-    write-u64-requires
-    add-i
-    loop-less
-    loop-again
-    same-length
-    returns)
+    (tie.spec Inv-loop μ-loop loop-holds (λ c. omega arith) (λ c. omega arith) (λ c. omega arith) (λ c. omega arith) (λ c κs. omega arith)
+    (λ c. omega arith) (λ c. omega arith) loop-again same-length returns)

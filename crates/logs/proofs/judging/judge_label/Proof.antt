@@ -1,91 +1,63 @@
-use Rattle.logs.specs.JudgeMore.{asLabel, fields-label, label-same}
-use Rattle.logs.specs.Judge.{judged-unfit, judged-other, judged-legal}
-use Rattle.logs.specs.Entry.{encode, readFields, label}
-use Rattle.tables.specs.LittleEndian.{sameBytes}
-use lib.Dec.{ltb, eqb}
+use Rattle.logs.specs.code.JudgeMore.{fields-label, label-parts}
+use Rattle.logs.specs.code.Judge.{judged-unfit, judged-other, judged-legal}
+use Rattle.logs.specs.meaning.Entry.{Header, encode, fitsLog, readFields, label}
+use Rattle.tables.specs.meaning.LittleEndian.{sameBytes}
 use denote.Ref.{now}
 use borrow.Author.Tests.{not-true, not-false}
-use mathlib.Core.Bool.{_&&_, _||_, not}
-use mathlib.Core.Path.{_≡_, _∙_, sym, ap₂}
-use Prim.Native.Nat.{ℕ, _-_}
+use mathlib.Core.Bool.{_&&_}
+use mathlib.Core.Path.{_≡_, _∙_, sym}
+use Prim.Native.Nat.{_≤_}
+use lib.ListN.{length}
 use native.Mathlib.Omega.{arith}
 use borrow.Author.Needs.{needs}
 use Rattle.logs.proofs.judging.judge_label.Statement.{statement}
 use Rattle.logs.proofs.judging.judge_label.Tie as tie
 
-shared-slice-read-byte-value : tie.Need-shared-slice-read-byte-value
-shared-slice-read-byte-value c = search needs
+abbrev start : tie.After-zeros-from → tie.Start
+start p = p .before .before .before .before .before .before .before .before .before .before
 
-byte-value-requires : tie.Need-byte-value-requires
-byte-value-requires c κs = search needs
+-- the header that the code has read
+abbrev header : tie.After-zeros-from → Header
+header p = label (p .before .before .before .before .before .before .before .byte-value .result) (p .before .before .before .before .before .before .read-u64 .result)
 
-read-u64-requires : tie.Need-read-u64-requires
-read-u64-requires c κs = search needs
+read-is : (p : tie.After-zeros-from) → readFields (start p .args .g) (now (start p .args .s)) ≡ header p
+read-is p =
+    let s = start p in
+    let k = s .pre .1 .1 in
+    fields-label (s .args .g) (now (s .args .s)) (k .0) (k .1) (k .2) (k .3) ∙ cc (p .before .before .before .before .before .before .before .byte-value .ensures .0, p .before .before .before .before .before .before .read-u64 .ensures)
 
-is-frame-requires : tie.Need-is-frame-requires
-is-frame-requires c κs = search needs
-
-names-label-requires : tie.Need-names-label-requires
-names-label-requires c κs = search needs
-
-cast-same-u32 : tie.Need-cast-same-u32
-cast-same-u32 c = search needs
-
-same-u32-requires : tie.Need-same-u32-requires
-same-u32-requires c κs = search needs
-
-add-same-u32 : tie.Need-add-same-u32
-add-same-u32 c = search needs
-
-cast-same-u32-2 : tie.Need-cast-same-u32-2
-cast-same-u32-2 c = search needs
-
-same-u32-requires-2 : tie.Need-same-u32-requires-2
-same-u32-requires-2 c κs = search needs
-
-same-u64-requires : tie.Need-same-u64-requires
-same-u64-requires c κs = search needs
-
-zeros-from-requires : tie.Need-zeros-from-requires
-zeros-from-requires c κs = search needs
-
-kind-is : (s : tie.Start) → readFields (s .args .g) (now (s .args .s)) ≡ asLabel (s .args .g) (now (s .args .s))
-kind-is s = let p = s .pre .1 .1 in fields-label (s .args .g) (now (s .args .s)) (p .0) (p .1) (p .2) (p .3)
-
-ok-is : (c : tie.After-zeros-from) → c .before .before .before .before .before .is-frame .result && (c .before .before .before .before .names-label .result && (c .before .before .before .same-u32 .result && (c .before .before .same-u322 .result && (c .before .same-u64 .result && c .zeros-from .result)))) ≡ sameBytes (encode (c .before .before .before .before .before .before .before .before .before .before .args .g) (c .before .before .before .before .before .before .before .before .before .before .args .drive) (asLabel (c .before .before .before .before .before .before .before .before .before .before .args .g) (now (c .before .before .before .before .before .before .before .before .before .before .args .s)))) (now (c .before .before .before .before .before .before .before .before .before .before .args .s))
-ok-is c =
-    let s = c .before .before .before .before .before .before .before .before .before .before in
+-- its bytes are compared in six parts
+ok-is : (p : tie.After-zeros-from) → p .before .before .before .before .before .is-frame .result && (p .before .before .before .before .names-label .result && (p .before .before .before .same-u32 .result && (p .before .before .same-u322 .result && (p .before .same-u64 .result && p .zeros-from .result))))
+    ≡ sameBytes (encode (start p .args .g) (start p .args .drive) (header p)) (now (start p .args .s))
+ok-is p =
+    let s = start p in
     let a = s .args in
-    let h = s .pre .0 in
-    rw (c .before .before .before .before .before .is-frame .ensures, c .before .before .before .before .names-label .ensures, c .before .before .before .same-u32 .ensures, c .before .before .same-u322 .ensures, c .before .same-u64 .ensures, c .zeros-from .ensures)
-    (sym (label-same (a .g) (a .drive) (c .before .before .before .before .before .before .before .byte-value .result) (c .before .before .before .before .before .before .read-u64 .result) (now (a .s)) (s .pre .1 .0) (omega (arith, s .pre .1 .0, h .sector-least))))
-    ∙ ap₂ (λ (x n : ℕ). sameBytes (encode (a .g) (a .drive) (label x n)) (now (a .s))) (c .before .before .before .before .before .before .before .byte-value .ensures .0) (c .before .before .before .before .before .before .read-u64 .ensures)
+    let k = p .before .before .before .before .before in
+    let room : 56 ≤ length (now (a .s)) = omega (arith, s .pre .1 .0, s .pre .0 .sector-least) in
+    label-parts (a .g) (a .drive) (k .before .before .byte-value .result) (k .before .read-u64 .result) (now (a .s)) (s .pre .1 .0) room
+    (k .is-frame .ensures) (p .before .before .before .before .names-label .ensures) (p .before .before .before .same-u32 .ensures) (p .before .before .same-u322 .ensures) (p .before .same-u64 .ensures) (p .zeros-from .ensures)
 
 returns : tie.Need-returns
-returns c = let s = c .before .before .before .before .before .before .before .before .before .before .before in let a = s .args in judged-unfit (a .g) (a .drive) (a .parity) (now (a .s)) (asLabel (a .g) (now (a .s))) (kind-is s) (rw (← c .before .before .before .before .before .before .before .before .byte-value .ensures .0) (not-true (not (a .parity) && (ltb (c .before .before .before .before .before .before .before .before .byte-value .result) (a .g .drives) || eqb (c .before .before .before .before .before .before .before .before .byte-value .result) 255)) (c .if1 .taken)))
+returns c =
+    let p = c .before in
+    let a = start p .args in
+    judged-unfit (a .g) (a .drive) (a .parity) (now (a .s)) (header p) (read-is p) (not-true (fitsLog (a .g) (a .drive) (a .parity) (header p)) (c .if1 .taken))
 
 returns-2 : tie.Need-returns-2
-returns-2 c = let s = c .before .before .before .before .before .before .before .before .before .before .before .before in let a = s .args in judged-other (a .g) (a .drive) (a .parity) (now (a .s)) (asLabel (a .g) (now (a .s))) (kind-is s) (sym (ok-is (c .before .before)) ∙ not-true _ (c .if2 .taken))
+returns-2 c =
+    let p = c .before .before in
+    let a = start p .args in
+    judged-other (a .g) (a .drive) (a .parity) (now (a .s)) (header p) (read-is p) (sym (ok-is p) ∙ not-true _ (c .if2 .taken))
 
 returns-3 : tie.Need-returns-3
-returns-3 c = let s = c .before .before .before .before .before .before .before .before .before .before .before .before in let a = s .args in rw (c .before .before .before .before .before .before .before .before .before .byte-value .ensures .0, c .before .before .before .before .before .before .before .before .read-u64 .ensures) (judged-legal (a .g) (a .drive) (a .parity) (now (a .s)) (asLabel (a .g) (now (a .s))) (kind-is s) (sym (ok-is (c .before .before)) ∙ not-false _ (c .if2 .left)) (rw (← c .before .before .before .before .before .before .before .before .before .byte-value .ensures .0) (not-false (not (a .parity) && (ltb (c .before .before .before .before .before .before .before .before .before .byte-value .result) (a .g .drives) || eqb (c .before .before .before .before .before .before .before .before .before .byte-value .result) 255)) (c .before .if1 .left))))
+returns-3 c =
+    let p = c .before .before in
+    let a = start p .args in
+    judged-legal (a .g) (a .drive) (a .parity) (now (a .s)) (header p) (read-is p) (sym (ok-is p) ∙ not-false _ (c .if2 .left)) (not-false (fitsLog (a .g) (a .drive) (a .parity) (header p)) (c .before .if1 .left))
 
 pub judge-label-spec : {M : Type 1} → statement M
 judge-label-spec =
     tie.close
-    (tie.spec
-    shared-slice-read-byte-value
-    byte-value-requires
-    read-u64-requires
-    is-frame-requires
-    names-label-requires
-    cast-same-u32
-    same-u32-requires
-    add-same-u32
-    cast-same-u32-2
-    same-u32-requires-2
-    same-u64-requires
-    zeros-from-requires
-    returns
-    returns-2
-    returns-3)
+    (tie.spec (λ c. search needs) (λ c κs. search needs) (λ c κs. search needs) (λ c κs. search needs) (λ c κs. search needs) (λ c. search needs)
+    (λ c κs. search needs) (λ c. search needs) (λ c. search needs) (λ c κs. search needs) (λ c κs. search needs) (λ c κs. search needs) returns
+    returns-2 returns-3)

@@ -1,8 +1,7 @@
-use Rattle.tables.specs.Sizes.{zone-small}
-use Rattle.logs.specs.Judge.{and-false, stripes-fit}
+use Rattle.tables.specs.laws.Sizes.{zone-small}
+use Rattle.logs.specs.code.Judge.{and-false, stripes-fit}
 use borrow.Author.Tests.{lt-ltb, le-ltb}
 use mathlib.Core.Path.{refl, sym}
-use Prim.Native.Nat.{_-_}
 use native.Mathlib.Omega.{arith}
 use borrow.Author.Needs.{needs}
 use Rattle.logs.proofs.judging.partial_fits.Statement.{statement}
@@ -10,12 +9,6 @@ use Rattle.logs.proofs.judging.partial_fits.Tie as tie
 
 returns : tie.Need-returns
 returns c = let a = c .before .args in rw (le-ltb (a .z) (a .g .zones) (c .if1 .taken)) (sym (and-false (a .parity)))
-
-zone-sectors-requires : tie.Need-zone-sectors-requires
-zone-sectors-requires c κs = search needs
-
-stripe-sectors-requires : tie.Need-stripe-sectors-requires
-stripe-sectors-requires c κs = search needs
 
 parity-drive-requires : tie.Need-parity-drive-requires
 parity-drive-requires c κs = let s = c .before .before .before in let p = s .pre .0 in (omega (arith, p .drives-least), p .drives-most, omega arith, stripes-fit (s .args .g) (s .args .t) p (s .pre .1))
@@ -29,10 +22,4 @@ returns-2 c = let a = c .before .before .before .before .args in rw (lt-ltb (a .
 pub partial-fits-spec : {M : Type 1} → statement M
 partial-fits-spec =
     tie.close
-    (tie.spec
-    returns
-    zone-sectors-requires
-    stripe-sectors-requires
-    parity-drive-requires
-    mul-result
-    returns-2)
+    (tie.spec returns (λ c κs. search needs) (λ c κs. search needs) parity-drive-requires mul-result returns-2)

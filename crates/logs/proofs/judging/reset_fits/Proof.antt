@@ -1,8 +1,7 @@
-use Rattle.logs.specs.Judge.{and-false}
+use Rattle.logs.specs.code.Judge.{and-false}
 use mathlib.Core.Bool.{not}
 use borrow.Author.Tests.{lt-ltb, le-ltb}
 use mathlib.Core.Path.{refl, sym}
-use Prim.Native.Nat.{_-_}
 use borrow.Author.Needs.{needs}
 use Rattle.logs.proofs.judging.reset_fits.Statement.{statement}
 use Rattle.logs.proofs.judging.reset_fits.Tie as tie
@@ -10,14 +9,8 @@ use Rattle.logs.proofs.judging.reset_fits.Tie as tie
 returns : tie.Need-returns
 returns c = let a = c .before .args in rw (le-ltb (a .z) (a .g .zones) (c .if1 .taken)) (sym (and-false (not (a .parity))))
 
-first-drive-requires : tie.Need-first-drive-requires
-first-drive-requires c κs = search needs
-
-parity-drive-requires : tie.Need-parity-drive-requires
-parity-drive-requires c κs = search needs
-
 returns-2 : tie.Need-returns-2
 returns-2 c = let a = c .before .before .before .args in rw (lt-ltb (a .z) (a .g .zones) (c .before .before .if1 .left), c .before .first-drive .ensures .0, c .parity-drive .ensures .0) refl
 
 pub reset-fits-spec : {M : Type 1} → statement M
-reset-fits-spec = tie.close (tie.spec returns first-drive-requires parity-drive-requires returns-2)
+reset-fits-spec = tie.close (tie.spec returns (λ c κs. search needs) (λ c κs. search needs) returns-2)

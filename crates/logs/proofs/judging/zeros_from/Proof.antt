@@ -1,5 +1,5 @@
-use Rattle.logs.specs.Lays.{zero-go, zero-stop, zero-end}
-use Rattle.tables.specs.LittleEndian.{sameBytes}
+use Rattle.logs.specs.code.Lays.{zero-go, zero-stop, zero-end}
+use Rattle.tables.specs.meaning.LittleEndian.{sameBytes}
 use lib.ListN.{length, replicate, drop, getD}
 use mathlib.Core.Path.{_≡_, _∙_, refl, sym}
 use Prim.Native.Nat.{_-_, _≤_, _<_}
@@ -16,21 +16,12 @@ abbrev μ-loop : tie.MeasureT-loop
 loop-holds : tie.Need-loop-holds Inv-loop μ-loop
 loop-holds c = (c .pre, refl, refl)
 
-shared-slice-read-if1 : tie.Need-shared-slice-read-if1 Inv-loop μ-loop
-shared-slice-read-if1 c = omega arith
-
 returns : tie.Need-returns Inv-loop μ-loop
 returns c =
     let s = c .before .before .before .before .args .s .now in
     let l = c .before .before .before .loop in
     let h : l .i < length s = omega arith in
     sym (zero-stop s (l .i) h (c .if1 .taken)) ∙ l .inv .2
-
-add-i : tie.Need-add-i Inv-loop μ-loop
-add-i c = omega arith
-
-loop-less : tie.Need-loop-less Inv-loop μ-loop
-loop-less c = omega arith
 
 loop-again : tie.Need-loop-again Inv-loop μ-loop
 loop-again c =
@@ -50,13 +41,4 @@ returns-2 c =
 pub zeros-from-spec : {M : Type 1} → statement M
 zeros-from-spec =
     tie.close
-    (tie.spec
-    Inv-loop
-    μ-loop
-    loop-holds
-    shared-slice-read-if1
-    returns
-    add-i
-    loop-less
-    loop-again
-    returns-2)
+    (tie.spec Inv-loop μ-loop loop-holds (λ c. omega arith) returns (λ c. omega arith) (λ c. omega arith) loop-again returns-2)

@@ -31,6 +31,7 @@ use denote.Ref.{RefT, NamedLft, now}
 use denote.Signature.{plain, namedLft}
 use denote.Slice.{sliceVal, ShrSlice, slice-vals, shr-slice-tells, shr-slice-lawful}
 use denote.Steps.{peeks, heard, nothing}
+use denote.Enum.Laws as EL
 use denote.Struct.Declared.{Declared}
 use denote.Struct.Field.{rows}
 use denote.Struct.Laws as LL
@@ -46,14 +47,14 @@ use denote.Triple.Walked.{says, needs, Stays, stay-none, stay-none-slice, walkOf
 use denote.Exit.{yes}
 use denote.Triple.Clauses.{ensured, lasts}
 use Rattle.tables.specs.declared.Geometry.{Geometry}
-use Rattle.tables.specs.Geometry.{Valid}
+use Rattle.tables.specs.meaning.Geometry.{Valid}
 use Rattle.tables.proofs.Geometry as G
 use Rattle.tables.proofs.Geometry.Laws as G′
-use Rattle.logs.specs.ZoneWalk.{InZone, LegalEnd}
-use Rattle.logs.specs.declared.Walked.{Walked}
+use Rattle.logs.specs.code.ZoneWalk.{InZone, LegalEnd}
+use Rattle.logs.specs.declared.WalkEnd.{WalkEnd}
 use Rattle.logs.specs.declared.reader.LogReader.{LogReader}
-use Rattle.logs.proofs.Walked as R
-use Rattle.logs.proofs.Walked.Laws as R′
+use Rattle.logs.proofs.WalkEnd as R
+use Rattle.logs.proofs.WalkEnd.Laws as R′
 use Rattle.logs.proofs.reader.LogReader as T
 use Rattle.logs.proofs.reader.LogReader.Laws as T′
 use Rattle.logs.proofs.reader.lay as lay
@@ -109,7 +110,7 @@ module _ {M : Type 1} (𝓤 : URA M) (H : Heap 𝓤) (A : Atoms 𝓤) (W : Given
   abbrev Needed : LogReader → Type 0
   Needed r = Valid (r .geometry) × InZone (r .geometry) (r .written) (now (r .bytes))
 
-  abbrev Right : LogReader → Walked → Type 0
+  abbrev Right : LogReader → WalkEnd → Type 0
   Right r w = LegalEnd (r .geometry) (r .drive) (r .parity) (r .written) (now (r .bytes)) w
 
   -- the reader laid over the parameters
@@ -122,7 +123,7 @@ module _ {M : Type 1} (𝓤 : URA M) (H : Heap 𝓤) (A : Atoms 𝓤) (W : Given
   needed : (r : LogReader) → Made r → Needed laid → Needed r
   needed r e h = rw (e .0, e .1 .0, e .1 .1 .1 .1) h
 
-  right : (r : LogReader) (w : Walked) → Made r → Right r w → Right laid w
+  right : (r : LogReader) (w : WalkEnd) → Made r → Right r w → Right laid w
   right r w e h = rw (e .0, e .1 .0, e .1 .1 .0, e .1 .1 .1 .0, e .1 .1 .1 .1) at h
 
   abbrev Post : Val → SProp 𝓤
@@ -152,10 +153,10 @@ module _ {M : Type 1} (𝓤 : URA M) (H : Heap 𝓤) (A : Atoms 𝓤) (W : Given
   goes-walk : (r : LogReader) (u : Val) → Needed r → ent 𝓤 (⋆ 𝓤 H A (‵ (B (κ, tt) .own r (u ∷ [])) ∷ (‵ (flft κ q) ⊛ ‵ ftrue) ∷ [])) (Walk 𝓤 H A mem run .pre (to-walk r u))
   goes-walk r u need = qed W (‵ (B (κ, tt) .own r (u ∷ [])) ∷ (‵ (flft κ q) ⊛ ‵ ftrue) ∷ []) ∵ nothing ! $ move ! (1 ∷ 0 ∷ []) $ fjoin ! $ move ! (1 ∷ 0 ∷ []) $ says ! need $ frame ! $ done !
 
-  walk-said : (r : LogReader) (w : Walked) → ent 𝓤 (ensured 𝓤 H A walk.ended (walk.clauses 𝓤 H A mem run) (κ, tt) (r, tt) tt w) (fact 𝓤 (Right r w))
+  walk-said : (r : LogReader) (w : WalkEnd) → ent 𝓤 (ensured 𝓤 H A walk.ended (walk.clauses 𝓤 H A mem run) (κ, tt) (r, tt) tt w) (fact 𝓤 (Right r w))
   walk-said r w = exE 𝓤 _ (λ ws. snd∗ 𝓤 (sem 𝓤 H A (lasts walk.ended (κ, tt) (r, tt) ws)) (fact 𝓤 (Right r w)))
 
-  exits : (w : Walked) (u : Val) → Right laid w → ent 𝓤 (⋆ 𝓤 H A (‵ (R.the-row .own w (u ∷ [])) ∷ (‵ (flft κ q) ⊛ ‵ ftrue) ∷ ‵ Own ∷ [])) (Post u)
+  exits : (w : WalkEnd) (u : Val) → Right laid w → ent 𝓤 (⋆ 𝓤 H A (‵ (R.the-row .own w (u ∷ [])) ∷ (‵ (flft κ q) ⊛ ‵ ftrue) ∷ ‵ Own ∷ [])) (Post u)
   exits w u e =
       qed W (‵ (R.the-row .own w (u ∷ [])) ∷ (‵ (flft κ q) ⊛ ‵ ftrue) ∷ ‵ Own ∷ []) ∵
       suffices ! _ (ends-at 𝓤 H A legal-end.ended stayed (legal-end.clauses 𝓤 H A mem run) W (((κ, tt), (q, tt), tt, given-values, passed), tt) u w (tt, (tt, (tt, (tt, (tt, tt))))) (tt, (tt, (tt, (tt, (tt, tt)))))) $ says ! e $
@@ -178,11 +179,11 @@ module _ {M : Type 1} (𝓤 : URA M) (H : Heap 𝓤) (A : Atoms 𝓤) (W : Given
         land ! (from ! (stop !)) (init ! 3 refl (LL.lawful (T.the-type αᵉ) (T′.the-laws αᵉ) 𝓤 H A W .typed r _ is .0)) $
         use2 W (raw (Walk 𝓤 H A mem run .pre (to-walk r u))) (goes-walk r u (needed r e need)) $
         calls-at ! fm (Walk 𝓤 H A mem run) known-walk (to-walk r u) (and-then ! (load ! (from ! (stop !)) (look ! 2 refl)) (no-more !)) (λ u′.
-        use1 W (later (some (λ (w : Walked). ((‵ (flft κ q) ⊛ ‵ ftrue) ⊛ ‵ (R.the-row .own w (u′ ∷ []))) ⊛ raw (ensured 𝓤 H A walk.ended (walk.clauses 𝓤 H A mem run) (κ, tt) (r, tt) tt w)))) (id⊢ 𝓤 _) $ await ! tt $ pick ! (λ w.
+        use1 W (later (some (λ (w : WalkEnd). ((‵ (flft κ q) ⊛ ‵ ftrue) ⊛ ‵ (R.the-row .own w (u′ ∷ []))) ⊛ raw (ensured 𝓤 H A walk.ended (walk.clauses 𝓤 H A mem run) (κ, tt) (r, tt) tt w)))) (id⊢ 𝓤 _) $ await ! tt $ pick ! (λ w.
         split ! $ move ! (1 ∷ []) $ use1 W (raw (fact 𝓤 (Right r w))) (walk-said r w) $ heard ! (Right r w) (λ e′. split ! $ move ! (1 ∷ []) $
         -- [the result; the token; what the parameters own; _6; …; _5; …; _4; …; _3; …; _2; …; _1; …; room for _0; …]
         peeks ! R.the-row (Is R.the-row) (shows 𝓤 H A R.the-row) w (u′ ∷ []) (λ is′.
-        land ! (from ! (stop !)) (init ! 15 refl (LL.lawful R.the-type R′.the-laws 𝓤 H A W .typed w _ is′ .0)) $
+        land ! (from ! (stop !)) (init ! 15 refl (EL.lawful R.the-type R′.the-laws 𝓤 H A W tt .typed w _ is′ .0)) $
         returns ! (look ! 15 refl) $ forget ! 3 refl $ forget ! 5 refl $ forget ! 7 refl $ forget ! 9 refl $ forget ! 11 refl $ forget ! 13 refl $ forget ! 15 refl $
         move ! (15 ∷ 16 ∷ []) $ free1 ! $ move ! (13 ∷ 14 ∷ []) $ free1 ! $ move ! (11 ∷ 12 ∷ []) $ free1 ! $ move ! (9 ∷ 10 ∷ []) $ free1 ! $ move ! (7 ∷ 8 ∷ []) $ free1 ! $ move ! (5 ∷ 6 ∷ []) $ free1 ! $ move ! (3 ∷ 4 ∷ []) $ free1 ! $ free0 ! $
         by ! (exits w u′ (right r w e e′)))))))))))))))))

@@ -47,10 +47,10 @@ use denote.Triple.Walked.{says, needs, Stays, stay-none, stay-none-slice, walkOf
 use denote.Exit.{yes}
 use denote.Triple.Clauses.{ensured, lasts}
 use Rattle.tables.specs.declared.Geometry.{Geometry}
-use Rattle.tables.specs.Geometry.{Valid}
+use Rattle.tables.specs.meaning.Geometry.{Valid}
 use Rattle.tables.proofs.Geometry as G
 use Rattle.tables.proofs.Geometry.Laws as G′
-use Rattle.logs.specs.ZoneWalk.{InZone, stepInZone}
+use Rattle.logs.specs.code.ZoneWalk.{InZone, stepInZone}
 use Rattle.logs.specs.declared.Step.{Step}
 use Rattle.logs.specs.declared.reader.LogReader.{LogReader}
 use Rattle.logs.proofs.Step as R

@@ -46,9 +46,9 @@ use denote.Triple.Table.{entered, cited}
 use denote.Triple.Walked.{says, Stays, stay-none, walkOf, goes-none, Walks, ends-at, walked, walk-meets, needs}
 use denote.Exit.{yes}
 use denote.Triple.Clauses.{ensured, lasts}
-use Rattle.tables.specs.Geometry.{Valid}
+use Rattle.tables.specs.meaning.Geometry.{Valid}
 use Rattle.tables.proofs.Geometry.Laws as G′
-use Rattle.logs.specs.ZoneWalk.{InZone, stepInZone}
+use Rattle.logs.specs.code.ZoneWalk.{InZone, stepInZone}
 use Rattle.logs.specs.declared.Step.{Step}
 use Rattle.logs.specs.declared.reader.LogReader.{LogReader}
 use Rattle.logs.proofs.Step as R

@@ -29,6 +29,7 @@ use denote.Ref.{now}
 use denote.Signature.{namedLft}
 use denote.Slice.{sliceVal}
 use denote.Steps.{peeks, heard, nothing}
+use denote.Enum.Laws as EL
 use denote.Struct.Declared.{Declared}
 use denote.Struct.Laws as LL
 use denote.Struct.Rest.{all-own, own-open}
@@ -41,13 +42,13 @@ use denote.Triple.Table.{entered, cited}
 use denote.Triple.Walked.{says, Stays, stay-none, walkOf, goes-none, Walks, ends-at, walked, walk-meets, needs}
 use denote.Exit.{yes}
 use denote.Triple.Clauses.{ensured, lasts}
-use Rattle.tables.specs.Geometry.{Valid}
+use Rattle.tables.specs.meaning.Geometry.{Valid}
 use Rattle.tables.proofs.Geometry.Laws as G′
-use Rattle.logs.specs.ZoneWalk.{InZone, LegalEnd}
-use Rattle.logs.specs.declared.Walked.{Walked}
+use Rattle.logs.specs.code.ZoneWalk.{InZone, LegalEnd}
+use Rattle.logs.specs.declared.WalkEnd.{WalkEnd}
 use Rattle.logs.specs.declared.reader.LogReader.{LogReader}
-use Rattle.logs.proofs.Walked as R
-use Rattle.logs.proofs.Walked.Laws as R′
+use Rattle.logs.proofs.WalkEnd as R
+use Rattle.logs.proofs.WalkEnd.Laws as R′
 use Rattle.logs.proofs.reader.LogReader as T
 use Rattle.logs.proofs.reader.LogReader.Laws as T′
 use Rattle.logs.proofs.walking.walk_zone as zone
@@ -78,7 +79,7 @@ module _ {M : Type 1} (𝓤 : URA M) (H : Heap 𝓤) (A : Atoms 𝓤) (W : Given
   abbrev Needed : Type 0
   Needed = Valid (d .geometry) × InZone (d .geometry) (d .written) (now (d .bytes))
 
-  abbrev Right : Walked → Type 0
+  abbrev Right : WalkEnd → Type 0
   Right w = LegalEnd (d .geometry) (d .drive) (d .parity) (d .written) (now (d .bytes)) w
 
   abbrev Post : Val → SProp 𝓤
@@ -116,10 +117,10 @@ module _ {M : Type 1} (𝓤 : URA M) (H : Heap 𝓤) (A : Atoms 𝓤) (W : Given
       move ! (2 ∷ 0 ∷ []) $ use2 W (raw (Zone 𝓤 H A mem run .pre to)) (asked known) $ frame ! $ done !)
 
   -- of the callee's `ensured`, the clause alone: it has no `&mut`, so what is said of last values is dropped
-  said : (r : Walked) → ent 𝓤 (ensured 𝓤 H A zone.ended (zone.clauses 𝓤 H A mem run) (κ, tt) vd tt r) (fact 𝓤 (Right r))
+  said : (r : WalkEnd) → ent 𝓤 (ensured 𝓤 H A zone.ended (zone.clauses 𝓤 H A mem run) (κ, tt) vd tt r) (fact 𝓤 (Right r))
   said r = exE 𝓤 _ (λ ws. snd∗ 𝓤 (sem 𝓤 H A (lasts zone.ended (κ, tt) vd ws)) (fact 𝓤 (Right r)))
 
-  exits : (r : Walked) (u : Val) → Right r → ent 𝓤 (⋆ 𝓤 H A (‵ (R.the-row .own r (u ∷ [])) ∷ (‵ (flft κ q) ⊛ ‵ ftrue) ∷ ‵ Own ∷ [])) (Post u)
+  exits : (r : WalkEnd) (u : Val) → Right r → ent 𝓤 (⋆ 𝓤 H A (‵ (R.the-row .own r (u ∷ [])) ∷ (‵ (flft κ q) ⊛ ‵ ftrue) ∷ ‵ Own ∷ [])) (Post u)
   exits r u e =
       qed W (‵ (R.the-row .own r (u ∷ [])) ∷ (‵ (flft κ q) ⊛ ‵ ftrue) ∷ ‵ Own ∷ []) ∵
       suffices ! _ (ends-at 𝓤 H A walk.ended stayed (walk.clauses 𝓤 H A mem run) W (((κ, tt), (q, tt), tt, (d, tt), (mach ∷ [], tt)), tt) u r (tt, tt) (tt, tt)) $ says ! e $
@@ -137,11 +138,11 @@ module _ {M : Type 1} (𝓤 : URA M) (H : Heap 𝓤) (A : Atoms 𝓤) (W : Given
         assigns ! (of-opd ! (load ! (from ! (fld ! refl (stop !))) (look-in ! 10 (sub ! 4 refl (whole !))))) (from ! (stop !)) (init ! 0 refl (tt, wt .1 .1 .1 .1 .1 .0)) $
         move ! (14 ∷ []) $ use1 W (raw (Zone 𝓤 H A mem run .pre to) ⊛ ‵ Own) (apart need) $ split ! $
         calls-at ! fm (Zone 𝓤 H A mem run) known to (and-then ! (load ! (from ! (stop !)) (look ! 10 refl)) (and-then ! (load ! (from ! (stop !)) (look ! 8 refl)) (and-then ! (load ! (from ! (stop !)) (look ! 6 refl)) (and-then ! (load ! (from ! (stop !)) (look ! 4 refl)) (and-then ! (load ! (from ! (stop !)) (look ! 2 refl)) (no-more !)))))) (λ u.
-        use1 W (later (some (λ (r : Walked). ((‵ (flft κ q) ⊛ ‵ ftrue) ⊛ ‵ (R.the-row .own r (u ∷ []))) ⊛ raw (ensured 𝓤 H A zone.ended (zone.clauses 𝓤 H A mem run) (κ, tt) vd tt r)))) (id⊢ 𝓤 _) $ await ! tt $ pick ! (λ r.
+        use1 W (later (some (λ (r : WalkEnd). ((‵ (flft κ q) ⊛ ‵ ftrue) ⊛ ‵ (R.the-row .own r (u ∷ []))) ⊛ raw (ensured 𝓤 H A zone.ended (zone.clauses 𝓤 H A mem run) (κ, tt) vd tt r)))) (id⊢ 𝓤 _) $ await ! tt $ pick ! (λ r.
         split ! $ move ! (1 ∷ []) $ use1 W (raw (fact 𝓤 (Right r))) (said r) $ heard ! (Right r) (λ e. split ! $ move ! (1 ∷ []) $
         -- [the result; the token; what the reader owns; _6; …; _5; …; _4; …; _3; …; _2; …; _1; …; room for _0; …]
         peeks ! R.the-row (Is R.the-row) (shows 𝓤 H A R.the-row) r (u ∷ []) (λ is.
-        land ! (from ! (stop !)) (init ! 15 refl (LL.lawful R.the-type R′.the-laws 𝓤 H A W .typed r _ is .0)) $
+        land ! (from ! (stop !)) (init ! 15 refl (EL.lawful R.the-type R′.the-laws 𝓤 H A W tt .typed r _ is .0)) $
         returns ! (look ! 15 refl) $ forget ! 3 refl $ forget ! 5 refl $ forget ! 7 refl $ forget ! 9 refl $ forget ! 11 refl $ forget ! 13 refl $ forget ! 15 refl $
         move ! (15 ∷ 16 ∷ []) $ free1 ! $ move ! (13 ∷ 14 ∷ []) $ free1 ! $ move ! (11 ∷ 12 ∷ []) $ free1 ! $ move ! (9 ∷ 10 ∷ []) $ free1 ! $ move ! (7 ∷ 8 ∷ []) $ free1 ! $ move ! (5 ∷ 6 ∷ []) $ free1 ! $ move ! (3 ∷ 4 ∷ []) $ free1 ! $ free0 ! $
         by ! (exits r u e))))))))))))

@@ -1,7 +1,7 @@
-use Rattle.logs.specs.Judge.{found}
-use Rattle.logs.specs.Entry.{decode}
-use Rattle.tables.specs.Below.{getD-tabulate}
-use Rattle.tables.specs.Tables.{cell, sectorNo}
+use Rattle.logs.specs.code.Judge.{found}
+use Rattle.logs.specs.meaning.Entry.{decode}
+use Rattle.tables.specs.laws.Below.{getD-tabulate}
+use Rattle.tables.specs.meaning.Tables.{cell, sectorNo}
 use mathlib.Core.Path.{_≡_, _∙_, refl, sym, ap}
 use mathlib.Core.List.{List, []}
 use Prim.Native.Nat.{ℕ, _+_, _-_, _*_}
@@ -9,24 +9,6 @@ use native.Mathlib.Omega.{arith}
 use borrow.Author.Needs.{needs}
 use Rattle.logs.proofs.walking.judge_at.Statement.{statement}
 use Rattle.logs.proofs.walking.judge_at.Tie as tie
-
-byte-at-requires : tie.Need-byte-at-requires
-byte-at-requires c κs = search needs
-
-add-end : tie.Need-add-end
-add-end c = search needs
-
-sub-judge : tie.Need-sub-judge
-sub-judge c = search needs
-
-part-judge-start : tie.Need-part-judge-start
-part-judge-start c = search needs
-
-part-judge-end : tie.Need-part-judge-end
-part-judge-end c = search needs
-
-judge-requires : tie.Need-judge-requires
-judge-requires c κs = search needs
 
 returns : tie.Need-returns
 returns c =
@@ -39,11 +21,4 @@ returns c =
 pub judge-at-spec : {M : Type 1} → statement M
 judge-at-spec =
     tie.close
-    (tie.spec
-    byte-at-requires
-    add-end
-    sub-judge
-    part-judge-start
-    part-judge-end
-    judge-requires
-    returns)
+    (tie.spec (λ c κs. search needs) (λ c. search needs) (λ c. search needs) (λ c. search needs) (λ c. search needs) (λ c κs. search needs) returns)

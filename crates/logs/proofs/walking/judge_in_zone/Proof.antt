@@ -1,8 +1,8 @@
-use Rattle.logs.specs.ZoneWalk.{sector-in-zone, zone-bytes-small}
-use Rattle.logs.specs.Judge.{found}
-use Rattle.logs.specs.Entry.{decode}
-use Rattle.tables.specs.Below.{getD-tabulate}
-use Rattle.tables.specs.Tables.{sectorNo}
+use Rattle.logs.specs.code.ZoneWalk.{sector-in-zone, zone-bytes-small}
+use Rattle.logs.specs.code.Judge.{found}
+use Rattle.logs.specs.meaning.Entry.{decode}
+use Rattle.tables.specs.laws.Below.{getD-tabulate}
+use Rattle.tables.specs.meaning.Tables.{sectorNo}
 use mathlib.Core.Path.{_≡_, _∙_, refl, sym, ap}
 use mathlib.Core.List.{List, []}
 use Prim.Native.Nat.{ℕ, _+_, _-_, _*_, _≤_}
@@ -20,17 +20,8 @@ mul-at c = let k = within (c .before) in omega (arith, k .0, k .1)
 add-end : tie.Need-add-end
 add-end c = let k = within (c .before) in omega (arith, k .0, k .1)
 
-sub-judge : tie.Need-sub-judge
-sub-judge c = search needs
-
-part-judge-start : tie.Need-part-judge-start
-part-judge-start c = search needs
-
 part-judge-end : tie.Need-part-judge-end
 part-judge-end c = let k = within (c .before) in omega (arith, k .0, c .before .pre .1 .0 .long)
-
-judge-requires : tie.Need-judge-requires
-judge-requires c κs = search needs
 
 returns : tie.Need-returns
 returns c =
@@ -43,4 +34,4 @@ returns c =
 pub judge-in-zone-spec : {M : Type 1} → statement M
 judge-in-zone-spec =
     tie.close
-    (tie.spec mul-at add-end sub-judge part-judge-start part-judge-end judge-requires returns)
+    (tie.spec mul-at add-end (λ c. search needs) (λ c. search needs) part-judge-end (λ c κs. search needs) returns)

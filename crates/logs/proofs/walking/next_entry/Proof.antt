@@ -1,4 +1,4 @@
-use Rattle.logs.specs.ZoneWalk.{zone-part-in-zone, step-of-log}
+use Rattle.logs.specs.code.ZoneWalk.{zone-part-in-zone, step-of-log}
 use mathlib.Core.Path.{_∙_}
 use Rattle.logs.proofs.walking.next_entry.Statement.{statement}
 use Rattle.logs.proofs.walking.next_entry.Tie as tie

@@ -1,4 +1,4 @@
-use Rattle.logs.specs.ZoneWalk.{zone-part-in-zone, legal-end-of-log}
+use Rattle.logs.specs.code.ZoneWalk.{zone-part-in-zone, legal-end-of-log}
 use Rattle.logs.proofs.walking.walk_log.Statement.{statement}
 use Rattle.logs.proofs.walking.walk_log.Tie as tie
 

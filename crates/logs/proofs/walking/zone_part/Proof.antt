@@ -1,6 +1,6 @@
-use Rattle.logs.specs.ZoneWalk.{zone-in-lent}
-use Rattle.tables.specs.Geometry.{totalBytes}
-use Rattle.tables.specs.Sizes.{bytes-small}
+use Rattle.logs.specs.code.ZoneWalk.{zone-in-lent}
+use Rattle.tables.specs.meaning.Geometry.{totalBytes}
+use Rattle.tables.specs.laws.Sizes.{bytes-small}
 use mathlib.Core.Path.{_≡_}
 use Prim.Native.Nat.{_+_, _-_, _*_, _≤_}
 use native.Mathlib.Omega.{arith}
@@ -15,9 +15,6 @@ within c = let s = c .before .before in rw (c .cell-of .ensures .0) (zone-in-len
 small : (c : tie.After-cell-of) → totalBytes (c .before .before .args .g) ≤ 40802189312
 small c = let s = c .before .before in bytes-small (s .args .g) (s .pre .0) .1
 
-cell-of-requires : tie.Need-cell-of-requires
-cell-of-requires c κs = search needs
-
 mul-size : tie.Need-mul-size
 mul-size c = omega (arith, within c, small c)
 
@@ -26,12 +23,6 @@ mul-at c = omega (arith, within c, small c)
 
 add-end : tie.Need-add-end
 add-end c = omega (arith, within c, small c)
-
-sub-result : tie.Need-sub-result
-sub-result c = search needs
-
-part-result-start : tie.Need-part-result-start
-part-result-start c = search needs
 
 part-result-end : tie.Need-part-result-end
 part-result-end c = omega (arith, within c, c .before .before .pre .1 .1 .1)
@@ -47,12 +38,4 @@ returns c =
 pub zone-part-spec : {M : Type 1} → statement M
 zone-part-spec =
     tie.close
-    (tie.spec
-    cell-of-requires
-    mul-size
-    mul-at
-    add-end
-    sub-result
-    part-result-start
-    part-result-end
-    returns)
+    (tie.spec (λ c κs. search needs) mul-size mul-at add-end (λ c. search needs) (λ c. search needs) part-result-end returns)

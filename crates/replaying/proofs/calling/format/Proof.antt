@@ -31,12 +31,4 @@ returns c = let a = c .before .before .before .before .before .before .before .b
 pub format-spec : {M : Type 1} → statement M
 format-spec =
     tie.close
-    (tie.spec
-    named-in-requires
-    narrow-requires
-    format-requires
-    kept-requires
-    same-length
-    same-length-2
-    same-length-3
-    returns)
+    (tie.spec named-in-requires narrow-requires format-requires kept-requires same-length same-length-2 same-length-3 returns)

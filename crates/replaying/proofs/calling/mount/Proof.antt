@@ -31,12 +31,4 @@ returns c = let a = c .before .before .before .before .before .before .before .b
 pub mount-spec : {M : Type 1} → statement M
 mount-spec =
     tie.close
-    (tie.spec
-    named-in-requires
-    narrow-requires
-    mount-requires
-    kept-requires
-    same-length
-    same-length-2
-    same-length-3
-    returns)
+    (tie.spec named-in-requires narrow-requires mount-requires kept-requires same-length same-length-2 same-length-3 returns)

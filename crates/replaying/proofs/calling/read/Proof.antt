@@ -25,10 +25,4 @@ returns c = let f = c .before .before .before .read in let n = c .before .before
 pub read-spec : {M : Type 1} → statement M
 read-spec =
     tie.close
-    (tie.spec
-    named-in-requires
-    narrow-requires
-    read-requires
-    answer-number-requires
-    same-length
-    returns)
+    (tie.spec named-in-requires narrow-requires read-requires answer-number-requires same-length returns)

@@ -31,12 +31,4 @@ returns c = let a = c .before .before .before .before .before .before .before .b
 pub reset-spec : {M : Type 1} → statement M
 reset-spec =
     tie.close
-    (tie.spec
-    named-in-requires
-    narrow-requires
-    reset-requires
-    kept-requires
-    same-length
-    same-length-2
-    same-length-3
-    returns)
+    (tie.spec named-in-requires narrow-requires reset-requires kept-requires same-length same-length-2 same-length-3 returns)

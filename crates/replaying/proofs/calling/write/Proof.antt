@@ -37,14 +37,5 @@ returns c = let a = c .before .before .before .before .before .before .before .b
 pub write-spec : {M : Type 1} → statement M
 write-spec =
     tie.close
-    (tie.spec
-    named-in-requires
-    narrow-requires
-    narrow-requires-2
-    fill-requires
-    write-requires
-    kept-requires
-    same-length
-    same-length-2
-    same-length-3
+    (tie.spec named-in-requires narrow-requires narrow-requires-2 fill-requires write-requires kept-requires same-length same-length-2 same-length-3
     returns)

@@ -18,23 +18,8 @@ abbrev μ-loop : tie.MeasureT-loop
 loop-holds : tie.Need-loop-holds Inv-loop μ-loop
 loop-holds c = (omega arith, (cc), refl, search needs)
 
-mul-wide-pointer : tie.Need-mul-wide-pointer Inv-loop μ-loop
-mul-wide-pointer c = omega arith
-
-shared-slice-read-wide-pointer : tie.Need-shared-slice-read-wide-pointer Inv-loop μ-loop
-shared-slice-read-wide-pointer c = omega arith
-
 wide-pointer-requires : tie.Need-wide-pointer-requires Inv-loop μ-loop
 wide-pointer-requires c κs = tt
-
-add-word-requires : tie.Need-add-word-requires Inv-loop μ-loop
-add-word-requires c κs = search needs
-
-add-i : tie.Need-add-i Inv-loop μ-loop
-add-i c = omega arith
-
-loop-less : tie.Need-loop-less Inv-loop μ-loop
-loop-less c = omega arith
 
 loop-again : tie.Need-loop-again Inv-loop μ-loop
 loop-again c = (omega arith, (cc), rw add-one (cc), search needs)
@@ -45,15 +30,5 @@ returns c = let e : c .before .loop .i ≡ length (c .before .before .before .ar
 pub sum-words-spec : {M : Type 1} → statement M
 sum-words-spec =
     tie.close
-    (tie.spec
-    Inv-loop
-    μ-loop
-    loop-holds
-    mul-wide-pointer
-    shared-slice-read-wide-pointer
-    wide-pointer-requires
-    add-word-requires
-    add-i
-    loop-less
-    loop-again
-    returns)
+    (tie.spec Inv-loop μ-loop loop-holds (λ c. omega arith) (λ c. omega arith) wide-pointer-requires (λ c κs. search needs) (λ c. omega arith)
+    (λ c. omega arith) loop-again returns)

@@ -4,8 +4,8 @@ use denote.Ref.{now}
 use mathlib.Core.Bool.{true}
 use borrow.Author.Tests.{not-true, not-false}
 use Rattle.replaying.specs.Damaging.{mayAppend, appendOdd, may-append}
-use Rattle.tables.specs.TablesFrame.{lengths-are}
-use Rattle.tables.specs.Tables.{Tables}
+use Rattle.tables.specs.laws.TablesFrame.{lengths-are}
+use Rattle.tables.specs.meaning.Tables.{Tables}
 use mathlib.Core.List.{[]}
 use Rattle.replaying.proofs.damaging.append.Statement.{statement}
 use Rattle.replaying.proofs.damaging.append.Tie as tie
@@ -37,10 +37,4 @@ returns-2 c = let m = c .before .before .before .before .append-counted .ensures
 pub append-spec : {M : Type 1} → statement M
 append-spec =
     tie.close
-    (tie.spec
-    may-append-requires
-    returns
-    append-counted-requires
-    same-length
-    same-length-2
-    returns-2)
+    (tie.spec may-append-requires returns append-counted-requires same-length same-length-2 returns-2)

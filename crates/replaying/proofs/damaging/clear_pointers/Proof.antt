@@ -6,7 +6,7 @@ use lib.ListN.{length, drop, length-set, replicate}
 use Prim.Native.Nat.{_-_, _≤_, _<_}
 use denote.Ref.{now}
 use mathlib.Core.List.{_++_}
-use Rattle.tables.specs.Lists.{cleared-suc, cleared-all}
+use Rattle.tables.specs.laws.Lists.{cleared-suc, cleared-all}
 use Rattle.replaying.proofs.damaging.clear_pointers.Statement.{statement}
 use Rattle.replaying.proofs.damaging.clear_pointers.Tie as tie
 
@@ -18,18 +18,6 @@ abbrev μ-loop : tie.MeasureT-loop
 
 loop-holds : tie.Need-loop-holds Inv-loop μ-loop
 loop-holds c = (omega arith, (cc), refl, refl)
-
-mul-out : tie.Need-mul-out Inv-loop μ-loop
-mul-out c = omega arith
-
-slice-write-out : tie.Need-slice-write-out Inv-loop μ-loop
-slice-write-out c = omega arith
-
-add-i : tie.Need-add-i Inv-loop μ-loop
-add-i c = omega arith
-
-loop-less : tie.Need-loop-less Inv-loop μ-loop
-loop-less c = search needs
 
 loop-again : tie.Need-loop-again Inv-loop μ-loop
 loop-again c = let l = c .before .loop in let o = c .before .before .args .out .now in let h : l .i < length o = omega arith in (omega arith, l .inv .1, simp length-set (l .inv .2), rw (l .inv .3, add-one) (cleared-suc (l .i) o h))
@@ -43,14 +31,4 @@ returns c = let l = c .before .loop in let o = c .before .before .args .out .now
 pub clear-pointers-spec : {M : Type 1} → statement M
 clear-pointers-spec =
     tie.close
-    (tie.spec
-    Inv-loop
-    μ-loop
-    loop-holds
-    mul-out
-    slice-write-out
-    add-i
-    loop-less
-    loop-again
-    same-length
-    returns)
+    (tie.spec Inv-loop μ-loop loop-holds (λ c. omega arith) (λ c. omega arith) (λ c. omega arith) (λ c. search needs) loop-again same-length returns)

@@ -3,7 +3,8 @@ use native.Mathlib.Omega.{arith}
 use mathlib.Core.Bool.{true}
 use borrow.Author.Tests.{not-true, not-false}
 use Rattle.replaying.specs.Damaging.{mayAppend}
-use Rattle.tables.specs.GeometryTest.{valid-if-test, isValid}
+use Rattle.tables.specs.laws.GeometryTest.{valid-if-test}
+use Rattle.tables.specs.meaning.GeometryTest.{isValid}
 use Rattle.replaying.proofs.damaging.may_append.Statement.{statement}
 use Rattle.replaying.proofs.damaging.may_append.Tie as tie
 

@@ -5,7 +5,8 @@ use denote.Ref.{now}
 use mathlib.Core.Bool.{true}
 use borrow.Author.Tests.{not-true, not-false, eq-eqb, ne-eqb}
 use Rattle.replaying.specs.Damaging.{oddHeader}
-use Rattle.tables.specs.GeometryTest.{valid-if-test, isValid}
+use Rattle.tables.specs.laws.GeometryTest.{valid-if-test}
+use Rattle.tables.specs.meaning.GeometryTest.{isValid}
 use Rattle.replaying.proofs.damaging.odd_header.Statement.{statement}
 use Rattle.replaying.proofs.damaging.odd_header.Tie as tie
 
@@ -31,9 +32,6 @@ returns-2 c = rw (valid (c .before), ne-eqb _ _ (c .if2 .taken)) refl
 write-seal-requires : tie.Need-write-seal-requires
 write-seal-requires c κs = let v = valid-if-test _ (valid (c .before .before)) in (v, (long (c .before), omega arith, omega arith))
 
-cast-out : tie.Need-cast-out
-cast-out c = omega arith
-
 slice-write-out : tie.Need-slice-write-out
 slice-write-out c = let v = valid-if-test _ (valid (c .before .before .before .before .before)) in let h = long (c .before .before .before .before) in let k = c .before .before .write-seal .kept .0 in omega arith
 
@@ -53,14 +51,5 @@ returns-3 c = rw (valid (c .before .before .before .before .before .before .befo
 pub odd-header-spec : {M : Type 1} → statement M
 odd-header-spec =
     tie.close
-    (tie.spec
-    valid-requires
-    returns
-    returns-2
-    write-seal-requires
-    cast-out
-    slice-write-out
-    write-u64-requires
-    write-u64-requires-2
-    same-length
-    returns-3)
+    (tie.spec valid-requires returns returns-2 write-seal-requires (λ c. omega arith) slice-write-out write-u64-requires write-u64-requires-2
+    same-length returns-3)

@@ -2,7 +2,8 @@ use mathlib.Core.Path.{_≡_, refl, sym, _∙_}
 use mathlib.Core.Bool.{true}
 use borrow.Author.Tests.{not-true, not-false, le-leb, lt-leb}
 use Rattle.replaying.specs.Hosting.{freshHost}
-use Rattle.tables.specs.GeometryTest.{valid-if-test, isValid}
+use Rattle.tables.specs.laws.GeometryTest.{valid-if-test}
+use Rattle.tables.specs.meaning.GeometryTest.{isValid}
 use Rattle.replaying.proofs.hosting.fresh_host.Statement.{statement}
 use Rattle.replaying.proofs.hosting.fresh_host.Tie as tie
 
@@ -43,13 +44,5 @@ returns-3 c = let h = rw (c .before .before .before .total-bytes .ensures) at (c
 pub fresh-host-spec : {M : Type 1} → statement M
 fresh-host-spec =
     tie.close
-    (tie.spec
-    valid-requires
-    empty-host-requires
-    returns
-    total-bytes-requires
-    table-cells-requires
-    empty-host-requires-2
-    returns-2
-    empty-host-requires-3
-    returns-3)
+    (tie.spec valid-requires empty-host-requires returns total-bytes-requires table-cells-requires empty-host-requires-2 returns-2
+    empty-host-requires-3 returns-3)

@@ -4,12 +4,6 @@ use Rattle.replaying.specs.Decimal.{commandAt}
 use Rattle.replaying.proofs.parsing.command_at.Statement.{statement}
 use Rattle.replaying.proofs.parsing.command_at.Tie as tie
 
-shared-slice-read-letter : tie.Need-shared-slice-read-letter
-shared-slice-read-letter c = omega arith
-
-add-field-at : tie.Need-add-field-at
-add-field-at c = omega arith
-
 field-at-requires : tie.Need-field-at-requires
 field-at-requires c κs = tt
 
@@ -38,14 +32,5 @@ returns c = (rw (c .line-end .ensures .0, c .before .field-at6 .ensures .0, c .b
 pub command-at-spec : {M : Type 1} → statement M
 command-at-spec =
     tie.close
-    (tie.spec
-    shared-slice-read-letter
-    add-field-at
-    field-at-requires
-    field-at-requires-2
-    field-at-requires-3
-    field-at-requires-4
-    field-at-requires-5
-    field-at-requires-6
-    line-end-requires
-    returns)
+    (tie.spec (λ c. omega arith) (λ c. omega arith) field-at-requires field-at-requires-2 field-at-requires-3 field-at-requires-4 field-at-requires-5
+    field-at-requires-6 line-end-requires returns)

@@ -19,18 +19,9 @@ abbrev μ-loop : tie.MeasureT-loop
 loop-holds : tie.Need-loop-holds Inv-loop μ-loop
 loop-holds c = (omega arith, refl)
 
-shared-slice-read-b : tie.Need-shared-slice-read-b Inv-loop μ-loop
-shared-slice-read-b c = omega arith
-
-add-i : tie.Need-add-i Inv-loop μ-loop
-add-i c = omega arith
-
 returns : tie.Need-returns Inv-loop μ-loop
 unfolding lineEnd
 returns c = let l = c .before .before .before .loop in let t = c .before .before .before .before .args .text .now in let h : l .i < length t = omega arith in let k = line-stop t (l .i) h (eq-eqb _ 10 (c .if1 .taken)) in (omega arith, omega arith)
-
-loop-less : tie.Need-loop-less Inv-loop μ-loop
-loop-less c = search needs
 
 loop-again : tie.Need-loop-again Inv-loop μ-loop
 loop-again c = let l = c .before .before .before .loop in let t = c .before .before .before .before .args .text .now in let h : l .i < length t = omega arith in let k = line-more t (l .i) h (ne-eqb _ 10 (c .if1 .left)) in (omega arith, rw add-one (omega arith))
@@ -42,13 +33,4 @@ returns-2 c = let k = line-none (c .before .before .args .text .now) (c .before 
 pub line-end-spec : {M : Type 1} → statement M
 line-end-spec =
     tie.close
-    (tie.spec
-    Inv-loop
-    μ-loop
-    loop-holds
-    shared-slice-read-b
-    add-i
-    returns
-    loop-less
-    loop-again
-    returns-2)
+    (tie.spec Inv-loop μ-loop loop-holds (λ c. omega arith) (λ c. omega arith) returns (λ c. search needs) loop-again returns-2)

@@ -24,9 +24,6 @@ digit c = sym (c .before .is-digit .ensures) ∙ not-false (c .before .is-digit 
 loop-holds : tie.Need-loop-holds Inv-loop μ-loop
 loop-holds c = (refl, refl)
 
-shared-slice-read-b : tie.Need-shared-slice-read-b Inv-loop μ-loop
-shared-slice-read-b c = omega arith
-
 is-digit-requires : tie.Need-is-digit-requires Inv-loop μ-loop
 is-digit-requires c κs = tt
 
@@ -36,12 +33,6 @@ returns c = let l = c .before .before .before .before .loop in let t = c .before
 
 decimal-step-requires : tie.Need-decimal-step-requires Inv-loop μ-loop
 decimal-step-requires c κs = digit c
-
-add-i : tie.Need-add-i Inv-loop μ-loop
-add-i c = omega arith
-
-loop-less : tie.Need-loop-less Inv-loop μ-loop
-loop-less c = search needs
 
 loop-again : tie.Need-loop-again Inv-loop μ-loop
 loop-again c = let l = c .before .before .before .before .before .loop in let t = c .before .before .before .before .before .before .before .args .text .now in let h : l .i < length t = omega arith in let d = digit (c .before) in let k = count-more t (l .i) h d in (rw (add-one, c .decimal-step .ensures) (sym (number-more t (l .i) (l .value) h d) ∙ l .inv .0), rw add-one (omega arith))
@@ -53,15 +44,5 @@ returns-2 c = let l = c .before .loop in let t = c .before .before .before .args
 pub number-at-spec : {M : Type 1} → statement M
 number-at-spec =
     tie.close
-    (tie.spec
-    Inv-loop
-    μ-loop
-    loop-holds
-    shared-slice-read-b
-    is-digit-requires
-    returns
-    decimal-step-requires
-    add-i
-    loop-less
-    loop-again
-    returns-2)
+    (tie.spec Inv-loop μ-loop loop-holds (λ c. omega arith) is-digit-requires returns decimal-step-requires (λ c. omega arith) (λ c. search needs)
+    loop-again returns-2)

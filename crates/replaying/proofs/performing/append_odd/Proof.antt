@@ -47,16 +47,5 @@ returns-2 c = let a = c .before .before .before .before .before .before .before 
 pub append-odd-spec : {M : Type 1} → statement M
 append-odd-spec =
     tie.close
-    (tie.spec
-    odd-header-requires
-    append-requires
-    same-length
-    same-length-2
-    same-length-3
-    returns
-    fill-requires
-    append-requires-2
-    same-length-4
-    same-length-5
-    same-length-6
-    returns-2)
+    (tie.spec odd-header-requires append-requires same-length same-length-2 same-length-3 returns fill-requires append-requires-2 same-length-4
+    same-length-5 same-length-6 returns-2)

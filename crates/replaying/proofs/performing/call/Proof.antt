@@ -1,7 +1,7 @@
 use mathlib.Core.Path.{refl, sym, _∙_, ap}
 use borrow.Author.Tests.{not-true, not-false, eq-eqb, ne-eqb}
 use Rattle.replaying.specs.Calling.{Done, call-format, call-mount, call-look, call-stateless, call-state}
-use Rattle.tables.specs.Tables.{tablesOf}
+use Rattle.tables.specs.meaning.Tables.{tablesOf}
 use Rattle.replaying.proofs.performing.call.Statement.{statement}
 use Rattle.replaying.proofs.performing.call.Tie as tie
 
@@ -92,27 +92,6 @@ returns-5 c =
 pub call-spec : {M : Type 1} → statement M
 call-spec =
     tie.close
-    (tie.spec
-    format-requires
-    same-length
-    same-length-2
-    same-length-3
-    returns
-    mount-requires
-    same-length-4
-    same-length-5
-    same-length-6
-    returns-2
-    look-requires
-    same-length-7
-    same-length-8
-    same-length-9
-    returns-3
-    stateless-requires
-    returns-4
-    call-with-state-requires
-    same-length-10
-    same-length-11
-    same-length-12
-    same-length-13
-    returns-5)
+    (tie.spec format-requires same-length same-length-2 same-length-3 returns mount-requires same-length-4 same-length-5 same-length-6 returns-2
+    look-requires same-length-7 same-length-8 same-length-9 returns-3 stateless-requires returns-4 call-with-state-requires same-length-10
+    same-length-11 same-length-12 same-length-13 returns-5)

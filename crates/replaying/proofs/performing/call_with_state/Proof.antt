@@ -2,7 +2,7 @@ use mathlib.Core.Path.{refl, sym, _∙_, ap}
 use denote.Ref.{now}
 use borrow.Author.Tests.{eq-eqb, ne-eqb}
 use Rattle.replaying.specs.Calling.{Done, state-write, state-flush, state-reset, state-read, state-peek}
-use Rattle.tables.specs.Tables.{tablesOf}
+use Rattle.tables.specs.meaning.Tables.{tablesOf}
 use Rattle.replaying.proofs.performing.call_with_state.Statement.{statement}
 use Rattle.replaying.proofs.performing.call_with_state.Tie as tie
 
@@ -90,31 +90,6 @@ returns-5 c = let a = c .before .before .before .before .before .before .before 
 pub call-with-state-spec : {M : Type 1} → statement M
 call-with-state-spec =
     tie.close
-    (tie.spec
-    write-requires
-    same-length
-    same-length-2
-    same-length-3
-    same-length-4
-    returns
-    flush-requires
-    same-length-5
-    same-length-6
-    same-length-7
-    returns-2
-    reset-requires
-    same-length-8
-    same-length-9
-    same-length-10
-    returns-3
-    read-requires
-    same-length-11
-    same-length-12
-    same-length-13
-    same-length-14
-    returns-4
-    peek-requires
-    same-length-15
-    same-length-16
-    same-length-17
-    returns-5)
+    (tie.spec write-requires same-length same-length-2 same-length-3 same-length-4 returns flush-requires same-length-5 same-length-6 same-length-7
+    returns-2 reset-requires same-length-8 same-length-9 same-length-10 returns-3 read-requires same-length-11 same-length-12 same-length-13
+    same-length-14 returns-4 peek-requires same-length-15 same-length-16 same-length-17 returns-5)

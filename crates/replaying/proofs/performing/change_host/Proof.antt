@@ -48,15 +48,5 @@ returns-6 c = sym (passed-over _ _ _ (ne-eqb _ 121 (c .before .before .before .b
 pub change-host-spec : {M : Type 1} → statement M
 change-host-spec =
     tie.close
-    (tie.spec
-    geometry-in-requires
-    with-geometry-requires
-    returns
-    with-shortage-requires
-    returns-2
-    returns-3
-    with-record-requires
-    returns-4
-    with-lost-requires
-    returns-5
-    returns-6)
+    (tie.spec geometry-in-requires with-geometry-requires returns with-shortage-requires returns-2 returns-3 with-record-requires returns-4
+    with-lost-requires returns-5 returns-6)

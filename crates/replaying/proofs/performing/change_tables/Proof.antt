@@ -3,22 +3,22 @@ use Prim.Native.Nat.{ℕ}
 use denote.Ref.{now}
 use mathlib.Core.List.{List}
 use borrow.Author.Tests.{eq-eqb, ne-eqb}
-use Rattle.tables.specs.Tables.{tablesOf}
+use Rattle.tables.specs.meaning.Tables.{tablesOf}
 use Rattle.replaying.specs.Performing.{Left, oddDrives, left, changed-cut, changed-byte, changed-pair, changed-odd}
 use Rattle.replaying.proofs.performing.change_tables.Statement.{statement}
 use Rattle.replaying.proofs.performing.change_tables.Tie as tie
 
-cut-lent-requires : tie.Need-cut-lent-requires
-cut-lent-requires c κs = tt
+cut-tables-requires : tie.Need-cut-tables-requires
+cut-tables-requires c κs = tt
 
 same-length : tie.Need-same-length
-same-length c = c .before .before .before .before .cut-lent .kept .0
+same-length c = c .before .before .before .before .cut-tables .kept .0
 
 same-length-2 : tie.Need-same-length-2
-same-length-2 c = c .before .before .before .before .cut-lent .kept .1 .0
+same-length-2 c = c .before .before .before .before .cut-tables .kept .1 .0
 
 returns : tie.Need-returns
-returns c = let a = c .before .before .before .before .before .before .before .before .before .before .before .before .args in let q = changed-cut (a .h) (a .c) (a .buffer .now) (tablesOf (a .space .now) (a .written .now) (a .durable .now)) (eq-eqb _ 99 (c .before .before .before .before .before .before .before .if1 .taken)) in (ap₂ (λ (w d : List ℕ). tablesOf (a .space .now) w d) (c .before .before .before .before .cut-lent .ensures .0) (c .before .before .before .before .cut-lent .ensures .1) ∙ sym (ap (λ (x : Left). x .tables) q), sym (ap (λ (x : Left). x .buffer) q))
+returns c = let a = c .before .before .before .before .before .before .before .before .before .before .before .before .args in let q = changed-cut (a .h) (a .c) (a .buffer .now) (tablesOf (a .space .now) (a .written .now) (a .durable .now)) (eq-eqb _ 99 (c .before .before .before .before .before .before .before .if1 .taken)) in (ap₂ (λ (w d : List ℕ). tablesOf (a .space .now) w d) (c .before .before .before .before .cut-tables .ensures .0) (c .before .before .before .before .cut-tables .ensures .1) ∙ sym (ap (λ (x : Left). x .tables) q), sym (ap (λ (x : Left). x .buffer) q))
 
 put-byte-requires : tie.Need-put-byte-requires
 put-byte-requires c κs = tt
@@ -41,39 +41,24 @@ same-length-5 c = c .before .before .before .before .put-pair .kept .1 .0
 returns-3 : tie.Need-returns-3
 returns-3 c = let a = c .before .before .before .before .before .before .before .before .before .before .before .before .before .before .args in let q = changed-pair (a .h) (a .c) (a .buffer .now) (tablesOf (a .space .now) (a .written .now) (a .durable .now)) (ne-eqb _ 99 (c .before .before .before .before .before .before .before .before .before .if1 .left)) (ne-eqb _ 98 (c .before .before .before .before .before .before .before .before .if2 .left)) (eq-eqb _ 116 (c .before .before .before .before .before .before .before .if3 .taken)) in (ap₂ (λ (w d : List ℕ). tablesOf (a .space .now) w d) (c .before .before .before .before .put-pair .ensures .0) (c .before .before .before .before .put-pair .ensures .1) ∙ sym (ap (λ (x : Left). x .tables) q), sym (ap (λ (x : Left). x .buffer) q))
 
-append-lent-requires : tie.Need-append-lent-requires
-append-lent-requires c κs = tt
+append-to-log-requires : tie.Need-append-to-log-requires
+append-to-log-requires c κs = tt
 
 same-length-6 : tie.Need-same-length-6
-same-length-6 c = c .before .before .before .before .before .before .append-lent .kept .0
+same-length-6 c = c .before .before .before .before .before .before .append-to-log .kept .0
 
 same-length-7 : tie.Need-same-length-7
-same-length-7 c = c .before .before .before .before .before .before .append-lent .kept .1 .0
+same-length-7 c = c .before .before .before .before .before .before .append-to-log .kept .1 .0
 
 same-length-8 : tie.Need-same-length-8
-same-length-8 c = c .before .before .before .before .before .before .append-lent .kept .1 .1 .0
+same-length-8 c = c .before .before .before .before .before .before .append-to-log .kept .1 .1 .0
 
 returns-4 : tie.Need-returns-4
 unfolding oddDrives
-returns-4 c = let a = c .before .before .before .before .before .before .before .before .before .before .before .before .before .before .before .before .before .args in let q = changed-odd (a .h) (a .c) (a .buffer .now) (tablesOf (a .space .now) (a .written .now) (a .durable .now)) (ne-eqb _ 99 (c .before .before .before .before .before .before .before .before .before .before .before .before .if1 .left)) (ne-eqb _ 98 (c .before .before .before .before .before .before .before .before .before .before .before .if2 .left)) (ne-eqb _ 116 (c .before .before .before .before .before .before .before .before .before .before .if3 .left)) in (ap₂ (λ (s w : List ℕ). tablesOf s w (a .durable .now)) (c .before .before .before .before .before .before .append-lent .ensures .0) (c .before .before .before .before .before .before .append-lent .ensures .1) ∙ sym (ap (λ (x : Left). x .tables) q), c .before .before .before .before .before .before .append-lent .ensures .2 ∙ sym (ap (λ (x : Left). x .buffer) q))
+returns-4 c = let a = c .before .before .before .before .before .before .before .before .before .before .before .before .before .before .before .before .before .args in let q = changed-odd (a .h) (a .c) (a .buffer .now) (tablesOf (a .space .now) (a .written .now) (a .durable .now)) (ne-eqb _ 99 (c .before .before .before .before .before .before .before .before .before .before .before .before .if1 .left)) (ne-eqb _ 98 (c .before .before .before .before .before .before .before .before .before .before .before .if2 .left)) (ne-eqb _ 116 (c .before .before .before .before .before .before .before .before .before .before .if3 .left)) in (ap₂ (λ (s w : List ℕ). tablesOf s w (a .durable .now)) (c .before .before .before .before .before .before .append-to-log .ensures .0) (c .before .before .before .before .before .before .append-to-log .ensures .1) ∙ sym (ap (λ (x : Left). x .tables) q), c .before .before .before .before .before .before .append-to-log .ensures .2 ∙ sym (ap (λ (x : Left). x .buffer) q))
 
 pub change-tables-spec : {M : Type 1} → statement M
 change-tables-spec =
     tie.close
-    (tie.spec
-    cut-lent-requires
-    same-length
-    same-length-2
-    returns
-    put-byte-requires
-    same-length-3
-    returns-2
-    put-pair-requires
-    same-length-4
-    same-length-5
-    returns-3
-    append-lent-requires
-    same-length-6
-    same-length-7
-    same-length-8
-    returns-4)
+    (tie.spec cut-tables-requires same-length same-length-2 returns put-byte-requires same-length-3 returns-2 put-pair-requires same-length-4
+    same-length-5 returns-3 append-to-log-requires same-length-6 same-length-7 same-length-8 returns-4)

@@ -36,14 +36,5 @@ returns c = (c .quiet .ensures ∙ ap quietReply (c .before .before .before .bef
 pub new-drives-spec : {M : Type 1} → statement M
 new-drives-spec =
     tie.close
-    (tie.spec
-    geometry-in-requires
-    fresh-host-requires
-    clear-requires
-    clear-pointers-requires
-    clear-pointers-requires-2
-    quiet-requires
-    same-length
-    same-length-2
-    same-length-3
-    returns)
+    (tie.spec geometry-in-requires fresh-host-requires clear-requires clear-pointers-requires clear-pointers-requires-2 quiet-requires same-length
+    same-length-2 same-length-3 returns)

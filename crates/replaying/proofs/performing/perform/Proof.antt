@@ -5,7 +5,7 @@ use mathlib.Core.List.{List}
 use borrow.Author.Tests.{eq-eqb, ne-eqb}
 use Rattle.replaying.specs.Calling.{Done}
 use Rattle.replaying.specs.Hosting.{quietReply}
-use Rattle.tables.specs.Tables.{tablesOf}
+use Rattle.tables.specs.meaning.Tables.{tablesOf}
 use Rattle.replaying.specs.Performing.{left, performed-new, performed-call, performed-change, performed-host}
 use Rattle.replaying.proofs.performing.perform.Statement.{statement}
 use Rattle.replaying.proofs.performing.perform.Tie as tie
@@ -28,23 +28,23 @@ returns c = let a = c .before .before .before .before .before .before .before .b
 is-call-requires : tie.Need-is-call-requires
 is-call-requires c κs = tt
 
-call-lent-requires : tie.Need-call-lent-requires
-call-lent-requires c κs = tt
+call-on-tables-requires : tie.Need-call-on-tables-requires
+call-on-tables-requires c κs = tt
 
 same-length-4 : tie.Need-same-length-4
-same-length-4 c = c .before .before .before .before .before .before .before .before .call-lent .kept .0
+same-length-4 c = c .before .before .before .before .before .before .before .before .call-on-tables .kept .0
 
 same-length-5 : tie.Need-same-length-5
-same-length-5 c = c .before .before .before .before .before .before .before .before .call-lent .kept .1 .0
+same-length-5 c = c .before .before .before .before .before .before .before .before .call-on-tables .kept .1 .0
 
 same-length-6 : tie.Need-same-length-6
-same-length-6 c = c .before .before .before .before .before .before .before .before .call-lent .kept .1 .1 .0
+same-length-6 c = c .before .before .before .before .before .before .before .before .call-on-tables .kept .1 .1 .0
 
 same-length-7 : tie.Need-same-length-7
-same-length-7 c = c .before .before .before .before .before .before .before .before .call-lent .kept .1 .1 .1 .0
+same-length-7 c = c .before .before .before .before .before .before .before .before .call-on-tables .kept .1 .1 .1 .0
 
 returns-2 : tie.Need-returns-2
-returns-2 c = let a = c .before .before .before .before .before .before .before .before .before .before .before .before .before .before .before .before .before .before .before .before .args in let q = performed-call (a .h) (a .c) (a .buffer .now) (tablesOf (a .space .now) (a .written .now) (a .durable .now)) (ne-eqb _ 103 (c .before .before .before .before .before .before .before .before .before .before .before .before .before .before .before .if1 .left)) (sym (c .before .before .before .before .before .before .before .before .before .before .before .before .before .before .is-call .ensures) ∙ c .before .before .before .before .before .before .before .before .before .before .before .before .before .if2 .taken) in (c .before .before .before .before .before .before .before .before .call-lent .ensures .0 ∙ sym (ap (λ (x : Done). x .reply) q), let s = c .before .before .before .before .before .before .before .before .call-lent .ensures in ap₂ (λ (x : List ℕ) (p : List ℕ × List ℕ). tablesOf x (p .0) (p .1)) (s .1) (ap₂ (λ (w d : List ℕ). (w, d)) (s .2) (s .3)) ∙ sym (ap (λ (x : Done). x .tables) q), c .before .before .before .before .before .before .before .before .call-lent .ensures .4 ∙ sym (ap (λ (x : Done). x .buffer) q))
+returns-2 c = let a = c .before .before .before .before .before .before .before .before .before .before .before .before .before .before .before .before .before .before .before .before .args in let q = performed-call (a .h) (a .c) (a .buffer .now) (tablesOf (a .space .now) (a .written .now) (a .durable .now)) (ne-eqb _ 103 (c .before .before .before .before .before .before .before .before .before .before .before .before .before .before .before .if1 .left)) (sym (c .before .before .before .before .before .before .before .before .before .before .before .before .before .before .is-call .ensures) ∙ c .before .before .before .before .before .before .before .before .before .before .before .before .before .if2 .taken) in (c .before .before .before .before .before .before .before .before .call-on-tables .ensures .0 ∙ sym (ap (λ (x : Done). x .reply) q), let s = c .before .before .before .before .before .before .before .before .call-on-tables .ensures in ap₂ (λ (x : List ℕ) (p : List ℕ × List ℕ). tablesOf x (p .0) (p .1)) (s .1) (ap₂ (λ (w d : List ℕ). (w, d)) (s .2) (s .3)) ∙ sym (ap (λ (x : Done). x .tables) q), c .before .before .before .before .before .before .before .before .call-on-tables .ensures .4 ∙ sym (ap (λ (x : Done). x .buffer) q))
 
 is-change-requires : tie.Need-is-change-requires
 is-change-requires c κs = tt
@@ -82,27 +82,6 @@ returns-4 c = let a = c .before .before .before .before .before .before .before 
 pub perform-spec : {M : Type 1} → statement M
 perform-spec =
     tie.close
-    (tie.spec
-    new-drives-requires
-    same-length
-    same-length-2
-    same-length-3
-    returns
-    is-call-requires
-    call-lent-requires
-    same-length-4
-    same-length-5
-    same-length-6
-    same-length-7
-    returns-2
-    is-change-requires
-    change-tables-requires
-    quiet-requires
-    same-length-8
-    same-length-9
-    same-length-10
-    same-length-11
-    returns-3
-    change-host-requires
-    quiet-requires-2
-    returns-4)
+    (tie.spec new-drives-requires same-length same-length-2 same-length-3 returns is-call-requires call-on-tables-requires same-length-4 same-length-5
+    same-length-6 same-length-7 returns-2 is-change-requires change-tables-requires quiet-requires same-length-8 same-length-9 same-length-10
+    same-length-11 returns-3 change-host-requires quiet-requires-2 returns-4)

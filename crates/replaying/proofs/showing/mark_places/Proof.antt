@@ -22,21 +22,6 @@ returns c = rw (lt-ltb _ _ (c .if1 .taken)) refl
 loop-holds : tie.Need-loop-holds Inv-loop μ-loop
 loop-holds c = (omega arith, refl, refl, refl)
 
-mul-at : tie.Need-mul-at Inv-loop μ-loop
-mul-at c = omega arith
-
-cast-write-u32 : tie.Need-cast-write-u32 Inv-loop μ-loop
-cast-write-u32 c = omega arith
-
-write-u32-requires : tie.Need-write-u32-requires Inv-loop μ-loop
-write-u32-requires c κs = omega arith
-
-add-i : tie.Need-add-i Inv-loop μ-loop
-add-i c = omega arith
-
-loop-less : tie.Need-loop-less Inv-loop μ-loop
-loop-less c = omega arith
-
 loop-again : tie.Need-loop-again Inv-loop μ-loop
 loop-again c = let l = c .before .before .before .before .before .loop in let k = c .before .before .write-u32 in (omega arith, l .inv .1, k .kept .0 ∙ l .inv .2, k .ensures ∙ rw (add-one, l .inv .3) refl)
 
@@ -50,16 +35,5 @@ returns-2 c = let l = c .before .loop in let e : l .i ≡ length (c .before .bef
 pub mark-places-spec : {M : Type 1} → statement M
 mark-places-spec =
     tie.close
-    (tie.spec
-    Inv-loop
-    μ-loop
-    returns
-    loop-holds
-    mul-at
-    cast-write-u32
-    write-u32-requires
-    add-i
-    loop-less
-    loop-again
-    same-length
-    returns-2)
+    (tie.spec Inv-loop μ-loop returns loop-holds (λ c. omega arith) (λ c. omega arith) (λ c κs. omega arith) (λ c. omega arith) (λ c. omega arith)
+    loop-again same-length returns-2)

@@ -38,14 +38,5 @@ returns c = c .place-in .ensures ∙ ap placeIn (c .before .peek .ensures ∙ rw
 pub peek-place-spec : {M : Type 1} → statement M
 peek-place-spec =
     tie.close
-    (tie.spec
-    lend-requires
-    lend-requires-2
-    lend-requires-3
-    named-in-requires
-    slice-aggregate-peek
-    slice-aggregate-peek-2
-    slice-aggregate-peek-3
-    peek-requires
-    place-in-requires
-    returns)
+    (tie.spec lend-requires lend-requires-2 lend-requires-3 named-in-requires slice-aggregate-peek slice-aggregate-peek-2 slice-aggregate-peek-3
+    peek-requires place-in-requires returns)

@@ -39,14 +39,5 @@ returns c = c .adler-of .ensures ∙ ap adlerOfBytes (c .before .peek .ensures �
 pub peek-sum-spec : {M : Type 1} → statement M
 peek-sum-spec =
     tie.close
-    (tie.spec
-    lend-requires
-    lend-requires-2
-    lend-requires-3
-    named-in-requires
-    slice-aggregate-peek
-    slice-aggregate-peek-2
-    slice-aggregate-peek-3
-    peek-requires
-    adler-of-requires
-    returns)
+    (tie.spec lend-requires lend-requires-2 lend-requires-3 named-in-requires slice-aggregate-peek slice-aggregate-peek-2 slice-aggregate-peek-3
+    peek-requires adler-of-requires returns)

@@ -24,10 +24,4 @@ returns c = c .adler-of-tables .ensures ∙ rw (c .before .before .before .befor
 pub pointers-sum-spec : {M : Type 1} → statement M
 pointers-sum-spec =
     tie.close
-    (tie.spec
-    lend-requires
-    lend-requires-2
-    slice-aggregate-adler-of-tables
-    slice-aggregate-adler-of-tables-2
-    adler-of-tables-requires
-    returns)
+    (tie.spec lend-requires lend-requires-2 slice-aggregate-adler-of-tables slice-aggregate-adler-of-tables-2 adler-of-tables-requires returns)

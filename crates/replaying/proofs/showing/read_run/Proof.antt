@@ -25,10 +25,4 @@ returns c = let f = c .before .before .before .before .read .ensures in let k = 
 pub read-run-spec : {M : Type 1} → statement M
 read-run-spec =
     tie.close
-    (tie.spec
-    named-in-requires
-    narrow-requires
-    read-requires
-    glimpse-of-requires
-    same-length
-    returns)
+    (tie.spec named-in-requires narrow-requires read-requires glimpse-of-requires same-length returns)

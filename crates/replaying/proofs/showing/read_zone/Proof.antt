@@ -10,12 +10,6 @@ returns : tie.Need-returns
 unfolding zoneRead
 returns c = rw (le-leb _ _ (c .if1 .taken)) refl
 
-mul-r : tie.Need-mul-r
-mul-r c = omega arith
-
-element-copy-out-r : tie.Need-element-copy-out-r
-element-copy-out-r c = omega arith
-
 pointer-of-requires : tie.Need-pointer-of-requires
 pointer-of-requires c κs = tt
 
@@ -69,23 +63,6 @@ returns-3 c = rw (lt-leb _ _ (c .before .before .before .before .before .before 
 pub read-zone-spec : {M : Type 1} → statement M
 read-zone-spec =
     tie.close
-    (tie.spec
-    returns
-    mul-r
-    element-copy-out-r
-    pointer-of-requires
-    returns-2
-    zone-start-requires
-    run-bytes-requires
-    lend-requires
-    lend-requires-2
-    lend-requires-3
-    lend-requires-4
-    slice-aggregate-read-run
-    slice-aggregate-read-run-2
-    slice-aggregate-read-run-3
-    slice-relend-prefix-read-run
-    slice-aggregate-read-run-4
-    read-run-requires
-    same-length
-    returns-3)
+    (tie.spec returns (λ c. omega arith) (λ c. omega arith) pointer-of-requires returns-2 zone-start-requires run-bytes-requires lend-requires
+    lend-requires-2 lend-requires-3 lend-requires-4 slice-aggregate-read-run slice-aggregate-read-run-2 slice-aggregate-read-run-3
+    slice-relend-prefix-read-run slice-aggregate-read-run-4 read-run-requires same-length returns-3)

@@ -3,7 +3,7 @@ use native.Mathlib.Omega.{arith}
 use native.Mathlib.Nat.{mul-le-mul}
 use Prim.Native.Nat.{_≤_}
 use borrow.Author.Tests.{not-true, not-false, le-leb, lt-leb}
-use Rattle.tables.specs.GeometryTest.{valid-if-test}
+use Rattle.tables.specs.laws.GeometryTest.{valid-if-test}
 use Rattle.replaying.specs.Showing.{zoneStart}
 use Rattle.replaying.proofs.showing.zone_start.Statement.{statement}
 use Rattle.replaying.proofs.showing.zone_start.Tie as tie

@@ -21,26 +21,8 @@ seed-start-requires c κs = tt
 loop-holds : tie.Need-loop-holds Inv-loop μ-loop
 loop-holds c = (omega arith, refl, refl, refl, refl, refl, (cc), search needs)
 
-next-draw-requires : tie.Need-next-draw-requires Inv-loop μ-loop
-next-draw-requires c κs = omega arith
-
-cut-cell-requires : tie.Need-cut-cell-requires Inv-loop μ-loop
-cut-cell-requires c κs = search needs
-
-add-i : tie.Need-add-i Inv-loop μ-loop
-add-i c = omega arith
-
-loop-less : tie.Need-loop-less Inv-loop μ-loop
-loop-less c = search needs
-
 loop-again : tie.Need-loop-again Inv-loop μ-loop
 loop-again c = let k = c .before .before .before .before .cut-cell in let l = c .before .before .before .before .before .before .before .before .before .loop in (omega arith, refl, k .kept .0 ∙ l .inv .2, k .kept .1 .0 ∙ l .inv .3, rw add-one (cc), rw add-one (cc), rw add-one (cc), search needs)
-
-same-length : tie.Need-same-length Inv-loop μ-loop
-same-length c = search needs
-
-same-length-2 : tie.Need-same-length-2 Inv-loop μ-loop
-same-length-2 c = search needs
 
 returns : tie.Need-returns Inv-loop μ-loop
 returns c = let l = c .before .loop in let e : l .i ≡ length (c .before .before .before .before .before .args .written .now) = omega arith in (rw (← e) (l .inv .4), rw (← e) (l .inv .5))
@@ -48,16 +30,5 @@ returns c = let l = c .before .loop in let e : l .i ≡ length (c .before .befor
 pub cut-spec : {M : Type 1} → statement M
 cut-spec =
     tie.close
-    (tie.spec
-    Inv-loop
-    μ-loop
-    seed-start-requires
-    loop-holds
-    next-draw-requires
-    cut-cell-requires
-    add-i
-    loop-less
-    loop-again
-    same-length
-    same-length-2
-    returns)
+    (tie.spec Inv-loop μ-loop seed-start-requires loop-holds (λ c κs. omega arith) (λ c κs. search needs) (λ c. omega arith) (λ c. search needs)
+    loop-again (λ c. search needs) (λ c. search needs) returns)

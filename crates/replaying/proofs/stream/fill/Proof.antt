@@ -21,20 +21,8 @@ seed-start-requires c κs = tt
 loop-holds : tie.Need-loop-holds Inv-loop μ-loop
 loop-holds c = (omega arith, (cc), refl, (cc), (cc), search needs)
 
-next-draw-requires : tie.Need-next-draw-requires Inv-loop μ-loop
-next-draw-requires c κs = omega arith
-
 draw-byte-requires : tie.Need-draw-byte-requires Inv-loop μ-loop
 draw-byte-requires c κs = tt
-
-slice-write-out : tie.Need-slice-write-out Inv-loop μ-loop
-slice-write-out c = omega arith
-
-add-i : tie.Need-add-i Inv-loop μ-loop
-add-i c = omega arith
-
-loop-less : tie.Need-loop-less Inv-loop μ-loop
-loop-less c = search needs
 
 loop-again : tie.Need-loop-again Inv-loop μ-loop
 loop-again c = (omega arith, (cc), simp length-set (cc), rw add-one (cc), rw add-one (cc), search needs)
@@ -48,16 +36,5 @@ returns c = let l = c .before .loop in let e : l .i ≡ length (c .before .befor
 pub fill-spec : {M : Type 1} → statement M
 fill-spec =
     tie.close
-    (tie.spec
-    Inv-loop
-    μ-loop
-    seed-start-requires
-    loop-holds
-    next-draw-requires
-    draw-byte-requires
-    slice-write-out
-    add-i
-    loop-less
-    loop-again
-    same-length
-    returns)
+    (tie.spec Inv-loop μ-loop seed-start-requires loop-holds (λ c κs. omega arith) draw-byte-requires (λ c. omega arith) (λ c. omega arith)
+    (λ c. search needs) loop-again same-length returns)

@@ -2,8 +2,8 @@ use native.Mathlib.Omega.{arith}
 use native.Mathlib.Numerals.{add-one}
 use Prim.Native.Nat.{_+_, _-_, _≤_}
 use mathlib.Core.Path.{_≡_, _∙_, refl}
-use Rattle.tables.specs.Below.{anyBelow}
-use Rattle.tables.specs.Tables.{pointerBad}
+use Rattle.tables.specs.meaning.Below.{anyBelow}
+use Rattle.tables.specs.meaning.Tables.{pointerBad}
 use Rattle.tables.proofs.bounds.drive_bad.Statement.{statement}
 use Rattle.tables.proofs.bounds.drive_bad.Tie as tie
 
@@ -34,14 +34,8 @@ mul-k c = let s = c .before .before .before .before .before .before .before in o
 shared-slice-read-k : tie.Need-shared-slice-read-k Inv-loop μ-loop
 shared-slice-read-k c = let s = c .before .before .before .before .before .before .before .before in omega (arith, c .before .before .cell-of .ensures .1, s .pre .1 .2)
 
-widen-requires : tie.Need-widen-requires Inv-loop μ-loop
-widen-requires c κs = tt
-
 add-y : tie.Need-add-y Inv-loop μ-loop
 add-y c = let s = c .before .before .before .before .before .before .before .before .before in omega (arith, s .pre .0 .zones-most)
-
-loop-less : tie.Need-loop-less Inv-loop μ-loop
-loop-less c = omega arith
 
 loop-again : tie.Need-loop-again Inv-loop μ-loop
 loop-again c = let l = c .before .before .before .before .before .loop in (omega arith, refl, rw (l .inv .2, c .widen .ensures, c .before .before .before .cell-of .ensures .0, add-one) refl)
@@ -52,18 +46,5 @@ returns c = let s = c .before .before .before .before .before in let l = c .befo
 pub drive-bad-spec : {M : Type 1} → statement M
 drive-bad-spec =
     tie.close
-    (tie.spec
-    Inv-loop
-    μ-loop
-    add-z
-    loop-holds
-    cell-of-requires
-    mul-w
-    shared-slice-read-w
-    mul-k
-    shared-slice-read-k
-    widen-requires
-    add-y
-    loop-less
-    loop-again
-    returns)
+    (tie.spec Inv-loop μ-loop add-z loop-holds cell-of-requires mul-w shared-slice-read-w mul-k shared-slice-read-k (λ c κs. tt) add-y
+    (λ c. omega arith) loop-again returns)

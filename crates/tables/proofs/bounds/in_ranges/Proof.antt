@@ -2,11 +2,8 @@ use borrow.Author.Needs.{needs}
 use Rattle.tables.proofs.bounds.in_ranges.Statement.{statement}
 use Rattle.tables.proofs.bounds.in_ranges.Tie as tie
 
-size-ok-requires : tie.Need-size-ok-requires
-size-ok-requires c κs = search needs
-
 returns : tie.Need-returns
 returns c = cc
 
 pub in-ranges-spec : {M : Type 1} → statement M
-in-ranges-spec = tie.close (tie.spec size-ok-requires returns)
+in-ranges-spec = tie.close (tie.spec (λ c κs. search needs) returns)

@@ -1,5 +1,5 @@
 use mathlib.Core.Path.{refl}
-use Rattle.tables.specs.Tables.{lengthsFit}
+use Rattle.tables.specs.meaning.Tables.{lengthsFit}
 use Rattle.tables.proofs.bounds.lengths_fit.Statement.{statement}
 use Rattle.tables.proofs.bounds.lengths_fit.Tie as tie
 

@@ -4,9 +4,9 @@ use Prim.Native.Nat.{ℕ, _-_, _≤_}
 use mathlib.Core.Path.{_≡_, _∙_, refl}
 use mathlib.Core.Bool.{false, _&&_}
 use lib.ListN.{getD}
-use Rattle.tables.specs.Below.{anyBelow}
-use Rattle.tables.specs.Geometry.{physicalZones}
-use Rattle.tables.specs.Tables.{pointerBad, pointersBad}
+use Rattle.tables.specs.meaning.Below.{anyBelow}
+use Rattle.tables.specs.meaning.Geometry.{physicalZones}
+use Rattle.tables.specs.meaning.Tables.{pointerBad, pointersBad}
 use Rattle.tables.proofs.bounds.pointers_bad.Statement.{statement}
 use Rattle.tables.proofs.bounds.pointers_bad.Tie as tie
 
@@ -28,9 +28,6 @@ array-read-here c = omega (arith, c .before .before .before .before .before .pre
 add-d : tie.Need-add-d Inv-loop μ-loop
 add-d c = omega (arith, c .before .before .before .before .before .pre .0 .drives-most)
 
-loop-less : tie.Need-loop-less Inv-loop μ-loop
-loop-less c = omega arith
-
 loop-again : tie.Need-loop-again Inv-loop μ-loop
 loop-again c = let l = c .before .before .loop in (omega arith, refl, rw (l .inv .2, c .drive-bad .ensures, add-one) refl)
 
@@ -41,13 +38,4 @@ returns c = let s = c .before .before .before .before in let l = c .before .loop
 pub pointers-bad-spec : {M : Type 1} → statement M
 pointers-bad-spec =
     tie.close
-    (tie.spec
-    Inv-loop
-    μ-loop
-    loop-holds
-    drive-bad-requires
-    array-read-here
-    add-d
-    loop-less
-    loop-again
-    returns)
+    (tie.spec Inv-loop μ-loop loop-holds drive-bad-requires array-read-here add-d (λ c. omega arith) loop-again returns)

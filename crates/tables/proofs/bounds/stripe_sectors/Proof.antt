@@ -1,7 +1,7 @@
 use native.Mathlib.Omega.{arith}
 use mathlib.Core.Path.{refl}
-use Rattle.tables.specs.Sizes.{stripe-small}
-use Rattle.tables.specs.Placement.{stripeLength}
+use Rattle.tables.specs.laws.Sizes.{stripe-small}
+use Rattle.tables.specs.meaning.Placement.{stripeLength}
 use Rattle.tables.proofs.bounds.stripe_sectors.Statement.{statement}
 use Rattle.tables.proofs.bounds.stripe_sectors.Tie as tie
 

@@ -1,13 +1,9 @@
-use Rattle.tables.specs.Sizes.{bytes-small}
+use Rattle.tables.specs.laws.Sizes.{bytes-small}
 use mathlib.Core.Path.{refl}
-use Prim.Native.Nat.{_-_}
 use native.Mathlib.Omega.{arith}
 use borrow.Author.Needs.{needs}
 use Rattle.tables.proofs.bounds.total_bytes.Statement.{statement}
 use Rattle.tables.proofs.bounds.total_bytes.Tie as tie
-
-table-cells-requires : tie.Need-table-cells-requires
-table-cells-requires c κs = search needs
 
 mul-result : tie.Need-mul-result
 mul-result c = rw (c .table-cells .ensures .0) (omega (arith, bytes-small (c .before .args .g) (c .before .pre)))
@@ -19,4 +15,4 @@ returns : tie.Need-returns
 returns c = rw (c .table-cells .ensures .0) refl
 
 pub total-bytes-spec : {M : Type 1} → statement M
-total-bytes-spec = tie.close (tie.spec table-cells-requires mul-result mul-result-2 returns)
+total-bytes-spec = tie.close (tie.spec (λ c κs. search needs) mul-result mul-result-2 returns)

@@ -4,13 +4,11 @@ use mathlib.Core.Bool.{_&&_, Bool, true}
 use mathlib.Core.Path.{_≡_, sym, _∙_, ap}
 use borrow.Author.Tests.{not-false, not-true}
 use Prim.Native.Nat.{_+_, _*_, _≤_}
-use Rattle.tables.specs.GeometryTest.{isValid, Ranged, ranged, all, ranges, fits}
+use Rattle.tables.specs.meaning.GeometryTest.{isValid, all, ranges, fits}
+use Rattle.tables.specs.laws.GeometryTest.{Ranged, ranged}
 use borrow.Author.Needs.{needs}
 use Rattle.tables.proofs.bounds.valid.Statement.{statement}
 use Rattle.tables.proofs.bounds.valid.Tie as tie
-
-in-ranges-requires : tie.Need-in-ranges-requires
-in-ranges-requires c κs = search needs
 
 returns : tie.Need-returns
 unfolding isValid
@@ -60,16 +58,5 @@ returns-2 c = ap (λ (b : Bool). b && all (fits (c .before .before .args .g))) (
 pub valid-spec : {M : Type 1} → statement M
 valid-spec =
     tie.close
-    (tie.spec
-    in-ranges-requires
-    returns
-    mul-result
-    add-result
-    rem-result
-    add-result-2
-    mul-result-2
-    mul-result-3
-    add-result-3
-    add-result-4
-    add-result-5
-    returns-2)
+    (tie.spec (λ c κs. search needs) returns mul-result add-result rem-result add-result-2 mul-result-2 mul-result-3 add-result-3 add-result-4
+    add-result-5 returns-2)

@@ -1,7 +1,7 @@
 use native.Mathlib.Omega.{arith}
 use mathlib.Core.Path.{refl}
-use Rattle.tables.specs.Sizes.{zone-small}
-use Rattle.tables.specs.Geometry.{zoneSectors}
+use Rattle.tables.specs.laws.Sizes.{zone-small}
+use Rattle.tables.specs.meaning.Geometry.{zoneSectors}
 use Rattle.tables.proofs.bounds.zone_sectors.Statement.{statement}
 use Rattle.tables.proofs.bounds.zone_sectors.Tie as tie
 

@@ -1,83 +1,18 @@
-use Rattle.tables.specs.LittleEndian.{read-bytes}
+use Rattle.tables.specs.laws.LittleEndian.{read-bytes}
 use borrow.Author.Needs.{needs}
 use Rattle.tables.proofs.bytes.read_u32.Statement.{statement}
 use Rattle.tables.proofs.bytes.read_u32.Tie as tie
 
-shared-slice-read-wide32 : tie.Need-shared-slice-read-wide32
-shared-slice-read-wide32 c = search needs
-
-wide32-requires : tie.Need-wide32-requires
-wide32-requires c κs = search needs
-
-add-wide32 : tie.Need-add-wide32
-add-wide32 c = search needs
-
-shared-slice-read-wide32-2 : tie.Need-shared-slice-read-wide32-2
-shared-slice-read-wide32-2 c = search needs
-
-wide32-requires-2 : tie.Need-wide32-requires-2
-wide32-requires-2 c κs = search needs
-
-add-wide32-2 : tie.Need-add-wide32-2
-add-wide32-2 c = search needs
-
-shared-slice-read-wide32-3 : tie.Need-shared-slice-read-wide32-3
-shared-slice-read-wide32-3 c = search needs
-
-wide32-requires-3 : tie.Need-wide32-requires-3
-wide32-requires-3 c κs = search needs
-
-add-wide32-3 : tie.Need-add-wide32-3
-add-wide32-3 c = search needs
-
-shared-slice-read-wide32-4 : tie.Need-shared-slice-read-wide32-4
-shared-slice-read-wide32-4 c = search needs
-
-wide32-requires-4 : tie.Need-wide32-requires-4
-wide32-requires-4 c κs = search needs
-
-mul-result : tie.Need-mul-result
-mul-result c = search needs
-
-add-result : tie.Need-add-result
-add-result c = search needs
-
-mul-result-2 : tie.Need-mul-result-2
-mul-result-2 c = search needs
-
-add-result-2 : tie.Need-add-result-2
-add-result-2 c = search needs
-
-mul-result-3 : tie.Need-mul-result-3
-mul-result-3 c = search needs
-
-add-result-3 : tie.Need-add-result-3
-add-result-3 c = search needs
-
 returns : tie.Need-returns
 returns c =
-    let s = c .before .before .before .before .before .before .before .before .before in
-    rw (c .before .before .before .before .before .before .wide32 .ensures .0, c .before .before .before .before .wide322 .ensures .0, c .before .before .wide323 .ensures .0, c .wide324 .ensures .0) (read-bytes 2 (s .args .s .now) (s .args .at) (s .pre))
+    let at-wide = c .before .before .before .before in
+    let at-wide-2 = at-wide .before .before in
+    let s = at-wide-2 .before .before .before in
+    rw (at-wide-2 .wide .ensures .0, at-wide .wide2 .ensures .0, c .before .before .wide3 .ensures .0, c .wide4 .ensures .0) (read-bytes 2 (s .args .s .now) (s .args .at) (s .pre))
 
 pub read-u32-spec : {M : Type 1} → statement M
 read-u32-spec =
     tie.close
-    (tie.spec
-    shared-slice-read-wide32
-    wide32-requires
-    add-wide32
-    shared-slice-read-wide32-2
-    wide32-requires-2
-    add-wide32-2
-    shared-slice-read-wide32-3
-    wide32-requires-3
-    add-wide32-3
-    shared-slice-read-wide32-4
-    wide32-requires-4
-    mul-result
-    add-result
-    mul-result-2
-    add-result-2
-    mul-result-3
-    add-result-3
-    returns)
+    (tie.spec (λ c. search needs) (λ c κs. search needs) (λ c. search needs) (λ c. search needs) (λ c κs. search needs) (λ c. search needs)
+    (λ c. search needs) (λ c κs. search needs) (λ c. search needs) (λ c. search needs) (λ c κs. search needs) (λ c. search needs) (λ c. search needs)
+    (λ c. search needs) (λ c. search needs) (λ c. search needs) (λ c. search needs) (λ c. search needs) returns)

@@ -2,24 +2,15 @@ use Prim.Native.Nat.{zero}
 use mathlib.Core.Path.{refl}
 use native.Mathlib.Omega.{arith}
 use borrow.Author.Needs.{needs}
-use Rattle.tables.specs.Placement.{addressAt, stripeLength}
-use Rattle.tables.specs.Sizes.{SmallAddress, small-address, address-within}
+use Rattle.tables.specs.meaning.Placement.{addressAt, stripeLength}
+use Rattle.tables.specs.laws.Sizes.{SmallAddress, small-address, address-within}
 use Rattle.tables.proofs.placement.address_at.Statement.{statement}
 use Rattle.tables.proofs.placement.address_at.Tie as tie
-
-div-s : tie.Need-div-s
-div-s c = search needs
 
 parity-drive-requires : tie.Need-parity-drive-requires
 parity-drive-requires c κs =
     let v = c .pre .0 in
     omega (arith, small-address (c .args .g) zero (c .args .x) v (omega (arith, v .drives-least)) (c .pre .1 .2) .stripes, v .drives-least, v .drives-most, v .zones-most)
-
-unit-of-requires : tie.Need-unit-of-requires
-unit-of-requires c κs = search needs
-
-sub-result : tie.Need-sub-result
-sub-result c = search needs
 
 known : (c : tie.After-unit-of) → SmallAddress (c .before .before .args .g) (c .unit-of .result) (c .before .before .args .x)
 known c = let s = c .before .before in small-address (s .args .g) (c .unit-of .result) (s .args .x) (s .pre .0) (c .unit-of .ensures .1) (s .pre .1 .2)
@@ -32,9 +23,6 @@ mul-result-2 c = let k = known c in omega arith
 
 mul-result-3 : tie.Need-mul-result-3
 mul-result-3 c = let k = known c in omega arith
-
-rem-result : tie.Need-rem-result
-rem-result c = search needs
 
 add-result : tie.Need-add-result
 add-result c = let k = known c in omega arith
@@ -52,15 +40,5 @@ returns c =
 pub address-at-spec : {M : Type 1} → statement M
 address-at-spec =
     tie.close
-    (tie.spec
-    div-s
-    parity-drive-requires
-    unit-of-requires
-    sub-result
-    mul-result
-    mul-result-2
-    mul-result-3
-    rem-result
-    add-result
-    add-result-2
-    returns)
+    (tie.spec (λ c. search needs) parity-drive-requires (λ c κs. search needs) (λ c. search needs) mul-result mul-result-2 mul-result-3
+    (λ c. search needs) add-result add-result-2 returns)

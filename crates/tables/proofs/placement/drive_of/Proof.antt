@@ -1,14 +1,10 @@
-use Rattle.tables.specs.Sizes.{unit-small, Striped, striped}
-use Rattle.tables.specs.Placement.{stripeLength, stripeOf, unitIndex, driveOf}
+use Rattle.tables.specs.laws.Sizes.{unit-small, Striped, striped}
+use Rattle.tables.specs.meaning.Placement.{stripeLength, stripeOf, unitIndex, driveOf}
 use mathlib.Core.Path.{_∙_, refl}
-use Prim.Native.Nat.{_-_}
 use native.Mathlib.Omega.{arith}
 use borrow.Author.Needs.{needs}
 use Rattle.tables.proofs.placement.drive_of.Statement.{statement}
 use Rattle.tables.proofs.placement.drive_of.Tie as tie
-
-sub-k : tie.Need-sub-k
-sub-k c = search needs
 
 known : (c : tie.Start) → Striped (c .args .g) (c .args .a)
 known c = striped _ _ (c .pre .0) (c .pre .1 .1)
@@ -25,9 +21,6 @@ parity-drive-requires c κs = let p = c .pre in (omega (arith, p .0 .drives-leas
 rem-unit-drive : tie.Need-rem-unit-drive
 rem-unit-drive c = known (c .before) .long
 
-div-unit-drive : tie.Need-div-unit-drive
-div-unit-drive c = search needs
-
 unit-drive-requires : tie.Need-unit-drive-requires
 unit-drive-requires c κs = let s = c .before in let p = s .pre .0 in (omega (arith, p .drives-least), p .drives-most, c .parity-drive .ensures .1, unit-small (s .args .g) (s .args .a) p)
 
@@ -38,12 +31,4 @@ returns c = (c .unit-drive .ensures .0 ∙ rw (c .before .parity-drive .ensures 
 pub drive-of-spec : {M : Type 1} → statement M
 drive-of-spec =
     tie.close
-    (tie.spec
-    sub-k
-    mul-k
-    div-parity-drive
-    parity-drive-requires
-    rem-unit-drive
-    div-unit-drive
-    unit-drive-requires
-    returns)
+    (tie.spec (λ c. search needs) mul-k div-parity-drive parity-drive-requires rem-unit-drive (λ c. search needs) unit-drive-requires returns)

@@ -1,14 +1,10 @@
-use Rattle.tables.specs.Sizes.{sector-small, Striped, striped}
-use Rattle.tables.specs.Placement.{stripeLength, stripeOf, rowIndex, sectorOf}
+use Rattle.tables.specs.laws.Sizes.{sector-small, Striped, striped}
+use Rattle.tables.specs.meaning.Placement.{stripeLength, stripeOf, rowIndex, sectorOf}
 use mathlib.Core.Path.{refl}
-use Prim.Native.Nat.{_-_}
 use native.Mathlib.Omega.{arith}
 use borrow.Author.Needs.{needs}
 use Rattle.tables.proofs.placement.sector_of.Statement.{statement}
 use Rattle.tables.proofs.placement.sector_of.Tie as tie
-
-sub-k : tie.Need-sub-k
-sub-k c = search needs
 
 known : (c : tie.Start) → Striped (c .args .g) (c .args .a)
 known c = striped _ _ (c .pre .0) (c .pre .1)
@@ -25,9 +21,6 @@ mul-result c = omega (arith, known c .rows)
 rem-result : tie.Need-rem-result
 rem-result c = known c .long
 
-rem-result-2 : tie.Need-rem-result-2
-rem-result-2 c = search needs
-
 add-result : tie.Need-add-result
 add-result c = omega (arith, sector-small (c .args .g) (c .args .a) (c .pre .0) (c .pre .1))
 
@@ -38,4 +31,4 @@ returns c = refl
 pub sector-of-spec : {M : Type 1} → statement M
 sector-of-spec =
     tie.close
-    (tie.spec sub-k mul-k div-result mul-result rem-result rem-result-2 add-result returns)
+    (tie.spec (λ c. search needs) mul-k div-result mul-result rem-result (λ c. search needs) add-result returns)

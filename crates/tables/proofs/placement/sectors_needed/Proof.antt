@@ -1,7 +1,7 @@
-use Rattle.tables.specs.Sizes.{needed-fits, Striped, striped}
+use Rattle.tables.specs.laws.Sizes.{needed-fits, Striped, striped}
 use Prim.Native.Nat.{ℕ, _≤_, _-_, _*_, _/_}
 use mathlib.Core.Path.{_≡_, _∙_, refl, sym}
-use Rattle.tables.specs.Placement.{needed, stripeOf, stripeLength, parityDrive}
+use Rattle.tables.specs.meaning.Placement.{needed, stripeOf, stripeLength, parityDrive}
 use borrow.Author.Tests.{eq-eqb, ne-eqb}
 use mathlib.Core.Logic.{_≢_}
 use native.Mathlib.Nat.{mul-le-mul}
@@ -9,9 +9,6 @@ use native.Mathlib.Omega.{arith}
 use borrow.Author.Needs.{needs}
 use Rattle.tables.proofs.placement.sectors_needed.Statement.{statement}
 use Rattle.tables.proofs.placement.sectors_needed.Tie as tie
-
-sub-k : tie.Need-sub-k
-sub-k c = search needs
 
 known : (c : tie.Start) → Striped (c .args .g) (c .args .n)
 known c = striped _ _ (c .pre .0) (c .pre .1 .1)
@@ -43,26 +40,20 @@ returns c =
 unit-of-requires : tie.Need-unit-of-requires
 unit-of-requires c κs = let p = c .before .before .pre in (omega (arith, p .0 .drives-least), p .0 .drives-most, c .before .parity-drive .ensures .1, p .1 .2)
 
-rem-excess : tie.Need-rem-excess
-rem-excess c = known (c .before .before .before) .long
+rem-saturating-sub : tie.Need-rem-saturating-sub
+rem-saturating-sub c = known (c .before .before .before) .long
 
 small-unit : (c : tie.After-unit-of) → c .unit-of .result ≤ 8
 small-unit c = let s = c .before .before .before in omega (arith, c .unit-of .ensures .1, s .pre .0 .drives-most)
 
-mul-excess : tie.Need-mul-excess
-mul-excess c = let s = c .before .before .before in omega (arith, mul-le-mul {n₂ = 8} {m₂ = 16} (small-unit c) (s .pre .0 .unit-most))
-
-excess-requires : tie.Need-excess-requires
-excess-requires c κs = search needs
-
-smaller-requires : tie.Need-smaller-requires
-smaller-requires c κs = search needs
+mul-saturating-sub : tie.Need-mul-saturating-sub
+mul-saturating-sub c = let s = c .before .before .before in omega (arith, mul-le-mul {n₂ = 8} {m₂ = 16} (small-unit c) (s .pre .0 .unit-most))
 
 mul-result-2 : tie.Need-mul-result-2
 mul-result-2 c = omega (arith, known (c .before .before .before .before .before) .rows)
 
 add-result : tie.Need-add-result
-add-result c = let s = c .before .before .before .before .before in omega (arith, known s .rows, c .smaller .ensures, s .pre .0 .unit-most)
+add-result c = let s = c .before .before .before .before .before in omega (arith, known s .rows, c .min .ensures, s .pre .0 .unit-most)
 
 returns-2 : tie.Need-returns-2
 unfolding needed stripeOf stripeLength
@@ -71,23 +62,10 @@ returns-2 c =
     let a = s .args in
     let p = c .before .before .before .before .parity-drive .ensures .0 in
     let n : a .drive ≢ parityDrive (a .g .drives) (a .zone) (a .n / ((a .g .drives - 1) * a .g .unit)) = λ e. c .before .before .before .if1 .left (e ∙ sym p) in
-    fits s _ (rw (ne-eqb _ _ n, c .smaller .ensures, c .before .excess .ensures, c .before .before .unit-of .ensures .0, p, needed) refl)
+    fits s _ (rw (ne-eqb _ _ n, c .min .ensures, c .before .saturating-sub .ensures, c .before .before .unit-of .ensures .0, p, needed) refl)
 
 pub sectors-needed-spec : {M : Type 1} → statement M
 sectors-needed-spec =
     tie.close
-    (tie.spec
-    sub-k
-    mul-k
-    div-s
-    parity-drive-requires
-    mul-result
-    returns
-    unit-of-requires
-    rem-excess
-    mul-excess
-    excess-requires
-    smaller-requires
-    mul-result-2
-    add-result
-    returns-2)
+    (tie.spec (λ c. search needs) mul-k div-s parity-drive-requires mul-result returns unit-of-requires rem-saturating-sub mul-saturating-sub
+    (λ c κs. search needs) (λ c κs. search needs) mul-result-2 add-result returns-2)

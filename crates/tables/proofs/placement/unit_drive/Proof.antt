@@ -1,22 +1,13 @@
 use native.Mathlib.Nat.{mod-lt}
 use mathlib.Core.Path.{refl}
-use Rattle.tables.specs.Placement.{unitDrive}
+use Rattle.tables.specs.meaning.Placement.{unitDrive}
 use borrow.Author.Needs.{needs}
 use Rattle.tables.proofs.placement.unit_drive.Statement.{statement}
 use Rattle.tables.proofs.placement.unit_drive.Tie as tie
-
-add-result : tie.Need-add-result
-add-result c = search needs
-
-add-result-2 : tie.Need-add-result-2
-add-result-2 c = search needs
-
-rem-result : tie.Need-rem-result
-rem-result c = search needs
 
 returns : tie.Need-returns
 unfolding unitDrive
 returns c = (refl, mod-lt _ (c .pre .0))
 
 pub unit-drive-spec : {M : Type 1} → statement M
-unit-drive-spec = tie.close (tie.spec add-result add-result-2 rem-result returns)
+unit-drive-spec = tie.close (tie.spec (λ c. search needs) (λ c. search needs) (λ c. search needs) returns)

@@ -4,7 +4,7 @@ use Prim.Native.Nat.{_-_, _≤_, _<_}
 use native.Mathlib.Numerals.{add-one}
 use native.Mathlib.Omega.{arith}
 use lib.Seq.{take-length}
-use Rattle.tables.specs.Xor.{xor-nil, xorPart, xor-part-suc}
+use Rattle.tables.specs.laws.Xor.{xor-nil, xorPart, xor-part-suc}
 use Rattle.tables.proofs.sectors.xor_into.Statement.{statement}
 use Rattle.tables.proofs.sectors.xor_into.Tie as tie
 
@@ -16,21 +16,6 @@ abbrev μ-loop : tie.MeasureT-loop
 
 loop-holds : tie.Need-loop-holds Inv-loop μ-loop
 loop-holds c = (omega arith, (cc), sym (xor-nil (c .args .acc .now)), refl)
-
-slice-read-acc : tie.Need-slice-read-acc Inv-loop μ-loop
-slice-read-acc c = omega arith
-
-shared-slice-read-acc : tie.Need-shared-slice-read-acc Inv-loop μ-loop
-shared-slice-read-acc c = omega arith
-
-slice-write-acc : tie.Need-slice-write-acc Inv-loop μ-loop
-slice-write-acc c = omega arith
-
-add-k : tie.Need-add-k Inv-loop μ-loop
-add-k c = omega arith
-
-loop-less : tie.Need-loop-less Inv-loop μ-loop
-loop-less c = omega arith
 
 loop-again : tie.Need-loop-again Inv-loop μ-loop
 loop-again c =
@@ -52,15 +37,5 @@ returns c =
 pub xor-into-spec : {M : Type 1} → statement M
 xor-into-spec =
     tie.close
-    (tie.spec
-    Inv-loop
-    μ-loop
-    loop-holds
-    slice-read-acc
-    shared-slice-read-acc
-    slice-write-acc
-    add-k
-    loop-less
-    loop-again
-    same-length
-    returns)
+    (tie.spec Inv-loop μ-loop loop-holds (λ c. omega arith) (λ c. omega arith) (λ c. omega arith) (λ c. omega arith) (λ c. omega arith) loop-again
+    same-length returns)

@@ -3,24 +3,12 @@ use mathlib.Core.Bool.{true, false, _&&_}
 use mathlib.Core.Path.{_≡_, _∙_, refl}
 use lib.Dec.{ltb}
 use borrow.Author.Tests.{not-true, not-false, ltb-true}
-use Rattle.tables.specs.Basics.{and-split}
-use Rattle.tables.specs.Tables.{hasRoom}
-use Rattle.tables.specs.Counted.{append-idle, append-due}
+use Rattle.tables.specs.laws.Basics.{and-split}
+use Rattle.tables.specs.meaning.Tables.{hasRoom}
+use Rattle.tables.specs.laws.Counted.{append-idle, append-due}
 use borrow.Author.Needs.{needs}
 use Rattle.tables.proofs.stores.append_counted.Statement.{statement}
 use Rattle.tables.proofs.stores.append_counted.Tie as tie
-
-has-room-requires : tie.Need-has-room-requires
-has-room-requires c κs = search needs
-
-due-requires : tie.Need-due-requires
-due-requires c κs = search needs
-
-left-after-requires : tie.Need-left-after-requires
-left-after-requires c κs = search needs
-
-same-length : tie.Need-same-length
-same-length c = search needs
 
 -- the test that decides: the drive is present, a store is left, the zone has room
 made-is : (c : tie.After-due) → (c .before .before .before .before .before .before .args .here && ltb 1 (c .before .before .before .before .before .before .args .budget)) && hasRoom (c .before .before .before .before .before .before .args .g) (c .before .before .before .before .before .before .args .drive) (c .before .before .before .before .before .before .args .zone) (now (c .before .before .before .before .before .before .args .written))
@@ -42,35 +30,19 @@ append-sector-requires c κs =
     let (p, q) = and-split (a .here && ltb 1 (a .budget)) (hasRoom (a .g) (a .drive) (a .zone) (now (a .written))) e in
     (s .pre .0, (s .pre .1 .0, ((s .pre .1 .1 .0, s .pre .1 .1 .1), (s .pre .1 .1 .2, ltb-true _ _ q))))
 
-left-after-requires-2 : tie.Need-left-after-requires-2
-left-after-requires-2 c κs = search needs
-
-same-length-2 : tie.Need-same-length-2
-same-length-2 c = search needs
-
-same-length-3 : tie.Need-same-length-3
-same-length-3 c = search needs
-
 returns-2 : tie.Need-returns-2
 returns-2 c =
-    let s = c .before .before .before .before .before .before .before .before .before .before .before .before .before .before .before in
+    let at-append-sector = c .before .before .before .before .before in
+    let at-if = at-append-sector .before .before .before in
+    let d = at-if .before in
+    let s = d .before .before .before .before .before .before in
     let a = s .args in
-    let d = c .before .before .before .before .before .before .before .before .before in
-    let e : (a .here && ltb 1 (a .budget)) && hasRoom (a .g) (a .drive) (a .zone) (now (a .written)) ≡ true = made-is d ∙ not-false _ (c .before .before .before .before .before .before .before .before .if1 .left) in
-    let f = c .before .before .before .before .before .append-sector .ensures in
+    let e : (a .here && ltb 1 (a .budget)) && hasRoom (a .g) (a .drive) (a .zone) (now (a .written)) ≡ true = made-is d ∙ not-false _ (at-if .if1 .left) in
+    let f = at-append-sector .append-sector .ensures in
     rw (f .0, f .1) (append-due (a .g) (a .here) (a .budget) (c .left-after2 .result) (a .drive) (a .zone) (now (a .src)) (now (a .sectors)) (now (a .written)) (c .left-after2 .ensures) e)
 
 pub append-counted-spec : {M : Type 1} → statement M
 append-counted-spec =
     tie.close
-    (tie.spec
-    has-room-requires
-    due-requires
-    left-after-requires
-    same-length
-    returns
-    append-sector-requires
-    left-after-requires-2
-    same-length-2
-    same-length-3
-    returns-2)
+    (tie.spec (λ c κs. search needs) (λ c κs. search needs) (λ c κs. search needs) (λ c. search needs) returns append-sector-requires
+    (λ c κs. search needs) (λ c. search needs) (λ c. search needs) returns-2)

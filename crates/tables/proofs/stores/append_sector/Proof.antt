@@ -1,5 +1,5 @@
-use Rattle.tables.specs.TablesLaws.{cell-in}
-use Rattle.tables.specs.Tables.{sectorsAfterAppend, writtenAfterAppend}
+use Rattle.tables.specs.laws.Tables.{cell-in}
+use Rattle.tables.specs.meaning.Tables.{sectorsAfterAppend, writtenAfterAppend}
 use native.Mathlib.Omega.{arith}
 use lib.ListN.{length, getD}
 use denote.Ref.{now}
@@ -8,9 +8,6 @@ use Prim.Native.Nat.{_<_}
 use borrow.Author.Needs.{needs}
 use Rattle.tables.proofs.stores.append_sector.Statement.{statement}
 use Rattle.tables.proofs.stores.append_sector.Tie as tie
-
-cell-of-requires : tie.Need-cell-of-requires
-cell-of-requires c κs = search needs
 
 -- where the pointer is read
 in-table : (c : tie.After-cell-of) → c .cell-of .result < length (now (c .before .before .before .before .args .written))
@@ -46,12 +43,6 @@ mul-written c = omega (arith, in-table (c .before .before .before .before .befor
 slice-write-written : tie.Need-slice-write-written
 slice-write-written c = in-table (c .before .before .before .before .before .before)
 
-same-length : tie.Need-same-length
-same-length c = search needs
-
-same-length-2 : tie.Need-same-length-2
-same-length-2 c = search needs
-
 returns : tie.Need-returns
 unfolding sectorsAfterAppend writtenAfterAppend
 returns c =
@@ -61,16 +52,5 @@ returns c =
 pub append-sector-spec : {M : Type 1} → statement M
 append-sector-spec =
     tie.close
-    (tie.spec
-    cell-of-requires
-    mul-n
-    slice-read-n
-    add-next
-    cast-byte-at
-    byte-at-requires
-    copy-in-requires
-    mul-written
-    slice-write-written
-    same-length
-    same-length-2
-    returns)
+    (tie.spec (λ c κs. search needs) mul-n slice-read-n add-next cast-byte-at byte-at-requires copy-in-requires mul-written slice-write-written
+    (λ c. search needs) (λ c. search needs) returns)

@@ -1,13 +1,10 @@
 use mathlib.Core.Path.{refl}
-use Rattle.tables.specs.TablesLaws.{cell-in, SmallPlace, small-place}
+use Rattle.tables.specs.laws.Tables.{cell-in, SmallPlace, small-place}
 use native.Mathlib.Omega.{arith}
 use Prim.Native.Nat.{zero, zero-le}
 use borrow.Author.Needs.{needs}
 use Rattle.tables.proofs.stores.cell_of.Statement.{statement}
 use Rattle.tables.proofs.stores.cell_of.Tie as tie
-
-add-result : tie.Need-add-result
-add-result c = search needs
 
 known : (c : tie.Start) → SmallPlace (c .args .g) (c .args .drive) (c .args .zone) zero
 known c = small-place _ _ _ _ (c .pre .0) (c .pre .1 .0) (c .pre .1 .1) zero-le
@@ -22,4 +19,4 @@ returns : tie.Need-returns
 returns c = (refl, cell-in (c .args .g) (c .args .drive) (c .args .zone) (c .pre .1 .0) (c .pre .1 .1))
 
 pub cell-of-spec : {M : Type 1} → statement M
-cell-of-spec = tie.close (tie.spec add-result mul-result add-result-2 returns)
+cell-of-spec = tie.close (tie.spec (λ c. search needs) mul-result add-result-2 returns)

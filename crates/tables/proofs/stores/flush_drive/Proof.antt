@@ -1,7 +1,7 @@
 use Rattle.tables.specs.declared.Geometry.{Geometry}
-use Rattle.tables.specs.Geometry.{physicalZones}
-use Rattle.tables.specs.Lists.{overlay}
-use Rattle.tables.specs.Tables.{cell, durableAfterFlush}
+use Rattle.tables.specs.meaning.Geometry.{physicalZones}
+use Rattle.tables.specs.meaning.Lists.{overlay}
+use Rattle.tables.specs.meaning.Tables.{cell, durableAfterFlush}
 use native.Mathlib.Omega.{arith}
 use mathlib.Core.Path.{_≡_, _∙_, refl}
 use Prim.Native.Nat.{ℕ, _+_, _-_}
@@ -10,33 +10,6 @@ use lib.ListN.{take, drop}
 use borrow.Author.Needs.{needs}
 use Rattle.tables.proofs.stores.flush_drive.Statement.{statement}
 use Rattle.tables.proofs.stores.flush_drive.Tie as tie
-
-row-of-requires : tie.Need-row-of-requires
-row-of-requires c κs = search needs
-
-add-end : tie.Need-add-end
-add-end c = omega arith
-
-add-end-2 : tie.Need-add-end-2
-add-end-2 c = omega arith
-
-mul-copy-pointers : tie.Need-mul-copy-pointers
-mul-copy-pointers c = omega arith
-
-sub-copy-pointers : tie.Need-sub-copy-pointers
-sub-copy-pointers c = search needs
-
-part-copy-pointers-start : tie.Need-part-copy-pointers-start
-part-copy-pointers-start c = search needs
-
-part-copy-pointers-end : tie.Need-part-copy-pointers-end
-part-copy-pointers-end c = search needs
-
-copy-pointers-requires : tie.Need-copy-pointers-requires
-copy-pointers-requires c κs = search needs
-
-same-length : tie.Need-same-length
-same-length c = search needs
 
 -- n pointers copied from `at` on are a flush, if they are those of all the drive's zones
 copied : (g : Geometry) (d : ℕ) (ws ds left : List ℕ) (at n : ℕ) → left ≡ overlay ds at (take n (drop at ws)) → at ≡ cell g d 0 → n ≡ physicalZones g → left ≡ durableAfterFlush g d ws ds
@@ -52,14 +25,5 @@ returns c =
 pub flush-drive-spec : {M : Type 1} → statement M
 flush-drive-spec =
     tie.close
-    (tie.spec
-    row-of-requires
-    add-end
-    add-end-2
-    mul-copy-pointers
-    sub-copy-pointers
-    part-copy-pointers-start
-    part-copy-pointers-end
-    copy-pointers-requires
-    same-length
-    returns)
+    (tie.spec (λ c κs. search needs) (λ c. omega arith) (λ c. omega arith) (λ c. omega arith) (λ c. search needs) (λ c. search needs)
+    (λ c. search needs) (λ c κs. search needs) (λ c. search needs) returns)

@@ -3,21 +3,9 @@ use borrow.Author.Needs.{needs}
 use Rattle.tables.proofs.stores.has_room.Statement.{statement}
 use Rattle.tables.proofs.stores.has_room.Tie as tie
 
-cell-of-requires : tie.Need-cell-of-requires
-cell-of-requires c κs = search needs
-
-mul-widen : tie.Need-mul-widen
-mul-widen c = search needs
-
-shared-slice-read-widen : tie.Need-shared-slice-read-widen
-shared-slice-read-widen c = search needs
-
-widen-requires : tie.Need-widen-requires
-widen-requires c κs = search needs
-
 returns : tie.Need-returns
 returns c = rw (c .widen .ensures, c .before .before .cell-of .ensures .0) refl
 
 pub has-room-spec : {M : Type 1} → statement M
 has-room-spec =
-    tie.close (tie.spec cell-of-requires mul-widen shared-slice-read-widen widen-requires returns)
+    tie.close (tie.spec (λ c κs. search needs) (λ c. search needs) (λ c. search needs) (λ c κs. search needs) returns)

@@ -8,14 +8,8 @@ use Rattle.tables.proofs.stores.left_after.Tie as tie
 returns : tie.Need-returns
 returns c = rw (not-true (c .before .args .here) (c .if1 .taken)) (sym (sub-zero _))
 
-returns-2 : tie.Need-returns-2
-returns-2 c = search needs
-
-sub-result : tie.Need-sub-result
-sub-result c = search needs
-
 returns-3 : tie.Need-returns-3
 returns-3 c = rw (not-false (c .before .before .args .here) (c .before .if1 .left)) refl
 
 pub left-after-spec : {M : Type 1} → statement M
-left-after-spec = tie.close (tie.spec returns returns-2 sub-result returns-3)
+left-after-spec = tie.close (tie.spec returns (λ c. search needs) (λ c. search needs) returns-3)

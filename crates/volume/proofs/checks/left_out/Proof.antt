@@ -3,31 +3,16 @@ use mathlib.Core.Path.{_≡_, _∙_, refl}
 use mathlib.Core.Bool.{not}
 use native.Mathlib.Omega.{arith}
 use native.Mathlib.Numerals.{add-one}
-use Rattle.tables.specs.Drives.{findBelow}
-use Rattle.volume.specs.OnTables.{among}
+use Rattle.tables.specs.meaning.Drives.{findBelow}
+use Rattle.volume.specs.meaning.CallContracts.{isSet}
 use Rattle.volume.proofs.checks.left_out.Statement.{statement}
 use Rattle.volume.proofs.checks.left_out.Tie as tie
 
 abbrev Inv-loop : tie.InvT-loop
-Inv-loop here n x₀ d₀ x d = (d ≤ n) × (x ≡ findBelow (λ (i : ℕ). not (among here i)) d)
+Inv-loop here n x₀ d₀ x d = (d ≤ n) × (x ≡ findBelow (λ (i : ℕ). not (isSet here i)) d)
 
 abbrev μ-loop : tie.MeasureT-loop
 μ-loop here n x₀ d₀ x d = n - d
-
-loop-holds : tie.Need-loop-holds Inv-loop μ-loop
-loop-holds c = (omega arith, refl)
-
-array-read-choose : tie.Need-array-read-choose Inv-loop μ-loop
-array-read-choose c = omega (arith, c .before .before .pre .drives-most)
-
-choose-requires : tie.Need-choose-requires Inv-loop μ-loop
-choose-requires c κs = tt
-
-add-d : tie.Need-add-d Inv-loop μ-loop
-add-d c = omega (arith, c .before .before .before .pre .drives-most)
-
-loop-less : tie.Need-loop-less Inv-loop μ-loop
-loop-less c = omega arith
 
 loop-again : tie.Need-loop-again Inv-loop μ-loop
 loop-again c =
@@ -40,13 +25,5 @@ returns c = let l = c .before .loop in let e : l .d ≡ c .before .before .args 
 pub left-out-spec : {M : Type 1} → statement M
 left-out-spec =
     tie.close
-    (tie.spec
-    Inv-loop
-    μ-loop
-    loop-holds
-    array-read-choose
-    choose-requires
-    add-d
-    loop-less
-    loop-again
-    returns)
+    (tie.spec Inv-loop μ-loop (λ c. (omega arith, refl)) (λ c. omega (arith, c .before .before .pre .drives-most)) (λ c κs. tt)
+    (λ c. omega (arith, c .before .before .before .pre .drives-most)) (λ c. omega arith) loop-again returns)

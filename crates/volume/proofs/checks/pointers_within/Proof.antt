@@ -4,9 +4,9 @@ use native.Mathlib.Omega.{arith}
 use native.Mathlib.Numerals.{add-one}
 use lib.ListN.{getD}
 use lib.Dec.{leb}
-use Rattle.tables.specs.Below.{allBelow}
-use Rattle.volume.specs.State.{pointerIn}
-use Rattle.volume.specs.OnTables.{blankRecord}
+use Rattle.tables.specs.meaning.Below.{allBelow}
+use Rattle.volume.specs.meaning.State.{pointerIn}
+use Rattle.volume.specs.meaning.CallContracts.{blankRecord}
 use Rattle.volume.proofs.checks.pointers_within.Statement.{statement}
 use Rattle.volume.proofs.checks.pointers_within.Tie as tie
 
@@ -16,26 +16,8 @@ Inv-loop most n zones ok₀ z₀ ok z = (z ≤ n) × (ok ≡ allBelow (λ (i : �
 abbrev μ-loop : tie.MeasureT-loop
 μ-loop most n zones ok₀ z₀ ok z = n - z
 
-zone-sectors-requires : tie.Need-zone-sectors-requires Inv-loop μ-loop
-zone-sectors-requires c κs = c .pre
-
-loop-holds : tie.Need-loop-holds Inv-loop μ-loop
-loop-holds c = (omega arith, refl)
-
-mul-r : tie.Need-mul-r Inv-loop μ-loop
-mul-r c = omega (arith, c .before .before .before .before .pre .zones-most)
-
-array-copy-out-r : tie.Need-array-copy-out-r Inv-loop μ-loop
-array-copy-out-r c = omega (arith, c .before .before .before .before .pre .zones-most)
-
-pointer-of-requires : tie.Need-pointer-of-requires Inv-loop μ-loop
-pointer-of-requires c κs = tt
-
 add-z : tie.Need-add-z Inv-loop μ-loop
 add-z c = omega (arith, c .before .before .before .before .before .before .pre .zones-most)
-
-loop-less : tie.Need-loop-less Inv-loop μ-loop
-loop-less c = omega arith
 
 loop-again : tie.Need-loop-again Inv-loop μ-loop
 loop-again c =
@@ -52,15 +34,5 @@ returns c =
 pub pointers-within-spec : {M : Type 1} → statement M
 pointers-within-spec =
     tie.close
-    (tie.spec
-    Inv-loop
-    μ-loop
-    zone-sectors-requires
-    loop-holds
-    mul-r
-    array-copy-out-r
-    pointer-of-requires
-    add-z
-    loop-less
-    loop-again
-    returns)
+    (tie.spec Inv-loop μ-loop (λ c κs. c .pre) (λ c. (omega arith, refl)) (λ c. omega (arith, c .before .before .before .before .pre .zones-most))
+    (λ c. omega (arith, c .before .before .before .before .pre .zones-most)) (λ c κs. tt) add-z (λ c. omega arith) loop-again returns)

@@ -1,4 +1,4 @@
-use Prim.Native.Nat.{ℕ, _+_, _-_, _≤_, _<_}
+use Prim.Native.Nat.{ℕ, _-_, _≤_, _<_}
 use mathlib.Core.Path.{_≡_, _∙_, refl}
 use mathlib.Core.Bool.{false, _&&_, not}
 use mathlib.Core.List.{_++_}
@@ -6,32 +6,17 @@ use native.Mathlib.Omega.{arith}
 use native.Mathlib.Numerals.{add-one}
 use lib.ListN.{length, getD, replicate, length-set}
 use lib.Dec.{eqb}
-use Rattle.tables.specs.Below.{tabulate}
-use Rattle.volume.specs.OnTables.{among}
-use Rattle.volume.specs.CheckLaws.{presentList, present-more}
+use Rattle.tables.specs.meaning.Below.{tabulate}
+use Rattle.volume.specs.meaning.CallContracts.{isSet}
+use Rattle.volume.specs.checks.CheckLaws.{presentList, present-more}
 use Rattle.volume.proofs.checks.present_drives.Statement.{statement}
 use Rattle.volume.proofs.checks.present_drives.Tie as tie
 
 abbrev Inv-loop : tie.InvT-loop
-Inv-loop lost named n here₀ d₀ here d = (d ≤ n) × (length here ≡ 8) × (here ≡ tabulate (λ (i : ℕ). among named i && not (eqb i lost)) d ++ replicate (8 - d) false)
+Inv-loop lost named n here₀ d₀ here d = (d ≤ n) × (length here ≡ 8) × (here ≡ tabulate (λ (i : ℕ). isSet named i && not (eqb i lost)) d ++ replicate (8 - d) false)
 
 abbrev μ-loop : tie.MeasureT-loop
 μ-loop lost named n here₀ d₀ here d = n - d
-
-loop-holds : tie.Need-loop-holds Inv-loop μ-loop
-loop-holds c = (omega arith, refl, refl)
-
-array-read-here : tie.Need-array-read-here Inv-loop μ-loop
-array-read-here c = omega (arith, c .before .before .pre .drives-most)
-
-array-write-here : tie.Need-array-write-here Inv-loop μ-loop
-array-write-here c = omega (arith, c .before .before .pre .drives-most)
-
-add-d : tie.Need-add-d Inv-loop μ-loop
-add-d c = omega (arith, c .before .before .pre .drives-most)
-
-loop-less : tie.Need-loop-less Inv-loop μ-loop
-loop-less c = omega arith
 
 loop-again : tie.Need-loop-again Inv-loop μ-loop
 loop-again c =
@@ -47,13 +32,6 @@ returns c = let l = c .before .loop in let e : l .d ≡ c .before .before .args 
 pub present-drives-spec : {M : Type 1} → statement M
 present-drives-spec =
     tie.close
-    (tie.spec
-    Inv-loop
-    μ-loop
-    loop-holds
-    array-read-here
-    array-write-here
-    add-d
-    loop-less
-    loop-again
+    (tie.spec Inv-loop μ-loop (λ c. (omega arith, refl, refl)) (λ c. omega (arith, c .before .before .pre .drives-most))
+    (λ c. omega (arith, c .before .before .pre .drives-most)) (λ c. omega (arith, c .before .before .pre .drives-most)) (λ c. omega arith) loop-again
     returns)

@@ -1,15 +1,12 @@
 use mathlib.Core.Path.{refl}
-use Rattle.volume.specs.Refusals.{stateWithin}
+use Rattle.volume.specs.meaning.Refusals.{stateWithin}
 use borrow.Author.Needs.{needs}
 use Rattle.volume.proofs.checks.state_within.Statement.{statement}
 use Rattle.volume.proofs.checks.state_within.Tie as tie
-
-pointers-within-requires : tie.Need-pointers-within-requires
-pointers-within-requires c κs = search needs
 
 returns : tie.Need-returns
 unfolding stateWithin
 returns c = rw (c .pointers-within .ensures) refl
 
 pub state-within-spec : {M : Type 1} → statement M
-state-within-spec = tie.close (tie.spec pointers-within-requires returns)
+state-within-spec = tie.close (tie.spec (λ c κs. search needs) returns)

@@ -1,8 +1,8 @@
 use mathlib.Core.Path.{ap, _∙_}
 use Prim.Native.Nat.{_-_}
 use denote.Ref.{now}
-use Rattle.logs.specs.Heads.{labelled}
-use Rattle.volume.specs.DriveLogs.{general-heads}
+use Rattle.logs.specs.meaning.Heads.{labelled}
+use Rattle.volume.specs.looking.DriveLogs.{general-heads}
 use borrow.Author.Needs.{needs}
 use Rattle.volume.proofs.drive_logs.begins_labelled.Statement.{statement}
 use Rattle.volume.proofs.drive_logs.begins_labelled.Tie as tie

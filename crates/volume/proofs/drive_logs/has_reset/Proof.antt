@@ -1,9 +1,9 @@
 use mathlib.Core.Path.{ap, _∙_}
 use Prim.Native.Nat.{_-_}
 use denote.Ref.{now}
-use Rattle.tables.specs.Lists.{anyOf}
-use Rattle.logs.specs.Heads.{isReset}
-use Rattle.volume.specs.DriveLogs.{general-heads}
+use Rattle.tables.specs.meaning.Lists.{anyOf}
+use Rattle.logs.specs.meaning.Heads.{isReset}
+use Rattle.volume.specs.looking.DriveLogs.{general-heads}
 use borrow.Author.Needs.{needs}
 use Rattle.volume.proofs.drive_logs.has_reset.Statement.{statement}
 use Rattle.volume.proofs.drive_logs.has_reset.Tie as tie

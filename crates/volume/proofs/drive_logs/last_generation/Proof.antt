@@ -1,8 +1,8 @@
 use mathlib.Core.Path.{ap, _∙_}
 use Prim.Native.Nat.{_-_}
 use denote.Ref.{now}
-use Rattle.logs.specs.Heads.{generationIn}
-use Rattle.volume.specs.DriveLogs.{general-heads}
+use Rattle.logs.specs.meaning.Heads.{generationIn}
+use Rattle.volume.specs.looking.DriveLogs.{general-heads}
 use borrow.Author.Needs.{needs}
 use Rattle.volume.proofs.drive_logs.last_generation.Statement.{statement}
 use Rattle.volume.proofs.drive_logs.last_generation.Tie as tie

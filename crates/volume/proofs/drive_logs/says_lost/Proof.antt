@@ -2,9 +2,9 @@ use mathlib.Core.Path.{refl, sym, ap, _∙_}
 use Prim.Native.Nat.{_-_}
 use denote.Ref.{now}
 use borrow.Author.Tests.{not-true, not-false}
-use Rattle.tables.specs.Drives.{noDrive}
-use Rattle.logs.specs.Heads.{lastLost}
-use Rattle.volume.specs.DriveLogs.{general-heads}
+use Rattle.tables.specs.meaning.Drives.{noDrive}
+use Rattle.logs.specs.meaning.Heads.{lastLost}
+use Rattle.volume.specs.looking.DriveLogs.{general-heads}
 use borrow.Author.Needs.{needs}
 use Rattle.volume.proofs.drive_logs.says_lost.Statement.{statement}
 use Rattle.volume.proofs.drive_logs.says_lost.Tie as tie

@@ -2,11 +2,11 @@ use mathlib.Core.Path.{ap, _∙_}
 use mathlib.Core.Bool.{true}
 use Prim.Native.Nat.{_-_}
 use denote.Ref.{now}
-use Rattle.logs.specs.Entry.{parityZone}
-use Rattle.logs.specs.Walk.{walkLog}
-use Rattle.logs.specs.WalkCode.{logSectors}
-use Rattle.volume.specs.Rules.{endingPast}
-use Rattle.volume.specs.DriveLogs.{pastSeen, parity-ending, torn-past, torn-small}
+use Rattle.logs.specs.meaning.Entry.{parityZone}
+use Rattle.logs.specs.meaning.Walk.{walkLog}
+use Rattle.logs.specs.code.WalkCode.{logSectors}
+use Rattle.volume.specs.meaning.Rules.{endingPast}
+use Rattle.volume.specs.looking.DriveLogs.{pastSeen, parity-ending, torn-past, torn-small}
 use borrow.Author.Needs.{needs}
 use Rattle.volume.proofs.drive_logs.torn_past.Statement.{statement}
 use Rattle.volume.proofs.drive_logs.torn_past.Tie as tie

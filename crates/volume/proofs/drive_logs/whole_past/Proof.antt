@@ -3,15 +3,16 @@ use mathlib.Core.Bool.{true, not}
 use Prim.Native.Nat.{ℕ, _-_}
 use lib.Dec.{eqb}
 use denote.Ref.{now}
-use Rattle.tables.specs.Lists.{anyOf}
-use Rattle.tables.specs.Geometry.{zoneSectors}
-use Rattle.logs.specs.Entry.{Entry, parityZone}
-use Rattle.logs.specs.Walk.{walkLog}
-use Rattle.logs.specs.WalkCode.{logSectors}
-use Rattle.logs.specs.Heads.{endsPast, endsWithin}
-use Rattle.volume.specs.DriveLogs.{parity-entries, place-past}
-use Rattle.logs.specs.Places.{lastPlace}
-use Rattle.logs.specs.Query.{headsOf}
+use Rattle.tables.specs.meaning.Lists.{anyOf}
+use Rattle.tables.specs.meaning.Geometry.{zoneSectors}
+use Rattle.logs.specs.meaning.Entry.{Entry, parityZone}
+use Rattle.logs.specs.meaning.Walk.{walkLog}
+use Rattle.logs.specs.code.WalkCode.{logSectors}
+use Rattle.logs.specs.meaning.Heads.{endsPast}
+use Rattle.logs.specs.laws.Heads.{endsWithin}
+use Rattle.volume.specs.looking.DriveLogs.{parity-entries, place-past}
+use Rattle.logs.specs.laws.Places.{lastPlace}
+use Rattle.logs.specs.code.Query.{headsOf}
 use borrow.Author.Needs.{needs}
 use Rattle.volume.proofs.drive_logs.whole_past.Statement.{statement}
 use Rattle.volume.proofs.drive_logs.whole_past.Tie as tie

@@ -4,7 +4,7 @@ use native.Mathlib.Omega.{arith}
 use native.Mathlib.Numerals.{add-one}
 use lib.ListN.{getD}
 use lib.Dec.{eqb}
-use Rattle.tables.specs.Below.{anyBelow}
+use Rattle.tables.specs.meaning.Below.{anyBelow}
 use Rattle.volume.proofs.drives_lost.is_said.Statement.{statement}
 use Rattle.volume.proofs.drives_lost.is_said.Tie as tie
 
@@ -14,37 +14,12 @@ Inv-loop d said n lost₀ e₀ lost e = (e ≤ n) × (lost ≡ anyBelow (λ (i :
 abbrev μ-loop : tie.MeasureT-loop
 μ-loop d said n lost₀ e₀ lost e = n - e
 
-loop-holds : tie.Need-loop-holds Inv-loop μ-loop
-loop-holds c = (omega arith, refl)
-
-mul-lost : tie.Need-mul-lost Inv-loop μ-loop
-mul-lost c = omega (arith, c .before .before .pre .drives-most)
-
-array-read-lost : tie.Need-array-read-lost Inv-loop μ-loop
-array-read-lost c = omega (arith, c .before .before .pre .drives-most)
-
-add-e : tie.Need-add-e Inv-loop μ-loop
-add-e c = omega (arith, c .before .before .pre .drives-most)
-
-loop-less : tie.Need-loop-less Inv-loop μ-loop
-loop-less c = omega arith
-
-loop-again : tie.Need-loop-again Inv-loop μ-loop
-loop-again c = let l = c .before .loop in (omega arith, rw (l .inv .1, add-one) refl)
-
 returns : tie.Need-returns Inv-loop μ-loop
 returns c = let l = c .before .loop in let e : l .e ≡ c .before .before .args .g .drives = omega arith in l .inv .1 ∙ rw e refl
 
 pub is-said-spec : {M : Type 1} → statement M
 is-said-spec =
     tie.close
-    (tie.spec
-    Inv-loop
-    μ-loop
-    loop-holds
-    mul-lost
-    array-read-lost
-    add-e
-    loop-less
-    loop-again
-    returns)
+    (tie.spec Inv-loop μ-loop (λ c. (omega arith, refl)) (λ c. omega (arith, c .before .before .pre .drives-most))
+    (λ c. omega (arith, c .before .before .pre .drives-most)) (λ c. omega (arith, c .before .before .pre .drives-most)) (λ c. omega arith)
+    (λ c. let l = c .before .loop in (omega arith, rw (l .inv .1, add-one) refl)) returns)

@@ -1,15 +1,15 @@
 use mathlib.Core.Path.{_≡_, refl, ap, _∙_}
 use mathlib.Core.Bool.{false}
 use mathlib.Core.List.{_++_}
-use Prim.Native.Nat.{_+_, _-_, _≤_, _<_}
+use Prim.Native.Nat.{_-_, _≤_, _<_}
 use native.Mathlib.Omega.{arith}
 use native.Mathlib.Numerals.{add-one}
 use lib.ListN.{length, replicate, length-set}
 use denote.Ref.{now}
-use Rattle.tables.specs.Below.{tabulate}
-use Rattle.volume.specs.OnTables.{among}
-use Rattle.volume.specs.DrivesLost.{fill-more, saidList, presentOf, look-present-is}
-use Rattle.volume.specs.Knowing.{readDevice}
+use Rattle.tables.specs.meaning.Below.{tabulate}
+use Rattle.volume.specs.meaning.CallContracts.{isSet}
+use Rattle.volume.specs.looking.DrivesLost.{fill-more, saidList, presentOf, look-present-is}
+use Rattle.volume.specs.looking.Knowing.{readDevice}
 use Rattle.volume.proofs.drives_lost.look_present.Statement.{statement}
 use Rattle.volume.proofs.drives_lost.look_present.Tie as tie
 
@@ -19,15 +19,6 @@ Inv-loop sectors written g named n said here₀ d₀ here d = (d ≤ n) × (leng
 abbrev μ-loop : tie.MeasureT-loop
 μ-loop sectors written g named n said here₀ d₀ here d = n - d
 
-said-lost-requires : tie.Need-said-lost-requires Inv-loop μ-loop
-said-lost-requires c κs = (c .before .before .pre .0, c .before .before .pre .1)
-
-loop-holds : tie.Need-loop-holds Inv-loop μ-loop
-loop-holds c = (omega arith, refl, refl)
-
-is-said-requires : tie.Need-is-said-requires Inv-loop μ-loop
-is-said-requires c κs = c .before .before .before .before .before .pre .0
-
 array-read-here : tie.Need-array-read-here Inv-loop μ-loop
 array-read-here c = omega (arith, c .before .before .before .before .before .before .pre .0 .drives-most)
 
@@ -36,9 +27,6 @@ array-write-here c = omega (arith, c .before .before .before .before .before .be
 
 add-d : tie.Need-add-d Inv-loop μ-loop
 add-d c = omega (arith, c .before .before .before .before .before .before .pre .0 .drives-most)
-
-loop-less : tie.Need-loop-less Inv-loop μ-loop
-loop-less c = omega arith
 
 loop-again : tie.Need-loop-again Inv-loop μ-loop
 loop-again c =
@@ -55,20 +43,10 @@ returns c =
     let l = c .before .loop in
     let e : l .d ≡ a .g .drives = omega arith in
     let q : l .here ≡ tabulate (presentOf (a .g) (a .t4) (saidList (a .g) (a .t4) (readDevice (a .g) (a .sectors .now) (a .written .now)))) (a .g .drives) ++ replicate (8 - a .g .drives) false = l .inv .2 ∙ rw (e, c .before .before .said-lost .ensures) refl in
-    ap among q ∙ look-present-is (a .g) (a .t4) (readDevice (a .g) (a .sectors .now) (a .written .now)) (s .pre .0)
+    ap isSet q ∙ look-present-is (a .g) (a .t4) (readDevice (a .g) (a .sectors .now) (a .written .now)) (s .pre .0)
 
 pub look-present-spec : {M : Type 1} → statement M
 look-present-spec =
     tie.close
-    (tie.spec
-    Inv-loop
-    μ-loop
-    said-lost-requires
-    loop-holds
-    is-said-requires
-    array-read-here
-    array-write-here
-    add-d
-    loop-less
-    loop-again
-    returns)
+    (tie.spec Inv-loop μ-loop (λ c κs. (c .before .before .pre .0, c .before .before .pre .1)) (λ c. (omega arith, refl, refl))
+    (λ c κs. c .before .before .before .before .before .pre .0) array-read-here array-write-here add-d (λ c. omega arith) loop-again returns)

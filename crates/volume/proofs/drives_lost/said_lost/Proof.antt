@@ -1,14 +1,14 @@
 use mathlib.Core.Path.{_≡_, refl, _∙_}
 use mathlib.Core.List.{_++_}
-use Prim.Native.Nat.{_+_, _-_, _≤_, _<_}
+use Prim.Native.Nat.{_-_, _≤_, _<_}
 use native.Mathlib.Omega.{arith}
 use native.Mathlib.Numerals.{add-one}
 use lib.ListN.{length, replicate, length-set}
 use denote.Ref.{now}
-use Rattle.tables.specs.Below.{tabulate}
-use Rattle.tables.specs.Drives.{noDrive}
-use Rattle.volume.specs.DrivesLost.{fill-more, saidBy, saidList}
-use Rattle.volume.specs.Knowing.{readDevice}
+use Rattle.tables.specs.meaning.Below.{tabulate}
+use Rattle.tables.specs.meaning.Drives.{noDrive}
+use Rattle.volume.specs.looking.DrivesLost.{fill-more, saidBy, saidList}
+use Rattle.volume.specs.looking.Knowing.{readDevice}
 use Rattle.volume.proofs.drives_lost.said_lost.Statement.{statement}
 use Rattle.volume.proofs.drives_lost.said_lost.Tie as tie
 
@@ -18,26 +18,8 @@ Inv-loop sectors written g named n said₀ d₀ said d = (d ≤ n) × (length sa
 abbrev μ-loop : tie.MeasureT-loop
 μ-loop sectors written g named n said₀ d₀ said d = n - d
 
-loop-holds : tie.Need-loop-holds Inv-loop μ-loop
-loop-holds c = (omega arith, refl, refl)
-
-array-read-said-by : tie.Need-array-read-said-by Inv-loop μ-loop
-array-read-said-by c = omega (arith, c .before .before .before .before .pre .0 .drives-most)
-
 said-by-requires : tie.Need-said-by-requires Inv-loop μ-loop
 said-by-requires c κs = let s = c .before .before .before .before in (s .pre .0, (s .pre .1, omega arith))
-
-mul-said : tie.Need-mul-said Inv-loop μ-loop
-mul-said c = omega (arith, c .before .before .before .before .before .pre .0 .drives-most)
-
-array-write-said : tie.Need-array-write-said Inv-loop μ-loop
-array-write-said c = omega (arith, c .before .before .before .before .before .pre .0 .drives-most)
-
-add-d : tie.Need-add-d Inv-loop μ-loop
-add-d c = omega (arith, c .before .before .before .before .before .pre .0 .drives-most)
-
-loop-less : tie.Need-loop-less Inv-loop μ-loop
-loop-less c = omega arith
 
 loop-again : tie.Need-loop-again Inv-loop μ-loop
 loop-again c =
@@ -54,15 +36,7 @@ returns c = let l = c .before .loop in let e : l .d ≡ c .before .before .befor
 pub said-lost-spec : {M : Type 1} → statement M
 said-lost-spec =
     tie.close
-    (tie.spec
-    Inv-loop
-    μ-loop
-    loop-holds
-    array-read-said-by
-    said-by-requires
-    mul-said
-    array-write-said
-    add-d
-    loop-less
-    loop-again
-    returns)
+    (tie.spec Inv-loop μ-loop (λ c. (omega arith, refl, refl)) (λ c. omega (arith, c .before .before .before .before .pre .0 .drives-most))
+    said-by-requires (λ c. omega (arith, c .before .before .before .before .before .pre .0 .drives-most))
+    (λ c. omega (arith, c .before .before .before .before .before .pre .0 .drives-most))
+    (λ c. omega (arith, c .before .before .before .before .before .pre .0 .drives-most)) (λ c. omega arith) loop-again returns)

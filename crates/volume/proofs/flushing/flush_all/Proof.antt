@@ -1,8 +1,9 @@
 use mathlib.Core.Path.{_∙_, refl, _≡_}
-use Rattle.volume.specs.OnTables.{pointers-nil, pointers-append, among}
-use Rattle.volume.specs.Flushing.{flush-more, flush-stores, flushTo}
-use Rattle.tables.specs.Tables.{storeIf, MadePointers}
-use Rattle.tables.specs.Device.{flush}
+use Rattle.volume.specs.laws.CallContracts.{pointers-nil, pointers-append}
+use Rattle.volume.specs.meaning.CallContracts.{isSet}
+use Rattle.volume.specs.storing.Flushing.{flush-more, flush-stores, flushTo}
+use Rattle.tables.specs.laws.Made.{storeIf, MadePointers}
+use Rattle.tables.specs.meaning.Device.{flush}
 use native.Mathlib.Numerals.{add-one}
 use Prim.Native.Nat.{_-_, _≤_}
 use native.Mathlib.Omega.{arith}
@@ -11,7 +12,7 @@ use Rattle.volume.proofs.flushing.flush_all.Statement.{statement}
 use Rattle.volume.proofs.flushing.flush_all.Tie as tie
 
 abbrev Inv-loop : tie.InvT-loop
-Inv-loop written durable₀ g budget here n rest₀ d₀ durable rest d = (d ≤ n) × (length durable ≡ length durable₀) × MadePointers g budget rest (flushTo (among here) d) written durable₀ written durable
+Inv-loop written durable₀ g budget here n rest₀ d₀ durable rest d = (d ≤ n) × (length durable ≡ length durable₀) × MadePointers g budget rest (flushTo (isSet here) d) written durable₀ written durable
 
 abbrev μ-loop : tie.MeasureT-loop
 μ-loop written durable₀ g budget here n rest₀ d₀ durable rest d = n - d
@@ -31,18 +32,16 @@ flush-counted-requires c κs =
 add-d : tie.Need-add-d Inv-loop μ-loop
 add-d c = omega (arith, c .before .before .before .before .before .before .before .before .pre .0 .drives-most)
 
-loop-less : tie.Need-loop-less Inv-loop μ-loop
-loop-less c = omega arith
-
 loop-again : tie.Need-loop-again Inv-loop μ-loop
 loop-again c =
-    let s = c .before .before .before .before .before .before .before .before in
+    let at-loop = c .before .before .before .before .before in
+    let s = at-loop .before .before .before in
     let a = s .args in
-    let l = c .before .before .before .before .before .loop in
+    let l = at-loop .loop in
     let f = c .before .before .flush-counted in (
       omega arith,
       f .kept .1 .0 ∙ l .inv .1,
-      rw (add-one, flush-more (among (a .t4)) (l .d)) (pointers-append (a .g) (a .budget) (l .rest) (f .result) (flushTo (among (a .t4)) (l .d)) (storeIf (among (a .t4) (l .d)) (flush (l .d))) (a .written .now) (a .durable .now) (a .written .now) (l .durable) (a .written .now) (f .last .1 .0) (l .inv .2) (f .ensures)),
+      rw (add-one, flush-more (isSet (a .t4)) (l .d)) (pointers-append (a .g) (a .budget) (l .rest) (f .result) (flushTo (isSet (a .t4)) (l .d)) (storeIf (isSet (a .t4) (l .d)) (flush (l .d))) (a .written .now) (a .durable .now) (a .written .now) (l .durable) (a .written .now) (f .last .1 .0) (l .inv .2) (f .ensures)),
     )
 
 same-length : tie.Need-same-length Inv-loop μ-loop
@@ -53,19 +52,9 @@ returns c =
     let s = c .before .before .before .before in
     let l = c .before .loop in
     let e : l .d ≡ s .args .g .drives = omega arith in
-    rw (flush-stores (s .args .g) (among (s .args .t4))) (rw e at (l .inv .2))
+    rw (flush-stores (s .args .g) (isSet (s .args .t4))) (rw e at (l .inv .2))
 
 pub flush-all-spec : {M : Type 1} → statement M
 flush-all-spec =
     tie.close
-    (tie.spec
-    Inv-loop
-    μ-loop
-    loop-holds
-    array-read-present
-    flush-counted-requires
-    add-d
-    loop-less
-    loop-again
-    same-length
-    returns)
+    (tie.spec Inv-loop μ-loop loop-holds array-read-present flush-counted-requires add-d (λ c. omega arith) loop-again same-length returns)

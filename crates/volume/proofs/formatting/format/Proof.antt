@@ -7,15 +7,17 @@ use native.Mathlib.Omega.{arith}
 use native.Mathlib.Numerals.{add-one}
 use lib.ListN.{length}
 use denote.Ref.{now}
-use Rattle.tables.specs.Device.{Store}
-use Rattle.tables.specs.Geometry.{Valid}
-use Rattle.tables.specs.Tables.{Tables, tablesOf, Made, lengthsFit}
-use Rattle.tables.specs.TablesFrame.{lengths-are}
+use Rattle.tables.specs.meaning.Device.{Store}
+use Rattle.tables.specs.meaning.Geometry.{Valid}
+use Rattle.tables.specs.meaning.Tables.{Tables, tablesOf, lengthsFit}
+use Rattle.tables.specs.laws.Made.{Made}
+use Rattle.tables.specs.laws.TablesFrame.{lengths-are}
 use Rattle.volume.specs.declared.State.{State}
-use Rattle.volume.specs.Calls.{formatStores}
-use Rattle.volume.specs.Answers.{leftOut, namedDrives}
-use Rattle.volume.specs.OnTables.{among, verdictNumber, storing-refused, storing-unfinished, storing-finished}
-use Rattle.volume.specs.Formatting.{formatOn, formatVerdict, freshState, format-refusal, format-accepted, named-is, left-out-named, find-small}
+use Rattle.volume.specs.meaning.Calls.{formatStores}
+use Rattle.volume.specs.meaning.Answers.{leftOut, namedDrives}
+use Rattle.volume.specs.meaning.CallContracts.{isSet, verdictNumber, formatOn, formatVerdict, freshState}
+use Rattle.volume.specs.laws.CallContracts.{storing-refused, storing-unfinished, storing-finished}
+use Rattle.volume.specs.storing.Formatting.{format-refusal, format-accepted, named-is, left-out-named, find-small}
 use borrow.Author.Needs.{needs}
 use Rattle.volume.proofs.formatting.format.Statement.{statement}
 use Rattle.volume.proofs.formatting.format.Tie as tie
@@ -28,19 +30,10 @@ abbrev refusal : tie.Start → ℕ
 refusal s = verdictNumber (formatVerdict (s .args .g) (s .args .named) (given s))
 
 abbrev stores : tie.Start → List Store
-stores s = formatStores (s .args .g) (namedDrives (s .args .g) (among (s .args .named))) (leftOut (s .args .g) (among (s .args .named))) (s .args .array)
+stores s = formatStores (s .args .g) (namedDrives (s .args .g) (isSet (s .args .named))) (leftOut (s .args .g) (isSet (s .args .named))) (s .args .array)
 
 abbrev next : tie.Start → State
-next s = freshState (leftOut (s .args .g) (among (s .args .named)))
-
-format-refusal-requires : tie.Need-format-refusal-requires
-format-refusal-requires c κs = search needs
-
-same-length : tie.Need-same-length
-same-length c = search needs
-
-same-length-2 : tie.Need-same-length-2
-same-length-2 c = search needs
+next s = freshState (leftOut (s .args .g) (isSet (s .args .named)))
 
 number : (c : tie.After-format-refusal) → c .format-refusal .result ≡ refusal (c .before .before .before .before .before .before)
 number c = let a = c .before .before .before .before .before .before .args in c .format-refusal .ensures ∙ format-refusal (a .g) (a .named) (now (a .sectors)) (now (a .written)) (now (a .durable))
@@ -67,32 +60,22 @@ present-drives-requires c κs = accepted c .0
 left-out-requires : tie.Need-left-out-requires
 left-out-requires c κs = accepted (c .before) .0
 
-add-budget : tie.Need-add-budget
-add-budget c = search needs
-
 format-stores-requires : tie.Need-format-stores-requires
 format-stores-requires c κs =
     let a = c .before .before .before .before .before .before .before .before .before .before .before .before .args in
     let (v, f) = accepted (c .before .before .before .before .before) in
     let l = lengths-are (a .g) (length (now (a .sectors))) (length (now (a .written))) (length (now (a .durable))) f in
-    let x = find-small (λ d. not (among (a .named) d)) (a .g .drives) (omega (arith, v .drives-most)) in
+    let x = find-small (λ d. not (isSet (a .named) d)) (a .g .drives) (omega (arith, v .drives-most)) in
     (v, (rw (c .before .before .before .left-out .ensures) x, l .0, l .1, l .2))
-
-same-length-3 : tie.Need-same-length-3
-same-length-3 c = search needs
-
-same-length-4 : tie.Need-same-length-4
-same-length-4 c = search needs
-
-same-length-5 : tie.Need-same-length-5
-same-length-5 c = search needs
 
 -- what was made, as the call's stores
 abbrev left : tie.After-format-stores → Tables
 left c = tablesOf (c .format-stores .last .0) (c .format-stores .last .1 .0) (c .format-stores .last .1 .1 .0)
 
-lost-is : (c : tie.After-left-out) → c .left-out .result ≡ leftOut (c .before .before .before .before .before .before .before .before .before .args .g) (among (c .before .before .before .before .before .before .before .before .before .args .named))
-lost-is c = c .left-out .ensures ∙ left-out-named (c .before .before .before .before .before .before .before .before .before .args .g) (c .before .before .before .before .before .before .before .before .before .args .named)
+lost-is : (c : tie.After-left-out) → c .left-out .result ≡ leftOut (c .before .before .before .before .before .before .before .before .before .args .g) (isSet (c .before .before .before .before .before .before .before .before .before .args .named))
+lost-is c =
+    let s = c .before .before .before .before .before .before .before .before .before in
+    c .left-out .ensures ∙ left-out-named (s .args .g) (s .args .named)
 
 made : (c : tie.After-format-stores) → Made (c .before .before .before .before .before .before .before .before .before .before .before .before .before .args .g) (suc (c .before .before .before .before .before .before .before .before .before .before .before .before .before .args .count)) (c .format-stores .result) (stores (c .before .before .before .before .before .before .before .before .before .before .before .before .before)) (given (c .before .before .before .before .before .before .before .before .before .before .before .before .before)) (left c)
 made c =
@@ -102,51 +85,31 @@ made c =
 returns-2 : tie.Need-returns-2
 unfolding formatOn
 returns-2 c =
-    let s = c .before .before .before .before .before .before .before .before .before .before .before .before .before .before .before .before .before .before .before .before in
+    let at-format-stores = c .before .before .before .before .before .before .before in
+    let at-start = at-format-stores .before .before .before .before .before .before in
+    let at-start-2 = at-start .before in
+    let s = at-start-2 .before .before .before .before .before .before in
     let a = s .args in
-    let e = sym (number (c .before .before .before .before .before .before .before .before .before .before .before .before .before .before)) ∙ passed (c .before .before .before .before .before .before .before .before .before .before .before .before .before) in
-    let (p, q) = storing-unfinished (a .g) (refusal s) (stores s) (next s) (a .old) (a .count) (given s) (c .before .before .before .before .before .before .before .format-stores .result) (left (c .before .before .before .before .before .before .before)) e (made (c .before .before .before .before .before .before .before)) (c .if2 .taken) in
+    let e = sym (number (at-start-2)) ∙ passed (at-start) in
+    let (p, q) = storing-unfinished (a .g) (refusal s) (stores s) (next s) (a .old) (a .count) (given s) (at-format-stores .format-stores .result) (left (at-format-stores)) e (made (at-format-stores)) (c .if2 .taken) in
     (sym p, sym q)
-
-fresh-state-requires : tie.Need-fresh-state-requires
-fresh-state-requires c κs = search needs
-
-same-length-6 : tie.Need-same-length-6
-same-length-6 c = search needs
-
-same-length-7 : tie.Need-same-length-7
-same-length-7 c = search needs
-
-same-length-8 : tie.Need-same-length-8
-same-length-8 c = search needs
 
 returns-3 : tie.Need-returns-3
 unfolding formatOn
 returns-3 c =
-    let s = c .before .before .before .before .before .before .before .before .before .before .before .before .before .before .before .before .before .before .before .before .before in
+    let at-format-stores = c .before .before .before .before .before .before .before .before in
+    let at-start = at-format-stores .before .before .before .before in
+    let at-start-2 = at-start .before .before in
+    let at-start-3 = at-start-2 .before in
+    let s = at-start-3 .before .before .before .before .before .before in
     let a = s .args in
-    let e = sym (number (c .before .before .before .before .before .before .before .before .before .before .before .before .before .before .before)) ∙ passed (c .before .before .before .before .before .before .before .before .before .before .before .before .before .before) in
-    let (p, q) = storing-finished (a .g) (refusal s) (stores s) (next s) (a .old) (a .count) (given s) (c .before .before .before .before .before .before .before .before .format-stores .result) (left (c .before .before .before .before .before .before .before .before)) e (made (c .before .before .before .before .before .before .before .before)) (c .before .if2 .left) in
-    (rw (c .fresh-state .ensures, lost-is (c .before .before .before .before .before .before .before .before .before .before .before .before)) (sym p), sym q)
+    let e = sym (number (at-start-3)) ∙ passed (at-start-2) in
+    let (p, q) = storing-finished (a .g) (refusal s) (stores s) (next s) (a .old) (a .count) (given s) (at-format-stores .format-stores .result) (left (at-format-stores)) e (made (at-format-stores)) (c .before .if2 .left) in
+    (rw (c .fresh-state .ensures, lost-is (at-start)) (sym p), sym q)
 
 pub format-spec : {M : Type 1} → statement M
 format-spec =
     tie.close
-    (tie.spec
-    format-refusal-requires
-    same-length
-    same-length-2
-    returns
-    present-drives-requires
-    left-out-requires
-    add-budget
-    format-stores-requires
-    same-length-3
-    same-length-4
-    same-length-5
-    returns-2
-    fresh-state-requires
-    same-length-6
-    same-length-7
-    same-length-8
-    returns-3)
+    (tie.spec (λ c κs. search needs) (λ c. search needs) (λ c. search needs) returns present-drives-requires left-out-requires (λ c. search needs)
+    format-stores-requires (λ c. search needs) (λ c. search needs) (λ c. search needs) returns-2 (λ c κs. search needs) (λ c. search needs)
+    (λ c. search needs) (λ c. search needs) returns-3)

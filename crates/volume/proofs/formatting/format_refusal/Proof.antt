@@ -5,10 +5,11 @@ use native.Mathlib.Omega.{arith}
 use lib.ListN.{length}
 use denote.Ref.{now}
 use borrow.Author.Tests.{not-true, not-false}
-use Rattle.tables.specs.GeometryTest.{isValid, valid-if-test}
-use Rattle.tables.specs.Tables.{lengthsFit, pointersBad}
-use Rattle.tables.specs.TablesFrame.{lengths-are}
-use Rattle.volume.specs.Formatting.{format-1, format-2, format-3, format-4, format-0}
+use Rattle.tables.specs.meaning.GeometryTest.{isValid}
+use Rattle.tables.specs.laws.GeometryTest.{valid-if-test}
+use Rattle.tables.specs.meaning.Tables.{lengthsFit, pointersBad}
+use Rattle.tables.specs.laws.TablesFrame.{lengths-are}
+use Rattle.volume.specs.storing.Formatting.{format-1, format-2, format-3, format-4, format-0}
 use borrow.Author.Needs.{needs}
 use Rattle.volume.proofs.formatting.format_refusal.Statement.{statement}
 use Rattle.volume.proofs.formatting.format_refusal.Tie as tie
@@ -22,9 +23,6 @@ fits c = sym (c .before .lengths-fit .ensures) ∙ not-false (c .before .lengths
 
 good : (c : tie.Else3) → pointersBad (c .before .before .before .before .before .before .before .before .args .g) (c .before .before .before .before .before .before .before .before .args .named) (now (c .before .before .before .before .before .before .before .before .args .written)) (now (c .before .before .before .before .before .before .before .before .args .durable)) ≡ false
 good c = sym (c .before .pointers-bad .ensures) ∙ c .if3 .left
-
-valid-requires : tie.Need-valid-requires
-valid-requires c κs = search needs
 
 returns : tie.Need-returns
 returns c =
@@ -67,13 +65,4 @@ returns-5 c =
 pub format-refusal-spec : {M : Type 1} → statement M
 format-refusal-spec =
     tie.close
-    (tie.spec
-    valid-requires
-    returns
-    lengths-fit-requires
-    returns-2
-    pointers-bad-requires
-    returns-3
-    count-absent-requires
-    returns-4
-    returns-5)
+    (tie.spec (λ c κs. search needs) returns lengths-fit-requires returns-2 pointers-bad-requires returns-3 count-absent-requires returns-4 returns-5)

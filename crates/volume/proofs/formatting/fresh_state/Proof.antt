@@ -1,5 +1,5 @@
 use mathlib.Core.Path.{refl}
-use Rattle.volume.specs.Formatting.{freshState}
+use Rattle.volume.specs.meaning.CallContracts.{freshState}
 use Rattle.volume.proofs.formatting.fresh_state.Statement.{statement}
 use Rattle.volume.proofs.formatting.fresh_state.Tie as tie
 

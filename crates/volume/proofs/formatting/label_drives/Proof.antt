@@ -4,16 +4,17 @@ use native.Mathlib.Omega.{arith}
 use native.Mathlib.Numerals.{add-one}
 use lib.ListN.{length}
 use denote.Ref.{now}
-use Rattle.tables.specs.Below.{eachBelow}
-use Rattle.tables.specs.Phases.{onPresent}
-use Rattle.tables.specs.Tables.{MadeAppends}
-use Rattle.volume.specs.OnTables.{among, appends-nil, appends-append}
-use Rattle.volume.specs.Formatting.{driveEntries, entriesIf, entries-more}
+use Rattle.tables.specs.meaning.Below.{eachBelow}
+use Rattle.tables.specs.meaning.Phases.{onPresent}
+use Rattle.tables.specs.laws.Made.{MadeAppends}
+use Rattle.volume.specs.meaning.CallContracts.{isSet}
+use Rattle.volume.specs.laws.CallContracts.{appends-nil, appends-append}
+use Rattle.volume.specs.storing.Formatting.{driveEntries, entriesIf, entries-more}
 use Rattle.volume.proofs.formatting.label_drives.Statement.{statement}
 use Rattle.volume.proofs.formatting.label_drives.Tie as tie
 
 abbrev Inv-loop : tie.InvT-loop
-Inv-loop sectors₀ written₀ g lost array budget here n rest₀ d₀ sectors written rest d = (d ≤ n) × (length sectors ≡ length sectors₀) × (length written ≡ length written₀) × MadeAppends g budget rest (onPresent (among here) (eachBelow (driveEntries g lost array) d)) sectors₀ written₀ sectors written
+Inv-loop sectors₀ written₀ g lost array budget here n rest₀ d₀ sectors written rest d = (d ≤ n) × (length sectors ≡ length sectors₀) × (length written ≡ length written₀) × MadeAppends g budget rest (onPresent (isSet here) (eachBelow (driveEntries g lost array) d)) sectors₀ written₀ sectors written
 
 abbrev μ-loop : tie.MeasureT-loop
 μ-loop sectors₀ written₀ g lost array budget here n rest₀ d₀ sectors written rest d = n - d
@@ -33,15 +34,12 @@ label-drive-requires c κs =
 add-d : tie.Need-add-d Inv-loop μ-loop
 add-d c = let s = c .before .before .before .before .before .before .before .before .before .before .before in omega (arith, s .pre .0 .drives-most)
 
-loop-less : tie.Need-loop-less Inv-loop μ-loop
-loop-less c = omega arith
-
 loop-again : tie.Need-loop-again Inv-loop μ-loop
 loop-again c =
     let a = c .before .before .before .before .before .before .before .before .before .before .before .args in
     let l = c .before .before .before .before .before .before .before .before .loop in
     let f = c .before .before .before .before .label-drive in
-    let p = among (a .t4) in (
+    let p = isSet (a .t4) in (
       omega arith,
       f .kept .0 ∙ l .inv .1,
       f .kept .1 .0 ∙ l .inv .2,
@@ -64,15 +62,5 @@ returns c =
 pub label-drives-spec : {M : Type 1} → statement M
 label-drives-spec =
     tie.close
-    (tie.spec
-    Inv-loop
-    μ-loop
-    loop-holds
-    array-read-present
-    label-drive-requires
-    add-d
-    loop-less
-    loop-again
-    same-length
-    same-length-2
+    (tie.spec Inv-loop μ-loop loop-holds array-read-present label-drive-requires add-d (λ c. omega arith) loop-again same-length same-length-2
     returns)

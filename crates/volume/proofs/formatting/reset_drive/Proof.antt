@@ -3,11 +3,11 @@ use mathlib.Core.Path.{_≡_, refl, _∙_}
 use native.Mathlib.Omega.{arith}
 use lib.ListN.{length}
 use denote.Ref.{now}
-use Rattle.tables.specs.Device.{reset}
-use Rattle.tables.specs.Geometry.{physicalZones}
-use Rattle.tables.specs.Tables.{storeIf, MadePointers}
-use Rattle.volume.specs.OnTables.{pointers-nil, pointers-append}
-use Rattle.volume.specs.Formatting.{resetsIf}
+use Rattle.tables.specs.meaning.Device.{reset}
+use Rattle.tables.specs.meaning.Geometry.{physicalZones}
+use Rattle.tables.specs.laws.Made.{storeIf, MadePointers}
+use Rattle.volume.specs.laws.CallContracts.{pointers-nil, pointers-append}
+use Rattle.volume.specs.storing.Formatting.{resetsIf}
 use Rattle.volume.proofs.formatting.reset_drive.Statement.{statement}
 use Rattle.volume.proofs.formatting.reset_drive.Tie as tie
 
@@ -31,9 +31,6 @@ reset-counted-requires c κs =
 
 add-y : tie.Need-add-y Inv-loop μ-loop
 add-y c = let s = c .before .before .before .before .before .before .before .before .before .before .before .before in omega (arith, s .pre .0 .zones-most)
-
-loop-less : tie.Need-loop-less Inv-loop μ-loop
-loop-less c = omega arith
 
 loop-again : tie.Need-loop-again Inv-loop μ-loop
 loop-again c =
@@ -64,15 +61,4 @@ returns c =
 pub reset-drive-spec : {M : Type 1} → statement M
 reset-drive-spec =
     tie.close
-    (tie.spec
-    Inv-loop
-    μ-loop
-    add-n
-    loop-holds
-    reset-counted-requires
-    add-y
-    loop-less
-    loop-again
-    same-length
-    same-length-2
-    returns)
+    (tie.spec Inv-loop μ-loop add-n loop-holds reset-counted-requires add-y (λ c. omega arith) loop-again same-length same-length-2 returns)

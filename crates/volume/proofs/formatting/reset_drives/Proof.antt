@@ -4,17 +4,18 @@ use native.Mathlib.Omega.{arith}
 use native.Mathlib.Numerals.{add-one}
 use lib.ListN.{length}
 use denote.Ref.{now}
-use Rattle.tables.specs.Below.{eachBelow}
-use Rattle.tables.specs.Geometry.{physicalZones}
-use Rattle.tables.specs.Phases.{onPresent}
-use Rattle.tables.specs.Tables.{MadePointers}
-use Rattle.volume.specs.OnTables.{among, pointers-nil, pointers-append}
-use Rattle.volume.specs.Formatting.{driveResets, resetsIf, resets-more}
+use Rattle.tables.specs.meaning.Below.{eachBelow}
+use Rattle.tables.specs.meaning.Geometry.{physicalZones}
+use Rattle.tables.specs.meaning.Phases.{onPresent}
+use Rattle.tables.specs.laws.Made.{MadePointers}
+use Rattle.volume.specs.meaning.CallContracts.{isSet}
+use Rattle.volume.specs.laws.CallContracts.{pointers-nil, pointers-append}
+use Rattle.volume.specs.storing.Formatting.{driveResets, resetsIf, resets-more}
 use Rattle.volume.proofs.formatting.reset_drives.Statement.{statement}
 use Rattle.volume.proofs.formatting.reset_drives.Tie as tie
 
 abbrev Inv-loop : tie.InvT-loop
-Inv-loop written₀ durable₀ g budget here n rest₀ d₀ written durable rest d = (d ≤ n) × (length written ≡ length written₀) × (length durable ≡ length durable₀) × MadePointers g budget rest (onPresent (among here) (eachBelow (driveResets g) d)) written₀ durable₀ written durable
+Inv-loop written₀ durable₀ g budget here n rest₀ d₀ written durable rest d = (d ≤ n) × (length written ≡ length written₀) × (length durable ≡ length durable₀) × MadePointers g budget rest (onPresent (isSet here) (eachBelow (driveResets g) d)) written₀ durable₀ written durable
 
 abbrev μ-loop : tie.MeasureT-loop
 μ-loop written₀ durable₀ g budget here n rest₀ d₀ written durable rest d = n - d
@@ -34,15 +35,12 @@ reset-drive-requires c κs =
 add-d : tie.Need-add-d Inv-loop μ-loop
 add-d c = let s = c .before .before .before .before .before .before .before .before .before .before .before in omega (arith, s .pre .0 .drives-most)
 
-loop-less : tie.Need-loop-less Inv-loop μ-loop
-loop-less c = omega arith
-
 loop-again : tie.Need-loop-again Inv-loop μ-loop
 loop-again c =
     let a = c .before .before .before .before .before .before .before .before .before .before .before .args in
     let l = c .before .before .before .before .before .before .before .before .loop in
     let f = c .before .before .before .before .reset-drive in
-    let p = among (a .t4) in (
+    let p = isSet (a .t4) in (
       omega arith,
       f .kept .0 ∙ l .inv .1,
       f .kept .1 .0 ∙ l .inv .2,
@@ -65,15 +63,5 @@ returns c =
 pub reset-drives-spec : {M : Type 1} → statement M
 reset-drives-spec =
     tie.close
-    (tie.spec
-    Inv-loop
-    μ-loop
-    loop-holds
-    array-read-present
-    reset-drive-requires
-    add-d
-    loop-less
-    loop-again
-    same-length
-    same-length-2
+    (tie.spec Inv-loop μ-loop loop-holds array-read-present reset-drive-requires add-d (λ c. omega arith) loop-again same-length same-length-2
     returns)

@@ -3,8 +3,8 @@ use mathlib.Core.Bool.{Bool, _&&_}
 use Prim.Native.Nat.{_-_, _≤_}
 use native.Mathlib.Omega.{arith}
 use native.Mathlib.Numerals.{add-one}
-use Rattle.tables.specs.Sizes.{zone-small}
-use Rattle.volume.specs.Knowing.{allHeld}
+use Rattle.tables.specs.laws.Sizes.{zone-small}
+use Rattle.volume.specs.looking.Knowing.{allHeld}
 use Rattle.volume.proofs.knowing.all_held.Statement.{statement}
 use Rattle.volume.proofs.knowing.all_held.Tie as tie
 
@@ -26,9 +26,6 @@ own-held-requires c κs = let s = c .before .before .before in (s .pre .0, (s .p
 add-i : tie.Need-add-i Inv-loop μ-loop
 add-i c = let s = c .before .before .before .before in omega (arith, s .pre .1 .2, zone-small (s .args .g) (s .pre .0) .1)
 
-loop-less : tie.Need-loop-less Inv-loop μ-loop
-loop-less c = omega arith
-
 loop-again : tie.Need-loop-again Inv-loop μ-loop
 loop-again c =
     let l = c .before .before .loop in
@@ -43,13 +40,4 @@ returns c =
 pub all-held-spec : {M : Type 1} → statement M
 all-held-spec =
     tie.close
-    (tie.spec
-    Inv-loop
-    μ-loop
-    loop-holds
-    add-own-held
-    own-held-requires
-    add-i
-    loop-less
-    loop-again
-    returns)
+    (tie.spec Inv-loop μ-loop loop-holds add-own-held own-held-requires add-i (λ c. omega arith) loop-again returns)

@@ -4,12 +4,12 @@ use mathlib.Core.List.{List, []}
 use Prim.Native.Nat.{ℕ, _-_}
 use native.Mathlib.Omega.{arith}
 use denote.Ref.{now}
-use Rattle.tables.specs.Below.{getD-tabulate}
-use Rattle.tables.specs.Tables.{sectorAt}
+use Rattle.tables.specs.laws.Below.{getD-tabulate}
+use Rattle.tables.specs.meaning.Tables.{sectorAt}
 use Rattle.logs.specs.declared.Found.{Found}
-use Rattle.logs.specs.Entry.{parityZone, decode}
-use Rattle.logs.specs.Judge.{found}
-use Rattle.volume.specs.Knowing.{endSeen, entryEnd}
+use Rattle.logs.specs.meaning.Entry.{parityZone, decode}
+use Rattle.logs.specs.code.Judge.{found}
+use Rattle.volume.specs.looking.Knowing.{endSeen, entryEnd}
 use borrow.Author.Needs.{needs}
 use Rattle.volume.proofs.knowing.entry_end.Statement.{statement}
 use Rattle.volume.proofs.knowing.entry_end.Tie as tie

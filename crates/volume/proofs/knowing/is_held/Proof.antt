@@ -4,44 +4,20 @@ use Prim.Native.Nat.{ℕ, _+_}
 use lib.ListN.{getD}
 use lib.Dec.{ltb}
 use denote.Ref.{now}
-use Rattle.tables.specs.Tables.{cell}
-use Rattle.volume.specs.OnTables.{among}
+use Rattle.tables.specs.meaning.Tables.{cell}
+use Rattle.volume.specs.meaning.CallContracts.{isSet}
 use borrow.Author.Needs.{needs}
 use Rattle.volume.proofs.knowing.is_held.Statement.{statement}
 use Rattle.volume.proofs.knowing.is_held.Tie as tie
-
-array-read-present : tie.Need-array-read-present
-array-read-present c = search needs
-
-add-cell-of : tie.Need-add-cell-of
-add-cell-of c = search needs
-
-cell-of-requires : tie.Need-cell-of-requires
-cell-of-requires c κs = search needs
-
-mul-widen : tie.Need-mul-widen
-mul-widen c = search needs
-
-shared-slice-read-widen : tie.Need-shared-slice-read-widen
-shared-slice-read-widen c = search needs
-
-widen-requires : tie.Need-widen-requires
-widen-requires c κs = search needs
+use Rattle.tables.specs.meaning.Geometry.{dataZone}
 
 returns : tie.Need-returns
 returns c =
     let a = c .before .before .before .before .args in
-    let e : c .widen .result ≡ getD (now (a .written)) (cell (a .g) (a .d) (3 + a .z)) 0 = c .widen .ensures ∙ rw (c .before .before .cell-of .ensures .0) refl in
-    ap (λ (n : ℕ). among (a .t3) (a .d) && ltb (a .x) n) e
+    let e : c .widen .result ≡ getD (now (a .written)) (cell (a .g) (a .d) (dataZone (a .z))) 0 = c .widen .ensures ∙ rw (c .before .before .cell-of .ensures .0) refl in
+    ap (λ (n : ℕ). isSet (a .t3) (a .d) && ltb (a .x) n) e
 
 pub is-held-spec : {M : Type 1} → statement M
 is-held-spec =
     tie.close
-    (tie.spec
-    array-read-present
-    add-cell-of
-    cell-of-requires
-    mul-widen
-    shared-slice-read-widen
-    widen-requires
-    returns)
+    (tie.spec (λ c. search needs) (λ c. search needs) (λ c κs. search needs) (λ c. search needs) (λ c. search needs) (λ c κs. search needs) returns)

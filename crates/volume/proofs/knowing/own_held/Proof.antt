@@ -1,7 +1,7 @@
 use mathlib.Core.Path.{ap₂, _∙_}
 use Prim.Native.Nat.{ℕ}
 use denote.Ref.{now}
-use Rattle.volume.specs.Knowing.{heldOn}
+use Rattle.volume.specs.looking.Knowing.{heldOn}
 use borrow.Author.Needs.{needs}
 use Rattle.volume.proofs.knowing.own_held.Statement.{statement}
 use Rattle.volume.proofs.knowing.own_held.Tie as tie

@@ -1,6 +1,6 @@
 use native.Mathlib.Omega.{arith}
-use Rattle.tables.specs.Sizes.{striped}
-use Rattle.tables.specs.Placement.{stripeOf, stripeLength}
+use Rattle.tables.specs.laws.Sizes.{striped}
+use Rattle.tables.specs.meaning.Placement.{stripeOf, stripeLength}
 use borrow.Author.Needs.{needs}
 use Rattle.volume.proofs.knowing.parity_of.Statement.{statement}
 use Rattle.volume.proofs.knowing.parity_of.Tie as tie

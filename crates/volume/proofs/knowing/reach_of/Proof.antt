@@ -2,7 +2,7 @@ use mathlib.Core.Path.{_≡_, _∙_, refl}
 use Prim.Native.Nat.{_-_, _≤_}
 use native.Mathlib.Omega.{arith}
 use native.Mathlib.Numerals.{add-one}
-use Rattle.volume.specs.Knowing.{reachBelow, reachOf}
+use Rattle.volume.specs.looking.Knowing.{reachBelow, reachOf}
 use Rattle.volume.proofs.knowing.reach_of.Statement.{statement}
 use Rattle.volume.proofs.knowing.reach_of.Tie as tie
 
@@ -27,9 +27,6 @@ reach-past-requires c κs = let s = c .before .before .before .before .before in
 add-k : tie.Need-add-k Inv-loop μ-loop
 add-k c = omega (arith, c .before .before .before .before .before .before .pre .0 .drives-most)
 
-loop-less : tie.Need-loop-less Inv-loop μ-loop
-loop-less c = omega arith
-
 loop-again : tie.Need-loop-again Inv-loop μ-loop
 loop-again c =
     let l = c .before .before .loop in
@@ -45,14 +42,4 @@ returns c =
 pub reach-of-spec : {M : Type 1} → statement M
 reach-of-spec =
     tie.close
-    (tie.spec
-    Inv-loop
-    μ-loop
-    sub-n
-    stripe-end-requires
-    loop-holds
-    reach-past-requires
-    add-k
-    loop-less
-    loop-again
-    returns)
+    (tie.spec Inv-loop μ-loop sub-n stripe-end-requires loop-holds reach-past-requires add-k (λ c. omega arith) loop-again returns)

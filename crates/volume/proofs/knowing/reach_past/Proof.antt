@@ -3,28 +3,13 @@ use mathlib.Core.Bool.{Bool, _||_}
 use Prim.Native.Nat.{ℕ, min}
 use lib.Dec.{eqb}
 use denote.Ref.{now}
-use Rattle.tables.specs.Basics.{pick}
-use Rattle.tables.specs.Placement.{unitDrive}
-use Rattle.volume.specs.Rules.{rowAddress}
-use Rattle.volume.specs.Knowing.{heldOn, rowHeld}
+use Rattle.tables.specs.meaning.Basics.{pick}
+use Rattle.tables.specs.meaning.Placement.{unitDrive}
+use Rattle.volume.specs.meaning.Rules.{rowAddress}
+use Rattle.volume.specs.looking.Knowing.{heldOn, rowHeld}
 use borrow.Author.Needs.{needs}
 use Rattle.volume.proofs.knowing.reach_past.Statement.{statement}
 use Rattle.volume.proofs.knowing.reach_past.Tie as tie
-
-unit-index-requires : tie.Need-unit-index-requires
-unit-index-requires c κs = search needs
-
-parity-of-requires : tie.Need-parity-of-requires
-parity-of-requires c κs = search needs
-
-unit-drive-requires : tie.Need-unit-drive-requires
-unit-drive-requires c κs = search needs
-
-sector-of-requires : tie.Need-sector-of-requires
-sector-of-requires c κs = search needs
-
-is-held-requires : tie.Need-is-held-requires
-is-held-requires c κs = search needs
 
 -- the test is whether unit k is a's own or held
 tested : (c : tie.After-is-held) → eqb (c .before .before .before .before .before .before .args .k) (c .before .before .before .before .unit-index .result) || c .is-held .result ≡ rowHeld (c .before .before .before .before .before .before .args .g) (c .before .before .before .before .before .before .args .here) (now (c .before .before .before .before .before .before .args .written)) (c .before .before .before .before .before .before .args .z) (c .before .before .before .before .before .before .args .a) (c .before .before .before .before .before .before .args .k)
@@ -38,28 +23,14 @@ returns c =
     let a = c .before .before .before .before .before .before .before .args in
     sym (ap (λ (b : Bool). pick b (a .reach) (min (a .reach) (rowAddress (a .g .drives) (a .g .unit) (a .a) (a .k)))) (sym (tested (c .before)) ∙ c .if1 .taken))
 
-row-address-requires : tie.Need-row-address-requires
-row-address-requires c κs = search needs
-
-smaller-requires : tie.Need-smaller-requires
-smaller-requires c κs = search needs
-
 returns-2 : tie.Need-returns-2
 returns-2 c =
     let a = c .before .before .before .before .before .before .before .before .before .args in
-    c .smaller .ensures ∙ ap (λ (b : ℕ). min (a .reach) b) (c .before .row-address .ensures)
+    c .min .ensures ∙ ap (λ (b : ℕ). min (a .reach) b) (c .before .row-address .ensures)
     ∙ sym (ap (λ (b : Bool). pick b (a .reach) (min (a .reach) (rowAddress (a .g .drives) (a .g .unit) (a .a) (a .k)))) (sym (tested (c .before .before .before)) ∙ c .before .before .if1 .left))
 
 pub reach-past-spec : {M : Type 1} → statement M
 reach-past-spec =
     tie.close
-    (tie.spec
-    unit-index-requires
-    parity-of-requires
-    unit-drive-requires
-    sector-of-requires
-    is-held-requires
-    returns
-    row-address-requires
-    smaller-requires
-    returns-2)
+    (tie.spec (λ c κs. search needs) (λ c κs. search needs) (λ c κs. search needs) (λ c κs. search needs) (λ c κs. search needs) returns
+    (λ c κs. search needs) (λ c κs. search needs) returns-2)

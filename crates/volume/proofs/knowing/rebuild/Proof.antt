@@ -2,10 +2,11 @@ use mathlib.Core.Path.{ap, _∙_}
 use Prim.Native.Nat.{ℕ}
 use mathlib.Core.List.{List}
 use denote.Ref.{now}
-use Rattle.tables.specs.Tables.{sectorAt}
-use Rattle.tables.specs.Xor.{xorBytes, xor-bytes-comm}
-use Rattle.volume.specs.Rules.{parityOf}
-use Rattle.volume.specs.Knowing.{rowXor}
+use Rattle.tables.specs.meaning.Tables.{sectorAt}
+use Rattle.tables.specs.meaning.Xor.{xorBytes}
+use Rattle.tables.specs.laws.Xor.{xor-bytes-comm}
+use Rattle.volume.specs.meaning.Rules.{parityOf}
+use Rattle.volume.specs.looking.Knowing.{rowXor}
 use borrow.Author.Needs.{needs}
 use Rattle.volume.proofs.knowing.rebuild.Statement.{statement}
 use Rattle.volume.proofs.knowing.rebuild.Tie as tie

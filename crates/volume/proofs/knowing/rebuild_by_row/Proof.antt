@@ -2,45 +2,28 @@ use mathlib.Core.Path.{ap₂, _∙_}
 use Prim.Native.Nat.{ℕ, _+_}
 use native.Mathlib.Omega.{arith}
 use denote.Ref.{now}
-use Rattle.tables.specs.Tables.{sectorAt}
-use Rattle.tables.specs.Xor.{xorBytes}
-use Rattle.volume.specs.Rules.{parityOf}
-use Rattle.volume.specs.Knowing.{rowXor}
-use Rattle.volume.specs.KnowingValues.{sector-within}
+use Rattle.tables.specs.meaning.Tables.{sectorAt}
+use Rattle.tables.specs.meaning.Xor.{xorBytes}
+use Rattle.volume.specs.meaning.Rules.{parityOf}
+use Rattle.volume.specs.looking.Knowing.{rowXor}
+use Rattle.volume.specs.looking.KnowingValues.{sector-within}
 use borrow.Author.Needs.{needs}
 use Rattle.volume.proofs.knowing.rebuild_by_row.Statement.{statement}
 use Rattle.volume.proofs.knowing.rebuild_by_row.Tie as tie
-
-stripe-end-requires : tie.Need-stripe-end-requires
-stripe-end-requires c κs = search needs
-
-sector-of-requires : tie.Need-sector-of-requires
-sector-of-requires c κs = search needs
-
-add-rebuild : tie.Need-add-rebuild
-add-rebuild c = search needs
+use Rattle.tables.specs.meaning.Geometry.{dataZone}
 
 rebuild-requires : tie.Need-rebuild-requires
 rebuild-requires c κs =
     let s = c .before .before .before .before .before in
     (s .pre .0, (s .pre .1 .0, s .pre .1 .1, omega (arith, s .pre .1 .0), rw (c .before .sector-of .ensures) (sector-within (s .args .g) (s .args .a) (s .pre .0) (s .pre .1 .1)), s .pre .1 .2, s .pre .1 .3))
 
-same-length : tie.Need-same-length
-same-length c = search needs
-
 returns : tie.Need-returns
 returns c =
     let a = c .before .before .before .before .before .before .before .before .args in
     c .before .before .rebuild .ensures
-    ∙ ap₂ (λ (e x : ℕ). xorBytes (rowXor (a .g) (now (a .sectors)) (a .z) (a .a) e) (sectorAt (a .g) (now (a .sectors)) (parityOf (a .g .drives) (a .g .unit) (a .z) (a .a)) (3 + a .z) x)) (c .before .before .before .before .before .stripe-end .ensures .0) (c .before .before .before .before .sector-of .ensures)
+    ∙ ap₂ (λ (e x : ℕ). xorBytes (rowXor (a .g) (now (a .sectors)) (a .z) (a .a) e) (sectorAt (a .g) (now (a .sectors)) (parityOf (a .g .drives) (a .g .unit) (a .z) (a .a)) (dataZone (a .z)) x)) (c .before .before .before .before .before .stripe-end .ensures .0) (c .before .before .before .before .sector-of .ensures)
 
 pub rebuild-by-row-spec : {M : Type 1} → statement M
 rebuild-by-row-spec =
     tie.close
-    (tie.spec
-    stripe-end-requires
-    sector-of-requires
-    add-rebuild
-    rebuild-requires
-    same-length
-    returns)
+    (tie.spec (λ c κs. search needs) (λ c κs. search needs) (λ c. search needs) rebuild-requires (λ c. search needs) returns)

@@ -1,16 +1,10 @@
 use mathlib.Core.Path.{refl}
 use native.Mathlib.Omega.{arith}
-use Rattle.tables.specs.Placement.{address, stripeOf, rowIndex}
-use Rattle.volume.specs.KnowingLaws.{row-small}
+use Rattle.tables.specs.meaning.Placement.{address, stripeOf, rowIndex}
+use Rattle.volume.specs.looking.KnowingLaws.{row-small}
 use borrow.Author.Needs.{needs}
 use Rattle.volume.proofs.knowing.row_address.Statement.{statement}
 use Rattle.volume.proofs.knowing.row_address.Tie as tie
-
-stripe-sectors-requires : tie.Need-stripe-sectors-requires
-stripe-sectors-requires c κs = search needs
-
-div-result : tie.Need-div-result
-div-result c = search needs
 
 mul-result : tie.Need-mul-result
 mul-result c =
@@ -23,12 +17,6 @@ mul-result-2 c =
     let s = c .before in
     let m = row-small (s .args .g) (s .args .a) (s .args .k) (c .stripe-sectors .result) (s .pre .0) (s .pre .1 .0) (s .pre .1 .1) in
     omega (arith, m .1)
-
-rem-result : tie.Need-rem-result
-rem-result c = search needs
-
-rem-result-2 : tie.Need-rem-result-2
-rem-result-2 c = search needs
 
 add-result : tie.Need-add-result
 add-result c =
@@ -49,13 +37,5 @@ returns c = rw (c .stripe-sectors .ensures .0) refl
 pub row-address-spec : {M : Type 1} → statement M
 row-address-spec =
     tie.close
-    (tie.spec
-    stripe-sectors-requires
-    div-result
-    mul-result
-    mul-result-2
-    rem-result
-    rem-result-2
-    add-result
-    add-result-2
+    (tie.spec (λ c κs. search needs) (λ c. search needs) mul-result mul-result-2 (λ c. search needs) (λ c. search needs) add-result add-result-2
     returns)

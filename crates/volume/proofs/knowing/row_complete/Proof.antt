@@ -3,25 +3,10 @@ use mathlib.Core.Bool.{Bool, _&&_}
 use Prim.Native.Nat.{ℕ}
 use lib.Dec.{leb}
 use denote.Ref.{now}
-use Rattle.volume.specs.Knowing.{heldOn}
+use Rattle.volume.specs.looking.Knowing.{heldOn}
 use borrow.Author.Needs.{needs}
 use Rattle.volume.proofs.knowing.row_complete.Statement.{statement}
 use Rattle.volume.proofs.knowing.row_complete.Tie as tie
-
-parity-of-requires : tie.Need-parity-of-requires
-parity-of-requires c κs = search needs
-
-sector-of-requires : tie.Need-sector-of-requires
-sector-of-requires c κs = search needs
-
-is-held-requires : tie.Need-is-held-requires
-is-held-requires c κs = search needs
-
-stripe-end-requires : tie.Need-stripe-end-requires
-stripe-end-requires c κs = search needs
-
-reach-of-requires : tie.Need-reach-of-requires
-reach-of-requires c κs = search needs
 
 returns : tie.Need-returns
 returns c =
@@ -32,10 +17,4 @@ returns c =
 pub row-complete-spec : {M : Type 1} → statement M
 row-complete-spec =
     tie.close
-    (tie.spec
-    parity-of-requires
-    sector-of-requires
-    is-held-requires
-    stripe-end-requires
-    reach-of-requires
-    returns)
+    (tie.spec (λ c κs. search needs) (λ c κs. search needs) (λ c κs. search needs) (λ c κs. search needs) (λ c κs. search needs) returns)

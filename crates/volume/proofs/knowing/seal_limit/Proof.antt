@@ -2,15 +2,15 @@ use Prim.Native.Nat.{_-_, _≤_}
 use mathlib.Core.Path.{_≡_, _∙_, refl}
 use native.Mathlib.Numerals.{add-one}
 use native.Mathlib.Omega.{arith}
-use Rattle.tables.specs.Geometry.{zoneSectors}
-use Rattle.volume.specs.Rules.{sealLimitBelow, sealLimit}
-use Rattle.volume.specs.OnTables.{among}
-use Rattle.volume.specs.Knowing.{readDevice}
+use Rattle.tables.specs.meaning.Geometry.{zoneSectors}
+use Rattle.volume.specs.meaning.Rules.{sealLimitBelow, sealLimit}
+use Rattle.volume.specs.meaning.CallContracts.{isSet}
+use Rattle.volume.specs.looking.Knowing.{readDevice}
 use Rattle.volume.proofs.knowing.seal_limit.Statement.{statement}
 use Rattle.volume.proofs.knowing.seal_limit.Tie as tie
 
 abbrev Inv-loop : tie.InvT-loop
-Inv-loop sectors written g here z generation n limit₀ d₀ limit d = (d ≤ n) × (limit ≡ sealLimitBelow g (among here) (readDevice g sectors written) z generation d) × (limit ≤ zoneSectors g)
+Inv-loop sectors written g here z generation n limit₀ d₀ limit d = (d ≤ n) × (limit ≡ sealLimitBelow g (isSet here) (readDevice g sectors written) z generation d) × (limit ≤ zoneSectors g)
 
 abbrev μ-loop : tie.MeasureT-loop
 μ-loop sectors written g here z generation n limit₀ d₀ limit d = n - d
@@ -26,9 +26,6 @@ seal-of-requires c κs = let s = c .before .before .before .before .before in (s
 
 add-d : tie.Need-add-d Inv-loop μ-loop
 add-d c = omega (arith, c .before .before .before .before .before .before .pre .0 .drives-most)
-
-loop-less : tie.Need-loop-less Inv-loop μ-loop
-loop-less c = omega arith
 
 loop-again : tie.Need-loop-again Inv-loop μ-loop
 loop-again c =
@@ -46,13 +43,4 @@ returns c =
 pub seal-limit-spec : {M : Type 1} → statement M
 seal-limit-spec =
     tie.close
-    (tie.spec
-    Inv-loop
-    μ-loop
-    zone-sectors-requires
-    loop-holds
-    seal-of-requires
-    add-d
-    loop-less
-    loop-again
-    returns)
+    (tie.spec Inv-loop μ-loop zone-sectors-requires loop-holds seal-of-requires add-d (λ c. omega arith) loop-again returns)

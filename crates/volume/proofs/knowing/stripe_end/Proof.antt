@@ -1,9 +1,9 @@
 use mathlib.Core.Path.{refl}
 use native.Mathlib.Omega.{arith}
 use native.Mathlib.Nat.{div-add-mod'}
-use Rattle.tables.specs.Sizes.{zone-small}
-use Rattle.tables.specs.Placement.{stripeOf}
-use Rattle.volume.specs.Knowing.{stripeEnd}
+use Rattle.tables.specs.laws.Sizes.{zone-small}
+use Rattle.tables.specs.meaning.Placement.{stripeOf}
+use Rattle.volume.specs.looking.Knowing.{stripeEnd}
 use borrow.Author.Needs.{needs}
 use Rattle.volume.proofs.knowing.stripe_end.Statement.{statement}
 use Rattle.volume.proofs.knowing.stripe_end.Tie as tie

@@ -1,6 +1,6 @@
 use mathlib.Core.Path.{refl}
-use Rattle.tables.specs.Sizes.{unit-small}
-use Rattle.tables.specs.Placement.{unitIndex, stripeLength}
+use Rattle.tables.specs.laws.Sizes.{unit-small}
+use Rattle.tables.specs.meaning.Placement.{unitIndex, stripeLength}
 use borrow.Author.Needs.{needs}
 use Rattle.volume.proofs.knowing.unit_index.Statement.{statement}
 use Rattle.volume.proofs.knowing.unit_index.Tie as tie

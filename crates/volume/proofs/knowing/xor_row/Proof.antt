@@ -1,17 +1,19 @@
 use Prim.Native.Nat.{ℕ, _+_, _-_, _≤_}
-use Rattle.tables.specs.Tables.{sectorAt}
-use Rattle.tables.specs.Placement.{sectorOf, unitIndex}
-use Rattle.volume.specs.Rules.{rowDrive, rowAddress}
+use Rattle.tables.specs.meaning.Tables.{sectorAt}
+use Rattle.tables.specs.meaning.Placement.{sectorOf, unitIndex}
+use Rattle.volume.specs.meaning.Rules.{rowDrive, rowAddress}
 use mathlib.Core.Path.{_≡_, refl, sym, _∙_}
 use native.Mathlib.Omega.{arith}
 use native.Mathlib.Numerals.{add-one}
 use lib.ListN.{length}
 use denote.Ref.{now}
-use Rattle.tables.specs.Xor.{xorBytes, xor-nil}
-use Rattle.volume.specs.Knowing.{rowXorBelow, rowXor}
-use Rattle.volume.specs.KnowingValues.{row-more}
+use Rattle.tables.specs.meaning.Xor.{xorBytes}
+use Rattle.tables.specs.laws.Xor.{xor-nil}
+use Rattle.volume.specs.looking.Knowing.{rowXorBelow, rowXor}
+use Rattle.volume.specs.looking.KnowingValues.{row-more}
 use Rattle.volume.proofs.knowing.xor_row.Statement.{statement}
 use Rattle.volume.proofs.knowing.xor_row.Tie as tie
+use Rattle.tables.specs.meaning.Geometry.{dataZone}
 
 abbrev Inv-loop : tie.InvT-loop
 Inv-loop sectors g z a end out₀ n k₀ out k = (k ≤ n) × (length out ≡ g .sector) × (out ≡ xorBytes out₀ (rowXorBelow g sectors z a end k))
@@ -33,9 +35,6 @@ xor-unit-requires c κs = let s = c .before .before .before .before .before .bef
 add-k : tie.Need-add-k Inv-loop μ-loop
 add-k c = omega (arith, c .before .before .before .before .before .before .before .before .before .pre .0 .drives-most)
 
-loop-less : tie.Need-loop-less Inv-loop μ-loop
-loop-less c = omega arith
-
 loop-again : tie.Need-loop-again Inv-loop μ-loop
 loop-again c =
     let a = c .before .before .before .before .before .before .before .before .before .args in
@@ -43,7 +42,7 @@ loop-again c =
     let f = c .before .before .xor-unit in (
       omega arith,
       f .kept .1 .1 .1 .1 .1 .1 .0 ∙ l .inv .1,
-      f .ensures ∙ rw (l .inv .2, add-one) (row-more (now (a .out)) (λ (m : ℕ). sectorAt (a .g) (a .sectors .now) (rowDrive (a .g .drives) (a .g .unit) (a .z) (a .a) m) (3 + a .z) (sectorOf (a .g .drives) (a .g .unit) (a .a))) (rowAddress (a .g .drives) (a .g .unit) (a .a)) (a .end) (unitIndex (a .g .drives) (a .g .unit) (a .a)) (l .k)),
+      f .ensures ∙ rw (l .inv .2, add-one) (row-more (now (a .out)) (λ (m : ℕ). sectorAt (a .g) (a .sectors .now) (rowDrive (a .g .drives) (a .g .unit) (a .z) (a .a) m) (dataZone (a .z)) (sectorOf (a .g .drives) (a .g .unit) (a .a))) (rowAddress (a .g .drives) (a .g .unit) (a .a)) (a .end) (unitIndex (a .g .drives) (a .g .unit) (a .a)) (l .k)),
     )
 
 same-length : tie.Need-same-length Inv-loop μ-loop
@@ -59,14 +58,4 @@ returns c =
 pub xor-row-spec : {M : Type 1} → statement M
 xor-row-spec =
     tie.close
-    (tie.spec
-    Inv-loop
-    μ-loop
-    sub-n
-    loop-holds
-    xor-unit-requires
-    add-k
-    loop-less
-    loop-again
-    same-length
-    returns)
+    (tie.spec Inv-loop μ-loop sub-n loop-holds xor-unit-requires add-k (λ c. omega arith) loop-again same-length returns)

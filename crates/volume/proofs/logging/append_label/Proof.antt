@@ -2,9 +2,9 @@ use Prim.Native.Nat.{ℕ}
 use mathlib.Core.List.{List, _++_}
 use lib.ListN.{drop, replicate, length, take}
 use denote.Ref.{now}
-use Rattle.logs.specs.Entry.{generalZone, encode, label}
+use Rattle.logs.specs.meaning.Entry.{generalZone, encode, label}
 use native.Mathlib.Omega.{arith}
-use Rattle.volume.specs.Logging.{front-fits, front-is, front-long, appended-as}
+use Rattle.volume.specs.checks.Logging.{front-fits, front-is, front-long, appended-as}
 use mathlib.Core.Path.{_≡_, sym, _∙_}
 use lib.Seq.{length-take-le}
 use borrow.Author.Needs.{needs}
@@ -46,12 +46,6 @@ append-counted-requires c κs =
     let s = w .before .before .before .before in
     (s .pre .0, ((s .pre .1 .0, omega arith), (s .pre .1 .2, s .pre .1 .3, sym (front-long (s .args .g .sector) (w .write-label .last .0) (rest s) (long w)))))
 
-same-length : tie.Need-same-length
-same-length c = search needs
-
-same-length-2 : tie.Need-same-length-2
-same-length-2 c = search needs
-
 returns : tie.Need-returns
 returns c =
     let w = c .before .before .before .before .before .before .before .before .before in
@@ -63,13 +57,5 @@ returns c =
 pub append-label-spec : {M : Type 1} → statement M
 append-label-spec =
     tie.close
-    (tie.spec
-    array-borrow-prefix-buffer
-    slice-aggregate-write-label
-    write-label-requires
-    array-share-prefix-buffer
-    slice-aggregate-append-counted
-    append-counted-requires
-    same-length
-    same-length-2
-    returns)
+    (tie.spec array-borrow-prefix-buffer slice-aggregate-write-label write-label-requires array-share-prefix-buffer slice-aggregate-append-counted
+    append-counted-requires (λ c. search needs) (λ c. search needs) returns)

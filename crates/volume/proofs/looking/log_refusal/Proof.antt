@@ -3,32 +3,23 @@ use mathlib.Core.Bool.{not}
 use Prim.Native.Nat.{ℕ, _-_, _≤_, _<_}
 use native.Mathlib.Omega.{arith}
 use denote.Ref.{now}
-use Rattle.tables.specs.Below.{countBelow}
-use Rattle.volume.specs.OnTables.{among}
-use Rattle.volume.specs.Looking.{logs-4, logs-5, logs-6, logs-0}
-use Rattle.volume.specs.Knowing.{readDevice}
+use Rattle.tables.specs.meaning.Below.{countBelow}
+use Rattle.volume.specs.meaning.CallContracts.{isSet}
+use Rattle.volume.specs.looking.Looking.{logs-4, logs-5, logs-6, logs-0}
+use Rattle.volume.specs.looking.Knowing.{readDevice}
 use borrow.Author.Needs.{needs}
 use Rattle.volume.proofs.looking.log_refusal.Statement.{statement}
 use Rattle.volume.proofs.looking.log_refusal.Tie as tie
 
 -- at most one drive is lost
-one : (c : tie.Else1) → countBelow (λ (d : ℕ). not (among (c .before .before .before .before .args .here) d)) (c .before .before .before .before .args .g .drives) ≤ 1
+one : (c : tie.Else1) → countBelow (λ (d : ℕ). not (isSet (c .before .before .before .before .args .here) d)) (c .before .before .before .before .args .g .drives) ≤ 1
 one c = let h : c .before .count-absent .result ≤ 1 = omega arith in rw (c .before .count-absent .ensures) at h
-
-count-absent-requires : tie.Need-count-absent-requires
-count-absent-requires c κs = search needs
 
 returns : tie.Need-returns
 returns c = let a = c .before .before .before .before .args in let v = readDevice (a .g) (a .sectors .now) (a .written .now) in let h : 1 < c .before .count-absent .result = c .if1 .taken in logs-4 (a .g) (a .here) v (rw (c .before .count-absent .ensures) at h)
 
-labels-bad-requires : tie.Need-labels-bad-requires
-labels-bad-requires c κs = search needs
-
 returns-2 : tie.Need-returns-2
 returns-2 c = let a = c .before .before .before .before .before .before .args in let v = readDevice (a .g) (a .sectors .now) (a .written .now) in logs-5 (a .g) (a .here) v (one (c .before .before)) (sym (c .before .labels-bad .ensures) ∙ c .if2 .taken)
-
-logs-bad-requires : tie.Need-logs-bad-requires
-logs-bad-requires c κs = search needs
 
 returns-3 : tie.Need-returns-3
 returns-3 c = let a = c .before .before .before .before .before .before .before .before .args in let v = readDevice (a .g) (a .sectors .now) (a .written .now) in logs-6 (a .g) (a .here) v (one (c .before .before .before .before)) (sym (c .before .before .before .labels-bad .ensures) ∙ c .before .before .if2 .left) (sym (c .before .logs-bad .ensures) ∙ c .if3 .taken)
@@ -39,11 +30,4 @@ returns-4 c = let a = c .before .before .before .before .before .before .before 
 pub log-refusal-spec : {M : Type 1} → statement M
 log-refusal-spec =
     tie.close
-    (tie.spec
-    count-absent-requires
-    returns
-    labels-bad-requires
-    returns-2
-    logs-bad-requires
-    returns-3
-    returns-4)
+    (tie.spec (λ c κs. search needs) returns (λ c κs. search needs) returns-2 (λ c κs. search needs) returns-3 returns-4)

@@ -4,10 +4,10 @@ use Prim.Native.Nat.{_-_}
 use native.Mathlib.Omega.{arith}
 use lib.ListN.{length}
 use denote.Ref.{now}
-use Rattle.tables.specs.Geometry.{Valid, cells, totalBytes}
-use Rattle.tables.specs.Tables.{tablesOf, pointersBad}
-use Rattle.volume.specs.OnTables.{verdictNumber}
-use Rattle.volume.specs.Looking.{lookVerdict, shapeNumber, shaped, look-passed, look-refused, look-finished, lookable}
+use Rattle.tables.specs.meaning.Geometry.{Valid, cells, totalBytes}
+use Rattle.tables.specs.meaning.Tables.{tablesOf, pointersBad}
+use Rattle.volume.specs.meaning.CallContracts.{verdictNumber, lookVerdict}
+use Rattle.volume.specs.looking.Looking.{shapeNumber, shaped, look-passed, look-refused, look-finished, lookable}
 use borrow.Author.Needs.{needs}
 use Rattle.volume.proofs.looking.look.Statement.{statement}
 use Rattle.volume.proofs.looking.look.Tie as tie
@@ -20,9 +20,6 @@ passed c = let a = c .before .before .before .before .before .args in look-passe
 
 shape : (c : tie.Else1) → Valid (c .before .before .before .before .before .args .g) × (length (now (c .before .before .before .before .before .args .sectors)) ≡ totalBytes (c .before .before .before .before .before .args .g)) × (length (now (c .before .before .before .before .before .args .written)) ≡ cells (c .before .before .before .before .before .args .g)) × (pointersBad (c .before .before .before .before .before .args .g) (c .before .before .before .before .before .args .named) (now (c .before .before .before .before .before .args .written)) (now (c .before .before .before .before .before .args .durable)) ≡ false)
 shape c = let a = c .before .before .before .before .before .args in shaped (a .g) (a .named) (length (now (a .sectors))) (now (a .written)) (now (a .durable)) (passed c)
-
-look-refusal-requires : tie.Need-look-refusal-requires
-look-refusal-requires c κs = search needs
 
 returns : tie.Need-returns
 returns c = let a = c .before .before .before .before .before .args in look-refused (a .g) (a .named) (a .old) (now (a .sectors)) (now (a .written)) (now (a .durable)) (c .before .look-refusal .result) (c .before .look-refusal .ensures) (c .if1 .taken)
@@ -47,10 +44,4 @@ returns-2 c =
 pub look-spec : {M : Type 1} → statement M
 look-spec =
     tie.close
-    (tie.spec
-    look-refusal-requires
-    returns
-    look-present-requires
-    look-all-requires
-    records-of-requires
-    returns-2)
+    (tie.spec (λ c κs. search needs) returns look-present-requires look-all-requires records-of-requires returns-2)

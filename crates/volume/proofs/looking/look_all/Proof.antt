@@ -1,6 +1,6 @@
 use mathlib.Core.Path.{refl}
 use Prim.Native.Nat.{_-_}
-use Rattle.volume.specs.Rules.{showing}
+use Rattle.volume.specs.meaning.Rules.{showing}
 use borrow.Author.Needs.{needs}
 use Rattle.volume.proofs.looking.look_all.Statement.{statement}
 use Rattle.volume.proofs.looking.look_all.Tie as tie

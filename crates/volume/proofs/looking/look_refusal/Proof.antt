@@ -4,7 +4,7 @@ use Prim.Native.Nat.{_-_}
 use native.Mathlib.Omega.{arith}
 use lib.ListN.{length}
 use denote.Ref.{now}
-use Rattle.volume.specs.Looking.{shapeNumber, shaped, look-shape, look-logs}
+use Rattle.volume.specs.looking.Looking.{shapeNumber, shaped, look-shape, look-logs}
 use borrow.Author.Needs.{needs}
 use Rattle.volume.proofs.looking.look_refusal.Statement.{statement}
 use Rattle.volume.proofs.looking.look_refusal.Tie as tie

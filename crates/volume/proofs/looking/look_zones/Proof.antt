@@ -5,18 +5,17 @@ use native.Mathlib.Omega.{arith}
 use native.Mathlib.Numerals.{add-one}
 use lib.ListN.{length, replicate, length-set}
 use denote.Ref.{now}
-use Rattle.tables.specs.Below.{tabulate}
-use Rattle.volume.specs.OnTables.{among}
-use Rattle.volume.specs.ZoneLooking.{zoneLookOf}
-use Rattle.volume.specs.Rules.{zoneShown}
-use Rattle.volume.specs.Looking.{blankLook, looksFrom, lookable-zone}
-use Rattle.volume.specs.DrivesLost.{fill-more}
-use Rattle.volume.specs.Knowing.{readDevice}
+use Rattle.tables.specs.meaning.Below.{tabulate}
+use Rattle.volume.specs.meaning.CallContracts.{isSet, zoneLookOf}
+use Rattle.volume.specs.meaning.Rules.{zoneShown}
+use Rattle.volume.specs.looking.Looking.{blankLook, looksFrom, lookable-zone}
+use Rattle.volume.specs.looking.DrivesLost.{fill-more}
+use Rattle.volume.specs.looking.Knowing.{readDevice}
 use Rattle.volume.proofs.looking.look_zones.Statement.{statement}
 use Rattle.volume.proofs.looking.look_zones.Tie as tie
 
 abbrev Inv-loop : tie.InvT-loop
-Inv-loop sectors written g here n zones₀ z₀ zones z = (z ≤ n) × (length zones ≡ 16) × (zones ≡ tabulate (λ (i : ℕ). zoneLookOf (zoneShown g (among here) (readDevice g sectors written) i)) z ++ replicate (16 - z) blankLook)
+Inv-loop sectors written g here n zones₀ z₀ zones z = (z ≤ n) × (length zones ≡ 16) × (zones ≡ tabulate (λ (i : ℕ). zoneLookOf (zoneShown g (isSet here) (readDevice g sectors written) i)) z ++ replicate (16 - z) blankLook)
 
 abbrev μ-loop : tie.MeasureT-loop
 μ-loop sectors written g here n zones₀ z₀ zones z = n - z
@@ -36,16 +35,13 @@ array-set-from-zones c = omega (arith, c .before .before .before .before .before
 add-z : tie.Need-add-z Inv-loop μ-loop
 add-z c = omega (arith, c .before .before .before .before .before .pre .0 .zones-most)
 
-loop-less : tie.Need-loop-less Inv-loop μ-loop
-loop-less c = omega arith
-
 loop-again : tie.Need-loop-again Inv-loop μ-loop
 loop-again c =
     let s = c .before .before .before .before .before in
     let a = s .args in
     let l = c .before .before .loop in
     let h : l .z < 16 = omega (arith, s .pre .0 .zones-most) in
-    (omega arith, simp length-set (l .inv .1), rw (l .inv .2, c .look-zone .ensures, add-one) (fill-more (λ (i : ℕ). zoneLookOf (zoneShown (a .g) (among (a .here)) (readDevice (a .g) (a .sectors .now) (a .written .now)) i)) blankLook 16 (l .z) h))
+    (omega arith, simp length-set (l .inv .1), rw (l .inv .2, c .look-zone .ensures, add-one) (fill-more (λ (i : ℕ). zoneLookOf (zoneShown (a .g) (isSet (a .here)) (readDevice (a .g) (a .sectors .now) (a .written .now)) i)) blankLook 16 (l .z) h))
 
 returns : tie.Need-returns Inv-loop μ-loop
 unfolding looksFrom
@@ -54,14 +50,4 @@ returns c = let l = c .before .loop in let e : l .z ≡ c .before .before .befor
 pub look-zones-spec : {M : Type 1} → statement M
 look-zones-spec =
     tie.close
-    (tie.spec
-    Inv-loop
-    μ-loop
-    loop-holds
-    look-zone-requires
-    mul-zones
-    array-set-from-zones
-    add-z
-    loop-less
-    loop-again
-    returns)
+    (tie.spec Inv-loop μ-loop loop-holds look-zone-requires mul-zones array-set-from-zones add-z (λ c. omega arith) loop-again returns)

@@ -4,10 +4,10 @@ use Prim.Native.Nat.{ℕ, _+_, _-_, _≤_, _<_}
 use native.Mathlib.Omega.{arith}
 use native.Mathlib.Numerals.{add-one}
 use lib.ListN.{length, getD, replicate, length-set}
-use Rattle.tables.specs.Below.{tabulate}
-use Rattle.volume.specs.OnTables.{blankRecord}
-use Rattle.volume.specs.Looking.{blankLook, recordFrom, recordsOf}
-use Rattle.volume.specs.DrivesLost.{fill-more}
+use Rattle.tables.specs.meaning.Below.{tabulate}
+use Rattle.volume.specs.meaning.CallContracts.{blankRecord, recordFrom}
+use Rattle.volume.specs.looking.Looking.{blankLook, recordsOf}
+use Rattle.volume.specs.looking.DrivesLost.{fill-more}
 use Rattle.volume.proofs.looking.records_of.Statement.{statement}
 use Rattle.volume.proofs.looking.records_of.Tie as tie
 
@@ -35,9 +35,6 @@ array-set-from-zones c = omega (arith, c .before .before .before .pre .zones-mos
 add-z : tie.Need-add-z Inv-loop μ-loop
 add-z c = omega (arith, c .before .before .before .pre .zones-most)
 
-loop-less : tie.Need-loop-less Inv-loop μ-loop
-loop-less c = omega arith
-
 loop-again : tie.Need-loop-again Inv-loop μ-loop
 loop-again c =
     let s = c .before .before .before in
@@ -52,15 +49,4 @@ returns c = let l = c .before .loop in let e : l .z ≡ c .before .before .args 
 pub records-of-spec : {M : Type 1} → statement M
 records-of-spec =
     tie.close
-    (tie.spec
-    Inv-loop
-    μ-loop
-    loop-holds
-    mul-s
-    array-copy-out-s
-    mul-zones
-    array-set-from-zones
-    add-z
-    loop-less
-    loop-again
-    returns)
+    (tie.spec Inv-loop μ-loop loop-holds mul-s array-copy-out-s mul-zones array-set-from-zones add-z (λ c. omega arith) loop-again returns)

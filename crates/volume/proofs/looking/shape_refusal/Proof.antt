@@ -4,10 +4,11 @@ use Prim.Native.Nat.{_-_}
 use lib.ListN.{length}
 use denote.Ref.{now}
 use borrow.Author.Tests.{not-true, not-false}
-use Rattle.tables.specs.Tables.{lengthsFit}
-use Rattle.tables.specs.GeometryTest.{isValid, valid-if-test}
-use Rattle.tables.specs.TablesFrame.{lengths-are}
-use Rattle.volume.specs.Looking.{shape-1, shape-2, shape-3, shape-0}
+use Rattle.tables.specs.meaning.Tables.{lengthsFit}
+use Rattle.tables.specs.meaning.GeometryTest.{isValid}
+use Rattle.tables.specs.laws.GeometryTest.{valid-if-test}
+use Rattle.tables.specs.laws.TablesFrame.{lengths-are}
+use Rattle.volume.specs.looking.Looking.{shape-1, shape-2, shape-3, shape-0}
 use borrow.Author.Needs.{needs}
 use Rattle.volume.proofs.looking.shape_refusal.Statement.{statement}
 use Rattle.volume.proofs.looking.shape_refusal.Tie as tie
@@ -17,9 +18,6 @@ valid c = sym (c .before .valid .ensures) ∙ not-false (c .before .valid .resul
 
 fits : (c : tie.Else2) → lengthsFit (c .before .before .before .before .before .before .args .g) (c .before .before .before .before .before .before .args .sectors) (length (now (c .before .before .before .before .before .before .args .written))) (length (now (c .before .before .before .before .before .before .args .durable))) ≡ true
 fits c = sym (c .before .lengths-fit .ensures) ∙ not-false (c .before .lengths-fit .result) (c .if2 .left)
-
-valid-requires : tie.Need-valid-requires
-valid-requires c κs = search needs
 
 returns : tie.Need-returns
 returns c = let a = c .before .before .before .before .args in shape-1 (a .g) (a .named) (a .sectors) (now (a .written)) (now (a .durable)) (sym (c .before .valid .ensures) ∙ not-true (c .before .valid .result) (c .if1 .taken))
@@ -45,11 +43,4 @@ returns-4 c = let a = c .before .before .before .before .before .before .before 
 pub shape-refusal-spec : {M : Type 1} → statement M
 shape-refusal-spec =
     tie.close
-    (tie.spec
-    valid-requires
-    returns
-    lengths-fit-requires
-    returns-2
-    pointers-bad-requires
-    returns-3
-    returns-4)
+    (tie.spec (λ c κs. search needs) returns lengths-fit-requires returns-2 pointers-bad-requires returns-3 returns-4)

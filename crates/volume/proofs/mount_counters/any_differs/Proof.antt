@@ -4,33 +4,27 @@ use mathlib.Core.Bool.{_&&_, not}
 use mathlib.Core.List.{[]}
 use native.Mathlib.Omega.{arith}
 use native.Mathlib.Numerals.{add-one}
-use Rattle.tables.specs.Below.{anyBelow}
-use Rattle.tables.specs.LittleEndian.{sameBytes}
-use Rattle.logs.specs.Heads.{lastCounters}
-use Rattle.volume.specs.Rules.{generalHeads}
-use Rattle.volume.specs.OnTables.{among}
-use Rattle.volume.specs.MountTables.{seen}
+use Rattle.tables.specs.meaning.Below.{anyBelow}
+use Rattle.tables.specs.meaning.LittleEndian.{sameBytes}
+use Rattle.logs.specs.meaning.Heads.{lastCounters}
+use Rattle.volume.specs.meaning.Rules.{generalHeads}
+use Rattle.volume.specs.meaning.CallContracts.{isSet}
 use Rattle.volume.proofs.mount_counters.any_differs.Statement.{statement}
 use Rattle.volume.proofs.mount_counters.any_differs.Tie as tie
+use Rattle.volume.specs.looking.Knowing.{readDevice}
 
 abbrev Inv-loop : tie.InvT-loop
 Inv-loop sectors pointers g here d n any₀ e₀ any e =
-    (e ≤ n) × (any ≡ anyBelow (λ (y : ℕ). among here y && not (sameBytes (lastCounters [] (generalHeads g (seen g sectors pointers) d)) (lastCounters [] (generalHeads g (seen g sectors pointers) y)))) e)
+    (e ≤ n) × (any ≡ anyBelow (λ (y : ℕ). isSet here y && not (sameBytes (lastCounters [] (generalHeads g (readDevice g sectors pointers) d)) (lastCounters [] (generalHeads g (readDevice g sectors pointers) y)))) e)
 
 abbrev μ-loop : tie.MeasureT-loop
 μ-loop sectors pointers g here d n any₀ e₀ any e = n - e
-
-loop-holds : tie.Need-loop-holds Inv-loop μ-loop
-loop-holds c = (omega arith, refl)
 
 differs-from-requires : tie.Need-differs-from-requires Inv-loop μ-loop
 differs-from-requires c κs = let s = c .before .before .before .before in (s .pre .0, (s .pre .1 .0, c .loop-test .taken, s .pre .1 .1, s .pre .1 .2))
 
 add-e : tie.Need-add-e Inv-loop μ-loop
 add-e c = omega (arith, c .before .loop-test .taken, c .before .before .before .before .before .pre .0 .drives-most)
-
-loop-less : tie.Need-loop-less Inv-loop μ-loop
-loop-less c = omega (arith, c .before .loop-test .taken)
 
 loop-again : tie.Need-loop-again Inv-loop μ-loop
 loop-again c = let l = c .before .before .loop in (omega (arith, c .before .loop-test .taken), rw (add-one, l .inv .1, c .differs-from .ensures) refl)
@@ -41,4 +35,4 @@ returns c = let l = c .before .loop in let q : l .e ≡ c .before .before .befor
 pub any-differs-spec : {M : Type 1} → statement M
 any-differs-spec =
     tie.close
-    (tie.spec Inv-loop μ-loop loop-holds differs-from-requires add-e loop-less loop-again returns)
+    (tie.spec Inv-loop μ-loop (λ c. (omega arith, refl)) differs-from-requires add-e (λ c. omega (arith, c .before .loop-test .taken)) loop-again returns)

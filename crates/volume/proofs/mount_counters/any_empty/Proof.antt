@@ -2,9 +2,9 @@ use Prim.Native.Nat.{ℕ, _-_, _≤_}
 use mathlib.Core.Path.{_≡_, refl}
 use native.Mathlib.Omega.{arith}
 use native.Mathlib.Numerals.{add-one}
-use Rattle.tables.specs.Below.{anyBelow}
-use Rattle.volume.specs.State.{isEmpty}
-use Rattle.volume.specs.MountLook.{zoneLook}
+use Rattle.tables.specs.meaning.Below.{anyBelow}
+use Rattle.volume.specs.meaning.State.{isEmpty}
+use Rattle.volume.specs.mounting.MountLook.{zoneLook}
 use Rattle.volume.proofs.mount_counters.any_empty.Statement.{statement}
 use Rattle.volume.proofs.mount_counters.any_empty.Tie as tie
 
@@ -15,17 +15,8 @@ Inv-loop g look n any₀ z₀ any z =
 abbrev μ-loop : tie.MeasureT-loop
 μ-loop g look n any₀ z₀ any z = n - z
 
-loop-holds : tie.Need-loop-holds Inv-loop μ-loop
-loop-holds c = (omega arith, refl)
-
-zone-empty-requires : tie.Need-zone-empty-requires Inv-loop μ-loop
-zone-empty-requires c κs = (c .before .before .pre, c .loop-test .taken)
-
 add-z : tie.Need-add-z Inv-loop μ-loop
 add-z c = omega (arith, c .before .loop-test .taken, c .before .before .before .pre .zones-most)
-
-loop-less : tie.Need-loop-less Inv-loop μ-loop
-loop-less c = omega (arith, c .before .loop-test .taken)
 
 loop-again : tie.Need-loop-again Inv-loop μ-loop
 loop-again c = let l = c .before .before .loop in (omega (arith, c .before .loop-test .taken), rw (add-one, l .inv .1, c .zone-empty .ensures) refl)
@@ -36,4 +27,4 @@ returns c = let l = c .before .loop in let e : l .z ≡ c .before .before .args 
 pub any-empty-spec : {M : Type 1} → statement M
 any-empty-spec =
     tie.close
-    (tie.spec Inv-loop μ-loop loop-holds zone-empty-requires add-z loop-less loop-again returns)
+    (tie.spec Inv-loop μ-loop (λ c. (omega arith, refl)) (λ c κs. (c .before .before .pre, c .loop-test .taken)) add-z (λ c. omega (arith, c .before .loop-test .taken)) loop-again returns)

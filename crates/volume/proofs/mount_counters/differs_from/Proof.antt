@@ -1,23 +1,16 @@
-use Prim.Native.Nat.{_-_}
 use mathlib.Core.Path.{refl}
 use borrow.Author.Tests.{not-true, not-false}
-use Rattle.volume.specs.OnTables.{among}
+use Rattle.volume.specs.meaning.CallContracts.{isSet}
 use borrow.Author.Needs.{needs}
 use Rattle.volume.proofs.mount_counters.differs_from.Statement.{statement}
 use Rattle.volume.proofs.mount_counters.differs_from.Tie as tie
 
-array-read-present : tie.Need-array-read-present
-array-read-present c = search needs
-
 returns : tie.Need-returns
-returns c = let a = c .before .before .before .args in rw (not-true (among (a .t4) (a .e)) (c .if1 .taken)) refl
-
-same-counters-requires : tie.Need-same-counters-requires
-same-counters-requires c κs = search needs
+returns c = let a = c .before .before .before .args in rw (not-true (isSet (a .t4) (a .e)) (c .if1 .taken)) refl
 
 returns-2 : tie.Need-returns-2
-returns-2 c = let a = c .before .before .before .before .args in rw (not-false (among (a .t4) (a .e)) (c .before .if1 .left), c .same-counters .ensures) refl
+returns-2 c = let a = c .before .before .before .before .args in rw (not-false (isSet (a .t4) (a .e)) (c .before .if1 .left), c .same-counters .ensures) refl
 
 pub differs-from-spec : {M : Type 1} → statement M
 differs-from-spec =
-    tie.close (tie.spec array-read-present returns same-counters-requires returns-2)
+    tie.close (tie.spec (λ c. search needs) returns (λ c κs. search needs) returns-2)

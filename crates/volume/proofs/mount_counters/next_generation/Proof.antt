@@ -1,23 +1,13 @@
-use Prim.Native.Nat.{_-_}
 use mathlib.Core.Path.{_≡_, refl, sym, _∙_}
 use mathlib.Core.Bool.{true, false}
 use native.Mathlib.Omega.{arith}
 use native.Mathlib.Numerals.{add-one}
 use borrow.Author.Tests.{not-true, not-false}
-use Rattle.volume.specs.State.{isEmpty}
-use Rattle.volume.specs.MountLook.{zoneLook}
+use Rattle.volume.specs.meaning.State.{isEmpty}
+use Rattle.volume.specs.mounting.MountLook.{zoneLook}
 use borrow.Author.Needs.{needs}
 use Rattle.volume.proofs.mount_counters.next_generation.Statement.{statement}
 use Rattle.volume.proofs.mount_counters.next_generation.Tie as tie
-
-mul-zone : tie.Need-mul-zone
-mul-zone c = search needs
-
-array-copy-out-zone : tie.Need-array-copy-out-zone
-array-copy-out-zone c = search needs
-
-zone-empty-requires : tie.Need-zone-empty-requires
-zone-empty-requires c κs = search needs
 
 returns : tie.Need-returns
 returns c =
@@ -43,4 +33,4 @@ returns-2 c =
 pub next-generation-spec : {M : Type 1} → statement M
 next-generation-spec =
     tie.close
-    (tie.spec mul-zone array-copy-out-zone zone-empty-requires returns add-result returns-2)
+    (tie.spec (λ c. search needs) (λ c. search needs) (λ c κs. search needs) returns add-result returns-2)

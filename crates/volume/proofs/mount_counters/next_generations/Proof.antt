@@ -3,9 +3,9 @@ use mathlib.Core.Path.{_≡_, refl, _∙_}
 use native.Mathlib.Omega.{arith}
 use native.Mathlib.Numerals.{add-one}
 use lib.ListN.{length, length-set}
-use Rattle.volume.specs.Mount.{nextGeneration}
-use Rattle.volume.specs.MountLook.{shownBy}
-use Rattle.volume.specs.MountGenerations.{filled, filled-more}
+use Rattle.volume.specs.meaning.Mount.{nextGeneration}
+use Rattle.volume.specs.mounting.MountLook.{shownBy}
+use Rattle.volume.specs.mounting.MountGenerations.{filled, filled-more}
 use Rattle.volume.proofs.mount_counters.next_generations.Statement.{statement}
 use Rattle.volume.proofs.mount_counters.next_generations.Tie as tie
 
@@ -16,12 +16,6 @@ Inv-loop g look n next₀ z₀ next z =
 abbrev μ-loop : tie.MeasureT-loop
 μ-loop g look n next₀ z₀ next z = n - z
 
-loop-holds : tie.Need-loop-holds Inv-loop μ-loop
-loop-holds c = (omega arith, refl, refl)
-
-next-generation-requires : tie.Need-next-generation-requires Inv-loop μ-loop
-next-generation-requires c κs = (c .before .before .pre .0, (c .loop-test .taken, c .before .before .pre .1))
-
 mul-next : tie.Need-mul-next Inv-loop μ-loop
 mul-next c = omega (arith, c .before .loop-test .taken, c .before .before .before .pre .0 .zones-most)
 
@@ -30,9 +24,6 @@ array-write-next c = omega (arith, c .before .loop-test .taken, c .before .befor
 
 add-z : tie.Need-add-z Inv-loop μ-loop
 add-z c = omega (arith, c .before .loop-test .taken, c .before .before .before .pre .0 .zones-most)
-
-loop-less : tie.Need-loop-less Inv-loop μ-loop
-loop-less c = omega (arith, c .before .loop-test .taken)
 
 loop-again : tie.Need-loop-again Inv-loop μ-loop
 loop-again c =
@@ -47,14 +38,5 @@ returns c = let l = c .before .loop in let e : l .z ≡ c .before .before .args 
 pub next-generations-spec : {M : Type 1} → statement M
 next-generations-spec =
     tie.close
-    (tie.spec
-    Inv-loop
-    μ-loop
-    loop-holds
-    next-generation-requires
-    mul-next
-    array-write-next
-    add-z
-    loop-less
-    loop-again
-    returns)
+    (tie.spec Inv-loop μ-loop (λ c. (omega arith, refl, refl)) (λ c κs. (c .before .before .pre .0, (c .loop-test .taken, c .before .before .pre .1)))
+    mul-next array-write-next add-z (λ c. omega (arith, c .before .loop-test .taken)) loop-again returns)

@@ -4,28 +4,16 @@ use mathlib.Core.Bool.{false}
 use native.Mathlib.Omega.{arith}
 use lib.Dec.{eqb}
 use denote.Ref.{now}
-use Rattle.logs.specs.Walk.{walkLog}
-use Rattle.logs.specs.WalkCode.{logSectors}
-use Rattle.logs.specs.Query.{headsOf}
-use Rattle.volume.specs.Rules.{generalHeads}
-use Rattle.volume.specs.MountTables.{seen}
-use Rattle.volume.specs.MountHeaders.{seen-heads}
-use Rattle.volume.specs.MountGenerations.{same-if-none, differ-if-one, same-if-both}
+use Rattle.logs.specs.meaning.Walk.{walkLog}
+use Rattle.logs.specs.code.WalkCode.{logSectors}
+use Rattle.logs.specs.code.Query.{headsOf}
+use Rattle.volume.specs.meaning.Rules.{generalHeads}
+use Rattle.volume.specs.mounting.MountHeaders.{seen-heads}
+use Rattle.volume.specs.mounting.MountGenerations.{same-if-none, differ-if-one, same-if-both}
 use borrow.Author.Needs.{needs}
 use Rattle.volume.proofs.mount_counters.same_counters.Statement.{statement}
 use Rattle.volume.proofs.mount_counters.same_counters.Tie as tie
-
-sectors-then-requires : tie.Need-sectors-then-requires
-sectors-then-requires c κs = search needs
-
-sectors-then-requires-2 : tie.Need-sectors-then-requires-2
-sectors-then-requires-2 c κs = search needs
-
-last-counters-requires : tie.Need-last-counters-requires
-last-counters-requires c κs = search needs
-
-last-counters-requires-2 : tie.Need-last-counters-requires-2
-last-counters-requires-2 c κs = search needs
+use Rattle.volume.specs.looking.Knowing.{readDevice}
 
 returns : tie.Need-returns
 returns c =
@@ -35,9 +23,9 @@ returns c =
     let m = c .before .before .before .sectors-then2 in
     let p = c .before .before .last-counters in
     let q = c .before .last-counters2 in
-    let hd : generalHeads (a .g) (seen (a .g) (now (a .sectors)) (now (a .pointers))) (a .d) ≡ headsOf (walkLog (a .g) (a .d) false (logSectors (a .g) (a .d) 0 (now (a .sectors)) (n .result))) =
+    let hd : generalHeads (a .g) (readDevice (a .g) (now (a .sectors)) (now (a .pointers))) (a .d) ≡ headsOf (walkLog (a .g) (a .d) false (logSectors (a .g) (a .d) 0 (now (a .sectors)) (n .result))) =
     seen-heads (a .g) (now (a .sectors)) (now (a .pointers)) (a .d) (s .pre .1 .0) ∙ ap (λ (k : ℕ). headsOf (walkLog (a .g) (a .d) false (logSectors (a .g) (a .d) 0 (now (a .sectors)) k))) (sym (n .ensures .0)) in
-    let he : generalHeads (a .g) (seen (a .g) (now (a .sectors)) (now (a .pointers))) (a .e) ≡ headsOf (walkLog (a .g) (a .e) false (logSectors (a .g) (a .e) 0 (now (a .sectors)) (m .result))) =
+    let he : generalHeads (a .g) (readDevice (a .g) (now (a .sectors)) (now (a .pointers))) (a .e) ≡ headsOf (walkLog (a .g) (a .e) false (logSectors (a .g) (a .e) 0 (now (a .sectors)) (m .result))) =
     seen-heads (a .g) (now (a .sectors)) (now (a .pointers)) (a .e) (s .pre .1 .1) ∙ ap (λ (k : ℕ). headsOf (walkLog (a .g) (a .e) false (logSectors (a .g) (a .e) 0 (now (a .sectors)) k))) (sym (m .ensures .0)) in
     let ss = logSectors (a .g) (a .d) 0 (now (a .sectors)) (n .result) in
     let ts = logSectors (a .g) (a .e) 0 (now (a .sectors)) (m .result) in
@@ -51,22 +39,13 @@ returns-2 c =
     let m = c .before .before .before .before .sectors-then2 in
     let p = c .before .before .before .last-counters in
     let q = c .before .before .last-counters2 in
-    let hd : generalHeads (a .g) (seen (a .g) (now (a .sectors)) (now (a .pointers))) (a .d) ≡ headsOf (walkLog (a .g) (a .d) false (logSectors (a .g) (a .d) 0 (now (a .sectors)) (n .result))) =
+    let hd : generalHeads (a .g) (readDevice (a .g) (now (a .sectors)) (now (a .pointers))) (a .d) ≡ headsOf (walkLog (a .g) (a .d) false (logSectors (a .g) (a .d) 0 (now (a .sectors)) (n .result))) =
     seen-heads (a .g) (now (a .sectors)) (now (a .pointers)) (a .d) (s .pre .1 .0) ∙ ap (λ (k : ℕ). headsOf (walkLog (a .g) (a .d) false (logSectors (a .g) (a .d) 0 (now (a .sectors)) k))) (sym (n .ensures .0)) in
-    let he : generalHeads (a .g) (seen (a .g) (now (a .sectors)) (now (a .pointers))) (a .e) ≡ headsOf (walkLog (a .g) (a .e) false (logSectors (a .g) (a .e) 0 (now (a .sectors)) (m .result))) =
+    let he : generalHeads (a .g) (readDevice (a .g) (now (a .sectors)) (now (a .pointers))) (a .e) ≡ headsOf (walkLog (a .g) (a .e) false (logSectors (a .g) (a .e) 0 (now (a .sectors)) (m .result))) =
     seen-heads (a .g) (now (a .sectors)) (now (a .pointers)) (a .e) (s .pre .1 .1) ∙ ap (λ (k : ℕ). headsOf (walkLog (a .g) (a .e) false (logSectors (a .g) (a .e) 0 (now (a .sectors)) k))) (sym (m .ensures .0)) in
     let ss = logSectors (a .g) (a .d) 0 (now (a .sectors)) (n .result) in
     let ts = logSectors (a .g) (a .e) 0 (now (a .sectors)) (m .result) in
     rw (hd, he) (differ-if-one (a .g) (a .d) (a .e) ss ts (s .pre .0 .zones-least) (λ h. c .before .if1 .left (p .ensures .0 ∙ h)) (sym (q .ensures .0) ∙ c .if2 .taken))
-
-sub-same-generations : tie.Need-sub-same-generations
-sub-same-generations c = search needs
-
-sub-same-generations-2 : tie.Need-sub-same-generations-2
-sub-same-generations-2 c = search needs
-
-same-generations-requires : tie.Need-same-generations-requires
-same-generations-requires c κs = search needs
 
 returns-3 : tie.Need-returns-3
 returns-3 c =
@@ -76,9 +55,9 @@ returns-3 c =
     let m = c .before .before .before .before .before .sectors-then2 in
     let p = c .before .before .before .before .last-counters in
     let q = c .before .before .before .last-counters2 in
-    let hd : generalHeads (a .g) (seen (a .g) (now (a .sectors)) (now (a .pointers))) (a .d) ≡ headsOf (walkLog (a .g) (a .d) false (logSectors (a .g) (a .d) 0 (now (a .sectors)) (n .result))) =
+    let hd : generalHeads (a .g) (readDevice (a .g) (now (a .sectors)) (now (a .pointers))) (a .d) ≡ headsOf (walkLog (a .g) (a .d) false (logSectors (a .g) (a .d) 0 (now (a .sectors)) (n .result))) =
     seen-heads (a .g) (now (a .sectors)) (now (a .pointers)) (a .d) (s .pre .1 .0) ∙ ap (λ (k : ℕ). headsOf (walkLog (a .g) (a .d) false (logSectors (a .g) (a .d) 0 (now (a .sectors)) k))) (sym (n .ensures .0)) in
-    let he : generalHeads (a .g) (seen (a .g) (now (a .sectors)) (now (a .pointers))) (a .e) ≡ headsOf (walkLog (a .g) (a .e) false (logSectors (a .g) (a .e) 0 (now (a .sectors)) (m .result))) =
+    let he : generalHeads (a .g) (readDevice (a .g) (now (a .sectors)) (now (a .pointers))) (a .e) ≡ headsOf (walkLog (a .g) (a .e) false (logSectors (a .g) (a .e) 0 (now (a .sectors)) (m .result))) =
     seen-heads (a .g) (now (a .sectors)) (now (a .pointers)) (a .e) (s .pre .1 .1) ∙ ap (λ (k : ℕ). headsOf (walkLog (a .g) (a .e) false (logSectors (a .g) (a .e) 0 (now (a .sectors)) k))) (sym (m .ensures .0)) in
     let ss = logSectors (a .g) (a .d) 0 (now (a .sectors)) (n .result) in
     let ts = logSectors (a .g) (a .e) 0 (now (a .sectors)) (m .result) in
@@ -89,14 +68,5 @@ returns-3 c =
 pub same-counters-spec : {M : Type 1} → statement M
 same-counters-spec =
     tie.close
-    (tie.spec
-    sectors-then-requires
-    sectors-then-requires-2
-    last-counters-requires
-    last-counters-requires-2
-    returns
-    returns-2
-    sub-same-generations
-    sub-same-generations-2
-    same-generations-requires
-    returns-3)
+    (tie.spec (λ c κs. search needs) (λ c κs. search needs) (λ c κs. search needs) (λ c κs. search needs) returns returns-2 (λ c. search needs)
+    (λ c. search needs) (λ c κs. search needs) returns-3)

@@ -5,9 +5,9 @@ use native.Mathlib.Omega.{arith}
 use native.Mathlib.Numerals.{add-one}
 use lib.ListN.{getD}
 use lib.Dec.{eqb}
-use Rattle.tables.specs.Below.{allBelow}
-use Rattle.tables.specs.LittleEndian.{readLE}
-use Rattle.logs.specs.WalkCode.{logSectors}
+use Rattle.tables.specs.meaning.Below.{allBelow}
+use Rattle.tables.specs.meaning.LittleEndian.{readLE}
+use Rattle.logs.specs.code.WalkCode.{logSectors}
 use Rattle.volume.proofs.mount_counters.same_generations.Statement.{statement}
 use Rattle.volume.proofs.mount_counters.same_generations.Tie as tie
 
@@ -18,9 +18,6 @@ Inv-loop sectors g d n p e m q l same₀ z₀ same z =
 abbrev μ-loop : tie.MeasureT-loop
 μ-loop sectors g d n p e m q l same₀ z₀ same z = l - z
 
-loop-holds : tie.Need-loop-holds Inv-loop μ-loop
-loop-holds c = (omega arith, refl)
-
 generation-at-requires : tie.Need-generation-at-requires Inv-loop μ-loop
 generation-at-requires c κs = let s = c .before .before .before in (s .pre .0, (record { drive-in = s .pre .1 .1; zone-in = omega arith; short = s .pre .1 .2; long = s .pre .1 .0 }, s .pre .1 .3, c .loop-test .taken))
 
@@ -29,9 +26,6 @@ generation-at-requires-2 c κs = let s = c .before .before .before .before in (s
 
 add-z : tie.Need-add-z Inv-loop μ-loop
 add-z c = omega (arith, c .before .before .loop-test .taken, c .before .before .before .before .before .pre .0 .zones-most)
-
-loop-less : tie.Need-loop-less Inv-loop μ-loop
-loop-less c = omega (arith, c .before .before .loop-test .taken)
 
 loop-again : tie.Need-loop-again Inv-loop μ-loop
 loop-again c = let l = c .before .before .before .loop in (omega (arith, c .before .before .loop-test .taken), rw (add-one, l .inv .1, c .before .generation-at .ensures, c .generation-at2 .ensures) refl)
@@ -42,13 +36,5 @@ returns c = let l = c .before .loop in let e : l .z ≡ c .before .before .befor
 pub same-generations-spec : {M : Type 1} → statement M
 same-generations-spec =
     tie.close
-    (tie.spec
-    Inv-loop
-    μ-loop
-    loop-holds
-    generation-at-requires
-    generation-at-requires-2
-    add-z
-    loop-less
-    loop-again
-    returns)
+    (tie.spec Inv-loop μ-loop (λ c. (omega arith, refl)) generation-at-requires generation-at-requires-2 add-z
+    (λ c. omega (arith, c .before .before .loop-test .taken)) loop-again returns)

@@ -1,9 +1,8 @@
-use Rattle.volume.specs.MountLastEntries.{due-outside, due-elsewhere, due-here}
-use Rattle.volume.specs.MountLook.{zoneLook}
-use Rattle.volume.specs.MountTables.{seen}
-use Rattle.volume.specs.Rules.{parityEntries}
-use Rattle.tables.specs.Sizes.{stripes-most, zone-small}
-use Rattle.tables.specs.Placement.{stripeOf}
+use Rattle.volume.specs.mounting.MountLastEntries.{due-outside, due-elsewhere, due-here}
+use Rattle.volume.specs.mounting.MountLook.{zoneLook}
+use Rattle.volume.specs.meaning.Rules.{parityEntries}
+use Rattle.tables.specs.laws.Sizes.{stripes-most, zone-small}
+use Rattle.tables.specs.meaning.Placement.{stripeOf}
 use denote.Ref.{now}
 use native.Mathlib.Omega.{arith}
 use native.Mathlib.Nat.{div-add-mod'}
@@ -12,18 +11,7 @@ use mathlib.Core.Path.{sym, ap, _∙_}
 use borrow.Author.Needs.{needs}
 use Rattle.volume.proofs.mount_entries.entry_due.Statement.{statement}
 use Rattle.volume.proofs.mount_entries.entry_due.Tie as tie
-
-mul-zone : tie.Need-mul-zone
-mul-zone c = search needs
-
-array-copy-out-zone : tie.Need-array-copy-out-zone
-array-copy-out-zone c = search needs
-
-stripe-sectors-requires : tie.Need-stripe-sectors-requires
-stripe-sectors-requires c κs = search needs
-
-div-s : tie.Need-div-s
-div-s c = search needs
+use Rattle.volume.specs.looking.Knowing.{readDevice}
 
 mul-if1 : tie.Need-mul-if1
 mul-if1 c =
@@ -35,7 +23,7 @@ returns : tie.Need-returns
 unfolding stripeOf
 returns c =
     let a = c .before .before .before .before .before .before .args in
-    sym (due-outside (a .g) (a .look) (a .drive) (a .z) (parityEntries (a .g) (seen (a .g) (now (a .sectors)) (now (a .starts))) (a .drive)) (rw (c .before .stripe-sectors .ensures .0) at (c .if1 .taken)))
+    sym (due-outside (a .g) (a .look) (a .drive) (a .z) (parityEntries (a .g) (readDevice (a .g) (now (a .sectors)) (now (a .starts))) (a .drive)) (rw (c .before .stripe-sectors .ensures .0) at (c .if1 .taken)))
 
 parity-drive-requires : tie.Need-parity-drive-requires
 unfolding stripeOf
@@ -48,13 +36,7 @@ returns-2 : tie.Need-returns-2
 unfolding stripeOf
 returns-2 c =
     let a = c .before .before .before .before .before .before .before .before .args in
-    sym (due-elsewhere (a .g) (a .look) (a .drive) (a .z) (parityEntries (a .g) (seen (a .g) (now (a .sectors)) (now (a .starts))) (a .drive)) (λ e. c .if2 .taken (e ∙ sym (rw (c .before .before .before .stripe-sectors .ensures .0) at (c .before .parity-drive .ensures .0)))))
-
-sectors-then-requires : tie.Need-sectors-then-requires
-sectors-then-requires c κs = search needs
-
-has-partial-at-requires : tie.Need-has-partial-at-requires
-has-partial-at-requires c κs = search needs
+    sym (due-elsewhere (a .g) (a .look) (a .drive) (a .z) (parityEntries (a .g) (readDevice (a .g) (now (a .sectors)) (now (a .starts))) (a .drive)) (λ e. c .if2 .taken (e ∙ sym (rw (c .before .before .before .stripe-sectors .ensures .0) at (c .before .parity-drive .ensures .0)))))
 
 returns-3 : tie.Need-returns-3
 unfolding stripeOf
@@ -68,15 +50,5 @@ returns-3 c =
 pub entry-due-spec : {M : Type 1} → statement M
 entry-due-spec =
     tie.close
-    (tie.spec
-    mul-zone
-    array-copy-out-zone
-    stripe-sectors-requires
-    div-s
-    mul-if1
-    returns
-    parity-drive-requires
-    returns-2
-    sectors-then-requires
-    has-partial-at-requires
-    returns-3)
+    (tie.spec (λ c. search needs) (λ c. search needs) (λ c κs. search needs) (λ c. search needs) mul-if1 returns parity-drive-requires returns-2
+    (λ c κs. search needs) (λ c κs. search needs) returns-3)

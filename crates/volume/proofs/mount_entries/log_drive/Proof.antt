@@ -1,12 +1,13 @@
-use Rattle.volume.specs.MountLastEntries.{entryStores, entered, drive-entries-in}
-use Rattle.volume.specs.MountValues.{shownAt}
-use Rattle.volume.specs.MountLook.{stays}
-use Rattle.volume.specs.MountTables.{seen, appends-more, on-present-in}
-use Rattle.volume.specs.OnTables.{among, appends-nil}
-use Rattle.volume.specs.Rules.{parityEntries}
-use Rattle.tables.specs.Tables.{MadeAppends}
-use Rattle.tables.specs.Phases.{onPresent}
-use Rattle.tables.specs.Below.{eachBelow}
+use Rattle.volume.specs.mounting.MountLastEntries.{zoneEntryStores, entered, drive-entries-in}
+use Rattle.volume.specs.mounting.MountValues.{shownAt}
+use Rattle.volume.specs.mounting.MountLook.{stays}
+use Rattle.volume.specs.mounting.MountTables.{appends-more, on-present-in}
+use Rattle.volume.specs.meaning.CallContracts.{isSet}
+use Rattle.volume.specs.laws.CallContracts.{appends-nil}
+use Rattle.volume.specs.meaning.Rules.{parityEntries}
+use Rattle.tables.specs.laws.Made.{MadeAppends}
+use Rattle.tables.specs.meaning.Phases.{onPresent}
+use Rattle.tables.specs.meaning.Below.{eachBelow}
 use lib.ListN.{length}
 use native.Mathlib.Numerals.{add-one}
 use native.Mathlib.Omega.{arith}
@@ -14,59 +15,45 @@ use mathlib.Core.Path.{_≡_, refl, _∙_}
 use Prim.Native.Nat.{_-_, _≤_}
 use Rattle.volume.proofs.mount_entries.log_drive.Statement.{statement}
 use Rattle.volume.proofs.mount_entries.log_drive.Tie as tie
+use Rattle.volume.specs.looking.Knowing.{readDevice}
 
 abbrev Inv-loop : tie.InvT-loop
 Inv-loop sectors₀ written₀ pointers starts value₀ out₀ g here look drive budget n rest₀ z₀ sectors written value out rest z =
     (z ≤ n) × (length sectors ≡ length sectors₀) × (length written ≡ length written₀) × (length value ≡ length value₀) × (length out ≡ length out₀)
-    × MadeAppends g budget rest (onPresent (among here) (eachBelow (entryStores g look (shownAt g here look sectors₀ pointers) (parityEntries g (seen g sectors₀ starts) drive) drive) z)) sectors₀ written₀ sectors written
+    × MadeAppends g budget rest (onPresent (isSet here) (eachBelow (zoneEntryStores g look (shownAt g here look sectors₀ pointers) (parityEntries g (readDevice g sectors₀ starts) drive) drive) z)) sectors₀ written₀ sectors written
 
 abbrev μ-loop : tie.MeasureT-loop
 μ-loop sectors₀ written₀ pointers starts value₀ out₀ g here look drive budget n rest₀ z₀ sectors written value out rest z = n - z
-
-loop-holds : tie.Need-loop-holds Inv-loop μ-loop
-loop-holds c = (omega arith, refl, refl, refl, refl, appends-nil _ _ _ _)
 
 log-entry-requires : tie.Need-log-entry-requires Inv-loop μ-loop
 log-entry-requires c κs =
     let s = c .before .before .before .before .before .before .before .before .before .before .before .before in
     let a = s .args in
     let l = c .before .before .before .before .before .loop in
-    let k = entered (a .g) (a .here) (a .look) (a .budget) (l .rest) (onPresent (among (a .here)) (eachBelow (entryStores (a .g) (a .look) (shownAt (a .g) (a .here) (a .look) (a .sectors .now) (a .pointers .now)) (parityEntries (a .g) (seen (a .g) (a .sectors .now) (a .starts .now)) (a .drive)) (a .drive)) (l .z))) (a .pointers .now) (a .starts .now) (a .sectors .now) (a .written .now) (l .sectors) (l .written) (s .pre .1 .3) (on-present-in (a .g) (stays (a .look)) (among (a .here)) (eachBelow (entryStores (a .g) (a .look) (shownAt (a .g) (a .here) (a .look) (a .sectors .now) (a .pointers .now)) (parityEntries (a .g) (seen (a .g) (a .sectors .now) (a .starts .now)) (a .drive)) (a .drive)) (l .z)) (drive-entries-in (a .g) (a .here) (a .look) (a .pointers .now) (a .sectors .now) (a .written .now) (s .pre .0) (s .pre .1 .3 .fills) (parityEntries (a .g) (seen (a .g) (a .sectors .now) (a .starts .now)) (a .drive)) (a .drive) (l .z) (s .pre .1 .0) (l .inv .0))) (l .inv .5) in
+    let k = entered (a .g) (a .here) (a .look) (a .budget) (l .rest) (onPresent (isSet (a .here)) (eachBelow (zoneEntryStores (a .g) (a .look) (shownAt (a .g) (a .here) (a .look) (a .sectors .now) (a .pointers .now)) (parityEntries (a .g) (readDevice (a .g) (a .sectors .now) (a .starts .now)) (a .drive)) (a .drive)) (l .z))) (a .pointers .now) (a .starts .now) (a .sectors .now) (a .written .now) (l .sectors) (l .written) (s .pre .1 .3) (on-present-in (a .g) (stays (a .look)) (isSet (a .here)) (eachBelow (zoneEntryStores (a .g) (a .look) (shownAt (a .g) (a .here) (a .look) (a .sectors .now) (a .pointers .now)) (parityEntries (a .g) (readDevice (a .g) (a .sectors .now) (a .starts .now)) (a .drive)) (a .drive)) (l .z)) (drive-entries-in (a .g) (a .here) (a .look) (a .pointers .now) (a .sectors .now) (a .written .now) (s .pre .0) (s .pre .1 .3 .fills) (parityEntries (a .g) (readDevice (a .g) (a .sectors .now) (a .starts .now)) (a .drive)) (a .drive) (l .z) (s .pre .1 .0) (l .inv .0))) (l .inv .5) in
     (s .pre .0, (s .pre .1 .0, c .before .before .before .before .loop-test .taken, l .inv .3 ∙ s .pre .1 .1, l .inv .4 ∙ s .pre .1 .2, k .0))
 
 add-z : tie.Need-add-z Inv-loop μ-loop
 add-z c =
     omega (arith, c .before .before .before .before .before .before .before .before .before .before .before .before .before .before .before .before .before .before .before .before .before .pre .0 .zones-most)
 
-loop-less : tie.Need-loop-less Inv-loop μ-loop
-loop-less c = omega arith
-
 loop-again : tie.Need-loop-again Inv-loop μ-loop
 loop-again c =
-    let s = c .before .before .before .before .before .before .before .before .before .before .before .before .before .before .before .before .before .before .before .before .before in
+    let at-log-entry = c .before .before .before .before .before .before .before .before in
+    let at-loop-test = at-log-entry .before .before .before .before .before in
+    let at-loop = at-loop-test .before in
+    let s = at-loop .before .before .before .before .before .before .before in
     let a = s .args in
-    let l = c .before .before .before .before .before .before .before .before .before .before .before .before .before .before .loop in
-    let f = c .before .before .before .before .before .before .before .before .log-entry in
-    let k = entered (a .g) (a .here) (a .look) (a .budget) (l .rest) (onPresent (among (a .here)) (eachBelow (entryStores (a .g) (a .look) (shownAt (a .g) (a .here) (a .look) (a .sectors .now) (a .pointers .now)) (parityEntries (a .g) (seen (a .g) (a .sectors .now) (a .starts .now)) (a .drive)) (a .drive)) (l .z))) (a .pointers .now) (a .starts .now) (a .sectors .now) (a .written .now) (l .sectors) (l .written) (s .pre .1 .3) (on-present-in (a .g) (stays (a .look)) (among (a .here)) (eachBelow (entryStores (a .g) (a .look) (shownAt (a .g) (a .here) (a .look) (a .sectors .now) (a .pointers .now)) (parityEntries (a .g) (seen (a .g) (a .sectors .now) (a .starts .now)) (a .drive)) (a .drive)) (l .z)) (drive-entries-in (a .g) (a .here) (a .look) (a .pointers .now) (a .sectors .now) (a .written .now) (s .pre .0) (s .pre .1 .3 .fills) (parityEntries (a .g) (seen (a .g) (a .sectors .now) (a .starts .now)) (a .drive)) (a .drive) (l .z) (s .pre .1 .0) (l .inv .0))) (l .inv .5) in (
-      omega (arith, c .before .before .before .before .before .before .before .before .before .before .before .before .before .loop-test .taken),
+    let l = at-loop .loop in
+    let f = at-log-entry .log-entry in
+    let k = entered (a .g) (a .here) (a .look) (a .budget) (l .rest) (onPresent (isSet (a .here)) (eachBelow (zoneEntryStores (a .g) (a .look) (shownAt (a .g) (a .here) (a .look) (a .sectors .now) (a .pointers .now)) (parityEntries (a .g) (readDevice (a .g) (a .sectors .now) (a .starts .now)) (a .drive)) (a .drive)) (l .z))) (a .pointers .now) (a .starts .now) (a .sectors .now) (a .written .now) (l .sectors) (l .written) (s .pre .1 .3) (on-present-in (a .g) (stays (a .look)) (isSet (a .here)) (eachBelow (zoneEntryStores (a .g) (a .look) (shownAt (a .g) (a .here) (a .look) (a .sectors .now) (a .pointers .now)) (parityEntries (a .g) (readDevice (a .g) (a .sectors .now) (a .starts .now)) (a .drive)) (a .drive)) (l .z)) (drive-entries-in (a .g) (a .here) (a .look) (a .pointers .now) (a .sectors .now) (a .written .now) (s .pre .0) (s .pre .1 .3 .fills) (parityEntries (a .g) (readDevice (a .g) (a .sectors .now) (a .starts .now)) (a .drive)) (a .drive) (l .z) (s .pre .1 .0) (l .inv .0))) (l .inv .5) in (
+      omega (arith, at-loop-test .loop-test .taken),
       f .kept .0 ∙ l .inv .1,
       f .kept .1 .0 ∙ l .inv .2,
       f .kept .1 .1 .1 .1 .0 ∙ l .inv .3,
       f .kept .1 .1 .1 .1 .1 .0 ∙ l .inv .4,
-      rw add-one (appends-more (a .g) (among (a .here)) (a .budget) (l .rest) (f .result) (entryStores (a .g) (a .look) (shownAt (a .g) (a .here) (a .look) (a .sectors .now) (a .pointers .now)) (parityEntries (a .g) (seen (a .g) (a .sectors .now) (a .starts .now)) (a .drive)) (a .drive)) (l .z) (a .sectors .now) (a .written .now) (l .sectors) (l .written) (f .last .0) (f .last .1 .0) (l .inv .5) (rw (k .1, k .2) at (f .ensures))),
+      rw add-one (appends-more (a .g) (isSet (a .here)) (a .budget) (l .rest) (f .result) (zoneEntryStores (a .g) (a .look) (shownAt (a .g) (a .here) (a .look) (a .sectors .now) (a .pointers .now)) (parityEntries (a .g) (readDevice (a .g) (a .sectors .now) (a .starts .now)) (a .drive)) (a .drive)) (l .z) (a .sectors .now) (a .written .now) (l .sectors) (l .written) (f .last .0) (f .last .1 .0) (l .inv .5) (rw (k .1, k .2) at (f .ensures))),
     )
-
-same-length : tie.Need-same-length Inv-loop μ-loop
-same-length c = c .before .loop .inv .1
-
-same-length-2 : tie.Need-same-length-2 Inv-loop μ-loop
-same-length-2 c = c .before .loop .inv .2
-
-same-length-3 : tie.Need-same-length-3 Inv-loop μ-loop
-same-length-3 c = c .before .loop .inv .3
-
-same-length-4 : tie.Need-same-length-4 Inv-loop μ-loop
-same-length-4 c = c .before .loop .inv .4
 
 returns : tie.Need-returns Inv-loop μ-loop
 returns c =
@@ -77,16 +64,5 @@ returns c =
 pub log-drive-spec : {M : Type 1} → statement M
 log-drive-spec =
     tie.close
-    (tie.spec
-    Inv-loop
-    μ-loop
-    loop-holds
-    log-entry-requires
-    add-z
-    loop-less
-    loop-again
-    same-length
-    same-length-2
-    same-length-3
-    same-length-4
-    returns)
+    (tie.spec Inv-loop μ-loop (λ c. (omega arith, refl, refl, refl, refl, appends-nil _ _ _ _)) log-entry-requires add-z (λ c. omega arith) loop-again
+    (λ c. c .before .loop .inv .1) (λ c. c .before .loop .inv .2) (λ c. c .before .loop .inv .3) (λ c. c .before .loop .inv .4) returns)

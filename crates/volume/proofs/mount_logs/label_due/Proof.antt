@@ -1,15 +1,9 @@
 use mathlib.Core.Path.{refl}
 use denote.Ref.{now}
-use Rattle.volume.specs.MountHeaders.{labelDue, seen-heads}
+use Rattle.volume.specs.mounting.MountHeaders.{labelDue, seen-heads}
 use borrow.Author.Needs.{needs}
 use Rattle.volume.proofs.mount_logs.label_due.Statement.{statement}
 use Rattle.volume.proofs.mount_logs.label_due.Tie as tie
-
-sectors-then-requires : tie.Need-sectors-then-requires
-sectors-then-requires c κs = search needs
-
-last-lost-requires : tie.Need-last-lost-requires
-last-lost-requires c κs = search needs
 
 returns : tie.Need-returns
 unfolding labelDue
@@ -19,4 +13,4 @@ returns c =
     rw (c .last-lost .ensures .0, c .before .sectors-then .ensures .0, seen-heads (a .g) (now (a .sectors)) (now (a .pointers)) (a .drive) (s .pre .1 .0)) refl
 
 pub label-due-spec : {M : Type 1} → statement M
-label-due-spec = tie.close (tie.spec sectors-then-requires last-lost-requires returns)
+label-due-spec = tie.close (tie.spec (λ c κs. search needs) (λ c κs. search needs) returns)

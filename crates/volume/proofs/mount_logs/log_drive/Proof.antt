@@ -3,64 +3,54 @@ use Prim.Native.Nat.{_-_, _≤_}
 use mathlib.Core.Path.{_≡_, refl, _∙_}
 use native.Mathlib.Omega.{arith}
 use lib.ListN.{length}
-use Rattle.tables.specs.Below.{eachBelow}
-use Rattle.tables.specs.Phases.{onPresent}
-use Rattle.tables.specs.Tables.{MadeAppends}
-use Rattle.volume.specs.OnTables.{among, appends-nil}
-use Rattle.volume.specs.MountTables.{seen, appends-more}
-use Rattle.volume.specs.MountHeaders.{headerStores, logged, header-row-in}
+use Rattle.tables.specs.meaning.Below.{eachBelow}
+use Rattle.tables.specs.meaning.Phases.{onPresent}
+use Rattle.tables.specs.laws.Made.{MadeAppends}
+use Rattle.volume.specs.meaning.CallContracts.{isSet}
+use Rattle.volume.specs.laws.CallContracts.{appends-nil}
+use Rattle.volume.specs.mounting.MountTables.{appends-more}
+use Rattle.volume.specs.mounting.MountHeaders.{headerStores, logged, header-row-in}
 use Rattle.volume.proofs.mount_logs.log_drive.Statement.{statement}
 use Rattle.volume.proofs.mount_logs.log_drive.Tie as tie
+use Rattle.volume.specs.looking.Knowing.{readDevice}
 
 abbrev Inv-loop : tie.InvT-loop
 Inv-loop kind sectors₀ written₀ pointers out₀ g here look drive n budget rest₀ z₀ sectors written out rest z =
     (z ≤ n) × (length sectors ≡ length sectors₀) × (length written ≡ length written₀) × (length out ≡ length out₀)
-    × MadeAppends g budget rest (onPresent (among here) (eachBelow (headerStores g kind look (seen g sectors₀ pointers) drive) z)) sectors₀ written₀ sectors written
+    × MadeAppends g budget rest (onPresent (isSet here) (eachBelow (headerStores g kind look (readDevice g sectors₀ pointers) drive) z)) sectors₀ written₀ sectors written
 
 abbrev μ-loop : tie.MeasureT-loop
 μ-loop kind sectors₀ written₀ pointers out₀ g here look drive n budget rest₀ z₀ sectors written out rest z = n - z
-
-loop-holds : tie.Need-loop-holds Inv-loop μ-loop
-loop-holds c = (omega arith, refl, refl, refl, appends-nil _ _ _ _)
 
 log-header-requires : tie.Need-log-header-requires Inv-loop μ-loop
 log-header-requires c κs =
     let s = c .before .before .before .before .before .before .before .before .before in
     let a = s .args in
     let l = c .before .before .before .before .loop in
-    let k = logged (a .g) (a .look) (a .budget) (l .rest) (onPresent (among (a .here)) (eachBelow (headerStores (a .g) (a .kind) (a .look) (seen (a .g) (a .sectors .now) (a .pointers .now)) (a .drive)) (l .z))) (a .pointers .now) (a .sectors .now) (a .written .now) (l .sectors) (l .written) (s .pre .1 .3) (header-row-in (a .g) (a .kind) (a .look) (seen (a .g) (a .sectors .now) (a .pointers .now)) (among (a .here)) (s .pre .0) (a .drive) (l .z) (s .pre .1 .0)) (l .inv .4) in
+    let k = logged (a .g) (a .look) (a .budget) (l .rest) (onPresent (isSet (a .here)) (eachBelow (headerStores (a .g) (a .kind) (a .look) (readDevice (a .g) (a .sectors .now) (a .pointers .now)) (a .drive)) (l .z))) (a .pointers .now) (a .sectors .now) (a .written .now) (l .sectors) (l .written) (s .pre .1 .3) (header-row-in (a .g) (a .kind) (a .look) (readDevice (a .g) (a .sectors .now) (a .pointers .now)) (isSet (a .here)) (s .pre .0) (a .drive) (l .z) (s .pre .1 .0)) (l .inv .4) in
     (s .pre .0, (s .pre .1 .0, omega arith, l .inv .3 ∙ s .pre .1 .2, k .0))
 
 add-z : tie.Need-add-z Inv-loop μ-loop
 add-z c = omega (arith, c .before .before .before .before .before .before .before .before .before .before .before .before .before .before .before .before .pre .0 .zones-most)
 
-loop-less : tie.Need-loop-less Inv-loop μ-loop
-loop-less c = omega arith
-
 loop-again : tie.Need-loop-again Inv-loop μ-loop
 loop-again c =
-    let s = c .before .before .before .before .before .before .before .before .before .before .before .before .before .before .before .before in
+    let at-log-header = c .before .before .before .before .before .before in
+    let at-loop-test = at-log-header .before .before .before .before in
+    let at-loop = at-loop-test .before in
+    let s = at-loop .before .before .before .before .before in
     let a = s .args in
-    let l = c .before .before .before .before .before .before .before .before .before .before .before .loop in
-    let f = c .before .before .before .before .before .before .log-header in
-    let w = seen (a .g) (a .sectors .now) (a .pointers .now) in
-    let row = headerStores (a .g) (a .kind) (a .look) (seen (a .g) (a .sectors .now) (a .pointers .now)) (a .drive) in
-    let k = logged (a .g) (a .look) (a .budget) (l .rest) (onPresent (among (a .here)) (eachBelow row (l .z))) (a .pointers .now) (a .sectors .now) (a .written .now) (l .sectors) (l .written) (s .pre .1 .3) (header-row-in (a .g) (a .kind) (a .look) w (among (a .here)) (s .pre .0) (a .drive) (l .z) (s .pre .1 .0)) (l .inv .4) in (
-      omega (arith, c .before .before .before .before .before .before .before .before .before .before .loop-test .taken),
+    let l = at-loop .loop in
+    let f = at-log-header .log-header in
+    let w = readDevice (a .g) (a .sectors .now) (a .pointers .now) in
+    let row = headerStores (a .g) (a .kind) (a .look) (readDevice (a .g) (a .sectors .now) (a .pointers .now)) (a .drive) in
+    let k = logged (a .g) (a .look) (a .budget) (l .rest) (onPresent (isSet (a .here)) (eachBelow row (l .z))) (a .pointers .now) (a .sectors .now) (a .written .now) (l .sectors) (l .written) (s .pre .1 .3) (header-row-in (a .g) (a .kind) (a .look) w (isSet (a .here)) (s .pre .0) (a .drive) (l .z) (s .pre .1 .0)) (l .inv .4) in (
+      omega (arith, at-loop-test .loop-test .taken),
       f .kept .1 .0 ∙ l .inv .1,
       f .kept .1 .1 .0 ∙ l .inv .2,
       f .kept .1 .1 .1 .1 .0 ∙ l .inv .3,
-      rw add-one (appends-more (a .g) (among (a .here)) (a .budget) (l .rest) (f .result) row (l .z) (a .sectors .now) (a .written .now) (l .sectors) (l .written) (f .last .1 .0) (f .last .1 .1 .0) (l .inv .4) (rw (k .1) at (f .ensures))),
+      rw add-one (appends-more (a .g) (isSet (a .here)) (a .budget) (l .rest) (f .result) row (l .z) (a .sectors .now) (a .written .now) (l .sectors) (l .written) (f .last .1 .0) (f .last .1 .1 .0) (l .inv .4) (rw (k .1) at (f .ensures))),
     )
-
-same-length : tie.Need-same-length Inv-loop μ-loop
-same-length c = c .before .loop .inv .1
-
-same-length-2 : tie.Need-same-length-2 Inv-loop μ-loop
-same-length-2 c = c .before .loop .inv .2
-
-same-length-3 : tie.Need-same-length-3 Inv-loop μ-loop
-same-length-3 c = c .before .loop .inv .3
 
 returns : tie.Need-returns Inv-loop μ-loop
 returns c =
@@ -71,15 +61,5 @@ returns c =
 pub log-drive-spec : {M : Type 1} → statement M
 log-drive-spec =
     tie.close
-    (tie.spec
-    Inv-loop
-    μ-loop
-    loop-holds
-    log-header-requires
-    add-z
-    loop-less
-    loop-again
-    same-length
-    same-length-2
-    same-length-3
-    returns)
+    (tie.spec Inv-loop μ-loop (λ c. (omega arith, refl, refl, refl, appends-nil _ _ _ _)) log-header-requires add-z (λ c. omega arith) loop-again
+    (λ c. c .before .loop .inv .1) (λ c. c .before .loop .inv .2) (λ c. c .before .loop .inv .3) returns)

@@ -3,63 +3,53 @@ use mathlib.Core.Path.{_≡_, refl, _∙_}
 use native.Mathlib.Omega.{arith}
 use native.Mathlib.Numerals.{add-one}
 use lib.ListN.{length}
-use Rattle.tables.specs.Below.{eachBelow}
-use Rattle.tables.specs.Phases.{onPresent}
-use Rattle.tables.specs.Tables.{MadeAppends}
-use Rattle.volume.specs.OnTables.{among, appends-nil}
-use Rattle.volume.specs.MountTables.{seen, appends-more}
-use Rattle.volume.specs.MountHeaders.{headerStores, headerSteps, logged, header-steps-in}
+use Rattle.tables.specs.meaning.Below.{eachBelow}
+use Rattle.tables.specs.meaning.Phases.{onPresent}
+use Rattle.tables.specs.laws.Made.{MadeAppends}
+use Rattle.volume.specs.meaning.CallContracts.{isSet}
+use Rattle.volume.specs.laws.CallContracts.{appends-nil}
+use Rattle.volume.specs.mounting.MountTables.{appends-more}
+use Rattle.volume.specs.mounting.MountHeaders.{headerStores, headerSteps, logged, header-steps-in}
 use Rattle.volume.proofs.mount_logs.log_headers.Statement.{statement}
 use Rattle.volume.proofs.mount_logs.log_headers.Tie as tie
+use Rattle.volume.specs.looking.Knowing.{readDevice}
 
 abbrev Inv-loop : tie.InvT-loop
 Inv-loop kind sectors₀ written₀ pointers out₀ g here look n budget m rest₀ d₀ sectors written out rest d =
     (d ≤ m) × (length sectors ≡ length sectors₀) × (length written ≡ length written₀) × (length out ≡ length out₀)
-    × MadeAppends g budget rest (onPresent (among here) (headerSteps g kind look (seen g sectors₀ pointers) n d)) sectors₀ written₀ sectors written
+    × MadeAppends g budget rest (onPresent (isSet here) (headerSteps g kind look (readDevice g sectors₀ pointers) n d)) sectors₀ written₀ sectors written
 
 abbrev μ-loop : tie.MeasureT-loop
 μ-loop kind sectors₀ written₀ pointers out₀ g here look n budget m rest₀ d₀ sectors written out rest d = m - d
-
-loop-holds : tie.Need-loop-holds Inv-loop μ-loop
-loop-holds c = (omega arith, refl, refl, refl, appends-nil _ _ _ _)
 
 log-drive-requires : tie.Need-log-drive-requires Inv-loop μ-loop
 log-drive-requires c κs =
     let s = c .before .before .before .before .before .before .before .before .before in
     let a = s .args in
     let l = c .before .before .before .before .loop in
-    let k = logged (a .g) (a .look) (a .budget) (l .rest) (onPresent (among (a .here)) (headerSteps (a .g) (a .kind) (a .look) (seen (a .g) (a .sectors .now) (a .pointers .now)) (a .n) (l .d))) (a .pointers .now) (a .sectors .now) (a .written .now) (l .sectors) (l .written) (s .pre .1 .2) (header-steps-in (a .g) (a .kind) (a .look) (seen (a .g) (a .sectors .now) (a .pointers .now)) (among (a .here)) (s .pre .0) (a .n) (l .d) (l .inv .0)) (l .inv .4) in
+    let k = logged (a .g) (a .look) (a .budget) (l .rest) (onPresent (isSet (a .here)) (headerSteps (a .g) (a .kind) (a .look) (readDevice (a .g) (a .sectors .now) (a .pointers .now)) (a .n) (l .d))) (a .pointers .now) (a .sectors .now) (a .written .now) (l .sectors) (l .written) (s .pre .1 .2) (header-steps-in (a .g) (a .kind) (a .look) (readDevice (a .g) (a .sectors .now) (a .pointers .now)) (isSet (a .here)) (s .pre .0) (a .n) (l .d) (l .inv .0)) (l .inv .4) in
     (s .pre .0, (c .before .before .before .loop-test .taken, s .pre .1 .0, l .inv .3 ∙ s .pre .1 .1, k .0))
 
 add-d : tie.Need-add-d Inv-loop μ-loop
 add-d c = omega (arith, c .before .before .before .before .before .before .before .before .before .before .before .before .before .before .before .before .pre .0 .drives-most)
 
-loop-less : tie.Need-loop-less Inv-loop μ-loop
-loop-less c = omega arith
-
 loop-again : tie.Need-loop-again Inv-loop μ-loop
 loop-again c =
-    let s = c .before .before .before .before .before .before .before .before .before .before .before .before .before .before .before .before in
+    let at-log-drive = c .before .before .before .before .before .before in
+    let at-loop-test = at-log-drive .before .before .before .before in
+    let at-loop = at-loop-test .before in
+    let s = at-loop .before .before .before .before .before in
     let a = s .args in
-    let l = c .before .before .before .before .before .before .before .before .before .before .before .loop in
-    let f = c .before .before .before .before .before .before .log-drive in
-    let w = seen (a .g) (a .sectors .now) (a .pointers .now) in
-    let k = logged (a .g) (a .look) (a .budget) (l .rest) (onPresent (among (a .here)) (headerSteps (a .g) (a .kind) (a .look) (seen (a .g) (a .sectors .now) (a .pointers .now)) (a .n) (l .d))) (a .pointers .now) (a .sectors .now) (a .written .now) (l .sectors) (l .written) (s .pre .1 .2) (header-steps-in (a .g) (a .kind) (a .look) (seen (a .g) (a .sectors .now) (a .pointers .now)) (among (a .here)) (s .pre .0) (a .n) (l .d) (l .inv .0)) (l .inv .4) in (
-      omega (arith, c .before .before .before .before .before .before .before .before .before .before .loop-test .taken),
+    let l = at-loop .loop in
+    let f = at-log-drive .log-drive in
+    let w = readDevice (a .g) (a .sectors .now) (a .pointers .now) in
+    let k = logged (a .g) (a .look) (a .budget) (l .rest) (onPresent (isSet (a .here)) (headerSteps (a .g) (a .kind) (a .look) (readDevice (a .g) (a .sectors .now) (a .pointers .now)) (a .n) (l .d))) (a .pointers .now) (a .sectors .now) (a .written .now) (l .sectors) (l .written) (s .pre .1 .2) (header-steps-in (a .g) (a .kind) (a .look) (readDevice (a .g) (a .sectors .now) (a .pointers .now)) (isSet (a .here)) (s .pre .0) (a .n) (l .d) (l .inv .0)) (l .inv .4) in (
+      omega (arith, at-loop-test .loop-test .taken),
       f .kept .1 .0 ∙ l .inv .1,
       f .kept .1 .1 .0 ∙ l .inv .2,
       f .kept .1 .1 .1 .1 .0 ∙ l .inv .3,
-      rw add-one (appends-more (a .g) (among (a .here)) (a .budget) (l .rest) (f .result) (λ (d : ℕ). eachBelow (headerStores (a .g) (a .kind) (a .look) w d) (a .n)) (l .d) (a .sectors .now) (a .written .now) (l .sectors) (l .written) (f .last .1 .0) (f .last .1 .1 .0) (l .inv .4) (rw (k .1) at (f .ensures))),
+      rw add-one (appends-more (a .g) (isSet (a .here)) (a .budget) (l .rest) (f .result) (λ (d : ℕ). eachBelow (headerStores (a .g) (a .kind) (a .look) w d) (a .n)) (l .d) (a .sectors .now) (a .written .now) (l .sectors) (l .written) (f .last .1 .0) (f .last .1 .1 .0) (l .inv .4) (rw (k .1) at (f .ensures))),
     )
-
-same-length : tie.Need-same-length Inv-loop μ-loop
-same-length c = c .before .loop .inv .1
-
-same-length-2 : tie.Need-same-length-2 Inv-loop μ-loop
-same-length-2 c = c .before .loop .inv .2
-
-same-length-3 : tie.Need-same-length-3 Inv-loop μ-loop
-same-length-3 c = c .before .loop .inv .3
 
 returns : tie.Need-returns Inv-loop μ-loop
 returns c =
@@ -70,15 +60,5 @@ returns c =
 pub log-headers-spec : {M : Type 1} → statement M
 log-headers-spec =
     tie.close
-    (tie.spec
-    Inv-loop
-    μ-loop
-    loop-holds
-    log-drive-requires
-    add-d
-    loop-less
-    loop-again
-    same-length
-    same-length-2
-    same-length-3
-    returns)
+    (tie.spec Inv-loop μ-loop (λ c. (omega arith, refl, refl, refl, appends-nil _ _ _ _)) log-drive-requires add-d (λ c. omega arith) loop-again
+    (λ c. c .before .loop .inv .1) (λ c. c .before .loop .inv .2) (λ c. c .before .loop .inv .3) returns)

@@ -1,8 +1,8 @@
 use denote.Ref.{now}
-use Rattle.tables.specs.Tables.{tablesOf}
-use Rattle.volume.specs.Calls.{flushStores}
-use Rattle.volume.specs.OnTables.{among}
-use Rattle.volume.specs.MountTables.{flush-skipped, flush-due}
+use Rattle.tables.specs.meaning.Tables.{tablesOf}
+use Rattle.volume.specs.meaning.Calls.{flushStores}
+use Rattle.volume.specs.meaning.CallContracts.{isSet}
+use Rattle.volume.specs.mounting.MountTables.{flush-skipped, flush-due}
 use borrow.Author.Needs.{needs}
 use Rattle.volume.proofs.mount_steps.flush_after.Statement.{statement}
 use Rattle.volume.proofs.mount_steps.flush_after.Tie as tie
@@ -10,20 +10,14 @@ use Rattle.volume.proofs.mount_steps.flush_after.Tie as tie
 returns : tie.Need-returns
 returns c =
     let a = c .before .before .before .args in
-    record { made = λ xs ss t m. flush-skipped (a .g) (among (a .here)) (a .before) (a .rest) ss t (tablesOf xs (now (a .written)) (now (a .durable))) (c .if1 .taken) m }
-
-flush-all-requires : tie.Need-flush-all-requires
-flush-all-requires c κs = search needs
-
-same-length : tie.Need-same-length
-same-length c = search needs
+    record { made = λ xs ss t m. flush-skipped (a .g) (isSet (a .here)) (a .before) (a .rest) ss t (tablesOf xs (now (a .written)) (now (a .durable))) (c .if1 .taken) m }
 
 returns-2 : tie.Need-returns-2
 unfolding flushStores
 returns-2 c =
     let a = c .before .before .before .before .before .before .before .args in
     let f = c .before .before .flush-all in
-    record { made = λ xs ss t m. flush-due (a .g) (among (a .here)) (a .before) (a .rest) (f .result) ss t (tablesOf xs (now (a .written)) (now (a .durable))) (tablesOf xs (now (a .written)) (f .last .1 .0)) (c .before .before .before .before .if1 .left) m (f .ensures .made xs) }
+    record { made = λ xs ss t m. flush-due (a .g) (isSet (a .here)) (a .before) (a .rest) (f .result) ss t (tablesOf xs (now (a .written)) (now (a .durable))) (tablesOf xs (now (a .written)) (f .last .1 .0)) (c .before .before .before .before .if1 .left) m (f .ensures .made xs) }
 
 pub flush-after-spec : {M : Type 1} → statement M
-flush-after-spec = tie.close (tie.spec returns flush-all-requires same-length returns-2)
+flush-after-spec = tie.close (tie.spec returns (λ c κs. search needs) (λ c. search needs) returns-2)

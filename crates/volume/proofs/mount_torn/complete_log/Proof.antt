@@ -1,105 +1,89 @@
-use Rattle.volume.specs.MountTornLogs.{torn-absent, torn-idle, torn-inside, torn-found-fits, torn-made}
-use Rattle.volume.specs.MountValues.{shownAt}
-use Rattle.volume.specs.MountTables.{seen}
-use Rattle.volume.specs.OnTables.{among, appends-nil}
+use Rattle.volume.specs.mounting.MountTornLogs.{torn-absent, torn-idle, torn-inside, torn-found-fits, torn-made}
+use Rattle.volume.specs.mounting.MountValues.{shownAt}
+use Rattle.volume.specs.meaning.CallContracts.{isSet}
+use Rattle.volume.specs.laws.CallContracts.{appends-nil}
 use borrow.Author.Tests.{not-true, not-false}
 use denote.Ref.{now}
 use native.Mathlib.Omega.{arith}
-use Prim.Native.Nat.{_<_}
-use mathlib.Core.Path.{sym, _∙_}
+use Prim.Native.Nat.{_≤_, _<_}
+use mathlib.Core.Logic.{⊎-elim}
+use mathlib.Core.Path.{sym, ap, _∙_}
+use denote.Enum.Declared.{tagOf}
+use Rattle.logs.proofs.WalkEnd as WalkEnd
+use Rattle.volume.specs.meaning.Rules.{Shown}
 use borrow.Author.Needs.{needs}
 use Rattle.volume.proofs.mount_torn.complete_log.Statement.{statement}
 use Rattle.volume.proofs.mount_torn.complete_log.Tie as tie
+use Rattle.volume.specs.looking.Knowing.{readDevice}
 
-array-read-present : tie.Need-array-read-present
-array-read-present c = search needs
+abbrev shown : tie.Start → Shown
+shown s = let a = s .args in shownAt (a .g) (a .t7) (a .look) (now (a .sectors)) (now (a .pointers))
 
 returns : tie.Need-returns
 returns c =
-    let a = c .before .before .before .before .before .before .args in
-    rw (torn-absent (a .g) (shownAt (a .g) (a .t7) (a .look) (now (a .sectors)) (now (a .pointers))) (seen (a .g) (now (a .sectors)) (now (a .pointers))) (among (a .t7)) (a .drive) (not-true (among (a .t7) (a .drive)) (c .if1 .taken))) (appends-nil (a .g) (a .budget) (now (a .sectors)) (now (a .written)))
-
-sectors-then-requires : tie.Need-sectors-then-requires
-sectors-then-requires c κs = search needs
-
-walk-log-requires : tie.Need-walk-log-requires
-walk-log-requires c κs = search needs
-
-same-length : tie.Need-same-length
-same-length c = search needs
+    let s = c .before .before .before .before .before .before in
+    let a = s .args in
+    rw (torn-absent (a .g) (shown s) (readDevice (a .g) (now (a .sectors)) (now (a .pointers))) (isSet (a .t7)) (a .drive) (not-true (isSet (a .t7) (a .drive)) (c .if1 .taken))) (appends-nil (a .g) (a .budget) (now (a .sectors)) (now (a .written)))
 
 returns-2 : tie.Need-returns-2
 returns-2 c =
     let s = c .before .before .before .before .before .before .before .before .before .before in
     let a = s .args in
     let n = c .before .before .before .sectors-then in
-    rw (torn-idle (a .g) (shownAt (a .g) (a .t7) (a .look) (now (a .sectors)) (now (a .pointers))) (now (a .sectors)) (now (a .pointers)) (among (a .t7)) (a .drive) (n .result) (s .pre .1 .0) (n .ensures .0) (λ e. c .if2 .taken (c .before .walk-log .ensures .1 ∙ e))) (appends-nil (a .g) (a .budget) (now (a .sectors)) (now (a .written)))
+    rw (torn-idle (a .g) (shown s) (now (a .sectors)) (now (a .pointers)) (isSet (a .t7)) (a .drive) (n .result) (s .pre .1 .0) (n .ensures .0) (λ e. let t = ap (tagOf WalkEnd.the-type) (sym e ∙ sym (c .before .walk-log .ensures .0)) in ⊎-elim (λ k. omega arith) (λ k. omega arith) (c .match .keys2)))
+    (appends-nil (a .g) (a .budget) (now (a .sectors)) (now (a .written)))
+
+-- where the walk has been left at a torn entry
+abbrev start : tie.After-w → tie.Start
+start k = k .before .before .before .before .before .before .before .before .before .before .before
+
+inside : (k : tie.After-w) → (k .w .given .0 .0 < k .before .before .before .before .sectors-then .result) × (k .before .before .before .before .sectors-then .result ≤ 65536)
+inside k =
+    let s = start k in
+    let a = s .args in
+    let n = k .before .before .before .before .sectors-then in
+    let torn = sym (k .before .before .walk-log .ensures .0) ∙ k .w .given .1 in
+    (torn-inside (a .g) (shown s) (now (a .sectors)) (now (a .pointers)) (isSet (a .t7)) (a .drive) (n .result) (s .pre .1 .0) (n .ensures .0) (s .pre .0) (k .w .given .0 .0) torn, omega (arith, n .ensures .1, s .pre .0 .zone-most))
 
 judge-at-requires : tie.Need-judge-at-requires
 judge-at-requires c κs =
-    let s = c .before .before .before .before .before .before .before .before .before .before .before in
-    let a = s .args in
-    let n = c .before .before .before .before .sectors-then in
-    let w = c .before .before .walk-log in
-    let l : w .result .position < n .result = torn-inside (a .g) (shownAt (a .g) (a .t7) (a .look) (now (a .sectors)) (now (a .pointers))) (now (a .sectors)) (now (a .pointers)) (among (a .t7)) (a .drive) (n .result) (s .pre .1 .0) (n .ensures .0) (s .pre .0) (w .result .position) (w .ensures .0) (sym (w .ensures .1) ∙ c .before .if2 .left) in
-    (s .pre .0, (record { drive-in = s .pre .1 .0; zone-in = omega arith; short = n .ensures .1; long = s .pre .1 .3 .logging .sectors-long }, l))
+    let k = c .before .before in
+    let s = start k in
+    let n = k .before .before .before .before .sectors-then in
+    (s .pre .0, (record { drive-in = s .pre .1 .0; zone-in = omega arith; short = n .ensures .1; long = s .pre .1 .3 .logging .sectors-long }, inside k .0))
 
 add-complete-entry : tie.Need-add-complete-entry
-add-complete-entry c = search needs
+add-complete-entry c = let i = inside (c .before .before .before .before .before .before .before) in omega (arith, i .0, i .1)
 
 sub-complete-entry : tie.Need-sub-complete-entry
-sub-complete-entry c =
-    let s = c .before .before .before .before .before .before .before .before .before .before .before .before .before .before .before .before in
-    let a = s .args in
-    let n = c .before .before .before .before .before .before .before .before .before .sectors-then in
-    let w = c .before .before .before .before .before .before .before .walk-log in
-    let l : w .result .position < n .result = torn-inside (a .g) (shownAt (a .g) (a .t7) (a .look) (now (a .sectors)) (now (a .pointers))) (now (a .sectors)) (now (a .pointers)) (among (a .t7)) (a .drive) (n .result) (s .pre .1 .0) (n .ensures .0) (s .pre .0) (w .result .position) (w .ensures .0) (sym (w .ensures .1) ∙ c .before .before .before .before .before .before .if2 .left) in
-    omega (arith, l)
+sub-complete-entry c = omega (arith, inside (c .before .before .before .before .before .before .before) .0)
 
 complete-entry-requires : tie.Need-complete-entry-requires
 complete-entry-requires c κs =
-    let s = c .before .before .before .before .before .before .before .before .before .before .before .before .before .before .before .before in
+    let k = c .before .before .before .before .before .before .before in
+    let s = start k in
     let a = s .args in
-    let n = c .before .before .before .before .before .before .before .before .before .sectors-then in
-    let w = c .before .before .before .before .before .before .before .walk-log in
-    (s .pre .0, (s .pre .1 .0, s .pre .1 .1, s .pre .1 .2, s .pre .1 .3, torn-found-fits (a .g) (shownAt (a .g) (a .t7) (a .look) (now (a .sectors)) (now (a .pointers))) (now (a .sectors)) (now (a .pointers)) (among (a .t7)) (a .drive) (n .result) (s .pre .1 .0) (n .ensures .0) (s .pre .0) (w .result .position) (w .ensures .0) (sym (w .ensures .1) ∙ c .before .before .before .before .before .before .if2 .left) (c .before .before .before .before .judge-at .result) (c .before .before .before .before .judge-at .ensures)))
-
-same-length-2 : tie.Need-same-length-2
-same-length-2 c = search needs
-
-same-length-3 : tie.Need-same-length-3
-same-length-3 c = search needs
-
-same-length-4 : tie.Need-same-length-4
-same-length-4 c = search needs
-
-same-length-5 : tie.Need-same-length-5
-same-length-5 c = search needs
+    let n = k .before .before .before .before .sectors-then in
+    let torn = sym (k .before .before .walk-log .ensures .0) ∙ k .w .given .1 in
+    let j = c .before .before .before .before .judge-at in
+    (s .pre .0, (s .pre .1 .0, s .pre .1 .1, s .pre .1 .2, s .pre .1 .3, torn-found-fits (a .g) (shown s) (now (a .sectors)) (now (a .pointers)) (isSet (a .t7)) (a .drive) (n .result) (s .pre .1 .0) (n .ensures .0) (s .pre .0) (k .w .given .0 .0) torn (j .result) (j .ensures)))
 
 returns-3 : tie.Need-returns-3
 returns-3 c =
-    let s = c .before .before .before .before .before .before .before .before .before .before .before .before .before .before .before .before .before .before .before .before .before .before .before .before .before in
+    let at-complete-entry = c .before .before .before .before .before .before .before .before in
+    let at-judge-at = at-complete-entry .before .before .before .before .before in
+    let k = at-judge-at .before .before .before in
+    let s = start k in
     let a = s .args in
-    let n = c .before .before .before .before .before .before .before .before .before .before .before .before .before .before .before .before .before .before .sectors-then in
-    let w = c .before .before .before .before .before .before .before .before .before .before .before .before .before .before .before .before .walk-log in
-    rw (torn-made (a .g) (shownAt (a .g) (a .t7) (a .look) (now (a .sectors)) (now (a .pointers))) (now (a .sectors)) (now (a .pointers)) (among (a .t7)) (a .drive) (n .result) (s .pre .1 .0) (n .ensures .0) (s .pre .0) (w .result .position) (w .ensures .0) (sym (w .ensures .1) ∙ c .before .before .before .before .before .before .before .before .before .before .before .before .before .before .before .if2 .left) (c .before .before .before .before .before .before .before .before .before .before .before .before .before .judge-at .result) (c .before .before .before .before .before .before .before .before .before .before .before .before .before .judge-at .ensures) (not-false (among (a .t7) (a .drive)) (c .before .before .before .before .before .before .before .before .before .before .before .before .before .before .before .before .before .before .before .if1 .left))) (c .before .before .before .before .before .before .before .before .complete-entry .ensures)
+    let n = k .before .before .before .before .sectors-then in
+    let torn = sym (k .before .before .walk-log .ensures .0) ∙ k .w .given .1 in
+    let j = at-judge-at .judge-at in
+    let here = not-false (isSet (a .t7) (a .drive)) (k .before .before .before .before .before .if1 .left) in
+    rw (torn-made (a .g) (shown s) (now (a .sectors)) (now (a .pointers)) (isSet (a .t7)) (a .drive) (n .result) (s .pre .1 .0) (n .ensures .0) (s .pre .0) (k .w .given .0 .0) torn (j .result) (j .ensures) here) (at-complete-entry .complete-entry .ensures)
 
 pub complete-log-spec : {M : Type 1} → statement M
 complete-log-spec =
     tie.close
-    (tie.spec
-    array-read-present
-    returns
-    sectors-then-requires
-    walk-log-requires
-    same-length
-    returns-2
-    judge-at-requires
-    add-complete-entry
-    sub-complete-entry
-    complete-entry-requires
-    same-length-2
-    same-length-3
-    same-length-4
-    same-length-5
-    returns-3)
+    (tie.spec (λ c. search needs) returns (λ c κs. search needs) (λ c κs. search needs) (λ c. search needs) (λ c. search needs) returns-2
+    judge-at-requires add-complete-entry sub-complete-entry complete-entry-requires (λ c. search needs) (λ c. search needs) (λ c. search needs)
+    (λ c. search needs) returns-3)

@@ -3,24 +3,22 @@ use mathlib.Core.Path.{_≡_, refl, _∙_}
 use native.Mathlib.Omega.{arith}
 use native.Mathlib.Numerals.{add-one}
 use lib.ListN.{length}
-use Rattle.tables.specs.Below.{eachBelow}
-use Rattle.tables.specs.Phases.{onPresent}
-use Rattle.tables.specs.Tables.{MadePointers}
-use Rattle.volume.specs.OnTables.{among, pointers-nil}
-use Rattle.volume.specs.MountTables.{pointers-more}
-use Rattle.volume.specs.MountResets.{zoneResets, zone-reset-steps}
+use Rattle.tables.specs.meaning.Below.{eachBelow}
+use Rattle.tables.specs.meaning.Phases.{onPresent}
+use Rattle.tables.specs.laws.Made.{MadePointers}
+use Rattle.volume.specs.meaning.CallContracts.{isSet}
+use Rattle.volume.specs.laws.CallContracts.{pointers-nil}
+use Rattle.volume.specs.mounting.MountTables.{pointers-more}
+use Rattle.volume.specs.mounting.MountResets.{zoneResets, zone-reset-steps}
 use Rattle.volume.proofs.mount_zones.reset_zones.Statement.{statement}
 use Rattle.volume.proofs.mount_zones.reset_zones.Tie as tie
 
 abbrev Inv-loop : tie.InvT-loop
 Inv-loop written₀ durable₀ g here look budget m rest₀ d₀ written durable rest d =
-    (d ≤ m) × (length written ≡ length written₀) × (length durable ≡ length durable₀) × MadePointers g budget rest (onPresent (among here) (eachBelow (λ (e : ℕ). zoneResets look e (g .zones)) d)) written₀ durable₀ written durable
+    (d ≤ m) × (length written ≡ length written₀) × (length durable ≡ length durable₀) × MadePointers g budget rest (onPresent (isSet here) (eachBelow (λ (e : ℕ). zoneResets look e (g .zones)) d)) written₀ durable₀ written durable
 
 abbrev μ-loop : tie.MeasureT-loop
 μ-loop written₀ durable₀ g here look budget m rest₀ d₀ written durable rest d = m - d
-
-loop-holds : tie.Need-loop-holds Inv-loop μ-loop
-loop-holds c = (omega arith, refl, refl, pointers-nil _ _ _ _)
 
 reset-drive-requires : tie.Need-reset-drive-requires Inv-loop μ-loop
 reset-drive-requires c κs =
@@ -36,21 +34,18 @@ loop-less c = omega (arith, c .before .before .before .before .before .before .b
 
 loop-again : tie.Need-loop-again Inv-loop μ-loop
 loop-again c =
-    let s = c .before .before .before .before .before .before .before .before .before .before .before in
+    let at-reset-drive = c .before .before .before .before in
+    let at-loop-test = at-reset-drive .before .before .before in
+    let at-loop = at-loop-test .before in
+    let s = at-loop .before .before .before in
     let a = s .args in
-    let l = c .before .before .before .before .before .before .before .before .loop in
-    let f = c .before .before .before .before .reset-drive in (
-      omega (arith, c .before .before .before .before .before .before .before .loop-test .taken),
+    let l = at-loop .loop in
+    let f = at-reset-drive .reset-drive in (
+      omega (arith, at-loop-test .loop-test .taken),
       f .kept .0 ∙ l .inv .1,
       f .kept .1 .0 ∙ l .inv .2,
-      rw add-one (pointers-more (a .g) (among (a .here)) (a .budget) (l .rest) (f .result) (λ (e : ℕ). zoneResets (a .look) e (a .g .zones)) (l .d) (a .written .now) (a .durable .now) (l .written) (l .durable) (f .last .0) (f .last .1 .0) (l .inv .3) (f .ensures)),
+      rw add-one (pointers-more (a .g) (isSet (a .here)) (a .budget) (l .rest) (f .result) (λ (e : ℕ). zoneResets (a .look) e (a .g .zones)) (l .d) (a .written .now) (a .durable .now) (l .written) (l .durable) (f .last .0) (f .last .1 .0) (l .inv .3) (f .ensures)),
     )
-
-same-length : tie.Need-same-length Inv-loop μ-loop
-same-length c = c .before .loop .inv .1
-
-same-length-2 : tie.Need-same-length-2 Inv-loop μ-loop
-same-length-2 c = c .before .loop .inv .2
 
 returns : tie.Need-returns Inv-loop μ-loop
 returns c =
@@ -62,14 +57,5 @@ returns c =
 pub reset-zones-spec : {M : Type 1} → statement M
 reset-zones-spec =
     tie.close
-    (tie.spec
-    Inv-loop
-    μ-loop
-    loop-holds
-    reset-drive-requires
-    add-d
-    loop-less
-    loop-again
-    same-length
-    same-length-2
-    returns)
+    (tie.spec Inv-loop μ-loop (λ c. (omega arith, refl, refl, pointers-nil _ _ _ _)) reset-drive-requires add-d loop-less loop-again
+    (λ c. c .before .loop .inv .1) (λ c. c .before .loop .inv .2) returns)

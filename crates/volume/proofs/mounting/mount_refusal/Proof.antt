@@ -3,10 +3,10 @@ use mathlib.Core.Bool.{true, false}
 use native.Mathlib.Omega.{arith}
 use lib.ListN.{length}
 use denote.Ref.{now}
-use Rattle.tables.specs.Tables.{tablesOf}
-use Rattle.volume.specs.OnTables.{verdictNumber}
-use Rattle.volume.specs.Looking.{lookVerdict, shapeNumber, shaped}
-use Rattle.volume.specs.Mounting.{passed-shape, refused-by-look, refused-if-full}
+use Rattle.tables.specs.meaning.Tables.{tablesOf}
+use Rattle.volume.specs.meaning.CallContracts.{verdictNumber, lookVerdict}
+use Rattle.volume.specs.looking.Looking.{shapeNumber, shaped}
+use Rattle.volume.specs.mounting.Mounting.{passed-shape, refused-by-look, refused-if-full}
 use borrow.Author.Needs.{needs}
 use Rattle.volume.proofs.mounting.mount_refusal.Statement.{statement}
 use Rattle.volume.proofs.mounting.mount_refusal.Tie as tie
@@ -16,9 +16,6 @@ accepted c = let h : c .before .look-refusal .result ≡ 0 = omega arith in sym 
 
 passed : (c : tie.Else1) → shapeNumber (c .before .before .before .before .before .args .g) (c .before .before .before .before .before .args .named) (length (now (c .before .before .before .before .before .args .sectors))) (now (c .before .before .before .before .before .args .written)) (now (c .before .before .before .before .before .args .durable)) ≡ 0
 passed c = let a = c .before .before .before .before .before .args in passed-shape (a .g) (a .named) (now (a .sectors)) (now (a .written)) (now (a .durable)) (accepted c)
-
-look-refusal-requires : tie.Need-look-refusal-requires
-look-refusal-requires c κs = search needs
 
 returns : tie.Need-returns
 returns c = let a = c .before .before .before .before .before .args in refused-by-look (a .g) (a .named) (now (a .sectors)) (now (a .written)) (now (a .durable)) (c .before .look-refusal .result) (c .before .look-refusal .ensures) (c .if1 .taken)
@@ -48,10 +45,4 @@ returns-3 c =
 pub mount-refusal-spec : {M : Type 1} → statement M
 mount-refusal-spec =
     tie.close
-    (tie.spec
-    look-refusal-requires
-    returns
-    look-present-requires
-    mount-full-requires
-    returns-2
-    returns-3)
+    (tie.spec (λ c κs. search needs) returns look-present-requires mount-full-requires returns-2 returns-3)

@@ -1,5 +1,5 @@
 use mathlib.Core.Path.{refl, sym, _∙_}
-use Rattle.tables.specs.Basics.{not-true, not-not}
+use Rattle.tables.specs.laws.Basics.{not-true, not-not}
 use borrow.Author.Needs.{needs}
 use Rattle.volume.proofs.reading.limit_of.Statement.{statement}
 use Rattle.volume.proofs.reading.limit_of.Tie as tie

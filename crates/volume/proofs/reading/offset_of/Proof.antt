@@ -1,6 +1,6 @@
 use mathlib.Core.Path.{refl}
 use native.Mathlib.Nat.{mod-lt}
-use Rattle.tables.specs.Sizes.{zone-small}
+use Rattle.tables.specs.laws.Sizes.{zone-small}
 use borrow.Author.Needs.{needs}
 use Rattle.volume.proofs.reading.offset_of.Statement.{statement}
 use Rattle.volume.proofs.reading.offset_of.Tie as tie

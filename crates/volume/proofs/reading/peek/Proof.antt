@@ -3,22 +3,18 @@ use Prim.Native.Nat.{ℕ, _+_, _-_}
 use native.Mathlib.Omega.{arith}
 use lib.ListN.{length, take, drop}
 use denote.Ref.{now}
-use Rattle.tables.specs.Placement.{driveOf, sectorOf}
-use Rattle.tables.specs.Sizes.{bytes-small}
-use Rattle.tables.specs.Tables.{tablesOf, byteAt}
-use Rattle.tables.specs.TablesFrame.{lengths-are}
-use Rattle.volume.specs.Refusals.{zoneOf, offsetOf}
-use Rattle.volume.specs.KnowingValues.{sector-within}
-use Rattle.volume.specs.Peeking.{peekNumber, PeekFits, peek-accepted, peek-refused, peek-done}
+use Rattle.tables.specs.meaning.Placement.{driveOf, sectorOf}
+use Rattle.tables.specs.laws.Sizes.{bytes-small}
+use Rattle.tables.specs.meaning.Tables.{tablesOf, byteAt}
+use Rattle.tables.specs.laws.TablesFrame.{lengths-are}
+use Rattle.volume.specs.meaning.Refusals.{zoneOf, offsetOf}
+use Rattle.volume.specs.looking.KnowingValues.{sector-within}
+use Rattle.volume.specs.meaning.CallContracts.{peekNumber}
+use Rattle.volume.specs.reading.Peeking.{PeekFits, peek-accepted, peek-refused, peek-done}
 use borrow.Author.Needs.{needs}
 use Rattle.volume.proofs.reading.peek.Statement.{statement}
 use Rattle.volume.proofs.reading.peek.Tie as tie
-
-peek-refusal-requires : tie.Need-peek-refusal-requires
-peek-refusal-requires c κs = search needs
-
-slice-aggregate-result : tie.Need-slice-aggregate-result
-slice-aggregate-result c = search needs
+use Rattle.tables.specs.meaning.Geometry.{dataZone}
 
 returns : tie.Need-returns
 returns c = let a = c .before .before .before .before .before .before .args in peek-refused (a .g) (a .named) (a .state) (a .address) (tablesOf (now (a .sectors)) (now (a .written)) (now (a .durable))) (λ k. c .before .if1 .taken (c .before .before .peek-refusal .ensures ∙ k))
@@ -53,12 +49,6 @@ byte-at-requires c κs =
 add-end : tie.Need-add-end
 add-end c = omega (arith, c .byte-at .ensures .1, bytes-small (c .before .before .before .before .before .before .before .before .before .before .args .g) (fits (c .before .before .before .before .before) .passed .valid) .1)
 
-sub-result : tie.Need-sub-result
-sub-result c = search needs
-
-part-result-start : tie.Need-part-result-start
-part-result-start c = search needs
-
 part-result-end : tie.Need-part-result-end
 part-result-end c =
     let a = c .before .before .before .before .before .before .before .before .before .before .args in
@@ -66,31 +56,22 @@ part-result-end c =
 
 returns-2 : tie.Need-returns-2
 returns-2 c =
-    let a = c .before .before .before .before .before .before .before .before .before .before .before .args in
+    let at-offset-of = c .before .before .before .before in
+    let at-zone-of = at-offset-of .before in
+    let s = at-zone-of .before in
+    let at-start = s .before .before .before .before .before in
+    let a = at-start .args in
     let D = a .g .drives in
     let U = a .g .unit in
     let at = c .before .byte-at .result in
     let d : at + a .g .sector - at ≡ a .g .sector = omega arith in
-    let e : at ≡ byteAt (a .g) (driveOf D U (zoneOf (a .g) (a .address)) (offsetOf (a .g) (a .address))) (3 + zoneOf (a .g) (a .address)) (sectorOf D U (offsetOf (a .g) (a .address))) =
-    c .before .byte-at .ensures .0 ∙ ap₂ (λ (k x : ℕ). byteAt (a .g) k (3 + c .before .before .before .before .before .zone-of .result) x) (c .before .before .before .drive-of .ensures .0) (c .before .before .sector-of .ensures)
-    ∙ ap₂ (λ (z o : ℕ). byteAt (a .g) (driveOf D U z o) (3 + z) (sectorOf D U o)) (c .before .before .before .before .before .zone-of .ensures) (c .before .before .before .before .offset-of .ensures .0) in
-    ap₂ (λ (n k : ℕ). take n (drop k (now (a .sectors)))) d e ∙ peek-done (a .g) (a .named) (a .state) (a .address) (tablesOf (now (a .sectors)) (now (a .written)) (now (a .durable))) (accepted (c .before .before .before .before .before .before))
+    let e : at ≡ byteAt (a .g) (driveOf D U (zoneOf (a .g) (a .address)) (offsetOf (a .g) (a .address))) (dataZone (zoneOf (a .g) (a .address))) (sectorOf D U (offsetOf (a .g) (a .address))) =
+    c .before .byte-at .ensures .0 ∙ ap₂ (λ (k x : ℕ). byteAt (a .g) k (dataZone (at-zone-of .zone-of .result)) x) (c .before .before .before .drive-of .ensures .0) (c .before .before .sector-of .ensures)
+    ∙ ap₂ (λ (z o : ℕ). byteAt (a .g) (driveOf D U z o) (dataZone z) (sectorOf D U o)) (at-zone-of .zone-of .ensures) (at-offset-of .offset-of .ensures .0) in
+    ap₂ (λ (n k : ℕ). take n (drop k (now (a .sectors)))) d e ∙ peek-done (a .g) (a .named) (a .state) (a .address) (tablesOf (now (a .sectors)) (now (a .written)) (now (a .durable))) (accepted (s))
 
 pub peek-spec : {M : Type 1} → statement M
 peek-spec =
     tie.close
-    (tie.spec
-    peek-refusal-requires
-    slice-aggregate-result
-    returns
-    zone-of-requires
-    offset-of-requires
-    drive-of-requires
-    sector-of-requires
-    add-byte-at
-    byte-at-requires
-    add-end
-    sub-result
-    part-result-start
-    part-result-end
-    returns-2)
+    (tie.spec (λ c κs. search needs) (λ c. search needs) returns zone-of-requires offset-of-requires drive-of-requires sector-of-requires add-byte-at
+    byte-at-requires add-end (λ c. search needs) (λ c. search needs) part-result-end returns-2)

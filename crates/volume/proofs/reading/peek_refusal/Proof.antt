@@ -5,20 +5,17 @@ use Prim.Native.Nat.{ℕ, _<_}
 use native.Mathlib.Omega.{arith}
 use lib.ListN.{length}
 use denote.Ref.{now}
-use Rattle.tables.specs.Tables.{tablesOf, deviceOf}
-use Rattle.tables.specs.TablesFrame.{lengths-are}
-use Rattle.volume.specs.State.{callPresent}
-use Rattle.volume.specs.Refusals.{zoneOf}
-use Rattle.volume.specs.OnTables.{among, viewState}
-use Rattle.volume.specs.CheckLaws.{presentList, openingNumber, Opened, opened}
-use Rattle.volume.specs.Reading.{zoneNumber, zoneNumberOn, state-fits, opened-readable, zone-on-in, second-is}
-use Rattle.volume.specs.Peeking.{placeNumberOn, peek-first, peek-second, peek-third, place-is}
+use Rattle.tables.specs.meaning.Tables.{tablesOf, deviceOf}
+use Rattle.tables.specs.laws.TablesFrame.{lengths-are}
+use Rattle.volume.specs.meaning.State.{callPresent}
+use Rattle.volume.specs.meaning.Refusals.{zoneOf}
+use Rattle.volume.specs.meaning.CallContracts.{isSet, viewState}
+use Rattle.volume.specs.checks.CheckLaws.{presentList, openingNumber, Opened, opened}
+use Rattle.volume.specs.reading.Reading.{zoneNumber, zoneNumberOn, state-fits, opened-readable, zone-on-in, second-is}
+use Rattle.volume.specs.reading.Peeking.{placeNumberOn, peek-first, peek-second, peek-third, place-is}
 use borrow.Author.Needs.{needs}
 use Rattle.volume.proofs.reading.peek_refusal.Statement.{statement}
 use Rattle.volume.proofs.reading.peek_refusal.Tie as tie
-
-opening-requires : tie.Need-opening-requires
-opening-requires c κs = search needs
 
 returns : tie.Need-returns
 returns c =
@@ -45,7 +42,7 @@ zone-refusal-requires c κs =
     (o .valid, (state-fits (a .g) (a .state) (o .within), lengths-are (a .g) (length (now (a .sectors))) (length (now (a .written))) (length (now (a .durable))) (o .lengths) .1))
 
 -- the number of its zone's rows is the rules'
-zone-is : (c : tie.After-zone-refusal) → c .zone-refusal .result ≡ zoneNumber (c .before .before .before .before .before .before .before .before .args .g) (callPresent (c .before .before .before .before .before .before .before .before .args .g) (among (c .before .before .before .before .before .before .before .before .args .named)) (viewState (c .before .before .before .before .before .before .before .before .args .state))) (deviceOf (c .before .before .before .before .before .before .before .before .args .g) (tablesOf (now (c .before .before .before .before .before .before .before .before .args .sectors)) (now (c .before .before .before .before .before .before .before .before .args .written)) (now (c .before .before .before .before .before .before .before .before .args .durable)))) (viewState (c .before .before .before .before .before .before .before .before .args .state)) (zoneOf (c .before .before .before .before .before .before .before .before .args .g) (c .before .before .before .before .before .before .before .before .args .address))
+zone-is : (c : tie.After-zone-refusal) → c .zone-refusal .result ≡ zoneNumber (c .before .before .before .before .before .before .before .before .args .g) (callPresent (c .before .before .before .before .before .before .before .before .args .g) (isSet (c .before .before .before .before .before .before .before .before .args .named)) (viewState (c .before .before .before .before .before .before .before .before .args .state))) (deviceOf (c .before .before .before .before .before .before .before .before .args .g) (tablesOf (now (c .before .before .before .before .before .before .before .before .args .sectors)) (now (c .before .before .before .before .before .before .before .before .args .written)) (now (c .before .before .before .before .before .before .before .before .args .durable)))) (viewState (c .before .before .before .before .before .before .before .before .args .state)) (zoneOf (c .before .before .before .before .before .before .before .before .args .g) (c .before .before .before .before .before .before .before .before .args .address))
 zone-is c =
     let a = c .before .before .before .before .before .before .before .before .args in
     c .zone-refusal .ensures ∙ ap₂ (λ (h : List Bool) (z : ℕ). zoneNumberOn (a .g) h (now (a .written)) (a .state) z) (c .before .before .present-drives .ensures) (c .before .zone-of .ensures) ∙ second-is (a .g) (a .named) (a .state) (a .address) 0 0 (now (a .sectors)) (now (a .written)) (now (a .durable)) (passed (c .before .before .before))
@@ -55,7 +52,7 @@ returns-2 c =
     let a = c .before .before .before .before .before .before .before .before .before .args in
     zone-is (c .before) ∙ peek-second (a .g) (a .named) (a .state) (a .address) (now (a .sectors)) (now (a .written)) (now (a .durable)) (opened-zero (c .before .before .before .before)) (λ k. c .if2 .taken (zone-is (c .before) ∙ k))
 
-zone-zero : (c : tie.Else2) → zoneNumber (c .before .before .before .before .before .before .before .before .before .args .g) (callPresent (c .before .before .before .before .before .before .before .before .before .args .g) (among (c .before .before .before .before .before .before .before .before .before .args .named)) (viewState (c .before .before .before .before .before .before .before .before .before .args .state))) (deviceOf (c .before .before .before .before .before .before .before .before .before .args .g) (tablesOf (now (c .before .before .before .before .before .before .before .before .before .args .sectors)) (now (c .before .before .before .before .before .before .before .before .before .args .written)) (now (c .before .before .before .before .before .before .before .before .before .args .durable)))) (viewState (c .before .before .before .before .before .before .before .before .before .args .state)) (zoneOf (c .before .before .before .before .before .before .before .before .before .args .g) (c .before .before .before .before .before .before .before .before .before .args .address)) ≡ 0
+zone-zero : (c : tie.Else2) → zoneNumber (c .before .before .before .before .before .before .before .before .before .args .g) (callPresent (c .before .before .before .before .before .before .before .before .before .args .g) (isSet (c .before .before .before .before .before .before .before .before .before .args .named)) (viewState (c .before .before .before .before .before .before .before .before .before .args .state))) (deviceOf (c .before .before .before .before .before .before .before .before .before .args .g) (tablesOf (now (c .before .before .before .before .before .before .before .before .before .args .sectors)) (now (c .before .before .before .before .before .before .before .before .before .args .written)) (now (c .before .before .before .before .before .before .before .before .before .args .durable)))) (viewState (c .before .before .before .before .before .before .before .before .before .args .state)) (zoneOf (c .before .before .before .before .before .before .before .before .before .args .g) (c .before .before .before .before .before .before .before .before .before .args .address)) ≡ 0
 zone-zero c = let e : c .before .zone-refusal .result ≡ 0 = omega arith in sym (zone-is (c .before)) ∙ e
 
 zone-in : (c : tie.Else2) → zoneOf (c .before .before .before .before .before .before .before .before .before .args .g) (c .before .before .before .before .before .before .before .before .before .args .address) < c .before .before .before .before .before .before .before .before .before .args .g .zones
@@ -74,24 +71,21 @@ place-refusal-requires c κs =
 
 returns-3 : tie.Need-returns-3
 returns-3 c =
-    let a = c .before .before .before .before .before .before .before .before .before .before .before .args in
-    let o = passed (c .before .before .before .before .before .before) in
+    let s = c .before .before in
+    let at-zone-of = s .before .before in
+    let at-present-drives = at-zone-of .before in
+    let at-start = at-present-drives .before in
+    let at-start-2 = at-start .before .before .before .before .before in
+    let a = at-start-2 .args in
+    let o = passed (at-start) in
     c .place-refusal .ensures
-    ∙ ap (λ (h : List Bool). placeNumberOn (a .g) h (now (a .written)) (a .state) (c .before .before .before .before .zone-of .result) (c .before .offset-of .result)) (c .before .before .before .before .before .present-drives .ensures)
-    ∙ ap₂ (λ (z o : ℕ). placeNumberOn (a .g) (presentList (a .g) (a .named) (a .state .lost)) (now (a .written)) (a .state) z o) (c .before .before .before .before .zone-of .ensures) (c .before .offset-of .ensures .0)
-    ∙ place-is (a .g) (a .named) (a .state) (a .address) (now (a .sectors)) (now (a .written)) (now (a .durable)) (o .valid) (opened-readable (a .g) (a .named) (a .state) 0 0 (now (a .sectors)) (now (a .written)) (now (a .durable)) (zoneOf (a .g) (a .address)) o (zone-in (c .before .before)))
-    ∙ peek-third (a .g) (a .named) (a .state) (a .address) (now (a .sectors)) (now (a .written)) (now (a .durable)) (opened-zero (c .before .before .before .before .before .before)) (zone-zero (c .before .before))
+    ∙ ap (λ (h : List Bool). placeNumberOn (a .g) h (now (a .written)) (a .state) (at-zone-of .zone-of .result) (c .before .offset-of .result)) (at-present-drives .present-drives .ensures)
+    ∙ ap₂ (λ (z o : ℕ). placeNumberOn (a .g) (presentList (a .g) (a .named) (a .state .lost)) (now (a .written)) (a .state) z o) (at-zone-of .zone-of .ensures) (c .before .offset-of .ensures .0)
+    ∙ place-is (a .g) (a .named) (a .state) (a .address) (now (a .sectors)) (now (a .written)) (now (a .durable)) (o .valid) (opened-readable (a .g) (a .named) (a .state) 0 0 (now (a .sectors)) (now (a .written)) (now (a .durable)) (zoneOf (a .g) (a .address)) o (zone-in (s)))
+    ∙ peek-third (a .g) (a .named) (a .state) (a .address) (now (a .sectors)) (now (a .written)) (now (a .durable)) (opened-zero (at-start)) (zone-zero (s))
 
 pub peek-refusal-spec : {M : Type 1} → statement M
 peek-refusal-spec =
     tie.close
-    (tie.spec
-    opening-requires
-    returns
-    present-drives-requires
-    zone-of-requires
-    zone-refusal-requires
-    returns-2
-    offset-of-requires
-    place-refusal-requires
-    returns-3)
+    (tie.spec (λ c κs. search needs) returns present-drives-requires zone-of-requires zone-refusal-requires returns-2 offset-of-requires
+    place-refusal-requires returns-3)

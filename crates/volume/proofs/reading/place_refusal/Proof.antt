@@ -2,23 +2,14 @@ use mathlib.Core.Path.{refl, sym, _∙_}
 use Prim.Native.Nat.{_+_}
 use native.Mathlib.Omega.{arith}
 use borrow.Author.Tests.{lt-ltb, le-ltb}
-use Rattle.tables.specs.Basics.{not-true, not-not}
-use Rattle.tables.specs.Sizes.{zone-small}
-use Rattle.volume.specs.State.{pointerIn}
-use Rattle.volume.specs.OnTables.{recordAt}
-use Rattle.volume.specs.Peeking.{placeNumberOn}
+use Rattle.tables.specs.laws.Basics.{not-true, not-not}
+use Rattle.tables.specs.laws.Sizes.{zone-small}
+use Rattle.volume.specs.meaning.State.{pointerIn}
+use Rattle.volume.specs.meaning.CallContracts.{recordAt}
+use Rattle.volume.specs.reading.Peeking.{placeNumberOn}
 use borrow.Author.Needs.{needs}
 use Rattle.volume.proofs.reading.place_refusal.Statement.{statement}
 use Rattle.volume.proofs.reading.place_refusal.Tie as tie
-
-mul-record : tie.Need-mul-record
-mul-record c = search needs
-
-array-copy-out-record : tie.Need-array-copy-out-record
-array-copy-out-record c = search needs
-
-pointer-of-requires : tie.Need-pointer-of-requires
-pointer-of-requires c κs = search needs
 
 add-if1 : tie.Need-add-if1
 add-if1 c = let s = c .before .before .before .before in omega (arith, s .pre .1 .2, zone-small (s .args .g) (s .pre .0) .1)
@@ -26,9 +17,6 @@ add-if1 c = let s = c .before .before .before .before in omega (arith, s .pre .1
 returns : tie.Need-returns
 unfolding placeNumberOn
 returns c = let a = c .before .before .before .before .before .args in rw (lt-ltb (pointerIn (recordAt (a .state) (a .z) .condition)) (a .offset + 1) (omega (arith, c .before .pointer-of .ensures, c .if1 .taken))) refl
-
-own-held-requires : tie.Need-own-held-requires
-own-held-requires c κs = search needs
 
 returns-2 : tie.Need-returns-2
 unfolding placeNumberOn
@@ -45,12 +33,4 @@ returns-3 c =
 pub place-refusal-spec : {M : Type 1} → statement M
 place-refusal-spec =
     tie.close
-    (tie.spec
-    mul-record
-    array-copy-out-record
-    pointer-of-requires
-    add-if1
-    returns
-    own-held-requires
-    returns-2
-    returns-3)
+    (tie.spec (λ c. search needs) (λ c. search needs) (λ c κs. search needs) add-if1 returns (λ c κs. search needs) returns-2 returns-3)

@@ -5,20 +5,17 @@ use Prim.Native.Nat.{ℕ}
 use native.Mathlib.Omega.{arith}
 use lib.ListN.{length}
 use denote.Ref.{now}
-use Rattle.tables.specs.Tables.{tablesOf}
+use Rattle.tables.specs.meaning.Tables.{tablesOf}
 use Rattle.volume.specs.declared.Answer.the-variants.{Refused}
-use Rattle.volume.specs.State.{callPresent}
-use Rattle.volume.specs.Refusals.{zoneOf, offsetOf}
-use Rattle.volume.specs.OnTables.{recordAt, among, viewState}
-use Rattle.volume.specs.CheckLaws.{presentList, present-is}
-use Rattle.volume.specs.Knowing.{readDevice}
-use Rattle.volume.specs.Reading.{readNumber, valuesOn, opened-readable, buffer-long, values-durable, ReadFits, read-accepted, read-refused, read-done}
+use Rattle.volume.specs.meaning.State.{callPresent}
+use Rattle.volume.specs.meaning.Refusals.{zoneOf, offsetOf}
+use Rattle.volume.specs.meaning.CallContracts.{recordAt, isSet, viewState, readNumber, valuesOn}
+use Rattle.volume.specs.checks.CheckLaws.{presentList, present-is}
+use Rattle.volume.specs.looking.Knowing.{readDevice}
+use Rattle.volume.specs.reading.Reading.{opened-readable, buffer-long, values-durable, ReadFits, read-accepted, read-refused, read-done}
 use borrow.Author.Needs.{needs}
 use Rattle.volume.proofs.reading.read.Statement.{statement}
 use Rattle.volume.proofs.reading.read.Tie as tie
-
-read-refusal-requires : tie.Need-read-refusal-requires
-read-refusal-requires c κs = search needs
 
 returns : tie.Need-returns
 returns c =
@@ -48,9 +45,6 @@ mul-record c = let f = fits (c .before .before .before .before) in omega (arith,
 array-copy-out-record : tie.Need-array-copy-out-record
 array-copy-out-record c = let f = fits (c .before .before .before .before) in omega (arith, c .before .before .zone-of .ensures, f .zone-in, f .passed .valid .zones-most)
 
-pointer-of-requires : tie.Need-pointer-of-requires
-pointer-of-requires c κs = search needs
-
 read-run-requires : tie.Need-read-run-requires
 read-run-requires c κs =
     let a = c .before .before .before .before .before .before .before .before .before .before .before .before .before .args in
@@ -70,33 +64,25 @@ read-run-requires c κs =
       ),
     )
 
-same-length : tie.Need-same-length
-same-length c = search needs
-
 returns-2 : tie.Need-returns-2
 returns-2 c =
-    let a = c .before .before .before .before .before .before .before .before .before .before .before .before .before .before .before .before .args in
-    let (p, q) = read-done (a .g) (a .named) (a .state) (a .address) (a .count) (now (a .out)) (tablesOf (now (a .sectors)) (now (a .written)) (now (a .durable))) (accepted (c .before .before .before .before .before .before .before .before .before .before)) in (
+    let at-offset-of = c .before .before .before .before .before .before .before in
+    let at-zone-of = at-offset-of .before in
+    let at-present-drives = at-zone-of .before in
+    let s = at-present-drives .before in
+    let at-start = s .before .before .before .before .before .before in
+    let a = at-start .args in
+    let (p, q) = read-done (a .g) (a .named) (a .state) (a .address) (a .count) (now (a .out)) (tablesOf (now (a .sectors)) (now (a .written)) (now (a .durable))) (accepted (s)) in (
       sym p,
       c .before .before .read-run .ensures
-          ∙ ap (λ (h : List Bool). valuesOn (a .g) (among h) (readDevice (a .g) (now (a .sectors)) (now (a .written))) (c .before .before .before .before .before .before .before .before .zone-of .result) (recordAt (a .state) (c .before .before .before .before .before .before .before .before .zone-of .result) .generation) (c .before .before .before .before .before .before .before .offset-of .result) (a .count)) (c .before .before .before .before .before .before .before .before .before .present-drives .ensures)
-          ∙ ap₂ (λ (z o : ℕ). valuesOn (a .g) (among (presentList (a .g) (a .named) (a .state .lost))) (readDevice (a .g) (now (a .sectors)) (now (a .written))) z (recordAt (a .state) z .generation) o (a .count)) (c .before .before .before .before .before .before .before .before .zone-of .ensures) (c .before .before .before .before .before .before .before .offset-of .ensures .0)
+          ∙ ap (λ (h : List Bool). valuesOn (a .g) (isSet h) (readDevice (a .g) (now (a .sectors)) (now (a .written))) (at-zone-of .zone-of .result) (recordAt (a .state) (at-zone-of .zone-of .result) .generation) (at-offset-of .offset-of .result) (a .count)) (at-present-drives .present-drives .ensures)
+          ∙ ap₂ (λ (z o : ℕ). valuesOn (a .g) (isSet (presentList (a .g) (a .named) (a .state .lost))) (readDevice (a .g) (now (a .sectors)) (now (a .written))) z (recordAt (a .state) z .generation) o (a .count)) (at-zone-of .zone-of .ensures) (at-offset-of .offset-of .ensures .0)
           ∙ ap (λ (h : ℕ → Bool). valuesOn (a .g) h (readDevice (a .g) (now (a .sectors)) (now (a .written))) (zoneOf (a .g) (a .address)) (recordAt (a .state) (zoneOf (a .g) (a .address)) .generation) (offsetOf (a .g) (a .address)) (a .count)) (present-is (a .g) (a .named) (a .state))
-          ∙ sym (values-durable (a .g) (callPresent (a .g) (among (a .named)) (viewState (a .state))) (now (a .sectors)) (now (a .written)) (now (a .durable)) (zoneOf (a .g) (a .address)) (recordAt (a .state) (zoneOf (a .g) (a .address)) .generation) (offsetOf (a .g) (a .address)) (a .count)) ∙ sym q,
+          ∙ sym (values-durable (a .g) (callPresent (a .g) (isSet (a .named)) (viewState (a .state))) (now (a .sectors)) (now (a .written)) (now (a .durable)) (zoneOf (a .g) (a .address)) (recordAt (a .state) (zoneOf (a .g) (a .address)) .generation) (offsetOf (a .g) (a .address)) (a .count)) ∙ sym q,
     )
 
 pub read-spec : {M : Type 1} → statement M
 read-spec =
     tie.close
-    (tie.spec
-    read-refusal-requires
-    returns
-    present-drives-requires
-    zone-of-requires
-    offset-of-requires
-    mul-record
-    array-copy-out-record
-    pointer-of-requires
-    read-run-requires
-    same-length
-    returns-2)
+    (tie.spec (λ c κs. search needs) returns present-drives-requires zone-of-requires offset-of-requires mul-record array-copy-out-record
+    (λ c κs. search needs) read-run-requires (λ c. search needs) returns-2)

@@ -5,21 +5,18 @@ use Prim.Native.Nat.{ℕ, _<_}
 use native.Mathlib.Omega.{arith}
 use lib.ListN.{length}
 use denote.Ref.{now}
-use Rattle.tables.specs.Tables.{tablesOf, deviceOf}
-use Rattle.tables.specs.TablesFrame.{lengths-are}
-use Rattle.volume.specs.State.{callPresent}
-use Rattle.volume.specs.Refusals.{zoneOf}
-use Rattle.volume.specs.OnTables.{recordAt, among, viewState}
-use Rattle.volume.specs.ZoneChecks.{reached}
-use Rattle.volume.specs.CheckLaws.{presentList, openingNumber, Opened, opened}
-use Rattle.volume.specs.Knowing.{readDevice}
-use Rattle.volume.specs.Reading.{zoneNumber, zoneNumberOn, runNumber, state-fits, opened-readable, zone-on-in, zone-on-fresh, read-first, read-second, read-third, second-is, third-is}
+use Rattle.tables.specs.meaning.Tables.{tablesOf, deviceOf}
+use Rattle.tables.specs.laws.TablesFrame.{lengths-are}
+use Rattle.volume.specs.meaning.State.{callPresent}
+use Rattle.volume.specs.meaning.Refusals.{zoneOf}
+use Rattle.volume.specs.meaning.CallContracts.{recordAt, isSet, viewState}
+use Rattle.volume.specs.checks.ZoneChecks.{reached}
+use Rattle.volume.specs.checks.CheckLaws.{presentList, openingNumber, Opened, opened}
+use Rattle.volume.specs.looking.Knowing.{readDevice}
+use Rattle.volume.specs.reading.Reading.{zoneNumber, zoneNumberOn, runNumber, state-fits, opened-readable, zone-on-in, zone-on-fresh, read-first, read-second, read-third, second-is, third-is}
 use borrow.Author.Needs.{needs}
 use Rattle.volume.proofs.reading.read_refusal.Statement.{statement}
 use Rattle.volume.proofs.reading.read_refusal.Tie as tie
-
-opening-requires : tie.Need-opening-requires
-opening-requires c κs = search needs
 
 returns : tie.Need-returns
 returns c =
@@ -46,7 +43,7 @@ zone-refusal-requires c κs =
     (o .valid, (state-fits (a .g) (a .state) (o .within), lengths-are (a .g) (length (now (a .sectors))) (length (now (a .written))) (length (now (a .durable))) (o .lengths) .1))
 
 -- the number of its zone's rows is the rules'
-zone-is : (c : tie.After-zone-refusal) → c .zone-refusal .result ≡ zoneNumber (c .before .before .before .before .before .before .before .before .args .g) (callPresent (c .before .before .before .before .before .before .before .before .args .g) (among (c .before .before .before .before .before .before .before .before .args .named)) (viewState (c .before .before .before .before .before .before .before .before .args .state))) (deviceOf (c .before .before .before .before .before .before .before .before .args .g) (tablesOf (now (c .before .before .before .before .before .before .before .before .args .sectors)) (now (c .before .before .before .before .before .before .before .before .args .written)) (now (c .before .before .before .before .before .before .before .before .args .durable)))) (viewState (c .before .before .before .before .before .before .before .before .args .state)) (zoneOf (c .before .before .before .before .before .before .before .before .args .g) (c .before .before .before .before .before .before .before .before .args .address))
+zone-is : (c : tie.After-zone-refusal) → c .zone-refusal .result ≡ zoneNumber (c .before .before .before .before .before .before .before .before .args .g) (callPresent (c .before .before .before .before .before .before .before .before .args .g) (isSet (c .before .before .before .before .before .before .before .before .args .named)) (viewState (c .before .before .before .before .before .before .before .before .args .state))) (deviceOf (c .before .before .before .before .before .before .before .before .args .g) (tablesOf (now (c .before .before .before .before .before .before .before .before .args .sectors)) (now (c .before .before .before .before .before .before .before .before .args .written)) (now (c .before .before .before .before .before .before .before .before .args .durable)))) (viewState (c .before .before .before .before .before .before .before .before .args .state)) (zoneOf (c .before .before .before .before .before .before .before .before .args .g) (c .before .before .before .before .before .before .before .before .args .address))
 zone-is c =
     let a = c .before .before .before .before .before .before .before .before .args in
     c .zone-refusal .ensures ∙ ap₂ (λ (h : List Bool) (z : ℕ). zoneNumberOn (a .g) h (now (a .written)) (a .state) z) (c .before .before .present-drives .ensures) (c .before .zone-of .ensures) ∙ second-is (a .g) (a .named) (a .state) (a .address) (a .count) (a .bytes) (now (a .sectors)) (now (a .written)) (now (a .durable)) (passed (c .before .before .before))
@@ -56,7 +53,7 @@ returns-2 c =
     let a = c .before .before .before .before .before .before .before .before .before .args in
     zone-is (c .before) ∙ read-second (a .g) (a .named) (a .state) (a .address) (a .count) (a .bytes) (now (a .sectors)) (now (a .written)) (now (a .durable)) (opened-zero (c .before .before .before .before)) (λ k. c .if2 .taken (zone-is (c .before) ∙ k))
 
-zone-zero : (c : tie.Else2) → zoneNumber (c .before .before .before .before .before .before .before .before .before .args .g) (callPresent (c .before .before .before .before .before .before .before .before .before .args .g) (among (c .before .before .before .before .before .before .before .before .before .args .named)) (viewState (c .before .before .before .before .before .before .before .before .before .args .state))) (deviceOf (c .before .before .before .before .before .before .before .before .before .args .g) (tablesOf (now (c .before .before .before .before .before .before .before .before .before .args .sectors)) (now (c .before .before .before .before .before .before .before .before .before .args .written)) (now (c .before .before .before .before .before .before .before .before .before .args .durable)))) (viewState (c .before .before .before .before .before .before .before .before .before .args .state)) (zoneOf (c .before .before .before .before .before .before .before .before .before .args .g) (c .before .before .before .before .before .before .before .before .before .args .address)) ≡ 0
+zone-zero : (c : tie.Else2) → zoneNumber (c .before .before .before .before .before .before .before .before .before .args .g) (callPresent (c .before .before .before .before .before .before .before .before .before .args .g) (isSet (c .before .before .before .before .before .before .before .before .before .args .named)) (viewState (c .before .before .before .before .before .before .before .before .before .args .state))) (deviceOf (c .before .before .before .before .before .before .before .before .before .args .g) (tablesOf (now (c .before .before .before .before .before .before .before .before .before .args .sectors)) (now (c .before .before .before .before .before .before .before .before .before .args .written)) (now (c .before .before .before .before .before .before .before .before .before .args .durable)))) (viewState (c .before .before .before .before .before .before .before .before .before .args .state)) (zoneOf (c .before .before .before .before .before .before .before .before .before .args .g) (c .before .before .before .before .before .before .before .before .before .args .address)) ≡ 0
 zone-zero c = let e : c .before .zone-refusal .result ≡ 0 = omega arith in sym (zone-is (c .before)) ∙ e
 
 offset-of-requires : tie.Need-offset-of-requires
@@ -84,20 +81,12 @@ returns-3 : tie.Need-returns-3
 returns-3 c =
     let a = c .before .before .before .before .before .before .before .before .before .before .before .args in
     c .run-refusal .ensures
-    ∙ ap (λ (h : List Bool). runNumber (a .g) (among h) (readDevice (a .g) (now (a .sectors)) (now (a .written))) (viewState (a .state)) (c .before .before .before .before .zone-of .result) (c .before .offset-of .result) (a .count)) (c .before .before .before .before .before .present-drives .ensures)
-    ∙ ap₂ (λ (z o : ℕ). runNumber (a .g) (among (presentList (a .g) (a .named) (a .state .lost))) (readDevice (a .g) (now (a .sectors)) (now (a .written))) (viewState (a .state)) z o (a .count)) (c .before .before .before .before .zone-of .ensures) (c .before .offset-of .ensures .0)
+    ∙ ap (λ (h : List Bool). runNumber (a .g) (isSet h) (readDevice (a .g) (now (a .sectors)) (now (a .written))) (viewState (a .state)) (c .before .before .before .before .zone-of .result) (c .before .offset-of .result) (a .count)) (c .before .before .before .before .before .present-drives .ensures)
+    ∙ ap₂ (λ (z o : ℕ). runNumber (a .g) (isSet (presentList (a .g) (a .named) (a .state .lost))) (readDevice (a .g) (now (a .sectors)) (now (a .written))) (viewState (a .state)) z o (a .count)) (c .before .before .before .before .zone-of .ensures) (c .before .offset-of .ensures .0)
     ∙ third-is (a .g) (a .named) (a .state) (a .address) (a .count) (a .bytes) (now (a .sectors)) (now (a .written)) (now (a .durable)) ∙ read-third (a .g) (a .named) (a .state) (a .address) (a .count) (a .bytes) (now (a .sectors)) (now (a .written)) (now (a .durable)) (opened-zero (c .before .before .before .before .before .before)) (zone-zero (c .before .before))
 
 pub read-refusal-spec : {M : Type 1} → statement M
 read-refusal-spec =
     tie.close
-    (tie.spec
-    opening-requires
-    returns
-    present-drives-requires
-    zone-of-requires
-    zone-refusal-requires
-    returns-2
-    offset-of-requires
-    run-refusal-requires
-    returns-3)
+    (tie.spec (λ c κs. search needs) returns present-drives-requires zone-of-requires zone-refusal-requires returns-2 offset-of-requires
+    run-refusal-requires returns-3)

@@ -1,19 +1,11 @@
 use mathlib.Core.Path.{sym, _∙_}
 use denote.Ref.{now}
-use Rattle.volume.specs.Reading.{valuesOn, held-values}
-use Rattle.volume.specs.ReadingHeld.{run-held, limit-serves}
+use Rattle.volume.specs.meaning.CallContracts.{valuesOn}
+use Rattle.volume.specs.reading.Reading.{held-values}
+use Rattle.volume.specs.reading.ReadingHeld.{run-held, limit-serves}
 use borrow.Author.Needs.{needs}
 use Rattle.volume.proofs.reading.read_run.Statement.{statement}
 use Rattle.volume.proofs.reading.read_run.Tie as tie
-
-count-absent-requires : tie.Need-count-absent-requires
-count-absent-requires c κs = search needs
-
-copy-run-requires : tie.Need-copy-run-requires
-copy-run-requires c κs = search needs
-
-same-length : tie.Need-same-length
-same-length c = search needs
 
 returns : tie.Need-returns
 returns c =
@@ -22,21 +14,12 @@ returns c =
     let held = run-held (a .g) (s .pre .0) (a .here) (now (a .written)) (a .z) (a .pointer) (s .pre .1 .4) (a .offset) (a .count) (sym (c .before .before .before .before .before .count-absent .ensures) ∙ c .before .before .before .before .if1 .taken) (s .pre .1 .5) in
     c .before .before .copy-run .ensures ∙ held-values (a .g) (a .here) (now (a .sectors)) (now (a .written)) (a .z) (s .pre .1 .0) (a .generation) (a .offset) (a .count) (s .pre .0) (s .pre .1 .1) held
 
-add-end : tie.Need-add-end
-add-end c = search needs
-
-limit-of-requires : tie.Need-limit-of-requires
-limit-of-requires c κs = search needs
-
 rebuild-run-requires : tie.Need-rebuild-run-requires
 rebuild-run-requires c κs =
     let s = c .before .before .before .before .before .before .before in
     let a = s .args in
     let serves = limit-serves (a .g) (s .pre .0) (a .here) (now (a .sectors)) (now (a .written)) (a .z) (a .pointer) (s .pre .1 .0) (s .pre .1 .4) (a .generation) (a .offset) (a .count) (s .pre .1 .5) in
     (s .pre .0, (s .pre .1 .0, s .pre .1 .1, s .pre .1 .2, s .pre .1 .3, rw (c .before .limit-of .ensures) serves))
-
-same-length-2 : tie.Need-same-length-2
-same-length-2 c = search needs
 
 returns-2 : tie.Need-returns-2
 unfolding valuesOn
@@ -45,13 +28,5 @@ returns-2 c = c .before .before .rebuild-run .ensures
 pub read-run-spec : {M : Type 1} → statement M
 read-run-spec =
     tie.close
-    (tie.spec
-    count-absent-requires
-    copy-run-requires
-    same-length
-    returns
-    add-end
-    limit-of-requires
-    rebuild-run-requires
-    same-length-2
-    returns-2)
+    (tie.spec (λ c κs. search needs) (λ c κs. search needs) (λ c. search needs) returns (λ c. search needs) (λ c κs. search needs)
+    rebuild-run-requires (λ c. search needs) returns-2)

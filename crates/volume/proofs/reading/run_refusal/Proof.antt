@@ -4,20 +4,14 @@ use Prim.Native.Nat.{ℕ, _+_}
 use native.Mathlib.Omega.{arith}
 use lib.Dec.{ltb, eqb}
 use borrow.Author.Tests.{lt-ltb, le-ltb, ltb-false}
-use Rattle.tables.specs.Basics.{or-none}
-use Rattle.volume.specs.State.{pointerIn}
-use Rattle.volume.specs.Refusals.{badRun}
-use Rattle.volume.specs.OnTables.{recordAt}
-use Rattle.volume.specs.Reading.{runNumber}
+use Rattle.tables.specs.laws.Basics.{or-none}
+use Rattle.volume.specs.meaning.State.{pointerIn}
+use Rattle.volume.specs.meaning.Refusals.{badRun}
+use Rattle.volume.specs.meaning.CallContracts.{recordAt}
+use Rattle.volume.specs.reading.Reading.{runNumber}
 use borrow.Author.Needs.{needs}
 use Rattle.volume.proofs.reading.run_refusal.Statement.{statement}
 use Rattle.volume.proofs.reading.run_refusal.Tie as tie
-
-zone-sectors-requires : tie.Need-zone-sectors-requires
-zone-sectors-requires c κs = search needs
-
-add-end : tie.Need-add-end
-add-end c = search needs
 
 run-bad : (c : tie.After-zone-sectors) → eqb (c .before .before .before .args .count) 0 || ltb (c .zone-sectors .result) (c .before .before .before .args .offset + c .before .before .before .args .count) ≡ badRun (c .before .before .before .args .g) (c .before .before .before .args .offset) (c .before .before .before .args .count)
 run-bad c = let a = c .before .before .before .args in ap (λ (m : ℕ). eqb (a .count) 0 || ltb m (a .offset + a .count)) (c .zone-sectors .ensures .0)
@@ -25,15 +19,6 @@ run-bad c = let a = c .before .before .before .args in ap (λ (m : ℕ). eqb (a 
 returns : tie.Need-returns
 unfolding runNumber
 returns c = rw (sym (run-bad (c .before)) ∙ c .if1 .taken) refl
-
-mul-record : tie.Need-mul-record
-mul-record c = search needs
-
-array-copy-out-record : tie.Need-array-copy-out-record
-array-copy-out-record c = search needs
-
-pointer-of-requires : tie.Need-pointer-of-requires
-pointer-of-requires c κs = search needs
 
 returns-2 : tie.Need-returns-2
 unfolding runNumber
@@ -53,28 +38,25 @@ is-gone-requires c κs =
 returns-3 : tie.Need-returns-3
 unfolding runNumber
 returns-3 c =
-    let a = c .before .before .before .before .before .before .before .before .before .before .args in
+    let at-if = c .before .before .before .before .before .before in
+    let s = at-if .before in
+    let at-start = s .before .before .before in
+    let a = at-start .args in
     let p = c .before .before .before .pointer-of .ensures in
-    rw (sym (run-bad (c .before .before .before .before .before .before .before)) ∙ c .before .before .before .before .before .before .if1 .left, le-ltb (pointerIn (recordAt (a .state) (a .z) .condition)) (a .offset + a .count) (omega (arith, p, c .before .before .if2 .left)), sym (c .before .is-gone .ensures) ∙ c .if3 .taken) refl
+    rw (sym (run-bad (s)) ∙ at-if .if1 .left, le-ltb (pointerIn (recordAt (a .state) (a .z) .condition)) (a .offset + a .count) (omega (arith, p, c .before .before .if2 .left)), sym (c .before .is-gone .ensures) ∙ c .if3 .taken) refl
 
 returns-4 : tie.Need-returns-4
 unfolding runNumber
 returns-4 c =
-    let a = c .before .before .before .before .before .before .before .before .before .before .args in
+    let at-if = c .before .before .before .before .before .before in
+    let s = at-if .before in
+    let at-start = s .before .before .before in
+    let a = at-start .args in
     let p = c .before .before .before .pointer-of .ensures in
-    rw (sym (run-bad (c .before .before .before .before .before .before .before)) ∙ c .before .before .before .before .before .before .if1 .left, le-ltb (pointerIn (recordAt (a .state) (a .z) .condition)) (a .offset + a .count) (omega (arith, p, c .before .before .if2 .left)), sym (c .before .is-gone .ensures) ∙ c .if3 .left) refl
+    rw (sym (run-bad (s)) ∙ at-if .if1 .left, le-ltb (pointerIn (recordAt (a .state) (a .z) .condition)) (a .offset + a .count) (omega (arith, p, c .before .before .if2 .left)), sym (c .before .is-gone .ensures) ∙ c .if3 .left) refl
 
 pub run-refusal-spec : {M : Type 1} → statement M
 run-refusal-spec =
     tie.close
-    (tie.spec
-    zone-sectors-requires
-    add-end
-    returns
-    mul-record
-    array-copy-out-record
-    pointer-of-requires
-    returns-2
-    is-gone-requires
-    returns-3
-    returns-4)
+    (tie.spec (λ c κs. search needs) (λ c. search needs) returns (λ c. search needs) (λ c. search needs) (λ c κs. search needs) returns-2
+    is-gone-requires returns-3 returns-4)

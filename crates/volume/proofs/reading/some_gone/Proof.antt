@@ -3,15 +3,15 @@ use mathlib.Core.Bool.{Bool, _||_, not}
 use Prim.Native.Nat.{_-_, _≤_}
 use native.Mathlib.Omega.{arith}
 use native.Mathlib.Numerals.{add-one}
-use Rattle.tables.specs.Sizes.{zone-small}
-use Rattle.volume.specs.Refusals.{goneIn}
-use Rattle.volume.specs.OnTables.{among}
-use Rattle.volume.specs.Knowing.{readDevice}
+use Rattle.tables.specs.laws.Sizes.{zone-small}
+use Rattle.volume.specs.meaning.Refusals.{goneIn}
+use Rattle.volume.specs.meaning.CallContracts.{isSet}
+use Rattle.volume.specs.looking.Knowing.{readDevice}
 use Rattle.volume.proofs.reading.some_gone.Statement.{statement}
 use Rattle.volume.proofs.reading.some_gone.Tie as tie
 
 abbrev Inv-loop : tie.InvT-loop
-Inv-loop sectors written g here z generation limit offset count gone₀ i₀ gone i = (i ≤ count) × (gone ≡ goneIn g (among here) (readDevice g sectors written) z generation offset i)
+Inv-loop sectors written g here z generation limit offset count gone₀ i₀ gone i = (i ≤ count) × (gone ≡ goneIn g (isSet here) (readDevice g sectors written) z generation offset i)
 
 abbrev μ-loop : tie.MeasureT-loop
 μ-loop sectors written g here z generation limit offset count gone₀ i₀ gone i = count - i
@@ -29,9 +29,6 @@ is-known-requires c κs = let s = c .before .before .before .before in (s .pre .
 add-i : tie.Need-add-i Inv-loop μ-loop
 add-i c = let s = c .before .before .before .before .before in omega (arith, s .pre .1 .1, zone-small (s .args .g) (s .pre .0) .1)
 
-loop-less : tie.Need-loop-less Inv-loop μ-loop
-loop-less c = omega arith
-
 loop-again : tie.Need-loop-again Inv-loop μ-loop
 unfolding goneIn
 loop-again c =
@@ -47,13 +44,4 @@ returns c =
 pub some-gone-spec : {M : Type 1} → statement M
 some-gone-spec =
     tie.close
-    (tie.spec
-    Inv-loop
-    μ-loop
-    loop-holds
-    add-is-known
-    is-known-requires
-    add-i
-    loop-less
-    loop-again
-    returns)
+    (tie.spec Inv-loop μ-loop loop-holds add-is-known is-known-requires add-i (λ c. omega arith) loop-again returns)

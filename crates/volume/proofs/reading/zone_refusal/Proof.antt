@@ -1,7 +1,7 @@
 use mathlib.Core.Path.{refl, sym, _∙_}
 use native.Mathlib.Omega.{arith}
 use borrow.Author.Tests.{lt-ltb, le-ltb}
-use Rattle.volume.specs.Reading.{zoneNumberOn}
+use Rattle.volume.specs.reading.Reading.{zoneNumberOn}
 use borrow.Author.Needs.{needs}
 use Rattle.volume.proofs.reading.zone_refusal.Statement.{statement}
 use Rattle.volume.proofs.reading.zone_refusal.Tie as tie

@@ -6,16 +6,18 @@ use native.Mathlib.Omega.{arith}
 use native.Mathlib.Numerals.{add-one}
 use lib.ListN.{length}
 use denote.Ref.{now}
-use Rattle.tables.specs.Device.{Store}
-use Rattle.tables.specs.Tables.{Tables, tablesOf, Made}
-use Rattle.tables.specs.TablesFrame.{lengths-are}
+use Rattle.tables.specs.meaning.Device.{Store}
+use Rattle.tables.specs.meaning.Tables.{Tables, tablesOf}
+use Rattle.tables.specs.laws.Made.{Made}
+use Rattle.tables.specs.laws.TablesFrame.{lengths-are}
 use Rattle.volume.specs.declared.State.{State}
-use Rattle.volume.specs.State.{callPresent}
-use Rattle.volume.specs.Calls.{resetStores}
-use Rattle.volume.specs.Answers.{lostIn}
-use Rattle.volume.specs.OnTables.{among, viewState, verdictNumber, storing-refused, storing-unfinished, storing-finished}
-use Rattle.volume.specs.CheckLaws.{present-is, left-out-is}
-use Rattle.volume.specs.Resetting.{resetOn, resetVerdict, withReset, reset-refusal, ResetAccepted, reset-accepted}
+use Rattle.volume.specs.meaning.State.{callPresent}
+use Rattle.volume.specs.meaning.Calls.{resetStores}
+use Rattle.volume.specs.meaning.Answers.{lostIn}
+use Rattle.volume.specs.meaning.CallContracts.{isSet, viewState, verdictNumber, resetOn, resetVerdict, withReset}
+use Rattle.volume.specs.laws.CallContracts.{storing-refused, storing-unfinished, storing-finished}
+use Rattle.volume.specs.checks.CheckLaws.{present-is, left-out-is}
+use Rattle.volume.specs.storing.Resetting.{reset-refusal, ResetAccepted, reset-accepted}
 use borrow.Author.Needs.{needs}
 use Rattle.volume.proofs.resetting.reset.Statement.{statement}
 use Rattle.volume.proofs.resetting.reset.Tie as tie
@@ -28,19 +30,10 @@ abbrev refusal : tie.Start → ℕ
 refusal s = verdictNumber (resetVerdict (s .args .g) (s .args .named) (s .args .state) (s .args .zone) (given s))
 
 abbrev stores : tie.Start → List Store
-stores s = resetStores (s .args .g) (callPresent (s .args .g) (among (s .args .named)) (viewState (s .args .state))) (viewState (s .args .state)) (s .args .zone)
+stores s = resetStores (s .args .g) (callPresent (s .args .g) (isSet (s .args .named)) (viewState (s .args .state))) (viewState (s .args .state)) (s .args .zone)
 
 abbrev next : tie.Start → State
-next s = withReset (s .args .state) (s .args .zone) (lostIn (s .args .g) (among (s .args .named)) (viewState (s .args .state)))
-
-reset-refusal-requires : tie.Need-reset-refusal-requires
-reset-refusal-requires c κs = search needs
-
-same-length : tie.Need-same-length
-same-length c = search needs
-
-same-length-2 : tie.Need-same-length-2
-same-length-2 c = search needs
+next s = withReset (s .args .state) (s .args .zone) (lostIn (s .args .g) (isSet (s .args .named)) (viewState (s .args .state)))
 
 number : (c : tie.After-reset-refusal) → c .reset-refusal .result ≡ refusal (c .before .before .before .before .before .before)
 number c = let a = c .before .before .before .before .before .before .args in c .reset-refusal .ensures ∙ reset-refusal (a .g) (a .named) (a .state) (a .zone) (now (a .sectors)) (now (a .written)) (now (a .durable))
@@ -61,27 +54,12 @@ returns c =
     let (p, q) = storing-refused (a .g) (refusal s) (stores s) (next s) (a .state) (a .count) (given s) (rw (← e) h) in
     (sym (p ∙ rw (← e) refl), sym q)
 
-present-drives-requires : tie.Need-present-drives-requires
-present-drives-requires c κs = accepted c .first .valid
-
-add-budget : tie.Need-add-budget
-add-budget c = search needs
-
 reset-stores-requires : tie.Need-reset-stores-requires
 reset-stores-requires c κs =
     let a = c .before .before .before .before .before .before .before .before .before .before .before .args in
     let o = accepted (c .before .before .before .before) in
     let l = lengths-are (a .g) (length (now (a .sectors))) (length (now (a .written))) (length (now (a .durable))) (o .first .lengths) in
     (o .first .valid, (o .zone, o .fresh, l .0, l .1, l .2))
-
-same-length-3 : tie.Need-same-length-3
-same-length-3 c = search needs
-
-same-length-4 : tie.Need-same-length-4
-same-length-4 c = search needs
-
-same-length-5 : tie.Need-same-length-5
-same-length-5 c = search needs
 
 -- what was made, as the call's stores
 abbrev left : tie.After-reset-stores → Tables
@@ -95,10 +73,13 @@ made c =
 returns-2 : tie.Need-returns-2
 unfolding resetOn
 returns-2 c =
-    let s = c .before .before .before .before .before .before .before .before .before .before .before .before .before .before .before .before .before .before .before in
+    let at-reset-stores = c .before .before .before .before .before .before .before in
+    let at-start = at-reset-stores .before .before .before .before .before in
+    let at-start-2 = at-start .before in
+    let s = at-start-2 .before .before .before .before .before .before in
     let a = s .args in
-    let e = sym (number (c .before .before .before .before .before .before .before .before .before .before .before .before .before)) ∙ passed (c .before .before .before .before .before .before .before .before .before .before .before .before) in
-    let (p, q) = storing-unfinished (a .g) (refusal s) (stores s) (next s) (a .state) (a .count) (given s) (c .before .before .before .before .before .before .before .reset-stores .result) (left (c .before .before .before .before .before .before .before)) e (made (c .before .before .before .before .before .before .before)) (c .if2 .taken) in
+    let e = sym (number (at-start-2)) ∙ passed (at-start) in
+    let (p, q) = storing-unfinished (a .g) (refusal s) (stores s) (next s) (a .state) (a .count) (given s) (at-reset-stores .reset-stores .result) (left (at-reset-stores)) e (made (at-reset-stores)) (c .if2 .taken) in
     (sym p, sym q)
 
 left-out-requires : tie.Need-left-out-requires
@@ -107,43 +88,23 @@ left-out-requires c κs = accepted (c .before .before .before .before .before .b
 reset-state-requires : tie.Need-reset-state-requires
 reset-state-requires c κs = let o = accepted (c .before .before .before .before .before .before .before .before .before .before .before .before .before) in (omega (arith, o .zone, o .first .valid .zones-most), o .fresh)
 
-same-length-6 : tie.Need-same-length-6
-same-length-6 c = search needs
-
-same-length-7 : tie.Need-same-length-7
-same-length-7 c = search needs
-
-same-length-8 : tie.Need-same-length-8
-same-length-8 c = search needs
-
 returns-3 : tie.Need-returns-3
 unfolding resetOn
 returns-3 c =
-    let s = c .before .before .before .before .before .before .before .before .before .before .before .before .before .before .before .before .before .before .before .before .before in
+    let at-reset-stores = c .before .before .before .before .before .before .before .before .before in
+    let at-present-drives = at-reset-stores .before .before .before .before in
+    let at-start = at-present-drives .before in
+    let at-start-2 = at-start .before in
+    let s = at-start-2 .before .before .before .before .before .before in
     let a = s .args in
-    let e = sym (number (c .before .before .before .before .before .before .before .before .before .before .before .before .before .before .before)) ∙ passed (c .before .before .before .before .before .before .before .before .before .before .before .before .before .before) in
-    let x : c .before .left-out .result ≡ lostIn (a .g) (among (a .named)) (viewState (a .state)) = c .before .left-out .ensures ∙ rw (c .before .before .before .before .before .before .before .before .before .before .before .before .before .present-drives .ensures) (left-out-is (a .g) (a .named) (a .state)) in
-    let (p, q) = storing-finished (a .g) (refusal s) (stores s) (next s) (a .state) (a .count) (given s) (c .before .before .before .before .before .before .before .before .before .reset-stores .result) (left (c .before .before .before .before .before .before .before .before .before)) e (made (c .before .before .before .before .before .before .before .before .before)) (c .before .before .if2 .left) in
+    let e = sym (number (at-start-2)) ∙ passed (at-start) in
+    let x : c .before .left-out .result ≡ lostIn (a .g) (isSet (a .named)) (viewState (a .state)) = c .before .left-out .ensures ∙ rw (at-present-drives .present-drives .ensures) (left-out-is (a .g) (a .named) (a .state)) in
+    let (p, q) = storing-finished (a .g) (refusal s) (stores s) (next s) (a .state) (a .count) (given s) (at-reset-stores .reset-stores .result) (left (at-reset-stores)) e (made (at-reset-stores)) (c .before .before .if2 .left) in
     (rw (c .reset-state .ensures, x) (sym p), sym q)
 
 pub reset-spec : {M : Type 1} → statement M
 reset-spec =
     tie.close
-    (tie.spec
-    reset-refusal-requires
-    same-length
-    same-length-2
-    returns
-    present-drives-requires
-    add-budget
-    reset-stores-requires
-    same-length-3
-    same-length-4
-    same-length-5
-    returns-2
-    left-out-requires
-    reset-state-requires
-    same-length-6
-    same-length-7
-    same-length-8
-    returns-3)
+    (tie.spec (λ c κs. search needs) (λ c. search needs) (λ c. search needs) returns (λ c κs. accepted c .first .valid) (λ c. search needs)
+    reset-stores-requires (λ c. search needs) (λ c. search needs) (λ c. search needs) returns-2 left-out-requires reset-state-requires
+    (λ c. search needs) (λ c. search needs) (λ c. search needs) returns-3)

@@ -2,7 +2,7 @@ use Prim.Native.Nat.{suc, _+_}
 use mathlib.Core.Path.{_≡_, refl}
 use native.Mathlib.Omega.{arith}
 use borrow.Author.Tests.{eq-eqb, ne-eqb}
-use Rattle.logs.specs.Entry.{wornGeneration}
+use Rattle.logs.specs.meaning.Entry.{wornGeneration}
 use Rattle.volume.proofs.resetting.reset_record.Statement.{statement}
 use Rattle.volume.proofs.resetting.reset_record.Tie as tie
 

@@ -3,15 +3,12 @@ use mathlib.Core.Logic.{_≢_}
 use native.Mathlib.Omega.{arith}
 use lib.ListN.{length}
 use denote.Ref.{now}
-use Rattle.tables.specs.TablesFrame.{lengths-are}
-use Rattle.volume.specs.CheckLaws.{Opened, opened}
-use Rattle.volume.specs.Resetting.{reset-early, reset-late}
+use Rattle.tables.specs.laws.TablesFrame.{lengths-are}
+use Rattle.volume.specs.checks.CheckLaws.{Opened, opened}
+use Rattle.volume.specs.storing.Resetting.{reset-early, reset-late}
 use borrow.Author.Needs.{needs}
 use Rattle.volume.proofs.resetting.reset_refusal.Statement.{statement}
 use Rattle.volume.proofs.resetting.reset_refusal.Tie as tie
-
-opening-requires : tie.Need-opening-requires
-opening-requires c κs = search needs
 
 passed : (c : tie.Else1) → c .before .opening .result ≡ 0
 passed c = omega arith
@@ -24,9 +21,6 @@ returns c =
     let a = c .before .before .before .before .args in
     let h : c .before .opening .result ≢ 0 = c .if1 .taken in
     c .before .opening .ensures ∙ reset-early (a .g) (a .named) (a .state) (a .z) (a .sectors) (now (a .written)) (now (a .durable)) (rw (c .before .opening .ensures) at h)
-
-present-drives-requires : tie.Need-present-drives-requires
-present-drives-requires c κs = accepted c .valid
 
 zone-refusal-requires : tie.Need-zone-refusal-requires
 zone-refusal-requires c κs =
@@ -42,4 +36,4 @@ returns-2 c =
 pub reset-refusal-spec : {M : Type 1} → statement M
 reset-refusal-spec =
     tie.close
-    (tie.spec opening-requires returns present-drives-requires zone-refusal-requires returns-2)
+    (tie.spec (λ c κs. search needs) returns (λ c κs. accepted c .valid) zone-refusal-requires returns-2)

@@ -2,21 +2,12 @@ use mathlib.Core.Path.{_≡_, _∙_}
 use native.Mathlib.Omega.{arith}
 use lib.ListN.{length, take}
 use denote.Ref.{now}
-use Rattle.tables.specs.Geometry.{cells, totalBytes}
-use Rattle.volume.specs.OnTables.{among}
-use Rattle.volume.specs.Resetting.{raised-long, raised-first, reset-made}
+use Rattle.tables.specs.meaning.Geometry.{cells, totalBytes}
+use Rattle.volume.specs.meaning.CallContracts.{isSet}
+use Rattle.volume.specs.storing.Resetting.{raised-long, raised-first, reset-made}
 use borrow.Author.Needs.{needs}
 use Rattle.volume.proofs.resetting.reset_stores.Statement.{statement}
 use Rattle.volume.proofs.resetting.reset_stores.Tie as tie
-
-mul-r : tie.Need-mul-r
-mul-r c = search needs
-
-array-copy-out-r : tie.Need-array-copy-out-r
-array-copy-out-r c = search needs
-
-log-resets-requires : tie.Need-log-resets-requires
-log-resets-requires c κs = search needs
 
 -- the tables keep their lengths
 logged : (c : tie.After-log-resets) → (length (c .log-resets .last .0) ≡ totalBytes (c .before .before .before .before .before .before .before .before .args .g)) × (length (c .log-resets .last .1 .0) ≡ cells (c .before .before .before .before .before .before .before .before .args .g))
@@ -29,60 +20,52 @@ cleared : (c : tie.After-reset-zones) → (length (c .reset-zones .last .0) ≡ 
 cleared c = (c .reset-zones .kept .0 ∙ logged (c .before .before .before .before .before .before .before .before .before .before .before .before) .1, c .reset-zones .kept .1 .0 ∙ flushed (c .before .before .before .before .before))
 
 flush-all-requires : tie.Need-flush-all-requires
-flush-all-requires c κs = let s = c .before .before .before .before .before .before .before .before .before .before .before .before .before .before in (s .pre .0, (logged (c .before .before .before .before .before .before) .1, s .pre .1 .4))
+flush-all-requires c κs =
+    let at-start = c .before .before .before .before .before .before in
+    let s = at-start .before .before .before .before .before .before .before .before in
+    (s .pre .0, (logged (at-start) .1, s .pre .1 .4))
 
 reset-zones-requires : tie.Need-reset-zones-requires
-reset-zones-requires c κs = let s = c .before .before .before .before .before .before .before .before .before .before .before .before .before .before .before .before .before .before .before in (s .pre .0, (s .pre .1 .0, logged (c .before .before .before .before .before .before .before .before .before .before .before) .1, flushed (c .before .before .before .before)))
-
-raised-generations-requires : tie.Need-raised-generations-requires
-raised-generations-requires c κs = search needs
-
-slice-aggregate-log-counters : tie.Need-slice-aggregate-log-counters
-slice-aggregate-log-counters c = search needs
+reset-zones-requires c κs =
+    let at-start = c .before .before .before .before in
+    let at-start-2 = at-start .before .before .before .before .before .before .before in
+    let s = at-start-2 .before .before .before .before .before .before .before .before in
+    (s .pre .0, (s .pre .1 .0, logged (at-start-2) .1, flushed (at-start)))
 
 log-counters-requires : tie.Need-log-counters-requires
 log-counters-requires c κs =
-    let s = c .before .before .before .before .before .before .before .before .before .before .before .before .before .before .before .before .before .before .before .before .before .before .before .before .before .before .before .before in
-    let n : length (c .before .before .before .raised-generations .result) ≡ 16 = rw (c .before .before .before .raised-generations .ensures) (raised-long (s .args .state) (s .args .z)) in
-    (s .pre .0, (omega (arith, n, s .pre .0 .zones-most), logged (c .before .before .before .before .before .before .before .before .before .before .before .before .before .before .before .before .before .before .before .before) .0, cleared (c .before .before .before .before .before .before .before .before) .0))
+    let at-raised-generations = c .before .before .before in
+    let at-start = at-raised-generations .before .before .before .before .before in
+    let at-start-2 = at-start .before .before .before .before .before .before .before .before .before .before .before .before in
+    let s = at-start-2 .before .before .before .before .before .before .before .before in
+    let n : length (at-raised-generations .raised-generations .result) ≡ 16 = rw (at-raised-generations .raised-generations .ensures) (raised-long (s .args .state) (s .args .z)) in
+    (s .pre .0, (omega (arith, n, s .pre .0 .zones-most), logged (at-start-2) .0, cleared (at-start) .0))
 
 flush-all-requires-2 : tie.Need-flush-all-requires-2
-flush-all-requires-2 c κs = let s = c .before .before .before .before .before .before .before .before .before .before .before .before .before .before .before .before .before .before .before .before .before .before .before .before .before .before .before .before .before .before .before .before .before .before .before in (s .pre .0, (c .before .before .before .before .before .before .log-counters .kept .1 .0 ∙ cleared (c .before .before .before .before .before .before .before .before .before .before .before .before .before .before .before) .0, cleared (c .before .before .before .before .before .before .before .before .before .before .before .before .before .before .before) .1))
-
-same-length : tie.Need-same-length
-same-length c = search needs
-
-same-length-2 : tie.Need-same-length-2
-same-length-2 c = search needs
-
-same-length-3 : tie.Need-same-length-3
-same-length-3 c = search needs
+flush-all-requires-2 c κs =
+    let at-log-counters = c .before .before .before .before .before .before in
+    let at-start = at-log-counters .before .before .before .before .before .before .before .before .before in
+    let s = at-start .before .before .before .before .before .before .before .before .before .before .before .before .before .before .before .before .before .before .before .before in
+    (s .pre .0, (at-log-counters .log-counters .kept .1 .0 ∙ cleared (at-start) .0, cleared (at-start) .1))
 
 returns : tie.Need-returns
 returns c =
-    let s = c .before .before .before .before .before .before .before .before .before .before .before .before .before .before .before .before .before .before .before .before .before .before .before .before .before .before .before .before .before .before .before .before .before .before .before .before .before .before in
+    let at-log-counters = c .before .before .before .before .before .before .before .before .before in
+    let at-raised-generations = at-log-counters .before .before .before .before in
+    let at-reset-zones = at-raised-generations .before .before .before .before .before in
+    let at-flush-all = at-reset-zones .before .before .before .before .before in
+    let at-log-resets = at-flush-all .before .before .before .before .before .before .before in
+    let s = at-log-resets .before .before .before .before .before .before .before .before in
     let a = s .args in
-    let l = c .before .before .before .before .before .before .before .before .before .before .before .before .before .before .before .before .before .before .before .before .before .before .before .before .before .before .before .before .before .before .log-resets in
-    let f = c .before .before .before .before .before .before .before .before .before .before .before .before .before .before .before .before .before .before .before .before .before .before .before .flush-all in
-    let r = c .before .before .before .before .before .before .before .before .before .before .before .before .before .before .before .before .before .before .reset-zones in
-    let k = c .before .before .before .before .before .before .before .before .before .log-counters in
+    let l = at-log-resets .log-resets in
+    let f = at-flush-all .flush-all in
+    let r = at-reset-zones .reset-zones in
+    let k = at-log-counters .log-counters in
     let e = c .before .before .flush-all2 in
-    reset-made (a .g) (among (a .here)) (a .state) (a .z) (a .budget) (l .result) (f .result) (r .result) (k .result) (e .result) (take (a .g .zones) (c .before .before .before .before .before .before .before .before .before .before .before .before .before .raised-generations .result)) (now (a .sectors)) (now (a .written)) (now (a .durable)) (l .last .0) (l .last .1 .0) (f .last .1 .0) (r .last .0) (r .last .1 .0) (k .last .0) (k .last .1 .0) (e .last .1 .0) (l .ensures) (f .ensures) (r .ensures) (rw (c .before .before .before .before .before .before .before .before .before .before .before .before .before .raised-generations .ensures) (raised-first (a .state) (a .z) (a .g .zones) (s .pre .0 .zones-most))) (k .ensures) (e .ensures)
+    reset-made (a .g) (isSet (a .here)) (a .state) (a .z) (a .budget) (l .result) (f .result) (r .result) (k .result) (e .result) (take (a .g .zones) (at-raised-generations .raised-generations .result)) (now (a .sectors)) (now (a .written)) (now (a .durable)) (l .last .0) (l .last .1 .0) (f .last .1 .0) (r .last .0) (r .last .1 .0) (k .last .0) (k .last .1 .0) (e .last .1 .0) (l .ensures) (f .ensures) (r .ensures) (rw (at-raised-generations .raised-generations .ensures) (raised-first (a .state) (a .z) (a .g .zones) (s .pre .0 .zones-most))) (k .ensures) (e .ensures)
 
 pub reset-stores-spec : {M : Type 1} → statement M
 reset-stores-spec =
     tie.close
-    (tie.spec
-    mul-r
-    array-copy-out-r
-    log-resets-requires
-    flush-all-requires
-    reset-zones-requires
-    raised-generations-requires
-    slice-aggregate-log-counters
-    log-counters-requires
-    flush-all-requires-2
-    same-length
-    same-length-2
-    same-length-3
-    returns)
+    (tie.spec (λ c. search needs) (λ c. search needs) (λ c κs. search needs) flush-all-requires reset-zones-requires (λ c κs. search needs)
+    (λ c. search needs) log-counters-requires flush-all-requires-2 (λ c. search needs) (λ c. search needs) (λ c. search needs) returns)

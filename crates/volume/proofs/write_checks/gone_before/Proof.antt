@@ -5,32 +5,23 @@ use native.Mathlib.Omega.{arith}
 use lib.ListN.{getD}
 use denote.Ref.{now}
 use borrow.Author.Needs.{needs}
-use Rattle.tables.specs.Geometry.{zoneSectors}
-use Rattle.tables.specs.Placement.{stripeOf}
-use Rattle.volume.specs.OnTables.{among}
-use Rattle.volume.specs.KnowingLaws.{held-none-gone}
-use Rattle.tables.specs.Sizes.{stripes-most, zone-small}
+use Rattle.tables.specs.meaning.Geometry.{zoneSectors}
+use Rattle.tables.specs.meaning.Placement.{stripeOf}
+use Rattle.volume.specs.meaning.CallContracts.{isSet}
+use Rattle.volume.specs.looking.KnowingLaws.{held-none-gone}
+use Rattle.tables.specs.laws.Sizes.{stripes-most, zone-small}
 use native.Mathlib.Nat.{div-add-mod'}
 use borrow.Author.Tests.{not-true, not-false}
-use Rattle.volume.specs.Content.{parityDriveAt}
-use Rattle.volume.specs.Refusals.{goneBefore}
+use Rattle.volume.specs.meaning.Content.{parityDriveAt}
+use Rattle.volume.specs.meaning.Refusals.{goneBefore}
 use Rattle.volume.proofs.write_checks.gone_before.Statement.{statement}
 use Rattle.volume.proofs.write_checks.gone_before.Tie as tie
-
-stripe-sectors-requires : tie.Need-stripe-sectors-requires
-stripe-sectors-requires c κs = search needs
-
-div-s : tie.Need-div-s
-div-s c = search needs
 
 parity-drive-requires : tie.Need-parity-drive-requires
 unfolding stripeOf
 parity-drive-requires c κs =
     let s = c .before .before .before in
     (omega (arith, s .pre .0 .drives-least), s .pre .0 .drives-most, omega (arith, s .pre .1 .0 .zone-in, s .pre .0 .zones-most), rw (c .stripe-sectors .ensures .0) (omega (arith, stripes-most (s .args .g) (s .args .n) (s .pre .0) (s .pre .1 .1), s .pre .0 .zone-most)))
-
-array-read-present : tie.Need-array-read-present
-array-read-present c = search needs
 
 drive-is : (c : tie.After-parity-drive) → c .parity-drive .result ≡ parityDriveAt (c .before .before .before .before .args .g) (c .before .before .before .before .args .z) (c .before .before .before .before .args .n)
 unfolding stripeOf
@@ -40,22 +31,23 @@ returns : tie.Need-returns
 unfolding goneBefore
 returns c =
     let a = c .before .before .before .before .before .args in
-    let e : among (a .t4) (parityDriveAt (a .g) (a .z) (a .n)) ≡ false = rw (drive-is (c .before)) at (not-true (getD (a .t4) (c .before .parity-drive .result) false) (c .if1 .taken)) in
+    let e : isSet (a .t4) (parityDriveAt (a .g) (a .z) (a .n)) ≡ false = rw (drive-is (c .before)) at (not-true (getD (a .t4) (c .before .parity-drive .result) false) (c .if1 .taken)) in
     rw e refl
 
 -- the parity drive is here
-here : (c : tie.Else1) → among (c .before .before .before .before .before .args .t4) (parityDriveAt (c .before .before .before .before .before .args .g) (c .before .before .before .before .before .args .z) (c .before .before .before .before .before .args .n)) ≡ true
+here : (c : tie.Else1) → isSet (c .before .before .before .before .before .args .t4) (parityDriveAt (c .before .before .before .before .before .args .g) (c .before .before .before .before .before .args .z) (c .before .before .before .before .before .args .n)) ≡ true
 here c = rw (drive-is (c .before)) at (not-false (getD (c .before .before .before .before .before .args .t4) (c .before .parity-drive .result) false) (c .if1 .left))
 
 -- the stripe's earlier sectors lie in the zone
 earlier : (c : tie.Else1) → (c .before .before .before .before .before .args .n / c .before .before .stripe-sectors .result * c .before .before .stripe-sectors .result ≤ c .before .before .before .before .before .args .n) × (c .before .before .before .before .before .args .n ≤ zoneSectors (c .before .before .before .before .before .args .g))
-earlier c = (omega (arith, div-add-mod' (c .before .before .before .before .before .args .n) (c .before .before .stripe-sectors .result)), c .before .before .before .before .before .pre .1 .1)
+earlier c =
+    let s = c .before .before .before .before .before in
+    (omega (arith, div-add-mod' (s .args .n) (c .before .before .stripe-sectors .result)), s .pre .1 .1)
 
 mul-start : tie.Need-mul-start
-mul-start c = omega (arith, earlier c, zone-small (c .before .before .before .before .before .args .g) (c .before .before .before .before .before .pre .0))
-
-sub-all-held : tie.Need-sub-all-held
-sub-all-held c = omega (arith, earlier c)
+mul-start c =
+    let s = c .before .before .before .before .before in
+    omega (arith, earlier c, zone-small (s .args .g) (s .pre .0))
 
 all-held-requires : tie.Need-all-held-requires
 all-held-requires c κs = let s = c .before .before .before .before .before in (s .pre .0, (s .pre .1 .0 .zone-in, s .pre .1 .0 .written-long, omega (arith, earlier c)))
@@ -67,12 +59,6 @@ returns-2 c =
     let a = s .args in
     rw (here (c .before .before)) (sym (held-none-gone (a .g) (a .t4) (now (a .sectors)) (now (a .written)) (a .z) (s .pre .1 .0) (a .generation) _ _ (s .pre .0) (rw (c .before .before .before .before .stripe-sectors .ensures .0) at (sym (c .before .all-held .ensures) ∙ c .if2 .taken))))
 
-seal-limit-requires : tie.Need-seal-limit-requires
-seal-limit-requires c κs = search needs
-
-sub-some-gone : tie.Need-sub-some-gone
-sub-some-gone c = omega (arith, earlier (c .before .before .before))
-
 some-gone-requires : tie.Need-some-gone-requires
 some-gone-requires c κs = let s = c .before .before .before .before .before .before .before .before in (s .pre .0, (s .pre .1 .0, omega (arith, earlier (c .before .before .before)), c .seal-limit .ensures .0))
 
@@ -83,17 +69,5 @@ returns-3 c = rw (here (c .before .before .before .before)) (c .some-gone .ensur
 pub gone-before-spec : {M : Type 1} → statement M
 gone-before-spec =
     tie.close
-    (tie.spec
-    stripe-sectors-requires
-    div-s
-    parity-drive-requires
-    array-read-present
-    returns
-    mul-start
-    sub-all-held
-    all-held-requires
-    returns-2
-    seal-limit-requires
-    sub-some-gone
-    some-gone-requires
-    returns-3)
+    (tie.spec (λ c κs. search needs) (λ c. search needs) parity-drive-requires (λ c. search needs) returns mul-start (λ c. omega (arith, earlier c))
+    all-held-requires returns-2 (λ c κs. search needs) (λ c. omega (arith, earlier (c .before .before .before))) some-gone-requires returns-3)

@@ -1,25 +1,19 @@
-use Prim.Native.Nat.{suc, _+_, _-_, _*_, min}
+use Prim.Native.Nat.{suc, _+_, _*_, min}
 use mathlib.Core.Path.{_≡_, refl, _∙_}
 use mathlib.Core.Bool.{true, false}
 use native.Mathlib.Omega.{arith}
 use lib.ListN.{getD}
 use borrow.Author.Needs.{needs}
 use borrow.Author.Tests.{lt-ltb, le-ltb, not-true, not-false}
-use Rattle.tables.specs.Geometry.{stripeSectors}
-use Rattle.tables.specs.Placement.{stripeOf}
-use Rattle.volume.specs.OnTables.{among}
-use Rattle.volume.specs.WriteChecks.{fullOn}
-use Rattle.tables.specs.Sizes.{stripes-most, zone-small}
+use Rattle.tables.specs.meaning.Geometry.{stripeSectors}
+use Rattle.tables.specs.meaning.Placement.{stripeOf}
+use Rattle.volume.specs.meaning.CallContracts.{isSet}
+use Rattle.volume.specs.writing.WriteChecks.{fullOn}
+use Rattle.tables.specs.laws.Sizes.{stripes-most, zone-small}
 use native.Mathlib.Nat.{div-add-mod'}
-use Rattle.volume.specs.Content.{insideStripe, parityDriveAt, fillOf}
+use Rattle.volume.specs.meaning.Content.{insideStripe, parityDriveAt, fillOf}
 use Rattle.volume.proofs.write_checks.log_full.Statement.{statement}
 use Rattle.volume.proofs.write_checks.log_full.Tie as tie
-
-stripe-sectors-requires : tie.Need-stripe-sectors-requires
-stripe-sectors-requires c κs = search needs
-
-div-s : tie.Need-div-s
-div-s c = search needs
 
 mul-start : tie.Need-mul-start
 mul-start c =
@@ -38,9 +32,6 @@ parity-drive-requires c κs =
     let s = c .before .before .before in
     (omega (arith, s .pre .0 .drives-least), s .pre .0 .drives-most, omega (arith, s .pre .1 .0, s .pre .0 .zones-most), rw (c .before .stripe-sectors .ensures .0) (omega (arith, stripes-most (s .args .g) (s .args .end) (s .pre .0) (s .pre .1 .1), s .pre .0 .zone-most)))
 
-array-read-present : tie.Need-array-read-present
-array-read-present c = search needs
-
 -- the write ends inside a stripe
 inside : (c : tie.Else1) → insideStripe (c .before .before .before .args .g) (c .before .before .before .args .end) ≡ true
 unfolding stripeOf
@@ -54,63 +45,21 @@ returns-2 : tie.Need-returns-2
 unfolding fullOn
 returns-2 c =
     let a = c .before .before .before .before .before .args in
-    let e : among (a .t3) (parityDriveAt (a .g) (a .z) (a .end)) ≡ false = rw (drive-is (c .before)) at (not-true (getD (a .t3) (c .before .parity-drive .result) false) (c .if2 .taken)) in
+    let e : isSet (a .t3) (parityDriveAt (a .g) (a .z) (a .end)) ≡ false = rw (drive-is (c .before)) at (not-true (getD (a .t3) (c .before .parity-drive .result) false) (c .if2 .taken)) in
     rw (inside (c .before .before), e) refl
-
-written-at-requires : tie.Need-written-at-requires
-written-at-requires c κs = search needs
-
-excess-requires : tie.Need-excess-requires
-excess-requires c κs = search needs
-
-sub-smaller : tie.Need-sub-smaller
-sub-smaller c = search needs
-
-smaller-requires : tie.Need-smaller-requires
-smaller-requires c κs = search needs
-
-add-result : tie.Need-add-result
-add-result c = search needs
-
-add-result-2 : tie.Need-add-result-2
-add-result-2 c = search needs
-
-mul-result : tie.Need-mul-result
-mul-result c = search needs
-
-add-result-3 : tie.Need-add-result-3
-add-result-3 c = search needs
-
-add-result-4 : tie.Need-add-result-4
-add-result-4 c = search needs
 
 returns-3 : tie.Need-returns-3
 unfolding fullOn stripeOf
 returns-3 c =
     let a = c .before .before .before .before .before .before .before .before .args in
-    let e : among (a .t3) (parityDriveAt (a .g) (a .z) (a .end)) ≡ true = rw (drive-is (c .before .before .before .before)) at (not-false (getD (a .t3) (c .before .before .before .before .parity-drive .result) false) (c .before .before .before .if2 .left)) in
-    let m : c .smaller .result + 1 ≡ suc (c .smaller .result) = omega arith in
-    let q : c .smaller .result ≡ min (fillOf (a .g) (a .end)) (a .g .unit) = c .smaller .ensures ∙ rw (c .before .before .before .before .before .before .stripe-sectors .ensures .0) refl in
-    rw (inside (c .before .before .before .before .before), e, m, q, c .before .excess .ensures, c .before .before .written-at .ensures, drive-is (c .before .before .before .before)) refl
+    let e : isSet (a .t3) (parityDriveAt (a .g) (a .z) (a .end)) ≡ true = rw (drive-is (c .before .before .before .before)) at (not-false (getD (a .t3) (c .before .before .before .before .parity-drive .result) false) (c .before .before .before .if2 .left)) in
+    let m : c .min .result + 1 ≡ suc (c .min .result) = omega arith in
+    let q : c .min .result ≡ min (fillOf (a .g) (a .end)) (a .g .unit) = c .min .ensures ∙ rw (c .before .before .before .before .before .before .stripe-sectors .ensures .0) refl in
+    rw (inside (c .before .before .before .before .before), e, m, q, c .before .saturating-sub .ensures, c .before .before .written-at .ensures, drive-is (c .before .before .before .before)) refl
 
 pub log-full-spec : {M : Type 1} → statement M
 log-full-spec =
     tie.close
-    (tie.spec
-    stripe-sectors-requires
-    div-s
-    mul-start
-    returns
-    parity-drive-requires
-    array-read-present
-    returns-2
-    written-at-requires
-    excess-requires
-    sub-smaller
-    smaller-requires
-    add-result
-    add-result-2
-    mul-result
-    add-result-3
-    add-result-4
-    returns-3)
+    (tie.spec (λ c κs. search needs) (λ c. search needs) mul-start returns parity-drive-requires (λ c. search needs) returns-2 (λ c κs. search needs)
+    (λ c κs. search needs) (λ c. search needs) (λ c κs. search needs) (λ c. search needs) (λ c. search needs) (λ c. search needs) (λ c. search needs)
+    (λ c. search needs) returns-3)

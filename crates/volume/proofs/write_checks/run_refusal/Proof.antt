@@ -1,28 +1,23 @@
-use Prim.Native.Nat.{_-_}
 use mathlib.Core.Path.{_≡_, refl, sym, _∙_}
 use mathlib.Core.Logic.{_≢_}
 use mathlib.Core.Bool.{true, false}
 use lib.Dec.{eqb}
 use borrow.Author.Needs.{needs}
 use borrow.Author.Tests.{eq-eqb, ne-eqb}
-use Rattle.volume.specs.WriteChecks.{runNumber}
-use Rattle.volume.specs.State.{pointerIn, isSealed, isWorn}
-use Rattle.volume.specs.Refusals.{badRun}
+use Rattle.volume.specs.writing.WriteChecks.{runNumber}
+use Rattle.volume.specs.meaning.State.{pointerIn, isSealed, isWorn}
+use Rattle.volume.specs.meaning.Refusals.{badRun}
 use Rattle.volume.proofs.write_checks.run_refusal.Statement.{statement}
 use Rattle.volume.proofs.write_checks.run_refusal.Tie as tie
-
-zone-sectors-requires : tie.Need-zone-sectors-requires
-zone-sectors-requires c κs = search needs
-
-add-if1 : tie.Need-add-if1
-add-if1 c = search needs
 
 -- what has been found out so far
 run-good : (c : tie.Else1) → badRun (c .before .before .args .g) (c .before .before .args .offset) (c .before .before .args .count) ≡ false
 run-good c = rw (c .before .zone-sectors .ensures .0) at (c .if1 .left)
 
 in-order : (c : tie.Else2) → eqb (c .before .before .before .before .args .offset) (pointerIn (c .before .before .before .before .args .c)) ≡ true
-in-order c = eq-eqb (c .before .before .before .before .args .offset) (pointerIn (c .before .before .before .before .args .c)) (rw (c .before .pointer-of .ensures) at (c .if2 .left))
+in-order c =
+    let s = c .before .before .before .before in
+    eq-eqb (s .args .offset) (pointerIn (s .args .c)) (rw (c .before .pointer-of .ensures) at (c .if2 .left))
 
 not-sealed : (c : tie.Else3) → isSealed (c .before .before .before .before .before .before .args .c) ≡ false
 not-sealed c = sym (c .before .is-sealed .ensures) ∙ c .if3 .left
@@ -31,24 +26,16 @@ returns : tie.Need-returns
 unfolding runNumber
 returns c = let e : badRun (c .before .before .args .g) (c .before .before .args .offset) (c .before .before .args .count) ≡ true = rw (c .before .zone-sectors .ensures .0) at (c .if1 .taken) in rw e refl
 
-pointer-of-requires : tie.Need-pointer-of-requires
-pointer-of-requires c κs = search needs
-
 returns-2 : tie.Need-returns-2
 unfolding runNumber
 returns-2 c =
-    let n : c .before .before .before .before .args .offset ≢ pointerIn (c .before .before .before .before .args .c) = rw (c .before .pointer-of .ensures) at (c .if2 .taken) in
-    rw (run-good (c .before .before), ne-eqb (c .before .before .before .before .args .offset) (pointerIn (c .before .before .before .before .args .c)) n) refl
-
-is-sealed-requires : tie.Need-is-sealed-requires
-is-sealed-requires c κs = search needs
+    let s = c .before .before .before .before in
+    let n : s .args .offset ≢ pointerIn (s .args .c) = rw (c .before .pointer-of .ensures) at (c .if2 .taken) in
+    rw (run-good (c .before .before), ne-eqb (s .args .offset) (pointerIn (s .args .c)) n) refl
 
 returns-3 : tie.Need-returns-3
 unfolding runNumber
 returns-3 c = let e : isSealed (c .before .before .before .before .before .before .args .c) ≡ true = sym (c .before .is-sealed .ensures) ∙ c .if3 .taken in rw (run-good (c .before .before .before .before), in-order (c .before .before), e) refl
-
-is-worn-requires : tie.Need-is-worn-requires
-is-worn-requires c κs = search needs
 
 returns-4 : tie.Need-returns-4
 unfolding runNumber
@@ -61,14 +48,5 @@ returns-5 c = let e : isWorn (c .before .before .before .before .before .before 
 pub run-refusal-spec : {M : Type 1} → statement M
 run-refusal-spec =
     tie.close
-    (tie.spec
-    zone-sectors-requires
-    add-if1
-    returns
-    pointer-of-requires
-    returns-2
-    is-sealed-requires
-    returns-3
-    is-worn-requires
-    returns-4
-    returns-5)
+    (tie.spec (λ c κs. search needs) (λ c. search needs) returns (λ c κs. search needs) returns-2 (λ c κs. search needs) returns-3
+    (λ c κs. search needs) returns-4 returns-5)

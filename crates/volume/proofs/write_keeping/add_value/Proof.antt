@@ -1,20 +1,17 @@
-use Rattle.volume.specs.Logging.{front-fits, front-is, front-long}
+use Rattle.volume.specs.checks.Logging.{front-fits, front-is, front-long}
 use lib.Seq.{length-take-le}
-use Prim.Native.Nat.{ℕ, _+_, _-_}
+use Prim.Native.Nat.{ℕ}
 use mathlib.Core.Path.{_≡_, sym, ap, _∙_}
 use mathlib.Core.List.{List, _++_}
 use lib.ListN.{length, take, drop, replicate}
 use denote.Ref.{now}
 use borrow.Author.Needs.{needs}
-use Rattle.volume.specs.OnTables.{among}
-use Rattle.volume.specs.WriteRows.{withSector}
-use Rattle.volume.specs.Knowing.{readDevice}
-use Rattle.volume.specs.Rules.{valueAt}
+use Rattle.volume.specs.meaning.CallContracts.{isSet}
+use Rattle.volume.specs.writing.ParityBuffer.{withSector}
+use Rattle.volume.specs.looking.Knowing.{readDevice}
+use Rattle.volume.specs.meaning.Rules.{valueAt}
 use Rattle.volume.proofs.write_keeping.add_value.Statement.{statement}
 use Rattle.volume.proofs.write_keeping.add_value.Tie as tie
-
-array-borrow-prefix-value : tie.Need-array-borrow-prefix-value
-array-borrow-prefix-value c = search needs
 
 slice-aggregate-sector-value : tie.Need-slice-aggregate-sector-value
 slice-aggregate-sector-value c = let s = c .before .before .before .before in sym (length-take-le (s .args .g .sector) _ (s .pre .0 .sector-most))
@@ -39,27 +36,17 @@ slice-aggregate-add-sector c = let w = c .before .before .before in let s = w .b
 add-sector-requires : tie.Need-add-sector-requires
 add-sector-requires c κs = let w = c .before .before .before in let s = w .before .before .before .before .before in (s .pre .0, (s .pre .1 .4, sym (front-long (s .args .g .sector) (w .sector-value .last .1 .1 .1 .1 .1 .1 .1 .1 .0) (rest s) (long w))))
 
-same-length : tie.Need-same-length
-same-length c = search needs
-
 returns : tie.Need-returns
 returns c =
     let w = c .before .before .before .before .before .before in
     let s = w .before .before .before .before .before in
     let a = s .args in
-    let v = valueAt (a .g) (among (a .here)) (readDevice (a .g) (now (a .sectors)) (now (a .written))) (a .z) (a .generation) (a .a) in
+    let v = valueAt (a .g) (isSet (a .here)) (readDevice (a .g) (now (a .sectors)) (now (a .written))) (a .z) (a .generation) (a .a) in
     let e : take (a .g .sector) (w .sector-value .last .1 .1 .1 .1 .1 .1 .1 .1 .0 ++ rest s) ≡ v = front-is (a .g .sector) (w .sector-value .last .1 .1 .1 .1 .1 .1 .1 .1 .0) (rest s) v (long w) (w .sector-value .ensures) in
     (c .before .before .add-sector .ensures ∙ ap (λ (x : List ℕ). withSector (a .g) (a .a) x (now (a .rows))) e, sym (ap (λ (x : List ℕ). length x) (w .sector-value .ensures)) ∙ long w)
 
 pub add-value-spec : {M : Type 1} → statement M
 add-value-spec =
     tie.close
-    (tie.spec
-    array-borrow-prefix-value
-    slice-aggregate-sector-value
-    sector-value-requires
-    array-share-prefix-value
-    slice-aggregate-add-sector
-    add-sector-requires
-    same-length
-    returns)
+    (tie.spec (λ c. search needs) slice-aggregate-sector-value sector-value-requires array-share-prefix-value slice-aggregate-add-sector
+    add-sector-requires (λ c. search needs) returns)

@@ -5,13 +5,14 @@ use mathlib.Core.List.{[]}
 use native.Mathlib.Omega.{arith}
 use native.Mathlib.Numerals.{add-one}
 use lib.ListN.{length, getD}
-use Rattle.tables.specs.Below.{tabulateFrom}
+use Rattle.tables.specs.meaning.Below.{tabulateFrom}
 use denote.Ref.{now}
-use Rattle.tables.specs.Basics.{pick}
-use Rattle.tables.specs.Device.{append}
-use Rattle.tables.specs.Tables.{MadeAppends, storeIf}
-use Rattle.volume.specs.OnTables.{among, appends-nil, appends-append}
-use Rattle.volume.specs.WriteRows.{rowOf, rowStores, row-inside, part-length, present-all, rows-none, rows-more}
+use Rattle.tables.specs.meaning.Basics.{pick}
+use Rattle.tables.specs.meaning.Device.{append}
+use Rattle.tables.specs.laws.Made.{MadeAppends, storeIf}
+use Rattle.volume.specs.meaning.CallContracts.{isSet}
+use Rattle.volume.specs.laws.CallContracts.{appends-nil, appends-append}
+use Rattle.volume.specs.writing.ParityBuffer.{rowOf, rowStores, row-inside, part-length, present-all, rows-none, rows-more}
 use Rattle.volume.proofs.write_rows.store_rows.Statement.{statement}
 use Rattle.volume.proofs.write_rows.store_rows.Tie as tie
 
@@ -20,9 +21,6 @@ Inv-loop sectors₀ written₀ g drive zone rows n budget b present rest₀ i₀
 
 abbrev μ-loop : tie.MeasureT-loop
 μ-loop sectors₀ written₀ g drive zone rows n budget b present rest₀ i₀ sectors written rest i = n - i
-
-array-read-present : tie.Need-array-read-present Inv-loop μ-loop
-array-read-present c = omega (arith, c .before .before .before .pre .0 .drives-most)
 
 loop-holds : tie.Need-loop-holds Inv-loop μ-loop
 loop-holds c =
@@ -36,21 +34,6 @@ inside c =
     let h : c .before .loop .i < s .args .g .unit = omega (arith, s .pre .1 .4) in
     omega (arith, row-inside (s .args .g) (c .before .loop .i) h, s .pre .1 .5)
 
-mul-from : tie.Need-mul-from Inv-loop μ-loop
-mul-from c = omega (arith, inside c)
-
-add-end : tie.Need-add-end Inv-loop μ-loop
-add-end c = omega (arith, inside c)
-
-sub-append-counted : tie.Need-sub-append-counted Inv-loop μ-loop
-sub-append-counted c = omega arith
-
-part-append-counted-start : tie.Need-part-append-counted-start Inv-loop μ-loop
-part-append-counted-start c = omega arith
-
-part-append-counted-end : tie.Need-part-append-counted-end Inv-loop μ-loop
-part-append-counted-end c = inside (c .before .before)
-
 append-counted-requires : tie.Need-append-counted-requires Inv-loop μ-loop
 append-counted-requires c κs =
     let s = c .before .before .before .before .before .before .before .before in
@@ -58,18 +41,14 @@ append-counted-requires c κs =
     let e : l .i * s .args .g .sector + s .args .g .sector - l .i * s .args .g .sector ≡ s .args .g .sector = omega arith in
     (s .pre .0, ((s .pre .1 .0, s .pre .1 .1), (l .inv .1 ∙ s .pre .1 .2, l .inv .2 ∙ s .pre .1 .3, rw e (part-length (now (s .args .rows)) (l .i * s .args .g .sector) (s .args .g .sector) (inside (c .before .before .before))))))
 
-add-i : tie.Need-add-i Inv-loop μ-loop
-add-i c = omega arith
-
-loop-less : tie.Need-loop-less Inv-loop μ-loop
-loop-less c = omega arith
-
 loop-again : tie.Need-loop-again Inv-loop μ-loop
 loop-again c =
-    let s = c .before .before .before .before .before .before .before .before .before .before .before .before .before in
+    let at-append-counted = c .before .before .before .before in
+    let at-loop = at-append-counted .before .before .before .before .before in
+    let s = at-loop .before .before .before .before in
     let a = s .args in
-    let l = c .before .before .before .before .before .before .before .before .before .loop in
-    let f = c .before .before .before .before .append-counted in
+    let l = at-loop .loop in
+    let f = at-append-counted .append-counted in
     let b = getD (a .t4) (a .drive) false in
     let e : l .i * a .g .sector + a .g .sector - l .i * a .g .sector ≡ a .g .sector = omega arith in (
       omega arith,
@@ -78,36 +57,16 @@ loop-again c =
       rw (add-one, rows-more (a .g) b (a .drive) (a .zone) (now (a .rows)) (l .i)) (appends-append (a .g) (a .budget) (l .rest) (f .result) (pick b (rowStores (a .g) (a .drive) (a .zone) (now (a .rows)) (l .i)) []) (storeIf b (append (a .drive) (a .zone) (rowOf (a .g) (now (a .rows)) (l .i)))) (now (a .sectors)) (now (a .written)) (l .sectors) (l .written) (f .last .0) (f .last .1 .0) (l .inv .3) (rw e at (f .ensures))),
     )
 
-same-length : tie.Need-same-length Inv-loop μ-loop
-same-length c = c .before .loop .inv .1
-
-same-length-2 : tie.Need-same-length-2 Inv-loop μ-loop
-same-length-2 c = c .before .loop .inv .2
-
 returns : tie.Need-returns Inv-loop μ-loop
 returns c =
     let a = c .before .before .before .before .before .args in
     let l = c .before .loop in
     let e : l .i ≡ a .n = omega arith in
-    rw (present-all (among (a .t4)) (a .drive) (a .zone) (tabulateFrom (rowOf (a .g) (now (a .rows))) zero (a .n))) (rw e at (l .inv .3))
+    rw (present-all (isSet (a .t4)) (a .drive) (a .zone) (tabulateFrom (rowOf (a .g) (now (a .rows))) zero (a .n))) (rw e at (l .inv .3))
 
 pub store-rows-spec : {M : Type 1} → statement M
 store-rows-spec =
     tie.close
-    (tie.spec
-    Inv-loop
-    μ-loop
-    array-read-present
-    loop-holds
-    mul-from
-    add-end
-    sub-append-counted
-    part-append-counted-start
-    part-append-counted-end
-    append-counted-requires
-    add-i
-    loop-less
-    loop-again
-    same-length
-    same-length-2
-    returns)
+    (tie.spec Inv-loop μ-loop (λ c. omega (arith, c .before .before .before .pre .0 .drives-most)) loop-holds (λ c. omega (arith, inside c))
+    (λ c. omega (arith, inside c)) (λ c. omega arith) (λ c. omega arith) (λ c. inside (c .before .before)) append-counted-requires (λ c. omega arith)
+    (λ c. omega arith) loop-again (λ c. c .before .loop .inv .1) (λ c. c .before .loop .inv .2) returns)

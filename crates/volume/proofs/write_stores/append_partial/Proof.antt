@@ -2,17 +2,14 @@ use Prim.Native.Nat.{ℕ}
 use mathlib.Core.List.{List, _++_}
 use lib.ListN.{drop, replicate, length, take}
 use denote.Ref.{now}
-use Rattle.logs.specs.Entry.{parityZone, encode, partialParity}
+use Rattle.logs.specs.meaning.Entry.{parityZone, encode, partialParity}
 use native.Mathlib.Omega.{arith}
-use Rattle.volume.specs.Logging.{front-fits, front-is, front-long, appended-as}
+use Rattle.volume.specs.checks.Logging.{front-fits, front-is, front-long, appended-as}
 use mathlib.Core.Path.{_≡_, sym, _∙_}
 use lib.Seq.{length-take-le}
 use borrow.Author.Needs.{needs}
 use Rattle.volume.proofs.write_stores.append_partial.Statement.{statement}
 use Rattle.volume.proofs.write_stores.append_partial.Tie as tie
-
-array-borrow-prefix-header : tie.Need-array-borrow-prefix-header
-array-borrow-prefix-header c = let s = c .before .before in s .pre .0 .sector-most
 
 slice-aggregate-write-partial : tie.Need-slice-aggregate-write-partial
 slice-aggregate-write-partial c = let s = c .before .before .before in sym (length-take-le (s .args .g .sector) _ (s .pre .0 .sector-most))
@@ -46,12 +43,6 @@ append-counted-requires c κs =
     let s = w .before .before .before .before in
     (s .pre .0, ((s .pre .1 .0, omega arith), (s .pre .1 .3, s .pre .1 .4, sym (front-long (s .args .g .sector) (w .write-partial .last .0) (rest s) (long w)))))
 
-same-length : tie.Need-same-length
-same-length c = search needs
-
-same-length-2 : tie.Need-same-length-2
-same-length-2 c = search needs
-
 returns : tie.Need-returns
 returns c =
     let w = c .before .before .before .before .before .before .before .before .before in
@@ -63,13 +54,5 @@ returns c =
 pub append-partial-spec : {M : Type 1} → statement M
 append-partial-spec =
     tie.close
-    (tie.spec
-    array-borrow-prefix-header
-    slice-aggregate-write-partial
-    write-partial-requires
-    array-share-prefix-header
-    slice-aggregate-append-counted
-    append-counted-requires
-    same-length
-    same-length-2
-    returns)
+    (tie.spec (λ c. let s = c .before .before in s .pre .0 .sector-most) slice-aggregate-write-partial write-partial-requires
+    array-share-prefix-header slice-aggregate-append-counted append-counted-requires (λ c. search needs) (λ c. search needs) returns)

@@ -4,23 +4,23 @@ use native.Mathlib.Omega.{arith}
 use native.Mathlib.Numerals.{add-one}
 use lib.ListN.{length}
 use denote.Ref.{now}
-use Rattle.tables.specs.Phases.{onPresent, on-present-append}
-use Rattle.tables.specs.Tables.{MadeAppends, sectorNo}
-use Rattle.volume.specs.OnTables.{among, appends-nil, appends-append}
-use Rattle.volume.specs.WriteRows.{addressStores, rowsAt, runOf, part-length}
-use Rattle.tables.specs.Sizes.{zone-small}
+use Rattle.tables.specs.meaning.Phases.{onPresent}
+use Rattle.tables.specs.laws.Phases.{on-present-append}
+use Rattle.tables.specs.laws.Made.{MadeAppends}
+use Rattle.tables.specs.meaning.Tables.{sectorNo}
+use Rattle.volume.specs.meaning.CallContracts.{isSet}
+use Rattle.volume.specs.laws.CallContracts.{appends-nil, appends-append}
+use Rattle.volume.specs.writing.ParityBuffer.{addressStores, rowsAt, runOf, part-length}
+use Rattle.tables.specs.laws.Sizes.{zone-small}
 use native.Mathlib.Nat.{mul-le-mul-right, suc-mul}
 use Rattle.volume.proofs.write_stores.write_run.Statement.{statement}
 use Rattle.volume.proofs.write_stores.write_run.Tie as tie
 
 abbrev Inv-loop : tie.InvT-loop
-Inv-loop sectors₀ written₀ rows₀ g here z from count buffer budget b rest₀ i₀ sectors written rows rest i = (i ≤ count) × (length sectors ≡ length sectors₀) × (length written ≡ length written₀) × (length rows ≡ length rows₀) × MadeAppends g budget rest (onPresent (among here) (runOf g z from buffer rows₀ i)) sectors₀ written₀ sectors written × (rows ≡ rowsAt g from buffer rows₀ i)
+Inv-loop sectors₀ written₀ rows₀ g here z from count buffer budget b rest₀ i₀ sectors written rows rest i = (i ≤ count) × (length sectors ≡ length sectors₀) × (length written ≡ length written₀) × (length rows ≡ length rows₀) × MadeAppends g budget rest (onPresent (isSet here) (runOf g z from buffer rows₀ i)) sectors₀ written₀ sectors written × (rows ≡ rowsAt g from buffer rows₀ i)
 
 abbrev μ-loop : tie.MeasureT-loop
 μ-loop sectors₀ written₀ rows₀ g here z from count buffer budget b rest₀ i₀ sectors written rows rest i = count - i
-
-loop-holds : tie.Need-loop-holds Inv-loop μ-loop
-loop-holds c = (omega arith, refl, refl, refl, appends-nil _ _ _ _, refl)
 
 -- the sector lies in the buffer
 inside : (c : tie.In-loop Inv-loop μ-loop) → c .before .loop .i * c .before .before .before .before .before .before .args .g .sector + c .before .before .before .before .before .before .args .g .sector ≤ length (now (c .before .before .before .before .before .before .args .buffer))
@@ -33,23 +33,10 @@ inside c =
 below : (c : tie.In-loop Inv-loop μ-loop) → c .before .loop .i < c .before .before .before .before .before .before .args .count
 below c = omega arith
 
-mul-at : tie.Need-mul-at Inv-loop μ-loop
-mul-at c = omega (arith, inside c)
-
-add-end : tie.Need-add-end Inv-loop μ-loop
-add-end c = omega (arith, inside c)
-
 add-write-sector : tie.Need-add-write-sector Inv-loop μ-loop
-add-write-sector c = omega (arith, c .before .before .before .before .before .before .before .before .before .pre .1 .1 .0, zone-small (c .before .before .before .before .before .before .before .before .before .args .g) (c .before .before .before .before .before .before .before .before .before .pre .0))
-
-sub-write-sector : tie.Need-sub-write-sector Inv-loop μ-loop
-sub-write-sector c = omega arith
-
-part-write-sector-start : tie.Need-part-write-sector-start Inv-loop μ-loop
-part-write-sector-start c = omega arith
-
-part-write-sector-end : tie.Need-part-write-sector-end Inv-loop μ-loop
-part-write-sector-end c = inside (c .before .before .before)
+add-write-sector c =
+    let s = c .before .before .before .before .before .before .before .before .before in
+    omega (arith, s .pre .1 .1 .0, zone-small (s .args .g) (s .pre .0))
 
 write-sector-requires : tie.Need-write-sector-requires Inv-loop μ-loop
 write-sector-requires c κs =
@@ -64,37 +51,25 @@ write-sector-requires c κs =
       ),
     )
 
-add-i : tie.Need-add-i Inv-loop μ-loop
-add-i c = omega arith
-
-loop-less : tie.Need-loop-less Inv-loop μ-loop
-loop-less c = omega arith
-
 loop-again : tie.Need-loop-again Inv-loop μ-loop
 loop-again c =
-    let s = c .before .before .before .before .before .before .before .before .before .before .before .before .before .before .before .before .before in
+    let at-write-sector = c .before .before .before .before .before .before in
+    let at-start = at-write-sector .before .before .before .before .before in
+    let at-loop = at-start .before in
+    let s = at-loop .before .before .before .before .before in
     let a = s .args in
-    let l = c .before .before .before .before .before .before .before .before .before .before .before .before .loop in
-    let f = c .before .before .before .before .before .before .write-sector in
+    let l = at-loop .loop in
+    let f = at-write-sector .write-sector in
     let e : l .i * a .g .sector + a .g .sector - l .i * a .g .sector ≡ a .g .sector = omega arith in
     let run = runOf (a .g) (a .z) (a .from) (now (a .buffer)) (now (a .rows)) (l .i) in
     let next = addressStores (a .g) (a .z) (a .from + l .i) (sectorNo (a .g .sector) (now (a .buffer)) (l .i)) (rowsAt (a .g) (a .from) (now (a .buffer)) (now (a .rows)) (l .i)) in (
-      omega (arith, below (c .before .before .before .before .before .before .before .before .before .before .before)),
+      omega (arith, below (at-start)),
       f .kept .0 ∙ l .inv .1,
       f .kept .1 .0 ∙ l .inv .2,
       f .kept .1 .1 .0 ∙ l .inv .3,
-      rw (add-one, on-present-append (among (a .here)) run next) (appends-append (a .g) (a .budget) (l .rest) (f .result) (onPresent (among (a .here)) run) (onPresent (among (a .here)) next) (now (a .sectors)) (now (a .written)) (l .sectors) (l .written) (f .last .0) (f .last .1 .0) (l .inv .4) (rw (e, l .inv .5) at (f .ensures .0))),
+      rw (add-one, on-present-append (isSet (a .here)) run next) (appends-append (a .g) (a .budget) (l .rest) (f .result) (onPresent (isSet (a .here)) run) (onPresent (isSet (a .here)) next) (now (a .sectors)) (now (a .written)) (l .sectors) (l .written) (f .last .0) (f .last .1 .0) (l .inv .4) (rw (e, l .inv .5) at (f .ensures .0))),
       f .ensures .1 ∙ rw (e, l .inv .5, add-one) refl,
     )
-
-same-length : tie.Need-same-length Inv-loop μ-loop
-same-length c = c .before .loop .inv .1
-
-same-length-2 : tie.Need-same-length-2 Inv-loop μ-loop
-same-length-2 c = c .before .loop .inv .2
-
-same-length-3 : tie.Need-same-length-3 Inv-loop μ-loop
-same-length-3 c = c .before .loop .inv .3
 
 returns : tie.Need-returns Inv-loop μ-loop
 returns c =
@@ -105,21 +80,7 @@ returns c =
 pub write-run-spec : {M : Type 1} → statement M
 write-run-spec =
     tie.close
-    (tie.spec
-    Inv-loop
-    μ-loop
-    loop-holds
-    mul-at
-    add-end
-    add-write-sector
-    sub-write-sector
-    part-write-sector-start
-    part-write-sector-end
-    write-sector-requires
-    add-i
-    loop-less
-    loop-again
-    same-length
-    same-length-2
-    same-length-3
-    returns)
+    (tie.spec Inv-loop μ-loop (λ c. (omega arith, refl, refl, refl, appends-nil _ _ _ _, refl)) (λ c. omega (arith, inside c))
+    (λ c. omega (arith, inside c)) add-write-sector (λ c. omega arith) (λ c. omega arith) (λ c. inside (c .before .before .before))
+    write-sector-requires (λ c. omega arith) (λ c. omega arith) loop-again (λ c. c .before .loop .inv .1) (λ c. c .before .loop .inv .2)
+    (λ c. c .before .loop .inv .3) returns)

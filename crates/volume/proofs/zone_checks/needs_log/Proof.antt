@@ -1,8 +1,8 @@
 use mathlib.Core.Path.{refl}
 use native.Mathlib.Nat.{div-add-mod'}
 use native.Mathlib.Omega.{arith}
-use Rattle.tables.specs.Placement.{stripeOf}
-use Rattle.volume.specs.ZoneChecks.{needsLog}
+use Rattle.tables.specs.meaning.Placement.{stripeOf}
+use Rattle.volume.specs.checks.ZoneChecks.{needsLog}
 use borrow.Author.Needs.{needs}
 use Rattle.volume.proofs.zone_checks.needs_log.Statement.{statement}
 use Rattle.volume.proofs.zone_checks.needs_log.Tie as tie

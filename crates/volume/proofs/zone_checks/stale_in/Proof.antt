@@ -3,18 +3,6 @@ use borrow.Author.Needs.{needs}
 use Rattle.volume.proofs.zone_checks.stale_in.Statement.{statement}
 use Rattle.volume.proofs.zone_checks.stale_in.Tie as tie
 
-enum-told : tie.Need-enum-told
-enum-told c = search needs
-
-enum-known-c : tie.Need-enum-known-c
-enum-known-c c = search needs
-
-enum-known-c-2 : tie.Need-enum-known-c-2
-enum-known-c-2 c = search needs
-
-enum-known-c-3 : tie.Need-enum-known-c-3
-enum-known-c-3 c = search needs
-
 returns : tie.Need-returns
 returns c = rw (c .enum-told .given .1) refl
 
@@ -30,12 +18,4 @@ returns-4 c = rw (c .before .c3 .given .1) refl
 pub stale-in-spec : {M : Type 1} → statement M
 stale-in-spec =
     tie.close
-    (tie.spec
-    enum-told
-    enum-known-c
-    enum-known-c-2
-    enum-known-c-3
-    returns
-    returns-2
-    returns-3
-    returns-4)
+    (tie.spec (λ c. search needs) (λ c. search needs) (λ c. search needs) (λ c. search needs) returns returns-2 returns-3 returns-4)

@@ -5,15 +5,15 @@ use native.Mathlib.Omega.{arith}
 use native.Mathlib.Numerals.{add-one}
 use lib.ListN.{getD}
 use lib.Dec.{ltb}
-use Rattle.tables.specs.Below.{anyBelow}
-use Rattle.tables.specs.Tables.{cell}
-use Rattle.volume.specs.OnTables.{among}
-use Rattle.volume.specs.ZoneChecks.{unusedOn}
+use Rattle.tables.specs.meaning.Below.{anyBelow}
+use Rattle.tables.specs.meaning.Tables.{cell}
+use Rattle.volume.specs.meaning.CallContracts.{isSet}
+use Rattle.volume.specs.checks.ZoneChecks.{unusedOn}
 use Rattle.volume.proofs.zone_checks.unused_below.Statement.{statement}
 use Rattle.volume.proofs.zone_checks.unused_below.Tie as tie
 
 abbrev Inv-loop : tie.InvT-loop
-Inv-loop written g log n here drives below₀ d₀ below d = (d ≤ drives) × (below ≡ anyBelow (λ (i : ℕ). among here i && ltb (g .capacity - getD written (cell g i log) 0) n) d)
+Inv-loop written g log n here drives below₀ d₀ below d = (d ≤ drives) × (below ≡ anyBelow (λ (i : ℕ). isSet here i && ltb (g .capacity - getD written (cell g i log) 0) n) d)
 
 abbrev μ-loop : tie.MeasureT-loop
 μ-loop written g log n here drives below₀ d₀ below d = drives - d
@@ -30,9 +30,6 @@ drive-below-requires c κs = let s = c .before .before .before in (s .pre .0, (s
 add-d : tie.Need-add-d Inv-loop μ-loop
 add-d c = let s = c .before .before .before .before in omega (arith, s .pre .0 .drives-most)
 
-loop-less : tie.Need-loop-less Inv-loop μ-loop
-loop-less c = omega arith
-
 loop-again : tie.Need-loop-again Inv-loop μ-loop
 loop-again c = let l = c .before .before .loop in (omega arith, rw (l .inv .1, c .drive-below .ensures, add-one) refl)
 
@@ -43,13 +40,4 @@ returns c = let s = c .before .before .before in let l = c .before .loop in let 
 pub unused-below-spec : {M : Type 1} → statement M
 unused-below-spec =
     tie.close
-    (tie.spec
-    Inv-loop
-    μ-loop
-    loop-holds
-    array-read-drive-below
-    drive-below-requires
-    add-d
-    loop-less
-    loop-again
-    returns)
+    (tie.spec Inv-loop μ-loop loop-holds array-read-drive-below drive-below-requires add-d (λ c. omega arith) loop-again returns)

@@ -1,5 +1,5 @@
 use Prim.Native.Nat.{_-_}
-use Rattle.volume.specs.ZoneLooking.{condition-worn, condition-empty, condition-sealed, condition-open}
+use Rattle.volume.specs.looking.ZoneLooking.{condition-worn, condition-empty, condition-sealed, condition-open}
 use Rattle.volume.proofs.zone_looking.condition_of.Statement.{statement}
 use Rattle.volume.proofs.zone_looking.condition_of.Tie as tie
 

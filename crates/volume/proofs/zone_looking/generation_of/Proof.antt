@@ -2,17 +2,17 @@ use mathlib.Core.Path.{_≡_, refl, _∙_}
 use Prim.Native.Nat.{ℕ, _-_, _≤_}
 use native.Mathlib.Omega.{arith}
 use native.Mathlib.Numerals.{add-one}
-use Rattle.tables.specs.Basics.{pick}
-use Rattle.tables.specs.Below.{maxBelow}
-use Rattle.logs.specs.Heads.{generationIn}
-use Rattle.volume.specs.OnTables.{among}
-use Rattle.volume.specs.Rules.{generalHeads, generationOf}
-use Rattle.volume.specs.Knowing.{readDevice}
+use Rattle.tables.specs.meaning.Basics.{pick}
+use Rattle.tables.specs.meaning.Below.{maxBelow}
+use Rattle.logs.specs.meaning.Heads.{generationIn}
+use Rattle.volume.specs.meaning.CallContracts.{isSet}
+use Rattle.volume.specs.meaning.Rules.{generalHeads, generationOf}
+use Rattle.volume.specs.looking.Knowing.{readDevice}
 use Rattle.volume.proofs.zone_looking.generation_of.Statement.{statement}
 use Rattle.volume.proofs.zone_looking.generation_of.Tie as tie
 
 abbrev Inv-loop : tie.InvT-loop
-Inv-loop sectors written g z here n most₀ d₀ most d = (d ≤ n) × (most ≡ maxBelow (λ (i : ℕ). pick (among here i) (generationIn z (generalHeads g (readDevice g sectors written) i)) 0) d)
+Inv-loop sectors written g z here n most₀ d₀ most d = (d ≤ n) × (most ≡ maxBelow (λ (i : ℕ). pick (isSet here i) (generationIn z (generalHeads g (readDevice g sectors written) i)) 0) d)
 
 abbrev μ-loop : tie.MeasureT-loop
 μ-loop sectors written g z here n most₀ d₀ most d = n - d
@@ -32,9 +32,6 @@ later-requires c κs = tt
 add-d : tie.Need-add-d Inv-loop μ-loop
 add-d c = omega (arith, c .before .before .before .before .before .before .pre .0 .drives-most)
 
-loop-less : tie.Need-loop-less Inv-loop μ-loop
-loop-less c = omega arith
-
 loop-again : tie.Need-loop-again Inv-loop μ-loop
 loop-again c = let l = c .before .before .before .loop in (omega arith, c .later .ensures ∙ rw (l .inv .1, c .before .drive-generation .ensures, add-one) refl)
 
@@ -45,14 +42,5 @@ returns c = let l = c .before .loop in let e : l .d ≡ c .before .before .befor
 pub generation-of-spec : {M : Type 1} → statement M
 generation-of-spec =
     tie.close
-    (tie.spec
-    Inv-loop
-    μ-loop
-    loop-holds
-    array-read-drive-generation
-    drive-generation-requires
-    later-requires
-    add-d
-    loop-less
-    loop-again
+    (tie.spec Inv-loop μ-loop loop-holds array-read-drive-generation drive-generation-requires later-requires add-d (λ c. omega arith) loop-again
     returns)

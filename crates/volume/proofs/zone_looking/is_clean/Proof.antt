@@ -2,16 +2,16 @@ use mathlib.Core.Path.{_≡_, refl, _∙_}
 use Prim.Native.Nat.{_-_, _≤_}
 use native.Mathlib.Omega.{arith}
 use native.Mathlib.Numerals.{add-one}
-use Rattle.tables.specs.Below.{allBelow}
-use Rattle.volume.specs.OnTables.{among}
-use Rattle.volume.specs.ZoneLooking.{driveClean}
-use Rattle.volume.specs.Rules.{cleanAt}
-use Rattle.volume.specs.Knowing.{readDevice}
+use Rattle.tables.specs.meaning.Below.{allBelow}
+use Rattle.volume.specs.meaning.CallContracts.{isSet}
+use Rattle.volume.specs.looking.ZoneLooking.{driveClean}
+use Rattle.volume.specs.meaning.Rules.{cleanAt}
+use Rattle.volume.specs.looking.Knowing.{readDevice}
 use Rattle.volume.proofs.zone_looking.is_clean.Statement.{statement}
 use Rattle.volume.proofs.zone_looking.is_clean.Tie as tie
 
 abbrev Inv-loop : tie.InvT-loop
-Inv-loop sectors written g here z generation q n clean₀ d₀ clean d = (d ≤ n) × (clean ≡ allBelow (driveClean g (among here) (readDevice g sectors written) z generation q) d)
+Inv-loop sectors written g here z generation q n clean₀ d₀ clean d = (d ≤ n) × (clean ≡ allBelow (driveClean g (isSet here) (readDevice g sectors written) z generation q) d)
 
 abbrev μ-loop : tie.MeasureT-loop
 μ-loop sectors written g here z generation q n clean₀ d₀ clean d = n - d

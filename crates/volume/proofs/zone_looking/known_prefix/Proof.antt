@@ -6,16 +6,16 @@ use native.Mathlib.Omega.{arith}
 use native.Mathlib.Numerals.{add-one}
 use denote.Ref.{now}
 use borrow.Author.Tests.{not-true, not-false}
-use Rattle.tables.specs.Below.{allBelow}
-use Rattle.volume.specs.OnTables.{among}
-use Rattle.volume.specs.ZoneLooking.{knownAt, known-at, prefix-stops}
-use Rattle.volume.specs.Knowing.{readDevice}
-use Rattle.tables.specs.Sizes.{zone-small}
+use Rattle.tables.specs.meaning.Below.{allBelow}
+use Rattle.volume.specs.meaning.CallContracts.{isSet}
+use Rattle.volume.specs.looking.ZoneLooking.{knownAt, known-at, prefix-stops}
+use Rattle.volume.specs.looking.Knowing.{readDevice}
+use Rattle.tables.specs.laws.Sizes.{zone-small}
 use Rattle.volume.proofs.zone_looking.known_prefix.Statement.{statement}
 use Rattle.volume.proofs.zone_looking.known_prefix.Tie as tie
 
 abbrev Inv-scan : tie.InvT-scan
-Inv-scan sectors written g here z generation limit a₀ a = (a ≤ limit) × (allBelow (knownAt g (among here) (readDevice g sectors written) z generation) a ≡ true)
+Inv-scan sectors written g here z generation limit a₀ a = (a ≤ limit) × (allBelow (knownAt g (isSet here) (readDevice g sectors written) z generation) a ≡ true)
 
 abbrev μ-scan : tie.MeasureT-scan
 μ-scan sectors written g here z generation limit a₀ a = limit - a
@@ -27,17 +27,16 @@ is-known-requires : tie.Need-is-known-requires Inv-scan μ-scan
 is-known-requires c κs = let s = c .before .before .before .before in (s .pre .0, (s .pre .1 .0, omega (arith, s .pre .1 .2), s .pre .1 .1))
 
 add-a : tie.Need-add-a Inv-scan μ-scan
-add-a c = omega (arith, c .before .before .before .before .before .before .pre .1 .2, zone-small (c .before .before .before .before .before .before .args .g) (c .before .before .before .before .before .before .pre .0) .1)
-
-scan-less : tie.Need-scan-less Inv-scan μ-scan
-scan-less c = omega arith
+add-a c =
+    let s = c .before .before .before .before .before .before in
+    omega (arith, s .pre .1 .2, zone-small (s .args .g) (s .pre .0) .1)
 
 scan-again : tie.Need-scan-again Inv-scan μ-scan
 scan-again c =
     let s = c .before .before .before .before .before .before in
     let a = s .args in
     let l = c .before .before .before .scan in
-    let k : knownAt (a .g) (among (a .here)) (readDevice (a .g) (a .sectors .now) (a .written .now)) (a .z) (a .generation) (l .a) ≡ true = sym (known-at (a .g) (among (a .here)) (readDevice (a .g) (a .sectors .now) (a .written .now)) (a .z) (a .generation) (l .a)) ∙ sym (c .before .is-known .ensures) ∙ not-false (c .before .is-known .result) (c .if1 .left) in
+    let k : knownAt (a .g) (isSet (a .here)) (readDevice (a .g) (a .sectors .now) (a .written .now)) (a .z) (a .generation) (l .a) ≡ true = sym (known-at (a .g) (isSet (a .here)) (readDevice (a .g) (a .sectors .now) (a .written .now)) (a .z) (a .generation) (l .a)) ∙ sym (c .before .is-known .ensures) ∙ not-false (c .before .is-known .result) (c .if1 .left) in
     (omega arith, rw (add-one, l .inv .1, k) refl)
 
 returns : tie.Need-returns Inv-scan μ-scan
@@ -45,26 +44,17 @@ returns c =
     let s = c .before .before .before .before in
     let a = s .args in
     let l = c .before .scan in
-    prefix-stops (a .g) (among (a .here)) (readDevice (a .g) (a .sectors .now) (a .written .now)) (a .z) (a .generation) (a .limit) (l .a) (s .pre .1 .2) (l .inv .0) (l .inv .1) (inr (omega arith))
+    prefix-stops (a .g) (isSet (a .here)) (readDevice (a .g) (a .sectors .now) (a .written .now)) (a .z) (a .generation) (a .limit) (l .a) (s .pre .1 .2) (l .inv .0) (l .inv .1) (inr (omega arith))
 
 returns-2 : tie.Need-returns-2 Inv-scan μ-scan
 returns-2 c =
     let s = c .before .before .before .before .before .before in
     let a = s .args in
     let l = c .before .before .before .scan in
-    let k : knownAt (a .g) (among (a .here)) (readDevice (a .g) (a .sectors .now) (a .written .now)) (a .z) (a .generation) (l .a) ≡ false = sym (known-at (a .g) (among (a .here)) (readDevice (a .g) (a .sectors .now) (a .written .now)) (a .z) (a .generation) (l .a)) ∙ sym (c .before .is-known .ensures) ∙ not-true (c .before .is-known .result) (c .if1 .taken) in
-    prefix-stops (a .g) (among (a .here)) (readDevice (a .g) (a .sectors .now) (a .written .now)) (a .z) (a .generation) (a .limit) (l .a) (s .pre .1 .2) (l .inv .0) (l .inv .1) (inl k)
+    let k : knownAt (a .g) (isSet (a .here)) (readDevice (a .g) (a .sectors .now) (a .written .now)) (a .z) (a .generation) (l .a) ≡ false = sym (known-at (a .g) (isSet (a .here)) (readDevice (a .g) (a .sectors .now) (a .written .now)) (a .z) (a .generation) (l .a)) ∙ sym (c .before .is-known .ensures) ∙ not-true (c .before .is-known .result) (c .if1 .taken) in
+    prefix-stops (a .g) (isSet (a .here)) (readDevice (a .g) (a .sectors .now) (a .written .now)) (a .z) (a .generation) (a .limit) (l .a) (s .pre .1 .2) (l .inv .0) (l .inv .1) (inl k)
 
 pub known-prefix-spec : {M : Type 1} → statement M
 known-prefix-spec =
     tie.close
-    (tie.spec
-    Inv-scan
-    μ-scan
-    scan-holds
-    is-known-requires
-    add-a
-    scan-less
-    scan-again
-    returns
-    returns-2)
+    (tie.spec Inv-scan μ-scan scan-holds is-known-requires add-a (λ c. omega arith) scan-again returns returns-2)

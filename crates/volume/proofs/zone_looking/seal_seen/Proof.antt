@@ -3,17 +3,17 @@ use mathlib.Core.Bool.{_&&_}
 use Prim.Native.Nat.{ℕ, _-_, _≤_}
 use native.Mathlib.Omega.{arith}
 use native.Mathlib.Numerals.{add-one}
-use Rattle.tables.specs.Below.{anyBelow}
-use Rattle.tables.specs.Lists.{anyOf}
-use Rattle.logs.specs.Heads.{isSeal}
-use Rattle.volume.specs.OnTables.{among}
-use Rattle.volume.specs.Rules.{generalHeads, sealSeen}
-use Rattle.volume.specs.Knowing.{readDevice}
+use Rattle.tables.specs.meaning.Below.{anyBelow}
+use Rattle.tables.specs.meaning.Lists.{anyOf}
+use Rattle.logs.specs.meaning.Heads.{isSeal}
+use Rattle.volume.specs.meaning.CallContracts.{isSet}
+use Rattle.volume.specs.meaning.Rules.{generalHeads, sealSeen}
+use Rattle.volume.specs.looking.Knowing.{readDevice}
 use Rattle.volume.proofs.zone_looking.seal_seen.Statement.{statement}
 use Rattle.volume.proofs.zone_looking.seal_seen.Tie as tie
 
 abbrev Inv-loop : tie.InvT-loop
-Inv-loop sectors written g z generation here n seen₀ d₀ seen d = (d ≤ n) × (seen ≡ anyBelow (λ (i : ℕ). among here i && anyOf (isSeal z generation) (generalHeads g (readDevice g sectors written) i)) d)
+Inv-loop sectors written g z generation here n seen₀ d₀ seen d = (d ≤ n) × (seen ≡ anyBelow (λ (i : ℕ). isSet here i && anyOf (isSeal z generation) (generalHeads g (readDevice g sectors written) i)) d)
 
 abbrev μ-loop : tie.MeasureT-loop
 μ-loop sectors written g z generation here n seen₀ d₀ seen d = n - d
@@ -30,9 +30,6 @@ drive-seal-requires c κs = let s = c .before .before .before .before in (s .pre
 add-d : tie.Need-add-d Inv-loop μ-loop
 add-d c = omega (arith, c .before .before .before .before .before .pre .0 .drives-most)
 
-loop-less : tie.Need-loop-less Inv-loop μ-loop
-loop-less c = omega arith
-
 loop-again : tie.Need-loop-again Inv-loop μ-loop
 loop-again c = let l = c .before .before .loop in (omega arith, rw (l .inv .1, c .drive-seal .ensures, add-one) refl)
 
@@ -43,13 +40,4 @@ returns c = let l = c .before .loop in let e : l .d ≡ c .before .before .befor
 pub seal-seen-spec : {M : Type 1} → statement M
 seal-seen-spec =
     tie.close
-    (tie.spec
-    Inv-loop
-    μ-loop
-    loop-holds
-    array-read-drive-seal
-    drive-seal-requires
-    add-d
-    loop-less
-    loop-again
-    returns)
+    (tie.spec Inv-loop μ-loop loop-holds array-read-drive-seal drive-seal-requires add-d (λ c. omega arith) loop-again returns)

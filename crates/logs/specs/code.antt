@@ -1,0 +1,11 @@
+pub mod Answers
+pub mod Ends
+pub mod Generations
+pub mod Judge
+pub mod JudgeMore
+pub mod Lays
+pub mod Query
+pub mod QueryLaws
+pub mod Steps
+pub mod WalkCode
+pub mod ZoneWalk

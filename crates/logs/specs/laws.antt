@@ -1,0 +1,9 @@
+pub mod Codec
+pub mod Entry
+pub mod HeadLaws
+pub mod Heads
+pub mod Legal
+pub mod LogLaws
+pub mod Places
+pub mod Walk
+pub mod WalkLaws

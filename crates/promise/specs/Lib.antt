@@ -1,0 +1,9 @@
+pub mod calls
+pub mod content
+pub mod device
+pub mod examples
+pub mod invariant
+pub mod look
+pub mod meaning
+pub mod mount
+pub mod tables

@@ -1,0 +1,7 @@
+pub mod FlushKeeps
+pub mod FormatKeeps
+pub mod ResetDevices
+pub mod ResetKeeps
+pub mod ResetStages
+pub mod WriteKeeps
+pub mod WriteLocal

@@ -1,0 +1,459 @@
+-- A reset of a zone, stopped anywhere or finished. Each place sees a prefix of the five phases (reset entries, flush, resets, counters,
+-- flush), so a stop is a part of one of the devices of ResetStages.antt; a finished reset leaves the zone empty and all at rest.
+use mathlib.Core.Path.{_≡_, refl, sym, ap, _∙_}
+use mathlib.Core.Logic.{_≢_, _⊎_, inl, inr}
+use mathlib.Core.Bool.{Bool, true, false, _&&_}
+use Prim.Native.Nat.{ℕ, zero, suc, _+_, _≤_, _<_, zero-le}
+use native.Mathlib.Nat.{le-refl}
+use native.Mathlib.Omega.{arith}
+use native.Mathlib.Decide.{ℕ-discrete}
+use mathlib.Core.List.{List, [], _∷_, _++_, map, append-assoc, List·Memᴰ}
+use lib.ListN.{length, getD, take, length-append}
+use lib.Seq.{take-all}
+use lib.Dec.{eqb}
+use borrow.Author.Tests.{eq-eqb, ne-eqb}
+use Rattle.tables.specs.meaning.Basics.{pick}
+use Rattle.tables.specs.meaning.Below.{eachBelow}
+use Rattle.tables.specs.meaning.Device.{ZoneView, Device, Store, reset, blankZone, flushed, applyAll}
+use Rattle.tables.specs.laws.Local.{LocalStore, appendHere, resetHere, flushHere, applyAllHere, localStores, local-is, FrontOf, no-reset-appends, front-part, appends-here}
+use Rattle.tables.specs.laws.Lists.{Prefix, prefix-refl, prefix-trans, prefix-append, prefix-nil, prefix-under, prefix-one, map-append, length-map}
+use Rattle.tables.specs.meaning.Lists.{concat}
+use Rattle.tables.specs.laws.Phases.{on-present-local, localPhases, local-whole, each-below-own, each-below-unseen, flush-all-local, Stop, stop-at, SeenPart, stop-seen, seen-prefix, seen-next}
+use Rattle.tables.specs.meaning.Phases.{eachOnPresent, flushAll}
+use Rattle.tables.specs.declared.Geometry.{Geometry}
+use Rattle.tables.specs.meaning.Geometry.{Valid, physicalZones, dataZone}
+use Rattle.logs.specs.meaning.Entry.{generalZone, wornGeneration, Header, counters, zoneReset, encode}
+use Rattle.tables.specs.laws.Drives.{presentBut, present-below}
+use Rattle.logs.specs.meaning.Heads.{lastCounters, generationIn}
+use Rattle.volume.specs.declared.Condition.the-variants.{Empty, Worn}
+use Rattle.volume.specs.meaning.State.{StateView, setAt}
+use Rattle.promise.specs.invariant.Obligations.{ResetOk, ResetKeeps, ResetRests}
+use Rattle.volume.specs.meaning.Calls.{generationsFrom, raisedAt, logsReset, appendGeneral, resetPhases, resetStores, resetState}
+use Rattle.promise.specs.meaning.Ledger.{Ledger, afterStoppedReset, afterReset}
+use Rattle.promise.specs.invariant.Invariant.{Ghost, Here, Entries, Inv, Rest, RestZone}
+use Rattle.promise.specs.invariant.StoppedCall.{Part, Parts, inv-part}
+use Rattle.promise.specs.invariant.UntouchedZone.{Untouched, untouched-rest}
+use Rattle.logs.specs.laws.HeadLaws.{zone-gen-map, last-counters-append}
+use Rattle.promise.specs.calls.FlushKeeps.{MoreDurable, more-durable-flushed}
+use Rattle.promise.specs.invariant.EmptiedZone.{MadeEmpty, made-empty-rest}
+use Rattle.promise.specs.calls.ResetDevices.{After, grown, after-logs, generation-after, more-after}
+use Rattle.volume.specs.laws.Counters.{generations-at}
+use Rattle.promise.specs.calls.ResetStages.{here as hereOf, resetEntry as resetEntryOf, resetEntries as resetEntriesOf, raisedCounters as raisedCountersOf, bothEntries as bothEntriesOf, bytes as bytesOf, loggingDevice as loggingDeviceOf, resettingDevice as resettingDeviceOf, countingDevice as countingDeviceOf, general≢ as general≢Of, at-zone as at-zoneOf, at-other as at-otherOf, both-entries-are as both-entries-areOf, both-entries-few as both-entries-fewOf, loggingGhost as loggingGhostOf, countingGhost as countingGhostOf, settled-at as settled-atOf, logging-inv as logging-invOf, general-length as general-lengthOf, entries-after as entries-afterOf, generation-lt as generation-ltOf, resetting-inv as resetting-invOf, counting-inv as counting-invOf}
+
+pub front-is-part : (a b : ZoneView) → FrontOf (a .sectors) (a .durable) b → Part a b
+front-is-part a b k = record { front = k .pre; least = k .dur; most = k .wf }
+
+module _ (g : Geometry) (ok : Valid g) (x : ℕ) (v : Device) (state : StateView) (l : Ledger) (γ : Ghost) (r : Rest g x v state l γ) (z : ℕ) (rk : ResetOk g (presentBut g x) v state z) where
+  -- ---- from ResetStages.antt
+  here : RestZone g x v state l γ z
+  here = hereOf g ok x v state l γ r z rk
+
+  abbrev resetEntry : Header
+  resetEntry = resetEntryOf g ok x v state l γ r z rk
+
+  abbrev resetEntries : ℕ → List Header
+  resetEntries = resetEntriesOf g ok x v state l γ r z rk
+
+  abbrev raisedCounters : Header
+  raisedCounters = raisedCountersOf g ok x v state l γ r z rk
+
+  abbrev bothEntries : ℕ → List Header
+  bothEntries = bothEntriesOf g ok x v state l γ r z rk
+
+  abbrev bytes : ℕ → List Header → List (List ℕ)
+  bytes = bytesOf g ok x v state l γ r z rk
+
+  abbrev loggingDevice : Device
+  loggingDevice = loggingDeviceOf g ok x v state l γ r z rk
+
+  abbrev resettingDevice : Device
+  resettingDevice = resettingDeviceOf g ok x v state l γ r z rk
+
+  abbrev countingDevice : Device
+  countingDevice = countingDeviceOf g ok x v state l γ r z rk
+
+  general≢ : generalZone ≢ dataZone z
+  general≢ = general≢Of g ok x v state l γ r z rk
+
+  at-zone : (d : ℕ) → (resettingDevice d (dataZone z) ≡ record { sectors = v d (dataZone z) .sectors; durable = zero }) × (countingDevice d (dataZone z) ≡ blankZone) × (loggingDevice d (dataZone z) ≡ v d (dataZone z))
+  at-zone = at-zoneOf g ok x v state l γ r z rk
+
+  at-other : (d y : ℕ) → y ≢ generalZone → y ≢ dataZone z → (resettingDevice d y ≡ v d y) × (countingDevice d y ≡ v d y) × (loggingDevice d y ≡ v d y)
+  at-other = at-otherOf g ok x v state l γ r z rk
+
+  both-entries-are : (d : ℕ) (h : Header) → List·Memᴰ h (bothEntries d) → ((h ≡ resetEntry) × (logsReset g z d ≡ true)) ⊎ (h ≡ raisedCounters)
+  both-entries-are = both-entries-areOf g ok x v state l γ r z rk
+
+  both-entries-few : (d : ℕ) → length (bothEntries d) ≤ 2
+  both-entries-few = both-entries-fewOf g ok x v state l γ r z rk
+
+  abbrev loggingGhost : Ghost
+  loggingGhost = loggingGhostOf g ok x v state l γ r z rk
+
+  abbrev countingGhost : Ghost
+  countingGhost = countingGhostOf g ok x v state l γ r z rk
+
+  settled-at : (w : Device) (T : ℕ → List Header) → After g ok x v state l γ r z rk w T → (y : ℕ) → y < g .zones → y ≢ z → (d : ℕ) → Here g x d → MoreDurable (v d (dataZone y)) (w d (dataZone y))
+  settled-at = settled-atOf g ok x v state l γ r z rk
+
+  logging-inv : Inv g x loggingDevice (afterStoppedReset l z) loggingGhost
+  logging-inv = logging-invOf g ok x v state l γ r z rk
+
+  general-length : (d : ℕ) → Here g x d → length (γ .general d) ≡ length (v d generalZone .sectors)
+  general-length = general-lengthOf g ok x v state l γ r z rk
+
+  entries-after : (w : Device) (T : ℕ → List Header) → After g ok x v state l γ r z rk w T → Entries g x (grown g ok x v state l γ r z rk (γ .laid) (γ .generation) T) z (λ n. n ≤ γ .generation z)
+  entries-after = entries-afterOf g ok x v state l γ r z rk
+
+  generation-lt : γ .generation z < wornGeneration
+  generation-lt = generation-ltOf g ok x v state l γ r z rk
+
+  resetting-inv : Inv g x resettingDevice (afterStoppedReset l z) loggingGhost
+  resetting-inv = resetting-invOf g ok x v state l γ r z rk
+
+  counting-inv : Inv g x countingDevice (afterStoppedReset l z) countingGhost
+  counting-inv = counting-invOf g ok x v state l γ r z rk
+
+  -- ---- what each place sees of the phases
+  abbrev phase0 : ℕ → List Store
+  phase0 k = pick (logsReset g z k) (appendGeneral g (zoneReset z (state .generation z)) k) []
+
+  abbrev phase2 : ℕ → List Store
+  phase2 k = reset k (dataZone z) ∷ []
+
+  abbrev phase3 : ℕ → List Store
+  phase3 k = appendGeneral g raisedCounters k
+
+  abbrev phases : List (List Store)
+  phases = eachOnPresent (presentBut g x) (resetPhases g state z)
+
+  log-zone : (d k y : ℕ) (h : Header) → y ≢ generalZone → localStores d y (appendGeneral g h k) ≡ []
+  log-zone d k y h n = go (eqb d k)
+    where
+      go : (b : Bool) → pick (b && eqb y generalZone) (appendHere (encode g k h) ∷ []) [] ++ [] ≡ []
+      go true = rw (ne-eqb y generalZone n) refl
+      go false = refl
+
+  log-drive : (d k y : ℕ) (h : Header) → d ≢ k → localStores d y (appendGeneral g h k) ≡ []
+  log-drive d k y h n = rw (ne-eqb d k n) refl
+
+  log-own : (d : ℕ) (h : Header) → localStores d generalZone (appendGeneral g h d) ≡ appendHere (encode g d h) ∷ []
+  log-own d h = rw (eq-eqb d d refl) refl
+
+  picked : (d y k : ℕ) → localStores d y (appendGeneral g (zoneReset z (state .generation z)) k) ≡ [] → localStores d y (phase0 k) ≡ []
+  picked d y k e = go (logsReset g z k)
+    where
+      go : (b : Bool) → localStores d y (pick b (appendGeneral g (zoneReset z (state .generation z)) k) []) ≡ []
+      go true = e
+      go false = refl
+
+  picked-own : (d : ℕ) → localStores d generalZone (phase0 d) ≡ map appendHere (bytes d (resetEntries d))
+  picked-own d = go (logsReset g z d)
+    where
+      go : (b : Bool) → localStores d generalZone (pick b (appendGeneral g (zoneReset z (state .generation z)) d) []) ≡ map appendHere (bytes d (pick b (resetEntry ∷ []) []))
+      go true = log-own d (zoneReset z (state .generation z)) ∙ rw (here .generation-is) refl
+      go false = refl
+
+  reset-zone : (d k y : ℕ) → y ≢ dataZone z → localStores d y (phase2 k) ≡ []
+  reset-zone d k y n = go (eqb d k)
+    where
+      go : (b : Bool) → pick (b && eqb y (dataZone z)) (resetHere ∷ []) [] ++ [] ≡ []
+      go true = rw (ne-eqb y (dataZone z) n) refl
+      go false = refl
+
+  abbrev tableLog : ℕ → List (List LocalStore)
+  tableLog d = map appendHere (bytes d (resetEntries d)) ∷ (flushHere ∷ []) ∷ [] ∷ (appendHere (encode g d raisedCounters) ∷ []) ∷ (flushHere ∷ []) ∷ []
+
+  abbrev tableZone : List (List LocalStore)
+  tableZone = [] ∷ (flushHere ∷ []) ∷ (resetHere ∷ []) ∷ [] ∷ (flushHere ∷ []) ∷ []
+
+  abbrev tableOther : List (List LocalStore)
+  tableOther = [] ∷ (flushHere ∷ []) ∷ [] ∷ [] ∷ (flushHere ∷ []) ∷ []
+
+  module _ (d : ℕ) (a : Here g x d) where
+    five : (y : ℕ) (o p q : List LocalStore) → localStores d y (eachBelow phase0 (g .drives)) ≡ o → localStores d y (eachBelow phase2 (g .drives)) ≡ p → localStores d y (eachBelow phase3 (g .drives)) ≡ q
+        → localPhases d y phases ≡ o ∷ (flushHere ∷ []) ∷ p ∷ q ∷ (flushHere ∷ []) ∷ []
+    five y o p q e f h =
+        rw (
+          on-present-local (presentBut g x) d y (eachBelow phase0 (g .drives)) a,
+          on-present-local (presentBut g x) d y (flushAll (g .drives)) a,
+          on-present-local (presentBut g x) d y (eachBelow phase2 (g .drives)) a,
+          on-present-local (presentBut g x) d y (eachBelow phase3 (g .drives)) a,
+          flush-all-local d y (g .drives) (present-below g x d a),
+          e,
+          f,
+          h,
+        )
+        refl
+
+    log-saw : localPhases d generalZone phases ≡ tableLog d
+    log-saw = five generalZone (map appendHere (bytes d (resetEntries d))) [] (appendHere (encode g d raisedCounters) ∷ [])
+        (each-below-own phase0 d generalZone (λ k n. picked d generalZone k (log-drive d k generalZone (zoneReset z (state .generation z)) n)) (g .drives) (present-below g x d a) ∙ picked-own d)
+        (each-below-unseen phase2 d generalZone (λ k. reset-zone d k generalZone general≢) (g .drives))
+        (each-below-own phase3 d generalZone (λ k n. log-drive d k generalZone raisedCounters n) (g .drives) (present-below g x d a) ∙ log-own d raisedCounters)
+
+    zone-saw : localPhases d (dataZone z) phases ≡ tableZone
+    zone-saw = five (dataZone z) [] (resetHere ∷ []) []
+        (each-below-unseen phase0 d (dataZone z) (λ k. picked d (dataZone z) k (log-zone d k (dataZone z) (zoneReset z (state .generation z)) (λ e. omega arith))) (g .drives))
+        (each-below-own phase2 d (dataZone z) (λ k n. rw (ne-eqb d k n) refl) (g .drives) (present-below g x d a) ∙ rw (eq-eqb d d refl, eq-eqb (dataZone z) (dataZone z) refl) refl)
+        (each-below-unseen phase3 d (dataZone z) (λ k. log-zone d k (dataZone z) raisedCounters (λ e. omega arith)) (g .drives))
+
+    other-saw : (y : ℕ) → y ≢ generalZone → y ≢ dataZone z → localPhases d y phases ≡ tableOther
+    other-saw y n m = five y [] [] []
+        (each-below-unseen phase0 d y (λ k. picked d y k (log-zone d k y (zoneReset z (state .generation z)) n)) (g .drives))
+        (each-below-unseen phase2 d y (λ k. reset-zone d k y m) (g .drives))
+        (each-below-unseen phase3 d y (λ k. log-zone d k y raisedCounters n) (g .drives))
+
+  -- ---- a stop
+  module _ (n : ℕ) where
+    abbrev some : List Store
+    some = take n (concat phases)
+
+    stop : Stop phases some
+    stop = stop-at phases n
+
+    sawLog : (d : ℕ) → Here g x d → SeenPart (tableLog d) (stop .phase) (localStores d generalZone some)
+    sawLog d a = rw (log-saw d a) at (stop-seen d generalZone phases some stop)
+
+    sawZone : (d : ℕ) → Here g x d → SeenPart tableZone (stop .phase) (localStores d (dataZone z) some)
+    sawZone d a = rw (zone-saw d a) at (stop-seen d (dataZone z) phases some stop)
+
+    -- places that the reset only flushes
+    otherPart : (d y : ℕ) → Here g x d → y < physicalZones g → y ≢ generalZone → y ≢ dataZone z → Part (v d y) (applyAll some v d y)
+    otherPart d y a h p q =
+        let s : SeenPart tableOther (stop .phase) (localStores d y some) = rw (other-saw d a y p q) at (stop-seen d y phases some stop) in
+        rw (local-is d y some v) (front-is-part (v d y) (applyAllHere (localStores d y some) (v d y)) (front-part (v d y .sectors) (v d y .durable) (v d y) (localStores d y some) (flushHere ∷ flushHere ∷ []) (r .logs .lasting d y a h) (le-refl (v d y .durable)) tt (seen-prefix tableOther (stop .phase) (localStores d y some) s) (prefix-refl (v d y .sectors))))
+
+    parts : (w : Device) → ((d : ℕ) → Here g x d → Part (w d generalZone) (applyAll some v d generalZone)) → ((d : ℕ) → Here g x d → Part (w d (dataZone z)) (applyAll some v d (dataZone z)))
+        → ((d y : ℕ) → y ≢ generalZone → y ≢ dataZone z → w d y ≡ v d y) → Parts g x w (applyAll some v)
+    parts w pl pz po d y a h = go (ℕ-discrete y generalZone) (ℕ-discrete y (dataZone z))
+      where
+        go : Dec (y ≡ generalZone) → Dec (y ≡ dataZone z) → Part (w d y) (applyAll some v d y)
+        go (yes e) q = rw e (pl d a)
+        go (no e) (yes q) = rw q (pz d a)
+        go (no e) (no q) = rw (po d y e q) (otherPart d y a h e q)
+
+    lasting0 : (d : ℕ) → Here g x d → v d generalZone .durable ≤ length (v d generalZone .sectors)
+    lasting0 d a = r .logs .lasting d generalZone a (omega arith)
+
+    lastingZ : (d : ℕ) → Here g x d → v d (dataZone z) .durable ≤ length (v d (dataZone z) .sectors)
+    lastingZ d a = r .logs .lasting d (dataZone z) a (omega (arith, rk .zone-ok))
+
+    logging-log : (d : ℕ) → Here g x d → (i : ℕ) (os : List LocalStore) → i < 2 → SeenPart (tableLog d) i os → Part (loggingDevice d generalZone) (applyAllHere os (v d generalZone))
+    logging-log d a i os h s = front-is-part (loggingDevice d generalZone) (applyAllHere os (v d generalZone)) (front-part (v d generalZone .sectors ++ bytes d (resetEntries d)) (v d generalZone .durable) (v d generalZone) os (map appendHere (bytes d (resetEntries d)) ++ (flushHere ∷ [])) (lasting0 d a) (le-refl (v d generalZone .durable)) (no-reset-appends (bytes d (resetEntries d)) (flushHere ∷ []) tt) (few i h s)
+        (rw (appends-here (bytes d (resetEntries d)) (flushHere ∷ []) (v d generalZone)) (prefix-refl (v d generalZone .sectors ++ bytes d (resetEntries d)))))
+      where
+        few : (i : ℕ) → i < 2 → SeenPart (tableLog d) i os → Prefix os (map appendHere (bytes d (resetEntries d)) ++ (flushHere ∷ []))
+        few zero h s = rw (s .is) (prefix-trans (s .pre) (prefix-append (map appendHere (bytes d (resetEntries d))) (flushHere ∷ [])))
+        few (suc zero) h s =
+            let (t, e, u) = seen-next (map appendHere (bytes d (resetEntries d))) ((flushHere ∷ []) ∷ [] ∷ (appendHere (encode g d raisedCounters) ∷ []) ∷ (flushHere ∷ []) ∷ []) zero os s in
+            rw e (prefix-under (map appendHere (bytes d (resetEntries d))) (rw (u .is) (u .pre)))
+        few (suc (suc j)) h s = absurd (omega arith)
+
+    -- the first two phases are over
+    past : (d : ℕ) → Here g x d → (j : ℕ) (os : List LocalStore) → SeenPart (tableLog d) (suc (suc j)) os
+        → (t : List LocalStore) × (applyAllHere os (v d generalZone) ≡ applyAllHere t (flushed (record { sectors = v d generalZone .sectors ++ bytes d (resetEntries d); durable = v d generalZone .durable }))) × SeenPart ([] ∷ (appendHere (encode g d raisedCounters) ∷ []) ∷ (flushHere ∷ []) ∷ []) j t
+    past d a j os s =
+        let (t, e, u) = seen-next (map appendHere (bytes d (resetEntries d))) ((flushHere ∷ []) ∷ [] ∷ (appendHere (encode g d raisedCounters) ∷ []) ∷ (flushHere ∷ []) ∷ []) (suc j) os s in
+        let (t2, e2, u2) = seen-next (flushHere ∷ []) ([] ∷ (appendHere (encode g d raisedCounters) ∷ []) ∷ (flushHere ∷ []) ∷ []) j t u in
+        let q : os ≡ map appendHere (bytes d (resetEntries d)) ++ (flushHere ∷ t2) = e ∙ ap (λ (b : List LocalStore). map appendHere (bytes d (resetEntries d)) ++ b) e2 in
+        (t2, ap (λ (b : List LocalStore). applyAllHere b (v d generalZone)) q ∙ appends-here (bytes d (resetEntries d)) (flushHere ∷ t2) (v d generalZone), u2)
+
+    resetting-log : (d : ℕ) → Here g x d → (os : List LocalStore) → SeenPart (tableLog d) 2 os → Part (resettingDevice d generalZone) (applyAllHere os (v d generalZone))
+    resetting-log d a os s =
+        let c : ZoneView = record { sectors = v d generalZone .sectors ++ bytes d (resetEntries d); durable = v d generalZone .durable } in
+        let (t, e, u) = past d a zero os s in
+        rw e (front-is-part (resettingDevice d generalZone) (applyAllHere t (flushed c)) (front-part (c .sectors) (length (c .sectors)) (flushed c) t [] (le-refl (length (c .sectors))) (le-refl (length (c .sectors))) tt (rw (u .is) (u .pre)) (prefix-refl (c .sectors))))
+
+    counting-log : (d : ℕ) → Here g x d → (j : ℕ) (os : List LocalStore) → SeenPart (tableLog d) (suc (suc (suc j))) os → Part (countingDevice d generalZone) (applyAllHere os (v d generalZone))
+    counting-log d a j os s =
+        let c : ZoneView = record { sectors = v d generalZone .sectors ++ bytes d (resetEntries d); durable = v d generalZone .durable } in
+        let (t, e, u) = past d a (suc j) os s in
+        let (t2, e2, u2) = seen-next [] ((appendHere (encode g d raisedCounters) ∷ []) ∷ (flushHere ∷ []) ∷ []) j t u in
+        let p : Prefix t2 (appendHere (encode g d raisedCounters) ∷ flushHere ∷ []) = seen-prefix ((appendHere (encode g d raisedCounters) ∷ []) ∷ (flushHere ∷ []) ∷ []) j t2 u2 in
+        let q : (v d generalZone .sectors ++ bytes d (resetEntries d)) ++ (encode g d raisedCounters ∷ []) ≡ v d generalZone .sectors ++ bytes d (bothEntries d) =
+        append-assoc (v d generalZone .sectors) (bytes d (resetEntries d)) (encode g d raisedCounters ∷ []) ∙ ap (λ (b : List (List ℕ)). v d generalZone .sectors ++ b) (sym (map-append (encode g d) (resetEntries d) (raisedCounters ∷ []))) in
+        rw (e, e2) (front-is-part (countingDevice d generalZone) (applyAllHere t2 (flushed c)) (front-part (v d generalZone .sectors ++ bytes d (bothEntries d)) (length (c .sectors)) (flushed c) t2 (appendHere (encode g d raisedCounters) ∷ flushHere ∷ []) (le-refl (length (c .sectors))) (le-refl (length (c .sectors))) tt p (rw q (prefix-refl (v d generalZone .sectors ++ bytes d (bothEntries d))))))
+
+    logging-zone : (d : ℕ) → Here g x d → (i : ℕ) (os : List LocalStore) → i < 2 → SeenPart tableZone i os → Part (loggingDevice d (dataZone z)) (applyAllHere os (v d (dataZone z)))
+    logging-zone d a i os h s = rw (at-zone d .2) (front-is-part (v d (dataZone z)) (applyAllHere os (v d (dataZone z))) (front-part (v d (dataZone z) .sectors) (v d (dataZone z) .durable) (v d (dataZone z)) os (flushHere ∷ []) (lastingZ d a) (le-refl (v d (dataZone z) .durable)) tt (few i h s) (prefix-refl (v d (dataZone z) .sectors))))
+      where
+        few : (i : ℕ) → i < 2 → SeenPart tableZone i os → Prefix os (flushHere ∷ [])
+        few zero h s = rw (s .is) (prefix-trans (s .pre) (prefix-append [] (flushHere ∷ [])))
+        few (suc zero) h s = rw (s .is) (s .pre)
+        few (suc (suc j)) h s = absurd (omega arith)
+
+    resetting-zone : (d : ℕ) → Here g x d → (os : List LocalStore) → SeenPart tableZone 2 os → Part (resettingDevice d (dataZone z)) (applyAllHere os (v d (dataZone z)))
+    resetting-zone d a os s = rw (at-zone d .0, s .is) (go (s .part) (prefix-one resetHere (s .part) (s .pre)))
+      where
+        go : (t : List LocalStore) → (t ≡ []) ⊎ (t ≡ resetHere ∷ []) → Part (record { sectors = v d (dataZone z) .sectors; durable = zero }) (applyAllHere t (flushed (v d (dataZone z))))
+        go t (inl e) = rw e (record { front = prefix-refl (v d (dataZone z) .sectors); least = zero-le; most = le-refl (length (v d (dataZone z) .sectors)) })
+        go t (inr e) = rw e (record { front = prefix-nil (v d (dataZone z) .sectors); least = zero-le; most = zero-le })
+
+    counting-zone : (d : ℕ) → Here g x d → (j : ℕ) (os : List LocalStore) → SeenPart tableZone (suc (suc (suc j))) os → Part (countingDevice d (dataZone z)) (applyAllHere os (v d (dataZone z)))
+    counting-zone d a j os s =
+        let (t, e, u) = seen-next [] ((flushHere ∷ []) ∷ (resetHere ∷ []) ∷ [] ∷ (flushHere ∷ []) ∷ []) (suc (suc j)) os s in
+        let (t2, e2, u2) = seen-next (flushHere ∷ []) ((resetHere ∷ []) ∷ [] ∷ (flushHere ∷ []) ∷ []) (suc j) t u in
+        let (t3, e3, u3) = seen-next (resetHere ∷ []) ([] ∷ (flushHere ∷ []) ∷ []) j t2 u2 in
+        let p : Prefix t3 (flushHere ∷ []) = seen-prefix ([] ∷ (flushHere ∷ []) ∷ []) j t3 u3 in
+        rw (at-zone d .1, e, e2, e3) (front-is-part blankZone (applyAllHere t3 blankZone) (front-part [] zero blankZone t3 (flushHere ∷ []) zero-le zero-le tt p (prefix-refl [])))
+
+    stopped : (δ : Ghost) × Inv g x (applyAll some v) (afterStoppedReset l z) δ
+    stopped = go (stop .phase) refl
+      where
+        at-log : (d i : ℕ) → Here g x d → stop .phase ≡ i → SeenPart (tableLog d) i (localStores d generalZone some)
+        at-log d i a e = rw e at (sawLog d a)
+
+        at-data : (d i : ℕ) → Here g x d → stop .phase ≡ i → SeenPart tableZone i (localStores d (dataZone z) some)
+        at-data d i a e = rw e at (sawZone d a)
+
+        early : (i : ℕ) → i < 2 → stop .phase ≡ i → (δ : Ghost) × Inv g x (applyAll some v) (afterStoppedReset l z) δ
+        early i h e = inv-part g x loggingDevice (applyAll some v) (afterStoppedReset l z) loggingGhost logging-inv (parts loggingDevice
+            (λ d a. rw (local-is d generalZone some v) (logging-log d a i (localStores d generalZone some) h (at-log d i a e)))
+            (λ d a. rw (local-is d (dataZone z) some v) (logging-zone d a i (localStores d (dataZone z) some) h (at-data d i a e)))
+            (λ d y p q. at-other d y p q .2))
+
+        go : (i : ℕ) → stop .phase ≡ i → (δ : Ghost) × Inv g x (applyAll some v) (afterStoppedReset l z) δ
+        go zero e = early zero (omega arith) e
+        go (suc zero) e = early 1 (omega arith) e
+        go (suc (suc zero)) e = inv-part g x resettingDevice (applyAll some v) (afterStoppedReset l z) loggingGhost resetting-inv (parts resettingDevice
+            (λ d a. rw (local-is d generalZone some v) (resetting-log d a (localStores d generalZone some) (at-log d 2 a e)))
+            (λ d a. rw (local-is d (dataZone z) some v) (resetting-zone d a (localStores d (dataZone z) some) (at-data d 2 a e)))
+            (λ d y p q. at-other d y p q .0))
+        go (suc (suc (suc j))) e = inv-part g x countingDevice (applyAll some v) (afterStoppedReset l z) countingGhost counting-inv (parts countingDevice
+            (λ d a. rw (local-is d generalZone some v) (counting-log d a j (localStores d generalZone some) (at-log d (suc (suc (suc j))) a e)))
+            (λ d a. rw (local-is d (dataZone z) some v) (counting-zone d a j (localStores d (dataZone z) some) (at-data d (suc (suc (suc j))) a e)))
+            (λ d y p q. at-other d y p q .1))
+
+  -- ---- a finished reset
+  doneDevice : Device
+  doneDevice = applyAll (concat phases) v
+
+  done-log : (d : ℕ) → Here g x d → doneDevice d generalZone ≡ record { sectors = v d generalZone .sectors ++ bytes d (bothEntries d); durable = length (v d generalZone .sectors ++ bytes d (bothEntries d)) }
+  unfolding doneDevice
+  done-log d a =
+      let q : (v d generalZone .sectors ++ bytes d (resetEntries d)) ++ (encode g d raisedCounters ∷ []) ≡ v d generalZone .sectors ++ bytes d (bothEntries d) =
+      append-assoc (v d generalZone .sectors) (bytes d (resetEntries d)) (encode g d raisedCounters ∷ []) ∙ ap (λ (b : List (List ℕ)). v d generalZone .sectors ++ b) (sym (map-append (encode g d) (resetEntries d) (raisedCounters ∷ []))) in
+      local-is d generalZone (concat phases) v ∙ ap (λ (os : List LocalStore). applyAllHere os (v d generalZone)) (local-whole d generalZone phases ∙ ap concat (log-saw d a))
+      ∙ appends-here (bytes d (resetEntries d)) (flushHere ∷ appendHere (encode g d raisedCounters) ∷ flushHere ∷ []) (v d generalZone)
+      ∙ (λ i. record { sectors = q i; durable = length (q i) })
+
+  done-zone : (d : ℕ) → Here g x d → doneDevice d (dataZone z) ≡ blankZone
+  unfolding doneDevice
+  done-zone d a = local-is d (dataZone z) (concat phases) v ∙ ap (λ (os : List LocalStore). applyAllHere os (v d (dataZone z))) (local-whole d (dataZone z) phases ∙ ap concat (zone-saw d a))
+
+  done-other : (d y : ℕ) → Here g x d → y ≢ generalZone → y ≢ dataZone z → doneDevice d y ≡ flushed (v d y)
+  unfolding doneDevice
+  done-other d y a n m = local-is d y (concat phases) v ∙ ap (λ (os : List LocalStore). applyAllHere os (v d y)) (local-whole d y phases ∙ ap concat (other-saw d a y n m))
+
+  doneAfter : After g ok x v state l γ r z rk doneDevice bothEntries
+  doneAfter = record {
+    log = λ d a. rw (done-log d a) refl;
+    log-least = λ d a. rw (done-log d a, length-append) (omega (arith, r .logs .lasting d generalZone a (omega arith)));
+    log-most = λ d a. rw (done-log d a) (le-refl (length (v d generalZone .sectors ++ bytes d (bothEntries d))));
+    new = λ d a h m. both-entries-are d h m;
+    few = λ d a. both-entries-few d;
+    zone-most = λ d a. rw (done-zone d a) zero-le;
+    zone-less = λ d a. rw (done-zone d a) zero-le;
+    others = λ d y a h n m. rw (done-other d y a n m) (more-durable-flushed (v d y) (r .logs .lasting d y a h));
+  }
+
+  abbrev extD : ℕ → List (List ℕ)
+  extD = setAt (γ .laid) z []
+
+  abbrev genD : ℕ → ℕ
+  genD = setAt (γ .generation) z (suc (γ .generation z))
+
+  doneGhost : Ghost
+  doneGhost = grown g ok x v state l γ r z rk extD genD bothEntries
+
+  laid-own : doneGhost .laid z ≡ []
+  unfolding doneGhost
+  laid-own = rw (eq-eqb z z refl) refl
+
+  generation-own : doneGhost .generation z ≡ suc (γ .generation z)
+  unfolding doneGhost
+  generation-own = rw (eq-eqb z z refl) refl
+
+  content-own : (afterReset l z) .content z ≡ []
+  content-own = rw (eq-eqb z z refl) refl
+
+  committed-own : (afterReset l z) .committed z ≡ zero
+  committed-own = rw (eq-eqb z z refl) refl
+
+  done-others : (y : ℕ) → y < g .zones → y ≢ z → RestZone g x doneDevice (resetState x state z) (afterReset l z) doneGhost y
+  unfolding doneGhost
+  done-others y h n = untouched-rest g x v doneDevice γ doneGhost l (afterReset l z) y (r .logs) k state (resetState x state z) (rw (ne-eqb y z n) refl) (rw (ne-eqb y z n) refl) (λ d a. settled-at doneDevice bothEntries doneAfter y h n d a .same) (λ d a e m. m) (r .zones y h)
+    where
+      cuts : (d : ℕ) → Here g x d → (j : ℕ) → doneDevice d generalZone .durable ≤ j → generationIn y (take j (γ .general d ++ bothEntries d)) ≡ γ .generation y
+      cuts d a j q = go (generation-after g ok x v state l γ r z rk doneDevice bothEntries doneAfter y h d a j q)
+        where
+          go : (generationIn y (take j (γ .general d ++ bothEntries d)) ≡ γ .generation y) ⊎ ((y ≡ z) × (generationIn y (take j (γ .general d ++ bothEntries d)) ≡ suc (γ .generation z))) → generationIn y (take j (γ .general d ++ bothEntries d)) ≡ γ .generation y
+          go (inl e) = e
+          go (inr e) = absurd (n (e .0))
+
+      k : Untouched g x v doneDevice γ doneGhost l (afterReset l z) y
+      k = more-after g ok x v state l γ r z rk doneDevice bothEntries doneAfter extD genD (afterReset l z) y h (rw (ne-eqb y z n) refl) (rw (ne-eqb y z n) refl) (rw (ne-eqb y z n) refl) (rw (ne-eqb y z n) refl) (λ q. q) (λ e. absurd (n e)) cuts (settled-at doneDevice bothEntries doneAfter y h n)
+
+  -- every entry of the zone is of an earlier generation
+  earlier : Entries g x doneGhost z (λ n. n < suc (γ .generation z))
+  unfolding doneGhost
+  earlier =
+      let e = entries-after doneDevice bothEntries doneAfter in
+      record {
+        in-general = λ d a h m. zone-gen-map h (λ y n. y ≡ z → n ≤ γ .generation z) (λ y n. y ≡ z → n < suc (γ .generation z)) (λ y n p q. let i = p q in omega arith) (e .in-general d a h m);
+        in-parity = λ d a f m. zone-gen-map (f .head) (λ y n. y ≡ z → n ≤ γ .generation z) (λ y n. y ≡ z → n < suc (γ .generation z)) (λ y n p q. let i = p q in omega arith) (e .in-parity d a f m);
+      }
+
+  countsD : (d : ℕ) → Here g x d → (j : ℕ) → doneDevice d generalZone .durable ≤ j → generationIn z (take j (doneGhost .general d)) ≡ suc (γ .generation z)
+  unfolding doneGhost
+  countsD d a j q =
+      let k : length (v d generalZone .sectors ++ bytes d (bothEntries d)) ≤ j = rw (done-log d a) at q in
+      let n : length (γ .general d ++ bothEntries d) ≤ j = rw (length-append (γ .general d) (bothEntries d), general-length d a, ← length-map (encode g d) (bothEntries d), ← length-append (v d generalZone .sectors) (bytes d (bothEntries d))) k in
+      let c : lastCounters [] (γ .general d ++ bothEntries d) ≡ generationsFrom (raisedAt state z) zero (g .zones) =
+      last-counters-append [] (γ .general d) (bothEntries d) ∙ last-counters-append (lastCounters [] (γ .general d)) (resetEntries d) (raisedCounters ∷ []) in
+      let i : zero + z ≡ z = omega arith in
+      ap (generationIn z) (take-all j (γ .general d ++ bothEntries d) n) ∙ ap (λ (t : List ℕ). getD t z zero) c ∙ generations-at (raisedAt state z) zero (g .zones) z (rk .zone-ok) ∙ rw (i, eq-eqb z z refl, here .generation-is) refl
+
+  done-emptied : MadeEmpty g x doneDevice doneGhost (afterReset l z) z
+  done-emptied = record {
+    laid-nil = laid-own;
+    content-nil = content-own;
+    committed-nil = committed-own;
+    most = rw generation-own generation-lt;
+    data-nil = λ d a. rw (done-zone d a) refl;
+    counts = λ d a j q. rw generation-own (countsD d a j q);
+    before = rw generation-own earlier;
+  }
+
+  done-condition : (((resetState x state z) .condition z ≡ Empty) × (doneGhost .generation z < wornGeneration)) ⊎ (((resetState x state z) .condition z ≡ Worn zero) × (doneGhost .generation z ≡ wornGeneration))
+  done-condition = rw (generation-own, eq-eqb z z refl, ← here .generation-is) (go (ℕ-discrete (suc (γ .generation z)) wornGeneration))
+    where
+      go : Dec (suc (γ .generation z) ≡ wornGeneration) → ((pick (eqb (suc (γ .generation z)) wornGeneration) (Worn zero) Empty ≡ Empty) × (suc (γ .generation z) < wornGeneration)) ⊎ ((pick (eqb (suc (γ .generation z)) wornGeneration) (Worn zero) Empty ≡ Worn zero) × (suc (γ .generation z) ≡ wornGeneration))
+      go (yes e) = inr (rw (eq-eqb (suc (γ .generation z)) wornGeneration e) refl, e)
+      go (no n) = inl (rw (ne-eqb (suc (γ .generation z)) wornGeneration n) refl, omega (arith, generation-lt))
+
+  finished : Rest g x doneDevice (resetState x state z) (afterReset l z) doneGhost
+  unfolding doneGhost
+  finished = record {
+    logs = after-logs g ok x v state l γ r z rk doneDevice bothEntries doneAfter extD genD;
+    zones = λ y h. zone y h (ℕ-discrete y z);
+    whole = r .whole;
+    lost-is = inr refl;
+  }
+    where
+      zone : (y : ℕ) → y < g .zones → Dec (y ≡ z) → RestZone g x doneDevice (resetState x state z) (afterReset l z) doneGhost y
+      zone y h (yes e) = rw e (made-empty-rest g ok x doneDevice doneGhost (afterReset l z) z done-emptied (resetState x state z) (rw (generation-own, eq-eqb z z refl, here .generation-is) refl) done-condition)
+      zone y h (no n) = done-others y h n
+
+  pub finishes : (δ : Ghost) × Rest g x (applyAll (concat phases) v) (resetState x state z) (afterReset l z) δ
+  unfolding doneDevice
+  finishes = (doneGhost, finished)
+
+pub reset-keeps : (g : Geometry) → Valid g → ResetKeeps g
+unfolding resetStores
+reset-keeps g ok x v state l z n (γ, r) w = stopped g ok x v state l γ r z w n
+
+pub reset-rests : (g : Geometry) → Valid g → ResetRests g
+unfolding resetStores
+reset-rests g ok x v state l z (γ, r) w = finishes g ok x v state l γ r z w

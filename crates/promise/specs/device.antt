@@ -1,0 +1,4 @@
+pub mod AcceptedCalls
+pub mod AtRestAnswers
+pub mod ClaimEvents
+pub mod ClaimProof

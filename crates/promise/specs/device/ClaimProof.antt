@@ -1,0 +1,227 @@
+-- The claim holds. Under what the events keep (ClaimEvents.antt) no look is refused and each fits, so does each finished mount, and reads
+-- and peeks give the content; so at every point of a history.
+use Rattle.volume.specs.meaning.Refusals.{Verdict, goneIn, notHeld, badPointers, twoLost, badLabels, badLogs, refuse, accept, TableLengths, zoneOf, offsetOf, stateWithin, tablesFit, mountFull, twoAbsent, stale, formatRows, lookRows, mountRows, readRows, peekRows, firstRefusal}
+use mathlib.Core.Bool.{_||_, Bool, true, false, _&&_, not}
+use Rattle.promise.specs.device.AcceptedCalls.{giving-is, storing-finished, storing-refused, two-same, pointers-same}
+use Rattle.volume.specs.laws.Refusals.{accepted-row, passed, Numbered, numbered}
+use mathlib.Core.Path.{_≡_, refl, sym, ap, _∙_, subst}
+use Prim.Native.Nat.{ℕ, zero, _+_, _-_, _*_, _≤_, _<_}
+use native.Mathlib.Omega.{arith}
+use mathlib.Core.List.{List, [], _∷_}
+use lib.ListN.{length, getD}
+use lib.Dec.{ltb, eqb}
+use borrow.Author.Tests.{lt-ltb, le-ltb, ltb-true, ltb-false, eq-eqb, ne-eqb}
+use Rattle.tables.specs.meaning.Device.{Device, Store, applyAll}
+use Rattle.tables.specs.meaning.Basics.{pick}
+use Rattle.tables.specs.laws.Basics.{and-join, not-not}
+use Rattle.tables.specs.laws.Lists.{prefix-length}
+use Rattle.tables.specs.meaning.Placement.{driveOf, sectorOf}
+use Rattle.tables.specs.laws.Placement.{drive-below}
+use Rattle.tables.specs.declared.Geometry.{Geometry}
+use Rattle.tables.specs.meaning.Geometry.{Valid, zoneSectors, dataZone}
+use Rattle.tables.specs.laws.Drives.{presentBut}
+use Rattle.tables.specs.meaning.Below.{tabulateFrom}
+use Rattle.tables.specs.meaning.Lists.{concat}
+use Rattle.volume.specs.meaning.State.{StateView, pointerIn, callPresent}
+use Rattle.tables.specs.laws.Below.{tabulate-from-cong}
+use Rattle.volume.specs.meaning.Content.{at}
+use Rattle.volume.specs.meaning.Rules.{Shown, isPresent, showing, valueAt, lostDrive}
+use Rattle.volume.specs.meaning.Calls.{formatStores, formatState}
+use Rattle.volume.specs.meaning.Mount.{mountStores, mountShows, mountState}
+use Rattle.promise.specs.meaning.Ledger.{freshLedger, Fits}
+use Rattle.promise.specs.invariant.Obligations.{Invs, Rests}
+use Rattle.promise.specs.look.LookFits.{look-fits, rest-known}
+use Rattle.promise.specs.calls.FormatKeeps.{format-rests}
+use Rattle.tables.specs.meaning.Tables.{bufferFits}
+use Rattle.volume.specs.meaning.Answers.{giving, storing, Given, refused, given, Place, leftOut, namedDrives, lookCall, readCall, peekCall, placeOf}
+use Rattle.volume.specs.declared.Answer.the-variants.{Finished, Refused}
+use Rattle.promise.specs.meaning.Claim.{mounts, formats, Event, next, Dutiful, Throughout, start, ready, System, NamesAll, allBut, contentBytes, Promise}
+use Rattle.promise.specs.meaning.OnDevice.{lookResult, readResult, peekResult, shownBy, onDevice, DeviceClaim}
+use Rattle.promise.specs.look.LookReads.{Unrefused, look-unrefused}
+use Rattle.promise.specs.device.AtRestAnswers.{absent-fine, state-fine, stale-fine, gone-fine, rest-held, rest-sector, left-out, drives-named}
+use lib.Seq.{take-length}
+use Rattle.tables.specs.meaning.GeometryTest.{isValid}
+use Rattle.tables.specs.laws.GeometryTest.{valid-if-test}
+use Rattle.promise.specs.mount.MountKeeps.{mount-keeps}
+use Rattle.promise.specs.invariant.Throughout.{throughout}
+use Rattle.promise.specs.device.ClaimEvents.{Ok, inv-of, rest-of, drives-of-call, drives-of-look, lost-of-look, mount-accepted, event-keeps}
+
+-- ---- what is promised of a system that is so (wb, lf: the format was accepted)
+module _ (g : Geometry) (ok : Valid g) (t : TableLengths) (wb : isValid g ≡ true) (lf : tablesFit g t ≡ true) (s : System (onDevice g t)) (o : Ok g t s) where
+  unrefused : Unrefused g (s .lost) (s .memory)
+  unrefused = let (γ, i) = inv-of g t s o in look-unrefused g ok (s .lost) (s .memory) γ (i .logs)
+
+  pointer-claim : s .mode ≡ ready → (z : ℕ) → z < g .zones → pointerIn (s .state .condition z) ≡ length (s .ledger .content z)
+  pointer-claim m z h = let (γ, r) = rest-of g t s o m in sym (r .zones z h .pointer-is)
+
+  module _ (named : ℕ → Bool) (names : NamesAll g (onDevice g t) s named) where
+    drives : s .mode ≡ ready → callPresent g named (s .state) ≡ presentBut g (s .lost)
+    drives m = drives-of-call g ok t s o named names m
+
+    seen : isPresent g named (s .memory) ≡ presentBut g (s .lost)
+    seen = drives-of-look g ok t s o named names
+
+    lost : lostDrive g named (s .memory) ≡ s .lost
+    lost = lost-of-look g ok t s o named names
+
+    -- ---- the rows that no call of such a host meets
+    row-1 : s .mode ≡ ready → not (isValid g && stateWithin g (s .state)) ≡ false
+    row-1 m = let (γ, r) = rest-of g t s o m in ap not (and-join (isValid g) (stateWithin g (s .state)) wb (state-fine g ok (s .lost) (s .memory) (s .state) (s .ledger) γ r))
+
+    row-3 : badPointers g named (s .memory) ≡ false
+    row-3 = pointers-same g named (allBut (s .lost)) (names .drives) (s .memory) ∙ unrefused .pointers
+
+    row-4 : s .mode ≡ ready → twoAbsent g named (s .state) ≡ false
+    row-4 m = let (γ, r) = rest-of g t s o m in absent-fine g ok (s .lost) (s .memory) γ (r .logs) named (s .state) (drives m)
+
+    look-row-4 : twoLost g named (s .memory) ≡ false
+    look-row-4 = two-same g named (allBut (s .lost)) (names .drives) (s .memory) ∙ unrefused .lost
+
+    row-5 : badLabels g (isPresent g named (s .memory)) (s .memory) ≡ false
+    row-5 = rw seen (unrefused .labels)
+
+    row-6 : badLogs g (isPresent g named (s .memory)) (s .memory) ≡ false
+    row-6 = rw seen (unrefused .logs)
+
+    row-7 : s .mode ≡ ready → (z : ℕ) → stale g (callPresent g named (s .state)) (s .memory) (s .state) z ≡ false
+    row-7 m z = let (γ, r) = rest-of g t s o m in rw (drives m) (stale-fine g ok (s .lost) (s .memory) (s .state) (s .ledger) γ r z)
+
+    -- ---- looks and mounts
+    look-accepted : firstRefusal (lookRows g t named (s .memory)) ≡ accept
+    unfolding lookRows
+    look-accepted = passed (lookRows g t named (s .memory)) (ap not wb, (ap not lf, (row-3, (look-row-4, (row-5, (row-6, tt))))))
+
+    look-claim : (lookResult (lookCall g t named (s .memory)) (s .state) (s .memory) ≡ record { answer = Finished; memory = s .memory; state = mountState (shownBy g named (s .memory) (s .memory)) }) × Fits g (s .ledger) (shownBy g named (s .memory) (s .memory))
+    look-claim = (rw look-accepted refl, rw (seen, lost) (look-fits g ok (s .lost) (s .memory) (s .ledger) (inv-of g t s o)))
+
+    abbrev mountList : List Store
+    mountList = mountStores g (isPresent g named (s .memory)) (lostDrive g named (s .memory)) (s .memory)
+
+    abbrev mounted : StateView
+    mounted = mountState (mountShows g (isPresent g named (s .memory)) (lostDrive g named (s .memory)) (s .memory))
+
+    -- what a finished mount shows is what a look after its last store shows, and the invariant held there
+    mount-claim : (stop : ℕ) → let r = onDevice g t .call mounts named (s .state) stop (s .memory) in
+        r .answer ≡ Finished → (r .state ≡ mountState (shownBy g named (s .memory) (r .memory))) × Fits g (s .ledger) (shownBy g named (s .memory) (r .memory))
+    unfolding mountShows
+    mount-claim stop e =
+        let (p, q) = storing-finished (firstRefusal (mountRows g t named (s .memory))) mountList mounted (s .state) stop (s .memory) e in
+        let xs = mountStores g (presentBut g (s .lost)) (s .lost) (s .memory) in
+        let i = mount-keeps g ok (s .lost) (s .memory) (s .ledger) (length xs) (inv-of g t s o) (mount-accepted g ok t s o named names p) in
+        let j : Invs g (s .lost) (applyAll xs (s .memory)) (s .ledger) = rw (take-length xs) at i in
+        rw (p, q) (refl, rw (seen, lost) (look-fits g ok (s .lost) (applyAll xs (s .memory)) (s .ledger) j))
+
+    refused-claim : (stop n : ℕ) → onDevice g t .call mounts named (s .state) stop (s .memory) .answer ≡ Refused n → n ≡ 14
+    unfolding mountRows
+    refused-claim stop n e = go (mountFull g (isPresent g named (s .memory)) (s .memory)) last
+      where
+        last : firstRefusal ((14, mountFull g (isPresent g named (s .memory)) (s .memory)) ∷ []) ≡ refuse n
+        last =
+            let q = storing-refused (firstRefusal (mountRows g t named (s .memory))) mountList mounted (s .state) stop (s .memory) n e in
+            let p1 : not (isValid g) ≡ false = ap not wb in
+            let p2 : not (tablesFit g t) ≡ false = ap not lf in
+            rw (p1, p2, row-3, look-row-4, row-5, row-6) at q
+
+        go : (b : Bool) → pick b (refuse 14) accept ≡ refuse n → n ≡ 14
+        go true q = cc
+        go false q = absurd (let z : _≡_ {A = ℕ} 0 1 = cc in omega arith)
+
+    -- ---- reads
+    values : s .mode ≡ ready → (z : ℕ) → z < g .zones → (offset count : ℕ) → offset + count ≤ length (s .ledger .content z)
+        → tabulateFrom (valueAt g (callPresent g named (s .state)) (s .memory) z (s .state .generation z)) offset count ≡ tabulateFrom (at (s .ledger .content z)) offset count
+    values m z h offset count k =
+        let (γ, r) = rest-of g t s o m in
+        rw (drives m) (tabulate-from-cong (valueAt g (presentBut g (s .lost)) (s .memory) z (s .state .generation z)) (at (s .ledger .content z)) offset offset count (λ i hi. rest-known g ok (s .lost) (s .memory) (s .state) (s .ledger) γ r z h (offset + i) (omega arith) .1))
+
+    -- an answer "finished" is of an accepted call
+    read-finished : (r : Verdict) (ss : List (List ℕ)) (out : List ℕ) → readResult (giving r ss) out .answer ≡ Finished → r ≡ accept
+    read-finished (refuse n) ss out e = absurd (let z : _≡_ {A = ℕ} 0 1 = cc in omega arith)
+    read-finished accept ss out e = refl
+
+    read-claim : s .mode ≡ ready → (a count : ℕ) (out : List ℕ) → onDevice g t .read named (s .state) a count out (s .memory) .answer ≡ Finished
+        → (offsetOf g a + count ≤ length (s .ledger .content (zoneOf g a))) × (onDevice g t .read named (s .state) a count out (s .memory) .buffer ≡ contentBytes (s .ledger) (zoneOf g a) (offsetOf g a) count)
+    unfolding readRows
+    read-claim m a count out e =
+        let z = zoneOf g a in
+        let rows = readRows g t named (s .state) a count (length out) (s .memory) in
+        let p = read-finished (firstRefusal rows) (tabulateFrom (valueAt g (callPresent g named (s .state)) (s .memory) z (s .state .generation z)) (offsetOf g a) count) out e in
+        let h : z < g .zones = ltb-true z (g .zones) (not-not (ltb z (g .zones)) (accepted-row rows p 8)) in
+        let n : offsetOf g a + count ≤ length (s .ledger .content z) = omega (arith, ltb-false (pointerIn (s .state .condition z)) (offsetOf g a + count) (accepted-row rows p 13), pointer-claim m z h) in
+        (n, rw p (ap concat (values m z h (offsetOf g a) count n)))
+
+    read-accepted : s .mode ≡ ready → (a count : ℕ) (out : List ℕ) → zoneOf g a < g .zones → zero < count → length out ≡ count * g .sector → offsetOf g a + count ≤ pointerIn (s .state .condition (zoneOf g a))
+        → onDevice g t .read named (s .state) a count out (s .memory) .answer ≡ Finished
+    unfolding readRows bufferFits
+    read-accepted m a count out h pos len k =
+        let z = zoneOf g a in
+        let (γ, r) = rest-of g t s o m in
+        let n : offsetOf g a + count ≤ length (s .ledger .content z) = omega (arith, pointer-claim m z h) in
+        let fit : offsetOf g a + count ≤ zoneSectors g = omega (arith, n, prefix-length (r .zones z h .live .front), r .zones z h .live .fits) in
+        let ne : eqb count 0 ≡ false = ne-eqb count 0 (λ q. omega arith) in
+        let r2 : not (tablesFit g t && bufferFits g count (length out)) ≡ false = ap not (and-join (tablesFit g t) (bufferFits g count (length out)) lf (eq-eqb (length out) (count * g .sector) len)) in
+        let r8 : not (ltb z (g .zones)) ≡ false = ap not (lt-ltb z (g .zones) h) in
+        let r9 : eqb count 0 || ltb (zoneSectors g) (offsetOf g a + count) ≡ false = rw (ne, le-ltb (zoneSectors g) (offsetOf g a + count) fit) refl in
+        let r13 = le-ltb (pointerIn (s .state .condition z)) (offsetOf g a + count) k in
+        let r15 : goneIn g (callPresent g named (s .state)) (s .memory) z (s .state .generation z) (offsetOf g a) count ≡ false = rw (drives m) (gone-fine g ok (s .lost) (s .memory) (s .state) (s .ledger) γ r z h (offsetOf g a) count n) in
+        let p = passed (readRows g t named (s .state) a count (length out) (s .memory)) (row-1 m, (r2, (row-3, (row-4 m, (row-7 m z, (r8, (r9, (r13, (r15, tt))))))))) in
+        rw p refl
+
+    -- ---- peeks
+    peek-numbered : (r : Verdict) (p : Place) (v : Device) → Numbered r → peekResult (giving r p) v .number ≡ 0 → r ≡ accept
+    peek-numbered (refuse n) p v h e = absurd (h e)
+    peek-numbered accept p v h e = refl
+
+    peek-claim : s .mode ≡ ready → (a : ℕ) → onDevice g t .peek named (s .state) a (s .memory) .number ≡ 0
+        → (offsetOf g a < length (s .ledger .content (zoneOf g a))) × (onDevice g t .peek named (s .state) a (s .memory) .part ≡ at (s .ledger .content (zoneOf g a)) (offsetOf g a))
+    unfolding peekRows
+    peek-claim m a e =
+        let z = zoneOf g a in
+        let (γ, r) = rest-of g t s o m in
+        let rows = peekRows g t named (s .state) a (s .memory) in
+        let q = peek-numbered (firstRefusal rows) (placeOf g a) (s .memory) (numbered rows refl) e in
+        let h : z < g .zones = ltb-true z (g .zones) (not-not (ltb z (g .zones)) (accepted-row rows q 8)) in
+        let n : offsetOf g a < length (s .ledger .content z) = omega (arith, ltb-false (pointerIn (s .state .condition z)) (offsetOf g a + 1) (accepted-row rows q 13), pointer-claim m z h) in
+        (n, rw q (rest-sector g ok (s .lost) (s .memory) (s .state) (s .ledger) γ r z h (offsetOf g a) n (rw (drives m) at (accepted-row rows q 15))))
+
+    peek-accepted : s .mode ≡ ready → (a : ℕ) → zoneOf g a < g .zones → offsetOf g a < pointerIn (s .state .condition (zoneOf g a)) → allBut (s .lost) (driveOf (g .drives) (g .unit) (zoneOf g a) (offsetOf g a)) ≡ true
+        → onDevice g t .peek named (s .state) a (s .memory) .number ≡ 0
+    unfolding peekRows
+    peek-accepted m a h k p =
+        let z = zoneOf g a in
+        let d = driveOf (g .drives) (g .unit) z (offsetOf g a) in
+        let (γ, r) = rest-of g t s o m in
+        let n : offsetOf g a < length (s .ledger .content z) = omega (arith, pointer-claim m z h) in
+        let l : d < g .drives = drive-below (g .drives) (g .unit) z (omega (arith, ok .drives-least)) (ok .unit-least) (offsetOf g a) in
+        let b : presentBut g (s .lost) d ≡ true = and-join (ltb d (g .drives)) (not (eqb d (s .lost))) (lt-ltb d (g .drives) l) p in
+        let r8 : not (ltb z (g .zones)) ≡ false = ap not (lt-ltb z (g .zones) h) in
+        let r13 = le-ltb (pointerIn (s .state .condition z)) (offsetOf g a + 1) (omega arith) in
+        let r15 : notHeld g (callPresent g named (s .state)) (s .memory) z (s .state .generation z) (offsetOf g a) ≡ false = rw (drives m) (rest-held g ok (s .lost) (s .memory) (s .state) (s .ledger) γ r z h (offsetOf g a) n b) in
+        let q = passed (peekRows g t named (s .state) a (s .memory)) (row-1 m, (ap not lf, (row-3, (row-4 m, (row-7 m z, (r8, (r13, (r15, tt)))))))) in
+        rw q refl
+
+  -- every point of a history is as claimed
+  pub kept : Promise g (onDevice g t) s
+  kept = record {
+    look-fits = look-claim;
+    mount-fits = λ named n m stop e. mount-claim named n stop e;
+    mount-refused = refused-claim;
+    pointer-is = pointer-claim;
+    read-gives = read-claim;
+    read-accepted = read-accepted;
+    peek-gives = peek-claim;
+    peek-accepted = peek-accepted;
+  }
+
+-- THE THEOREM
+pub device-keeps-the-promise : DeviceClaim
+unfolding formatRows
+device-keeps-the-promise g t named array old stop v h e es d =
+    let x = leftOut g named in
+    let rows = formatRows g t named v in
+    let stores = formatStores g (namedDrives g named) x array in
+    let (p, q) = storing-finished (firstRefusal rows) stores (formatState x) old stop v e in
+    let wb = not-not (isValid g) (accepted-row rows p 1) in
+    let ok = valid-if-test g wb in
+    let n : namedDrives g named ≡ presentBut g x = drives-named g ok named (accepted-row rows p 4) in
+    let o : Rests g x (applyAll stores v) (formatState x) freshLedger = rw n (format-rests g ok x array v (left-out g named) h) in
+    throughout g (onDevice g t) (Ok g t) (kept g ok t wb (not-not (tablesFit g t) (accepted-row rows p 2))) (event-keeps g ok t) (start g (onDevice g t) named (storing (firstRefusal rows) stores (formatState x) old stop v)) (rw (p, q) o) es d

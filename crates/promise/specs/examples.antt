@@ -1,0 +1,5 @@
+pub mod AnswerCases
+pub mod Cases
+pub mod ClaimExample
+pub mod Example
+pub mod TablesExample

@@ -1,0 +1,125 @@
+-- The calls' answers computed on document 01's example: every number of the table of refusals is met, each beside an input that is
+-- just not refused. A check of the definitions, no part of the proof.
+use Rattle.tables.specs.meaning.Tables.{bufferFits, lengthsFit}
+use Rattle.tables.specs.meaning.GeometryTest.{isValid}
+use mathlib.Core.Bool.{Bool, true, _&&_, not}
+use Prim.Native.Nat.{ℕ, _+_, _-_}
+use mathlib.Core.List.{List, [], _∷_, _++_}
+use lib.ListN.{length, getD, take, replicate}
+use lib.Dec.{eqb, ltb, T}
+use Rattle.tables.specs.meaning.Device.{Device, putZone}
+use Rattle.tables.specs.meaning.Basics.{pick}
+use Rattle.tables.specs.meaning.Placement.{driveOf, sectorOf, needed, stripeOf, unitIndex, rowIndex, parityDrive, stripeLength, unitDrive, unitOf, address, addressAt}
+use Rattle.tables.specs.meaning.Drives.{noDrive}
+use Rattle.tables.specs.meaning.Geometry.{log2, zoneSectors}
+use Rattle.logs.specs.meaning.Entry.{wornGeneration, encode, frame, labelBytes, readFields, kindOf, startOf, endOf, genOf, counters}
+use Rattle.tables.specs.meaning.LittleEndian.{sameBytes}
+use Rattle.volume.specs.meaning.Content.{rowXor, contentAt, rowXorBelow, entryAt}
+use Rattle.volume.specs.meaning.Rules.{viewOf, generalHeads, generalEnding, parityEntries, parityEnding, isLost, isPresent, generationOf, resetSeen, sealSeen, sealLimit, zoneView, valueAt, pointerAt, cleanAt, zoneAt, zoneShown, showing}
+use Rattle.volume.specs.declared.Condition.{Condition}
+use Rattle.volume.specs.declared.Condition.the-variants.{Empty, Open, Sealed, Worn}
+use Rattle.volume.specs.meaning.State.{StateView, callPresent}
+use Rattle.volume.specs.meaning.Refusals.{badPointers, twoLost, badLabels, badLogs, stateWithin, twoAbsent, twoUnnamed, stale, unusedBelow, writeFull, goneIn, goneBefore, notHeld, formatRows, lookRows, mountRows, writeRows, flushRows, resetRows, readRows, peekRows}
+use Rattle.volume.specs.meaning.Calls.{formatStores, writeStores, zoneContent, writeWith, flushStores, resetStores}
+use Rattle.volume.specs.meaning.Mount.{mountStores, mountPhases, phasesBeforeEntries, mountLook, mountShows, afterOpening, labelStep, resetEntryStep, zoneResetStep, counterStep, countersDiffer, sealStep, tornRowStep, fillStep, entryStep}
+use Rattle.volume.specs.meaning.Answers.{Given, refused, given, lostIn, leftOut, namedDrives, sectorsIn, formatCall, lookCall, mountCall, writeCall, flushCall, resetCall, readCall, peekCall}
+use Rattle.promise.specs.examples.Example.{geo, lengths, every, noStop, does, numberOf, givenNumber, blank, formatted, formattedState, bytes, writtenState, writtenDevice, filled}
+use Rattle.promise.specs.meaning.Claim.{allBut}
+
+-- zone 0 in another condition or generation
+abbrev being : Condition → ℕ → StateView
+being c n = record { lost = noDrive; generation = λ z. n; condition = λ z. pick (eqb z 0) c Empty }
+
+-- a general log of n counters after the label
+abbrev longLog : ℕ → Device
+longLog n = putZone formatted 2 0 (record { sectors = take 1 (formatted 2 0 .sectors) ++ replicate n (encode geo 2 (counters (1 ∷ 1 ∷ []))); durable = 0 })
+
+abbrev zeroSector : List ℕ
+zeroSector = replicate 64 0
+
+abbrev holds : List (ℕ × ℕ) → Bool
+holds [] = true
+holds ((a, b) ∷ rows) = eqb a b && holds rows
+
+-- what a call answers, and the number of the table (0: finished; 255: unfinished)
+pub answered : List (ℕ × ℕ)
+answered =
+    (numberOf (does (formatCall geo lengths every 7) formattedState noStop blank), 0)
+    ∷ (numberOf (does (formatCall geo lengths every 7) formattedState 3 blank), 255)
+    ∷ (numberOf (does (formatCall (record { drives = 2; unit = 2; sector = 64; zones = 2; capacity = 32 }) lengths every 7) formattedState noStop blank), 1)
+    ∷ (numberOf (does (formatCall geo lengths (λ d. ltb d 2) 7) formattedState noStop blank), 4)
+    ∷ (givenNumber (lookCall geo lengths every formatted), 0)
+    ∷ (numberOf (does (mountCall geo lengths every) formattedState noStop formatted), 0)
+    ∷ (numberOf (does (flushCall geo lengths every formattedState) formattedState noStop formatted), 0)
+    ∷ (numberOf (does (flushCall geo lengths every formattedState) formattedState 4 formatted), 0)
+    ∷ (numberOf (does (flushCall geo lengths every formattedState) formattedState 3 formatted), 255)
+    ∷ (numberOf (does (flushCall geo lengths (allBut 2) formattedState) formattedState 3 formatted), 0)
+    ∷ (numberOf (does (resetCall geo lengths every formattedState 1) formattedState noStop formatted), 0)
+    -- 1
+    ∷ (numberOf (does (flushCall geo lengths every (record { lost = 4; generation = λ z. 1; condition = λ z. Empty })) (record { lost = 4; generation = λ z. 1; condition = λ z. Empty }) noStop formatted), 1)
+    ∷ (numberOf (does (flushCall geo lengths every (being (Open 97) 1)) (being (Open 97) 1) noStop formatted), 1)
+    ∷ (numberOf (does (flushCall geo lengths every (being (Open 96) 1)) (being (Open 96) 1) noStop formatted), 0)
+    -- 2
+    ∷ (givenNumber (lookCall geo (record { sectors = 40959; written = 20; durable = 20 }) every formatted), 2)
+    ∷ (numberOf (does (writeCall geo lengths every formattedState 0 1 (replicate 63 0)) formattedState noStop formatted), 2)
+    -- 3: also in the spare zone
+    ∷ (givenNumber (lookCall geo lengths every (filled 3 2 33 zeroSector)), 3)
+    ∷ (givenNumber (lookCall geo lengths every (putZone formatted 1 4 (record { sectors = []; durable = 1 }))), 3)
+    ∷ (givenNumber (lookCall geo lengths (allBut 3) (filled 3 2 33 zeroSector)), 0)
+    -- 4
+    ∷ (givenNumber (lookCall geo lengths (λ d. ltb d 2) formatted), 4)
+    ∷ (numberOf (does (flushCall geo lengths (allBut 1) (record { lost = 2; generation = λ z. 1; condition = λ z. Empty })) (record { lost = 2; generation = λ z. 1; condition = λ z. Empty }) noStop formatted), 4)
+    ∷ (numberOf (does (flushCall geo lengths (allBut 2) (record { lost = 2; generation = λ z. 1; condition = λ z. Empty })) (record { lost = 2; generation = λ z. 1; condition = λ z. Empty }) noStop formatted), 0)
+    -- 5, 6
+    ∷ (givenNumber (lookCall geo lengths every blank), 5)
+    ∷ (givenNumber (lookCall geo lengths every (filled 2 1 1 zeroSector)), 6)
+    -- 7, 8
+    ∷ (numberOf (does (writeCall geo lengths every formattedState 0 1 (bytes 1 9)) formattedState noStop (filled 2 3 1 zeroSector)), 7)
+    ∷ (givenNumber (readCall geo lengths every (being (Sealed 1) 1) 0 1 64 (filled 0 3 2 zeroSector)), 0)
+    ∷ (givenNumber (readCall geo lengths every (being (Sealed 1) 1) 0 1 64 formatted), 7)
+    ∷ (numberOf (does (writeCall geo lengths every formattedState 192 1 (bytes 1 9)) formattedState noStop formatted), 8)
+    ∷ (numberOf (does (resetCall geo lengths every formattedState 2) formattedState noStop formatted), 8)
+    -- 9, 10, 11, 12
+    ∷ (numberOf (does (writeCall geo lengths every formattedState 0 0 []) formattedState noStop formatted), 9)
+    ∷ (givenNumber (readCall geo lengths every formattedState 95 2 128 formatted), 9)
+    ∷ (numberOf (does (writeCall geo lengths every formattedState 1 1 (bytes 1 9)) formattedState noStop formatted), 10)
+    ∷ (numberOf (does (writeCall geo lengths every (being (Sealed 0) 1) 0 1 (bytes 1 9)) (being (Sealed 0) 1) noStop formatted), 11)
+    ∷ (numberOf (does (writeCall geo lengths every (being (Worn 0) 1) 0 1 (bytes 1 9)) (being (Worn 0) 1) noStop formatted), 12)
+    ∷ (numberOf (does (resetCall geo lengths every (being (Worn 0) 1) 0) (being (Worn 0) 1) noStop formatted), 12)
+    ∷ (numberOf (does (resetCall geo lengths every (being Empty 18446744073709551615) 0) (being Empty 18446744073709551615) noStop formatted), 12)
+    -- 13
+    ∷ (givenNumber (readCall geo lengths every formattedState 0 1 64 formatted), 13)
+    ∷ (givenNumber (peekCall geo lengths every formattedState 0 formatted), 13)
+    -- 14: just room, and one sector less
+    ∷ (numberOf (does (writeCall geo lengths every formattedState 0 1 (bytes 1 9)) formattedState noStop (filled 3 1 22 zeroSector)), 0)
+    ∷ (numberOf (does (writeCall geo lengths every formattedState 0 1 (bytes 1 9)) formattedState noStop (filled 3 1 23 zeroSector)), 14)
+    ∷ (numberOf (does (writeCall geo lengths (allBut 3) formattedState 0 1 (bytes 1 9)) formattedState noStop (filled 3 1 23 zeroSector)), 0)
+    ∷ (numberOf (does (resetCall geo lengths every formattedState 0) formattedState noStop (longLog 25)), 0)
+    ∷ (numberOf (does (resetCall geo lengths every formattedState 0) formattedState noStop (longLog 26)), 14)
+    ∷ (numberOf (does (mountCall geo lengths every) formattedState noStop (longLog 27)), 0)
+    ∷ (numberOf (does (mountCall geo lengths every) formattedState noStop (longLog 28)), 14)
+    ∷ (givenNumber (lookCall geo lengths every (longLog 28)), 0)
+    -- 15
+    ∷ (numberOf (does (writeCall geo lengths (allBut 0) (being (Open 1) 1) 1 1 (bytes 1 9)) (being (Open 1) 1) noStop formatted), 15)
+    ∷ (givenNumber (readCall geo lengths (allBut 0) (being (Open 1) 1) 0 1 64 formatted), 15)
+    ∷ (givenNumber (peekCall geo lengths (allBut 0) (being (Open 1) 1) 0 formatted), 15)
+    -- five sectors
+    ∷ (givenNumber (readCall geo lengths every (writtenState 5) 0 5 320 (writtenDevice 5)), 0)
+    ∷ (givenNumber (readCall geo lengths (allBut 0) (writtenState 5) 0 5 320 (writtenDevice 5)), 0)
+    ∷ (givenNumber (peekCall geo lengths every (writtenState 5) 4 (writtenDevice 5)), 0)
+    ∷ (givenNumber (peekCall geo lengths (allBut 2) (writtenState 5) 4 (writtenDevice 5)), 15)
+    ∷ []
+
+pub answers-are : T (holds answered)
+unfolding formatStores writeStores zoneContent writeWith entryAt flushStores resetStores mountStores mountPhases phasesBeforeEntries mountLook mountShows afterOpening labelStep resetEntryStep zoneResetStep counterStep countersDiffer sealStep tornRowStep fillStep entryStep encode frame labelBytes readFields kindOf startOf endOf genOf generalHeads generalEnding parityEntries parityEnding isLost isPresent badPointers twoLost badLabels badLogs generationOf resetSeen sealSeen sealLimit zoneView valueAt pointerAt cleanAt zoneAt zoneShown showing viewOf driveOf sectorOf needed stripeOf unitIndex rowIndex parityDrive stripeLength unitDrive unitOf address addressAt zoneSectors log2 wornGeneration rowXor contentAt rowXorBelow callPresent isValid stateWithin twoAbsent twoUnnamed stale unusedBelow writeFull goneIn goneBefore notHeld formatRows lookRows mountRows writeRows flushRows resetRows readRows peekRows lostIn leftOut namedDrives sectorsIn lengthsFit bufferFits answered
+answers-are = tt
+
+abbrev sectorsRead : Given (List (List ℕ)) → List (List ℕ)
+sectorsRead (refused n) = []
+sectorsRead (given ss) = ss
+
+-- what is read of five sectors with drive 1 lost: four sectors from address 1, the third of them all 9
+pub read-with-a-drive-lost : T (eqb (length (sectorsRead (readCall geo lengths (allBut 1) (writtenState 5) 1 4 256 (writtenDevice 5)))) 4
+    && sameBytes (getD (sectorsRead (readCall geo lengths (allBut 1) (writtenState 5) 1 4 256 (writtenDevice 5))) 2 []) (replicate 64 9))
+unfolding formatStores writeStores zoneContent writeWith entryAt flushStores resetStores mountStores mountPhases phasesBeforeEntries mountLook mountShows afterOpening labelStep resetEntryStep zoneResetStep counterStep countersDiffer sealStep tornRowStep fillStep entryStep encode frame labelBytes readFields kindOf startOf endOf genOf generalHeads generalEnding parityEntries parityEnding isLost isPresent badPointers twoLost badLabels badLogs generationOf resetSeen sealSeen sealLimit zoneView valueAt pointerAt cleanAt zoneAt zoneShown showing viewOf driveOf sectorOf needed stripeOf unitIndex rowIndex parityDrive stripeLength unitDrive unitOf address addressAt zoneSectors log2 wornGeneration rowXor contentAt rowXorBelow callPresent isValid stateWithin twoAbsent twoUnnamed stale unusedBelow writeFull goneIn goneBefore notHeld formatRows lookRows mountRows writeRows flushRows resetRows readRows peekRows lostIn leftOut namedDrives sectorsIn lengthsFit bufferFits
+read-with-a-drive-lost = tt

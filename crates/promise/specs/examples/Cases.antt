@@ -1,0 +1,156 @@
+-- Document 01, "Both edges": cases a to m, and some more of the same kinds, as rows of one table, with one theorem that the checker
+-- computes from the definitions, bytes and logs included.
+use Rattle.volume.specs.meaning.Calls.{appendGeneral, formatStores, writeStores, zoneContent, writeWith, flushStores, resetStores}
+use Rattle.logs.specs.meaning.Entry.{seal, wornGeneration, encode, frame, labelBytes, readFields, kindOf, startOf, endOf, genOf, parityZone}
+use Rattle.promise.specs.examples.Example.{blank, geo, lengths, every, noStop, does, numberOf, formatted, formattedState, bytes, writtenState, writtenDevice, kept, filled}
+use Rattle.volume.specs.meaning.Answers.{formatCall, Given, refused, given, lostIn, leftOut, namedDrives, sectorsIn, lookCall, mountCall, writeCall, Place, placeOf}
+use Rattle.tables.specs.meaning.Tables.{bufferFits, lengthsFit}
+use Rattle.tables.specs.meaning.GeometryTest.{isValid}
+use mathlib.Core.Bool.{Bool, true, _&&_, false, _||_}
+use Prim.Native.Nat.{ℕ, _-_, _*_, suc}
+use mathlib.Core.List.{List, [], _∷_}
+use lib.ListN.{length, getD, take}
+use lib.Dec.{eqb, T}
+use Rattle.tables.specs.meaning.Device.{Device, applyAll}
+use Rattle.tables.specs.meaning.Placement.{driveOf, sectorOf, needed, stripeOf, unitIndex, rowIndex, parityDrive, stripeLength, unitDrive, unitOf, address, addressAt}
+use Rattle.tables.specs.meaning.Drives.{noDrive}
+use Rattle.tables.specs.laws.Drives.{presentBut}
+use Rattle.tables.specs.meaning.Geometry.{log2, zoneSectors, stripeSectors, parityDriveOf}
+use Rattle.volume.specs.meaning.Content.{rowXor, contentAt, rowXorBelow, entryAt}
+use Rattle.volume.specs.meaning.Rules.{viewOf, generalHeads, generalEnding, parityEntries, parityEnding, isLost, isPresent, generationOf, resetSeen, sealSeen, sealLimit, zoneView, valueAt, pointerAt, cleanAt, zoneAt, zoneShown, showing, Shown}
+use Rattle.volume.specs.declared.Condition.{Condition}
+use Rattle.volume.specs.declared.Condition.the-variants.{Empty, Open, Sealed, Worn}
+use Rattle.volume.specs.meaning.State.{pointerIn, callPresent}
+use Rattle.volume.specs.meaning.Refusals.{badPointers, twoLost, badLabels, badLogs, stateWithin, twoAbsent, twoUnnamed, stale, unusedBelow, writeFull, goneIn, goneBefore, notHeld, formatRows, lookRows, mountRows, writeRows, flushRows, resetRows, readRows, peekRows}
+use Rattle.volume.specs.meaning.Mount.{mountStores, mountPhases, phasesBeforeEntries, mountLook, mountShows, afterOpening, labelStep, resetEntryStep, zoneResetStep, counterStep, countersDiffer, sealStep, tornRowStep, fillStep, entryStep}
+use Rattle.promise.specs.meaning.Claim.{allBut}
+use Rattle.tables.specs.meaning.Below.{allBelow}
+
+pub data Case : Type 0 where
+  -- an address; its drive, physical zone and sector
+  placed : ℕ → ℕ → ℕ → ℕ → Case
+  -- a stripe of zone 0; its parity's drive, first and last sector
+  parityPlaced : ℕ → ℕ → ℕ → ℕ → Case
+  -- a pointer in zone 0; the sectors that it needs of each drive
+  needs : ℕ → List ℕ → Case
+  -- a write of so many sectors to a fresh zone 0; a drive; the sectors logged on it
+  logged : ℕ → ℕ → ℕ → Case
+  -- what a look shows of zone 0, by all drives but one
+  shows : Device → ℕ → Condition → Case
+  -- the lost drive that a look shows when every drive is named
+  lostShown : Device → ℕ → Case
+  -- a write of one sector with so many sectors unused in the parity log of drive 3; the number answered, 0 for stored
+  answers : ℕ → ℕ → Case
+  -- a reset of zone 0 with five sectors, stopped after so many stores; then a look by all drives but one: as before, or empty
+  resetStops : ℕ → ℕ → Case
+
+-- the kind of a condition, and its pointer
+abbrev conditionKind : Condition → ℕ
+conditionKind Empty = 0
+conditionKind (Open n) = 1
+conditionKind (Sealed n) = 2
+conditionKind (Worn n) = 3
+
+abbrev sameCondition : Condition → Condition → Bool
+sameCondition c d = eqb (conditionKind c) (conditionKind d) && eqb (pointerIn c) (pointerIn d)
+
+abbrev samePlace : Place → ℕ → ℕ → ℕ → Bool
+samePlace p d y x = eqb (p .drive) d && (eqb (p .zone) y && eqb (p .sector) x)
+
+abbrev conditionShown : Given Shown → (Condition → Bool) → Bool
+conditionShown (refused n) p = false
+conditionShown (given k) p = p (k .zone 0 .condition)
+
+abbrev lostOf : Given Shown → ℕ
+lostOf (refused n) = noDrive
+lostOf (given k) = k .lost
+
+abbrev holds : Case → Bool
+holds (placed a d y x) = samePlace (placeOf geo a) d y x
+holds (parityPlaced s d x y) =
+    eqb (parityDriveOf geo 0 s) d && (eqb (needed 4 2 0 (s * stripeSectors geo) d) x && eqb (needed 4 2 0 (suc s * stripeSectors geo) d) (suc y))
+holds (needs n ks) = allBelow (λ d. eqb (needed 4 2 0 n d) (getD ks d 0)) 4
+holds (logged n d k) = eqb (length (writtenDevice n d parityZone .sectors)) k
+holds (shows v x c) = conditionShown (lookCall geo lengths (allBut x) v) (sameCondition c)
+holds (lostShown v x) = eqb (lostOf (lookCall geo lengths every v)) x
+holds (answers unused n) = eqb (numberOf (does (writeCall geo lengths every formattedState 0 1 (bytes 1 9)) formattedState noStop (filled 3 1 (32 - unused) (bytes 1 0)))) n
+holds (resetStops n x) =
+    conditionShown (lookCall geo lengths (allBut x) (applyAll (take n (resetStores geo (presentBut geo noDrive) (writtenState 5) 0)) (writtenDevice 5))) (λ c. sameCondition (Open 5) c || sameCondition Empty c)
+
+-- what is left of five sectors; and a mount of it by all drives but x
+abbrev left : List ℕ → ℕ → Device
+left ks p = kept ks p (writtenDevice 5)
+
+abbrev mounted : ℕ → Device → Device
+mounted x v = does (mountCall geo lengths (allBut x)) formattedState noStop v .memory
+
+-- m sectors written, then n more: the parity log of drive 3 has an entry for each write
+abbrev writtenTwice : ℕ → ℕ → Device
+writtenTwice m n = does (writeCall geo lengths every (writtenState m) m n (bytes n 8)) (writtenState m) noStop (writtenDevice m) .memory
+
+-- a mount stopped after so many stores
+abbrev mountedPart : ℕ → Device → Device
+mountedPart n v = does (mountCall geo lengths every) formattedState n v .memory
+
+pub cases : List Case
+cases =
+    -- a to d
+    placed 0 0 3 0
+    ∷ placed 7 1 3 3
+    ∷ placed 95 1 3 31
+    ∷ placed 96 1 4 0
+    -- e
+    ∷ parityPlaced 1 0 2 3
+    -- f to h
+    ∷ needs 5 (2 ∷ 2 ∷ 1 ∷ 0 ∷ [])
+    ∷ needs 6 (2 ∷ 2 ∷ 2 ∷ 2 ∷ [])
+    ∷ needs 7 (2 ∷ 3 ∷ 2 ∷ 2 ∷ [])
+    -- i
+    ∷ logged 1 3 2
+    -- j to l
+    ∷ shows (left (2 ∷ 1 ∷ 1 ∷ 0 ∷ []) 0) noDrive (Sealed 3)
+    ∷ shows (left (2 ∷ 1 ∷ 1 ∷ 0 ∷ []) 3) noDrive (Open 5)
+    ∷ shows (left (0 ∷ 0 ∷ 0 ∷ 0 ∷ []) 3) noDrive Empty
+    -- m
+    ∷ answers 10 0
+    ∷ answers 9 14
+    -- more: a fresh zone; five sectors; with the entry torn; with a drive lost
+    ∷ shows formatted noDrive Empty
+    ∷ shows (writtenDevice 5) noDrive (Open 5)
+    ∷ shows (left (2 ∷ 1 ∷ 1 ∷ 0 ∷ []) 2) noDrive (Sealed 3)
+    ∷ shows (writtenDevice 5) 2 (Open 5)
+    -- two stripes
+    ∷ shows (writtenDevice 10) noDrive (Open 10)
+    -- slips the field has seen. The newest entry leans on data that was lost with the cut, the older one does not (drive 0 is lost)
+    ∷ shows (kept (2 ∷ 1 ∷ 0 ∷ 0 ∷ []) 6 (writtenTwice 3 2)) 0 (Sealed 3)
+    -- a seal on one drive is enough
+    ∷ shows (applyAll (appendGeneral geo (seal 0 3 1) 0) (writtenDevice 5)) noDrive (Sealed 3)
+    -- a mount stopped where it would complete the torn entry: the zone is sealed by then
+    ∷ shows (mountedPart 13 (left (2 ∷ 1 ∷ 1 ∷ 0 ∷ []) 2)) noDrive (Sealed 3)
+    -- a reset found on drive 0 alone, redone, and drive 0 lost: the entry of the first write does not bring sector 0 back
+    ∷ shows (mountedPart 14 (applyAll (take 1 (resetStores geo (presentBut geo noDrive) (writtenState 5) 0)) (writtenTwice 1 4))) 0 Empty
+    -- a drive left out of the format is lost for good: the others' labels say so
+    ∷ lostShown (does (formatCall geo lengths (allBut 2) 7) formattedState noStop blank .memory) 2
+    ∷ lostShown formatted noDrive
+    -- after a mount
+    ∷ shows (mounted noDrive (left (2 ∷ 1 ∷ 1 ∷ 0 ∷ []) 0)) noDrive (Sealed 3)
+    ∷ shows (mounted noDrive (left (2 ∷ 1 ∷ 1 ∷ 0 ∷ []) 2)) noDrive (Sealed 3)
+    ∷ shows (mounted noDrive (left (2 ∷ 1 ∷ 1 ∷ 0 ∷ []) 3)) noDrive (Open 5)
+    ∷ shows (mounted noDrive (left (0 ∷ 0 ∷ 0 ∷ 0 ∷ []) 3)) noDrive Empty
+    ∷ shows (mounted 0 (left (2 ∷ 1 ∷ 1 ∷ 0 ∷ []) 3)) 0 (Sealed 1)
+    -- a stopped reset, with every drive and with drive 2 lost
+    ∷ resetStops 1 noDrive
+    ∷ resetStops 1 2
+    ∷ resetStops 6 noDrive
+    ∷ resetStops 9 2
+    ∷ resetStops 13 noDrive
+    ∷ resetStops 16 2
+    ∷ []
+
+abbrev allHold : List Case → Bool
+allHold [] = true
+allHold (c ∷ cs) = holds c && allHold cs
+
+pub cases-hold : T (allHold cases)
+unfolding formatStores writeStores zoneContent writeWith entryAt flushStores resetStores mountStores mountPhases phasesBeforeEntries mountLook mountShows afterOpening labelStep resetEntryStep zoneResetStep counterStep countersDiffer sealStep tornRowStep fillStep entryStep encode frame labelBytes readFields kindOf startOf endOf genOf generalHeads generalEnding parityEntries parityEnding isLost isPresent badPointers twoLost badLabels badLogs generationOf resetSeen sealSeen sealLimit zoneView valueAt pointerAt cleanAt zoneAt zoneShown showing viewOf driveOf sectorOf needed stripeOf unitIndex rowIndex parityDrive stripeLength unitDrive unitOf address addressAt zoneSectors log2 wornGeneration rowXor contentAt rowXorBelow callPresent isValid stateWithin twoAbsent twoUnnamed stale unusedBelow writeFull goneIn goneBefore notHeld formatRows lookRows mountRows writeRows flushRows resetRows readRows peekRows lostIn leftOut namedDrives sectorsIn lengthsFit bufferFits cases
+cases-hold = tt

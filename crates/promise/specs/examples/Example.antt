@@ -1,0 +1,69 @@
+-- Document 01's example, "on D 4, U 2, C 32, B 64, L 2": its geometry, what a format and a write of five sectors leave, and what a cut
+-- may keep of it. Cases.antt, AnswerCases.antt and ClaimExample.antt compute with it.
+use mathlib.Core.Bool.{Bool, true}
+use Prim.Native.Nat.{ℕ, _*_, min}
+use mathlib.Core.List.{List}
+use lib.ListN.{length, getD, replicate}
+use lib.Dec.{eqb}
+use Rattle.tables.specs.meaning.Basics.{pick}
+use Rattle.tables.specs.meaning.Drives.{noDrive}
+use Rattle.tables.specs.meaning.Device.{Device, blankZone, putZone, keepFirst}
+use Rattle.tables.specs.declared.Geometry.{Geometry}
+use Rattle.volume.specs.meaning.State.{StateView}
+use Rattle.volume.specs.meaning.Refusals.{TableLengths}
+use Rattle.volume.specs.meaning.Calls.{formatState}
+use Rattle.volume.specs.meaning.Answers.{CallResult, StoringCall, carriedOut, Given, refused, given, formatCall, writeCall}
+use Rattle.volume.specs.meaning.CallContracts.{answerNumber}
+
+abbrev pub geo : Geometry
+geo = record { drives = 4; unit = 2; sector = 64; zones = 2; capacity = 32 }
+
+abbrev pub lengths : TableLengths
+lengths = record { sectors = 40960; written = 20; durable = 20 }
+
+abbrev pub every : ℕ → Bool
+every d = true
+
+-- "A count of 2^32 − 1 stops no call"
+abbrev pub noStop : ℕ
+noStop = 4294967295
+
+-- a storing call by a host that holds a state, with a count of stores
+abbrev pub does : (Device → StoringCall) → StateView → ℕ → Device → CallResult Device StateView
+does c old stop v = carriedOut (c v) old stop v
+
+-- the number of its answer, and of one that gives something (0: finished)
+abbrev pub numberOf : CallResult Device StateView → ℕ
+numberOf r = answerNumber (r .answer)
+
+abbrev pub givenNumber : {A : Type 0} → Given A → ℕ
+givenNumber (refused n) = n
+givenNumber (given x) = 0
+
+abbrev pub blank : Device
+blank d z = blankZone
+
+abbrev pub formattedState : StateView
+formattedState = formatState noDrive
+
+abbrev pub formatted : Device
+formatted = does (formatCall geo lengths every 7) formattedState noStop blank .memory
+
+-- n sectors of bytes b
+abbrev pub bytes : ℕ → ℕ → List ℕ
+bytes n b = replicate (n * 64) b
+
+-- after a write of the first n sectors of zone 0
+abbrev pub writtenState : ℕ → StateView
+writtenState n = does (writeCall geo lengths every formattedState 0 n (bytes n 9)) formattedState noStop formatted .state
+
+abbrev pub writtenDevice : ℕ → Device
+writtenDevice n = does (writeCall geo lengths every formattedState 0 n (bytes n 9)) formattedState noStop formatted .memory
+
+-- what a cut keeps: of each drive's zone 3, and of the parity logs
+abbrev pub kept : List ℕ → ℕ → Device → Device
+kept ks p v d y = pick (eqb y 3) (keepFirst (getD ks d 0) (v d y)) (pick (eqb y 1) (keepFirst (min p (length (v d y .sectors))) (v d y)) (v d y))
+
+-- n sectors s in zone z of drive d
+abbrev pub filled : ℕ → ℕ → ℕ → List ℕ → Device
+filled d z n s = putZone formatted d z (record { sectors = replicate n s; durable = n })

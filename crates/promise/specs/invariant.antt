@@ -1,0 +1,10 @@
+pub mod CrashKeeps
+pub mod EmptiedZone
+pub mod HoldsLess
+pub mod HoldsMore
+pub mod Invariant
+pub mod Obligations
+pub mod SaidMoves
+pub mod StoppedCall
+pub mod Throughout
+pub mod UntouchedZone

@@ -1,0 +1,4 @@
+pub mod Claim
+pub mod Ledger
+pub mod OnDevice
+pub mod OnTables

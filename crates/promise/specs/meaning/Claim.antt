@@ -1,0 +1,204 @@
+-- What a volume promises, as one claim about lists of events (document 01, demand 3, "The book", with what reads and peeks give). The events are calls with
+-- any input, refused and stopped ones included, power cuts, and the loss of a drive. The hypotheses are the host's duties and what a cut and a loss can do;
+-- the claim speaks of looks, mounts, reads, peeks and the ledger alone. It is stated once, of any `Volume`; OnDevice.antt and OnTables.antt say of which.
+use mathlib.Core.Path.{_≡_}
+use mathlib.Core.Bool.{Bool, true, not}
+use Prim.Native.Nat.{ℕ, zero, _+_, _*_, _^_, _≤_, _<_}
+use mathlib.Core.List.{List, [], _∷_}
+use lib.ListN.{length}
+use lib.Dec.{eqb}
+use Rattle.tables.specs.meaning.Below.{tabulateFrom}
+use Rattle.tables.specs.meaning.Lists.{concat}
+use Rattle.tables.specs.meaning.Drives.{noDrive}
+use Rattle.tables.specs.meaning.Placement.{driveOf}
+use Rattle.tables.specs.declared.Geometry.{Geometry}
+use Rattle.volume.specs.declared.Answer.{Answer}
+use Rattle.volume.specs.declared.Answer.the-variants.{Finished, Unfinished, Refused}
+use Rattle.volume.specs.meaning.Content.{at}
+use Rattle.volume.specs.meaning.Rules.{Shown}
+use Rattle.volume.specs.meaning.Refusals.{zoneOf, offsetOf}
+use Rattle.volume.specs.meaning.Answers.{CallResult, leftOut, sectorsIn}
+use Rattle.volume.specs.meaning.CallContracts.{ReadResult}
+use Rattle.promise.specs.meaning.Ledger.{Ledger, freshLedger, Reply, isRefused, isUnfinished, isFinished, LedgerNote, noteWrite, noteFlush, noteReset, noteMount, noteFormat, noted, Fits}
+
+-- ==== the calls that store
+pub data Call : Type 0 where
+  mounts : Call
+  writes : ℕ → ℕ → List ℕ → Call  -- address; count of sectors; buffer
+  flushes : Call
+  resets : ℕ → Call  -- zone
+  formats : ℕ → Call  -- array number
+
+-- ==== a volume: what its memory is and what the host holds, and what each call leaves and gives
+pub record Peeked : Type 0 where
+  pub number : ℕ  -- the refusal's, 0 if there is none
+  pub part : List ℕ  -- the sector's bytes
+
+pub record Volume : Type 1 where
+  pub Memory : Type 0
+  pub State : Type 0
+  pub Names : Type 0  -- how the host names drives
+  pub isNamed : Names → ℕ → Bool
+  pub call : Call → Names → State → ℕ → Memory → CallResult Memory State  -- with a count of stores
+  pub look : Names → State → Memory → CallResult Memory State
+  pub read : Names → State → ℕ → ℕ → List ℕ → Memory → ReadResult  -- address; count of sectors; buffer
+  pub peek : Names → State → ℕ → Memory → Peeked  -- address
+  pub shows : Names → Memory → Memory → Shown  -- what the drives that a look finds present in the first memory show in the second
+  pub stateOf : Shown → State  -- the state that hands on what is shown
+  pub pointer : State → ℕ → ℕ  -- of a zone
+  pub CutTo : ℕ → Memory → Memory → Type 0  -- what a power cut may leave, while a drive is lost
+
+-- ==== the host, the volume and the ledger
+-- ready: the last call finished. stopped: it did not, and "only a cut may follow". down: after a cut, "looks and mounts" until a mount finishes.
+pub data Mode : Type 0 where
+  ready : Mode
+  stopped : Mode
+  down : Mode
+
+pub record System (vol : Volume) : Type 0 where
+  pub memory : vol .Memory
+  pub lost : ℕ  -- the drive that is lost, or noDrive
+  pub mode : Mode
+  pub state : vol .State  -- what the host holds
+  pub ledger : Ledger
+
+-- ==== events. Every call is handed the format's geometry, the drives that the host names, and the state that the host holds.
+pub data Event (vol : Volume) : Type 0 where
+  calls : Call → vol .Names → ℕ → Event vol  -- count of stores
+  looks : vol .Names → Event vol
+  reads : vol .Names → ℕ → ℕ → List ℕ → Event vol  -- address; count of sectors; buffer
+  peeks : vol .Names → ℕ → Event vol  -- address
+  cuts : vol .Memory → Event vol  -- what it leaves
+  loses : ℕ → Event vol  -- a drive
+
+-- ---- what an event does. A refused call changes nothing; an unfinished one has made its stores and handed on no state.
+abbrev pub replyTo : Answer → Reply
+replyTo Finished = isFinished
+replyTo Unfinished = isUnfinished
+replyTo (Refused n) = isRefused
+
+abbrev pub modeAfter : Answer → Mode → Mode
+modeAfter Finished m = ready
+modeAfter Unfinished m = stopped
+modeAfter (Refused n) m = m
+
+-- what the ledger is told of a call that shows k when it has finished
+abbrev pub noteOf : Geometry → Call → Shown → Reply → LedgerNote
+noteOf g mounts k r = noteMount k r
+noteOf g (writes a count buffer) k r = noteWrite (zoneOf g a) (sectorsIn g count buffer) r
+noteOf g flushes k r = noteFlush r
+noteOf g (resets z) k r = noteReset z r
+noteOf g (formats array) k r = noteFormat r
+
+module _ (g : Geometry) (vol : Volume) where
+  -- after a call with this result
+  abbrev pub settled : System vol → CallResult (vol .Memory) (vol .State) → Ledger → System vol
+  settled s r l = record { memory = r .memory; lost = s .lost; mode = modeAfter (r .answer) (s .mode); state = r .state; ledger = l }
+
+  -- the ledger after a call with this result
+  abbrev pub ledgerAfter : System vol → Call → vol .Names → CallResult (vol .Memory) (vol .State) → Ledger
+  ledgerAfter s c named r = noted (s .ledger) (noteOf g c (vol .shows named (s .memory) (r .memory)) (replyTo (r .answer)))
+
+  abbrev pub next : System vol → Event vol → System vol
+  next s (calls c named stop) = let r = vol .call c named (s .state) stop (s .memory) in settled s r (ledgerAfter s c named r)
+  next s (looks named) = s
+  next s (reads named a count out) = s
+  next s (peeks named a) = s
+  next s (cuts m) = record { memory = m; lost = s .lost; mode = down; state = s .state; ledger = s .ledger }
+  next s (loses d) = record { memory = s .memory; lost = d; mode = s .mode; state = s .state; ledger = s .ledger }
+
+-- ==== the host's duties
+-- every drive but x
+abbrev pub allBut : ℕ → ℕ → Bool
+allBut x d = not (eqb d x)
+
+-- "the host .. names every drive not lost, and never names a lost one again" (what it says of drives at or above D is free)
+pub record NamesAll (g : Geometry) (vol : Volume) (s : System vol) (named : vol .Names) : Type 0 where
+  pub drives : (d : ℕ) → d < g .drives → vol .isNamed named d ≡ allBut (s .lost) d
+
+-- looks and mounts may come
+abbrev pub MayMount : Mode → Type 0
+MayMount ready = Unit {0}
+MayMount stopped = ⊥
+MayMount down = Unit {0}
+
+-- when a call may come: "finishes a mount after each cut before anything but looks and mounts"
+abbrev pub MayCome : Call → Mode → Type 0
+MayCome mounts m = MayMount m
+MayCome (writes a count buffer) m = m ≡ ready
+MayCome flushes m = m ≡ ready
+MayCome (resets z) m = m ≡ ready
+MayCome (formats array) m = m ≡ ready
+
+abbrev pub NotStopped : Answer → Type 0
+NotStopped Finished = Unit {0}
+NotStopped Unfinished = ⊥
+NotStopped (Refused n) = Unit {0}
+
+-- a later format is not stopped half way: the ledger says nothing of a volume that is half gone; and its array number has 64 bits
+abbrev pub Completes : Call → Answer → Type 0
+Completes mounts a = Unit {0}
+Completes (writes a′ count buffer) a = Unit {0}
+Completes flushes a = Unit {0}
+Completes (resets z) a = Unit {0}
+Completes (formats array) a = (array < 256 ^ 8) × NotStopped a
+
+module _ (g : Geometry) (vol : Volume) where
+  -- (a cut does what document 01 says of it, and no more than one drive is lost)
+  abbrev pub Duty : System vol → Event vol → Type 0
+  Duty s (calls c named stop) = NamesAll g vol s named × MayCome c (s .mode) × Completes c (vol .call c named (s .state) stop (s .memory) .answer)
+  Duty s (looks named) = NamesAll g vol s named × MayMount (s .mode)
+  Duty s (reads named a count out) = NamesAll g vol s named × (s .mode ≡ ready)
+  Duty s (peeks named a) = NamesAll g vol s named × (s .mode ≡ ready)
+  Duty s (cuts m) = vol .CutTo (s .lost) (s .memory) m
+  Duty s (loses d) = (d < g .drives) × (s .lost ≡ noDrive)
+
+  abbrev pub Dutiful : System vol → List (Event vol) → Type 0
+  Dutiful s [] = Unit {0}
+  Dutiful s (e ∷ es) = Duty s e × Dutiful (next g vol s e) es
+
+-- ==== what is promised at every point of the list
+-- count sectors of a zone's content from an offset on, one after the other
+abbrev pub contentBytes : Ledger → ℕ → ℕ → ℕ → List ℕ
+contentBytes l z offset count = concat (tabulateFrom (at (l .content z)) offset count)
+
+pub record Promise (g : Geometry) (vol : Volume) (s : System vol) : Type 0 where
+  -- "Look: the zones it shows must fit." No look is refused; its state is what is shown; and what is shown fits
+  pub look-fits : (named : vol .Names) → NamesAll g vol s named
+      → (vol .look named (s .state) (s .memory) ≡ record { answer = Finished; memory = s .memory; state = vol .stateOf (vol .shows named (s .memory) (s .memory)) })
+      × Fits g (s .ledger) (vol .shows named (s .memory) (s .memory))
+  -- "Finished mount: the same"
+  pub mount-fits : (named : vol .Names) → NamesAll g vol s named → MayMount (s .mode) → (stop : ℕ)
+      → let r = vol .call mounts named (s .state) stop (s .memory) in
+      r .answer ≡ Finished → (r .state ≡ vol .stateOf (vol .shows named (s .memory) (r .memory))) × Fits g (s .ledger) (vol .shows named (s .memory) (r .memory))
+  -- a mount is refused by 14, log full, alone
+  pub mount-refused : (named : vol .Names) → NamesAll g vol s named → (stop n : ℕ) → vol .call mounts named (s .state) stop (s .memory) .answer ≡ Refused n → n ≡ 14
+  -- between finished calls the state's pointers are the lengths of the contents
+  pub pointer-is : s .mode ≡ ready → (z : ℕ) → z < g .zones → vol .pointer (s .state) z ≡ length (s .ledger .content z)
+  -- an accepted read leaves the content in the buffer, and a read below the pointer is accepted
+  pub read-gives : (named : vol .Names) → NamesAll g vol s named → s .mode ≡ ready → (a count : ℕ) (out : List ℕ) → vol .read named (s .state) a count out (s .memory) .answer ≡ Finished
+      → (offsetOf g a + count ≤ length (s .ledger .content (zoneOf g a))) × (vol .read named (s .state) a count out (s .memory) .buffer ≡ contentBytes (s .ledger) (zoneOf g a) (offsetOf g a) count)
+  pub read-accepted : (named : vol .Names) → NamesAll g vol s named → s .mode ≡ ready → (a count : ℕ) (out : List ℕ) → zoneOf g a < g .zones → zero < count → length out ≡ count * g .sector
+      → offsetOf g a + count ≤ vol .pointer (s .state) (zoneOf g a) → vol .read named (s .state) a count out (s .memory) .answer ≡ Finished
+  -- an accepted peek gives the content's sector, and a peek below the pointer is accepted where the sector's drive is not lost
+  pub peek-gives : (named : vol .Names) → NamesAll g vol s named → s .mode ≡ ready → (a : ℕ) → vol .peek named (s .state) a (s .memory) .number ≡ 0
+      → (offsetOf g a < length (s .ledger .content (zoneOf g a))) × (vol .peek named (s .state) a (s .memory) .part ≡ at (s .ledger .content (zoneOf g a)) (offsetOf g a))
+  pub peek-accepted : (named : vol .Names) → NamesAll g vol s named → s .mode ≡ ready → (a : ℕ) → zoneOf g a < g .zones → offsetOf g a < vol .pointer (s .state) (zoneOf g a)
+      → allBut (s .lost) (driveOf (g .drives) (g .unit) (zoneOf g a) (offsetOf g a)) ≡ true → vol .peek named (s .state) a (s .memory) .number ≡ 0
+
+module _ (g : Geometry) (vol : Volume) where
+  -- before each event, and after the last
+  abbrev pub Throughout : System vol → List (Event vol) → Type 0
+  Throughout s [] = Promise g vol s
+  Throughout s (e ∷ es) = Promise g vol s × Throughout (next g vol s e) es
+
+  -- after the format at the head; "a drive left out of an accepted format .. is lost"
+  abbrev pub start : vol .Names → CallResult (vol .Memory) (vol .State) → System vol
+  start named r = record { memory = r .memory; lost = leftOut g (vol .isNamed named); mode = ready; state = r .state; ledger = freshLedger }
+
+  -- THE CLAIM: of any memory and any finished format of it, under a 64-bit array number (old: what the host held before, anything), and any list of
+  -- events in which the host does its duties
+  abbrev pub KeepsPromise : Type 0
+  KeepsPromise = (named : vol .Names) (array : ℕ) (old : vol .State) (stop : ℕ) (m : vol .Memory) → array < 256 ^ 8
+      → let r = vol .call (formats array) named old stop m in
+      r .answer ≡ Finished → (es : List (Event vol)) → Dutiful g vol (start named r) es → Throughout (start named r) es

@@ -1,0 +1,59 @@
+-- The volume as the rules see it: its memory is the device, the host holds the state as the rules see it, and each call is that of volume's Answers.
+use mathlib.Core.Bool.{Bool}
+use Prim.Native.Nat.{ℕ}
+use mathlib.Core.List.{List, []}
+use lib.ListN.{length, getD}
+use Rattle.tables.specs.meaning.Lists.{concat}
+use Rattle.tables.specs.meaning.Device.{Device, Cut}
+use Rattle.tables.specs.declared.Geometry.{Geometry}
+use Rattle.volume.specs.declared.Answer.the-variants.{Finished, Refused}
+use Rattle.volume.specs.meaning.State.{StateView, pointerIn}
+use Rattle.volume.specs.meaning.Rules.{Shown, showing, isPresent, lostDrive}
+use Rattle.volume.specs.meaning.Refusals.{TableLengths}
+use Rattle.volume.specs.meaning.Mount.{mountState}
+use Rattle.volume.specs.meaning.Answers.{CallResult, carriedOut, StoringCall, Given, refused, given, Place, formatCall, mountCall, writeCall, flushCall, resetCall, lookCall, readCall, peekCall}
+use Rattle.volume.specs.meaning.CallContracts.{ReadResult}
+use Rattle.promise.specs.meaning.Claim.{Call, mounts, writes, flushes, resets, formats, Peeked, Volume, KeepsPromise}
+
+abbrev pub callOf : Geometry → TableLengths → Call → (ℕ → Bool) → StateView → Device → StoringCall
+callOf g t mounts named state v = mountCall g t named v
+callOf g t (writes a count buffer) named state v = writeCall g t named state a count buffer v
+callOf g t flushes named state v = flushCall g t named state v
+callOf g t (resets z) named state v = resetCall g t named state z v
+callOf g t (formats array) named state v = formatCall g t named array v
+
+abbrev pub lookResult : Given Shown → StateView → Device → CallResult Device StateView
+lookResult (refused n) state v = record { answer = Refused n; memory = v; state = state }
+lookResult (given k) state v = record { answer = Finished; memory = v; state = mountState k }
+
+abbrev pub readResult : Given (List (List ℕ)) → List ℕ → ReadResult
+readResult (refused n) out = record { answer = Refused n; buffer = out }
+readResult (given ss) out = record { answer = Finished; buffer = concat ss }
+
+abbrev pub peekResult : Given Place → Device → Peeked
+peekResult (refused n) v = record { number = n; part = [] }
+peekResult (given p) v = record { number = 0; part = getD (v (p .drive) (p .zone) .sectors) (p .sector) [] }
+
+abbrev pub shownBy : Geometry → (ℕ → Bool) → Device → Device → Shown
+shownBy g named v w = showing g (isPresent g named v) (lostDrive g named v) w
+
+-- (t: the lengths of the tables, the same in every call, since the tables are)
+abbrev pub onDevice : Geometry → TableLengths → Volume
+onDevice g t = record {
+  Memory = Device;
+  State = StateView;
+  Names = ℕ → Bool;
+  isNamed = λ named. named;
+  call = λ c named state stop v. carriedOut (callOf g t c named state v) state stop v;
+  look = λ named state v. lookResult (lookCall g t named v) state v;
+  read = λ named state a count out v. readResult (readCall g t named state a count (length out) v) out;
+  peek = λ named state a v. peekResult (peekCall g t named state a v) v;
+  shows = shownBy g;
+  stateOf = mountState;
+  pointer = λ state z. pointerIn (state .condition z);
+  CutTo = Cut;
+}
+
+-- the claim of the rules
+abbrev pub DeviceClaim : Type 0
+DeviceClaim = (g : Geometry) (t : TableLengths) → KeepsPromise g (onDevice g t)

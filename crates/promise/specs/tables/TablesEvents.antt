@@ -1,0 +1,248 @@
+-- Every event on the tables keeps the invariant: the tables have their lengths, the pointers of the drives that are not lost are in order, the
+-- state has its sixteen records, and the device that the tables stand for is as ClaimEvents.antt says.
+use mathlib.Core.Path.{_≡_, refl, sym, ap, _∙_}
+use mathlib.Core.Logic.{_≢_}
+use mathlib.Core.Bool.{Bool, true, false, not, true≢false}
+use Prim.Native.Nat.{ℕ, _+_, _^_, _≤_, _<_}
+use native.Mathlib.Nat.{le-refl}
+use native.Mathlib.Omega.{arith}
+use mathlib.Core.List.{List}
+use lib.ListN.{length, length-set}
+use lib.Dec.{ltb}
+use borrow.Author.Tests.{eq-eqb}
+use Rattle.tables.specs.declared.Geometry.{Geometry}
+use Rattle.tables.specs.meaning.Geometry.{Valid, physicalZones}
+use Rattle.tables.specs.meaning.Drives.{noDrive}
+use Rattle.tables.specs.laws.Drives.{presentBut, present-below}
+use Rattle.tables.specs.meaning.Device.{Device, Store}
+use Rattle.tables.specs.meaning.Tables.{Tables, deviceOf, TablesCut, pointersBad}
+use Rattle.tables.specs.laws.Tables.{device-length}
+use Rattle.tables.specs.laws.Made.{WellSized, FitsAll}
+use Rattle.tables.specs.laws.TablesRefine.{cut-refines}
+use Rattle.tables.specs.laws.PointerOrder.{InOrder, order-passes, cut-order}
+use Rattle.volume.specs.declared.State.{State}
+use Rattle.volume.specs.declared.Answer.{Answer}
+use Rattle.volume.specs.meaning.State.{StateView, callPresent}
+use Rattle.volume.specs.meaning.Calls.{formatState}
+use Rattle.volume.specs.meaning.Refusals.{Verdict, accept, firstRefusal, zoneOf, writeRows, resetRows}
+use Rattle.volume.specs.meaning.Answers.{CallResult, StoringCall, lostIn, leftOut, sectorsIn}
+use Rattle.volume.specs.meaning.CallContracts.{viewState, isSet, verdictNumber, lengthsOf, Result, storingOn, withLost, flushOn, withReset, resetOn, writtenState, pointerOf, writeOn, freshState, formatOn}
+use Rattle.volume.specs.laws.Refusals.{Numbered}
+use Rattle.volume.specs.storing.Flushing.{flush-stores}
+use Rattle.volume.specs.storing.Formatting.{format-views}
+use Rattle.volume.specs.storing.Resetting.{reset-views}
+use Rattle.volume.specs.writing.Writing.{written-state}
+use Rattle.promise.specs.meaning.Claim.{Call, mounts, writes, flushes, resets, formats, Mode, ready, System, calls, cuts, loses, next, NamesAll, Duty, modeAfter, noteOf, replyTo}
+use Rattle.promise.specs.meaning.Ledger.{noted}
+use Rattle.promise.specs.meaning.OnDevice.{callOf, onDevice, shownBy}
+use Rattle.promise.specs.meaning.OnTables.{resultOn, onTables, shownIn}
+use Rattle.promise.specs.invariant.Obligations.{WriteOk, ResetOk}
+use Rattle.promise.specs.device.AcceptedCalls.{write-ok, reset-ok}
+use Rattle.promise.specs.device.AtRestAnswers.{format-lost, format-drives}
+use Rattle.promise.specs.device.ClaimEvents.{OkIn, rest-of, drives-of-call, event-keeps}
+use Rattle.promise.specs.tables.CallRefines.{Agree, agree-refl, ok-agrees, Agrees, viewResult, storing-agrees, storing-sized, storing-order, storing-state, flush-fits}
+use Rattle.promise.specs.tables.CallVerdicts.{format-verdict, format-numbered, flush-verdict, flush-numbered, write-verdict, write-numbered, reset-verdict, reset-numbered}
+use Rattle.promise.specs.tables.TablesFit.{write-fits, reset-fits, format-fits}
+
+-- the system of the rules
+abbrev pub viewSystem : (g : Geometry) (s : System (onTables g)) → System (onDevice g (lengthsOf (s .memory)))
+viewSystem g s = record { memory = deviceOf g (s .memory); lost = s .lost; mode = s .mode; state = viewState (s .state); ledger = s .ledger }
+
+pub record TablesOk (g : Geometry) (s : System (onTables g)) : Type 0 where
+  pub sized : WellSized g (s .memory)
+  pub order : (d : ℕ) → d < g .drives → d ≢ s .lost → InOrder g d (s .memory .written) (s .memory .durable)
+  pub records : length (s .state .zones) ≡ 16
+  pub holds : OkIn g (s .mode) (s .lost) (deviceOf g (s .memory)) (viewState (s .state)) (s .ledger)
+
+module _ (g : Geometry) (s : System (onTables g)) (named : List Bool) (n : NamesAll g (onTables g) s named) where
+  -- what the host names, as the rules see it
+  pub names-seen : NamesAll g (onDevice g (lengthsOf (s .memory))) (viewSystem g s) (isSet named)
+  names-seen = record { drives = n .drives }
+
+  -- a named drive is not lost
+  pub named-not-lost : (d : ℕ) → d < g .drives → isSet named d ≡ true → d ≢ s .lost
+  named-not-lost d h e q = true≢false (sym e ∙ n .drives d h ∙ ap not (eq-eqb d (s .lost) q))
+
+  -- so refusal 3 does not apply
+  pub pointers-fine : TablesOk g s → pointersBad g named (s .memory .written) (s .memory .durable) ≡ false
+  pointers-fine o = order-passes g named (s .memory .written) (s .memory .durable) (λ d h e. o .order d h (named-not-lost d h e))
+
+-- ---- what a call on the tables owes, to be the rules' call
+pub record Refines (g : Geometry) (s : System (onTables g)) (c : Call) (named : List Bool) (stop : ℕ) : Type 0 where
+  pub verdict : Verdict
+  pub stores : List Store  -- on the tables
+  pub new : State  -- the code's state
+  pub result-is : resultOn g c named (s .state) stop (s .memory) ≡ storingOn g (verdictNumber verdict) stores new (s .state) stop (s .memory)
+  pub verdict-is : verdict ≡ firstRefusal (callOf g (lengthsOf (s .memory)) c (isSet named) (viewState (s .state)) (deviceOf g (s .memory)) .refusals)
+  pub has-number : Numbered verdict
+  pub same : verdict ≡ accept → stores ≡ callOf g (lengthsOf (s .memory)) c (isSet named) (viewState (s .state)) (deviceOf g (s .memory)) .stores
+  pub fit : verdict ≡ accept → FitsAll g (callOf g (lengthsOf (s .memory)) c (isSet named) (viewState (s .state)) (deviceOf g (s .memory)) .stores) (deviceOf g (s .memory))
+  pub long : verdict ≡ accept → length (new .zones) ≡ 16
+  pub agree : verdict ≡ accept → ltb stop (length (callOf g (lengthsOf (s .memory)) c (isSet named) (viewState (s .state)) (deviceOf g (s .memory)) .stores)) ≡ false
+      → Agree g (callOf g (lengthsOf (s .memory)) c (isSet named) (viewState (s .state)) (deviceOf g (s .memory)) .state) (viewState new)
+
+module _ (g : Geometry) (ok : Valid g) (s : System (onTables g)) (o : TablesOk g s) (c : Call) (named : List Bool) (stop : ℕ) (r : Refines g s c named stop) where
+  abbrev k : StoringCall
+  k = callOf g (lengthsOf (s .memory)) c (isSet named) (viewState (s .state)) (deviceOf g (s .memory))
+
+  abbrev made : Result
+  made = storingOn g (verdictNumber (r .verdict)) (r .stores) (r .new) (s .state) stop (s .memory)
+
+  -- what it leaves is, as the rules see it, what their call leaves
+  pub call-agrees : Agrees g (onDevice g (lengthsOf (s .memory)) .call c (isSet named) (viewState (s .state)) stop (deviceOf g (s .memory))) (viewResult g (resultOn g c named (s .state) stop (s .memory)))
+  call-agrees = rw (r .result-is, ← r .verdict-is) (storing-agrees g (s .memory) (r .verdict) (r .has-number) (r .stores) (k .stores) (r .new) (s .state) (k .state) stop (o .sized) (r .same) (r .fit) (r .agree))
+
+  -- so the event keeps the invariant
+  pub call-event : Duty g (onTables g) s (calls c named stop) → TablesOk g (next g (onTables g) s (calls c named stop))
+  call-event (n, m, q) = record {
+    sized = rw (r .result-is) (storing-sized g (s .memory) (r .verdict) (r .has-number) (r .stores) (k .stores) (r .new) (s .state) (k .state) stop (o .sized) (r .same) (r .fit));
+    order = λ d hd h. rw (r .result-is) (storing-order g (s .memory) (r .verdict) (r .has-number) (r .stores) (k .stores) (r .new) (s .state) (k .state) stop (o .sized) (r .same) (r .fit) d hd (o .order d hd h));
+    records = rw (r .result-is) (storing-state g (s .memory) (r .verdict) (r .has-number) (r .stores) (k .stores) (r .new) (s .state) (k .state) stop (o .sized) (r .same) (r .fit) (λ (t : State). length (t .zones) ≡ 16) (o .records) (r .long));
+    holds = seen;
+  }
+    where
+      duty : Duty g (onDevice g (lengthsOf (s .memory))) (viewSystem g s) (calls c (isSet named) stop)
+      duty = (names-seen g s named n, m, rw (call-agrees .answer-same) q)
+
+      kept : let a = onDevice g (lengthsOf (s .memory)) .call c (isSet named) (viewState (s .state)) stop (deviceOf g (s .memory)) in
+          OkIn g (modeAfter (a .answer) (s .mode)) (s .lost) (a .memory) (a .state) (noted (s .ledger) (noteOf g c (shownBy g (isSet named) (deviceOf g (s .memory)) (a .memory)) (replyTo (a .answer))))
+      kept = event-keeps g ok (lengthsOf (s .memory)) (viewSystem g s) (o .holds) (calls c (isSet named) stop) duty
+
+      seen : let b = resultOn g c named (s .state) stop (s .memory) in
+          OkIn g (modeAfter (b .outcome .answer) (s .mode)) (s .lost) (deviceOf g (b .tables)) (viewState (b .outcome .state)) (noted (s .ledger) (noteOf g c (shownIn g named (s .memory) (b .tables)) (replyTo (b .outcome .answer))))
+      seen =
+          let b = viewResult g (resultOn g c named (s .state) stop (s .memory)) in
+          let a = onDevice g (lengthsOf (s .memory)) .call c (isSet named) (viewState (s .state)) stop (deviceOf g (s .memory)) in
+          ok-agrees g (modeAfter (b .answer) (s .mode)) (s .lost) (b .memory) (a .state) (b .state) (noted (s .ledger) (noteOf g c (shownBy g (isSet named) (deviceOf g (s .memory)) (b .memory)) (replyTo (b .answer)))) (call-agrees .state-agrees)
+          (rw (call-agrees .answer-same, call-agrees .memory-same) at kept)
+
+-- ---- a format's state
+pub fresh-records : (x : ℕ) → length (freshState x .zones) ≡ 16
+unfolding freshState
+fresh-records x = refl
+
+pub fresh-agrees : (g : Geometry) → Valid g → (x : ℕ) → Agree g (formatState x) (viewState (freshState x))
+fresh-agrees g ok x = record {
+  lost-same = sym (format-views x 0 (omega arith) .0);
+  generation-same = λ z h. sym (format-views x z (omega (arith, h, ok .zones-most)) .1);
+  condition-same = λ z h. sym (format-views x z (omega (arith, h, ok .zones-most)) .2);
+}
+
+-- ---- the calls but mount (MountRefines.antt)
+module _ (g : Geometry) (ok : Valid g) (s : System (onTables g)) (o : TablesOk g s) (named : List Bool) (n : NamesAll g (onTables g) s named) where
+  abbrev t : Tables
+  t = s .memory
+
+  abbrev w : Device
+  w = deviceOf g (s .memory)
+
+  abbrev st : StateView
+  st = viewState (s .state)
+
+  abbrev fine : pointersBad g named (t .written) (t .durable) ≡ false
+  fine = pointers-fine g s named n o
+
+  -- the drives that a call reaches
+  here : s .mode ≡ ready → callPresent g (isSet named) st ≡ presentBut g (s .lost)
+  here m = drives-of-call g ok (lengthsOf t) (viewSystem g s) (o .holds) (isSet named) (names-seen g s named n) m
+
+  record-in : (z : ℕ) → z < g .zones → z < length (s .state .zones)
+  record-in z h = omega (arith, h, ok .zones-most, o .records)
+
+  pub write-refines : s .mode ≡ ready → (a count : ℕ) (buffer : List ℕ) (stop : ℕ) → Refines g s (writes a count buffer) named stop
+  unfolding writeOn
+  write-refines m a count buffer stop =
+      let z = zoneOf g a in
+      let ss = sectorsIn g count buffer in
+      let k = callOf g (lengthsOf t) (writes a count buffer) (isSet named) st w in
+      let y = lostIn g (isSet named) st in
+      let accepted : firstRefusal (k .refusals) ≡ accept → WriteOk g (presentBut g (s .lost)) w st z ss = λ p. rw (here m) at (write-ok g (lengthsOf t) (isSet named) st a count buffer w p) in
+      record {
+        verdict = firstRefusal (k .refusals);
+        stores = k .stores;
+        new = writtenState (s .state) y z (pointerOf (s .state) z + count);
+        result-is = rw (write-verdict g named t fine (s .state) a count (length buffer)) refl;
+        verdict-is = refl;
+        has-number = write-numbered g named t (s .state) a count (length buffer);
+        same = λ p. refl;
+        fit = λ p. rw (here m) (write-fits g ok (s .lost) w st (s .ledger) (rest-of g (lengthsOf t) (viewSystem g s) (o .holds) m) z ss (accepted p));
+        long = λ p. rw length-set (o .records);
+        agree = λ p e. agree-refl g (k .state) (viewState (writtenState (s .state) y z (pointerOf (s .state) z + count))) (sym (written-state g (s .state) y z count buffer (record-in z (accepted p .zone-ok))));
+      }
+
+  pub flush-refines : (stop : ℕ) → Refines g s flushes named stop
+  unfolding flushOn
+  flush-refines stop =
+      let k = callOf g (lengthsOf t) flushes (isSet named) st w in
+      let present = callPresent g (isSet named) st in
+      record {
+        verdict = firstRefusal (k .refusals);
+        stores = k .stores;
+        new = withLost (s .state) (lostIn g (isSet named) st);
+        result-is = rw (flush-verdict g named t fine (s .state)) refl;
+        verdict-is = refl;
+        has-number = flush-numbered g named t (s .state);
+        same = λ p. refl;
+        fit = λ p. rw (flush-stores g present) (flush-fits g present (g .drives) w (le-refl (g .drives)));
+        long = λ p. o .records;
+        agree = λ p e. agree-refl g (k .state) (k .state) refl;
+      }
+
+  pub reset-refines : s .mode ≡ ready → (z stop : ℕ) → Refines g s (resets z) named stop
+  unfolding resetOn
+  reset-refines m z stop =
+      let k = callOf g (lengthsOf t) (resets z) (isSet named) st w in
+      let y = lostIn g (isSet named) st in
+      let accepted : firstRefusal (k .refusals) ≡ accept → ResetOk g (presentBut g (s .lost)) w st z = λ p. rw (here m) at (reset-ok g (lengthsOf t) (isSet named) st z w p) in
+      record {
+        verdict = firstRefusal (k .refusals);
+        stores = k .stores;
+        new = withReset (s .state) z y;
+        result-is = rw (reset-verdict g named t fine (s .state) z) refl;
+        verdict-is = refl;
+        has-number = reset-numbered g named t (s .state) z;
+        same = λ p. refl;
+        fit = λ p. rw (here m) (reset-fits g ok (s .lost) w st (s .ledger) (rest-of g (lengthsOf t) (viewSystem g s) (o .holds) m) z (accepted p));
+        long = λ p. rw length-set (o .records);
+        agree = λ p e. agree-refl g (k .state) (viewState (withReset (s .state) z y)) (sym (reset-views (s .state) z y (record-in z (accepted p .zone-ok))));
+      }
+
+  -- no zone of the device is longer than C
+  device-short : (d y : ℕ) → presentBut g (s .lost) d ≡ true → y < physicalZones g → length (w d y .sectors) ≤ g .capacity
+  device-short d y hd hy = omega (arith, device-length g t d y (present-below g (s .lost) d hd) hy)
+
+  pub format-refines : s .mode ≡ ready → (array stop : ℕ) → array < 256 ^ 8 → Refines g s (formats array) named stop
+  unfolding formatOn
+  format-refines m array stop h =
+      let k = callOf g (lengthsOf t) (formats array) (isSet named) st w in
+      let y = leftOut g (isSet named) in
+      let (γ, r) = rest-of g (lengthsOf t) (viewSystem g s) (o .holds) m in
+      record {
+        verdict = firstRefusal (k .refusals);
+        stores = k .stores;
+        new = freshState y;
+        result-is = rw (format-verdict g named t fine) refl;
+        verdict-is = refl;
+        has-number = format-numbered g named t;
+        same = λ p. refl;
+        fit = λ p. rw (format-drives g (s .lost) (isSet named) (n .drives), format-lost g ok (s .lost) w γ (r .logs) (isSet named) (n .drives)) (format-fits g ok (s .lost) array w (r .logs .lost-ok) h device-short);
+        long = λ p. fresh-records y;
+        agree = λ p e. fresh-agrees g ok y;
+      }
+
+-- ---- cuts and losses
+pub cut-event : (g : Geometry) → Valid g → (s : System (onTables g)) → TablesOk g s → (u : Tables) → TablesCut g (s .lost) (s .memory) u → TablesOk g (next g (onTables g) s (cuts u))
+cut-event g ok s o u c = record {
+  sized = record { sectors-long = ap length (c .sectors-same) ∙ o .sized .sectors-long; written-long = c .written-long ∙ o .sized .written-long; durable-long = c .durable-long ∙ o .sized .durable-long };
+  order = λ d hd q. cut-order g (s .lost) d (s .memory) u c hd q (o .order d hd q);
+  records = o .records;
+  holds = event-keeps g ok (lengthsOf (s .memory)) (viewSystem g s) (o .holds) (cuts (deviceOf g u)) (cut-refines g (s .lost) (s .memory) u c);
+}
+
+pub loss-event : (g : Geometry) → Valid g → (s : System (onTables g)) → TablesOk g s → (d : ℕ) → d < g .drives → s .lost ≡ noDrive → TablesOk g (next g (onTables g) s (loses d))
+loss-event g ok s o d h e = record {
+  sized = o .sized;
+  order = λ k hk q. o .order k hk (λ r. omega (arith, r, e, hk, ok .drives-most));
+  records = o .records;
+  holds = event-keeps g ok (lengthsOf (s .memory)) (viewSystem g s) (o .holds) (loses d) (h, e);
+}

@@ -1,0 +1,58 @@
+use Rattle.replaying.specs.Performing.{oddDrives}
+use lib.ListN.{drop}
+use Prim.Native.Nat.{ℕ}
+use mathlib.Core.List.{List, _++_}
+use mathlib.Core.Path.{sym, ap, _∙_, refl}
+use lib.Seq.{length-front, length-take-le}
+use Rattle.replaying.proofs.performing.append_to_log.Statement.{statement}
+use Rattle.replaying.proofs.performing.append_to_log.Tie as tie
+
+lend-requires : tie.Need-lend-requires
+lend-requires c κs = tt
+
+lend-requires-2 : tie.Need-lend-requires-2
+lend-requires-2 c κs = tt
+
+lend-requires-3 : tie.Need-lend-requires-3
+lend-requires-3 c κs = tt
+
+slice-relend-prefix-append-odd : tie.Need-slice-relend-prefix-append-odd
+slice-relend-prefix-append-odd c = c .before .before .lend .ensures .1
+
+slice-aggregate-append-odd : tie.Need-slice-aggregate-append-odd
+slice-aggregate-append-odd c = sym (length-take-le _ _ (c .before .before .before .lend .ensures .1))
+
+slice-relend-prefix-append-odd-2 : tie.Need-slice-relend-prefix-append-odd-2
+slice-relend-prefix-append-odd-2 c = c .before .before .lend2 .ensures .1
+
+slice-aggregate-append-odd-2 : tie.Need-slice-aggregate-append-odd-2
+slice-aggregate-append-odd-2 c = sym (length-take-le _ _ (c .before .before .before .lend2 .ensures .1))
+
+slice-relend-prefix-append-odd-3 : tie.Need-slice-relend-prefix-append-odd-3
+slice-relend-prefix-append-odd-3 c = c .before .before .lend3 .ensures .1
+
+slice-aggregate-append-odd-3 : tie.Need-slice-aggregate-append-odd-3
+slice-aggregate-append-odd-3 c = sym (length-take-le _ _ (c .before .before .before .lend3 .ensures .1))
+
+append-odd-requires : tie.Need-append-odd-requires
+append-odd-requires c κs = tt
+
+same-length : tie.Need-same-length
+same-length c = length-front (c .before .before .before .before .before .before .before .before .before .before .before .before .before .before .before .before .before .args .space .now) (c .before .before .before .before .before .before .append-odd .last .0) (c .before .before .before .before .before .before .before .before .before .before .before .before .lend .result) (c .before .before .before .before .before .before .append-odd .kept .0)
+
+same-length-2 : tie.Need-same-length-2
+same-length-2 c = length-front (c .before .before .before .before .before .before .before .before .before .before .before .before .before .before .before .before .before .args .written .now) (c .before .before .before .before .before .before .append-odd .last .1 .0) (c .before .before .before .before .before .before .before .before .before .before .before .lend2 .result) (c .before .before .before .before .before .before .append-odd .kept .1 .0)
+
+same-length-3 : tie.Need-same-length-3
+same-length-3 c = length-front (c .before .before .before .before .before .before .before .before .before .before .before .before .before .before .before .before .before .args .buffer .now) (c .before .before .before .before .before .before .append-odd .last .1 .1 .0) (c .before .before .before .before .before .before .before .before .before .before .lend3 .result) (c .before .before .before .before .before .before .append-odd .kept .1 .1 .0)
+
+returns : tie.Need-returns
+unfolding oddDrives
+returns c = let a = c .before .before .before .before .before .before .before .before .before .before .before .before .before .before .before .before .before .args in (ap (λ (l : List ℕ). l ++ drop (c .before .before .before .before .before .before .before .before .before .before .before .before .lend .result) (a .space .now)) (c .before .before .before .before .before .before .append-odd .ensures .0) ∙ rw (c .before .before .before .before .before .before .before .before .before .before .before .before .lend .ensures .0, c .before .before .before .before .before .before .before .before .before .before .before .lend2 .ensures .0, c .before .before .before .before .before .before .before .before .before .before .lend3 .ensures .0) refl, ap (λ (l : List ℕ). l ++ drop (c .before .before .before .before .before .before .before .before .before .before .before .lend2 .result) (a .written .now)) (c .before .before .before .before .before .before .append-odd .ensures .1) ∙ rw (c .before .before .before .before .before .before .before .before .before .before .before .before .lend .ensures .0, c .before .before .before .before .before .before .before .before .before .before .before .lend2 .ensures .0, c .before .before .before .before .before .before .before .before .before .before .lend3 .ensures .0) refl, ap (λ (l : List ℕ). l ++ drop (c .before .before .before .before .before .before .before .before .before .before .lend3 .result) (a .buffer .now)) (c .before .before .before .before .before .before .append-odd .ensures .2) ∙ rw (c .before .before .before .before .before .before .before .before .before .before .lend3 .ensures .0) refl)
+
+pub append-to-log-spec : {M : Type 1} → statement M
+append-to-log-spec =
+    tie.close
+    (tie.spec lend-requires lend-requires-2 lend-requires-3 slice-relend-prefix-append-odd slice-aggregate-append-odd slice-relend-prefix-append-odd-2
+    slice-aggregate-append-odd-2 slice-relend-prefix-append-odd-3 slice-aggregate-append-odd-3 append-odd-requires same-length same-length-2
+    same-length-3 returns)

@@ -1,0 +1,13 @@
+pub mod Basics
+pub mod Below
+pub mod Device
+pub mod Drives
+pub mod Geometry
+pub mod GeometryTest
+pub mod Greatest
+pub mod Lists
+pub mod LittleEndian
+pub mod Phases
+pub mod Placement
+pub mod Tables
+pub mod Xor

@@ -1,0 +1,7 @@
+-- The choice between two values by a test.
+use mathlib.Core.Bool.{Bool, true, false}
+
+-- the first if b holds, else the second
+abbrev pub pick {ℓ} : {A : Type ℓ} → Bool → A → A → A
+pick true a b = a
+pick false a b = b

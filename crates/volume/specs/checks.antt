@@ -1,0 +1,4 @@
+pub mod CheckLaws
+pub mod Logging
+pub mod StoreLoops
+pub mod ZoneChecks

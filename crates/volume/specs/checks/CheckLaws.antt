@@ -1,0 +1,145 @@
+-- What every call checks first, as numbers: the drives present as the array that the code keeps, refusals 1 to 4 as the rows that they
+-- share, and what passing them gives.
+use mathlib.Core.Path.{_≡_, refl, sym, ap, _∙_, fun-ext}
+use mathlib.Core.Bool.{Bool, true, false, _&&_, not}
+use Prim.Native.Nat.{ℕ, zero, suc, _+_, _-_, _≤_, _<_}
+use native.Mathlib.Decide.{decLt}
+use native.Mathlib.Omega.{arith}
+use mathlib.Core.List.{List, [], _∷_, _++_}
+use lib.ListN.{length, getD, set, replicate, List·getD-append}
+use lib.Seq.{getD-append-add}
+use lib.Dec.{ltb, eqb}
+use borrow.Author.Tests.{lt-ltb, le-ltb}
+use Rattle.tables.specs.declared.Geometry.{Geometry}
+use Rattle.tables.specs.meaning.Basics.{pick}
+use Rattle.tables.specs.laws.Basics.{and-split}
+use Rattle.tables.specs.meaning.Below.{countBelow, tabulate}
+use Rattle.tables.specs.laws.Below.{length-tabulate, getD-tabulate}
+use Rattle.tables.specs.meaning.Drives.{findBelow}
+use Rattle.volume.specs.meaning.Answers.{lostIn}
+use Rattle.tables.specs.meaning.Geometry.{Valid}
+use Rattle.tables.specs.meaning.GeometryTest.{isValid}
+use Rattle.tables.specs.laws.GeometryTest.{valid-if-test}
+use Rattle.tables.specs.meaning.Tables.{lengthsFit, bufferFits, pointersBad}
+use Rattle.volume.specs.declared.State.{State}
+use Rattle.volume.specs.meaning.State.{callPresent}
+use Rattle.volume.specs.meaning.Refusals.{firstRefusal, stateWithin, twoAbsent}
+use Rattle.volume.specs.meaning.CallContracts.{viewState, isSet, verdictNumber}
+
+-- ---- the drives of a call
+-- as an array of 8: named and not lost, none past the last drive
+unfoldable pub presentList : Geometry → List Bool → ℕ → List Bool
+presentList g named lost = tabulate (λ d. isSet named d && not (eqb d lost)) (g .drives) ++ replicate (8 - g .drives) false
+
+-- the array while it is filled
+pub present-start : (f : ℕ → Bool) → replicate 8 false ≡ tabulate f 0 ++ replicate (8 - 0) false
+present-start f = refl
+
+set-at-end : (xs : List Bool) (n : ℕ) (x : Bool) → set (xs ++ replicate (suc n) false) (length xs) x ≡ xs ++ (x ∷ []) ++ replicate n false
+set-at-end [] n x = refl
+set-at-end (y ∷ xs) n x = ap (λ (r : List Bool). y ∷ r) (set-at-end xs n x)
+
+pub present-more : (f : ℕ → Bool) (d : ℕ) → d < 8 → set (tabulate f d ++ replicate (8 - d) false) d (f d) ≡ tabulate f (suc d) ++ replicate (8 - suc d) false
+present-more f d h =
+    let e : 8 - d ≡ suc (8 - suc d) = omega arith in
+    let l : length (tabulate f d) ≡ d = length-tabulate f d in
+    rw e (ap (λ (i : ℕ). set (tabulate f d ++ replicate (suc (8 - suc d)) false) i (f d)) (sym l) ∙ set-at-end (tabulate f d) (8 - suc d) (f d))
+
+getD-none : (n i : ℕ) → getD (replicate n false) i false ≡ false
+getD-none zero i = refl
+getD-none (suc n) zero = refl
+getD-none (suc n) (suc i) = getD-none n i
+
+past-end : (xs : List Bool) (n d : ℕ) → length xs ≤ d → getD (xs ++ replicate n false) d false ≡ false
+past-end xs n d h =
+    let e : d ≡ length xs + (d - length xs) = omega arith in
+    ap (λ (i : ℕ). getD (xs ++ replicate n false) i false) e ∙ getD-append-add xs (replicate n false) (d - length xs) false ∙ getD-none n (d - length xs)
+
+-- it is what the rules mean by the drives of the call
+pub present-is : (g : Geometry) (named : List Bool) (s : State) → isSet (presentList g named (s .lost)) ≡ callPresent g (isSet named) (viewState s)
+unfolding presentList callPresent
+present-is g named s = fun-ext λ d. go d (decLt d (g .drives))
+  where
+    f : ℕ → Bool
+    f d = isSet named d && not (eqb d (s .lost))
+
+    go : (d : ℕ) → Dec (d < g .drives) → isSet (tabulate (λ e. isSet named e && not (eqb e (s .lost))) (g .drives) ++ replicate (8 - g .drives) false) d ≡ ltb d (g .drives) && (isSet named d && not (eqb d (s .lost)))
+    go d (yes h) = rw (lt-ltb d (g .drives) h) (List·getD-append (tabulate (λ e. isSet named e && not (eqb e (s .lost))) (g .drives)) (replicate (8 - g .drives) false) false d (rw (length-tabulate (λ e. isSet named e && not (eqb e (s .lost))) (g .drives)) h) ∙ getD-tabulate (λ e. isSet named e && not (eqb e (s .lost))) (g .drives) d false h)
+    go d (no h) = rw (le-ltb d (g .drives) (omega arith)) (past-end (tabulate (λ e. isSet named e && not (eqb e (s .lost))) (g .drives)) (8 - g .drives) d (rw (length-tabulate (λ e. isSet named e && not (eqb e (s .lost))) (g .drives)) (omega arith)))
+
+pub absent-two : (g : Geometry) (named : List Bool) (s : State) → ltb 1 (countBelow (λ d. not (isSet (presentList g named (s .lost)) d)) (g .drives)) ≡ twoAbsent g (isSet named) (viewState s)
+unfolding twoAbsent
+absent-two g named s = ap (λ (p : ℕ → Bool). ltb 1 (countBelow (λ d. not (p d)) (g .drives))) (present-is g named s)
+
+pub left-out-is : (g : Geometry) (named : List Bool) (s : State) → findBelow (λ d. not (isSet (presentList g named (s .lost)) d)) (g .drives) ≡ lostIn g (isSet named) (viewState s)
+unfolding lostIn
+left-out-is g named s = ap (λ (p : ℕ → Bool). findBelow (λ d. not (p d)) (g .drives)) (present-is g named s)
+
+-- ---- refusals 1 to 4; a call without a buffer has count 0 and no bytes
+abbrev pub openingRows : Geometry → List Bool → State → ℕ → ℕ → ℕ → List ℕ → List ℕ → List (ℕ × Bool)
+openingRows g named s count bytes sectors ws ds =
+    (1, not (isValid g && stateWithin g (viewState s)))
+    ∷ (2, not (lengthsFit g sectors (length ws) (length ds) && bufferFits g count bytes))
+    ∷ (3, pointersBad g named ws ds)
+    ∷ (4, ltb 1 (countBelow (λ d. not (isSet (presentList g named (s .lost)) d)) (g .drives)))
+    ∷ []
+
+unfoldable pub openingNumber : Geometry → List Bool → State → ℕ → ℕ → ℕ → List ℕ → List ℕ → ℕ
+openingNumber g named s count bytes sectors ws ds = verdictNumber (firstRefusal (openingRows g named s count bytes sectors ws ds))
+
+-- what passing them gives
+pub record Opened (g : Geometry) (named : List Bool) (s : State) (count bytes sectors : ℕ) (ws ds : List ℕ) : Type 0 where
+  pub valid : Valid g
+  pub within : stateWithin g (viewState s) ≡ true
+  pub lengths : lengthsFit g sectors (length ws) (length ds) ≡ true
+  pub buffer : bufferFits g count bytes ≡ true
+  pub pointers : pointersBad g named ws ds ≡ false
+  pub drives : ltb 1 (countBelow (λ d. not (isSet (presentList g named (s .lost)) d)) (g .drives)) ≡ false
+
+four : (a b c d : Bool) → verdictNumber (firstRefusal ((1, not a) ∷ (2, not b) ∷ (3, c) ∷ (4, d) ∷ [])) ≡ 0 → (a ≡ true) × (b ≡ true) × (c ≡ false) × (d ≡ false)
+four true true false false h = (refl, refl, refl, refl)
+four true true false true h = absurd (omega arith)
+four true true true d h = absurd (omega arith)
+four true false c d h = absurd (omega arith)
+four false b c d h = absurd (omega arith)
+
+pub opened : (g : Geometry) (named : List Bool) (s : State) (count bytes sectors : ℕ) (ws ds : List ℕ) → openingNumber g named s count bytes sectors ws ds ≡ 0 → Opened g named s count bytes sectors ws ds
+unfolding openingNumber
+opened g named s count bytes sectors ws ds h =
+    let q = four (isValid g && stateWithin g (viewState s)) (lengthsFit g sectors (length ws) (length ds) && bufferFits g count bytes) (pointersBad g named ws ds) (ltb 1 (countBelow (λ d. not (isSet (presentList g named (s .lost)) d)) (g .drives))) h in
+    let (v, w) = and-split (isValid g) (stateWithin g (viewState s)) (q .0) in
+    let (l, b) = and-split (lengthsFit g sectors (length ws) (length ds)) (bufferFits g count bytes) (q .1) in
+    record { valid = valid-if-test g v; within = w; lengths = l; buffer = b; pointers = q .2; drives = q .3 }
+
+-- the number, case by case
+module _ (g : Geometry) (named : List Bool) (s : State) (count bytes sectors : ℕ) (ws ds : List ℕ) where
+  pub opening-1 : isValid g && stateWithin g (viewState s) ≡ false → 1 ≡ openingNumber g named s count bytes sectors ws ds
+  unfolding openingNumber
+  opening-1 a = rw a refl
+
+  pub opening-2 : isValid g && stateWithin g (viewState s) ≡ true → lengthsFit g sectors (length ws) (length ds) && bufferFits g count bytes ≡ false → 2 ≡ openingNumber g named s count bytes sectors ws ds
+  unfolding openingNumber
+  opening-2 a b = rw (a, b) refl
+
+  pub opening-3 : isValid g && stateWithin g (viewState s) ≡ true → lengthsFit g sectors (length ws) (length ds) && bufferFits g count bytes ≡ true → pointersBad g named ws ds ≡ true → 3 ≡ openingNumber g named s count bytes sectors ws ds
+  unfolding openingNumber
+  opening-3 a b c = rw (a, b, c) refl
+
+  pub opening-4 : isValid g && stateWithin g (viewState s) ≡ true → lengthsFit g sectors (length ws) (length ds) && bufferFits g count bytes ≡ true → pointersBad g named ws ds ≡ false
+      → 1 < countBelow (λ d. not (isSet (presentList g named (s .lost)) d)) (g .drives) → 4 ≡ openingNumber g named s count bytes sectors ws ds
+  unfolding openingNumber
+  opening-4 a b c d = rw (a, b, c, lt-ltb 1 (countBelow (λ e. not (isSet (presentList g named (s .lost)) e)) (g .drives)) d) refl
+
+  pub opening-0 : isValid g && stateWithin g (viewState s) ≡ true → lengthsFit g sectors (length ws) (length ds) && bufferFits g count bytes ≡ true → pointersBad g named ws ds ≡ false
+      → countBelow (λ d. not (isSet (presentList g named (s .lost)) d)) (g .drives) ≤ 1 → 0 ≡ openingNumber g named s count bytes sectors ws ds
+  unfolding openingNumber
+  opening-0 a b c d = rw (a, b, c, le-ltb 1 (countBelow (λ e. not (isSet (presentList g named (s .lost)) e)) (g .drives)) d) refl
+
+-- ---- a call's refusal is that of these four, or that of its other rows
+pub after-four : (a b c d : Bool) (rest : List (ℕ × Bool)) → verdictNumber (firstRefusal ((1, a) ∷ (2, b) ∷ (3, c) ∷ (4, d) ∷ rest))
+    ≡ pick (eqb (verdictNumber (firstRefusal ((1, a) ∷ (2, b) ∷ (3, c) ∷ (4, d) ∷ []))) 0) (verdictNumber (firstRefusal rest)) (verdictNumber (firstRefusal ((1, a) ∷ (2, b) ∷ (3, c) ∷ (4, d) ∷ [])))
+after-four true b c d rest = refl
+after-four false true c d rest = refl
+after-four false false true d rest = refl
+after-four false false false true rest = refl
+after-four false false false false rest = refl

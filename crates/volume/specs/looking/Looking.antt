@@ -1,0 +1,337 @@
+-- A look on the tables: what it shows as the code's record, the state that it leaves, and its answer on any input.
+use mathlib.Core.Path.{_≡_, refl, sym, ap, ap₂, _∙_, fun-ext}
+use mathlib.Core.Logic.{_≢_}
+use mathlib.Core.Bool.{Bool, true, false, _&&_, _||_, not}
+use Prim.Native.Nat.{ℕ, zero, suc, _+_, _-_, _≤_, _<_}
+use native.Mathlib.Omega.{arith}
+use native.Mathlib.Decide.{ℕ-discrete}
+use mathlib.Core.List.{List, [], _∷_, _++_}
+use lib.ListN.{length, getD, replicate}
+use lib.Dec.{ltb, eqb}
+use borrow.Author.Tests.{eq-eqb, ne-eqb, lt-ltb, le-ltb}
+use Rattle.tables.specs.declared.Geometry.{Geometry}
+use Rattle.tables.specs.meaning.Basics.{pick}
+use Rattle.tables.specs.laws.Basics.{and-split, not-true, or-none, not-not}
+use Rattle.tables.specs.meaning.Below.{countBelow, tabulate, anyBelow}
+use Rattle.tables.specs.laws.Below.{tabulate-cong, none-any-below}
+use Rattle.tables.specs.meaning.Drives.{findBelow}
+use Rattle.tables.specs.meaning.Geometry.{Valid, physicalZones, cells, totalBytes}
+use Rattle.tables.specs.meaning.GeometryTest.{isValid}
+use Rattle.tables.specs.laws.GeometryTest.{valid-if-test}
+use Rattle.tables.specs.meaning.Device.{Device, ZoneView, blankZone}
+use Rattle.tables.specs.meaning.Tables.{tablesOf, cell, zoneAtCell, deviceOf, lengthsFit, pointersBad}
+use Rattle.tables.specs.laws.TablesFrame.{lengths-are, pointers-good}
+use Rattle.tables.specs.laws.Tables.{device-pointer, device-durable}
+use Rattle.volume.specs.meaning.Refusals.{badPointers, firstRefusal, lookRows, twoLost, badLabels, badLogs}
+use Rattle.volume.specs.declared.Condition.the-variants.{Empty}
+use Rattle.volume.specs.declared.ZoneRecord.{ZoneRecord}
+use Rattle.volume.specs.declared.State.{State}
+use Rattle.volume.specs.declared.ZoneLook.{ZoneLook}
+use Rattle.volume.specs.declared.Look.{Look}
+use Rattle.volume.specs.declared.Outcome.{Outcome}
+use Rattle.volume.specs.declared.Answer.the-variants.{Finished, Refused}
+use Rattle.logs.specs.meaning.Heads.{arrayIn, leastSeal}
+use Rattle.volume.specs.meaning.Rules.{sealLimitBelow, servingEntries, View, valueOf, Shown, ZoneShown, showing, isLost, isPresent, lostDrive, generalHeads, generalEnding, parityEntries, parityEnding, generationOf, resetSeen, sealSeen, sealLimit, viewOf, zoneView, valueAt, pointerAt, cleanAt, zoneAt, zoneShown}
+use Rattle.volume.specs.meaning.Mount.{mountState}
+use Rattle.volume.specs.meaning.CallContracts.{blankRecord, recordAt, viewState, isSet, verdictNumber, lengthsOf, refusalOn, zoneLookOf, recordFrom, stateShown, lookVerdict, lookOn}
+use Rattle.volume.specs.looking.Knowing.{Readable, readDevice}
+use Rattle.volume.specs.looking.DrivesLost.{fill-at, fill-past, two-lost-is, lost-drive-is}
+
+-- ---- what is shown, as the code's record; zones past the last are blank
+abbrev pub blankLook : ZoneLook
+blankLook = record { generation = 0; condition = Empty; pointer = 0; «by_reset» = false; clean = false }
+
+unfoldable pub looksFrom : Geometry → (ℕ → ZoneShown) → List ZoneLook
+looksFrom g f = tabulate (λ z. zoneLookOf (f z)) (g .zones) ++ replicate (16 - g .zones) blankLook
+
+abbrev pub lookOf : Geometry → Shown → Look
+lookOf g k = record { lost = k .lost; array = k .array; zones = looksFrom g (k .zone) }
+
+unfoldable pub recordsOf : Geometry → List ZoneLook → List ZoneRecord
+recordsOf g ls = tabulate (λ z. recordFrom (getD ls z blankLook)) (g .zones) ++ replicate (16 - g .zones) blankRecord
+
+pub state-of-look : (g : Geometry) (k : Shown) → _≡_ {A = State} (record { lost = k .lost; zones = recordsOf g (looksFrom g (k .zone)) }) (stateShown g k)
+unfolding looksFrom recordsOf stateShown
+state-of-look g k = ap (λ (rs : List ZoneRecord). record { lost = k .lost; zones = rs ++ replicate (16 - g .zones) blankRecord })
+    (tabulate-cong (λ z. recordFrom (getD (looksFrom g (k .zone)) z blankLook)) (λ z. recordFrom (zoneLookOf (k .zone z))) (g .zones) (λ z h. ap recordFrom (fill-at (λ z. zoneLookOf (k .zone z)) blankLook blankLook (g .zones) (16 - g .zones) z h)))
+
+-- it is the state of the rules, in every zone of the volume
+pub state-shown-in : (g : Geometry) (k : Shown) (z : ℕ) → z < g .zones
+    → (viewState (stateShown g k) .generation z ≡ mountState k .generation z) × (viewState (stateShown g k) .condition z ≡ mountState k .condition z)
+unfolding stateShown
+state-shown-in g k z h =
+    let e = fill-at (λ y. recordFrom (zoneLookOf (k .zone y))) blankRecord blankRecord (g .zones) (16 - g .zones) z h in
+    (ap (λ (r : ZoneRecord). r .generation) e, ap (λ (r : ZoneRecord). r .condition) e)
+
+pub state-shown-past : (g : Geometry) (k : Shown) (z : ℕ) → g .zones ≤ z → recordAt (stateShown g k) z ≡ blankRecord
+unfolding stateShown
+state-shown-past g k z h = fill-past (λ y. recordFrom (zoneLookOf (k .zone y))) blankRecord (g .zones) (16 - g .zones) z h
+
+pub state-shown-lost : (g : Geometry) (k : Shown) → stateShown g k .lost ≡ mountState k .lost
+unfolding stateShown
+state-shown-lost g k = refl
+
+-- ---- no rule of a look reads a durable pointer
+abbrev pub sectorsOnly : Device → Device
+sectorsOnly v d z = record { sectors = v d z .sectors; durable = 0 }
+
+same-sectors : (g : Geometry) (xs ws ds : List ℕ) → sectorsOnly (deviceOf g (tablesOf xs ws ds)) ≡ sectorsOnly (readDevice g xs ws)
+unfolding deviceOf zoneAtCell
+same-sectors g xs ws ds = fun-ext λ d. fun-ext λ z. go d z (ltb d (g .drives) && ltb z (physicalZones g))
+  where
+    go : (d z : ℕ) (b : Bool) → _≡_ {A = ZoneView} (record { sectors = pick b (zoneAtCell g (tablesOf xs ws ds) (cell g d z)) blankZone .sectors; durable = 0 }) (record { sectors = pick b (zoneAtCell g (tablesOf xs ws []) (cell g d z)) blankZone .sectors; durable = 0 })
+    go d z true = refl
+    go d z false = refl
+
+module _ (g : Geometry) (named : ℕ → Bool) where
+  present-sectors : (v : Device) → isPresent g named v ≡ isPresent g named (sectorsOnly v)
+  unfolding isPresent isLost generalHeads
+  present-sectors v = refl
+
+  lost-sectors : (v : Device) → isLost g named v ≡ isLost g named (sectorsOnly v)
+  unfolding isLost generalHeads
+  lost-sectors v = refl
+
+  labels-sectors : (v : Device) → badLabels g named v ≡ badLabels g named (sectorsOnly v)
+  unfolding badLabels generalHeads
+  labels-sectors v = refl
+
+  logs-sectors : (v : Device) → badLogs g named v ≡ badLogs g named (sectorsOnly v)
+  unfolding badLogs generalEnding parityEnding
+  logs-sectors v = refl
+
+  generation-sectors : (v : Device) (z : ℕ) → generationOf g named v z ≡ generationOf g named (sectorsOnly v) z
+  unfolding generationOf generalHeads
+  generation-sectors v z = refl
+
+  reset-sectors : (v : Device) (z n : ℕ) → resetSeen g named v z n ≡ resetSeen g named (sectorsOnly v) z n
+  unfolding resetSeen generalHeads
+  reset-sectors v z n = refl
+
+  seal-sectors : (v : Device) (z n : ℕ) → sealSeen g named v z n ≡ sealSeen g named (sectorsOnly v) z n
+  unfolding sealSeen generalHeads
+  seal-sectors v z n = refl
+
+  clean-sectors : (v : Device) (z n q : ℕ) → cleanAt g named v z n q ≡ cleanAt g named (sectorsOnly v) z n q
+  unfolding cleanAt parityEntries parityEnding
+  clean-sectors v z n q = refl
+
+  limit-below : (v : Device) (z n d : ℕ) → sealLimitBelow g named v z n d ≡ sealLimitBelow g named (sectorsOnly v) z n d
+  unfolding generalHeads
+  limit-below v z n zero = refl
+  limit-below v z n (suc d) = ap (λ (x : ℕ). pick (named d) (leastSeal z n x (generalHeads g v d)) x) (limit-below v z n d)
+
+  limit-sectors : (v : Device) (z n : ℕ) → sealLimit g named v z n ≡ sealLimit g named (sectorsOnly v) z n
+  unfolding sealLimit
+  limit-sectors v z n = limit-below v z n (g .drives)
+
+  view-sectors : (v : Device) (z n : ℕ) → zoneView g named v z n ≡ zoneView g named (sectorsOnly v) z n
+  unfolding zoneView viewOf parityEntries
+  view-sectors v z n = ap (λ (x : ℕ). viewOf z named v (λ d. servingEntries g z n x (parityEntries g v d))) (limit-sectors v z n)
+
+  pointer-sectors : (v : Device) (z n : ℕ) → pointerAt g named v z n ≡ pointerAt g named (sectorsOnly v) z n
+  unfolding pointerAt
+  pointer-sectors v z n = rw (reset-sectors v z n, view-sectors v z n, limit-sectors v z n) refl
+
+  value-sectors : (v : Device) (z n a : ℕ) → valueAt g named v z n a ≡ valueAt g named (sectorsOnly v) z n a
+  unfolding valueAt
+  value-sectors v z n a = ap (λ (w : View). valueOf (g .drives) (g .unit) z w a) (view-sectors v z n)
+
+  zone-at-sectors : (v : Device) (z n : ℕ) → zoneAt g named v z n ≡ zoneAt g named (sectorsOnly v) z n
+  unfolding zoneAt
+  zone-at-sectors v z n =
+      let w : valueAt g named v z n ≡ valueAt g named (sectorsOnly v) z n = fun-ext (value-sectors v z n) in
+      rw (pointer-sectors v z n, w, reset-sectors v z n, seal-sectors v z n, clean-sectors v z n (pointerAt g named (sectorsOnly v) z n)) refl
+
+  zone-shown-sectors : (v : Device) (z : ℕ) → zoneShown g named v z ≡ zoneShown g named (sectorsOnly v) z
+  unfolding zoneShown
+  zone-shown-sectors v z = ap (zoneAt g named v z) (generation-sectors v z) ∙ zone-at-sectors v z (generationOf g named (sectorsOnly v) z)
+
+  pub shown-sectors : (x : ℕ) (v : Device) → showing g named x v ≡ showing g named x (sectorsOnly v)
+  unfolding showing generalHeads
+  shown-sectors x v = ap (λ (f : ℕ → ZoneShown). record { lost = x; array = arrayIn (generalHeads g v (findBelow named (g .drives))); zone = f }) (fun-ext (zone-shown-sectors v))
+
+module _ (g : Geometry) (xs ws ds : List ℕ) where
+  pub present-read : (named : ℕ → Bool) → isPresent g named (deviceOf g (tablesOf xs ws ds)) ≡ isPresent g named (readDevice g xs ws)
+  present-read named = present-sectors g named (deviceOf g (tablesOf xs ws ds)) ∙ ap (isPresent g named) (same-sectors g xs ws ds) ∙ sym (present-sectors g named (readDevice g xs ws))
+
+  lost-read : (named : ℕ → Bool) → isLost g named (deviceOf g (tablesOf xs ws ds)) ≡ isLost g named (readDevice g xs ws)
+  lost-read named = lost-sectors g named (deviceOf g (tablesOf xs ws ds)) ∙ ap (isLost g named) (same-sectors g xs ws ds) ∙ sym (lost-sectors g named (readDevice g xs ws))
+
+  pub lost-drive-read : (named : ℕ → Bool) → lostDrive g named (deviceOf g (tablesOf xs ws ds)) ≡ lostDrive g named (readDevice g xs ws)
+  lost-drive-read named = ap (λ (p : ℕ → Bool). findBelow p (g .drives)) (lost-read named)
+
+  pub two-lost-read : (named : ℕ → Bool) → twoLost g named (deviceOf g (tablesOf xs ws ds)) ≡ twoLost g named (readDevice g xs ws)
+  unfolding twoLost
+  two-lost-read named = ap (λ (p : ℕ → Bool). ltb 1 (countBelow p (g .drives))) (lost-read named)
+
+  pub labels-read : (present : ℕ → Bool) → badLabels g present (deviceOf g (tablesOf xs ws ds)) ≡ badLabels g present (readDevice g xs ws)
+  labels-read present = labels-sectors g present (deviceOf g (tablesOf xs ws ds)) ∙ ap (badLabels g present) (same-sectors g xs ws ds) ∙ sym (labels-sectors g present (readDevice g xs ws))
+
+  pub logs-read : (present : ℕ → Bool) → badLogs g present (deviceOf g (tablesOf xs ws ds)) ≡ badLogs g present (readDevice g xs ws)
+  logs-read present = logs-sectors g present (deviceOf g (tablesOf xs ws ds)) ∙ ap (badLogs g present) (same-sectors g xs ws ds) ∙ sym (logs-sectors g present (readDevice g xs ws))
+
+  pub shown-read : (present : ℕ → Bool) (x : ℕ) → showing g present x (deviceOf g (tablesOf xs ws ds)) ≡ showing g present x (readDevice g xs ws)
+  shown-read present x = shown-sectors g present x (deviceOf g (tablesOf xs ws ds)) ∙ ap (showing g present x) (same-sectors g xs ws ds) ∙ sym (shown-sectors g present x (readDevice g xs ws))
+
+-- ---- the refusals, in the order of the table: 1 to 3 by the tables' shape, of any call without a state
+unfoldable pub shapeNumber : Geometry → List Bool → ℕ → List ℕ → List ℕ → ℕ
+shapeNumber g named sectors ws ds = verdictNumber (firstRefusal ((1, not (isValid g)) ∷ (2, not (lengthsFit g sectors (length ws) (length ds))) ∷ (3, pointersBad g named ws ds) ∷ []))
+
+-- 4 to 6 by the logs of the drives present
+unfoldable pub logNumber : Geometry → List Bool → Device → ℕ
+logNumber g here v = verdictNumber (firstRefusal ((4, ltb 1 (countBelow (λ d. not (isSet here d)) (g .drives))) ∷ (5, badLabels g (isSet here) v) ∷ (6, badLogs g (isSet here) v) ∷ []))
+
+-- case by case
+module _ (g : Geometry) (named : List Bool) (sectors : ℕ) (ws ds : List ℕ) where
+  pub shape-1 : isValid g ≡ false → 1 ≡ shapeNumber g named sectors ws ds
+  unfolding shapeNumber
+  shape-1 a = rw a refl
+
+  pub shape-2 : isValid g ≡ true → lengthsFit g sectors (length ws) (length ds) ≡ false → 2 ≡ shapeNumber g named sectors ws ds
+  unfolding shapeNumber
+  shape-2 a b = rw (a, b) refl
+
+  pub shape-3 : isValid g ≡ true → lengthsFit g sectors (length ws) (length ds) ≡ true → pointersBad g named ws ds ≡ true → 3 ≡ shapeNumber g named sectors ws ds
+  unfolding shapeNumber
+  shape-3 a b c = rw (a, b, c) refl
+
+  pub shape-0 : isValid g ≡ true → lengthsFit g sectors (length ws) (length ds) ≡ true → pointersBad g named ws ds ≡ false → 0 ≡ shapeNumber g named sectors ws ds
+  unfolding shapeNumber
+  shape-0 a b c = rw (a, b, c) refl
+
+  -- what passing them gives
+  three : (a b c : Bool) → verdictNumber (firstRefusal ((1, not a) ∷ (2, not b) ∷ (3, c) ∷ [])) ≡ 0 → (a ≡ true) × (b ≡ true) × (c ≡ false)
+  three true true false h = (refl, refl, refl)
+  three true true true h = absurd (omega arith)
+  three true false c h = absurd (omega arith)
+  three false b c h = absurd (omega arith)
+
+  pub shaped : shapeNumber g named sectors ws ds ≡ 0 → Valid g × (sectors ≡ totalBytes g) × (length ws ≡ cells g) × (pointersBad g named ws ds ≡ false)
+  unfolding shapeNumber
+  shaped h =
+      let (a, b, c) = three (isValid g) (lengthsFit g sectors (length ws) (length ds)) (pointersBad g named ws ds) h in
+      let (x, y, z) = lengths-are g sectors (length ws) (length ds) b in
+      (valid-if-test g a, x, y, c)
+
+module _ (g : Geometry) (here : List Bool) (v : Device) where
+  pub logs-4 : 1 < countBelow (λ d. not (isSet here d)) (g .drives) → 4 ≡ logNumber g here v
+  unfolding logNumber
+  logs-4 a = rw (lt-ltb 1 (countBelow (λ e. not (isSet here e)) (g .drives)) a) refl
+
+  module _ (one : countBelow (λ d. not (isSet here d)) (g .drives) ≤ 1) where
+    pub logs-5 : badLabels g (isSet here) v ≡ true → 5 ≡ logNumber g here v
+    unfolding logNumber
+    logs-5 b = rw (le-ltb 1 (countBelow (λ e. not (isSet here e)) (g .drives)) one, b) refl
+
+    pub logs-6 : badLabels g (isSet here) v ≡ false → badLogs g (isSet here) v ≡ true → 6 ≡ logNumber g here v
+    unfolding logNumber
+    logs-6 b c = rw (le-ltb 1 (countBelow (λ e. not (isSet here e)) (g .drives)) one, b, c) refl
+
+    pub logs-0 : badLabels g (isSet here) v ≡ false → badLogs g (isSet here) v ≡ false → 0 ≡ logNumber g here v
+    unfolding logNumber
+    logs-0 b c = rw (le-ltb 1 (countBelow (λ e. not (isSet here e)) (g .drives)) one, b, c) refl
+
+-- the look's refusal is that of the shape, else that of the logs
+after-three : (a b c : Bool) (rest : List (ℕ × Bool)) → verdictNumber (firstRefusal ((1, a) ∷ (2, b) ∷ (3, c) ∷ rest))
+    ≡ pick (eqb (verdictNumber (firstRefusal ((1, a) ∷ (2, b) ∷ (3, c) ∷ []))) 0) (verdictNumber (firstRefusal rest)) (verdictNumber (firstRefusal ((1, a) ∷ (2, b) ∷ (3, c) ∷ [])))
+after-three true b c rest = refl
+after-three false true c rest = refl
+after-three false false true rest = refl
+after-three false false false rest = refl
+
+module _ (g : Geometry) (named : List Bool) (xs ws ds : List ℕ) where
+  look-number : verdictNumber (lookVerdict g named (tablesOf xs ws ds)) ≡ pick (eqb (shapeNumber g named (length xs) ws ds) 0)
+      (verdictNumber (firstRefusal ((4, twoLost g (isSet named) (deviceOf g (tablesOf xs ws ds))) ∷ (5, badLabels g (isPresent g (isSet named) (deviceOf g (tablesOf xs ws ds))) (deviceOf g (tablesOf xs ws ds))) ∷ (6, badLogs g (isPresent g (isSet named) (deviceOf g (tablesOf xs ws ds))) (deviceOf g (tablesOf xs ws ds))) ∷ [])))
+      (shapeNumber g named (length xs) ws ds)
+  unfolding lookVerdict refusalOn lookRows shapeNumber
+  look-number = after-three (not (isValid g)) (not (lengthsFit g (length xs) (length ws) (length ds))) (pointersBad g named ws ds)
+      ((4, twoLost g (isSet named) (deviceOf g (tablesOf xs ws ds))) ∷ (5, badLabels g (isPresent g (isSet named) (deviceOf g (tablesOf xs ws ds))) (deviceOf g (tablesOf xs ws ds))) ∷ (6, badLogs g (isPresent g (isSet named) (deviceOf g (tablesOf xs ws ds))) (deviceOf g (tablesOf xs ws ds))) ∷ [])
+
+  pub look-shape : shapeNumber g named (length xs) ws ds ≢ 0 → shapeNumber g named (length xs) ws ds ≡ verdictNumber (lookVerdict g named (tablesOf xs ws ds))
+  look-shape h = sym (look-number ∙ rw (ne-eqb (shapeNumber g named (length xs) ws ds) 0 h) refl)
+
+  pub look-logs : (here : List Bool) → isSet here ≡ isPresent g (isSet named) (readDevice g xs ws) → shapeNumber g named (length xs) ws ds ≡ 0
+      → logNumber g here (readDevice g xs ws) ≡ verdictNumber (lookVerdict g named (tablesOf xs ws ds))
+  unfolding logNumber
+  look-logs here e h = sym (look-number ∙ rw (eq-eqb (shapeNumber g named (length xs) ws ds) 0 h, two-lost-read g xs ws ds (isSet named), present-read g xs ws ds (isSet named), labels-read g xs ws ds (isPresent g (isSet named) (readDevice g xs ws)), logs-read g xs ws ds (isPresent g (isSet named) (readDevice g xs ws)), e, sym (two-lost-is g named here (readDevice g xs ws) e)) refl)
+
+-- ---- what the deed needs: the tables' lengths, and that no written pointer of a drive that is here is past its zone's end
+pub record Lookable (g : Geometry) (here : List Bool) (xs ws : List ℕ) : Type 0 where
+  pub sectors-long : length xs ≡ totalBytes g
+  pub written-long : length ws ≡ cells g
+  pub pointers : (d y : ℕ) → d < g .drives → isSet here d ≡ true → y < physicalZones g → getD ws (cell g d y) 0 ≤ g .capacity
+
+pub lookable-zone : (g : Geometry) (here : List Bool) (xs ws : List ℕ) (z : ℕ) → Lookable g here xs ws → z < g .zones → Readable g here xs ws z
+lookable-zone g here xs ws z r h = record { zone-in = h; sectors-long = r .sectors-long; written-long = r .written-long; pointers = r .pointers }
+
+present-named : (g : Geometry) (named : ℕ → Bool) (v : Device) (d : ℕ) → isPresent g named v d ≡ true → named d ≡ true
+unfolding isPresent isLost
+present-named g named v d h =
+    let p = and-split (ltb d (g .drives)) (not (isLost g named v d)) h in
+    let q = or-none (not (named d)) _ (not-true (isLost g named v d) (p .1)) in
+    not-not (named d) (q .0)
+
+pub lookable : (g : Geometry) (named here : List Bool) (xs ws ds : List ℕ) → shapeNumber g named (length xs) ws ds ≡ 0 → isSet here ≡ isPresent g (isSet named) (readDevice g xs ws) → Lookable g here xs ws
+lookable g named here xs ws ds h e =
+    let (ok, a, b, c) = shaped g named (length xs) ws ds h in
+    record {
+      sectors-long = a;
+      written-long = b;
+      pointers = λ d y hd p hy. pointers-good g named ws ds d y c hd (present-named g (isSet named) (readDevice g xs ws) d (ap (λ (q : ℕ → Bool). q d) (sym e) ∙ p)) hy .0;
+    }
+
+-- ---- the outcome
+module _ (g : Geometry) (named : List Bool) (old : State) (xs ws ds : List ℕ) where
+  pub look-passed : verdictNumber (lookVerdict g named (tablesOf xs ws ds)) ≡ 0 → shapeNumber g named (length xs) ws ds ≡ 0
+  look-passed e = go (ℕ-discrete (shapeNumber g named (length xs) ws ds) 0)
+    where
+      go : Dec (shapeNumber g named (length xs) ws ds ≡ 0) → shapeNumber g named (length xs) ws ds ≡ 0
+      go (yes h) = h
+      go (no h) = look-shape g named xs ws ds h ∙ e
+
+  pub look-refused : (n : ℕ) → n ≡ verdictNumber (lookVerdict g named (tablesOf xs ws ds)) → n ≢ 0 → _≡_ {A = Outcome} (record { answer = Refused n; state = old }) (lookOn g named old (tablesOf xs ws ds))
+  unfolding lookOn
+  look-refused n e h = rw (← e, ne-eqb n 0 h) refl
+
+  -- what is shown, by the drives that are here
+  shown-here : (here : List Bool) → isSet here ≡ isPresent g (isSet named) (readDevice g xs ws)
+      → showing g (isSet here) (findBelow (λ d. not (isSet here d)) (g .drives)) (readDevice g xs ws) ≡ showing g (isPresent g (isSet named) (deviceOf g (tablesOf xs ws ds))) (lostDrive g (isSet named) (deviceOf g (tablesOf xs ws ds))) (deviceOf g (tablesOf xs ws ds))
+  shown-here here e =
+      ap₂ (λ (p : ℕ → Bool) (x : ℕ). showing g p x (readDevice g xs ws)) (e ∙ sym (present-read g xs ws ds (isSet named))) (lost-drive-is g named here (readDevice g xs ws) e ∙ sym (lost-drive-read g xs ws ds (isSet named)))
+      ∙ sym (shown-read g xs ws ds (isPresent g (isSet named) (deviceOf g (tablesOf xs ws ds))) (lostDrive g (isSet named) (deviceOf g (tablesOf xs ws ds))))
+
+  pub look-finished : verdictNumber (lookVerdict g named (tablesOf xs ws ds)) ≡ 0 → (here : List Bool) → isSet here ≡ isPresent g (isSet named) (readDevice g xs ws)
+      → (k : Look) → k ≡ lookOf g (showing g (isSet here) (findBelow (λ d. not (isSet here d)) (g .drives)) (readDevice g xs ws))
+      → _≡_ {A = Outcome} (record { answer = Finished; state = record { lost = k .lost; zones = recordsOf g (k .zones) } }) (lookOn g named old (tablesOf xs ws ds))
+  unfolding lookOn
+  look-finished z here e k q =
+      let a : _≡_ {A = State} (record { lost = k .lost; zones = recordsOf g (k .zones) }) (stateShown g (showing g (isPresent g (isSet named) (deviceOf g (tablesOf xs ws ds))) (lostDrive g (isSet named) (deviceOf g (tablesOf xs ws ds))) (deviceOf g (tablesOf xs ws ds)))) =
+      ap (λ (l : Look). record { lost = l .lost; zones = recordsOf g (l .zones) }) q
+      ∙ state-of-look g (showing g (isSet here) (findBelow (λ d. not (isSet here d)) (g .drives)) (readDevice g xs ws)) ∙ ap (stateShown g) (shown-here here e) in
+      rw (eq-eqb (verdictNumber (lookVerdict g named (tablesOf xs ws ds))) 0 z) (ap (λ (s : State). record { answer = Finished; state = s }) a)
+
+-- ---- where no pointer is bad, row 3 of the tables is row 3 of the device: the look's answer is the rules' (Answers: lookCall)
+pointer-fine : (g : Geometry) (named : List Bool) (xs ws ds : List ℕ) (d y : ℕ) → pointersBad g named ws ds ≡ false → d < g .drives → y < physicalZones g → isSet named d ≡ true
+    → ltb (g .capacity) (length (deviceOf g (tablesOf xs ws ds) d y .sectors)) || ltb (length (deviceOf g (tablesOf xs ws ds) d y .sectors)) (deviceOf g (tablesOf xs ws ds) d y .durable) ≡ false
+pointer-fine g named xs ws ds d y h hd hy here =
+    let (a, b) = pointers-good g named ws ds d y h hd here hy in
+    let p = device-pointer g (tablesOf xs ws ds) d y hd hy a in
+    let q = device-durable g (tablesOf xs ws ds) d y hd hy (omega (arith, a, b)) in
+    rw (p, q, le-ltb (g .capacity) (getD ws (cell g d y) 0) a, le-ltb (getD ws (cell g d y) 0) (getD ds (cell g d y) 0) b) refl
+
+pub pointers-fine : (g : Geometry) (named : List Bool) (xs ws ds : List ℕ) → pointersBad g named ws ds ≡ false → badPointers g (isSet named) (deviceOf g (tablesOf xs ws ds)) ≡ false
+unfolding badPointers
+pointers-fine g named xs ws ds h = none-any-below _ (g .drives) (λ d hd. go d hd (isSet named d) refl)
+  where
+    bad : ℕ → ℕ → Bool
+    bad d y = ltb (g .capacity) (length (deviceOf g (tablesOf xs ws ds) d y .sectors)) || ltb (length (deviceOf g (tablesOf xs ws ds) d y .sectors)) (deviceOf g (tablesOf xs ws ds) d y .durable)
+
+    go : (d : ℕ) → d < g .drives → (b : Bool) → isSet named d ≡ b → b && anyBelow (bad d) (physicalZones g) ≡ false
+    go d hd false e = refl
+    go d hd true e = none-any-below (bad d) (physicalZones g) (λ y hy. pointer-fine g named xs ws ds d y h hd hy e)
+
+pub look-verdict : (g : Geometry) (named : List Bool) (xs ws ds : List ℕ) → pointersBad g named ws ds ≡ false
+    → lookVerdict g named (tablesOf xs ws ds) ≡ firstRefusal (lookRows g (lengthsOf (tablesOf xs ws ds)) (isSet named) (deviceOf g (tablesOf xs ws ds)))
+unfolding lookVerdict refusalOn lookRows
+look-verdict g named xs ws ds h = rw (h, pointers-fine g named xs ws ds h) refl

@@ -1,0 +1,215 @@
+-- Each call as its contract states it: on the flat tables, with the code's own state and answers. The rules (Refusals, Calls, Mount) speak of the
+-- device that the tables stand for and of the state as `viewState` shows it; here they decide what is stored in the tables, and which
+-- state and answer are handed back.
+use mathlib.Core.Bool.{Bool, false}
+use Prim.Native.Nat.{suc, _-_, ℕ, _+_, zero}
+use mathlib.Core.List.{_++_, List, [], _∷_}
+use lib.ListN.{length, getD, set, replicate}
+use lib.Dec.{ltb, eqb}
+use Rattle.tables.specs.declared.Geometry.{Geometry}
+use Rattle.tables.specs.meaning.Basics.{pick}
+use Rattle.tables.specs.meaning.Device.{Store, flush, Device}
+use Rattle.tables.specs.meaning.Tables.{Tables, runStores, pointersBad, deviceOf, sectorAt}
+use Rattle.volume.specs.declared.Condition.the-variants.{Empty, Worn, Open}
+use Rattle.volume.specs.declared.ZoneRecord.{ZoneRecord}
+use Rattle.volume.specs.declared.State.{State}
+use Rattle.volume.specs.declared.Answer.{Answer}
+use Rattle.volume.specs.declared.Answer.the-variants.{Finished, Unfinished, Refused}
+use Rattle.volume.specs.declared.Outcome.{Outcome}
+use Rattle.volume.specs.meaning.State.{StateView, callPresent, pointerIn}
+use Rattle.volume.specs.meaning.Refusals.{Verdict, refuse, accept, firstRefusal, TableLengths, flushRows, resetRows, writeRows, zoneOf, offsetOf, formatRows, lookRows, mountRows, readRows, peekRows}
+use Rattle.volume.specs.meaning.Calls.{flushStores, resetStores, writeStores, formatStores}
+use Rattle.volume.specs.meaning.Answers.{lostIn, sectorsIn, leftOut, namedDrives, Place, placeOf}
+use Rattle.tables.specs.meaning.Below.{tabulate, tabulateFrom}
+use Rattle.logs.specs.meaning.Entry.{wornGeneration}
+use Rattle.volume.specs.meaning.Content.{at}
+use Rattle.volume.specs.meaning.Rules.{valueAt, ZoneShown, Shown, showing, isPresent, lostDrive}
+use Rattle.volume.specs.declared.ZoneLook.{ZoneLook}
+use Rattle.tables.specs.meaning.Lists.{concat}
+use Rattle.volume.specs.meaning.Mount.{withFlush, phasesBeforeEntries, entryStep, afterOpening, mountLook}
+
+-- ---- the state
+-- past its end the array of records is all empty
+abbrev pub blankRecord : ZoneRecord
+blankRecord = record { generation = 0; condition = Empty }
+
+abbrev pub recordAt : State → ℕ → ZoneRecord
+recordAt s z = getD (s .zones) z blankRecord
+
+-- as the rules see it
+abbrev pub viewState : State → StateView
+viewState s = record { lost = s .lost; generation = λ z. recordAt s z .generation; condition = λ z. recordAt s z .condition }
+
+-- the drives named, as the rules see them
+abbrev pub isSet : List Bool → ℕ → Bool
+isSet named d = getD named d false
+
+-- ---- answers, by document 01's numbers: 0 finished, 255 unfinished, else the refusal's number
+abbrev pub answerNumber : Answer → ℕ
+answerNumber Finished = 0
+answerNumber Unfinished = 255
+answerNumber (Refused n) = n
+
+-- the number of a refusal, 0 if there is none
+abbrev pub verdictNumber : Verdict → ℕ
+verdictNumber (refuse n) = n
+verdictNumber accept = 0
+
+-- the tables' lengths
+abbrev pub lengthsOf : Tables → TableLengths
+lengthsOf t = record { sectors = length (t .sectors); written = length (t .written); durable = length (t .durable) }
+
+-- ---- refusals: row 3 decided on the pointers
+abbrev pub decided : Bool → List (ℕ × Bool) → List (ℕ × Bool)
+decided bad [] = []
+decided bad ((n, b) ∷ rows) = (n, pick (eqb n 3) bad b) ∷ decided bad rows
+
+unfoldable pub refusalOn : Geometry → List Bool → Tables → List (ℕ × Bool) → Verdict
+refusalOn g named t rows = firstRefusal (decided (pointersBad g named (t .written) (t .durable)) rows)
+
+-- ---- a storing call: the outcome, and the tables that it leaves
+pub record Result : Type 0 where
+  pub outcome : Outcome
+  pub tables : Tables
+
+-- n: the refusal's number, 0 if there is none. Refused: nothing is stored and the state stays. Unfinished: the count stopped the stores, and the
+-- state stays. Finished: the new state.
+abbrev pub storingOn : Geometry → ℕ → List Store → State → State → ℕ → Tables → Result
+storingOn g n ss new old count t = record {
+  outcome = pick (eqb n 0) (pick (ltb count (length ss)) (record { answer = Unfinished; state = old }) (record { answer = Finished; state = new })) (record { answer = Refused n; state = old });
+  tables = pick (eqb n 0) (runStores g count ss t) t;
+}
+
+-- ==== flush
+unfoldable pub flushVerdict : Geometry → List Bool → State → Tables → Verdict
+flushVerdict g named s t = refusalOn g named t (flushRows g (lengthsOf t) (isSet named) (viewState s) (deviceOf g t))
+
+-- the state handed on: a drive left out of the call is lost
+abbrev pub withLost : State → ℕ → State
+withLost s x = record { lost = x; zones = s .zones }
+
+unfoldable pub flushOn : Geometry → List Bool → State → ℕ → Tables → Result
+flushOn g named s count t =
+    storingOn g (verdictNumber (flushVerdict g named s t)) (flushStores g (callPresent g (isSet named) (viewState s))) (withLost s (lostIn g (isSet named) (viewState s))) s count t
+
+-- ==== reset
+unfoldable pub resetVerdict : Geometry → List Bool → State → ℕ → Tables → Verdict
+resetVerdict g named s z t = refusalOn g named t (resetRows g (lengthsOf t) (isSet named) (viewState s) z (deviceOf g t))
+
+-- the zone's record afterwards: its generation raised; empty, or worn where that is now 2^64 − 1
+abbrev pub resetRecord : ZoneRecord → ZoneRecord
+resetRecord r = record { generation = suc (r .generation); condition = pick (eqb (suc (r .generation)) wornGeneration) (Worn zero) Empty }
+
+-- the state handed on (x: the drive left out, or 255)
+abbrev pub withReset : State → ℕ → ℕ → State
+withReset s z x = record { lost = x; zones = set (s .zones) z (resetRecord (recordAt s z)) }
+
+unfoldable pub resetOn : Geometry → List Bool → State → ℕ → ℕ → Tables → Result
+resetOn g named s z count t =
+    storingOn g (verdictNumber (resetVerdict g named s z t)) (resetStores g (callPresent g (isSet named) (viewState s)) (viewState s) z) (withReset s z (lostIn g (isSet named) (viewState s))) s count t
+
+-- ==== write: k sectors from address a
+unfoldable pub writeVerdict : Geometry → List Bool → State → ℕ → ℕ → ℕ → Tables → Verdict
+writeVerdict g named s a k bytes t = refusalOn g named t (writeRows g (lengthsOf t) (isSet named) (viewState s) a k bytes (deviceOf g t))
+
+-- the state handed on: the zone open at n, and a drive left out of the call is lost
+abbrev pub writtenState : State → ℕ → ℕ → ℕ → State
+writtenState s x z n = record { lost = x; zones = set (s .zones) z (record { generation = recordAt s z .generation; condition = Open n }) }
+
+-- the pointer of zone z in the state
+abbrev pub pointerOf : State → ℕ → ℕ
+pointerOf s z = pointerIn (recordAt s z .condition)
+
+unfoldable pub writeOn : Geometry → List Bool → State → ℕ → ℕ → List ℕ → ℕ → Tables → Result
+writeOn g named s a k buffer count t =
+    storingOn g (verdictNumber (writeVerdict g named s a k (length buffer) t)) (writeStores g (callPresent g (isSet named) (viewState s)) (deviceOf g t) (viewState s) (zoneOf g a) (sectorsIn g k buffer))
+    (writtenState s (lostIn g (isSet named) (viewState s)) (zoneOf g a) (pointerOf s (zoneOf g a) + k)) s count t
+
+-- ==== format
+unfoldable pub formatVerdict : Geometry → List Bool → Tables → Verdict
+formatVerdict g named t = refusalOn g named t (formatRows g (lengthsOf t) (isSet named) (deviceOf g t))
+
+abbrev pub freshRecord : ZoneRecord
+freshRecord = record { generation = 1; condition = Empty }
+
+-- the state handed on (x: the drive left out, or 255): all sixteen records alike
+unfoldable pub freshState : ℕ → State
+freshState x = record { lost = x; zones = replicate 16 freshRecord }
+
+-- old: what the host held before; a format neither reads nor changes it, and hands it back if it is refused or unfinished
+unfoldable pub formatOn : Geometry → List Bool → ℕ → State → ℕ → Tables → Result
+formatOn g named array old count t =
+    storingOn g (verdictNumber (formatVerdict g named t)) (formatStores g (namedDrives g (isSet named)) (leftOut g (isSet named)) array) (freshState (leftOut g (isSet named))) old count t
+
+-- ---- what is shown of a zone, as the code's record: all but the values
+abbrev pub zoneLookOf : ZoneShown → ZoneLook
+zoneLookOf s = record { generation = s .generation; condition = s .condition; pointer = s .pointer; «by_reset» = s .byReset; clean = s .clean }
+
+-- ---- the state that a look leaves; records past the last zone are blank
+abbrev pub recordFrom : ZoneLook → ZoneRecord
+recordFrom s = record { generation = s .generation; condition = s .condition }
+
+unfoldable pub stateShown : Geometry → Shown → State
+stateShown g k = record { lost = k .lost; zones = tabulate (λ z. recordFrom (zoneLookOf (k .zone z))) (g .zones) ++ replicate (16 - g .zones) blankRecord }
+
+-- ==== look
+unfoldable pub lookVerdict : Geometry → List Bool → Tables → Verdict
+lookVerdict g named t = refusalOn g named t (lookRows g (lengthsOf t) (isSet named) (deviceOf g t))
+
+-- refused: the state stays; else what is shown is the state from then on. Nothing is stored.
+unfoldable pub lookOn : Geometry → List Bool → State → Tables → Outcome
+lookOn g named old t =
+    pick (eqb (verdictNumber (lookVerdict g named t)) 0)
+    (record { answer = Finished; state = stateShown g (showing g (isPresent g (isSet named) (deviceOf g t)) (lostDrive g (isSet named) (deviceOf g t)) (deviceOf g t)) })
+    (record { answer = Refused (verdictNumber (lookVerdict g named t)); state = old })
+
+-- ==== mount
+unfoldable pub mountVerdict : Geometry → List Bool → Tables → Verdict
+mountVerdict g named t = refusalOn g named t (mountRows g (lengthsOf t) (isSet named) (deviceOf g t))
+
+-- the stores of steps 1 to 7, with the first flush
+unfoldable pub storesBefore : Geometry → (ℕ → Bool) → ℕ → Tables → List Store
+storesBefore g present x t = concat (phasesBeforeEntries g present x (mountLook g present x (deviceOf g t)) (afterOpening g present (deviceOf g t)))
+
+-- and of step 8, by what they have made of the tables
+unfoldable pub mountStoresOn : Geometry → (ℕ → Bool) → ℕ → Tables → List Store
+mountStoresOn g present x t =
+    storesBefore g present x t ++ concat (withFlush g present (entryStep g (mountLook g present x (deviceOf g t)) (deviceOf g (runStores g (length (storesBefore g present x t)) (storesBefore g present x t) t))))
+
+-- "It shows what a look shows after its last store"
+unfoldable pub mountShownOn : Geometry → (ℕ → Bool) → ℕ → Tables → State
+mountShownOn g present x t = stateShown g (showing g present x (deviceOf g (runStores g (length (mountStoresOn g present x t)) (mountStoresOn g present x t) t)))
+
+unfoldable pub mountOn : Geometry → List Bool → State → ℕ → Tables → Result
+mountOn g named old count t =
+    storingOn g (verdictNumber (mountVerdict g named t)) (mountStoresOn g (isPresent g (isSet named) (deviceOf g t)) (lostDrive g (isSet named) (deviceOf g t)) t)
+    (mountShownOn g (isPresent g (isSet named) (deviceOf g t)) (lostDrive g (isSet named) (deviceOf g t)) t) old count t
+
+-- ==== read: its answer, and its buffer
+unfoldable pub readNumber : Geometry → List Bool → State → ℕ → ℕ → ℕ → Tables → ℕ
+readNumber g named s a count len t = verdictNumber (refusalOn g named t (readRows g (lengthsOf t) (isSet named) (viewState s) a count len (deviceOf g t)))
+
+pub record ReadResult : Type 0 where
+  pub answer : Answer
+  pub buffer : List ℕ
+
+-- the values, sector after sector
+unfoldable pub valuesOn : Geometry → (ℕ → Bool) → Device → ℕ → ℕ → ℕ → ℕ → List ℕ
+valuesOn g present v z n offset count = concat (tabulateFrom (valueAt g present v z n) offset count)
+
+unfoldable pub readOn : Geometry → List Bool → State → ℕ → ℕ → List ℕ → Tables → ReadResult
+readOn g named s a count out t = record {
+  answer = pick (eqb (readNumber g named s a count (length out) t) 0) Finished (Refused (readNumber g named s a count (length out) t));
+  buffer = pick (eqb (readNumber g named s a count (length out) t) 0) (valuesOn g (callPresent g (isSet named) (viewState s)) (deviceOf g t) (zoneOf g a) (recordAt s (zoneOf g a) .generation) (offsetOf g a) count) out;
+}
+
+-- ==== peek
+unfoldable pub peekNumber : Geometry → List Bool → State → ℕ → Tables → ℕ
+peekNumber g named s a t = verdictNumber (refusalOn g named t (peekRows g (lengthsOf t) (isSet named) (viewState s) a (deviceOf g t)))
+
+abbrev pub partAt : Geometry → List ℕ → Place → List ℕ
+partAt g xs p = sectorAt g xs (p .drive) (p .zone) (p .sector)
+
+-- "gives the part of the lent sectors where that sector sits"; "a refused peek gives an empty part"
+unfoldable pub peekOn : Geometry → List Bool → State → ℕ → Tables → List ℕ
+peekOn g named s a t = pick (eqb (peekNumber g named s a t) 0) (partAt g (t .sectors) (placeOf g a)) []

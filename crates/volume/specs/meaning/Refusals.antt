@@ -1,0 +1,245 @@
+-- Document 01, "Refusals": when each call is refused, and by which number. "The least number that applies is given, and only under its
+-- condition." Each condition of the table is a definition, in the table's order; then each call lists the rows that it can meet.
+-- The device has no lengths of tables and buffers: refusal 2 takes them as numbers.
+use mathlib.Core.Bool.{Bool, true, false, _&&_, _||_, not}
+use Prim.Native.Nat.{ℕ, suc, _+_, _-_, _*_, _/_, _%_, min}
+use mathlib.Core.List.{List, [], _∷_}
+use lib.ListN.{length}
+use lib.Dec.{ltb, leb, eqb}
+use Rattle.tables.specs.meaning.Basics.{pick}
+use Rattle.tables.specs.meaning.Below.{anyBelow, countBelow, allBelow}
+use Rattle.tables.specs.meaning.Drives.{noDrive}
+use Rattle.tables.specs.meaning.Device.{Device}
+use Rattle.tables.specs.meaning.Placement.{needed, stripeOf, driveOf, sectorOf}
+use Rattle.tables.specs.declared.Geometry.{Geometry}
+use Rattle.tables.specs.meaning.Geometry.{stripeSectors, zoneSectors, physicalZones, dataZone}
+use Rattle.tables.specs.meaning.GeometryTest.{isValid}
+use Rattle.tables.specs.meaning.Tables.{lengthsFit, bufferFits}
+use Rattle.logs.specs.meaning.Entry.{generalZone, parityZone, wornGeneration}
+use Rattle.logs.specs.meaning.Walk.{Ending, atPointer, noEntry, torn}
+use Rattle.logs.specs.meaning.Heads.{labelled, arrayIn}
+use Rattle.volume.specs.declared.Condition.{Condition}
+use Rattle.volume.specs.declared.Condition.the-variants.{Empty, Open, Sealed, Worn}
+use Rattle.volume.specs.meaning.State.{pointerIn, isSealed, isWorn, StateView, callPresent}
+use Rattle.volume.specs.meaning.Content.{insideStripe, fillOf, parityDriveAt}
+use Rattle.volume.specs.meaning.Rules.{generalHeads, generalEnding, parityEnding, isLost, isPresent, known, heldAt, zoneView}
+
+pub data Verdict : Type 0 where
+  refuse : ℕ → Verdict
+  accept : Verdict
+
+-- "the least number that applies": the rows (number, condition) stand in ascending order
+abbrev pub firstRefusal : List (ℕ × Bool) → Verdict
+firstRefusal [] = accept
+firstRefusal ((n, b) ∷ rows) = pick b (refuse n) (firstRefusal rows)
+
+-- the lengths of the tables that the host hands over
+pub record TableLengths : Type 0 where
+  pub sectors : ℕ  -- in bytes
+  pub written : ℕ  -- in numbers
+  pub durable : ℕ  -- in numbers
+
+-- an address's zone, and where it lies in it: "a logical zone has (D − 1) × C sectors; zone z starts at z times that"
+abbrev pub zoneOf : Geometry → ℕ → ℕ
+zoneOf g a = a / zoneSectors g
+
+abbrev pub offsetOf : Geometry → ℕ → ℕ
+offsetOf g a = a % zoneSectors g
+
+-- ==== the table
+-- 1, geometry: "a bound above is broken" (isValid of the geometry), "by a lost drive or pointer in the state too": the lost drive is below
+-- D or 255, each zone's pointer is at most (D − 1) × C
+unfoldable pub stateWithin : Geometry → StateView → Bool
+stateWithin g state = (ltb (state .lost) (g .drives) || eqb (state .lost) noDrive) && allBelow (λ z. leb (pointerIn (state .condition z)) (zoneSectors g)) (g .zones)
+
+-- 2, length: "a lent table, or a buffer that isn't count × B" (bufferFits)
+abbrev pub tablesFit : Geometry → TableLengths → Bool
+tablesFit g t = lengthsFit g (t .sectors) (t .written) (t .durable)
+
+-- 3, pointer: "a named drive has written > C or durable > written"
+unfoldable pub badPointers : Geometry → (ℕ → Bool) → Device → Bool
+badPointers g named v = anyBelow (λ d. named d && anyBelow (λ y. ltb (g .capacity) (length (v d y .sectors)) || ltb (length (v d y .sectors)) (v d y .durable)) (physicalZones g)) (g .drives)
+
+-- 4, two lost: "more than one drive lost: in look and mount by rule 1 ..
+unfoldable pub twoLost : Geometry → (ℕ → Bool) → Device → Bool
+twoLost g named v = ltb 1 (countBelow (isLost g named v) (g .drives))
+
+-- .. else not named, or lost in the state"
+unfoldable pub twoAbsent : Geometry → (ℕ → Bool) → StateView → Bool
+twoAbsent g named state = ltb 1 (countBelow (λ d. not (callPresent g named state d)) (g .drives))
+
+-- a format has no state yet
+unfoldable pub twoUnnamed : Geometry → (ℕ → Bool) → Bool
+twoUnnamed g named = ltb 1 (countBelow (λ d. not (named d)) (g .drives))
+
+-- 5, label: "a present drive's general log doesn't begin with a legal label of its index, or two begin with different array numbers"
+unfoldable pub badLabels : Geometry → (ℕ → Bool) → Device → Bool
+badLabels g present v =
+    anyBelow (λ d. present d && (not (labelled (generalHeads g v d)) || anyBelow (λ e. present e && not (eqb (arrayIn (generalHeads g v d)) (arrayIn (generalHeads g v e)))) (g .drives))) (g .drives)
+
+-- 6, log: "a sector where a present drive's log should have an entry is no legal one, or rows pass C"
+abbrev pub isNoEntry : Ending → Bool
+isNoEntry atPointer = false
+isNoEntry noEntry = true
+isNoEntry (torn h rs) = false
+
+unfoldable pub badLogs : Geometry → (ℕ → Bool) → Device → Bool
+badLogs g present v = anyBelow (λ d. present d && (isNoEntry (generalEnding g v d) || isNoEntry (parityEnding g v d))) (g .drives)
+
+-- 7, stale: "a present drive's pointer in the named zone isn't what an empty or open state needs, or is below that when sealed or worn"
+abbrev pub staleIn : Condition → ℕ → ℕ → Bool
+staleIn Empty written needs = not (eqb written needs)
+staleIn (Open n) written needs = not (eqb written needs)
+staleIn (Sealed n) written needs = ltb written needs
+staleIn (Worn n) written needs = ltb written needs
+
+-- (it asks for a zone: where there is none the answer is 8)
+unfoldable pub stale : Geometry → (ℕ → Bool) → Device → StateView → ℕ → Bool
+stale g present v state z = ltb z (g .zones) && anyBelow (λ d. present d && staleIn (state .condition z) (length (v d (dataZone z) .sectors)) (needed (g .drives) (g .unit) z (pointerIn (state .condition z)) d)) (g .drives)
+
+-- 8, address: "no such zone or address"
+abbrev pub noZone : Geometry → ℕ → Bool
+noZone g z = not (ltb z (g .zones))
+
+-- 9, run: "count 0, or past the zone's end"
+abbrev pub badRun : Geometry → ℕ → ℕ → Bool
+badRun g offset count = eqb count 0 || ltb (zoneSectors g) (offset + count)
+
+-- 10, order: "write not at the pointer"
+abbrev pub badOrder : StateView → ℕ → ℕ → Bool
+badOrder state z offset = not (eqb offset (pointerIn (state .condition z)))
+
+-- 11, sealed: "write to a sealed zone": isSealed
+
+-- 12, worn: "write or reset of a worn zone"; a reset also where the state's generation is 2^64 − 1
+abbrev pub wornFor : StateView → ℕ → Bool
+wornFor state z = isWorn (state .condition z) || leb wornGeneration (state .generation z)
+
+-- 13, unwritten: "read or peek past the pointer"
+abbrev pub unwritten : StateView → ℕ → ℕ → ℕ → Bool
+unwritten state z offset count = ltb (pointerIn (state .condition z)) (offset + count)
+
+-- 14, log full, "where unused is the least over present drives": some present drive has fewer than n sectors of that log unused
+unfoldable pub unusedBelow : Geometry → (ℕ → Bool) → Device → ℕ → ℕ → Bool
+unusedBelow g present v log n = anyBelow (λ d. present d && ltb (g .capacity - length (v d log .sectors)) n) (g .drives)
+
+-- "L × (1 + U) + U"
+abbrev pub reserve : Geometry → ℕ
+reserve g = g .zones * (1 + g .unit) + g .unit
+
+-- "mount, general below L + 2 or parity below L × (1 + U) + U"
+abbrev pub mountFull : Geometry → (ℕ → Bool) → Device → Bool
+mountFull g present v = unusedBelow g present v generalZone (g .zones + 2) || unusedBelow g present v parityZone (reserve g)
+
+-- "reset, general below L + 4"
+abbrev pub resetFull : Geometry → (ℕ → Bool) → Device → Bool
+resetFull g present v = unusedBelow g present v generalZone (g .zones + 4)
+
+-- "write ending inside a stripe, the parity drive's log, if present, below its entry plus L × (1 + U) + U" (end: the pointer after it)
+unfoldable pub writeFull : Geometry → (ℕ → Bool) → Device → ℕ → ℕ → Bool
+writeFull g present v z end = insideStripe g end && (present (parityDriveAt g z end) && ltb (g .capacity - length (v (parityDriveAt g z end) parityZone .sectors)) (suc (min (fillOf g end) (g .unit)) + reserve g))
+
+-- 15, gone: "a sector needed is not known; in peek, not held"
+-- of the count sectors from offset (n: the state's generation)
+unfoldable pub goneIn : Geometry → (ℕ → Bool) → Device → ℕ → ℕ → ℕ → ℕ → Bool
+goneIn g present v z n offset count = anyBelow (λ i. not (known (g .drives) (g .unit) z (zoneView g present v z n) (offset + i))) count
+
+-- a write needs the earlier sectors of its first stripe where that stripe's parity drive is present
+unfoldable pub goneBefore : Geometry → (ℕ → Bool) → Device → ℕ → ℕ → ℕ → Bool
+goneBefore g present v z n pointer = present (parityDriveAt g z pointer) && goneIn g present v z n (stripeOf (g .drives) (g .unit) pointer * stripeSectors g) (fillOf g pointer)
+
+unfoldable pub notHeld : Geometry → (ℕ → Bool) → Device → ℕ → ℕ → ℕ → Bool
+notHeld g present v z n offset = not (heldAt (zoneView g present v z n) (driveOf (g .drives) (g .unit) z offset) (sectorOf (g .drives) (g .unit) offset))
+
+-- ==== the calls
+unfoldable pub formatRows : Geometry → TableLengths → (ℕ → Bool) → Device → List (ℕ × Bool)
+formatRows g t named v =
+    (1, not (isValid g))
+    ∷ (2, not (tablesFit g t))
+    ∷ (3, badPointers g named v)
+    ∷ (4, twoUnnamed g named)
+    ∷ []
+
+unfoldable pub lookRows : Geometry → TableLengths → (ℕ → Bool) → Device → List (ℕ × Bool)
+lookRows g t named v =
+    (1, not (isValid g))
+    ∷ (2, not (tablesFit g t))
+    ∷ (3, badPointers g named v)
+    ∷ (4, twoLost g named v)
+    ∷ (5, badLabels g (isPresent g named v) v)
+    ∷ (6, badLogs g (isPresent g named v) v)
+    ∷ []
+
+unfoldable pub mountRows : Geometry → TableLengths → (ℕ → Bool) → Device → List (ℕ × Bool)
+mountRows g t named v =
+    (1, not (isValid g))
+    ∷ (2, not (tablesFit g t))
+    ∷ (3, badPointers g named v)
+    ∷ (4, twoLost g named v)
+    ∷ (5, badLabels g (isPresent g named v) v)
+    ∷ (6, badLogs g (isPresent g named v) v)
+    ∷ (14, mountFull g (isPresent g named v) v)
+    ∷ []
+
+-- count sectors from address a, out of a buffer of len bytes
+unfoldable pub writeRows : Geometry → TableLengths → (ℕ → Bool) → StateView → ℕ → ℕ → ℕ → Device → List (ℕ × Bool)
+writeRows g t named state a count len v =
+    (1, not (isValid g && stateWithin g state))
+    ∷ (2, not (tablesFit g t && bufferFits g count len))
+    ∷ (3, badPointers g named v)
+    ∷ (4, twoAbsent g named state)
+    ∷ (7, stale g (callPresent g named state) v state (zoneOf g a))
+    ∷ (8, noZone g (zoneOf g a))
+    ∷ (9, badRun g (offsetOf g a) count)
+    ∷ (10, badOrder state (zoneOf g a) (offsetOf g a))
+    ∷ (11, isSealed (state .condition (zoneOf g a)))
+    ∷ (12, isWorn (state .condition (zoneOf g a)))
+    ∷ (14, writeFull g (callPresent g named state) v (zoneOf g a) (pointerIn (state .condition (zoneOf g a)) + count))
+    ∷ (15, goneBefore g (callPresent g named state) v (zoneOf g a) (state .generation (zoneOf g a)) (pointerIn (state .condition (zoneOf g a))))
+    ∷ []
+
+unfoldable pub flushRows : Geometry → TableLengths → (ℕ → Bool) → StateView → Device → List (ℕ × Bool)
+flushRows g t named state v =
+    (1, not (isValid g && stateWithin g state))
+    ∷ (2, not (tablesFit g t))
+    ∷ (3, badPointers g named v)
+    ∷ (4, twoAbsent g named state)
+    ∷ []
+
+unfoldable pub resetRows : Geometry → TableLengths → (ℕ → Bool) → StateView → ℕ → Device → List (ℕ × Bool)
+resetRows g t named state z v =
+    (1, not (isValid g && stateWithin g state))
+    ∷ (2, not (tablesFit g t))
+    ∷ (3, badPointers g named v)
+    ∷ (4, twoAbsent g named state)
+    ∷ (7, stale g (callPresent g named state) v state z)
+    ∷ (8, noZone g z)
+    ∷ (12, wornFor state z)
+    ∷ (14, resetFull g (callPresent g named state) v)
+    ∷ []
+
+-- count sectors from address a, into a buffer of len bytes
+unfoldable pub readRows : Geometry → TableLengths → (ℕ → Bool) → StateView → ℕ → ℕ → ℕ → Device → List (ℕ × Bool)
+readRows g t named state a count len v =
+    (1, not (isValid g && stateWithin g state))
+    ∷ (2, not (tablesFit g t && bufferFits g count len))
+    ∷ (3, badPointers g named v)
+    ∷ (4, twoAbsent g named state)
+    ∷ (7, stale g (callPresent g named state) v state (zoneOf g a))
+    ∷ (8, noZone g (zoneOf g a))
+    ∷ (9, badRun g (offsetOf g a) count)
+    ∷ (13, unwritten state (zoneOf g a) (offsetOf g a) count)
+    ∷ (15, goneIn g (callPresent g named state) v (zoneOf g a) (state .generation (zoneOf g a)) (offsetOf g a) count)
+    ∷ []
+
+unfoldable pub peekRows : Geometry → TableLengths → (ℕ → Bool) → StateView → ℕ → Device → List (ℕ × Bool)
+peekRows g t named state a v =
+    (1, not (isValid g && stateWithin g state))
+    ∷ (2, not (tablesFit g t))
+    ∷ (3, badPointers g named v)
+    ∷ (4, twoAbsent g named state)
+    ∷ (7, stale g (callPresent g named state) v state (zoneOf g a))
+    ∷ (8, noZone g (zoneOf g a))
+    ∷ (13, unwritten state (zoneOf g a) (offsetOf g a) 1)
+    ∷ (15, notHeld g (callPresent g named state) v (zoneOf g a) (state .generation (zoneOf g a)) (offsetOf g a))
+    ∷ []

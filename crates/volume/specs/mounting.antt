@@ -1,0 +1,17 @@
+pub mod LookAgrees
+pub mod MountFillOn
+pub mod MountGenerations
+pub mod MountHeaders
+pub mod MountLastEntries
+pub mod MountLook
+pub mod MountParityRows
+pub mod MountResets
+pub mod MountRestoring
+pub mod MountRows
+pub mod MountStart
+pub mod MountSteps
+pub mod MountTables
+pub mod MountTornLogs
+pub mod MountValues
+pub mod Mounting
+pub mod RestoreAgrees

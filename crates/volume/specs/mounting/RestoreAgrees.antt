@@ -1,0 +1,92 @@
+-- Steps 6 to 8 of a mount as the code makes them are the rules': what is shown, with the values read below the look's pointers, is the mount's look.
+use mathlib.Core.Path.{_≡_, refl, sym, ap, _∙_, fun-ext}
+use mathlib.Core.Bool.{Bool, true, false}
+use Prim.Native.Nat.{ℕ, zero, suc, _-_, _<_, min}
+use mathlib.Core.List.{List, [], _∷_}
+use lib.ListN.{length, getD}
+use lib.Dec.{eqb}
+use Rattle.tables.specs.declared.Geometry.{Geometry}
+use Rattle.tables.specs.meaning.Basics.{pick}
+use Rattle.tables.specs.meaning.Below.{tabulateFrom}
+use Rattle.tables.specs.meaning.Placement.{needed}
+use Rattle.tables.specs.meaning.Device.{Device, ZoneView, Store, flush, applyAll}
+use Rattle.tables.specs.laws.Device.{apply-all-append}
+use Rattle.tables.specs.meaning.Phases.{onPresent, flushAll}
+use Rattle.tables.specs.laws.Phases.{on-present-append}
+use Rattle.logs.specs.meaning.Entry.{parityZone, label, counters, zoneReset, partialParity, seal}
+use Rattle.logs.specs.laws.Entry.{decode-legal}
+use Rattle.logs.specs.code.Judge.{partial-small}
+use Rattle.logs.specs.meaning.Walk.{Ending, atPointer, noEntry, torn, walkLog}
+use Rattle.logs.specs.laws.Places.{EndsAt, walk-places}
+use Rattle.volume.specs.meaning.Content.{contentAt}
+use Rattle.volume.specs.meaning.Calls.{appendAll}
+use Rattle.volume.specs.meaning.Rules.{Shown, ZoneShown, parityEnding, showing}
+use Rattle.volume.specs.looking.Looking.{sectorsOnly, shown-sectors}
+use Rattle.volume.specs.meaning.Mount.{rowFor, missingRows, tornRowStep, fillStep, entryStep, afterOpening, mountLook}
+use Rattle.volume.specs.mounting.LookAgrees.{each-below-cong}
+use Rattle.tables.specs.meaning.Geometry.{dataZone}
+
+-- ---- what is shown of the volume's zones decides them
+module _ (g : Geometry) (s t : Shown) (same : (z : ℕ) → z < g .zones → s .zone z ≡ t .zone z) where
+  pub fill-told : (w : Device) → fillStep g s w ≡ fillStep g t w
+  unfolding fillStep
+  fill-told w = each-below-cong _ _ (g .drives) (λ d hd. each-below-cong _ _ (g .zones) (λ z hz. rw (same z hz) refl))
+
+  pub entries-told : (u : Device) → entryStep g s u ≡ entryStep g t u
+  unfolding entryStep
+  entries-told u = each-below-cong _ _ (g .drives) (λ d hd. each-below-cong _ _ (g .zones) (λ z hz. rw (same z hz) refl))
+
+  -- a torn entry is of a zone of the volume
+  rows-told : (d : ℕ) (ss : List (List ℕ)) (l : Ending) (x : ℕ) → EndsAt g d true ss l x → missingRows g s l ≡ missingRows g t l
+  rows-told d ss atPointer x e = refl
+  rows-told d ss noEntry x e = refl
+  rows-told d ss (torn (label y a) rs) x e = refl
+  rows-told d ss (torn (counters cs) rs) x e = refl
+  rows-told d ss (torn (zoneReset z n) rs) x e = refl
+  rows-told d ss (torn (partialParity z i f n) rs) x e =
+      ap (λ (q : ZoneShown). tabulateFrom (rowFor g q i f n) (length rs) (min f (g .unit) - length rs)) (same z (partial-small g d true z i f n (decode-legal g d true (getD ss x []) (partialParity z i f n) (e .1) .1) .0))
+  rows-told d ss (torn (seal z p n) rs) x e = refl
+
+  pub torn-told : (w : Device) → tornRowStep g s w ≡ tornRowStep g t w
+  unfolding tornRowStep parityEnding
+  torn-told w = each-below-cong _ _ (g .drives) (λ d hd. ap (appendAll d parityZone) (rows-told d (w d parityZone .sectors) (walkLog g d true (w d parityZone .sectors) .last) _ (walk-places g d true (w d parityZone .sectors) .left)))
+
+-- ---- they read sectors alone
+module _ (g : Geometry) (v w : Device) (same : (d z : ℕ) → v d z .sectors ≡ w d z .sectors) where
+  pub torn-same : (s : Shown) → tornRowStep g s v ≡ tornRowStep g s w
+  unfolding tornRowStep parityEnding
+  torn-same s = each-below-cong _ _ (g .drives) (λ d hd. ap (λ (ss : List (List ℕ)). appendAll d parityZone (missingRows g s (walkLog g d true ss .last))) (same d parityZone))
+
+  pub fill-same : (s : Shown) → fillStep g s v ≡ fillStep g s w
+  unfolding fillStep
+  fill-same s = each-below-cong _ _ (g .drives) (λ d hd. each-below-cong _ _ (g .zones) (λ z hz.
+      ap (λ (ss : List (List ℕ)). appendAll d (dataZone z) (tabulateFrom (contentAt (g .drives) (g .unit) z (s .zone z .value) d) (length ss) (needed (g .drives) (g .unit) z (s .zone z .pointer) d - length ss))) (same d (dataZone z))))
+
+  pub shown-same : (present : ℕ → Bool) (x : ℕ) → showing g present x v ≡ showing g present x w
+  shown-same present x =
+      let e : sectorsOnly v ≡ sectorsOnly w = fun-ext λ d. fun-ext λ z. ap (λ (ss : List (List ℕ)). let r : ZoneView = record { sectors = ss; durable = 0 } in r) (same d z) in
+      shown-sectors g present x v ∙ ap (showing g present x) e ∙ sym (shown-sectors g present x w)
+
+-- ---- the first flush keeps all sectors
+flush-sectors : (a : ℕ → Bool) (n : ℕ) (v : Device) (d z : ℕ) → applyAll (onPresent a (flushAll n)) v d z .sectors ≡ v d z .sectors
+flush-sectors a zero v d z = refl
+flush-sectors a (suc n) v d z =
+    ap (λ (ss : List Store). applyAll ss v d z .sectors) (on-present-append a (flushAll n) (flush n ∷ []))
+    ∙ ap (λ (w : Device). w d z .sectors) (apply-all-append (onPresent a (flushAll n)) (onPresent a (flush n ∷ [])) v)
+    ∙ one (a n) (applyAll (onPresent a (flushAll n)) v) ∙ flush-sectors a n v d z
+  where
+    pointed : (b : Bool) (x : ZoneView) → pick b (record { sectors = x .sectors; durable = length (x .sectors) }) x .sectors ≡ x .sectors
+    pointed true x = refl
+    pointed false x = refl
+
+    one : (b : Bool) (w : Device) → applyAll (pick b (flush n ∷ []) []) w d z .sectors ≡ w d z .sectors
+    one true w = pointed (eqb d n) (w d z)
+    one false w = refl
+
+pub opening-sectors : (g : Geometry) (a : ℕ → Bool) (v : Device) (d z : ℕ) → afterOpening g a v d z .sectors ≡ v d z .sectors
+unfolding afterOpening
+opening-sectors g a v d z = flush-sectors a (g .drives) v d z
+
+pub mount-look-is : (g : Geometry) (a : ℕ → Bool) (x : ℕ) (v w : Device) → ((d z : ℕ) → v d z .sectors ≡ w d z .sectors) → mountLook g a x v ≡ showing g a x w
+unfolding mountLook
+mount-look-is g a x v w e = shown-same g (afterOpening g a v) w (λ d z. opening-sectors g a v d z ∙ e d z) a x

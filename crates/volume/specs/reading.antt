@@ -1,0 +1,3 @@
+pub mod Peeking
+pub mod Reading
+pub mod ReadingHeld

@@ -1,0 +1,118 @@
+-- Peek on the tables, and the laws by which its refusal is proved.
+use mathlib.Core.Path.{_≡_, refl, sym, ap, ap₂, _∙_}
+use mathlib.Core.Logic.{_≢_}
+use mathlib.Core.Bool.{Bool, true, false, _&&_, not}
+use Prim.Native.Nat.{ℕ, _+_, _*_, _<_}
+use native.Mathlib.Omega.{arith}
+use mathlib.Core.List.{List, [], _∷_, _++_}
+use lib.ListN.{length}
+use lib.Dec.{eqb}
+use borrow.Author.Tests.{eq-eqb, ne-eqb}
+use Rattle.tables.specs.declared.Geometry.{Geometry}
+use Rattle.tables.specs.meaning.Basics.{pick}
+use Rattle.tables.specs.meaning.Geometry.{Valid}
+use Rattle.tables.specs.meaning.GeometryTest.{isValid}
+use Rattle.tables.specs.meaning.Placement.{driveOf, sectorOf}
+use Rattle.tables.specs.laws.Placement.{drive-below}
+use Rattle.tables.specs.meaning.Device.{Device}
+use Rattle.tables.specs.meaning.Tables.{lengthsFit, bufferFits, pointersBad, Tables, tablesOf, deviceOf}
+use Rattle.volume.specs.declared.State.{State}
+use Rattle.volume.specs.meaning.State.{StateView, callPresent}
+use Rattle.volume.specs.meaning.Rules.{View, heldAt}
+use Rattle.volume.specs.meaning.Refusals.{firstRefusal, stateWithin, twoAbsent, stale, noZone, unwritten, notHeld, zoneOf, offsetOf, peekRows}
+use Rattle.volume.specs.meaning.Answers.{placeOf}
+use Rattle.volume.specs.meaning.CallContracts.{viewState, isSet, verdictNumber, refusalOn, peekNumber, partAt, peekOn}
+use Rattle.volume.specs.checks.CheckLaws.{presentList, present-is, absent-two, openingNumber, Opened, opened, after-four}
+use Rattle.volume.specs.looking.Knowing.{readDevice, Readable, ownHeld}
+use Rattle.volume.specs.looking.KnowingLaws.{view-durable, held-is}
+use Rattle.volume.specs.reading.Reading.{zoneRows, zoneNumber, after-two, three, zone-on-in, second-is}
+
+-- ---- the rows after those of its zone
+abbrev pub placeRows : Geometry → (ℕ → Bool) → Device → StateView → ℕ → ℕ → List (ℕ × Bool)
+placeRows g present v state z offset = (13, unwritten state z offset 1) ∷ (15, notHeld g present v z (state .generation z) offset) ∷ []
+
+unfoldable pub placeNumber : Geometry → (ℕ → Bool) → Device → StateView → ℕ → ℕ → ℕ
+placeNumber g present v state z offset = verdictNumber (firstRefusal (placeRows g present v state z offset))
+
+-- on the written pointers
+unfoldable pub placeNumberOn : Geometry → List Bool → List ℕ → State → ℕ → ℕ → ℕ
+placeNumberOn g here ws s z offset = pick (unwritten (viewState s) z offset 1) 13 (pick (ownHeld g here ws z offset) 0 15)
+
+-- ---- laws
+pub place-number-is : (g : Geometry) (here : List Bool) (xs ws : List ℕ) (z : ℕ) (s : State) (offset : ℕ) → Valid g → Readable g here xs ws z → placeNumberOn g here ws s z offset ≡ placeNumber g (isSet here) (readDevice g xs ws) (viewState s) z offset
+unfolding placeNumber placeNumberOn notHeld
+place-number-is g here xs ws z s offset ok r =
+    rw (held-is g here xs ws z r (viewState s .generation z) (driveOf (g .drives) (g .unit) z offset) (sectorOf (g .drives) (g .unit) offset) (drive-below (g .drives) (g .unit) z (omega (arith, ok .drives-least)) (ok .unit-least) offset))
+    (go (unwritten (viewState s) z offset 1) (ownHeld g here ws z offset))
+  where
+    go : (a b : Bool) → pick a 13 (pick b 0 15) ≡ verdictNumber (firstRefusal ((13, a) ∷ (15, not b) ∷ []))
+    go true b = refl
+    go false true = refl
+    go false false = refl
+
+place-durable : (g : Geometry) (present : ℕ → Bool) (xs ws ds : List ℕ) (s : StateView) (z offset : ℕ) → placeNumber g present (deviceOf g (tablesOf xs ws ds)) s z offset ≡ placeNumber g present (readDevice g xs ws) s z offset
+unfolding placeNumber notHeld
+place-durable g present xs ws ds s z offset =
+    ap (λ (v : View). verdictNumber (firstRefusal ((13, unwritten s z offset 1) ∷ (15, not (heldAt v (driveOf (g .drives) (g .unit) z offset) (sectorOf (g .drives) (g .unit) offset))) ∷ []))) (view-durable g present xs ws ds z (s .generation z))
+
+and-true : (a : Bool) → a && true ≡ a
+and-true true = refl
+and-true false = refl
+
+no-buffer : (g : Geometry) → bufferFits g 0 0 ≡ true
+unfolding bufferFits
+no-buffer g = eq-eqb 0 (0 * g .sector) (omega arith)
+
+module _ (g : Geometry) (named : List Bool) (s : State) (a : ℕ) (xs ws ds : List ℕ) where
+  abbrev first : ℕ
+  first = openingNumber g named s 0 0 (length xs) ws ds
+
+  abbrev second : ℕ
+  second = zoneNumber g (callPresent g (isSet named) (viewState s)) (deviceOf g (tablesOf xs ws ds)) (viewState s) (zoneOf g a)
+
+  abbrev third : ℕ
+  third = placeNumber g (callPresent g (isSet named) (viewState s)) (deviceOf g (tablesOf xs ws ds)) (viewState s) (zoneOf g a) (offsetOf g a)
+
+  pub peek-number-is : peekNumber g named s a (tablesOf xs ws ds) ≡ pick (eqb first 0) (pick (eqb second 0) third second) first
+  unfolding peekNumber refusalOn peekRows openingNumber zoneNumber placeNumber
+  peek-number-is =
+      rw (absent-two g named s, no-buffer g, and-true (lengthsFit g (length xs) (length ws) (length ds))) (after-four (not (isValid g && stateWithin g (viewState s))) (not (lengthsFit g (length xs) (length ws) (length ds))) (pointersBad g named ws ds) (twoAbsent g (isSet named) (viewState s))
+      (zoneRows g (callPresent g (isSet named) (viewState s)) (deviceOf g (tablesOf xs ws ds)) (viewState s) (zoneOf g a) ++ placeRows g (callPresent g (isSet named) (viewState s)) (deviceOf g (tablesOf xs ws ds)) (viewState s) (zoneOf g a) (offsetOf g a))
+      ∙ ap (λ (n : ℕ). pick (eqb (verdictNumber (firstRefusal ((1, not (isValid g && stateWithin g (viewState s))) ∷ (2, not (lengthsFit g (length xs) (length ws) (length ds))) ∷ (3, pointersBad g named ws ds) ∷ (4, twoAbsent g (isSet named) (viewState s)) ∷ []))) 0) n (verdictNumber (firstRefusal ((1, not (isValid g && stateWithin g (viewState s))) ∷ (2, not (lengthsFit g (length xs) (length ws) (length ds))) ∷ (3, pointersBad g named ws ds) ∷ (4, twoAbsent g (isSet named) (viewState s)) ∷ []))))
+      (after-two (stale g (callPresent g (isSet named) (viewState s)) (deviceOf g (tablesOf xs ws ds)) (viewState s) (zoneOf g a)) (noZone g (zoneOf g a)) (placeRows g (callPresent g (isSet named) (viewState s)) (deviceOf g (tablesOf xs ws ds)) (viewState s) (zoneOf g a) (offsetOf g a))))
+
+  -- the number, case by case
+  pub peek-first : first ≢ 0 → first ≡ peekNumber g named s a (tablesOf xs ws ds)
+  peek-first h = sym (peek-number-is ∙ ap (λ (b : Bool). pick b (pick (eqb second 0) third second) first) (ne-eqb first 0 h))
+
+  pub peek-second : first ≡ 0 → second ≢ 0 → second ≡ peekNumber g named s a (tablesOf xs ws ds)
+  peek-second e h = sym (peek-number-is ∙ ap₂ (λ (b c : Bool). pick b (pick c third second) first) (eq-eqb first 0 e) (ne-eqb second 0 h))
+
+  pub peek-third : first ≡ 0 → second ≡ 0 → third ≡ peekNumber g named s a (tablesOf xs ws ds)
+  peek-third e f = sym (peek-number-is ∙ ap₂ (λ (b c : Bool). pick b (pick c third second) first) (eq-eqb first 0 e) (eq-eqb second 0 f))
+
+  pub place-is : Valid g → Readable g (presentList g named (s .lost)) xs ws (zoneOf g a) → placeNumberOn g (presentList g named (s .lost)) ws s (zoneOf g a) (offsetOf g a) ≡ third
+  place-is ok r =
+      place-number-is g (presentList g named (s .lost)) xs ws (zoneOf g a) s (offsetOf g a) ok r
+      ∙ ap (λ (p : ℕ → Bool). placeNumber g p (readDevice g xs ws) (viewState s) (zoneOf g a) (offsetOf g a)) (present-is g named s)
+      ∙ sym (place-durable g (callPresent g (isSet named) (viewState s)) xs ws ds (viewState s) (zoneOf g a) (offsetOf g a))
+
+  -- what an accepted peek may rely on
+  pub record PeekFits : Type 0 where
+    pub passed : Opened g named s 0 0 (length xs) ws ds
+    pub zone-in : zoneOf g a < g .zones
+
+  pub peek-accepted : peekNumber g named s a (tablesOf xs ws ds) ≡ 0 → PeekFits
+  peek-accepted h =
+      let (p, q, t) = three first second third (sym peek-number-is ∙ h) in
+      let o = opened g named s 0 0 (length xs) ws ds p in
+      record { passed = o; zone-in = zone-on-in g (presentList g named (s .lost)) ws s (zoneOf g a) (second-is g named s a 0 0 xs ws ds o ∙ q) }
+
+-- ---- how a peek ends
+pub peek-refused : (g : Geometry) (named : List Bool) (s : State) (a : ℕ) (t : Tables) → peekNumber g named s a t ≢ 0 → [] ≡ peekOn g named s a t
+unfolding peekOn
+peek-refused g named s a t h = rw (ne-eqb (peekNumber g named s a t) 0 h) refl
+
+pub peek-done : (g : Geometry) (named : List Bool) (s : State) (a : ℕ) (t : Tables) → peekNumber g named s a t ≡ 0 → partAt g (t .sectors) (placeOf g a) ≡ peekOn g named s a t
+unfolding peekOn
+peek-done g named s a t h = rw (eq-eqb (peekNumber g named s a t) 0 h) refl

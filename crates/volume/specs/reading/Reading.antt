@@ -1,0 +1,277 @@
+-- Read and peek on the tables, and the laws by which their loops and refusals are proved.
+use mathlib.Core.Path.{_≡_, refl, sym, ap, ap₂, _∙_}
+use mathlib.Core.Logic.{_≢_}
+use mathlib.Core.Bool.{Bool, true, false, _&&_, _||_, not}
+use Prim.Native.Nat.{ℕ, suc, _+_, _-_, _*_, _≤_, _<_}
+use native.Mathlib.Nat.{mul-le-mul, mul-le-mul-right, suc-mul}
+use native.Mathlib.Numerals.{add-one}
+use native.Mathlib.Decide.{decLt, ℕ-discrete}
+use native.Mathlib.Omega.{arith}
+use mathlib.Core.List.{List, [], _∷_, _++_, append-assoc, append-nil}
+use lib.ListN.{length, getD, take, drop, length-append, length-drop}
+use lib.Seq.{take-at, take-all, length-take-le}
+use lib.Dec.{ltb, leb, eqb}
+use borrow.Author.Tests.{lt-ltb, le-ltb, ltb-true, ltb-false, leb-true, eqb-true, eq-eqb, ne-eqb}
+use Rattle.tables.specs.declared.Geometry.{Geometry}
+use Rattle.tables.specs.meaning.Basics.{pick}
+use Rattle.tables.specs.laws.Basics.{and-split, or-none}
+use Rattle.tables.specs.meaning.Below.{anyBelow, allBelow, tabulateFrom}
+use Rattle.tables.specs.laws.Below.{all-below-all, any-below-cong, tabulate-from-add, tabulate-from-cong}
+use Rattle.tables.specs.meaning.Lists.{concat}
+use Rattle.tables.specs.laws.Lists.{concat-append}
+use Rattle.tables.specs.meaning.Geometry.{Valid, zoneSectors, dataZone}
+use Rattle.tables.specs.laws.Sizes.{zone-small}
+use Rattle.tables.specs.meaning.Placement.{needed}
+use Rattle.tables.specs.meaning.Device.{Device}
+use Rattle.tables.specs.meaning.Tables.{lengthsFit, bufferFits, pointersBad, Tables, tablesOf, deviceOf, cell}
+use Rattle.volume.specs.declared.State.{State}
+use Rattle.volume.specs.declared.Answer.the-variants.{Finished, Refused}
+use Rattle.volume.specs.meaning.State.{pointerIn, StateView, callPresent}
+use Rattle.volume.specs.meaning.Rules.{View, valueOf, known, valueAt}
+use Rattle.volume.specs.checks.ZoneChecks.{staleOn, Reached, reached}
+use Rattle.volume.specs.meaning.Refusals.{stateWithin, twoAbsent, firstRefusal, staleIn, stale, noZone, badRun, unwritten, goneIn, zoneOf, offsetOf, readRows}
+use Rattle.tables.specs.meaning.Drives.{noDrive}
+use Rattle.tables.specs.meaning.GeometryTest.{isValid}
+use Rattle.tables.specs.laws.TablesFrame.{lengths-are, pointers-good}
+use Rattle.volume.specs.checks.CheckLaws.{presentList, present-is, absent-two, openingNumber, Opened, opened, after-four}
+use Rattle.volume.specs.meaning.CallContracts.{recordAt, viewState, isSet, verdictNumber, refusalOn, readNumber, valuesOn, readOn}
+use Rattle.volume.specs.looking.Knowing.{readDevice, Readable, ownHeld, allHeld, ownSector}
+use Rattle.volume.specs.looking.KnowingLaws.{sectors-alike, view-durable, written-is}
+use Rattle.volume.specs.looking.KnowingValues.{value-held}
+
+-- ---- the rows after the opening: of a zone, and of count sectors from offset in it
+abbrev pub zoneRows : Geometry → (ℕ → Bool) → Device → StateView → ℕ → List (ℕ × Bool)
+zoneRows g present v state z = (7, stale g present v state z) ∷ (8, noZone g z) ∷ []
+
+abbrev pub runRows : Geometry → (ℕ → Bool) → Device → StateView → ℕ → ℕ → ℕ → List (ℕ × Bool)
+runRows g present v state z offset count = (9, badRun g offset count) ∷ (13, unwritten state z offset count) ∷ (15, goneIn g present v z (state .generation z) offset count) ∷ []
+
+unfoldable pub zoneNumber : Geometry → (ℕ → Bool) → Device → StateView → ℕ → ℕ
+zoneNumber g present v state z = verdictNumber (firstRefusal (zoneRows g present v state z))
+
+unfoldable pub runNumber : Geometry → (ℕ → Bool) → Device → StateView → ℕ → ℕ → ℕ → ℕ
+runNumber g present v state z offset count = verdictNumber (firstRefusal (runRows g present v state z offset count))
+
+-- refusals 7 and 8 on the written pointers
+unfoldable pub zoneNumberOn : Geometry → List Bool → List ℕ → State → ℕ → ℕ
+zoneNumberOn g here ws s z = pick (ltb z (g .zones)) (pick (staleOn g (isSet here) ws (recordAt s z .condition) z) 7 0) 8
+
+-- what refusal 1 gives of the state
+pub record StateFits (g : Geometry) (s : State) : Type 0 where
+  pub pointers : (z : ℕ) → z < g .zones → pointerIn (recordAt s z .condition) ≤ zoneSectors g
+
+-- ---- a buffer filled sector after sector
+pub run-small : (g : Geometry) (offset count i : ℕ) → Valid g → offset + count ≤ zoneSectors g → i < count → (i * g .sector + g .sector ≤ count * g .sector) × (count * g .sector ≤ 1879048192)
+run-small g offset count i ok h l =
+    let m : suc i * g .sector ≤ count * g .sector = mul-le-mul-right (g .sector) l in
+    let k : count * g .sector ≤ 458752 * 4096 = mul-le-mul {n₂ = 458752} {m₂ = 4096} (omega (arith, h, zone-small g ok .1)) (ok .sector-most) in
+    (omega (arith, rw suc-mul at m), omega arith)
+
+pub part-long : (b i n : ℕ) (out : List ℕ) → i * b + b ≤ n → length out ≡ n → length (take (i * b + b - i * b) (drop (i * b) out)) ≡ b
+part-long b i n out h e =
+    let k : i * b + b - i * b ≡ b = omega arith in
+    rw k (length-take-le b (drop (i * b) out) (rw length-drop (omega arith)))
+
+pub filled-more : (b i n offset : ℕ) (f : ℕ → List ℕ) (out v rest : List ℕ) → i * b + b ≤ n → length out ≡ n → length v ≡ b → v ≡ f (offset + i) → take (i * b) out ≡ concat (tabulateFrom f offset i)
+    → take ((i + 1) * b) (take (i * b) out ++ (v ++ rest)) ≡ concat (tabulateFrom f offset (i + 1))
+filled-more b i n offset f out v rest h e l q t =
+    let k : length (take (i * b) out ++ v) ≡ (i + 1) * b = length-append (take (i * b) out) v ∙ ap₂ (λ (x y : ℕ). x + y) (length-take-le (i * b) out (omega arith)) l ∙ (rw (add-one, suc-mul) (omega arith)) in
+    ap (take ((i + 1) * b)) (sym (append-assoc (take (i * b) out) v rest)) ∙ take-at (take (i * b) out ++ v) rest ((i + 1) * b) k
+    ∙ ap₂ (λ (x y : List ℕ). x ++ y) t (q ∙ sym (append-nil (f (offset + i))))
+    ∙ sym (ap concat (tabulate-from-add f offset i 1) ∙ concat-append (tabulateFrom f offset i) (f (offset + i) ∷ []))
+
+pub filled-all : (b count offset : ℕ) (f : ℕ → List ℕ) (out : List ℕ) → length out ≡ count * b → take (count * b) out ≡ concat (tabulateFrom f offset count) → out ≡ concat (tabulateFrom f offset count)
+filled-all b count offset f out e t = sym (take-all (count * b) out (omega arith)) ∙ t
+
+module _ (g : Geometry) (here : List Bool) (xs ws : List ℕ) (z : ℕ) (r : Readable g here xs ws z) where
+  -- ---- a zone that exists is stale on the device exactly if it is so on the tables
+  pub stale-is : (s : State) → stale g (isSet here) (readDevice g xs ws) (viewState s) z ≡ staleOn g (isSet here) ws (recordAt s z .condition) z
+  unfolding stale staleOn
+  stale-is s =
+      ap (λ (b : Bool). b && anyBelow (λ d. isSet here d && staleIn (recordAt s z .condition) (length (readDevice g xs ws d (dataZone z) .sectors)) (needed (g .drives) (g .unit) z (pointerIn (recordAt s z .condition)) d)) (g .drives)) (lt-ltb z (g .zones) (r .zone-in))
+      ∙ any-below-cong (λ d. isSet here d && staleIn (recordAt s z .condition) (length (readDevice g xs ws d (dataZone z) .sectors)) (needed (g .drives) (g .unit) z (pointerIn (recordAt s z .condition)) d))
+      (λ d. isSet here d && staleIn (recordAt s z .condition) (getD ws (cell g d (dataZone z)) 0) (needed (g .drives) (g .unit) z (pointerIn (recordAt s z .condition)) d)) (g .drives) (λ d hd. at d hd (isSet here d) refl)
+    where
+      at : (d : ℕ) → d < g .drives → (b : Bool) → isSet here d ≡ b
+          → b && staleIn (recordAt s z .condition) (length (readDevice g xs ws d (dataZone z) .sectors)) (needed (g .drives) (g .unit) z (pointerIn (recordAt s z .condition)) d)
+          ≡ b && staleIn (recordAt s z .condition) (getD ws (cell g d (dataZone z)) 0) (needed (g .drives) (g .unit) z (pointerIn (recordAt s z .condition)) d)
+      at d hd true e = ap (λ (n : ℕ). staleIn (recordAt s z .condition) n (needed (g .drives) (g .unit) z (pointerIn (recordAt s z .condition)) d)) (written-is g here xs ws z r d (dataZone z) hd e (omega (arith, r .zone-in)))
+      at d hd false e = refl
+
+  pub held-values : (n offset count : ℕ) → Valid g → offset + count ≤ zoneSectors g → allHeld g here ws z offset count ≡ true
+      → concat (tabulateFrom (ownSector g xs z) offset count) ≡ valuesOn g (isSet here) (readDevice g xs ws) z n offset count
+  unfolding valuesOn
+  held-values n offset count ok m h =
+      ap concat (tabulate-from-cong (ownSector g xs z) (valueAt g (isSet here) (readDevice g xs ws) z n) offset offset count
+      (λ i l. sym (value-held g here xs ws z r ok n (offset + i) (omega (arith, l, m)) (all-below-all (λ i. ownHeld g here ws z (offset + i)) count i h l))))
+
+  pub zone-number-is : (s : State) → zoneNumber g (isSet here) (readDevice g xs ws) (viewState s) z ≡ zoneNumberOn g here ws s z
+  unfolding zoneNumber zoneNumberOn
+  zone-number-is s = rw (stale-is s, lt-ltb z (g .zones) (r .zone-in)) (go (staleOn g (isSet here) ws (recordAt s z .condition) z))
+    where
+      go : (b : Bool) → verdictNumber (firstRefusal ((7, b) ∷ (8, false) ∷ [])) ≡ pick b 7 0
+      go true = refl
+      go false = refl
+
+-- ---- what the opening gives
+pub state-fits : (g : Geometry) (s : State) → stateWithin g (viewState s) ≡ true → StateFits g s
+unfolding stateWithin
+state-fits g s h =
+    let q = and-split (ltb (s .lost) (g .drives) || eqb (s .lost) noDrive) (allBelow (λ z. leb (pointerIn (recordAt s z .condition)) (zoneSectors g)) (g .zones)) h .1 in
+    record { pointers = λ z l. leb-true (pointerIn (recordAt s z .condition)) (zoneSectors g) (all-below-all (λ z. leb (pointerIn (recordAt s z .condition)) (zoneSectors g)) (g .zones) z q l) }
+
+present-named : (g : Geometry) (named : List Bool) (s : State) (d : ℕ) → isSet (presentList g named (s .lost)) d ≡ true → isSet named d ≡ true
+unfolding callPresent
+present-named g named s d h =
+    let k : ltb d (g .drives) && (isSet named d && not (eqb d (s .lost))) ≡ true = sym (ap (λ (p : ℕ → Bool). p d) (present-is g named s)) ∙ h in
+    and-split (isSet named d) (not (eqb d (s .lost))) (and-split (ltb d (g .drives)) (isSet named d && not (eqb d (s .lost))) k .1) .0
+
+pub opened-readable : (g : Geometry) (named : List Bool) (s : State) (count bytes : ℕ) (xs ws ds : List ℕ) (z : ℕ) → Opened g named s count bytes (length xs) ws ds → z < g .zones → Readable g (presentList g named (s .lost)) xs ws z
+opened-readable g named s count bytes xs ws ds z o h =
+    let l = lengths-are g (length xs) (length ws) (length ds) (o .lengths) in
+    record {
+      zone-in = h;
+      sectors-long = l .0;
+      written-long = l .1;
+      pointers = λ d y hd e hy. pointers-good g named ws ds d y (o .pointers) hd (present-named g named s d e) hy .0;
+    }
+
+pub buffer-long : (g : Geometry) (count bytes : ℕ) → bufferFits g count bytes ≡ true → bytes ≡ count * g .sector
+unfolding bufferFits
+buffer-long g count bytes h = eqb-true bytes (count * g .sector) h
+
+-- ---- no durable pointer is looked at
+stale-durable : (g : Geometry) (present : ℕ → Bool) (xs ws ds : List ℕ) (s : StateView) (z : ℕ) → stale g present (deviceOf g (tablesOf xs ws ds)) s z ≡ stale g present (readDevice g xs ws) s z
+unfolding stale
+stale-durable g present xs ws ds s z i = ltb z (g .zones) && anyBelow (λ d. present d && staleIn (s .condition z) (length (sectors-alike g xs ws ds d (dataZone z) i)) (needed (g .drives) (g .unit) z (pointerIn (s .condition z)) d)) (g .drives)
+
+pub zone-durable : (g : Geometry) (present : ℕ → Bool) (xs ws ds : List ℕ) (s : StateView) (z : ℕ) → zoneNumber g present (deviceOf g (tablesOf xs ws ds)) s z ≡ zoneNumber g present (readDevice g xs ws) s z
+unfolding zoneNumber
+zone-durable g present xs ws ds s z = ap (λ (b : Bool). verdictNumber (firstRefusal ((7, b) ∷ (8, noZone g z) ∷ []))) (stale-durable g present xs ws ds s z)
+
+pub run-durable : (g : Geometry) (present : ℕ → Bool) (xs ws ds : List ℕ) (s : StateView) (z offset count : ℕ) → runNumber g present (deviceOf g (tablesOf xs ws ds)) s z offset count ≡ runNumber g present (readDevice g xs ws) s z offset count
+unfolding runNumber goneIn
+run-durable g present xs ws ds s z offset count =
+    ap (λ (v : View). verdictNumber (firstRefusal ((9, badRun g offset count) ∷ (13, unwritten s z offset count) ∷ (15, anyBelow (λ i. not (known (g .drives) (g .unit) z v (offset + i))) count) ∷ []))) (view-durable g present xs ws ds z (s .generation z))
+
+pub values-durable : (g : Geometry) (present : ℕ → Bool) (xs ws ds : List ℕ) (z n offset count : ℕ) → valuesOn g present (deviceOf g (tablesOf xs ws ds)) z n offset count ≡ valuesOn g present (readDevice g xs ws) z n offset count
+unfolding valuesOn valueAt
+values-durable g present xs ws ds z n offset count = ap (λ (v : View). concat (tabulateFrom (valueOf (g .drives) (g .unit) z v) offset count)) (view-durable g present xs ws ds z n)
+
+-- ---- the rows of a read: the opening's, its zone's, its run's
+pub after-two : (a b : Bool) (rest : List (ℕ × Bool)) → verdictNumber (firstRefusal ((7, a) ∷ (8, b) ∷ rest))
+    ≡ pick (eqb (verdictNumber (firstRefusal ((7, a) ∷ (8, b) ∷ []))) 0) (verdictNumber (firstRefusal rest)) (verdictNumber (firstRefusal ((7, a) ∷ (8, b) ∷ [])))
+after-two true b rest = refl
+after-two false true rest = refl
+after-two false false rest = refl
+
+pub three : (a b c : ℕ) → pick (eqb a 0) (pick (eqb b 0) c b) a ≡ 0 → (a ≡ 0) × (b ≡ 0) × (c ≡ 0)
+three a b c h = go (ℕ-discrete a 0) (ℕ-discrete b 0)
+  where
+    go : Dec (a ≡ 0) → Dec (b ≡ 0) → (a ≡ 0) × (b ≡ 0) × (c ≡ 0)
+    go (yes p) (yes q) = (p, q, rw (eq-eqb a 0 p, eq-eqb b 0 q) at h)
+    go (yes p) (no q) = absurd (q (rw (eq-eqb a 0 p, ne-eqb b 0 q) at h))
+    go (no p) q = absurd (p (rw (ne-eqb a 0 p) at h))
+
+run-none : (a b c : Bool) → verdictNumber (firstRefusal ((9, a) ∷ (13, b) ∷ (15, c) ∷ [])) ≡ 0 → (a ≡ false) × (b ≡ false) × (c ≡ false)
+run-none false false false h = (refl, refl, refl)
+run-none false false true h = absurd (omega arith)
+run-none false true c h = absurd (omega arith)
+run-none true b c h = absurd (omega arith)
+
+pub zone-on-in : (g : Geometry) (here : List Bool) (ws : List ℕ) (s : State) (z : ℕ) → zoneNumberOn g here ws s z ≡ 0 → z < g .zones
+unfolding zoneNumberOn
+zone-on-in g here ws s z h = go (ltb z (g .zones)) refl h
+  where
+    go : (b : Bool) → ltb z (g .zones) ≡ b → _≡_ {A = ℕ} (pick b (pick (staleOn g (isSet here) ws (recordAt s z .condition) z) 7 0) 8) 0 → z < g .zones
+    go true e k = ltb-true z (g .zones) e
+    go false e k = absurd (omega (arith, k))
+
+pub zone-on-fresh : (g : Geometry) (here : List Bool) (ws : List ℕ) (s : State) (z : ℕ) → zoneNumberOn g here ws s z ≡ 0 → staleOn g (isSet here) ws (recordAt s z .condition) z ≡ false
+unfolding zoneNumberOn
+zone-on-fresh g here ws s z h = go (staleOn g (isSet here) ws (recordAt s z .condition) z) (rw (lt-ltb z (g .zones) (zone-on-in g here ws s z h)) at h)
+  where
+    go : (b : Bool) → _≡_ {A = ℕ} (pick b 7 0) 0 → b ≡ false
+    go true k = absurd (omega (arith, k))
+    go false k = refl
+
+module _ (g : Geometry) (named : List Bool) (s : State) (a count bytes : ℕ) (xs ws ds : List ℕ) where
+  abbrev first : ℕ
+  first = openingNumber g named s count bytes (length xs) ws ds
+
+  abbrev second : ℕ
+  second = zoneNumber g (callPresent g (isSet named) (viewState s)) (deviceOf g (tablesOf xs ws ds)) (viewState s) (zoneOf g a)
+
+  abbrev third : ℕ
+  third = runNumber g (callPresent g (isSet named) (viewState s)) (deviceOf g (tablesOf xs ws ds)) (viewState s) (zoneOf g a) (offsetOf g a) count
+
+  pub read-number-is : readNumber g named s a count bytes (tablesOf xs ws ds) ≡ pick (eqb first 0) (pick (eqb second 0) third second) first
+  unfolding readNumber refusalOn readRows openingNumber zoneNumber runNumber
+  read-number-is =
+      rw (absent-two g named s) (after-four (not (isValid g && stateWithin g (viewState s))) (not (lengthsFit g (length xs) (length ws) (length ds) && bufferFits g count bytes)) (pointersBad g named ws ds) (twoAbsent g (isSet named) (viewState s))
+      (zoneRows g (callPresent g (isSet named) (viewState s)) (deviceOf g (tablesOf xs ws ds)) (viewState s) (zoneOf g a) ++ runRows g (callPresent g (isSet named) (viewState s)) (deviceOf g (tablesOf xs ws ds)) (viewState s) (zoneOf g a) (offsetOf g a) count)
+      ∙ ap (λ (n : ℕ). pick (eqb (verdictNumber (firstRefusal ((1, not (isValid g && stateWithin g (viewState s))) ∷ (2, not (lengthsFit g (length xs) (length ws) (length ds) && bufferFits g count bytes)) ∷ (3, pointersBad g named ws ds) ∷ (4, twoAbsent g (isSet named) (viewState s)) ∷ []))) 0) n (verdictNumber (firstRefusal ((1, not (isValid g && stateWithin g (viewState s))) ∷ (2, not (lengthsFit g (length xs) (length ws) (length ds) && bufferFits g count bytes)) ∷ (3, pointersBad g named ws ds) ∷ (4, twoAbsent g (isSet named) (viewState s)) ∷ []))))
+      (after-two (stale g (callPresent g (isSet named) (viewState s)) (deviceOf g (tablesOf xs ws ds)) (viewState s) (zoneOf g a)) (noZone g (zoneOf g a)) (runRows g (callPresent g (isSet named) (viewState s)) (deviceOf g (tablesOf xs ws ds)) (viewState s) (zoneOf g a) (offsetOf g a) count)))
+
+  -- the number, case by case
+  pub read-first : first ≢ 0 → first ≡ readNumber g named s a count bytes (tablesOf xs ws ds)
+  read-first h = sym (read-number-is ∙ ap (λ (b : Bool). pick b (pick (eqb second 0) third second) first) (ne-eqb first 0 h))
+
+  pub read-second : first ≡ 0 → second ≢ 0 → second ≡ readNumber g named s a count bytes (tablesOf xs ws ds)
+  read-second e h = sym (read-number-is ∙ ap₂ (λ (b c : Bool). pick b (pick c third second) first) (eq-eqb first 0 e) (ne-eqb second 0 h))
+
+  pub read-third : first ≡ 0 → second ≡ 0 → third ≡ readNumber g named s a count bytes (tablesOf xs ws ds)
+  read-third e f = sym (read-number-is ∙ ap₂ (λ (b c : Bool). pick b (pick c third second) first) (eq-eqb first 0 e) (eq-eqb second 0 f))
+
+  -- as the code decides them
+  pub second-is : Opened g named s count bytes (length xs) ws ds → zoneNumberOn g (presentList g named (s .lost)) ws s (zoneOf g a) ≡ second
+  unfolding zoneNumber zoneNumberOn stale
+  second-is o = go (decLt (zoneOf g a) (g .zones))
+    where
+      go : Dec (zoneOf g a < g .zones) → zoneNumberOn g (presentList g named (s .lost)) ws s (zoneOf g a) ≡ zoneNumber g (callPresent g (isSet named) (viewState s)) (deviceOf g (tablesOf xs ws ds)) (viewState s) (zoneOf g a)
+      go (yes h) =
+          sym (zone-number-is g (presentList g named (s .lost)) xs ws (zoneOf g a) (opened-readable g named s count bytes xs ws ds (zoneOf g a) o h) s)
+          ∙ ap (λ (p : ℕ → Bool). zoneNumber g p (readDevice g xs ws) (viewState s) (zoneOf g a)) (present-is g named s)
+          ∙ sym (zone-durable g (callPresent g (isSet named) (viewState s)) xs ws ds (viewState s) (zoneOf g a))
+      go (no h) = rw (le-ltb (zoneOf g a) (g .zones) (omega arith)) refl
+
+  pub third-is : runNumber g (isSet (presentList g named (s .lost))) (readDevice g xs ws) (viewState s) (zoneOf g a) (offsetOf g a) count ≡ third
+  third-is =
+      ap (λ (p : ℕ → Bool). runNumber g p (readDevice g xs ws) (viewState s) (zoneOf g a) (offsetOf g a) count) (present-is g named s)
+      ∙ sym (run-durable g (callPresent g (isSet named) (viewState s)) xs ws ds (viewState s) (zoneOf g a) (offsetOf g a) count)
+
+  -- what an accepted read may rely on
+  pub record ReadFits : Type 0 where
+    pub passed : Opened g named s count bytes (length xs) ws ds
+    pub zone-in : zoneOf g a < g .zones
+    pub run-in : offsetOf g a + count ≤ zoneSectors g
+    pub reached-here : Reached g (presentList g named (s .lost)) ws (zoneOf g a) (pointerIn (recordAt s (zoneOf g a) .condition))
+    pub run-written : offsetOf g a + count ≤ pointerIn (recordAt s (zoneOf g a) .condition)
+    pub none-gone : goneIn g (isSet (presentList g named (s .lost))) (readDevice g xs ws) (zoneOf g a) (recordAt s (zoneOf g a) .generation) (offsetOf g a) count ≡ false
+
+  pub read-accepted : readNumber g named s a count bytes (tablesOf xs ws ds) ≡ 0 → ReadFits
+  unfolding runNumber
+  read-accepted h =
+      let (p, q, t) = three first second third (sym read-number-is ∙ h) in
+      let o = opened g named s count bytes (length xs) ws ds p in
+      let z = zone-on-in g (presentList g named (s .lost)) ws s (zoneOf g a) (second-is o ∙ q) in
+      let (u, v, w) = run-none (badRun g (offsetOf g a) count) (unwritten (viewState s) (zoneOf g a) (offsetOf g a) count) (goneIn g (isSet (presentList g named (s .lost))) (readDevice g xs ws) (zoneOf g a) (recordAt s (zoneOf g a) .generation) (offsetOf g a) count) (third-is ∙ t) in
+      record {
+        passed = o;
+        zone-in = z;
+        run-in = ltb-false (zoneSectors g) (offsetOf g a + count) (or-none (eqb count 0) (ltb (zoneSectors g) (offsetOf g a + count)) u .1);
+        reached-here = reached g (presentList g named (s .lost)) ws (recordAt s (zoneOf g a) .condition) (zoneOf g a) (o .drives) (zone-on-fresh g (presentList g named (s .lost)) ws s (zoneOf g a) (second-is o ∙ q));
+        run-written = ltb-false (pointerIn (recordAt s (zoneOf g a) .condition)) (offsetOf g a + count) v;
+        none-gone = w;
+      }
+
+-- ---- how a read ends
+module _ (g : Geometry) (named : List Bool) (s : State) (a count : ℕ) (out : List ℕ) (t : Tables) where
+  pub read-refused : readNumber g named s a count (length out) t ≢ 0 → (readOn g named s a count out t .answer ≡ Refused (readNumber g named s a count (length out) t)) × (readOn g named s a count out t .buffer ≡ out)
+  unfolding readOn
+  read-refused h = rw (ne-eqb (readNumber g named s a count (length out) t) 0 h) (refl, refl)
+
+  pub read-done : readNumber g named s a count (length out) t ≡ 0 → (readOn g named s a count out t .answer ≡ Finished)
+      × (readOn g named s a count out t .buffer ≡ valuesOn g (callPresent g (isSet named) (viewState s)) (deviceOf g t) (zoneOf g a) (recordAt s (zoneOf g a) .generation) (offsetOf g a) count)
+  unfolding readOn
+  read-done h = rw (eq-eqb (readNumber g named s a count (length out) t) 0 h) (refl, refl)

@@ -1,0 +1,14 @@
+use mathlib.Core.Path.{refl}
+use borrow.Author.Needs.{needs}
+use Rattle.zrv.specs.meaning.EdgeCalls.{shapeOf}
+use Rattle.zrv.proofs.input.shape.Statement.{statement}
+use Rattle.zrv.proofs.input.shape.Tie as tie
+
+returns : tie.Need-returns
+unfolding shapeOf
+returns c = refl
+
+pub shape-spec : {M : Type 1} → statement M
+shape-spec =
+    tie.close
+    (tie.spec returns)

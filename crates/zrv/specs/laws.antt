@@ -1,0 +1,4 @@
+pub mod Bytes
+pub mod EdgeCalls
+pub mod RoundTrips
+pub mod StateRoundTrip

@@ -1,0 +1,186 @@
+-- Laws of the C edge, one for each step of a call: what its input's test gives, what it is made on, what is refused before it, what it hands back.
+use mathlib.Core.Path.{_≡_, refl, ap, _∙_}
+use mathlib.Core.Logic.{_≢_}
+use mathlib.Core.Bool.{Bool, true, false, _&&_}
+use Prim.Native.Nat.{ℕ, _-_, _*_, _≤_}
+use native.Mathlib.Omega.{arith}
+use mathlib.Core.List.{List}
+use lib.ListN.{length, take, drop, replicate}
+use lib.Seq.{length-take-le}
+use lib.Dec.{eqb}
+use borrow.Author.Tests.{eq-eqb, ne-eqb, eqb-true}
+use Rattle.tables.specs.declared.Geometry.{Geometry}
+use Rattle.tables.specs.meaning.Basics.{pick}
+use Rattle.tables.specs.laws.Basics.{and-split}
+use Rattle.tables.specs.meaning.Geometry.{Valid, cells}
+use Rattle.tables.specs.meaning.GeometryTest.{isValid}
+use Rattle.tables.specs.laws.GeometryTest.{valid-if-test}
+use Rattle.tables.specs.meaning.Tables.{Tables, tablesOf}
+use Rattle.volume.specs.declared.Answer.{Answer}
+use Rattle.volume.specs.declared.Outcome.{Outcome}
+use Rattle.volume.specs.declared.State.{State}
+use Rattle.volume.specs.meaning.CallContracts.{answerNumber, Result, ReadResult, peekNumber, peekOn}
+use Rattle.volume.specs.reading.Peeking.{peek-done}
+use Rattle.tables.specs.meaning.LittleEndian.{bytesLE}
+use Rattle.zrv.specs.declared.Request.{Request}
+use Rattle.zrv.specs.meaning.Bytes.{tableTo, stateTo}
+use Rattle.zrv.specs.meaning.EdgeCalls.{namedOf, sizesFit, stateBad, inputNumber, sizesNumber, stateAfter, Ranges, ranges, Answered, answered, unlessRefused, handedBack, storedAll, storedAppends, storedFlushes, readAnswer, offsetAt, placeAnswer, placeSized}
+
+-- ---- the input
+-- what passing its test gives
+pub record Sized (g : Geometry) (n w d : ℕ) : Type 0 where
+  pub valid : Valid g
+  pub state-long : n ≡ 264
+  pub written-long : w ≡ cells g * 4
+  pub durable-long : d ≡ cells g * 4
+
+-- what a call is made on: i, where nothing is refused, holds it; s the state that it reads, n, w and d the lengths of its ranges
+pub record Ready (g : Geometry) (mask : ℕ) (s : State) (n w d : ℕ) (i : Request) : Type 0 where
+  pub sized : Sized g n w d
+  pub cells-are : i .cells ≡ cells g
+  pub drives-are : i .drives ≡ namedOf mask
+  pub state-is : i .state ≡ s
+
+-- k: the number of what is refused
+pub record Opened (g : Geometry) (mask k : ℕ) (s : State) (n w d : ℕ) (i : Request) : Type 0 where
+  pub number : i .refusal ≡ k
+  pub small : i .cells ≤ 152
+  pub ready : i .refusal ≡ 0 → Ready g mask s n w d i
+
+sized : (g : Geometry) (n w d : ℕ) → isValid g ≡ true → sizesFit g n w d ≡ true → Sized g n w d
+unfolding sizesFit
+sized g n w d v h =
+    let (a, q) = and-split (eqb n 264) (eqb w (cells g * 4) && eqb d (cells g * 4)) h in
+    let (b, e) = and-split (eqb w (cells g * 4)) (eqb d (cells g * 4)) q in
+    record { valid = valid-if-test g v; state-long = eqb-true n 264 a; written-long = eqb-true w (cells g * 4) b; durable-long = eqb-true d (cells g * 4) e }
+
+pub input-passed : (g : Geometry) (st : List ℕ) (w d : ℕ) → inputNumber g st w d ≡ 0 → Sized g (length st) w d
+unfolding inputNumber
+input-passed g st w d h = let (a, b) = by (isValid g) (stateBad g st) (sizesFit g (length st) w d) h in sized g (length st) w d a b
+  where
+    by : (a b e : Bool) → _≡_ {A = ℕ} (pick a (pick b 1 (pick e 0 2)) 1) 0 → (a ≡ true) × (e ≡ true)
+    by true true e k = absurd (omega arith)
+    by true false true k = (refl, refl)
+    by true false false k = absurd (omega arith)
+    by false b e k = absurd (omega arith)
+
+pub sizes-passed : (g : Geometry) (n w d : ℕ) → sizesNumber g n w d ≡ 0 → Sized g n w d
+unfolding sizesNumber
+sizes-passed g n w d h = let (a, b) = by (isValid g) (sizesFit g n w d) h in sized g n w d a b
+  where
+    by : (a e : Bool) → _≡_ {A = ℕ} (pick a (pick e 0 2) 1) 0 → (a ≡ true) × (e ≡ true)
+    by true true k = (refl, refl)
+    by true false k = absurd (omega arith)
+    by false e k = absurd (omega arith)
+
+module _ {g : Geometry} {mask k : ℕ} {s : State} {n w d : ℕ} {i : Request} (e : i .refusal ≡ k) where
+  pub opened-refused : i .refusal ≢ 0 → i .cells ≤ 152 → Opened g mask k s n w d i
+  opened-refused h l = record { number = e; small = l; ready = λ z. absurd (h z) }
+
+  pub opened-ready : Sized g n w d → (i .cells ≡ cells g) × (i .cells ≤ 152) → i .drives ≡ namedOf mask → i .state ≡ s → Opened g mask k s n w d i
+  opened-ready q c h r = record { number = e; small = c .1; ready = λ z. record { sized = q; cells-are = c .0; drives-are = h; state-is = r } }
+
+-- ---- the tables
+-- what reading them needs: the bytes' lengths, and scratch for the two tables
+pub record Scratch (g : Geometry) (wb db w d : List ℕ) : Type 0 where
+  pub written-long : length wb ≡ cells g * 4
+  pub durable-long : length db ≡ cells g * 4
+  pub scratch-written : length w ≡ cells g
+  pub scratch-durable : length d ≡ cells g
+
+-- a part of an array of 152 numbers
+pub part-long : (n : ℕ) → n ≤ 152 → length {A = ℕ} (take n (replicate 152 0)) ≡ n
+part-long n h = length-take-le n (replicate 152 0) h
+
+-- the scratch is parts of two such arrays
+pub scratch-fits : {g : Geometry} {mask k n : ℕ} {s : State} (wb db : List ℕ) {i : Request} → Opened g mask k s n (length wb) (length db) i → i .refusal ≡ 0
+    → Scratch g wb db (take (i .cells) (replicate 152 0)) (take (i .cells) (replicate 152 0))
+scratch-fits wb db {i} o z =
+    let r = o .ready z in
+    let e = part-long (i .cells) (o .small) ∙ r .cells-are in
+    record { written-long = r .sized .written-long; durable-long = r .sized .durable-long; scratch-written = e; scratch-durable = e }
+
+-- ---- what is handed back
+module _ (g : Geometry) (o : Outcome) (st : List ℕ) where
+  pub state-kept : answerNumber (o .answer) ≢ 0 → st ≡ stateAfter g o st
+  unfolding stateAfter
+  state-kept h = rw (ne-eqb (answerNumber (o .answer)) 0 h) refl
+
+  pub state-new : answerNumber (o .answer) ≡ 0 → stateTo (g .zones) (o .state) ≡ stateAfter g o st
+  unfolding stateAfter
+  state-new h = rw (eq-eqb (answerNumber (o .answer)) 0 h) refl
+
+-- ---- the call
+module _ {A : Type 0} (n : ℕ) (r : Answered A) (a : A) where
+  -- refused before it
+  pub refused : n ≢ 0 → answered n a ≡ unlessRefused n r a
+  unfolding unlessRefused
+  refused h = rw (ne-eqb n 0 h) refl
+
+  pub made : n ≡ 0 → r ≡ unlessRefused n r a
+  unfolding unlessRefused
+  made h = rw (eq-eqb n 0 h) refl
+
+-- the code's outcome and tables are the definition's: r; handed back: h; m: the ranges before
+module _ (g : Geometry) (m : Ranges) (r : Result) {o : Outcome} {ys ws ds : List ℕ} {n : ℕ} {st : List ℕ} (f : (o ≡ r .outcome) × (tablesOf ys ws ds ≡ r .tables)) (h : (n ≡ answerNumber (o .answer)) × (st ≡ stateAfter g o (m .state))) where
+  code-is : n ≡ answerNumber (r .outcome .answer)
+  code-is = h .0 ∙ ap (λ (u : Outcome). answerNumber (u .answer)) (f .0)
+
+  state-is : st ≡ stateAfter g (r .outcome) (m .state)
+  state-is = h .1 ∙ ap (λ (u : Outcome). stateAfter g u (m .state)) (f .0)
+
+  sectors-are : ys ≡ r .tables .sectors
+  sectors-are = ap (λ (t : Tables). t .sectors) (f .1)
+
+  written-are : {wb : List ℕ} → wb ≡ tableTo ws → wb ≡ tableTo (r .tables .written)
+  written-are e = e ∙ ap (λ (t : Tables). tableTo (t .written)) (f .1)
+
+  durable-are : {db : List ℕ} → db ≡ tableTo ds → db ≡ tableTo (r .tables .durable)
+  durable-are e = e ∙ ap (λ (t : Tables). tableTo (t .durable)) (f .1)
+
+  pub all-stored : {wb db : List ℕ} → wb ≡ tableTo ws → db ≡ tableTo ds → answered n (ranges ys wb db st) ≡ storedAll g r m
+  unfolding storedAll
+  all-stored a b = cc (code-is, state-is, sectors-are, written-are a, durable-are b)
+
+  pub appends-stored : {wb : List ℕ} → wb ≡ tableTo ws → answered n (ranges ys wb (m .durable) st) ≡ storedAppends g r m
+  unfolding storedAppends
+  appends-stored a = cc (code-is, state-is, sectors-are, written-are a)
+
+  pub flushes-stored : {db : List ℕ} → db ≡ tableTo ds → answered n (ranges (m .sectors) (m .written) db st) ≡ storedFlushes g r m
+  unfolding storedFlushes
+  flushes-stored b = cc (code-is, state-is, durable-are b)
+
+pub shown : (g : Geometry) (m : Ranges) {o q : Outcome} {n : ℕ} {st : List ℕ} → o ≡ q → (n ≡ answerNumber (o .answer)) × (st ≡ stateAfter g o (m .state)) → answered n (ranges (m .sectors) (m .written) (m .durable) st) ≡ handedBack g q m
+shown g m {o} {q} {n} {st} p h =
+    let a : n ≡ answerNumber (q .answer) = h .0 ∙ ap (λ (u : Outcome). answerNumber (u .answer)) p in
+    let b : st ≡ stateAfter g q (m .state) = h .1 ∙ ap (λ (u : Outcome). stateAfter g u (m .state)) p in
+    cc
+
+-- ---- the calls that answer in a buffer
+pub read-answered : (r : ReadResult) {x : Answer} {n : ℕ} {out : List ℕ} → (x ≡ r .answer) × (out ≡ r .buffer) → n ≡ answerNumber x → answered n out ≡ readAnswer r
+unfolding readAnswer
+read-answered r {x} {n} {out} f e =
+    let a : n ≡ answerNumber (r .answer) = e ∙ ap answerNumber (f .0) in
+    cc
+
+module _ (place : List ℕ) (r : Answered (List ℕ)) where
+  pub place-short : length place ≢ 8 → answered 2 place ≡ placeSized place r
+  unfolding placeSized
+  place-short h = rw (ne-eqb (length place) 8 h) refl
+
+  pub place-right : length place ≡ 8 → r ≡ placeSized place r
+  unfolding placeSized
+  place-right h = rw (eq-eqb (length place) 8 h) refl
+
+module _ (g : Geometry) (a n : ℕ) (place : List ℕ) where
+  pub place-refused : n ≢ 0 → answered n place ≡ placeAnswer g a n place
+  unfolding placeAnswer
+  place-refused h = rw (ne-eqb n 0 h) refl
+
+  pub place-made : n ≡ 0 → answered 0 (bytesLE 8 (offsetAt g a)) ≡ placeAnswer g a n place
+  unfolding placeAnswer
+  place-made h = rw h refl
+
+-- the part that a peek gives is the sector's bytes from that offset
+pub peeked-at : (g : Geometry) (named : List Bool) (s : State) (a : ℕ) (t : Tables) → peekNumber g named s a t ≡ 0 → take (g .sector) (drop (offsetAt g a) (t .sectors)) ≡ peekOn g named s a t
+peeked-at g named s a t h = peek-done g named s a t h

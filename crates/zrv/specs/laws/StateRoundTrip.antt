@@ -1,0 +1,386 @@
+-- What a finished call of the C edge hands on: the state's bytes that it leaves are those of the state that the call on tables hands on, they read back as
+-- that very state, and the next call takes them. So it is for each of the six calls that hand on a state; nothing is asked but that the call returned 0.
+-- A format hands on sixteen records, all alike, and bytes hold those of the volume's zones: its state is taken without the others (zonesOnly).
+use mathlib.Core.Path.{_≡_, refl, sym, ap, _∙_}
+use mathlib.Core.Logic.{_⊎_, inl, inr}
+use mathlib.Core.Bool.{Bool, true, false, _&&_, _||_, not}
+use Prim.Native.Nat.{ℕ, zero, suc, _+_, _-_, _*_, _^_, _≤_, _<_, zero-le}
+use native.Mathlib.Decide.{ℕ-discrete}
+use native.Mathlib.Omega.{arith}
+use mathlib.Core.List.{List}
+use lib.ListN.{length, getD, set, length-set}
+use lib.Seq.{getD-set-same, getD-set-other}
+use lib.Dec.{ltb, leb, eqb}
+use borrow.Author.Tests.{lt-ltb, ltb-true, le-leb, eq-eqb, eqb-true, eqb-false}
+use Rattle.tables.specs.declared.Geometry.{Geometry}
+use Rattle.tables.specs.meaning.Basics.{pick}
+use Rattle.tables.specs.laws.Basics.{and-split, and-join, or-cases, or-left, or-right, not-not}
+use Rattle.tables.specs.meaning.Below.{allBelow}
+use Rattle.tables.specs.laws.Below.{all-all-below}
+use Rattle.tables.specs.meaning.Drives.{findBelow, noDrive}
+use Rattle.tables.specs.laws.Drives.{find-below-is}
+use Rattle.tables.specs.meaning.Geometry.{Valid, cells, zoneSectors}
+use Rattle.tables.specs.meaning.GeometryTest.{isValid}
+use Rattle.tables.specs.laws.GeometryTest.{test-if-valid}
+use Rattle.tables.specs.laws.Sizes.{zone-small}
+use Rattle.tables.specs.meaning.Device.{Device, Store}
+use Rattle.tables.specs.meaning.Tables.{Tables, deviceOf, runStores}
+use Rattle.logs.specs.meaning.Entry.{wornGeneration}
+use Rattle.volume.specs.declared.Condition.the-variants.{Empty, Open, Sealed, Worn}
+use Rattle.volume.specs.declared.ZoneRecord.{ZoneRecord}
+use Rattle.volume.specs.declared.State.{State}
+use Rattle.volume.specs.declared.Answer.the-variants.{Finished, Unfinished, Refused}
+use Rattle.volume.specs.declared.Outcome.{Outcome}
+use Rattle.volume.specs.meaning.State.{pointerIn, callPresent}
+use Rattle.volume.specs.meaning.Rules.{isLost, conditionOf, generationOf, pointerAt, cleanAt, sealSeen, zoneAt, zoneShown, showing, isPresent, lostDrive}
+use Rattle.volume.specs.meaning.Refusals.{stateWithin, zoneOf}
+use Rattle.volume.specs.meaning.Calls.{flushStores, resetStores, writeStores, formatStores}
+use Rattle.volume.specs.meaning.Answers.{lostIn, leftOut, namedDrives, sectorsIn}
+use Rattle.volume.specs.meaning.CallContracts.{blankRecord, recordAt, viewState, isSet, answerNumber, verdictNumber, storingOn, zoneLookOf, flushVerdict, withLost, flushOn, resetVerdict, resetRecord, withReset, resetOn, formatVerdict, freshState, formatOn, recordFrom, stateShown, lookVerdict, lookOn, writeVerdict, writtenState, pointerOf, writeOn, mountVerdict, mountStoresOn, mountShownOn, mountOn}
+use Rattle.volume.specs.looking.DrivesLost.{fill-at, fill-past}
+use Rattle.volume.specs.checks.ZoneChecks.{pointer-within}
+use Rattle.volume.specs.storing.Resetting.{reset-refusal, reset-accepted}
+use Rattle.volume.specs.storing.Formatting.{format-views}
+use Rattle.volume.specs.writing.Writing.{writeNumber, write-accepted}
+use Rattle.volume.specs.laws.GenerationRange.{generation-range}
+use Rattle.volume.specs.mounting.MountStart.{worn-top, pointer-within as pointer-at-within}
+use Rattle.zrv.specs.meaning.Bytes.{stateFrom, stateTo, stateWellFormed}
+use Rattle.zrv.specs.meaning.EdgeCalls.{namedOf, sizesFit, stateBad, inputNumber, sizesNumber, Ranges, tablesIn, stateIn, unreadState, stateAfter, Answered, unlessRefused, handedBack, storedAll, storedAppends, storedFlushes, flushOfBytes, flushEdge, lookOfBytes, lookEdge, mountOfBytes, mountEdge, formatOfBytes, formatEdge, resetOfBytes, resetEdge, writeOfBytes, writeEdge}
+use Rattle.zrv.specs.laws.EdgeCalls.{Sized, input-passed, sizes-passed, refused, made, state-new}
+use Rattle.zrv.specs.laws.RoundTrips.{StateRange, sixteen-records, state-bytes-state, length-state-to, state-well-formed, read-generation, zonesOnly, zones-only-at, zones-only-bytes}
+
+-- ---- what is promised of the bytes that a call leaves and of the state s that it hands on (w, d: the lengths of the two tables, in bytes)
+pub record HandsOn (g : Geometry) (bytes : List ℕ) (s : State) (w d : ℕ) : Type 0 where
+  pub in-range : StateRange (g .zones) s
+  pub bytes-are : bytes ≡ stateTo (g .zones) s
+  pub reads-back : stateFrom (g .zones) bytes ≡ s
+  pub well-formed : stateWellFormed (g .zones) bytes ≡ true
+  pub within : stateWithin g (viewState s) ≡ true
+  pub taken : inputNumber g bytes w d ≡ 0
+
+-- ---- a state within its bounds: what each call is shown to hand on
+pub record Bounded (g : Geometry) (s : State) : Type 0 where
+  pub lost-drive : (s .lost < g .drives) ⊎ (s .lost ≡ noDrive)
+  pub sixteen : length (s .zones) ≡ 16
+  pub generations : (z : ℕ) → z < g .zones → recordAt s z .generation < 256 ^ 8
+  pub pointers : (z : ℕ) → z < g .zones → pointerIn (recordAt s z .condition) ≤ zoneSectors g
+  pub past : (z : ℕ) → g .zones ≤ z → recordAt s z ≡ blankRecord
+
+-- bytes can hold it
+bounded-range : (g : Geometry) (s : State) → Valid g → Bounded g s → StateRange (g .zones) s
+bounded-range g s ok b = record {
+  zones-most = ok .zones-most;
+  lost-byte = small (b .lost-drive);
+  sixteen = b .sixteen;
+  generations = b .generations;
+  pointers = λ z h. omega (arith, b .pointers z h, zone-small g ok .1);
+  past = b .past;
+}
+  where
+    small : (s .lost < g .drives) ⊎ (s .lost ≡ noDrive) → s .lost < 256
+    small (inl l) = omega (arith, l, ok .drives-most)
+    small (inr e) = omega (arith, e)
+
+-- refusal 1 does not meet it
+bounded-within : (g : Geometry) (s : State) → Bounded g s → stateWithin g (viewState s) ≡ true
+unfolding stateWithin
+bounded-within g s b =
+    and-join (ltb (s .lost) (g .drives) || eqb (s .lost) noDrive) (allBelow (λ z. leb (pointerIn (recordAt s z .condition)) (zoneSectors g)) (g .zones)) (lost-fine (b .lost-drive))
+    (all-all-below (λ z. leb (pointerIn (recordAt s z .condition)) (zoneSectors g)) (g .zones) (λ z h. le-leb (pointerIn (recordAt s z .condition)) (zoneSectors g) (b .pointers z h)))
+  where
+    lost-fine : (s .lost < g .drives) ⊎ (s .lost ≡ noDrive) → ltb (s .lost) (g .drives) || eqb (s .lost) noDrive ≡ true
+    lost-fine (inl l) = or-left (ltb (s .lost) (g .drives)) (eqb (s .lost) noDrive) (lt-ltb (s .lost) (g .drives) l)
+    lost-fine (inr e) = or-right (ltb (s .lost) (g .drives)) (eqb (s .lost) noDrive) (eq-eqb (s .lost) noDrive e)
+
+-- so the next call takes its bytes
+bounded-taken : (g : Geometry) (s : State) (n w d : ℕ) → Sized g n w d → Bounded g s → inputNumber g (stateTo (g .zones) s) w d ≡ 0
+unfolding inputNumber stateBad sizesFit
+bounded-taken g s n w d q b =
+    let r = bounded-range g s (q .valid) b in
+    rw (
+      test-if-valid g (q .valid),
+      length-state-to (g .zones) s (q .valid .zones-most),
+      state-well-formed (g .zones) s r,
+      state-bytes-state (g .zones) s r,
+      bounded-within g s b,
+      eq-eqb w (cells g * 4) (q .written-long),
+      eq-eqb d (cells g * 4) (q .durable-long),
+    ) refl
+
+hands-on : (g : Geometry) (bytes : List ℕ) (s : State) (n w d : ℕ) → Sized g n w d → bytes ≡ stateTo (g .zones) s → Bounded g s → HandsOn g bytes s w d
+hands-on g bytes s n w d q e b =
+    let r = bounded-range g s (q .valid) b in
+    record {
+      in-range = r;
+      bytes-are = e;
+      reads-back = ap (stateFrom (g .zones)) e ∙ state-bytes-state (g .zones) s r;
+      well-formed = ap (stateWellFormed (g .zones)) e ∙ state-well-formed (g .zones) s r;
+      within = bounded-within g s b;
+      taken = ap (λ (l : List ℕ). inputNumber g l w d) e ∙ bounded-taken g s n w d q b;
+    }
+
+-- ---- a call that returned 0: nothing was refused before it, it is finished, and its state's bytes are those of its outcome's state
+module _ (g : Geometry) (n : ℕ) (r : Answered Ranges) (o : Outcome) (s : State) (m : Ranges) where
+  edge-hands-on : answerNumber (o .answer) ≡ r .code → stateAfter g o (m .state) ≡ r .left .state → stateTo (g .zones) (o .state) ≡ stateTo (g .zones) s
+      → (n ≡ 0 → Sized g (length (m .state)) (length (m .written)) (length (m .durable))) → (n ≡ 0 → Valid g → answerNumber (o .answer) ≡ 0 → Bounded g s)
+      → unlessRefused n r m .code ≡ 0 → HandsOn g (unlessRefused n r m .left .state) s (length (m .written)) (length (m .durable))
+  edge-hands-on answers left same sized bounded h = go (ℕ-discrete n 0)
+    where
+      go : Dec (n ≡ 0) → HandsOn g (unlessRefused n r m .left .state) s (length (m .written)) (length (m .durable))
+      go (no e) = absurd (e (ap (λ (x : Answered Ranges). x .code) (refused n r m e) ∙ h))
+      go (yes e) =
+          let u : r ≡ unlessRefused n r m = made n r m e in
+          let a : answerNumber (o .answer) ≡ 0 = answers ∙ ap (λ (x : Answered Ranges). x .code) u ∙ h in
+          let b : unlessRefused n r m .left .state ≡ stateTo (g .zones) s = sym (state-new g o (m .state) a ∙ left ∙ ap (λ (x : Answered Ranges). x .left .state) u) ∙ same in
+          hands-on g (unlessRefused n r m .left .state) s (length (m .state)) (length (m .written)) (length (m .durable)) (sized e) b (bounded e (sized e .valid) a)
+
+-- a finished call was not refused, and its state is the new one
+module _ (P : State → Type 0) (g : Geometry) (n : ℕ) (ss : List Store) (new old : State) (count : ℕ) (t : Tables) where
+  finished-new : (n ≡ 0 → P new) → answerNumber (storingOn g n ss new old count t .outcome .answer) ≡ 0 → P (storingOn g n ss new old count t .outcome .state)
+  finished-new made = go (eqb n 0) (ltb count (length ss)) refl
+    where
+      ended : Bool → Bool → Outcome
+      ended b c = pick b (pick c (record { answer = Unfinished; state = old }) (record { answer = Finished; state = new })) (record { answer = Refused n; state = old })
+
+      go : (b c : Bool) → eqb n 0 ≡ b → answerNumber (ended b c .answer) ≡ 0 → P (ended b c .state)
+      go true true e h = absurd (omega arith)
+      go true false e h = made (eqb-true n 0 e)
+      go false c e h = absurd (eqb-false n 0 e h)
+
+-- ---- states read from bytes that passed
+state-passed : (g : Geometry) (st : List ℕ) (w d : ℕ) → inputNumber g st w d ≡ 0 → (stateWellFormed (g .zones) st ≡ true) × (stateWithin g (viewState (stateFrom (g .zones) st)) ≡ true)
+unfolding inputNumber stateBad
+state-passed g st w d h =
+    let long : length st ≡ 264 = input-passed g st w d h .state-long in
+    let well = stateWellFormed (g .zones) st && stateWithin g (viewState (stateFrom (g .zones) st)) in
+    let bad : not well ≡ false = rw (eq-eqb (length st) 264 long) at (by (isValid g) (eqb (length st) 264 && not well) (sizesFit g (length st) w d) h) in
+    and-split (stateWellFormed (g .zones) st) (stateWithin g (viewState (stateFrom (g .zones) st))) (not-not well bad)
+  where
+    by : (a b e : Bool) → _≡_ {A = ℕ} (pick a (pick b 1 (pick e 0 2)) 1) 0 → b ≡ false
+    by true true e k = absurd (omega arith)
+    by true false e k = refl
+    by false b e k = absurd (omega arith)
+
+within-lost : (g : Geometry) (s : State) → stateWithin g (viewState s) ≡ true → (s .lost < g .drives) ⊎ (s .lost ≡ noDrive)
+unfolding stateWithin
+within-lost g s h = go (or-cases (ltb (s .lost) (g .drives)) (eqb (s .lost) noDrive) (and-split (ltb (s .lost) (g .drives) || eqb (s .lost) noDrive) (allBelow (λ z. leb (pointerIn (recordAt s z .condition)) (zoneSectors g)) (g .zones)) h .0))
+  where
+    go : (ltb (s .lost) (g .drives) ≡ true) ⊎ ((ltb (s .lost) (g .drives) ≡ false) × (eqb (s .lost) noDrive ≡ true)) → (s .lost < g .drives) ⊎ (s .lost ≡ noDrive)
+    go (inl e) = inl (ltb-true (s .lost) (g .drives) e)
+    go (inr e) = inr (eqb-true (s .lost) noDrive (e .1))
+
+read-bounded : (g : Geometry) (st : List ℕ) (w d : ℕ) → inputNumber g st w d ≡ 0 → Bounded g (stateFrom (g .zones) st)
+unfolding stateFrom
+read-bounded g st w d h =
+    let (well, within) = state-passed g st w d h in
+    record {
+      lost-drive = within-lost g (stateFrom (g .zones) st) within;
+      sixteen = sixteen-records _ (g .zones) (input-passed g st w d h .valid .zones-most);
+      generations = λ z l. read-generation (g .zones) st z well l;
+      pointers = λ z l. pointer-within g (stateFrom (g .zones) st) z within l;
+      past = λ z l. fill-past _ blankRecord (g .zones) (16 - g .zones) z l;
+    }
+
+-- ---- states that a call makes of it
+-- one zone's record is new, and perhaps the lost drive
+zone-bounded : (g : Geometry) (s : State) (x z : ℕ) (r : ZoneRecord) → Valid g → Bounded g s → (x < g .drives) ⊎ (x ≡ noDrive) → z < g .zones → r .generation < 256 ^ 8 → pointerIn (r .condition) ≤ zoneSectors g
+    → Bounded g (record { lost = x; zones = set (s .zones) z r })
+zone-bounded g s x z r ok b lost hz n p = record {
+  lost-drive = lost;
+  sixteen = length-set (s .zones) z r ∙ b .sixteen;
+  generations = λ y h. generation y h (ℕ-discrete y z);
+  pointers = λ y h. pointer y h (ℕ-discrete y z);
+  past = λ y h. getD-set-other (s .zones) z y r blankRecord (λ e. omega (arith, e, h, hz)) ∙ b .past y h;
+}
+  where
+    here : getD (set (s .zones) z r) z blankRecord ≡ r
+    here = getD-set-same (s .zones) z r blankRecord (omega (arith, hz, ok .zones-most, b .sixteen))
+
+    generation : (y : ℕ) → y < g .zones → Dec (y ≡ z) → getD (set (s .zones) z r) y blankRecord .generation < 256 ^ 8
+    generation y h (yes e) = rw (e, here) n
+    generation y h (no e) = rw (getD-set-other (s .zones) z y r blankRecord e) (b .generations y h)
+
+    pointer : (y : ℕ) → y < g .zones → Dec (y ≡ z) → pointerIn (getD (set (s .zones) z r) y blankRecord .condition) ≤ zoneSectors g
+    pointer y h (yes e) = rw (e, here) p
+    pointer y h (no e) = rw (getD-set-other (s .zones) z y r blankRecord e) (b .pointers y h)
+
+-- the lost drive, where one is looked for
+drive-found : (p : ℕ → Bool) (n : ℕ) → (findBelow p n < n) ⊎ (findBelow p n ≡ noDrive)
+drive-found p n = go (find-below-is p n)
+  where
+    go : ((findBelow p n ≡ noDrive) × ((k : ℕ) → k < n → p k ≡ false)) ⊎ ((findBelow p n < n) × (p (findBelow p n) ≡ true)) → (findBelow p n < n) ⊎ (findBelow p n ≡ noDrive)
+    go (inl q) = inr (q .0)
+    go (inr q) = inl (q .0)
+
+lost-found : (g : Geometry) (named : List Bool) (s : State) → (lostIn g (isSet named) (viewState s) < g .drives) ⊎ (lostIn g (isSet named) (viewState s) ≡ noDrive)
+unfolding lostIn
+lost-found g named s = drive-found _ (g .drives)
+
+-- ---- states that are shown
+pointer-shown : (n q m : ℕ) (clean hasSeal : Bool) → q ≤ m → pointerIn (conditionOf n q clean hasSeal) ≤ m
+pointer-shown n q m clean hasSeal h = go (eqb n wornGeneration) (eqb q 0) (not clean || hasSeal)
+  where
+    go : (a b c : Bool) → pointerIn (pick a (Worn q) (pick b Empty (pick c (Sealed q) (Open q)))) ≤ m
+    go true b c = h
+    go false true c = zero-le
+    go false false true = h
+    go false false false = h
+
+shown-bounded : (g : Geometry) (present lost : ℕ → Bool) (v : Device) → Valid g → Bounded g (stateShown g (showing g present (findBelow lost (g .drives)) v))
+unfolding stateShown showing zoneShown zoneAt
+shown-bounded g present lost v ok = record {
+  lost-drive = drive-found lost (g .drives);
+  sixteen = sixteen-records (λ y. recordFrom (zoneLookOf (zoneShown g present v y))) (g .zones) (ok .zones-most);
+  generations = λ z h. rw (at z h) (generation-range g present v z h);
+  pointers = λ z h. rw (at z h) (pointer z);
+  past = λ z h. fill-past (λ y. recordFrom (zoneLookOf (zoneShown g present v y))) blankRecord (g .zones) (16 - g .zones) z h;
+}
+  where
+    at : (z : ℕ) → z < g .zones → recordAt (stateShown g (showing g present (findBelow lost (g .drives)) v)) z ≡ recordFrom (zoneLookOf (zoneShown g present v z))
+    at z h = fill-at (λ y. recordFrom (zoneLookOf (zoneShown g present v y))) blankRecord blankRecord (g .zones) (16 - g .zones) z h
+
+    pointer : (z : ℕ) → pointerIn (zoneShown g present v z .condition) ≤ zoneSectors g
+    pointer z =
+        let n = generationOf g present v z in
+        let q = pointerAt g present v z n in
+        pointer-shown n q (zoneSectors g) (cleanAt g present v z n q) (sealSeen g present v z n) (pointer-at-within g present v z n)
+
+-- ==== the calls on tables: what each hands on when it is finished
+module _ (g : Geometry) (named : List Bool) (s : State) (b : Bounded g s) (count : ℕ) where
+  flush-bounded : (t : Tables) → answerNumber (flushOn g named s count t .outcome .answer) ≡ 0 → Bounded g (flushOn g named s count t .outcome .state)
+  unfolding flushOn
+  flush-bounded t =
+      finished-new (Bounded g) g (verdictNumber (flushVerdict g named s t)) (flushStores g (callPresent g (isSet named) (viewState s))) (withLost s (lostIn g (isSet named) (viewState s))) s count t
+      (λ v. record { lost-drive = lost-found g named s; sixteen = b .sixteen; generations = b .generations; pointers = b .pointers; past = b .past })
+
+  reset-bounded : (z : ℕ) (t : Tables) → Valid g → answerNumber (resetOn g named s z count t .outcome .answer) ≡ 0 → Bounded g (resetOn g named s z count t .outcome .state)
+  unfolding resetOn
+  reset-bounded z t ok =
+      finished-new (Bounded g) g (verdictNumber (resetVerdict g named s z t)) (resetStores g (callPresent g (isSet named) (viewState s)) (viewState s) z) (withReset s z (lostIn g (isSet named) (viewState s))) s count t
+      (λ v.
+      let a = reset-accepted g named s z (length (t .sectors)) (t .written) (t .durable) (reset-refusal g named s z (t .sectors) (t .written) (t .durable) ∙ v) in
+      zone-bounded g s (lostIn g (isSet named) (viewState s)) z (resetRecord (recordAt s z)) ok b (lost-found g named s) (a .zone) (omega (arith, a .fresh, worn-top)) (pointer (eqb (suc (recordAt s z .generation)) wornGeneration)))
+    where
+      pointer : (c : Bool) → pointerIn (pick c (Worn zero) Empty) ≤ zoneSectors g
+      pointer true = zero-le
+      pointer false = zero-le
+
+  write-bounded : (a k : ℕ) (buffer : List ℕ) (t : Tables) → Valid g → answerNumber (writeOn g named s a k buffer count t .outcome .answer) ≡ 0 → Bounded g (writeOn g named s a k buffer count t .outcome .state)
+  unfolding writeOn writeNumber
+  write-bounded a k buffer t ok =
+      finished-new (Bounded g) g (verdictNumber (writeVerdict g named s a k (length buffer) t)) (writeStores g (callPresent g (isSet named) (viewState s)) (deviceOf g t) (viewState s) (zoneOf g a) (sectorsIn g k buffer))
+      (writtenState s (lostIn g (isSet named) (viewState s)) (zoneOf g a) (pointerOf s (zoneOf g a) + k)) s count t
+      (λ v.
+      let w = write-accepted g named s a k (length buffer) (t .sectors) (t .written) (t .durable) v in
+      let f = w .fits in
+      zone-bounded g s (lostIn g (isSet named) (viewState s)) (zoneOf g a) (record { generation = recordAt s (zoneOf g a) .generation; condition = Open (pointerOf s (zoneOf g a) + k) }) ok b (lost-found g named s) (w .zone)
+      (b .generations (zoneOf g a) (w .zone)) (omega (arith, f .inside, f .pointer)))
+
+module _ (g : Geometry) (ok : Valid g) (named : List Bool) (old : State) where
+  look-bounded : (t : Tables) → answerNumber (lookOn g named old t .answer) ≡ 0 → Bounded g (lookOn g named old t .state)
+  unfolding lookOn
+  look-bounded t = go (eqb n 0) refl
+    where
+      n : ℕ
+      n = verdictNumber (lookVerdict g named t)
+
+      ended : Bool → Outcome
+      ended c =
+          pick c (record { answer = Finished; state = stateShown g (showing g (isPresent g (isSet named) (deviceOf g t)) (lostDrive g (isSet named) (deviceOf g t)) (deviceOf g t)) })
+          (record { answer = Refused n; state = old })
+
+      go : (c : Bool) → eqb n 0 ≡ c → answerNumber (ended c .answer) ≡ 0 → Bounded g (ended c .state)
+      go true e h = shown-bounded g (isPresent g (isSet named) (deviceOf g t)) (isLost g (isSet named) (deviceOf g t)) (deviceOf g t) ok
+      go false e h = absurd (eqb-false n 0 e h)
+
+  mount-bounded : (count : ℕ) (t : Tables) → answerNumber (mountOn g named old count t .outcome .answer) ≡ 0 → Bounded g (mountOn g named old count t .outcome .state)
+  unfolding mountOn mountShownOn
+  mount-bounded count t =
+      let present = isPresent g (isSet named) (deviceOf g t) in
+      let ss = mountStoresOn g present (lostDrive g (isSet named) (deviceOf g t)) t in
+      finished-new (Bounded g) g (verdictNumber (mountVerdict g named t)) ss (mountShownOn g present (lostDrive g (isSet named) (deviceOf g t)) t) old count t
+      (λ v. shown-bounded g present (isLost g (isSet named) (deviceOf g t)) (deviceOf g (runStores g (length ss) ss t)) ok)
+
+-- a format's sixteen records are all alike; bytes hold those of the volume's zones
+fresh-bounded : (g : Geometry) (named : List Bool) → Valid g → Bounded g (zonesOnly (g .zones) (freshState (leftOut g (isSet named))))
+unfolding zonesOnly leftOut freshState
+fresh-bounded g named ok = record {
+  lost-drive = drive-found (λ d. not (isSet named d)) (g .drives);
+  sixteen = sixteen-records (λ z. recordAt s z) (g .zones) (ok .zones-most);
+  generations = λ z h. rw (zones-only-at (g .zones) s z h, views z h .1) (omega arith);
+  pointers = λ z h. rw (zones-only-at (g .zones) s z h, views z h .2) zero-le;
+  past = λ z h. fill-past (λ y. recordAt s y) blankRecord (g .zones) (16 - g .zones) z h;
+}
+  where
+    s : State
+    s = freshState (leftOut g (isSet named))
+
+    views : (z : ℕ) → z < g .zones → (s .lost ≡ leftOut g (isSet named)) × (recordAt s z .generation ≡ 1) × (recordAt s z .condition ≡ Empty)
+    views z h = format-views (leftOut g (isSet named)) z (omega (arith, h, ok .zones-most))
+
+format-bounded : (g : Geometry) → Valid g → (named : List Bool) (array : ℕ) (old : State) (count : ℕ) (t : Tables)
+    → answerNumber (formatOn g named array old count t .outcome .answer) ≡ 0 → Bounded g (zonesOnly (g .zones) (formatOn g named array old count t .outcome .state))
+unfolding formatOn
+format-bounded g ok named array old count t =
+    finished-new (λ (s : State). Bounded g (zonesOnly (g .zones) s)) g (verdictNumber (formatVerdict g named t)) (formatStores g (namedDrives g (isSet named)) (leftOut g (isSet named)) array)
+    (freshState (leftOut g (isSet named))) old count t (λ v. fresh-bounded g named ok)
+
+-- ==== the calls on bytes
+-- one that reads the state, and one that only writes it
+module _ (g : Geometry) (m : Ranges) (r : Answered Ranges) (o : Outcome) where
+  abbrev wl : ℕ
+  wl = length (m .written)
+
+  abbrev dl : ℕ
+  dl = length (m .durable)
+
+  after-reading : answerNumber (o .answer) ≡ r .code → stateAfter g o (m .state) ≡ r .left .state → (Bounded g (stateIn g m) → Valid g → answerNumber (o .answer) ≡ 0 → Bounded g (o .state))
+      → unlessRefused (inputNumber g (m .state) wl dl) r m .code ≡ 0 → HandsOn g (unlessRefused (inputNumber g (m .state) wl dl) r m .left .state) (o .state) wl dl
+  after-reading answers left bounded =
+      edge-hands-on g (inputNumber g (m .state) wl dl) r o (o .state) m answers left refl (input-passed g (m .state) wl dl) (λ n. bounded (read-bounded g (m .state) wl dl n))
+
+  after-writing : (s : State) → answerNumber (o .answer) ≡ r .code → stateAfter g o (m .state) ≡ r .left .state → stateTo (g .zones) (o .state) ≡ stateTo (g .zones) s
+      → (Valid g → answerNumber (o .answer) ≡ 0 → Bounded g s) → unlessRefused (sizesNumber g (length (m .state)) wl dl) r m .code ≡ 0
+      → HandsOn g (unlessRefused (sizesNumber g (length (m .state)) wl dl) r m .left .state) s wl dl
+  after-writing s answers left same bounded = edge-hands-on g (sizesNumber g (length (m .state)) wl dl) r o s m answers left same (sizes-passed g (length (m .state)) wl dl) (λ n. bounded)
+
+-- what a call e with the outcome's state s promises
+abbrev pub HandedOn : Geometry → Ranges → Answered Ranges → State → Type 0
+HandedOn g m e s = e .code ≡ 0 → HandsOn g (e .left .state) s (length (m .written)) (length (m .durable))
+
+module _ (g : Geometry) (mask : ℕ) (m : Ranges) where
+  pub flush-hands-on : (count : ℕ) → HandedOn g m (flushEdge g mask count m) (flushOfBytes g mask count m .outcome .state)
+  unfolding storedFlushes
+  flush-hands-on count =
+      let r = flushOfBytes g mask count m in
+      after-reading g m (storedFlushes g r m) (r .outcome) refl refl (λ b ok. flush-bounded g (namedOf mask) (stateIn g m) b count (tablesIn g m))
+
+  pub reset-hands-on : (z count : ℕ) → HandedOn g m (resetEdge g mask z count m) (resetOfBytes g mask z count m .outcome .state)
+  unfolding storedAll
+  reset-hands-on z count =
+      let r = resetOfBytes g mask z count m in
+      after-reading g m (storedAll g r m) (r .outcome) refl refl (λ b ok. reset-bounded g (namedOf mask) (stateIn g m) b count z (tablesIn g m) ok)
+
+  pub write-hands-on : (a k count : ℕ) (bytes : List ℕ) → HandedOn g m (writeEdge g mask a k count bytes m) (writeOfBytes g mask a k count bytes m .outcome .state)
+  unfolding storedAppends
+  write-hands-on a k count bytes =
+      let r = writeOfBytes g mask a k count bytes m in
+      after-reading g m (storedAppends g r m) (r .outcome) refl refl (λ b ok. write-bounded g (namedOf mask) (stateIn g m) b count a k bytes (tablesIn g m) ok)
+
+  pub look-hands-on : HandedOn g m (lookEdge g mask m) (lookOfBytes g mask m .state)
+  look-hands-on =
+      let o = lookOfBytes g mask m in
+      after-writing g m (handedBack g o m) o (o .state) refl refl refl (λ ok. look-bounded g ok (namedOf mask) unreadState (tablesIn g m))
+
+  pub mount-hands-on : (count : ℕ) → HandedOn g m (mountEdge g mask count m) (mountOfBytes g mask count m .outcome .state)
+  unfolding storedAll
+  mount-hands-on count =
+      let r = mountOfBytes g mask count m in
+      after-writing g m (storedAll g r m) (r .outcome) (r .outcome .state) refl refl refl (λ ok. mount-bounded g ok (namedOf mask) unreadState count (tablesIn g m))
+
+  pub format-hands-on : (array count : ℕ) → HandedOn g m (formatEdge g mask array count m) (zonesOnly (g .zones) (formatOfBytes g mask array count m .outcome .state))
+  unfolding storedAll
+  format-hands-on array count =
+      let r = formatOfBytes g mask array count m in
+      let s = r .outcome .state in
+      after-writing g m (storedAll g r m) (r .outcome) (zonesOnly (g .zones) s) refl refl (sym (zones-only-bytes (g .zones) s)) (λ ok. format-bounded g ok (namedOf mask) array unreadState count (tablesIn g m))

@@ -1,0 +1,71 @@
+-- What the bytes of the C edge mean: document 01's "state and tables pass as bytes". A table is one little-endian 32-bit number for each drive and zone.
+-- A state is 264 bytes: byte 0 the lost drive or 255, bytes 1 to 7 zero, then 16 records of 16 bytes (generation 8, condition 1, three zeros, pointer 4).
+use mathlib.Core.Bool.{Bool}
+use Prim.Native.Nat.{ℕ, zero, suc, _+_, _-_, _*_, _%_}
+use mathlib.Core.List.{List, [], _++_}
+use lib.ListN.{length, getD, drop, replicate}
+use lib.Dec.{eqb}
+use Rattle.tables.specs.meaning.Basics.{pick}
+use Rattle.tables.specs.meaning.Below.{tabulate}
+use Rattle.tables.specs.meaning.LittleEndian.{bytesLE, readLE, sameBytes}
+use Rattle.volume.specs.declared.Condition.{Condition}
+use Rattle.volume.specs.declared.Condition.the-variants.{Empty, Open, Sealed, Worn}
+use Rattle.volume.specs.declared.ZoneRecord.{ZoneRecord}
+use Rattle.volume.specs.declared.State.{State}
+use Rattle.volume.specs.meaning.State.{pointerIn}
+use Rattle.volume.specs.meaning.CallContracts.{blankRecord, recordAt}
+
+-- ---- tables
+-- the table of n numbers that the bytes hold
+unfoldable pub tableFrom : ℕ → List ℕ → List ℕ
+tableFrom n xs = tabulate (λ i. readLE 4 xs (i * 4)) n
+
+-- the bytes of a table's first n numbers
+abbrev pub wordsTo : ℕ → List ℕ → List ℕ
+wordsTo zero ts = []
+wordsTo (suc n) ts = wordsTo n ts ++ bytesLE 4 (getD ts n 0)
+
+-- the bytes of a table
+unfoldable pub tableTo : List ℕ → List ℕ
+tableTo ts = wordsTo (length ts) ts
+
+-- ---- a zone's record
+-- the byte of a condition
+abbrev pub kindOf : Condition → ℕ
+kindOf Empty = 0
+kindOf (Open n) = 1
+kindOf (Sealed n) = 2
+kindOf (Worn n) = 3
+
+-- the condition of a byte and a pointer; what is no condition's byte reads as empty, and then is not of the form
+abbrev pub conditionFrom : ℕ → ℕ → Condition
+conditionFrom k p = pick (eqb k 1) (Open p) (pick (eqb k 2) (Sealed p) (pick (eqb k 3) (Worn p) Empty))
+
+-- sixteen bytes; a condition's number is below 256, so its four bytes are itself and three zeros
+unfoldable pub recordTo : ZoneRecord → List ℕ
+recordTo r = bytesLE 8 (r .generation) ++ bytesLE 4 (kindOf (r .condition)) ++ bytesLE 4 (pointerIn (r .condition) % 4294967296)
+
+-- the record in the sixteen bytes from `at`
+unfoldable pub recordFrom : List ℕ → ℕ → ZoneRecord
+recordFrom xs at = record { generation = readLE 8 xs at; condition = conditionFrom (readLE 4 xs (at + 8)) (readLE 4 xs (at + 12)) }
+
+-- ---- the state, of a volume of so many zones
+-- the lost drive and the records of the first n zones
+abbrev pub recordsTo : ℕ → State → List ℕ
+recordsTo zero s = bytesLE 8 (s .lost % 256)
+recordsTo (suc n) s = recordsTo n s ++ recordTo (recordAt s n)
+
+abbrev pub noState : List ℕ
+noState = replicate 264 0
+
+-- its 264 bytes: all zero past the last zone's record
+unfoldable pub stateTo : ℕ → State → List ℕ
+stateTo zones s = recordsTo zones s ++ drop (8 + 16 * zones) noState
+
+-- the state that 264 bytes hold
+unfoldable pub stateFrom : ℕ → List ℕ → State
+stateFrom zones xs = record { lost = readLE 8 xs 0; zones = tabulate (λ z. recordFrom xs (8 + 16 * z)) zones ++ replicate (16 - zones) blankRecord }
+
+-- whether bytes have the form: what is read from them, written again, is they
+unfoldable pub stateWellFormed : ℕ → List ℕ → Bool
+stateWellFormed zones xs = sameBytes (stateTo zones (stateFrom zones xs)) xs

@@ -1,0 +1,197 @@
+// What the C edge makes of a call's numbers and bytes before the call, and of its outcome after it.
+use super::Request;
+use tables::Geometry;
+use volume::Answer;
+use volume::Condition;
+use volume::Outcome;
+use volume::State;
+use volume::ZoneRecord;
+ghost use mathlib.Core.Path.{_≡_};
+ghost use lib.ListN.{length};
+ghost use Rattle.tables.specs.meaning.Geometry.{Valid};
+ghost use Rattle.volume.specs.meaning.CallContracts.{answerNumber};
+ghost use Rattle.zrv.specs.meaning.Bytes.{stateFrom};
+ghost use Rattle.zrv.specs.meaning.EdgeCalls.{shapeOf, namedOf, sizesFit, stateBad, inputNumber, sizesNumber, unreadState, stateAfter};
+ghost use Rattle.zrv.specs.laws.EdgeCalls.{Opened};
+
+// The geometry of a call's first five numbers.
+pub fn shape(drives: u32, sector_bytes: u32, unit: u32, zones: u32, zone_sectors: u32) -> Geometry
+    ensures { λ r. ⌜ r ≡ shapeOf drives «sector_bytes» unit zones «zone_sectors» ⌝ }
+{
+    Geometry {
+        drives: drives as usize,
+        sector: sector_bytes as usize,
+        unit: unit as usize,
+        zones: zones as usize,
+        capacity: zone_sectors as usize,
+    }
+}
+
+// The drives that a mask names.
+fn named_drives(mask: u32) -> [bool; 8]
+    ensures { λ r. ⌜ r ≡ namedOf mask ⌝ }
+{
+    let m1 = mask / 2;
+    let m2 = m1 / 2;
+    let m3 = m2 / 2;
+    let m4 = m3 / 2;
+    let m5 = m4 / 2;
+    let m6 = m5 / 2;
+    let m7 = m6 / 2;
+    [
+        mask % 2 == 1,
+        m1 % 2 == 1,
+        m2 % 2 == 1,
+        m3 % 2 == 1,
+        m4 % 2 == 1,
+        m5 % 2 == 1,
+        m6 % 2 == 1,
+        m7 % 2 == 1,
+    ]
+}
+
+// Refusal 2, of the state's and the tables' bytes.
+fn sizes_fit(g: Geometry, state: usize, written: usize, durable: usize) -> bool
+    requires { ⌜ Valid g ⌝ }
+    ensures { λ r. ⌜ r ≡ sizesFit g state written durable ⌝ }
+{
+    let n = tables::bounds::table_cells(g);
+    let m = n * 4;
+    (state == 264) & ((written == m) & (durable == m))
+}
+
+// Refusal 1, of the state's bytes.
+fn state_bad(g: Geometry, bytes: &[u8]) -> bool
+    requires { ⌜ Valid g ⌝ }
+    ensures { λ r. ⌜ r ≡ stateBad g (now (bytes .entry)) ⌝ }
+{
+    if bytes.len() != 264 {
+        return false;
+    }
+    let state = super::state::state_from(g, bytes);
+    let form = super::state::well_formed(g, state, bytes);
+    let within = volume::checks::state_within(g, state);
+    !(form & within)
+}
+
+// What is refused before a call that reads the state; 0 if nothing is.
+fn input_refusal(g: Geometry, state: &[u8], written: usize, durable: usize) -> u32
+    ensures { λ r. ⌜ r ≡ inputNumber g (now (state .entry)) written durable ⌝ }
+{
+    let ok = tables::bounds::valid(g);
+    if !ok {
+        return 1;
+    }
+    let bad = state_bad(g, state);
+    if bad {
+        return 1;
+    }
+    let fit = sizes_fit(g, state.len(), written, durable);
+    if fit { 0 } else { 2 }
+}
+
+// What is refused before a call that only writes the state; 0 if nothing is.
+fn sizes_refusal(g: Geometry, state: usize, written: usize, durable: usize) -> u32
+    ensures { λ r. ⌜ r ≡ sizesNumber g state written durable ⌝ }
+{
+    let ok = tables::bounds::valid(g);
+    if !ok {
+        return 1;
+    }
+    let fit = sizes_fit(g, state, written, durable);
+    if fit { 0 } else { 2 }
+}
+
+// In place of the state that a format, look or mount never reads.
+fn unread_state() -> State
+    ensures { λ r. ⌜ r ≡ unreadState ⌝ }
+{
+    let blank = ZoneRecord {
+        generation: 0,
+        condition: Condition::Empty,
+    };
+    let zones = [blank; 16];
+    State { lost: 0, zones }
+}
+
+// What a call that reads the state is made on.
+pub fn with_state(g: Geometry, named: u32, state: &[u8], written: usize, durable: usize) -> Request
+    ensures { λ r. ⌜ Opened g named (inputNumber g (now (state .entry)) written durable) (stateFrom (g .zones) (now (state .entry))) (length (now (state .entry))) written durable r ⌝ }
+{
+    let refusal = input_refusal(g, state, written, durable);
+    let drives = named_drives(named);
+    if refusal != 0 {
+        let unread = unread_state();
+        return Request {
+            refusal,
+            cells: 0,
+            drives,
+            state: unread,
+        };
+    }
+    let cells = tables::bounds::table_cells(g);
+    let held = super::state::state_from(g, state);
+    Request {
+        refusal,
+        cells,
+        drives,
+        state: held,
+    }
+}
+
+// What a call that only writes the state is made on.
+pub fn without_state(
+    g: Geometry,
+    named: u32,
+    state: usize,
+    written: usize,
+    durable: usize,
+) -> Request
+    ensures { λ r. ⌜ Opened g named (sizesNumber g state written durable) unreadState state written durable r ⌝ }
+{
+    let refusal = sizes_refusal(g, state, written, durable);
+    let drives = named_drives(named);
+    let unread = unread_state();
+    if refusal != 0 {
+        return Request {
+            refusal,
+            cells: 0,
+            drives,
+            state: unread,
+        };
+    }
+    let cells = tables::bounds::table_cells(g);
+    Request {
+        refusal,
+        cells,
+        drives,
+        state: unread,
+    }
+}
+
+// The number of an answer: 0 finished, 255 unfinished, else the refusal's.
+pub fn number_of(a: Answer) -> u32
+    ensures { λ r. ⌜ r ≡ answerNumber a ⌝ }
+{
+    match a {
+        Answer::Finished => 0,
+        Answer::Unfinished => 255,
+        Answer::Refused(n) => n as u32,
+    }
+}
+
+// Hands an outcome back: its number, and the state's bytes where the call is finished.
+pub fn hand_back(g: Geometry, outcome: Outcome, bytes: &mut [u8]) -> u32
+    requires { ⌜ Valid g ⌝ }
+    requires { ⌜ length (now bytes) ≡ 264 ⌝ }
+    ensures { λ r. ⌜ (r ≡ answerNumber (outcome .answer)) × (now (bytes .exit) ≡ stateAfter g outcome (now (bytes .entry))) ⌝ }
+{
+    let answer = outcome.answer;
+    let state = outcome.state;
+    let n = number_of(answer);
+    if n != 0 {
+        return n;
+    }
+    super::state::state_to(g, state, bytes);
+    n
+}

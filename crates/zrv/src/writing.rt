@@ -1,0 +1,130 @@
+// The calls of the C edge that store by the state that they are handed: write, flush and reset. Finished, each hands on the state.
+ghost use mathlib.Core.Path.{_≡_};
+ghost use Rattle.zrv.specs.meaning.EdgeCalls.{shapeOf, ranges, answered, writeEdge, flushEdge, resetEdge};
+
+// Write: so many sectors at an address, which must be their zone's pointer. It stores in `sectors` and `written`.
+#[no_mangle]
+pub extern "C" fn zrv_write(
+    drives: u32,
+    sector_bytes: u32,
+    unit: u32,
+    zones: u32,
+    zone_sectors: u32,
+    named: u32,
+    address: u64,
+    sectors_to_write: u32,
+    count: u32,
+    sectors: &mut [u8],
+    written: &mut [u8],
+    durable: &[u8],
+    state: &mut [u8],
+    buffer: &[u8],
+) -> u32
+    ensures { λ r. ⌜ answered r (ranges (now (sectors .exit)) (now (written .exit)) (now (durable .entry)) (now (state .exit)))
+        ≡ writeEdge (shapeOf drives «sector_bytes» unit zones «zone_sectors») named address «sectors_to_write» count (now (buffer .entry)) (ranges (now (sectors .entry)) (now (written .entry)) (now (durable .entry)) (now (state .entry))) ⌝ }
+{
+    let g = super::input::shape(drives, sector_bytes, unit, zones, zone_sectors);
+    let request = super::input::with_state(g, named, state, written.len(), durable.len());
+    let refusal = request.refusal;
+    if refusal != 0 {
+        return refusal;
+    }
+    let n = request.cells;
+    let here = request.drives;
+    let old = request.state;
+    let mut w = [0u32; 152];
+    let mut d = [0u32; 152];
+    let ws = &mut w[..n];
+    let ds = &mut d[..n];
+    super::words::tables_from(g, written, durable, ws, ds);
+    let outcome = volume::writing::write(
+        sectors,
+        ws,
+        ds,
+        g,
+        here,
+        old,
+        address,
+        sectors_to_write,
+        buffer,
+        count,
+    );
+    super::words::table_to(ws, written);
+    super::input::hand_back(g, outcome, state)
+}
+
+// Flush: every present drive is flushed. It stores in `durable`.
+#[no_mangle]
+pub extern "C" fn zrv_flush(
+    drives: u32,
+    sector_bytes: u32,
+    unit: u32,
+    zones: u32,
+    zone_sectors: u32,
+    named: u32,
+    count: u32,
+    sectors: &[u8],
+    written: &[u8],
+    durable: &mut [u8],
+    state: &mut [u8],
+) -> u32
+    ensures { λ r. ⌜ answered r (ranges (now (sectors .entry)) (now (written .entry)) (now (durable .exit)) (now (state .exit)))
+        ≡ flushEdge (shapeOf drives «sector_bytes» unit zones «zone_sectors») named count (ranges (now (sectors .entry)) (now (written .entry)) (now (durable .entry)) (now (state .entry))) ⌝ }
+{
+    let g = super::input::shape(drives, sector_bytes, unit, zones, zone_sectors);
+    let request = super::input::with_state(g, named, state, written.len(), durable.len());
+    let refusal = request.refusal;
+    if refusal != 0 {
+        return refusal;
+    }
+    let n = request.cells;
+    let here = request.drives;
+    let old = request.state;
+    let mut w = [0u32; 152];
+    let mut d = [0u32; 152];
+    let ws = &mut w[..n];
+    let ds = &mut d[..n];
+    super::words::tables_from(g, written, durable, ws, ds);
+    let outcome = volume::flushing::flush(sectors, ws, ds, g, here, old, count);
+    super::words::table_to(ds, durable);
+    super::input::hand_back(g, outcome, state)
+}
+
+// Reset of a logical zone: finished, it is empty, or worn after its last generation.
+#[no_mangle]
+pub extern "C" fn zrv_reset(
+    drives: u32,
+    sector_bytes: u32,
+    unit: u32,
+    zones: u32,
+    zone_sectors: u32,
+    named: u32,
+    zone: u32,
+    count: u32,
+    sectors: &mut [u8],
+    written: &mut [u8],
+    durable: &mut [u8],
+    state: &mut [u8],
+) -> u32
+    ensures { λ r. ⌜ answered r (ranges (now (sectors .exit)) (now (written .exit)) (now (durable .exit)) (now (state .exit)))
+        ≡ resetEdge (shapeOf drives «sector_bytes» unit zones «zone_sectors») named zone count (ranges (now (sectors .entry)) (now (written .entry)) (now (durable .entry)) (now (state .entry))) ⌝ }
+{
+    let g = super::input::shape(drives, sector_bytes, unit, zones, zone_sectors);
+    let request = super::input::with_state(g, named, state, written.len(), durable.len());
+    let refusal = request.refusal;
+    if refusal != 0 {
+        return refusal;
+    }
+    let n = request.cells;
+    let here = request.drives;
+    let old = request.state;
+    let mut w = [0u32; 152];
+    let mut d = [0u32; 152];
+    let ws = &mut w[..n];
+    let ds = &mut d[..n];
+    super::words::tables_from(g, written, durable, ws, ds);
+    let outcome = volume::resetting::reset(sectors, ws, ds, g, here, old, zone as usize, count);
+    super::words::table_to(ws, written);
+    super::words::table_to(ds, durable);
+    super::input::hand_back(g, outcome, state)
+}

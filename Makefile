@@ -10,8 +10,9 @@
 #   explore-test: explore's counts, its histories that do not fit, its messages and its picture; a part of it once more with the sanitizers
 #   example: the program of docs/USING.md, built and run
 # format-test: the model of docs/FORMAT.md in Python: the conformance vectors replayed, then the worked values of the page
+# vectors: other conformance vectors put in place of those of crates/replay: `make vectors FROM=FOLDER` with a script PART.txt and its answers PART.out a part
 # bench: the archive's speed as a share of plain C's
-.PHONY: explore test check wrong archive zrv from-c edge-test tool-test explore-test example format-test bench fmt
+.PHONY: explore test check wrong archive zrv from-c edge-test tool-test explore-test example format-test vectors bench fmt
 
 explore: target/zrv
 	@target/zrv explore
@@ -44,7 +45,7 @@ BENCH_C = c/bench.c $(PLAIN_C) host/shelf.c host/call.c
 HOST_C = host/driver.c host/drives.c host/drive_file.c host/files.c host/journal.c host/progress.c host/message.c host/shelf.c host/call.c
 EXPLORE_C = tool/explore/explore.c tool/explore/options.c tool/explore/oracle.c tool/explore/caches.c tool/explore/world.c tool/explore/story.c \
 	tool/explore/check.c tool/explore/engine.c tool/explore/report.c tool/explore/picture.c
-ZRV_C = tool/zrv.c tool/commands.c tool/transfer.c tool/checklist.c tool/left_out.c tool/tool.c tool/options.c tool/refusals.c $(EXPLORE_C) $(HOST_C)
+ZRV_C = tool/zrv.c tool/commands.c tool/transfer.c tool/checklist.c tool/left_out.c tool/tool.c tool/options.c tool/words.c tool/refusals.c $(EXPLORE_C) $(HOST_C)
 ZRV_H = include/zrv.h $(wildcard host/*.h tool/*.h tool/explore/*.h)
 
 zrv: target/zrv
@@ -85,7 +86,13 @@ example:
 
 format-test:
 	@model/format_model.py replay < crates/replay/stdin | cmp - crates/replay/stdout && echo "format model: $$(wc -l < crates/replay/stdout) lines equal"
-	@model/format_model.py check docs/FORMAT.md
+	@model/format_model.py check docs/FORMAT.md crates/replay/stdout
+
+VECTOR_PARTS = plain refusals damage worn corners
+
+vectors:
+	@cat $(VECTOR_PARTS:%=$(FROM)/%.txt) > crates/replay/stdin
+	@cat $(VECTOR_PARTS:%=$(FROM)/%.out) > crates/replay/stdout
 
 bench:
 	@mkdir -p $(EDGE)

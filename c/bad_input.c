@@ -239,10 +239,10 @@ static void records(struct fixture *f) {
         for (uint32_t zone = 0; zone < ZRV_STATE_RECORDS; zone++)
             for (uint32_t i = 0; i < 5 * 7 * 5; i++) {
                 struct call call = usual_call(f, every_kind[k]);
-                uint8_t *record = zone_record(f->range[STATE].bytes, zone);
-                put64(record, generation[i % 5]);
-                record[RECORD_CONDITION] = (uint8_t)(i / 35);
-                put32(record + RECORD_POINTER, pointer[i / 5 % 7]);
+                uint8_t *record = zone_record_to_change(f->range[STATE].bytes, zone);
+                put64(record + ZRV_RECORD_GENERATION, generation[i % 5]);
+                record[ZRV_RECORD_CONDITION] = (uint8_t)(i / 35);
+                put32(record + ZRV_RECORD_POINTER, pointer[i / 5 % 7]);
                 judge(f, "zone's record", &call, ZRV_FINISHED);
             }
 }

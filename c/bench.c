@@ -14,6 +14,11 @@
 
 enum { PASSES = 31, SLOW_PASSES = 3 };
 
+static struct geometry speeds_geometry(uint32_t drives) { return (struct geometry){drives, ZRV_MOST_SECTOR_BYTES, 4, 1, 128}; }
+static const struct geometry growth_geometry = {4, ZRV_MOST_SECTOR_BYTES, 4, 1, 512};
+static struct geometry sizes_geometry(uint32_t zone_sectors) { return (struct geometry){4, ZRV_LEAST_SECTOR_BYTES, 4, 1, zone_sectors}; }
+static const uint32_t sizes_zone_sectors[] = {4096, 16384, 32768, ZRV_MOST_ZONE_SECTORS};
+
 /* One volume, once for the archive and once for plain C. */
 struct bench {
     struct shelf shelf;
@@ -167,9 +172,9 @@ static double speed(struct bench *b, uint64_t (*one)(struct bench *), uint64_t (
 }
 
 static void speeds(uint32_t drives) {
-    struct bench b = new_bench((struct geometry){drives, 4096, 4, 1, 128});
+    struct bench b = new_bench(speeds_geometry(drives));
     double copies = speed(&b, write_archive, copy_bytes, true);
-    memset(b.plain_answer, 0, zone_addresses(b.shelf.geometry) * 4096);
+    memset(b.plain_answer, 0, zone_addresses(b.shelf.geometry) * b.shelf.geometry.sector_bytes);
     double stripes = speed(&b, write_archive, write_plain, true);
     must_agree(&b, "whole-stripe writes");
     double reads = speed(&b, read_archive, read_plain, false);
@@ -231,7 +236,7 @@ static void growth_of(struct bench *b, const char *what, uint32_t run) {
 }
 
 static void growth(void) {
-    struct bench b = new_bench((struct geometry){4, 4096, 4, 1, 512});
+    struct bench b = new_bench(growth_geometry);
     printf("\na write's time against the same in a fresh volume (D 4, 4,096-byte sectors, U 4, C 512)\n%16s %16s %18s\n", "", "far in the zone", "general logs full");
     growth_of(&b, "stripe writes", 12);
     growth_of(&b, "1-sector writes", 1);
@@ -249,26 +254,18 @@ static double median_call(struct bench *b, enum call_kind kind) {
     return median(times, SLOW_PASSES);
 }
 
-static uint64_t sectors_written(const struct bench *b) {
-    uint64_t sum = 0;
-    for (size_t at = 0; at < b->shelf.written.length; at += 4)
-        sum += get32(b->shelf.written.bytes + at);
-    return sum;
-}
-
 /* Look and mount of a full zone: nanoseconds per written sector, as ratios to the smallest. */
 static void sizes(void) {
-    const uint32_t zone_sectors[] = {4096, 16384, 32768, 65536};
     double look_least = 0, mount_least = 0;
     printf("\nlook and mount, time per written sector against the smallest (D 4, 64-byte sectors)\n%8s %12s %12s\n", "C", "look", "mount");
-    for (size_t i = 0; i < sizeof zone_sectors / sizeof *zone_sectors; i++) {
-        struct bench b = new_bench((struct geometry){4, 64, 4, 1, zone_sectors[i]});
+    for (size_t i = 0; i < sizeof sizes_zone_sectors / sizeof *sizes_zone_sectors; i++) {
+        struct bench b = new_bench(sizes_geometry(sizes_zone_sectors[i]));
         write_archive(&b);
-        double look = median_call(&b, CALL_LOOK) / (double)sectors_written(&b);
-        double mount = median_call(&b, CALL_MOUNT) / (double)sectors_written(&b);
+        double look = median_call(&b, CALL_LOOK) / (double)table_sum(b.shelf.written);
+        double mount = median_call(&b, CALL_MOUNT) / (double)table_sum(b.shelf.written);
         look_least = i == 0 ? look : look_least;
         mount_least = i == 0 ? mount : mount_least;
-        printf("%8u %12.2f %12.2f\n", zone_sectors[i], look / look_least, mount / mount_least);
+        printf("%8u %12.2f %12.2f\n", sizes_zone_sectors[i], look / look_least, mount / mount_least);
         free_bench(&b);
     }
 }

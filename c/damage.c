@@ -5,6 +5,7 @@
 #include <string.h>
 
 #include "bytes.h"
+#include "journal.h"
 
 static struct geometry geometry_in(const struct command *command) {
     const uint64_t *number = command->number;
@@ -29,10 +30,10 @@ static void put_pointers(struct host *host, uint64_t index, uint32_t written, ui
 static void put_record(struct host *host, const uint64_t *number) {
     if (!host->has_state || number[0] >= ZRV_STATE_RECORDS)
         return;
-    uint8_t *record = zone_record(host->state, (uint32_t)number[0]);
-    put64(record, number[1]);
-    put32(record + RECORD_CONDITION, (uint32_t)number[2]);
-    put32(record + RECORD_POINTER, number[2] == ZRV_EMPTY ? 0 : narrowed(number[3]));
+    uint8_t *record = zone_record_to_change(host->state, (uint32_t)number[0]);
+    put64(record + ZRV_RECORD_GENERATION, number[1]);
+    put32(record + ZRV_RECORD_CONDITION, (uint32_t)number[2]);
+    put32(record + ZRV_RECORD_POINTER, number[2] == ZRV_EMPTY ? 0 : narrowed(number[3]));
 }
 
 /* A sector at a zone's write pointer, which rises by 1; nothing where the zone is full. */
@@ -52,17 +53,18 @@ static void append_odd(struct host *host, uint64_t drive, uint64_t zone, const u
 
 static void append_of(struct host *host, const struct command *command) {
     const uint64_t *number = command->number;
-    uint8_t *sector = calloc(host->shelf.geometry.sector_bytes + 32, 1);
+    uint8_t *sector = calloc(host->shelf.geometry.sector_bytes + ENTRY_HEAD_BYTES, 1);
     if (sector == NULL)
         exit(2);
     if (command->letter == 'q') {
         fill_from_stream(sector, host->shelf.geometry.sector_bytes, number[2]);
     } else {
-        memcpy(sector, "ZRV", 3);
-        sector[3] = (uint8_t)number[2];
-        sector[4] = 1;
-        for (int i = 0; i < 3; i++)
-            put64(sector + 8 + 8 * i, number[3 + i]);
+        memcpy(sector, ENTRY_MARK, ENTRY_MARK_BYTES);
+        sector[ENTRY_TYPE] = (uint8_t)number[2];
+        sector[ENTRY_VERSION] = ENTRY_FORMAT;
+        put64(sector + ENTRY_START, number[3]);
+        put64(sector + ENTRY_END, number[4]);
+        put64(sector + ENTRY_GENERATION, number[5]);
     }
     append_odd(host, number[0], number[1], sector);
     free(sector);
@@ -99,7 +101,7 @@ void change_host(struct host *host, const struct command *command) {
         break;
     case 'x':
         if (host->has_state)
-            host->state[0] = (uint8_t)number[0];
+            host->state[ZRV_STATE_LOST] = (uint8_t)number[0];
         break;
     case 'e':
     case 'q':

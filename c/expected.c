@@ -11,22 +11,22 @@ static bool reads_state(enum call_kind kind) {
     return kind != CALL_FORMAT && kind != CALL_LOOK && kind != CALL_MOUNT;
 }
 
-static void state_from_bytes(struct volume_state *state, uint8_t *bytes) {
-    state->lost = bytes[0];
+static void state_from_bytes(struct volume_state *state, const uint8_t *bytes) {
+    state->lost = bytes[ZRV_STATE_LOST];
     for (uint32_t z = 0; z < ZRV_STATE_RECORDS; z++) {
         const uint8_t *record = zone_record(bytes, z);
-        state->zone[z] = (struct zone_state){get64(record), record[RECORD_CONDITION], get32(record + RECORD_POINTER)};
+        state->zone[z] = (struct zone_state){get64(record + ZRV_RECORD_GENERATION), record[ZRV_RECORD_CONDITION], get32(record + ZRV_RECORD_POINTER)};
     }
 }
 
 void state_to_bytes(const struct volume_state *state, uint32_t zones, uint8_t *bytes) {
     memset(bytes, 0, ZRV_STATE_BYTES);
-    bytes[0] = (uint8_t)state->lost;
+    bytes[ZRV_STATE_LOST] = (uint8_t)state->lost;
     for (uint32_t z = 0; z < zones; z++) {
-        uint8_t *record = zone_record(bytes, z);
-        put64(record, state->zone[z].generation);
-        record[RECORD_CONDITION] = (uint8_t)state->zone[z].condition;
-        put32(record + RECORD_POINTER, state->zone[z].pointer);
+        uint8_t *record = zone_record_to_change(bytes, z);
+        put64(record + ZRV_RECORD_GENERATION, state->zone[z].generation);
+        record[ZRV_RECORD_CONDITION] = (uint8_t)state->zone[z].condition;
+        put32(record + ZRV_RECORD_POINTER, state->zone[z].pointer);
     }
 }
 
@@ -38,17 +38,17 @@ static bool all_zero(const uint8_t *bytes, size_t length) {
 }
 
 /* The form of a state's bytes: zeros where zeros belong, a condition that there is, no pointer in an empty zone. */
-static bool state_form(uint8_t *bytes, uint32_t zones) {
+static bool state_form(const uint8_t *bytes, uint32_t zones) {
     if (!all_zero(bytes + 1, ZRV_STATE_HEAD_BYTES - 1))
         return false;
     for (uint32_t z = 0; z < ZRV_STATE_RECORDS; z++) {
         const uint8_t *record = zone_record(bytes, z);
-        uint8_t condition = record[RECORD_CONDITION];
+        uint8_t condition = record[ZRV_RECORD_CONDITION];
         if (z >= zones && !all_zero(record, ZRV_STATE_RECORD_BYTES))
             return false;
-        if (condition > ZRV_WORN || !all_zero(record + RECORD_CONDITION + 1, 3))
+        if (condition > ZRV_WORN || !all_zero(record + ZRV_RECORD_CONDITION + 1, 3))
             return false;
-        if (condition == ZRV_EMPTY && !all_zero(record + RECORD_POINTER, 4))
+        if (condition == ZRV_EMPTY && !all_zero(record + ZRV_RECORD_POINTER, 4))
             return false;
     }
     return true;
@@ -57,7 +57,7 @@ static bool state_form(uint8_t *bytes, uint32_t zones) {
 /* A table's cells; a length that is no whole number of them is none that fits. */
 static size_t cells_in(struct range range, uint32_t *table) {
     size_t cells = range.length / 4;
-    for (size_t i = 0; i < cells && i < 256; i++)
+    for (size_t i = 0; i < cells && i < MOST_CELLS; i++)
         table[i] = get32(range.bytes + 4 * i);
     return range.length % 4 == 0 ? cells : SIZE_MAX;
 }
@@ -93,14 +93,14 @@ static uint32_t log_refusal(const struct volume *v, uint32_t named, const struct
             if (d != absent && v->written[at] > get32(made->written + 4 * at))
                 return ZRV_LOG;
         }
-    return 0;
+    return ZRV_FINISHED;
 }
 
 static uint32_t look_code(const struct volume *v, const struct call *call, const struct made_by *made) {
     uint32_t refusal = look_refusal(v, call->named);
-    if (refusal == 0)
+    if (refusal == ZRV_FINISHED)
         refusal = log_refusal(v, call->named, made);
-    if (refusal == 0 && call->kind == CALL_MOUNT && mount_log_full(v, call->named))
+    if (refusal == ZRV_FINISHED && call->kind == CALL_MOUNT && mount_log_full(v, call->named))
         refusal = ZRV_LOG_FULL;
     return refusal;
 }
@@ -126,7 +126,7 @@ static uint32_t code_of(struct expected *e, const struct call *call, const struc
     case CALL_PEEK:
         return peek_refusal(v, call->named, call->address);
     }
-    return 0;
+    return ZRV_FINISHED;
 }
 
 void expect(struct expected *e, const struct call *call, const struct made_by *made) {

@@ -3,6 +3,7 @@
 #ifndef EXPECTED_H
 #define EXPECTED_H
 
+#include "placement.h"
 #include "plain.h"
 
 /* What is known of the tables beside their bytes: how they were made. */
@@ -18,7 +19,7 @@ struct expected {
     struct volume volume;              /* its sectors and tables are the caller's, below */
     uint8_t *sectors;                  /* space for as many sectors as the call is lent */
     uint8_t *answer;                   /* space for a read's answer */
-    uint32_t written[256], durable[256];
+    uint32_t written[MOST_CELLS], durable[MOST_CELLS];
 };
 
 void expect(struct expected *expected, const struct call *call, const struct made_by *made);

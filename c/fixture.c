@@ -85,7 +85,7 @@ static void cut_and_mount(struct fixture *f) {
     memcpy(f->range[DURABLE].bytes, f->range[WRITTEN].bytes, f->range[WRITTEN].length);
     struct call call = usual_call(f, CALL_MOUNT);
     must_finish(&call);
-    if (zone_record(f->range[STATE].bytes, 0)[RECORD_CONDITION] != ZRV_SEALED) {
+    if (zone_record(f->range[STATE].bytes, 0)[ZRV_RECORD_CONDITION] != ZRV_SEALED) {
         printf("a fixture's zone is not sealed\n");
         exit(1);
     }
@@ -129,7 +129,7 @@ struct range buffer_of(const struct fixture *f, uint32_t run) {
     return buffer;
 }
 
-uint32_t zone_pointer(const struct fixture *f, uint32_t zone) { return get32(zone_record(f->range[STATE].bytes, zone) + RECORD_POINTER); }
+uint32_t zone_pointer(const struct fixture *f, uint32_t zone) { return get32(zone_record(f->range[STATE].bytes, zone) + ZRV_RECORD_POINTER); }
 
 struct call usual_call(const struct fixture *f, enum call_kind kind) {
     struct call call = {.kind = kind, .geometry = f->made.geometry, .named = (1u << f->made.geometry.drives) - 1, .array = 77, .count = ZRV_ALL_STORES};

@@ -8,8 +8,6 @@
 #include "plain_layout.h"
 #include "plain_logs.h"
 
-enum { MOST_SECTOR_BYTES = 4096, MOST_UNIT = 16 };
-
 /* A storing call: the drive that it goes without and the stores that it may still make. */
 struct storing {
     struct volume *v;
@@ -136,7 +134,7 @@ static bool run_known(const struct volume *v, uint32_t absent, uint32_t zone, ui
 
 uint32_t plain_read(const struct volume *v, uint32_t named, uint64_t address, uint32_t run, uint8_t *answer, size_t answer_bytes) {
     uint32_t refusal = read_refusal(v, named, address, run, answer_bytes);
-    if (refusal != 0)
+    if (refusal != ZRV_FINISHED)
         return refusal;
     uint32_t whole = (uint32_t)zone_addresses(v->geometry), zone = (uint32_t)(address / whole), offset = (uint32_t)(address % whole);
     uint32_t absent = absent_drive(v->geometry, named, v->state.lost);
@@ -163,7 +161,7 @@ static void join_row(struct geometry g, uint8_t *rows, uint32_t inside, const ui
 
 /* The rows of a stripe's sectors before a write; false where one is not known. */
 static bool earlier_rows(const struct volume *v, uint32_t absent, uint32_t zone, uint32_t offset, uint8_t *rows) {
-    uint8_t space[MOST_SECTOR_BYTES];
+    uint8_t space[ZRV_MOST_SECTOR_BYTES];
     uint32_t inside = offset % stripe_sectors(v->geometry);
     for (uint32_t i = 0; i < inside; i++) {
         struct sector_place place = place_of(v->geometry, absent, zone, offset - inside + i);
@@ -187,7 +185,7 @@ static bool append_partial(struct storing *storing, uint32_t zone, uint32_t end,
     struct geometry g = storing->v->geometry;
     uint32_t inside = end % stripe_sectors(g), drive = parity_drive(g, zone, end / stripe_sectors(g));
     uint64_t start = (uint64_t)zone * zone_addresses(g) + end - inside;
-    uint8_t sector[MOST_SECTOR_BYTES];
+    uint8_t sector[ZRV_MOST_SECTOR_BYTES];
     partial_header(sector, g, start, start + inside, storing->v->state.zone[zone].generation);
     return append(storing, drive, PARITY_LOG, sector) && append_rows(storing, drive, PARITY_LOG, rows, inside < g.unit ? inside : g.unit);
 }
@@ -210,12 +208,12 @@ static bool write_stripe(struct storing *storing, uint32_t zone, uint32_t offset
 
 uint32_t plain_write(struct volume *v, uint32_t named, uint64_t address, uint32_t run, uint32_t count, const uint8_t *data, size_t data_bytes) {
     uint32_t refusal = write_refusal(v, named, address, run, data_bytes);
-    if (refusal != 0)
+    if (refusal != ZRV_FINISHED)
         return refusal;
     struct geometry g = v->geometry;
     uint32_t whole = (uint32_t)zone_addresses(g), zone = (uint32_t)(address / whole), offset = (uint32_t)(address % whole), end = offset + run;
     struct storing storing = {v, absent_drive(g, named, v->state.lost), count};
-    uint8_t rows[MOST_UNIT * MOST_SECTOR_BYTES];
+    uint8_t rows[ZRV_MOST_UNIT * ZRV_MOST_SECTOR_BYTES];
     if (parity_drive(g, zone, offset / stripe_sectors(g)) != storing.absent && !earlier_rows(v, storing.absent, zone, offset, rows))
         return ZRV_GONE;
     while (offset < end) {
@@ -234,7 +232,7 @@ uint32_t plain_write(struct volume *v, uint32_t named, uint64_t address, uint32_
 
 uint32_t plain_flush(struct volume *v, uint32_t named, uint32_t count) {
     uint32_t refusal = flush_refusal(v, named);
-    if (refusal != 0)
+    if (refusal != ZRV_FINISHED)
         return refusal;
     struct storing storing = {v, absent_drive(v->geometry, named, v->state.lost), count};
     if (!flush_all(&storing))
@@ -260,7 +258,7 @@ static bool reset_all(struct storing *storing) {
 
 static bool append_labels(struct storing *storing, const struct volume_state *state, uint64_t array) {
     struct geometry g = storing->v->geometry;
-    uint8_t label[MOST_SECTOR_BYTES], counters[MOST_SECTOR_BYTES];
+    uint8_t label[ZRV_MOST_SECTOR_BYTES], counters[ZRV_MOST_SECTOR_BYTES];
     counters_header(counters, g, state);
     for (uint32_t d = 0; d < g.drives; d++) {
         label_header(label, g, d, state->lost, array);
@@ -272,7 +270,7 @@ static bool append_labels(struct storing *storing, const struct volume_state *st
 
 uint32_t plain_format(struct volume *v, uint32_t named, uint64_t array, uint32_t count) {
     uint32_t refusal = format_refusal(v, named);
-    if (refusal != 0)
+    if (refusal != ZRV_FINISHED)
         return refusal;
     struct storing storing = {v, absent_drive(v->geometry, named, ZRV_NO_DRIVE), count};
     struct volume_state fresh = {.lost = storing.absent};

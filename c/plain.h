@@ -27,13 +27,13 @@ struct volume {
     struct volume_state state;
 };
 
-/* Each answers as the C edge does: 0 finished, 1 to 15 the refusal's number, 255 unfinished. */
+/* Each answers as the C edge does, by the numbers of zrv.h. */
 uint32_t plain_format(struct volume *volume, uint32_t named, uint64_t array, uint32_t count);
 uint32_t plain_write(struct volume *volume, uint32_t named, uint64_t address, uint32_t run, uint32_t count, const uint8_t *data, size_t data_bytes);
 uint32_t plain_read(const struct volume *volume, uint32_t named, uint64_t address, uint32_t run, uint8_t *answer, size_t answer_bytes);
 uint32_t plain_flush(struct volume *volume, uint32_t named, uint32_t count);
 
-/* What is refused, 0 if nothing is, up to refusal 14 (of a peek 15 too). Of look and mount 1 to 4, with the lost drive that the labels name in the
+/* What is refused, ZRV_FINISHED if nothing is, up to refusal 14 (of a peek 15 too). Of look and mount 1 to 4, with the lost drive that the labels name in the
  * volume's state; and a mount's 14 apart, because 5 and 6 come before it. */
 bool geometry_fits(struct geometry geometry);
 uint32_t format_refusal(const struct volume *volume, uint32_t named);

@@ -8,9 +8,9 @@
 
 static void header(uint8_t *sector, struct geometry g, enum entry_type type, uint64_t start, uint64_t end, uint64_t generation) {
     memset(sector, 0, g.sector_bytes);
-    memcpy(sector, "ZRV", 3);
+    memcpy(sector, ENTRY_MARK, ENTRY_MARK_BYTES);
     sector[ENTRY_TYPE] = (uint8_t)type;
-    sector[ENTRY_VERSION] = 1;
+    sector[ENTRY_VERSION] = ENTRY_FORMAT;
     put64(sector + ENTRY_START, start);
     put64(sector + ENTRY_END, end);
     put64(sector + ENTRY_GENERATION, generation);

@@ -2,20 +2,16 @@
  * and mount, which have no plain version; 15 of a read and a write is found where the sectors are sought. */
 #include "plain_layout.h"
 
-static const struct { uint32_t least_drives, most_drives, least_bytes, most_bytes, most_unit, most_zones, most_sectors; } bound = {
-    3, 8, 64, 4096, 16, 16, 65536,
-};
-
 static uint32_t larger(uint32_t a, uint32_t b) { return a > b ? a : b; }
 
 bool geometry_fits(struct geometry g) {
-    if (g.drives < bound.least_drives || g.drives > bound.most_drives)
+    if (g.drives < ZRV_LEAST_DRIVES || g.drives > ZRV_MOST_DRIVES)
         return false;
-    if (g.sector_bytes < bound.least_bytes || g.sector_bytes > bound.most_bytes || (g.sector_bytes & (g.sector_bytes - 1)) != 0)
+    if (g.sector_bytes < ZRV_LEAST_SECTOR_BYTES || g.sector_bytes > ZRV_MOST_SECTOR_BYTES || (g.sector_bytes & (g.sector_bytes - 1)) != 0)
         return false;
-    if (g.unit < 1 || g.unit > bound.most_unit || g.zones < 1 || g.zones > bound.most_zones || 32 + 8 * g.zones > g.sector_bytes)
+    if (g.unit < 1 || g.unit > ZRV_MOST_UNIT || g.zones < 1 || g.zones > ZRV_MOST_ZONES || 32 + 8 * g.zones > g.sector_bytes)
         return false;
-    if (g.zone_sectors > bound.most_sectors || g.zone_sectors % g.unit != 0)
+    if (g.zone_sectors > ZRV_MOST_ZONE_SECTORS || g.zone_sectors % g.unit != 0)
         return false;
     return g.zone_sectors >= larger(g.zones * (1 + g.unit) + 2 * g.unit + 1, g.zones + 6);
 }
@@ -58,7 +54,7 @@ static uint32_t tables_refusal(const struct volume *v, uint32_t named, uint32_t 
         return ZRV_LENGTH;
     if (!pointers_fit(v, named))
         return ZRV_POINTER;
-    return two_lost(v, named, lost) ? ZRV_TWO_LOST : 0;
+    return two_lost(v, named, lost) ? ZRV_TWO_LOST : ZRV_FINISHED;
 }
 
 uint32_t format_refusal(const struct volume *v, uint32_t named) { return tables_refusal(v, named, ZRV_NO_DRIVE); }
@@ -72,7 +68,7 @@ static uint32_t input_refusal(const struct volume *v, uint32_t named, bool buffe
         return ZRV_LENGTH;
     if (!pointers_fit(v, named))
         return ZRV_POINTER;
-    return two_lost(v, named, v->state.lost) ? ZRV_TWO_LOST : 0;
+    return two_lost(v, named, v->state.lost) ? ZRV_TWO_LOST : ZRV_FINISHED;
 }
 
 uint32_t flush_refusal(const struct volume *v, uint32_t named) { return input_refusal(v, named, true); }
@@ -90,7 +86,7 @@ static uint32_t zone_refusal(const struct volume *v, uint32_t named, uint64_t zo
         if (d != absent && (has < needs || (exact && has != needs)))
             return ZRV_STALE;
     }
-    return 0;
+    return ZRV_FINISHED;
 }
 
 static uint32_t unused(const struct volume *v, uint32_t drive, uint32_t log) {
@@ -124,11 +120,11 @@ bool mount_log_full(const struct volume *v, uint32_t named) {
 
 uint32_t write_refusal(const struct volume *v, uint32_t named, uint64_t address, uint32_t run, size_t data_bytes) {
     uint32_t refusal = input_refusal(v, named, data_bytes == (uint64_t)run * v->geometry.sector_bytes);
-    if (refusal != 0)
+    if (refusal != ZRV_FINISHED)
         return refusal;
     uint32_t whole = (uint32_t)zone_addresses(v->geometry);
     refusal = zone_refusal(v, named, address / whole);
-    if (refusal != 0)
+    if (refusal != ZRV_FINISHED)
         return refusal;
     uint32_t zone = (uint32_t)(address / whole), offset = (uint32_t)(address % whole);
     const struct zone_state *state = &v->state.zone[zone];
@@ -140,47 +136,47 @@ uint32_t write_refusal(const struct volume *v, uint32_t named, uint64_t address,
         return ZRV_ZONE_SEALED;
     if (state->condition == ZRV_WORN)
         return ZRV_ZONE_WORN;
-    return parity_log_full(v, absent_drive(v->geometry, named, v->state.lost), zone, offset + run) ? ZRV_LOG_FULL : 0;
+    return parity_log_full(v, absent_drive(v->geometry, named, v->state.lost), zone, offset + run) ? ZRV_LOG_FULL : ZRV_FINISHED;
 }
 
 uint32_t read_refusal(const struct volume *v, uint32_t named, uint64_t address, uint32_t run, size_t answer_bytes) {
     uint32_t refusal = input_refusal(v, named, answer_bytes == (uint64_t)run * v->geometry.sector_bytes);
-    if (refusal != 0)
+    if (refusal != ZRV_FINISHED)
         return refusal;
     uint32_t whole = (uint32_t)zone_addresses(v->geometry);
     refusal = zone_refusal(v, named, address / whole);
-    if (refusal != 0)
+    if (refusal != ZRV_FINISHED)
         return refusal;
     uint32_t offset = (uint32_t)(address % whole);
     if (run == 0 || run > whole - offset)
         return ZRV_RUN;
-    return offset + run > v->state.zone[address / whole].pointer ? ZRV_UNWRITTEN : 0;
+    return offset + run > v->state.zone[address / whole].pointer ? ZRV_UNWRITTEN : ZRV_FINISHED;
 }
 
 uint32_t reset_refusal(const struct volume *v, uint32_t named, uint32_t zone) {
     uint32_t refusal = input_refusal(v, named, true);
-    if (refusal == 0)
+    if (refusal == ZRV_FINISHED)
         refusal = zone_refusal(v, named, zone);
-    if (refusal != 0)
+    if (refusal != ZRV_FINISHED)
         return refusal;
     if (v->state.zone[zone].condition == ZRV_WORN || v->state.zone[zone].generation == UINT64_MAX)
         return ZRV_ZONE_WORN;
-    return log_below(v, absent_drive(v->geometry, named, v->state.lost), GENERAL_LOG, v->geometry.zones + 4) ? ZRV_LOG_FULL : 0;
+    return log_below(v, absent_drive(v->geometry, named, v->state.lost), GENERAL_LOG, v->geometry.zones + 4) ? ZRV_LOG_FULL : ZRV_FINISHED;
 }
 
 uint32_t peek_refusal(const struct volume *v, uint32_t named, uint64_t address) {
     uint32_t refusal = input_refusal(v, named, true);
-    if (refusal != 0)
+    if (refusal != ZRV_FINISHED)
         return refusal;
     struct geometry g = v->geometry;
     uint32_t whole = (uint32_t)zone_addresses(g);
     refusal = zone_refusal(v, named, address / whole);
-    if (refusal != 0)
+    if (refusal != ZRV_FINISHED)
         return refusal;
     uint32_t zone = (uint32_t)(address / whole), offset = (uint32_t)(address % whole);
     if (offset >= v->state.zone[zone].pointer)
         return ZRV_UNWRITTEN;
     uint32_t parity = parity_drive(g, zone, offset / stripe_sectors(g));
     uint32_t drive = unit_drive(g, parity, offset % stripe_sectors(g) / g.unit);
-    return drive == absent_drive(v->geometry, named, v->state.lost) ? ZRV_GONE : 0;
+    return drive == absent_drive(v->geometry, named, v->state.lost) ? ZRV_GONE : ZRV_FINISHED;
 }

@@ -28,16 +28,16 @@ static uint32_t adler(uint32_t sum, const uint8_t *bytes, size_t length) {
 }
 
 static void show_state(const uint8_t *state, uint32_t zones) {
-    printf(" lost %u", state[0]);
+    printf(" lost %u", state[ZRV_STATE_LOST]);
     for (uint32_t z = 0; z < zones && z < ZRV_STATE_RECORDS; z++) {
-        const uint8_t *record = zone_record((uint8_t *)(uintptr_t)state, z);
-        printf(" %" PRIu64 ":%u:%" PRIu32, get64(record), record[RECORD_CONDITION], get32(record + RECORD_POINTER));
+        const uint8_t *record = zone_record(state, z);
+        printf(" %" PRIu64 ":%u:%" PRIu32, get64(record + ZRV_RECORD_GENERATION), record[ZRV_RECORD_CONDITION], get32(record + ZRV_RECORD_POINTER));
     }
 }
 
 /* A read of a whole zone up to its pointer, under the state that a look showed. */
 static void show_zone(const struct host *host, uint32_t named, uint8_t *shown, uint32_t zone) {
-    uint32_t pointer = get32(zone_record(shown, zone) + RECORD_POINTER);
+    uint32_t pointer = get32(zone_record(shown, zone) + ZRV_RECORD_POINTER);
     if (pointer == 0) {
         printf(" 1");
         return;

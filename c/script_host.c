@@ -10,8 +10,7 @@ static struct range shortened(struct range range, uint64_t by) {
     return range;
 }
 
-static struct call call_of(const struct host *host, uint8_t *state) {
-    const struct shortage *shortage = &host->shortage;
+static struct call call_of(const struct host *host, const struct shortage *shortage, uint8_t *state) {
     struct call call = {
         .geometry = host->geometry,
         .range[SECTORS] = shortened(host->shelf.sectors, shortage->sectors),
@@ -66,7 +65,7 @@ static struct reply perform_call(struct host *host, const struct command *comman
     if (!host->has_state && strchr("wurdp", command->letter) != NULL)
         return reply;
     memcpy(reply.shown, host->state, ZRV_STATE_BYTES);
-    struct call call = call_of(host, reply.shown);
+    struct call call = call_of(host, &host->shortage, reply.shown);
     take_numbers(&call, command);
     reply.buffer = buffer_for(host, command);
     call.range[BUFFER] = reply.buffer;
@@ -77,7 +76,8 @@ static struct reply perform_call(struct host *host, const struct command *comman
 }
 
 uint32_t host_read(const struct host *host, uint32_t named, uint64_t address, uint32_t run, uint8_t *state, struct range buffer) {
-    struct call call = call_of(host, state);
+    const struct shortage none = {0};
+    struct call call = call_of(host, &none, state);
     call.kind = CALL_READ;
     call.named = named;
     call.address = address;

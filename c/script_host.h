@@ -30,7 +30,7 @@ struct reply {
     struct range buffer;
 };
 
-/* A read or peek with a state and drives, on the shelf's whole byte ranges. */
+/* A read with a state and drives, on the shelf's whole byte ranges, whatever the shortage. */
 uint32_t host_read(const struct host *host, uint32_t named, uint64_t address, uint32_t run, uint8_t *state, struct range buffer);
 
 /* Carries a command out. The reply's buffer is the caller's to free. */

@@ -7,9 +7,6 @@
 
 #include "zrv.h"
 
-/* Where a zone record's fields are. */
-enum { RECORD_CONDITION = 8, RECORD_POINTER = 12, MOST_DRIVES = 8 };
-
 enum call_kind {
     CALL_FORMAT = 'f',
     CALL_LOOK = 'l',
@@ -50,9 +47,11 @@ uint32_t make_call(const struct call *call);
 /* Whether a geometry is inside document 01's bounds, asked of the volume itself. */
 bool geometry_is_taken(struct geometry geometry);
 
-/* The record of a zone in a state. */
-static inline uint8_t *zone_record(uint8_t *state, uint32_t zone) {
+/* The record of a zone in a state: to read, and to change. */
+static inline const uint8_t *zone_record(const uint8_t *state, uint32_t zone) {
     return state + ZRV_STATE_HEAD_BYTES + (size_t)zone * ZRV_STATE_RECORD_BYTES;
 }
+
+static inline uint8_t *zone_record_to_change(uint8_t *state, uint32_t zone) { return state + (zone_record(state, zone) - state); }
 
 #endif

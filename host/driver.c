@@ -50,8 +50,8 @@ static void take_finished(struct driver *driver) {
     struct host_record *record = &driver->drives.record;
     memcpy(record->state, driver->shown, ZRV_STATE_BYTES);
     record->phase = PHASE_READY;
-    if (record->state[0] != ZRV_NO_DRIVE)
-        driver->drives.present &= ~(1u << record->state[0]);
+    if (record->state[ZRV_STATE_LOST] != ZRV_NO_DRIVE)
+        driver->drives.present &= ~(1u << record->state[ZRV_STATE_LOST]);
     give_up_absent(driver);
 }
 

@@ -23,7 +23,7 @@ enum {
     GIVEN_UP = 36,
     ARRAY = 40,
     SAVES = 48,
-    STATE_AT = SAVES + 8 * MOST_DRIVES,
+    STATE_AT = SAVES + 8 * ZRV_MOST_DRIVES,
     CHECKSUM = STATE_AT + ZRV_STATE_BYTES,
     RECORD_BYTES = CHECKSUM + 8
 };
@@ -77,7 +77,7 @@ static bool read_record(struct drives *drives, struct message *message) {
     record->phase = (enum phase)get32(bytes + PHASE);
     record->given_up = get32(bytes + GIVEN_UP);
     record->array = get64(bytes + ARRAY);
-    for (int d = 0; d < MOST_DRIVES; d++)
+    for (uint32_t d = 0; d < ZRV_MOST_DRIVES; d++)
         record->save[d] = get64(bytes + SAVES + 8 * d);
     memcpy(record->state, bytes + STATE_AT, ZRV_STATE_BYTES);
     return true;
@@ -91,12 +91,13 @@ static bool write_record(const struct drives *drives, struct message *message) {
     put32(bytes + PHASE, record->phase);
     put32(bytes + GIVEN_UP, record->given_up);
     put64(bytes + ARRAY, record->array);
-    for (int d = 0; d < MOST_DRIVES; d++)
+    for (uint32_t d = 0; d < ZRV_MOST_DRIVES; d++)
         put64(bytes + SAVES + 8 * d, record->save[d]);
     memcpy(bytes + STATE_AT, record->state, ZRV_STATE_BYTES);
     put64(bytes + CHECKSUM, checksum(CHECKSUM_START, bytes, CHECKSUM));
     struct file_place place = place_of(drives, "state.new");
-    fsync(drives->directory); /* the names of the drives' new files last before the record that makes them count */
+    if (!sync_names(&place, message)) /* the names of the drives' new files last before the record that makes them count */
+        return false;
     FILE *file = create_file(&place);
     if (file == NULL)
         return fail_by_errno(message, &place);

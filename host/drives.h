@@ -28,7 +28,7 @@ struct host_record {
     enum phase phase;
     uint32_t given_up; /* drives, by bit, that are never named again (document 01: lost) */
     uint64_t array;
-    uint64_t save[MOST_DRIVES];
+    uint64_t save[ZRV_MOST_DRIVES];
     uint8_t state[ZRV_STATE_BYTES];
 };
 

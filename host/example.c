@@ -21,13 +21,13 @@ struct volume {
 
 /* Says what a call answered and where zone 0 stands by the state; leaves on anything but finished. */
 static void report(const char *call, uint32_t answer, struct volume *v) {
-    static const char *const condition[] = {"empty", "open", "sealed", "worn"};
+    static const char *const condition[] = {[ZRV_EMPTY] = "empty", [ZRV_OPEN] = "open", [ZRV_SEALED] = "sealed", [ZRV_WORN] = "worn"};
     if (answer != ZRV_FINISHED) {
         fprintf(stderr, "%s: answer %u\n", call, (unsigned)answer);
         exit(1);
     }
     const uint8_t *record = zone_record(v->state, 0);
-    printf("%-6s zone 0 is %s at %u\n", call, condition[record[RECORD_CONDITION]], (unsigned)get32(record + RECORD_POINTER));
+    printf("%-6s zone 0 is %s at %u\n", call, condition[record[ZRV_RECORD_CONDITION]], (unsigned)get32(record + ZRV_RECORD_POINTER));
 }
 
 int main(void) {

@@ -12,6 +12,8 @@
 
 enum { FILE_VERSION = 1 };
 
+#define CHECKSUM_PRIME 1099511628211u
+
 void put_head(uint8_t *bytes, const char *magic, struct geometry g) {
     const uint32_t number[] = {g.drives, g.sector_bytes, g.unit, g.zones, g.zone_sectors};
     memcpy(bytes, magic, MAGIC_BYTES);
@@ -36,7 +38,7 @@ bool head_fits(const uint8_t *bytes, const char *magic, const struct file_place 
 
 uint64_t checksum(uint64_t before, const uint8_t *bytes, size_t length) {
     for (size_t i = 0; i < length; i++)
-        before = (before ^ bytes[i]) * 1099511628211u;
+        before = (before ^ bytes[i]) * CHECKSUM_PRIME;
     return before;
 }
 
@@ -66,8 +68,11 @@ bool finish_file(FILE *file) {
 bool rename_file(const struct file_place *from, const char *to, struct message *message) {
     if (renameat(from->directory, from->name, from->directory, to) != 0)
         return fail_by_errno(message, from);
-    fsync(from->directory);
-    return true;
+    return sync_names(from, message);
+}
+
+bool sync_names(const struct file_place *place, struct message *message) {
+    return fsync(place->directory) == 0 || fail(message, "%s: %s", place->folder, strerror(errno));
 }
 
 bool fail_by_errno(struct message *message, const struct file_place *place) {

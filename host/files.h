@@ -32,7 +32,10 @@ FILE *create_file(const struct file_place *place);
 /* Brings what was written to the disk and closes the file. */
 bool finish_file(FILE *file);
 
-/* Gives a file another name; what has that name is replaced. */
+/* Brings the names in a file's folder to the disk: those of new files, and those that were changed. */
+bool sync_names(const struct file_place *place, struct message *message);
+
+/* Gives a file another name, which lasts; what has that name is replaced. */
 bool rename_file(const struct file_place *from, const char *to, struct message *message);
 
 /* "folder/name: what errno says". */

@@ -48,8 +48,8 @@ static bool is_seal(struct geometry g, const uint8_t *s) {
 }
 
 bool entry_is_legal(struct geometry g, uint32_t drive, uint32_t log, const uint8_t *header) {
-    static const uint8_t version[] = {1, 0, 0, 0};
-    if (memcmp(header, "ZRV", 3) != 0 || memcmp(header + ENTRY_VERSION, version, sizeof version) != 0)
+    static const uint8_t version[] = {ENTRY_FORMAT, 0, 0, 0};
+    if (memcmp(header, ENTRY_MARK, ENTRY_MARK_BYTES) != 0 || memcmp(header + ENTRY_VERSION, version, sizeof version) != 0)
         return false;
     if ((header[ENTRY_TYPE] == ENTRY_PARTIAL_PARITY) != (log == PARITY_LOG))
         return false;

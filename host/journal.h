@@ -11,6 +11,9 @@
 
 enum entry_type { ENTRY_LABEL = 1, ENTRY_COUNTERS = 2, ENTRY_RESET = 3, ENTRY_PARTIAL_PARITY = 4, ENTRY_SEAL = 5 };
 
+#define ENTRY_MARK "ZRV"
+enum { ENTRY_MARK_BYTES = sizeof ENTRY_MARK - 1, ENTRY_FORMAT = 1 };
+
 /* Where a header's fields are; those from LABEL_DRIVES on in a label alone. */
 enum {
     ENTRY_TYPE = 3,

@@ -7,6 +7,9 @@
 
 enum { GENERAL_LOG = 0, PARITY_LOG = 1 };
 
+/* A cell is one drive's physical zone. */
+enum { MOST_CELLS = ZRV_MOST_DRIVES * (ZRV_MOST_ZONES + ZRV_LOG_ZONES) };
+
 static inline uint32_t stripe_sectors(struct geometry g) { return (g.drives - 1) * g.unit; }
 static inline uint64_t zone_addresses(struct geometry g) { return (uint64_t)(g.drives - 1) * g.zone_sectors; }
 static inline size_t physical_zones(struct geometry g) { return (size_t)g.zones + ZRV_LOG_ZONES; }

@@ -7,6 +7,10 @@
 
 #include "bytes.h"
 
+/* The stream: numbers below 2^31, the lower 16 bits of which are not used. */
+#define STREAM_MODULUS (UINT64_C(1) << 31)
+enum { STREAM_FACTOR = 1103515245, STREAM_STEP = 12345, STREAM_UNUSED = 1 << 16 };
+
 size_t shelf_cells(struct geometry geometry) { return geometry.drives * physical_zones(geometry); }
 
 struct range new_range(size_t length) {
@@ -54,13 +58,13 @@ void keep_sectors(struct shelf *shelf, size_t cell, uint32_t kept) {
 }
 
 void lose_power_at_random(struct shelf *shelf, uint64_t seed) {
-    uint32_t draw = (uint32_t)(seed % 2147483648);
+    uint32_t draw = first_draw(seed);
     for (size_t cell = 0; cell < shelf_cells(shelf->geometry); cell++) {
         uint32_t written = get32(shelf->written.bytes + cell * sizeof(uint32_t));
         uint32_t kept = get32(shelf->durable.bytes + cell * sizeof(uint32_t));
         draw = next_draw(draw);
         if (kept < written)
-            kept += (uint32_t)(draw / 65536 % ((uint64_t)(written - kept) + 1));
+            kept += (uint32_t)(draw / STREAM_UNUSED % ((uint64_t)(written - kept) + 1));
         keep_sectors(shelf, cell, kept);
     }
 }
@@ -72,14 +76,14 @@ uint64_t table_sum(struct range table) {
     return sum;
 }
 
-uint32_t next_draw(uint32_t draw) {
-    return (uint32_t)(((uint64_t)draw * 1103515245 + 12345) % 2147483648);
-}
+uint32_t first_draw(uint64_t seed) { return (uint32_t)(seed % STREAM_MODULUS); }
+
+uint32_t next_draw(uint32_t draw) { return (uint32_t)(((uint64_t)draw * STREAM_FACTOR + STREAM_STEP) % STREAM_MODULUS); }
 
 void fill_from_stream(uint8_t *bytes, size_t length, uint64_t seed) {
-    uint32_t draw = (uint32_t)(seed % 2147483648);
+    uint32_t draw = first_draw(seed);
     for (size_t i = 0; i < length; i++) {
         draw = next_draw(draw);
-        bytes[i] = (uint8_t)(draw / 65536);
+        bytes[i] = (uint8_t)(draw / STREAM_UNUSED);
     }
 }

@@ -27,6 +27,8 @@ size_t shelf_cells(struct geometry geometry); /* drives times physical zones */
 /* The sum of a table's numbers. */
 uint64_t table_sum(struct range table);
 
+/* Before the first number of a seed's stream; the number after one. */
+uint32_t first_draw(uint64_t seed);
 uint32_t next_draw(uint32_t draw);
 void fill_from_stream(uint8_t *bytes, size_t length, uint64_t seed);
 

@@ -24,8 +24,9 @@
  * zone L - 1 are all zero. A state that breaks this form or document 01's bounds is refusal 1, one of another length 2.
  *
  * The host's duties: no two ranges of a call overlap; an empty range has a pointer that is not null too; every call gets the geometry of the format and
- * the state that the last finished call left; after a power cut a mount is finished before anything but looks and mounts; every drive that is not lost
- * is named, and a lost one never again; after an unfinished call only a power cut, then a mount.
+ * the state that the last finished call left (after a look either its state or the one held before: unless a cut came between, they say the same of every
+ * zone); after a power cut a mount is finished before anything but looks and mounts; every drive that is not lost is named, and a lost one never again;
+ * after an unfinished call only a power cut, then a mount.
  */
 #ifndef ZRV_H
 #define ZRV_H
@@ -37,11 +38,26 @@
 extern "C" {
 #endif
 
-/* Sizes. */
-#define ZRV_STATE_BYTES 264u
+/* Bounds of the geometry. */
+#define ZRV_LEAST_DRIVES 3u
+#define ZRV_MOST_DRIVES 8u
+#define ZRV_LEAST_SECTOR_BYTES 64u
+#define ZRV_MOST_SECTOR_BYTES 4096u
+#define ZRV_MOST_UNIT 16u
+#define ZRV_MOST_ZONES 16u
+#define ZRV_MOST_ZONE_SECTORS 65536u
+
+/* The state: its head with the lost drive, then a record for each zone that there may be, in all ZRV_STATE_BYTES bytes, 264. */
+#define ZRV_STATE_LOST 0u
 #define ZRV_STATE_HEAD_BYTES 8u
+#define ZRV_STATE_RECORDS ZRV_MOST_ZONES
 #define ZRV_STATE_RECORD_BYTES 16u
-#define ZRV_STATE_RECORDS 16u
+#define ZRV_STATE_BYTES (ZRV_STATE_HEAD_BYTES + ZRV_STATE_RECORDS * ZRV_STATE_RECORD_BYTES)
+#define ZRV_RECORD_GENERATION 0u /* 8 bytes */
+#define ZRV_RECORD_CONDITION 8u  /* 1 byte */
+#define ZRV_RECORD_POINTER 12u   /* 4 bytes */
+
+/* Sizes. */
 #define ZRV_PLACE_BYTES 8u
 #define ZRV_LOG_ZONES 3u
 #define ZRV_TABLE_BYTES(drives, zones) ((size_t)(drives) * ((size_t)(zones) + ZRV_LOG_ZONES) * 4u)

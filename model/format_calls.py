@@ -3,9 +3,10 @@
 A call that stores is a generator: it raises Refused before its first store, yields its stores in order, and returns the state that it
 hands on.
 """
-from format_volume import (ALL_STORES, COUNTERS, EMPTY, FIRST_DATA_ZONE, GENERAL_LOG, LABEL, LAST_GENERATION, NO_DRIVE, OPEN, PARITY_LOG,
-                           SEALED, UNFINISHED, WORN, Drives, Logs, Memory, Refused, State, Store, Unfinished, Zone, ZoneRecord,
-                           counters, exclusive_or, label, partial_parity, reset_entry, seal, walk)
+from format_numbers import (ALL_STORES, COUNTERS, FIRST_DATA_ZONE, GENERAL_LOG, LABEL, LAST_GENERATION, NO_DRIVE, PARITY_LOG, Answer,
+                            Condition)
+from format_volume import (Drives, Logs, Memory, Refused, State, Store, Unfinished, Zone, ZoneRecord, counters, exclusive_or, label,
+                           partial_parity, reset_entry, seal, walk)
 
 
 class Call:
@@ -36,23 +37,25 @@ class Call:
         """Refusals 1 to 3."""
         g, memory = self.geometry, self.memory
         if not g.in_bounds():
-            raise Refused(1)
-        if state and (g.D <= state.lost != NO_DRIVE or any(record.pointer > g.Q for record in state.zones)):
-            raise Refused(1)
+            raise Refused(Answer.GEOMETRY)
+        if state:
+            self.state = state = state.of_zones(g.L)
+            if state is None or g.D <= state.lost != NO_DRIVE or any(record.pointer > g.Q for record in state.zones):
+                raise Refused(Answer.GEOMETRY)
         if self.lengths != g.lengths() or buffer != sectors * g.B:
-            raise Refused(2)
+            raise Refused(Answer.LENGTH)
         self.named = [d for d in range(g.D) if self.named_mask >> d & 1]
         for d in self.named:
             for i in range(d * g.Z, d * g.Z + g.Z):
                 if not memory.durable[i] <= memory.written[i] <= g.C:
-                    raise Refused(3)
+                    raise Refused(Answer.POINTER)
 
     def settle_present(self, lost):
         """Refusal 4. `lost` are drives that count as lost although they may be named."""
         self.present = [d for d in self.named if d not in lost]
         missing = [d for d in range(self.geometry.D) if d not in self.present]
         if len(missing) > 1:
-            raise Refused(4)
+            raise Refused(Answer.TWO_LOST)
         self.lost = missing[0] if missing else NO_DRIVE
 
     def settle_by_labels(self):
@@ -61,21 +64,21 @@ class Call:
         self.settle_present([logs.last(d, LABEL).lost for d in self.named if logs.first_label(d)])
         firsts = [logs.first_label(d) for d in self.present]
         if None in firsts or len({first.array for first in firsts}) > 1:
-            raise Refused(5)
+            raise Refused(Answer.LABEL)
         self.array = firsts[0].array
         if any(logs.walks[d, log].broken_at is not None for d in self.present for log in (GENERAL_LOG, PARITY_LOG)):
-            raise Refused(6)
+            raise Refused(Answer.LOG)
 
     def check_zone(self, z):
         """Refusals 7 and 8; the zone's record in the state."""
         g = self.geometry
         if z >= g.L:
-            raise Refused(8)
+            raise Refused(Answer.ADDRESS)
         record = self.state.zones[z]
         for d in self.present:
             written, need = self.drives.written(d, FIRST_DATA_ZONE + z), g.need(z, record.pointer, d)
-            if written < need or (written > need and record.condition in (EMPTY, OPEN)):
-                raise Refused(7)
+            if written < need or (written > need and record.condition in (Condition.EMPTY, Condition.OPEN)):
+                raise Refused(Answer.STALE)
         return record
 
     def check_run(self, address, sectors, buffer):
@@ -85,7 +88,7 @@ class Call:
         z, a = divmod(address, self.geometry.Q)
         record = self.check_zone(z)
         if sectors == 0 or a + sectors > self.geometry.Q:
-            raise Refused(9)
+            raise Refused(Answer.RUN)
         return z, a, record
 
     def known(self, z, record, offsets):
@@ -93,7 +96,7 @@ class Call:
         zone = Zone(self.drives, Logs(self.drives, self.present), self.present, z, record.generation)
         values = {a: zone.value(a) for a in offsets}
         if None in values.values():
-            raise Refused(15)
+            raise Refused(Answer.GONE)
         return values
 
     # ---- section 8: the calls and their stores
@@ -131,7 +134,7 @@ class Call:
             yield Store("append", d, GENERAL_LOG, label(g, d, self.lost, array))
             yield Store("append", d, GENERAL_LOG, counters(g, [1] * g.L))
         yield from self.on_all("flush")
-        return State(self.lost, [ZoneRecord(1, EMPTY, 0)] * g.L)
+        return State(self.lost, [ZoneRecord(1, Condition.EMPTY, 0)] * g.L)
 
     def write(self, address, sectors, data):
         g = self.geometry
@@ -149,19 +152,19 @@ class Call:
                     yield from self.append(at.parity_drive, FIRST_DATA_ZONE + z, self.row_sum(values, at.stripe, r, b + 1))
         if (a + sectors) % g.K:
             yield from self.parity_entry(z, a + sectors, record.generation, values)
-        return self.state.with_zone(self.lost, z, ZoneRecord(record.generation, OPEN, a + sectors))
+        return self.state.with_zone(self.lost, z, ZoneRecord(record.generation, Condition.OPEN, a + sectors))
 
     def check_write(self, z, a, record, end):
         """Refusals 10 to 12 and 14 of a write from offset a to end."""
         g = self.geometry
         if a != record.pointer:
-            raise Refused(10)
-        if record.condition in (SEALED, WORN):
-            raise Refused(11 if record.condition == SEALED else 12)
+            raise Refused(Answer.ORDER)
+        if record.condition in (Condition.SEALED, Condition.WORN):
+            raise Refused(Answer.SEALED if record.condition == Condition.SEALED else Answer.WORN)
         s, f = divmod(end, g.K)
         p = g.parity_drive(z, s)
         if f and p in self.present and self.drives.room(p, PARITY_LOG) < 1 + min(f, g.U) + g.R:
-            raise Refused(14)
+            raise Refused(Answer.LOG_FULL)
 
     def flush(self):
         self.check_input(self.state)
@@ -174,16 +177,16 @@ class Call:
         self.check_input(self.state)
         self.settle_present([self.state.lost])
         record = self.check_zone(z)
-        if record.condition == WORN or record.generation == LAST_GENERATION:
-            raise Refused(12)
+        if record.condition == Condition.WORN or record.generation == LAST_GENERATION:
+            raise Refused(Answer.WORN)
         if any(self.drives.room(d, GENERAL_LOG) < g.L + 4 for d in self.present):
-            raise Refused(14)
+            raise Refused(Answer.LOG_FULL)
         for d in sorted(g.reset_drives(z)):
             yield from self.append(d, GENERAL_LOG, reset_entry(g, z, record.generation))
         yield from self.on_all("flush")
         yield from self.on_all("reset", FIRST_DATA_ZONE + z)
         raised = record.generation + 1
-        after = self.state.with_zone(self.lost, z, ZoneRecord(raised, WORN if raised == LAST_GENERATION else EMPTY, 0))
+        after = self.state.with_zone(self.lost, z, ZoneRecord(raised, Condition.WORN if raised == LAST_GENERATION else Condition.EMPTY, 0))
         yield from self.on_all("append", GENERAL_LOG, counters(g, [zone.generation for zone in after.zones]))
         yield from self.on_all("flush")
         return after
@@ -191,7 +194,7 @@ class Call:
     def read(self, address, sectors, buffer):
         z, a, record = self.check_run(address, sectors, buffer)
         if a + sectors > record.pointer:
-            raise Refused(13)
+            raise Refused(Answer.UNWRITTEN)
         return b"".join(self.known(z, record, range(a, a + sectors)).values())
 
     def peek(self, address):
@@ -200,10 +203,10 @@ class Call:
         self.settle_present([self.state.lost])
         z, a = divmod(address, g.Q)
         if a >= self.check_zone(z).pointer:
-            raise Refused(13)
+            raise Refused(Answer.UNWRITTEN)
         at = g.place(z, a)
         if at.drive not in self.present or self.drives.written(at.drive, FIRST_DATA_ZONE + z) <= at.sector:
-            raise Refused(15)
+            raise Refused(Answer.GONE)
         return g.byte_of(at.drive, FIRST_DATA_ZONE + z, at.sector)
 
     def look(self):
@@ -227,7 +230,7 @@ class Call:
         self.check_input()
         self.settle_by_labels()
         if any(self.drives.room(d, GENERAL_LOG) < g.L + 2 or self.drives.room(d, PARITY_LOG) < g.R for d in self.present):
-            raise Refused(14)
+            raise Refused(Answer.LOG_FULL)
         yield from self.on_all("flush")
         self.show()
         for step in (self.labels_step, self.type_3_step, self.resets_step, self.counters_step, self.seals_step, self.torn_rows_step,
@@ -257,18 +260,18 @@ class Call:
 
     def resets_step(self):
         for d, z, zone in self.each_zone():
-            if zone.record.condition != WORN and (zone.emptied or (zone.record.pointer == 0 and not zone.clean)):
+            if zone.record.condition != Condition.WORN and (zone.emptied or (zone.record.pointer == 0 and not zone.clean)):
                 yield Store("reset", d, FIRST_DATA_ZONE + z)
 
     def counters_step(self):
-        empty = [zone.record.condition == EMPTY for zone in self.zones]
+        empty = [zone.record.condition == Condition.EMPTY for zone in self.zones]
         if any(empty) or len({self.logs.last(d, COUNTERS) for d in self.present}) > 1:
             generations = [zone.generation + raised for zone, raised in zip(self.zones, empty)]
             yield from self.on_all("append", GENERAL_LOG, counters(self.geometry, generations))
 
     def seals_step(self):
         for d, z, zone in self.each_zone():
-            if zone.record.condition == SEALED and zone.record.pointer not in zone.seals[d]:
+            if zone.record.condition == Condition.SEALED and zone.record.pointer not in zone.seals[d]:
                 yield Store("append", d, GENERAL_LOG, seal(self.geometry, z, zone.record.pointer, zone.generation))
 
     def torn_rows_step(self):
@@ -315,16 +318,16 @@ class Host:
         self.stores = call.made
         try:
             self.state = call.carry_out(getattr(call, name)(*arguments), count)
-            return 0
+            return Answer.FINISHED
         except Refused as refused:
             return refused.number
         except Unfinished:
-            return UNFINISHED
+            return Answer.UNFINISHED
 
     def ask(self, name, named, *arguments, state=None, lengths=None):
-        """A look, read or peek: its answer, and what it gives if that is 0."""
+        """A look, read or peek: its answer, and what it gives if it finishes."""
         call = Call(self.geometry, self.memory, named, state or self.state, lengths)
         try:
-            return 0, getattr(call, name)(*arguments)
+            return Answer.FINISHED, getattr(call, name)(*arguments)
         except Refused as refused:
             return refused.number, None

@@ -3,13 +3,13 @@ from collections import namedtuple
 from itertools import groupby
 
 from format_calls import Host
-from format_volume import EMPTY, FIRST_DATA_ZONE, GENERAL_LOG, PARITY_LOG, Drives, Geometry, read_entry
+from format_numbers import FIRST_DATA_ZONE, GENERAL_LOG, PARITY_LOG, Condition
+from format_volume import Drives, Geometry, read_entry
 
 V = Geometry(D=4, B=64, U=2, L=2, C=32)
 ARRAY = 0x1122334455667788
 FILLS = bytes([0x01, 0x02, 0x04, 0x08, 0x10, 0x20, 0x40, 0x80])
 ALL_DRIVES = 15
-CONDITION_WORDS = ("empty", "open", "sealed", "worn")
 
 Run = namedtuple("Run", "stores drives span")
 
@@ -98,8 +98,8 @@ def ends(store):
 
 
 def in_words(record):
-    word = CONDITION_WORDS[record.condition]
-    return word if record.condition == EMPTY else "%s at %d" % (word, record.pointer)
+    word = record.condition.name.lower()
+    return word if record.condition == Condition.EMPTY else "%s at %d" % (word, record.pointer)
 
 
 def either(answers):

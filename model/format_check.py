@@ -4,11 +4,13 @@ from random import Random
 
 from format_cases import (ALL_DRIVES, ARRAY, FILLS, V, Volume, before_mount, either, ends, five_written, formatted, in_words, kept, sector,
                           without)
+from format_numbers import (COUNTERS, FIRST_DATA_ZONE, GENERAL_LOG, LABEL, MOST_ZONE_SECTORS, PARITY_LOG, RESET, SEAL, SECTOR_SIZES, Answer,
+                            Condition)
 from format_page import NotFound, Page, written_out
-from format_volume import (COUNTERS, FIRST_DATA_ZONE, GENERAL_LOG, EMPTY, LABEL, OPEN, PARITY_LOG, RESET, SEAL, SECTOR_SIZES, Geometry,
-                           ZoneRecord, counters, partial_parity, reset_entry, seal, walk)
+from format_volume import Geometry, ZoneRecord, counters, partial_parity, reset_entry, seal, walk
 
 DRAWN_CUTS = 6
+CALL_LETTERS = {"f": "format", "l": "look", "m": "mount", "w": "write", "u": "flush", "r": "reset", "d": "read", "p": "peek"}
 
 
 def check_geometry(page):
@@ -23,7 +25,7 @@ def check_geometry(page):
     page.phrase("| R, what a mount may need of a parity log | L × (1 + U) + U | {} |", V.R)
     most = [max(L for L in range(1, 17) if Geometry(V.D, B, 1, L, 64).in_bounds()) for B in SECTOR_SIZES[:2]]
     page.phrase("at most {} for B = 64, {} for B = 128", *most)
-    page.phrase("With V's D, B, U and L the least C is {}.", min(C for C in range(65537) if Geometry(V.D, V.B, V.U, V.L, C).in_bounds()))
+    page.phrase("With V's D, B, U and L the least C is {}.", min(C for C in range(MOST_ZONE_SECTORS + 1) if Geometry(V.D, V.B, V.U, V.L, C).in_bounds()))
     page.phrase("D × Z × C × B bytes (V: {})", V.lengths()[0])
     page.phrase("D × Z numbers of 32 bits (V: {})", V.lengths()[1])
 
@@ -160,6 +162,10 @@ def check_refusals(page):
     rooms = [least_room(log, call) for log, call in cases]
     page.phrase("V: mount {} and {}, reset {}, write of one sector at 0 {} ({} is refused), of five sectors {}.",
                 *rooms, rooms[-1] - 1, least_room(PARITY_LOG, write_5))
+    check_refusals_on_v(page)
+
+
+def check_refusals_on_v(page):
     five = five_written()
     page.phrase("read of 4 to 5: {}. Read of 95 and 96: {}. Read of 192: {}, of no sectors there too.",
                 five.read(4, 2)[0], five.read(95, 2)[0], either(five.read(192, count)[0] for count in (0, 1)))
@@ -167,10 +173,44 @@ def check_refusals(page):
     page.phrase("Peek of 4: byte {}; without drive 2: {}, while a read of it without drive 2 gives its bytes, {}.",
                 five.ask("peek", ALL_DRIVES, 4)[1], five.ask("peek", without(2), 4)[0], five.read(4, 1, without(2))[1])
     page.phrase("Mask 3 (drives 0 and 1): {}.", five.read(0, 1, 3)[0])
-    at_0 = five.state.with_zone(five.state.lost, 0, ZoneRecord(1, OPEN, 0))
+    at_0 = five.state.with_zone(five.state.lost, 0, ZoneRecord(1, Condition.OPEN, 0))
     page.phrase("State open at 0: {}.", five.ask("read", ALL_DRIVES, 0, 1, V.B, state=at_0)[0])
     five.memory.written[V.Z + 4] = 33
     page.phrase("With a write pointer of 33 in zone 4 of drive 1: {}, also for a read in zone 0.", five.read(0, 1)[0])
+
+
+def check_names(page):
+    """Sections 7 and 10: the numbers' words."""
+    rows = page.table("| | Word | Refused if |")[1:]
+    refusals = [answer for answer in Answer if Answer.FINISHED < answer < Answer.NO_STATE]
+    page.compare(rows[0][0], "%d refusals" % len(rows), "%d refusals" % len(refusals))
+    for (position, (number, word, _)), answer in zip(rows, refusals):
+        page.compare(position, "%s %s" % (number, word), "%d %s" % (answer, answer.name.lower().replace("_", " ")))
+    page.phrase("condition (1: 0 {}, 1 {}, 2 {}, 3 {})", *(condition.name.lower() for condition in Condition))
+
+
+def check_matrix(page, answers):
+    """Section 7: which call knows which refusal, by the answers of the vectors; and refusal 3, which not every call meets there."""
+    met = {name: set() for name in CALL_LETTERS.values()}
+    for letter, code, *_ in answers:
+        if letter in CALL_LETTERS and Answer.FINISHED < int(code) < Answer.NO_STATE:
+            met[CALL_LETTERS[letter]].add(int(code))
+    (_, numbers), *rows = page.table("| Call | 1 | 2 | 3 |")
+    page.compare(rows[0][0], " ".join(cells[0] for _, cells in rows), " ".join(met))
+    for position, (name, *marks) in rows:
+        gives = met[name] | ({Answer.POINTER} if refuses_pointers(name) else set())
+        stands = [number for number, mark in zip(numbers[1:], marks) if mark == "x"]
+        page.compare(position, " ".join(stands), " ".join(str(number) for number in sorted(gives)))
+
+
+def refuses_pointers(name):
+    """Whether a call answers 3 where a drive's pointers are out of order."""
+    volume = five_written()
+    volume.memory.written[0] = V.C + 1
+    calls = {"format": (ARRAY,), "write": (5, 1, sector(5)), "reset": (0,), "read": (0, 1, V.B), "peek": (0,)}
+    carry_out = volume.ask if name in ("look", "read", "peek") else volume.store
+    answer = carry_out(name, ALL_DRIVES, *calls.get(name, ()))
+    return (answer[0] if carry_out == volume.ask else answer) == Answer.POINTER
 
 
 def least_room(log, call):
@@ -183,7 +223,7 @@ def least_room(log, call):
             rows = 0 if log == GENERAL_LOG else 2 if more == 3 else 1
             for sector in [partial_parity(V, 0, rows, 0) if rows else counters(V, [1] * V.L)] + [row] * rows:
                 volume.drives.append(3, log, sector)
-        if call(volume) == 14:
+        if call(volume) == Answer.LOG_FULL:
             return room + 1
     return 0
 
@@ -261,7 +301,7 @@ def after_reset(count, choose):
     volume.store("reset", ALL_DRIVES, 0, count=count)
     volume.keep({}, choose)
     record = volume.ask("look", ALL_DRIVES)[1].zones[0]
-    return "empty, %d" % record.generation if record.condition == EMPTY else in_words(record)
+    return "empty, %d" % record.generation if record.condition == Condition.EMPTY else in_words(record)
 
 
 def check_mount(page):
@@ -363,11 +403,11 @@ def check_script(page, replay):
         page.compare(position, match[2], gives)
 
 
-def check(path, replay):
-    """Compares the page with the model; 0 if they agree. `replay` gives the answers to the lines of a script."""
+def check(path, answers, replay):
+    """Compares the page with the model and with the answers of the vectors; 0 if they agree. `replay` gives the answers to the lines of a script."""
     page = Page(path)
-    for section in (check_geometry, check_placement, check_entries, check_walks, check_looks, check_refusals, check_stores, check_mount,
-                    lambda page: check_script(page, replay)):
+    for section in (check_geometry, check_placement, check_entries, check_walks, check_looks, check_refusals, check_names, check_stores, check_mount,
+                    lambda page: check_matrix(page, answers), lambda page: check_script(page, replay)):
         try:
             section(page)
         except NotFound as missing:

@@ -2,7 +2,9 @@
 """A second implementation of the volume, written along docs/FORMAT.md (format_volume.py and format_calls.py), and two uses of it.
 
     model/format_model.py replay < crates/replay/stdin     the answers to a script of commands (section 12), one a line
-    model/format_model.py check docs/FORMAT.md             the page's worked values against the model's
+    model/format_model.py check docs/FORMAT.md crates/replay/stdout
+                                                           the page's worked values against the model's, and which call knows which
+                                                           refusal against the answers of the vectors
 """
 import struct
 import sys
@@ -10,9 +12,9 @@ import zlib
 
 from format_calls import Host
 from format_check import check
+from format_numbers import Answer, Condition
 from format_volume import Drives, Geometry, State, ZoneRecord, header
 
-NO_STATE = 254
 NOTHING_SHORT = (0, 0, 0, 0)
 
 
@@ -43,12 +45,12 @@ class Replay:
         letter, *arguments = line.split()
         arguments = [int(argument) for argument in arguments]
         if letter in "wurdp" and self.host.state is None:
-            code, rest = NO_STATE, []
+            code, rest = Answer.NO_STATE, []
         else:
-            code, rest = getattr(self, "command_" + letter)(*arguments) or (0, [])
+            code, rest = getattr(self, "command_" + letter)(*arguments) or (Answer.FINISHED, [])
         if letter != "n":
             self.short = NOTHING_SHORT
-        return " ".join(str(word) for word in [letter, code, *self.checksums(), *self.kept_state(letter), *rest])
+        return " ".join(str(word) for word in [letter, int(code), *self.checksums(), *self.kept_state(letter), *rest])
 
     def checksums(self):
         memory = self.host.memory
@@ -106,7 +108,7 @@ class Replay:
     def zone_checksum(self, named, shown, z):
         """Of a read up to the pointer that a look shows."""
         g, n = self.host.geometry, shown.zones[z].pointer
-        code, data = self.host.ask("read", named, z * g.Q, n, n * g.B, state=shown) if n else (0, b"")
+        code, data = self.host.ask("read", named, z * g.Q, n, n * g.B, state=shown) if n else (Answer.FINISHED, b"")
         return "r%d" % code if code else zlib.adler32(data)
 
     # ---- what is no call
@@ -135,7 +137,7 @@ class Replay:
     def command_s(self, zone, generation, condition, pointer):
         state = self.host.state
         if state:
-            self.host.state = state.with_zone(state.lost, zone, ZoneRecord(generation, condition, pointer if condition else 0))
+            self.host.state = state.with_zone(state.lost, zone, ZoneRecord(generation, condition, 0 if condition == Condition.EMPTY else pointer))
 
     def command_x(self, lost):
         if self.host.state:
@@ -163,8 +165,9 @@ def main(arguments):
     if arguments == ["replay"]:
         print("\n".join(replay(sys.stdin)))
         return 0
-    if len(arguments) == 2 and arguments[0] == "check":
-        return check(arguments[1], replay)
+    if len(arguments) == 3 and arguments[0] == "check":
+        with open(arguments[2], encoding="utf-8") as answers:
+            return check(arguments[1], [line.split() for line in answers], replay)
     print(__doc__, file=sys.stderr)
     return 2
 

@@ -5,15 +5,8 @@ Written along that page, to be read beside it, not to be fast. Each part names i
 import struct
 from collections import namedtuple
 
-GENERAL_LOG, PARITY_LOG, FIRST_DATA_ZONE = 0, 1, 3
-LABEL, COUNTERS, RESET, PARTIAL_PARITY, SEAL = 1, 2, 3, 4, 5
-EMPTY, OPEN, SEALED, WORN = 0, 1, 2, 3
-NO_DRIVE = 255
-LAST_GENERATION = 2**64 - 1
-ALL_STORES = 2**32 - 1
-UNFINISHED = 255
-SECTOR_SIZES = (64, 128, 256, 512, 1024, 2048, 4096)
-STATE_RECORDS = 16
+from format_numbers import (COUNTERS, FIRST_DATA_ZONE, GENERAL_LOG, LABEL, LAST_GENERATION, MOST_ZONE_SECTORS, NO_DRIVE, PARITY_LOG,
+                            PARTIAL_PARITY, RESET, SEAL, SECTOR_SIZES, STATE_RECORD_BYTES, STATE_RECORDS, Condition)
 
 Place = namedtuple("Place", "drive sector parity_drive stripe unit row")
 Store = namedtuple("Store", "kind drive zone data sector", defaults=(None,) * 3)     # kind: append, reset or flush
@@ -47,7 +40,7 @@ class Geometry:
     def in_bounds(self):
         D, B, U, L, C = self.D, self.B, self.U, self.L, self.C
         return (3 <= D <= 8 and B in SECTOR_SIZES and 1 <= U <= 16 and 1 <= L <= 16 and 32 + 8 * L <= B
-                and C % U == 0 and max(L * (1 + U) + 2 * U + 1, L + 6) <= C <= 65536)
+                and C % U == 0 and max(L * (1 + U) + 2 * U + 1, L + 6) <= C <= MOST_ZONE_SECTORS)
 
     def lengths(self):
         """Section 2: bytes of the sectors, numbers of written and of durable."""
@@ -289,11 +282,11 @@ class Zone:
         n = len(self.values)
         self.clean = self.is_clean(n)
         if self.generation == LAST_GENERATION:
-            condition = WORN
+            condition = Condition.WORN
         elif n == 0:
-            condition = EMPTY
+            condition = Condition.EMPTY
         else:
-            condition = SEALED if not self.clean or any(self.seals.values()) else OPEN
+            condition = Condition.SEALED if not self.clean or any(self.seals.values()) else Condition.OPEN
         self.record = ZoneRecord(self.generation, condition, n)
         return self.record
 
@@ -312,9 +305,16 @@ class State:
     def __init__(self, lost, zones):
         self.lost, self.zones = lost, list(zones)
 
+    def of_zones(self, L):
+        """The state as L zones see it: records from L on must be all zero, and missing ones are. None if they are not."""
+        nothing = ZoneRecord(0, Condition.EMPTY, 0)
+        if any(record != nothing for record in self.zones[L:]):
+            return None
+        return State(self.lost, (self.zones + [nothing] * L)[:L])
+
     def with_zone(self, lost, z=None, record=None):
         return State(lost, [record if i == z else old for i, old in enumerate(self.zones)])
 
     def to_bytes(self):
         records = [struct.pack("<QB3xI", *record) for record in self.zones]
-        return bytes([self.lost]) + bytes(7) + b"".join(records) + bytes(16 * (STATE_RECORDS - len(records)))
+        return bytes([self.lost]) + bytes(7) + b"".join(records) + bytes(STATE_RECORD_BYTES * (STATE_RECORDS - len(records)))

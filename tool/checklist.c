@@ -42,9 +42,7 @@ __attribute__((format(printf, 2, 3))) static void end_line(const struct line *li
 
 static bool is_present(const struct driver *driver, uint32_t drive) { return (driver->drives.present >> drive & 1) != 0; }
 
-static const uint8_t *shown_zone(const struct driver *driver, uint32_t zone) {
-    return driver->shown + ZRV_STATE_HEAD_BYTES + (size_t)zone * ZRV_STATE_RECORD_BYTES;
-}
+static const uint8_t *shown_zone(const struct driver *driver, uint32_t zone) { return zone_record(driver->shown, zone); }
 
 static uint32_t written_in(const struct driver *driver, uint32_t drive, uint32_t physical_zone) {
     return get32(driver->drives.shelf.written.bytes + 4 * cell(driver->drives.record.geometry, drive, physical_zone));
@@ -108,9 +106,9 @@ static void check_labels(const struct driver *driver) {
 
 /* What becomes of a drive's sectors past a zone's pointer. */
 static const char *fate_of_excess(const uint8_t *zone) {
-    if (zone[RECORD_CONDITION] == ZRV_EMPTY)
+    if (zone[ZRV_RECORD_CONDITION] == ZRV_EMPTY)
         return "the next mount resets the zone";
-    return zone[RECORD_CONDITION] == ZRV_SEALED ? "the zone is sealed for that" : "the zone stays as it is";
+    return zone[ZRV_RECORD_CONDITION] == ZRV_SEALED ? "the zone is sealed for that" : "the zone stays as it is";
 }
 
 static void check_pointers(const struct driver *driver, bool shown) {
@@ -118,10 +116,10 @@ static void check_pointers(const struct driver *driver, bool shown) {
     struct geometry g = driver->drives.record.geometry;
     for (uint32_t z = 0; shown && z < g.zones; z++) {
         const uint8_t *zone = shown_zone(driver, z);
-        uint32_t pointer = get32(zone + RECORD_POINTER);
+        uint32_t pointer = get32(zone + ZRV_RECORD_POINTER);
         for (uint32_t d = 0; d < g.drives; d++) {
             uint32_t has = written_in(driver, d, ZRV_LOG_ZONES + z), needs = sectors_needed(g, z, pointer, d);
-            if (!is_present(driver, d) || d == driver->shown[0] || has == needs)
+            if (!is_present(driver, d) || d == driver->shown[ZRV_STATE_LOST] || has == needs)
                 continue;
             found(&line, "zone %u: drive %u has %u sector%s, the zone's pointer %u needs %u; %s", z, d, has, plural(has), pointer, needs,
                   has > needs ? fate_of_excess(zone) : "a mount fills in what is missing");
@@ -163,7 +161,7 @@ static bool logs_reset(const struct driver *driver, uint32_t drive, uint32_t zon
     const uint8_t *header;
     while (is_present(driver, drive) && next_entry(&reader, &header) == JOURNAL_ENTRY)
         if (header[ENTRY_TYPE] == ENTRY_RESET && get64(header + ENTRY_START) == zone * zone_addresses(g) &&
-            get64(header + ENTRY_GENERATION) == get64(shown_zone(driver, zone)))
+            get64(header + ENTRY_GENERATION) == get64(shown_zone(driver, zone) + ZRV_RECORD_GENERATION))
             return true;
     return false;
 }
@@ -216,7 +214,7 @@ static void tell_left_out(void *listener, const struct difference *d) {
 static void check_left_out(const struct driver *driver, bool shown) {
     struct line line = {driver, "each drive left out", "parity older than the data beside it", 0};
     uint32_t every = (1u << driver->drives.record.geometry.drives) - 1;
-    bool whole = driver->drives.present == every && driver->shown[0] == ZRV_NO_DRIVE;
+    bool whole = driver->drives.present == every && driver->shown[ZRV_STATE_LOST] == ZRV_NO_DRIVE;
     if (shown && whole)
         compare_left_out(driver, tell_left_out, &line);
     if (shown && !whole)

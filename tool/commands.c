@@ -8,6 +8,10 @@
 
 #include "checklist.h"
 #include "tool.h"
+#include "words.h"
+
+/* The geometry of a format that is given none, as the help of `zrv format` tells it. */
+static const struct geometry usual = {.drives = 4, .sector_bytes = 4096, .unit = 4, .zones = 4, .zone_sectors = 256};
 
 enum { DRIVES, SECTOR_BYTES, UNIT, ZONES, ZONE_SECTORS, ARRAY, WITHOUT, FORMAT_STORES, FORCE };
 
@@ -26,7 +30,7 @@ static bool was_left_unfinished(const char *folder, struct message *message) {
     return due;
 }
 
-static int format_drives(struct driver *driver, const struct option *option) {
+static int format_drives(struct driver *driver, const struct command_option *option) {
     struct call call = {.kind = CALL_FORMAT, .count = (uint32_t)option[FORMAT_STORES].number};
     struct drives *drives = &driver->drives;
     drives->record.array = call.array = option[ARRAY].given ? option[ARRAY].number : array_by_time();
@@ -41,14 +45,14 @@ static int format_drives(struct driver *driver, const struct option *option) {
 }
 
 int format_main(int argc, char **argv) {
-    struct option option[] = {
-        [DRIVES] = {.name = "drives", .kind = OPTION_NUMBER, .most = UINT32_MAX, .number = 4},
-        [SECTOR_BYTES] = {.name = "sector-bytes", .kind = OPTION_NUMBER, .most = UINT32_MAX, .number = 4096},
-        [UNIT] = {.name = "unit", .kind = OPTION_NUMBER, .most = UINT32_MAX, .number = 4},
-        [ZONES] = {.name = "zones", .kind = OPTION_NUMBER, .most = UINT32_MAX, .number = 4},
-        [ZONE_SECTORS] = {.name = "zone-sectors", .kind = OPTION_NUMBER, .most = UINT32_MAX, .number = 256},
+    struct command_option option[] = {
+        [DRIVES] = {.name = "drives", .kind = OPTION_NUMBER, .most = UINT32_MAX, .number = usual.drives},
+        [SECTOR_BYTES] = {.name = "sector-bytes", .kind = OPTION_NUMBER, .most = UINT32_MAX, .number = usual.sector_bytes},
+        [UNIT] = {.name = "unit", .kind = OPTION_NUMBER, .most = UINT32_MAX, .number = usual.unit},
+        [ZONES] = {.name = "zones", .kind = OPTION_NUMBER, .most = UINT32_MAX, .number = usual.zones},
+        [ZONE_SECTORS] = {.name = "zone-sectors", .kind = OPTION_NUMBER, .most = UINT32_MAX, .number = usual.zone_sectors},
         [ARRAY] = {.name = "array", .kind = OPTION_NUMBER, .most = UINT64_MAX},
-        [WITHOUT] = {.name = "without", .kind = OPTION_NUMBER, .most = MOST_DRIVES - 1},
+        [WITHOUT] = {.name = "without", .kind = OPTION_NUMBER, .most = ZRV_MOST_DRIVES - 1},
         [FORMAT_STORES] = STORES_OPTION,
         [FORCE] = {.name = "force", .kind = OPTION_FLAG},
     };
@@ -75,13 +79,13 @@ int format_main(int argc, char **argv) {
 
 static uint32_t drives_named(const struct driver *driver) {
     uint32_t named = 0;
-    for (uint32_t d = 0; d < MOST_DRIVES; d++)
+    for (uint32_t d = 0; d < ZRV_MOST_DRIVES; d++)
         named += driver->drives.present >> d & 1;
     return named;
 }
 
 int flush_main(int argc, char **argv) {
-    struct option option[] = {STORES_OPTION};
+    struct command_option option[] = {STORES_OPTION};
     struct driver driver;
     int code = begin_command(argc, argv, option, COUNT(option), &driver);
     if (code == EXIT_DONE) {
@@ -95,7 +99,7 @@ int flush_main(int argc, char **argv) {
 }
 
 int reset_main(int argc, char **argv) {
-    struct option option[] = {STORES_OPTION, {.name = "zone", .kind = OPTION_NUMBER, .needed = true, .most = UINT32_MAX}};
+    struct command_option option[] = {STORES_OPTION, {.name = "zone", .kind = OPTION_NUMBER, .needed = true, .most = UINT32_MAX}};
     struct driver driver;
     int code = begin_command(argc, argv, option, COUNT(option), &driver);
     if (code == EXIT_DONE) {
@@ -111,7 +115,7 @@ int reset_main(int argc, char **argv) {
 }
 
 int mount_main(int argc, char **argv) {
-    struct option option[] = {STORES_OPTION};
+    struct command_option option[] = {STORES_OPTION};
     struct driver driver;
     int code = begin_command(argc, argv, option, COUNT(option), &driver);
     if (code == EXIT_DONE) {
@@ -146,28 +150,27 @@ int look_main(int argc, char **argv) {
     return code;
 }
 
-/* Reads "DRIVE:ZONE=SECTORS" up to a comma or the end; where that is, or NULL where the text has another form. */
-static const char *parse_kept_zone(const char *text, struct kept_zone *kept) {
+/* Reads "DRIVE:ZONE=SECTORS"; where it ends, or NULL where the text has another form. */
+static const char *read_kept_zone(const char *text, struct kept_zone *kept) {
     uint64_t drive, zone, sectors;
-    const char *at = parse_number(text, ':', UINT32_MAX, &drive);
-    if (at != NULL)
-        at = parse_number(at + 1, '=', UINT32_MAX, &zone);
-    if (at == NULL)
+    text = read_number(text, 0, UINT32_MAX, &drive);
+    if (text == NULL || *text != ':')
         return NULL;
-    const char *end = parse_number(at + 1, ',', UINT32_MAX, &sectors);
-    if (end == NULL)
-        end = parse_number(at + 1, '\0', UINT32_MAX, &sectors);
-    if (end != NULL)
+    text = read_number(text + 1, 0, UINT32_MAX, &zone);
+    if (text == NULL || *text != '=')
+        return NULL;
+    text = read_number(text + 1, 0, UINT32_MAX, &sectors);
+    if (text != NULL)
         *kept = (struct kept_zone){(uint32_t)drive, (uint32_t)zone, (uint32_t)sectors};
-    return end;
+    return text;
 }
 
 /* Reads a list of them, which is the caller's to free; its length, or 0 where the text has another form. */
 static size_t parse_kept_zones(const char *text, struct kept_zone **list) {
     *list = calloc(strlen(text) + 1, sizeof **list);
     for (size_t count = 0; *list != NULL; count++) {
-        const char *end = parse_kept_zone(text, &(*list)[count]);
-        if (end == NULL)
+        const char *end = read_kept_zone(text, &(*list)[count]);
+        if (end == NULL || (*end != ',' && *end != '\0'))
             return 0;
         if (*end == '\0')
             return count + 1;
@@ -176,7 +179,8 @@ static size_t parse_kept_zones(const char *text, struct kept_zone **list) {
     return 0;
 }
 
-static bool parse_power_loss(const struct option *keep, const struct option *seed, struct power_loss *loss, struct kept_zone **list, struct message *message) {
+static bool parse_power_loss(const struct command_option *keep, const struct command_option *seed, struct power_loss *loss, struct kept_zone **list,
+                             struct message *message) {
     static const char *const words[] = {[KEEP_NONE] = "none", [KEEP_ALL] = "all", [KEEP_RANDOM] = "random"};
     *loss = (struct power_loss){.keeps = KEEP_NONE, .seed = seed->number};
     bool is_word = !keep->given;
@@ -209,7 +213,7 @@ static int lose_power_and_save(struct driver *driver, const struct power_loss *l
 }
 
 int cut_main(int argc, char **argv) {
-    struct option option[] = {{.name = "keep", .kind = OPTION_TEXT}, {.name = "seed", .kind = OPTION_NUMBER, .most = UINT64_MAX}};
+    struct command_option option[] = {{.name = "keep", .kind = OPTION_TEXT}, {.name = "seed", .kind = OPTION_NUMBER, .most = UINT64_MAX}};
     struct kept_zone *list = NULL;
     struct power_loss loss;
     struct driver driver;
@@ -226,7 +230,7 @@ int cut_main(int argc, char **argv) {
 
 /* Only the host's record is read: a drive that cannot be read can be pulled too. */
 int pull_main(int argc, char **argv) {
-    struct option option[] = {{.name = "drive", .kind = OPTION_NUMBER, .needed = true, .most = MOST_DRIVES - 1}};
+    struct command_option option[] = {{.name = "drive", .kind = OPTION_NUMBER, .needed = true, .most = ZRV_MOST_DRIVES - 1}};
     struct drives drives;
     struct message message;
     const char *folder;

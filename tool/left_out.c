@@ -37,7 +37,7 @@ static struct view view_of(const struct driver *driver, uint32_t named) {
 }
 
 static uint32_t shown_sectors(const struct view *view, uint32_t zone) {
-    return get32(view->shown + ZRV_STATE_HEAD_BYTES + (size_t)zone * ZRV_STATE_RECORD_BYTES + RECORD_POINTER);
+    return get32(zone_record(view->shown, zone) + ZRV_RECORD_POINTER);
 }
 
 /* Reads a zone's first sectors into a new buffer. */

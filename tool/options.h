@@ -1,4 +1,4 @@
-/* The words after a command: a folder, and options as "--name value", "--name=value" or, for a flag, "--name". */
+/* The words after a command: a folder, and options. */
 #ifndef OPTIONS_H
 #define OPTIONS_H
 
@@ -9,7 +9,8 @@
 
 enum option_kind { OPTION_FLAG, OPTION_NUMBER, OPTION_TEXT };
 
-struct option {
+/* What a command takes, and once its words are read what it was given. */
+struct command_option {
     const char *name;
     enum option_kind kind;
     bool needed;
@@ -20,9 +21,6 @@ struct option {
 };
 
 /* argv begins with the command's name. False, with a message, on bad usage. */
-bool parse_options(int argc, char **argv, struct option *options, size_t count, const char **folder, struct message *message);
-
-/* Reads a decimal number up to an end character; where that is, or NULL if there is no number or it passes the limit. */
-const char *parse_number(const char *text, char end, uint64_t most, uint64_t *number);
+bool parse_options(int argc, char **argv, struct command_option *options, size_t count, const char **folder, struct message *message);
 
 #endif

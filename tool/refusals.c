@@ -34,6 +34,11 @@ static const char *const order_when_full = "the zone is full; reset it or write 
 
 const char *refusal_word(uint32_t number) { return number >= ZRV_GEOMETRY && number <= ZRV_GONE ? refusals[number].word : "no refusal"; }
 
+const char *condition_word(uint8_t condition) {
+    static const char *const words[] = {[ZRV_EMPTY] = "empty", [ZRV_OPEN] = "open", [ZRV_SEALED] = "sealed", [ZRV_WORN] = "worn"};
+    return condition <= ZRV_WORN ? words[condition] : "in no condition";
+}
+
 struct number {
     const char *name;
     uint64_t value;
@@ -45,7 +50,7 @@ enum { NUMBERS = 5 };
 static void find_numbers(struct number number[NUMBERS], const struct call *call, struct geometry g, const uint8_t *state) {
     uint64_t whole = g.drives == 0 ? 0 : zone_addresses(g);
     uint64_t zone = whole == 0 ? 0 : call->address / whole;
-    uint64_t pointer = zone < ZRV_STATE_RECORDS ? get32(state + ZRV_STATE_HEAD_BYTES + zone * ZRV_STATE_RECORD_BYTES + RECORD_POINTER) : 0;
+    uint64_t pointer = zone < ZRV_STATE_RECORDS ? get32(zone_record(state, (uint32_t)zone) + ZRV_RECORD_POINTER) : 0;
     number[0] = (struct number){"{pointer}", zone * whole + pointer};
     number[1] = (struct number){"{end}", (zone + 1) * whole};
     number[2] = (struct number){"{zones}", g.zones};

@@ -27,7 +27,7 @@ int not_now(const struct message *message) {
     return EXIT_REFUSED;
 }
 
-int begin_command(int argc, char **argv, struct option *options, size_t count, struct driver *driver) {
+int begin_command(int argc, char **argv, struct command_option *options, size_t count, struct driver *driver) {
     struct message message;
     const char *folder;
     *driver = (struct driver){.drives.directory = -1};
@@ -63,12 +63,11 @@ int store_and_save(struct driver *driver, const struct call *call) {
 }
 
 void print_zone(struct geometry g, const uint8_t *state, uint32_t zone) {
-    static const char *const condition[] = {[ZRV_EMPTY] = "empty", [ZRV_OPEN] = "open", [ZRV_SEALED] = "sealed", [ZRV_WORN] = "worn"};
-    const uint8_t *record = state + ZRV_STATE_HEAD_BYTES + (size_t)zone * ZRV_STATE_RECORD_BYTES;
-    printf("zone %u: %s", zone, condition[record[RECORD_CONDITION]]);
-    if (record[RECORD_CONDITION] != ZRV_EMPTY)
-        printf(" at %u of %llu sectors", get32(record + RECORD_POINTER), (unsigned long long)zone_addresses(g));
-    printf(", generation %llu", (unsigned long long)get64(record));
+    const uint8_t *record = zone_record(state, zone);
+    printf("zone %u: %s", zone, condition_word(record[ZRV_RECORD_CONDITION]));
+    if (record[ZRV_RECORD_CONDITION] != ZRV_EMPTY)
+        printf(" at %u of %llu sectors", get32(record + ZRV_RECORD_POINTER), (unsigned long long)zone_addresses(g));
+    printf(", generation %llu", (unsigned long long)get64(record + ZRV_RECORD_GENERATION));
 }
 
 void print_zones(struct geometry g, const uint8_t *state) {

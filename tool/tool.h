@@ -11,7 +11,7 @@ enum { EXIT_DONE = 0, EXIT_REFUSED = 1, EXIT_USAGE = 2, EXIT_FILES = 3 };
 #define STORES_OPTION {.name = "stores", .kind = OPTION_NUMBER, .most = UINT32_MAX, .number = ZRV_ALL_STORES}
 
 /* The words of a command read and its shelf opened; 0, or the exit code after the reason was told. After any of them close_drives is due. */
-int begin_command(int argc, char **argv, struct option *options, size_t count, struct driver *driver);
+int begin_command(int argc, char **argv, struct command_option *options, size_t count, struct driver *driver);
 
 /* Tells bad usage of a command, or a file that cannot be used; the exit code. */
 int usage_error(const char *command, const char *format, ...) __attribute__((format(printf, 2, 3)));

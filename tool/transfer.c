@@ -23,7 +23,7 @@ static uint32_t pointer_of(const struct driver *driver, uint64_t zone) {
     const struct host_record *record = &driver->drives.record;
     if (zone >= record->geometry.zones)
         return 0;
-    return get32(record->state + ZRV_STATE_HEAD_BYTES + zone * ZRV_STATE_RECORD_BYTES + RECORD_POINTER);
+    return get32(zone_record(record->state, (uint32_t)zone) + ZRV_RECORD_POINTER);
 }
 
 /* All bytes of a file, up to a limit, in memory of a length that every sector's divides. */
@@ -46,7 +46,7 @@ static bool read_all(FILE *file, size_t limit, struct range *data) {
 }
 
 /* The data of a write. More than a zone can never be written, so that one sector more is all that is read. */
-static bool take_data(const struct option *from, struct geometry g, struct range *data, struct message *message) {
+static bool take_data(const struct command_option *from, struct geometry g, struct range *data, struct message *message) {
     FILE *file = from->given ? fopen(from->text, "rb") : stdin;
     const char *name = from->given ? from->text : "standard input";
     if (file == NULL)
@@ -66,7 +66,7 @@ static void pad_data(struct range *data, uint32_t sector_bytes) {
     data->length = whole;
 }
 
-static int write_data(struct driver *driver, const struct option *option, const struct range *data) {
+static int write_data(struct driver *driver, const struct command_option *option, const struct range *data) {
     struct geometry g = driver->drives.record.geometry;
     uint64_t zone = option[ZONE].number;
     struct call call = {
@@ -85,7 +85,7 @@ static int write_data(struct driver *driver, const struct option *option, const 
     return EXIT_DONE;
 }
 
-static int take_and_write(struct driver *driver, const struct option *option) {
+static int take_and_write(struct driver *driver, const struct command_option *option) {
     uint32_t sector_bytes = driver->drives.record.geometry.sector_bytes;
     struct range data = {NULL, 0};
     struct message message;
@@ -103,7 +103,7 @@ static int take_and_write(struct driver *driver, const struct option *option) {
 }
 
 int write_main(int argc, char **argv) {
-    struct option option[WRITE_OPTIONS] = {
+    struct command_option option[WRITE_OPTIONS] = {
         [AT] = AT_OPTION,
         [ZONE] = ZONE_OPTION,
         [FILE_NAME] = {.name = "from", .kind = OPTION_TEXT},
@@ -120,7 +120,7 @@ int write_main(int argc, char **argv) {
     return code;
 }
 
-static bool put_data(const struct option *to, const struct range *data, struct message *message) {
+static bool put_data(const struct command_option *to, const struct range *data, struct message *message) {
     FILE *file = to->given ? fopen(to->text, "wb") : stdout;
     const char *name = to->given ? to->text : "standard output";
     if (file == NULL)
@@ -144,7 +144,7 @@ static bool put_data(const struct option *to, const struct range *data, struct m
 }
 
 /* A run longer than a zone is cut down to one sector too many, which is refused all the same. */
-static struct call read_call(const struct driver *driver, const struct option *option) {
+static struct call read_call(const struct driver *driver, const struct command_option *option) {
     struct geometry g = driver->drives.record.geometry;
     uint64_t zone = option[ZONE].number, whole = zone_addresses(g);
     uint64_t wanted = option[AT].given ? option[SECTOR_COUNT].number : pointer_of(driver, zone);
@@ -157,7 +157,7 @@ static struct call read_call(const struct driver *driver, const struct option *o
     return call;
 }
 
-static int read_data(struct driver *driver, const struct option *option) {
+static int read_data(struct driver *driver, const struct command_option *option) {
     struct message message;
     struct call call = read_call(driver, option);
     uint32_t answer = driver_call(driver, call, &message);
@@ -171,7 +171,7 @@ static int read_data(struct driver *driver, const struct option *option) {
 }
 
 int read_main(int argc, char **argv) {
-    struct option option[READ_OPTIONS] = {
+    struct command_option option[READ_OPTIONS] = {
         [AT] = AT_OPTION,
         [ZONE] = ZONE_OPTION,
         [FILE_NAME] = {.name = "to", .kind = OPTION_TEXT},
@@ -202,7 +202,7 @@ static void print_place(const struct driver *driver, uint64_t address, uint64_t 
 }
 
 int peek_main(int argc, char **argv) {
-    struct option option[] = {{.name = "at", .kind = OPTION_NUMBER, .needed = true, .most = UINT64_MAX}};
+    struct command_option option[] = {{.name = "at", .kind = OPTION_NUMBER, .needed = true, .most = UINT64_MAX}};
     struct driver driver;
     struct message message;
     uint8_t place[ZRV_PLACE_BYTES];

@@ -7,7 +7,6 @@
 
 #include "shelf.h"
 
-enum { MOST_CELLS = MOST_DRIVES * (ZRV_STATE_RECORDS + ZRV_LOG_ZONES) };
 
 struct caches {
     size_t cells, cells_of_drive;

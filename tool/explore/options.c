@@ -7,6 +7,7 @@
 #include <string.h>
 
 #include "shelf.h"
+#include "words.h"
 
 /* A shelf larger than this is not for going through state by state. */
 #define MOST_SHELF_BYTES ((size_t)64 * 1024 * 1024)
@@ -70,30 +71,17 @@ static enum parsed complain(const char *format, const char *word) {
 
 const char *breakage_in_words(enum breakage breakage) { return breakages[breakage].words; }
 
-/* A decimal number from least to most, up to the character that ends it. */
-static bool parse_number(const char *text, char end, uint64_t least, uint64_t most, uint64_t *number) {
-    uint64_t value = 0;
-    const char *at = text;
-    for (; *at >= '0' && *at <= '9'; at++) {
-        if (value > (UINT64_MAX - 9) / 10)
-            return false;
-        value = value * 10 + (uint64_t)(*at - '0');
-    }
-    *number = value;
-    return at != text && *at == end && value >= least && value <= most;
-}
-
 /* One word of a list of calls; a zone that it chooses stays for the words that follow. */
 static enum parsed parse_request(const char *word, struct geometry geometry, uint32_t *zone, struct request_list *list) {
     uint64_t number = 0;
     struct request request = {.kind = CALL_FLUSH};
-    if (*word == 'z' && parse_number(word + 1, '\0', 0, geometry.zones - 1, &number)) {
+    if (*word == 'z' && parse_number(word + 1, 0, geometry.zones - 1, &number)) {
         *zone = (uint32_t)number;
         return PARSED;
     }
-    if (*word == 'w' && parse_number(word + 1, '\0', 1, zone_addresses(geometry), &number))
+    if (*word == 'w' && parse_number(word + 1, 1, zone_addresses(geometry), &number))
         request = (struct request){.kind = CALL_WRITE, .zone = *zone, .sectors = (uint32_t)number};
-    else if (*word == 'r' && parse_number(word + 1, '\0', 0, geometry.zones - 1, &number))
+    else if (*word == 'r' && parse_number(word + 1, 0, geometry.zones - 1, &number))
         request = (struct request){.kind = CALL_RESET, .zone = (uint32_t)number};
     else if (strcmp(word, "f") != 0)
         return complain("'%s' is no call here; calls are wN (1 to a zone's sectors), f, rZ and zZ (a zone that there is)", word);
@@ -136,9 +124,9 @@ static enum parsed parse_breakage(const char *word, enum breakage *breakage) {
     return complain("'%s' is no duty to break; duties are flush, sector, second-drive, lost-again, kept-out and mount", word);
 }
 
-/* An option with a value, and where the value goes: the one pointer that is not NULL. */
-struct option {
-    const char *name;
+/* Where an option's value goes: the one pointer that is not NULL. */
+struct destination {
+    bool *flag;
     uint32_t *number;
     uint64_t *long_number;
     const char **text;
@@ -146,70 +134,87 @@ struct option {
     uint64_t least, most; /* of a number */
 };
 
-static enum parsed take_value(const struct option *option, const char *value) {
+enum { DRIVES, SECTOR_BYTES, UNIT, ZONES, ZONE_SECTORS, BUDGET, SEED, CALLS, THEN, PICTURE, BREAK, LOSE_LATER, QUIET, HELP, OPTIONS };
+
+static const struct option names[OPTIONS + 1] = {
+    WORD_WITH_VALUE("drives", DRIVES),
+    WORD_WITH_VALUE("sector-bytes", SECTOR_BYTES),
+    WORD_WITH_VALUE("unit", UNIT),
+    WORD_WITH_VALUE("zones", ZONES),
+    WORD_WITH_VALUE("zone-sectors", ZONE_SECTORS),
+    WORD_WITH_VALUE("budget", BUDGET),
+    WORD_WITH_VALUE("seed", SEED),
+    WORD_WITH_VALUE("calls", CALLS),
+    WORD_WITH_VALUE("then", THEN),
+    WORD_WITH_VALUE("picture", PICTURE),
+    WORD_WITH_VALUE("break", BREAK),
+    WORD_FLAG("lose-later", LOSE_LATER),
+    WORD_FLAG("quiet", QUIET),
+    WORD_FLAG("help", HELP),
+};
+
+static struct destination destination_of(int option, struct options *options) {
+    const struct destination destinations[OPTIONS] = {
+        [DRIVES] = {.number = &options->geometry.drives, .least = ZRV_LEAST_DRIVES, .most = ZRV_MOST_DRIVES},
+        [SECTOR_BYTES] = {.number = &options->geometry.sector_bytes, .least = ZRV_LEAST_SECTOR_BYTES, .most = ZRV_MOST_SECTOR_BYTES},
+        [UNIT] = {.number = &options->geometry.unit, .least = 1, .most = ZRV_MOST_UNIT},
+        [ZONES] = {.number = &options->geometry.zones, .least = 1, .most = ZRV_MOST_ZONES},
+        [ZONE_SECTORS] = {.number = &options->geometry.zone_sectors, .least = 1, .most = ZRV_MOST_ZONE_SECTORS},
+        [BUDGET] = {.long_number = &options->budget, .least = 1, .most = MOST_BUDGET},
+        [SEED] = {.number = &options->seed, .least = 0, .most = UINT32_MAX},
+        [CALLS] = {.text = &options->calls_text},
+        [THEN] = {.text = &options->later_text},
+        [PICTURE] = {.text = &options->picture},
+        [BREAK] = {.breakage = &options->breakage},
+        [LOSE_LATER] = {.flag = &options->loses_later},
+        [QUIET] = {.flag = &options->quiet},
+    };
+    return destinations[option];
+}
+
+static enum parsed take_number(const char *name, const struct destination *to, const char *value) {
     uint64_t number = 0;
-    if (option->breakage != NULL)
-        return parse_breakage(value, option->breakage);
-    if (option->text != NULL) {
-        *option->text = value;
-        return PARSED;
-    }
-    if (!parse_number(value, '\0', option->least, option->most, &number)) {
-        fprintf(stderr, "zrv explore: %s takes a number from %" PRIu64 " to %" PRIu64 ", not '%s'\n", option->name, option->least, option->most, value);
+    if (!parse_number(value, to->least, to->most, &number)) {
+        fprintf(stderr, "zrv explore: --%s takes a number from %" PRIu64 " to %" PRIu64 ", not '%s'\n", name, to->least, to->most, value);
         return BAD_USAGE;
     }
-    if (option->number != NULL)
-        *option->number = (uint32_t)number;
+    if (to->number != NULL)
+        *to->number = (uint32_t)number;
     else
-        *option->long_number = number;
+        *to->long_number = number;
     return PARSED;
 }
 
-static enum parsed parse_option(const char *name, const char *value, struct options *options) {
-    const struct option table[] = {
-        {.name = "--drives", .number = &options->geometry.drives, .least = 3, .most = MOST_DRIVES},
-        {.name = "--sector-bytes", .number = &options->geometry.sector_bytes, .least = 64, .most = 4096},
-        {.name = "--unit", .number = &options->geometry.unit, .least = 1, .most = 16},
-        {.name = "--zones", .number = &options->geometry.zones, .least = 1, .most = ZRV_STATE_RECORDS},
-        {.name = "--zone-sectors", .number = &options->geometry.zone_sectors, .least = 1, .most = 65536},
-        {.name = "--budget", .long_number = &options->budget, .least = 1, .most = MOST_BUDGET},
-        {.name = "--seed", .number = &options->seed, .least = 0, .most = UINT32_MAX},
-        {.name = "--calls", .text = &options->calls_text},
-        {.name = "--then", .text = &options->later_text},
-        {.name = "--picture", .text = &options->picture},
-        {.name = "--break", .breakage = &options->breakage},
-    };
-    for (size_t i = 0; i < sizeof table / sizeof *table; i++) {
-        if (strcmp(name, table[i].name) == 0)
-            return value == NULL ? complain("%s takes a value", name) : take_value(&table[i], value);
+static enum parsed take_option(int option, const char *value, struct options *options) {
+    if (option == HELP) {
+        fputs(help, stdout);
+        return HELPED;
     }
-    return complain("no option '%s'; --help lists them", name);
+    struct destination to = destination_of(option, options);
+    if (to.breakage != NULL)
+        return parse_breakage(value, to.breakage);
+    if (to.flag == NULL && to.text == NULL)
+        return take_number(names[option].name, &to, value);
+    if (to.flag != NULL)
+        *to.flag = true;
+    else
+        *to.text = value;
+    return PARSED;
 }
 
 static enum parsed parse_words(int argc, char **argv, struct options *options) {
-    for (int i = 1; i < argc; i++) {
-        if (strcmp(argv[i], "--help") == 0) {
-            fputs(help, stdout);
-            return HELPED;
-        }
-        if (strcmp(argv[i], "--quiet") == 0) {
-            options->quiet = true;
-        } else if (strcmp(argv[i], "--lose-later") == 0) {
-            options->loses_later = true;
-        } else {
-            if (parse_option(argv[i], i + 1 < argc ? argv[i + 1] : NULL, options) != PARSED)
-                return BAD_USAGE;
-            i++;
-        }
+    struct words words = begin_words(argc, argv, names);
+    struct word word;
+    while ((word = next_word(&words)).kind != WORDS_END) {
+        if (word.kind == WORD_OPERAND || word.kind == WORD_NO_OPTION)
+            return complain("no option '%s'; --help lists them", word.text);
+        if (word.kind != WORD_OPTION)
+            return complain(word.kind == WORD_VALUE_WANTED ? "--%s takes a value" : "--%s takes no value", names[word.option].name);
+        enum parsed parsed = take_option(word.option, word.text, options);
+        if (parsed != PARSED)
+            return parsed;
     }
     return PARSED;
-}
-
-/* Bounds that document 01 sets on the numbers together. */
-static bool geometry_holds(struct geometry g) {
-    uint32_t least = g.zones * (1 + g.unit) + 2 * g.unit + 1;
-    least = least < g.zones + 6 ? g.zones + 6 : least;
-    return (g.sector_bytes & (g.sector_bytes - 1)) == 0 && 32 + 8 * g.zones <= g.sector_bytes && g.zone_sectors % g.unit == 0 && g.zone_sectors >= least;
 }
 
 enum parsed parse_explore_options(int argc, char **argv, struct options *options) {
@@ -218,7 +223,7 @@ enum parsed parse_explore_options(int argc, char **argv, struct options *options
     if (words != PARSED)
         return words;
     struct geometry g = options->geometry;
-    if (!geometry_holds(g))
+    if (!geometry_is_taken(g))
         return complain("%s", "no geometry: a sector is a power of two of bytes, at least 32 + 8 x zones; a zone's sectors are a multiple of the unit, at "
                               "least zones x (1 + unit) + 2 x unit + 1 and zones + 6");
     if (ZRV_SECTORS_BYTES(g.drives, g.sector_bytes, g.zones, g.zone_sectors) > MOST_SHELF_BYTES)

@@ -3,11 +3,6 @@
 
 #include "refusals.h"
 
-static const char *condition_word(uint8_t condition) {
-    static const char *const words[] = {[ZRV_EMPTY] = "empty", [ZRV_OPEN] = "open", [ZRV_SEALED] = "sealed", [ZRV_WORN] = "worn"};
-    return condition <= ZRV_WORN ? words[condition] : "in no condition";
-}
-
 static void tell_answer(FILE *out, uint32_t answer) {
     if (answer == ZRV_FINISHED)
         fputs("finished", out);
@@ -68,7 +63,7 @@ static void tell_shown(FILE *out, const struct event *event, uint32_t zones) {
     }
     for (uint32_t z = 0; z < zones; z++) {
         uint32_t pointer = pointer_in_state(event->shown, z);
-        fprintf(out, "%szone %u %s", z == 0 ? "" : ", ", z, condition_word(zone_record(event->shown, z)[RECORD_CONDITION]));
+        fprintf(out, "%szone %u %s", z == 0 ? "" : ", ", z, condition_word(zone_record(event->shown, z)[ZRV_RECORD_CONDITION]));
         if (pointer > 0)
             fprintf(out, " at %u", pointer);
     }

@@ -33,6 +33,6 @@ uint32_t send_request(struct world *world, const struct request *request, uint32
 void world_loses_power(struct world *world, const struct caches *caches, const struct shelf *torn_from);
 
 /* The pointer of a zone in a state. */
-static inline uint32_t pointer_in_state(uint8_t *state, uint32_t zone) { return get32(zone_record(state, zone) + RECORD_POINTER); }
+static inline uint32_t pointer_in_state(const uint8_t *state, uint32_t zone) { return get32(zone_record(state, zone) + ZRV_RECORD_POINTER); }
 
 #endif

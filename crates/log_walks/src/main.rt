@@ -124,11 +124,16 @@ fn show_general(sectors: &[u8], g: Geometry, n: usize)
     requires { ⌜ (length (now sectors) ≡ 40960) × (n ≤ 32) ⌝ }
 {
     show_walk(sectors, g, 0, false, n);
-    let lost = logs::folds::last_lost(sectors, g, 3, 0, n);
-    let place = logs::folds::last_counters(sectors, g, 3, 0, n);
-    let generation = logs::folds::last_generation(sectors, g, 3, 0, n, 0);
-    let reset = logs::folds::has_reset(sectors, g, 3, 0, n, 0, 2);
-    let least = logs::folds::least_seal(sectors, g, 3, 0, n, 1, 9, 96);
+    let log = logs::Log {
+        drive: 3,
+        zone: 0,
+        written: n,
+    };
+    let lost = logs::folds::last_lost(sectors, g, log);
+    let place = logs::folds::last_counters(sectors, g, log);
+    let generation = logs::folds::last_generation(sectors, g, log, 0);
+    let reset = logs::folds::has_reset(sectors, g, log, 0, 2);
+    let least = logs::folds::least_seal(sectors, g, log, 1, 9, 96);
     field(lost as u64);
     field(place as u64);
     field(generation);
@@ -142,8 +147,13 @@ fn show_parity(sectors: &[u8], g: Geometry, n: usize)
     requires { ⌜ (length (now sectors) ≡ 40960) × (n ≤ 32) ⌝ }
 {
     show_walk(sectors, g, 1, true, n);
-    let any = logs::folds::last_partial(sectors, g, 3, 1, n, 0, 7, 0, 96);
-    let past = logs::folds::last_partial(sectors, g, 3, 1, n, 0, 7, 2, 96);
+    let log = logs::Log {
+        drive: 3,
+        zone: 1,
+        written: n,
+    };
+    let any = logs::folds::last_partial(sectors, g, log, 0, 7, 0, 96);
+    let past = logs::folds::last_partial(sectors, g, log, 0, 7, 2, 96);
     let end = logs::walking::walk_log(sectors, g, 3, 1, true, n);
     field(any as u64);
     field(past as u64);

@@ -1,5 +1,6 @@
 // One loop over the whole entries of a log that carries the answer to a question from entry to entry.
 use super::Found;
+use super::Log;
 use super::Query;
 use super::Step;
 use tables::Geometry;
@@ -131,25 +132,23 @@ fn after_found(query: Query, g: Geometry, place: usize, f: Found, x: usize) -> u
     }
 }
 
-// The answer to a question, from the first answer through all whole entries of a log.
+// The answer to a question, from the first answer through all whole entries of a log. Its steps are the walk (specs: `steps-are-the-walk`).
 pub fn ask_log(
     query: Query,
     sectors: &[u8],
     g: Geometry,
-    drive: usize,
-    zone: usize,
+    log: Log,
     parity: bool,
-    n: usize,
     first: usize,
 ) -> usize
     requires { ⌜ Valid g ⌝ }
-    requires { ⌜ InLog g drive zone n (now sectors) ⌝ }
-    ensures { λ r. ⌜ r ≡ answer g query 0 first (headsOf (walkLog g drive parity (logSectors g drive zone (now (sectors .entry)) n))) ⌝ }
+    requires { ⌜ InLog g (log .drive) (log .zone) (log .written) (now sectors) ⌝ }
+    ensures { λ r. ⌜ r ≡ answer g query 0 first (headsOf (walkLog g (log .drive) parity (logSectors g (log .drive) (log .zone) (now (sectors .entry)) (log .written)))) ⌝ }
 {
     let mut x = first;
     let mut p = 0;
     'walk: loop {
-        let step = super::walking::next_entry(sectors, g, drive, zone, parity, n, p);
+        let step = super::walking::next_entry(sectors, g, log, parity, p);
         match step {
             Step::Left(_) => {
                 break 'walk;

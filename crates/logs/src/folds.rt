@@ -1,5 +1,6 @@
 // What the volume asks of a walked log: each function asks one question (`asking`), of the log in one physical zone of one drive.
 use super::Found;
+use super::Log;
 use super::Query;
 use super::Step;
 use super::WalkEnd;
@@ -22,98 +23,78 @@ ghost use Rattle.logs.specs.code.Query.{logHeads, firstSeen, labelSeen, 
 ghost use Rattle.logs.specs.laws.Places.{lastPlace};
 
 // The lost drive of the last label of a drive's general log; 255 if there is none.
-pub fn last_lost(sectors: &[u8], g: Geometry, drive: usize, zone: usize, n: usize) -> usize
+pub fn last_lost(sectors: &[u8], g: Geometry, log: Log) -> usize
     requires { ⌜ Valid g ⌝ }
-    requires { ⌜ InLog g drive zone n (now sectors) ⌝ }
-    ensures { λ r. ⌜ (r ≡ lastLost 255 (logHeads g drive false zone n (now (sectors .entry))))
+    requires { ⌜ InLog g (log .drive) (log .zone) (log .written) (now sectors) ⌝ }
+    ensures { λ r. ⌜ (r ≡ lastLost 255 (logHeads g (log .drive) false (log .zone) (log .written) (now (sectors .entry))))
         × ((r < g .drives) ⊎ (r ≡ 255)) ⌝ }
 {
-    ask_log(Query::LastLost, sectors, g, drive, zone, false, n, 255)
+    ask_log(Query::LastLost, sectors, g, log, false, 255)
 }
 
 // The place of the last counters, counted from 1; 0 if there are none.
-pub fn last_counters(sectors: &[u8], g: Geometry, drive: usize, zone: usize, n: usize) -> usize
+pub fn last_counters(sectors: &[u8], g: Geometry, log: Log) -> usize
     requires { ⌜ Valid g ⌝ }
-    requires { ⌜ InLog g drive zone n (now sectors) ⌝ }
-    ensures { λ r. ⌜ (r ≡ lastPlace g isCounters 0 0 (logHeads g drive false zone n (now (sectors .entry))))
-        × (r ≤ n) ⌝ }
+    requires { ⌜ InLog g (log .drive) (log .zone) (log .written) (now sectors) ⌝ }
+    ensures { λ r. ⌜ (r ≡ lastPlace g isCounters 0 0 (logHeads g (log .drive) false (log .zone) (log .written) (now (sectors .entry))))
+        × (r ≤ log .written) ⌝ }
 {
-    ask_log(Query::LastCounters, sectors, g, drive, zone, false, n, 0)
+    ask_log(Query::LastCounters, sectors, g, log, false, 0)
 }
 
 // Whether there is a reset of a zone and generation.
-pub fn has_reset(
-    sectors: &[u8],
-    g: Geometry,
-    drive: usize,
-    zone: usize,
-    n: usize,
-    z: usize,
-    generation: u64,
-) -> bool
+pub fn has_reset(sectors: &[u8], g: Geometry, log: Log, z: usize, generation: u64) -> bool
     requires { ⌜ Valid g ⌝ }
-    requires { ⌜ InLog g drive zone n (now sectors) ⌝ }
-    ensures { λ r. ⌜ r ≡ anyOf (isReset z generation) (logHeads g drive false zone n (now (sectors .entry))) ⌝ }
+    requires { ⌜ InLog g (log .drive) (log .zone) (log .written) (now sectors) ⌝ }
+    ensures { λ r. ⌜ r ≡ anyOf (isReset z generation) (logHeads g (log .drive) false (log .zone) (log .written) (now (sectors .entry))) ⌝ }
 {
     let query = Query::ResetOf(z, generation);
-    ask_log(query, sectors, g, drive, zone, false, n, 0) == 1
+    ask_log(query, sectors, g, log, false, 0) == 1
 }
 
 // Whether there is a seal of a zone and generation.
-pub fn has_seal(
-    sectors: &[u8],
-    g: Geometry,
-    drive: usize,
-    zone: usize,
-    n: usize,
-    z: usize,
-    generation: u64,
-) -> bool
+pub fn has_seal(sectors: &[u8], g: Geometry, log: Log, z: usize, generation: u64) -> bool
     requires { ⌜ Valid g ⌝ }
-    requires { ⌜ InLog g drive zone n (now sectors) ⌝ }
-    ensures { λ r. ⌜ r ≡ anyOf (isSeal z generation) (logHeads g drive false zone n (now (sectors .entry))) ⌝ }
+    requires { ⌜ InLog g (log .drive) (log .zone) (log .written) (now sectors) ⌝ }
+    ensures { λ r. ⌜ r ≡ anyOf (isSeal z generation) (logHeads g (log .drive) false (log .zone) (log .written) (now (sectors .entry))) ⌝ }
 {
     let query = Query::SealOf(z, generation);
-    ask_log(query, sectors, g, drive, zone, false, n, 0) == 1
+    ask_log(query, sectors, g, log, false, 0) == 1
 }
 
 // Whether there is one with just that pointer.
 pub fn has_seal_at(
     sectors: &[u8],
     g: Geometry,
-    drive: usize,
-    zone: usize,
-    n: usize,
+    log: Log,
     z: usize,
     generation: u64,
     pointer: usize,
 ) -> bool
     requires { ⌜ Valid g ⌝ }
-    requires { ⌜ InLog g drive zone n (now sectors) ⌝ }
-    ensures { λ r. ⌜ r ≡ anyOf (isSealAt z generation pointer) (logHeads g drive false zone n (now (sectors .entry))) ⌝ }
+    requires { ⌜ InLog g (log .drive) (log .zone) (log .written) (now sectors) ⌝ }
+    ensures { λ r. ⌜ r ≡ anyOf (isSealAt z generation pointer) (logHeads g (log .drive) false (log .zone) (log .written) (now (sectors .entry))) ⌝ }
 {
     let query = Query::SealAt(z, generation, pointer);
-    ask_log(query, sectors, g, drive, zone, false, n, 0) == 1
+    ask_log(query, sectors, g, log, false, 0) == 1
 }
 
 // The least pointer of the seals of a zone and generation, and of `most`.
 pub fn least_seal(
     sectors: &[u8],
     g: Geometry,
-    drive: usize,
-    zone: usize,
-    n: usize,
+    log: Log,
     z: usize,
     generation: u64,
     most: usize,
 ) -> usize
     requires { ⌜ Valid g ⌝ }
-    requires { ⌜ InLog g drive zone n (now sectors) ⌝ }
-    ensures { λ r. ⌜ (r ≡ leastSeal z generation most (logHeads g drive false zone n (now (sectors .entry))))
+    requires { ⌜ InLog g (log .drive) (log .zone) (log .written) (now sectors) ⌝ }
+    ensures { λ r. ⌜ (r ≡ leastSeal z generation most (logHeads g (log .drive) false (log .zone) (log .written) (now (sectors .entry))))
         × (r ≤ most) ⌝ }
 {
     let query = Query::LeastSeal(z, generation);
-    ask_log(query, sectors, g, drive, zone, false, n, most)
+    ask_log(query, sectors, g, log, false, most)
 }
 
 // The place, counted from 1, of the last whole partial parity entry of a zone and generation that ends past `low` and at most at `high`;
@@ -121,115 +102,87 @@ pub fn least_seal(
 pub fn last_partial(
     sectors: &[u8],
     g: Geometry,
-    drive: usize,
-    zone: usize,
-    n: usize,
+    log: Log,
     z: usize,
     generation: u64,
     low: usize,
     high: usize,
 ) -> usize
     requires { ⌜ Valid g ⌝ }
-    requires { ⌜ InLog g drive zone n (now sectors) ⌝ }
-    ensures { λ r. ⌜ (r ≡ lastPlace g (endsWithin g z generation low high) 0 0 (logHeads g drive true zone n (now (sectors .entry))))
-        × (r ≤ n) ⌝ }
+    requires { ⌜ InLog g (log .drive) (log .zone) (log .written) (now sectors) ⌝ }
+    ensures { λ r. ⌜ (r ≡ lastPlace g (endsWithin g z generation low high) 0 0 (logHeads g (log .drive) true (log .zone) (log .written) (now (sectors .entry))))
+        × (r ≤ log .written) ⌝ }
 {
     let query = Query::LastPartial(z, generation, low, high);
-    ask_log(query, sectors, g, drive, zone, true, n, 0)
+    ask_log(query, sectors, g, log, true, 0)
 }
 
 // Whether there is a whole partial parity entry of a zone and generation that ends past a pointer.
 pub fn has_partial_past(
     sectors: &[u8],
     g: Geometry,
-    drive: usize,
-    zone: usize,
-    n: usize,
+    log: Log,
     z: usize,
     generation: u64,
     pointer: usize,
 ) -> bool
     requires { ⌜ Valid g ⌝ }
-    requires { ⌜ InLog g drive zone n (now sectors) ⌝ }
-    ensures { λ r. ⌜ r ≡ anyOf (endsPast g z generation pointer) (logHeads g drive true zone n (now (sectors .entry))) ⌝ }
+    requires { ⌜ InLog g (log .drive) (log .zone) (log .written) (now sectors) ⌝ }
+    ensures { λ r. ⌜ r ≡ anyOf (endsPast g z generation pointer) (logHeads g (log .drive) true (log .zone) (log .written) (now (sectors .entry))) ⌝ }
 {
     let q = tables::bounds::zone_sectors(g);
-    0 < last_partial(sectors, g, drive, zone, n, z, generation, pointer, q)
+    0 < last_partial(sectors, g, log, z, generation, pointer, q)
 }
 
 // Whether there is one that ends just at a pointer.
 pub fn has_partial_at(
     sectors: &[u8],
     g: Geometry,
-    drive: usize,
-    zone: usize,
-    n: usize,
+    log: Log,
     z: usize,
     generation: u64,
     pointer: usize,
 ) -> bool
     requires { ⌜ Valid g ⌝ }
-    requires { ⌜ InLog g drive zone n (now sectors) × (0 < pointer) ⌝ }
-    ensures { λ r. ⌜ r ≡ anyOf (endsAt g z generation pointer) (logHeads g drive true zone n (now (sectors .entry))) ⌝ }
+    requires { ⌜ InLog g (log .drive) (log .zone) (log .written) (now sectors) × (0 < pointer) ⌝ }
+    ensures { λ r. ⌜ r ≡ anyOf (endsAt g z generation pointer) (logHeads g (log .drive) true (log .zone) (log .written) (now (sectors .entry))) ⌝ }
 {
     let low = pointer - 1;
-    0 < last_partial(sectors, g, drive, zone, n, z, generation, low, pointer)
+    0 < last_partial(sectors, g, log, z, generation, low, pointer)
 }
 
 // The generation that the last counters give zone z; 0 if there are none.
-pub fn last_generation(
-    sectors: &[u8],
-    g: Geometry,
-    drive: usize,
-    zone: usize,
-    n: usize,
-    z: usize,
-) -> u64
+pub fn last_generation(sectors: &[u8], g: Geometry, log: Log, z: usize) -> u64
     requires { ⌜ Valid g ⌝ }
-    requires { ⌜ InLog g drive zone n (now sectors) × (z < g .zones) ⌝ }
-    ensures { λ r. ⌜ r ≡ generationIn z (logHeads g drive false zone n (now (sectors .entry))) ⌝ }
+    requires { ⌜ InLog g (log .drive) (log .zone) (log .written) (now sectors) × (z < g .zones) ⌝ }
+    ensures { λ r. ⌜ r ≡ generationIn z (logHeads g (log .drive) false (log .zone) (log .written) (now (sectors .entry))) ⌝ }
 {
-    let place = last_counters(sectors, g, drive, zone, n);
+    let place = last_counters(sectors, g, log);
     if place == 0 {
         return 0;
     }
-    generation_at(sectors, g, drive, zone, n, place - 1, z)
+    generation_at(sectors, g, log, place - 1, z)
 }
 
 // The number that the sector p of a log has where counters have zone z's generation.
-pub fn generation_at(
-    sectors: &[u8],
-    g: Geometry,
-    drive: usize,
-    zone: usize,
-    n: usize,
-    p: usize,
-    z: usize,
-) -> u64
+pub fn generation_at(sectors: &[u8], g: Geometry, log: Log, p: usize, z: usize) -> u64
     requires { ⌜ Valid g ⌝ }
-    requires { ⌜ InLog g drive zone n (now sectors) × (p < n) × (z < g .zones) ⌝ }
-    ensures { λ r. ⌜ r ≡ readLE 8 (getD (logSectors g drive zone (now (sectors .entry)) n) p []) (32 + 8 * z) ⌝ }
+    requires { ⌜ InLog g (log .drive) (log .zone) (log .written) (now sectors) × (p < log .written) × (z < g .zones) ⌝ }
+    ensures { λ r. ⌜ r ≡ readLE 8 (getD (logSectors g (log .drive) (log .zone) (now (sectors .entry)) (log .written)) p []) (32 + 8 * z) ⌝ }
 {
     let b = g.sector;
-    let at = tables::stores::byte_at(g, drive, zone, p);
+    let at = tables::stores::byte_at(g, log.drive, log.zone, p);
     let end = at + b;
     tables::bytes::read_u64(&sectors[at..end], 32 + 8 * z)
 }
 
 // What the first whole entry is; nothing if there is none.
-pub fn first_entry(
-    sectors: &[u8],
-    g: Geometry,
-    drive: usize,
-    zone: usize,
-    parity: bool,
-    n: usize,
-) -> Found
+pub fn first_entry(sectors: &[u8], g: Geometry, log: Log, parity: bool) -> Found
     requires { ⌜ Valid g ⌝ }
-    requires { ⌜ InLog g drive zone n (now sectors) ⌝ }
-    ensures { λ r. ⌜ r ≡ firstSeen (logHeads g drive parity zone n (now (sectors .entry))) ⌝ }
+    requires { ⌜ InLog g (log .drive) (log .zone) (log .written) (now sectors) ⌝ }
+    ensures { λ r. ⌜ r ≡ firstSeen (logHeads g (log .drive) parity (log .zone) (log .written) (now (sectors .entry))) ⌝ }
 {
-    let step = super::walking::next_entry(sectors, g, drive, zone, parity, n, 0);
+    let step = super::walking::next_entry(sectors, g, log, parity, 0);
     match step {
         Step::Left(_) => Found::Bad,
         Step::Whole(f, _) => f,
@@ -265,38 +218,34 @@ fn array_of(f: Found) -> u64
 }
 
 // Whether a drive's general log begins with a label.
-pub fn begins_labelled(sectors: &[u8], g: Geometry, drive: usize, zone: usize, n: usize) -> bool
+pub fn begins_labelled(sectors: &[u8], g: Geometry, log: Log) -> bool
     requires { ⌜ Valid g ⌝ }
-    requires { ⌜ InLog g drive zone n (now sectors) ⌝ }
-    ensures { λ r. ⌜ r ≡ labelled (logHeads g drive false zone n (now (sectors .entry))) ⌝ }
+    requires { ⌜ InLog g (log .drive) (log .zone) (log .written) (now sectors) ⌝ }
+    ensures { λ r. ⌜ r ≡ labelled (logHeads g (log .drive) false (log .zone) (log .written) (now (sectors .entry))) ⌝ }
 {
-    let f = first_entry(sectors, g, drive, zone, false, n);
+    let f = first_entry(sectors, g, log, false);
     is_label(f)
 }
 
 // The array number of that label; 0 if there is none.
-pub fn first_array(sectors: &[u8], g: Geometry, drive: usize, zone: usize, n: usize) -> u64
+pub fn first_array(sectors: &[u8], g: Geometry, log: Log) -> u64
     requires { ⌜ Valid g ⌝ }
-    requires { ⌜ InLog g drive zone n (now sectors) ⌝ }
-    ensures { λ r. ⌜ r ≡ arrayIn (logHeads g drive false zone n (now (sectors .entry))) ⌝ }
+    requires { ⌜ InLog g (log .drive) (log .zone) (log .written) (now sectors) ⌝ }
+    ensures { λ r. ⌜ r ≡ arrayIn (logHeads g (log .drive) false (log .zone) (log .written) (now (sectors .entry))) ⌝ }
 {
-    let f = first_entry(sectors, g, drive, zone, false, n);
+    let f = first_entry(sectors, g, log, false);
     array_of(f)
 }
 
 // The entry that is torn; nothing if none is. Its rows that are there reach from its place to the written pointer.
-pub fn torn_entry(
-    sectors: &[u8],
-    g: Geometry,
-    drive: usize,
-    zone: usize,
-    parity: bool,
-    n: usize,
-) -> Found
+pub fn torn_entry(sectors: &[u8], g: Geometry, log: Log, parity: bool) -> Found
     requires { ⌜ Valid g ⌝ }
-    requires { ⌜ InLog g drive zone n (now sectors) ⌝ }
-    ensures { λ r. ⌜ r ≡ tornSeen (walkLog g drive parity (logSectors g drive zone (now (sectors .entry)) n) .last) ⌝ }
+    requires { ⌜ InLog g (log .drive) (log .zone) (log .written) (now sectors) ⌝ }
+    ensures { λ r. ⌜ r ≡ tornSeen (walkLog g (log .drive) parity (logSectors g (log .drive) (log .zone) (now (sectors .entry)) (log .written)) .last) ⌝ }
 {
+    let drive = log.drive;
+    let zone = log.zone;
+    let n = log.written;
     let w = super::walking::walk_log(sectors, g, drive, zone, parity, n);
     let WalkEnd::Torn(p) = w else {
         return Found::Bad;

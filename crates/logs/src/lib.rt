@@ -1,7 +1,7 @@
 // The logs of a drive: entries of five types, one sector for each header, laid one after the other from the start of a physical zone.
 // `headers` writes a header, `judging` tells what a sector holds, `walking` steps through a log and finds where its legal part ends, with a
 // `reader` laid over its zone, `asking` carries an answer through a log, and `folds` asks what the volume wants to know of it. Which physical
-// zone holds a log is a parameter of each function of the lent sectors.
+// zone holds a log is told to each function of the lent sectors.
 pub mod asking;
 pub mod folds;
 pub mod headers;
@@ -22,6 +22,13 @@ pub const VERSION: u8 = 1;
 
 // The greatest generation: a zone that has it is worn (specs: `wornGeneration`).
 pub const WORN_GENERATION: u64 = 18446744073709551615;
+
+// A log: its drive, the physical zone that holds it, and that zone's written pointer.
+pub struct Log {
+    pub drive: usize,
+    pub zone: usize,
+    pub written: usize,
+}
 
 // What a sector of a log holds (specs: `found`): nothing legal, or the header of an entry of type 1 to 5. Counters stay in the sector.
 pub enum Found {

@@ -4,6 +4,7 @@
 // - at a torn entry: one whose rows reach past the written pointer, but not past C.
 // The position is that of the first sector that belongs to no whole entry.
 use super::Found;
+use super::Log;
 use super::Step;
 use super::WalkEnd;
 use tables::Geometry;
@@ -148,21 +149,13 @@ fn zone_part<'a>(sectors: &'a [u8], g: Geometry, drive: usize, zone: usize) -> &
 }
 
 // One step of the walk, for a zone of the lent sectors: a reader is laid over the zone's part of them, and takes it.
-pub fn next_entry(
-    sectors: &[u8],
-    g: Geometry,
-    drive: usize,
-    zone: usize,
-    parity: bool,
-    n: usize,
-    p: usize,
-) -> Step
+pub fn next_entry(sectors: &[u8], g: Geometry, log: Log, parity: bool, p: usize) -> Step
     requires { ⌜ Valid g ⌝ }
-    requires { ⌜ InLog g drive zone n (now sectors) × (p ≤ n) ⌝ }
-    ensures { λ r. ⌜ r ≡ stepOf g p (leftAt g drive parity (logSectors g drive zone (now (sectors .entry)) n) p) ⌝ }
+    requires { ⌜ InLog g (log .drive) (log .zone) (log .written) (now sectors) × (p ≤ log .written) ⌝ }
+    ensures { λ r. ⌜ r ≡ stepOf g p (leftAt g (log .drive) parity (logSectors g (log .drive) (log .zone) (now (sectors .entry)) (log .written)) p) ⌝ }
 {
-    let bytes = zone_part(sectors, g, drive, zone);
-    super::reader::next_step(bytes, g, drive, parity, n, p)
+    let bytes = zone_part(sectors, g, log.drive, log.zone);
+    super::reader::next_step(bytes, g, log.drive, parity, log.written, p)
 }
 
 // Where the legal part of a log ends, and why, for a zone of the lent sectors: by a reader too.

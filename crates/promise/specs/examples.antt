@@ -3,3 +3,4 @@ pub mod Cases
 pub mod ClaimExample
 pub mod Example
 pub mod TablesExample
+pub mod TablesHistory

@@ -1,5 +1,6 @@
-// Replays the conformance vectors: reads a script from standard input and writes one answer line for each command. The file `stdout` beside
-// src/ holds the lines that the vectors give: four scripts and their answers, one after the other.
+// Replays the conformance vectors: reads a script from standard input and writes one answer line for each command. Beside src/, the file `stdin`
+// holds the scripts one after the other, and `stdout` the lines that the vectors give. Other vectors need no more than these two files, as long
+// as they fit the spaces below.
 use replaying::Command;
 use replaying::Host;
 use replaying::Reply;
@@ -8,17 +9,17 @@ ghost use mathlib.Core.Path.{_≡_};
 ghost use lib.ListN.{length};
 
 // Space for the script.
-fn script_space() -> [u8; 163840]
-    ensures { λ r. ⌜ 163840 ≡ length r ⌝ }
+fn script_space() -> [u8; 262144]
+    ensures { λ r. ⌜ 262144 ≡ length r ⌝ }
 {
-    [0; 163840]
+    [0; 262144]
 }
 
 // Space for the sectors of a shelf.
-fn sector_space() -> [u8; 65536]
-    ensures { λ r. ⌜ 65536 ≡ length r ⌝ }
+fn sector_space() -> [u8; 131072]
+    ensures { λ r. ⌜ 131072 ≡ length r ⌝ }
 {
-    [0; 65536]
+    [0; 131072]
 }
 
 // Bytes of the answer line.
@@ -47,7 +48,7 @@ fn show_record(s: State, z: usize) {
     let p = volume::checks::pointer_of(c);
     field(r.generation);
     text(b":");
-    number(replaying::showing::condition_number(c));
+    number(volume::numbers::condition_number(c) as u64);
     text(b":");
     number(p as u64);
 }
@@ -214,7 +215,7 @@ fn replay(
     }
 }
 
-// All of standard input, replayed on a shelf of at most 65,536 bytes; no script of the vectors has a larger one.
+// All of standard input, replayed on a shelf of at most 131,072 bytes; no script of the vectors has a larger one.
 fn main() {
     let mut script = script_space();
     let n = io::read_full(0, &mut script);

@@ -8,10 +8,9 @@ use Rattle.tables.specs.declared.Geometry.{Geometry}
 use Rattle.tables.specs.meaning.Basics.{pick}
 use Rattle.tables.specs.meaning.Geometry.{cells, totalBytes}
 use Rattle.tables.specs.meaning.GeometryTest.{isValid}
-use Rattle.volume.specs.declared.Condition.{Condition}
-use Rattle.volume.specs.declared.Condition.the-variants.{Empty, Open, Sealed, Worn}
 use Rattle.volume.specs.declared.ZoneRecord.{ZoneRecord}
 use Rattle.volume.specs.declared.State.{State}
+use Rattle.volume.specs.meaning.State.{conditionOfNumber}
 use Rattle.volume.specs.meaning.CallContracts.{blankRecord}
 use Rattle.replaying.specs.declared.Command.{Command}
 use Rattle.replaying.specs.declared.Shortage.{Shortage}
@@ -73,12 +72,8 @@ withState h s = record { geometry = h .geometry; bytes = h .bytes; cells = h .ce
 abbrev pub holding : Host → State → Host
 holding h s = record { geometry = h .geometry; bytes = h .bytes; cells = h .cells; held = true; zones = h .geometry .zones; state = s; shortage = h .shortage }
 
--- ---- damage to the state
-unfoldable pub conditionFrom : ℕ → ℕ → Condition
-conditionFrom n p = pick (eqb n 0) Empty (pick (eqb n 1) (Open p) (pick (eqb n 2) (Sealed p) (Worn p)))
-
 abbrev pub recordIn : Command → ZoneRecord
-recordIn c = record { generation = c .second; condition = conditionFrom (c .third) (c .fourth) }
+recordIn c = record { generation = c .second; condition = conditionOfNumber (c .third) (c .fourth) }
 
 unfoldable pub withRecord : Host → Command → Host
 withRecord h c = pick (leb 16 (c .first)) h (withState h (record { lost = h .state .lost; zones = set (h .state .zones) (c .first) (recordIn c) }))

@@ -12,11 +12,9 @@ use Rattle.tables.specs.laws.LittleEndian.{writeLE}
 use Rattle.tables.specs.meaning.Tables.{Tables, tablesOf}
 use Rattle.volume.specs.declared.Answer.{Answer}
 use Rattle.volume.specs.declared.Answer.the-variants.{Finished, Unfinished, Refused}
-use Rattle.volume.specs.declared.Condition.{Condition}
-use Rattle.volume.specs.declared.Condition.the-variants.{Empty, Open, Sealed, Worn}
 use Rattle.volume.specs.declared.State.{State}
 use Rattle.volume.specs.meaning.State.{pointerIn}
-use Rattle.volume.specs.meaning.CallContracts.{recordAt, ReadResult, readOn, peekOn}
+use Rattle.volume.specs.meaning.CallContracts.{answerNumber, recordAt, ReadResult, readOn, peekOn}
 use Rattle.replaying.specs.declared.Command.{Command}
 use Rattle.replaying.specs.declared.Glimpse.{Glimpse}
 use Rattle.replaying.specs.declared.Host.{Host}
@@ -26,12 +24,6 @@ use Rattle.replaying.specs.Hosting.{handedLength, narrowed, namedIn, run
 -- ---- letters and conditions
 unfoldable pub mayKeep : ℕ → Bool
 mayKeep x = eqb x 102 || (eqb x 109 || (eqb x 119 || (eqb x 117 || eqb x 114)))
-
-abbrev pub conditionNumber : Condition → ℕ
-conditionNumber Empty = 0
-conditionNumber (Open n) = 1
-conditionNumber (Sealed n) = 2
-conditionNumber (Worn n) = 3
 
 -- ---- the shelf's tables
 abbrev pub allSectors : Host → List ℕ → List ℕ
@@ -43,9 +35,9 @@ allPointers h ws = take (handedLength (h .cells) 0 (length ws)) ws
 -- ---- reads
 -- the checksum of what a finished read gave
 abbrev pub glimpseBy : Answer → List ℕ → Glimpse
-glimpseBy Finished out = record { code = 0; sum = adlerOfBytes out }
-glimpseBy Unfinished out = record { code = 255; sum = 0 }
-glimpseBy (Refused n) out = record { code = n; sum = 0 }
+glimpseBy Finished out = record { code = answerNumber Finished; sum = adlerOfBytes out }
+glimpseBy Unfinished out = record { code = answerNumber Unfinished; sum = 0 }
+glimpseBy (Refused n) out = record { code = answerNumber (Refused n); sum = 0 }
 
 abbrev pub glimpseOf : ReadResult → Glimpse
 glimpseOf r = glimpseBy (r .answer) (r .buffer)

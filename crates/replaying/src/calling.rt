@@ -2,23 +2,10 @@
 use super::Command;
 use super::Host;
 use super::Reply;
-use volume::Answer;
 use volume::Outcome;
 ghost use mathlib.Core.Path.{_≡_};
 ghost use Rattle.tables.specs.meaning.Tables.{tablesOf};
-ghost use Rattle.volume.specs.meaning.CallContracts.{answerNumber};
 ghost use Rattle.replaying.specs.Calling.{plainReply, statelessReply, keptReply, lookReply, readReply, writeBuffer, formatMade, mountMade, lookMade, writeMade, flushMade, resetMade, readMade, peekMade};
-
-// The number of an answer: 0 finished, 255 unfinished, else the refusal's.
-fn answer_number(a: Answer) -> u8
-    ensures { λ r. ⌜ r ≡ answerNumber a ⌝ }
-{
-    match a {
-        Answer::Finished => 0,
-        Answer::Unfinished => 255,
-        Answer::Refused(n) => n,
-    }
-}
 
 // A call while there is no state.
 pub fn stateless(h: Host) -> Reply
@@ -38,7 +25,7 @@ fn kept(h: Host, o: Outcome) -> Reply
 {
     let a = o.answer;
     let s = o.state;
-    let code = answer_number(a);
+    let code = volume::numbers::answer_number(a);
     if code != 0 {
         return Reply {
             host: h,
@@ -107,7 +94,7 @@ pub fn look(sectors: &[u8], written: &[u32], durable: &[u32], h: Host, c: Comman
     let o = volume::looking::look(sectors, written, durable, g, named, s);
     let a = o.answer;
     let shown = o.state;
-    let code = answer_number(a);
+    let code = volume::numbers::answer_number(a);
     Reply {
         host: h,
         code,
@@ -209,7 +196,7 @@ pub fn read(
         run,
         buffer,
     );
-    let code = answer_number(a);
+    let code = volume::numbers::answer_number(a);
     Reply {
         host: h,
         code,

@@ -9,7 +9,7 @@ use volume::State;
 use volume::ZoneRecord;
 ghost use mathlib.Core.Path.{_≡_};
 ghost use Prim.Native.Nat.{_≤_};
-ghost use Rattle.replaying.specs.Hosting.{handedLength, narrowed, runBytes, namedIn, geometryIn, shortageIn, noShortage, blankState, emptyHost, noGeometry, freshHost, withGeometry, withShortage, conditionFrom, withRecord, withLost, quietReply};
+ghost use Rattle.replaying.specs.Hosting.{handedLength, narrowed, runBytes, namedIn, geometryIn, shortageIn, noShortage, blankState, emptyHost, noGeometry, freshHost, withGeometry, withShortage, withRecord, withLost, quietReply};
 
 // A length, less what it is short of, and never more than there is.
 pub fn lend(length: usize, short: usize, most: usize) -> usize
@@ -185,22 +185,6 @@ pub fn without_shortage(h: Host) -> Host
     t
 }
 
-// A condition by its number: 0 empty, 1 open, 2 sealed, 3 worn.
-fn condition_from(number: u64, pointer: usize) -> Condition
-    ensures { λ r. ⌜ r ≡ conditionFrom number pointer ⌝ }
-{
-    if number == 0 {
-        return Condition::Empty;
-    }
-    if number == 1 {
-        return Condition::Open(pointer);
-    }
-    if number == 2 {
-        return Condition::Sealed(pointer);
-    }
-    Condition::Worn(pointer)
-}
-
 // One zone's record in the host's state.
 pub fn with_record(h: Host, c: Command) -> Host
     ensures { λ r. ⌜ r ≡ withRecord h c ⌝ }
@@ -209,7 +193,7 @@ pub fn with_record(h: Host, c: Command) -> Host
     if 16 <= z {
         return h;
     }
-    let condition = condition_from(c.third, c.fourth as usize);
+    let condition = volume::numbers::condition_of(c.third, c.fourth as usize);
     let r = ZoneRecord {
         generation: c.second,
         condition,

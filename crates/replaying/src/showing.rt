@@ -3,14 +3,13 @@ use super::Command;
 use super::Glimpse;
 use super::Host;
 use volume::Answer;
-use volume::Condition;
 use volume::State;
 ghost use mathlib.Core.Path.{_≡_};
 ghost use lib.ListN.{length, take};
 ghost use Rattle.tables.specs.meaning.Tables.{tablesOf};
 ghost use Rattle.replaying.specs.Adler.{adlerOfBytes, adlerOfTables};
 ghost use Rattle.replaying.specs.Hosting.{handedLength, runBytes};
-ghost use Rattle.replaying.specs.Showing.{mayKeep, conditionNumber, allSectors, allPointers, glimpseBy, glimpseOf, runRead, zoneStart, zoneRead, markedAll, placeIn, partShown};
+ghost use Rattle.replaying.specs.Showing.{mayKeep, allSectors, allPointers, glimpseBy, glimpseOf, runRead, zoneStart, zoneRead, markedAll, placeIn, partShown};
 
 // Whether a command's line shows the host's state whole: those of format, mount, write, flush and reset do.
 pub fn may_keep(letter: u8) -> bool
@@ -18,18 +17,6 @@ pub fn may_keep(letter: u8) -> bool
 {
     (letter == b'f')
         | ((letter == b'm') | ((letter == b'w') | ((letter == b'u') | (letter == b'r'))))
-}
-
-// A condition's number: 0 empty, 1 open, 2 sealed, 3 worn.
-pub fn condition_number(c: Condition) -> u64
-    ensures { λ r. ⌜ r ≡ conditionNumber c ⌝ }
-{
-    match c {
-        Condition::Empty => 0,
-        Condition::Open(_) => 1,
-        Condition::Sealed(_) => 2,
-        Condition::Worn(_) => 3,
-    }
 }
 
 // A read's checksum, if it was finished.
@@ -162,31 +149,15 @@ fn place_in(part: &[u8]) -> u64
     n as u64
 }
 
-// Where in the lent sectors the part lies that a peek gives: the same peek of sectors that tell their own place.
-pub fn peek_place(places: &[u8], written: &[u32], durable: &[u32], h: Host, c: Command) -> u64
-    ensures { λ r. ⌜ r ≡ placeIn (partShown h c (now (places .entry)) (now (written .entry)) (now (durable .entry))) ⌝ }
-{
-    let a = super::hosting::lend(h.bytes, 0, places.len());
-    let w = super::hosting::lend(h.cells, 0, written.len());
-    let d = super::hosting::lend(h.cells, 0, durable.len());
-    let g = h.geometry;
-    let s = h.state;
-    let named = super::hosting::named_in(c.first);
-    let part = volume::reading::peek(
-        &places[..a],
-        &written[..w],
-        &durable[..d],
-        g,
-        named,
-        s,
-        c.second,
-    );
-    place_in(part)
-}
-
-// The checksum of the part that a peek gives.
-pub fn peek_sum(space: &[u8], written: &[u32], durable: &[u32], h: Host, c: Command) -> u64
-    ensures { λ r. ⌜ r ≡ adlerOfBytes (partShown h c (now (space .entry)) (now (written .entry)) (now (durable .entry))) ⌝ }
+// The part of the shelf's sectors that a peek gives.
+fn part_shown<'a>(
+    space: &'a [u8],
+    written: &[u32],
+    durable: &[u32],
+    h: Host,
+    c: Command,
+) -> &'a [u8]
+    ensures { λ r. ⌜ now r ≡ partShown h c (now (space .entry)) (now (written .entry)) (now (durable .entry)) ⌝ }
 {
     let a = super::hosting::lend(h.bytes, 0, space.len());
     let w = super::hosting::lend(h.cells, 0, written.len());
@@ -194,7 +165,7 @@ pub fn peek_sum(space: &[u8], written: &[u32], durable: &[u32], h: Host, c: Comm
     let g = h.geometry;
     let s = h.state;
     let named = super::hosting::named_in(c.first);
-    let part = volume::reading::peek(
+    volume::reading::peek(
         &space[..a],
         &written[..w],
         &durable[..d],
@@ -202,7 +173,22 @@ pub fn peek_sum(space: &[u8], written: &[u32], durable: &[u32], h: Host, c: Comm
         named,
         s,
         c.second,
-    );
+    )
+}
+
+// Where in the lent sectors the part lies that a peek gives: the same peek of sectors that tell their own place.
+pub fn peek_place(places: &[u8], written: &[u32], durable: &[u32], h: Host, c: Command) -> u64
+    ensures { λ r. ⌜ r ≡ placeIn (partShown h c (now (places .entry)) (now (written .entry)) (now (durable .entry))) ⌝ }
+{
+    let part = part_shown(places, written, durable, h, c);
+    place_in(part)
+}
+
+// The checksum of the part that a peek gives.
+pub fn peek_sum(space: &[u8], written: &[u32], durable: &[u32], h: Host, c: Command) -> u64
+    ensures { λ r. ⌜ r ≡ adlerOfBytes (partShown h c (now (space .entry)) (now (written .entry)) (now (durable .entry))) ⌝ }
+{
+    let part = part_shown(space, written, durable, h, c);
     super::checksum::adler_of(part)
 }
 

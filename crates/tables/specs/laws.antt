@@ -1,3 +1,4 @@
+pub mod AppendCounts
 pub mod Basics
 pub mod Below
 pub mod Counted
@@ -9,6 +10,7 @@ pub mod Lists
 pub mod LittleEndian
 pub mod Local
 pub mod Made
+pub mod NamedDrives
 pub mod Phases
 pub mod Placement
 pub mod PointerOrder

@@ -1,6 +1,7 @@
 // The bounds of a geometry, its sizes, and refusals 1 to 3 as far as they speak of the geometry and the tables.
 use super::Geometry;
 ghost use mathlib.Core.Path.{_≡_};
+ghost use mathlib.Core.Bool.{_&&_};
 ghost use Prim.Native.Nat.{_≤_, _<_};
 ghost use lib.ListN.{length};
 ghost use Rattle.tables.specs.meaning.Below.{anyBelow};
@@ -136,6 +137,7 @@ pub fn widen(x: u32) -> usize
     x as usize
 }
 
+// Whether a drive has a pointer that no drive can have.
 fn drive_bad(written: &[u32], durable: &[u32], g: Geometry, d: usize) -> bool
     requires { ⌜ Valid g ⌝ }
     requires { ⌜ (d < g .drives) × (length (now written) ≡ cells g) × (length (now durable) ≡ cells g) ⌝ }
@@ -156,6 +158,18 @@ fn drive_bad(written: &[u32], durable: &[u32], g: Geometry, d: usize) -> bool
     bad
 }
 
+// That, if the drive is named; of a drive that is not, no pointer is read.
+fn named_bad(written: &[u32], durable: &[u32], g: Geometry, named: bool, d: usize) -> bool
+    requires { ⌜ Valid g ⌝ }
+    requires { ⌜ (d < g .drives) × (length (now written) ≡ cells g) × (length (now durable) ≡ cells g) ⌝ }
+    ensures { λ r. ⌜ r ≡ named && anyBelow (pointerBad g (now (written .entry)) (now (durable .entry)) d) (physicalZones g) ⌝ }
+{
+    if !named {
+        return false;
+    }
+    drive_bad(written, durable, g, d)
+}
+
 // Refusal 3: whether a named drive has a pointer that no drive can have.
 pub fn pointers_bad(written: &[u32], durable: &[u32], g: Geometry, named: [bool; 8]) -> bool
     requires { ⌜ Valid g ⌝ }
@@ -166,9 +180,8 @@ pub fn pointers_bad(written: &[u32], durable: &[u32], g: Geometry, named: [bool;
     let mut bad = false;
     let mut d = 0;
     while d < n {
-        let b = drive_bad(written, durable, g, d);
-        let here = named[d];
-        bad = bad | (here & b);
+        let b = named_bad(written, durable, g, named[d], d);
+        bad = bad | b;
         d += 1;
     }
     bad

@@ -125,6 +125,26 @@ fn has_room(written: &[u32], g: Geometry, drive: usize, zone: usize) -> bool
     n < c
 }
 
+// Whether an append is made: it is due, and the zone has room. Of a drive that is not present no pointer is read.
+fn append_due(
+    written: &[u32],
+    g: Geometry,
+    here: bool,
+    drive: usize,
+    zone: usize,
+    budget: u64,
+) -> bool
+    requires { ⌜ Valid g ⌝ }
+    requires { ⌜ (drive < g .drives) × (zone < physicalZones g) × (length (now written) ≡ cells g) ⌝ }
+    ensures { λ r. ⌜ r ≡ (here && ltb 1 budget) && hasRoom g drive zone (now (written .entry)) ⌝ }
+{
+    let wanted = due(here, budget);
+    if !wanted {
+        return false;
+    }
+    has_room(written, g, drive, zone)
+}
+
 // An append, if its drive is present, the budget has a store left and the zone has room: what is left of the budget.
 pub fn append_counted(
     sectors: &mut [u8],
@@ -141,8 +161,7 @@ pub fn append_counted(
     requires { ⌜ (length (now sectors) ≡ totalBytes g) × (length (now written) ≡ cells g) × (length (now src) ≡ g .sector) ⌝ }
     ensures { λ r. ⌜ MadeAppends g budget r (storeIf here (append drive zone (now (src .entry)))) (now (sectors .entry)) (now (written .entry)) (now (sectors .exit)) (now (written .exit)) ⌝ }
 {
-    let room = has_room(written, g, drive, zone);
-    let made = due(here, budget) & room;
+    let made = append_due(written, g, here, drive, zone, budget);
     if !made {
         return left_after(here, budget);
     }

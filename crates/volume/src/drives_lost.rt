@@ -79,6 +79,26 @@ pub fn look_present(sectors: &[u8], written: &[u32], g: Geometry, named: [bool; 
     here
 }
 
+// Whether one drive is present and its log begins with another array number.
+fn array_differs(
+    sectors: &[u8],
+    written: &[u32],
+    g: Geometry,
+    present: bool,
+    d: usize,
+    array: u64,
+) -> bool
+    requires { ⌜ Valid g ⌝ }
+    requires { ⌜ Sized g (now sectors) (now written) × (d < g .drives) ⌝ }
+    ensures { λ r. ⌜ r ≡ present && not (eqb array (arrayIn (generalHeads g (readDevice g (now (sectors .entry)) (now (written .entry))) d))) ⌝ }
+{
+    if !present {
+        return false;
+    }
+    let a = super::drive_logs::first_array(sectors, written, g, d);
+    array != a
+}
+
 // Whether some present drive's log begins with another array number.
 fn other_array(sectors: &[u8], written: &[u32], g: Geometry, here: [bool; 8], array: u64) -> bool
     requires { ⌜ Valid g ⌝ }
@@ -89,8 +109,8 @@ fn other_array(sectors: &[u8], written: &[u32], g: Geometry, here: [bool; 8], ar
     let mut other = false;
     let mut e = 0;
     while e < n {
-        let a = super::drive_logs::first_array(sectors, written, g, e);
-        other = other | (here[e] & (array != a));
+        let b = array_differs(sectors, written, g, here[e], e, array);
+        other = other | b;
         e += 1;
     }
     other
@@ -102,11 +122,14 @@ fn label_bad(sectors: &[u8], written: &[u32], g: Geometry, here: [bool; 8], d: u
     requires { ⌜ Sized g (now sectors) (now written) × (d < g .drives) ⌝ }
     ensures { λ r. ⌜ r ≡ labelBad g (isSet here) (readDevice g (now (sectors .entry)) (now (written .entry))) d ⌝ }
 {
+    let present = here[d];
+    if !present {
+        return false;
+    }
     let labelled = super::drive_logs::begins_labelled(sectors, written, g, d);
     let a = super::drive_logs::first_array(sectors, written, g, d);
     let other = other_array(sectors, written, g, here, a);
-    let present = here[d];
-    present & (!labelled | other)
+    !labelled | other
 }
 
 // Refusal 5.

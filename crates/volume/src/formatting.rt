@@ -157,15 +157,25 @@ fn format_stores(
     super::flushing::flush_all(written, durable, g, here, labelled)
 }
 
-// The state that a finished format hands on: every zone empty, of generation 1.
-fn fresh_state(lost: usize) -> State
-    ensures { λ r. ⌜ r ≡ freshState lost ⌝ }
+// The state that a finished format hands on: every zone empty, of generation 1; the records past the last zone blank.
+fn fresh_state(g: Geometry, lost: usize) -> State
+    requires { ⌜ Valid g ⌝ }
+    ensures { λ r. ⌜ r ≡ freshState g lost ⌝ }
 {
-    let fresh = ZoneRecord {
-        generation: 1,
+    let n = g.zones;
+    let blank = ZoneRecord {
+        generation: 0,
         condition: Condition::Empty,
     };
-    let zones = [fresh; 16];
+    let mut zones = [blank; 16];
+    let mut z = 0;
+    while z < n {
+        zones[z] = ZoneRecord {
+            generation: 1,
+            condition: Condition::Empty,
+        };
+        z += 1;
+    }
     State { lost, zones }
 }
 
@@ -200,7 +210,7 @@ pub fn format(
             state: old,
         };
     }
-    let state = fresh_state(lost);
+    let state = fresh_state(g, lost);
     Outcome {
         answer: Answer::Finished,
         state,

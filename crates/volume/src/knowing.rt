@@ -53,7 +53,12 @@ fn seal_of(
     }
     let at = tables::stores::cell_of(g, d, logs::GENERAL_LOG);
     let n = tables::bounds::widen(written[at]);
-    logs::folds::least_seal(sectors, g, d, logs::GENERAL_LOG, n, z, generation, most)
+    let log = logs::Log {
+        drive: d,
+        zone: logs::GENERAL_LOG,
+        written: n,
+    };
+    logs::folds::least_seal(sectors, g, log, z, generation, most)
 }
 
 // The least current seal of a zone; its length if there is none.
@@ -86,9 +91,12 @@ pub fn is_held(written: &[u32], g: Geometry, here: [bool; 8], z: usize, d: usize
     ensures { λ r. ⌜ r ≡ heldOn g here (now (written .entry)) z d x ⌝ }
 {
     let present = here[d];
+    if !present {
+        return false;
+    }
     let at = tables::stores::cell_of(g, d, tables::DATA_ZONES + z);
     let n = tables::bounds::widen(written[at]);
-    present & (x < n)
+    x < n
 }
 
 // Whether the drive of address a holds it.
@@ -236,7 +244,12 @@ fn serving_place(
     let high = tables::placement::min(limit, reach);
     let at = tables::stores::cell_of(g, p, logs::PARITY_LOG);
     let n = tables::bounds::widen(written[at]);
-    logs::folds::last_partial(sectors, g, p, logs::PARITY_LOG, n, z, generation, a, high)
+    let log = logs::Log {
+        drive: p,
+        zone: logs::PARITY_LOG,
+        written: n,
+    };
+    logs::folds::last_partial(sectors, g, log, z, generation, a, high)
 }
 
 // Whether the row's parity is in place with all its other data.

@@ -19,6 +19,7 @@ pub mod mount_steps;
 pub mod mount_torn;
 pub mod mount_zones;
 pub mod mounting;
+pub mod numbers;
 pub mod reading;
 pub mod resetting;
 pub mod write_checks;

@@ -1,7 +1,9 @@
 // A mount's counters: "if any zone is empty or the present drives' last counters differ, on each present drive one counters entry with the
 // zones' generations, every empty zone's raised by 1".
+use super::Basis;
 use super::Condition;
 use super::Look;
+use logs::Log;
 use tables::Geometry;
 ghost use mathlib.Core.Path.{_≡_};
 ghost use mathlib.Core.Bool.{_&&_, not};
@@ -14,7 +16,7 @@ ghost use Rattle.tables.specs.meaning.LittleEndian.{sameBytes, readLE};
 ghost use Rattle.tables.specs.meaning.Geometry.{Valid, cells, totalBytes};
 ghost use Rattle.tables.specs.meaning.Phases.{onPresent};
 ghost use Rattle.tables.specs.laws.Made.{MadeAppends};
-ghost use Rattle.logs.specs.code.WalkCode.{logSectors};
+ghost use Rattle.logs.specs.code.WalkCode.{InLog, logSectors};
 ghost use Rattle.logs.specs.meaning.Heads.{lastCounters};
 ghost use Rattle.volume.specs.meaning.State.{isEmpty};
 ghost use Rattle.volume.specs.meaning.Rules.{generalHeads};
@@ -95,27 +97,18 @@ fn next_generations(g: Geometry, look: Look) -> [u64; 16]
 }
 
 // Whether the counters at two places of two drives' logs give every zone the same generation.
-fn same_generations(
-    sectors: &[u8],
-    g: Geometry,
-    d: usize,
-    n: usize,
-    p: usize,
-    e: usize,
-    m: usize,
-    q: usize,
-) -> bool
+fn same_generations(sectors: &[u8], g: Geometry, a: Log, p: usize, b: Log, q: usize) -> bool
     requires { ⌜ Valid g ⌝ }
-    requires { ⌜ (length (now sectors) ≡ totalBytes g) × (d < g .drives) × (n ≤ g .capacity) × (p < n) × (e < g .drives) × (m ≤ g .capacity) × (q < m) ⌝ }
-    ensures { λ r. ⌜ r ≡ allBelow (λ (z : ℕ). eqb (readLE 8 (getD (logSectors g d 0 (now (sectors .entry)) n) p []) (32 + 8 * z)) (readLE 8 (getD (logSectors g e 0 (now (sectors .entry)) m) q []) (32 + 8 * z))) (g .zones) ⌝ }
+    requires { ⌜ InLog g (a .drive) (a .zone) (a .written) (now sectors) × (p < a .written) × InLog g (b .drive) (b .zone) (b .written) (now sectors) × (q < b .written) ⌝ }
+    ensures { λ r. ⌜ r ≡ allBelow (λ (z : ℕ). eqb (readLE 8 (getD (logSectors g (a .drive) (a .zone) (now (sectors .entry)) (a .written)) p []) (32 + 8 * z)) (readLE 8 (getD (logSectors g (b .drive) (b .zone) (now (sectors .entry)) (b .written)) q []) (32 + 8 * z))) (g .zones) ⌝ }
 {
     let l = g.zones;
     let mut same = true;
     let mut z = 0;
     while z < l {
-        let a = logs::folds::generation_at(sectors, g, d, logs::GENERAL_LOG, n, p, z);
-        let b = logs::folds::generation_at(sectors, g, e, logs::GENERAL_LOG, m, q, z);
-        same = same & (a == b);
+        let x = logs::folds::generation_at(sectors, g, a, p, z);
+        let y = logs::folds::generation_at(sectors, g, b, q, z);
+        same = same & (x == y);
         z += 1;
     }
     same
@@ -129,15 +122,25 @@ fn same_counters(sectors: &[u8], pointers: &[u32], g: Geometry, d: usize, e: usi
 {
     let n = super::mount_logs::sectors_then(pointers, g, d, logs::GENERAL_LOG);
     let m = super::mount_logs::sectors_then(pointers, g, e, logs::GENERAL_LOG);
-    let p = logs::folds::last_counters(sectors, g, d, logs::GENERAL_LOG, n);
-    let q = logs::folds::last_counters(sectors, g, e, logs::GENERAL_LOG, m);
+    let a = Log {
+        drive: d,
+        zone: logs::GENERAL_LOG,
+        written: n,
+    };
+    let b = Log {
+        drive: e,
+        zone: logs::GENERAL_LOG,
+        written: m,
+    };
+    let p = logs::folds::last_counters(sectors, g, a);
+    let q = logs::folds::last_counters(sectors, g, b);
     if p == 0 {
         return q == 0;
     }
     if q == 0 {
         return false;
     }
-    same_generations(sectors, g, d, n, p - 1, e, m, q - 1)
+    same_generations(sectors, g, a, p - 1, b, q - 1)
 }
 
 // Whether drive e is here and its last counters are not drive d's.
@@ -264,15 +267,16 @@ pub fn store_counters(
     written: &mut [u32],
     pointers: &[u32],
     out: &mut [u8],
-    g: Geometry,
-    here: [bool; 8],
-    look: Look,
+    basis: Basis,
     budget: u64,
 ) -> u64
-    requires { ⌜ Valid g ⌝ }
-    requires { ⌜ (length (now out) ≡ g .sector) × Logging g look (now pointers) (now sectors) (now written) ⌝ }
-    ensures { λ r. ⌜ MadeAppends g budget r (onPresent (isSet here) (counterStep g (isSet here) (shownBy look) (readDevice g (now (sectors .entry)) (now (pointers .entry))))) (now (sectors .entry)) (now (written .entry)) (now (sectors .exit)) (now (written .exit)) ⌝ }
+    requires { ⌜ Valid (basis .geometry) ⌝ }
+    requires { ⌜ (length (now out) ≡ basis .geometry .sector) × Logging (basis .geometry) (basis .look) (now pointers) (now sectors) (now written) ⌝ }
+    ensures { λ r. ⌜ MadeAppends (basis .geometry) budget r (onPresent (isSet (basis .here)) (counterStep (basis .geometry) (isSet (basis .here)) (shownBy (basis .look)) (readDevice (basis .geometry) (now (sectors .entry)) (now (pointers .entry))))) (now (sectors .entry)) (now (written .entry)) (now (sectors .exit)) (now (written .exit)) ⌝ }
 {
+    let g = basis.geometry;
+    let here = basis.here;
+    let look = basis.look;
     let due = counters_due(sectors, pointers, g, here, look);
     if !due {
         return budget;

@@ -49,16 +49,12 @@ fn entry_due(
         return false;
     }
     let n = super::mount_logs::sectors_then(starts, g, drive, logs::PARITY_LOG);
-    let there = logs::folds::has_partial_at(
-        sectors,
-        g,
+    let log = logs::Log {
         drive,
-        logs::PARITY_LOG,
-        n,
-        z,
-        generation,
-        pointer,
-    );
+        zone: logs::PARITY_LOG,
+        written: n,
+    };
+    let there = logs::folds::has_partial_at(sectors, g, log, z, generation, pointer);
     !there
 }
 

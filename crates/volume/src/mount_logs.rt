@@ -1,6 +1,7 @@
 // A mount's headers on the general logs: "a new label on each present drive whose last doesn't name the lost one; type 3 again on both its
 // drives for each zone emptied by rule 3; .. the seal at its pointer of each zone shown sealed, on each present drive lacking it". The three
 // steps differ in the header and in where it is due, and share their loops. A log is read below the pointers of the mount's look.
+use super::Basis;
 use super::Condition;
 use super::Look;
 use tables::Geometry;
@@ -61,13 +62,20 @@ fn is_sealed(c: Condition) -> bool
 }
 
 // Whether a drive is due a new label: its last does not name the lost drive.
-fn label_due(sectors: &[u8], pointers: &[u32], g: Geometry, look: Look, drive: usize) -> bool
-    requires { ⌜ Valid g ⌝ }
-    requires { ⌜ (drive < g .drives) × (length (now sectors) ≡ totalBytes g) × (length (now pointers) ≡ cells g) ⌝ }
-    ensures { λ r. ⌜ r ≡ labelDue g look (readDevice g (now (sectors .entry)) (now (pointers .entry))) drive ⌝ }
+fn label_due(sectors: &[u8], pointers: &[u32], basis: Basis, drive: usize) -> bool
+    requires { ⌜ Valid (basis .geometry) ⌝ }
+    requires { ⌜ (drive < basis .geometry .drives) × (length (now sectors) ≡ totalBytes (basis .geometry)) × (length (now pointers) ≡ cells (basis .geometry)) ⌝ }
+    ensures { λ r. ⌜ r ≡ labelDue (basis .geometry) (basis .look) (readDevice (basis .geometry) (now (sectors .entry)) (now (pointers .entry))) drive ⌝ }
 {
+    let g = basis.geometry;
+    let look = basis.look;
     let n = sectors_then(pointers, g, drive, logs::GENERAL_LOG);
-    let last = logs::folds::last_lost(sectors, g, drive, logs::GENERAL_LOG, n);
+    let log = logs::Log {
+        drive,
+        zone: logs::GENERAL_LOG,
+        written: n,
+    };
+    let last = logs::folds::last_lost(sectors, g, log);
     let lost = look.lost;
     let d = g.drives;
     (lost < d) & (last != lost)
@@ -89,18 +97,13 @@ fn reset_due(g: Geometry, look: Look, drive: usize, z: usize) -> bool
 }
 
 // Whether a zone is shown sealed and a drive lacks the seal at its pointer.
-fn seal_due(
-    sectors: &[u8],
-    pointers: &[u32],
-    g: Geometry,
-    look: Look,
-    drive: usize,
-    z: usize,
-) -> bool
-    requires { ⌜ Valid g ⌝ }
-    requires { ⌜ (drive < g .drives) × (z < g .zones) × (length (now sectors) ≡ totalBytes g) × (length (now pointers) ≡ cells g) ⌝ }
-    ensures { λ r. ⌜ r ≡ sealDue g look (readDevice g (now (sectors .entry)) (now (pointers .entry))) drive z ⌝ }
+fn seal_due(sectors: &[u8], pointers: &[u32], basis: Basis, drive: usize, z: usize) -> bool
+    requires { ⌜ Valid (basis .geometry) ⌝ }
+    requires { ⌜ (drive < basis .geometry .drives) × (z < basis .geometry .zones) × (length (now sectors) ≡ totalBytes (basis .geometry)) × (length (now pointers) ≡ cells (basis .geometry)) ⌝ }
+    ensures { λ r. ⌜ r ≡ sealDue (basis .geometry) (basis .look) (readDevice (basis .geometry) (now (sectors .entry)) (now (pointers .entry))) drive z ⌝ }
 {
+    let g = basis.geometry;
+    let look = basis.look;
     let zones = look.zones;
     let zone = zones[z];
     let generation = zone.generation;
@@ -108,16 +111,12 @@ fn seal_due(
     let condition = zone.condition;
     let sealed = is_sealed(condition);
     let n = sectors_then(pointers, g, drive, logs::GENERAL_LOG);
-    let there = logs::folds::has_seal_at(
-        sectors,
-        g,
+    let log = logs::Log {
         drive,
-        logs::GENERAL_LOG,
-        n,
-        z,
-        generation,
-        pointer,
-    );
+        zone: logs::GENERAL_LOG,
+        written: n,
+    };
+    let there = logs::folds::has_seal_at(sectors, g, log, z, generation, pointer);
     sealed & !there
 }
 
@@ -126,19 +125,18 @@ fn header_due(
     kind: HeaderKind,
     sectors: &[u8],
     pointers: &[u32],
-    g: Geometry,
-    look: Look,
+    basis: Basis,
     drive: usize,
     z: usize,
 ) -> bool
-    requires { ⌜ Valid g ⌝ }
-    requires { ⌜ (drive < g .drives) × (z < g .zones) × (length (now sectors) ≡ totalBytes g) × (length (now pointers) ≡ cells g) ⌝ }
-    ensures { λ r. ⌜ r ≡ headerDue g kind look (readDevice g (now (sectors .entry)) (now (pointers .entry))) drive z ⌝ }
+    requires { ⌜ Valid (basis .geometry) ⌝ }
+    requires { ⌜ (drive < basis .geometry .drives) × (z < basis .geometry .zones) × (length (now sectors) ≡ totalBytes (basis .geometry)) × (length (now pointers) ≡ cells (basis .geometry)) ⌝ }
+    ensures { λ r. ⌜ r ≡ headerDue (basis .geometry) kind (basis .look) (readDevice (basis .geometry) (now (sectors .entry)) (now (pointers .entry))) drive z ⌝ }
 {
     match kind {
-        HeaderKind::Label => label_due(sectors, pointers, g, look, drive),
-        HeaderKind::Reset => reset_due(g, look, drive, z),
-        HeaderKind::Seal => seal_due(sectors, pointers, g, look, drive, z),
+        HeaderKind::Label => label_due(sectors, pointers, basis, drive),
+        HeaderKind::Reset => reset_due(basis.geometry, basis.look, drive, z),
+        HeaderKind::Seal => seal_due(sectors, pointers, basis, drive, z),
     }
 }
 
@@ -168,22 +166,23 @@ fn log_header(
     written: &mut [u32],
     pointers: &[u32],
     out: &mut [u8],
-    g: Geometry,
-    here: [bool; 8],
-    look: Look,
+    basis: Basis,
     drive: usize,
     z: usize,
     budget: u64,
 ) -> u64
-    requires { ⌜ Valid g ⌝ }
-    requires { ⌜ (drive < g .drives) × (z < g .zones) × (length (now out) ≡ g .sector) × Logging g look (now pointers) (now sectors) (now written) ⌝ }
-    ensures { λ r. ⌜ MadeAppends g budget r (onPresent (isSet here) (headerStores g kind look (readDevice g (now (sectors .entry)) (now (pointers .entry))) drive z)) (now (sectors .entry)) (now (written .entry)) (now (sectors .exit)) (now (written .exit)) ⌝ }
+    requires { ⌜ Valid (basis .geometry) ⌝ }
+    requires { ⌜ (drive < basis .geometry .drives) × (z < basis .geometry .zones) × (length (now out) ≡ basis .geometry .sector) × Logging (basis .geometry) (basis .look) (now pointers) (now sectors) (now written) ⌝ }
+    ensures { λ r. ⌜ MadeAppends (basis .geometry) budget r (onPresent (isSet (basis .here)) (headerStores (basis .geometry) kind (basis .look) (readDevice (basis .geometry) (now (sectors .entry)) (now (pointers .entry))) drive z)) (now (sectors .entry)) (now (written .entry)) (now (sectors .exit)) (now (written .exit)) ⌝ }
 {
+    let g = basis.geometry;
+    let here = basis.here;
+    let look = basis.look;
     let present = here[drive];
     if !present {
         return budget;
     }
-    let due = header_due(kind, sectors, pointers, g, look, drive, z);
+    let due = header_due(kind, sectors, pointers, basis, drive, z);
     if !due {
         return budget;
     }
@@ -207,33 +206,19 @@ fn log_drive(
     written: &mut [u32],
     pointers: &[u32],
     out: &mut [u8],
-    g: Geometry,
-    here: [bool; 8],
-    look: Look,
+    basis: Basis,
     drive: usize,
     n: usize,
     budget: u64,
 ) -> u64
-    requires { ⌜ Valid g ⌝ }
-    requires { ⌜ (drive < g .drives) × (n ≤ g .zones) × (length (now out) ≡ g .sector) × Logging g look (now pointers) (now sectors) (now written) ⌝ }
-    ensures { λ r. ⌜ MadeAppends g budget r (onPresent (isSet here) (eachBelow (headerStores g kind look (readDevice g (now (sectors .entry)) (now (pointers .entry))) drive) n)) (now (sectors .entry)) (now (written .entry)) (now (sectors .exit)) (now (written .exit)) ⌝ }
+    requires { ⌜ Valid (basis .geometry) ⌝ }
+    requires { ⌜ (drive < basis .geometry .drives) × (n ≤ basis .geometry .zones) × (length (now out) ≡ basis .geometry .sector) × Logging (basis .geometry) (basis .look) (now pointers) (now sectors) (now written) ⌝ }
+    ensures { λ r. ⌜ MadeAppends (basis .geometry) budget r (onPresent (isSet (basis .here)) (eachBelow (headerStores (basis .geometry) kind (basis .look) (readDevice (basis .geometry) (now (sectors .entry)) (now (pointers .entry))) drive) n)) (now (sectors .entry)) (now (written .entry)) (now (sectors .exit)) (now (written .exit)) ⌝ }
 {
     let mut rest = budget;
     let mut z = 0;
     while z < n {
-        rest = log_header(
-            kind,
-            sectors,
-            written,
-            pointers,
-            out,
-            g,
-            here,
-            look,
-            drive,
-            z,
-            rest,
-        );
+        rest = log_header(kind, sectors, written, pointers, out, basis, drive, z, rest);
         z += 1;
     }
     rest
@@ -246,33 +231,20 @@ pub fn log_headers(
     written: &mut [u32],
     pointers: &[u32],
     out: &mut [u8],
-    g: Geometry,
-    here: [bool; 8],
-    look: Look,
+    basis: Basis,
     n: usize,
     budget: u64,
 ) -> u64
-    requires { ⌜ Valid g ⌝ }
-    requires { ⌜ (n ≤ g .zones) × (length (now out) ≡ g .sector) × Logging g look (now pointers) (now sectors) (now written) ⌝ }
-    ensures { λ r. ⌜ MadeAppends g budget r (onPresent (isSet here) (headerSteps g kind look (readDevice g (now (sectors .entry)) (now (pointers .entry))) n (g .drives))) (now (sectors .entry)) (now (written .entry)) (now (sectors .exit)) (now (written .exit)) ⌝ }
+    requires { ⌜ Valid (basis .geometry) ⌝ }
+    requires { ⌜ (n ≤ basis .geometry .zones) × (length (now out) ≡ basis .geometry .sector) × Logging (basis .geometry) (basis .look) (now pointers) (now sectors) (now written) ⌝ }
+    ensures { λ r. ⌜ MadeAppends (basis .geometry) budget r (onPresent (isSet (basis .here)) (headerSteps (basis .geometry) kind (basis .look) (readDevice (basis .geometry) (now (sectors .entry)) (now (pointers .entry))) n (basis .geometry .drives))) (now (sectors .entry)) (now (written .entry)) (now (sectors .exit)) (now (written .exit)) ⌝ }
 {
+    let g = basis.geometry;
     let m = g.drives;
     let mut rest = budget;
     let mut d = 0;
     while d < m {
-        rest = log_drive(
-            kind,
-            sectors,
-            written,
-            pointers,
-            out,
-            g,
-            here,
-            look,
-            d,
-            n,
-            rest,
-        );
+        rest = log_drive(kind, sectors, written, pointers, out, basis, d, n, rest);
         d += 1;
     }
     rest

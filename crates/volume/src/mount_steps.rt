@@ -2,7 +2,9 @@
 // budget. Each relies on the same things (`Restoring`) and leaves them so for the next (`StepMade`); `restore_steps` is the list of them in
 // document 01's order.
 use super::Basis;
+use super::mount_counters::store_counters;
 use super::mount_logs::HeaderKind;
+use super::mount_logs::log_headers;
 use tables::Geometry;
 ghost use mathlib.Core.Path.{_≡_};
 ghost use lib.ListN.{length};
@@ -10,7 +12,6 @@ ghost use Rattle.tables.specs.meaning.Lists.{concat};
 ghost use Rattle.tables.specs.meaning.Geometry.{Valid, cells};
 ghost use Rattle.tables.specs.meaning.Tables.{tablesOf, deviceOf};
 ghost use Rattle.tables.specs.laws.Made.{Made};
-ghost use Rattle.volume.specs.declared.mount_logs.HeaderKind.the-variants.{Label, Reset, Seal};
 ghost use Rattle.volume.specs.meaning.Mount.{withFlush, entryStep};
 ghost use Rattle.volume.specs.meaning.CallContracts.{isSet};
 ghost use Rattle.volume.specs.mounting.MountTables.{FlushedAfter};
@@ -38,7 +39,8 @@ fn flush_after(
     super::flushing::flush_all(written, durable, g, here, rest)
 }
 
-// A step of headers of one kind on the general logs.
+// 1, 2 and 5. A step of headers of one kind on the general logs: "a new label on each present drive whose last doesn't name the lost one; type 3
+// again on both its drives for each zone emptied by rule 3; .. the seal at its pointer of each zone shown sealed, on each present drive lacking it".
 fn header_step(
     kind: HeaderKind,
     sectors: &mut [u8],
@@ -56,77 +58,9 @@ fn header_step(
 {
     let g = basis.geometry;
     let here = basis.here;
-    let look = basis.look;
     let n = super::mount_logs::header_zones(kind, g);
-    let rest = super::mount_logs::log_headers(
-        kind,
-        sectors,
-        written,
-        pointers,
-        out,
-        g,
-        here,
-        look,
-        n,
-        budget,
-    );
+    let rest = log_headers(kind, sectors, written, pointers, out, basis, n, budget);
     flush_after(written, durable, g, here, budget, rest)
-}
-
-// 1. "A new label on each present drive whose last doesn't name the lost one".
-fn label_step(
-    sectors: &mut [u8],
-    written: &mut [u32],
-    durable: &mut [u32],
-    pointers: &[u32],
-    out: &mut [u8],
-    basis: Basis,
-    budget: u64,
-) -> u64
-    requires { ⌜ Valid (basis .geometry) ⌝ }
-    requires { ⌜ (length (now out) ≡ basis .geometry .sector) × Restoring (basis .geometry) (basis .here) (basis .look) (now pointers) (tablesOf (now sectors) (now written) (now durable)) ⌝ }
-    ensures { λ r. ⌜ StepMade (basis .geometry) (basis .here) (basis .look) (now (pointers .entry)) budget r (headersBy (basis .geometry) Label (basis .look))
-        (tablesOf (now (sectors .entry)) (now (written .entry)) (now (durable .entry))) (tablesOf (now (sectors .exit)) (now (written .exit)) (now (durable .exit))) ⌝ }
-{
-    let kind = HeaderKind::Label;
-    header_step(
-        kind,
-        sectors,
-        written,
-        durable,
-        pointers,
-        out,
-        basis,
-        budget,
-    )
-}
-
-// 2. "Type 3 again on both its drives for each zone emptied by rule 3".
-fn reset_entry_step(
-    sectors: &mut [u8],
-    written: &mut [u32],
-    durable: &mut [u32],
-    pointers: &[u32],
-    out: &mut [u8],
-    basis: Basis,
-    budget: u64,
-) -> u64
-    requires { ⌜ Valid (basis .geometry) ⌝ }
-    requires { ⌜ (length (now out) ≡ basis .geometry .sector) × Restoring (basis .geometry) (basis .here) (basis .look) (now pointers) (tablesOf (now sectors) (now written) (now durable)) ⌝ }
-    ensures { λ r. ⌜ StepMade (basis .geometry) (basis .here) (basis .look) (now (pointers .entry)) budget r (headersBy (basis .geometry) Reset (basis .look))
-        (tablesOf (now (sectors .entry)) (now (written .entry)) (now (durable .entry))) (tablesOf (now (sectors .exit)) (now (written .exit)) (now (durable .exit))) ⌝ }
-{
-    let kind = HeaderKind::Reset;
-    header_step(
-        kind,
-        sectors,
-        written,
-        durable,
-        pointers,
-        out,
-        basis,
-        budget,
-    )
 }
 
 // 3. "Resets of those zones and of unclean ones with pointer 0, worn zones excepted".
@@ -159,46 +93,8 @@ fn counter_step(
 {
     let g = basis.geometry;
     let here = basis.here;
-    let look = basis.look;
-    let rest = super::mount_counters::store_counters(
-        sectors,
-        written,
-        pointers,
-        out,
-        g,
-        here,
-        look,
-        budget,
-    );
+    let rest = store_counters(sectors, written, pointers, out, basis, budget);
     flush_after(written, durable, g, here, budget, rest)
-}
-
-// 5. "The seal at its pointer of each zone shown sealed, on each present drive lacking it".
-fn seal_step(
-    sectors: &mut [u8],
-    written: &mut [u32],
-    durable: &mut [u32],
-    pointers: &[u32],
-    out: &mut [u8],
-    basis: Basis,
-    budget: u64,
-) -> u64
-    requires { ⌜ Valid (basis .geometry) ⌝ }
-    requires { ⌜ (length (now out) ≡ basis .geometry .sector) × Restoring (basis .geometry) (basis .here) (basis .look) (now pointers) (tablesOf (now sectors) (now written) (now durable)) ⌝ }
-    ensures { λ r. ⌜ StepMade (basis .geometry) (basis .here) (basis .look) (now (pointers .entry)) budget r (headersBy (basis .geometry) Seal (basis .look))
-        (tablesOf (now (sectors .entry)) (now (written .entry)) (now (durable .entry))) (tablesOf (now (sectors .exit)) (now (written .exit)) (now (durable .exit))) ⌝ }
-{
-    let kind = HeaderKind::Seal;
-    header_step(
-        kind,
-        sectors,
-        written,
-        durable,
-        pointers,
-        out,
-        basis,
-        budget,
-    )
 }
 
 // 6. "Rows missing from torn entries". `value` and `out` are scratch of one sector, here and below.
@@ -320,11 +216,23 @@ pub fn restore_steps(
     ensures { λ r. ⌜ Made (basis .geometry) budget r (restoreStores (basis .geometry) (basis .here) (basis .look) (now (sectors .entry)) (now (pointers .entry)) (tablesOf (now (sectors .entry)) (now (written .entry)) (now (durable .entry))))
         (tablesOf (now (sectors .entry)) (now (written .entry)) (now (durable .entry))) (tablesOf (now (sectors .exit)) (now (written .exit)) (now (durable .exit))) ⌝ }
 {
-    let rest = label_step(sectors, written, durable, pointers, out, basis, budget);
-    let rest = reset_entry_step(sectors, written, durable, pointers, out, basis, rest);
+    let label = HeaderKind::Label;
+    let rest = header_step(
+        label,
+        sectors,
+        written,
+        durable,
+        pointers,
+        out,
+        basis,
+        budget,
+    );
+    let reset = HeaderKind::Reset;
+    let rest = header_step(reset, sectors, written, durable, pointers, out, basis, rest);
     let rest = zone_reset_step(written, durable, basis, rest);
     let rest = counter_step(sectors, written, durable, pointers, out, basis, rest);
-    let rest = seal_step(sectors, written, durable, pointers, out, basis, rest);
+    let seal = HeaderKind::Seal;
+    let rest = header_step(seal, sectors, written, durable, pointers, out, basis, rest);
     let rest = torn_row_step(sectors, written, durable, pointers, value, out, basis, rest);
     let rest = fill_step(sectors, written, durable, pointers, value, out, basis, rest);
     tables::sectors::copy_pointers(starts, 0, written);

@@ -9,6 +9,7 @@ ghost use mathlib.Core.Path.{_≡_};
 ghost use mathlib.Core.Bool.{false};
 ghost use Prim.Native.Nat.{_+_, _*_, _≤_, _<_};
 ghost use lib.ListN.{length};
+ghost use denote.Ref.{ptr};
 ghost use Rattle.tables.specs.meaning.Basics.{pick};
 ghost use Rattle.tables.specs.meaning.Below.{tabulateFrom};
 ghost use Rattle.tables.specs.meaning.Lists.{concat};
@@ -17,7 +18,7 @@ ghost use Rattle.tables.specs.meaning.Tables.{tablesOf};
 ghost use Rattle.volume.specs.meaning.Rules.{valueAt, sealLimit};
 ghost use Rattle.volume.specs.meaning.Refusals.{goneIn, zoneOf, offsetOf};
 ghost use Rattle.volume.specs.meaning.State.{pointerIn};
-ghost use Rattle.volume.specs.meaning.CallContracts.{isSet, recordAt, viewState, valuesOn, readNumber, readOn, peekNumber, peekOn};
+ghost use Rattle.volume.specs.meaning.CallContracts.{isSet, recordAt, viewState, valuesOn, readNumber, readOn, peekNumber, peekOn, peekFrom, past};
 ghost use Rattle.volume.specs.checks.ZoneChecks.{Reached, needsLog};
 ghost use Rattle.volume.specs.looking.Knowing.{Readable, readDevice, ownSector};
 ghost use Rattle.volume.specs.reading.Reading.{StateFits, zoneNumberOn, runNumber};
@@ -448,7 +449,8 @@ pub fn peek<'a>(
     state: State,
     address: u64,
 ) -> &'a [u8]
-    ensures { λ r. ⌜ now r ≡ peekOn g named state address (tablesOf (now (sectors .entry)) (now (written .entry)) (now (durable .entry))) ⌝ }
+    ensures { λ r. ⌜ (now r ≡ peekOn g named state address (tablesOf (now (sectors .entry)) (now (written .entry)) (now (durable .entry))))
+        × (ptr r ≡ past (peekFrom g named state address (tablesOf (now (sectors .entry)) (now (written .entry)) (now (durable .entry)))) (ptr (sectors .entry))) ⌝ }
 {
     let refusal = peek_refusal(sectors, written, durable, g, named, state, address);
     if refusal != 0 {

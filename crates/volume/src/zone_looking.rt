@@ -1,20 +1,22 @@
 // What a look shows of one zone: rules 2, 3, 5 and 6.
 use super::Condition;
 use super::ZoneLook;
+use logs::Query;
 use tables::Geometry;
 ghost use mathlib.Core.Path.{_≡_};
 ghost use mathlib.Core.Bool.{_&&_};
 ghost use Prim.Native.Nat.{_≤_, _<_, min};
+ghost use lib.Dec.{eqb};
 ghost use Rattle.tables.specs.meaning.Basics.{pick};
 ghost use Rattle.tables.specs.meaning.Below.{larger};
 ghost use Rattle.tables.specs.meaning.Geometry.{Valid, zoneSectors};
-ghost use Rattle.tables.specs.meaning.Lists.{anyOf};
-ghost use Rattle.logs.specs.meaning.Heads.{generationIn, isReset, isSeal};
+ghost use Rattle.logs.specs.meaning.Heads.{generationIn};
+ghost use Rattle.logs.specs.code.Query.{answer};
 ghost use Rattle.volume.specs.meaning.CallContracts.{isSet, zoneLookOf};
-ghost use Rattle.volume.specs.meaning.Rules.{generalHeads, generationOf, resetSeen, sealSeen, cleanAt, conditionOf, sealLimit, zoneView, knownPrefix, pointerAt, zoneShown};
+ghost use Rattle.volume.specs.meaning.Rules.{generalHeads, generationOf, resetSeen, cleanAt, conditionOf, sealLimit, zoneView, knownPrefix, pointerAt, zoneShown};
 ghost use Rattle.volume.specs.looking.DriveLogs.{Sized};
 ghost use Rattle.volume.specs.looking.Knowing.{readDevice, Readable};
-ghost use Rattle.volume.specs.looking.ZoneLooking.{driveClean};
+ghost use Rattle.volume.specs.looking.ZoneLooking.{driveClean, toldBy};
 
 // The greater of two generations.
 fn later(a: u64, b: u64) -> u64
@@ -59,90 +61,40 @@ pub fn generation_of(sectors: &[u8], written: &[u32], g: Geometry, here: [bool; 
     most
 }
 
-fn drive_reset(
+// Whether a drive is present and its general log answers 1 to a question.
+fn drive_tells(
+    query: Query,
     sectors: &[u8],
     written: &[u32],
     g: Geometry,
     present: bool,
     d: usize,
-    z: usize,
-    generation: u64,
 ) -> bool
     requires { ⌜ Valid g ⌝ }
     requires { ⌜ Sized g (now sectors) (now written) × (d < g .drives) ⌝ }
-    ensures { λ r. ⌜ r ≡ present && anyOf (isReset z generation) (generalHeads g (readDevice g (now (sectors .entry)) (now (written .entry))) d) ⌝ }
+    ensures { λ r. ⌜ r ≡ present && eqb (answer g query 0 0 (generalHeads g (readDevice g (now (sectors .entry)) (now (written .entry))) d)) 1 ⌝ }
 {
     if !present {
         return false;
     }
-    super::drive_logs::has_reset(sectors, written, g, d, z, generation)
+    super::drive_logs::tells(query, sectors, written, g, d)
 }
 
-// Rule 3: whether a present drive has a reset entry of the current generation.
-pub fn reset_seen(
-    sectors: &[u8],
-    written: &[u32],
-    g: Geometry,
-    here: [bool; 8],
-    z: usize,
-    generation: u64,
-) -> bool
+// Whether a present drive's general log does: has a reset entry of the current generation (rule 3), or a current seal.
+fn is_told(query: Query, sectors: &[u8], written: &[u32], g: Geometry, here: [bool; 8]) -> bool
     requires { ⌜ Valid g ⌝ }
     requires { ⌜ Sized g (now sectors) (now written) ⌝ }
-    ensures { λ r. ⌜ r ≡ resetSeen g (isSet here) (readDevice g (now (sectors .entry)) (now (written .entry))) z generation ⌝ }
+    ensures { λ r. ⌜ r ≡ toldBy g (isSet here) (readDevice g (now (sectors .entry)) (now (written .entry))) query ⌝ }
 {
     let n = g.drives;
-    let mut seen = false;
+    let mut told = false;
     let mut d = 0;
     while d < n {
-        let b = drive_reset(sectors, written, g, here[d], d, z, generation);
-        seen = seen | b;
+        let b = drive_tells(query, sectors, written, g, here[d], d);
+        told = told | b;
         d += 1;
     }
-    seen
-}
-
-fn drive_seal(
-    sectors: &[u8],
-    written: &[u32],
-    g: Geometry,
-    present: bool,
-    d: usize,
-    z: usize,
-    generation: u64,
-) -> bool
-    requires { ⌜ Valid g ⌝ }
-    requires { ⌜ Sized g (now sectors) (now written) × (d < g .drives) ⌝ }
-    ensures { λ r. ⌜ r ≡ present && anyOf (isSeal z generation) (generalHeads g (readDevice g (now (sectors .entry)) (now (written .entry))) d) ⌝ }
-{
-    if !present {
-        return false;
-    }
-    super::drive_logs::has_seal(sectors, written, g, d, z, generation)
-}
-
-// Whether a present drive has a current seal.
-pub fn seal_seen(
-    sectors: &[u8],
-    written: &[u32],
-    g: Geometry,
-    here: [bool; 8],
-    z: usize,
-    generation: u64,
-) -> bool
-    requires { ⌜ Valid g ⌝ }
-    requires { ⌜ Sized g (now sectors) (now written) ⌝ }
-    ensures { λ r. ⌜ r ≡ sealSeen g (isSet here) (readDevice g (now (sectors .entry)) (now (written .entry))) z generation ⌝ }
-{
-    let n = g.drives;
-    let mut seen = false;
-    let mut d = 0;
-    while d < n {
-        let b = drive_seal(sectors, written, g, here[d], d, z, generation);
-        seen = seen | b;
-        d += 1;
-    }
-    seen
+    told
 }
 
 // Rule 6, of one drive: it has no more sectors than pointer q needs, and no current partial parity entry, whole or torn, that ends past it.
@@ -166,9 +118,8 @@ fn drive_clean(
     }
     let n = super::drive_logs::zone_pointer(written, g, d, tables::DATA_ZONES + z);
     let needs = tables::placement::sectors_needed(g, z, q, d);
-    let whole = super::drive_logs::whole_past(sectors, written, g, d, z, generation, q);
-    let torn = super::drive_logs::torn_past(sectors, written, g, d, z, generation, q);
-    (n <= needs) & (!whole & !torn)
+    let past = super::drive_logs::entry_past(sectors, written, g, d, z, generation, q);
+    (n <= needs) & !past
 }
 
 // Rule 6: whether a zone is clean at pointer q.
@@ -274,10 +225,10 @@ pub fn look_zone(
     ensures { λ r. ⌜ r ≡ zoneLookOf (zoneShown g (isSet here) (readDevice g (now (sectors .entry)) (now (written .entry))) z) ⌝ }
 {
     let generation = generation_of(sectors, written, g, here, z);
-    let by_reset = reset_seen(sectors, written, g, here, z, generation);
+    let by_reset = is_told(Query::ResetOf(z, generation), sectors, written, g, here);
     let pointer = pointer_at(sectors, written, g, here, z, generation, by_reset);
     let clean = is_clean(sectors, written, g, here, z, generation, pointer);
-    let sealed = seal_seen(sectors, written, g, here, z, generation);
+    let sealed = is_told(Query::SealOf(z, generation), sectors, written, g, here);
     let condition = condition_of(generation, pointer, clean, sealed);
     ZoneLook {
         generation,

@@ -1,4 +1,7 @@
 pub mod Bytes
+pub mod CallsLeave
 pub mod EdgeCalls
+pub mod RefusedCalls
 pub mod RoundTrips
 pub mod StateRoundTrip
+pub mod TablesRoundTrip

@@ -169,15 +169,11 @@ pub fn without_state(
     }
 }
 
-// The number of an answer: 0 finished, 255 unfinished, else the refusal's.
+// The number of an answer, as C has it.
 pub fn number_of(a: Answer) -> u32
     ensures { λ r. ⌜ r ≡ answerNumber a ⌝ }
 {
-    match a {
-        Answer::Finished => 0,
-        Answer::Unfinished => 255,
-        Answer::Refused(n) => n as u32,
-    }
+    volume::numbers::answer_number(a) as u32
 }
 
 // Hands an outcome back: its number, and the state's bytes where the call is finished.

@@ -9,36 +9,7 @@ ghost use lib.ListN.{length};
 ghost use Rattle.tables.specs.meaning.Geometry.{Valid};
 ghost use Rattle.tables.specs.meaning.Lists.{overlay};
 ghost use Rattle.tables.specs.meaning.LittleEndian.{sameBytes};
-ghost use Rattle.zrv.specs.meaning.Bytes.{kindOf, conditionFrom, recordTo, recordFrom, stateTo, stateFrom, stateWellFormed};
-
-// The byte of a condition.
-fn kind_of(c: Condition) -> u32
-    ensures { λ r. ⌜ r ≡ kindOf c ⌝ }
-{
-    match c {
-        Condition::Empty => 0,
-        Condition::Open(n) => 1,
-        Condition::Sealed(n) => 2,
-        Condition::Worn(n) => 3,
-    }
-}
-
-// The condition of a byte and a pointer.
-fn condition_from(kind: u32, pointer: u32) -> Condition
-    ensures { λ r. ⌜ r ≡ conditionFrom kind pointer ⌝ }
-{
-    let p = pointer as usize;
-    if kind == 1 {
-        return Condition::Open(p);
-    }
-    if kind == 2 {
-        return Condition::Sealed(p);
-    }
-    if kind == 3 {
-        return Condition::Worn(p);
-    }
-    Condition::Empty
-}
+ghost use Rattle.zrv.specs.meaning.Bytes.{recordTo, recordFrom, stateTo, stateFrom, stateWellFormed};
 
 // Writes a zone's record as the sixteen bytes from `at`.
 fn record_to(r: ZoneRecord, bytes: &mut [u8], at: usize)
@@ -47,7 +18,7 @@ fn record_to(r: ZoneRecord, bytes: &mut [u8], at: usize)
 {
     let generation = r.generation;
     let condition = r.condition;
-    let kind = kind_of(condition);
+    let kind = volume::numbers::condition_number(condition);
     let pointer = volume::checks::pointer_of(condition);
     let low = (pointer % 4294967296) as u32;
     tables::bytes::write_u64(bytes, at, generation);
@@ -63,7 +34,7 @@ fn record_from(bytes: &[u8], at: usize) -> ZoneRecord
     let generation = tables::bytes::read_u64(bytes, at);
     let kind = tables::bytes::read_u32(bytes, at + 8);
     let pointer = tables::bytes::read_u32(bytes, at + 12);
-    let condition = condition_from(kind, pointer);
+    let condition = volume::numbers::condition_of(kind as u64, pointer as usize);
     ZoneRecord {
         generation,
         condition,

@@ -3,7 +3,7 @@ use mathlib.Core.Path.{_≡_, refl, sym, ap, _∙_}
 use mathlib.Core.Bool.{Bool, true, false}
 use Prim.Native.Nat.{ℕ, suc, _+_, _≤_, _<_}
 use native.Mathlib.Omega.{arith}
-use mathlib.Core.List.{List, [], _∷_}
+use mathlib.Core.List.{List, [], _∷_, map}
 use lib.Dec.{leb}
 use native.Mathlib.Decide.{decLt}
 use Rattle.tables.specs.meaning.Basics.{pick}
@@ -117,3 +117,34 @@ module _ (g : Geometry) (d : ℕ) (par : Bool) (ss : List (List ℕ)) where
         at : Dec (p < length ss) → Taken p f q
         at (yes l) = here (decodeAt g d par p (getD ss p [])) l refl
         at (no n) = none (AtPointer p) (ap (stepOf g p) (at-end g d par ss p (omega arith)))
+
+  -- ---- THE STEPS ARE THE WALK. steps: what was found at each of them and where the next one begins, from p on; end: where they are left
+  abbrev pub Stepped : ℕ → List (Found × ℕ) → WalkEnd → Type 0
+  Stepped p [] end = stepOf g p (leftAt g d par ss p) ≡ Left end
+  Stepped p ((f, q) ∷ steps) end = (stepOf g p (leftAt g d par ss p) ≡ Whole f q) × Stepped q steps end
+
+  pub record WalkOf (p : ℕ) (steps : List (Found × ℕ)) (end : WalkEnd) : Type 0 where
+    pub found-are : map (λ (s : Found × ℕ). s .0) steps ≡ map (λ (e : Entry). seen (e .head)) (leftAt g d par ss p .entries)
+    pub end-is : end ≡ walkEndOf (leftAt g d par ss p)
+
+  -- (from sector 0 it is the walk of the log)
+  pub steps-are-the-walk : (p : ℕ) → p ≤ length ss → (steps : List (Found × ℕ)) (end : WalkEnd) → Stepped p steps end → WalkOf p steps end
+  steps-are-the-walk p h [] end s =
+      let none = step-left p h end s in
+      record { found-are = rw none refl; end-is = last (leftAt g d par ss p .entries) none s }
+    where
+      last : (es : List Entry) → es ≡ [] → stepFrom g p es (walkEndOf (leftAt g d par ss p)) ≡ Left end → end ≡ walkEndOf (leftAt g d par ss p)
+      last [] e q = cc
+      last (x ∷ es) e q = absurd (let y = left-not-whole end (seen (x .head)) (p + suc (rowsOf g (x .head))) (sym q) in omega arith)
+  steps-are-the-walk p h ((f, q) ∷ steps) end (s, rest) =
+      let t = step-taken p h f q s in
+      let within : q ≤ length ss = omega (arith, t .next-is, t .stands .within) in
+      let w = steps-are-the-walk q within steps end rest in
+      joined t w
+    where
+      joined : Taken p f q → WalkOf q steps end → WalkOf p ((f, q) ∷ steps) end
+      joined t w = record {
+        found-are = ap (λ (x : Found). x ∷ map (λ (s : Found × ℕ). s .0) steps) (t .seen-is) ∙ ap (_∷_ (seen (t .entry .head))) (w .found-are)
+            ∙ sym (ap (λ (x : Walked). map (λ (e : Entry). seen (e .head)) (x .entries)) (t .on));
+        end-is = w .end-is ∙ sym (ap walkEndOf (t .on));
+      }

@@ -131,6 +131,8 @@ module _ (g : Geometry) (x : ℕ) (v : Device) (state : StateView) (l : Ledger) 
         pointer-is = q .pointer-is;
         strong-now = record { places = λ d a. rw (after-settled d (dataZone z) a (omega arith) .same) (k .places d a); entry = k .entry };
         shape = shaped (state .condition z) (q .shape);
+        sectors = q .sectors;
+        no-flag = q .no-flag;
       }
     where
       below : (c : Condition) → Shape g x v γ l z c → (d : ℕ) → Here g x d → (p : ℕ) → List·Memᴰ (seal z p (γ .generation z)) (γ .general d) → length (l .content z) ≤ p

@@ -205,7 +205,7 @@ module _ (g : Geometry) (ok : Valid g) (x a : ℕ) (v : Device) (lost : (x ≡ n
     ghost,
     record {
       logs = logs;
-      zones = λ z h. made-empty-rest g ok x after ghost freshLedger z (blank z h) (formatState x) refl (inl (refl, one-small));
+      zones = λ z h. made-empty-rest g ok x after ghost freshLedger z (blank z h) (formatState x) refl (inl (refl, one-small)) refl;
       whole = λ d h e m. mem-nil e m;
       lost-is = inr refl;
     },

@@ -383,7 +383,7 @@ module _ (g : Geometry) (ok : Valid g) (x : ℕ) (v : Device) (state : StateView
 
   done-others : (y : ℕ) → y < g .zones → y ≢ z → RestZone g x doneDevice (resetState x state z) (afterReset l z) doneGhost y
   unfolding doneGhost
-  done-others y h n = untouched-rest g x v doneDevice γ doneGhost l (afterReset l z) y (r .logs) k state (resetState x state z) (rw (ne-eqb y z n) refl) (rw (ne-eqb y z n) refl) (λ d a. settled-at doneDevice bothEntries doneAfter y h n d a .same) (λ d a e m. m) (r .zones y h)
+  done-others y h n = untouched-rest g x v doneDevice γ doneGhost l (afterReset l z) y (r .logs) k state (resetState x state z) (rw (ne-eqb y z n) refl) (rw (ne-eqb y z n) refl) refl (λ d a. settled-at doneDevice bothEntries doneAfter y h n d a .same) (λ d a e m. m) (r .zones y h)
     where
       cuts : (d : ℕ) → Here g x d → (j : ℕ) → doneDevice d generalZone .durable ≤ j → generationIn y (take j (γ .general d ++ bothEntries d)) ≡ γ .generation y
       cuts d a j q = go (generation-after g ok x v state l γ r z rk doneDevice bothEntries doneAfter y h d a j q)
@@ -443,7 +443,7 @@ module _ (g : Geometry) (ok : Valid g) (x : ℕ) (v : Device) (state : StateView
   }
     where
       zone : (y : ℕ) → y < g .zones → Dec (y ≡ z) → RestZone g x doneDevice (resetState x state z) (afterReset l z) doneGhost y
-      zone y h (yes e) = rw e (made-empty-rest g ok x doneDevice doneGhost (afterReset l z) z done-emptied (resetState x state z) (rw (generation-own, eq-eqb z z refl, here .generation-is) refl) done-condition)
+      zone y h (yes e) = rw e (made-empty-rest g ok x doneDevice doneGhost (afterReset l z) z done-emptied (resetState x state z) (rw (generation-own, eq-eqb z z refl, here .generation-is) refl) done-condition (here .no-flag))
       zone y h (no n) = done-others y h n
 
   pub finishes : (δ : Ghost) × Rest g x (applyAll (concat phases) v) (resetState x state z) (afterReset l z) δ

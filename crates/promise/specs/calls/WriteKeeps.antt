@@ -412,12 +412,14 @@ module _ (g : Geometry) (ok : Valid g) (x : ℕ) (v : Device) (state : StateView
       no-seal = plain .no-seal;
       unworn = plain .unworn;
     });
+    sectors = rw (eq-eqb z z refl) (omega (arith, wk .some));
+    no-flag = here .no-flag;
   }
 
   -- ---- any other zone
   others : (y : ℕ) → y < g .zones → y ≢ z → RestZone g x after (writeState x state z ss) (afterWrite l z ss) next y
   unfolding next
-  others y h n = untouched-rest g x v after γ next l (afterWrite l z ss) y (r .logs) k state (writeState x state z ss) refl (rw (ne-eqb y z n) refl) same (λ d a e m. mem-left (γ .parity d) (logged d) e m) (r .zones y h)
+  others y h n = untouched-rest g x v after γ next l (afterWrite l z ss) y (r .logs) k state (writeState x state z ss) refl (rw (ne-eqb y z n) refl) refl same (λ d a e m. mem-left (γ .parity d) (logged d) e m) (r .zones y h)
     where
       same : (d : ℕ) → Here g x d → after d (dataZone y) .sectors ≡ v d (dataZone y) .sectors
       same d a = sectors-other d (dataZone y) a (λ e. n (omega arith)) (λ e. omega arith)

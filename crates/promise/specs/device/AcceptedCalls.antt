@@ -1,5 +1,5 @@
 -- What an accepted call meets: no row of its table applies. So an accepted write, reset or mount is WriteOk, ResetOk or MountOk, and an
--- answer that is finished came of an accepted call. Of the drives named only those below D matter.
+-- answer that is finished came of an accepted call. A refused one meets a row that applies. Of the drives named only those below D matter.
 use Rattle.volume.specs.meaning.Answers.{CallResult, storing, Given, given, giving, sectorsIn}
 use Rattle.volume.specs.declared.Answer.the-variants.{Finished, Unfinished, Refused}
 use Rattle.volume.specs.laws.Refusals.{accepted-row}
@@ -14,8 +14,8 @@ use Rattle.tables.specs.meaning.Below.{anyBelow, tabulateFrom}
 use Rattle.tables.specs.laws.Drives.{find-below-cong}
 use Rattle.tables.specs.laws.Basics.{or-none, not-not, and-split, not-both}
 use Rattle.tables.specs.meaning.Basics.{pick}
-use mathlib.Core.Path.{_≡_, refl, ap, _∙_, fun-ext}
-use mathlib.Core.Logic.{_≢_}
+use mathlib.Core.Path.{_≡_, refl, sym, ap, _∙_, fun-ext}
+use mathlib.Core.Logic.{_≢_, _⊎_, inl, inr}
 use mathlib.Core.Bool.{Bool, true, false, _&&_, _||_, not, true≢false}
 use Prim.Native.Nat.{ℕ, zero, suc, _+_, _-_, _*_, _≤_, _<_, min}
 use native.Mathlib.Nat.{mul-le-mul-right}
@@ -104,10 +104,10 @@ unused-by g present v y n pos h d hd p = go (decLt (g .capacity - length (v d y 
     go (no l) = omega arith
 
 pub write-ok : (g : Geometry) (t : TableLengths) (named : ℕ → Bool) (state : StateView) (a count : ℕ) (buffer : List ℕ) (v : Device)
-    → firstRefusal (writeRows g t named state a count (length buffer) v) ≡ accept → WriteOk g (callPresent g named state) v state (zoneOf g a) (sectorsIn g count buffer)
+    → firstRefusal (writeRows g t (badPointers g named v) named state a count (length buffer) v) ≡ accept → WriteOk g (callPresent g named state) v state (zoneOf g a) (sectorsIn g count buffer)
 unfolding writeRows bufferFits
 write-ok g t named state a count buffer v e =
-    let row = accepted-row (writeRows g t named state a count (length buffer) v) e in
+    let row = accepted-row (writeRows g t (badPointers g named v) named state a count (length buffer) v) e in
     let (q1, q2) = and-split (tablesFit g t) (bufferFits g count (length buffer)) (not-not (tablesFit g t && bufferFits g count (length buffer)) (row 2)) in
     let (n1, n2) = or-none (eqb count 0) (ltb (zoneSectors g) (offsetOf g a + count)) (row 9) in
     let o : offsetOf g a ≡ pointerIn (state .condition (zoneOf g a)) = eqb-true (offsetOf g a) (pointerIn (state .condition (zoneOf g a))) (not-not (eqb (offsetOf g a) (pointerIn (state .condition (zoneOf g a)))) (row 10)) in
@@ -130,10 +130,10 @@ present-lt : (g : Geometry) (named : ℕ → Bool) (v : Device) (d : ℕ) → is
 unfolding isPresent
 present-lt g named v d h = ltb-true d (g .drives) (and-split (ltb d (g .drives)) (not (isLost g named v d)) h .0)
 
-pub reset-ok : (g : Geometry) (t : TableLengths) (named : ℕ → Bool) (state : StateView) (z : ℕ) (v : Device) → firstRefusal (resetRows g t named state z v) ≡ accept → ResetOk g (callPresent g named state) v state z
+pub reset-ok : (g : Geometry) (t : TableLengths) (named : ℕ → Bool) (state : StateView) (z : ℕ) (v : Device) → firstRefusal (resetRows g t (badPointers g named v) named state z v) ≡ accept → ResetOk g (callPresent g named state) v state z
 unfolding resetRows
 reset-ok g t named state z v e =
-    let row = accepted-row (resetRows g t named state z v) e in
+    let row = accepted-row (resetRows g t (badPointers g named v) named state z v) e in
     let (w1, w2) = or-none (isWorn (state .condition z)) (leb wornGeneration (state .generation z)) (row 12) in
     record {
       zone-ok = ltb-true z (g .zones) (not-not (ltb z (g .zones)) (row 8));
@@ -142,16 +142,29 @@ reset-ok g t named state z v e =
     }
 
 -- ---- an accepted mount
-pub mount-ok : (g : Geometry) (t : TableLengths) (named : ℕ → Bool) (v : Device) → firstRefusal (mountRows g t named v) ≡ accept → MountOk g (isPresent g named v) v
+pub mount-ok : (g : Geometry) (t : TableLengths) (named : ℕ → Bool) (v : Device) → firstRefusal (mountRows g t (badPointers g named v) named v) ≡ accept → MountOk g (isPresent g named v) v
 unfolding mountRows
 mount-ok g t named v e =
-    let row = accepted-row (mountRows g t named v) e in
+    let row = accepted-row (mountRows g t (badPointers g named v) named v) e in
     let (f1, f2) = or-none (unusedBelow g (isPresent g named v) v generalZone (g .zones + 2)) (unusedBelow g (isPresent g named v) v parityZone (reserve g)) (row 14) in
     let ok = valid-if-test g (not-not (isValid g) (row 1)) in
     record {
       general-room = λ d p. unused-by g (isPresent g named v) v generalZone (g .zones + 2) (omega arith) f1 d (present-lt g named v d p) p;
       parity-room = λ d p. unused-by g (isPresent g named v) v parityZone (reserve g) (omega (arith, ok .unit-least)) f2 d (present-lt g named v d p) p;
     }
+
+-- ---- a refused call: the row of that number applies, and none before it
+abbrev pub Applies : List (ℕ × Bool) → ℕ → Type 0
+Applies [] n = ⊥
+Applies ((m, b) ∷ rows) n = ((n ≡ m) × (b ≡ true)) ⊎ ((b ≡ false) × Applies rows n)
+
+pub refused-applies : (rows : List (ℕ × Bool)) (n : ℕ) → firstRefusal rows ≡ refuse n → Applies rows n
+refused-applies [] n e = absurd (let z : _≡_ {A = ℕ} 0 1 = cc in omega arith)
+refused-applies ((m, b) ∷ rows) n e = go b refl e (λ q. refused-applies rows n q)
+  where
+    go : (c : Bool) → b ≡ c → pick c (refuse m) (firstRefusal rows) ≡ refuse n → (firstRefusal rows ≡ refuse n → Applies rows n) → ((n ≡ m) × (b ≡ true)) ⊎ ((b ≡ false) × Applies rows n)
+    go true p q ih = inl ((let k : m ≡ n = cc in sym k), p)
+    go false p q ih = inr (p, ih q)
 
 -- ---- what an answer tells of the call
 pub giving-is : {A : Type 0} (r : Verdict) (x y : A) → giving r x ≡ given y → (r ≡ accept) × (x ≡ y)

@@ -4,10 +4,10 @@ use Rattle.tables.specs.laws.Drives.{find-below-is, presentBut, find-below-cong
 use Rattle.tables.specs.meaning.Drives.{noDrive, findBelow}
 use Rattle.tables.specs.laws.Below.{two-count-below, none-any-below, all-all-below, count-below-cong}
 use Rattle.tables.specs.meaning.Below.{anyBelow, countBelow, allBelow}
-use mathlib.Core.Path.{_≡_, refl, ap, _∙_, subst, fun-ext}
+use mathlib.Core.Path.{_≡_, refl, sym, ap, _∙_, subst, fun-ext}
 use mathlib.Core.Logic.{_≢_, _⊎_, inl, inr}
-use mathlib.Core.Bool.{Bool, true, false, _&&_, _||_, not}
-use Prim.Native.Nat.{ℕ, _+_, _-_, _≤_, _<_}
+use mathlib.Core.Bool.{Bool, true, false, _&&_, _||_, not, true≢false}
+use Prim.Native.Nat.{ℕ, _+_, _-_, _*_, _≤_, _<_}
 use native.Mathlib.Omega.{arith}
 use native.Mathlib.Decide.{ℕ-discrete}
 use mathlib.Core.List.{[]}
@@ -17,16 +17,18 @@ use borrow.Author.Tests.{lt-ltb, le-ltb, ltb-true, ltb-false, eq-eqb, ne-eqb, le
 use Rattle.tables.specs.meaning.Device.{Device}
 use Rattle.tables.specs.laws.Basics.{and-split, and-join, or-left, or-right, not-true, not-not}
 use Rattle.tables.specs.laws.Lists.{prefix-length}
-use Rattle.tables.specs.meaning.Placement.{needed, driveOf, sectorOf}
-use Rattle.tables.specs.laws.Placement.{needed-iff}
+use Rattle.tables.specs.meaning.Placement.{needed, stripeOf, driveOf, sectorOf}
+use Rattle.tables.specs.laws.Placement.{needed-iff, stripe-below}
 use Rattle.tables.specs.declared.Geometry.{Geometry}
-use Rattle.tables.specs.meaning.Geometry.{Valid, zoneSectors, dataZone}
-use Rattle.volume.specs.meaning.Content.{at}
+use Rattle.tables.specs.meaning.Geometry.{Valid, stripeSectors, zoneSectors, dataZone}
+use Rattle.logs.specs.meaning.Entry.{wornGeneration}
+use Rattle.logs.specs.code.Judge.{and-false}
+use Rattle.volume.specs.meaning.Content.{at, fillOf, parityDriveAt}
 use Rattle.volume.specs.meaning.Rules.{viewOf, known, isLost, isPresent, zoneView}
 use Rattle.volume.specs.declared.Condition.{Condition}
 use Rattle.volume.specs.declared.Condition.the-variants.{Empty, Open, Sealed, Worn}
-use Rattle.volume.specs.meaning.State.{pointerIn, StateView, callPresent}
-use Rattle.volume.specs.meaning.Refusals.{twoLost, stateWithin, twoAbsent, twoUnnamed, stale, staleIn, goneIn, notHeld}
+use Rattle.volume.specs.meaning.State.{pointerIn, isWorn, StateView, callPresent}
+use Rattle.volume.specs.meaning.Refusals.{twoLost, stateWithin, twoAbsent, twoUnnamed, stale, staleIn, goneIn, goneBefore, notHeld}
 use Rattle.promise.specs.meaning.Ledger.{Ledger}
 use Rattle.promise.specs.meaning.Claim.{allBut}
 use Rattle.promise.specs.invariant.Invariant.{Ghost, Here, LogsOk, Rest, RestZone, Shape}
@@ -101,6 +103,25 @@ module _ (g : Geometry) (ok : Valid g) (x : ℕ) (v : Device) (state : StateView
   pub gone-fine : (z : ℕ) → z < g .zones → (offset count : ℕ) → offset + count ≤ length (l .content z) → goneIn g (presentBut g x) v z (state .generation z) offset count ≡ false
   unfolding goneIn
   gone-fine z h offset count k = none-any-below (λ i. not (known (g .drives) (g .unit) z (zoneView g (presentBut g x) v z (state .generation z)) (offset + i))) count (λ i hi. ap not (rest-known g ok x v state l γ r z h (offset + i) (omega arith) .0))
+
+  -- so a write finds the earlier sectors of its stripe
+  pub before-fine : (z : ℕ) → z < g .zones → goneBefore g (presentBut g x) v z (state .generation z) (pointerIn (state .condition z)) ≡ false
+  unfolding goneBefore
+  before-fine z h =
+      let n = pointerIn (state .condition z) in
+      let s = stripeOf (g .drives) (g .unit) n * stripeSectors g in
+      let e : s + fillOf g n ≤ length (l .content z) = omega (arith, stripe-below (g .drives) (g .unit) z (omega (arith, ok .drives-least)) (ok .unit-least) n, r .zones z h .pointer-is) in
+      rw (gone-fine z h s (fillOf g n) e) (and-false (presentBut g x (parityDriveAt g z n)))
+
+  -- a zone that says it is worn has the last generation
+  pub worn-last : (z : ℕ) → z < g .zones → isWorn (state .condition z) ≡ true → state .generation z ≡ wornGeneration
+  worn-last z h e = sym (r .zones z h .generation-is) ∙ go (state .condition z) (r .zones z h .shape) e
+    where
+      go : (c : Condition) → Shape g x v γ l z c → isWorn c ≡ true → γ .generation z ≡ wornGeneration
+      go Empty s q = absurd (true≢false (sym q))
+      go (Open n) s q = absurd (true≢false (sym q))
+      go (Sealed n) s q = absurd (true≢false (sym q))
+      go (Worn n) s q = s
 
   -- and held where its drive is not lost
   pub rest-held : (z : ℕ) → z < g .zones → (a : ℕ) → a < length (l .content z) → Here g x (driveOf (g .drives) (g .unit) z a) → notHeld g (presentBut g x) v z (state .generation z) a ≡ false

@@ -11,27 +11,28 @@ use mathlib.Core.List.{List}
 use lib.ListN.{length, take}
 use lib.Dec.{ltb, eqb}
 use borrow.Author.Tests.{ltb-true, ne-eqb}
-use Rattle.tables.specs.meaning.Device.{Device, Store, applyAll}
+use Rattle.tables.specs.meaning.Device.{Device, Store, applyAll, Loss}
 use Rattle.tables.specs.declared.Geometry.{Geometry}
 use Rattle.tables.specs.meaning.Geometry.{Valid}
 use Rattle.tables.specs.laws.Drives.{presentBut}
 use Rattle.tables.specs.meaning.Drives.{noDrive}
 use Rattle.volume.specs.meaning.Content.{at}
-use Rattle.volume.specs.meaning.Rules.{Shown, isPresent, lostDrive}
+use Rattle.volume.specs.meaning.Rules.{Shown, isPresent, lostDrive, showing}
 use Rattle.volume.specs.meaning.State.{StateView, callPresent}
 use Rattle.volume.specs.meaning.Calls.{writeStores, writeState, flushStores, flushState, resetStores, resetState, formatStores, formatState}
 use Rattle.volume.specs.meaning.Mount.{mountStores, mountShows, mountState}
 use Rattle.promise.specs.invariant.Obligations.{MountOk, Invs, Rests, WriteOk, ResetOk}
 use Rattle.promise.specs.meaning.Ledger.{Ledger, freshLedger}
 use Rattle.promise.specs.look.LookReads.{present-is, lost-is}
+use Rattle.promise.specs.look.LookRest.{look-rests}
 use Rattle.promise.specs.calls.WriteKeeps.{write-keeps, write-rests}
 use Rattle.promise.specs.calls.FlushKeeps.{flush-keeps, flush-rests}
 use Rattle.promise.specs.calls.ResetKeeps.{reset-keeps, reset-rests}
 use Rattle.promise.specs.calls.FormatKeeps.{format-rests}
-use Rattle.volume.specs.meaning.Refusals.{Verdict, refuse, accept, TableLengths, zoneOf, formatRows, mountRows, writeRows, flushRows, resetRows, firstRefusal}
-use Rattle.volume.specs.meaning.Answers.{CallResult, storing, lostIn, leftOut, namedDrives, sectorsIn}
+use Rattle.volume.specs.meaning.Refusals.{Verdict, refuse, accept, TableLengths, zoneOf, formatRows, mountRows, writeRows, flushRows, resetRows, firstRefusal, badPointers, lookRows}
+use Rattle.volume.specs.meaning.Answers.{CallResult, storing, lostIn, leftOut, namedDrives, sectorsIn, giving}
 use Rattle.promise.specs.meaning.Claim.{Call, mounts, writes, flushes, resets, formats, Mode, ready, stopped, down, System, Event, calls, looks, reads, peeks, cuts, loses, settled, ledgerAfter, next, NotStopped, NamesAll, MayCome, Duty, allBut}
-use Rattle.promise.specs.meaning.OnDevice.{callOf, onDevice}
+use Rattle.promise.specs.meaning.OnDevice.{callOf, onDevice, lookResult, shownBy}
 use Rattle.volume.specs.declared.Answer.the-variants.{Finished, Unfinished, Refused}
 use Rattle.promise.specs.device.AcceptedCalls.{present-same, call-same, found-same, write-ok, reset-ok, mount-ok}
 use Rattle.promise.specs.device.AtRestAnswers.{lost-in, format-lost, format-drives}
@@ -76,10 +77,16 @@ module _ (g : Geometry) (t : TableLengths) (s : System (onDevice g t)) (o : Ok g
   rest-of m = subst (λ (n : Mode). OkIn g n (s .lost) (s .memory) (s .state) (s .ledger)) m o
 
 module _ (g : Geometry) (ok : Valid g) (t : TableLengths) where
-  lose-in : (m : Mode) (x d : ℕ) (v : Device) (state : StateView) (l : Ledger) → d < g .drives → x ≡ noDrive → OkIn g m x v state l → OkIn g m d v state l
-  lose-in ready x d v state l h e o = loss-rests g ok d v state l h (rw e at o)
-  lose-in stopped x d v state l h e o = loss-keeps g ok d v l h (rw e at o)
-  lose-in down x d v state l h e o = loss-keeps g ok d v l h (rw e at o)
+  lose-in : (m : Mode) (x d : ℕ) (v w : Device) (state : StateView) (l : Ledger) → d < g .drives → (x ≡ noDrive) ⊎ (x ≡ d) → Loss d v w → OkIn g m x v state l → OkIn g m d w state l
+  lose-in ready x d v w state l h e c o = loss-rests g ok x d v w state l h e c o
+  lose-in stopped x d v w state l h e c o = loss-keeps g ok x d v w l h e c o
+  lose-in down x d v w state l h e c o = loss-keeps g ok x d v w l h e c o
+
+  -- with a look's state in place of what the host held
+  look-in : (m : Mode) (x : ℕ) (v : Device) (state : StateView) (l : Ledger) → OkIn g m x v state l → OkIn g m x v (mountState (showing g (presentBut g x) x v)) l
+  look-in ready x v state l o = look-rests g ok x v state l o
+  look-in stopped x v state l o = o
+  look-in down x v state l o = o
 
   module _ (s : System (onDevice g t)) (o : Ok g t s) where
     -- ---- what a call that stores leaves, by its answer
@@ -116,7 +123,7 @@ module _ (g : Geometry) (ok : Valid g) (t : TableLengths) where
       lost-of-call : s .mode ≡ ready → lostIn g named (s .state) ≡ s .lost
       lost-of-call m = let (γ, r) = rest-of g t s o m in lost-in g ok (s .lost) (s .memory) γ (r .logs) named (s .state) (drives-of-call m)
 
-      pub mount-accepted : firstRefusal (mountRows g t named (s .memory)) ≡ accept → MountOk g (presentBut g (s .lost)) (s .memory)
+      pub mount-accepted : firstRefusal (mountRows g t (badPointers g named (s .memory)) named (s .memory)) ≡ accept → MountOk g (presentBut g (s .lost)) (s .memory)
       mount-accepted p = rw drives-of-look at (mount-ok g t named (s .memory) p)
 
       -- what call c owes: the invariant after a part of its stores, and rest after all of them
@@ -134,7 +141,7 @@ module _ (g : Geometry) (ok : Valid g) (t : TableLengths) where
           let z = zoneOf g a in
           let ss = sectorsIn g count buffer in
           let e = drives-of-call m in
-          let accepted : firstRefusal (writeRows g t named (s .state) a count (length buffer) (s .memory)) ≡ accept → WriteOk g (presentBut g (s .lost)) (s .memory) (s .state) z ss = λ p. rw e at (write-ok g t named (s .state) a count buffer (s .memory) p) in
+          let accepted : firstRefusal (writeRows g t (badPointers g named (s .memory)) named (s .state) a count (length buffer) (s .memory)) ≡ accept → WriteOk g (presentBut g (s .lost)) (s .memory) (s .state) z ss = λ p. rw e at (write-ok g t named (s .state) a count buffer (s .memory) p) in
           by-call (writes a count buffer) stop (λ n. refl)
           (λ p. rw e (write-keeps g ok (s .lost) (s .memory) (s .state) (s .ledger) z ss stop (rest-of g t s o m) (accepted p)))
           (λ p. rw (e, lost-of-call m) (write-rests g ok (s .lost) (s .memory) (s .state) (s .ledger) z ss (rest-of g t s o m) (accepted p)))
@@ -148,7 +155,7 @@ module _ (g : Geometry) (ok : Valid g) (t : TableLengths) where
       reset-event : s .mode ≡ ready → (z stop : ℕ) → Kept (resets z) stop
       reset-event m z stop =
           let e = drives-of-call m in
-          let accepted : firstRefusal (resetRows g t named (s .state) z (s .memory)) ≡ accept → ResetOk g (presentBut g (s .lost)) (s .memory) (s .state) z = λ p. rw e at (reset-ok g t named (s .state) z (s .memory) p) in
+          let accepted : firstRefusal (resetRows g t (badPointers g named (s .memory)) named (s .state) z (s .memory)) ≡ accept → ResetOk g (presentBut g (s .lost)) (s .memory) (s .state) z = λ p. rw e at (reset-ok g t named (s .state) z (s .memory) p) in
           by-call (resets z) stop (λ n. refl)
           (λ p. rw e (reset-keeps g ok (s .lost) (s .memory) (s .state) (s .ledger) z stop (rest-of g t s o m) (accepted p)))
           (λ p. rw (e, lost-of-call m) (reset-rests g ok (s .lost) (s .memory) (s .state) (s .ledger) z (rest-of g t s o m) (accepted p)))
@@ -164,7 +171,7 @@ module _ (g : Geometry) (ok : Valid g) (t : TableLengths) where
       FormatLeaves array r = NotStopped (r .answer) → Ok g t (settled g (onDevice g t) s r (ledgerAfter g (onDevice g t) s (formats array) named r))
 
       format-event : s .mode ≡ ready → (array stop : ℕ) → array < 256 ^ 8 → NotStopped (onDevice g t .call (formats array) named (s .state) stop (s .memory) .answer) → Kept (formats array) stop
-      format-event m array stop h n = go (firstRefusal (formatRows g t named (s .memory))) n
+      format-event m array stop h n = go (firstRefusal (formatRows g t (badPointers g named (s .memory)) named (s .memory))) n
         where
           xs : List Store
           xs = formatStores g (namedDrives g named) (leftOut g named) array
@@ -185,6 +192,17 @@ module _ (g : Geometry) (ok : Valid g) (t : TableLengths) where
           go (refuse k) n = o
           go accept n = cases (ltb stop (length xs)) n
 
+      look-event : (taken : Bool) → Ok g t (next g (onDevice g t) s (looks named taken))
+      look-event false = o
+      look-event true = go (firstRefusal (lookRows g t (badPointers g named (s .memory)) named (s .memory)))
+        where
+          shown : OkIn g (s .mode) (s .lost) (s .memory) (mountState (shownBy g named (s .memory) (s .memory))) (s .ledger)
+          shown = rw (drives-of-look, lost-of-look) (look-in (s .mode) (s .lost) (s .memory) (s .state) (s .ledger) o)
+
+          go : (r : Verdict) → OkIn g (s .mode) (s .lost) (s .memory) (lookResult (giving r (shownBy g named (s .memory) (s .memory))) (s .state) (s .memory) .state) (s .ledger)
+          go (refuse n) = o
+          go accept = shown
+
       call-keeps : (c : Call) (stop : ℕ) → Duty g (onDevice g t) s (calls c named stop) → Kept c stop
       call-keeps mounts stop d = mount-event stop
       call-keeps (writes a count buffer) stop (b, m, q) = write-event m a count buffer stop
@@ -195,8 +213,8 @@ module _ (g : Geometry) (ok : Valid g) (t : TableLengths) where
     -- EVERY EVENT KEEPS IT
     pub event-keeps : (e : Event (onDevice g t)) → Duty g (onDevice g t) s e → Ok g t (next g (onDevice g t) s e)
     event-keeps (calls c named stop) d = call-keeps named (d .0) c stop d
-    event-keeps (looks named) d = o
+    event-keeps (looks named taken) d = look-event named (d .0) taken
     event-keeps (reads named a count out) d = o
     event-keeps (peeks named a) d = o
     event-keeps (cuts w) c = cut-keeps g ok (s .lost) (s .memory) w (s .ledger) (inv-of g t s o) c
-    event-keeps (loses d) (h, e) = lose-in (s .mode) (s .lost) d (s .memory) (s .state) (s .ledger) h e o
+    event-keeps (loses d w) (h, e, c) = lose-in (s .mode) (s .lost) d (s .memory) w (s .state) (s .ledger) h e c o

@@ -1,19 +1,21 @@
--- The claim holds. Under what the events keep (ClaimEvents.antt) no look is refused and each fits, so does each finished mount, and reads
--- and peeks give the content; so at every point of a history.
-use Rattle.volume.specs.meaning.Refusals.{Verdict, goneIn, notHeld, badPointers, twoLost, badLabels, badLogs, refuse, accept, TableLengths, zoneOf, offsetOf, stateWithin, tablesFit, mountFull, twoAbsent, stale, formatRows, lookRows, mountRows, readRows, peekRows, firstRefusal}
-use mathlib.Core.Bool.{_||_, Bool, true, false, _&&_, not}
-use Rattle.promise.specs.device.AcceptedCalls.{giving-is, storing-finished, storing-refused, two-same, pointers-same}
+-- The claim holds. Under what the events keep (ClaimEvents.antt) no look is refused and each fits, so does each finished mount, a look's state is what
+-- the host holds, reads and peeks give the content, and calls are refused for a cause alone; so at every point of a history.
+use Rattle.volume.specs.meaning.Refusals.{Verdict, goneIn, notHeld, badPointers, twoLost, badLabels, badLogs, refuse, accept, TableLengths, zoneOf, offsetOf, stateWithin, tablesFit, noZone, wornFor, resetFull, goneBefore, mountFull, twoAbsent, stale, formatRows, lookRows, mountRows, writeRows, flushRows, resetRows, readRows, peekRows, firstRefusal}
+use mathlib.Core.Logic.{_≢_, inl, inr}
+use mathlib.Core.Bool.{_||_, Bool, true, false, _&&_, not, true≢false}
+use Rattle.promise.specs.device.AcceptedCalls.{Applies, refused-applies, giving-is, storing-finished, storing-refused, two-same, pointers-same}
 use Rattle.volume.specs.laws.Refusals.{accepted-row, passed, Numbered, numbered}
 use mathlib.Core.Path.{_≡_, refl, sym, ap, _∙_, subst}
 use Prim.Native.Nat.{ℕ, zero, _+_, _-_, _*_, _≤_, _<_}
+use native.Mathlib.Nat.{le-of-eq}
 use native.Mathlib.Omega.{arith}
 use mathlib.Core.List.{List, [], _∷_}
 use lib.ListN.{length, getD}
-use lib.Dec.{ltb, eqb}
-use borrow.Author.Tests.{lt-ltb, le-ltb, ltb-true, ltb-false, eq-eqb, ne-eqb}
+use lib.Dec.{ltb, leb, eqb}
+use borrow.Author.Tests.{lt-ltb, le-ltb, ltb-true, ltb-false, leb-true, eq-eqb, ne-eqb, eqb-true, eqb-false}
 use Rattle.tables.specs.meaning.Device.{Device, Store, applyAll}
 use Rattle.tables.specs.meaning.Basics.{pick}
-use Rattle.tables.specs.laws.Basics.{and-join, not-not}
+use Rattle.tables.specs.laws.Basics.{and-join, not-not, not-true}
 use Rattle.tables.specs.laws.Lists.{prefix-length}
 use Rattle.tables.specs.meaning.Placement.{driveOf, sectorOf}
 use Rattle.tables.specs.laws.Placement.{drive-below}
@@ -22,7 +24,8 @@ use Rattle.tables.specs.meaning.Geometry.{Valid, zoneSectors, dataZone}
 use Rattle.tables.specs.laws.Drives.{presentBut}
 use Rattle.tables.specs.meaning.Below.{tabulateFrom}
 use Rattle.tables.specs.meaning.Lists.{concat}
-use Rattle.volume.specs.meaning.State.{StateView, pointerIn, callPresent}
+use Rattle.logs.specs.meaning.Entry.{wornGeneration}
+use Rattle.volume.specs.meaning.State.{StateView, pointerIn, isWorn, callPresent}
 use Rattle.tables.specs.laws.Below.{tabulate-from-cong}
 use Rattle.volume.specs.meaning.Content.{at}
 use Rattle.volume.specs.meaning.Rules.{Shown, isPresent, showing, valueAt, lostDrive}
@@ -33,12 +36,14 @@ use Rattle.promise.specs.invariant.Obligations.{Invs, Rests}
 use Rattle.promise.specs.look.LookFits.{look-fits, rest-known}
 use Rattle.promise.specs.calls.FormatKeeps.{format-rests}
 use Rattle.tables.specs.meaning.Tables.{bufferFits}
-use Rattle.volume.specs.meaning.Answers.{giving, storing, Given, refused, given, Place, leftOut, namedDrives, lookCall, readCall, peekCall, placeOf}
+use Rattle.volume.specs.meaning.Answers.{StoringCall, giving, storing, Given, refused, given, Place, leftOut, namedDrives, lookCall, readCall, peekCall, placeOf}
+use Rattle.volume.specs.meaning.CallContracts.{byteOf}
 use Rattle.volume.specs.declared.Answer.the-variants.{Finished, Refused}
-use Rattle.promise.specs.meaning.Claim.{mounts, formats, Event, next, Dutiful, Throughout, start, ready, System, NamesAll, allBut, contentBytes, Promise}
-use Rattle.promise.specs.meaning.OnDevice.{lookResult, readResult, peekResult, shownBy, onDevice, DeviceClaim}
+use Rattle.promise.specs.meaning.Claim.{mounts, writes, flushes, resets, formats, Event, next, Dutiful, Throughout, start, ready, System, NamesAll, allBut, contentBytes, SameZones, ResetRefusal, noSuchZone, wornOut, generalLogFull, WriteRefusal, bufferLength, noSuchAddress, noSectors, pastTheEnd, notAtPointer, sealedZone, wornZone, parityLogFull, Promise}
+use Rattle.promise.specs.meaning.OnDevice.{callOf, lookResult, readResult, peekResult, shownBy, onDevice, DeviceClaim}
 use Rattle.promise.specs.look.LookReads.{Unrefused, look-unrefused}
-use Rattle.promise.specs.device.AtRestAnswers.{absent-fine, state-fine, stale-fine, gone-fine, rest-held, rest-sector, left-out, drives-named}
+use Rattle.promise.specs.look.LookRest.{generation-held, condition-held}
+use Rattle.promise.specs.device.AtRestAnswers.{absent-fine, state-fine, stale-fine, gone-fine, before-fine, worn-last, rest-held, rest-sector, left-out, drives-named}
 use lib.Seq.{take-length}
 use Rattle.tables.specs.meaning.GeometryTest.{isValid}
 use Rattle.tables.specs.laws.GeometryTest.{valid-if-test}
@@ -87,12 +92,20 @@ module _ (g : Geometry) (ok : Valid g) (t : TableLengths) (wb : isValid g ≡ tr
     row-7 m z = let (γ, r) = rest-of g t s o m in rw (drives m) (stale-fine g ok (s .lost) (s .memory) (s .state) (s .ledger) γ r z)
 
     -- ---- looks and mounts
-    look-accepted : firstRefusal (lookRows g t named (s .memory)) ≡ accept
+    look-accepted : firstRefusal (lookRows g t (badPointers g named (s .memory)) named (s .memory)) ≡ accept
     unfolding lookRows
-    look-accepted = passed (lookRows g t named (s .memory)) (ap not wb, (ap not lf, (row-3, (look-row-4, (row-5, (row-6, tt))))))
+    look-accepted = passed (lookRows g t (badPointers g named (s .memory)) named (s .memory)) (ap not wb, (ap not lf, (row-3, (look-row-4, (row-5, (row-6, tt))))))
 
     look-claim : (lookResult (lookCall g t named (s .memory)) (s .state) (s .memory) ≡ record { answer = Finished; memory = s .memory; state = mountState (shownBy g named (s .memory) (s .memory)) }) × Fits g (s .ledger) (shownBy g named (s .memory) (s .memory))
     look-claim = (rw look-accepted refl, rw (seen, lost) (look-fits g ok (s .lost) (s .memory) (s .ledger) (inv-of g t s o)))
+
+    -- its state is what the host holds
+    held-claim : s .mode ≡ ready → let looked = lookResult (lookCall g t named (s .memory)) (s .state) (s .memory) .state in (looked .lost ≡ s .lost) × SameZones g (onDevice g t) looked (s .state)
+    unfolding showing
+    held-claim m =
+        let (γ, r) = rest-of g t s o m in
+        rw (look-accepted, seen, lost)
+        (refl, record { generations = generation-held g ok (s .lost) (s .memory) (s .state) (s .ledger) γ r; conditions = condition-held g ok (s .lost) (s .memory) (s .state) (s .ledger) γ r })
 
     abbrev mountList : List Store
     mountList = mountStores g (isPresent g named (s .memory)) (lostDrive g named (s .memory)) (s .memory)
@@ -105,7 +118,7 @@ module _ (g : Geometry) (ok : Valid g) (t : TableLengths) (wb : isValid g ≡ tr
         r .answer ≡ Finished → (r .state ≡ mountState (shownBy g named (s .memory) (r .memory))) × Fits g (s .ledger) (shownBy g named (s .memory) (r .memory))
     unfolding mountShows
     mount-claim stop e =
-        let (p, q) = storing-finished (firstRefusal (mountRows g t named (s .memory))) mountList mounted (s .state) stop (s .memory) e in
+        let (p, q) = storing-finished (firstRefusal (mountRows g t (badPointers g named (s .memory)) named (s .memory))) mountList mounted (s .state) stop (s .memory) e in
         let xs = mountStores g (presentBut g (s .lost)) (s .lost) (s .memory) in
         let i = mount-keeps g ok (s .lost) (s .memory) (s .ledger) (length xs) (inv-of g t s o) (mount-accepted g ok t s o named names p) in
         let j : Invs g (s .lost) (applyAll xs (s .memory)) (s .ledger) = rw (take-length xs) at i in
@@ -117,7 +130,7 @@ module _ (g : Geometry) (ok : Valid g) (t : TableLengths) (wb : isValid g ≡ tr
       where
         last : firstRefusal ((14, mountFull g (isPresent g named (s .memory)) (s .memory)) ∷ []) ≡ refuse n
         last =
-            let q = storing-refused (firstRefusal (mountRows g t named (s .memory))) mountList mounted (s .state) stop (s .memory) n e in
+            let q = storing-refused (firstRefusal (mountRows g t (badPointers g named (s .memory)) named (s .memory))) mountList mounted (s .state) stop (s .memory) n e in
             let p1 : not (isValid g) ≡ false = ap not wb in
             let p2 : not (tablesFit g t) ≡ false = ap not lf in
             rw (p1, p2, row-3, look-row-4, row-5, row-6) at q
@@ -125,6 +138,81 @@ module _ (g : Geometry) (ok : Valid g) (t : TableLengths) (wb : isValid g ≡ tr
         go : (b : Bool) → pick b (refuse 14) accept ≡ refuse n → n ≡ 14
         go true q = cc
         go false q = absurd (let z : _≡_ {A = ℕ} 0 1 = cc in omega arith)
+
+    -- ---- flushes, resets and writes
+    flush-claim : s .mode ≡ ready → (stop n : ℕ) → onDevice g t .call flushes named (s .state) stop (s .memory) .answer ≢ Refused n
+    unfolding flushRows
+    flush-claim m stop n e =
+        let c = callOf g t flushes named (s .state) (s .memory) in
+        let q = storing-refused (firstRefusal (c .refusals)) (c .stores) (c .state) (s .state) stop (s .memory) n e in
+        let p = passed (c .refusals) (row-1 m, (ap not lf, (row-3, (row-4 m, tt)))) in
+        let a : accept ≡ refuse n = sym p ∙ q in
+        let z : _≡_ {A = ℕ} 0 1 = cc in
+        omega arith
+
+    reset-claim : s .mode ≡ ready → (z stop n : ℕ) → onDevice g t .call (resets z) named (s .state) stop (s .memory) .answer ≡ Refused n → ResetRefusal g (s .state .generation z) z n
+    unfolding resetRows
+    reset-claim m z stop n e = go (rw (row-1 m, p2, row-3, row-4 m, row-7 m z) at q)
+      where
+        c : StoringCall
+        c = callOf g t (resets z) named (s .state) (s .memory)
+
+        q : firstRefusal (resetRows g t (badPointers g named (s .memory)) named (s .state) z (s .memory)) ≡ refuse n
+        q = storing-refused (firstRefusal (c .refusals)) (c .stores) (c .state) (s .state) stop (s .memory) n e
+
+        p2 : not (tablesFit g t) ≡ false
+        p2 = ap not lf
+
+        worn : ltb z (g .zones) ≡ true → wornFor (s .state) z ≡ true → wornGeneration ≤ s .state .generation z
+        worn h b = cases (isWorn (s .state .condition z)) refl b
+          where
+            cases : (w : Bool) → isWorn (s .state .condition z) ≡ w → w || leb wornGeneration (s .state .generation z) ≡ true → wornGeneration ≤ s .state .generation z
+            cases true e b = let (γ, r) = rest-of g t s o m in le-of-eq (sym (worn-last g ok (s .lost) (s .memory) (s .state) (s .ledger) γ r z (ltb-true z (g .zones) h) e))
+            cases false e b = leb-true wornGeneration (s .state .generation z) b
+
+        go : firstRefusal ((8, noZone g z) ∷ (12, wornFor (s .state) z) ∷ (14, resetFull g (callPresent g named (s .state)) (s .memory)) ∷ []) ≡ refuse n → ResetRefusal g (s .state .generation z) z n
+        go a = by (refused-applies ((8, noZone g z) ∷ (12, wornFor (s .state) z) ∷ (14, resetFull g (callPresent g named (s .state)) (s .memory)) ∷ []) n a)
+          where
+            by : Applies ((8, noZone g z) ∷ (12, wornFor (s .state) z) ∷ (14, resetFull g (callPresent g named (s .state)) (s .memory)) ∷ []) n → ResetRefusal g (s .state .generation z) z n
+            by (inl (k, b)) = noSuchZone k (ltb-false z (g .zones) (not-true (ltb z (g .zones)) b))
+            by (inr (h, inl (k, b))) = wornOut k (worn (not-not (ltb z (g .zones)) h) b)
+            by (inr (h, inr (i, inl (k, b)))) = generalLogFull k
+            by (inr (h, inr (i, inr (j, none)))) = absurd none
+
+    write-claim : s .mode ≡ ready → (a count : ℕ) (buffer : List ℕ) (stop n : ℕ) → onDevice g t .call (writes a count buffer) named (s .state) stop (s .memory) .answer ≡ Refused n
+        → WriteRefusal g (s .state .condition (zoneOf g a)) a count buffer n
+    unfolding writeRows bufferFits
+    write-claim m a count buffer stop n e =
+        let c = callOf g t (writes a count buffer) named (s .state) (s .memory) in
+        by (refused-applies (c .refusals) n (storing-refused (firstRefusal (c .refusals)) (c .stores) (c .state) (s .state) stop (s .memory) n e))
+      where
+        never : {A : Type 0} {b : Bool} → b ≡ false → b ≡ true → A
+        never p q = absurd (true≢false (sym q ∙ p))
+
+        no-gone : ltb (zoneOf g a) (g .zones) ≡ true → goneBefore g (callPresent g named (s .state)) (s .memory) (zoneOf g a) (s .state .generation (zoneOf g a)) (pointerIn (s .state .condition (zoneOf g a))) ≡ false
+        no-gone h = let (γ, r) = rest-of g t s o m in rw (drives m) (before-fine g ok (s .lost) (s .memory) (s .state) (s .ledger) γ r (zoneOf g a) (ltb-true (zoneOf g a) (g .zones) h))
+
+        run : n ≡ 9 → eqb count 0 || ltb (zoneSectors g) (offsetOf g a + count) ≡ true → WriteRefusal g (s .state .condition (zoneOf g a)) a count buffer n
+        run k b = go (eqb count 0) refl b
+          where
+            go : (w : Bool) → eqb count 0 ≡ w → w || ltb (zoneSectors g) (offsetOf g a + count) ≡ true → WriteRefusal g (s .state .condition (zoneOf g a)) a count buffer n
+            go true p b = noSectors k (eqb-true count 0 p)
+            go false p b = pastTheEnd k (ltb-true (zoneSectors g) (offsetOf g a + count) b)
+
+        by : Applies (writeRows g t (badPointers g named (s .memory)) named (s .state) a count (length buffer) (s .memory)) n → WriteRefusal g (s .state .condition (zoneOf g a)) a count buffer n
+        by (inl (k, b)) = never (row-1 m) b
+        by (inr (r1, inl (k, b))) = bufferLength k (eqb-false (length buffer) (count * g .sector) (rw lf at (not-true (tablesFit g t && eqb (length buffer) (count * g .sector)) b)))
+        by (inr (r1, inr (r2, inl (k, b)))) = never row-3 b
+        by (inr (r1, inr (r2, inr (r3, inl (k, b))))) = never (row-4 m) b
+        by (inr (r1, inr (r2, inr (r3, inr (r4, inl (k, b)))))) = never (row-7 m (zoneOf g a)) b
+        by (inr (r1, inr (r2, inr (r3, inr (r4, inr (r7, inl (k, b))))))) = noSuchAddress k (ltb-false (zoneOf g a) (g .zones) (not-true (ltb (zoneOf g a) (g .zones)) b))
+        by (inr (r1, inr (r2, inr (r3, inr (r4, inr (r7, inr (r8, inl (k, b)))))))) = run k b
+        by (inr (r1, inr (r2, inr (r3, inr (r4, inr (r7, inr (r8, inr (r9, inl (k, b))))))))) = notAtPointer k (eqb-false (offsetOf g a) (pointerIn (s .state .condition (zoneOf g a))) (not-true (eqb (offsetOf g a) (pointerIn (s .state .condition (zoneOf g a)))) b))
+        by (inr (r1, inr (r2, inr (r3, inr (r4, inr (r7, inr (r8, inr (r9, inr (r10, inl (k, b)))))))))) = sealedZone k b
+        by (inr (r1, inr (r2, inr (r3, inr (r4, inr (r7, inr (r8, inr (r9, inr (r10, inr (r11, inl (k, b))))))))))) = wornZone k b
+        by (inr (r1, inr (r2, inr (r3, inr (r4, inr (r7, inr (r8, inr (r9, inr (r10, inr (r11, inr (r12, inl (k, b)))))))))))) = parityLogFull k
+        by (inr (r1, inr (r2, inr (r3, inr (r4, inr (r7, inr (r8, inr (r9, inr (r10, inr (r11, inr (r12, inr (r14, inl (k, b))))))))))))) = never (no-gone (not-not (ltb (zoneOf g a) (g .zones)) r8)) b
+        by (inr (r1, inr (r2, inr (r3, inr (r4, inr (r7, inr (r8, inr (r9, inr (r10, inr (r11, inr (r12, inr (r14, inr (r15, none))))))))))))) = absurd none
 
     -- ---- reads
     values : s .mode ≡ ready → (z : ℕ) → z < g .zones → (offset count : ℕ) → offset + count ≤ length (s .ledger .content z)
@@ -143,7 +231,7 @@ module _ (g : Geometry) (ok : Valid g) (t : TableLengths) (wb : isValid g ≡ tr
     unfolding readRows
     read-claim m a count out e =
         let z = zoneOf g a in
-        let rows = readRows g t named (s .state) a count (length out) (s .memory) in
+        let rows = readRows g t (badPointers g named (s .memory)) named (s .state) a count (length out) (s .memory) in
         let p = read-finished (firstRefusal rows) (tabulateFrom (valueAt g (callPresent g named (s .state)) (s .memory) z (s .state .generation z)) (offsetOf g a) count) out e in
         let h : z < g .zones = ltb-true z (g .zones) (not-not (ltb z (g .zones)) (accepted-row rows p 8)) in
         let n : offsetOf g a + count ≤ length (s .ledger .content z) = omega (arith, ltb-false (pointerIn (s .state .condition z)) (offsetOf g a + count) (accepted-row rows p 13), pointer-claim m z h) in
@@ -163,25 +251,26 @@ module _ (g : Geometry) (ok : Valid g) (t : TableLengths) (wb : isValid g ≡ tr
         let r9 : eqb count 0 || ltb (zoneSectors g) (offsetOf g a + count) ≡ false = rw (ne, le-ltb (zoneSectors g) (offsetOf g a + count) fit) refl in
         let r13 = le-ltb (pointerIn (s .state .condition z)) (offsetOf g a + count) k in
         let r15 : goneIn g (callPresent g named (s .state)) (s .memory) z (s .state .generation z) (offsetOf g a) count ≡ false = rw (drives m) (gone-fine g ok (s .lost) (s .memory) (s .state) (s .ledger) γ r z h (offsetOf g a) count n) in
-        let p = passed (readRows g t named (s .state) a count (length out) (s .memory)) (row-1 m, (r2, (row-3, (row-4 m, (row-7 m z, (r8, (r9, (r13, (r15, tt))))))))) in
+        let p = passed (readRows g t (badPointers g named (s .memory)) named (s .state) a count (length out) (s .memory)) (row-1 m, (r2, (row-3, (row-4 m, (row-7 m z, (r8, (r9, (r13, (r15, tt))))))))) in
         rw p refl
 
     -- ---- peeks
-    peek-numbered : (r : Verdict) (p : Place) (v : Device) → Numbered r → peekResult (giving r p) v .number ≡ 0 → r ≡ accept
+    peek-numbered : (r : Verdict) (p : Place) (v : Device) → Numbered r → peekResult g (giving r p) v .number ≡ 0 → r ≡ accept
     peek-numbered (refuse n) p v h e = absurd (h e)
     peek-numbered accept p v h e = refl
 
     peek-claim : s .mode ≡ ready → (a : ℕ) → onDevice g t .peek named (s .state) a (s .memory) .number ≡ 0
-        → (offsetOf g a < length (s .ledger .content (zoneOf g a))) × (onDevice g t .peek named (s .state) a (s .memory) .part ≡ at (s .ledger .content (zoneOf g a)) (offsetOf g a))
+        → (offsetOf g a < length (s .ledger .content (zoneOf g a))) × (onDevice g t .peek named (s .state) a (s .memory) .from ≡ byteOf g (placeOf g a))
+        × (onDevice g t .peek named (s .state) a (s .memory) .part ≡ at (s .ledger .content (zoneOf g a)) (offsetOf g a))
     unfolding peekRows
     peek-claim m a e =
         let z = zoneOf g a in
         let (γ, r) = rest-of g t s o m in
-        let rows = peekRows g t named (s .state) a (s .memory) in
+        let rows = peekRows g t (badPointers g named (s .memory)) named (s .state) a (s .memory) in
         let q = peek-numbered (firstRefusal rows) (placeOf g a) (s .memory) (numbered rows refl) e in
         let h : z < g .zones = ltb-true z (g .zones) (not-not (ltb z (g .zones)) (accepted-row rows q 8)) in
         let n : offsetOf g a < length (s .ledger .content z) = omega (arith, ltb-false (pointerIn (s .state .condition z)) (offsetOf g a + 1) (accepted-row rows q 13), pointer-claim m z h) in
-        (n, rw q (rest-sector g ok (s .lost) (s .memory) (s .state) (s .ledger) γ r z h (offsetOf g a) n (rw (drives m) at (accepted-row rows q 15))))
+        (n, rw q refl, rw q (rest-sector g ok (s .lost) (s .memory) (s .state) (s .ledger) γ r z h (offsetOf g a) n (rw (drives m) at (accepted-row rows q 15))))
 
     peek-accepted : s .mode ≡ ready → (a : ℕ) → zoneOf g a < g .zones → offsetOf g a < pointerIn (s .state .condition (zoneOf g a)) → allBut (s .lost) (driveOf (g .drives) (g .unit) (zoneOf g a) (offsetOf g a)) ≡ true
         → onDevice g t .peek named (s .state) a (s .memory) .number ≡ 0
@@ -196,7 +285,7 @@ module _ (g : Geometry) (ok : Valid g) (t : TableLengths) (wb : isValid g ≡ tr
         let r8 : not (ltb z (g .zones)) ≡ false = ap not (lt-ltb z (g .zones) h) in
         let r13 = le-ltb (pointerIn (s .state .condition z)) (offsetOf g a + 1) (omega arith) in
         let r15 : notHeld g (callPresent g named (s .state)) (s .memory) z (s .state .generation z) (offsetOf g a) ≡ false = rw (drives m) (rest-held g ok (s .lost) (s .memory) (s .state) (s .ledger) γ r z h (offsetOf g a) n b) in
-        let q = passed (peekRows g t named (s .state) a (s .memory)) (row-1 m, (ap not lf, (row-3, (row-4 m, (row-7 m z, (r8, (r13, (r15, tt)))))))) in
+        let q = passed (peekRows g t (badPointers g named (s .memory)) named (s .state) a (s .memory)) (row-1 m, (ap not lf, (row-3, (row-4 m, (row-7 m z, (r8, (r13, (r15, tt)))))))) in
         rw q refl
 
   -- every point of a history is as claimed
@@ -206,6 +295,10 @@ module _ (g : Geometry) (ok : Valid g) (t : TableLengths) (wb : isValid g ≡ tr
     mount-fits = λ named n m stop e. mount-claim named n stop e;
     mount-refused = refused-claim;
     pointer-is = pointer-claim;
+    look-holds = held-claim;
+    flush-accepted = flush-claim;
+    reset-refused = reset-claim;
+    write-refused = write-claim;
     read-gives = read-claim;
     read-accepted = read-accepted;
     peek-gives = peek-claim;
@@ -217,7 +310,7 @@ pub device-keeps-the-promise : DeviceClaim
 unfolding formatRows
 device-keeps-the-promise g t named array old stop v h e es d =
     let x = leftOut g named in
-    let rows = formatRows g t named v in
+    let rows = formatRows g t (badPointers g named v) named v in
     let stores = formatStores g (namedDrives g named) x array in
     let (p, q) = storing-finished (firstRefusal rows) stores (formatState x) old stop v e in
     let wb = not-not (isValid g) (accepted-row rows p 1) in

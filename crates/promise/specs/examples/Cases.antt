@@ -7,15 +7,15 @@ use Rattle.volume.specs.meaning.Answers.{formatCall, Given, refused, given, los
 use Rattle.tables.specs.meaning.Tables.{bufferFits, lengthsFit}
 use Rattle.tables.specs.meaning.GeometryTest.{isValid}
 use mathlib.Core.Bool.{Bool, true, _&&_, false, _||_}
-use Prim.Native.Nat.{ℕ, _-_, _*_, suc}
+use Prim.Native.Nat.{ℕ, _+_, _-_, _*_, suc}
 use mathlib.Core.List.{List, [], _∷_}
-use lib.ListN.{length, getD, take}
+use lib.ListN.{length, getD, take, replicate}
 use lib.Dec.{eqb, T}
 use Rattle.tables.specs.meaning.Device.{Device, applyAll}
 use Rattle.tables.specs.meaning.Placement.{driveOf, sectorOf, needed, stripeOf, unitIndex, rowIndex, parityDrive, stripeLength, unitDrive, unitOf, address, addressAt}
 use Rattle.tables.specs.meaning.Drives.{noDrive}
 use Rattle.tables.specs.laws.Drives.{presentBut}
-use Rattle.tables.specs.meaning.Geometry.{log2, zoneSectors, stripeSectors, parityDriveOf}
+use Rattle.tables.specs.meaning.Geometry.{log2, zoneSectors}
 use Rattle.volume.specs.meaning.Content.{rowXor, contentAt, rowXorBelow, entryAt}
 use Rattle.volume.specs.meaning.Rules.{viewOf, generalHeads, generalEnding, parityEntries, parityEnding, isLost, isPresent, generationOf, resetSeen, sealSeen, sealLimit, zoneView, valueAt, pointerAt, cleanAt, zoneAt, zoneShown, showing, Shown}
 use Rattle.volume.specs.declared.Condition.{Condition}
@@ -24,12 +24,15 @@ use Rattle.volume.specs.meaning.State.{pointerIn, callPresent}
 use Rattle.volume.specs.meaning.Refusals.{badPointers, twoLost, badLabels, badLogs, stateWithin, twoAbsent, twoUnnamed, stale, unusedBelow, writeFull, goneIn, goneBefore, notHeld, formatRows, lookRows, mountRows, writeRows, flushRows, resetRows, readRows, peekRows}
 use Rattle.volume.specs.meaning.Mount.{mountStores, mountPhases, phasesBeforeEntries, mountLook, mountShows, afterOpening, labelStep, resetEntryStep, zoneResetStep, counterStep, countersDiffer, sealStep, tornRowStep, fillStep, entryStep}
 use Rattle.promise.specs.meaning.Claim.{allBut}
-use Rattle.tables.specs.meaning.Below.{allBelow}
+use Rattle.tables.specs.meaning.Below.{allBelow, tabulateFrom}
+use Rattle.tables.specs.meaning.Lists.{concat}
+use Rattle.tables.specs.meaning.LittleEndian.{sameBytes}
+use Rattle.tables.specs.meaning.Xor.{xorBytes}
 
 pub data Case : Type 0 where
   -- an address; its drive, physical zone and sector
   placed : ℕ → ℕ → ℕ → ℕ → Case
-  -- a stripe of zone 0; its parity's drive, first and last sector
+  -- a stripe of zone 0; the drive and the two sectors that hold its parity when it has been written
   parityPlaced : ℕ → ℕ → ℕ → ℕ → Case
   -- a pointer in zone 0; the sectors that it needs of each drive
   needs : ℕ → List ℕ → Case
@@ -65,10 +68,19 @@ abbrev lostOf : Given Shown → ℕ
 lostOf (refused n) = noDrive
 lostOf (given k) = k .lost
 
+-- sector i of a buffer whose sectors all differ; the device after a write of its first n stripes (of 6 sectors); the parity of row r of stripe s
+abbrev sectorOfOwn : ℕ → List ℕ
+sectorOfOwn i = replicate 64 (3 * i + 1)
+
+abbrev stripesWritten : ℕ → Device
+stripesWritten n = does (writeCall geo lengths every formattedState 0 (n * 6) (concat (tabulateFrom sectorOfOwn 0 (n * 6)))) formattedState noStop formatted .memory
+
+abbrev rowParity : ℕ → ℕ → List ℕ
+rowParity s r = xorBytes (sectorOfOwn (s * 6 + r)) (xorBytes (sectorOfOwn (s * 6 + 2 + r)) (sectorOfOwn (s * 6 + 4 + r)))
+
 abbrev holds : Case → Bool
 holds (placed a d y x) = samePlace (placeOf geo a) d y x
-holds (parityPlaced s d x y) =
-    eqb (parityDriveOf geo 0 s) d && (eqb (needed 4 2 0 (s * stripeSectors geo) d) x && eqb (needed 4 2 0 (suc s * stripeSectors geo) d) (suc y))
+holds (parityPlaced s d x y) = sameBytes (getD (stripesWritten (suc s) d 3 .sectors) x []) (rowParity s 0) && sameBytes (getD (stripesWritten (suc s) d 3 .sectors) y []) (rowParity s 1)
 holds (needs n ks) = allBelow (λ d. eqb (needed 4 2 0 n d) (getD ks d 0)) 4
 holds (logged n d k) = eqb (length (writtenDevice n d parityZone .sectors)) k
 holds (shows v x c) = conditionShown (lookCall geo lengths (allBut x) v) (sameCondition c)

@@ -1,21 +1,23 @@
 -- The claim is not empty: a history on document 01's example, with its duties done, and what the claim says of it. Five sectors are written
--- and flushed; a write at the wrong address is refused; a write of two more is stopped after one store; a cut leaves just what is durable;
--- drive 1 is lost; a mount by the others; a read.
-use Rattle.promise.specs.meaning.Claim.{Volume, allBut, Call, mounts, writes, flushes, formats, Mode, ready, stopped, down, System, Event, calls, reads, cuts, loses, next, NamesAll, Dutiful, Throughout, start}
+-- and flushed; a write at the wrong address is refused; a look is handed on; a peek; another zone is written and reset; the reset of the first one is
+-- stopped; a cut leaves just what is durable; a look shows that zone empty; drive 1 is lost, its memory gone; a mount by the others finishes; a write, a
+-- read and a peek.
+use Rattle.promise.specs.meaning.Claim.{Volume, pointerHeld, allBut, Call, mounts, writes, flushes, resets, formats, Mode, ready, stopped, down, System, Event, calls, looks, reads, peeks, cuts, loses, next, NamesAll, Dutiful, Throughout, start}
 use Rattle.promise.specs.meaning.OnDevice.{callOf, onDevice}
 use Rattle.volume.specs.meaning.Answers.{CallResult, storing, lostIn, leftOut, namedDrives, sectorsIn}
 use Rattle.volume.specs.declared.Answer.the-variants.{Finished, Unfinished}
-use Rattle.volume.specs.meaning.Refusals.{refuse, accept, firstRefusal, zoneOf, Verdict, badPointers, twoLost, badLabels, badLogs, stateWithin, twoAbsent, twoUnnamed, stale, unusedBelow, writeFull, goneIn, goneBefore, notHeld, formatRows, lookRows, mountRows, writeRows, flushRows, resetRows, readRows, peekRows}
-use Rattle.volume.specs.meaning.Calls.{writeState, flushState, formatState, formatStores, writeStores, zoneContent, writeWith, flushStores, resetStores}
+use Rattle.volume.specs.meaning.Refusals.{refuse, accept, firstRefusal, Verdict, badPointers, twoLost, badLabels, badLogs, stateWithin, twoAbsent, twoUnnamed, stale, unusedBelow, writeFull, goneIn, goneBefore, notHeld, formatRows, lookRows, mountRows, writeRows, flushRows, resetRows, readRows, peekRows}
+use Rattle.volume.specs.meaning.Calls.{formatStores, writeStores, zoneContent, writeWith, flushStores, resetStores}
 use Rattle.tables.specs.laws.Device.{well-formed-apply-all, WellFormed}
-use Rattle.tables.specs.meaning.Device.{Store, applyAll, Device, keepFirst, Cut}
+use Rattle.tables.specs.meaning.Device.{Store, applyAll, Device, blankZone, keepFirst, Cut, Loss}
 use native.Mathlib.Nat.{le-refl}
-use Rattle.promise.specs.examples.Example.{geo, lengths, every, noStop, blank, formatted, formattedState, bytes}
+use Rattle.promise.specs.examples.Example.{geo, lengths, every, noStop, blank, formattedState, bytes}
 use Rattle.tables.specs.meaning.Tables.{bufferFits, lengthsFit}
 use Rattle.tables.specs.meaning.GeometryTest.{isValid}
 use mathlib.Core.Path.{_≡_, refl, sym}
+use mathlib.Core.Logic.{inl}
 use mathlib.Core.Bool.{Bool, true, _&&_, not, false}
-use Prim.Native.Nat.{ℕ, _-_, _<_}
+use Prim.Native.Nat.{ℕ, _<_}
 use mathlib.Core.List.{List, [], _∷_}
 use lib.ListN.{length, take}
 use lib.Dec.{eqb, ltb, T, lit<}
@@ -28,7 +30,7 @@ use Rattle.tables.specs.meaning.Geometry.{log2, zoneSectors}
 use Rattle.logs.specs.meaning.Entry.{wornGeneration, encode, frame, labelBytes, readFields, kindOf, startOf, endOf, genOf}
 use Rattle.volume.specs.meaning.Content.{rowXor, contentAt, rowXorBelow, entryAt}
 use Rattle.volume.specs.meaning.Rules.{viewOf, generalHeads, generalEnding, parityEntries, parityEnding, isLost, isPresent, generationOf, resetSeen, sealSeen, sealLimit, zoneView, valueAt, pointerAt, cleanAt, zoneAt, zoneShown, showing}
-use Rattle.volume.specs.meaning.State.{pointerIn, StateView, callPresent}
+use Rattle.volume.specs.meaning.State.{StateView, callPresent}
 use Rattle.volume.specs.meaning.Mount.{mountStores, mountPhases, phasesBeforeEntries, mountLook, mountShows, afterOpening, labelStep, resetEntryStep, zoneResetStep, counterStep, countersDiffer, sealStep, tornRowStep, fillStep, entryStep}
 use Rattle.promise.specs.device.ClaimProof.{device-keeps-the-promise}
 
@@ -58,43 +60,126 @@ e3 = calls (writes 7 1 (bytes 1 8)) every noStop
 abbrev s3 : System vol
 s3 = next geo vol s2 e3
 
--- stopped after one store
+-- its state is handed on
 abbrev e4 : Event vol
-e4 = calls (writes 5 2 (bytes 2 8)) every 1
+e4 = looks every true
 
 abbrev s4 : System vol
 s4 = next geo vol s3 e4
 
-abbrev afterCut : Device
-afterCut d y = keepFirst (s4 .memory d y .durable) (s4 .memory d y)
+abbrev e5 : Event vol
+e5 = peeks every 4
 
 abbrev s5 : System vol
-s5 = next geo vol s4 (cuts afterCut)
+s5 = next geo vol s4 e5
+
+abbrev e6 : Event vol
+e6 = calls (writes 96 3 (bytes 3 7)) every noStop
 
 abbrev s6 : System vol
-s6 = next geo vol s5 (loses 1)
+s6 = next geo vol s5 e6
+
+abbrev e7 : Event vol
+e7 = calls (resets 1) every noStop
 
 abbrev s7 : System vol
-s7 = next geo vol s6 (calls mounts (allBut 1) noStop)
+s7 = next geo vol s6 e7
+
+-- stopped once its entries are flushed
+abbrev e8 : Event vol
+e8 = calls (resets 0) every 6
+
+abbrev s8 : System vol
+s8 = next geo vol s7 e8
+
+abbrev afterCut : Device
+afterCut d y = keepFirst (s8 .memory d y .durable) (s8 .memory d y)
+
+abbrev e9 : Event vol
+e9 = cuts afterCut
+
+abbrev s9 : System vol
+s9 = next geo vol s8 e9
+
+abbrev e10 : Event vol
+e10 = looks every false
+
+abbrev s10 : System vol
+s10 = next geo vol s9 e10
+
+-- nothing is left on drive 1
+abbrev afterLoss : Device
+afterLoss d y = pick (eqb d 1) blankZone (afterCut d y)
+
+abbrev e11 : Event vol
+e11 = loses 1 afterLoss
+
+abbrev s11 : System vol
+s11 = next geo vol s10 e11
+
+abbrev e12 : Event vol
+e12 = calls mounts (allBut 1) noStop
+
+abbrev s12 : System vol
+s12 = next geo vol s11 e12
+
+abbrev e13 : Event vol
+e13 = calls (writes 0 2 (bytes 2 6)) (allBut 1) noStop
+
+abbrev s13 : System vol
+s13 = next geo vol s12 e13
+
+abbrev e14 : Event vol
+e14 = reads (allBut 1) 0 2 (bytes 2 0)
+
+abbrev s14 : System vol
+s14 = next geo vol s13 e14
+
+abbrev e15 : Event vol
+e15 = peeks (allBut 1) 0
+
+abbrev s15 : System vol
+s15 = next geo vol s14 e15
 
 abbrev history : List (Event vol)
-history = e1 ∷ e2 ∷ e3 ∷ e4 ∷ cuts afterCut ∷ loses 1 ∷ calls mounts (allBut 1) noStop ∷ reads (allBut 1) 0 5 (bytes 5 0) ∷ []
+history = e1 ∷ e2 ∷ e3 ∷ e4 ∷ e5 ∷ e6 ∷ e7 ∷ e8 ∷ e9 ∷ e10 ∷ e11 ∷ e12 ∷ e13 ∷ e14 ∷ e15 ∷ []
 
 -- ---- what became of it
-abbrev modeNumber : Mode → ℕ
+abbrev pub modeNumber : Mode → ℕ
 modeNumber ready = 0
 modeNumber stopped = 1
 modeNumber down = 2
 
-abbrev isMode : Mode → Mode → Bool
+abbrev pub isMode : Mode → Mode → Bool
 isMode m n = eqb (modeNumber m) (modeNumber n)
 
-pub history-goes : T (isMode ready (s2 .mode) && (eqb (s2 .ledger .committed 0) 5 && (isMode ready (s3 .mode) && (eqb (length (s3 .ledger .content 0)) 5
-    && (isMode stopped (s4 .mode) && (eqb (length (s4 .ledger .content 0)) 7 && (isMode down (s6 .mode) && (isMode ready (s7 .mode) && (eqb (pointerIn (s7 .state .condition 0)) 5 && eqb (length (s7 .ledger .content 0)) 5)))))))))
-unfolding formatStores writeStores zoneContent writeWith entryAt flushStores resetStores mountStores mountPhases phasesBeforeEntries mountLook mountShows afterOpening labelStep resetEntryStep zoneResetStep counterStep countersDiffer sealStep tornRowStep fillStep entryStep encode frame labelBytes readFields kindOf startOf endOf genOf generalHeads generalEnding parityEntries parityEnding isLost isPresent badPointers twoLost badLabels badLogs generationOf resetSeen sealSeen sealLimit zoneView valueAt pointerAt cleanAt zoneAt zoneShown showing viewOf driveOf sectorOf needed stripeOf unitIndex rowIndex parityDrive stripeLength unitDrive unitOf address addressAt zoneSectors log2 wornGeneration rowXor contentAt rowXorBelow callPresent isValid stateWithin twoAbsent twoUnnamed stale unusedBelow writeFull goneIn goneBefore notHeld formatRows lookRows mountRows writeRows flushRows resetRows readRows peekRows lostIn leftOut namedDrives sectorsIn lengthsFit bufferFits
+-- all of a list
+abbrev pub all : List Bool → Bool
+all [] = true
+all (b ∷ bs) = b && all bs
+
+pub wentSo : List Bool
+wentSo =
+    -- written and flushed; refused
+    isMode ready (s2 .mode) ∷ eqb (s2 .ledger .committed 0) 5 ∷ isMode ready (s3 .mode) ∷ eqb (length (s3 .ledger .content 0)) 5
+    -- the look's state is what the host held
+    ∷ eqb (pointerHeld vol (s4 .state) 0) 5 ∷ eqb (s4 .state .generation 0) 1 ∷ eqb (vol .peek every (s4 .state) 4 (s4 .memory) .number) 0
+    -- a reset that finishes
+    ∷ eqb (length (s6 .ledger .content 1)) 3 ∷ isMode ready (s7 .mode) ∷ eqb (length (s7 .ledger .content 1)) 0 ∷ eqb (s7 .state .generation 1) 2
+    -- one that is stopped: the flag is up, and what is committed is shown no more
+    ∷ isMode stopped (s8 .mode) ∷ s8 .ledger .resetting 0 ∷ eqb (s9 .ledger .committed 0) 5 ∷ isMode down (s9 .mode) ∷ eqb (vol .shows every (s9 .memory) (s9 .memory) .zone 0 .pointer) 0
+    -- the mount finishes without drive 1, and the volume goes on
+    ∷ isMode ready (s12 .mode) ∷ not (s12 .ledger .resetting 0) ∷ eqb (s12 .state .lost) 1 ∷ eqb (pointerHeld vol (s12 .state) 0) 0
+    ∷ isMode ready (s13 .mode) ∷ eqb (length (s13 .ledger .content 0)) 2 ∷ eqb (vol .peek (allBut 1) (s13 .state) 0 (s13 .memory) .number) 0 ∷ []
+
+pub history-goes : T (all wentSo)
+unfolding formatStores writeStores zoneContent writeWith entryAt flushStores resetStores mountStores mountPhases phasesBeforeEntries mountLook mountShows afterOpening labelStep resetEntryStep zoneResetStep counterStep countersDiffer sealStep tornRowStep fillStep entryStep encode frame labelBytes readFields kindOf startOf endOf genOf generalHeads generalEnding parityEntries parityEnding isLost isPresent badPointers twoLost badLabels badLogs generationOf resetSeen sealSeen sealLimit zoneView valueAt pointerAt cleanAt zoneAt zoneShown showing viewOf driveOf sectorOf needed stripeOf unitIndex rowIndex parityDrive stripeLength unitDrive unitOf address addressAt zoneSectors log2 wornGeneration rowXor contentAt rowXorBelow callPresent isValid stateWithin twoAbsent twoUnnamed stale unusedBelow writeFull goneIn goneBefore notHeld formatRows lookRows mountRows writeRows flushRows resetRows readRows peekRows lostIn leftOut namedDrives sectorsIn lengthsFit bufferFits wentSo
 history-goes = tt
 
 -- ---- its duties are done
+abbrev pub done : {A B : Type 0} → A → B → A × B
+done a b = (a, b)
+
 names-all : (s : System vol) → s .lost ≡ noDrive → NamesAll geo vol s every
 names-all s e = record { drives = λ d h. sym (not-lost d h) }
   where
@@ -125,14 +210,23 @@ blank-well-formed : WellFormed blank
 unfolding WellFormed
 blank-well-formed d y = le-refl 0
 
-well-formed-4 : WellFormed (s4 .memory)
-well-formed-4 =
-    call-well-formed (writes 5 2 (bytes 2 8)) every (s3 .state) 1 (s3 .memory) (call-well-formed (writes 7 1 (bytes 1 8)) every (s2 .state) noStop (s2 .memory)
-    (call-well-formed flushes every (s1 .state) noStop (s1 .memory) (call-well-formed (writes 0 5 (bytes 5 9)) every (s0 .state) noStop (s0 .memory) (call-well-formed (formats 7) every formattedState noStop blank blank-well-formed))))
+well-formed-8 : WellFormed (s8 .memory)
+well-formed-8 =
+    call-well-formed (resets 0) every (s7 .state) 6 (s7 .memory) (call-well-formed (resets 1) every (s6 .state) noStop (s6 .memory)
+    (call-well-formed (writes 96 3 (bytes 3 7)) every (s5 .state) noStop (s5 .memory) (call-well-formed (writes 7 1 (bytes 1 8)) every (s2 .state) noStop (s2 .memory)
+    (call-well-formed flushes every (s1 .state) noStop (s1 .memory) (call-well-formed (writes 0 5 (bytes 5 9)) every (s0 .state) noStop (s0 .memory) (call-well-formed (formats 7) every formattedState noStop blank blank-well-formed))))))
+
+lose-1 : (v : Device) → Loss 1 v (λ d y. pick (eqb d 1) blankZone (v d y))
+unfolding Loss
+lose-1 v d y n = rw (ne-eqb d 1 n) refl
 
 pub duties-done : Dutiful geo vol s0 history
 unfolding formatStores writeStores zoneContent writeWith entryAt flushStores resetStores mountStores mountPhases phasesBeforeEntries mountLook mountShows afterOpening labelStep resetEntryStep zoneResetStep counterStep countersDiffer sealStep tornRowStep fillStep entryStep encode frame labelBytes readFields kindOf startOf endOf genOf generalHeads generalEnding parityEntries parityEnding isLost isPresent badPointers twoLost badLabels badLogs generationOf resetSeen sealSeen sealLimit zoneView valueAt pointerAt cleanAt zoneAt zoneShown showing viewOf driveOf sectorOf needed stripeOf unitIndex rowIndex parityDrive stripeLength unitDrive unitOf address addressAt zoneSectors log2 wornGeneration rowXor contentAt rowXorBelow callPresent isValid stateWithin twoAbsent twoUnnamed stale unusedBelow writeFull goneIn goneBefore notHeld formatRows lookRows mountRows writeRows flushRows resetRows readRows peekRows lostIn leftOut namedDrives sectorsIn lengthsFit bufferFits
-duties-done = ((names-all s0 refl, refl, tt), ((names-all s1 refl, refl, tt), ((names-all s2 refl, refl, tt), ((names-all s3 refl, refl, tt), (cut-to-durable (s4 .lost) (s4 .memory) well-formed-4, ((lit< tt, refl), ((names-without-1 s6 refl, tt, tt), ((names-without-1 s7 refl, refl), tt))))))))
+duties-done =
+    done (names-all s0 refl, refl, tt) (done (names-all s1 refl, refl, tt) (done (names-all s2 refl, refl, tt) (done (names-all s3 refl, tt)
+    (done (names-all s4 refl, refl) (done (names-all s5 refl, refl, tt) (done (names-all s6 refl, refl, tt) (done (names-all s7 refl, refl, tt)
+    (done (cut-to-durable (s8 .lost) (s8 .memory) well-formed-8) (done (names-all s9 refl, tt) (done (lit< tt, inl refl, lose-1 afterCut) (done (names-without-1 s11 refl, tt, tt)
+    (done (names-without-1 s12 refl, refl, tt) (done (names-without-1 s13 refl, refl) (done (names-without-1 s14 refl, refl) tt))))))))))))))
 
 -- ---- and what the claim says of it
 pub history-keeps-the-promise : Throughout geo vol s0 history

@@ -1,5 +1,5 @@
 -- The hypotheses of the promise on the tables can be met, for every valid geometry: tables of zeros are formatted, power goes, drive 1 is lost, and
--- the volume is mounted. (Histories with writes, flushes and resets run in the gate: crates/replay.)
+-- the volume is mounted. (A computed one with writes, flushes and resets: TablesHistory.)
 use mathlib.Core.Path.{_≡_, refl, sym, ap, _∙_}
 use mathlib.Core.Logic.{_⊎_, inl, inr}
 use mathlib.Core.Bool.{Bool, true, false, not, true≢false}
@@ -19,7 +19,7 @@ use Rattle.tables.specs.laws.Drives.{find-below-is}
 use Rattle.tables.specs.meaning.Tables.{Tables, cell, deviceOf, pointersBad}
 use Rattle.tables.specs.laws.Made.{WellSized}
 use Rattle.tables.specs.laws.TablesFrame.{sized-lengths}
-use Rattle.tables.specs.laws.PointerOrder.{InOrder, order-passes, cut-to-durable}
+use Rattle.tables.specs.laws.PointerOrder.{InOrder, order-passes, cut-to-durable, loss-none}
 use Rattle.volume.specs.declared.State.{State}
 use Rattle.volume.specs.declared.Answer.the-variants.{Finished}
 use Rattle.volume.specs.meaning.Refusals.{accept, formatRows, twoUnnamed}
@@ -28,7 +28,7 @@ use Rattle.volume.specs.meaning.Answers.{leftOut, namedDrives}
 use Rattle.volume.specs.laws.Refusals.{passed}
 use Rattle.promise.specs.meaning.Claim.{allBut, mounts, System, Event, calls, cuts, loses, Dutiful, Throughout, start}
 use Rattle.promise.specs.meaning.OnTables.{callResult, onTables}
-use Rattle.volume.specs.meaning.CallContracts.{isSet, lengthsOf, decided, refusalOn, formatVerdict, formatOn}
+use Rattle.volume.specs.meaning.CallContracts.{isSet, lengthsOf, formatVerdict, formatOn, badIn}
 use Rattle.promise.specs.tables.TablesEvents.{TablesOk}
 use Rattle.promise.specs.tables.TablesClaimProof.{FormatPassed, start-ok, tables-keep-the-promise}
 
@@ -48,7 +48,7 @@ every-named : (d : ℕ) → d < 8 → isSet every d ≡ true
 unfolding every
 every-named d h = in-replicate 8 d h
 
-without1-named : (d : ℕ) → d < 8 → isSet without1 d ≡ allBut 1 d
+pub without1-named : (d : ℕ) → d < 8 → isSet without1 d ≡ allBut 1 d
 unfolding without1
 without1-named zero h = refl
 without1-named (suc zero) h = refl
@@ -89,8 +89,8 @@ module _ (g : Geometry) (wb : isValid g ≡ true) (old : State) where
   }
 
   format-accepted : formatVerdict g every zeros ≡ accept
-  unfolding formatVerdict refusalOn formatRows
-  format-accepted = let f = format-passes in passed (decided (pointersBad g every (zeros .written) (zeros .durable)) (formatRows g (lengthsOf zeros) (isSet every) (deviceOf g zeros))) (ap not (f .valid-test), (ap not (f .lengths-fit), (f .pointers-fit, (f .one-unnamed, tt))))
+  unfolding formatVerdict formatRows
+  format-accepted = let f = format-passes in passed (formatRows g (lengthsOf zeros) (badIn g every zeros) (isSet every) (deviceOf g zeros)) (ap not (f .valid-test), (ap not (f .lengths-fit), (f .pointers-fit, (f .one-unnamed, tt))))
 
   -- a format with as many stores as it takes finishes
   abbrev count : ℕ
@@ -100,7 +100,7 @@ module _ (g : Geometry) (wb : isValid g ≡ true) (old : State) where
   unfolding formatOn
   format-finishes = rw (format-accepted, le-ltb count count (le-refl count)) refl
 
-  none-lost : leftOut g (isSet every) ≡ noDrive
+  pub none-lost : leftOut g (isSet every) ≡ noDrive
   unfolding leftOut
   none-lost = go (find-below-is (λ d. not (isSet every d)) (g .drives))
     where
@@ -115,15 +115,18 @@ module _ (g : Geometry) (wb : isValid g ≡ true) (old : State) where
 
   formatted-ok : TablesOk g formatted
   unfolding formatOn
-  formatted-ok = rw format-accepted (start-ok g every 7 old count zeros (omega arith) format-passes (le-ltb count count (le-refl count)))
+  formatted-ok = rw format-accepted (start-ok g every 7 old count zeros (omega arith) format-accepted (le-ltb count count (le-refl count)))
+
+  abbrev afterCut : Tables
+  afterCut = record { sectors = formatted .memory .sectors; written = formatted .memory .durable; durable = formatted .memory .durable }
 
   unfoldable pub history : ℕ → List (Event (onTables g))
-  history stop = cuts (record { sectors = formatted .memory .sectors; written = formatted .memory .durable; durable = formatted .memory .durable }) ∷ loses 1 ∷ calls mounts without1 stop ∷ []
+  history stop = cuts afterCut ∷ loses 1 afterCut ∷ calls mounts without1 stop ∷ []
 
   pub duties-done : (stop : ℕ) → Dutiful g (onTables g) formatted (history stop)
   unfolding history
   duties-done stop =
-      (cut-to-durable g (leftOut g (isSet every)) (formatted .memory) (formatted-ok .sized) (formatted-ok .order), ((omega (arith, ok .drives-least), none-lost), ((record { drives = λ d h. without1-named d (omega (arith, h, ok .drives-most)) }, tt, tt), tt)))
+      (cut-to-durable g (leftOut g (isSet every)) (formatted .memory) (formatted-ok .sized) (formatted-ok .order), ((omega (arith, ok .drives-least), inl none-lost, loss-none g 1 afterCut), ((record { drives = λ d h. without1-named d (omega (arith, h, ok .drives-most)) }, tt, tt), tt)))
 
   pub promise-kept : (stop : ℕ) → Throughout g (onTables g) formatted (history stop)
   promise-kept stop = tables-keep-the-promise g every 7 old count zeros (omega arith) format-finishes (history stop) (duties-done stop)

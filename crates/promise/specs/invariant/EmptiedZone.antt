@@ -2,6 +2,7 @@
 -- with an empty content, and at rest, empty or worn. A format and a finished reset leave such zones.
 use mathlib.Core.Path.{_≡_, refl, sym, _∙_, subst}
 use mathlib.Core.Logic.{_⊎_, inl, inr}
+use mathlib.Core.Bool.{false}
 use Prim.Native.Nat.{ℕ, zero, _+_, _*_, _≤_, _<_, zero-le}
 use native.Mathlib.Nat.{not-suc-le-zero}
 use native.Mathlib.Omega.{arith}
@@ -20,7 +21,7 @@ use Rattle.promise.specs.content.Columns.{column}
 use Rattle.volume.specs.declared.Condition.the-variants.{Empty, Worn}
 use Rattle.volume.specs.meaning.State.{pointerIn, StateView}
 use Rattle.promise.specs.meaning.Ledger.{Ledger}
-use Rattle.promise.specs.invariant.Invariant.{Ghost, Here, Counts, Entries, SurvivesLoss, durableEntries, Live, Shape, RestZone}
+use Rattle.promise.specs.invariant.Invariant.{Ghost, Here, Counts, Entries, SurvivesLoss, durableEntries, Live, Shape, HasSectors, RestZone}
 use Rattle.logs.specs.laws.HeadLaws.{zone-gen-map}
 
 pub record MadeEmpty (g : Geometry) (x : ℕ) (w : Device) (δ : Ghost) (m : Ledger) (z : ℕ) : Type 0 where
@@ -73,13 +74,15 @@ module _ (g : Geometry) (ok : Valid g) (x : ℕ) (w : Device) (δ : Ghost) (m : 
     worn-empty = λ q. (b .laid-nil, b .before);
   }
 
-  pub made-empty-rest : (state : StateView) → δ .generation z ≡ state .generation z → ((state .condition z ≡ Empty) × (δ .generation z < wornGeneration)) ⊎ ((state .condition z ≡ Worn zero) × (δ .generation z ≡ wornGeneration)) → RestZone g x w state m δ z
-  made-empty-rest state eg c = record {
+  pub made-empty-rest : (state : StateView) → δ .generation z ≡ state .generation z → ((state .condition z ≡ Empty) × (δ .generation z < wornGeneration)) ⊎ ((state .condition z ≡ Worn zero) × (δ .generation z ≡ wornGeneration)) → m .resetting z ≡ false → RestZone g x w state m δ z
+  made-empty-rest state eg c f = record {
     live = made-empty-live;
     generation-is = eg;
     pointer-is = point c;
     strong-now = rw (b .content-nil) (strong-none (δ .generation z) (λ d. length (w d (dataZone z) .sectors)) (δ .parity));
     shape = shaped c;
+    sectors = none c;
+    no-flag = f;
   }
     where
       point : ((state .condition z ≡ Empty) × (δ .generation z < wornGeneration)) ⊎ ((state .condition z ≡ Worn zero) × (δ .generation z ≡ wornGeneration)) → length (m .content z) ≡ pointerIn (state .condition z)
@@ -94,3 +97,7 @@ module _ (g : Geometry) (ok : Valid g) (x : ℕ) (w : Device) (δ : Ghost) (m : 
         unworn = q .1;
       })
       shaped (inr q) = rw (q .0) (q .1)
+
+      none : ((state .condition z ≡ Empty) × (δ .generation z < wornGeneration)) ⊎ ((state .condition z ≡ Worn zero) × (δ .generation z ≡ wornGeneration)) → HasSectors (state .condition z)
+      none (inl q) = rw (q .0) tt
+      none (inr q) = rw (q .0) tt

@@ -211,12 +211,21 @@ Shape g x v γ l z (Open n) = Plain g x v γ l z
 Shape g x v γ l z (Sealed n) = Capped g x v γ z (length (l .content z)) × (γ .generation z < wornGeneration) × (l .committed z ≡ length (l .content z))
 Shape g x v γ l z (Worn n) = γ .generation z ≡ wornGeneration
 
+-- an open or sealed zone has sectors
+abbrev pub HasSectors : Condition → Type 0
+HasSectors Empty = Unit {0}
+HasSectors (Open n) = zero < n
+HasSectors (Sealed n) = zero < n
+HasSectors (Worn n) = Unit {0}
+
 pub record RestZone (g : Geometry) (x : ℕ) (v : Device) (state : StateView) (l : Ledger) (γ : Ghost) (z : ℕ) : Type 0 where
   pub live : Live g x v γ l z
   pub generation-is : γ .generation z ≡ state .generation z
   pub pointer-is : length (l .content z) ≡ pointerIn (state .condition z)
   pub strong-now : SurvivesLoss g x z (γ .generation z) (length (l .content z)) (λ d. length (v d (dataZone z) .sectors)) (γ .parity)
   pub shape : Shape g x v γ l z (state .condition z)
+  pub sectors : HasSectors (state .condition z)
+  pub no-flag : l .resetting z ≡ false
 
 pub record Rest (g : Geometry) (x : ℕ) (v : Device) (state : StateView) (l : Ledger) (γ : Ghost) : Type 0 where
   pub logs : LogsOk g x v γ

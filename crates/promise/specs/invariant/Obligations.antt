@@ -7,7 +7,7 @@ use mathlib.Core.Bool.{Bool, true}
 use Prim.Native.Nat.{ℕ, zero, suc, _+_, _*_, _≤_, _<_, _^_, min}
 use mathlib.Core.List.{List}
 use lib.ListN.{length, take}
-use Rattle.tables.specs.meaning.Device.{Device, applyAll, Cut}
+use Rattle.tables.specs.meaning.Device.{Device, applyAll, Cut, Loss}
 use Rattle.tables.specs.declared.Geometry.{Geometry}
 use Rattle.tables.specs.meaning.Geometry.{zoneSectors}
 use Rattle.tables.specs.laws.Drives.{presentBut}
@@ -61,11 +61,12 @@ Rests g x v state l = (γ : Ghost) × Rest g x v state l γ
 abbrev pub CutKeeps : Geometry → Type 0
 CutKeeps g = (x : ℕ) (v w : Device) (l : Ledger) → Invs g x v l → Cut x v w → Invs g x w l
 
+-- drive d is lost, or was before (x)
 abbrev pub LossKeeps : Geometry → Type 0
-LossKeeps g = (d : ℕ) (v : Device) (l : Ledger) → d < g .drives → Invs g noDrive v l → Invs g d v l
+LossKeeps g = (x d : ℕ) (v w : Device) (l : Ledger) → d < g .drives → (x ≡ noDrive) ⊎ (x ≡ d) → Loss d v w → Invs g x v l → Invs g d w l
 
 abbrev pub LossRests : Geometry → Type 0
-LossRests g = (d : ℕ) (v : Device) (state : StateView) (l : Ledger) → d < g .drives → Rests g noDrive v state l → Rests g d v state l
+LossRests g = (x d : ℕ) (v w : Device) (state : StateView) (l : Ledger) → d < g .drives → (x ≡ noDrive) ⊎ (x ≡ d) → Loss d v w → Rests g x v state l → Rests g d w state l
 
 -- ---- calls
 abbrev pub WriteKeeps : Geometry → Type 0

@@ -129,11 +129,11 @@ module _ (g : Geometry) (x : ℕ) (v w : Device) (γ δ : Ghost) (l m : Ledger) 
       was d a e (inr o) = zone-gen-map (e .head) (λ y n. y ≢ z) (λ y n. y ≡ z → Was g d e (λ (p : Entry). List·Memᴰ p (γ .parity d)) ⊎ EntryJoins g x z (withFlag (factsOf γ l z) (m .resetting z)) (said g v γ z) (λ c h. List·Memᴰ h (δ .general c)) d e) (λ y n p q. absurd (p q)) o
 
   -- between finished calls
-  pub untouched-rest : (state su : StateView) → su .generation z ≡ state .generation z → su .condition z ≡ state .condition z
+  pub untouched-rest : (state su : StateView) → su .generation z ≡ state .generation z → su .condition z ≡ state .condition z → m .resetting z ≡ l .resetting z
       → ((d : ℕ) → Here g x d → w d (dataZone z) .sectors ≡ v d (dataZone z) .sectors)
       → ((d : ℕ) → Here g x d → (e : Entry) → List·Memᴰ e (γ .parity d) → List·Memᴰ e (δ .parity d))
       → RestZone g x v state l γ z → RestZone g x w su m δ z
-  untouched-rest state su eg ec same all r = record {
+  untouched-rest state su eg ec ef same all r = record {
     live = untouched-live (r .live);
     generation-is = k .generation-is ∙ r .generation-is ∙ sym eg;
     pointer-is = rw (k .content-is, ec) (r .pointer-is);
@@ -142,6 +142,8 @@ module _ (g : Geometry) (x : ℕ) (v w : Device) (γ δ : Ghost) (l m : Ledger) 
       entry = λ i a. let (e, q, s, t) = r .strong-now .entry i a in (e, all (parityDriveAt g z (length (l .content z))) a e q, s, t);
     });
     shape = rw ec (shaped (state .condition z) (r .shape));
+    sectors = rw ec (r .sectors);
+    no-flag = ef ∙ r .no-flag;
   }
     where
       plain : Plain g x v γ l z → Plain g x w δ m z

@@ -34,7 +34,7 @@ look-fits g ok x v l (γ, i) = λ z h. zone-fits g ok x v γ (i .logs) l z h (i 
 -- ---- between finished calls
 module _ (g : Geometry) (ok : Valid g) (x : ℕ) (v : Device) (state : StateView) (l : Ledger) (γ : Ghost) (r : Rest g x v state l γ) where
   -- no seal is below the pointer
-  reaches : (z : ℕ) → z < g .zones → length (l .content z) ≤ sealLimit g (presentBut g x) v z (γ .generation z)
+  pub reaches : (z : ℕ) → z < g .zones → length (l .content z) ≤ sealLimit g (presentBut g x) v z (γ .generation z)
   reaches z h = go (state .condition z) (q .shape)
     where
       q : RestZone g x v state l γ z

@@ -2,23 +2,29 @@
 -- any input, refused and stopped ones included, power cuts, and the loss of a drive. The hypotheses are the host's duties and what a cut and a loss can do;
 -- the claim speaks of looks, mounts, reads, peeks and the ledger alone. It is stated once, of any `Volume`; OnDevice.antt and OnTables.antt say of which.
 use mathlib.Core.Path.{_≡_}
+use mathlib.Core.Logic.{_≢_, _⊎_}
 use mathlib.Core.Bool.{Bool, true, not}
 use Prim.Native.Nat.{ℕ, zero, _+_, _*_, _^_, _≤_, _<_}
 use mathlib.Core.List.{List, [], _∷_}
 use lib.ListN.{length}
 use lib.Dec.{eqb}
+use Rattle.tables.specs.meaning.Basics.{pick}
 use Rattle.tables.specs.meaning.Below.{tabulateFrom}
 use Rattle.tables.specs.meaning.Lists.{concat}
 use Rattle.tables.specs.meaning.Drives.{noDrive}
 use Rattle.tables.specs.meaning.Placement.{driveOf}
 use Rattle.tables.specs.declared.Geometry.{Geometry}
+use Rattle.tables.specs.meaning.Geometry.{zoneSectors}
+use Rattle.logs.specs.meaning.Entry.{wornGeneration}
 use Rattle.volume.specs.declared.Answer.{Answer}
 use Rattle.volume.specs.declared.Answer.the-variants.{Finished, Unfinished, Refused}
+use Rattle.volume.specs.declared.Condition.{Condition}
+use Rattle.volume.specs.meaning.State.{pointerIn, isSealed, isWorn}
 use Rattle.volume.specs.meaning.Content.{at}
 use Rattle.volume.specs.meaning.Rules.{Shown}
 use Rattle.volume.specs.meaning.Refusals.{zoneOf, offsetOf}
-use Rattle.volume.specs.meaning.Answers.{CallResult, leftOut, sectorsIn}
-use Rattle.volume.specs.meaning.CallContracts.{ReadResult}
+use Rattle.volume.specs.meaning.Answers.{CallResult, leftOut, sectorsIn, placeOf}
+use Rattle.volume.specs.meaning.CallContracts.{ReadResult, byteOf}
 use Rattle.promise.specs.meaning.Ledger.{Ledger, freshLedger, Reply, isRefused, isUnfinished, isFinished, LedgerNote, noteWrite, noteFlush, noteReset, noteMount, noteFormat, noted, Fits}
 
 -- ==== the calls that store
@@ -32,7 +38,8 @@ pub data Call : Type 0 where
 -- ==== a volume: what its memory is and what the host holds, and what each call leaves and gives
 pub record Peeked : Type 0 where
   pub number : ℕ  -- the refusal's, 0 if there is none
-  pub part : List ℕ  -- the sector's bytes
+  pub from : ℕ  -- where in the lent sectors the part begins
+  pub part : List ℕ  -- its bytes
 
 pub record Volume : Type 1 where
   pub Memory : Type 0
@@ -45,8 +52,15 @@ pub record Volume : Type 1 where
   pub peek : Names → State → ℕ → Memory → Peeked  -- address
   pub shows : Names → Memory → Memory → Shown  -- what the drives that a look finds present in the first memory show in the second
   pub stateOf : Shown → State  -- the state that hands on what is shown
-  pub pointer : State → ℕ → ℕ  -- of a zone
+  pub lostIn : State → ℕ  -- the drive that is lost, or noDrive
+  pub generation : State → ℕ → ℕ  -- of a zone
+  pub condition : State → ℕ → Condition  -- of a zone
   pub CutTo : ℕ → Memory → Memory → Type 0  -- what a power cut may leave, while a drive is lost
+  pub LossTo : ℕ → Memory → Memory → Type 0  -- what the loss of a drive may leave: of that drive anything
+
+-- a zone's write pointer, as the host holds it
+abbrev pub pointerHeld : (vol : Volume) → vol .State → ℕ → ℕ
+pointerHeld vol state z = pointerIn (vol .condition state z)
 
 -- ==== the host, the volume and the ledger
 -- ready: the last call finished. stopped: it did not, and "only a cut may follow". down: after a cut, "looks and mounts" until a mount finishes.
@@ -65,11 +79,11 @@ pub record System (vol : Volume) : Type 0 where
 -- ==== events. Every call is handed the format's geometry, the drives that the host names, and the state that the host holds.
 pub data Event (vol : Volume) : Type 0 where
   calls : Call → vol .Names → ℕ → Event vol  -- count of stores
-  looks : vol .Names → Event vol
+  looks : vol .Names → Bool → Event vol  -- whether the host hands on the look's state from then on, or what it held
   reads : vol .Names → ℕ → ℕ → List ℕ → Event vol  -- address; count of sectors; buffer
   peeks : vol .Names → ℕ → Event vol  -- address
   cuts : vol .Memory → Event vol  -- what it leaves
-  loses : ℕ → Event vol  -- a drive
+  loses : ℕ → vol .Memory → Event vol  -- a drive; what is left of the memory
 
 -- ---- what an event does. A refused call changes nothing; an unfinished one has made its stores and handed on no state.
 abbrev pub replyTo : Answer → Reply
@@ -101,11 +115,11 @@ module _ (g : Geometry) (vol : Volume) where
 
   abbrev pub next : System vol → Event vol → System vol
   next s (calls c named stop) = let r = vol .call c named (s .state) stop (s .memory) in settled s r (ledgerAfter s c named r)
-  next s (looks named) = s
+  next s (looks named taken) = record { memory = s .memory; lost = s .lost; mode = s .mode; state = pick taken (vol .look named (s .state) (s .memory) .state) (s .state); ledger = s .ledger }
   next s (reads named a count out) = s
   next s (peeks named a) = s
   next s (cuts m) = record { memory = m; lost = s .lost; mode = down; state = s .state; ledger = s .ledger }
-  next s (loses d) = record { memory = s .memory; lost = d; mode = s .mode; state = s .state; ledger = s .ledger }
+  next s (loses d m) = record { memory = m; lost = d; mode = s .mode; state = s .state; ledger = s .ledger }
 
 -- ==== the host's duties
 -- every drive but x
@@ -144,14 +158,14 @@ Completes (resets z) a = Unit {0}
 Completes (formats array) a = (array < 256 ^ 8) × NotStopped a
 
 module _ (g : Geometry) (vol : Volume) where
-  -- (a cut does what document 01 says of it, and no more than one drive is lost)
+  -- (a cut does what document 01 says of it; no more than one drive is lost, and of its memory anything may become, then and later)
   abbrev pub Duty : System vol → Event vol → Type 0
   Duty s (calls c named stop) = NamesAll g vol s named × MayCome c (s .mode) × Completes c (vol .call c named (s .state) stop (s .memory) .answer)
-  Duty s (looks named) = NamesAll g vol s named × MayMount (s .mode)
+  Duty s (looks named taken) = NamesAll g vol s named × MayMount (s .mode)
   Duty s (reads named a count out) = NamesAll g vol s named × (s .mode ≡ ready)
   Duty s (peeks named a) = NamesAll g vol s named × (s .mode ≡ ready)
   Duty s (cuts m) = vol .CutTo (s .lost) (s .memory) m
-  Duty s (loses d) = (d < g .drives) × (s .lost ≡ noDrive)
+  Duty s (loses d m) = (d < g .drives) × ((s .lost ≡ noDrive) ⊎ (s .lost ≡ d)) × vol .LossTo d (s .memory) m
 
   abbrev pub Dutiful : System vol → List (Event vol) → Type 0
   Dutiful s [] = Unit {0}
@@ -161,6 +175,28 @@ module _ (g : Geometry) (vol : Volume) where
 -- count sectors of a zone's content from an offset on, one after the other
 abbrev pub contentBytes : Ledger → ℕ → ℕ → ℕ → List ℕ
 contentBytes l z offset count = concat (tabulateFrom (at (l .content z)) offset count)
+
+-- two states say the same of the volume's zones
+pub record SameZones (g : Geometry) (vol : Volume) (a b : vol .State) : Type 0 where
+  pub generations : (z : ℕ) → z < g .zones → vol .generation a z ≡ vol .generation b z
+  pub conditions : (z : ℕ) → z < g .zones → vol .condition a z ≡ vol .condition b z
+
+-- why a reset of zone z may be refused, and by which number n (generation: the zone's, as the host holds it)
+pub data ResetRefusal (g : Geometry) (generation z n : ℕ) : Type 0 where
+  noSuchZone : n ≡ 8 → g .zones ≤ z → ResetRefusal g generation z n
+  wornOut : n ≡ 12 → wornGeneration ≤ generation → ResetRefusal g generation z n
+  generalLogFull : n ≡ 14 → ResetRefusal g generation z n
+
+-- and a write of count sectors at address a (held: the zone's condition, as the host holds it)
+pub data WriteRefusal (g : Geometry) (held : Condition) (a count : ℕ) (buffer : List ℕ) (n : ℕ) : Type 0 where
+  bufferLength : n ≡ 2 → length buffer ≢ count * g .sector → WriteRefusal g held a count buffer n
+  noSuchAddress : n ≡ 8 → g .zones ≤ zoneOf g a → WriteRefusal g held a count buffer n
+  noSectors : n ≡ 9 → count ≡ zero → WriteRefusal g held a count buffer n
+  pastTheEnd : n ≡ 9 → zoneSectors g < offsetOf g a + count → WriteRefusal g held a count buffer n
+  notAtPointer : n ≡ 10 → offsetOf g a ≢ pointerIn held → WriteRefusal g held a count buffer n
+  sealedZone : n ≡ 11 → isSealed held ≡ true → WriteRefusal g held a count buffer n
+  wornZone : n ≡ 12 → isWorn held ≡ true → WriteRefusal g held a count buffer n
+  parityLogFull : n ≡ 14 → WriteRefusal g held a count buffer n
 
 pub record Promise (g : Geometry) (vol : Volume) (s : System vol) : Type 0 where
   -- "Look: the zones it shows must fit." No look is refused; its state is what is shown; and what is shown fits
@@ -174,16 +210,27 @@ pub record Promise (g : Geometry) (vol : Volume) (s : System vol) : Type 0 where
   -- a mount is refused by 14, log full, alone
   pub mount-refused : (named : vol .Names) → NamesAll g vol s named → (stop n : ℕ) → vol .call mounts named (s .state) stop (s .memory) .answer ≡ Refused n → n ≡ 14
   -- between finished calls the state's pointers are the lengths of the contents
-  pub pointer-is : s .mode ≡ ready → (z : ℕ) → z < g .zones → vol .pointer (s .state) z ≡ length (s .ledger .content z)
+  pub pointer-is : s .mode ≡ ready → (z : ℕ) → z < g .zones → pointerHeld vol (s .state) z ≡ length (s .ledger .content z)
+  -- and a look's state says of every zone what the host's says, and the drive that is lost: either may be handed on
+  pub look-holds : (named : vol .Names) → NamesAll g vol s named → s .mode ≡ ready
+      → let looked = vol .look named (s .state) (s .memory) .state in (vol .lostIn looked ≡ s .lost) × SameZones g vol looked (s .state)
+  -- and no flush is refused, and a reset or write only for its cause: never by 1, 3, 4, 7 or 15
+  pub flush-accepted : (named : vol .Names) → NamesAll g vol s named → s .mode ≡ ready → (stop n : ℕ) → vol .call flushes named (s .state) stop (s .memory) .answer ≢ Refused n
+  pub reset-refused : (named : vol .Names) → NamesAll g vol s named → s .mode ≡ ready → (z stop n : ℕ) → vol .call (resets z) named (s .state) stop (s .memory) .answer ≡ Refused n
+      → ResetRefusal g (vol .generation (s .state) z) z n
+  pub write-refused : (named : vol .Names) → NamesAll g vol s named → s .mode ≡ ready → (a count : ℕ) (buffer : List ℕ) (stop n : ℕ)
+      → vol .call (writes a count buffer) named (s .state) stop (s .memory) .answer ≡ Refused n → WriteRefusal g (vol .condition (s .state) (zoneOf g a)) a count buffer n
   -- an accepted read leaves the content in the buffer, and a read below the pointer is accepted
   pub read-gives : (named : vol .Names) → NamesAll g vol s named → s .mode ≡ ready → (a count : ℕ) (out : List ℕ) → vol .read named (s .state) a count out (s .memory) .answer ≡ Finished
       → (offsetOf g a + count ≤ length (s .ledger .content (zoneOf g a))) × (vol .read named (s .state) a count out (s .memory) .buffer ≡ contentBytes (s .ledger) (zoneOf g a) (offsetOf g a) count)
   pub read-accepted : (named : vol .Names) → NamesAll g vol s named → s .mode ≡ ready → (a count : ℕ) (out : List ℕ) → zoneOf g a < g .zones → zero < count → length out ≡ count * g .sector
-      → offsetOf g a + count ≤ vol .pointer (s .state) (zoneOf g a) → vol .read named (s .state) a count out (s .memory) .answer ≡ Finished
-  -- an accepted peek gives the content's sector, and a peek below the pointer is accepted where the sector's drive is not lost
+      → offsetOf g a + count ≤ pointerHeld vol (s .state) (zoneOf g a) → vol .read named (s .state) a count out (s .memory) .answer ≡ Finished
+  -- an accepted peek gives the place of the address, and there lies the content's sector; a peek below the pointer is accepted where the sector's drive is
+  -- not lost
   pub peek-gives : (named : vol .Names) → NamesAll g vol s named → s .mode ≡ ready → (a : ℕ) → vol .peek named (s .state) a (s .memory) .number ≡ 0
-      → (offsetOf g a < length (s .ledger .content (zoneOf g a))) × (vol .peek named (s .state) a (s .memory) .part ≡ at (s .ledger .content (zoneOf g a)) (offsetOf g a))
-  pub peek-accepted : (named : vol .Names) → NamesAll g vol s named → s .mode ≡ ready → (a : ℕ) → zoneOf g a < g .zones → offsetOf g a < vol .pointer (s .state) (zoneOf g a)
+      → (offsetOf g a < length (s .ledger .content (zoneOf g a))) × (vol .peek named (s .state) a (s .memory) .from ≡ byteOf g (placeOf g a))
+      × (vol .peek named (s .state) a (s .memory) .part ≡ at (s .ledger .content (zoneOf g a)) (offsetOf g a))
+  pub peek-accepted : (named : vol .Names) → NamesAll g vol s named → s .mode ≡ ready → (a : ℕ) → zoneOf g a < g .zones → offsetOf g a < pointerHeld vol (s .state) (zoneOf g a)
       → allBut (s .lost) (driveOf (g .drives) (g .unit) (zoneOf g a) (offsetOf g a)) ≡ true → vol .peek named (s .state) a (s .memory) .number ≡ 0
 
 module _ (g : Geometry) (vol : Volume) where

@@ -4,15 +4,15 @@ use Prim.Native.Nat.{ℕ}
 use mathlib.Core.List.{List, []}
 use lib.ListN.{length, getD}
 use Rattle.tables.specs.meaning.Lists.{concat}
-use Rattle.tables.specs.meaning.Device.{Device, Cut}
+use Rattle.tables.specs.meaning.Device.{Device, Cut, Loss}
 use Rattle.tables.specs.declared.Geometry.{Geometry}
 use Rattle.volume.specs.declared.Answer.the-variants.{Finished, Refused}
-use Rattle.volume.specs.meaning.State.{StateView, pointerIn}
+use Rattle.volume.specs.meaning.State.{StateView}
 use Rattle.volume.specs.meaning.Rules.{Shown, showing, isPresent, lostDrive}
 use Rattle.volume.specs.meaning.Refusals.{TableLengths}
 use Rattle.volume.specs.meaning.Mount.{mountState}
 use Rattle.volume.specs.meaning.Answers.{CallResult, carriedOut, StoringCall, Given, refused, given, Place, formatCall, mountCall, writeCall, flushCall, resetCall, lookCall, readCall, peekCall}
-use Rattle.volume.specs.meaning.CallContracts.{ReadResult}
+use Rattle.volume.specs.meaning.CallContracts.{ReadResult, byteOf}
 use Rattle.promise.specs.meaning.Claim.{Call, mounts, writes, flushes, resets, formats, Peeked, Volume, KeepsPromise}
 
 abbrev pub callOf : Geometry → TableLengths → Call → (ℕ → Bool) → StateView → Device → StoringCall
@@ -30,9 +30,9 @@ abbrev pub readResult : Given (List (List ℕ)) → List ℕ → ReadResult
 readResult (refused n) out = record { answer = Refused n; buffer = out }
 readResult (given ss) out = record { answer = Finished; buffer = concat ss }
 
-abbrev pub peekResult : Given Place → Device → Peeked
-peekResult (refused n) v = record { number = n; part = [] }
-peekResult (given p) v = record { number = 0; part = getD (v (p .drive) (p .zone) .sectors) (p .sector) [] }
+abbrev pub peekResult : Geometry → Given Place → Device → Peeked
+peekResult g (refused n) v = record { number = n; from = 0; part = [] }
+peekResult g (given p) v = record { number = 0; from = byteOf g p; part = getD (v (p .drive) (p .zone) .sectors) (p .sector) [] }
 
 abbrev pub shownBy : Geometry → (ℕ → Bool) → Device → Device → Shown
 shownBy g named v w = showing g (isPresent g named v) (lostDrive g named v) w
@@ -47,11 +47,14 @@ onDevice g t = record {
   call = λ c named state stop v. carriedOut (callOf g t c named state v) state stop v;
   look = λ named state v. lookResult (lookCall g t named v) state v;
   read = λ named state a count out v. readResult (readCall g t named state a count (length out) v) out;
-  peek = λ named state a v. peekResult (peekCall g t named state a v) v;
+  peek = λ named state a v. peekResult g (peekCall g t named state a v) v;
   shows = shownBy g;
   stateOf = mountState;
-  pointer = λ state z. pointerIn (state .condition z);
+  lostIn = λ state. state .lost;
+  generation = λ state. state .generation;
+  condition = λ state. state .condition;
   CutTo = Cut;
+  LossTo = Loss;
 }
 
 -- the claim of the rules

@@ -4,13 +4,12 @@ use mathlib.Core.Bool.{Bool}
 use Prim.Native.Nat.{ℕ}
 use mathlib.Core.List.{List}
 use Rattle.tables.specs.declared.Geometry.{Geometry}
-use Rattle.tables.specs.meaning.Tables.{Tables, TablesCut, deviceOf}
+use Rattle.tables.specs.meaning.Tables.{Tables, TablesCut, TablesLoss, deviceOf}
 use Rattle.volume.specs.declared.State.{State}
 use Rattle.volume.specs.declared.Outcome.{Outcome}
-use Rattle.volume.specs.meaning.State.{pointerIn}
 use Rattle.volume.specs.meaning.Rules.{Shown}
 use Rattle.volume.specs.meaning.Answers.{CallResult}
-use Rattle.volume.specs.meaning.CallContracts.{recordAt, isSet, Result, flushOn, resetOn, writeOn, formatOn, lookOn, stateShown, mountOn, readOn, peekNumber, peekOn}
+use Rattle.volume.specs.meaning.CallContracts.{recordAt, isSet, Result, flushOn, resetOn, writeOn, formatOn, lookOn, stateShown, mountOn, readOn, peekNumber, peekFrom, peekOn}
 use Rattle.promise.specs.meaning.Claim.{Call, mounts, writes, flushes, resets, formats, Volume, KeepsPromise}
 use Rattle.promise.specs.meaning.OnDevice.{shownBy}
 
@@ -40,11 +39,14 @@ onTables g = record {
   call = λ c named state stop t. callResult (resultOn g c named state stop t);
   look = λ named state t. resultOf (lookOn g named state t) t;
   read = readOn g;
-  peek = λ named state a t. record { number = peekNumber g named state a t; part = peekOn g named state a t };
+  peek = λ named state a t. record { number = peekNumber g named state a t; from = peekFrom g named state a t; part = peekOn g named state a t };
   shows = shownIn g;
   stateOf = stateShown g;
-  pointer = λ state z. pointerIn (recordAt state z .condition);
+  lostIn = λ state. state .lost;
+  generation = λ state z. recordAt state z .generation;
+  condition = λ state z. recordAt state z .condition;
   CutTo = TablesCut g;
+  LossTo = TablesLoss g;
 }
 
 abbrev pub TablesClaim : Type 0

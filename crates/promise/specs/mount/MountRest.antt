@@ -1,12 +1,9 @@
 -- The end of a mount: the final look shows the pointers and values that the first one showed, raised generations apart, and all is at rest
 -- with the state and the ledger made of it.
-use Rattle.logs.specs.laws.LogLaws.{whole-ends, whole-entries-mem}
-use Rattle.logs.specs.laws.HeadLaws.{within-not-past}
-use Rattle.tables.specs.laws.Lists.{length-zero-nil, prefix-of-nil, none-any-of, some-any-of, mem-take}
-use Rattle.tables.specs.meaning.Lists.{anyOf}
+use Rattle.tables.specs.laws.Lists.{length-zero-nil, prefix-of-nil}
 use mathlib.Core.Path.{_≡_, refl, sym, ap, ap₂, _∙_, subst}
 use mathlib.Core.Logic.{_≢_, _⊎_, inl, inr}
-use mathlib.Core.Bool.{Bool, true, false, _&&_, _||_, not, true≢false}
+use mathlib.Core.Bool.{Bool, true, false, not, true≢false}
 use Prim.Native.Nat.{ℕ, zero, suc, _+_, _-_, _≤_, _<_, min}
 use native.Mathlib.Nat.{le-of-eq, not-suc-le-zero}
 use native.Mathlib.Omega.{arith}
@@ -16,32 +13,27 @@ use lib.ListN.{length, take, length-take}
 use Rattle.tables.specs.meaning.Device.{Device}
 use Rattle.tables.specs.declared.Geometry.{Geometry}
 use Rattle.tables.specs.meaning.Geometry.{Valid, dataZone}
-use Rattle.logs.specs.meaning.Entry.{generalZone, wornGeneration, Header, label, counters, partialParity, seal, zoneReset, Entry}
-use Rattle.tables.specs.laws.Drives.{presentBut, present-below}
+use Rattle.logs.specs.meaning.Entry.{wornGeneration, Header, partialParity, seal, zoneReset, Entry}
+use Rattle.tables.specs.laws.Drives.{presentBut}
 use Rattle.promise.specs.meaning.Ledger.{Ledger, afterMount}
-use Rattle.volume.specs.meaning.Rules.{Shown, showing, generalHeads, zoneShown, zoneAt, generationOf, pointerAt, valueAt, resetSeen, sealSeen, cleanAt, endingPast, conditionOf, parityEntries, parityEnding}
+use Rattle.volume.specs.meaning.Rules.{Shown, showing, zoneShown, zoneAt, generationOf, pointerAt, valueAt, resetSeen, sealSeen, cleanAt, conditionOf}
 use Rattle.volume.specs.declared.Condition.{Condition}
 use Rattle.volume.specs.declared.Condition.the-variants.{Empty, Open, Sealed, Worn}
 use Rattle.volume.specs.meaning.State.{pointerIn}
 use Rattle.volume.specs.meaning.Mount.{mountState, nextGeneration}
-use Rattle.promise.specs.invariant.Invariant.{Ghost, Here, LogsOk, Live, Capped, RestZone, Shape, SurvivesLoss}
+use Rattle.promise.specs.invariant.Invariant.{Ghost, Here, LogsOk, Live, RestZone, Shape, HasSectors, SurvivesLoss}
 use Rattle.promise.specs.mount.MountPlan.{Start, AfterEntries, countReset, countSealed, CountersDone, Caps, Stays, Fate, stays, wornOut, gone, Gone, emptied, bareOne, raisedOne, Clean, Full, Ended}
 use Rattle.promise.specs.invariant.Obligations.{Rests}
-use lib.Dec.{leb, eqb}
-use borrow.Author.Tests.{le-leb, eq-eqb, ne-eqb, eqb-true}
-use Rattle.tables.specs.laws.Basics.{or-right, and-split}
-use Rattle.tables.specs.laws.Below.{none-any-below, some-any-below, all-all-below, length-tabulate-from}
+use borrow.Author.Tests.{eq-eqb, ne-eqb}
+use Rattle.tables.specs.laws.Basics.{or-right}
+use Rattle.tables.specs.laws.Below.{length-tabulate-from}
 use Rattle.tables.specs.meaning.Below.{tabulateFrom}
-use Rattle.logs.specs.meaning.Walk.{atPointer}
-use Rattle.logs.specs.laws.Walk.{wholeEntries}
 use Rattle.promise.specs.invariant.HoldsLess.{withLogs}
-use Rattle.promise.specs.look.LookReads.{general-heads, parity-entries, parity-ending}
+use Rattle.promise.specs.look.LookRest.{no-seal-seen, cap-seen, clean-if}
 use lib.Seq.{take-all}
-use Rattle.tables.specs.meaning.Placement.{needed}
-use Rattle.logs.specs.meaning.Heads.{endsPast, isSeal}
 use Rattle.volume.specs.meaning.Content.{at}
 use Rattle.promise.specs.content.Columns.{column}
-use Rattle.promise.specs.look.LookLive.{some-present, reset-seen, live-generation, live-least, live-most, pointer-free, knows-value, strong-written}
+use Rattle.promise.specs.look.LookLive.{reset-seen, live-generation, live-least, live-most, pointer-free, knows-value, strong-written}
 use Rattle.promise.specs.mount.MountZoneResets.{needed-none}
 use Rattle.promise.specs.mount.MountCounters.{next-live, next-gone}
 use Rattle.promise.specs.mount.MountEnd.{oneGhost, oneLedger, live-here, live-there, laidNow, endGhost, endLedger, end-live}
@@ -157,53 +149,13 @@ module _ (g : Geometry) (ok : Valid g) (x : ℕ) (w : Device) (γ : Ghost) (l : 
         ∙ ap (λ (q : ℕ). conditionOf (γ′ .generation z) q (cleanAt g (presentBut g x) u z (γ′ .generation z) q) (sealSeen g (presentBut g x) u z (γ′ .generation z))) pointer-there
 
     pub data Ends : Type 0 where
-      plain : (c : Condition) → K .zone z .condition ≡ c → pointerIn c ≡ shownPointer z → (Shape g x u γ′ (afterMount K) z c) → Ends
-
-    generation-stays : Stays g x w γ l k z → γ′ .generation z ≡ γ .generation z
-    unfolding γ′
-    generation-stays q = next-live g ok x w γ l k s z (inl q)
+      plain : (c : Condition) → K .zone z .condition ≡ c → pointerIn c ≡ shownPointer z → (Shape g x u γ′ (afterMount K) z c) → HasSectors c → Ends
 
     -- an open zone is clean
     is-clean : (q : Stays g x w γ l k z) → k .zone z .condition ≡ Open (shownPointer z) → cleanAt g (presentBut g x) u z (γ′ .generation z) (shownPointer z) ≡ true
-    unfolding cleanAt
-    is-clean q c = all-all-below (λ d. not (presentBut g x d) || (leb (length (u d (dataZone z) .sectors)) (needed (g .drives) (g .unit) z (shownPointer z) d) && (not (anyOf (λ (e : Entry). endsPast g z (γ′ .generation z) (shownPointer z) (e .head)) (parityEntries g u d)) && not (endingPast g z (γ′ .generation z) (shownPointer z) (parityEnding g u d))))) (g .drives) (λ d h. one d (presentBut g x d) refl)
-      where
-        one : (d : ℕ) (b : Bool) → presentBut g x d ≡ b → not b || (leb (length (u d (dataZone z) .sectors)) (needed (g .drives) (g .unit) z (shownPointer z) d) && (not (anyOf (λ (e : Entry). endsPast g z (γ′ .generation z) (shownPointer z) (e .head)) (parityEntries g u d)) && not (endingPast g z (γ′ .generation z) (shownPointer z) (parityEnding g u d)))) ≡ true
-        one d false a = refl
-        one d true a =
-            let e1 : anyOf (λ (e : Entry). endsPast g z (γ′ .generation z) (shownPointer z) (e .head)) (wholeEntries g d true (P d)) ≡ false =
-            none-any-of (λ (e : Entry). endsPast g z (γ′ .generation z) (shownPointer z) (e .head)) (wholeEntries g d true (P d)) (λ e m. within-not-past g z (γ′ .generation z) (shownPointer z) (e .head) (λ i f r. t .lives .staying z hz q .ends-in c d a e (whole-entries-mem g d (P d) e m .0) i f (r ∙ ap (partialParity z i f) (generation-stays q)))) in
-            let e2 : parityEntries g u d ≡ wholeEntries g d true (P d) = parity-entries g ok x u (withLogs γ G P) (t .base .logs) d a in
-            let e3 : parityEnding g u d ≡ atPointer = parity-ending g ok x u (withLogs γ G P) (t .base .logs) d a ∙ whole-ends g d (P d) (en .whole d a) in
-            rw (le-leb (length (u d (dataZone z) .sectors)) (needed (g .drives) (g .unit) z (shownPointer z) d) (le-of-eq (fl .just z hz q c d a)), e2, e1, e3) refl
-
-    is-seal-of : (n : ℕ) (h : Header) → isSeal z n h ≡ true → (c : ℕ) × (h ≡ seal z c n)
-    is-seal-of n (label y c) e = absurd (true≢false (sym e))
-    is-seal-of n (counters cs) e = absurd (true≢false (sym e))
-    is-seal-of n (zoneReset y m) e = absurd (true≢false (sym e))
-    is-seal-of n (partialParity y i f m) e = absurd (true≢false (sym e))
-    is-seal-of n (seal y c m) e = let (a, b) = and-split (eqb y z) (eqb m n) e in (c, ap₂ (λ (y1 m1 : ℕ). seal y1 c m1) (eqb-true y z a) (eqb-true m n b))
-
-    no-seal-shown : ((d : ℕ) → Here g x d → (c : ℕ) → List·Memᴰ (seal z c (γ′ .generation z)) (G d) → ⊥) → sealSeen g (presentBut g x) u z (γ′ .generation z) ≡ false
-    unfolding sealSeen
-    no-seal-shown f = none-any-below (λ d. presentBut g x d && anyOf (isSeal z (γ′ .generation z)) (generalHeads g u d)) (g .drives) (λ d h. one d (presentBut g x d) refl)
-      where
-        no : (d : ℕ) → Here g x d → (h : Header) → List·Memᴰ h (G d) → (b : Bool) → isSeal z (γ′ .generation z) h ≡ b → b ≡ false
-        no d a h m true e = let (c, r) = is-seal-of (γ′ .generation z) h e in absurd (f d a c (rw r at m))
-        no d a h m false e = refl
-
-        one : (d : ℕ) (b : Bool) → presentBut g x d ≡ b → b && anyOf (isSeal z (γ′ .generation z)) (generalHeads g u d) ≡ false
-        one d true a = rw (general-heads g ok x u (withLogs γ G P) (t .base .logs) d a) (none-any-of (isSeal z (γ′ .generation z)) (G d) (λ h m. no d a h m (isSeal z (γ′ .generation z) h) refl))
-        one d false a = refl
-
-    seal-shown : (c : ℕ) → Capped g x u (withLogs γ G P) z c → γ′ .generation z ≡ γ .generation z → sealSeen g (presentBut g x) u z (γ′ .generation z) ≡ true
-    unfolding sealSeen
-    seal-shown c h e =
-        let (d, a) = some-present g ok x in
-        let (b, q, p) = h d a in
-        let m : List·Memᴰ (seal z b (γ .generation z)) (G d) = mem-take (u d generalZone .durable) (G d) (seal z b (γ .generation z)) p in
-        let y : isSeal z (γ′ .generation z) (seal z b (γ .generation z)) ≡ true = rw (eq-eqb z z refl, eq-eqb (γ .generation z) (γ′ .generation z) (sym e)) refl in
-        some-any-below (λ d. presentBut g x d && anyOf (isSeal z (γ′ .generation z)) (generalHeads g u d)) (g .drives) d (present-below g x d a) (rw (a, general-heads g ok x u (withLogs γ G P) (t .base .logs) d a) (some-any-of (isSeal z (γ′ .generation z)) (G d) (seal z b (γ .generation z)) m y))
+    unfolding γ′
+    is-clean q c = clean-if g ok x u (withLogs γ G P) (t .base .logs) z (nextGeneration k z) (shownPointer z) (λ d a. le-of-eq (fl .just z hz q c d a)) (en .whole)
+        (λ d a e m i f r. t .lives .staying z hz q .ends-in c d a e m i f (r ∙ ap (partialParity z i f) (next-live g ok x w γ l k s z (inl q))))
 
     opened-ends : (q : Stays g x w γ l k z) → k .zone z .condition ≡ Open (shownPointer z) → Ends
     unfolding γ′
@@ -211,13 +163,13 @@ module _ (g : Geometry) (ok : Valid g) (x : ℕ) (w : Device) (γ : Ghost) (l : 
         let N : nextGeneration k z ≡ γ .generation z = next-live g ok x w γ l k s z (inl q) in
         let no-seal : (d : ℕ) → Here g x d → (c : ℕ) → List·Memᴰ (seal z c (nextGeneration k z)) (G d) → ⊥ = λ d a c2 m. t .lives .staying z hz q .no-seal c d a c2 (rw N at m) in
         let i1 = is-clean q c in
-        let i2 = no-seal-shown no-seal in
+        let i2 = no-seal-seen g ok x u (withLogs γ G P) (t .base .logs) z (nextGeneration k z) no-seal in
         plain (Open (shownPointer z)) (condition-is ∙ rw (i1, i2, ne-eqb (nextGeneration k z) wornGeneration (λ r. omega (arith, q .unworn, N, r)), ne-eqb (shownPointer z) 0 (λ r. omega (arith, q .some, r))) refl) refl (record {
           all-content = laid-is ∙ sym content-shown;
           just = λ d a. rw content-long (fl .just z hz q c d a);
           no-seal = no-seal;
           unworn = omega (arith, q .unworn, N);
-        })
+        }) (q .some)
       where
         laid-is : laidNow (k .zone z .condition) (γ .laid z) ≡ l′ .content z
         laid-is = unfold l′ in rw c (sym (take-all (shownPointer z) (take (shownPointer z) (γ .laid z)) (rw length-take (omega arith))))
@@ -226,9 +178,9 @@ module _ (g : Geometry) (ok : Valid g) (x : ℕ) (w : Device) (γ : Ghost) (l : 
     unfolding γ′
     sealed-ends q c =
         let N : nextGeneration k z ≡ γ .generation z = next-live g ok x w γ l k s z (inl q) in
-        let i2 = seal-shown (shownPointer z) (cp .cap z hz q c) N in
+        let i2 : sealSeen g (presentBut g x) u z (nextGeneration k z) ≡ true = rw N (cap-seen g ok x u (withLogs γ G P) (t .base .logs) z (shownPointer z) (cp .cap z hz q c)) in
         plain (Sealed (shownPointer z)) (condition-is ∙ rw (i2, or-right (not (cleanAt g (presentBut g x) u z (nextGeneration k z) (shownPointer z))) true refl, ne-eqb (nextGeneration k z) wornGeneration (λ r. omega (arith, q .unworn, N, r)), ne-eqb (shownPointer z) 0 (λ r. omega (arith, q .some, r))) refl) refl
-        ((λ d a. rw (content-long, N) (cp .cap z hz q c d a)), omega (arith, q .unworn, N), sym (length-tabulate-from (K .zone z .value) zero (K .zone z .pointer)))
+        ((λ d a. rw (content-long, N) (cp .cap z hz q c d a)), omega (arith, q .unworn, N), sym (length-tabulate-from (K .zone z .value) zero (K .zone z .pointer))) (q .some)
 
     -- a zone without content
     none-ends : shownPointer z ≡ zero → γ′ .laid z ≡ [] → (γ′ .generation z ≢ wornGeneration → (d : ℕ) → Here g x d → (c : ℕ) → List·Memᴰ (seal z c (γ′ .generation z)) (γ′ .general d) → ⊥) → Ends
@@ -241,13 +193,13 @@ module _ (g : Geometry) (ok : Valid g) (x : ℕ) (w : Device) (γ : Ghost) (l : 
         nd d a = prefix-of-nil (u d (dataZone z) .sectors) (column (g .drives) (g .unit) z (γ′ .laid z) d) (lv′ .places d a) (ap (λ (E : List (List ℕ)). column (g .drives) (g .unit) z E d) e ∙ col d)
 
         go : Dec (γ′ .generation z ≡ wornGeneration) → Ends
-        go (yes m) = plain (Worn (shownPointer z)) (condition-is ∙ rw (eq-eqb (γ′ .generation z) wornGeneration m) refl) refl m
+        go (yes m) = plain (Worn (shownPointer z)) (condition-is ∙ rw (eq-eqb (γ′ .generation z) wornGeneration m) refl) refl m tt
         go (no m) = plain Empty (condition-is ∙ rw (ne-eqb (γ′ .generation z) wornGeneration m, p) refl) (sym p) (record {
           all-content = e ∙ sym (length-zero-nil (afterMount K .content z) (content-long ∙ p));
           just = λ d a. rw (nd d a, content-long, p, needed-none g ok z d) refl;
           no-seal = ns m;
           unworn = (let v = lv′ .generation-top in omega (arith, v, m));
-        })
+        }) tt
 
     ends-of : Fate g x w γ l k z → Ends
     unfolding γ′
@@ -275,12 +227,14 @@ module _ (g : Geometry) (ok : Valid g) (x : ℕ) (w : Device) (γ : Ghost) (l : 
         strong = unfold l′ in strong-written g ok x u γ′ logs′ l′ z lv′ (γ′ .generation z) (shownPointer z) hz (lv′ .strong)
 
         go : Ends → RestZone g x u (mountState K) (afterMount K) γ′ z
-        go (plain c e p h) = record {
+        go (plain c e p h b) = record {
           live = live-end;
           generation-is = sym generation-shown;
           pointer-is = content-long ∙ sym p ∙ ap pointerIn (sym e);
           strong-now = subst (λ (m : ℕ). SurvivesLoss g x z (γ′ .generation z) m (λ d. length (u d (dataZone z) .sectors)) (γ′ .parity)) (sym content-long) strong;
           shape = subst (λ (b : Condition). Shape g x u γ′ (afterMount K) z b) (sym e) h;
+          sectors = subst HasSectors (sym e) b;
+          no-flag = refl;
         }
 
 pub end-rests : (g : Geometry) → Valid g → (x : ℕ) (w : Device) (γ : Ghost) (l : Ledger) (k : Shown) → Start g x w γ l k → (u : Device) → AfterEntries g x w γ l k (2 + (countReset g k + countSealed g k)) u

@@ -3,8 +3,7 @@
 -- the tables.
 use mathlib.Core.Path.{_≡_, refl, sym, ap, _∙_}
 use mathlib.Core.Bool.{Bool, true, false, _&&_, _||_}
-use Prim.Native.Nat.{ℕ, zero, suc, _≤_, _<_}
-use native.Mathlib.Nat.{le-refl}
+use Prim.Native.Nat.{ℕ, _<_}
 use native.Mathlib.Omega.{arith}
 use mathlib.Core.List.{List}
 use lib.ListN.{length, take}
@@ -16,12 +15,12 @@ use Rattle.tables.specs.meaning.Basics.{pick}
 use Rattle.tables.specs.meaning.Below.{anyBelow}
 use Rattle.tables.specs.laws.Below.{none-any-below}
 use Rattle.tables.specs.meaning.Geometry.{physicalZones}
-use Rattle.tables.specs.meaning.Device.{Device, Store, flush, applyAll}
+use Rattle.tables.specs.meaning.Device.{Device, Store, applyAll}
 use Rattle.tables.specs.meaning.Tables.{Tables, deviceOf, runStores, pointersBad}
-use Rattle.tables.specs.laws.Made.{storeIf, WellSized, AllPlaced, FitsAll}
+use Rattle.tables.specs.laws.Made.{WellSized, AllPlaced, FitsAll}
 use Rattle.tables.specs.laws.Tables.{device-length, device-durable-min}
 use Rattle.tables.specs.laws.TablesRefine.{run-refines, run-sized}
-use Rattle.tables.specs.laws.StoresFit.{fits-append, fits-all-placed}
+use Rattle.tables.specs.laws.StoresFit.{fits-all-placed}
 use Rattle.tables.specs.laws.PointerOrder.{InOrder, run-order}
 use Rattle.tables.specs.laws.TablesFrame.{pointers-good}
 use Rattle.volume.specs.declared.State.{State}
@@ -32,7 +31,6 @@ use Rattle.volume.specs.meaning.Refusals.{Verdict, refuse, accept, badPointers}
 use Rattle.volume.specs.meaning.Answers.{CallResult, storing}
 use Rattle.volume.specs.meaning.CallContracts.{viewState, isSet, verdictNumber, Result, storingOn}
 use Rattle.volume.specs.laws.Refusals.{Numbered}
-use Rattle.volume.specs.storing.Flushing.{flushTo, flush-more}
 use Rattle.promise.specs.meaning.Ledger.{Ledger}
 use Rattle.promise.specs.meaning.Claim.{Mode, ready, stopped, down}
 use Rattle.promise.specs.invariant.Invariant.{Ghost, Rest}
@@ -57,6 +55,8 @@ rest-agrees g x v a b l γ e r = record {
     pointer-is = q .pointer-is ∙ ap pointerIn (e .condition-same z h);
     strong-now = q .strong-now;
     shape = rw (← e .condition-same z h) (q .shape);
+    sectors = rw (← e .condition-same z h) (q .sectors);
+    no-flag = q .no-flag;
   };
   whole = r .whole;
   lost-is = rw (← e .lost-same) (r .lost-is);
@@ -154,12 +154,3 @@ pointers-pass g named t h = none-any-below _ (g .drives) (λ d hd. drive d hd (i
     drive d hd true e = none-any-below _ (physicalZones g) (λ y hy.
         let (p, q) = pointers-good g named (t .written) (t .durable) d y h hd e hy in
         rw (le-ltb (g .capacity) (length (deviceOf g t d y .sectors)) (omega (arith, device-length g t d y hd hy)), le-ltb (length (deviceOf g t d y .sectors)) (deviceOf g t d y .durable) (omega (arith, device-length g t d y hd hy, device-durable-min g t d y hd hy))) refl)
-
--- ---- flush: its stores always have their place
-pub flush-fits : (g : Geometry) (present : ℕ → Bool) (n : ℕ) (v : Device) → n ≤ g .drives → FitsAll g (flushTo present n) v
-flush-fits g present zero v h = tt
-flush-fits g present (suc n) v h = rw (flush-more present n) (fits-append g (flushTo present n) (storeIf (present n) (flush n)) v (flush-fits g present n v (omega arith)) (one (present n)))
-  where
-    one : (b : Bool) → FitsAll g (storeIf b (flush n)) (applyAll (flushTo present n) v)
-    one true = (h, tt)
-    one false = tt

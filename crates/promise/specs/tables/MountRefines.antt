@@ -1,62 +1,42 @@
--- A mount on the tables. Where its stores fit, those made on the tables are the rules', step 8 included, which goes by what the tables have become;
+-- A mount on the tables. Since its stores fit, those made on the tables are the rules', step 8 included, which goes by what the tables have become;
 -- so a mount keeps the invariant, and what it shows is what the rules' mount shows.
 use mathlib.Core.Path.{_≡_, refl, sym, ap, _∙_}
 use mathlib.Core.Bool.{Bool, false}
 use Prim.Native.Nat.{ℕ, _-_}
-use native.Mathlib.Omega.{arith}
 use mathlib.Core.List.{List, _++_}
 use lib.ListN.{length, replicate, length-append, length-replicate}
 use lib.Seq.{take-length}
+use native.Mathlib.Omega.{arith}
 use lib.Dec.{ltb}
 use borrow.Author.Tests.{ltb-false}
 use Rattle.tables.specs.declared.Geometry.{Geometry}
-use Rattle.tables.specs.meaning.Below.{tabulate}
-use Rattle.tables.specs.laws.Below.{length-tabulate}
 use Rattle.tables.specs.meaning.Geometry.{Valid}
-use Rattle.tables.specs.meaning.Lists.{concat}
-use Rattle.tables.specs.laws.Lists.{concat-append}
-use Rattle.tables.specs.meaning.Device.{Device, Store, applyAll}
+use Rattle.tables.specs.meaning.Device.{Device, Store}
 use Rattle.tables.specs.meaning.Tables.{Tables, deviceOf, runStores}
-use Rattle.tables.specs.laws.Made.{WellSized, FitsAll}
-use Rattle.tables.specs.laws.TablesRefine.{run-refines}
+use Rattle.tables.specs.laws.Made.{FitsAll}
 use Rattle.tables.specs.laws.Counted.{run-covered}
-use Rattle.tables.specs.laws.StoresFit.{fits-front}
 use Rattle.volume.specs.declared.State.{State}
-use Rattle.volume.specs.declared.ZoneRecord.{ZoneRecord}
+use Rattle.volume.specs.looking.DrivesLost.{fill-long}
 use Rattle.volume.specs.meaning.CallContracts.{zoneLookOf, blankRecord, viewState, isSet, verdictNumber, lengthsOf, Result, storingOn, recordFrom, stateShown, storesBefore, mountStoresOn, mountShownOn, mountOn}
 use Rattle.volume.specs.declared.Answer.the-variants.{Finished, Refused}
 use Rattle.volume.specs.meaning.Rules.{Shown, isPresent, lostDrive, showing}
-use Rattle.volume.specs.meaning.Refusals.{Verdict, accept, firstRefusal, mountRows}
+use Rattle.volume.specs.meaning.Refusals.{Verdict, accept, firstRefusal, mountRows, badPointers}
 use Rattle.volume.specs.meaning.Mount.{withFlush, entryStep, afterOpening, mountLook, phasesBeforeEntries, mountPhases, mountStores, mountShows, mountState}
+use Rattle.volume.specs.declared.ZoneRecord.{ZoneRecord}
 use Rattle.promise.specs.meaning.Ledger.{Fits}
 use Rattle.promise.specs.meaning.Claim.{mounts, System, NamesAll, Promise, MayMount}
-use Rattle.promise.specs.meaning.OnDevice.{callOf, onDevice}
+use Rattle.promise.specs.meaning.OnDevice.{onDevice}
 use Rattle.promise.specs.meaning.OnTables.{onTables, shownIn}
 use Rattle.promise.specs.tables.CallVerdicts.{mount-verdict, mount-numbered}
+use Rattle.volume.specs.laws.MountStoresFit.{mount-stores-fit, mount-stores-are}
 use Rattle.volume.specs.looking.Looking.{state-shown-in, state-shown-lost}
 use Rattle.promise.specs.tables.CallRefines.{Agree, all-made, answer-finished}
 use Rattle.promise.specs.tables.TablesEvents.{viewSystem, TablesOk, Refines, names-seen, pointers-fine, call-agrees}
 
--- ---- the stores
-pub mount-stores-same : (g : Geometry) (present : ℕ → Bool) (x : ℕ) (t : Tables) → WellSized g t → FitsAll g (mountStores g present x (deviceOf g t)) (deviceOf g t) → mountStoresOn g present x t ≡ mountStores g present x (deviceOf g t)
-unfolding mountStores mountPhases mountStoresOn storesBefore
-mount-stores-same g present x t sized fit =
-    let w = deviceOf g t in
-    let k = mountLook g present x w in
-    let ps = phasesBeforeEntries g present x k (afterOpening g present w) in
-    let p = concat ps in
-    let last = withFlush g present (entryStep g k (applyAll p w)) in
-    let e : concat (ps ++ last) ≡ p ++ concat last = concat-append ps last in
-    let f : FitsAll g p w = fits-front g p (concat last) w (rw (← e) fit) in
-    let d : deviceOf g (runStores g (length p) p t) ≡ applyAll p w = run-refines g (length p) p t sized f ∙ ap (λ (r : List Store). applyAll r w) (take-length p) in
-    ap (λ (u : Device). p ++ concat (withFlush g present (entryStep g k u))) d ∙ sym e
-
 -- ---- the state that it leaves
 pub shown-records : (g : Geometry) → Valid g → (k : Shown) → length (stateShown g k .zones) ≡ 16
 unfolding stateShown
-shown-records g ok k =
-    rw (length-append (tabulate (λ z. recordFrom (zoneLookOf (k .zone z))) (g .zones)) (replicate (16 - g .zones) blankRecord), length-tabulate (λ z. recordFrom (zoneLookOf (k .zone z))) (g .zones), length-replicate {A = ZoneRecord} (16 - g .zones) blankRecord)
-    (omega (arith, ok .zones-most))
+shown-records g ok k = fill-long (λ z. recordFrom (zoneLookOf (k .zone z))) blankRecord 16 (g .zones) (ok .zones-most)
 
 pub shown-agrees : (g : Geometry) (k : Shown) → Agree g (mountState k) (viewState (stateShown g k))
 shown-agrees g k = record { lost-same = sym (state-shown-lost g k); generation-same = λ z h. sym (state-shown-in g k z h .0); condition-same = λ z h. sym (state-shown-in g k z h .1) }
@@ -75,7 +55,7 @@ module _ (g : Geometry) (ok : Valid g) (s : System (onTables g)) (o : TablesOk g
   lost = lostDrive g (isSet named) w
 
   abbrev verdict : Verdict
-  verdict = firstRefusal (mountRows g (lengthsOf t) (isSet named) w)
+  verdict = firstRefusal (mountRows g (lengthsOf t) (badPointers g (isSet named) w) (isSet named) w)
 
   abbrev xs : List Store
   xs = mountStores g present lost w
@@ -86,47 +66,52 @@ module _ (g : Geometry) (ok : Valid g) (s : System (onTables g)) (o : TablesOk g
   abbrev new : State
   new = stateShown g (showing g present lost (deviceOf g (runStores g (length ss) ss t)))
 
-  module _ (fits : verdict ≡ accept → FitsAll g xs w) where
-    same : verdict ≡ accept → ss ≡ xs
-    same p = mount-stores-same g present lost t (o .sized) (fits p)
+  on-tables : verdict ≡ accept → FitsAll g ss w
+  on-tables p = mount-stores-fit g named t (mount-verdict g named t (pointers-fine g s named n o) ∙ p)
 
-    -- what it shows when it has made all its stores
-    shows-end : (stop : ℕ) → verdict ≡ accept → ltb stop (length xs) ≡ false → showing g present lost (deviceOf g (runStores g (length ss) ss t)) ≡ mountShows g present lost w
-    unfolding mountShows
-    shows-end stop p e =
-        ap (λ (u : Tables). showing g present lost (deviceOf g u)) (sym (run-covered g stop ss t (rw (same p) (ltb-false stop (length xs) e))))
-        ∙ ap (λ (u : Device). showing g present lost u) (all-made g t verdict (mount-numbered g named t) ss xs new (s .state) (mountState (mountShows g present lost w)) stop (o .sized) same fits p e)
+  same : verdict ≡ accept → ss ≡ xs
+  same p = mount-stores-are g present lost t (o .sized) (on-tables p)
 
-    pub mount-refines : (stop : ℕ) → Refines g s mounts named stop
-    unfolding mountOn mountShownOn
-    mount-refines stop = record {
-      verdict = verdict;
-      stores = ss;
-      new = new;
-      result-is = rw (mount-verdict g named t (pointers-fine g s named n o)) refl;
-      verdict-is = refl;
-      has-number = mount-numbered g named t;
-      same = same;
-      fit = fits;
-      long = λ p. shown-records g ok (showing g present lost (deviceOf g (runStores g (length ss) ss t)));
-      agree = λ p e. rw (shows-end stop p e) (shown-agrees g (mountShows g present lost w));
-    }
+  fits : verdict ≡ accept → FitsAll g xs w
+  fits p = rw (← same p) (on-tables p)
 
-    -- its state is what is shown then
-    state-is : (stop : ℕ) → mountOn g named (s .state) stop t .outcome .answer ≡ Finished → mountOn g named (s .state) stop t .outcome .state ≡ stateShown g (shownIn g named t (mountOn g named (s .state) stop t .tables))
-    unfolding mountOn mountShownOn
-    state-is stop e =
-        let v = mount-verdict g named t (pointers-fine g s named n o) in
-        let (p, q) = answer-finished g verdict (mount-numbered g named t) ss new (s .state) stop t (rw v at e) in
-        rw (v, p, q) (ap (λ (u : Tables). stateShown g (showing g present lost (deviceOf g u))) (sym (run-covered g stop ss t (ltb-false stop (length ss) q))))
+  -- what it shows when it has made all its stores
+  shows-end : (stop : ℕ) → verdict ≡ accept → ltb stop (length xs) ≡ false → showing g present lost (deviceOf g (runStores g (length ss) ss t)) ≡ mountShows g present lost w
+  unfolding mountShows
+  shows-end stop p e =
+      ap (λ (u : Tables). showing g present lost (deviceOf g u)) (sym (run-covered g stop ss t (rw (same p) (ltb-false stop (length xs) e))))
+      ∙ ap (λ (u : Device). showing g present lost u) (all-made g t verdict (mount-numbered g named t) ss xs new (s .state) (mountState (mountShows g present lost w)) stop (o .sized) same fits p e)
 
-    -- a finished mount shows what fits
-    pub mount-claim : Promise g (onDevice g (lengthsOf t)) (viewSystem g s) → MayMount (s .mode) → (stop : ℕ) → mountOn g named (s .state) stop t .outcome .answer ≡ Finished
-        → (mountOn g named (s .state) stop t .outcome .state ≡ stateShown g (shownIn g named t (mountOn g named (s .state) stop t .tables))) × Fits g (s .ledger) (shownIn g named t (mountOn g named (s .state) stop t .tables))
-    mount-claim promised m stop e =
-        let k = call-agrees g ok s o mounts named stop (mount-refines stop) in
-        let (a, b) = promised .mount-fits (isSet named) (names-seen g s named n) m stop (k .answer-same ∙ e) in
-        (state-is stop e, rw (k .memory-same) at b)
+  pub mount-refines : (stop : ℕ) → Refines g s mounts named stop
+  unfolding mountOn mountShownOn
+  mount-refines stop = record {
+    verdict = verdict;
+    stores = ss;
+    new = new;
+    result-is = rw (mount-verdict g named t (pointers-fine g s named n o)) refl;
+    verdict-is = refl;
+    has-number = mount-numbered g named t;
+    same = same;
+    fit = fits;
+    long = λ p. shown-records g ok (showing g present lost (deviceOf g (runStores g (length ss) ss t)));
+    agree = λ p e. rw (shows-end stop p e) (shown-agrees g (mountShows g present lost w));
+  }
 
-    pub mount-refusal : Promise g (onDevice g (lengthsOf t)) (viewSystem g s) → (stop k : ℕ) → mountOn g named (s .state) stop t .outcome .answer ≡ Refused k → k ≡ 14
-    mount-refusal promised stop k e = promised .mount-refused (isSet named) (names-seen g s named n) stop k (call-agrees g ok s o mounts named stop (mount-refines stop) .answer-same ∙ e)
+  -- its state is what is shown then
+  state-is : (stop : ℕ) → mountOn g named (s .state) stop t .outcome .answer ≡ Finished → mountOn g named (s .state) stop t .outcome .state ≡ stateShown g (shownIn g named t (mountOn g named (s .state) stop t .tables))
+  unfolding mountOn mountShownOn
+  state-is stop e =
+      let v = mount-verdict g named t (pointers-fine g s named n o) in
+      let (p, q) = answer-finished g verdict (mount-numbered g named t) ss new (s .state) stop t (rw v at e) in
+      rw (v, p, q) (ap (λ (u : Tables). stateShown g (showing g present lost (deviceOf g u))) (sym (run-covered g stop ss t (ltb-false stop (length ss) q))))
+
+  -- a finished mount shows what fits
+  pub mount-claim : Promise g (onDevice g (lengthsOf t)) (viewSystem g s) → MayMount (s .mode) → (stop : ℕ) → mountOn g named (s .state) stop t .outcome .answer ≡ Finished
+      → (mountOn g named (s .state) stop t .outcome .state ≡ stateShown g (shownIn g named t (mountOn g named (s .state) stop t .tables))) × Fits g (s .ledger) (shownIn g named t (mountOn g named (s .state) stop t .tables))
+  mount-claim promised m stop e =
+      let k = call-agrees g ok s o mounts named stop (mount-refines stop) in
+      let (a, b) = promised .mount-fits (isSet named) (names-seen g s named n) m stop (k .answer-same ∙ e) in
+      (state-is stop e, rw (k .memory-same) at b)
+
+  pub mount-refusal : Promise g (onDevice g (lengthsOf t)) (viewSystem g s) → (stop k : ℕ) → mountOn g named (s .state) stop t .outcome .answer ≡ Refused k → k ≡ 14
+  mount-refusal promised stop k e = promised .mount-refused (isSet named) (names-seen g s named n) stop k (call-agrees g ok s o mounts named stop (mount-refines stop) .answer-same ∙ e)

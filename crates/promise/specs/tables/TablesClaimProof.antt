@@ -3,21 +3,22 @@
 use mathlib.Core.Path.{_≡_, refl, sym, ap, _∙_}
 use mathlib.Core.Logic.{_≢_}
 use mathlib.Core.Bool.{Bool, true, false, _&&_}
-use Prim.Native.Nat.{ℕ, zero, suc, _+_, _*_, _^_, _≤_, _<_}
+use Prim.Native.Nat.{ℕ, zero, suc, _^_, _≤_, _<_}
 use native.Mathlib.Decide.{decLt}
 use native.Mathlib.Omega.{arith}
 use mathlib.Core.List.{List, [], _∷_}
 use lib.ListN.{length, getD}
-use lib.Seq.{take-all}
+use lib.Seq.{take-all, getD-take}
 use lib.Dec.{ltb, eqb}
 use borrow.Author.Tests.{ne-eqb, eq-eqb, eqb-true, ltb-false, ltb-true}
 use Rattle.tables.specs.declared.Geometry.{Geometry}
 use Rattle.tables.specs.meaning.Basics.{pick}
 use Rattle.tables.specs.laws.Basics.{and-split, not-not}
-use Rattle.tables.specs.laws.Drives.{presentBut, present-not, present-below, present-other}
+use Rattle.tables.specs.laws.Drives.{presentBut, present-not, present-other}
 use Rattle.tables.specs.meaning.Below.{tabulateFrom}
 use Rattle.tables.specs.laws.Below.{getD-tabulate}
 use Rattle.tables.specs.meaning.Lists.{concat}
+use Rattle.tables.specs.laws.Lists.{Prefix, prefix-length, prefix-is-take}
 use Rattle.tables.specs.meaning.Geometry.{Valid, physicalZones, dataZone}
 use Rattle.tables.specs.meaning.GeometryTest.{isValid}
 use Rattle.tables.specs.laws.GeometryTest.{valid-if-test}
@@ -32,30 +33,30 @@ use Rattle.tables.specs.laws.TablesFrame.{lengths-sized, sized-lengths}
 use Rattle.tables.specs.laws.PointerOrder.{order-passed, run-order}
 use Rattle.volume.specs.declared.State.{State}
 use Rattle.volume.specs.declared.Answer.the-variants.{Finished, Refused}
-use Rattle.volume.specs.meaning.State.{StateView, callPresent, pointerIn}
+use Rattle.volume.specs.meaning.State.{StateView, callPresent}
 use Rattle.volume.specs.meaning.Content.{at}
 use Rattle.volume.specs.meaning.Mount.{mountState}
 use Rattle.volume.specs.meaning.Rules.{Shown, valueAt, zoneView, viewOf}
-use Rattle.volume.specs.meaning.Refusals.{Verdict, refuse, accept, firstRefusal, zoneOf, offsetOf, notHeld, twoUnnamed, formatRows, lookRows, readRows, peekRows}
+use Rattle.volume.specs.meaning.Refusals.{Verdict, refuse, accept, firstRefusal, zoneOf, offsetOf, notHeld, twoUnnamed, formatRows, lookRows, readRows, peekRows, badPointers}
 use Rattle.volume.specs.meaning.Calls.{formatStores, formatState}
-use Rattle.volume.specs.meaning.Answers.{CallResult, Given, giving, leftOut, namedDrives, placeOf, Place}
-use Rattle.promise.specs.meaning.Ledger.{freshLedger, Fits}
+use Rattle.volume.specs.meaning.Answers.{CallResult, Given, giving, lookCall, leftOut, namedDrives, placeOf, Place}
+use Rattle.promise.specs.meaning.Ledger.{freshLedger, Fits, Ledger}
 use Rattle.volume.specs.laws.Refusals.{accepted-row, Numbered, numbered}
-use Rattle.promise.specs.device.ClaimEvents.{rest-of, drives-of-call}
+use Rattle.promise.specs.device.ClaimEvents.{OkIn, rest-of, drives-of-call, event-keeps}
 use Rattle.promise.specs.device.ClaimProof.{kept}
 use Rattle.promise.specs.device.AtRestAnswers.{left-out, drives-named}
 use Rattle.promise.specs.calls.FormatKeeps.{format-rests}
-use Rattle.volume.specs.meaning.CallContracts.{recordAt, viewState, isSet, verdictNumber, lengthsOf, decided, refusalOn, storingOn, formatVerdict, formatOn, freshState, lookOn, stateShown, readNumber, readOn, valuesOn, peekNumber, peekOn, partAt}
+use Rattle.volume.specs.meaning.CallContracts.{recordAt, viewState, isSet, verdictNumber, lengthsOf, storingOn, formatVerdict, formatOn, freshState, lookOn, stateShown, readNumber, readOn, valuesOn, peekNumber, peekOn, partAt, badIn, peekFrom, byteOf}
 use Rattle.tables.specs.laws.StoresFit.{fits-all-placed}
 use Rattle.promise.specs.tables.CallRefines.{ok-agrees, answer-finished}
 use Rattle.promise.specs.tables.CallVerdicts.{numbered-accept, look-verdict, read-number, read-numbered, peek-number, peek-numbered}
-use Rattle.promise.specs.meaning.Claim.{mounts, writes, flushes, resets, formats, Call, System, Event, calls, looks, reads, peeks, cuts, loses, next, NamesAll, Duty, contentBytes, Promise, ready, allBut, start}
+use Rattle.promise.specs.meaning.Claim.{mounts, writes, flushes, resets, formats, Call, System, Event, calls, looks, reads, peeks, cuts, loses, next, NamesAll, Duty, contentBytes, SameZones, Promise, ready, allBut, start}
 use Rattle.promise.specs.meaning.OnDevice.{onDevice, lookResult, readResult, peekResult}
 use Rattle.promise.specs.meaning.OnTables.{callResult, resultOf, onTables, shownIn, TablesClaim}
-use Rattle.promise.specs.tables.TablesFit.{content-long, format-fits}
-use Rattle.promise.specs.tables.MountFits.{mount-fits}
-use Rattle.promise.specs.tables.MountRefines.{mount-refines, mount-claim, mount-refusal}
-use Rattle.promise.specs.tables.TablesEvents.{viewSystem, TablesOk, names-seen, pointers-fine, fresh-records, fresh-agrees, call-event, write-refines, flush-refines, reset-refines, format-refines, cut-event, loss-event}
+use Rattle.promise.specs.tables.MountRefines.{shown-records, shown-agrees, mount-refines, mount-claim, mount-refusal}
+use Rattle.promise.specs.tables.TablesEvents.{viewSystem, TablesOk, names-seen, pointers-fine, fresh-records, fresh-agrees, call-agrees, call-event, write-refines, flush-refines, reset-refines, format-refines, cut-event, loss-event}
+use Rattle.volume.specs.laws.CallStoresFit.{format-stores-fit}
+use Rattle.promise.specs.invariant.Obligations.{Rests}
 use Rattle.promise.specs.invariant.Throughout.{throughout}
 
 -- a list has nothing past its end
@@ -70,6 +71,15 @@ finished-zero k e = go (eqb k 0) refl e
     go : (b : Bool) → eqb k 0 ≡ b → pick b Finished (Refused k) ≡ Finished → k ≡ 0
     go true q r = eqb-true k 0 q
     go false q r = absurd (let z : _≡_ {A = ℕ} 0 1 = cc in omega arith)
+
+-- a beginning has the same sectors, so a zone's content is sectors of B bytes
+at-prefix : (xs ys : List (List ℕ)) → Prefix xs ys → (a : ℕ) → a < length xs → at xs a ≡ at ys a
+at-prefix xs ys p a h = ap (λ (l : List (List ℕ)). at l a) (prefix-is-take xs ys p) ∙ getD-take (length xs) ys a [] h
+
+content-long : (g : Geometry) (x : ℕ) (v : Device) (state : StateView) (l : Ledger) → Rests g x v state l → (z : ℕ) → z < g .zones → (a : ℕ) → a < length (l .content z) → length (at (l .content z) a) ≡ g .sector
+content-long g x v state l r z h a k =
+    let q = r .1 .zones z h .live in
+    rw (at-prefix (l .content z) (r .0 .laid z) (q .front) a k) (q .sizes a (omega (arith, k, prefix-length (q .front))))
 
 -- a look that the rules finish is not refused
 look-accepted : (v : Verdict) (k : Shown) (state new : StateView) (w : Device) → lookResult (giving v k) state w ≡ record { answer = Finished; memory = w; state = new } → v ≡ accept
@@ -101,18 +111,46 @@ module _ (g : Geometry) (ok : Valid g) (wb : isValid g ≡ true) (s : System (on
     look-is : lookOn g named (s .state) t ≡ record { answer = Finished; state = stateShown g (shownIn g named t t) }
     unfolding lookOn
     look-is =
-        let p = look-accepted (firstRefusal (lookRows g (lengthsOf t) (isSet named) w)) (shownIn g named t t) st (mountState (shownIn g named t t)) w (promised .look-fits (isSet named) names .0) in
+        let p = look-accepted (firstRefusal (lookRows g (lengthsOf t) (badPointers g (isSet named) w) (isSet named) w)) (shownIn g named t t) st (mountState (shownIn g named t t)) w (promised .look-fits (isSet named) names .0) in
         rw (look-verdict g named t fine, p) refl
 
     look-claim : (resultOf (lookOn g named (s .state) t) t ≡ record { answer = Finished; memory = t; state = stateShown g (shownIn g named t t) }) × Fits g (s .ledger) (shownIn g named t t)
     look-claim = (rw look-is refl, promised .look-fits (isSet named) names .1)
+
+    -- its state says what the host's says
+    held-claim : s .mode ≡ ready → (lookOn g named (s .state) t .state .lost ≡ s .lost) × SameZones g (onTables g) (lookOn g named (s .state) t .state) (s .state)
+    held-claim m =
+        let k = shownIn g named t t in
+        let e : lookResult (lookCall g (lengthsOf t) (isSet named) w) st w .state ≡ mountState k = ap (λ (r : CallResult Device StateView). r .state) (promised .look-fits (isSet named) names .0) in
+        let (a, b) = promised .look-holds (isSet named) names m in
+        let f = shown-agrees g k in
+        rw look-is (
+          sym (f .lost-same) ∙ sym (ap (λ (r : StateView). r .lost) e) ∙ a,
+          record {
+            generations = λ z h. sym (f .generation-same z h) ∙ sym (ap (λ (r : StateView). r .generation z) e) ∙ b .generations z h;
+            conditions = λ z h. sym (f .condition-same z h) ∙ sym (ap (λ (r : StateView). r .condition z) e) ∙ b .conditions z h;
+          },
+        )
+
+    -- and may be handed on
+    look-event : Duty g (onTables g) s (looks named true) → TablesOk g (next g (onTables g) s (looks named true))
+    look-event d =
+        let k = shownIn g named t t in
+        let e : lookResult (lookCall g (lengthsOf t) (isSet named) w) st w .state ≡ mountState k = ap (λ (r : CallResult Device StateView). r .state) (promised .look-fits (isSet named) names .0) in
+        let i : OkIn g (s .mode) (s .lost) w (lookResult (lookCall g (lengthsOf t) (isSet named) w) st w .state) (s .ledger) = event-keeps g ok (lengthsOf t) (viewSystem g s) (o .holds) (looks (isSet named) true) (names, d .1) in
+        rw look-is (record {
+          sized = o .sized;
+          order = o .order;
+          records = shown-records g ok k;
+          holds = ok-agrees g (s .mode) (s .lost) w (mountState k) (viewState (stateShown g k)) (s .ledger) (shown-agrees g k) (rw e at i);
+        })
 
     -- a read by the rules
     abbrev sectors : ℕ → ℕ → List (List ℕ)
     sectors a count = tabulateFrom (valueAt g (callPresent g (isSet named) st) w (zoneOf g a) (st .generation (zoneOf g a))) (offsetOf g a) count
 
     abbrev readVerdict : ℕ → ℕ → List ℕ → Verdict
-    readVerdict a count out = firstRefusal (readRows g (lengthsOf t) (isSet named) st a count (length out) w)
+    readVerdict a count out = firstRefusal (readRows g (lengthsOf t) (badPointers g (isSet named) w) (isSet named) st a count (length out) w)
 
     read-same : (a count : ℕ) (out : List ℕ) → readOn g named (s .state) a count out t ≡ readResult (giving (readVerdict a count out) (sectors a count)) out
     unfolding readOn valuesOn
@@ -122,10 +160,10 @@ module _ (g : Geometry) (ok : Valid g) (wb : isValid g ≡ true) (s : System (on
         go accept h = refl
         go (refuse k) h = rw (ne-eqb k 0 h) refl
 
-    peek-number-same : (a : ℕ) → peekNumber g named (s .state) a t ≡ peekResult (giving (firstRefusal (peekRows g (lengthsOf t) (isSet named) st a w)) (placeOf g a)) w .number
-    peek-number-same a = peek-number g named t fine (s .state) a ∙ go (firstRefusal (peekRows g (lengthsOf t) (isSet named) st a w))
+    peek-number-same : (a : ℕ) → peekNumber g named (s .state) a t ≡ peekResult g (giving (firstRefusal (peekRows g (lengthsOf t) (badPointers g (isSet named) w) (isSet named) st a w)) (placeOf g a)) w .number
+    peek-number-same a = peek-number g named t fine (s .state) a ∙ go (firstRefusal (peekRows g (lengthsOf t) (badPointers g (isSet named) w) (isSet named) st a w))
       where
-        go : (v : Verdict) → verdictNumber v ≡ peekResult (giving v (placeOf g a)) w .number
+        go : (v : Verdict) → verdictNumber v ≡ peekResult g (giving v (placeOf g a)) w .number
         go accept = refl
         go (refuse k) = refl
 
@@ -140,7 +178,7 @@ module _ (g : Geometry) (ok : Valid g) (wb : isValid g ≡ true) (s : System (on
         let hd : d < g .drives = drive-below (g .drives) (g .unit) z (omega (arith, ok .drives-least)) (ok .unit-least) (offsetOf g a) in
         let hy : dataZone z < physicalZones g = omega arith in
         let most = o .order d hd there .written-most (dataZone z) hy in
-        let long = content-long g ok (s .lost) w st (s .ledger) (rest-of g (lengthsOf t) (viewSystem g s) (o .holds) m) z hz (offsetOf g a) h in
+        let long = content-long g (s .lost) w st (s .ledger) (rest-of g (lengthsOf t) (viewSystem g s) (o .holds) m) z hz (offsetOf g a) h in
         let held : x < getD (t .written) (cell g d (dataZone z)) 0 = inside d (dataZone z) x hd hy (at (s .ledger .content z) (offsetOf g a)) e (omega (arith, long, ok .sector-least)) in
         sym (getD-tabulate (λ k. sectorAt g (t .sectors) d (dataZone z) k) (getD (t .written) (cell g d (dataZone z)) 0) x [] held) ∙ ap (λ (l : List (List ℕ)). getD l x []) (sym (device-sectors g t d (dataZone z) hd hy most)) ∙ e
       where
@@ -152,30 +190,36 @@ module _ (g : Geometry) (ok : Valid g) (wb : isValid g ≡ true) (s : System (on
             go (no k) = absurd (let q : length c ≡ 0 = ap length (sym e ∙ getD-nothing (w d y .sectors) x (omega arith)) in omega arith)
 
     peek-claim : s .mode ≡ ready → (a : ℕ) → peekNumber g named (s .state) a t ≡ 0
-        → (offsetOf g a < length (s .ledger .content (zoneOf g a))) × (peekOn g named (s .state) a t ≡ at (s .ledger .content (zoneOf g a)) (offsetOf g a))
-    unfolding peekOn peekRows notHeld zoneView viewOf
+        → (offsetOf g a < length (s .ledger .content (zoneOf g a))) × (peekFrom g named (s .state) a t ≡ byteOf g (placeOf g a))
+        × (peekOn g named (s .state) a t ≡ at (s .ledger .content (zoneOf g a)) (offsetOf g a))
+    unfolding peekOn peekFrom peekRows notHeld zoneView viewOf
     peek-claim m a e =
         let z = zoneOf g a in
         let d = driveOf (g .drives) (g .unit) z (offsetOf g a) in
         let x = sectorOf (g .drives) (g .unit) (offsetOf g a) in
-        let rows = peekRows g (lengthsOf t) (isSet named) st a w in
+        let rows = peekRows g (lengthsOf t) (badPointers g (isSet named) w) (isSet named) st a w in
         let p = numbered-accept (firstRefusal rows) (peek-numbered g named t (s .state) a) (sym (peek-number g named t fine (s .state) a) ∙ e) in
         let hz : z < g .zones = ltb-true z (g .zones) (not-not (ltb z (g .zones)) (accepted-row rows p 8)) in
         let (here, held) = and-split (callPresent g (isSet named) st d) (ltb x (length (w d (dataZone z) .sectors))) (not-not (callPresent g (isSet named) st d && ltb x (length (w d (dataZone z) .sectors))) (accepted-row rows p 15)) in
         let there : d ≢ s .lost = present-not g (s .lost) d (sym (ap (λ (f : ℕ → Bool). f d) (drives-of-call g ok (lengthsOf t) (viewSystem g s) (o .holds) (isSet named) names m)) ∙ here) in
-        let (h, c) = promised .peek-gives (isSet named) names m a (sym (peek-number-same a) ∙ e) in
-        (h, rw (eq-eqb (peekNumber g named (s .state) a t) 0 e) (place-holds m a hz h there (rw p at c)))
+        let (h, b, c) = promised .peek-gives (isSet named) names m a (sym (peek-number-same a) ∙ e) in
+        let n = eq-eqb (peekNumber g named (s .state) a t) 0 e in
+        (h, rw n refl, rw n (place-holds m a hz h there (rw p at c)))
 
 module _ (g : Geometry) (ok : Valid g) (wb : isValid g ≡ true) where
   -- every point of a history is as promised
-  tables-promise : (s : System (onTables g)) → TablesOk g s → Promise g (onTables g) s
+  pub tables-promise : (s : System (onTables g)) → TablesOk g s → Promise g (onTables g) s
   tables-promise s o =
       let promised = promised g ok wb s o in
       record {
         look-fits = look-claim g ok wb s o;
-        mount-fits = λ named n m stop e. mount-claim g ok s o named n (mount-fits g ok s o named n) promised m stop e;
-        mount-refused = λ named n stop k e. mount-refusal g ok s o named n (mount-fits g ok s o named n) promised stop k e;
+        mount-fits = λ named n m stop e. mount-claim g ok s o named n promised m stop e;
+        mount-refused = λ named n stop k e. mount-refusal g ok s o named n promised stop k e;
         pointer-is = promised .pointer-is;
+        look-holds = held-claim g ok wb s o;
+        flush-accepted = λ named n m stop k e. promised .flush-accepted (isSet named) (names-seen g s named n) m stop k (call-agrees g ok s o flushes named stop (flush-refines g ok s o named n stop) .answer-same ∙ e);
+        reset-refused = λ named n m z stop k e. promised .reset-refused (isSet named) (names-seen g s named n) m z stop k (call-agrees g ok s o (resets z) named stop (reset-refines g ok s o named n m z stop) .answer-same ∙ e);
+        write-refused = λ named n m a count buffer stop k e. promised .write-refused (isSet named) (names-seen g s named n) m a count buffer stop k (call-agrees g ok s o (writes a count buffer) named stop (write-refines g ok s o named n m a count buffer stop) .answer-same ∙ e);
         read-gives = λ named n m a count out e.
             let r = read-same g ok wb s o named n a count out in
             let (p, q) = promised .read-gives (isSet named) (names-seen g s named n) m a count out (rw r at e) in
@@ -186,24 +230,25 @@ module _ (g : Geometry) (ok : Valid g) (wb : isValid g ≡ true) where
       }
 
   call-keeps : (s : System (onTables g)) (o : TablesOk g s) (c : Call) (named : List Bool) (stop : ℕ) → Duty g (onTables g) s (calls c named stop) → TablesOk g (next g (onTables g) s (calls c named stop))
-  call-keeps s o mounts named stop (n, m, q) = call-event g ok s o mounts named stop (mount-refines g ok s o named n (mount-fits g ok s o named n) stop) (n, m, q)
+  call-keeps s o mounts named stop (n, m, q) = call-event g ok s o mounts named stop (mount-refines g ok s o named n stop) (n, m, q)
   call-keeps s o (writes a count buffer) named stop (n, m, q) = call-event g ok s o (writes a count buffer) named stop (write-refines g ok s o named n m a count buffer stop) (n, m, q)
   call-keeps s o flushes named stop (n, m, q) = call-event g ok s o flushes named stop (flush-refines g ok s o named n stop) (n, m, q)
   call-keeps s o (resets z) named stop (n, m, q) = call-event g ok s o (resets z) named stop (reset-refines g ok s o named n m z stop) (n, m, q)
-  call-keeps s o (formats array) named stop (n, m, q) = call-event g ok s o (formats array) named stop (format-refines g ok s o named n m array stop (q .0)) (n, m, q)
+  call-keeps s o (formats array) named stop (n, m, q) = call-event g ok s o (formats array) named stop (format-refines g ok s o named n array stop) (n, m, q)
 
-  tables-event : (s : System (onTables g)) → TablesOk g s → (e : Event (onTables g)) → Duty g (onTables g) s e → TablesOk g (next g (onTables g) s e)
+  pub tables-event : (s : System (onTables g)) → TablesOk g s → (e : Event (onTables g)) → Duty g (onTables g) s e → TablesOk g (next g (onTables g) s e)
   tables-event s o (calls c named stop) d = call-keeps s o c named stop d
-  tables-event s o (looks named) d = o
+  tables-event s o (looks named false) d = o
+  tables-event s o (looks named true) d = look-event g ok wb s o named (d .0) d
   tables-event s o (reads named a count out) d = o
   tables-event s o (peeks named a) d = o
   tables-event s o (cuts u) c = cut-event g ok s o u c
-  tables-event s o (loses d) (h, e) = loss-event g ok s o d h e
+  tables-event s o (loses d u) (h, e, c) = loss-event g ok s o d h e u c
 
 -- ---- the format at the head
 format-numbered-on : (g : Geometry) (named : List Bool) (t : Tables) → Numbered (formatVerdict g named t)
-unfolding formatVerdict refusalOn formatRows
-format-numbered-on g named t = numbered (decided (pointersBad g named (t .written) (t .durable)) (formatRows g (lengthsOf t) (isSet named) (deviceOf g t))) refl
+unfolding formatVerdict formatRows
+format-numbered-on g named t = numbered (formatRows g (lengthsOf t) (badIn g named t) (isSet named) (deviceOf g t)) refl
 
 -- what passing its refusals gives
 pub record FormatPassed (g : Geometry) (named : List Bool) (t : Tables) : Type 0 where
@@ -213,14 +258,17 @@ pub record FormatPassed (g : Geometry) (named : List Bool) (t : Tables) : Type 0
   pub one-unnamed : twoUnnamed g (isSet named) ≡ false
 
 format-passed : (g : Geometry) (named : List Bool) (t : Tables) → formatVerdict g named t ≡ accept → FormatPassed g named t
-unfolding formatVerdict refusalOn formatRows
+unfolding formatVerdict formatRows
 format-passed g named t e =
-    let row = accepted-row (decided (pointersBad g named (t .written) (t .durable)) (formatRows g (lengthsOf t) (isSet named) (deviceOf g t))) e in
+    let row = accepted-row (formatRows g (lengthsOf t) (badIn g named t) (isSet named) (deviceOf g t)) e in
     record { valid-test = not-not (isValid g) (row 1); lengths-fit = not-not (lengthsFit g (length (t .sectors)) (length (t .written)) (length (t .durable))) (row 2); pointers-fit = row 3; one-unnamed = row 4 }
 
-module _ (g : Geometry) (named : List Bool) (array : ℕ) (old : State) (stop : ℕ) (t : Tables) (small : array < 256 ^ 8) (passed : FormatPassed g named t) where
+module _ (g : Geometry) (named : List Bool) (array : ℕ) (old : State) (stop : ℕ) (t : Tables) (small : array < 256 ^ 8) (accepted : formatVerdict g named t ≡ accept) where
   abbrev x : ℕ
   x = leftOut g (isSet named)
+
+  abbrev passed : FormatPassed g named t
+  passed = format-passed g named t accepted
 
   ok : Valid g
   ok = valid-if-test g (passed .valid-test)
@@ -235,14 +283,14 @@ module _ (g : Geometry) (named : List Bool) (array : ℕ) (old : State) (stop : 
   stores = formatStores g (presentBut g x) x array
 
   stores-fit : FitsAll g stores (deviceOf g t)
-  stores-fit = format-fits g ok x array (deviceOf g t) (left-out g (isSet named)) small (λ d y hd hy. omega (arith, device-length g t d y (present-below g x d hd) hy))
+  stores-fit = rw (← drives) (format-stores-fit g named array t accepted)
 
   -- a drive that is not left out is named
   named-in : (d : ℕ) → d < g .drives → d ≢ x → isSet named d ≡ true
   unfolding namedDrives
   named-in d h q = and-split (ltb d (g .drives)) (isSet named d) (ap (λ (f : ℕ → Bool). f d) drives ∙ present-other g x d h q) .1
 
-  pub start-ok : ltb stop (length (formatStores g (namedDrives g (isSet named)) x array)) ≡ false → TablesOk g (start g (onTables g) named (callResult (storingOn g 0 (formatStores g (namedDrives g (isSet named)) x array) (freshState x) old stop t)))
+  pub start-ok : ltb stop (length (formatStores g (namedDrives g (isSet named)) x array)) ≡ false → TablesOk g (start g (onTables g) named (callResult (storingOn g 0 (formatStores g (namedDrives g (isSet named)) x array) (freshState g x) old stop t)))
   start-ok e =
       let e′ : ltb stop (length stores) ≡ false = rw (← drives) e in
       let d : deviceOf g (runStores g stop stores t) ≡ applyAll stores (deviceOf g t) = run-refines g stop stores t sized stores-fit ∙ ap (λ (r : List Store). applyAll r (deviceOf g t)) (take-all stop stores (ltb-false stop (length stores) e′)) in
@@ -251,20 +299,24 @@ module _ (g : Geometry) (named : List Bool) (array : ℕ) (old : State) (stop : 
       (record {
         sized = run-sized g stop stores t sized placed;
         order = λ k hk q. run-order g k stop stores t hk sized placed (order-passed g named (t .written) (t .durable) k (passed .pointers-fit) hk (named-in k hk q));
-        records = fresh-records x;
-        holds = rw d (ok-agrees g ready x (applyAll stores (deviceOf g t)) (formatState x) (viewState (freshState x)) freshLedger (fresh-agrees g ok x) (format-rests g ok x array (deviceOf g t) (left-out g (isSet named)) small));
+        records = fresh-records g ok x;
+        holds = rw d (ok-agrees g ready x (applyAll stores (deviceOf g t)) (formatState x) (viewState (freshState g x)) freshLedger (fresh-agrees g ok x) (format-rests g ok x array (deviceOf g t) (left-out g (isSet named)) small));
       })
+
+-- a finished format begins a history
+pub tables-start : (g : Geometry) (named : List Bool) (array : ℕ) (old : State) (stop : ℕ) (t : Tables) → array < 256 ^ 8 → formatOn g named array old stop t .outcome .answer ≡ Finished
+    → (isValid g ≡ true) × TablesOk g (start g (onTables g) named (callResult (formatOn g named array old stop t)))
+unfolding formatOn
+tables-start g named array old stop t small e =
+    let x = leftOut g (isSet named) in
+    let ss = formatStores g (namedDrives g (isSet named)) x array in
+    let (p, q) = answer-finished g (formatVerdict g named t) (format-numbered-on g named t) ss (freshState g x) old stop t e in
+    let passed = format-passed g named t p in
+    (passed .valid-test, rw p (start-ok g named array old stop t small p q))
 
 -- THE THEOREM
 pub tables-keep-the-promise : TablesClaim
-unfolding formatOn
 tables-keep-the-promise g named array old stop t small e es d =
-    let x = leftOut g (isSet named) in
-    let ss = formatStores g (namedDrives g (isSet named)) x array in
-    let r = storingOn g (verdictNumber (formatVerdict g named t)) ss (freshState x) old stop t in
-    let (p, q) = answer-finished g (formatVerdict g named t) (format-numbered-on g named t) ss (freshState x) old stop t e in
-    let passed = format-passed g named t p in
-    let o : TablesOk g (start g (onTables g) named (callResult r)) = rw p (start-ok g named array old stop t small passed q) in
-    let wb = passed .valid-test in
+    let (wb, o) = tables-start g named array old stop t small e in
     let ok = valid-if-test g wb in
-    throughout g (onTables g) (TablesOk g) (tables-promise g ok wb) (tables-event g ok wb) (start g (onTables g) named (callResult r)) o es d
+    throughout g (onTables g) (TablesOk g) (tables-promise g ok wb) (tables-event g ok wb) (start g (onTables g) named (callResult (formatOn g named array old stop t))) o es d

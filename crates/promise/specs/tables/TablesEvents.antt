@@ -1,48 +1,46 @@
 -- Every event on the tables keeps the invariant: the tables have their lengths, the pointers of the drives that are not lost are in order, the
 -- state has its sixteen records, and the device that the tables stand for is as ClaimEvents.antt says.
 use mathlib.Core.Path.{_≡_, refl, sym, ap, _∙_}
-use mathlib.Core.Logic.{_≢_}
+use mathlib.Core.Logic.{_≢_, _⊎_, inl, inr}
 use mathlib.Core.Bool.{Bool, true, false, not, true≢false}
-use Prim.Native.Nat.{ℕ, _+_, _^_, _≤_, _<_}
-use native.Mathlib.Nat.{le-refl}
+use Prim.Native.Nat.{ℕ, _+_, _<_}
 use native.Mathlib.Omega.{arith}
 use mathlib.Core.List.{List}
 use lib.ListN.{length, length-set}
 use lib.Dec.{ltb}
 use borrow.Author.Tests.{eq-eqb}
 use Rattle.tables.specs.declared.Geometry.{Geometry}
-use Rattle.tables.specs.meaning.Geometry.{Valid, physicalZones}
+use Rattle.tables.specs.meaning.Geometry.{Valid}
 use Rattle.tables.specs.meaning.Drives.{noDrive}
-use Rattle.tables.specs.laws.Drives.{presentBut, present-below}
+use Rattle.tables.specs.laws.Drives.{presentBut}
 use Rattle.tables.specs.meaning.Device.{Device, Store}
-use Rattle.tables.specs.meaning.Tables.{Tables, deviceOf, TablesCut, pointersBad}
+use Rattle.tables.specs.meaning.Tables.{Tables, deviceOf, TablesCut, TablesLoss, pointersBad}
 use Rattle.tables.specs.laws.Tables.{device-length}
 use Rattle.tables.specs.laws.Made.{WellSized, FitsAll}
-use Rattle.tables.specs.laws.TablesRefine.{cut-refines}
-use Rattle.tables.specs.laws.PointerOrder.{InOrder, order-passes, cut-order}
+use Rattle.tables.specs.laws.TablesRefine.{cut-refines, loss-refines, lent-sized}
+use Rattle.tables.specs.laws.PointerOrder.{InOrder, order-passes, cut-order, loss-order}
 use Rattle.volume.specs.declared.State.{State}
-use Rattle.volume.specs.declared.Answer.{Answer}
 use Rattle.volume.specs.meaning.State.{StateView, callPresent}
 use Rattle.volume.specs.meaning.Calls.{formatState}
 use Rattle.volume.specs.meaning.Refusals.{Verdict, accept, firstRefusal, zoneOf, writeRows, resetRows}
 use Rattle.volume.specs.meaning.Answers.{CallResult, StoringCall, lostIn, leftOut, sectorsIn}
-use Rattle.volume.specs.meaning.CallContracts.{viewState, isSet, verdictNumber, lengthsOf, Result, storingOn, withLost, flushOn, withReset, resetOn, writtenState, pointerOf, writeOn, freshState, formatOn}
+use Rattle.volume.specs.meaning.CallContracts.{blankRecord, freshRecord, viewState, isSet, verdictNumber, lengthsOf, Result, storingOn, withLost, flushOn, withReset, resetOn, writtenState, pointerOf, writeOn, freshState, formatOn}
 use Rattle.volume.specs.laws.Refusals.{Numbered}
+use Rattle.volume.specs.looking.DrivesLost.{fill-long}
 use Rattle.volume.specs.storing.Flushing.{flush-stores}
 use Rattle.volume.specs.storing.Formatting.{format-views}
 use Rattle.volume.specs.storing.Resetting.{reset-views}
 use Rattle.volume.specs.writing.Writing.{written-state}
-use Rattle.promise.specs.meaning.Claim.{Call, mounts, writes, flushes, resets, formats, Mode, ready, System, calls, cuts, loses, next, NamesAll, Duty, modeAfter, noteOf, replyTo}
+use Rattle.promise.specs.meaning.Claim.{Call, writes, flushes, resets, formats, ready, System, calls, cuts, loses, next, NamesAll, Duty, modeAfter, noteOf, replyTo}
 use Rattle.promise.specs.meaning.Ledger.{noted}
 use Rattle.promise.specs.meaning.OnDevice.{callOf, onDevice, shownBy}
 use Rattle.promise.specs.meaning.OnTables.{resultOn, onTables, shownIn}
 use Rattle.promise.specs.invariant.Obligations.{WriteOk, ResetOk}
 use Rattle.promise.specs.device.AcceptedCalls.{write-ok, reset-ok}
-use Rattle.promise.specs.device.AtRestAnswers.{format-lost, format-drives}
-use Rattle.promise.specs.device.ClaimEvents.{OkIn, rest-of, drives-of-call, event-keeps}
-use Rattle.promise.specs.tables.CallRefines.{Agree, agree-refl, ok-agrees, Agrees, viewResult, storing-agrees, storing-sized, storing-order, storing-state, flush-fits}
+use Rattle.promise.specs.device.ClaimEvents.{OkIn, drives-of-call, event-keeps}
+use Rattle.promise.specs.tables.CallRefines.{Agree, agree-refl, ok-agrees, Agrees, viewResult, storing-agrees, storing-sized, storing-order, storing-state}
 use Rattle.promise.specs.tables.CallVerdicts.{format-verdict, format-numbered, flush-verdict, flush-numbered, write-verdict, write-numbered, reset-verdict, reset-numbered}
-use Rattle.promise.specs.tables.TablesFit.{write-fits, reset-fits, format-fits}
+use Rattle.volume.specs.laws.CallStoresFit.{flush-stores-fit, reset-stores-fit, format-stores-fit, write-stores-fit}
 
 -- the system of the rules
 abbrev pub viewSystem : (g : Geometry) (s : System (onTables g)) → System (onDevice g (lengthsOf (s .memory)))
@@ -117,15 +115,15 @@ module _ (g : Geometry) (ok : Valid g) (s : System (onTables g)) (o : TablesOk g
           (rw (call-agrees .answer-same, call-agrees .memory-same) at kept)
 
 -- ---- a format's state
-pub fresh-records : (x : ℕ) → length (freshState x .zones) ≡ 16
+pub fresh-records : (g : Geometry) → Valid g → (x : ℕ) → length (freshState g x .zones) ≡ 16
 unfolding freshState
-fresh-records x = refl
+fresh-records g ok x = fill-long (λ z. freshRecord) blankRecord 16 (g .zones) (ok .zones-most)
 
-pub fresh-agrees : (g : Geometry) → Valid g → (x : ℕ) → Agree g (formatState x) (viewState (freshState x))
+pub fresh-agrees : (g : Geometry) → Valid g → (x : ℕ) → Agree g (formatState x) (viewState (freshState g x))
 fresh-agrees g ok x = record {
-  lost-same = sym (format-views x 0 (omega arith) .0);
-  generation-same = λ z h. sym (format-views x z (omega (arith, h, ok .zones-most)) .1);
-  condition-same = λ z h. sym (format-views x z (omega (arith, h, ok .zones-most)) .2);
+  lost-same = sym (format-views g x 0 (omega (arith, ok .zones-least)) .0);
+  generation-same = λ z h. sym (format-views g x z h .1);
+  condition-same = λ z h. sym (format-views g x z h .2);
 }
 
 -- ---- the calls but mount (MountRefines.antt)
@@ -165,7 +163,7 @@ module _ (g : Geometry) (ok : Valid g) (s : System (onTables g)) (o : TablesOk g
         verdict-is = refl;
         has-number = write-numbered g named t (s .state) a count (length buffer);
         same = λ p. refl;
-        fit = λ p. rw (here m) (write-fits g ok (s .lost) w st (s .ledger) (rest-of g (lengthsOf t) (viewSystem g s) (o .holds) m) z ss (accepted p));
+        fit = λ p. write-stores-fit g named (s .state) a count buffer t (write-verdict g named t fine (s .state) a count (length buffer) ∙ p);
         long = λ p. rw length-set (o .records);
         agree = λ p e. agree-refl g (k .state) (viewState (writtenState (s .state) y z (pointerOf (s .state) z + count))) (sym (written-state g (s .state) y z count buffer (record-in z (accepted p .zone-ok))));
       }
@@ -174,7 +172,6 @@ module _ (g : Geometry) (ok : Valid g) (s : System (onTables g)) (o : TablesOk g
   unfolding flushOn
   flush-refines stop =
       let k = callOf g (lengthsOf t) flushes (isSet named) st w in
-      let present = callPresent g (isSet named) st in
       record {
         verdict = firstRefusal (k .refusals);
         stores = k .stores;
@@ -183,7 +180,7 @@ module _ (g : Geometry) (ok : Valid g) (s : System (onTables g)) (o : TablesOk g
         verdict-is = refl;
         has-number = flush-numbered g named t (s .state);
         same = λ p. refl;
-        fit = λ p. rw (flush-stores g present) (flush-fits g present (g .drives) w (le-refl (g .drives)));
+        fit = λ p. flush-stores-fit g named (s .state) t (flush-verdict g named t fine (s .state) ∙ p);
         long = λ p. o .records;
         agree = λ p e. agree-refl g (k .state) (k .state) refl;
       }
@@ -202,47 +199,46 @@ module _ (g : Geometry) (ok : Valid g) (s : System (onTables g)) (o : TablesOk g
         verdict-is = refl;
         has-number = reset-numbered g named t (s .state) z;
         same = λ p. refl;
-        fit = λ p. rw (here m) (reset-fits g ok (s .lost) w st (s .ledger) (rest-of g (lengthsOf t) (viewSystem g s) (o .holds) m) z (accepted p));
+        fit = λ p. reset-stores-fit g named (s .state) z t (reset-verdict g named t fine (s .state) z ∙ p);
         long = λ p. rw length-set (o .records);
         agree = λ p e. agree-refl g (k .state) (viewState (withReset (s .state) z y)) (sym (reset-views (s .state) z y (record-in z (accepted p .zone-ok))));
       }
 
-  -- no zone of the device is longer than C
-  device-short : (d y : ℕ) → presentBut g (s .lost) d ≡ true → y < physicalZones g → length (w d y .sectors) ≤ g .capacity
-  device-short d y hd hy = omega (arith, device-length g t d y (present-below g (s .lost) d hd) hy)
-
-  pub format-refines : s .mode ≡ ready → (array stop : ℕ) → array < 256 ^ 8 → Refines g s (formats array) named stop
+  pub format-refines : (array stop : ℕ) → Refines g s (formats array) named stop
   unfolding formatOn
-  format-refines m array stop h =
+  format-refines array stop =
       let k = callOf g (lengthsOf t) (formats array) (isSet named) st w in
       let y = leftOut g (isSet named) in
-      let (γ, r) = rest-of g (lengthsOf t) (viewSystem g s) (o .holds) m in
       record {
         verdict = firstRefusal (k .refusals);
         stores = k .stores;
-        new = freshState y;
+        new = freshState g y;
         result-is = rw (format-verdict g named t fine) refl;
         verdict-is = refl;
         has-number = format-numbered g named t;
         same = λ p. refl;
-        fit = λ p. rw (format-drives g (s .lost) (isSet named) (n .drives), format-lost g ok (s .lost) w γ (r .logs) (isSet named) (n .drives)) (format-fits g ok (s .lost) array w (r .logs .lost-ok) h device-short);
-        long = λ p. fresh-records y;
+        fit = λ p. format-stores-fit g named array t (format-verdict g named t fine ∙ p);
+        long = λ p. fresh-records g ok y;
         agree = λ p e. fresh-agrees g ok y;
       }
 
 -- ---- cuts and losses
 pub cut-event : (g : Geometry) → Valid g → (s : System (onTables g)) → TablesOk g s → (u : Tables) → TablesCut g (s .lost) (s .memory) u → TablesOk g (next g (onTables g) s (cuts u))
 cut-event g ok s o u c = record {
-  sized = record { sectors-long = ap length (c .sectors-same) ∙ o .sized .sectors-long; written-long = c .written-long ∙ o .sized .written-long; durable-long = c .durable-long ∙ o .sized .durable-long };
+  sized = lent-sized g (s .lost) (s .memory) u (c .lent) (o .sized);
   order = λ d hd q. cut-order g (s .lost) d (s .memory) u c hd q (o .order d hd q);
   records = o .records;
   holds = event-keeps g ok (lengthsOf (s .memory)) (viewSystem g s) (o .holds) (cuts (deviceOf g u)) (cut-refines g (s .lost) (s .memory) u c);
 }
 
-pub loss-event : (g : Geometry) → Valid g → (s : System (onTables g)) → TablesOk g s → (d : ℕ) → d < g .drives → s .lost ≡ noDrive → TablesOk g (next g (onTables g) s (loses d))
-loss-event g ok s o d h e = record {
-  sized = o .sized;
-  order = λ k hk q. o .order k hk (λ r. omega (arith, r, e, hk, ok .drives-most));
+pub loss-event : (g : Geometry) → Valid g → (s : System (onTables g)) → TablesOk g s → (d : ℕ) → d < g .drives → (s .lost ≡ noDrive) ⊎ (s .lost ≡ d) → (u : Tables) → TablesLoss g d (s .memory) u → TablesOk g (next g (onTables g) s (loses d u))
+loss-event g ok s o d h e u c = record {
+  sized = lent-sized g d (s .memory) u (c .lent) (o .sized);
+  order = λ k hk q. loss-order g d k (s .memory) u c hk q (o .order k hk (before k hk q e));
   records = o .records;
-  holds = event-keeps g ok (lengthsOf (s .memory)) (viewSystem g s) (o .holds) (loses d) (h, e);
+  holds = event-keeps g ok (lengthsOf (s .memory)) (viewSystem g s) (o .holds) (loses d (deviceOf g u)) (h, e, loss-refines g d (s .memory) u c);
 }
+  where
+    before : (k : ℕ) → k < g .drives → k ≢ d → (s .lost ≡ noDrive) ⊎ (s .lost ≡ d) → k ≢ s .lost
+    before k hk q (inl e) r = omega (arith, r, e, hk, ok .drives-most)
+    before k hk q (inr e) r = q (r ∙ e)

@@ -12,7 +12,7 @@ use lib.Dec.{eqb}
 use borrow.Author.Tests.{ne-eqb}
 use Rattle.tables.specs.meaning.Basics.{pick}
 use Rattle.tables.specs.laws.Basics.{eqb-same}
-use Rattle.tables.specs.meaning.Device.{ZoneView, Device, Store, append, reset, flush, storeDrive, appended, blankZone, flushed, putZone, apply, applyAll, ZoneCut, Cut}
+use Rattle.tables.specs.meaning.Device.{ZoneView, Device, Store, append, reset, flush, storeDrive, appended, blankZone, flushed, putZone, apply, applyAll, ZoneCut, Cut, Loss}
 
 -- no zone has more durable sectors than sectors
 unfoldable pub WellFormed : Device → Type 0
@@ -22,6 +22,10 @@ WellFormed v = (d z : ℕ) → v d z .durable ≤ length (v d z .sectors)
 pub cut-at : (x : ℕ) (v w : Device) → Cut x v w → (d z : ℕ) → d ≢ x → ZoneCut (v d z) (w d z)
 unfolding Cut
 cut-at x v w c = c
+
+pub loss-at : (x : ℕ) (v w : Device) → Loss x v w → (d z : ℕ) → d ≢ x → w d z ≡ v d z
+unfolding Loss
+loss-at x v w c = c
 
 pub apply-all-append : (xs ys : List Store) (v : Device) → applyAll (xs ++ ys) v ≡ applyAll ys (applyAll xs v)
 apply-all-append [] ys v = refl

@@ -184,6 +184,13 @@ overlay-above xs at src i h k =
 pub overlay-all : (xs src : List ℕ) → length src ≡ length xs → overlay xs 0 src ≡ src
 overlay-all xs src e = let k : 0 + length src ≡ length xs = omega arith in rw (k, drop-length xs) (append-nil src)
 
+-- ---- two lists of one length, compared number by number
+pub numbers-same : (xs ys : List ℕ) → length xs ≡ length ys → ((k : ℕ) → k < length xs → getD xs k 0 ≡ getD ys k 0) → xs ≡ ys
+numbers-same [] [] e h = refl
+numbers-same [] (y ∷ ys) e h = absurd (omega arith)
+numbers-same (x ∷ xs) [] e h = absurd (omega arith)
+numbers-same (x ∷ xs) (y ∷ ys) e h = ap₂ (λ (a : ℕ) (b : List ℕ). a ∷ b) (h zero (omega arith)) (numbers-same xs ys (omega arith) (λ k l. h (suc k) (omega arith)))
+
 -- ---- a loop that copies: after i turns the first i elements of src are laid over xs
 pub record Copied (xs : List ℕ) (at : ℕ) (src : List ℕ) (i : ℕ) (ys : List ℕ) : Type 0 where
   pub within : i ≤ length src

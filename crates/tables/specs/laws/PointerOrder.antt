@@ -17,7 +17,7 @@ use Rattle.tables.specs.meaning.Below.{anyBelow}
 use Rattle.tables.specs.laws.Below.{none-any-below}
 use Rattle.tables.specs.meaning.Geometry.{physicalZones, cells}
 use Rattle.tables.specs.meaning.Device.{Store, append, reset, flush}
-use Rattle.tables.specs.meaning.Tables.{hasRoom, Tables, cell, sectorsAfterAppend, writtenAfterAppend, pointersAfterReset, durableAfterFlush, makeStore, runStores, TablesCut, pointerBad, pointersBad}
+use Rattle.tables.specs.meaning.Tables.{hasRoom, Tables, cell, sectorsAfterAppend, writtenAfterAppend, pointersAfterReset, durableAfterFlush, makeStore, runStores, TablesCut, TablesLoss, pointerBad, pointersBad}
 use Rattle.tables.specs.laws.Made.{Placed, AllPlaced, WellSized}
 use Rattle.tables.specs.laws.Tables.{cell-in}
 use Rattle.tables.specs.laws.TablesRefine.{flush-own, flush-other, store-sized}
@@ -106,15 +106,27 @@ run-order g d (suc k) (x ∷ xs) t hd w p o = run-order g d k xs (makeStore g x 
 pub cut-order : (g : Geometry) (x d : ℕ) (t u : Tables) → TablesCut g x t u → d < g .drives → d ≢ x → InOrder g d (t .written) (t .durable) → InOrder g d (u .written) (u .durable)
 cut-order g x d t u c hd n o = record { written-most = λ z hz. omega (arith, c .most d z hd hz n, o .written-most z hz); durable-most = λ z hz. omega (arith, c .durable-is d z hd hz n) }
 
+pub loss-order : (g : Geometry) (x d : ℕ) (t u : Tables) → TablesLoss g x t u → d < g .drives → d ≢ x → InOrder g d (t .written) (t .durable) → InOrder g d (u .written) (u .durable)
+loss-order g x d t u c hd n o = record {
+  written-most = λ z hz. omega (arith, c .written-same d z hd hz n, o .written-most z hz);
+  durable-most = λ z hz. omega (arith, c .written-same d z hd hz n, c .durable-same d z hd hz n, o .durable-most z hz);
+}
+
 -- there is always a cut: the one that leaves just what is durable
 pub cut-to-durable : (g : Geometry) (x : ℕ) (t : Tables) → WellSized g t → ((d : ℕ) → d < g .drives → d ≢ x → InOrder g d (t .written) (t .durable)) → TablesCut g x t (record { sectors = t .sectors; written = t .durable; durable = t .durable })
 cut-to-durable g x t w o = record {
-  sectors-same = refl;
-  written-long = w .durable-long ∙ sym (w .written-long);
-  durable-long = refl;
+  lent = record { sectors-long = refl; written-long = w .durable-long ∙ sym (w .written-long); durable-long = refl; sectors-same = λ d z n hd hz h ne. refl };
   least = λ d z hd hz n. le-refl (getD (t .durable) (cell g d z) 0);
   most = λ d z hd hz n. o d hd n .durable-most z hz;
   durable-is = λ d z hd hz n. refl;
+}
+
+-- and a loss: the one that leaves all as it is
+pub loss-none : (g : Geometry) (x : ℕ) (t : Tables) → TablesLoss g x t t
+loss-none g x t = record {
+  lent = record { sectors-long = refl; written-long = refl; durable-long = refl; sectors-same = λ d z n hd hz h ne. refl };
+  written-same = λ d z hd hz n. refl;
+  durable-same = λ d z hd hz n. refl;
 }
 
 -- ---- no written pointer passes its zone's end, whatever is stored

@@ -20,11 +20,11 @@ use Rattle.tables.specs.laws.Below.{any-below-false}
 use Rattle.tables.specs.laws.Lists.{overlay-below, overlay-above}
 use Rattle.tables.specs.meaning.Geometry.{physicalZones, cells, totalBytes}
 use Rattle.tables.specs.meaning.Device.{Store, append, reset, flush, storeDrive}
-use Rattle.tables.specs.meaning.Phases.{onPresent}
 use Rattle.tables.specs.meaning.Tables.{hasRoom, Tables, tablesOf, cell, byteAt, sectorsAfterAppend, writtenAfterAppend, pointersAfterReset, makeStore, runStores, lengthsFit, pointerBad, pointersBad}
 use Rattle.tables.specs.laws.Made.{Placed, AllPlaced, WellSized}
 use Rattle.tables.specs.laws.Tables.{sector-in, cell-injective}
 use Rattle.tables.specs.laws.TablesRefine.{flush-other, store-sized}
+use Rattle.tables.specs.laws.StoresFit.{AllOn}
 
 -- the bytes of one drive
 abbrev pub driveBytes : Geometry → ℕ
@@ -47,7 +47,7 @@ same-drive-trans g e t u v p q = record {
 }
 
 -- a sector's bytes lie within its drive's
-sector-within : (g : Geometry) (d z n : ℕ) → z < physicalZones g → n < g .capacity → byteAt g d z n + g .sector ≤ suc d * driveBytes g
+pub sector-within : (g : Geometry) (d z n : ℕ) → z < physicalZones g → n < g .capacity → byteAt g d z n + g .sector ≤ suc d * driveBytes g
 sector-within g d z n h k =
     let below : z * g .capacity + n < physicalZones g * g .capacity = digits-lt h k in
     omega (arith, mul-le-mul-right (g .sector) below)
@@ -92,20 +92,13 @@ store-frame g (reset d z) t e w p ne = record {
 }
 store-frame g (flush d) t e w p ne = record { sectors-same = λ i h k. refl; written-same = λ y h. refl; durable-same = λ y h. flush-other g t w d p e y h ne }
 
--- ---- so any number of stores of which lost drives' are skipped leaves an absent drive's memory alone
-pub run-frame : (g : Geometry) (present : ℕ → Bool) (k : ℕ) (xs : List Store) (t : Tables) (e : ℕ) → WellSized g t → AllPlaced g (onPresent present xs) → present e ≡ false
-    → SameDrive g e t (runStores g k (onPresent present xs) t)
-run-frame g present k [] t e w f a = same-drive-refl g e t
-run-frame g present k (x ∷ xs) t e w f a = go (present (storeDrive x)) refl k f (λ j u w′ f′. run-frame g present j xs u e w′ f′ a)
-  where
-    go : (b : Bool) → present (storeDrive x) ≡ b → (j : ℕ) → AllPlaced g (pick b (x ∷ onPresent present xs) (onPresent present xs))
-        → ((i : ℕ) (u : Tables) → WellSized g u → AllPlaced g (onPresent present xs) → SameDrive g e u (runStores g i (onPresent present xs) u))
-        → SameDrive g e t (runStores g j (pick b (x ∷ onPresent present xs) (onPresent present xs)) t)
-    go false q j p ih = ih j t w p
-    go true q zero p ih = same-drive-refl g e t
-    go true q (suc j) p ih =
-        let u = makeStore g x t in
-        same-drive-trans g e t u (runStores g j (onPresent present xs) u) (store-frame g x t e w (p .0) (λ r. true≢false (sym q ∙ rw (← r) a))) (ih j u (store-sized g x t w (p .0)) (p .1))
+-- ---- so any number of stores on present drives leaves an absent drive's memory alone
+pub run-frame : (g : Geometry) (present : ℕ → Bool) (k : ℕ) (xs : List Store) (t : Tables) (e : ℕ) → WellSized g t → AllPlaced g xs → AllOn present xs → present e ≡ false → SameDrive g e t (runStores g k xs t)
+run-frame g present k [] t e w p a h = same-drive-refl g e t
+run-frame g present zero (x ∷ xs) t e w p a h = same-drive-refl g e t
+run-frame g present (suc k) (x ∷ xs) t e w p a h =
+    let u = makeStore g x t in
+    same-drive-trans g e t u (runStores g k xs u) (store-frame g x t e w (p .0) (λ q. true≢false (sym (a .0) ∙ rw (← q) h))) (run-frame g present k xs u e (store-sized g x t w (p .0)) (p .1) (a .1) h)
 
 -- ---- what passing refusal 2 gives, and what gives it
 pub lengths-are : (g : Geometry) (sectors written durable : ℕ) → lengthsFit g sectors written durable ≡ true → (sectors ≡ totalBytes g) × (written ≡ cells g) × (durable ≡ cells g)

@@ -66,3 +66,7 @@ pub record ZoneCut (a b : ZoneView) : Type 0 where
 -- of every drive but x, the lost one: what becomes of a lost drive's memory is open
 unfoldable pub Cut : ℕ → Device → Device → Type 0
 Cut x v w = (d z : ℕ) → d ≢ x → ZoneCut (v d z) (w d z)
+
+-- ---- the loss of drive x: what becomes of its memory is open, the rest stays
+unfoldable pub Loss : ℕ → Device → Device → Type 0
+Loss x v w = (d z : ℕ) → d ≢ x → w d z ≡ v d z

@@ -55,7 +55,7 @@ durableAfterFlush g d ws ds = overlay ds (cell g d 0) (take (physicalZones g) (d
 abbrev pub hasRoom : Geometry → ℕ → ℕ → List ℕ → Bool
 hasRoom g d z ws = ltb (getD ws (cell g d z) 0) (g .capacity)
 
--- the three tables after a store. An append to a full zone makes nothing; refusal 14 and the bounds of a zone see to it that no call asks for one.
+-- the three tables after a store. An append to a full zone makes nothing; no accepted call asks for one (volume's laws, CallStoresFit and MountStoresFit).
 abbrev pub makeStore : Geometry → Store → Tables → Tables
 makeStore g (append d z s) t = pick (hasRoom g d z (t .written)) (record { sectors = sectorsAfterAppend g d z s (t .sectors) (t .written); written = writtenAfterAppend g d z (t .written); durable = t .durable }) t
 makeStore g (reset d z) t = record { sectors = t .sectors; written = pointersAfterReset g d z (t .written); durable = pointersAfterReset g d z (t .durable) }
@@ -77,15 +77,25 @@ zoneAtCell g t k = record {
 unfoldable pub deviceOf : Geometry → Tables → Device
 deviceOf g t d z = pick (ltb d (g .drives) && ltb z (physicalZones g)) (zoneAtCell g t (cell g d z)) blankZone
 
--- ---- a cut ("sets each written pointer to some value from its durable pointer up to itself, and durable to the same"), of every drive
--- but x, the lost one. The lent memory stays where it is: its lengths are the same.
-pub record TablesCut (g : Geometry) (x : ℕ) (t u : Tables) : Type 0 where
-  pub sectors-same : u .sectors ≡ t .sectors
+-- ---- cuts and losses. The lent memory stays where it is: its lengths are the same. What becomes of a lost drive's memory (drive x's) is open.
+pub record SameLent (g : Geometry) (x : ℕ) (t u : Tables) : Type 0 where
+  pub sectors-long : length (u .sectors) ≡ length (t .sectors)
   pub written-long : length (u .written) ≡ length (t .written)
   pub durable-long : length (u .durable) ≡ length (t .durable)
+  pub sectors-same : (d z n : ℕ) → d < g .drives → z < physicalZones g → n < g .capacity → d ≢ x → sectorAt g (u .sectors) d z n ≡ sectorAt g (t .sectors) d z n
+
+-- a cut "sets each written pointer to some value from its durable pointer up to itself, and durable to the same"
+pub record TablesCut (g : Geometry) (x : ℕ) (t u : Tables) : Type 0 where
+  pub lent : SameLent g x t u
   pub least : (d z : ℕ) → d < g .drives → z < physicalZones g → d ≢ x → getD (t .durable) (cell g d z) 0 ≤ getD (u .written) (cell g d z) 0
   pub most : (d z : ℕ) → d < g .drives → z < physicalZones g → d ≢ x → getD (u .written) (cell g d z) 0 ≤ getD (t .written) (cell g d z) 0
   pub durable-is : (d z : ℕ) → d < g .drives → z < physicalZones g → d ≢ x → getD (u .durable) (cell g d z) 0 ≡ getD (u .written) (cell g d z) 0
+
+-- the loss of drive x
+pub record TablesLoss (g : Geometry) (x : ℕ) (t u : Tables) : Type 0 where
+  pub lent : SameLent g x t u
+  pub written-same : (d z : ℕ) → d < g .drives → z < physicalZones g → d ≢ x → getD (u .written) (cell g d z) 0 ≡ getD (t .written) (cell g d z) 0
+  pub durable-same : (d z : ℕ) → d < g .drives → z < physicalZones g → d ≢ x → getD (u .durable) (cell g d z) 0 ≡ getD (t .durable) (cell g d z) 0
 
 -- ---- refusals 2 and 3, by numbers alone
 -- 2, length: each table has the length that the geometry gives

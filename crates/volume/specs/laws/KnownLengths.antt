@@ -19,7 +19,7 @@ use Rattle.logs.specs.meaning.Entry.{parityZone}
 use Rattle.volume.specs.declared.knowing.Source.{Source}
 use Rattle.volume.specs.declared.knowing.Source.the-variants.{Unknown, Held, Row, Entry}
 use Rattle.volume.specs.meaning.Content.{rowXorBelow}
-use Rattle.volume.specs.meaning.Rules.{parityOf, rowDrive, rowAddress, sealLimit}
+use Rattle.volume.specs.meaning.Rules.{parityOf, rowDrive, rowAddress, sealLimit, known, zoneView, valueAt}
 use Rattle.volume.specs.meaning.CallContracts.{isSet}
 use Rattle.volume.specs.looking.Knowing.{Readable, readDevice, stripeEnd, sourceOf, hasSource, rowXor, entryEnd, wayValue, SourceFits}
 use Rattle.volume.specs.looking.KnowingLaws.{parity-in}
@@ -59,15 +59,18 @@ module _ (g : Geometry) (here : List Bool) (xs ws : List ℕ) (z : ℕ) (r : Rea
       xor-full (g .sector) (rowXor g xs z a (entryEnd g xs (parityOf (g .drives) (g .unit) z a) place)) (sectorAt g xs (parityOf (g .drives) (g .unit) z a) parityZone (place + rowIndex (g .drives) (g .unit) a)) (row-most g xs z a (entryEnd g xs (parityOf (g .drives) (g .unit) z a) place))
       (sector-long g xs (parityOf (g .drives) (g .unit) z a) parityZone (place + rowIndex (g .drives) (g .unit) a) (r .sectors-long) (parity-in g z a ok) (omega arith) (f .1))
 
+  -- so a known value
+  pub value-long : (n : ℕ) → known (g .drives) (g .unit) z (zoneView g (isSet here) (readDevice g xs ws) z n) a ≡ true → length (valueAt g (isSet here) (readDevice g xs ws) z n a) ≡ g .sector
+  value-long n k =
+      let w = sourceOf g here xs ws z n (sealLimit g (isSet here) (readDevice g xs ws) z n) a in
+      let e : hasSource w ≡ true = sym (known-is g here xs ws z r ok n a ha) ∙ k in
+      let v = value-is g here xs ws z r ok n a ha in
+      ap (λ (l : List ℕ). length l) (v .1 e) ∙ way-long w (v .0) e
+
 module _ (g : Geometry) (ok : Valid g) (here : List Bool) (xs ps : List ℕ) (z generation limit end : ℕ) (k : KnownBelow g here xs ps z generation limit end) where
-  -- a known value
+  -- below an end up to which all is known
   pub known-long : (a : ℕ) → a < end → length (valuesOf g here xs ps z generation a) ≡ g .sector
-  known-long a h =
-      let ha : a < zoneSectors g = omega (arith, k .end-most) in
-      let w = sourceOf g here xs ps z generation (sealLimit g (isSet here) (readDevice g xs ps) z generation) a in
-      let e : hasSource w ≡ true = sym (known-is g here xs ps z (k .readable) ok generation a ha) ∙ k .all-known a h in
-      let v = value-is g here xs ps z (k .readable) ok generation a ha in
-      ap (λ (l : List ℕ). length l) (v .1 e) ∙ way-long g here xs ps z (k .readable) ok a ha w (v .0) e
+  known-long a h = value-long g here xs ps z (k .readable) ok a (omega (arith, k .end-most)) generation (k .all-known a h)
 
   -- a row of them that has a sector below the end
   pub known-row-long : (s r : ℕ) → r < g .unit → s * stripeSectors g + r < end → length (rowXorBelow (g .drives) (g .unit) (valuesOf g here xs ps z generation) s end r) ≡ g .sector

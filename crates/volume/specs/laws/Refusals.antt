@@ -1,19 +1,16 @@
--- "The least number that applies is given, and only under its condition": the rows of a call stand in the order in which document 01 asks, and their order
--- decides, not the size of their numbers. A refusal's row applies and none before it does; an accepted call has none that does. Rows are looked up by number.
+-- Rows of refusals: their order decides, not the size of their numbers. A refusal's row applies and none before it does; an accepted call has none that does.
+-- Rows are looked up by number. (What this says of each call: LeastRefusal)
 use mathlib.Core.Path.{_≡_, refl, sym, ap, _∙_}
 use mathlib.Core.Logic.{_≢_}
 use mathlib.Core.Bool.{Bool, true, false, _&&_, not, true≢false}
 use Prim.Native.Nat.{ℕ}
 use native.Mathlib.Omega.{arith}
-use mathlib.Core.List.{List, [], _∷_, _++_, map}
+use mathlib.Core.List.{List, [], _∷_, _++_}
 use lib.Dec.{eqb}
 use borrow.Author.Tests.{eq-eqb}
 use Rattle.tables.specs.laws.Basics.{and-split}
-use Rattle.tables.specs.meaning.Device.{Device}
 use Rattle.tables.specs.meaning.Basics.{pick}
-use Rattle.tables.specs.declared.Geometry.{Geometry}
-use Rattle.volume.specs.meaning.State.{StateView}
-use Rattle.volume.specs.meaning.Refusals.{Verdict, refuse, accept, firstRefusal, TableLengths, formatRows, lookRows, mountRows, writeRows, flushRows, resetRows, readRows, peekRows}
+use Rattle.volume.specs.meaning.Refusals.{Verdict, refuse, accept, firstRefusal}
 
 -- the condition under a number; false where there is no such row
 abbrev pub conditionOfRow : ℕ → List (ℕ × Bool) → Bool
@@ -93,37 +90,3 @@ inOrder [] [] = true
 inOrder [] (r ∷ rows) = false
 inOrder (n ∷ order) [] = true
 inOrder (n ∷ order) ((m, b) ∷ rows) = pick (eqb n m) (inOrder order rows) (inOrder order ((m, b) ∷ rows))
-
-module _ (g : Geometry) (t : TableLengths) (named : ℕ → Bool) (v : Device) where
-  pub format-in-order : inOrder refusalOrder (formatRows g t named v) ≡ true
-  unfolding formatRows
-  format-in-order = refl
-
-  pub look-in-order : inOrder refusalOrder (lookRows g t named v) ≡ true
-  unfolding lookRows
-  look-in-order = refl
-
-  pub mount-in-order : inOrder refusalOrder (mountRows g t named v) ≡ true
-  unfolding mountRows
-  mount-in-order = refl
-
-  module _ (state : StateView) where
-    pub flush-in-order : inOrder refusalOrder (flushRows g t named state v) ≡ true
-    unfolding flushRows
-    flush-in-order = refl
-
-    pub reset-in-order : (z : ℕ) → inOrder refusalOrder (resetRows g t named state z v) ≡ true
-    unfolding resetRows
-    reset-in-order z = refl
-
-    pub write-in-order : (a count len : ℕ) → inOrder refusalOrder (writeRows g t named state a count len v) ≡ true
-    unfolding writeRows
-    write-in-order a count len = refl
-
-    pub read-in-order : (a count len : ℕ) → inOrder refusalOrder (readRows g t named state a count len v) ≡ true
-    unfolding readRows
-    read-in-order a count len = refl
-
-    pub peek-in-order : (a : ℕ) → inOrder refusalOrder (peekRows g t named state a v) ≡ true
-    unfolding peekRows
-    peek-in-order a = refl

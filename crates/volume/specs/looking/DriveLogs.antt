@@ -1,6 +1,6 @@
 -- The logs of one drive in the flat tables: that what the code walks there is what the rules walk on the device. A look reads the sectors
 -- and the written pointers alone: `readDevice` (Knowing) is the device they stand for, whatever the durable pointers are.
-use mathlib.Core.Path.{_≡_, refl, sym, ap, ap₂, _∙_}
+use mathlib.Core.Path.{_≡_, refl, sym, ap, ap₂, subst, _∙_}
 use mathlib.Core.Logic.{_⊎_, inl, inr}
 use mathlib.Core.Bool.{Bool, true, false, _&&_, _||_, not}
 use Prim.Native.Nat.{ℕ, suc, _+_, _-_, _*_, _<_, min}
@@ -14,15 +14,17 @@ use Rattle.tables.specs.meaning.Basics.{pick}
 use Rattle.tables.specs.meaning.Lists.{anyOf}
 use Rattle.tables.specs.meaning.Drives.{noDrive}
 use Rattle.tables.specs.meaning.Geometry.{Valid, physicalZones, cells, totalBytes, stripeSectors, zoneSectors}
+use Rattle.tables.specs.laws.Sizes.{zone-small, stripe-small}
 use Rattle.tables.specs.meaning.Device.{ZoneView}
 use Rattle.tables.specs.meaning.Tables.{tablesOf, cell, zoneAtCell}
 use Rattle.tables.specs.laws.Tables.{device-in}
+use Rattle.logs.specs.declared.Log.{Log}
 use Rattle.logs.specs.declared.Found.{Found}
 use Rattle.logs.specs.declared.Found.the-variants.{Bad, Label, Counters, Resets, Partial, Seal}
 use Rattle.logs.specs.meaning.Entry.{generalZone, parityZone, Header, label, counters, zoneReset, partialParity, seal, Entry, rowsOf, fitsLog}
 use Rattle.logs.specs.laws.Entry.{decode-legal}
 use Rattle.logs.specs.meaning.Walk.{Walked, Ending, atPointer, noEntry, torn, walkLog}
-use Rattle.logs.specs.code.WalkCode.{logSectors, walkEndAt, noEntryEnd}
+use Rattle.logs.specs.code.WalkCode.{InLog, logSectors, walkEndAt, noEntryEnd}
 use Rattle.logs.specs.meaning.Heads.{labelled, lastLost, endsPast}
 use Rattle.logs.specs.laws.Heads.{endsWithin}
 use Rattle.logs.specs.code.Query.{headOf, headsOf, tornSeen}
@@ -48,6 +50,13 @@ zonePointer g ws d z = min (getD ws (cell g d z) 0) (g .capacity)
 pub zone-sectors : (g : Geometry) (xs ws : List ℕ) (d z : ℕ) → d < g .drives → z < physicalZones g → readDevice g xs ws d z .sectors ≡ logSectors g d z xs (zonePointer g ws d z)
 unfolding zoneAtCell
 zone-sectors g xs ws d z hd hz = ap (λ (x : ZoneView). x .sectors) (device-in g (tablesOf xs ws []) d z hd hz)
+
+-- the log in a zone, as the code hands it over
+abbrev pub logIn : Geometry → List ℕ → ℕ → ℕ → Log
+logIn g ws d z = record { drive = d; zone = z; written = zonePointer g ws d z }
+
+pub in-log : (g : Geometry) (xs ws : List ℕ) (d z : ℕ) (l : Log) → l ≡ logIn g ws d z → Sized g xs ws → d < g .drives → z < physicalZones g → InLog g (l .drive) (l .zone) (l .written) xs
+in-log g xs ws d z l e s hd hz = subst (λ (k : Log). InLog g (k .drive) (k .zone) (k .written) xs) (sym e) (record { drive-in = hd; zone-in = hz; short = omega arith; long = s .sectors-long })
 
 -- ---- the two logs, walked up to the zone's pointer n
 module _ (g : Geometry) (xs ws : List ℕ) (d : ℕ) (hd : d < g .drives) (n : ℕ) where
@@ -101,6 +110,12 @@ past-seen g z n q (counters cs) = refl
 past-seen g z n q (zoneReset y m) = refl
 past-seen g z n q (partialParity y s f m) = refl
 past-seen g z n q (seal y p m) = refl
+
+-- where the code adds up its end (k: the sectors of a stripe), its numbers are small
+pub end-small : (g : Geometry) → Valid g → (k y s fill n : ℕ) → k ≡ stripeSectors g → (f : Found) → f ≡ Partial y s fill n → SmallSeen g f → (s * k < 458752) × (s * k + fill < 458864)
+end-small g ok k y s fill n e f h seen =
+    let m : SmallSeen g (Partial y s fill n) = rw h at seen in
+    rw e (omega (arith, m .0, zone-small g ok .1), omega (arith, m .0, m .1, zone-small g ok .1, stripe-small g ok .1))
 
 -- the torn one
 pub torn-past : (g : Geometry) (z n q : ℕ) (l : Ending) → pastSeen g z n q (tornSeen l) ≡ endingPast g z n q l

@@ -6,7 +6,7 @@ use Prim.Native.Nat.{ℕ, zero, suc, _+_, _-_, _≤_, _<_}
 use native.Mathlib.Decide.{decLt}
 use native.Mathlib.Omega.{arith}
 use mathlib.Core.List.{List, [], _∷_, _++_}
-use lib.ListN.{length, getD, set, replicate, List·getD-append}
+use lib.ListN.{length, getD, set, replicate, length-append, length-replicate, List·getD-append}
 use lib.Seq.{getD-append-add}
 use lib.Dec.{ltb, eqb}
 use borrow.Author.Tests.{lt-ltb, le-ltb, ne-eqb}
@@ -40,6 +40,9 @@ fill-more f x m n h =
     let e : m - n ≡ suc (m - suc n) = omega arith in
     let l : length (tabulate f n) ≡ n = length-tabulate f n in
     rw e (ap (λ (i : ℕ). set (tabulate f n ++ replicate (suc (m - suc n)) x) i (f n)) (sym l) ∙ set-at-end (tabulate f n) (m - suc n) x (f n))
+
+pub fill-long : {A : Type 0} (f : ℕ → A) (x : A) (m n : ℕ) → n ≤ m → length (tabulate f n ++ replicate (m - n) x) ≡ m
+fill-long f x m n h = length-append (tabulate f n) (replicate (m - n) x) ∙ omega (arith, length-tabulate f n, length-replicate (m - n) x, h)
 
 pub fill-at : {A : Type 0} (f : ℕ → A) (x y : A) (n k i : ℕ) → i < n → getD (tabulate f n ++ replicate k x) i y ≡ f i
 fill-at f x y n k i h = List·getD-append (tabulate f n) (replicate k x) y i (rw (length-tabulate f n) h) ∙ getD-tabulate f n i y h

@@ -33,7 +33,7 @@ use Rattle.volume.specs.declared.Answer.the-variants.{Finished, Refused}
 use Rattle.logs.specs.meaning.Heads.{arrayIn, leastSeal}
 use Rattle.volume.specs.meaning.Rules.{sealLimitBelow, servingEntries, View, valueOf, Shown, ZoneShown, showing, isLost, isPresent, lostDrive, generalHeads, generalEnding, parityEntries, parityEnding, generationOf, resetSeen, sealSeen, sealLimit, viewOf, zoneView, valueAt, pointerAt, cleanAt, zoneAt, zoneShown}
 use Rattle.volume.specs.meaning.Mount.{mountState}
-use Rattle.volume.specs.meaning.CallContracts.{blankRecord, recordAt, viewState, isSet, verdictNumber, lengthsOf, refusalOn, zoneLookOf, recordFrom, stateShown, lookVerdict, lookOn}
+use Rattle.volume.specs.meaning.CallContracts.{blankRecord, recordAt, viewState, isSet, verdictNumber, lengthsOf, zoneLookOf, recordFrom, stateShown, lookVerdict, lookOn}
 use Rattle.volume.specs.looking.Knowing.{Readable, readDevice}
 use Rattle.volume.specs.looking.DrivesLost.{fill-at, fill-past, two-lost-is, lost-drive-is}
 
@@ -244,7 +244,7 @@ module _ (g : Geometry) (named : List Bool) (xs ws ds : List ℕ) where
   look-number : verdictNumber (lookVerdict g named (tablesOf xs ws ds)) ≡ pick (eqb (shapeNumber g named (length xs) ws ds) 0)
       (verdictNumber (firstRefusal ((4, twoLost g (isSet named) (deviceOf g (tablesOf xs ws ds))) ∷ (5, badLabels g (isPresent g (isSet named) (deviceOf g (tablesOf xs ws ds))) (deviceOf g (tablesOf xs ws ds))) ∷ (6, badLogs g (isPresent g (isSet named) (deviceOf g (tablesOf xs ws ds))) (deviceOf g (tablesOf xs ws ds))) ∷ [])))
       (shapeNumber g named (length xs) ws ds)
-  unfolding lookVerdict refusalOn lookRows shapeNumber
+  unfolding lookVerdict lookRows shapeNumber
   look-number = after-three (not (isValid g)) (not (lengthsFit g (length xs) (length ws) (length ds))) (pointersBad g named ws ds)
       ((4, twoLost g (isSet named) (deviceOf g (tablesOf xs ws ds))) ∷ (5, badLabels g (isPresent g (isSet named) (deviceOf g (tablesOf xs ws ds))) (deviceOf g (tablesOf xs ws ds))) ∷ (6, badLogs g (isPresent g (isSet named) (deviceOf g (tablesOf xs ws ds))) (deviceOf g (tablesOf xs ws ds))) ∷ [])
 
@@ -332,6 +332,6 @@ pointers-fine g named xs ws ds h = none-any-below _ (g .drives) (λ d hd. go d h
     go d hd true e = none-any-below (bad d) (physicalZones g) (λ y hy. pointer-fine g named xs ws ds d y h hd hy e)
 
 pub look-verdict : (g : Geometry) (named : List Bool) (xs ws ds : List ℕ) → pointersBad g named ws ds ≡ false
-    → lookVerdict g named (tablesOf xs ws ds) ≡ firstRefusal (lookRows g (lengthsOf (tablesOf xs ws ds)) (isSet named) (deviceOf g (tablesOf xs ws ds)))
-unfolding lookVerdict refusalOn lookRows
+    → lookVerdict g named (tablesOf xs ws ds) ≡ firstRefusal (lookRows g (lengthsOf (tablesOf xs ws ds)) (badPointers g (isSet named) (deviceOf g (tablesOf xs ws ds))) (isSet named) (deviceOf g (tablesOf xs ws ds)))
+unfolding lookVerdict lookRows
 look-verdict g named xs ws ds h = rw (h, pointers-fine g named xs ws ds h) refl

@@ -10,8 +10,8 @@ use lib.Dec.{leb, eqb}
 use borrow.Author.Tests.{eq-eqb, ne-eqb}
 use Rattle.tables.specs.declared.Geometry.{Geometry}
 use Rattle.tables.specs.meaning.Basics.{pick}
-use Rattle.tables.specs.meaning.Below.{allBelow}
-use Rattle.tables.specs.laws.Below.{all-below-all}
+use Rattle.tables.specs.meaning.Below.{anyBelow, allBelow}
+use Rattle.tables.specs.laws.Below.{any-below-cong, all-below-all}
 use Rattle.tables.specs.meaning.Greatest.{greatest}
 use Rattle.tables.specs.laws.Greatest.{greatest-is, greatest-max}
 use Rattle.tables.specs.meaning.Lists.{anyOf}
@@ -22,16 +22,40 @@ use Rattle.tables.specs.meaning.Tables.{tablesOf}
 use Rattle.tables.specs.laws.Tables.{device-length}
 use Rattle.logs.specs.meaning.Entry.{Entry, wornGeneration}
 use Rattle.logs.specs.laws.Entry.{worn-is}
-use Rattle.logs.specs.meaning.Heads.{endsPast}
+use Rattle.logs.specs.declared.Query.{Query}
+use Rattle.logs.specs.declared.Query.the-variants.{ResetOf, SealOf}
+use Rattle.logs.specs.meaning.Heads.{isReset, isSeal, endsPast}
+use Rattle.logs.specs.code.Query.{answer}
+use Rattle.logs.specs.code.Answers.{told, reset-answer, seal-answer}
 use Rattle.volume.specs.declared.ZoneLook.{ZoneLook}
 use Rattle.volume.specs.declared.Condition.{Condition}
 use Rattle.volume.specs.declared.Condition.the-variants.{Empty, Open, Sealed, Worn}
-use Rattle.volume.specs.meaning.Rules.{parityEntries, parityEnding, endingPast, conditionOf, known, zoneView, knownPrefix, generationOf, resetSeen, sealLimit, pointerAt, sealSeen, cleanAt, zoneAt, zoneShown}
+use Rattle.volume.specs.meaning.Rules.{generalHeads, parityEntries, parityEnding, endingPast, conditionOf, known, zoneView, knownPrefix, generationOf, resetSeen, sealLimit, pointerAt, sealSeen, cleanAt, zoneAt, zoneShown}
 use Rattle.volume.specs.looking.Knowing.{readDevice}
 use Rattle.volume.specs.looking.DriveLogs.{zonePointer}
 use Rattle.volume.specs.meaning.CallContracts.{zoneLookOf}
 
+-- ---- rule 3 and the seals: whether a present drive's general log answers 1 to a question
+abbrev pub toldBy : Geometry → (ℕ → Bool) → Device → Query → Bool
+toldBy g present v query = anyBelow (λ (d : ℕ). present d && eqb (answer g query 0 0 (generalHeads g v d)) 1) (g .drives)
+
+pub told-reset : (g : Geometry) (present : ℕ → Bool) (v : Device) (z n : ℕ) → toldBy g present v (ResetOf z n) ≡ resetSeen g present v z n
+unfolding resetSeen
+told-reset g present v z n =
+    any-below-cong (λ (d : ℕ). present d && eqb (answer g (ResetOf z n) 0 0 (generalHeads g v d)) 1) (λ (d : ℕ). present d && anyOf (isReset z n) (generalHeads g v d)) (g .drives)
+    (λ d h. ap (λ (b : Bool). present d && b) (told (answer g (ResetOf z n) 0 0 (generalHeads g v d)) (anyOf (isReset z n) (generalHeads g v d)) (reset-answer g z n 0 0 (generalHeads g v d))))
+
+pub told-seal : (g : Geometry) (present : ℕ → Bool) (v : Device) (z n : ℕ) → toldBy g present v (SealOf z n) ≡ sealSeen g present v z n
+unfolding sealSeen
+told-seal g present v z n =
+    any-below-cong (λ (d : ℕ). present d && eqb (answer g (SealOf z n) 0 0 (generalHeads g v d)) 1) (λ (d : ℕ). present d && anyOf (isSeal z n) (generalHeads g v d)) (g .drives)
+    (λ d h. ap (λ (b : Bool). present d && b) (told (answer g (SealOf z n) 0 0 (generalHeads g v d)) (anyOf (isSeal z n) (generalHeads g v d)) (seal-answer g z n 0 0 (generalHeads g v d))))
+
 -- ---- rule 6, of one drive
+pub neither : (a b : Bool) → not (a || b) ≡ (not a && not b)
+neither true b = refl
+neither false b = refl
+
 abbrev pub driveClean : Geometry → (ℕ → Bool) → Device → ℕ → ℕ → ℕ → ℕ → Bool
 driveClean g present v z n q d =
     not (present d) || (leb (length (v d (dataZone z) .sectors)) (needed (g .drives) (g .unit) z q d)

@@ -1,7 +1,7 @@
 -- The calls on any input, on a device: what refuses each, what it stores, what it hands on or gives. The refusals are those of Refusals.antt, the
 -- stores those of Calls.antt and Mount.antt, what is shown and read that of Rules.antt.
 use Rattle.volume.specs.meaning.Rules.{lostDrive, Shown, isPresent, showing, valueAt}
-use Rattle.volume.specs.meaning.Refusals.{firstRefusal, Verdict, refuse, accept, TableLengths, zoneOf, offsetOf, formatRows, lookRows, mountRows, writeRows, flushRows, resetRows, readRows, peekRows}
+use Rattle.volume.specs.meaning.Refusals.{firstRefusal, Verdict, refuse, accept, TableLengths, zoneOf, offsetOf, formatRows, lookRows, mountRows, writeRows, flushRows, resetRows, readRows, peekRows, badPointers}
 use mathlib.Core.Bool.{Bool, _&&_, not}
 use Prim.Native.Nat.{ℕ, zero, _+_, _-_, _*_}
 use mathlib.Core.List.{List}
@@ -77,12 +77,12 @@ placeOf g a = record { drive = driveOf (g .drives) (g .unit) (zoneOf g a) (offse
 
 -- ==== the calls (t: the lengths of the tables; v: the device)
 abbrev pub formatCall : Geometry → TableLengths → (ℕ → Bool) → ℕ → Device → StoringCall
-formatCall g t named array v = record { refusals = formatRows g t named v; stores = formatStores g (namedDrives g named) (leftOut g named) array; state = formatState (leftOut g named) }
+formatCall g t named array v = record { refusals = formatRows g t (badPointers g named v) named v; stores = formatStores g (namedDrives g named) (leftOut g named) array; state = formatState (leftOut g named) }
 
 -- "It shows what a look shows after its last store": the state it leaves is mountState of that
 abbrev pub mountCall : Geometry → TableLengths → (ℕ → Bool) → Device → StoringCall
 mountCall g t named v = record {
-  refusals = mountRows g t named v;
+  refusals = mountRows g t (badPointers g named v) named v;
   stores = mountStores g (isPresent g named v) (lostDrive g named v) v;
   state = mountState (mountShows g (isPresent g named v) (lostDrive g named v) v);
 }
@@ -90,24 +90,24 @@ mountCall g t named v = record {
 -- count sectors from address a, out of a buffer
 abbrev pub writeCall : Geometry → TableLengths → (ℕ → Bool) → StateView → ℕ → ℕ → List ℕ → Device → StoringCall
 writeCall g t named state a count buffer v = record {
-  refusals = writeRows g t named state a count (length buffer) v;
+  refusals = writeRows g t (badPointers g named v) named state a count (length buffer) v;
   stores = writeStores g (callPresent g named state) v state (zoneOf g a) (sectorsIn g count buffer);
   state = writeState (lostIn g named state) state (zoneOf g a) (sectorsIn g count buffer);
 }
 
 abbrev pub flushCall : Geometry → TableLengths → (ℕ → Bool) → StateView → Device → StoringCall
-flushCall g t named state v = record { refusals = flushRows g t named state v; stores = flushStores g (callPresent g named state); state = flushState (lostIn g named state) state }
+flushCall g t named state v = record { refusals = flushRows g t (badPointers g named v) named state v; stores = flushStores g (callPresent g named state); state = flushState (lostIn g named state) state }
 
 abbrev pub resetCall : Geometry → TableLengths → (ℕ → Bool) → StateView → ℕ → Device → StoringCall
-resetCall g t named state z v = record { refusals = resetRows g t named state z v; stores = resetStores g (callPresent g named state) state z; state = resetState (lostIn g named state) state z }
+resetCall g t named state z v = record { refusals = resetRows g t (badPointers g named v) named state z v; stores = resetStores g (callPresent g named state) state z; state = resetState (lostIn g named state) state z }
 
 abbrev pub lookCall : Geometry → TableLengths → (ℕ → Bool) → Device → Given Shown
-lookCall g t named v = giving (firstRefusal (lookRows g t named v)) (showing g (isPresent g named v) (lostDrive g named v) v)
+lookCall g t named v = giving (firstRefusal (lookRows g t (badPointers g named v) named v)) (showing g (isPresent g named v) (lostDrive g named v) v)
 
 -- the values of rule 4
 abbrev pub readCall : Geometry → TableLengths → (ℕ → Bool) → StateView → ℕ → ℕ → ℕ → Device → Given (List (List ℕ))
 readCall g t named state a count len v =
-    giving (firstRefusal (readRows g t named state a count len v)) (tabulateFrom (valueAt g (callPresent g named state) v (zoneOf g a) (state .generation (zoneOf g a))) (offsetOf g a) count)
+    giving (firstRefusal (readRows g t (badPointers g named v) named state a count len v)) (tabulateFrom (valueAt g (callPresent g named state) v (zoneOf g a) (state .generation (zoneOf g a))) (offsetOf g a) count)
 
 abbrev pub peekCall : Geometry → TableLengths → (ℕ → Bool) → StateView → ℕ → Device → Given Place
-peekCall g t named state a v = giving (firstRefusal (peekRows g t named state a v)) (placeOf g a)
+peekCall g t named state a v = giving (firstRefusal (peekRows g t (badPointers g named v) named state a v)) (placeOf g a)

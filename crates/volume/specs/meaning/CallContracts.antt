@@ -9,7 +9,7 @@ use lib.Dec.{ltb, eqb}
 use Rattle.tables.specs.declared.Geometry.{Geometry}
 use Rattle.tables.specs.meaning.Basics.{pick}
 use Rattle.tables.specs.meaning.Device.{Store, flush, Device}
-use Rattle.tables.specs.meaning.Tables.{Tables, runStores, pointersBad, deviceOf, sectorAt}
+use Rattle.tables.specs.meaning.Tables.{Tables, runStores, pointersBad, deviceOf, byteAt, sectorAt}
 use Rattle.volume.specs.declared.Condition.the-variants.{Empty, Worn, Open}
 use Rattle.volume.specs.declared.ZoneRecord.{ZoneRecord}
 use Rattle.volume.specs.declared.State.{State}
@@ -59,13 +59,9 @@ verdictNumber accept = 0
 abbrev pub lengthsOf : Tables → TableLengths
 lengthsOf t = record { sectors = length (t .sectors); written = length (t .written); durable = length (t .durable) }
 
--- ---- refusals: row 3 decided on the pointers
-abbrev pub decided : Bool → List (ℕ × Bool) → List (ℕ × Bool)
-decided bad [] = []
-decided bad ((n, b) ∷ rows) = (n, pick (eqb n 3) bad b) ∷ decided bad rows
-
-unfoldable pub refusalOn : Geometry → List Bool → Tables → List (ℕ × Bool) → Verdict
-refusalOn g named t rows = firstRefusal (decided (pointersBad g named (t .written) (t .durable)) rows)
+-- row 3 by the tables' numbers
+abbrev pub badIn : Geometry → List Bool → Tables → Bool
+badIn g named t = pointersBad g named (t .written) (t .durable)
 
 -- ---- a storing call: the outcome, and the tables that it leaves
 pub record Result : Type 0 where
@@ -82,7 +78,7 @@ storingOn g n ss new old count t = record {
 
 -- ==== flush
 unfoldable pub flushVerdict : Geometry → List Bool → State → Tables → Verdict
-flushVerdict g named s t = refusalOn g named t (flushRows g (lengthsOf t) (isSet named) (viewState s) (deviceOf g t))
+flushVerdict g named s t = firstRefusal (flushRows g (lengthsOf t) (badIn g named t) (isSet named) (viewState s) (deviceOf g t))
 
 -- the state handed on: a drive left out of the call is lost
 abbrev pub withLost : State → ℕ → State
@@ -94,7 +90,7 @@ flushOn g named s count t =
 
 -- ==== reset
 unfoldable pub resetVerdict : Geometry → List Bool → State → ℕ → Tables → Verdict
-resetVerdict g named s z t = refusalOn g named t (resetRows g (lengthsOf t) (isSet named) (viewState s) z (deviceOf g t))
+resetVerdict g named s z t = firstRefusal (resetRows g (lengthsOf t) (badIn g named t) (isSet named) (viewState s) z (deviceOf g t))
 
 -- the zone's record afterwards: its generation raised; empty, or worn where that is now 2^64 − 1
 abbrev pub resetRecord : ZoneRecord → ZoneRecord
@@ -110,7 +106,7 @@ resetOn g named s z count t =
 
 -- ==== write: k sectors from address a
 unfoldable pub writeVerdict : Geometry → List Bool → State → ℕ → ℕ → ℕ → Tables → Verdict
-writeVerdict g named s a k bytes t = refusalOn g named t (writeRows g (lengthsOf t) (isSet named) (viewState s) a k bytes (deviceOf g t))
+writeVerdict g named s a k bytes t = firstRefusal (writeRows g (lengthsOf t) (badIn g named t) (isSet named) (viewState s) a k bytes (deviceOf g t))
 
 -- the state handed on: the zone open at n, and a drive left out of the call is lost
 abbrev pub writtenState : State → ℕ → ℕ → ℕ → State
@@ -127,19 +123,19 @@ writeOn g named s a k buffer count t =
 
 -- ==== format
 unfoldable pub formatVerdict : Geometry → List Bool → Tables → Verdict
-formatVerdict g named t = refusalOn g named t (formatRows g (lengthsOf t) (isSet named) (deviceOf g t))
+formatVerdict g named t = firstRefusal (formatRows g (lengthsOf t) (badIn g named t) (isSet named) (deviceOf g t))
 
 abbrev pub freshRecord : ZoneRecord
 freshRecord = record { generation = 1; condition = Empty }
 
--- the state handed on (x: the drive left out, or 255): all sixteen records alike
-unfoldable pub freshState : ℕ → State
-freshState x = record { lost = x; zones = replicate 16 freshRecord }
+-- the state handed on (x: the drive left out, or 255); records past the last zone are blank
+unfoldable pub freshState : Geometry → ℕ → State
+freshState g x = record { lost = x; zones = tabulate (λ z. freshRecord) (g .zones) ++ replicate (16 - g .zones) blankRecord }
 
 -- old: what the host held before; a format neither reads nor changes it, and hands it back if it is refused or unfinished
 unfoldable pub formatOn : Geometry → List Bool → ℕ → State → ℕ → Tables → Result
 formatOn g named array old count t =
-    storingOn g (verdictNumber (formatVerdict g named t)) (formatStores g (namedDrives g (isSet named)) (leftOut g (isSet named)) array) (freshState (leftOut g (isSet named))) old count t
+    storingOn g (verdictNumber (formatVerdict g named t)) (formatStores g (namedDrives g (isSet named)) (leftOut g (isSet named)) array) (freshState g (leftOut g (isSet named))) old count t
 
 -- ---- what is shown of a zone, as the code's record: all but the values
 abbrev pub zoneLookOf : ZoneShown → ZoneLook
@@ -154,7 +150,7 @@ stateShown g k = record { lost = k .lost; zones = tabulate (λ z. recordFrom (zo
 
 -- ==== look
 unfoldable pub lookVerdict : Geometry → List Bool → Tables → Verdict
-lookVerdict g named t = refusalOn g named t (lookRows g (lengthsOf t) (isSet named) (deviceOf g t))
+lookVerdict g named t = firstRefusal (lookRows g (lengthsOf t) (badIn g named t) (isSet named) (deviceOf g t))
 
 -- refused: the state stays; else what is shown is the state from then on. Nothing is stored.
 unfoldable pub lookOn : Geometry → List Bool → State → Tables → Outcome
@@ -165,7 +161,7 @@ lookOn g named old t =
 
 -- ==== mount
 unfoldable pub mountVerdict : Geometry → List Bool → Tables → Verdict
-mountVerdict g named t = refusalOn g named t (mountRows g (lengthsOf t) (isSet named) (deviceOf g t))
+mountVerdict g named t = firstRefusal (mountRows g (lengthsOf t) (badIn g named t) (isSet named) (deviceOf g t))
 
 -- the stores of steps 1 to 7, with the first flush
 unfoldable pub storesBefore : Geometry → (ℕ → Bool) → ℕ → Tables → List Store
@@ -187,7 +183,7 @@ mountOn g named old count t =
 
 -- ==== read: its answer, and its buffer
 unfoldable pub readNumber : Geometry → List Bool → State → ℕ → ℕ → ℕ → Tables → ℕ
-readNumber g named s a count len t = verdictNumber (refusalOn g named t (readRows g (lengthsOf t) (isSet named) (viewState s) a count len (deviceOf g t)))
+readNumber g named s a count len t = verdictNumber (firstRefusal (readRows g (lengthsOf t) (badIn g named t) (isSet named) (viewState s) a count len (deviceOf g t)))
 
 pub record ReadResult : Type 0 where
   pub answer : Answer
@@ -205,11 +201,22 @@ readOn g named s a count out t = record {
 
 -- ==== peek
 unfoldable pub peekNumber : Geometry → List Bool → State → ℕ → Tables → ℕ
-peekNumber g named s a t = verdictNumber (refusalOn g named t (peekRows g (lengthsOf t) (isSet named) (viewState s) a (deviceOf g t)))
+peekNumber g named s a t = verdictNumber (firstRefusal (peekRows g (lengthsOf t) (badIn g named t) (isSet named) (viewState s) a (deviceOf g t)))
 
 abbrev pub partAt : Geometry → List ℕ → Place → List ℕ
 partAt g xs p = sectorAt g xs (p .drive) (p .zone) (p .sector)
 
--- "gives the part of the lent sectors where that sector sits"; "a refused peek gives an empty part"
+-- the first byte of a place, counted from the first of the sectors
+abbrev pub byteOf : Geometry → Place → ℕ
+byteOf g p = byteAt g (p .drive) (p .zone) (p .sector)
+
+-- "gives the part of the lent sectors where that sector sits"; "a refused peek gives an empty part": its bytes, and where in the sectors it begins
 unfoldable pub peekOn : Geometry → List Bool → State → ℕ → Tables → List ℕ
 peekOn g named s a t = pick (eqb (peekNumber g named s a t) 0) (partAt g (t .sectors) (placeOf g a)) []
+
+unfoldable pub peekFrom : Geometry → List Bool → State → ℕ → Tables → ℕ
+peekFrom g named s a t = pick (eqb (peekNumber g named s a t) 0) (byteOf g (placeOf g a)) 0
+
+-- the pointer (a block of memory, and an offset in it) n bytes past another
+abbrev pub past : ℕ → ℕ × ℕ → ℕ × ℕ
+past n p = (p .0, n + p .1)

@@ -151,44 +151,35 @@ goneBefore g present v z n pointer = present (parityDriveAt g z pointer) && gone
 unfoldable pub notHeld : Geometry → (ℕ → Bool) → Device → ℕ → ℕ → ℕ → Bool
 notHeld g present v z n offset = not (heldAt (zoneView g present v z n) (driveOf (g .drives) (g .unit) z offset) (sectorOf (g .drives) (g .unit) offset))
 
--- ==== the calls
-unfoldable pub formatRows : Geometry → TableLengths → (ℕ → Bool) → Device → List (ℕ × Bool)
-formatRows g t named v =
-    (1, not (isValid g))
-    ∷ (2, not (tablesFit g t))
-    ∷ (3, badPointers g named v)
-    ∷ (4, twoUnnamed g named)
-    ∷ []
+-- ==== the calls. bad: row 3, which the device answers by badPointers and the tables by their numbers (CallContracts)
+-- rows 1 to 4, which every call begins with: shape, lengths, pointers, drives
+abbrev pub openingRows : Bool → Bool → Bool → Bool → List (ℕ × Bool) → List (ℕ × Bool)
+openingRows shape fits bad absent rest = (1, not shape) ∷ (2, not fits) ∷ (3, bad) ∷ (4, absent) ∷ rest
 
-unfoldable pub lookRows : Geometry → TableLengths → (ℕ → Bool) → Device → List (ℕ × Bool)
-lookRows g t named v =
-    (1, not (isValid g))
-    ∷ (2, not (tablesFit g t))
-    ∷ (3, badPointers g named v)
-    ∷ (4, twoLost g named v)
-    ∷ (5, badLabels g (isPresent g named v) v)
+unfoldable pub formatRows : Geometry → TableLengths → Bool → (ℕ → Bool) → Device → List (ℕ × Bool)
+formatRows g t bad named v =
+    openingRows (isValid g) (tablesFit g t) bad (twoUnnamed g named) []
+
+unfoldable pub lookRows : Geometry → TableLengths → Bool → (ℕ → Bool) → Device → List (ℕ × Bool)
+lookRows g t bad named v =
+    openingRows (isValid g) (tablesFit g t) bad (twoLost g named v)
+    ((5, badLabels g (isPresent g named v) v)
     ∷ (6, badLogs g (isPresent g named v) v)
-    ∷ []
+    ∷ [])
 
-unfoldable pub mountRows : Geometry → TableLengths → (ℕ → Bool) → Device → List (ℕ × Bool)
-mountRows g t named v =
-    (1, not (isValid g))
-    ∷ (2, not (tablesFit g t))
-    ∷ (3, badPointers g named v)
-    ∷ (4, twoLost g named v)
-    ∷ (5, badLabels g (isPresent g named v) v)
+unfoldable pub mountRows : Geometry → TableLengths → Bool → (ℕ → Bool) → Device → List (ℕ × Bool)
+mountRows g t bad named v =
+    openingRows (isValid g) (tablesFit g t) bad (twoLost g named v)
+    ((5, badLabels g (isPresent g named v) v)
     ∷ (6, badLogs g (isPresent g named v) v)
     ∷ (14, mountFull g (isPresent g named v) v)
-    ∷ []
+    ∷ [])
 
 -- count sectors from address a, out of a buffer of len bytes
-unfoldable pub writeRows : Geometry → TableLengths → (ℕ → Bool) → StateView → ℕ → ℕ → ℕ → Device → List (ℕ × Bool)
-writeRows g t named state a count len v =
-    (1, not (isValid g && stateWithin g state))
-    ∷ (2, not (tablesFit g t && bufferFits g count len))
-    ∷ (3, badPointers g named v)
-    ∷ (4, twoAbsent g named state)
-    ∷ (7, stale g (callPresent g named state) v state (zoneOf g a))
+unfoldable pub writeRows : Geometry → TableLengths → Bool → (ℕ → Bool) → StateView → ℕ → ℕ → ℕ → Device → List (ℕ × Bool)
+writeRows g t bad named state a count len v =
+    openingRows (isValid g && stateWithin g state) (tablesFit g t && bufferFits g count len) bad (twoAbsent g named state)
+    ((7, stale g (callPresent g named state) v state (zoneOf g a))
     ∷ (8, noZone g (zoneOf g a))
     ∷ (9, badRun g (offsetOf g a) count)
     ∷ (10, badOrder state (zoneOf g a) (offsetOf g a))
@@ -196,50 +187,37 @@ writeRows g t named state a count len v =
     ∷ (12, isWorn (state .condition (zoneOf g a)))
     ∷ (14, writeFull g (callPresent g named state) v (zoneOf g a) (pointerIn (state .condition (zoneOf g a)) + count))
     ∷ (15, goneBefore g (callPresent g named state) v (zoneOf g a) (state .generation (zoneOf g a)) (pointerIn (state .condition (zoneOf g a))))
-    ∷ []
+    ∷ [])
 
-unfoldable pub flushRows : Geometry → TableLengths → (ℕ → Bool) → StateView → Device → List (ℕ × Bool)
-flushRows g t named state v =
-    (1, not (isValid g && stateWithin g state))
-    ∷ (2, not (tablesFit g t))
-    ∷ (3, badPointers g named v)
-    ∷ (4, twoAbsent g named state)
-    ∷ []
+unfoldable pub flushRows : Geometry → TableLengths → Bool → (ℕ → Bool) → StateView → Device → List (ℕ × Bool)
+flushRows g t bad named state v =
+    openingRows (isValid g && stateWithin g state) (tablesFit g t) bad (twoAbsent g named state) []
 
-unfoldable pub resetRows : Geometry → TableLengths → (ℕ → Bool) → StateView → ℕ → Device → List (ℕ × Bool)
-resetRows g t named state z v =
-    (1, not (isValid g && stateWithin g state))
-    ∷ (2, not (tablesFit g t))
-    ∷ (3, badPointers g named v)
-    ∷ (4, twoAbsent g named state)
-    ∷ (7, stale g (callPresent g named state) v state z)
+unfoldable pub resetRows : Geometry → TableLengths → Bool → (ℕ → Bool) → StateView → ℕ → Device → List (ℕ × Bool)
+resetRows g t bad named state z v =
+    openingRows (isValid g && stateWithin g state) (tablesFit g t) bad (twoAbsent g named state)
+    ((7, stale g (callPresent g named state) v state z)
     ∷ (8, noZone g z)
     ∷ (12, wornFor state z)
     ∷ (14, resetFull g (callPresent g named state) v)
-    ∷ []
+    ∷ [])
 
 -- count sectors from address a, into a buffer of len bytes
-unfoldable pub readRows : Geometry → TableLengths → (ℕ → Bool) → StateView → ℕ → ℕ → ℕ → Device → List (ℕ × Bool)
-readRows g t named state a count len v =
-    (1, not (isValid g && stateWithin g state))
-    ∷ (2, not (tablesFit g t && bufferFits g count len))
-    ∷ (3, badPointers g named v)
-    ∷ (4, twoAbsent g named state)
-    ∷ (7, stale g (callPresent g named state) v state (zoneOf g a))
+unfoldable pub readRows : Geometry → TableLengths → Bool → (ℕ → Bool) → StateView → ℕ → ℕ → ℕ → Device → List (ℕ × Bool)
+readRows g t bad named state a count len v =
+    openingRows (isValid g && stateWithin g state) (tablesFit g t && bufferFits g count len) bad (twoAbsent g named state)
+    ((7, stale g (callPresent g named state) v state (zoneOf g a))
     ∷ (8, noZone g (zoneOf g a))
     ∷ (9, badRun g (offsetOf g a) count)
     ∷ (13, unwritten state (zoneOf g a) (offsetOf g a) count)
     ∷ (15, goneIn g (callPresent g named state) v (zoneOf g a) (state .generation (zoneOf g a)) (offsetOf g a) count)
-    ∷ []
+    ∷ [])
 
-unfoldable pub peekRows : Geometry → TableLengths → (ℕ → Bool) → StateView → ℕ → Device → List (ℕ × Bool)
-peekRows g t named state a v =
-    (1, not (isValid g && stateWithin g state))
-    ∷ (2, not (tablesFit g t))
-    ∷ (3, badPointers g named v)
-    ∷ (4, twoAbsent g named state)
-    ∷ (7, stale g (callPresent g named state) v state (zoneOf g a))
+unfoldable pub peekRows : Geometry → TableLengths → Bool → (ℕ → Bool) → StateView → ℕ → Device → List (ℕ × Bool)
+peekRows g t bad named state a v =
+    openingRows (isValid g && stateWithin g state) (tablesFit g t) bad (twoAbsent g named state)
+    ((7, stale g (callPresent g named state) v state (zoneOf g a))
     ∷ (8, noZone g (zoneOf g a))
     ∷ (13, unwritten state (zoneOf g a) (offsetOf g a) 1)
     ∷ (15, notHeld g (callPresent g named state) v (zoneOf g a) (state .generation (zoneOf g a)) (offsetOf g a))
-    ∷ []
+    ∷ [])

@@ -34,6 +34,17 @@ isWorn (Open n) = false
 isWorn (Sealed n) = false
 isWorn (Worn n) = true
 
+-- ---- a condition's number, wherever one is told: in the bytes of a state, in a script's lines
+abbrev pub conditionNumber : Condition → ℕ
+conditionNumber Empty = 0
+conditionNumber (Open n) = 1
+conditionNumber (Sealed n) = 2
+conditionNumber (Worn n) = 3
+
+-- and back, with a pointer
+abbrev pub conditionOfNumber : ℕ → ℕ → Condition
+conditionOfNumber k p = pick (eqb k 1) (Open p) (pick (eqb k 2) (Sealed p) (pick (eqb k 3) (Worn p) Empty))
+
 pub record StateView : Type 0 where
   pub lost : ℕ  -- or noDrive
   pub generation : ℕ → ℕ

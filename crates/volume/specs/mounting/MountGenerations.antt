@@ -16,6 +16,7 @@ use Rattle.tables.specs.meaning.Basics.{pick}
 use Rattle.tables.specs.laws.Basics.{eqb-same}
 use Rattle.tables.specs.meaning.Below.{eachBelow, anyBelow, allBelow, tabulate}
 use Rattle.tables.specs.laws.Below.{all-below-all, all-all-below, length-tabulate}
+use Rattle.tables.specs.laws.Lists.{numbers-same}
 use Rattle.tables.specs.meaning.LittleEndian.{sameBytes, readLE}
 use Rattle.tables.specs.laws.LittleEndian.{same-bytes-eq, same-bytes-refl}
 use Rattle.tables.specs.meaning.Geometry.{Valid}
@@ -37,12 +38,6 @@ use Rattle.volume.specs.mounting.MountTables.{StoresIn, each-in}
 use Rattle.volume.specs.mounting.MountLook.{zoneLook, shownBy, stays, log-stays}
 
 -- ---- two lists of one length, compared number by number
-from-numbers : (xs ys : List ℕ) → length xs ≡ length ys → ((k : ℕ) → k < length xs → getD xs k 0 ≡ getD ys k 0) → xs ≡ ys
-from-numbers [] [] e h = refl
-from-numbers [] (y ∷ ys) e h = absurd (omega arith)
-from-numbers (x ∷ xs) [] e h = absurd (omega arith)
-from-numbers (x ∷ xs) (y ∷ ys) e h = ap₂ (λ (a : ℕ) (b : List ℕ). a ∷ b) (h zero (omega arith)) (from-numbers xs ys (omega arith) (λ k l. h (suc k) (omega arith)))
-
 pub same-numbers : (xs ys : List ℕ) (n : ℕ) → length xs ≡ n → length ys ≡ n → sameBytes xs ys ≡ allBelow (λ z. eqb (getD xs z 0) (getD ys z 0)) n
 same-numbers xs ys n p q = go (sameBytes xs ys) refl (allBelow (λ z. eqb (getD xs z 0) (getD ys z 0)) n) refl
   where
@@ -51,7 +46,7 @@ same-numbers xs ys n p q = go (sameBytes xs ys) refl (allBelow (λ z. eqb (getD 
     go false e false f = refl
     go true e false f = absurd (true≢false (sym (all-all-below (λ z. eqb (getD xs z 0) (getD ys z 0)) n (λ k l. rw (same-bytes-eq xs ys e) (eqb-same (getD ys k 0)))) ∙ f))
     go false e true f =
-        let s : xs ≡ ys = from-numbers xs ys (p ∙ sym q) (λ k l. eqb-true (getD xs k 0) (getD ys k 0) (all-below-all (λ z. eqb (getD xs z 0) (getD ys z 0)) n k f (omega arith))) in
+        let s : xs ≡ ys = numbers-same xs ys (p ∙ sym q) (λ k l. eqb-true (getD xs k 0) (getD ys k 0) (all-below-all (λ z. eqb (getD xs z 0) (getD ys z 0)) n k f (omega arith))) in
         absurd (true≢false (sym (same-bytes-refl ys) ∙ rw s at e))
 
 -- of two drives' last counters

@@ -28,7 +28,7 @@ use Rattle.volume.specs.declared.Answer.the-variants.{Finished, Unfinish
 use Rattle.volume.specs.meaning.Refusals.{firstRefusal, mountRows, lookRows, twoLost, badLabels, badLogs, mountFull, reserve}
 use Rattle.volume.specs.meaning.Rules.{Shown, showing, isPresent}
 use Rattle.volume.specs.meaning.Mount.{withFlush, withFlushes, stepsBeforeEntries, phasesBeforeEntries, entryStep, afterOpening, mountLook}
-use Rattle.volume.specs.meaning.CallContracts.{isSet, verdictNumber, refusalOn, Result, storingOn, lookVerdict, stateShown, mountVerdict, storesBefore, mountStoresOn, mountShownOn, mountOn}
+use Rattle.volume.specs.meaning.CallContracts.{isSet, verdictNumber, Result, storingOn, lookVerdict, stateShown, mountVerdict, storesBefore, mountStoresOn, mountShownOn, mountOn}
 use Rattle.volume.specs.laws.CallContracts.{storing-unfinished, storing-finished}
 use Rattle.volume.specs.looking.Knowing.{readDevice}
 use Rattle.volume.specs.checks.ZoneChecks.{unusedOn, unused-is}
@@ -65,7 +65,7 @@ after-six false false false false false false false = refl
 
 module _ (g : Geometry) (named : List Bool) (xs ws ds : List ℕ) where
   mount-number : verdictNumber (mountVerdict g named (tablesOf xs ws ds)) ≡ pick (eqb (verdictNumber (lookVerdict g named (tablesOf xs ws ds))) 0) (pick (mountFull g (isPresent g (isSet named) (deviceOf g (tablesOf xs ws ds))) (deviceOf g (tablesOf xs ws ds))) 14 0) (verdictNumber (lookVerdict g named (tablesOf xs ws ds)))
-  unfolding mountVerdict lookVerdict refusalOn mountRows lookRows
+  unfolding mountVerdict lookVerdict mountRows lookRows
   mount-number = after-six (not (isValid g)) (not (lengthsFit g (length xs) (length ws) (length ds))) (pointersBad g named ws ds) (twoLost g (isSet named) (deviceOf g (tablesOf xs ws ds))) (badLabels g (isPresent g (isSet named) (deviceOf g (tablesOf xs ws ds))) (deviceOf g (tablesOf xs ws ds))) (badLogs g (isPresent g (isSet named) (deviceOf g (tablesOf xs ws ds))) (deviceOf g (tablesOf xs ws ds))) (mountFull g (isPresent g (isSet named) (deviceOf g (tablesOf xs ws ds))) (deviceOf g (tablesOf xs ws ds)))
 
   pub refused-by-look : (n : ℕ) → n ≡ verdictNumber (lookVerdict g named (tablesOf xs ws ds)) → n ≢ 0 → n ≡ verdictNumber (mountVerdict g named (tablesOf xs ws ds))

@@ -21,7 +21,7 @@ use Rattle.volume.specs.meaning.State.{StateView, callPresent}
 use Rattle.volume.specs.meaning.Rules.{View, heldAt}
 use Rattle.volume.specs.meaning.Refusals.{firstRefusal, stateWithin, twoAbsent, stale, noZone, unwritten, notHeld, zoneOf, offsetOf, peekRows}
 use Rattle.volume.specs.meaning.Answers.{placeOf}
-use Rattle.volume.specs.meaning.CallContracts.{viewState, isSet, verdictNumber, refusalOn, peekNumber, partAt, peekOn}
+use Rattle.volume.specs.meaning.CallContracts.{viewState, isSet, verdictNumber, peekNumber, partAt, peekOn, byteOf, peekFrom, past}
 use Rattle.volume.specs.checks.CheckLaws.{presentList, present-is, absent-two, openingNumber, Opened, opened, after-four}
 use Rattle.volume.specs.looking.Knowing.{readDevice, Readable, ownHeld}
 use Rattle.volume.specs.looking.KnowingLaws.{view-durable, held-is}
@@ -74,7 +74,7 @@ module _ (g : Geometry) (named : List Bool) (s : State) (a : ℕ) (xs ws ds : Li
   third = placeNumber g (callPresent g (isSet named) (viewState s)) (deviceOf g (tablesOf xs ws ds)) (viewState s) (zoneOf g a) (offsetOf g a)
 
   pub peek-number-is : peekNumber g named s a (tablesOf xs ws ds) ≡ pick (eqb first 0) (pick (eqb second 0) third second) first
-  unfolding peekNumber refusalOn peekRows openingNumber zoneNumber placeNumber
+  unfolding peekNumber peekRows openingNumber zoneNumber placeNumber
   peek-number-is =
       rw (absent-two g named s, no-buffer g, and-true (lengthsFit g (length xs) (length ws) (length ds))) (after-four (not (isValid g && stateWithin g (viewState s))) (not (lengthsFit g (length xs) (length ws) (length ds))) (pointersBad g named ws ds) (twoAbsent g (isSet named) (viewState s))
       (zoneRows g (callPresent g (isSet named) (viewState s)) (deviceOf g (tablesOf xs ws ds)) (viewState s) (zoneOf g a) ++ placeRows g (callPresent g (isSet named) (viewState s)) (deviceOf g (tablesOf xs ws ds)) (viewState s) (zoneOf g a) (offsetOf g a))
@@ -108,11 +108,16 @@ module _ (g : Geometry) (named : List Bool) (s : State) (a : ℕ) (xs ws ds : Li
       let o = opened g named s 0 0 (length xs) ws ds p in
       record { passed = o; zone-in = zone-on-in g (presentList g named (s .lost)) ws s (zoneOf g a) (second-is g named s a 0 0 xs ws ds o ∙ q) }
 
--- ---- how a peek ends
-pub peek-refused : (g : Geometry) (named : List Bool) (s : State) (a : ℕ) (t : Tables) → peekNumber g named s a t ≢ 0 → [] ≡ peekOn g named s a t
-unfolding peekOn
-peek-refused g named s a t h = rw (ne-eqb (peekNumber g named s a t) 0 h) refl
+-- ---- how a peek ends: its part, and where that begins
+pub peek-refused : (g : Geometry) (named : List Bool) (s : State) (a : ℕ) (t : Tables) → peekNumber g named s a t ≢ 0 → ([] ≡ peekOn g named s a t) × (0 ≡ peekFrom g named s a t)
+unfolding peekOn peekFrom
+peek-refused g named s a t h = rw (ne-eqb (peekNumber g named s a t) 0 h) (refl, refl)
 
-pub peek-done : (g : Geometry) (named : List Bool) (s : State) (a : ℕ) (t : Tables) → peekNumber g named s a t ≡ 0 → partAt g (t .sectors) (placeOf g a) ≡ peekOn g named s a t
-unfolding peekOn
-peek-done g named s a t h = rw (eq-eqb (peekNumber g named s a t) 0 h) refl
+pub peek-done : (g : Geometry) (named : List Bool) (s : State) (a : ℕ) (t : Tables) → peekNumber g named s a t ≡ 0
+    → (partAt g (t .sectors) (placeOf g a) ≡ peekOn g named s a t) × (byteOf g (placeOf g a) ≡ peekFrom g named s a t)
+unfolding peekOn peekFrom
+peek-done g named s a t h = rw (eq-eqb (peekNumber g named s a t) 0 h) (refl, refl)
+
+-- an empty part begins where the sectors do
+pub past-none : (p : ℕ × ℕ) → p ≡ past 0 p
+past-none p = let e : p .1 ≡ 0 + p .1 = omega arith in ap (λ (k : ℕ). let q : ℕ × ℕ = (p .0, k) in q) e

@@ -34,7 +34,7 @@ use Rattle.tables.specs.meaning.Drives.{noDrive}
 use Rattle.tables.specs.meaning.GeometryTest.{isValid}
 use Rattle.tables.specs.laws.TablesFrame.{lengths-are, pointers-good}
 use Rattle.volume.specs.checks.CheckLaws.{presentList, present-is, absent-two, openingNumber, Opened, opened, after-four}
-use Rattle.volume.specs.meaning.CallContracts.{recordAt, viewState, isSet, verdictNumber, refusalOn, readNumber, valuesOn, readOn}
+use Rattle.volume.specs.meaning.CallContracts.{recordAt, viewState, isSet, verdictNumber, readNumber, valuesOn, readOn}
 use Rattle.volume.specs.looking.Knowing.{readDevice, Readable, ownHeld, allHeld, ownSector}
 use Rattle.volume.specs.looking.KnowingLaws.{sectors-alike, view-durable, written-is}
 use Rattle.volume.specs.looking.KnowingValues.{value-held}
@@ -206,7 +206,7 @@ module _ (g : Geometry) (named : List Bool) (s : State) (a count bytes : ℕ) (x
   third = runNumber g (callPresent g (isSet named) (viewState s)) (deviceOf g (tablesOf xs ws ds)) (viewState s) (zoneOf g a) (offsetOf g a) count
 
   pub read-number-is : readNumber g named s a count bytes (tablesOf xs ws ds) ≡ pick (eqb first 0) (pick (eqb second 0) third second) first
-  unfolding readNumber refusalOn readRows openingNumber zoneNumber runNumber
+  unfolding readNumber readRows openingNumber zoneNumber runNumber
   read-number-is =
       rw (absent-two g named s) (after-four (not (isValid g && stateWithin g (viewState s))) (not (lengthsFit g (length xs) (length ws) (length ds) && bufferFits g count bytes)) (pointersBad g named ws ds) (twoAbsent g (isSet named) (viewState s))
       (zoneRows g (callPresent g (isSet named) (viewState s)) (deviceOf g (tablesOf xs ws ds)) (viewState s) (zoneOf g a) ++ runRows g (callPresent g (isSet named) (viewState s)) (deviceOf g (tablesOf xs ws ds)) (viewState s) (zoneOf g a) (offsetOf g a) count)

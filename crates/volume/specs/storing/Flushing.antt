@@ -16,7 +16,7 @@ use Rattle.tables.specs.laws.Phases.{on-present-append}
 use Rattle.volume.specs.declared.State.{State}
 use Rattle.volume.specs.meaning.Refusals.{flushRows}
 use Rattle.volume.specs.meaning.Calls.{flushStores}
-use Rattle.volume.specs.meaning.CallContracts.{verdictNumber, refusalOn, flushVerdict}
+use Rattle.volume.specs.meaning.CallContracts.{verdictNumber, flushVerdict}
 use Rattle.volume.specs.checks.CheckLaws.{absent-two, openingNumber}
 
 -- ---- the stores, drive by drive
@@ -48,5 +48,5 @@ unfolding bufferFits
 no-buffer g = eq-eqb 0 (0 * g .sector) (omega arith)
 
 pub flush-refusal : (g : Geometry) (named : List Bool) (s : State) (xs ws ds : List ℕ) → openingNumber g named s 0 0 (length xs) ws ds ≡ verdictNumber (flushVerdict g named s (tablesOf xs ws ds))
-unfolding flushVerdict refusalOn flushRows openingNumber
+unfolding flushVerdict flushRows openingNumber
 flush-refusal g named s xs ws ds = rw (no-buffer g, and-true (lengthsFit g (length xs) (length ws) (length ds)), absent-two g named s) refl

@@ -6,7 +6,7 @@ use Prim.Native.Nat.{ℕ, zero, suc, _+_, _-_, _≤_, _<_}
 use native.Mathlib.Decide.{decLt}
 use native.Mathlib.Omega.{arith}
 use mathlib.Core.List.{List, [], _∷_, _++_}
-use lib.ListN.{length, getD, take, replicate}
+use lib.ListN.{length, take, replicate}
 use lib.Dec.{ltb, eqb}
 use borrow.Author.Tests.{lt-ltb, le-ltb, ne-eqb}
 use Rattle.tables.specs.declared.Geometry.{Geometry}
@@ -28,19 +28,18 @@ use Rattle.volume.specs.meaning.State.{callPresent}
 use Rattle.volume.specs.meaning.Refusals.{firstRefusal, formatRows, twoUnnamed}
 use Rattle.volume.specs.meaning.Calls.{flushStores, generationsFrom, appendGeneral, formatStores, formatState}
 use Rattle.volume.specs.meaning.Answers.{leftOut, namedDrives}
-use Rattle.volume.specs.meaning.CallContracts.{blankRecord, viewState, isSet, verdictNumber, refusalOn, formatVerdict, freshRecord, freshState}
+use Rattle.volume.specs.meaning.CallContracts.{blankRecord, viewState, isSet, verdictNumber, formatVerdict, freshRecord, freshState}
 use Rattle.volume.specs.checks.CheckLaws.{presentList, present-is}
+use Rattle.volume.specs.looking.DrivesLost.{fill-at}
 use Rattle.volume.specs.checks.StoreLoops.{present-one, first-generations}
 
--- it is the state of the rules, in every zone that a volume can have
-record-alike : (n z : ℕ) → z < n → getD (replicate n freshRecord) z blankRecord ≡ freshRecord
-record-alike zero z h = absurd (omega arith)
-record-alike (suc n) zero h = refl
-record-alike (suc n) (suc z) h = record-alike n z (omega arith)
-
-pub format-views : (x z : ℕ) → z < 16 → (viewState (freshState x) .lost ≡ formatState x .lost) × (viewState (freshState x) .generation z ≡ formatState x .generation z) × (viewState (freshState x) .condition z ≡ formatState x .condition z)
+-- it is the state of the rules, in every zone of the volume
+pub format-views : (g : Geometry) (x z : ℕ) → z < g .zones
+    → (viewState (freshState g x) .lost ≡ formatState x .lost) × (viewState (freshState g x) .generation z ≡ formatState x .generation z) × (viewState (freshState g x) .condition z ≡ formatState x .condition z)
 unfolding freshState
-format-views x z h = let e = record-alike 16 z h in (refl, ap (λ (r : ZoneRecord). r .generation) e, ap (λ (r : ZoneRecord). r .condition) e)
+format-views g x z h =
+    let e = fill-at (λ y. freshRecord) blankRecord blankRecord (g .zones) (16 - g .zones) z h in
+    (refl, ap (λ (r : ZoneRecord). r .generation) e, ap (λ (r : ZoneRecord). r .condition) e)
 
 -- ==== refusals
 abbrev pub formatChecks : Geometry → List Bool → ℕ → List ℕ → List ℕ → List (ℕ × Bool)
@@ -78,7 +77,7 @@ module _ (g : Geometry) (named : List Bool) (sectors : ℕ) (ws ds : List ℕ) w
   format-0 a b c d = rw (a, b, c, le-ltb 1 (countBelow (λ e. not (isSet named e)) (g .drives)) d) refl
 
 pub format-refusal : (g : Geometry) (named : List Bool) (xs ws ds : List ℕ) → formatNumber g named (length xs) ws ds ≡ verdictNumber (formatVerdict g named (tablesOf xs ws ds))
-unfolding formatNumber formatVerdict refusalOn formatRows twoUnnamed
+unfolding formatNumber formatVerdict formatRows twoUnnamed
 format-refusal g named xs ws ds = refl
 
 -- what passing them gives

@@ -30,7 +30,7 @@ use Rattle.volume.specs.declared.State.{State}
 use Rattle.volume.specs.meaning.State.{callPresent, isWorn}
 use Rattle.volume.specs.meaning.Refusals.{stateWithin, twoAbsent, firstRefusal, flushRows, resetRows, stale, unusedBelow, noZone, wornFor}
 use Rattle.volume.specs.meaning.Calls.{flushStores, generationsFrom, appendGeneral, logsReset, raisedAt, resetStores, resetState}
-use Rattle.volume.specs.meaning.CallContracts.{recordAt, blankRecord, viewState, isSet, verdictNumber, refusalOn, flushVerdict, resetVerdict, resetRecord, withReset}
+use Rattle.volume.specs.meaning.CallContracts.{recordAt, blankRecord, viewState, isSet, verdictNumber, flushVerdict, resetVerdict, resetRecord, withReset}
 use Rattle.volume.specs.checks.CheckLaws.{presentList, present-is, openingNumber, Opened, opened, after-four}
 use Rattle.volume.specs.storing.Flushing.{flush-refusal}
 use Rattle.volume.specs.checks.StoreLoops.{first-generations}
@@ -137,7 +137,7 @@ rest-is g named s z xs ws ds h =
 reset-split : (g : Geometry) (named : List Bool) (s : State) (z : ℕ) (xs ws ds : List ℕ) → verdictNumber (resetVerdict g named s z (tablesOf xs ws ds))
     ≡ pick (eqb (verdictNumber (flushVerdict g named s (tablesOf xs ws ds))) 0) (verdictNumber (firstRefusal ((7, stale g (callPresent g (isSet named) (viewState s)) (deviceOf g (tablesOf xs ws ds)) (viewState s) z) ∷ (8, noZone g z) ∷ (12, wornFor (viewState s) z)
     ∷ (14, unusedBelow g (callPresent g (isSet named) (viewState s)) (deviceOf g (tablesOf xs ws ds)) generalZone (g .zones + 4)) ∷ []))) (verdictNumber (flushVerdict g named s (tablesOf xs ws ds)))
-unfolding resetVerdict refusalOn resetRows flushVerdict flushRows
+unfolding resetVerdict resetRows flushVerdict flushRows
 reset-split g named s z xs ws ds =
     after-four (not (isValid g && stateWithin g (viewState s))) (not (lengthsFit g (length xs) (length ws) (length ds))) (pointersBad g named ws ds) (twoAbsent g (isSet named) (viewState s))
     ((7, stale g (callPresent g (isSet named) (viewState s)) (deviceOf g (tablesOf xs ws ds)) (viewState s) z) ∷ (8, noZone g z) ∷ (12, wornFor (viewState s) z)

@@ -30,7 +30,7 @@ use Rattle.volume.specs.meaning.Rules.{View, valueAt, valueOf}
 use Rattle.volume.specs.meaning.Refusals.{firstRefusal, writeRows, stale, noZone, badRun, badOrder, writeFull, goneBefore, zoneOf, offsetOf, twoAbsent, stateWithin}
 use Rattle.volume.specs.meaning.Calls.{writeStores, writeState, writeWith, zoneContent}
 use Rattle.volume.specs.meaning.Answers.{sectorsIn}
-use Rattle.volume.specs.meaning.CallContracts.{viewState, recordAt, blankRecord, isSet, verdictNumber, refusalOn, writeVerdict, writtenState, pointerOf}
+use Rattle.volume.specs.meaning.CallContracts.{viewState, recordAt, blankRecord, isSet, verdictNumber, writeVerdict, writtenState, pointerOf}
 use Rattle.volume.specs.checks.CheckLaws.{Opened, opened, openingNumber, absent-two, after-four, presentList, present-is}
 use Rattle.volume.specs.looking.Knowing.{Readable, readDevice}
 use Rattle.volume.specs.looking.KnowingLaws.{view-durable}
@@ -83,7 +83,7 @@ lateNumber g here s z offset k xs ws = pick (leb (g .zones) z) 8 (zoneNumber g (
 module _ (g : Geometry) (named : List Bool) (s : State) (a k bytes : ℕ) (xs ws ds : List ℕ) where
   number-is : writeNumber g named s a k bytes xs ws ds
       ≡ pick (eqb (openingNumber g named s k bytes (length xs) ws ds) 0) (verdictNumber (firstRefusal (lateRows g named s a k (tablesOf xs ws ds)))) (openingNumber g named s k bytes (length xs) ws ds)
-  unfolding writeNumber writeVerdict refusalOn writeRows openingNumber
+  unfolding writeNumber writeVerdict writeRows openingNumber
   number-is = rw (absent-two g named s) (after-four (not (isValid g && stateWithin g (viewState s))) (not (lengthsFit g (length xs) (length ws) (length ds) && bufferFits g k bytes)) (pointersBad g named ws ds) (twoAbsent g (isSet named) (viewState s)) (lateRows g named s a k (tablesOf xs ws ds)))
 
   pub number-opening : openingNumber g named s k bytes (length xs) ws ds ≢ 0 → openingNumber g named s k bytes (length xs) ws ds ≡ writeNumber g named s a k bytes xs ws ds

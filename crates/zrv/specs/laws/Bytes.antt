@@ -16,9 +16,9 @@ use Rattle.tables.specs.laws.LittleEndian.{writeLE, same-bytes-eq}
 use Rattle.tables.specs.laws.Lists.{lay-lay}
 use Rattle.volume.specs.declared.ZoneRecord.{ZoneRecord}
 use Rattle.volume.specs.declared.State.{State}
-use Rattle.volume.specs.meaning.State.{pointerIn}
+use Rattle.volume.specs.meaning.State.{pointerIn, conditionNumber}
 use Rattle.volume.specs.meaning.CallContracts.{recordAt}
-use Rattle.zrv.specs.meaning.Bytes.{wordsTo, kindOf, recordTo, recordsTo, noState, stateTo, stateFrom, stateWellFormed}
+use Rattle.zrv.specs.meaning.Bytes.{wordsTo, recordTo, recordsTo, noState, stateTo, stateFrom, stateWellFormed}
 
 -- ---- laws: bytes of the form are those of the state that they hold
 pub bytes-state-bytes : (zones : ℕ) (xs : List ℕ) → stateWellFormed zones xs ≡ true → stateTo zones (stateFrom zones xs) ≡ xs
@@ -53,11 +53,11 @@ words-more n ts b =
 
 -- a record's three numbers, laid one after the other
 pub record-laid : (xs : List ℕ) (at : ℕ) (r : ZoneRecord) → at + 16 ≤ length xs
-    → writeLE 4 (writeLE 4 (writeLE 8 xs at (r .generation)) (at + 8) (kindOf (r .condition))) (at + 12) (pointerIn (r .condition) % 4294967296) ≡ overlay xs at (recordTo r)
+    → writeLE 4 (writeLE 4 (writeLE 8 xs at (r .generation)) (at + 8) (conditionNumber (r .condition))) (at + 12) (pointerIn (r .condition) % 4294967296) ≡ overlay xs at (recordTo r)
 unfolding recordTo
 record-laid xs at r h =
     let a = bytesLE 8 (r .generation) in
-    let b = bytesLE 4 (kindOf (r .condition)) in
+    let b = bytesLE 4 (conditionNumber (r .condition)) in
     let c = bytesLE 4 (pointerIn (r .condition) % 4294967296) in
     ap (λ (ys : List ℕ). overlay ys (at + 12) c) (lay-lay xs at a b (omega arith)) ∙ lay-lay xs at (a ++ b) c (omega arith)
 

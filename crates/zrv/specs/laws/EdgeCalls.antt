@@ -183,4 +183,4 @@ module _ (g : Geometry) (a n : ℕ) (place : List ℕ) where
 
 -- the part that a peek gives is the sector's bytes from that offset
 pub peeked-at : (g : Geometry) (named : List Bool) (s : State) (a : ℕ) (t : Tables) → peekNumber g named s a t ≡ 0 → take (g .sector) (drop (offsetAt g a) (t .sectors)) ≡ peekOn g named s a t
-peeked-at g named s a t h = peek-done g named s a t h
+peeked-at g named s a t h = peek-done g named s a t h .0

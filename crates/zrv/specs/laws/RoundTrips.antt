@@ -1,16 +1,13 @@
 -- What the C edge writes reads back: tables and states, from numbers to bytes and back, and from bytes to numbers and back.
 use mathlib.Core.Path.{_≡_, refl, sym, ap, ap₂, _∙_}
-use mathlib.Core.Logic.{_≢_}
 use mathlib.Core.Bool.{true}
 use Prim.Native.Nat.{ℕ, zero, suc, _+_, _-_, _*_, _%_, _^_, _≤_, _<_}
 use native.Mathlib.Decide.{decLt}
 use native.Mathlib.Nat.{mod-lt, mod-eq-of-lt}
 use native.Mathlib.Omega.{arith}
 use mathlib.Core.List.{append-assoc, List, _++_}
-use lib.ListN.{length, getD, take, drop, replicate, length-append, length-drop, length-replicate}
+use lib.ListN.{length, getD, take, drop, replicate, length-append, length-drop}
 use lib.Seq.{drop-at, drop-drop, take-add, take-length, take-append-le, drop-append-le, length-take-le, ext-getD}
-use Rattle.tables.specs.declared.Geometry.{Geometry}
-use Rattle.tables.specs.meaning.Geometry.{cells}
 use Rattle.tables.specs.meaning.Below.{tabulate}
 use Rattle.tables.specs.laws.Below.{length-tabulate, getD-tabulate}
 use Rattle.tables.specs.meaning.LittleEndian.{bytesLE, numberLE, readLE, sameBytes}
@@ -19,15 +16,12 @@ use Rattle.volume.specs.declared.Condition.{Condition}
 use Rattle.volume.specs.declared.Condition.the-variants.{Empty, Open, Sealed, Worn}
 use Rattle.volume.specs.declared.ZoneRecord.{ZoneRecord}
 use Rattle.volume.specs.declared.State.{State}
-use Rattle.volume.specs.declared.Outcome.{Outcome}
-use Rattle.volume.specs.meaning.State.{pointerIn}
-use Rattle.volume.specs.meaning.CallContracts.{blankRecord, recordAt, answerNumber, Result}
-use Rattle.volume.specs.looking.DrivesLost.{fill-at, fill-past}
+use Rattle.volume.specs.meaning.State.{pointerIn, conditionNumber, conditionOfNumber}
+use Rattle.volume.specs.meaning.CallContracts.{blankRecord, recordAt}
+use Rattle.volume.specs.looking.DrivesLost.{fill-long, fill-at, fill-past}
 use Rattle.volume.specs.laws.ByteLists.{Bytes, bytes-take, bytes-drop, number-in-bytes, number-small, bytes-number-bytes}
-use Rattle.zrv.specs.meaning.Bytes.{tableFrom, tableTo, wordsTo, kindOf, conditionFrom, recordTo, recordFrom, recordsTo, noState, stateTo, stateFrom, stateWellFormed}
+use Rattle.zrv.specs.meaning.Bytes.{tableFrom, tableTo, wordsTo, recordTo, recordFrom, recordsTo, noState, stateTo, stateFrom, stateWellFormed}
 use Rattle.zrv.specs.laws.Bytes.{length-words-to, length-records-to, bytes-state-bytes}
-use Rattle.zrv.specs.meaning.EdgeCalls.{Ranges, tablesIn, answered, handedBack, storedAll, storedAppends, storedFlushes}
-use Rattle.zrv.specs.laws.EdgeCalls.{state-kept}
 
 -- ---- tables
 word-at : (n i : ℕ) (ts : List ℕ) → i < n → getD ts i 0 < 256 ^ 4 → readLE 4 (wordsTo n ts) (i * 4) ≡ getD ts i 0
@@ -48,6 +42,11 @@ word-at (suc n) i ts l h = go (decLt i n) (λ k. word-at n i ts k h)
         ∙ ap (λ (l : List ℕ). numberLE (take 4 l)) (drop-at (wordsTo n ts) (bytesLE 4 (getD ts n 0)) (n * 4) (length-words-to n ts))
         ∙ number-bytes-le 4 (getD ts n 0) (rw (← e) h)
         ∙ ap (λ (j : ℕ). getD ts j 0) (sym e)
+
+-- a number of 32 bits in a table of n, written, reads back
+pub number-back : (n : ℕ) (ts : List ℕ) (i : ℕ) → length ts ≡ n → i < n → getD ts i 0 < 256 ^ 4 → getD (tableFrom n (tableTo ts)) i 0 ≡ getD ts i 0
+unfolding tableFrom tableTo
+number-back n ts i e h k = getD-tabulate (λ j. readLE 4 (wordsTo (length ts) ts) (j * 4)) n i 0 h ∙ word-at (length ts) i ts (rw e h) k
 
 -- a table of 32-bit numbers, written, reads back
 pub table-bytes-table : (ts : List ℕ) → ((i : ℕ) → i < length ts → getD ts i 0 < 256 ^ 4) → tableFrom (length ts) (tableTo ts) ≡ ts
@@ -83,9 +82,6 @@ pub record StateRange (zones : ℕ) (s : State) : Type 0 where
   pub pointers : (z : ℕ) → z < zones → pointerIn (recordAt s z .condition) < 4294967296
   pub past : (z : ℕ) → zones ≤ z → recordAt s z ≡ blankRecord
 
-pub sixteen-records : (f : ℕ → ZoneRecord) (zones : ℕ) → zones ≤ 16 → length (tabulate f zones ++ replicate (16 - zones) blankRecord) ≡ 16
-sixteen-records f zones h = length-append (tabulate f zones) (replicate (16 - zones) blankRecord) ∙ omega (arith, length-tabulate f zones, length-replicate (16 - zones) blankRecord, h)
-
 -- where its parts lie
 lost-at : (n : ℕ) (s : State) (t : List ℕ) → (rest : List ℕ) × (recordsTo n s ++ t ≡ bytesLE 8 (s .lost % 256) ++ rest)
 lost-at zero s t = (t, refl)
@@ -108,10 +104,10 @@ record-at (suc n) z s t h = go (decLt z n) (λ k. record-at n z s (recordTo (rec
         )
 
 -- a condition's two numbers
-condition-back : (c : Condition) → pointerIn c < 4294967296 → conditionFrom (numberLE (bytesLE 4 (kindOf c))) (numberLE (bytesLE 4 (pointerIn c % 4294967296))) ≡ c
+condition-back : (c : Condition) → pointerIn c < 4294967296 → conditionOfNumber (numberLE (bytesLE 4 (conditionNumber c))) (numberLE (bytesLE 4 (pointerIn c % 4294967296))) ≡ c
 condition-back c h = let m : pointerIn c % 4294967296 < 4294967296 = mod-lt (pointerIn c) (omega arith) in by c (number-bytes-le 4 (pointerIn c % 4294967296) m ∙ mod-eq-of-lt h)
   where
-    by : (d : Condition) → numberLE (bytesLE 4 (pointerIn d % 4294967296)) ≡ pointerIn d → conditionFrom (numberLE (bytesLE 4 (kindOf d))) (numberLE (bytesLE 4 (pointerIn d % 4294967296))) ≡ d
+    by : (d : Condition) → numberLE (bytesLE 4 (pointerIn d % 4294967296)) ≡ pointerIn d → conditionOfNumber (numberLE (bytesLE 4 (conditionNumber d))) (numberLE (bytesLE 4 (pointerIn d % 4294967296))) ≡ d
     by Empty e = refl
     by (Open n) e = ap Open e
     by (Sealed n) e = ap Sealed e
@@ -121,9 +117,9 @@ record-back : (xs : List ℕ) (at : ℕ) (r : ZoneRecord) (rest : List ℕ) → 
 unfolding recordFrom recordTo
 record-back xs at r rest e g p =
     let a : readLE 8 xs at ≡ r .generation = ap (λ (l : List ℕ). numberLE (take 8 l)) e ∙ number-bytes-le 8 (r .generation) g in
-    let k : readLE 4 xs (at + 8) ≡ numberLE (bytesLE 4 (kindOf (r .condition))) = ap (λ (l : List ℕ). numberLE (take 4 l)) (sym (drop-drop 8 at xs) ∙ ap (drop 8) e) in
+    let k : readLE 4 xs (at + 8) ≡ numberLE (bytesLE 4 (conditionNumber (r .condition))) = ap (λ (l : List ℕ). numberLE (take 4 l)) (sym (drop-drop 8 at xs) ∙ ap (drop 8) e) in
     let q : readLE 4 xs (at + 12) ≡ numberLE (bytesLE 4 (pointerIn (r .condition) % 4294967296)) = ap (λ (l : List ℕ). numberLE (take 4 l)) (sym (drop-drop 12 at xs) ∙ ap (drop 12) e) in
-    ap₂ (λ (n : ℕ) (c : Condition). record { generation = n; condition = c }) a (ap₂ conditionFrom k q ∙ condition-back (r .condition) p)
+    ap₂ (λ (n : ℕ) (c : Condition). record { generation = n; condition = c }) a (ap₂ conditionOfNumber k q ∙ condition-back (r .condition) p)
 
 -- a state in range, written, reads back
 pub state-bytes-state : (zones : ℕ) (s : State) → StateRange zones s → stateFrom zones (stateTo zones s) ≡ s
@@ -135,7 +131,7 @@ state-bytes-state zones s h =
     let b : s .lost % 256 < 256 = mod-lt (s .lost) (omega arith) in
     let m : s .lost % 256 < 18446744073709551616 = omega (arith, b) in
     let a : readLE 8 xs 0 ≡ s .lost = ap (λ (l : List ℕ). numberLE (take 8 l)) e ∙ number-bytes-le 8 (s .lost % 256) m ∙ mod-eq-of-lt (h .lost-byte) in
-    let long : length (tabulate f zones ++ replicate (16 - zones) blankRecord) ≡ 16 = sixteen-records f zones (h .zones-most) in
+    let long : length (tabulate f zones ++ replicate (16 - zones) blankRecord) ≡ 16 = fill-long f blankRecord 16 zones (h .zones-most) in
     ap₂ (λ (n : ℕ) (rs : List ZoneRecord). record { lost = n; zones = rs }) a
     (ext-getD blankRecord (tabulate f zones ++ replicate (16 - zones) blankRecord) (s .zones) (long ∙ sym (h .sixteen)) (λ z l. each z (decLt z zones)))
   where
@@ -167,42 +163,3 @@ read-generation zones xs z w h =
     let r : recordAt s z .generation ≡ readLE 8 xs (8 + 16 * z) = ap (λ (t : ZoneRecord). t .generation) (fill-at (λ y. recordFrom xs (8 + 16 * y)) blankRecord blankRecord zones (16 - zones) z h) in
     let q : recordAt s z .generation ≡ numberLE (bytesLE 8 (recordAt s z .generation)) = r ∙ ap (λ (l : List ℕ). numberLE (take 8 l)) d in
     rw q (number-small 8 (bytesLE 8 (recordAt s z .generation)) (omega arith) (number-in-bytes 8 (recordAt s z .generation)))
-
--- ---- what bytes hold of any state: its lost drive and the records of the volume's zones
-unfoldable pub zonesOnly : ℕ → State → State
-zonesOnly zones s = record { lost = s .lost; zones = tabulate (λ z. recordAt s z) zones ++ replicate (16 - zones) blankRecord }
-
-pub zones-only-lost : (zones : ℕ) (s : State) → zonesOnly zones s .lost ≡ s .lost
-unfolding zonesOnly
-zones-only-lost zones s = refl
-
-pub zones-only-at : (zones : ℕ) (s : State) (z : ℕ) → z < zones → recordAt (zonesOnly zones s) z ≡ recordAt s z
-unfolding zonesOnly
-zones-only-at zones s z h = fill-at (λ y. recordAt s y) blankRecord blankRecord zones (16 - zones) z h
-
--- bytes are made of those alone
-same-records : (zones n : ℕ) (s t : State) → n ≤ zones → s .lost ≡ t .lost → ((z : ℕ) → z < zones → recordAt s z ≡ recordAt t z) → recordsTo n s ≡ recordsTo n t
-same-records zones zero s t h l e = ap (λ (x : ℕ). bytesLE 8 (x % 256)) l
-same-records zones (suc n) s t h l e = ap₂ (λ (xs : List ℕ) (r : ZoneRecord). xs ++ recordTo r) (same-records zones n s t (omega arith) l e) (e n (omega arith))
-
-pub zones-only-bytes : (zones : ℕ) (s : State) → stateTo zones (zonesOnly zones s) ≡ stateTo zones s
-unfolding stateTo
-zones-only-bytes zones s = ap (λ (l : List ℕ). l ++ drop (8 + 16 * zones) noState) (same-records zones zones (zonesOnly zones s) s (omega arith) (zones-only-lost zones s) (zones-only-at zones s))
-
--- ---- a refused call on bytes leaves every range as it was: tables that it might have changed are written again, as the same bytes. One law for each
--- of the four forms of EdgeCalls
-module _ (g : Geometry) (m : Ranges) (r : Result) (q : r .tables ≡ tablesIn g m) (n : answerNumber (r .outcome .answer) ≢ 0) where
-  pub refused-all : Bytes (m .written) → Bytes (m .durable) → length (m .written) ≡ cells g * 4 → length (m .durable) ≡ cells g * 4 → storedAll g r m ≡ answered (answerNumber (r .outcome .answer)) m
-  unfolding storedAll
-  refused-all a b c d = rw (q, bytes-table-bytes (cells g) (m .written) a c, bytes-table-bytes (cells g) (m .durable) b d, sym (state-kept g (r .outcome) (m .state) n)) refl
-
-  pub refused-appends : Bytes (m .written) → length (m .written) ≡ cells g * 4 → storedAppends g r m ≡ answered (answerNumber (r .outcome .answer)) m
-  unfolding storedAppends
-  refused-appends a c = rw (q, bytes-table-bytes (cells g) (m .written) a c, sym (state-kept g (r .outcome) (m .state) n)) refl
-
-  pub refused-flushes : Bytes (m .durable) → length (m .durable) ≡ cells g * 4 → storedFlushes g r m ≡ answered (answerNumber (r .outcome .answer)) m
-  unfolding storedFlushes
-  refused-flushes b d = rw (q, bytes-table-bytes (cells g) (m .durable) b d, sym (state-kept g (r .outcome) (m .state) n)) refl
-
-pub refused-shown : (g : Geometry) (m : Ranges) (o : Outcome) → answerNumber (o .answer) ≢ 0 → handedBack g o m ≡ answered (answerNumber (o .answer)) m
-refused-shown g m o n = rw (sym (state-kept g o (m .state) n)) refl

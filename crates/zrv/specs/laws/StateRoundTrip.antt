@@ -1,6 +1,5 @@
 -- What a finished call of the C edge hands on: the state's bytes that it leaves are those of the state that the call on tables hands on, they read back as
 -- that very state, and the next call takes them. So it is for each of the six calls that hand on a state; nothing is asked but that the call returned 0.
--- A format hands on sixteen records, all alike, and bytes hold those of the volume's zones: its state is taken without the others (zonesOnly).
 use mathlib.Core.Path.{_≡_, refl, sym, ap, _∙_}
 use mathlib.Core.Logic.{_⊎_, inl, inr}
 use mathlib.Core.Bool.{Bool, true, false, _&&_, _||_, not}
@@ -36,18 +35,17 @@ use Rattle.volume.specs.meaning.Rules.{isLost, conditionOf, generationOf, point
 use Rattle.volume.specs.meaning.Refusals.{stateWithin, zoneOf}
 use Rattle.volume.specs.meaning.Calls.{flushStores, resetStores, writeStores, formatStores}
 use Rattle.volume.specs.meaning.Answers.{lostIn, leftOut, namedDrives, sectorsIn}
-use Rattle.volume.specs.meaning.CallContracts.{blankRecord, recordAt, viewState, isSet, answerNumber, verdictNumber, storingOn, zoneLookOf, flushVerdict, withLost, flushOn, resetVerdict, resetRecord, withReset, resetOn, formatVerdict, freshState, formatOn, recordFrom, stateShown, lookVerdict, lookOn, writeVerdict, writtenState, pointerOf, writeOn, mountVerdict, mountStoresOn, mountShownOn, mountOn}
-use Rattle.volume.specs.looking.DrivesLost.{fill-at, fill-past}
+use Rattle.volume.specs.meaning.CallContracts.{blankRecord, freshRecord, recordAt, viewState, isSet, answerNumber, verdictNumber, storingOn, zoneLookOf, flushVerdict, withLost, flushOn, resetVerdict, resetRecord, withReset, resetOn, formatVerdict, freshState, formatOn, recordFrom, stateShown, lookVerdict, lookOn, writeVerdict, writtenState, pointerOf, writeOn, mountVerdict, mountStoresOn, mountShownOn, mountOn}
+use Rattle.volume.specs.looking.DrivesLost.{fill-long, fill-at, fill-past}
 use Rattle.volume.specs.checks.ZoneChecks.{pointer-within}
 use Rattle.volume.specs.storing.Resetting.{reset-refusal, reset-accepted}
-use Rattle.volume.specs.storing.Formatting.{format-views}
 use Rattle.volume.specs.writing.Writing.{writeNumber, write-accepted}
 use Rattle.volume.specs.laws.GenerationRange.{generation-range}
 use Rattle.volume.specs.mounting.MountStart.{worn-top, pointer-within as pointer-at-within}
 use Rattle.zrv.specs.meaning.Bytes.{stateFrom, stateTo, stateWellFormed}
 use Rattle.zrv.specs.meaning.EdgeCalls.{namedOf, sizesFit, stateBad, inputNumber, sizesNumber, Ranges, tablesIn, stateIn, unreadState, stateAfter, Answered, unlessRefused, handedBack, storedAll, storedAppends, storedFlushes, flushOfBytes, flushEdge, lookOfBytes, lookEdge, mountOfBytes, mountEdge, formatOfBytes, formatEdge, resetOfBytes, resetEdge, writeOfBytes, writeEdge}
 use Rattle.zrv.specs.laws.EdgeCalls.{Sized, input-passed, sizes-passed, refused, made, state-new}
-use Rattle.zrv.specs.laws.RoundTrips.{StateRange, sixteen-records, state-bytes-state, length-state-to, state-well-formed, read-generation, zonesOnly, zones-only-at, zones-only-bytes}
+use Rattle.zrv.specs.laws.RoundTrips.{StateRange, state-bytes-state, length-state-to, state-well-formed, read-generation}
 
 -- ---- what is promised of the bytes that a call leaves and of the state s that it hands on (w, d: the lengths of the two tables, in bytes)
 pub record HandsOn (g : Geometry) (bytes : List ℕ) (s : State) (w d : ℕ) : Type 0 where
@@ -120,19 +118,19 @@ hands-on g bytes s n w d q e b =
     }
 
 -- ---- a call that returned 0: nothing was refused before it, it is finished, and its state's bytes are those of its outcome's state
-module _ (g : Geometry) (n : ℕ) (r : Answered Ranges) (o : Outcome) (s : State) (m : Ranges) where
-  edge-hands-on : answerNumber (o .answer) ≡ r .code → stateAfter g o (m .state) ≡ r .left .state → stateTo (g .zones) (o .state) ≡ stateTo (g .zones) s
-      → (n ≡ 0 → Sized g (length (m .state)) (length (m .written)) (length (m .durable))) → (n ≡ 0 → Valid g → answerNumber (o .answer) ≡ 0 → Bounded g s)
-      → unlessRefused n r m .code ≡ 0 → HandsOn g (unlessRefused n r m .left .state) s (length (m .written)) (length (m .durable))
-  edge-hands-on answers left same sized bounded h = go (ℕ-discrete n 0)
+module _ (g : Geometry) (n : ℕ) (r : Answered Ranges) (o : Outcome) (m : Ranges) where
+  edge-hands-on : answerNumber (o .answer) ≡ r .code → stateAfter g o (m .state) ≡ r .left .state
+      → (n ≡ 0 → Sized g (length (m .state)) (length (m .written)) (length (m .durable))) → (n ≡ 0 → Valid g → answerNumber (o .answer) ≡ 0 → Bounded g (o .state))
+      → unlessRefused n r m .code ≡ 0 → HandsOn g (unlessRefused n r m .left .state) (o .state) (length (m .written)) (length (m .durable))
+  edge-hands-on answers left sized bounded h = go (ℕ-discrete n 0)
     where
-      go : Dec (n ≡ 0) → HandsOn g (unlessRefused n r m .left .state) s (length (m .written)) (length (m .durable))
+      go : Dec (n ≡ 0) → HandsOn g (unlessRefused n r m .left .state) (o .state) (length (m .written)) (length (m .durable))
       go (no e) = absurd (e (ap (λ (x : Answered Ranges). x .code) (refused n r m e) ∙ h))
       go (yes e) =
           let u : r ≡ unlessRefused n r m = made n r m e in
           let a : answerNumber (o .answer) ≡ 0 = answers ∙ ap (λ (x : Answered Ranges). x .code) u ∙ h in
-          let b : unlessRefused n r m .left .state ≡ stateTo (g .zones) s = sym (state-new g o (m .state) a ∙ left ∙ ap (λ (x : Answered Ranges). x .left .state) u) ∙ same in
-          hands-on g (unlessRefused n r m .left .state) s (length (m .state)) (length (m .written)) (length (m .durable)) (sized e) b (bounded e (sized e .valid) a)
+          let b : unlessRefused n r m .left .state ≡ stateTo (g .zones) (o .state) = sym (state-new g o (m .state) a ∙ left ∙ ap (λ (x : Answered Ranges). x .left .state) u) in
+          hands-on g (unlessRefused n r m .left .state) (o .state) (length (m .state)) (length (m .written)) (length (m .durable)) (sized e) b (bounded e (sized e .valid) a)
 
 -- a finished call was not refused, and its state is the new one
 module _ (P : State → Type 0) (g : Geometry) (n : ℕ) (ss : List Store) (new old : State) (count : ℕ) (t : Tables) where
@@ -175,7 +173,7 @@ read-bounded g st w d h =
     let (well, within) = state-passed g st w d h in
     record {
       lost-drive = within-lost g (stateFrom (g .zones) st) within;
-      sixteen = sixteen-records _ (g .zones) (input-passed g st w d h .valid .zones-most);
+      sixteen = fill-long _ blankRecord 16 (g .zones) (input-passed g st w d h .valid .zones-most);
       generations = λ z l. read-generation (g .zones) st z well l;
       pointers = λ z l. pointer-within g (stateFrom (g .zones) st) z within l;
       past = λ z l. fill-past _ blankRecord (g .zones) (16 - g .zones) z l;
@@ -230,7 +228,7 @@ shown-bounded : (g : Geometry) (present lost : ℕ → Bool) (v : Device) → Va
 unfolding stateShown showing zoneShown zoneAt
 shown-bounded g present lost v ok = record {
   lost-drive = drive-found lost (g .drives);
-  sixteen = sixteen-records (λ y. recordFrom (zoneLookOf (zoneShown g present v y))) (g .zones) (ok .zones-most);
+  sixteen = fill-long (λ y. recordFrom (zoneLookOf (zoneShown g present v y))) blankRecord 16 (g .zones) (ok .zones-most);
   generations = λ z h. rw (at z h) (generation-range g present v z h);
   pointers = λ z h. rw (at z h) (pointer z);
   past = λ z h. fill-past (λ y. recordFrom (zoneLookOf (zoneShown g present v y))) blankRecord (g .zones) (16 - g .zones) z h;
@@ -301,29 +299,24 @@ module _ (g : Geometry) (ok : Valid g) (named : List Bool) (old : State) where
       finished-new (Bounded g) g (verdictNumber (mountVerdict g named t)) ss (mountShownOn g present (lostDrive g (isSet named) (deviceOf g t)) t) old count t
       (λ v. shown-bounded g present (isLost g (isSet named) (deviceOf g t)) (deviceOf g (runStores g (length ss) ss t)) ok)
 
--- a format's sixteen records are all alike; bytes hold those of the volume's zones
-fresh-bounded : (g : Geometry) (named : List Bool) → Valid g → Bounded g (zonesOnly (g .zones) (freshState (leftOut g (isSet named))))
-unfolding zonesOnly leftOut freshState
+fresh-bounded : (g : Geometry) (named : List Bool) → Valid g → Bounded g (freshState g (leftOut g (isSet named)))
+unfolding leftOut freshState
 fresh-bounded g named ok = record {
   lost-drive = drive-found (λ d. not (isSet named d)) (g .drives);
-  sixteen = sixteen-records (λ z. recordAt s z) (g .zones) (ok .zones-most);
-  generations = λ z h. rw (zones-only-at (g .zones) s z h, views z h .1) (omega arith);
-  pointers = λ z h. rw (zones-only-at (g .zones) s z h, views z h .2) zero-le;
-  past = λ z h. fill-past (λ y. recordAt s y) blankRecord (g .zones) (16 - g .zones) z h;
+  sixteen = fill-long (λ z. freshRecord) blankRecord 16 (g .zones) (ok .zones-most);
+  generations = λ z h. rw (at z h) (omega arith);
+  pointers = λ z h. rw (at z h) zero-le;
+  past = λ z h. fill-past (λ z. freshRecord) blankRecord (g .zones) (16 - g .zones) z h;
 }
   where
-    s : State
-    s = freshState (leftOut g (isSet named))
-
-    views : (z : ℕ) → z < g .zones → (s .lost ≡ leftOut g (isSet named)) × (recordAt s z .generation ≡ 1) × (recordAt s z .condition ≡ Empty)
-    views z h = format-views (leftOut g (isSet named)) z (omega (arith, h, ok .zones-most))
+    at : (z : ℕ) → z < g .zones → recordAt (freshState g (leftOut g (isSet named))) z ≡ freshRecord
+    at z h = fill-at (λ y. freshRecord) blankRecord blankRecord (g .zones) (16 - g .zones) z h
 
 format-bounded : (g : Geometry) → Valid g → (named : List Bool) (array : ℕ) (old : State) (count : ℕ) (t : Tables)
-    → answerNumber (formatOn g named array old count t .outcome .answer) ≡ 0 → Bounded g (zonesOnly (g .zones) (formatOn g named array old count t .outcome .state))
+    → answerNumber (formatOn g named array old count t .outcome .answer) ≡ 0 → Bounded g (formatOn g named array old count t .outcome .state)
 unfolding formatOn
 format-bounded g ok named array old count t =
-    finished-new (λ (s : State). Bounded g (zonesOnly (g .zones) s)) g (verdictNumber (formatVerdict g named t)) (formatStores g (namedDrives g (isSet named)) (leftOut g (isSet named)) array)
-    (freshState (leftOut g (isSet named))) old count t (λ v. fresh-bounded g named ok)
+    finished-new (Bounded g) g (verdictNumber (formatVerdict g named t)) (formatStores g (namedDrives g (isSet named)) (leftOut g (isSet named)) array) (freshState g (leftOut g (isSet named))) old count t (λ v. fresh-bounded g named ok)
 
 -- ==== the calls on bytes
 -- one that reads the state, and one that only writes it
@@ -337,12 +330,11 @@ module _ (g : Geometry) (m : Ranges) (r : Answered Ranges) (o : Outcome) where
   after-reading : answerNumber (o .answer) ≡ r .code → stateAfter g o (m .state) ≡ r .left .state → (Bounded g (stateIn g m) → Valid g → answerNumber (o .answer) ≡ 0 → Bounded g (o .state))
       → unlessRefused (inputNumber g (m .state) wl dl) r m .code ≡ 0 → HandsOn g (unlessRefused (inputNumber g (m .state) wl dl) r m .left .state) (o .state) wl dl
   after-reading answers left bounded =
-      edge-hands-on g (inputNumber g (m .state) wl dl) r o (o .state) m answers left refl (input-passed g (m .state) wl dl) (λ n. bounded (read-bounded g (m .state) wl dl n))
+      edge-hands-on g (inputNumber g (m .state) wl dl) r o m answers left (input-passed g (m .state) wl dl) (λ n. bounded (read-bounded g (m .state) wl dl n))
 
-  after-writing : (s : State) → answerNumber (o .answer) ≡ r .code → stateAfter g o (m .state) ≡ r .left .state → stateTo (g .zones) (o .state) ≡ stateTo (g .zones) s
-      → (Valid g → answerNumber (o .answer) ≡ 0 → Bounded g s) → unlessRefused (sizesNumber g (length (m .state)) wl dl) r m .code ≡ 0
-      → HandsOn g (unlessRefused (sizesNumber g (length (m .state)) wl dl) r m .left .state) s wl dl
-  after-writing s answers left same bounded = edge-hands-on g (sizesNumber g (length (m .state)) wl dl) r o s m answers left same (sizes-passed g (length (m .state)) wl dl) (λ n. bounded)
+  after-writing : answerNumber (o .answer) ≡ r .code → stateAfter g o (m .state) ≡ r .left .state → (Valid g → answerNumber (o .answer) ≡ 0 → Bounded g (o .state))
+      → unlessRefused (sizesNumber g (length (m .state)) wl dl) r m .code ≡ 0 → HandsOn g (unlessRefused (sizesNumber g (length (m .state)) wl dl) r m .left .state) (o .state) wl dl
+  after-writing answers left bounded = edge-hands-on g (sizesNumber g (length (m .state)) wl dl) r o m answers left (sizes-passed g (length (m .state)) wl dl) (λ n. bounded)
 
 -- what a call e with the outcome's state s promises
 abbrev pub HandedOn : Geometry → Ranges → Answered Ranges → State → Type 0
@@ -370,17 +362,16 @@ module _ (g : Geometry) (mask : ℕ) (m : Ranges) where
   pub look-hands-on : HandedOn g m (lookEdge g mask m) (lookOfBytes g mask m .state)
   look-hands-on =
       let o = lookOfBytes g mask m in
-      after-writing g m (handedBack g o m) o (o .state) refl refl refl (λ ok. look-bounded g ok (namedOf mask) unreadState (tablesIn g m))
+      after-writing g m (handedBack g o m) o refl refl (λ ok. look-bounded g ok (namedOf mask) unreadState (tablesIn g m))
 
   pub mount-hands-on : (count : ℕ) → HandedOn g m (mountEdge g mask count m) (mountOfBytes g mask count m .outcome .state)
   unfolding storedAll
   mount-hands-on count =
       let r = mountOfBytes g mask count m in
-      after-writing g m (storedAll g r m) (r .outcome) (r .outcome .state) refl refl refl (λ ok. mount-bounded g ok (namedOf mask) unreadState count (tablesIn g m))
+      after-writing g m (storedAll g r m) (r .outcome) refl refl (λ ok. mount-bounded g ok (namedOf mask) unreadState count (tablesIn g m))
 
-  pub format-hands-on : (array count : ℕ) → HandedOn g m (formatEdge g mask array count m) (zonesOnly (g .zones) (formatOfBytes g mask array count m .outcome .state))
+  pub format-hands-on : (array count : ℕ) → HandedOn g m (formatEdge g mask array count m) (formatOfBytes g mask array count m .outcome .state)
   unfolding storedAll
   format-hands-on array count =
       let r = formatOfBytes g mask array count m in
-      let s = r .outcome .state in
-      after-writing g m (storedAll g r m) (r .outcome) (zonesOnly (g .zones) s) refl refl (sym (zones-only-bytes (g .zones) s)) (λ ok. format-bounded g ok (namedOf mask) array unreadState count (tablesIn g m))
+      after-writing g m (storedAll g r m) (r .outcome) refl refl (λ ok. format-bounded g ok (namedOf mask) array unreadState count (tablesIn g m))

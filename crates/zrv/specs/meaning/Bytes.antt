@@ -4,15 +4,11 @@ use mathlib.Core.Bool.{Bool}
 use Prim.Native.Nat.{ℕ, zero, suc, _+_, _-_, _*_, _%_}
 use mathlib.Core.List.{List, [], _++_}
 use lib.ListN.{length, getD, drop, replicate}
-use lib.Dec.{eqb}
-use Rattle.tables.specs.meaning.Basics.{pick}
 use Rattle.tables.specs.meaning.Below.{tabulate}
 use Rattle.tables.specs.meaning.LittleEndian.{bytesLE, readLE, sameBytes}
-use Rattle.volume.specs.declared.Condition.{Condition}
-use Rattle.volume.specs.declared.Condition.the-variants.{Empty, Open, Sealed, Worn}
 use Rattle.volume.specs.declared.ZoneRecord.{ZoneRecord}
 use Rattle.volume.specs.declared.State.{State}
-use Rattle.volume.specs.meaning.State.{pointerIn}
+use Rattle.volume.specs.meaning.State.{pointerIn, conditionNumber, conditionOfNumber}
 use Rattle.volume.specs.meaning.CallContracts.{blankRecord, recordAt}
 
 -- ---- tables
@@ -30,24 +26,14 @@ unfoldable pub tableTo : List ℕ → List ℕ
 tableTo ts = wordsTo (length ts) ts
 
 -- ---- a zone's record
--- the byte of a condition
-abbrev pub kindOf : Condition → ℕ
-kindOf Empty = 0
-kindOf (Open n) = 1
-kindOf (Sealed n) = 2
-kindOf (Worn n) = 3
-
--- the condition of a byte and a pointer; what is no condition's byte reads as empty, and then is not of the form
-abbrev pub conditionFrom : ℕ → ℕ → Condition
-conditionFrom k p = pick (eqb k 1) (Open p) (pick (eqb k 2) (Sealed p) (pick (eqb k 3) (Worn p) Empty))
-
--- sixteen bytes; a condition's number is below 256, so its four bytes are itself and three zeros
+-- sixteen bytes; a condition's number is below 256, so its four bytes are itself and three zeros. What is no condition's number reads as empty, and then is
+-- not of the form
 unfoldable pub recordTo : ZoneRecord → List ℕ
-recordTo r = bytesLE 8 (r .generation) ++ bytesLE 4 (kindOf (r .condition)) ++ bytesLE 4 (pointerIn (r .condition) % 4294967296)
+recordTo r = bytesLE 8 (r .generation) ++ bytesLE 4 (conditionNumber (r .condition)) ++ bytesLE 4 (pointerIn (r .condition) % 4294967296)
 
 -- the record in the sixteen bytes from `at`
 unfoldable pub recordFrom : List ℕ → ℕ → ZoneRecord
-recordFrom xs at = record { generation = readLE 8 xs at; condition = conditionFrom (readLE 4 xs (at + 8)) (readLE 4 xs (at + 12)) }
+recordFrom xs at = record { generation = readLE 8 xs at; condition = conditionOfNumber (readLE 4 xs (at + 8)) (readLE 4 xs (at + 12)) }
 
 -- ---- the state, of a volume of so many zones
 -- the lost drive and the records of the first n zones

@@ -9,11 +9,11 @@ use Rattle.tables.specs.declared.Geometry.{Geometry}
 use Rattle.tables.specs.meaning.Basics.{pick}
 use Rattle.tables.specs.meaning.Geometry.{cells}
 use Rattle.tables.specs.meaning.GeometryTest.{isValid}
-use Rattle.tables.specs.meaning.Tables.{Tables, tablesOf, byteAt}
+use Rattle.tables.specs.meaning.Tables.{Tables, tablesOf}
 use Rattle.volume.specs.declared.State.{State}
 use Rattle.volume.specs.declared.Outcome.{Outcome}
 use Rattle.volume.specs.meaning.Refusals.{stateWithin}
-use Rattle.volume.specs.meaning.CallContracts.{blankRecord, viewState, answerNumber, Result, flushOn, lookOn, mountOn, formatOn, resetOn, writeOn, ReadResult, readOn, peekNumber}
+use Rattle.volume.specs.meaning.CallContracts.{blankRecord, viewState, answerNumber, Result, flushOn, lookOn, mountOn, formatOn, resetOn, writeOn, ReadResult, readOn, peekNumber, byteOf}
 use Rattle.zrv.specs.meaning.Bytes.{tableFrom, tableTo, stateFrom, stateTo, stateWellFormed}
 use Rattle.tables.specs.meaning.LittleEndian.{bytesLE}
 use Rattle.volume.specs.meaning.Answers.{placeOf}
@@ -162,7 +162,7 @@ readEdge g mask a k m out = readingState g m (readAnswer (readOn g (namedOf mask
 
 -- peek: the place of a held sector, as its offset in `sectors`, eight bytes
 abbrev pub offsetAt : Geometry → ℕ → ℕ
-offsetAt g a = byteAt g (placeOf g a .drive) (placeOf g a .zone) (placeOf g a .sector)
+offsetAt g a = byteOf g (placeOf g a)
 
 -- n: the peek's number
 unfoldable pub placeAnswer : Geometry → ℕ → ℕ → List ℕ → Answered (List ℕ)

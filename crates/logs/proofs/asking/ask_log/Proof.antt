@@ -15,10 +15,10 @@ use Rattle.logs.proofs.asking.ask_log.Statement.{statement}
 use Rattle.logs.proofs.asking.ask_log.Tie as tie
 
 abbrev Inv-walk : tie.InvT-walk
-Inv-walk query sectors g drive zone par n first x₀ p₀ x p = (p ≤ n) × (answerAt g drive par (logSectors g drive zone sectors n) query p x ≡ answer g query 0 first (headsOf (walkLog g drive par (logSectors g drive zone sectors n))))
+Inv-walk query sectors g log par first x₀ p₀ x p = (p ≤ log .written) × (answerAt g (log .drive) par (logSectors g (log .drive) (log .zone) sectors (log .written)) query p x ≡ answer g query 0 first (headsOf (walkLog g (log .drive) par (logSectors g (log .drive) (log .zone) sectors (log .written)))))
 
 abbrev μ-walk : tie.MeasureT-walk
-μ-walk query sectors g drive zone par n first x₀ p₀ x p = n - p
+μ-walk query sectors g log par first x₀ p₀ x p = log .written - p
 
 walk-holds : tie.Need-walk-holds Inv-walk μ-walk
 walk-holds c = (omega arith, refl)
@@ -29,20 +29,20 @@ next-entry-requires c κs = let s = c .before .before in (s .pre .0, (s .pre .1,
 abbrev sectorsOf : tie.At-walk Inv-walk μ-walk → List (List ℕ)
 sectorsOf w =
     let s = w .before .before in
-    logSectors (s .args .g) (s .args .drive) (s .args .zone) (s .args .sectors .now) (s .args .n)
+    logSectors (s .args .g) (s .args .log .drive) (s .args .log .zone) (s .args .sectors .now) (s .args .log .written)
 
 low : (w : tie.At-walk Inv-walk μ-walk) → w .walk .p ≤ length (sectorsOf w)
 low w = rw length-tabulate (w .walk .inv .0)
 
 -- a whole entry was found
-whole : (k : tie.After-known-told Inv-walk μ-walk) → stepOf (k .before .before .before .before .before .before .args .g) (k .before .before .before .before .walk .p) (leftAt (k .before .before .before .before .before .before .args .g) (k .before .before .before .before .before .before .args .drive) (k .before .before .before .before .before .before .args .parity) (sectorsOf (k .before .before .before .before)) (k .before .before .before .before .walk .p)) ≡ Whole (k .before .step .given .0 .0) (k .before .step .given .0 .1 .0)
+whole : (k : tie.After-known-told Inv-walk μ-walk) → stepOf (k .before .before .before .before .before .before .args .g) (k .before .before .before .before .walk .p) (leftAt (k .before .before .before .before .before .before .args .g) (k .before .before .before .before .before .before .args .log .drive) (k .before .before .before .before .before .before .args .parity) (sectorsOf (k .before .before .before .before)) (k .before .before .before .before .walk .p)) ≡ Whole (k .before .step .given .0 .0) (k .before .step .given .0 .1 .0)
 whole k = sym (k .before .before .before .next-entry .ensures) ∙ k .before .step .given .1
 
-climbs : (k : tie.After-known-told Inv-walk μ-walk) → (k .before .before .before .before .walk .p < k .before .step .given .0 .1 .0) × (k .before .step .given .0 .1 .0 ≤ k .before .before .before .before .before .before .args .n)
+climbs : (k : tie.After-known-told Inv-walk μ-walk) → (k .before .before .before .before .walk .p < k .before .step .given .0 .1 .0) × (k .before .step .given .0 .1 .0 ≤ k .before .before .before .before .before .before .args .log .written)
 climbs k =
     let w = k .before .before .before .before in
     let a = w .before .before .args in
-    let (u, v) = whole-climbs (a .g) (a .drive) (a .parity) (sectorsOf w) (a .query) (w .walk .p) (w .walk .x) (low w) (k .before .step .given .0 .0) (k .before .step .given .0 .1 .0) (whole k) in
+    let (u, v) = whole-climbs (a .g) (a .log .drive) (a .parity) (sectorsOf w) (a .query) (w .walk .p) (w .walk .x) (low w) (k .before .step .given .0 .0) (k .before .step .given .0 .1 .0) (whole k) in
     (u, rw length-tabulate at v)
 
 after-found-requires : tie.Need-after-found-requires Inv-walk μ-walk
@@ -53,7 +53,7 @@ after-found-requires c κs =
       s .pre .0,
       (
         omega (arith, climbs c .0, climbs c .1, s .pre .1 .short, s .pre .0 .zone-most),
-        whole-small (a .g) (a .drive) (a .parity) (sectorsOf w) (a .query) (w .walk .p) (w .walk .x) (low w) (c .before .step .given .0 .0) (c .before .step .given .0 .1 .0) (whole c),
+        whole-small (a .g) (a .log .drive) (a .parity) (sectorsOf w) (a .query) (w .walk .p) (w .walk .x) (low w) (c .before .step .given .0 .0) (c .before .step .given .0 .1 .0) (whole c),
       ),
     )
 
@@ -65,14 +65,14 @@ walk-again c =
     let w = c .before .before .before .before .before in
     let a = w .before .before .args in (
       climbs (c .before) .1,
-      rw (c .after-found .ensures) (sym (answer-whole (a .g) (a .drive) (a .parity) (sectorsOf w) (a .query) (w .walk .p) (w .walk .x) (low w) (c .before .before .step .given .0 .0) (c .before .before .step .given .0 .1 .0) (whole (c .before))) ∙ w .walk .inv .1),
+      rw (c .after-found .ensures) (sym (answer-whole (a .g) (a .log .drive) (a .parity) (sectorsOf w) (a .query) (w .walk .p) (w .walk .x) (low w) (c .before .before .step .given .0 .0) (c .before .before .step .given .0 .1 .0) (whole (c .before))) ∙ w .walk .inv .1),
     )
 
 returns : tie.Need-returns Inv-walk μ-walk
 returns c =
     let w = c .before .before .before in
     let a = w .before .before .args in
-    sym (answer-left (a .g) (a .drive) (a .parity) (sectorsOf w) (a .query) (w .walk .p) (w .walk .x) (low w) (c .enum-told .given .0 .0) (sym (c .before .before .next-entry .ensures) ∙ c .enum-told .given .1)) ∙ w .walk .inv .1
+    sym (answer-left (a .g) (a .log .drive) (a .parity) (sectorsOf w) (a .query) (w .walk .p) (w .walk .x) (low w) (c .enum-told .given .0 .0) (sym (c .before .before .next-entry .ensures) ∙ c .enum-told .given .1)) ∙ w .walk .inv .1
 
 pub ask-log-spec : {M : Type 1} → statement M
 ask-log-spec =

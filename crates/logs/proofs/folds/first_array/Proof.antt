@@ -9,7 +9,7 @@ use Rattle.logs.proofs.folds.first_array.Tie as tie
 returns : tie.Need-returns
 returns c =
     let a = c .before .before .before .args in
-    c .array-of .ensures ∙ ap arraySeen (c .before .first-entry .ensures) ∙ array-seen (logHeads (a .g) (a .drive) false (a .zone) (a .n) (a .sectors .now))
+    c .array-of .ensures ∙ ap arraySeen (c .before .first-entry .ensures) ∙ array-seen (logHeads (a .g) (a .log .drive) false (a .log .zone) (a .log .written) (a .sectors .now))
 
 pub first-array-spec : {M : Type 1} → statement M
 first-array-spec = tie.close (tie.spec (λ c κs. search needs) (λ c κs. search needs) returns)

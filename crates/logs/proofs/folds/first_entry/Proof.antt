@@ -9,12 +9,12 @@ use Rattle.logs.proofs.folds.first_entry.Tie as tie
 returns : tie.Need-returns
 returns c =
     let a = c .before .before .before .before .args in
-    first-left (a .g) (walkLog (a .g) (a .drive) (a .parity) (logSectors (a .g) (a .drive) (a .zone) (a .sectors .now) (a .n))) (c .enum-told .given .0 .0) (sym (c .before .before .next-entry .ensures) ∙ c .enum-told .given .1)
+    first-left (a .g) (walkLog (a .g) (a .log .drive) (a .parity) (logSectors (a .g) (a .log .drive) (a .log .zone) (a .sectors .now) (a .log .written))) (c .enum-told .given .0 .0) (sym (c .before .before .next-entry .ensures) ∙ c .enum-told .given .1)
 
 returns-2 : tie.Need-returns-2
 returns-2 c =
     let a = c .before .before .before .before .before .args in
-    first-whole (a .g) (walkLog (a .g) (a .drive) (a .parity) (logSectors (a .g) (a .drive) (a .zone) (a .sectors .now) (a .n))) (c .before .step .given .0 .0) (c .before .step .given .0 .1 .0) (sym (c .before .before .before .next-entry .ensures) ∙ c .before .step .given .1)
+    first-whole (a .g) (walkLog (a .g) (a .log .drive) (a .parity) (logSectors (a .g) (a .log .drive) (a .log .zone) (a .sectors .now) (a .log .written))) (c .before .step .given .0 .0) (c .before .step .given .0 .1 .0) (sym (c .before .before .before .next-entry .ensures) ∙ c .before .step .given .1)
 
 pub first-entry-spec : {M : Type 1} → statement M
 first-entry-spec =

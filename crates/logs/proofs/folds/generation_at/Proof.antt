@@ -15,7 +15,7 @@ returns c =
     let a = s .args in
     let d : c .before .before .byte-at .result + a .g .sector - c .before .before .byte-at .result ≡ a .g .sector = omega arith in
     c .read-u64 .ensures ∙ ap (λ (t : List ℕ). readLE 8 t (32 + 8 * a .z))
-    (rw (d, c .before .before .byte-at .ensures .0) refl ∙ sym (getD-tabulate (λ (i : ℕ). sectorNo (a .g .sector) (a .sectors .now) (cell (a .g) (a .drive) (a .zone) * a .g .capacity + i)) (a .n) (a .p) [] (s .pre .1 .1)))
+    (rw (d, c .before .before .byte-at .ensures .0) refl ∙ sym (getD-tabulate (λ (i : ℕ). sectorNo (a .g .sector) (a .sectors .now) (cell (a .g) (a .log .drive) (a .log .zone) * a .g .capacity + i)) (a .log .written) (a .p) [] (s .pre .1 .1)))
 
 pub generation-at-spec : {M : Type 1} → statement M
 generation-at-spec =

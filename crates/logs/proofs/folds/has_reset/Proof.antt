@@ -9,7 +9,7 @@ use Rattle.logs.proofs.folds.has_reset.Tie as tie
 returns : tie.Need-returns
 returns c =
     let a = c .before .before .args in
-    told _ _ (c .ask-log .ensures ∙ reset-answer (a .g) (a .z) (a .generation) 0 0 (logHeads (a .g) (a .drive) false (a .zone) (a .n) (a .sectors .now)))
+    told _ _ (c .ask-log .ensures ∙ reset-answer (a .g) (a .z) (a .generation) 0 0 (logHeads (a .g) (a .log .drive) false (a .log .zone) (a .log .written) (a .sectors .now)))
 
 pub has-reset-spec : {M : Type 1} → statement M
 has-reset-spec = tie.close (tie.spec (λ c κs. search needs) returns)

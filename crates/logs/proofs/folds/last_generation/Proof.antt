@@ -10,7 +10,7 @@ use Rattle.logs.proofs.folds.last_generation.Tie as tie
 returns : tie.Need-returns
 returns c =
     let a = c .before .before .before .args in
-    no-generation (a .g) (a .drive) (logSectors (a .g) (a .drive) (a .zone) (a .sectors .now) (a .n)) (a .z) (sym (c .before .last-counters .ensures .0) ∙ c .if1 .taken)
+    no-generation (a .g) (a .log .drive) (logSectors (a .g) (a .log .drive) (a .log .zone) (a .sectors .now) (a .log .written)) (a .z) (sym (c .before .last-counters .ensures .0) ∙ c .if1 .taken)
 
 returns-2 : tie.Need-returns-2
 returns-2 c =
@@ -18,7 +18,7 @@ returns-2 c =
     let a = s .args in
     let r = c .before .before .last-counters in
     let e : r .result ≡ (r .result - 1) + 1 = omega arith in
-    c .generation-at .ensures ∙ generation-there (a .g) (a .drive) (logSectors (a .g) (a .drive) (a .zone) (a .sectors .now) (a .n)) (r .result - 1) (a .z) (sym (r .ensures .0) ∙ e) (s .pre .1 .1)
+    c .generation-at .ensures ∙ generation-there (a .g) (a .log .drive) (logSectors (a .g) (a .log .drive) (a .log .zone) (a .sectors .now) (a .log .written)) (r .result - 1) (a .z) (sym (r .ensures .0) ∙ e) (s .pre .1 .1)
 
 pub last-generation-spec : {M : Type 1} → statement M
 last-generation-spec =

@@ -20,13 +20,13 @@ use Rattle.logs.proofs.folds.torn_entry.Statement.{statement}
 use Rattle.logs.proofs.folds.torn_entry.Tie as tie
 
 abbrev log : tie.Start → List (List ℕ)
-log s = let a = s .args in logSectors (a .g) (a .drive) (a .zone) (a .sectors .now) (a .n)
+log s = let a = s .args in logSectors (a .g) (a .log .drive) (a .log .zone) (a .sectors .now) (a .log .written)
 
 abbrev walked : tie.Start → Walked
-walked s = walkLog (s .args .g) (s .args .drive) (s .args .parity) (log s)
+walked s = walkLog (s .args .g) (s .args .log .drive) (s .args .parity) (log s)
 
 abbrev foundAt : tie.Start → ℕ → Found
-foundAt s p = found (decode (s .args .g) (s .args .drive) (s .args .parity) (getD (log s) p []))
+foundAt s p = found (decode (s .args .g) (s .args .log .drive) (s .args .parity) (getD (log s) p []))
 
 returns : tie.Need-returns
 returns c =
@@ -34,13 +34,13 @@ returns c =
     torn-none (w .last) (w .position) (λ e. let t = ap (tagOf WalkEnd.the-type) (sym e ∙ sym (c .before .walk-log .ensures .0)) in ⊎-elim (λ k. omega arith) (λ k. omega arith) (c .match .keys2))
 
 -- the sector where the walk is left, in the log, and what stands there
-torn-there : (c : tie.After-known-told) → (c .before .w .given .0 .0 < c .before .before .before .before .before .args .n)
+torn-there : (c : tie.After-known-told) → (c .before .w .given .0 .0 < c .before .before .before .before .before .args .log .written)
     × (foundAt (c .before .before .before .before .before) (c .before .w .given .0 .0) ≡ tornSeen (walked (c .before .before .before .before .before) .last))
 torn-there c =
     let s = c .before .before .before .before .before in
     let a = s .args in
     let w = walked s in
-    let t = torn-found (a .g) (a .drive) (a .parity) (log s) (w .last) (w .position) (c .before .w .given .0 .0) (walk-places (a .g) (a .drive) (a .parity) (log s) .left) (sym (c .before .before .before .walk-log .ensures .0) ∙ c .before .w .given .1) in
+    let t = torn-found (a .g) (a .log .drive) (a .parity) (log s) (w .last) (w .position) (c .before .w .given .0 .0) (walk-places (a .g) (a .log .drive) (a .parity) (log s) .left) (sym (c .before .before .before .walk-log .ensures .0) ∙ c .before .w .given .1) in
     (rw length-tabulate at (t .0), t .1)
 
 judge-at-requires : tie.Need-judge-at-requires

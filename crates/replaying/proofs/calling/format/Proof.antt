@@ -3,18 +3,6 @@ use Rattle.replaying.specs.Calling.{keptReply, formatMade}
 use Rattle.replaying.proofs.calling.format.Statement.{statement}
 use Rattle.replaying.proofs.calling.format.Tie as tie
 
-named-in-requires : tie.Need-named-in-requires
-named-in-requires c κs = tt
-
-narrow-requires : tie.Need-narrow-requires
-narrow-requires c κs = tt
-
-format-requires : tie.Need-format-requires
-format-requires c κs = tt
-
-kept-requires : tie.Need-kept-requires
-kept-requires c κs = tt
-
 same-length : tie.Need-same-length
 same-length c = c .before .before .before .before .before .before .before .format .kept .0
 
@@ -31,4 +19,4 @@ returns c = let a = c .before .before .before .before .before .before .before .b
 pub format-spec : {M : Type 1} → statement M
 format-spec =
     tie.close
-    (tie.spec named-in-requires narrow-requires format-requires kept-requires same-length same-length-2 same-length-3 returns)
+    (tie.spec (λ c κs. tt) (λ c κs. tt) (λ c κs. tt) (λ c κs. tt) same-length same-length-2 same-length-3 returns)

@@ -5,9 +5,6 @@ use Rattle.replaying.specs.Calling.{keptReply}
 use Rattle.replaying.proofs.calling.kept.Statement.{statement}
 use Rattle.replaying.proofs.calling.kept.Tie as tie
 
-answer-number-requires : tie.Need-answer-number-requires
-answer-number-requires c κs = tt
-
 returns : tie.Need-returns
 unfolding keptReply
 returns c = let e = c .before .answer-number .ensures in rw (ne-eqb _ 0 (λ k. c .if1 .taken (e ∙ k)), e) refl
@@ -17,4 +14,4 @@ unfolding keptReply
 returns-2 c = let e = c .before .before .answer-number .ensures in let z : c .before .before .answer-number .result ≡ 0 = omega arith in rw (eq-eqb _ 0 (sym e ∙ z), z) refl
 
 pub kept-spec : {M : Type 1} → statement M
-kept-spec = tie.close (tie.spec answer-number-requires returns returns-2)
+kept-spec = tie.close (tie.spec (λ c κs. tt) returns returns-2)

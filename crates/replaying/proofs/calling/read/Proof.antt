@@ -3,18 +3,6 @@ use Rattle.replaying.specs.Calling.{readMade}
 use Rattle.replaying.proofs.calling.read.Statement.{statement}
 use Rattle.replaying.proofs.calling.read.Tie as tie
 
-named-in-requires : tie.Need-named-in-requires
-named-in-requires c κs = tt
-
-narrow-requires : tie.Need-narrow-requires
-narrow-requires c κs = tt
-
-read-requires : tie.Need-read-requires
-read-requires c κs = tt
-
-answer-number-requires : tie.Need-answer-number-requires
-answer-number-requires c κs = tt
-
 same-length : tie.Need-same-length
 same-length c = c .before .before .before .read .kept .1 .1 .1 .1 .1 .1 .1 .1 .0
 
@@ -25,4 +13,4 @@ returns c = let f = c .before .before .before .read in let n = c .before .before
 pub read-spec : {M : Type 1} → statement M
 read-spec =
     tie.close
-    (tie.spec named-in-requires narrow-requires read-requires answer-number-requires same-length returns)
+    (tie.spec (λ c κs. tt) (λ c κs. tt) (λ c κs. tt) (λ c κs. tt) same-length returns)

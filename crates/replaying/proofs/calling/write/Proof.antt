@@ -3,24 +3,6 @@ use Rattle.replaying.specs.Calling.{keptReply, writeMade}
 use Rattle.replaying.proofs.calling.write.Statement.{statement}
 use Rattle.replaying.proofs.calling.write.Tie as tie
 
-named-in-requires : tie.Need-named-in-requires
-named-in-requires c κs = tt
-
-narrow-requires : tie.Need-narrow-requires
-narrow-requires c κs = tt
-
-narrow-requires-2 : tie.Need-narrow-requires-2
-narrow-requires-2 c κs = tt
-
-fill-requires : tie.Need-fill-requires
-fill-requires c κs = tt
-
-write-requires : tie.Need-write-requires
-write-requires c κs = tt
-
-kept-requires : tie.Need-kept-requires
-kept-requires c κs = tt
-
 same-length : tie.Need-same-length
 same-length c = c .before .before .before .before .before .write .kept .0
 
@@ -37,5 +19,5 @@ returns c = let a = c .before .before .before .before .before .before .before .b
 pub write-spec : {M : Type 1} → statement M
 write-spec =
     tie.close
-    (tie.spec named-in-requires narrow-requires narrow-requires-2 fill-requires write-requires kept-requires same-length same-length-2 same-length-3
+    (tie.spec (λ c κs. tt) (λ c κs. tt) (λ c κs. tt) (λ c κs. tt) (λ c κs. tt) (λ c κs. tt) same-length same-length-2 same-length-3
     returns)

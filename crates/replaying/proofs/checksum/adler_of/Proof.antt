@@ -7,19 +7,10 @@ use Rattle.replaying.specs.declared.Sums.{Sums}
 use Rattle.replaying.proofs.checksum.adler_of.Statement.{statement}
 use Rattle.replaying.proofs.checksum.adler_of.Tie as tie
 
-start-sums-requires : tie.Need-start-sums-requires
-start-sums-requires c κs = tt
-
-sum-bytes-requires : tie.Need-sum-bytes-requires
-sum-bytes-requires c κs = search needs
-
-sum-number-requires : tie.Need-sum-number-requires
-sum-number-requires c κs = search needs
-
 returns : tie.Need-returns
 unfolding adlerOfBytes
 returns c = let xs = c .before .before .before .before .args .bytes .now in c .sum-number .ensures ∙ ap adlerNumber (c .before .sum-bytes .ensures .0 ∙ ap (λ (s : Sums). sumBytes s xs (length xs)) (c .before .before .start-sums .ensures .0))
 
 pub adler-of-spec : {M : Type 1} → statement M
 adler-of-spec =
-    tie.close (tie.spec start-sums-requires sum-bytes-requires sum-number-requires returns)
+    tie.close (tie.spec (λ c κs. tt) (λ c κs. search needs) (λ c κs. search needs) returns)

@@ -18,9 +18,6 @@ abbrev μ-loop : tie.MeasureT-loop
 loop-holds : tie.Need-loop-holds Inv-loop μ-loop
 loop-holds c = (omega arith, (cc), refl, search needs)
 
-wide-pointer-requires : tie.Need-wide-pointer-requires Inv-loop μ-loop
-wide-pointer-requires c κs = tt
-
 loop-again : tie.Need-loop-again Inv-loop μ-loop
 loop-again c = (omega arith, (cc), rw add-one (cc), search needs)
 
@@ -30,5 +27,5 @@ returns c = let e : c .before .loop .i ≡ length (c .before .before .before .ar
 pub sum-words-spec : {M : Type 1} → statement M
 sum-words-spec =
     tie.close
-    (tie.spec Inv-loop μ-loop loop-holds (λ c. omega arith) (λ c. omega arith) wide-pointer-requires (λ c κs. search needs) (λ c. omega arith)
+    (tie.spec Inv-loop μ-loop loop-holds (λ c. omega arith) (λ c. omega arith) (λ c κs. tt) (λ c κs. search needs) (λ c. omega arith)
     (λ c. omega arith) loop-again returns)

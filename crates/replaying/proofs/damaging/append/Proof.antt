@@ -14,9 +14,6 @@ use Rattle.replaying.proofs.damaging.append.Tie as tie
 passed : (c : tie.Else1) → mayAppend (c .before .before .before .before .before .args .g) (length (c .before .before .before .before .before .args .sectors .now)) (length (c .before .before .before .before .before .args .written .now)) (length (c .before .before .before .before .before .args .src .now)) (c .before .before .before .before .before .args .drive) (c .before .before .before .before .before .args .zone) ≡ true
 passed c = sym (c .before .may-append .ensures) ∙ not-false (c .before .may-append .result) (c .if1 .left)
 
-may-append-requires : tie.Need-may-append-requires
-may-append-requires c κs = tt
-
 returns : tie.Need-returns
 unfolding appendOdd
 returns c = let e = sym (c .before .may-append .ensures) ∙ not-true (c .before .may-append .result) (c .if1 .taken) in rw e (refl, refl)
@@ -37,4 +34,4 @@ returns-2 c = let m = c .before .before .before .before .append-counted .ensures
 pub append-spec : {M : Type 1} → statement M
 append-spec =
     tie.close
-    (tie.spec may-append-requires returns append-counted-requires same-length same-length-2 returns-2)
+    (tie.spec (λ c κs. tt) returns append-counted-requires same-length same-length-2 returns-2)

@@ -16,14 +16,8 @@ Inv-loop out₀ n i₀ out i = (i ≤ n) × (n ≡ length out₀) × (length out
 abbrev μ-loop : tie.MeasureT-loop
 μ-loop out₀ n i₀ out i = n - i
 
-loop-holds : tie.Need-loop-holds Inv-loop μ-loop
-loop-holds c = (omega arith, (cc), refl, refl)
-
 loop-again : tie.Need-loop-again Inv-loop μ-loop
 loop-again c = let l = c .before .loop in let o = c .before .before .args .out .now in let h : l .i < length o = omega arith in (omega arith, l .inv .1, simp length-set (l .inv .2), rw (l .inv .3, add-one) (cleared-suc (l .i) o h))
-
-same-length : tie.Need-same-length Inv-loop μ-loop
-same-length c = c .before .loop .inv .2
 
 returns : tie.Need-returns Inv-loop μ-loop
 returns c = let l = c .before .loop in let o = c .before .before .args .out .now in let e : l .i ≡ length o = omega arith in l .inv .3 ∙ cleared-all (l .i) o e
@@ -31,4 +25,4 @@ returns c = let l = c .before .loop in let o = c .before .before .args .out .now
 pub clear-pointers-spec : {M : Type 1} → statement M
 clear-pointers-spec =
     tie.close
-    (tie.spec Inv-loop μ-loop loop-holds (λ c. omega arith) (λ c. omega arith) (λ c. omega arith) (λ c. search needs) loop-again same-length returns)
+    (tie.spec Inv-loop μ-loop (λ c. (omega arith, (cc), refl, refl)) (λ c. omega arith) (λ c. omega arith) (λ c. omega arith) (λ c. search needs) loop-again (λ c. c .before .loop .inv .2) returns)

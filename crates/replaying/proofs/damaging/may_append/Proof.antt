@@ -12,9 +12,6 @@ use Rattle.replaying.proofs.damaging.may_append.Tie as tie
 valid : (c : tie.Else1) → isValid (c .before .before .args .g) ≡ true
 valid c = sym (c .before .valid .ensures) ∙ not-false (c .before .valid .result) (c .if1 .left)
 
-valid-requires : tie.Need-valid-requires
-valid-requires c κs = tt
-
 returns : tie.Need-returns
 unfolding mayAppend
 returns c = let e = sym (c .before .valid .ensures) ∙ not-true (c .before .valid .result) (c .if1 .taken) in rw e refl
@@ -31,4 +28,4 @@ returns-2 c = rw (valid (c .before), c .lengths-fit .ensures) refl
 
 pub may-append-spec : {M : Type 1} → statement M
 may-append-spec =
-    tie.close (tie.spec valid-requires returns lengths-fit-requires add-result returns-2)
+    tie.close (tie.spec (λ c κs. tt) returns lengths-fit-requires add-result returns-2)

@@ -18,9 +18,6 @@ valid c = sym (c .before .valid .ensures) ∙ not-false (c .before .valid .resul
 long : (c : tie.Else2) → length (c .before .before .before .before .args .out .now) ≡ c .before .before .before .before .args .g .sector
 long c = omega arith
 
-valid-requires : tie.Need-valid-requires
-valid-requires c κs = tt
-
 returns : tie.Need-returns
 unfolding oddHeader
 returns c = let e = sym (c .before .valid .ensures) ∙ not-true (c .before .valid .result) (c .if1 .taken) in rw e refl
@@ -51,5 +48,5 @@ returns-3 c = rw (valid (c .before .before .before .before .before .before .befo
 pub odd-header-spec : {M : Type 1} → statement M
 odd-header-spec =
     tie.close
-    (tie.spec valid-requires returns returns-2 write-seal-requires (λ c. omega arith) slice-write-out write-u64-requires write-u64-requires-2
+    (tie.spec (λ c κs. tt) returns returns-2 write-seal-requires (λ c. omega arith) slice-write-out write-u64-requires write-u64-requires-2
     same-length returns-3)

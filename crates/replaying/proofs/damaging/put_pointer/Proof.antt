@@ -10,21 +10,9 @@ use Rattle.replaying.proofs.damaging.put_pointer.Tie as tie
 returns : tie.Need-returns
 returns c = let a = c .before .before .args in sym (set-out (a .table .now) (a .at) (narrowed (a .value)) (c .if1 .taken))
 
-narrow-requires : tie.Need-narrow-requires
-narrow-requires c κs = tt
-
-mul-table : tie.Need-mul-table
-mul-table c = omega arith
-
-slice-write-table : tie.Need-slice-write-table
-slice-write-table c = omega arith
-
-same-length : tie.Need-same-length
-same-length c = search needs
-
 returns-2 : tie.Need-returns-2
 returns-2 c = rw (c .narrow .ensures) refl
 
 pub put-pointer-spec : {M : Type 1} → statement M
 put-pointer-spec =
-    tie.close (tie.spec returns narrow-requires mul-table slice-write-table same-length returns-2)
+    tie.close (tie.spec returns (λ c κs. tt) (λ c. omega arith) (λ c. omega arith) (λ c. search needs) returns-2)

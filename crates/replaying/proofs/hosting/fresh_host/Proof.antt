@@ -11,12 +11,6 @@ use Rattle.replaying.proofs.hosting.fresh_host.Tie as tie
 valid : (c : tie.Else1) → isValid (c .before .before .args .g) ≡ true
 valid c = sym (c .before .valid .ensures) ∙ not-false (c .before .valid .result) (c .if1 .left)
 
-valid-requires : tie.Need-valid-requires
-valid-requires c κs = tt
-
-empty-host-requires : tie.Need-empty-host-requires
-empty-host-requires c κs = tt
-
 returns : tie.Need-returns
 unfolding freshHost
 returns c = let e = sym (c .before .before .valid .ensures) ∙ not-true (c .before .before .valid .result) (c .before .if1 .taken) in c .empty-host .ensures ∙ rw e refl
@@ -27,15 +21,9 @@ total-bytes-requires c κs = valid-if-test _ (valid c)
 table-cells-requires : tie.Need-table-cells-requires
 table-cells-requires c κs = valid-if-test _ (valid (c .before))
 
-empty-host-requires-2 : tie.Need-empty-host-requires-2
-empty-host-requires-2 c κs = tt
-
 returns-2 : tie.Need-returns-2
 unfolding freshHost
 returns-2 c = let h = rw (c .before .before .before .total-bytes .ensures) at (c .before .if2 .taken) in c .empty-host2 .ensures ∙ rw (c .before .before .before .total-bytes .ensures, c .before .before .table-cells .ensures .0, valid (c .before .before .before .before), le-leb _ _ h) refl
-
-empty-host-requires-3 : tie.Need-empty-host-requires-3
-empty-host-requires-3 c κs = tt
 
 returns-3 : tie.Need-returns-3
 unfolding freshHost
@@ -44,5 +32,5 @@ returns-3 c = let h = rw (c .before .before .before .total-bytes .ensures) at (c
 pub fresh-host-spec : {M : Type 1} → statement M
 fresh-host-spec =
     tie.close
-    (tie.spec valid-requires empty-host-requires returns total-bytes-requires table-cells-requires empty-host-requires-2 returns-2
-    empty-host-requires-3 returns-3)
+    (tie.spec (λ c κs. tt) (λ c κs. tt) returns total-bytes-requires table-cells-requires (λ c κs. tt) returns-2
+    (λ c κs. tt) returns-3)

@@ -7,12 +7,6 @@ use Rattle.replaying.specs.Hosting.{runBytes}
 use Rattle.replaying.proofs.hosting.run_bytes.Statement.{statement}
 use Rattle.replaying.proofs.hosting.run_bytes.Tie as tie
 
-narrow-requires : tie.Need-narrow-requires
-narrow-requires c κs = tt
-
-cast-n : tie.Need-cast-n
-cast-n c = omega arith
-
 mul-result : tie.Need-mul-result
 mul-result c = let h : c .before .narrow .result ≤ 4294967295 = omega arith in omega (arith, mul-le-mul {n₂ = 4294967295} {m₂ = 4096} h (c .if1 .taken))
 
@@ -25,4 +19,4 @@ unfolding runBytes
 returns-2 c = rw (lt-leb _ _ (c .if1 .left))
 
 pub run-bytes-spec : {M : Type 1} → statement M
-run-bytes-spec = tie.close (tie.spec narrow-requires cast-n mul-result returns returns-2)
+run-bytes-spec = tie.close (tie.spec (λ c κs. tt) (λ c. omega arith) mul-result returns returns-2)

@@ -9,19 +9,10 @@ returns : tie.Need-returns
 unfolding withRecord
 returns c = rw (le-leb _ _ (c .if1 .taken))
 
-condition-from-requires : tie.Need-condition-from-requires
-condition-from-requires c κs = tt
-
-mul-r : tie.Need-mul-r
-mul-r c = omega arith
-
-element-set-from-r : tie.Need-element-set-from-r
-element-set-from-r c = omega arith
-
 returns-2 : tie.Need-returns-2
 unfolding withRecord
-returns-2 c = rw (lt-leb _ _ (c .before .before .if1 .left), c .before .condition-from .ensures) refl
+returns-2 c = rw (lt-leb _ _ (c .before .before .if1 .left), c .before .condition-of .ensures) refl
 
 pub with-record-spec : {M : Type 1} → statement M
 with-record-spec =
-    tie.close (tie.spec returns condition-from-requires mul-r element-set-from-r returns-2)
+    tie.close (tie.spec returns (λ c κs. tt) (λ c. omega arith) (λ c. omega arith) returns-2)

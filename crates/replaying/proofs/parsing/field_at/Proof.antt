@@ -12,18 +12,9 @@ returns : tie.Need-returns
 unfolding fieldAt
 returns c = (rw (le-ltb _ _ (c .if1 .taken)), search needs)
 
-shared-slice-read-b : tie.Need-shared-slice-read-b
-shared-slice-read-b c = omega arith
-
 returns-2 : tie.Need-returns-2
 unfolding fieldAt
 returns-2 c = (rw (lt-ltb _ _ (c .before .before .if1 .left), ne-eqb _ 32 (c .if2 .taken)), search needs)
-
-add-number-at : tie.Need-add-number-at
-add-number-at c = omega arith
-
-number-at-requires : tie.Need-number-at-requires
-number-at-requires c κs = tt
 
 returns-3 : tie.Need-returns-3
 unfolding fieldAt
@@ -32,4 +23,4 @@ returns-3 c = let a = c .before .before .before .before .before .args in let e :
 pub field-at-spec : {M : Type 1} → statement M
 field-at-spec =
     tie.close
-    (tie.spec returns shared-slice-read-b returns-2 add-number-at number-at-requires returns-3)
+    (tie.spec returns (λ c. omega arith) returns-2 (λ c. omega arith) (λ c κs. tt) returns-3)

@@ -24,9 +24,6 @@ digit c = sym (c .before .is-digit .ensures) ∙ not-false (c .before .is-digit 
 loop-holds : tie.Need-loop-holds Inv-loop μ-loop
 loop-holds c = (refl, refl)
 
-is-digit-requires : tie.Need-is-digit-requires Inv-loop μ-loop
-is-digit-requires c κs = tt
-
 returns : tie.Need-returns Inv-loop μ-loop
 unfolding numberAt
 returns c = let l = c .before .before .before .before .loop in let t = c .before .before .before .before .before .before .args .text .now in let h : l .i < length t = omega arith in let e = sym (c .before .is-digit .ensures) ∙ not-true (c .before .is-digit .result) (c .if1 .taken) in let k = count-stop t (l .i) h e in ap₂ numberOf (sym (number-stop t (l .i) (l .value) h e) ∙ l .inv .0) (omega arith)
@@ -44,5 +41,5 @@ returns-2 c = let l = c .before .loop in let t = c .before .before .before .args
 pub number-at-spec : {M : Type 1} → statement M
 number-at-spec =
     tie.close
-    (tie.spec Inv-loop μ-loop loop-holds (λ c. omega arith) is-digit-requires returns decimal-step-requires (λ c. omega arith) (λ c. search needs)
+    (tie.spec Inv-loop μ-loop loop-holds (λ c. omega arith) (λ c κs. tt) returns decimal-step-requires (λ c. omega arith) (λ c. search needs)
     loop-again returns-2)

@@ -8,12 +8,6 @@ use Rattle.replaying.specs.Performing.{left, odd-header, odd-stream}
 use Rattle.replaying.proofs.performing.append_odd.Statement.{statement}
 use Rattle.replaying.proofs.performing.append_odd.Tie as tie
 
-odd-header-requires : tie.Need-odd-header-requires
-odd-header-requires c κs = tt
-
-append-requires : tie.Need-append-requires
-append-requires c κs = tt
-
 same-length : tie.Need-same-length
 same-length c = c .before .before .before .before .append .kept .0
 
@@ -25,12 +19,6 @@ same-length-3 c = c .before .before .before .before .before .before .before .bef
 
 returns : tie.Need-returns
 returns c = let a = c .before .before .before .before .before .before .before .before .before .before .before .before .before .before .before .before .before .before .args in let e = c .before .before .before .before .before .before .before .before .before .before .odd-header .ensures ∙ sym (odd-header (a .h) (a .c) (a .buffer .now) (eq-eqb _ 101 (c .before .before .before .before .before .before .before .before .before .before .before .before .if1 .taken))) in (c .before .before .before .before .append .ensures .0 ∙ ap (λ (s : List ℕ). appendOdd (a .h .geometry) (a .c .first) (a .c .second) s (a .sectors .now) (a .written .now) .sectors) e, c .before .before .before .before .append .ensures .1 ∙ ap (λ (s : List ℕ). appendOdd (a .h .geometry) (a .c .first) (a .c .second) s (a .sectors .now) (a .written .now) .written) e, e)
-
-fill-requires : tie.Need-fill-requires
-fill-requires c κs = tt
-
-append-requires-2 : tie.Need-append-requires-2
-append-requires-2 c κs = tt
 
 same-length-4 : tie.Need-same-length-4
 same-length-4 c = c .before .before .before .before .append2 .kept .0
@@ -47,5 +35,5 @@ returns-2 c = let a = c .before .before .before .before .before .before .before 
 pub append-odd-spec : {M : Type 1} → statement M
 append-odd-spec =
     tie.close
-    (tie.spec odd-header-requires append-requires same-length same-length-2 same-length-3 returns fill-requires append-requires-2 same-length-4
+    (tie.spec (λ c κs. tt) (λ c κs. tt) same-length same-length-2 same-length-3 returns (λ c κs. tt) (λ c κs. tt) same-length-4
     same-length-5 same-length-6 returns-2)

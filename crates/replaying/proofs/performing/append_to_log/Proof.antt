@@ -7,15 +7,6 @@ use lib.Seq.{length-front, length-take-le}
 use Rattle.replaying.proofs.performing.append_to_log.Statement.{statement}
 use Rattle.replaying.proofs.performing.append_to_log.Tie as tie
 
-lend-requires : tie.Need-lend-requires
-lend-requires c κs = tt
-
-lend-requires-2 : tie.Need-lend-requires-2
-lend-requires-2 c κs = tt
-
-lend-requires-3 : tie.Need-lend-requires-3
-lend-requires-3 c κs = tt
-
 slice-relend-prefix-append-odd : tie.Need-slice-relend-prefix-append-odd
 slice-relend-prefix-append-odd c = c .before .before .lend .ensures .1
 
@@ -34,9 +25,6 @@ slice-relend-prefix-append-odd-3 c = c .before .before .lend3 .ensures .1
 slice-aggregate-append-odd-3 : tie.Need-slice-aggregate-append-odd-3
 slice-aggregate-append-odd-3 c = sym (length-take-le _ _ (c .before .before .before .lend3 .ensures .1))
 
-append-odd-requires : tie.Need-append-odd-requires
-append-odd-requires c κs = tt
-
 same-length : tie.Need-same-length
 same-length c = length-front (c .before .before .before .before .before .before .before .before .before .before .before .before .before .before .before .before .before .args .space .now) (c .before .before .before .before .before .before .append-odd .last .0) (c .before .before .before .before .before .before .before .before .before .before .before .before .lend .result) (c .before .before .before .before .before .before .append-odd .kept .0)
 
@@ -53,6 +41,6 @@ returns c = let a = c .before .before .before .before .before .before .before .b
 pub append-to-log-spec : {M : Type 1} → statement M
 append-to-log-spec =
     tie.close
-    (tie.spec lend-requires lend-requires-2 lend-requires-3 slice-relend-prefix-append-odd slice-aggregate-append-odd slice-relend-prefix-append-odd-2
-    slice-aggregate-append-odd-2 slice-relend-prefix-append-odd-3 slice-aggregate-append-odd-3 append-odd-requires same-length same-length-2
+    (tie.spec (λ c κs. tt) (λ c κs. tt) (λ c κs. tt) slice-relend-prefix-append-odd slice-aggregate-append-odd slice-relend-prefix-append-odd-2
+    slice-aggregate-append-odd-2 slice-relend-prefix-append-odd-3 slice-aggregate-append-odd-3 (λ c κs. tt) same-length same-length-2
     same-length-3 returns)

@@ -5,9 +5,6 @@ use Rattle.tables.specs.meaning.Tables.{tablesOf}
 use Rattle.replaying.proofs.performing.call.Statement.{statement}
 use Rattle.replaying.proofs.performing.call.Tie as tie
 
-format-requires : tie.Need-format-requires
-format-requires c κs = tt
-
 same-length : tie.Need-same-length
 same-length c = c .before .before .before .before .before .before .format .kept .0
 
@@ -22,9 +19,6 @@ returns c =
     let a = c .before .before .before .before .before .before .before .before .before .before .before .before .before .before .before .args in
     let q = call-format (a .h) (a .c) (a .buffer .now) (tablesOf (a .sectors .now) (a .written .now) (a .durable .now)) (eq-eqb _ 102 (c .before .before .before .before .before .before .before .before .before .before .if1 .taken)) in
     (c .before .before .before .before .before .before .format .ensures .0 ∙ sym (ap (λ (x : Done). x .reply) q), c .before .before .before .before .before .before .format .ensures .1 ∙ sym (ap (λ (x : Done). x .tables) q), sym (ap (λ (x : Done). x .buffer) q))
-
-mount-requires : tie.Need-mount-requires
-mount-requires c κs = tt
 
 same-length-4 : tie.Need-same-length-4
 same-length-4 c = c .before .before .before .before .before .before .mount .kept .0
@@ -41,9 +35,6 @@ returns-2 c =
     let q = call-mount (a .h) (a .c) (a .buffer .now) (tablesOf (a .sectors .now) (a .written .now) (a .durable .now)) (ne-eqb _ 102 (c .before .before .before .before .before .before .before .before .before .before .before .if1 .left)) (eq-eqb _ 109 (c .before .before .before .before .before .before .before .before .before .before .if2 .taken)) in
     (c .before .before .before .before .before .before .mount .ensures .0 ∙ sym (ap (λ (x : Done). x .reply) q), c .before .before .before .before .before .before .mount .ensures .1 ∙ sym (ap (λ (x : Done). x .tables) q), sym (ap (λ (x : Done). x .buffer) q))
 
-look-requires : tie.Need-look-requires
-look-requires c κs = tt
-
 same-length-7 : tie.Need-same-length-7
 same-length-7 c = refl
 
@@ -59,17 +50,11 @@ returns-3 c =
     let q = call-look (a .h) (a .c) (a .buffer .now) (tablesOf (a .sectors .now) (a .written .now) (a .durable .now)) (ne-eqb _ 102 (c .before .before .before .before .before .before .if1 .left)) (ne-eqb _ 109 (c .before .before .before .before .before .if2 .left)) (eq-eqb _ 108 (c .before .before .before .before .if3 .taken)) in
     (c .look .ensures ∙ sym (ap (λ (x : Done). x .reply) q), sym (ap (λ (x : Done). x .tables) q), sym (ap (λ (x : Done). x .buffer) q))
 
-stateless-requires : tie.Need-stateless-requires
-stateless-requires c κs = tt
-
 returns-4 : tie.Need-returns-4
 returns-4 c =
     let a = c .before .before .before .before .before .before .before .before .before .args in
     let q = call-stateless (a .h) (a .c) (a .buffer .now) (tablesOf (a .sectors .now) (a .written .now) (a .durable .now)) (ne-eqb _ 102 (c .before .before .before .before .if1 .left)) (ne-eqb _ 109 (c .before .before .before .if2 .left)) (ne-eqb _ 108 (c .before .before .if3 .left)) (not-true (a .h .held) (c .before .if4 .taken)) in
     (c .stateless .ensures ∙ sym (ap (λ (x : Done). x .reply) q), sym (ap (λ (x : Done). x .tables) q), sym (ap (λ (x : Done). x .buffer) q))
-
-call-with-state-requires : tie.Need-call-with-state-requires
-call-with-state-requires c κs = tt
 
 same-length-10 : tie.Need-same-length-10
 same-length-10 c = c .before .before .before .before .before .before .before .before .call-with-state .kept .0
@@ -92,6 +77,6 @@ returns-5 c =
 pub call-spec : {M : Type 1} → statement M
 call-spec =
     tie.close
-    (tie.spec format-requires same-length same-length-2 same-length-3 returns mount-requires same-length-4 same-length-5 same-length-6 returns-2
-    look-requires same-length-7 same-length-8 same-length-9 returns-3 stateless-requires returns-4 call-with-state-requires same-length-10
+    (tie.spec (λ c κs. tt) same-length same-length-2 same-length-3 returns (λ c κs. tt) same-length-4 same-length-5 same-length-6 returns-2
+    (λ c κs. tt) same-length-7 same-length-8 same-length-9 returns-3 (λ c κs. tt) returns-4 (λ c κs. tt) same-length-10
     same-length-11 same-length-12 same-length-13 returns-5)

@@ -9,21 +9,6 @@ use Rattle.tables.specs.meaning.Tables.{Tables}
 use Rattle.replaying.proofs.performing.call_on_tables.Statement.{statement}
 use Rattle.replaying.proofs.performing.call_on_tables.Tie as tie
 
-run-bytes-requires : tie.Need-run-bytes-requires
-run-bytes-requires c κs = tt
-
-lend-requires : tie.Need-lend-requires
-lend-requires c κs = tt
-
-lend-requires-2 : tie.Need-lend-requires-2
-lend-requires-2 c κs = tt
-
-lend-requires-3 : tie.Need-lend-requires-3
-lend-requires-3 c κs = tt
-
-lend-requires-4 : tie.Need-lend-requires-4
-lend-requires-4 c κs = tt
-
 slice-relend-prefix-call : tie.Need-slice-relend-prefix-call
 slice-relend-prefix-call c = c .before .before .before .lend .ensures .1
 
@@ -48,9 +33,6 @@ slice-relend-prefix-call-4 c = c .before .before .before .lend4 .ensures .1
 slice-aggregate-call-4 : tie.Need-slice-aggregate-call-4
 slice-aggregate-call-4 c = sym (length-take-le _ _ (c .before .before .before .before .lend4 .ensures .1))
 
-call-requires : tie.Need-call-requires
-call-requires c κs = tt
-
 same-length : tie.Need-same-length
 same-length c = length-front (c .before .before .before .before .before .before .before .before .before .before .before .before .before .before .before .before .before .before .before .before .before .before .before .before .args .space .now) (c .before .before .before .before .before .before .before .before .call .last .0) (c .before .before .before .before .before .before .before .before .before .before .before .before .before .before .before .before .lend .result) (c .before .before .before .before .before .before .before .before .call .kept .0)
 
@@ -70,6 +52,6 @@ returns c = let m = c .before .before .before .before .before .before .before .b
 pub call-on-tables-spec : {M : Type 1} → statement M
 call-on-tables-spec =
     tie.close
-    (tie.spec run-bytes-requires lend-requires lend-requires-2 lend-requires-3 lend-requires-4 slice-relend-prefix-call slice-aggregate-call
+    (tie.spec (λ c κs. tt) (λ c κs. tt) (λ c κs. tt) (λ c κs. tt) (λ c κs. tt) slice-relend-prefix-call slice-aggregate-call
     slice-relend-prefix-call-2 slice-aggregate-call-2 slice-relend-prefix-call-3 slice-aggregate-call-3 slice-relend-prefix-call-4
-    slice-aggregate-call-4 call-requires same-length same-length-2 same-length-3 same-length-4 returns)
+    slice-aggregate-call-4 (λ c κs. tt) same-length same-length-2 same-length-3 same-length-4 returns)

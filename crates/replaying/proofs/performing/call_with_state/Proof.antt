@@ -6,9 +6,6 @@ use Rattle.tables.specs.meaning.Tables.{tablesOf}
 use Rattle.replaying.proofs.performing.call_with_state.Statement.{statement}
 use Rattle.replaying.proofs.performing.call_with_state.Tie as tie
 
-write-requires : tie.Need-write-requires
-write-requires c κs = tt
-
 same-length : tie.Need-same-length
 same-length c = c .before .before .before .before .before .before .write .kept .0
 
@@ -24,9 +21,6 @@ same-length-4 c = c .before .before .before .before .before .before .write .kept
 returns : tie.Need-returns
 returns c = let a = c .before .before .before .before .before .before .before .before .before .before .before .before .before .before .before .before .args in let q = state-write (a .h) (a .c) (a .buffer .now) (tablesOf (a .sectors .now) (a .written .now) (a .durable .now)) (eq-eqb _ 119 (c .before .before .before .before .before .before .before .before .before .before .before .if1 .taken)) in (c .before .before .before .before .before .before .write .ensures .0 ∙ sym (ap (λ (x : Done). x .reply) q), c .before .before .before .before .before .before .write .ensures .1 ∙ sym (ap (λ (x : Done). x .tables) q), c .before .before .before .before .before .before .write .ensures .2 ∙ sym (ap (λ (x : Done). x .buffer) q))
 
-flush-requires : tie.Need-flush-requires
-flush-requires c κs = tt
-
 same-length-5 : tie.Need-same-length-5
 same-length-5 c = refl
 
@@ -39,9 +33,6 @@ same-length-7 c = c .before .before .flush .kept .1 .1 .0
 returns-2 : tie.Need-returns-2
 returns-2 c = let a = c .before .before .before .before .before .before .before .before .before .before .before .before .args in let q = state-flush (a .h) (a .c) (a .buffer .now) (tablesOf (a .sectors .now) (a .written .now) (a .durable .now)) (ne-eqb _ 119 (c .before .before .before .before .before .before .before .if1 .left)) (eq-eqb _ 117 (c .before .before .before .before .before .before .if2 .taken)) in (c .before .before .flush .ensures .0 ∙ sym (ap (λ (x : Done). x .reply) q), c .before .before .flush .ensures .1 ∙ sym (ap (λ (x : Done). x .tables) q), sym (ap (λ (x : Done). x .buffer) q))
 
-reset-requires : tie.Need-reset-requires
-reset-requires c κs = tt
-
 same-length-8 : tie.Need-same-length-8
 same-length-8 c = c .before .before .before .before .before .before .reset .kept .0
 
@@ -53,9 +44,6 @@ same-length-10 c = c .before .before .before .before .before .before .reset .kep
 
 returns-3 : tie.Need-returns-3
 returns-3 c = let a = c .before .before .before .before .before .before .before .before .before .before .before .before .before .before .before .before .before .args in let q = state-reset (a .h) (a .c) (a .buffer .now) (tablesOf (a .sectors .now) (a .written .now) (a .durable .now)) (ne-eqb _ 119 (c .before .before .before .before .before .before .before .before .before .before .before .before .if1 .left)) (ne-eqb _ 117 (c .before .before .before .before .before .before .before .before .before .before .before .if2 .left)) (eq-eqb _ 114 (c .before .before .before .before .before .before .before .before .before .before .if3 .taken)) in (c .before .before .before .before .before .before .reset .ensures .0 ∙ sym (ap (λ (x : Done). x .reply) q), c .before .before .before .before .before .before .reset .ensures .1 ∙ sym (ap (λ (x : Done). x .tables) q), sym (ap (λ (x : Done). x .buffer) q))
-
-read-requires : tie.Need-read-requires
-read-requires c κs = tt
 
 same-length-11 : tie.Need-same-length-11
 same-length-11 c = refl
@@ -72,9 +60,6 @@ same-length-14 c = c .before .before .read .kept .1 .1 .1 .0
 returns-4 : tie.Need-returns-4
 returns-4 c = let a = c .before .before .before .before .before .before .before .before .before .before .before .before .before .before .before .args in let q = state-read (a .h) (a .c) (a .buffer .now) (tablesOf (a .sectors .now) (a .written .now) (a .durable .now)) (ne-eqb _ 119 (c .before .before .before .before .before .before .before .before .before .before .if1 .left)) (ne-eqb _ 117 (c .before .before .before .before .before .before .before .before .before .if2 .left)) (ne-eqb _ 114 (c .before .before .before .before .before .before .before .before .if3 .left)) (eq-eqb _ 100 (c .before .before .before .before .before .before .before .if4 .taken)) in (c .before .before .read .ensures .0 ∙ sym (ap (λ (x : Done). x .reply) q), sym (ap (λ (x : Done). x .tables) q), c .before .before .read .ensures .1 ∙ sym (ap (λ (x : Done). x .buffer) q))
 
-peek-requires : tie.Need-peek-requires
-peek-requires c κs = tt
-
 same-length-15 : tie.Need-same-length-15
 same-length-15 c = refl
 
@@ -90,6 +75,6 @@ returns-5 c = let a = c .before .before .before .before .before .before .before 
 pub call-with-state-spec : {M : Type 1} → statement M
 call-with-state-spec =
     tie.close
-    (tie.spec write-requires same-length same-length-2 same-length-3 same-length-4 returns flush-requires same-length-5 same-length-6 same-length-7
-    returns-2 reset-requires same-length-8 same-length-9 same-length-10 returns-3 read-requires same-length-11 same-length-12 same-length-13
-    same-length-14 returns-4 peek-requires same-length-15 same-length-16 same-length-17 returns-5)
+    (tie.spec (λ c κs. tt) same-length same-length-2 same-length-3 same-length-4 returns (λ c κs. tt) same-length-5 same-length-6 same-length-7
+    returns-2 (λ c κs. tt) same-length-8 same-length-9 same-length-10 returns-3 (λ c κs. tt) same-length-11 same-length-12 same-length-13
+    same-length-14 returns-4 (λ c κs. tt) same-length-15 same-length-16 same-length-17 returns-5)

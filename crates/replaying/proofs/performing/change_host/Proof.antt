@@ -6,18 +6,9 @@ use Rattle.replaying.specs.Performing.{changedHost}
 use Rattle.replaying.proofs.performing.change_host.Statement.{statement}
 use Rattle.replaying.proofs.performing.change_host.Tie as tie
 
-geometry-in-requires : tie.Need-geometry-in-requires
-geometry-in-requires c κs = tt
-
-with-geometry-requires : tie.Need-with-geometry-requires
-with-geometry-requires c κs = tt
-
 returns : tie.Need-returns
 unfolding changedHost
 returns c = c .with-geometry .ensures ∙ ap (withGeometry (c .before .before .before .args .h)) (c .before .geometry-in .ensures) ∙ sym (picked _ _ _ (eq-eqb _ 121 (c .before .before .if1 .taken)))
-
-with-shortage-requires : tie.Need-with-shortage-requires
-with-shortage-requires c κs = tt
 
 returns-2 : tie.Need-returns-2
 unfolding changedHost
@@ -27,15 +18,9 @@ returns-3 : tie.Need-returns-3
 unfolding changedHost
 returns-3 c = sym (passed-over _ _ _ (ne-eqb _ 121 (c .before .before .before .if1 .left)) ∙ passed-over _ _ _ (ne-eqb _ 110 (c .before .before .if2 .left)) ∙ passed-over _ _ _ (not-true (c .before .before .before .before .args .h .held) (c .if3 .taken)))
 
-with-record-requires : tie.Need-with-record-requires
-with-record-requires c κs = tt
-
 returns-4 : tie.Need-returns-4
 unfolding changedHost
 returns-4 c = c .with-record .ensures ∙ sym (passed-over _ _ _ (ne-eqb _ 121 (c .before .before .before .before .before .if1 .left)) ∙ passed-over _ _ _ (ne-eqb _ 110 (c .before .before .before .before .if2 .left)) ∙ picked _ _ _ (not-false (c .before .before .before .before .before .before .args .h .held) (c .before .before .if3 .left)) ∙ picked _ _ _ (eq-eqb _ 115 (c .before .if4 .taken)))
-
-with-lost-requires : tie.Need-with-lost-requires
-with-lost-requires c κs = tt
 
 returns-5 : tie.Need-returns-5
 unfolding changedHost
@@ -48,5 +33,5 @@ returns-6 c = sym (passed-over _ _ _ (ne-eqb _ 121 (c .before .before .before .b
 pub change-host-spec : {M : Type 1} → statement M
 change-host-spec =
     tie.close
-    (tie.spec geometry-in-requires with-geometry-requires returns with-shortage-requires returns-2 returns-3 with-record-requires returns-4
-    with-lost-requires returns-5 returns-6)
+    (tie.spec (λ c κs. tt) (λ c κs. tt) returns (λ c κs. tt) returns-2 returns-3 (λ c κs. tt) returns-4
+    (λ c κs. tt) returns-5 returns-6)

@@ -8,9 +8,6 @@ use Rattle.replaying.specs.Performing.{Left, oddDrives, left, changed-cu
 use Rattle.replaying.proofs.performing.change_tables.Statement.{statement}
 use Rattle.replaying.proofs.performing.change_tables.Tie as tie
 
-cut-tables-requires : tie.Need-cut-tables-requires
-cut-tables-requires c κs = tt
-
 same-length : tie.Need-same-length
 same-length c = c .before .before .before .before .cut-tables .kept .0
 
@@ -20,17 +17,11 @@ same-length-2 c = c .before .before .before .before .cut-tables .kept .1 .0
 returns : tie.Need-returns
 returns c = let a = c .before .before .before .before .before .before .before .before .before .before .before .before .args in let q = changed-cut (a .h) (a .c) (a .buffer .now) (tablesOf (a .space .now) (a .written .now) (a .durable .now)) (eq-eqb _ 99 (c .before .before .before .before .before .before .before .if1 .taken)) in (ap₂ (λ (w d : List ℕ). tablesOf (a .space .now) w d) (c .before .before .before .before .cut-tables .ensures .0) (c .before .before .before .before .cut-tables .ensures .1) ∙ sym (ap (λ (x : Left). x .tables) q), sym (ap (λ (x : Left). x .buffer) q))
 
-put-byte-requires : tie.Need-put-byte-requires
-put-byte-requires c κs = tt
-
 same-length-3 : tie.Need-same-length-3
 same-length-3 c = c .before .before .put-byte .kept .0
 
 returns-2 : tie.Need-returns-2
 returns-2 c = let a = c .before .before .before .before .before .before .before .before .before .before .args in let q = changed-byte (a .h) (a .c) (a .buffer .now) (tablesOf (a .space .now) (a .written .now) (a .durable .now)) (ne-eqb _ 99 (c .before .before .before .before .before .if1 .left)) (eq-eqb _ 98 (c .before .before .before .before .if2 .taken)) in (ap (λ (s : List ℕ). tablesOf s (a .written .now) (a .durable .now)) (c .before .before .put-byte .ensures) ∙ sym (ap (λ (x : Left). x .tables) q), sym (ap (λ (x : Left). x .buffer) q))
-
-put-pair-requires : tie.Need-put-pair-requires
-put-pair-requires c κs = tt
 
 same-length-4 : tie.Need-same-length-4
 same-length-4 c = c .before .before .before .before .put-pair .kept .0
@@ -40,9 +31,6 @@ same-length-5 c = c .before .before .before .before .put-pair .kept .1 .0
 
 returns-3 : tie.Need-returns-3
 returns-3 c = let a = c .before .before .before .before .before .before .before .before .before .before .before .before .before .before .args in let q = changed-pair (a .h) (a .c) (a .buffer .now) (tablesOf (a .space .now) (a .written .now) (a .durable .now)) (ne-eqb _ 99 (c .before .before .before .before .before .before .before .before .before .if1 .left)) (ne-eqb _ 98 (c .before .before .before .before .before .before .before .before .if2 .left)) (eq-eqb _ 116 (c .before .before .before .before .before .before .before .if3 .taken)) in (ap₂ (λ (w d : List ℕ). tablesOf (a .space .now) w d) (c .before .before .before .before .put-pair .ensures .0) (c .before .before .before .before .put-pair .ensures .1) ∙ sym (ap (λ (x : Left). x .tables) q), sym (ap (λ (x : Left). x .buffer) q))
-
-append-to-log-requires : tie.Need-append-to-log-requires
-append-to-log-requires c κs = tt
 
 same-length-6 : tie.Need-same-length-6
 same-length-6 c = c .before .before .before .before .before .before .append-to-log .kept .0
@@ -60,5 +48,5 @@ returns-4 c = let a = c .before .before .before .before .before .before .before 
 pub change-tables-spec : {M : Type 1} → statement M
 change-tables-spec =
     tie.close
-    (tie.spec cut-tables-requires same-length same-length-2 returns put-byte-requires same-length-3 returns-2 put-pair-requires same-length-4
-    same-length-5 returns-3 append-to-log-requires same-length-6 same-length-7 same-length-8 returns-4)
+    (tie.spec (λ c κs. tt) same-length same-length-2 returns (λ c κs. tt) same-length-3 returns-2 (λ c κs. tt) same-length-4
+    same-length-5 returns-3 (λ c κs. tt) same-length-6 same-length-7 same-length-8 returns-4)

@@ -9,12 +9,6 @@ use lib.Seq.{length-front, length-take-le}
 use Rattle.replaying.proofs.performing.cut_tables.Statement.{statement}
 use Rattle.replaying.proofs.performing.cut_tables.Tie as tie
 
-lend-requires : tie.Need-lend-requires
-lend-requires c κs = tt
-
-lend-requires-2 : tie.Need-lend-requires-2
-lend-requires-2 c κs = tt
-
 slice-aggregate-cut : tie.Need-slice-aggregate-cut
 slice-aggregate-cut c = let h : c .before .lend2 .result ≤ length (c .before .before .before .before .before .args .written .now) = omega arith in sym (length-take-le _ _ h)
 
@@ -37,5 +31,5 @@ returns c = let a = c .before .before .before .before .before .before .before .b
 pub cut-tables-spec : {M : Type 1} → statement M
 cut-tables-spec =
     tie.close
-    (tie.spec lend-requires lend-requires-2 (λ c. omega arith) slice-aggregate-cut (λ c. omega arith) slice-aggregate-cut-2 cut-requires same-length
+    (tie.spec (λ c κs. tt) (λ c κs. tt) (λ c. omega arith) slice-aggregate-cut (λ c. omega arith) slice-aggregate-cut-2 cut-requires same-length
     same-length-2 returns)

@@ -3,24 +3,6 @@ use Rattle.replaying.specs.Hosting.{quietReply}
 use Rattle.replaying.proofs.performing.new_drives.Statement.{statement}
 use Rattle.replaying.proofs.performing.new_drives.Tie as tie
 
-geometry-in-requires : tie.Need-geometry-in-requires
-geometry-in-requires c κs = tt
-
-fresh-host-requires : tie.Need-fresh-host-requires
-fresh-host-requires c κs = tt
-
-clear-requires : tie.Need-clear-requires
-clear-requires c κs = tt
-
-clear-pointers-requires : tie.Need-clear-pointers-requires
-clear-pointers-requires c κs = tt
-
-clear-pointers-requires-2 : tie.Need-clear-pointers-requires-2
-clear-pointers-requires-2 c κs = tt
-
-quiet-requires : tie.Need-quiet-requires
-quiet-requires c κs = tt
-
 same-length : tie.Need-same-length
 same-length c = c .before .before .before .before .before .before .before .before .before .before .before .clear .kept .0
 
@@ -36,5 +18,5 @@ returns c = (c .quiet .ensures ∙ ap quietReply (c .before .before .before .bef
 pub new-drives-spec : {M : Type 1} → statement M
 new-drives-spec =
     tie.close
-    (tie.spec geometry-in-requires fresh-host-requires clear-requires clear-pointers-requires clear-pointers-requires-2 quiet-requires same-length
+    (tie.spec (λ c κs. tt) (λ c κs. tt) (λ c κs. tt) (λ c κs. tt) (λ c κs. tt) (λ c κs. tt) same-length
     same-length-2 same-length-3 returns)

@@ -10,9 +10,6 @@ use Rattle.replaying.specs.Performing.{left, performed-new, performed-ca
 use Rattle.replaying.proofs.performing.perform.Statement.{statement}
 use Rattle.replaying.proofs.performing.perform.Tie as tie
 
-new-drives-requires : tie.Need-new-drives-requires
-new-drives-requires c κs = tt
-
 same-length : tie.Need-same-length
 same-length c = c .before .before .before .before .before .before .new-drives .kept .0
 
@@ -24,12 +21,6 @@ same-length-3 c = c .before .before .before .before .before .before .new-drives 
 
 returns : tie.Need-returns
 returns c = let a = c .before .before .before .before .before .before .before .before .before .before .before .before .before .before .before .args in let q = performed-new (a .h) (a .c) (a .buffer .now) (tablesOf (a .space .now) (a .written .now) (a .durable .now)) (eq-eqb _ 103 (c .before .before .before .before .before .before .before .before .before .before .if1 .taken)) in (c .before .before .before .before .before .before .new-drives .ensures .0 ∙ sym (ap (λ (x : Done). x .reply) q), c .before .before .before .before .before .before .new-drives .ensures .1 ∙ sym (ap (λ (x : Done). x .tables) q), sym (ap (λ (x : Done). x .buffer) q))
-
-is-call-requires : tie.Need-is-call-requires
-is-call-requires c κs = tt
-
-call-on-tables-requires : tie.Need-call-on-tables-requires
-call-on-tables-requires c κs = tt
 
 same-length-4 : tie.Need-same-length-4
 same-length-4 c = c .before .before .before .before .before .before .before .before .call-on-tables .kept .0
@@ -46,15 +37,6 @@ same-length-7 c = c .before .before .before .before .before .before .before .bef
 returns-2 : tie.Need-returns-2
 returns-2 c = let a = c .before .before .before .before .before .before .before .before .before .before .before .before .before .before .before .before .before .before .before .before .args in let q = performed-call (a .h) (a .c) (a .buffer .now) (tablesOf (a .space .now) (a .written .now) (a .durable .now)) (ne-eqb _ 103 (c .before .before .before .before .before .before .before .before .before .before .before .before .before .before .before .if1 .left)) (sym (c .before .before .before .before .before .before .before .before .before .before .before .before .before .before .is-call .ensures) ∙ c .before .before .before .before .before .before .before .before .before .before .before .before .before .if2 .taken) in (c .before .before .before .before .before .before .before .before .call-on-tables .ensures .0 ∙ sym (ap (λ (x : Done). x .reply) q), let s = c .before .before .before .before .before .before .before .before .call-on-tables .ensures in ap₂ (λ (x : List ℕ) (p : List ℕ × List ℕ). tablesOf x (p .0) (p .1)) (s .1) (ap₂ (λ (w d : List ℕ). (w, d)) (s .2) (s .3)) ∙ sym (ap (λ (x : Done). x .tables) q), c .before .before .before .before .before .before .before .before .call-on-tables .ensures .4 ∙ sym (ap (λ (x : Done). x .buffer) q))
 
-is-change-requires : tie.Need-is-change-requires
-is-change-requires c κs = tt
-
-change-tables-requires : tie.Need-change-tables-requires
-change-tables-requires c κs = tt
-
-quiet-requires : tie.Need-quiet-requires
-quiet-requires c κs = tt
-
 same-length-8 : tie.Need-same-length-8
 same-length-8 c = c .before .before .before .before .before .before .before .before .before .change-tables .kept .0
 
@@ -70,18 +52,12 @@ same-length-11 c = c .before .before .before .before .before .before .before .be
 returns-3 : tie.Need-returns-3
 returns-3 c = let a = c .before .before .before .before .before .before .before .before .before .before .before .before .before .before .before .before .before .before .before .before .before .before .before .args in let q = performed-change (a .h) (a .c) (a .buffer .now) (tablesOf (a .space .now) (a .written .now) (a .durable .now)) (ne-eqb _ 103 (c .before .before .before .before .before .before .before .before .before .before .before .before .before .before .before .before .before .before .if1 .left)) (sym (c .before .before .before .before .before .before .before .before .before .before .before .before .before .before .before .before .before .is-call .ensures) ∙ c .before .before .before .before .before .before .before .before .before .before .before .before .before .before .before .before .if2 .left) (sym (c .before .before .before .before .before .before .before .before .before .before .before .before .before .before .before .is-change .ensures) ∙ c .before .before .before .before .before .before .before .before .before .before .before .before .before .before .if3 .taken) in (c .quiet .ensures ∙ sym (ap (λ (x : Done). x .reply) q), c .before .before .before .before .before .before .before .before .before .change-tables .ensures .0 ∙ sym (ap (λ (x : Done). x .tables) q), c .before .before .before .before .before .before .before .before .before .change-tables .ensures .1 ∙ sym (ap (λ (x : Done). x .buffer) q))
 
-change-host-requires : tie.Need-change-host-requires
-change-host-requires c κs = tt
-
-quiet-requires-2 : tie.Need-quiet-requires-2
-quiet-requires-2 c κs = tt
-
 returns-4 : tie.Need-returns-4
 returns-4 c = let a = c .before .before .before .before .before .before .before .before .before .before .before .args in let q = performed-host (a .h) (a .c) (a .buffer .now) (tablesOf (a .space .now) (a .written .now) (a .durable .now)) (ne-eqb _ 103 (c .before .before .before .before .before .before .if1 .left)) (sym (c .before .before .before .before .before .is-call .ensures) ∙ c .before .before .before .before .if2 .left) (sym (c .before .before .before .is-change .ensures) ∙ c .before .before .if3 .left) in (c .quiet2 .ensures ∙ ap quietReply (c .before .change-host .ensures) ∙ sym (ap (λ (x : Done). x .reply) q), sym (ap (λ (x : Done). x .tables) q), sym (ap (λ (x : Done). x .buffer) q))
 
 pub perform-spec : {M : Type 1} → statement M
 perform-spec =
     tie.close
-    (tie.spec new-drives-requires same-length same-length-2 same-length-3 returns is-call-requires call-on-tables-requires same-length-4 same-length-5
-    same-length-6 same-length-7 returns-2 is-change-requires change-tables-requires quiet-requires same-length-8 same-length-9 same-length-10
-    same-length-11 returns-3 change-host-requires quiet-requires-2 returns-4)
+    (tie.spec (λ c κs. tt) same-length same-length-2 same-length-3 returns (λ c κs. tt) (λ c κs. tt) same-length-4 same-length-5
+    same-length-6 same-length-7 returns-2 (λ c κs. tt) (λ c κs. tt) (λ c κs. tt) same-length-8 same-length-9 same-length-10
+    same-length-11 returns-3 (λ c κs. tt) (λ c κs. tt) returns-4)

@@ -3,18 +3,6 @@ use borrow.Author.Needs.{needs}
 use Rattle.replaying.proofs.showing.glimpse_of.Statement.{statement}
 use Rattle.replaying.proofs.showing.glimpse_of.Tie as tie
 
-enum-told : tie.Need-enum-told
-enum-told c = search needs
-
-adler-of-requires : tie.Need-adler-of-requires
-adler-of-requires c κs = tt
-
-enum-told-2 : tie.Need-enum-told-2
-enum-told-2 c = search needs
-
-enum-known-a : tie.Need-enum-known-a
-enum-known-a c = search needs
-
 returns : tie.Need-returns
 returns c = rw (c .before .enum-told .given .1, c .adler-of .ensures) refl
 
@@ -27,4 +15,4 @@ returns-3 c = rw (c .before .a .given .1) refl
 pub glimpse-of-spec : {M : Type 1} → statement M
 glimpse-of-spec =
     tie.close
-    (tie.spec enum-told adler-of-requires enum-told-2 enum-known-a returns returns-2 returns-3)
+    (tie.spec (λ c. search needs) (λ c κs. tt) (λ c. search needs) (λ c. search needs) returns returns-2 returns-3)

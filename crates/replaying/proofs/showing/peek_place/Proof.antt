@@ -1,42 +1,10 @@
-use mathlib.Core.Path.{refl, sym, _∙_, ap}
-use lib.Seq.{length-take-le}
-use Rattle.replaying.specs.Showing.{placeIn, partShown}
+use mathlib.Core.Path.{_∙_, ap}
+use Rattle.replaying.specs.Showing.{placeIn}
 use Rattle.replaying.proofs.showing.peek_place.Statement.{statement}
 use Rattle.replaying.proofs.showing.peek_place.Tie as tie
 
-lend-requires : tie.Need-lend-requires
-lend-requires c κs = tt
-
-lend-requires-2 : tie.Need-lend-requires-2
-lend-requires-2 c κs = tt
-
-lend-requires-3 : tie.Need-lend-requires-3
-lend-requires-3 c κs = tt
-
-named-in-requires : tie.Need-named-in-requires
-named-in-requires c κs = tt
-
-slice-aggregate-peek : tie.Need-slice-aggregate-peek
-slice-aggregate-peek c = sym (length-take-le _ _ (c .before .before .before .before .before .before .lend .ensures .1))
-
-slice-aggregate-peek-2 : tie.Need-slice-aggregate-peek-2
-slice-aggregate-peek-2 c = sym (length-take-le _ _ (c .before .before .before .before .before .before .lend2 .ensures .1))
-
-slice-aggregate-peek-3 : tie.Need-slice-aggregate-peek-3
-slice-aggregate-peek-3 c = sym (length-take-le _ _ (c .before .before .before .before .before .before .lend3 .ensures .1))
-
-peek-requires : tie.Need-peek-requires
-peek-requires c κs = tt
-
-place-in-requires : tie.Need-place-in-requires
-place-in-requires c κs = tt
-
 returns : tie.Need-returns
-unfolding partShown
-returns c = c .place-in .ensures ∙ ap placeIn (c .before .peek .ensures ∙ rw (c .before .before .before .before .before .named-in .ensures, c .before .before .before .before .before .before .before .before .before .before .lend .ensures .0, c .before .before .before .before .before .before .before .before .before .lend2 .ensures .0, c .before .before .before .before .before .before .before .before .lend3 .ensures .0) refl)
+returns c = c .place-in .ensures ∙ ap placeIn (c .before .part-shown .ensures)
 
 pub peek-place-spec : {M : Type 1} → statement M
-peek-place-spec =
-    tie.close
-    (tie.spec lend-requires lend-requires-2 lend-requires-3 named-in-requires slice-aggregate-peek slice-aggregate-peek-2 slice-aggregate-peek-3
-    peek-requires place-in-requires returns)
+peek-place-spec = tie.close (tie.spec (λ c κs. tt) (λ c κs. tt) returns)

@@ -9,15 +9,9 @@ returns : tie.Need-returns
 unfolding placeIn
 returns c = rw (lt-ltb _ _ (c .if1 .taken)) refl
 
-read-u32-requires : tie.Need-read-u32-requires
-read-u32-requires c κs = omega arith
-
-cast-result : tie.Need-cast-result
-cast-result c = omega arith
-
 returns-2 : tie.Need-returns-2
 unfolding placeIn
 returns-2 c = rw (le-ltb _ _ (c .before .if1 .left), c .read-u32 .ensures) refl
 
 pub place-in-spec : {M : Type 1} → statement M
-place-in-spec = tie.close (tie.spec returns read-u32-requires cast-result returns-2)
+place-in-spec = tie.close (tie.spec returns (λ c κs. omega arith) (λ c. omega arith) returns-2)

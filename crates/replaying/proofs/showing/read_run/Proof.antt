@@ -3,18 +3,6 @@ use Rattle.replaying.specs.Showing.{runRead}
 use Rattle.replaying.proofs.showing.read_run.Statement.{statement}
 use Rattle.replaying.proofs.showing.read_run.Tie as tie
 
-named-in-requires : tie.Need-named-in-requires
-named-in-requires c κs = tt
-
-narrow-requires : tie.Need-narrow-requires
-narrow-requires c κs = tt
-
-read-requires : tie.Need-read-requires
-read-requires c κs = tt
-
-glimpse-of-requires : tie.Need-glimpse-of-requires
-glimpse-of-requires c κs = tt
-
 same-length : tie.Need-same-length
 same-length c = c .before .before .before .before .read .kept .1 .1 .1 .1 .1 .1 .1 .1 .0
 
@@ -25,4 +13,4 @@ returns c = let f = c .before .before .before .before .read .ensures in let k = 
 pub read-run-spec : {M : Type 1} → statement M
 read-run-spec =
     tie.close
-    (tie.spec named-in-requires narrow-requires read-requires glimpse-of-requires same-length returns)
+    (tie.spec (λ c κs. tt) (λ c κs. tt) (λ c κs. tt) (λ c κs. tt) same-length returns)

@@ -10,30 +10,9 @@ returns : tie.Need-returns
 unfolding zoneRead
 returns c = rw (le-leb _ _ (c .if1 .taken)) refl
 
-pointer-of-requires : tie.Need-pointer-of-requires
-pointer-of-requires c κs = tt
-
 returns-2 : tie.Need-returns-2
 unfolding zoneRead
 returns-2 c = rw (lt-leb _ _ (c .before .before .before .if1 .left), ← c .before .pointer-of .ensures, eq-eqb _ 0 (c .if2 .taken)) refl
-
-zone-start-requires : tie.Need-zone-start-requires
-zone-start-requires c κs = tt
-
-run-bytes-requires : tie.Need-run-bytes-requires
-run-bytes-requires c κs = tt
-
-lend-requires : tie.Need-lend-requires
-lend-requires c κs = tt
-
-lend-requires-2 : tie.Need-lend-requires-2
-lend-requires-2 c κs = tt
-
-lend-requires-3 : tie.Need-lend-requires-3
-lend-requires-3 c κs = tt
-
-lend-requires-4 : tie.Need-lend-requires-4
-lend-requires-4 c κs = tt
 
 slice-aggregate-read-run : tie.Need-slice-aggregate-read-run
 slice-aggregate-read-run c = sym (length-take-le _ _ (c .before .before .before .before .lend .ensures .1))
@@ -50,9 +29,6 @@ slice-relend-prefix-read-run c = c .before .before .before .lend4 .ensures .1
 slice-aggregate-read-run-4 : tie.Need-slice-aggregate-read-run-4
 slice-aggregate-read-run-4 c = sym (length-take-le _ _ (c .before .before .before .before .lend4 .ensures .1))
 
-read-run-requires : tie.Need-read-run-requires
-read-run-requires c κs = tt
-
 same-length : tie.Need-same-length
 same-length c = length-front (c .before .before .before .before .before .before .before .before .before .before .before .before .before .before .before .before .before .before .before .before .before .args .buffer .now) (c .before .before .read-run .last .1 .1 .1 .0) (c .before .before .before .before .before .before .before .lend4 .result) (c .before .before .read-run .kept .1 .1 .1 .0)
 
@@ -63,6 +39,6 @@ returns-3 c = rw (lt-leb _ _ (c .before .before .before .before .before .before 
 pub read-zone-spec : {M : Type 1} → statement M
 read-zone-spec =
     tie.close
-    (tie.spec returns (λ c. omega arith) (λ c. omega arith) pointer-of-requires returns-2 zone-start-requires run-bytes-requires lend-requires
-    lend-requires-2 lend-requires-3 lend-requires-4 slice-aggregate-read-run slice-aggregate-read-run-2 slice-aggregate-read-run-3
-    slice-relend-prefix-read-run slice-aggregate-read-run-4 read-run-requires same-length returns-3)
+    (tie.spec returns (λ c. omega arith) (λ c. omega arith) (λ c κs. tt) returns-2 (λ c κs. tt) (λ c κs. tt) (λ c κs. tt)
+    (λ c κs. tt) (λ c κs. tt) (λ c κs. tt) slice-aggregate-read-run slice-aggregate-read-run-2 slice-aggregate-read-run-3
+    slice-relend-prefix-read-run slice-aggregate-read-run-4 (λ c κs. tt) same-length returns-3)

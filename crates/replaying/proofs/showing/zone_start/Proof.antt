@@ -8,9 +8,6 @@ use Rattle.replaying.specs.Showing.{zoneStart}
 use Rattle.replaying.proofs.showing.zone_start.Statement.{statement}
 use Rattle.replaying.proofs.showing.zone_start.Tie as tie
 
-valid-requires : tie.Need-valid-requires
-valid-requires c κs = tt
-
 returns : tie.Need-returns
 unfolding zoneStart
 returns c = rw (sym (c .before .valid .ensures) ∙ not-true (c .before .valid .result) (c .if1 .taken)) refl
@@ -32,4 +29,4 @@ returns-3 c = rw ((sym (c .before .before .before .valid .ensures) ∙ not-false
 pub zone-start-spec : {M : Type 1} → statement M
 zone-start-spec =
     tie.close
-    (tie.spec valid-requires returns returns-2 zone-sectors-requires mul-result returns-3)
+    (tie.spec (λ c κs. tt) returns returns-2 zone-sectors-requires mul-result returns-3)

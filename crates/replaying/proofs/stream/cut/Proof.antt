@@ -15,9 +15,6 @@ Inv-loop written₀ durable₀ seed n x₀ i₀ written durable x i = (i ≤ n) 
 abbrev μ-loop : tie.MeasureT-loop
 μ-loop written₀ durable₀ seed n x₀ i₀ written durable x i = n - i
 
-seed-start-requires : tie.Need-seed-start-requires Inv-loop μ-loop
-seed-start-requires c κs = tt
-
 loop-holds : tie.Need-loop-holds Inv-loop μ-loop
 loop-holds c = (omega arith, refl, refl, refl, refl, refl, (cc), search needs)
 
@@ -30,5 +27,5 @@ returns c = let l = c .before .loop in let e : l .i ≡ length (c .before .befor
 pub cut-spec : {M : Type 1} → statement M
 cut-spec =
     tie.close
-    (tie.spec Inv-loop μ-loop seed-start-requires loop-holds (λ c κs. omega arith) (λ c κs. search needs) (λ c. omega arith) (λ c. search needs)
+    (tie.spec Inv-loop μ-loop (λ c κs. tt) loop-holds (λ c κs. omega arith) (λ c κs. search needs) (λ c. omega arith) (λ c. search needs)
     loop-again (λ c. search needs) (λ c. search needs) returns)

@@ -10,15 +10,6 @@ returns : tie.Need-returns
 unfolding cutPointer
 returns c = let e : c .before .args .written - c .before .args .durable + 1 ≡ 1 = omega arith in rw e (omega arith)
 
-cast-gap : tie.Need-cast-gap
-cast-gap c = omega arith
-
-add-gap : tie.Need-add-gap
-add-gap c = omega arith
-
-rem-result : tie.Need-rem-result
-rem-result c = omega arith
-
 cast-result : tie.Need-cast-result
 cast-result c = let h : 1 ≤ c .before .args .written - c .before .args .durable + 1 = omega arith in omega (arith, mod-lt (c .before .args .x / 65536) h)
 
@@ -31,4 +22,4 @@ returns-2 c = refl
 
 pub cut-pointer-spec : {M : Type 1} → statement M
 cut-pointer-spec =
-    tie.close (tie.spec returns cast-gap add-gap rem-result cast-result add-result returns-2)
+    tie.close (tie.spec returns (λ c. omega arith) (λ c. omega arith) (λ c. omega arith) cast-result add-result returns-2)

@@ -15,14 +15,8 @@ Inv-loop out₀ seed n x₀ i₀ out x i = (i ≤ n) × (n ≡ length out₀) ×
 abbrev μ-loop : tie.MeasureT-loop
 μ-loop out₀ seed n x₀ i₀ out x i = n - i
 
-seed-start-requires : tie.Need-seed-start-requires Inv-loop μ-loop
-seed-start-requires c κs = tt
-
 loop-holds : tie.Need-loop-holds Inv-loop μ-loop
 loop-holds c = (omega arith, (cc), refl, (cc), (cc), search needs)
-
-draw-byte-requires : tie.Need-draw-byte-requires Inv-loop μ-loop
-draw-byte-requires c κs = tt
 
 loop-again : tie.Need-loop-again Inv-loop μ-loop
 loop-again c = (omega arith, (cc), simp length-set (cc), rw add-one (cc), rw add-one (cc), search needs)
@@ -36,5 +30,5 @@ returns c = let l = c .before .loop in let e : l .i ≡ length (c .before .befor
 pub fill-spec : {M : Type 1} → statement M
 fill-spec =
     tie.close
-    (tie.spec Inv-loop μ-loop seed-start-requires loop-holds (λ c κs. omega arith) draw-byte-requires (λ c. omega arith) (λ c. omega arith)
+    (tie.spec Inv-loop μ-loop (λ c κs. tt) loop-holds (λ c κs. omega arith) (λ c κs. tt) (λ c. omega arith) (λ c. omega arith)
     (λ c. search needs) loop-again same-length returns)

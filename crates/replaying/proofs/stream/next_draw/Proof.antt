@@ -4,15 +4,9 @@ use Rattle.replaying.specs.Stream.{nextDraw}
 use Rattle.replaying.proofs.stream.next_draw.Statement.{statement}
 use Rattle.replaying.proofs.stream.next_draw.Tie as tie
 
-mul-result : tie.Need-mul-result
-mul-result c = omega arith
-
-add-result : tie.Need-add-result
-add-result c = omega arith
-
 returns : tie.Need-returns
 unfolding nextDraw
 returns c = (refl, omega arith)
 
 pub next-draw-spec : {M : Type 1} → statement M
-next-draw-spec = tie.close (tie.spec mul-result add-result returns)
+next-draw-spec = tie.close (tie.spec (λ c. omega arith) (λ c. omega arith) returns)

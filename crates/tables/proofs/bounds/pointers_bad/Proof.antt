@@ -19,17 +19,17 @@ abbrev μ-loop : tie.MeasureT-loop
 loop-holds : tie.Need-loop-holds Inv-loop μ-loop
 loop-holds c = (omega arith, refl, refl)
 
-drive-bad-requires : tie.Need-drive-bad-requires Inv-loop μ-loop
-drive-bad-requires c κs = let s = c .before .before .before .before in (s .pre .0, (omega arith, s .pre .1 .0, s .pre .1 .1))
+named-bad-requires : tie.Need-named-bad-requires Inv-loop μ-loop
+named-bad-requires c κs = let s = c .before .before .before .before in (s .pre .0, (omega arith, s .pre .1 .0, s .pre .1 .1))
 
-array-read-here : tie.Need-array-read-here Inv-loop μ-loop
-array-read-here c = omega (arith, c .before .before .before .before .before .pre .0 .drives-most)
+array-read-named-bad : tie.Need-array-read-named-bad Inv-loop μ-loop
+array-read-named-bad c = omega (arith, c .before .before .before .before .pre .0 .drives-most)
 
 add-d : tie.Need-add-d Inv-loop μ-loop
 add-d c = omega (arith, c .before .before .before .before .before .pre .0 .drives-most)
 
 loop-again : tie.Need-loop-again Inv-loop μ-loop
-loop-again c = let l = c .before .before .loop in (omega arith, refl, rw (l .inv .2, c .drive-bad .ensures, add-one) refl)
+loop-again c = let l = c .before .before .loop in (omega arith, refl, rw (l .inv .2, c .named-bad .ensures, add-one) refl)
 
 returns : tie.Need-returns Inv-loop μ-loop
 unfolding pointersBad
@@ -38,4 +38,4 @@ returns c = let s = c .before .before .before .before in let l = c .before .loop
 pub pointers-bad-spec : {M : Type 1} → statement M
 pointers-bad-spec =
     tie.close
-    (tie.spec Inv-loop μ-loop loop-holds drive-bad-requires array-read-here add-d (λ c. omega arith) loop-again returns)
+    (tie.spec Inv-loop μ-loop loop-holds array-read-named-bad named-bad-requires add-d (λ c. omega arith) loop-again returns)

@@ -1,24 +1,20 @@
-use mathlib.Core.Path.{ap, _∙_}
-use Prim.Native.Nat.{_-_}
-use denote.Ref.{now}
+use mathlib.Core.Path.{refl, ap, _∙_}
+use mathlib.Core.Bool.{false}
+use native.Mathlib.Omega.{arith}
 use Rattle.logs.specs.meaning.Heads.{generationIn}
-use Rattle.volume.specs.looking.DriveLogs.{general-heads}
+use Rattle.logs.specs.declared.Log.{Log}
+use Rattle.logs.specs.meaning.Entry.{generalZone}
+use Rattle.logs.specs.code.Query.{logHeads}
+use Rattle.volume.specs.looking.DriveLogs.{zonePointer, in-log, general-heads}
 use borrow.Author.Needs.{needs}
 use Rattle.volume.proofs.drive_logs.last_generation.Statement.{statement}
 use Rattle.volume.proofs.drive_logs.last_generation.Tie as tie
 
-zone-pointer-requires : tie.Need-zone-pointer-requires
-zone-pointer-requires c κs = search needs
-
 last-generation-requires : tie.Need-last-generation-requires
-last-generation-requires c κs = search needs
+last-generation-requires c κs = let s = c .before .before .before in let a = s .args in (s .pre .0, (in-log (a .g) (a .sectors .now) (a .written .now) (a .drive) generalZone (c .log-in .result) (c .log-in .ensures) (s .pre .1 .0) (s .pre .1 .1) (omega arith), s .pre .1 .2))
 
 returns : tie.Need-returns
-returns c =
-    let s = c .before .before .before .before in
-    let a = s .args in
-    let z = c .before .zone-pointer in
-    c .last-generation .ensures ∙ ap (generationIn (a .z)) (general-heads (a .g) (a .sectors .now) (a .written .now) (a .drive) (s .pre .1 .1) (z .result) (z .ensures .0))
+returns c = let s = c .before .before .before .before in let a = s .args in c .last-generation .ensures ∙ ap (λ (l : Log). generationIn (a .z) (logHeads (a .g) (l .drive) false (l .zone) (l .written) (a .sectors .now))) (c .before .log-in .ensures) ∙ ap (generationIn (a .z)) (general-heads (a .g) (a .sectors .now) (a .written .now) (a .drive) (s .pre .1 .1) (zonePointer (a .g) (a .written .now) (a .drive) generalZone) refl)
 
 pub last-generation-spec : {M : Type 1} → statement M
-last-generation-spec = tie.close (tie.spec zone-pointer-requires last-generation-requires returns)
+last-generation-spec = tie.close (tie.spec (λ c κs. search needs) last-generation-requires returns)

@@ -18,11 +18,11 @@ Inv-loop sectors written g array here n other₀ e₀ other e = (e ≤ n) × (ot
 abbrev μ-loop : tie.MeasureT-loop
 μ-loop sectors written g array here n other₀ e₀ other e = n - e
 
-first-array-requires : tie.Need-first-array-requires Inv-loop μ-loop
-first-array-requires c κs = let s = c .before .before .before .before in (s .pre .0, (s .pre .1, omega arith))
+array-differs-requires : tie.Need-array-differs-requires Inv-loop μ-loop
+array-differs-requires c κs = let s = c .before .before .before .before in (s .pre .0, (s .pre .1, omega arith))
 
 loop-again : tie.Need-loop-again Inv-loop μ-loop
-loop-again c = let l = c .before .before .loop in (omega arith, rw (l .inv .1, c .first-array .ensures, add-one) refl)
+loop-again c = let l = c .before .before .loop in (omega arith, rw (l .inv .1, c .array-differs .ensures, add-one) refl)
 
 returns : tie.Need-returns Inv-loop μ-loop
 returns c = let l = c .before .loop in let e : l .e ≡ c .before .before .before .before .args .g .drives = omega arith in l .inv .1 ∙ rw e refl
@@ -30,6 +30,5 @@ returns c = let l = c .before .loop in let e : l .e ≡ c .before .before .befor
 pub other-array-spec : {M : Type 1} → statement M
 other-array-spec =
     tie.close
-    (tie.spec Inv-loop μ-loop (λ c. (omega arith, refl)) first-array-requires
-    (λ c. omega (arith, c .before .before .before .before .before .pre .0 .drives-most))
-    (λ c. omega (arith, c .before .before .before .before .before .pre .0 .drives-most)) (λ c. omega arith) loop-again returns)
+    (tie.spec Inv-loop μ-loop (λ c. (omega arith, refl)) (λ c. omega (arith, c .before .before .before .before .pre .0 .drives-most))
+    array-differs-requires (λ c. omega (arith, c .before .before .before .before .before .pre .0 .drives-most)) (λ c. omega arith) loop-again returns)

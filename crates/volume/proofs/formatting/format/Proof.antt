@@ -33,7 +33,7 @@ abbrev stores : tie.Start → List Store
 stores s = formatStores (s .args .g) (namedDrives (s .args .g) (isSet (s .args .named))) (leftOut (s .args .g) (isSet (s .args .named))) (s .args .array)
 
 abbrev next : tie.Start → State
-next s = freshState (leftOut (s .args .g) (isSet (s .args .named)))
+next s = freshState (s .args .g) (leftOut (s .args .g) (isSet (s .args .named)))
 
 number : (c : tie.After-format-refusal) → c .format-refusal .result ≡ refusal (c .before .before .before .before .before .before)
 number c = let a = c .before .before .before .before .before .before .args in c .format-refusal .ensures ∙ format-refusal (a .g) (a .named) (now (a .sectors)) (now (a .written)) (now (a .durable))
@@ -94,6 +94,9 @@ returns-2 c =
     let (p, q) = storing-unfinished (a .g) (refusal s) (stores s) (next s) (a .old) (a .count) (given s) (at-format-stores .format-stores .result) (left (at-format-stores)) e (made (at-format-stores)) (c .if2 .taken) in
     (sym p, sym q)
 
+fresh-state-requires : tie.Need-fresh-state-requires
+fresh-state-requires c κs = accepted (c .before .before .before .before .before .before .before .before .before .before .before .before .before) .0
+
 returns-3 : tie.Need-returns-3
 unfolding formatOn
 returns-3 c =
@@ -111,5 +114,5 @@ pub format-spec : {M : Type 1} → statement M
 format-spec =
     tie.close
     (tie.spec (λ c κs. search needs) (λ c. search needs) (λ c. search needs) returns present-drives-requires left-out-requires (λ c. search needs)
-    format-stores-requires (λ c. search needs) (λ c. search needs) (λ c. search needs) returns-2 (λ c κs. search needs) (λ c. search needs)
+    format-stores-requires (λ c. search needs) (λ c. search needs) (λ c. search needs) returns-2 fresh-state-requires (λ c. search needs)
     (λ c. search needs) (λ c. search needs) returns-3)

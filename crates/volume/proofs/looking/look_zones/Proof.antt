@@ -20,20 +20,8 @@ Inv-loop sectors written g here n zones₀ z₀ zones z = (z ≤ n) × (length z
 abbrev μ-loop : tie.MeasureT-loop
 μ-loop sectors written g here n zones₀ z₀ zones z = n - z
 
-loop-holds : tie.Need-loop-holds Inv-loop μ-loop
-loop-holds c = (omega arith, refl, refl)
-
 look-zone-requires : tie.Need-look-zone-requires Inv-loop μ-loop
 look-zone-requires c κs = let s = c .before .before .before .before in let a = s .args in (s .pre .0, lookable-zone (a .g) (a .here) (a .sectors .now) (a .written .now) (c .before .loop .z) (s .pre .1) (omega arith))
-
-mul-zones : tie.Need-mul-zones Inv-loop μ-loop
-mul-zones c = omega (arith, c .before .before .before .before .before .pre .0 .zones-most)
-
-array-set-from-zones : tie.Need-array-set-from-zones Inv-loop μ-loop
-array-set-from-zones c = omega (arith, c .before .before .before .before .before .pre .0 .zones-most)
-
-add-z : tie.Need-add-z Inv-loop μ-loop
-add-z c = omega (arith, c .before .before .before .before .before .pre .0 .zones-most)
 
 loop-again : tie.Need-loop-again Inv-loop μ-loop
 loop-again c =
@@ -50,4 +38,4 @@ returns c = let l = c .before .loop in let e : l .z ≡ c .before .before .befor
 pub look-zones-spec : {M : Type 1} → statement M
 look-zones-spec =
     tie.close
-    (tie.spec Inv-loop μ-loop loop-holds look-zone-requires mul-zones array-set-from-zones add-z (λ c. omega arith) loop-again returns)
+    (tie.spec Inv-loop μ-loop (λ c. (omega arith, refl, refl)) look-zone-requires (λ c. omega (arith, c .before .before .before .before .before .pre .0 .zones-most)) (λ c. omega (arith, c .before .before .before .before .before .pre .0 .zones-most)) (λ c. omega (arith, c .before .before .before .before .before .pre .0 .zones-most)) (λ c. omega arith) loop-again returns)

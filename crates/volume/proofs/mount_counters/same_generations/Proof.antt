@@ -12,17 +12,17 @@ use Rattle.volume.proofs.mount_counters.same_generations.Statement.{sta
 use Rattle.volume.proofs.mount_counters.same_generations.Tie as tie
 
 abbrev Inv-loop : tie.InvT-loop
-Inv-loop sectors g d n p e m q l same₀ z₀ same z =
-    (z ≤ l) × (same ≡ allBelow (λ (y : ℕ). eqb (readLE 8 (getD (logSectors g d 0 sectors n) p []) (32 + 8 * y)) (readLE 8 (getD (logSectors g e 0 sectors m) q []) (32 + 8 * y))) z)
+Inv-loop sectors g a p b q l same₀ z₀ same z =
+    (z ≤ l) × (same ≡ allBelow (λ (y : ℕ). eqb (readLE 8 (getD (logSectors g (a .drive) (a .zone) sectors (a .written)) p []) (32 + 8 * y)) (readLE 8 (getD (logSectors g (b .drive) (b .zone) sectors (b .written)) q []) (32 + 8 * y))) z)
 
 abbrev μ-loop : tie.MeasureT-loop
-μ-loop sectors g d n p e m q l same₀ z₀ same z = l - z
+μ-loop sectors g a p b q l same₀ z₀ same z = l - z
 
 generation-at-requires : tie.Need-generation-at-requires Inv-loop μ-loop
-generation-at-requires c κs = let s = c .before .before .before in (s .pre .0, (record { drive-in = s .pre .1 .1; zone-in = omega arith; short = s .pre .1 .2; long = s .pre .1 .0 }, s .pre .1 .3, c .loop-test .taken))
+generation-at-requires c κs = let s = c .before .before .before in (s .pre .0, (s .pre .1 .0, s .pre .1 .1, c .loop-test .taken))
 
 generation-at-requires-2 : tie.Need-generation-at-requires-2 Inv-loop μ-loop
-generation-at-requires-2 c κs = let s = c .before .before .before .before in (s .pre .0, (record { drive-in = s .pre .1 .4; zone-in = omega arith; short = s .pre .1 .5; long = s .pre .1 .0 }, s .pre .1 .6, c .before .loop-test .taken))
+generation-at-requires-2 c κs = let s = c .before .before .before .before in (s .pre .0, (s .pre .1 .2, s .pre .1 .3, c .before .loop-test .taken))
 
 add-z : tie.Need-add-z Inv-loop μ-loop
 add-z c = omega (arith, c .before .before .loop-test .taken, c .before .before .before .before .before .pre .0 .zones-most)

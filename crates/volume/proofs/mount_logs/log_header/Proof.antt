@@ -14,20 +14,20 @@ use Rattle.volume.specs.looking.Knowing.{readDevice}
 
 returns : tie.Need-returns
 returns c =
-    let a = c .before .before .before .before .before .args in
-    rw (header-absent (a .g) (a .kind) (a .look) (readDevice (a .g) (now (a .sectors)) (now (a .pointers))) (isSet (a .t7)) (a .drive) (a .z) (not-true (isSet (a .t7) (a .drive)) (c .if1 .taken))) (appends-nil (a .g) (a .budget) (now (a .sectors)) (now (a .written)))
+    let a = c .before .before .before .before .before .before .before .before .args in
+    rw (header-absent (a .basis .geometry) (a .kind) (a .basis .look) (readDevice (a .basis .geometry) (now (a .sectors)) (now (a .pointers))) (isSet (a .basis .here)) (a .drive) (a .z) (not-true (isSet (a .basis .here) (a .drive)) (c .if1 .taken))) (appends-nil (a .basis .geometry) (a .budget) (now (a .sectors)) (now (a .written)))
 
 returns-2 : tie.Need-returns-2
 returns-2 c =
-    let a = c .before .before .before .before .before .before .before .before .args in
-    rw (header-idle (a .g) (a .kind) (a .look) (readDevice (a .g) (now (a .sectors)) (now (a .pointers))) (isSet (a .t7)) (a .drive) (a .z) (sym (c .before .header-due .ensures) ∙ not-true (c .before .header-due .result) (c .if2 .taken))) (appends-nil (a .g) (a .budget) (now (a .sectors)) (now (a .written)))
+    let a = c .before .before .before .before .before .before .before .before .before .before .before .args in
+    rw (header-idle (a .basis .geometry) (a .kind) (a .basis .look) (readDevice (a .basis .geometry) (now (a .sectors)) (now (a .pointers))) (isSet (a .basis .here)) (a .drive) (a .z) (sym (c .before .header-due .ensures) ∙ not-true (c .before .header-due .result) (c .if2 .taken))) (appends-nil (a .basis .geometry) (a .budget) (now (a .sectors)) (now (a .written)))
 
 append-counted-requires : tie.Need-append-counted-requires
 append-counted-requires c κs =
-    let s = c .before .before .before .before .before .before .before .before .before .before .before .before .before .before .before in
+    let s = c .before .before .before .before .before .before .before .before .before .before .before .before .before .before .before .before .before .before in
     let a = s .args in
     let l = s .pre .1 .3 in
-    (s .pre .0, ((s .pre .1 .0, omega arith), (l .sectors-long, l .written-long, ap length (c .before .before .before .before .before .write-header .ensures) ∙ header-for-long (a .g) (a .drive) (a .kind) (a .look) (a .z) (s .pre .0))))
+    (s .pre .0, ((s .pre .1 .0, omega arith), (l .sectors-long, l .written-long, ap length (c .before .before .before .before .before .write-header .ensures) ∙ header-for-long (a .basis .geometry) (a .drive) (a .kind) (a .basis .look) (a .z) (s .pre .0))))
 
 returns-3 : tie.Need-returns-3
 returns-3 c =
@@ -36,11 +36,11 @@ returns-3 c =
     let at-if = at-write-header .before .before in
     let at-header-due = at-if .before in
     let at-if-2 = at-header-due .before .before in
-    let s = at-if-2 .before .before .before .before .before in
+    let s = at-if-2 .before .before .before .before .before .before .before .before in
     let a = s .args in
-    let present : isSet (a .t7) (a .drive) ≡ true = not-false (isSet (a .t7) (a .drive)) (at-if-2 .if1 .left) in
-    let due : headerDue (a .g) (a .kind) (a .look) (readDevice (a .g) (now (a .sectors)) (now (a .pointers))) (a .drive) (a .z) ≡ true = sym (at-header-due .header-due .ensures) ∙ not-false (at-header-due .header-due .result) (at-if .if2 .left) in
-    rw (header-made (a .g) (a .kind) (a .look) (readDevice (a .g) (now (a .sectors)) (now (a .pointers))) (isSet (a .t7)) (a .drive) (a .z) present due) (rw (at-write-header .write-header .ensures) at (at-append-counted .append-counted .ensures))
+    let present : isSet (a .basis .here) (a .drive) ≡ true = not-false (isSet (a .basis .here) (a .drive)) (at-if-2 .if1 .left) in
+    let due : headerDue (a .basis .geometry) (a .kind) (a .basis .look) (readDevice (a .basis .geometry) (now (a .sectors)) (now (a .pointers))) (a .drive) (a .z) ≡ true = sym (at-header-due .header-due .ensures) ∙ not-false (at-header-due .header-due .result) (at-if .if2 .left) in
+    rw (header-made (a .basis .geometry) (a .kind) (a .basis .look) (readDevice (a .basis .geometry) (now (a .sectors)) (now (a .pointers))) (isSet (a .basis .here)) (a .drive) (a .z) present due) (rw (at-write-header .write-header .ensures) at (at-append-counted .append-counted .ensures))
 
 pub log-header-spec : {M : Type 1} → statement M
 log-header-spec =

@@ -10,13 +10,13 @@ use Rattle.volume.proofs.mount_steps.counter_step.Tie as tie
 
 flush-after-requires : tie.Need-flush-after-requires
 flush-after-requires c κs =
-    let s = c .before .before .before .before .before .before .before .before .before .before .before .before .before .before .before .before .before .before .before .before in
+    let s = c .before .before .before .before .before .before .before .before .before .before .before .before .before .before .before .before .before .before .before in
     (s .pre .0, (c .before .before .before .before .before .before .before .before .store-counters .kept .1 .0 ∙ s .pre .1 .1 .logging .written-long, s .pre .1 .1 .durable-long))
 
 returns : tie.Need-returns
 returns c =
     let at-store-counters = c .before .before .before .before .before .before .before .before .before .before .before in
-    let s = at-store-counters .before .before .before .before .before .before .before .before .before .before .before .before in
+    let s = at-store-counters .before .before .before .before .before .before .before .before .before .before .before in
     let a = s .args in
     let f = at-store-counters .store-counters in
     let t = tablesOf (now (a .sectors)) (now (a .written)) (now (a .durable)) in

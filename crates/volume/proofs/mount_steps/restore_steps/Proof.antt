@@ -11,57 +11,57 @@ use Rattle.volume.proofs.mount_steps.restore_steps.Statement.{statement
 use Rattle.volume.proofs.mount_steps.restore_steps.Tie as tie
 
 -- from the place after a step to that after the one before
-abbrev to-start : tie.After-label-step → tie.Start
+abbrev to-start : tie.After-header-step → tie.Start
 to-start c = c .before .before .before .before .before .before .before .before .before .before .before .before
 
-abbrev to-label : tie.After-reset-entry-step → tie.After-label-step
+abbrev to-label : tie.After-header-step2 → tie.After-header-step
 to-label c = c .before .before .before .before .before .before .before .before .before .before .before .before .before
 
-abbrev to-reset-entry : tie.After-zone-reset-step → tie.After-reset-entry-step
+abbrev to-reset-entry : tie.After-zone-reset-step → tie.After-header-step2
 to-reset-entry c = c .before .before .before .before .before .before .before .before .before .before .before
 
 abbrev to-zone-reset : tie.After-counter-step → tie.After-zone-reset-step
 to-zone-reset c = c .before .before .before .before .before .before .before .before .before
 
-abbrev to-counter : tie.After-seal-step → tie.After-counter-step
+abbrev to-counter : tie.After-header-step3 → tie.After-counter-step
 to-counter c = c .before .before .before .before .before .before .before .before .before .before .before .before .before
 
-abbrev to-seal : tie.After-torn-row-step → tie.After-seal-step
+abbrev to-seal : tie.After-torn-row-step → tie.After-header-step3
 to-seal c = c .before .before .before .before .before .before .before .before .before .before .before .before .before .before
 
 abbrev to-torn-row : tie.After-fill-step → tie.After-torn-row-step
 to-torn-row c = c .before .before .before .before .before .before .before .before .before .before .before .before .before .before .before .before
 
 -- the resets of zones are handed no sectors: they are those that the step before has left
-zones-reset : (c : tie.After-zone-reset-step) → let s = to-start (to-label (to-reset-entry c)) in let a = s .args in let f = to-reset-entry c .reset-entry-step in let h = c .zone-reset-step in
-    StepMade (a .basis .geometry) (a .basis .here) (a .basis .look) (now (a .pointers)) (f .result) (h .result) (zoneResetsBy (a .basis .geometry) (a .basis .look)) (tablesOf (f .last .0) (f .last .1 .0) (f .last .1 .1 .0)) (tablesOf (f .last .0) (h .last .0) (h .last .1 .0))
+zones-reset : (c : tie.After-zone-reset-step) → let s = to-start (to-label (to-reset-entry c)) in let a = s .args in let f = to-reset-entry c .header-step2 in let h = c .zone-reset-step in
+    StepMade (a .basis .geometry) (a .basis .here) (a .basis .look) (now (a .pointers)) (f .result) (h .result) (zoneResetsBy (a .basis .geometry) (a .basis .look)) (tablesOf (f .last .1 .0) (f .last .1 .1 .0) (f .last .1 .1 .1 .0)) (tablesOf (f .last .1 .0) (h .last .0) (h .last .1 .0))
 zones-reset c =
     let s = to-start (to-label (to-reset-entry c)) in
-    let f = to-reset-entry c .reset-entry-step in
-    c .zone-reset-step .ensures .step (now (s .args .pointers)) (f .last .0) (f .ensures .restoring)
+    let f = to-reset-entry c .header-step2 in
+    c .zone-reset-step .ensures .step (now (s .args .pointers)) (f .last .1 .0) (f .ensures .restoring)
 
 -- the scratch keeps its size
-label-out : (c : tie.After-label-step) → length (c .label-step .last .1 .1 .1 .1 .0) ≡ to-start c .args .basis .geometry .sector
-label-out c = c .label-step .kept .1 .1 .1 .1 .0 ∙ to-start c .pre .1 .2
+label-out : (c : tie.After-header-step) → length (c .header-step .last .1 .1 .1 .1 .1 .0) ≡ to-start c .args .basis .geometry .sector
+label-out c = c .header-step .kept .1 .1 .1 .1 .1 .0 ∙ to-start c .pre .1 .2
 
-reset-out : (c : tie.After-reset-entry-step) → length (c .reset-entry-step .last .1 .1 .1 .1 .0) ≡ to-start (to-label c) .args .basis .geometry .sector
-reset-out c = c .reset-entry-step .kept .1 .1 .1 .1 .0 ∙ label-out (to-label c)
+reset-out : (c : tie.After-header-step2) → length (c .header-step2 .last .1 .1 .1 .1 .1 .0) ≡ to-start (to-label c) .args .basis .geometry .sector
+reset-out c = c .header-step2 .kept .1 .1 .1 .1 .1 .0 ∙ label-out (to-label c)
 
 counter-out : (c : tie.After-counter-step) → length (c .counter-step .last .1 .1 .1 .1 .0) ≡ to-start (to-label (to-reset-entry (to-zone-reset c))) .args .basis .geometry .sector
 counter-out c = c .counter-step .kept .1 .1 .1 .1 .0 ∙ reset-out (to-reset-entry (to-zone-reset c))
 
-seal-out : (c : tie.After-seal-step) → length (c .seal-step .last .1 .1 .1 .1 .0) ≡ to-start (to-label (to-reset-entry (to-zone-reset (to-counter c)))) .args .basis .geometry .sector
-seal-out c = c .seal-step .kept .1 .1 .1 .1 .0 ∙ counter-out (to-counter c)
+seal-out : (c : tie.After-header-step3) → length (c .header-step3 .last .1 .1 .1 .1 .1 .0) ≡ to-start (to-label (to-reset-entry (to-zone-reset (to-counter c)))) .args .basis .geometry .sector
+seal-out c = c .header-step3 .kept .1 .1 .1 .1 .1 .0 ∙ counter-out (to-counter c)
 
-reset-entry-step-requires : tie.Need-reset-entry-step-requires
-reset-entry-step-requires c κs =
+header-step-requires-2 : tie.Need-header-step-requires-2
+header-step-requires-2 c κs =
     let f = c .before .before .before .before .before .before .before .before .before .before .before .before in
-    (to-start (f) .pre .0, (label-out f, f .label-step .ensures .restoring))
+    (to-start (f) .pre .0, (label-out f, f .header-step .ensures .restoring))
 
 zone-reset-step-requires : tie.Need-zone-reset-step-requires
 zone-reset-step-requires c κs =
     let f = c .before .before .before .before .before .before .before .before .before .before in
-    let r = f .reset-entry-step .ensures .restoring in
+    let r = f .header-step2 .ensures .restoring in
     (to-start (to-label (f)) .pre .0, (r .logging .written-long, r .durable-long))
 
 counter-step-requires : tie.Need-counter-step-requires
@@ -69,8 +69,8 @@ counter-step-requires c κs =
     let f = c .before .before .before .before .before .before .before .before in
     (to-start (to-label (to-reset-entry (f))) .pre .0, (reset-out (to-reset-entry f), zones-reset f .restoring))
 
-seal-step-requires : tie.Need-seal-step-requires
-seal-step-requires c κs =
+header-step-requires-3 : tie.Need-header-step-requires-3
+header-step-requires-3 c κs =
     let f = c .before .before .before .before .before .before .before .before .before .before .before .before in
     (to-start (to-label (to-reset-entry (to-zone-reset (f)))) .pre .0, (counter-out f, f .counter-step .ensures .restoring))
 
@@ -78,7 +78,7 @@ torn-row-step-requires : tie.Need-torn-row-step-requires
 torn-row-step-requires c κs =
     let f = c .before .before .before .before .before .before .before .before .before .before .before .before .before in
     let s = to-start (to-label (to-reset-entry (to-zone-reset (to-counter (f))))) in
-    (s .pre .0, (s .pre .1 .1, seal-out f, f .seal-step .ensures .restoring))
+    (s .pre .0, (s .pre .1 .1, seal-out f, f .header-step3 .ensures .restoring))
 
 fill-step-requires : tie.Need-fill-step-requires
 fill-step-requires c κs =
@@ -161,12 +161,12 @@ returns c =
     let f1 = to-label f2 in
     let a = to-start f1 .args in
     restore-made (a .basis .geometry) (a .basis .here) (a .basis .look) (now (a .pointers)) (a .budget) _ _ _ _ _
-    (steps-then (f1 .label-step .ensures) (steps-then (f2 .reset-entry-step .ensures) (steps-then (zones-reset f3) (steps-then (f4 .counter-step .ensures) (steps-then (f5 .seal-step .ensures) (steps-then (f6 .torn-row-step .ensures) (steps-then (f7 .fill-step .ensures) no-steps)))))))
+    (steps-then (f1 .header-step .ensures) (steps-then (f2 .header-step2 .ensures) (steps-then (zones-reset f3) (steps-then (f4 .counter-step .ensures) (steps-then (f5 .header-step3 .ensures) (steps-then (f6 .torn-row-step .ensures) (steps-then (f7 .fill-step .ensures) no-steps)))))))
     (at-entry-step .entry-step .ensures)
 
 pub restore-steps-spec : {M : Type 1} → statement M
 restore-steps-spec =
     tie.close
-    (tie.spec (λ c κs. search needs) reset-entry-step-requires zone-reset-step-requires counter-step-requires seal-step-requires
+    (tie.spec (λ c κs. search needs) header-step-requires-2 zone-reset-step-requires counter-step-requires header-step-requires-3
     torn-row-step-requires fill-step-requires copy-pointers-requires entry-step-requires same-length same-length-2 same-length-3 (λ c. search needs)
     same-length-5 same-length-6 returns)

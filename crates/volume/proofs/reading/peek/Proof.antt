@@ -1,23 +1,26 @@
-use mathlib.Core.Path.{_≡_, sym, ap₂, _∙_}
+use mathlib.Core.Path.{_≡_, sym, ap, ap₂, _∙_}
 use Prim.Native.Nat.{ℕ, _+_, _-_}
 use native.Mathlib.Omega.{arith}
 use lib.ListN.{length, take, drop}
-use denote.Ref.{now}
+use denote.Ref.{now, ptr}
 use Rattle.tables.specs.meaning.Placement.{driveOf, sectorOf}
 use Rattle.tables.specs.laws.Sizes.{bytes-small}
 use Rattle.tables.specs.meaning.Tables.{tablesOf, byteAt}
 use Rattle.tables.specs.laws.TablesFrame.{lengths-are}
 use Rattle.volume.specs.meaning.Refusals.{zoneOf, offsetOf}
 use Rattle.volume.specs.looking.KnowingValues.{sector-within}
-use Rattle.volume.specs.meaning.CallContracts.{peekNumber}
-use Rattle.volume.specs.reading.Peeking.{PeekFits, peek-accepted, peek-refused, peek-done}
+use Rattle.volume.specs.meaning.CallContracts.{peekNumber, past}
+use Rattle.volume.specs.reading.Peeking.{PeekFits, peek-accepted, peek-refused, peek-done, past-none}
 use borrow.Author.Needs.{needs}
 use Rattle.volume.proofs.reading.peek.Statement.{statement}
 use Rattle.volume.proofs.reading.peek.Tie as tie
 use Rattle.tables.specs.meaning.Geometry.{dataZone}
 
 returns : tie.Need-returns
-returns c = let a = c .before .before .before .before .before .before .args in peek-refused (a .g) (a .named) (a .state) (a .address) (tablesOf (now (a .sectors)) (now (a .written)) (now (a .durable))) (λ k. c .before .if1 .taken (c .before .before .peek-refusal .ensures ∙ k))
+returns c =
+    let a = c .before .before .before .before .before .before .args in
+    let (p, q) = peek-refused (a .g) (a .named) (a .state) (a .address) (tablesOf (now (a .sectors)) (now (a .written)) (now (a .durable))) (λ k. c .before .if1 .taken (c .before .before .peek-refusal .ensures ∙ k)) in
+    (p, past-none (ptr (a .sectors)) ∙ ap (λ (n : ℕ). past n (ptr (a .sectors))) q)
 
 accepted : (c : tie.Else1) → peekNumber (c .before .before .before .before .before .args .g) (c .before .before .before .before .before .args .named) (c .before .before .before .before .before .args .state) (c .before .before .before .before .before .args .address) (tablesOf (now (c .before .before .before .before .before .args .sectors)) (now (c .before .before .before .before .before .args .written)) (now (c .before .before .before .before .before .args .durable))) ≡ 0
 accepted c = let e : c .before .peek-refusal .result ≡ 0 = omega arith in sym (c .before .peek-refusal .ensures) ∙ e
@@ -68,7 +71,8 @@ returns-2 c =
     let e : at ≡ byteAt (a .g) (driveOf D U (zoneOf (a .g) (a .address)) (offsetOf (a .g) (a .address))) (dataZone (zoneOf (a .g) (a .address))) (sectorOf D U (offsetOf (a .g) (a .address))) =
     c .before .byte-at .ensures .0 ∙ ap₂ (λ (k x : ℕ). byteAt (a .g) k (dataZone (at-zone-of .zone-of .result)) x) (c .before .before .before .drive-of .ensures .0) (c .before .before .sector-of .ensures)
     ∙ ap₂ (λ (z o : ℕ). byteAt (a .g) (driveOf D U z o) (dataZone z) (sectorOf D U o)) (at-zone-of .zone-of .ensures) (at-offset-of .offset-of .ensures .0) in
-    ap₂ (λ (n k : ℕ). take n (drop k (now (a .sectors)))) d e ∙ peek-done (a .g) (a .named) (a .state) (a .address) (tablesOf (now (a .sectors)) (now (a .written)) (now (a .durable))) (accepted (s))
+    let (p, q) = peek-done (a .g) (a .named) (a .state) (a .address) (tablesOf (now (a .sectors)) (now (a .written)) (now (a .durable))) (accepted (s)) in
+    (ap₂ (λ (n k : ℕ). take n (drop k (now (a .sectors)))) d e ∙ p, ap (λ (n : ℕ). past n (ptr (a .sectors))) (e ∙ q))
 
 pub peek-spec : {M : Type 1} → statement M
 peek-spec =

@@ -7,9 +7,12 @@ use denote.Ref.{now}
 use borrow.Author.Tests.{not-true, not-false}
 use Rattle.tables.specs.meaning.Geometry.{physicalZones, dataZone}
 use Rattle.volume.specs.meaning.CallContracts.{isSet}
-use Rattle.volume.specs.looking.ZoneLooking.{zone-length}
+use Rattle.volume.specs.looking.ZoneLooking.{zone-length, neither}
 use Rattle.volume.specs.looking.Knowing.{readDevice}
-use Rattle.volume.specs.looking.DriveLogs.{torn-past}
+use Rattle.tables.specs.meaning.Lists.{anyOf}
+use Rattle.logs.specs.meaning.Entry.{Entry}
+use Rattle.logs.specs.meaning.Heads.{endsPast}
+use Rattle.volume.specs.meaning.Rules.{parityEntries, parityEnding, endingPast}
 use borrow.Author.Needs.{needs}
 use Rattle.volume.proofs.zone_looking.drive_clean.Statement.{statement}
 use Rattle.volume.proofs.zone_looking.drive_clean.Tie as tie
@@ -19,15 +22,17 @@ returns c = let a = c .before .before .before .args in rw (not-true (getD (a .t4
 
 returns-2 : tie.Need-returns-2
 returns-2 c =
-    let s = c .before .before .before .before .before .before .before in
+    let s = c .before .before .before .before .before .before in
     let a = s .args in
-    let p : isSet (a .t4) (a .d) ≡ true = not-false (getD (a .t4) (a .d) false) (c .before .before .before .before .if1 .left) in
+    let p : isSet (a .t4) (a .d) ≡ true = not-false (getD (a .t4) (a .d) false) (c .before .before .before .if1 .left) in
     let h : dataZone (a .z) < physicalZones (a .g) = omega arith in
-    let n : c .before .before .before .zone-pointer .result ≡ length (readDevice (a .g) (a .sectors .now) (a .written .now) (a .d) (dataZone (a .z)) .sectors) = c .before .before .before .zone-pointer .ensures .0 ∙ zone-length (a .g) (a .sectors .now) (a .written .now) (a .d) (dataZone (a .z)) (s .pre .1 .1) h in
-    rw (p, n, c .before .before .sectors-needed .ensures .0, c .before .whole-past .ensures, c .torn-past .ensures) refl
+    let n : c .before .before .zone-pointer .result ≡ length (readDevice (a .g) (a .sectors .now) (a .written .now) (a .d) (dataZone (a .z)) .sectors) = c .before .before .zone-pointer .ensures .0 ∙ zone-length (a .g) (a .sectors .now) (a .written .now) (a .d) (dataZone (a .z)) (s .pre .1 .1) h in
+    let v = readDevice (a .g) (a .sectors .now) (a .written .now) in
+    let whole = anyOf (λ (e : Entry). endsPast (a .g) (a .z) (a .generation) (a .q) (e .head)) (parityEntries (a .g) v (a .d)) in
+    let torn = endingPast (a .g) (a .z) (a .generation) (a .q) (parityEnding (a .g) v (a .d)) in
+    rw (p, n, c .before .sectors-needed .ensures .0, c .entry-past .ensures, neither whole torn) refl
 
 pub drive-clean-spec : {M : Type 1} → statement M
 drive-clean-spec =
     tie.close
-    (tie.spec (λ c. search needs) returns (λ c. search needs) (λ c κs. search needs) (λ c κs. search needs) (λ c κs. search needs)
-    (λ c κs. search needs) returns-2)
+    (tie.spec (λ c. search needs) returns (λ c. search needs) (λ c κs. search needs) (λ c κs. search needs) (λ c κs. search needs) returns-2)

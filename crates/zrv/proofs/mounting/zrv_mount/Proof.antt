@@ -1,5 +1,7 @@
 use mathlib.Core.Path.{_≡_, sym, _∙_}
 use native.Mathlib.Omega.{arith}
+use lib.ListN.{length}
+use Prim.Native.Nat.{_*_}
 use denote.Ref.{now}
 use Rattle.zrv.specs.meaning.EdgeCalls.{ranges}
 use Rattle.zrv.specs.laws.EdgeCalls.{part-long, scratch-fits, refused, made, all-stored}
@@ -11,24 +13,13 @@ use Rattle.zrv.proofs.mounting.zrv_mount.Tie as tie
 zero : (c : tie.Else1) → c .before .without-state .result .refusal ≡ 0
 zero c = omega arith
 
-returns : tie.Need-returns
-returns c = rw (← c .before .before .shape .ensures, ← c .before .without-state .ensures .number) (refused _ _ _ (c .if1 .taken))
-
-table-to-requires : tie.Need-table-to-requires
-table-to-requires c κs =
-    let f = c .before .before .before .before .before .before .before .before in
+-- the scratch keeps the tables' lengths
+lengths : (f : tie.After-mount) → let a = f .before .before .before .before .before .before .before .before .before .before .before .before .before .before .before .before .before .before .before .before .before .before .before .before .args in (length (now (a .written)) ≡ length (f .mount .last .1 .0) * 4) × (length (now (a .durable)) ≡ length (f .mount .last .1 .1 .0) * 4)
+lengths f =
     let d = f .before .before .before .before .before .before .before .before in
     let o = d .before .before .before .before .before .before .before .before .before .before .without-state .ensures in
     let k = o .ready (zero (d .before .before .before .before .before .before .before .before .before)) in
-    omega (arith, k .sized .written-long, k .cells-are, part-long _ (o .small), f .mount .kept, d .tables-from .kept)
-
-table-to-requires-2 : tie.Need-table-to-requires-2
-table-to-requires-2 c κs =
-    let f = c .before .before .before .before .before .before .before .before .before .before .before .before .before .before in
-    let d = f .before .before .before .before .before .before .before .before in
-    let o = d .before .before .before .before .before .before .before .before .before .before .without-state .ensures in
-    let k = o .ready (zero (d .before .before .before .before .before .before .before .before .before)) in
-    omega (arith, k .sized .durable-long, k .cells-are, part-long _ (o .small), f .mount .kept, d .tables-from .kept)
+    (omega (arith, k .sized .written-long, k .cells-are, part-long _ (o .small), f .mount .kept, d .tables-from .kept), omega (arith, k .sized .durable-long, k .cells-are, part-long _ (o .small), f .mount .kept, d .tables-from .kept))
 
 hand-back-requires : tie.Need-hand-back-requires
 hand-back-requires c κs = let e = c .before .before .before .before .before .before .before .before .before .before .before .before .before .before .before .before .before .before .before .before .before .before .before .before .before .before .before .before .before .before .before .before .before .before .before .before in let k = e .before .without-state .ensures .ready (zero e) .sized in (k .valid, k .state-long)
@@ -47,9 +38,9 @@ returns-2 c =
 pub zrv-mount-spec : {M : Type 1} → statement M
 zrv-mount-spec =
     tie.close
-    (tie.spec (λ c κs. search needs) (λ c κs. search needs) returns (λ c. search needs)
+    (tie.spec (λ c κs. search needs) (λ c κs. search needs) (λ c. rw (← c .before .before .shape .ensures, ← c .before .without-state .ensures .number) (refused _ _ _ (c .if1 .taken))) (λ c. search needs)
     (λ c. sym (part-long _ (c .before .before .before .before .without-state .ensures .small))) (λ c. search needs)
     (λ c. sym (part-long _ (c .before .before .before .before .before .without-state .ensures .small)))
     (λ c κs. scratch-fits _ _ (c .before .before .before .before .before .before .before .before .before .without-state .ensures) (zero (c .before .before .before .before .before .before .before .before)))
-    (λ c κs. search needs) table-to-requires table-to-requires-2 hand-back-requires (λ c. search needs) (λ c. search needs) (λ c. search needs)
+    (λ c κs. search needs) (λ c κs. omega (arith, lengths (c .before .before .before .before .before .before .before .before) .0)) (λ c κs. omega (arith, lengths (c .before .before .before .before .before .before .before .before .before .before .before .before .before .before) .1)) hand-back-requires (λ c. search needs) (λ c. search needs) (λ c. search needs)
     (λ c. search needs) returns-2)

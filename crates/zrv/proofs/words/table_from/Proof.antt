@@ -18,18 +18,12 @@ Inv-loop bytes table₀ n i₀ table i = (i ≤ length table₀) × (length tabl
 abbrev μ-loop : tie.MeasureT-loop
 μ-loop bytes table₀ n i₀ table i = length table₀ - i
 
-loop-holds : tie.Need-loop-holds Inv-loop μ-loop
-loop-holds c = (omega arith, refl, refl)
-
 loop-again : tie.Need-loop-again Inv-loop μ-loop
 loop-again c =
     let l = c .before .before .loop in
     let a = c .before .before .before .before .before .args in
     let h : l .i < length (a .table .now) = omega arith in
     (omega arith, simp length-set (l .inv .1), rw (l .inv .2, c .read-u32 .ensures, add-one) (fill-slice (λ (j : ℕ). readLE 4 (a .bytes .now) (j * 4)) (a .table .now) (l .i) h))
-
-same-length : tie.Need-same-length Inv-loop μ-loop
-same-length c = c .before .loop .inv .1
 
 returns : tie.Need-returns Inv-loop μ-loop
 unfolding tableFrom
@@ -42,5 +36,5 @@ returns c =
 pub table-from-spec : {M : Type 1} → statement M
 table-from-spec =
     tie.close
-    (tie.spec Inv-loop μ-loop loop-holds (λ c. omega arith) (λ c κs. omega arith) (λ c. omega arith) (λ c. omega arith) (λ c. omega arith)
-    (λ c. omega arith) loop-again same-length returns)
+    (tie.spec Inv-loop μ-loop (λ c. (omega arith, refl, refl)) (λ c. omega arith) (λ c κs. omega arith) (λ c. omega arith) (λ c. omega arith) (λ c. omega arith)
+    (λ c. omega arith) loop-again (λ c. c .before .loop .inv .1) returns)

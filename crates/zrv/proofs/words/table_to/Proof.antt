@@ -16,18 +16,12 @@ Inv-loop table bytes₀ n i₀ bytes i = (i ≤ length table) × (length bytes �
 abbrev μ-loop : tie.MeasureT-loop
 μ-loop table bytes₀ n i₀ bytes i = length table - i
 
-loop-holds : tie.Need-loop-holds Inv-loop μ-loop
-loop-holds c = (omega arith, refl, refl)
-
 loop-again : tie.Need-loop-again Inv-loop μ-loop
 loop-again c =
     let l = c .before .before .before .before .before .before .loop in
     let w = c .before .before .write-u32 in
     let a = c .before .before .before .before .before .before .before .before .before .args in
     (omega arith, w .kept .0 ∙ l .inv .1, w .ensures ∙ rw (l .inv .2, add-one) (words-more (l .i) (a .table .now) (a .bytes .now)))
-
-same-length : tie.Need-same-length Inv-loop μ-loop
-same-length c = c .before .loop .inv .1
 
 returns : tie.Need-returns Inv-loop μ-loop
 unfolding tableTo
@@ -41,5 +35,5 @@ returns c =
 pub table-to-spec : {M : Type 1} → statement M
 table-to-spec =
     tie.close
-    (tie.spec Inv-loop μ-loop loop-holds (λ c. omega arith) (λ c. omega arith) (λ c. omega arith) (λ c κs. omega arith) (λ c. omega arith)
-    (λ c. omega arith) loop-again same-length returns)
+    (tie.spec Inv-loop μ-loop (λ c. (omega arith, refl, refl)) (λ c. omega arith) (λ c. omega arith) (λ c. omega arith) (λ c κs. omega arith) (λ c. omega arith)
+    (λ c. omega arith) loop-again (λ c. c .before .loop .inv .1) returns)

@@ -11,9 +11,6 @@ use Rattle.zrv.proofs.writing.zrv_write.Tie as tie
 zero : (c : tie.Else1) → c .before .with-state .result .refusal ≡ 0
 zero c = omega arith
 
-returns : tie.Need-returns
-returns c = rw (← c .before .before .before .shape .ensures, ← c .before .with-state .ensures .number) (refused _ _ _ (c .if1 .taken))
-
 table-to-requires : tie.Need-table-to-requires
 table-to-requires c κs =
     let f = c .before .before .before .before .before .before .before in
@@ -39,7 +36,7 @@ returns-2 c =
 pub zrv-write-spec : {M : Type 1} → statement M
 zrv-write-spec =
     tie.close
-    (tie.spec (λ c κs. search needs) (λ c κs. search needs) (λ c. search needs) returns (λ c. search needs)
+    (tie.spec (λ c κs. search needs) (λ c κs. search needs) (λ c. search needs) (λ c. rw (← c .before .before .before .shape .ensures, ← c .before .with-state .ensures .number) (refused _ _ _ (c .if1 .taken))) (λ c. search needs)
     (λ c. sym (part-long _ (c .before .before .before .before .with-state .ensures .small))) (λ c. search needs)
     (λ c. sym (part-long _ (c .before .before .before .before .before .with-state .ensures .small)))
     (λ c κs. scratch-fits _ _ (c .before .before .before .before .before .before .before .before .with-state .ensures) (zero (c .before .before .before .before .before .before .before)))

@@ -1,0 +1,265 @@
+-- The promise on the tables is not empty: a history on small tables (three drives, one zone of 18 sectors), computed on the lent bytes, with its duties
+-- done, and what the promise says of it. A sector is written and flushed; a write at the wrong address is refused; a look is handed on; a peek; the zone is
+-- reset, and three sectors written and flushed; its reset is stopped; a cut leaves just what is durable; a look shows the zone empty; drive 2 is lost, its
+-- memory overwritten; a mount by the others finishes; a write, a read and a peek. (For every valid geometry: TablesExample.)
+use Rattle.promise.specs.meaning.Claim.{Volume, pointerHeld, allBut, mounts, writes, flushes, resets, formats, ready, stopped, down, System, Event, calls, looks, reads, peeks, cuts, loses, next, NamesAll, Dutiful, Throughout, start}
+use Rattle.promise.specs.meaning.OnTables.{onTables}
+use Rattle.tables.specs.declared.Geometry.{Geometry}
+use Rattle.tables.specs.meaning.Lists.{overlay}
+use Rattle.tables.specs.meaning.Drives.{noDrive}
+use Rattle.tables.specs.meaning.Tables.{Tables, cell, sectorNo, TablesCut, TablesLoss, bufferFits, lengthsFit, sectorsAfterAppend, writtenAfterAppend, pointersAfterReset, durableAfterFlush, zoneAtCell, deviceOf, pointersBad}
+use Rattle.tables.specs.meaning.GeometryTest.{isValid}
+use Rattle.tables.specs.meaning.Placement.{driveOf, sectorOf, needed, stripeOf, unitIndex, rowIndex, parityDrive, stripeLength, unitDrive, unitOf, address, addressAt}
+use Rattle.tables.specs.meaning.Geometry.{log2, zoneSectors}
+use Rattle.logs.specs.meaning.Entry.{wornGeneration, encode, frame, labelBytes, readFields, kindOf, startOf, endOf, genOf}
+use Rattle.volume.specs.declared.State.{State}
+use Rattle.volume.specs.meaning.Answers.{lostIn, leftOut, namedDrives, sectorsIn}
+use Rattle.volume.specs.meaning.Refusals.{badPointers, twoLost, badLabels, badLogs, stateWithin, twoAbsent, twoUnnamed, stale, unusedBelow, writeFull, goneIn, goneBefore, notHeld, formatRows, lookRows, mountRows, writeRows, flushRows, resetRows, readRows, peekRows}
+use Rattle.volume.specs.meaning.Calls.{formatStores, writeStores, zoneContent, writeWith, flushStores, resetStores}
+use Rattle.volume.specs.meaning.Content.{rowXor, contentAt, rowXorBelow, entryAt}
+use Rattle.volume.specs.meaning.Rules.{viewOf, generalHeads, generalEnding, parityEntries, parityEnding, isLost, isPresent, generationOf, resetSeen, sealSeen, sealLimit, zoneView, valueAt, pointerAt, cleanAt, zoneAt, zoneShown, showing}
+use Rattle.volume.specs.meaning.State.{callPresent}
+use Rattle.volume.specs.meaning.Mount.{mountStores, mountPhases, phasesBeforeEntries, mountLook, mountShows, afterOpening, labelStep, resetEntryStep, zoneResetStep, counterStep, countersDiffer, sealStep, tornRowStep, fillStep, entryStep}
+use Rattle.volume.specs.meaning.CallContracts.{isSet, formatVerdict, formatOn, freshState, flushVerdict, flushOn, writeVerdict, writeOn, resetVerdict, resetOn, stateShown, lookVerdict, lookOn, mountVerdict, storesBefore, mountStoresOn, mountShownOn, mountOn, readNumber, valuesOn, readOn, peekNumber, peekOn}
+use Rattle.tables.specs.laws.Lists.{length-overlay, overlay-below}
+use Rattle.tables.specs.laws.Made.{WellSized}
+use Rattle.tables.specs.laws.PointerOrder.{order-passed, cut-to-durable}
+use Rattle.promise.specs.tables.TablesClaimProof.{tables-keep-the-promise}
+use Rattle.promise.specs.examples.Example.{noStop}
+use Rattle.promise.specs.examples.ClaimExample.{isMode, all, done}
+use mathlib.Core.Bool.{Bool, true, false, not}
+use mathlib.Core.Path.{_≡_, refl, sym, ap, _∙_}
+use mathlib.Core.Logic.{inl}
+use Prim.Native.Nat.{ℕ, zero, suc, _+_, _*_, _≤_, _<_}
+use native.Mathlib.Omega.{arith}
+use borrow.Author.Tests.{ne-eqb}
+use mathlib.Core.List.{List, [], _∷_, _++_, append-assoc}
+use lib.ListN.{length, take, drop, length-drop, replicate, take-append-drop}
+use lib.Seq.{take-append-le, drop-append-le, length-take-le}
+use lib.Dec.{eqb, T, lit<}
+
+abbrev small : Geometry
+small = record { drives = 3; unit = 1; sector = 64; zones = 1; capacity = 9 }
+
+abbrev vol : Volume
+vol = onTables small
+
+-- 3 x 4 zones of 9 sectors
+abbrev zeros : Tables
+zeros = record { sectors = replicate 6912 0; written = replicate 12 0; durable = replicate 12 0 }
+
+abbrev every : List Bool
+every = true ∷ true ∷ true ∷ []
+
+abbrev without2 : List Bool
+without2 = true ∷ true ∷ []
+
+-- n sectors of bytes b
+abbrev bytes : ℕ → ℕ → List ℕ
+bytes n b = replicate (n * 64) b
+
+abbrev held : State
+held = freshState small noDrive
+
+-- ---- the history, point by point
+abbrev s0 : System vol
+s0 = start small vol every (vol .call (formats 7) every held noStop zeros)
+
+abbrev e1 : Event vol
+e1 = calls (writes 0 1 (bytes 1 9)) every noStop
+
+abbrev s1 : System vol
+s1 = next small vol s0 e1
+
+abbrev e2 : Event vol
+e2 = calls flushes every noStop
+
+abbrev s2 : System vol
+s2 = next small vol s1 e2
+
+-- refused: not at the pointer
+abbrev e3 : Event vol
+e3 = calls (writes 3 1 (bytes 1 8)) every noStop
+
+abbrev s3 : System vol
+s3 = next small vol s2 e3
+
+-- its state is handed on
+abbrev e4 : Event vol
+e4 = looks every true
+
+abbrev s4 : System vol
+s4 = next small vol s3 e4
+
+abbrev e5 : Event vol
+e5 = peeks every 0
+
+abbrev s5 : System vol
+s5 = next small vol s4 e5
+
+abbrev e6 : Event vol
+e6 = calls (resets 0) every noStop
+
+abbrev s6 : System vol
+s6 = next small vol s5 e6
+
+abbrev e7 : Event vol
+e7 = calls (writes 0 3 (bytes 3 7)) every noStop
+
+abbrev s7 : System vol
+s7 = next small vol s6 e7
+
+abbrev e8 : Event vol
+e8 = calls flushes every noStop
+
+abbrev s8 : System vol
+s8 = next small vol s7 e8
+
+-- stopped once its entries are flushed
+abbrev e9 : Event vol
+e9 = calls (resets 0) every 5
+
+abbrev s9 : System vol
+s9 = next small vol s8 e9
+
+abbrev afterCut : Tables
+afterCut = record { sectors = s9 .memory .sectors; written = s9 .memory .durable; durable = s9 .memory .durable }
+
+abbrev e10 : Event vol
+e10 = cuts afterCut
+
+abbrev s10 : System vol
+s10 = next small vol s9 e10
+
+abbrev e11 : Event vol
+e11 = looks every false
+
+abbrev s11 : System vol
+s11 = next small vol s10 e11
+
+-- drive 2's bytes and pointers are anything
+abbrev afterLoss : Tables
+afterLoss = record { sectors = overlay (afterCut .sectors) 4608 (replicate 2304 255); written = overlay (afterCut .written) 8 (replicate 4 99); durable = overlay (afterCut .durable) 8 (replicate 4 999) }
+
+abbrev e12 : Event vol
+e12 = loses 2 afterLoss
+
+abbrev s12 : System vol
+s12 = next small vol s11 e12
+
+abbrev e13 : Event vol
+e13 = calls mounts without2 noStop
+
+abbrev s13 : System vol
+s13 = next small vol s12 e13
+
+abbrev e14 : Event vol
+e14 = calls (writes 0 2 (bytes 2 6)) without2 noStop
+
+abbrev s14 : System vol
+s14 = next small vol s13 e14
+
+abbrev e15 : Event vol
+e15 = reads without2 0 2 (bytes 2 0)
+
+abbrev s15 : System vol
+s15 = next small vol s14 e15
+
+abbrev e16 : Event vol
+e16 = peeks without2 0
+
+abbrev s16 : System vol
+s16 = next small vol s15 e16
+
+abbrev history : List (Event vol)
+history = e1 ∷ e2 ∷ e3 ∷ e4 ∷ e5 ∷ e6 ∷ e7 ∷ e8 ∷ e9 ∷ e10 ∷ e11 ∷ e12 ∷ e13 ∷ e14 ∷ e15 ∷ e16 ∷ []
+
+-- ---- what became of it
+pub wentSo : List Bool
+wentSo =
+    -- written and flushed; refused
+    isMode ready (s2 .mode) ∷ eqb (s2 .ledger .committed 0) 1 ∷ isMode ready (s3 .mode) ∷ eqb (length (s3 .ledger .content 0)) 1
+    -- the look's state is what the host held
+    ∷ eqb (pointerHeld vol (s4 .state) 0) 1 ∷ eqb (vol .generation (s4 .state) 0) 1 ∷ eqb (vol .peek every (s4 .state) 0 (s4 .memory) .number) 0
+    -- a reset that finishes
+    ∷ isMode ready (s6 .mode) ∷ eqb (length (s6 .ledger .content 0)) 0 ∷ eqb (vol .generation (s6 .state) 0) 2 ∷ eqb (s8 .ledger .committed 0) 3
+    -- one that is stopped: the flag is up, and what is committed is shown no more
+    ∷ isMode stopped (s9 .mode) ∷ s9 .ledger .resetting 0 ∷ eqb (s10 .ledger .committed 0) 3 ∷ isMode down (s10 .mode) ∷ eqb (vol .shows every (s10 .memory) (s10 .memory) .zone 0 .pointer) 0
+    -- the mount finishes without drive 2, and the volume goes on
+    ∷ isMode ready (s13 .mode) ∷ not (s13 .ledger .resetting 0) ∷ eqb (s13 .state .lost) 2 ∷ eqb (pointerHeld vol (s13 .state) 0) 0
+    ∷ isMode ready (s14 .mode) ∷ eqb (length (s14 .ledger .content 0)) 2 ∷ eqb (vol .peek without2 (s14 .state) 0 (s14 .memory) .number) 0 ∷ []
+
+pub history-goes : T (all wentSo)
+unfolding formatStores writeStores zoneContent writeWith entryAt flushStores resetStores mountStores mountPhases phasesBeforeEntries mountLook mountShows afterOpening labelStep resetEntryStep zoneResetStep counterStep countersDiffer sealStep tornRowStep fillStep entryStep encode frame labelBytes readFields kindOf startOf endOf genOf generalHeads generalEnding parityEntries parityEnding isLost isPresent badPointers twoLost badLabels badLogs generationOf resetSeen sealSeen sealLimit zoneView valueAt pointerAt cleanAt zoneAt zoneShown showing viewOf driveOf sectorOf needed stripeOf unitIndex rowIndex parityDrive stripeLength unitDrive unitOf address addressAt zoneSectors log2 wornGeneration rowXor contentAt rowXorBelow callPresent isValid stateWithin twoAbsent twoUnnamed stale unusedBelow writeFull goneIn goneBefore notHeld formatRows lookRows mountRows writeRows flushRows resetRows readRows peekRows lostIn leftOut namedDrives sectorsIn lengthsFit bufferFits sectorsAfterAppend writtenAfterAppend pointersAfterReset durableAfterFlush zoneAtCell deviceOf pointersBad formatVerdict formatOn freshState flushVerdict flushOn writeVerdict writeOn resetVerdict resetOn stateShown lookVerdict lookOn mountVerdict storesBefore mountStoresOn mountShownOn mountOn readNumber valuesOn readOn peekNumber peekOn wentSo
+history-goes = tt
+
+-- ---- its duties are done
+every-set : (d : ℕ) → d < 3 → isSet every d ≡ true
+every-set zero h = refl
+every-set (suc zero) h = refl
+every-set (suc (suc zero)) h = refl
+every-set (suc (suc (suc d))) h = absurd (omega arith)
+
+names-all : (s : System vol) → s .lost ≡ noDrive → NamesAll small vol s every
+names-all s e = record { drives = λ d h. rw e (every-set d h ∙ sym (ap not (ne-eqb d 255 (λ q. omega arith)))) }
+
+without-2-set : (d : ℕ) → d < 3 → isSet without2 d ≡ allBut 2 d
+without-2-set zero h = refl
+without-2-set (suc zero) h = refl
+without-2-set (suc (suc zero)) h = refl
+without-2-set (suc (suc (suc d))) h = absurd (omega arith)
+
+names-without-2 : (s : System vol) → s .lost ≡ 2 → NamesAll small vol s without2
+names-without-2 s e = record { drives = λ d h. rw e (without-2-set d h) }
+
+-- the cut: pointers in order, found so by refusal 3's own test
+cut-done : (t : Tables) → WellSized small t → pointersBad small every (t .written) (t .durable) ≡ false → (x : ℕ) → TablesCut small x t (record { sectors = t .sectors; written = t .durable; durable = t .durable })
+cut-done t w e x = cut-to-durable small x t w (λ d h n. order-passed small every (t .written) (t .durable) d e h (every-set d h))
+
+-- sector j of a list of bytes, where what follows it may be anything
+sector-front : (B : ℕ) (xs ys : List ℕ) (j : ℕ) → suc j * B ≤ length xs → sectorNo B (xs ++ ys) j ≡ sectorNo B xs j
+sector-front B xs ys j h = rw (drop-append-le (j * B) xs ys (omega arith)) (take-append-le B (drop (j * B) xs) ys (rw (length-drop (j * B) xs) (omega arith)))
+
+sector-kept : (B n : ℕ) (xs ys : List ℕ) (j : ℕ) → suc j * B ≤ n → n ≤ length xs → sectorNo B (overlay xs n ys) j ≡ sectorNo B xs j
+sector-kept B n xs ys j h k =
+    let l : suc j * B ≤ length (take n xs) = rw (length-take-le n xs k) h in
+    rw append-assoc (sector-front B (take n xs) (ys ++ drop (n + length ys) xs) j l)
+    ∙ sym (sector-front B (take n xs) (drop n xs) j l) ∙ ap (λ (zs : List ℕ). sectorNo B zs j) (take-append-drop n xs)
+
+-- the loss of drive 2, the last: whatever its bytes and pointers become
+loss-done : (t : Tables) → WellSized small t → (bs ws ds : List ℕ) → length bs ≡ 2304 → length ws ≡ 4 → length ds ≡ 4
+    → TablesLoss small 2 t (record { sectors = overlay (t .sectors) 4608 bs; written = overlay (t .written) 8 ws; durable = overlay (t .durable) 8 ds })
+loss-done t w bs ws ds hb hw hd = record {
+  lent = record {
+    sectors-long = length-overlay (t .sectors) 4608 bs (omega (arith, w .sectors-long));
+    written-long = length-overlay (t .written) 8 ws (omega (arith, w .written-long));
+    durable-long = length-overlay (t .durable) 8 ds (omega (arith, w .durable-long));
+    sectors-same = λ d z n h hz hn ne. sector-kept 64 4608 (t .sectors) bs (cell small d z * 9 + n) (omega arith) (omega (arith, w .sectors-long));
+  };
+  written-same = λ d z h hz ne. overlay-below (t .written) 8 ws (cell small d z) (omega (arith, w .written-long)) (omega arith);
+  durable-same = λ d z h hz ne. overlay-below (t .durable) 8 ds (cell small d z) (omega (arith, w .durable-long)) (omega arith);
+}
+
+stopped-sized : WellSized small (s9 .memory)
+unfolding formatStores writeStores zoneContent writeWith entryAt flushStores resetStores mountStores mountPhases phasesBeforeEntries mountLook mountShows afterOpening labelStep resetEntryStep zoneResetStep counterStep countersDiffer sealStep tornRowStep fillStep entryStep encode frame labelBytes readFields kindOf startOf endOf genOf generalHeads generalEnding parityEntries parityEnding isLost isPresent badPointers twoLost badLabels badLogs generationOf resetSeen sealSeen sealLimit zoneView valueAt pointerAt cleanAt zoneAt zoneShown showing viewOf driveOf sectorOf needed stripeOf unitIndex rowIndex parityDrive stripeLength unitDrive unitOf address addressAt zoneSectors log2 wornGeneration rowXor contentAt rowXorBelow callPresent isValid stateWithin twoAbsent twoUnnamed stale unusedBelow writeFull goneIn goneBefore notHeld formatRows lookRows mountRows writeRows flushRows resetRows readRows peekRows lostIn leftOut namedDrives sectorsIn lengthsFit bufferFits sectorsAfterAppend writtenAfterAppend pointersAfterReset durableAfterFlush zoneAtCell deviceOf pointersBad formatVerdict formatOn freshState flushVerdict flushOn writeVerdict writeOn resetVerdict resetOn stateShown lookVerdict lookOn mountVerdict storesBefore mountStoresOn mountShownOn mountOn readNumber valuesOn readOn peekNumber peekOn
+stopped-sized = record { sectors-long = refl; written-long = refl; durable-long = refl }
+
+stopped-in-order : pointersBad small every (s9 .memory .written) (s9 .memory .durable) ≡ false
+unfolding formatStores writeStores zoneContent writeWith entryAt flushStores resetStores mountStores mountPhases phasesBeforeEntries mountLook mountShows afterOpening labelStep resetEntryStep zoneResetStep counterStep countersDiffer sealStep tornRowStep fillStep entryStep encode frame labelBytes readFields kindOf startOf endOf genOf generalHeads generalEnding parityEntries parityEnding isLost isPresent badPointers twoLost badLabels badLogs generationOf resetSeen sealSeen sealLimit zoneView valueAt pointerAt cleanAt zoneAt zoneShown showing viewOf driveOf sectorOf needed stripeOf unitIndex rowIndex parityDrive stripeLength unitDrive unitOf address addressAt zoneSectors log2 wornGeneration rowXor contentAt rowXorBelow callPresent isValid stateWithin twoAbsent twoUnnamed stale unusedBelow writeFull goneIn goneBefore notHeld formatRows lookRows mountRows writeRows flushRows resetRows readRows peekRows lostIn leftOut namedDrives sectorsIn lengthsFit bufferFits sectorsAfterAppend writtenAfterAppend pointersAfterReset durableAfterFlush zoneAtCell deviceOf pointersBad formatVerdict formatOn freshState flushVerdict flushOn writeVerdict writeOn resetVerdict resetOn stateShown lookVerdict lookOn mountVerdict storesBefore mountStoresOn mountShownOn mountOn readNumber valuesOn readOn peekNumber peekOn
+stopped-in-order = refl
+
+cut-sized : WellSized small (s11 .memory)
+cut-sized = record { sectors-long = stopped-sized .sectors-long; written-long = stopped-sized .durable-long; durable-long = stopped-sized .durable-long }
+
+pub duties-done : Dutiful small vol s0 history
+unfolding formatStores writeStores zoneContent writeWith entryAt flushStores resetStores mountStores mountPhases phasesBeforeEntries mountLook mountShows afterOpening labelStep resetEntryStep zoneResetStep counterStep countersDiffer sealStep tornRowStep fillStep entryStep encode frame labelBytes readFields kindOf startOf endOf genOf generalHeads generalEnding parityEntries parityEnding isLost isPresent badPointers twoLost badLabels badLogs generationOf resetSeen sealSeen sealLimit zoneView valueAt pointerAt cleanAt zoneAt zoneShown showing viewOf driveOf sectorOf needed stripeOf unitIndex rowIndex parityDrive stripeLength unitDrive unitOf address addressAt zoneSectors log2 wornGeneration rowXor contentAt rowXorBelow callPresent isValid stateWithin twoAbsent twoUnnamed stale unusedBelow writeFull goneIn goneBefore notHeld formatRows lookRows mountRows writeRows flushRows resetRows readRows peekRows lostIn leftOut namedDrives sectorsIn lengthsFit bufferFits sectorsAfterAppend writtenAfterAppend pointersAfterReset durableAfterFlush zoneAtCell deviceOf pointersBad formatVerdict formatOn freshState flushVerdict flushOn writeVerdict writeOn resetVerdict resetOn stateShown lookVerdict lookOn mountVerdict storesBefore mountStoresOn mountShownOn mountOn readNumber valuesOn readOn peekNumber peekOn
+duties-done =
+    done (names-all s0 refl, refl, tt) (done (names-all s1 refl, refl, tt) (done (names-all s2 refl, refl, tt) (done (names-all s3 refl, tt)
+    (done (names-all s4 refl, refl) (done (names-all s5 refl, refl, tt) (done (names-all s6 refl, refl, tt) (done (names-all s7 refl, refl, tt)
+    (done (names-all s8 refl, refl, tt) (done (cut-done (s9 .memory) stopped-sized stopped-in-order (s9 .lost)) (done (names-all s10 refl, tt) (done (lit< tt, inl refl, loss-done (s11 .memory) cut-sized (replicate 2304 255) (replicate 4 99) (replicate 4 999) refl refl refl)
+    (done (names-without-2 s12 refl, tt, tt) (done (names-without-2 s13 refl, refl, tt) (done (names-without-2 s14 refl, refl) (done (names-without-2 s15 refl, refl) tt)))))))))))))))
+
+-- ---- and what the promise says of it
+pub history-keeps-the-promise : Throughout small vol s0 history
+unfolding formatStores writeStores zoneContent writeWith entryAt flushStores resetStores mountStores mountPhases phasesBeforeEntries mountLook mountShows afterOpening labelStep resetEntryStep zoneResetStep counterStep countersDiffer sealStep tornRowStep fillStep entryStep encode frame labelBytes readFields kindOf startOf endOf genOf generalHeads generalEnding parityEntries parityEnding isLost isPresent badPointers twoLost badLabels badLogs generationOf resetSeen sealSeen sealLimit zoneView valueAt pointerAt cleanAt zoneAt zoneShown showing viewOf driveOf sectorOf needed stripeOf unitIndex rowIndex parityDrive stripeLength unitDrive unitOf address addressAt zoneSectors log2 wornGeneration rowXor contentAt rowXorBelow callPresent isValid stateWithin twoAbsent twoUnnamed stale unusedBelow writeFull goneIn goneBefore notHeld formatRows lookRows mountRows writeRows flushRows resetRows readRows peekRows lostIn leftOut namedDrives sectorsIn lengthsFit bufferFits sectorsAfterAppend writtenAfterAppend pointersAfterReset durableAfterFlush zoneAtCell deviceOf pointersBad formatVerdict formatOn freshState flushVerdict flushOn writeVerdict writeOn resetVerdict resetOn stateShown lookVerdict lookOn mountVerdict storesBefore mountStoresOn mountShownOn mountOn readNumber valuesOn readOn peekNumber peekOn
+history-keeps-the-promise = tables-keep-the-promise small every 7 held noStop zeros (lit< tt) refl history duties-done

@@ -1,0 +1,204 @@
+-- What an accepted call has passed, read off its rows: of each storing call the conditions that do not apply, as facts about its input.
+use mathlib.Core.Path.{_≡_, refl}
+use mathlib.Core.Bool.{Bool, true, false, _&&_, not, true≢false}
+use Prim.Native.Nat.{ℕ, _+_, _-_, _*_, _≤_, _<_}
+use native.Mathlib.Omega.{arith}
+use mathlib.Core.List.{List}
+use lib.ListN.{length}
+use lib.Dec.{ltb, eqb}
+use borrow.Author.Tests.{lt-ltb, ltb-true, ltb-false, eqb-true}
+use Rattle.tables.specs.declared.Geometry.{Geometry}
+use Rattle.tables.specs.laws.Basics.{and-split, or-none, not-not}
+use Rattle.tables.specs.laws.Below.{any-below-false}
+use Rattle.tables.specs.meaning.Geometry.{Valid, zoneSectors, dataZone}
+use Rattle.tables.specs.meaning.Placement.{needed}
+use Rattle.tables.specs.meaning.Device.{Device}
+use Rattle.tables.specs.meaning.GeometryTest.{isValid}
+use Rattle.tables.specs.laws.GeometryTest.{valid-if-test}
+use Rattle.tables.specs.meaning.Tables.{Tables, lengthsFit, bufferFits, pointersBad, deviceOf}
+use Rattle.tables.specs.laws.Made.{WellSized}
+use Rattle.tables.specs.laws.TablesFrame.{lengths-sized}
+use Rattle.volume.specs.declared.State.{State}
+use Rattle.volume.specs.declared.Condition.{Condition}
+use Rattle.volume.specs.declared.Condition.the-variants.{Empty, Open, Sealed, Worn}
+use Rattle.volume.specs.meaning.State.{StateView, callPresent, pointerIn, isSealed, isWorn}
+use Rattle.volume.specs.meaning.Rules.{isPresent, heldAt, zoneView}
+use Rattle.volume.specs.meaning.Answers.{placeOf}
+use Rattle.volume.specs.meaning.Refusals.{Verdict, accept, refuse, firstRefusal, zoneOf, offsetOf, stateWithin, staleIn, stale, badRun, badOrder, unusedBelow, mountFull, resetFull, writeFull, goneBefore, notHeld, formatRows, lookRows, mountRows, writeRows, flushRows, resetRows, peekRows}
+use Rattle.volume.specs.meaning.CallContracts.{viewState, isSet, lengthsOf, verdictNumber, badIn, pointerOf, recordAt, formatVerdict, lookVerdict, mountVerdict, writeVerdict, flushVerdict, resetVerdict, peekNumber}
+use Rattle.volume.specs.laws.Refusals.{accepted-row, Numbered, nonzero, numbered}
+
+-- the number 0 is no refusal's
+number-accepts : (rows : List (ℕ × Bool)) → nonzero rows ≡ true → verdictNumber (firstRefusal rows) ≡ 0 → firstRefusal rows ≡ accept
+number-accepts rows n e = go (firstRefusal rows) (numbered rows n) e
+  where
+    go : (v : Verdict) → Numbered v → verdictNumber v ≡ 0 → v ≡ accept
+    go accept h q = refl
+    go (refuse m) h q = absurd (h q)
+
+module _ (g : Geometry) (named : List Bool) (t : Tables) where
+  pub format-number-accepts : verdictNumber (formatVerdict g named t) ≡ 0 → formatVerdict g named t ≡ accept
+  unfolding formatVerdict formatRows
+  format-number-accepts = number-accepts (formatRows g (lengthsOf t) (badIn g named t) (isSet named) (deviceOf g t)) refl
+
+  pub look-number-accepts : verdictNumber (lookVerdict g named t) ≡ 0 → lookVerdict g named t ≡ accept
+  unfolding lookVerdict lookRows
+  look-number-accepts = number-accepts (lookRows g (lengthsOf t) (badIn g named t) (isSet named) (deviceOf g t)) refl
+
+  pub mount-number-accepts : verdictNumber (mountVerdict g named t) ≡ 0 → mountVerdict g named t ≡ accept
+  unfolding mountVerdict mountRows
+  mount-number-accepts = number-accepts (mountRows g (lengthsOf t) (badIn g named t) (isSet named) (deviceOf g t)) refl
+
+  module _ (s : State) where
+    pub flush-number-accepts : verdictNumber (flushVerdict g named s t) ≡ 0 → flushVerdict g named s t ≡ accept
+    unfolding flushVerdict flushRows
+    flush-number-accepts = number-accepts (flushRows g (lengthsOf t) (badIn g named t) (isSet named) (viewState s) (deviceOf g t)) refl
+
+    pub reset-number-accepts : (z : ℕ) → verdictNumber (resetVerdict g named s z t) ≡ 0 → resetVerdict g named s z t ≡ accept
+    unfolding resetVerdict resetRows
+    reset-number-accepts z = number-accepts (resetRows g (lengthsOf t) (badIn g named t) (isSet named) (viewState s) z (deviceOf g t)) refl
+
+    pub write-number-accepts : (a count bytes : ℕ) → verdictNumber (writeVerdict g named s a count bytes t) ≡ 0 → writeVerdict g named s a count bytes t ≡ accept
+    unfolding writeVerdict writeRows
+    write-number-accepts a count bytes = number-accepts (writeRows g (lengthsOf t) (badIn g named t) (isSet named) (viewState s) a count bytes (deviceOf g t)) refl
+
+-- ---- rows 1 to 3, which every call has
+pub record TablesPassed (g : Geometry) (named : List Bool) (t : Tables) : Type 0 where
+  pub valid : Valid g
+  pub sized : WellSized g t
+  pub pointers : pointersBad g named (t .written) (t .durable) ≡ false
+
+tables-passed : (g : Geometry) (named : List Bool) (t : Tables) → isValid g ≡ true → lengthsFit g (length (t .sectors)) (length (t .written)) (length (t .durable)) ≡ true → pointersBad g named (t .written) (t .durable) ≡ false → TablesPassed g named t
+tables-passed g named t a b c = record { valid = valid-if-test g a; sized = lengths-sized g (t .sectors) (t .written) (t .durable) b; pointers = c }
+
+-- ---- format
+pub format-passed : (g : Geometry) (named : List Bool) (t : Tables) → formatVerdict g named t ≡ accept → TablesPassed g named t
+unfolding formatVerdict formatRows
+format-passed g named t e =
+    let row = accepted-row (formatRows g (lengthsOf t) (badIn g named t) (isSet named) (deviceOf g t)) e in
+    tables-passed g named t (not-not (isValid g) (row 1)) (not-not (lengthsFit g (length (t .sectors)) (length (t .written)) (length (t .durable))) (row 2)) (row 3)
+
+-- ---- look
+pub look-passed : (g : Geometry) (named : List Bool) (t : Tables) → lookVerdict g named t ≡ accept → TablesPassed g named t
+unfolding lookVerdict lookRows
+look-passed g named t e =
+    let row = accepted-row (lookRows g (lengthsOf t) (badIn g named t) (isSet named) (deviceOf g t)) e in
+    tables-passed g named t (not-not (isValid g) (row 1)) (not-not (lengthsFit g (length (t .sectors)) (length (t .written)) (length (t .durable))) (row 2)) (row 3)
+
+-- ---- flush
+pub record StatePassed (g : Geometry) (named : List Bool) (s : State) (t : Tables) : Type 0 where
+  pub tables : TablesPassed g named t
+  pub within : stateWithin g (viewState s) ≡ true
+
+module _ (g : Geometry) (named : List Bool) (s : State) (t : Tables) where
+  state-passed : not (isValid g && stateWithin g (viewState s)) ≡ false → lengthsFit g (length (t .sectors)) (length (t .written)) (length (t .durable)) ≡ true → pointersBad g named (t .written) (t .durable) ≡ false → StatePassed g named s t
+  state-passed a b c = let (p, q) = and-split (isValid g) (stateWithin g (viewState s)) (not-not _ a) in record { tables = tables-passed g named t p b c; within = q }
+
+  pub flush-passed : flushVerdict g named s t ≡ accept → StatePassed g named s t
+  unfolding flushVerdict flushRows
+  flush-passed e =
+      let row = accepted-row (flushRows g (lengthsOf t) (badIn g named t) (isSet named) (viewState s) (deviceOf g t)) e in
+      state-passed (row 1) (not-not (lengthsFit g (length (t .sectors)) (length (t .written)) (length (t .durable))) (row 2)) (row 3)
+
+-- ---- reset
+pub record ResetPassed (g : Geometry) (named : List Bool) (s : State) (z : ℕ) (t : Tables) : Type 0 where
+  pub opening : StatePassed g named s t
+  pub zone : z < g .zones
+  pub log-room : resetFull g (callPresent g (isSet named) (viewState s)) (deviceOf g t) ≡ false
+
+pub reset-passed : (g : Geometry) (named : List Bool) (s : State) (z : ℕ) (t : Tables) → resetVerdict g named s z t ≡ accept → ResetPassed g named s z t
+unfolding resetVerdict resetRows
+reset-passed g named s z t e =
+    let row = accepted-row (resetRows g (lengthsOf t) (badIn g named t) (isSet named) (viewState s) z (deviceOf g t)) e in
+    record {
+      opening = state-passed g named s t (row 1) (not-not (lengthsFit g (length (t .sectors)) (length (t .written)) (length (t .durable))) (row 2)) (row 3);
+      zone = ltb-true z (g .zones) (not-not (ltb z (g .zones)) (row 8));
+      log-room = row 14;
+    }
+
+-- ---- write
+pub record WritePassed (g : Geometry) (named : List Bool) (s : State) (a count bytes : ℕ) (t : Tables) : Type 0 where
+  pub opening : StatePassed g named s t
+  pub buffer-long : bytes ≡ count * g .sector
+  pub zone : zoneOf g a < g .zones
+  pub inside : pointerOf s (zoneOf g a) + count ≤ zoneSectors g
+  -- a present drive has just what the pointer needs
+  pub written-is : (d : ℕ) → d < g .drives → callPresent g (isSet named) (viewState s) d ≡ true → length (deviceOf g t d (dataZone (zoneOf g a)) .sectors) ≡ needed (g .drives) (g .unit) (zoneOf g a) (pointerOf s (zoneOf g a)) d
+  pub log-room : writeFull g (callPresent g (isSet named) (viewState s)) (deviceOf g t) (zoneOf g a) (pointerOf s (zoneOf g a) + count) ≡ false
+  pub known-before : goneBefore g (callPresent g (isSet named) (viewState s)) (deviceOf g t) (zoneOf g a) (recordAt s (zoneOf g a) .generation) (pointerOf s (zoneOf g a)) ≡ false
+
+-- not stale, and neither sealed nor worn
+not-stale : (c : Condition) (written needs : ℕ) → isSealed c ≡ false → isWorn c ≡ false → staleIn c written needs ≡ false → written ≡ needs
+not-stale Empty w n a b h = eqb-true w n (not-not (eqb w n) h)
+not-stale (Open q) w n a b h = eqb-true w n (not-not (eqb w n) h)
+not-stale (Sealed q) w n a b h = absurd (true≢false a)
+not-stale (Worn q) w n a b h = absurd (true≢false b)
+
+fresh-at : (g : Geometry) (present : ℕ → Bool) (v : Device) (state : StateView) (z : ℕ) → z < g .zones → stale g present v state z ≡ false → isSealed (state .condition z) ≡ false → isWorn (state .condition z) ≡ false
+    → (d : ℕ) → d < g .drives → present d ≡ true → length (v d (dataZone z) .sectors) ≡ needed (g .drives) (g .unit) z (pointerIn (state .condition z)) d
+unfolding stale
+fresh-at g present v state z hz h a b d hd p =
+    let q = any-below-false (λ e. present e && staleIn (state .condition z) (length (v e (dataZone z) .sectors)) (needed (g .drives) (g .unit) z (pointerIn (state .condition z)) e)) (g .drives) d (rw (lt-ltb z (g .zones) hz) at h) hd in
+    not-stale (state .condition z) (length (v d (dataZone z) .sectors)) (needed (g .drives) (g .unit) z (pointerIn (state .condition z)) d) a b (rw p at q)
+
+run-inside : (g : Geometry) (s : State) (z offset count : ℕ) → badRun g offset count ≡ false → badOrder (viewState s) z offset ≡ false → pointerOf s z + count ≤ zoneSectors g
+run-inside g s z offset count h o =
+    let (p, q) = or-none (eqb count 0) (ltb (zoneSectors g) (offset + count)) h in
+    let e : offset ≡ pointerOf s z = eqb-true offset (pointerOf s z) (not-not (eqb offset (pointerOf s z)) o) in
+    omega (arith, ltb-false (zoneSectors g) (offset + count) q, e)
+
+pub write-passed : (g : Geometry) (named : List Bool) (s : State) (a count bytes : ℕ) (t : Tables) → writeVerdict g named s a count bytes t ≡ accept → WritePassed g named s a count bytes t
+unfolding writeVerdict writeRows bufferFits
+write-passed g named s a count bytes t e =
+    let z = zoneOf g a in
+    let row = accepted-row (writeRows g (lengthsOf t) (badIn g named t) (isSet named) (viewState s) a count bytes (deviceOf g t)) e in
+    let lengths = lengthsFit g (length (t .sectors)) (length (t .written)) (length (t .durable)) in
+    let (l, b) = and-split lengths (eqb bytes (count * g .sector)) (not-not (lengths && eqb bytes (count * g .sector)) (row 2)) in
+    let hz : z < g .zones = ltb-true z (g .zones) (not-not (ltb z (g .zones)) (row 8)) in
+    record {
+      opening = state-passed g named s t (row 1) l (row 3);
+      buffer-long = eqb-true bytes (count * g .sector) b;
+      zone = hz;
+      inside = run-inside g s z (offsetOf g a) count (row 9) (row 10);
+      written-is = fresh-at g (callPresent g (isSet named) (viewState s)) (deviceOf g t) (viewState s) z hz (row 7) (row 11) (row 12);
+      log-room = row 14;
+      known-before = row 15;
+    }
+
+-- ---- mount
+pub record MountPassed (g : Geometry) (named : List Bool) (t : Tables) : Type 0 where
+  pub tables : TablesPassed g named t
+  pub log-room : mountFull g (isPresent g (isSet named) (deviceOf g t)) (deviceOf g t) ≡ false
+
+pub mount-passed : (g : Geometry) (named : List Bool) (t : Tables) → mountVerdict g named t ≡ accept → MountPassed g named t
+unfolding mountVerdict mountRows
+mount-passed g named t e =
+    let row = accepted-row (mountRows g (lengthsOf t) (badIn g named t) (isSet named) (deviceOf g t)) e in
+    record {
+      tables = tables-passed g named t (not-not (isValid g) (row 1)) (not-not (lengthsFit g (length (t .sectors)) (length (t .written)) (length (t .durable))) (row 2)) (row 3);
+      log-room = row 14;
+    }
+
+-- ---- peek: its sector is held
+pub record PeekPassed (g : Geometry) (named : List Bool) (s : State) (a : ℕ) (t : Tables) : Type 0 where
+  pub opening : StatePassed g named s t
+  pub zone : zoneOf g a < g .zones
+  pub held : heldAt (zoneView g (callPresent g (isSet named) (viewState s)) (deviceOf g t) (zoneOf g a) (recordAt s (zoneOf g a) .generation)) (placeOf g a .drive) (placeOf g a .sector) ≡ true
+
+pub peek-passed : (g : Geometry) (named : List Bool) (s : State) (a : ℕ) (t : Tables) → peekNumber g named s a t ≡ 0 → PeekPassed g named s a t
+unfolding peekNumber peekRows notHeld
+peek-passed g named s a t e =
+    let rows = peekRows g (lengthsOf t) (badIn g named t) (isSet named) (viewState s) a (deviceOf g t) in
+    let row = accepted-row rows (number-accepts rows refl e) in
+    record {
+      opening = state-passed g named s t (row 1) (not-not (lengthsFit g (length (t .sectors)) (length (t .written)) (length (t .durable))) (row 2)) (row 3);
+      zone = ltb-true (zoneOf g a) (g .zones) (not-not (ltb (zoneOf g a) (g .zones)) (row 8));
+      held = not-not _ (row 15);
+    }
+
+-- ---- room in a log of a present drive
+pub unused-at : (g : Geometry) (present : ℕ → Bool) (v : Device) (log n : ℕ) → unusedBelow g present v log n ≡ false → (d : ℕ) → d < g .drives → present d ≡ true → n ≤ g .capacity - length (v d log .sectors)
+unfolding unusedBelow
+unused-at g present v log n h d hd p =
+    let q = any-below-false (λ e. present e && ltb (g .capacity - length (v e log .sectors)) n) (g .drives) d h hd in
+    ltb-false (g .capacity - length (v d log .sectors)) n (rw p at q)

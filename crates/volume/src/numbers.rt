@@ -1,0 +1,45 @@
+// The numbers by which answers and conditions are told outside the volume: to C, in the bytes of a state, in a script's lines.
+use super::Answer;
+use super::Condition;
+ghost use mathlib.Core.Path.{_≡_};
+ghost use Rattle.volume.specs.meaning.State.{conditionNumber, conditionOfNumber};
+ghost use Rattle.volume.specs.meaning.CallContracts.{answerNumber};
+
+// 0 finished, 255 unfinished, else the refusal's number.
+pub fn answer_number(a: Answer) -> u8
+    ensures { λ r. ⌜ r ≡ answerNumber a ⌝ }
+{
+    match a {
+        Answer::Finished => 0,
+        Answer::Unfinished => 255,
+        Answer::Refused(n) => n,
+    }
+}
+
+// 0 empty, 1 open, 2 sealed, 3 worn.
+pub fn condition_number(c: Condition) -> u32
+    ensures { λ r. ⌜ r ≡ conditionNumber c ⌝ }
+{
+    match c {
+        Condition::Empty => 0,
+        Condition::Open(_) => 1,
+        Condition::Sealed(_) => 2,
+        Condition::Worn(_) => 3,
+    }
+}
+
+// The condition of a number, with a pointer.
+pub fn condition_of(number: u64, pointer: usize) -> Condition
+    ensures { λ r. ⌜ r ≡ conditionOfNumber number pointer ⌝ }
+{
+    if number == 1 {
+        return Condition::Open(pointer);
+    }
+    if number == 2 {
+        return Condition::Sealed(pointer);
+    }
+    if number == 3 {
+        return Condition::Worn(pointer);
+    }
+    Condition::Empty
+}

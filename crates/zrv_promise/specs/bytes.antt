@@ -1,0 +1,3 @@
+pub mod BytesClaimProof
+pub mod CallsOnBytes
+pub mod ReadsOnBytes

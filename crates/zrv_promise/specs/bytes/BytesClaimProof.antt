@@ -1,0 +1,312 @@
+-- The promise on bytes holds. At every point of a history the promise holds of the tables which the bytes hold (promise's TablesClaimProof); here it is
+-- carried to what the functions of the C edge do.
+use mathlib.Core.Path.{_≡_, refl, sym, ap, _∙_, subst, fun-ext}
+use mathlib.Core.Logic.{_≢_, _⊎_, inl, inr}
+use mathlib.Core.Bool.{Bool, true, false, _&&_}
+use Prim.Native.Nat.{ℕ, suc, _*_, _^_, _<_}
+use native.Mathlib.Decide.{ℕ-discrete}
+use native.Mathlib.Omega.{arith}
+use mathlib.Core.List.{List, [], _∷_}
+use lib.ListN.{length, getD}
+use lib.Dec.{ltb, eqb}
+use borrow.Author.Tests.{le-ltb, eqb-true}
+use Rattle.tables.specs.declared.Geometry.{Geometry}
+use Rattle.tables.specs.meaning.Basics.{pick}
+use Rattle.tables.specs.meaning.Geometry.{Valid, physicalZones, cells}
+use Rattle.tables.specs.meaning.GeometryTest.{isValid}
+use Rattle.tables.specs.laws.GeometryTest.{valid-if-test}
+use Rattle.tables.specs.meaning.Drives.{noDrive}
+use Rattle.tables.specs.meaning.Device.{Loss}
+use Rattle.tables.specs.meaning.Tables.{Tables, tablesOf, cell, deviceOf, TablesLoss}
+use Rattle.tables.specs.laws.Tables.{cell-in, device-outside}
+use Rattle.tables.specs.laws.TablesRefine.{lent-sized, loss-refines}
+use Rattle.tables.specs.laws.PointerOrder.{loss-order}
+use Rattle.volume.specs.declared.State.{State}
+use Rattle.volume.specs.declared.Outcome.{Outcome}
+use Rattle.volume.specs.declared.Answer.the-variants.{Finished, Unfinished, Refused}
+use Rattle.volume.specs.meaning.Answers.{CallResult}
+use Rattle.volume.specs.meaning.CallContracts.{recordAt, isSet, answerNumber, Result, stateShown, lookOn, ReadResult}
+use Rattle.volume.specs.laws.ByteLists.{Bytes}
+use Rattle.promise.specs.meaning.Ledger.{Fits}
+use Rattle.promise.specs.meaning.Claim.{Call, mounts, writes, flushes, resets, formats, Peeked, System, Event, calls, looks, reads, peeks, cuts, loses, MayMount, settled, ledgerAfter, next, NamesAll, Duty, Promise, start}
+use Rattle.promise.specs.meaning.OnTables.{resultOn, callResult, shownIn, onTables}
+use Rattle.promise.specs.invariant.Throughout.{throughout}
+use Rattle.promise.specs.device.AtRestAnswers.{left-out}
+use Rattle.promise.specs.tables.TablesEvents.{TablesOk, loss-event}
+use Rattle.promise.specs.tables.TablesClaimProof.{tables-promise, tables-event, tables-start}
+use Rattle.zrv.specs.meaning.Bytes.{tableFrom, tableTo, stateFrom, stateTo}
+use Rattle.zrv.specs.meaning.EdgeCalls.{namedOf, inputNumber, sizesNumber, Ranges, tablesIn, unreadState, Answered, storedAll, lookOfBytes, lookEdge, formatOfBytes, formatEdge}
+use Rattle.zrv.specs.laws.EdgeCalls.{Sized, input-passed, sizes-passed, refused, made}
+use Rattle.zrv.specs.laws.RoundTrips.{number-back}
+use Rattle.zrv.specs.laws.TablesRoundTrip.{table-long, table-bytes, table-bytes-long}
+use Rattle.zrv.specs.laws.CallsLeave.{format-stored}
+use Rattle.zrv.specs.laws.StateRoundTrip.{HandsOn, look-hands-on, format-hands-on}
+use Rattle.zrv_promise.specs.meaning.OnBytes.{LentBytes, rangesOf, tablesAt, answerOf, edgeOf, bytesResult, StillBytes, onBytes, BytesClaim}
+use Rattle.zrv_promise.specs.bytes.CallsOnBytes.{OnTheTables, format-small, storing-known, viewBytes, views, takes, format-on, mount-on, write-on, flush-on, reset-on}
+use Rattle.zrv_promise.specs.bytes.ReadsOnBytes.{sizes-pass, look-other, look-is, read-is, peek-is}
+
+-- ---- numbers
+bytes-all : (xs : List ℕ) → ((i : ℕ) → getD xs i 0 < 256) → Bytes xs
+bytes-all [] h = tt
+bytes-all (x ∷ xs) h = (h 0, bytes-all xs (λ i. h (suc i)))
+
+finished-code : (n : ℕ) → answerOf n ≡ Finished → n ≡ 0
+finished-code n e = go (eqb n 0) (eqb n 255) refl e
+  where
+    go : (b c : Bool) → eqb n 0 ≡ b → pick b Finished (pick c Unfinished (Refused n)) ≡ Finished → n ≡ 0
+    go true c q r = eqb-true n 0 q
+    go false true q r = absurd (let z : _≡_ {A = ℕ} 0 1 = cc in omega arith)
+    go false false q r = absurd (let z : _≡_ {A = ℕ} 0 1 = cc in omega arith)
+
+-- ---- the system that the bytes hold, and the invariant
+abbrev viewSystem : (g : Geometry) → System (onBytes g) → System (onTables g)
+viewSystem g s = record { memory = tablesAt g (s .memory); lost = s .lost; mode = s .mode; state = stateFrom (g .zones) (s .state); ledger = s .ledger }
+
+pub record BytesOk (g : Geometry) (s : System (onBytes g)) : Type 0 where
+  pub written-bytes : Bytes (s .memory .written)
+  pub durable-bytes : Bytes (s .memory .durable)
+  pub taken : inputNumber g (s .state) (length (s .memory .written)) (length (s .memory .durable)) ≡ 0
+  pub holds : TablesOk g (viewSystem g s)
+
+module _ (g : Geometry) (ok : Valid g) (wb : isValid g ≡ true) (s : System (onBytes g)) (o : BytesOk g s) where
+  abbrev m : Ranges
+  m = rangesOf (s .memory) (s .state)
+
+  abbrev t : Tables
+  t = tablesAt g (s .memory)
+
+  abbrev st : State
+  st = stateFrom (g .zones) (s .state)
+
+  promised : Promise g (onTables g) (viewSystem g s)
+  promised = tables-promise g ok wb (viewSystem g s) (o .holds)
+
+  sizes : sizesNumber g (length (s .state)) (length (s .memory .written)) (length (s .memory .durable)) ≡ 0
+  sizes = sizes-pass g (length (s .state)) (length (s .memory .written)) (length (s .memory .durable)) (input-passed g (s .state) (length (s .memory .written)) (length (s .memory .durable)) (o .taken))
+
+  module _ (mask : ℕ) where
+    abbrev named : List Bool
+    named = namedOf mask
+
+    -- each call is that on the tables
+    call-on : (c : Call) (stop : ℕ) → (r : Result) × OnTheTables g m (edgeOf g c mask stop m) r (resultOn g c (namedOf mask) st stop t)
+    call-on mounts stop = (_, mount-on g mask m (o .written-bytes) (o .durable-bytes) sizes stop)
+    call-on (writes a k buffer) stop = (_, write-on g mask m (o .written-bytes) (o .durable-bytes) (o .taken) a k stop buffer)
+    call-on flushes stop = (_, flush-on g mask m (o .written-bytes) (o .durable-bytes) (o .taken) stop)
+    call-on (resets z) stop = (_, reset-on g mask m (o .written-bytes) (o .durable-bytes) (o .taken) z stop)
+    call-on (formats array) stop = (_, format-on g mask m (o .written-bytes) (o .durable-bytes) sizes array stop)
+
+    call-views : (c : Call) (stop : ℕ) → viewBytes g (onBytes g .call c mask (s .state) stop (s .memory)) ≡ onTables g .call c (namedOf mask) st stop t
+    call-views c stop = let (r, q) = call-on c stop in views g m (edgeOf g c mask stop m) r (resultOn g c (namedOf mask) st stop t) q
+
+    answers : (c : Call) (stop : ℕ) → onBytes g .call c mask (s .state) stop (s .memory) .answer ≡ onTables g .call c (namedOf mask) st stop t .answer
+    answers c stop = ap (λ (r : CallResult Tables State). r .answer) (call-views c stop)
+
+    module _ (n : NamesAll g (onBytes g) s mask) where
+      abbrev names : NamesAll g (onTables g) (viewSystem g s) (namedOf mask)
+      names = record { drives = n .drives }
+
+      -- ---- looks
+      look-on : lookOn g (namedOf mask) st t ≡ record { answer = Finished; state = stateShown g (shownIn g (namedOf mask) t t) }
+      look-on = ap (λ (r : CallResult Tables State). let u : Outcome = record { answer = r .answer; state = r .state } in u) (promised .look-fits (namedOf mask) names .0)
+
+      looked : onBytes g .look mask (s .state) (s .memory) ≡ record { answer = Finished; memory = s .memory; state = stateTo (g .zones) (stateShown g (shownIn g (namedOf mask) t t)) }
+      looked = look-is g mask (s .memory) (s .state) (o .taken) (stateShown g (shownIn g (namedOf mask) t t)) look-on
+
+      -- its state's bytes are taken, and hold what the look on the tables hands on
+      look-hands : HandsOn g (lookEdge g mask m .left .state) (lookOfBytes g mask m .state) (length (s .memory .written)) (length (s .memory .durable))
+      look-hands = look-hands-on g mask m (finished-code (lookEdge g mask m .code) (ap (λ (r : CallResult LentBytes (List ℕ)). r .answer) looked))
+
+      look-state : stateFrom (g .zones) (onBytes g .look mask (s .state) (s .memory) .state) ≡ lookOn g (namedOf mask) st t .state
+      look-state =
+          let x = stateShown g (shownIn g (namedOf mask) t t) in
+          look-hands .reads-back ∙ ap (λ (u : Outcome). u .state) (look-other g (namedOf mask) st unreadState x t look-on) ∙ ap (λ (u : Outcome). u .state) (sym look-on)
+
+      -- ---- a finished mount
+      mount-claim : MayMount (s .mode) → (stop : ℕ) → let r = onBytes g .call mounts mask (s .state) stop (s .memory) in r .answer ≡ Finished
+          → (r .state ≡ onBytes g .stateOf (onBytes g .shows mask (s .memory) (r .memory))) × Fits g (s .ledger) (onBytes g .shows mask (s .memory) (r .memory))
+      mount-claim may stop e =
+          let (r, q) = call-on mounts stop in
+          let u = resultOn g mounts (namedOf mask) st stop t in
+          let h = finished-code (edgeOf g mounts mask stop m .code) e in
+          let k : tablesIn g (edgeOf g mounts mask stop m .left) ≡ u .tables = ap (λ (x : CallResult Tables State). x .memory) (call-views mounts stop) in
+          let (a, b) = promised .mount-fits (namedOf mask) names may stop (sym (answers mounts stop) ∙ e) in
+          rw k (q .hands-on h .bytes-are ∙ ap (stateTo (g .zones)) (q .alike .new-same (sym (q .leaves .code-is) ∙ h) ∙ a), b)
+
+  -- the promise
+  pub bytes-promise : Promise g (onBytes g) s
+  bytes-promise = record {
+    look-fits = λ mask n. (looked mask n, promised .look-fits (namedOf mask) (names mask n) .1);
+    mount-fits = mount-claim;
+    mount-refused = λ mask n stop k e. promised .mount-refused (namedOf mask) (names mask n) stop k (sym (answers mask mounts stop) ∙ e);
+    pointer-is = promised .pointer-is;
+    look-holds = λ mask n r.
+        let (a, b) = promised .look-holds (namedOf mask) (names mask n) r in (
+          ap (λ (x : State). x .lost) (look-state mask n) ∙ a,
+          record {
+            generations = λ z h. ap (λ (x : State). recordAt x z .generation) (look-state mask n) ∙ b .generations z h;
+            conditions = λ z h. ap (λ (x : State). recordAt x z .condition) (look-state mask n) ∙ b .conditions z h;
+          },
+        );
+    flush-accepted = λ mask n r stop k e. promised .flush-accepted (namedOf mask) (names mask n) r stop k (sym (answers mask flushes stop) ∙ e);
+    reset-refused = λ mask n r z stop k e. promised .reset-refused (namedOf mask) (names mask n) r z stop k (sym (answers mask (resets z) stop) ∙ e);
+    write-refused = λ mask n r a count buffer stop k e. promised .write-refused (namedOf mask) (names mask n) r a count buffer stop k (sym (answers mask (writes a count buffer) stop) ∙ e);
+    read-gives = λ mask n r a count out e.
+        let q = read-is g mask (s .memory) (s .state) (o .taken) a count out in
+        let (x, y) = promised .read-gives (namedOf mask) (names mask n) r a count out (sym (ap (λ (u : ReadResult). u .answer) q) ∙ e) in
+        (x, ap (λ (u : ReadResult). u .buffer) q ∙ y);
+    read-accepted = λ mask n r a count out hz pos len h.
+        ap (λ (u : ReadResult). u .answer) (read-is g mask (s .memory) (s .state) (o .taken) a count out) ∙ promised .read-accepted (namedOf mask) (names mask n) r a count out hz pos len h;
+    peek-gives = λ mask n r a e.
+        let q = peek-is g mask (s .memory) (s .state) (o .taken) a in
+        let (x, y, z) = promised .peek-gives (namedOf mask) (names mask n) r a (sym (ap (λ (u : Peeked). u .number) q) ∙ e) in
+        (x, ap (λ (u : Peeked). u .from) q ∙ y, ap (λ (u : Peeked). u .part) q ∙ z);
+    peek-accepted = λ mask n r a hz h there. ap (λ (u : Peeked). u .number) (peek-is g mask (s .memory) (s .state) (o .taken) a) ∙ promised .peek-accepted (namedOf mask) (names mask n) r a hz h there;
+  }
+
+  -- ---- events
+  -- the system on the tables after a call
+  abbrev after : Call → List Bool → CallResult Tables State → System (onTables g)
+  after c named r = settled g (onTables g) (viewSystem g s) r (ledgerAfter g (onTables g) (viewSystem g s) c named r)
+
+  call-event : (c : Call) (mask stop : ℕ) → Duty g (onBytes g) s (calls c mask stop) → BytesOk g (next g (onBytes g) s (calls c mask stop))
+  call-event c mask stop (n, may, comp) =
+      let (r, q) = call-on mask c stop in
+      record {
+        written-bytes = q .leaves .written-bytes;
+        durable-bytes = q .leaves .durable-bytes;
+        taken = takes g m (edgeOf g c mask stop m) r (resultOn g c (namedOf mask) st stop t) q (o .taken);
+        holds = subst (λ (x : CallResult Tables State). TablesOk g (after c (namedOf mask) x)) (sym (call-views mask c stop))
+            (tables-event g ok wb (viewSystem g s) (o .holds) (calls c (namedOf mask) stop) (names mask n, may, rw (answers mask c stop) at comp));
+      }
+
+  look-event : (mask : ℕ) → Duty g (onBytes g) s (looks mask true) → BytesOk g (next g (onBytes g) s (looks mask true))
+  look-event mask (n, may) = record {
+    written-bytes = o .written-bytes;
+    durable-bytes = o .durable-bytes;
+    taken = look-hands mask n .taken;
+    holds = rw (look-state mask n) (tables-event g ok wb (viewSystem g s) (o .holds) (looks (namedOf mask) true) (names mask n, may));
+  }
+
+  -- memory that a cut or a loss leaves
+  left-taken : (u : LentBytes) → StillBytes (s .memory) u → inputNumber g (s .state) (length (u .written)) (length (u .durable)) ≡ 0
+  left-taken u b = rw (b .written-long, b .durable-long) (o .taken)
+
+  pub bytes-event : (e : Event (onBytes g)) → Duty g (onBytes g) s e → BytesOk g (next g (onBytes g) s e)
+  bytes-event (calls c mask stop) d = call-event c mask stop d
+  bytes-event (looks mask false) d = o
+  bytes-event (looks mask true) d = look-event mask d
+  bytes-event (reads mask a count out) d = o
+  bytes-event (peeks mask a) d = o
+  bytes-event (cuts u) (b, c) = record {
+    written-bytes = bytes-all (u .written) (b .written-bytes);
+    durable-bytes = bytes-all (u .durable) (b .durable-bytes);
+    taken = left-taken u b;
+    holds = tables-event g ok wb (viewSystem g s) (o .holds) (cuts (tablesAt g u)) c;
+  }
+  bytes-event (loses d u) (h, e, (b, c)) = record {
+    written-bytes = bytes-all (u .written) (b .written-bytes);
+    durable-bytes = bytes-all (u .durable) (b .durable-bytes);
+    taken = left-taken u b;
+    holds = tables-event g ok wb (viewSystem g s) (o .holds) (loses d (tablesAt g u)) (h, e, c);
+  }
+
+-- ==== the format at the head. Nothing is asked of what the ranges held: a drive left out keeps what it had, and that need not be bytes
+-- what becomes of a lost drive's memory is open
+lost-open : (g : Geometry) → Valid g → (s : System (onTables g)) → TablesOk g s → (s .lost ≡ noDrive) ⊎ (s .lost < g .drives) → (u : Tables) → TablesLoss g (s .lost) (s .memory) u
+    → TablesOk g (record { memory = u; lost = s .lost; mode = s .mode; state = s .state; ledger = s .ledger })
+lost-open g ok s o (inr h) u c = loss-event g ok s o (s .lost) h (inr refl) u c
+lost-open g ok s o (inl e) u c = record {
+  sized = lent-sized g (s .lost) (s .memory) u (c .lent) (o .sized);
+  order = λ d hd n. loss-order g (s .lost) d (s .memory) u c hd n (o .order d hd n);
+  records = o .records;
+  holds = rw (fun-ext λ d. fun-ext λ z. same d z (ℕ-discrete d (s .lost))) (o .holds);
+}
+  where
+    same : (d z : ℕ) → Dec (d ≡ s .lost) → deviceOf g u d z ≡ deviceOf g (s .memory) d z
+    same d z (yes q) =
+        let out : ltb d (g .drives) && ltb z (physicalZones g) ≡ false = rw (le-ltb d (g .drives) (omega (arith, q, e, ok .drives-most))) refl in
+        device-outside g u d z out ∙ sym (device-outside g (s .memory) d z out)
+    same d z (no n) = unfold Loss in loss-refines g (s .lost) (s .memory) u c d z n
+
+-- tables whose numbers are not all of 32 bits, written and read back: only a lost drive's may differ
+module _ (g : Geometry) (ok : Valid g) (s : System (onTables g)) (o : TablesOk g s) where
+  abbrev again : Tables
+  again = tablesOf (s .memory .sectors) (tableFrom (cells g) (tableTo (s .memory .written))) (tableFrom (cells g) (tableTo (s .memory .durable)))
+
+  read-again : TablesLoss g (s .lost) (s .memory) again
+  read-again = record {
+    lent = record {
+      sectors-long = refl;
+      written-long = table-long (cells g) (tableTo (s .memory .written)) ∙ sym (o .sized .written-long);
+      durable-long = table-long (cells g) (tableTo (s .memory .durable)) ∙ sym (o .sized .durable-long);
+      sectors-same = λ d z n hd hz h ne. refl;
+    };
+    written-same = λ d z hd hz n. number-back (cells g) (s .memory .written) (cell g d z) (o .sized .written-long) (cell-in g d z hd hz) (written-small d z hd hz n);
+    durable-same = λ d z hd hz n. number-back (cells g) (s .memory .durable) (cell g d z) (o .sized .durable-long) (cell-in g d z hd hz) (omega (arith, o .order d hd n .durable-most z hz, written-small d z hd hz n));
+  }
+    where
+      written-small : (d z : ℕ) → d < g .drives → z < physicalZones g → d ≢ s .lost → getD (s .memory .written) (cell g d z) 0 < 256 ^ 4
+      written-small d z hd hz n = omega (arith, o .order d hd n .written-most z hz, ok .zone-most)
+
+module _ (g : Geometry) (mask array stop : ℕ) (old : List ℕ) (m : LentBytes) (small : array < 256 ^ 8) where
+  abbrev before : Ranges
+  before = rangesOf m old
+
+  abbrev edge : Answered Ranges
+  edge = formatEdge g mask array stop (rangesOf m old)
+
+  abbrev made-on : Result
+  made-on = formatOfBytes g mask array stop (rangesOf m old)
+
+  module _ (h : edge .code ≡ 0) where
+    sizes-fit : sizesNumber g (length old) (length (m .written)) (length (m .durable)) ≡ 0
+    sizes-fit = go (ℕ-discrete (sizesNumber g (length old) (length (m .written)) (length (m .durable))) 0)
+      where
+        go : Dec (sizesNumber g (length old) (length (m .written)) (length (m .durable)) ≡ 0) → sizesNumber g (length old) (length (m .written)) (length (m .durable)) ≡ 0
+        go (yes e) = e
+        go (no e) = ap (λ (x : Answered Ranges). x .code) (refused _ (storedAll g made-on before) before e) ∙ h
+
+    sized : Sized g (length old) (length (m .written)) (length (m .durable))
+    sized = sizes-passed g (length old) (length (m .written)) (length (m .durable)) sizes-fit
+
+    edge-is : edge ≡ storedAll g made-on before
+    edge-is = sym (made _ (storedAll g made-on before) before sizes-fit)
+
+    finished : made-on .outcome .answer ≡ Finished
+    unfolding storedAll format-stored
+    finished =
+        let k : answerNumber (made-on .outcome .answer) ≡ 0 = ap (λ (x : Answered Ranges). x .code) (sym edge-is) ∙ h in
+        sym (storing-known g (tablesIn g before) made-on (format-stored g (tablesIn g before) (namedOf mask) stop array unreadState) (format-small g (namedOf mask) (tablesIn g before))) ∙ ap answerOf k
+
+    abbrev began : System (onTables g)
+    began = start g (onTables g) (namedOf mask) (callResult made-on)
+
+    begins : (isValid g ≡ true) × TablesOk g began
+    begins = tables-start g (namedOf mask) array unreadState stop (tablesIn g before) small finished
+
+    pub bytes-start : BytesOk g (start g (onBytes g) mask (bytesResult edge))
+    unfolding storedAll
+    bytes-start =
+        let o = begins .1 in
+        let w : length (tableTo (made-on .tables .written)) ≡ length (m .written) = table-bytes-long (made-on .tables .written) ∙ ap (λ (n : ℕ). n * 4) (o .sized .written-long) ∙ sym (sized .written-long) in
+        let d : length (tableTo (made-on .tables .durable)) ≡ length (m .durable) = table-bytes-long (made-on .tables .durable) ∙ ap (λ (n : ℕ). n * 4) (o .sized .durable-long) ∙ sym (sized .durable-long) in
+        let k = format-hands-on g mask before array stop h in
+        let with-state : State → System (onTables g) = λ x. record { memory = again g (sized .valid) began o; lost = began .lost; mode = began .mode; state = x; ledger = began .ledger } in
+        let z : edge .left .state ≡ storedAll g made-on before .left .state = ap (λ (x : Answered Ranges). x .left .state) edge-is in
+        let opened = lost-open g (sized .valid) began o (left-out g (isSet (namedOf mask))) (again g (sized .valid) began o) (read-again g (sized .valid) began o) in
+        let bytes : BytesOk g (start g (onBytes g) mask (bytesResult (storedAll g made-on before))) = record {
+          written-bytes = table-bytes (made-on .tables .written);
+          durable-bytes = table-bytes (made-on .tables .durable);
+          taken = rw (w, d) (ap (λ (l : List ℕ). inputNumber g l (length (m .written)) (length (m .durable))) (sym z) ∙ k .taken);
+          holds = subst (λ (x : State). TablesOk g (with-state x)) (sym (k .reads-back) ∙ ap (stateFrom (g .zones)) z) opened;
+        } in
+        rw edge-is bytes
+
+-- THE THEOREM
+pub bytes-keep-the-promise : BytesClaim
+bytes-keep-the-promise g mask array old stop m small e es d =
+    let h = finished-code (formatEdge g mask array stop (rangesOf m old) .code) e in
+    let wb = begins g mask array stop old m small h .0 in
+    let ok = valid-if-test g wb in
+    throughout g (onBytes g) (BytesOk g) (bytes-promise g ok wb) (bytes-event g ok wb) (start g (onBytes g) mask (bytesResult (formatEdge g mask array stop (rangesOf m old)))) (bytes-start g mask array stop old m small h) es d

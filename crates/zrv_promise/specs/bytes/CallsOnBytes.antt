@@ -1,0 +1,211 @@
+-- Each storing function on bytes is that call on the tables which the bytes hold: its answer, the tables and the state that it leaves, all read back.
+use mathlib.Core.Path.{_≡_, refl, sym, ap, _∙_}
+use mathlib.Core.Logic.{_≢_}
+use mathlib.Core.Bool.{Bool, true, false, _&&_}
+use Prim.Native.Nat.{ℕ, _<_}
+use native.Mathlib.Decide.{ℕ-discrete}
+use native.Mathlib.Omega.{arith}
+use mathlib.Core.List.{List, [], _∷_}
+use lib.ListN.{length}
+use lib.Dec.{ltb, eqb}
+use borrow.Author.Tests.{ltb-true, ne-eqb, eqb-false}
+use Rattle.tables.specs.declared.Geometry.{Geometry}
+use Rattle.tables.specs.meaning.Basics.{pick}
+use Rattle.tables.specs.laws.Basics.{and-split}
+use Rattle.tables.specs.meaning.Device.{Store}
+use Rattle.tables.specs.meaning.Tables.{Tables, deviceOf, runStores}
+use Rattle.volume.specs.declared.State.{State}
+use Rattle.volume.specs.declared.Outcome.{Outcome}
+use Rattle.volume.specs.declared.Answer.the-variants.{Finished, Unfinished, Refused}
+use Rattle.volume.specs.meaning.Answers.{CallResult}
+use Rattle.volume.specs.meaning.Refusals.{refuse, firstRefusal, formatRows, mountRows, writeRows, flushRows, resetRows, readRows}
+use Rattle.volume.specs.meaning.CallContracts.{viewState, isSet, answerNumber, verdictNumber, lengthsOf, badIn, Result, storingOn, flushVerdict, flushOn, resetVerdict, resetOn, writeVerdict, writeOn, formatVerdict, formatOn, mountVerdict, mountOn, readNumber}
+use Rattle.volume.specs.laws.ByteLists.{Bytes}
+use Rattle.promise.specs.meaning.Claim.{mounts, writes, flushes, resets, formats}
+use Rattle.promise.specs.meaning.OnTables.{resultOn, callResult}
+use Rattle.zrv.specs.meaning.Bytes.{stateFrom}
+use Rattle.zrv.specs.meaning.EdgeCalls.{namedOf, inputNumber, sizesNumber, Ranges, tablesIn, stateIn, unreadState, Answered, formatOfBytes, mountOfBytes, writeOfBytes, flushOfBytes, resetOfBytes}
+use Rattle.zrv.specs.laws.EdgeCalls.{state-kept}
+use Rattle.zrv.specs.laws.StateRoundTrip.{HandedOn, flush-hands-on, reset-hands-on, write-hands-on, mount-hands-on, format-hands-on}
+use Rattle.zrv.specs.laws.CallsLeave.{Stored, Leaves, format-stored, mount-stored, write-stored, flush-stored, reset-stored, format-leaves, mount-leaves, write-leaves, flush-leaves, reset-leaves}
+use Rattle.zrv_promise.specs.meaning.OnBytes.{LentBytes, tablesAt, answerOf, edgeOf, bytesResult}
+
+-- ---- a refusal's number is below 16
+abbrev smallRows : List (ℕ × Bool) → Bool
+smallRows [] = true
+smallRows ((n, b) ∷ rows) = ltb n 16 && smallRows rows
+
+verdict-small : (rows : List (ℕ × Bool)) → smallRows rows ≡ true → verdictNumber (firstRefusal rows) < 16
+verdict-small [] e = omega arith
+verdict-small ((n, b) ∷ rows) e = let (p, q) = and-split (ltb n 16) (smallRows rows) e in go b p (verdict-small rows q)
+  where
+    go : (c : Bool) → ltb n 16 ≡ true → verdictNumber (firstRefusal rows) < 16 → verdictNumber (pick c (refuse n) (firstRefusal rows)) < 16
+    go true p q = ltb-true n 16 p
+    go false p q = q
+
+module _ (g : Geometry) (named : List Bool) (t : Tables) where
+  pub format-small : verdictNumber (formatVerdict g named t) < 16
+  unfolding formatVerdict formatRows
+  format-small = verdict-small (formatRows g (lengthsOf t) (badIn g named t) (isSet named) (deviceOf g t)) refl
+
+  mount-small : verdictNumber (mountVerdict g named t) < 16
+  unfolding mountVerdict mountRows
+  mount-small = verdict-small (mountRows g (lengthsOf t) (badIn g named t) (isSet named) (deviceOf g t)) refl
+
+  module _ (s : State) where
+    flush-small : verdictNumber (flushVerdict g named s t) < 16
+    unfolding flushVerdict flushRows
+    flush-small = verdict-small (flushRows g (lengthsOf t) (badIn g named t) (isSet named) (viewState s) (deviceOf g t)) refl
+
+    reset-small : (z : ℕ) → verdictNumber (resetVerdict g named s z t) < 16
+    unfolding resetVerdict resetRows
+    reset-small z = verdict-small (resetRows g (lengthsOf t) (badIn g named t) (isSet named) (viewState s) z (deviceOf g t)) refl
+
+    write-small : (a k bytes : ℕ) → verdictNumber (writeVerdict g named s a k bytes t) < 16
+    unfolding writeVerdict writeRows
+    write-small a k bytes = verdict-small (writeRows g (lengthsOf t) (badIn g named t) (isSet named) (viewState s) a k bytes (deviceOf g t)) refl
+
+    pub read-small : (a k bytes : ℕ) → readNumber g named s a k bytes t < 16
+    unfolding readNumber readRows
+    read-small a k bytes = verdict-small (readRows g (lengthsOf t) (badIn g named t) (isSet named) (viewState s) a k bytes (deviceOf g t)) refl
+
+-- so its number tells an answer
+pub refused-known : (n : ℕ) → n < 16 → eqb n 0 ≡ false → answerOf n ≡ Refused n
+refused-known n h e = rw (e, ne-eqb n 255 (λ k. omega (arith, k, h))) refl
+
+pub storing-known : (g : Geometry) (t : Tables) (r : Result) (q : Stored g t r) → q .number < 16 → answerOf (answerNumber (r .outcome .answer)) ≡ r .outcome .answer
+storing-known g t r q h = ap (λ (u : Result). answerOf (answerNumber (u .outcome .answer))) (q .is) ∙ go (eqb (q .number) 0) (ltb (q .count) (length (q .stores))) refl ∙ ap (λ (u : Result). u .outcome .answer) (sym (q .is))
+  where
+    ended : Bool → Bool → Outcome
+    ended b c = pick b (pick c (record { answer = Unfinished; state = q .old }) (record { answer = Finished; state = q .new })) (record { answer = Refused (q .number); state = q .old })
+
+    go : (b c : Bool) → eqb (q .number) 0 ≡ b → answerOf (answerNumber (ended b c .answer)) ≡ ended b c .answer
+    go true true e = refl
+    go true false e = refl
+    go false c e = refused-known (q .number) h e
+
+-- ---- a call that is handed another old state does the same, and hands back that state if it is not finished
+pub record Alike (r u : Result) (old : State) : Type 0 where
+  pub answer-same : r .outcome .answer ≡ u .outcome .answer
+  pub tables-same : r .tables ≡ u .tables
+  pub new-same : answerNumber (r .outcome .answer) ≡ 0 → r .outcome .state ≡ u .outcome .state
+  pub old-kept : answerNumber (r .outcome .answer) ≢ 0 → u .outcome .state ≡ old
+
+storing-alike : (g : Geometry) (n : ℕ) (ss : List Store) (new a b : State) (count : ℕ) (t : Tables) → Alike (storingOn g n ss new a count t) (storingOn g n ss new b count t) b
+storing-alike g n ss new a b count t = go (eqb n 0) (ltb count (length ss)) refl
+  where
+    ended : Bool → Bool → State → Result
+    ended c d old = record {
+      outcome = pick c (pick d (record { answer = Unfinished; state = old }) (record { answer = Finished; state = new })) (record { answer = Refused n; state = old });
+      tables = pick c (runStores g count ss t) t;
+    }
+
+    go : (c d : Bool) → eqb n 0 ≡ c → Alike (ended c d a) (ended c d b) b
+    go true true e = record { answer-same = refl; tables-same = refl; new-same = λ h. absurd (omega arith); old-kept = λ h. refl }
+    go true false e = record { answer-same = refl; tables-same = refl; new-same = λ h. refl; old-kept = λ h. absurd (h refl) }
+    go false d e = record { answer-same = refl; tables-same = refl; new-same = λ h. absurd (eqb-false n 0 e h); old-kept = λ h. refl }
+
+-- ==== a function e on the ranges m, its call r on the tables that they hold, and u, the same call handed the host's state
+pub record OnTheTables (g : Geometry) (m : Ranges) (e : Answered Ranges) (r u : Result) : Type 0 where
+  pub leaves : Leaves g m e r
+  pub hands-on : HandedOn g m e (r .outcome .state)
+  pub known : answerOf (answerNumber (r .outcome .answer)) ≡ r .outcome .answer
+  pub alike : Alike r u (stateIn g m)
+
+-- what bytes hold of a result
+abbrev pub viewBytes : Geometry → CallResult LentBytes (List ℕ) → CallResult Tables State
+viewBytes g r = record { answer = r .answer; memory = tablesAt g (r .memory); state = stateFrom (g .zones) (r .state) }
+
+module _ (g : Geometry) (m : Ranges) (e : Answered Ranges) (r u : Result) (q : OnTheTables g m e r u) where
+  -- the state's bytes stay, unless it is finished
+  bytes-kept : e .code ≢ 0 → e .left .state ≡ m .state
+  bytes-kept h = q .leaves .state-is ∙ sym (state-kept g (r .outcome) (m .state) (λ k. h (q .leaves .code-is ∙ k)))
+
+  pub views : viewBytes g (bytesResult e) ≡ callResult u
+  views = λ i. record { answer = answer i; memory = tables i; state = state (ℕ-discrete (e .code) 0) i }
+    where
+      answer : answerOf (e .code) ≡ u .outcome .answer
+      answer = ap answerOf (q .leaves .code-is) ∙ q .known ∙ q .alike .answer-same
+
+      tables : tablesIn g (e .left) ≡ u .tables
+      tables = q .leaves .tables-are ∙ q .alike .tables-same
+
+      state : Dec (e .code ≡ 0) → stateFrom (g .zones) (e .left .state) ≡ u .outcome .state
+      state (yes h) = q .hands-on h .reads-back ∙ q .alike .new-same (sym (q .leaves .code-is) ∙ h)
+      state (no h) = ap (stateFrom (g .zones)) (bytes-kept h) ∙ sym (q .alike .old-kept (λ k. h (q .leaves .code-is ∙ k)))
+
+  -- the next call takes what it leaves
+  pub takes : inputNumber g (m .state) (length (m .written)) (length (m .durable)) ≡ 0 → inputNumber g (e .left .state) (length (e .left .written)) (length (e .left .durable)) ≡ 0
+  takes n = rw (q .leaves .written-long, q .leaves .durable-long) (go (ℕ-discrete (e .code) 0))
+    where
+      go : Dec (e .code ≡ 0) → inputNumber g (e .left .state) (length (m .written)) (length (m .durable)) ≡ 0
+      go (yes h) = q .hands-on h .taken
+      go (no h) = rw (bytes-kept h) n
+
+-- ---- each of the five
+module _ (g : Geometry) (mask : ℕ) (m : Ranges) (a : Bytes (m .written)) (b : Bytes (m .durable)) where
+  abbrev t : Tables
+  t = tablesIn g m
+
+  abbrev s : State
+  s = stateIn g m
+
+  abbrev named : List Bool
+  named = namedOf mask
+
+  module _ (n : sizesNumber g (length (m .state)) (length (m .written)) (length (m .durable)) ≡ 0) where
+    pub format-on : (array count : ℕ) → OnTheTables g m (edgeOf g (formats array) mask count m) (formatOfBytes g mask array count m) (resultOn g (formats array) named s count t)
+    unfolding format-stored formatOn
+    format-on array count =
+        let q = format-stored g t named count array unreadState in
+        record {
+          leaves = format-leaves g mask m a b n array count;
+          hands-on = format-hands-on g mask m array count;
+          known = storing-known g t (formatOfBytes g mask array count m) q (format-small g named t);
+          alike = storing-alike g (q .number) (q .stores) (q .new) unreadState s count t;
+        }
+
+    pub mount-on : (count : ℕ) → OnTheTables g m (edgeOf g mounts mask count m) (mountOfBytes g mask count m) (resultOn g mounts named s count t)
+    unfolding mount-stored mountOn
+    mount-on count =
+        let q = mount-stored g t named count unreadState in
+        record {
+          leaves = mount-leaves g mask m a b n count;
+          hands-on = mount-hands-on g mask m count;
+          known = storing-known g t (mountOfBytes g mask count m) q (mount-small g named t);
+          alike = storing-alike g (q .number) (q .stores) (q .new) unreadState s count t;
+        }
+
+  module _ (n : inputNumber g (m .state) (length (m .written)) (length (m .durable)) ≡ 0) where
+    pub write-on : (at k count : ℕ) (bytes : List ℕ) → OnTheTables g m (edgeOf g (writes at k bytes) mask count m) (writeOfBytes g mask at k count bytes m) (resultOn g (writes at k bytes) named s count t)
+    unfolding write-stored writeOn
+    write-on at k count bytes =
+        let q = write-stored g t named count s at k bytes in
+        record {
+          leaves = write-leaves g mask m a b n at k count bytes;
+          hands-on = write-hands-on g mask m at k count bytes;
+          known = storing-known g t (writeOfBytes g mask at k count bytes m) q (write-small g named t s at k (length bytes));
+          alike = storing-alike g (q .number) (q .stores) (q .new) s s count t;
+        }
+
+    pub flush-on : (count : ℕ) → OnTheTables g m (edgeOf g flushes mask count m) (flushOfBytes g mask count m) (resultOn g flushes named s count t)
+    unfolding flush-stored flushOn
+    flush-on count =
+        let q = flush-stored g t named count s in
+        record {
+          leaves = flush-leaves g mask m a b n count;
+          hands-on = flush-hands-on g mask m count;
+          known = storing-known g t (flushOfBytes g mask count m) q (flush-small g named t s);
+          alike = storing-alike g (q .number) (q .stores) (q .new) s s count t;
+        }
+
+    pub reset-on : (z count : ℕ) → OnTheTables g m (edgeOf g (resets z) mask count m) (resetOfBytes g mask z count m) (resultOn g (resets z) named s count t)
+    unfolding reset-stored resetOn
+    reset-on z count =
+        let q = reset-stored g t named count s z in
+        record {
+          leaves = reset-leaves g mask m a b n z count;
+          hands-on = reset-hands-on g mask m z count;
+          known = storing-known g t (resetOfBytes g mask z count m) q (reset-small g named t s z);
+          alike = storing-alike g (q .number) (q .stores) (q .new) s s count t;
+        }

@@ -1,0 +1,41 @@
+"""The numbers that docs/FORMAT.md gives: answers (section 7, and sections 2 and 12), conditions and the state (section 10), entry types
+(section 4), zones of a drive (section 2)."""
+from enum import IntEnum
+
+
+class Answer(IntEnum):
+    FINISHED = 0
+    GEOMETRY = 1
+    LENGTH = 2
+    POINTER = 3
+    TWO_LOST = 4
+    LABEL = 5
+    LOG = 6
+    STALE = 7
+    ADDRESS = 8
+    RUN = 9
+    ORDER = 10
+    SEALED = 11
+    WORN = 12
+    UNWRITTEN = 13
+    LOG_FULL = 14
+    GONE = 15
+    NO_STATE = 254       # in a script alone
+    UNFINISHED = 255
+
+
+class Condition(IntEnum):
+    EMPTY = 0
+    OPEN = 1
+    SEALED = 2
+    WORN = 3
+
+
+GENERAL_LOG, PARITY_LOG, FIRST_DATA_ZONE = 0, 1, 3
+LABEL, COUNTERS, RESET, PARTIAL_PARITY, SEAL = 1, 2, 3, 4, 5
+NO_DRIVE = 255
+LAST_GENERATION = 2**64 - 1
+ALL_STORES = 2**32 - 1
+SECTOR_SIZES = (64, 128, 256, 512, 1024, 2048, 4096)
+MOST_ZONE_SECTORS = 65536
+STATE_RECORDS, STATE_RECORD_BYTES = 16, 16

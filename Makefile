@@ -45,7 +45,7 @@ BENCH_C = c/bench.c $(PLAIN_C) host/shelf.c host/call.c
 HOST_C = host/driver.c host/drives.c host/drive_file.c host/files.c host/journal.c host/progress.c host/message.c host/shelf.c host/call.c
 EXPLORE_C = tool/explore/explore.c tool/explore/options.c tool/explore/oracle.c tool/explore/caches.c tool/explore/world.c tool/explore/story.c \
 	tool/explore/check.c tool/explore/engine.c tool/explore/report.c tool/explore/picture.c
-ZRV_C = tool/zrv.c tool/commands.c tool/transfer.c tool/checklist.c tool/left_out.c tool/tool.c tool/options.c tool/words.c tool/refusals.c $(EXPLORE_C) $(HOST_C)
+ZRV_C = tool/zrv.c tool/commands.c tool/transfer.c tool/report.c tool/checklist.c tool/left_out.c tool/tool.c tool/options.c tool/words.c tool/refusals.c $(EXPLORE_C) $(HOST_C)
 ZRV_H = include/zrv.h $(wildcard host/*.h tool/*.h tool/explore/*.h)
 
 zrv: target/zrv

@@ -10,7 +10,7 @@
 #include "fixture.h"
 #include "shelf.h"
 
-static const enum call_kind every_kind[] = {CALL_FORMAT, CALL_LOOK, CALL_MOUNT, CALL_WRITE, CALL_FLUSH, CALL_RESET, CALL_READ, CALL_PEEK};
+static const enum call_kind every_kind[] = {CALL_FORMAT, CALL_LOOK, CALL_MOUNT, CALL_WRITE, CALL_FLUSH, CALL_RESET, CALL_READ, CALL_PEEK, CALL_REPORT};
 enum { KINDS = sizeof every_kind / sizeof *every_kind };
 
 static unsigned long cases, refused;
@@ -55,9 +55,14 @@ static void judge(struct fixture *f, const char *class, const struct call *call,
     expect(e, call, &f->made);
     if (fixed != ZRV_FINISHED && e->code != fixed)
         fail(f, class, call, "the expectation", fixed, e->code);
-    uint32_t code = make_call(call);
+    uint32_t filled = 0;
+    struct call made = *call;
+    made.filled = &filled;
+    uint32_t code = make_call(&made);
     if (code != e->code)
         fail(f, class, call, "answer", e->code, code);
+    if (filled != e->filled)
+        fail(f, class, call, "descriptors", e->filled, filled);
     bool kept = code != ZRV_FINISHED && code != ZRV_UNFINISHED;
     bool none_made = code == ZRV_UNFINISHED && call->count == 0;
     refused += kept;
@@ -77,7 +82,7 @@ static void lengths(struct fixture *f) {
         for (int r = 0; r < RANGES; r++) {
             const int by[] = {-1, 1, -4, 4, -8, 8, -64, 64};
             struct call call = usual_call(f, every_kind[k]);
-            if (r == BUFFER && !has_buffer(call.kind))
+            if (call.kind == CALL_REPORT ? r != STATE : r == BUFFER && !has_buffer(call.kind))
                 continue;
             size_t whole = call.range[r].length;
             for (size_t i = 0; i < sizeof by / sizeof *by; i++) {
@@ -89,6 +94,16 @@ static void lengths(struct fixture *f) {
             call.range[r].length = 0;
             judge(f, "no bytes", &call, ZRV_LENGTH);
         }
+}
+
+/* A report's list of every length up to one descriptor more than there are zones. */
+static void lists(struct fixture *f) {
+    struct call call = usual_call(f, CALL_REPORT);
+    size_t most = (size_t)(f->made.geometry.zones + 1) * ZRV_DESCRIPTOR_BYTES + 1;
+    for (size_t length = 0; length <= most && length <= f->range[BUFFER].length; length++) {
+        call.range[BUFFER].length = length;
+        judge(f, "list", &call, ZRV_FINISHED);
+    }
 }
 
 static void one_geometry(struct fixture *f, enum call_kind kind, int field, uint32_t value) {
@@ -251,6 +266,7 @@ int main(void) {
     for (int which = 0; which < FIXTURES; which++) {
         struct fixture f = new_fixture(which);
         lengths(&f);
+        lists(&f);
         geometries(&f);
         masks(&f);
         pointers(&f);

@@ -11,6 +11,8 @@ static bool reads_state(enum call_kind kind) {
     return kind != CALL_FORMAT && kind != CALL_LOOK && kind != CALL_MOUNT;
 }
 
+static bool answers_in_buffer(enum call_kind kind) { return kind == CALL_READ || kind == CALL_REPORT; }
+
 static void state_from_bytes(struct volume_state *state, const uint8_t *bytes) {
     state->lost = bytes[ZRV_STATE_LOST];
     for (uint32_t z = 0; z < ZRV_STATE_RECORDS; z++) {
@@ -125,6 +127,9 @@ static uint32_t code_of(struct expected *e, const struct call *call, const struc
         return plain_read(v, call->named, call->address, call->run, e->answer, buffer->length);
     case CALL_PEEK:
         return peek_refusal(v, call->named, call->address);
+    case CALL_REPORT:
+        memcpy(e->answer, buffer->bytes, buffer->length);
+        return plain_report(v, e->answer, buffer->length, &e->filled);
     }
     return ZRV_FINISHED;
 }
@@ -134,14 +139,17 @@ void expect(struct expected *e, const struct call *call, const struct made_by *m
     bool state_length = state->length == ZRV_STATE_BYTES;
     bool place_length = call->kind != CALL_PEEK || call->range[BUFFER].length == ZRV_PLACE_BYTES;
     volume_of(e, call, made);
-    e->bytes_known = call->kind == CALL_FORMAT || call->kind == CALL_WRITE || call->kind == CALL_FLUSH || call->kind == CALL_READ;
+    e->bytes_known = call->kind == CALL_FORMAT || call->kind == CALL_WRITE || call->kind == CALL_FLUSH || answers_in_buffer(call->kind);
+    e->filled = 0;
     if (!geometry_fits(call->geometry) || (reads_state(call->kind) && state_length && !state_form(state->bytes, call->geometry.zones))) {
         e->code = ZRV_GEOMETRY;
         return;
     }
     e->code = code_of(e, call, made);
-    if (e->code != ZRV_GEOMETRY && (!state_length || !place_length))
+    if (e->code != ZRV_GEOMETRY && (!state_length || !place_length)) {
         e->code = ZRV_LENGTH;
+        e->filled = 0;
+    }
     bool stores = call->kind == CALL_MOUNT || call->kind == CALL_RESET;
     if (e->code == ZRV_FINISHED && stores && call->count == 0)
         e->code = ZRV_UNFINISHED;
@@ -158,8 +166,8 @@ bool bytes_as_expected(const struct expected *e, const struct call *call) {
     const struct range *range = call->range;
     uint8_t state[ZRV_STATE_BYTES];
     state_to_bytes(&e->volume.state, call->geometry.zones, state);
-    bool state_is = call->kind == CALL_READ || e->code != ZRV_FINISHED || memcmp(state, range[STATE].bytes, sizeof state) == 0;
-    bool answer_is = call->kind != CALL_READ || memcmp(e->answer, range[BUFFER].bytes, range[BUFFER].length) == 0;
+    bool state_is = answers_in_buffer(call->kind) || e->code != ZRV_FINISHED || memcmp(state, range[STATE].bytes, sizeof state) == 0;
+    bool answer_is = !answers_in_buffer(call->kind) || memcmp(e->answer, range[BUFFER].bytes, range[BUFFER].length) == 0;
     return state_is && answer_is && memcmp(e->sectors, range[SECTORS].bytes, range[SECTORS].length) == 0 && table_is(e->written, range[WRITTEN]) &&
            table_is(e->durable, range[DURABLE]);
 }

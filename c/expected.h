@@ -18,7 +18,8 @@ struct expected {
     bool bytes_known;                  /* the bytes below are those that the call should leave */
     struct volume volume;              /* its sectors and tables are the caller's, below */
     uint8_t *sectors;                  /* space for as many sectors as the call is lent */
-    uint8_t *answer;                   /* space for a read's answer */
+    uint8_t *answer;                   /* space for a read's answer or a report's list */
+    uint32_t filled;                   /* descriptors of a report */
     uint32_t written[MOST_CELLS], durable[MOST_CELLS];
 };
 

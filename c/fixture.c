@@ -140,5 +140,7 @@ struct call usual_call(const struct fixture *f, enum call_kind kind) {
     call.range[BUFFER] = buffer_of(f, call.run);
     if (kind == CALL_PEEK)
         call.range[BUFFER].length = ZRV_PLACE_BYTES;
+    if (kind == CALL_REPORT)
+        call.range[BUFFER] = f->range[BUFFER];
     return call;
 }

@@ -5,6 +5,7 @@
 
 #include <string.h>
 
+#include "bytes.h"
 #include "plain_layout.h"
 #include "plain_logs.h"
 
@@ -279,5 +280,28 @@ uint32_t plain_format(struct volume *v, uint32_t named, uint64_t array, uint32_t
     if (!reset_all(&storing) || !append_labels(&storing, &fresh, array) || !flush_all(&storing))
         return ZRV_UNFINISHED;
     v->state = fresh;
+    return ZRV_FINISHED;
+}
+
+static uint8_t reported_condition(uint32_t condition) {
+    if (condition == ZRV_EMPTY)
+        return ZRV_REPORTED_EMPTY;
+    return condition == ZRV_OPEN ? ZRV_REPORTED_OPEN : ZRV_REPORTED_READ_ONLY;
+}
+
+uint32_t plain_report(const struct volume *v, uint8_t *list, size_t list_bytes, uint32_t *filled) {
+    *filled = 0;
+    uint32_t refusal = report_refusal(v);
+    if (refusal != ZRV_FINISHED)
+        return refusal;
+    size_t room = list_bytes / ZRV_DESCRIPTOR_BYTES;
+    for (; *filled < room && *filled < v->geometry.zones; ++*filled) {
+        uint8_t *descriptor = list + (size_t)*filled * ZRV_DESCRIPTOR_BYTES;
+        memset(descriptor, 0, ZRV_DESCRIPTOR_BYTES);
+        put64(descriptor + ZRV_DESCRIPTOR_START, *filled * zone_addresses(v->geometry));
+        put64(descriptor + ZRV_DESCRIPTOR_CAPACITY, zone_addresses(v->geometry));
+        put64(descriptor + ZRV_DESCRIPTOR_POINTER, v->state.zone[*filled].pointer);
+        descriptor[ZRV_DESCRIPTOR_CONDITION] = reported_condition(v->state.zone[*filled].condition);
+    }
     return ZRV_FINISHED;
 }

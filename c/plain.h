@@ -1,5 +1,5 @@
 /* The same volume in plain C, with no proof: the same layout, the same log entries, the same refusals, on the same tables in memory (write pointers as
- * arrays of numbers). It has format, write, read and flush. The bench holds the archive's times against it, and the test of bad input takes from it
+ * arrays of numbers). It has format, write, read, flush and report. The bench holds the archive's times against it, and the test of bad input takes from it
  * which refusal document 01's table gives. */
 #ifndef PLAIN_H
 #define PLAIN_H
@@ -32,6 +32,7 @@ uint32_t plain_format(struct volume *volume, uint32_t named, uint64_t array, uin
 uint32_t plain_write(struct volume *volume, uint32_t named, uint64_t address, uint32_t run, uint32_t count, const uint8_t *data, size_t data_bytes);
 uint32_t plain_read(const struct volume *volume, uint32_t named, uint64_t address, uint32_t run, uint8_t *answer, size_t answer_bytes);
 uint32_t plain_flush(struct volume *volume, uint32_t named, uint32_t count);
+uint32_t plain_report(const struct volume *volume, uint8_t *list, size_t list_bytes, uint32_t *filled);
 
 /* What is refused, ZRV_FINISHED if nothing is, up to refusal 14 (of a peek 15 too). Of look and mount 1 to 4, with the lost drive that the labels name in the
  * volume's state; and a mount's 14 apart, because 5 and 6 come before it. */
@@ -44,5 +45,6 @@ uint32_t write_refusal(const struct volume *volume, uint32_t named, uint64_t add
 uint32_t read_refusal(const struct volume *volume, uint32_t named, uint64_t address, uint32_t run, size_t answer_bytes);
 uint32_t reset_refusal(const struct volume *volume, uint32_t named, uint32_t zone);
 uint32_t peek_refusal(const struct volume *volume, uint32_t named, uint64_t address);
+uint32_t report_refusal(const struct volume *volume);
 
 #endif

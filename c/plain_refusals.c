@@ -25,6 +25,8 @@ static bool state_fits(const struct volume *v) {
     return true;
 }
 
+uint32_t report_refusal(const struct volume *v) { return geometry_fits(v->geometry) && state_fits(v) ? ZRV_FINISHED : ZRV_GEOMETRY; }
+
 static bool lengths_fit(const struct volume *v) {
     size_t cells = v->geometry.drives * physical_zones(v->geometry);
     return v->written_cells == cells && v->durable_cells == cells && v->sectors_bytes == cells * v->geometry.zone_sectors * v->geometry.sector_bytes;

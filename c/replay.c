@@ -54,7 +54,7 @@ static void show_zone(const struct host *host, uint32_t named, uint8_t *shown, u
     free(buffer.bytes);
 }
 
-/* What a finished look, read or peek adds to its line. */
+/* What a finished look, read, peek or report adds to its line. */
 static void show_rest(const struct host *host, const struct command *command, struct reply *reply) {
     if (command->letter == CALL_LOOK) {
         show_state(reply->shown, host->geometry.zones);
@@ -65,6 +65,8 @@ static void show_rest(const struct host *host, const struct command *command, st
     } else if (command->letter == CALL_PEEK) {
         uint64_t place = get64(reply->buffer.bytes);
         printf(" %" PRIu64 " %" PRIu32, place, adler(1, host->shelf.sectors.bytes + place, host->geometry.sector_bytes));
+    } else if (command->letter == CALL_REPORT) {
+        printf(" %" PRIu32 " %" PRIu32, reply->filled, adler(1, reply->buffer.bytes, reply->buffer.length));
     }
 }
 

@@ -5,6 +5,8 @@
 
 #include "damage.h"
 
+enum { UNTOUCHED = 0xee }; /* every byte of a list that is lent for a report */
+
 static struct range shortened(struct range range, uint64_t by) {
     range.length = by < range.length ? range.length - by : 0;
     return range;
@@ -46,6 +48,11 @@ static void take_numbers(struct call *call, const struct command *command) {
 static struct range buffer_for(const struct host *host, const struct command *command) {
     if (command->letter == CALL_PEEK)
         return new_range(ZRV_PLACE_BYTES);
+    if (command->letter == CALL_REPORT) {
+        struct range list = new_range((size_t)narrowed(command->number[0]) * ZRV_DESCRIPTOR_BYTES);
+        memset(list.bytes, UNTOUCHED, list.length);
+        return list;
+    }
     if (command->letter != CALL_WRITE && command->letter != CALL_READ)
         return new_range(0);
     struct range buffer = new_range((size_t)narrowed(command->number[2]) * host->geometry.sector_bytes);
@@ -62,13 +69,14 @@ static void keep_state(struct host *host, const struct reply *reply) {
 
 static struct reply perform_call(struct host *host, const struct command *command) {
     struct reply reply = {.code = CODE_NO_STATE};
-    if (!host->has_state && strchr("wurdp", command->letter) != NULL)
+    if (!host->has_state && strchr("wurdpo", command->letter) != NULL)
         return reply;
     memcpy(reply.shown, host->state, ZRV_STATE_BYTES);
     struct call call = call_of(host, &host->shortage, reply.shown);
     take_numbers(&call, command);
     reply.buffer = buffer_for(host, command);
     call.range[BUFFER] = reply.buffer;
+    call.filled = &reply.filled;
     reply.code = make_call(&call);
     if (reply.code == ZRV_FINISHED && strchr("fmwur", command->letter) != NULL)
         keep_state(host, &reply);
@@ -87,7 +95,7 @@ uint32_t host_read(const struct host *host, uint32_t named, uint64_t address, ui
 }
 
 struct reply perform(struct host *host, const struct command *command) {
-    if (strchr("flmwurdp", command->letter) != NULL)
+    if (strchr("flmwurdpo", command->letter) != NULL)
         return perform_call(host, command);
     change_host(host, command);
     struct reply reply = {.code = ZRV_FINISHED};

@@ -23,11 +23,13 @@ struct host {
     struct shortage shortage;
 };
 
-/* What a command leaves beside the host: its code, the state that a call handed back, the buffer that it wrote from or read into. */
+/* What a command leaves beside the host: its code, the state that a call handed back, the buffer that it wrote from or read into, the descriptors that a
+ * report filled. */
 struct reply {
     uint32_t code;
     uint8_t shown[ZRV_STATE_BYTES];
     struct range buffer;
+    uint32_t filled;
 };
 
 /* A read with a state and drives, on the shelf's whole byte ranges, whatever the shortage. */

@@ -6,6 +6,14 @@
 #define RANGE(c, i) (c)->range[i].bytes, (c)->range[i].length
 #define TABLES(c) RANGE(c, SECTORS), RANGE(c, WRITTEN), RANGE(c, DURABLE), RANGE(c, STATE)
 
+static uint32_t make_report(const struct call *call) {
+    struct geometry g = call->geometry;
+    uint64_t returned = zrv_report(g.drives, g.sector_bytes, g.unit, g.zones, g.zone_sectors, RANGE(call, STATE), RANGE(call, BUFFER));
+    if (call->filled != NULL)
+        *call->filled = ZRV_REPORT_NUMBER(returned);
+    return ZRV_REPORT_ANSWER(returned);
+}
+
 uint32_t make_call(const struct call *call) {
     switch (call->kind) {
     case CALL_FORMAT:
@@ -24,6 +32,8 @@ uint32_t make_call(const struct call *call) {
         return zrv_read(NUMBERS(call), call->address, call->run, TABLES(call), RANGE(call, BUFFER));
     case CALL_PEEK:
         return zrv_peek(NUMBERS(call), call->address, TABLES(call), RANGE(call, BUFFER));
+    case CALL_REPORT:
+        return make_report(call);
     }
     return ZRV_UNFINISHED;
 }

@@ -15,7 +15,8 @@ enum call_kind {
     CALL_FLUSH = 'u',
     CALL_RESET = 'r',
     CALL_READ = 'd',
-    CALL_PEEK = 'p'
+    CALL_PEEK = 'p',
+    CALL_REPORT = 'o'
 };
 
 struct geometry {
@@ -27,7 +28,7 @@ struct range {
     size_t length;
 };
 
-/* The byte ranges of a call, in their order; the buffer is a write's data, a read's answer, a peek's place. */
+/* The byte ranges of a call, in their order; the buffer is a write's data, a read's answer, a peek's place, a report's list. */
 enum { SECTORS, WRITTEN, DURABLE, STATE, BUFFER, RANGES };
 
 struct call {
@@ -39,6 +40,7 @@ struct call {
     uint32_t run;     /* write, read: sectors */
     uint32_t zone;    /* reset */
     uint32_t count;   /* of stores */
+    uint32_t *filled; /* report: how many descriptors it filled goes here, unless it is NULL */
     struct range range[RANGES];
 };
 

@@ -9,7 +9,7 @@ bool open_driver(struct driver *driver, const char *folder, struct message *mess
     return open_folder(&driver->drives, folder, message) && load_drives(&driver->drives, message);
 }
 
-bool is_storing(enum call_kind kind) { return kind != CALL_LOOK && kind != CALL_READ && kind != CALL_PEEK; }
+bool is_storing(enum call_kind kind) { return kind != CALL_LOOK && kind != CALL_READ && kind != CALL_PEEK && kind != CALL_REPORT; }
 
 uint32_t strange_drive(const struct driver *driver, struct message *message) {
     for (uint32_t d = 0; d < driver->drives.record.geometry.drives; d++)
@@ -37,7 +37,7 @@ static uint32_t may_call(const struct driver *driver, enum call_kind kind, struc
         fail(message, "not now: power was cut; a finished mount comes first");
         return ANSWER_NOT_NOW;
     }
-    return kind == CALL_LOOK ? ZRV_FINISHED : strange_drive(driver, message);
+    return kind == CALL_LOOK || kind == CALL_REPORT ? ZRV_FINISHED : strange_drive(driver, message);
 }
 
 static void give_up_absent(struct driver *driver) {

@@ -16,7 +16,7 @@
  *   durable   the same, of those that a power cut keeps
  *   state     ZRV_STATE_BYTES bytes: what the host keeps between calls (below)
  *
- * Each returns 0 (finished), 1 to 15 (refused, the least number that applies) or 255 (unfinished: stores were left when the count ran out). On anything
+ * Each (zrv_report beside its number of descriptors) returns 0 (finished), 1 to 15 (refused, the least number that applies) or 255 (unfinished: stores were left when the count ran out). On anything
  * but 0 every byte range keeps what it held, but for the stores that an unfinished call has made in sectors, written and durable.
  *
  * The state: byte 0 the lost drive or 255, bytes 1 to 7 zero; then 16 records of 16 bytes, one a zone: the generation (8 bytes), the condition (1 byte:
@@ -56,6 +56,20 @@ extern "C" {
 #define ZRV_RECORD_GENERATION 0u /* 8 bytes */
 #define ZRV_RECORD_CONDITION 8u  /* 1 byte */
 #define ZRV_RECORD_POINTER 12u   /* 4 bytes */
+
+/* A zone's descriptor, which a report fills: ZRV_DESCRIPTOR_BYTES bytes, little-endian, the last seven zero. */
+#define ZRV_DESCRIPTOR_BYTES 32u
+#define ZRV_DESCRIPTOR_START 0u      /* 8 bytes: the address of its first sector */
+#define ZRV_DESCRIPTOR_CAPACITY 8u   /* 8 bytes: its sectors */
+#define ZRV_DESCRIPTOR_POINTER 16u   /* 8 bytes: its pointer, in sectors from its start */
+#define ZRV_DESCRIPTOR_CONDITION 24u /* 1 byte */
+#define ZRV_REPORTED_EMPTY 0u
+#define ZRV_REPORTED_OPEN 1u         /* also where it is written to its end */
+#define ZRV_REPORTED_READ_ONLY 2u    /* sealed or worn */
+
+/* What zrv_report returns. */
+#define ZRV_REPORT_ANSWER(returned) ((uint32_t)((returned)&UINT32_MAX))
+#define ZRV_REPORT_NUMBER(returned) ((uint32_t)((returned) >> 32))
 
 /* Sizes. */
 #define ZRV_PLACE_BYTES 8u
@@ -147,6 +161,12 @@ uint32_t zrv_peek(uint32_t drives, uint32_t sector_bytes, uint32_t unit, uint32_
                   const uint8_t *sectors, size_t sectors_bytes, const uint8_t *written, size_t written_bytes,
                   const uint8_t *durable, size_t durable_bytes, const uint8_t *state, size_t state_bytes,
                   uint8_t *place, size_t place_bytes);
+
+/* Report: a list of the zones as a zoned drive gives it, from the state alone: no drives are named and no tables lent. It fills the descriptors of `list` in
+ * zone order, as many as there is room for but at most `zones`, and changes no other byte of it: a length that is no multiple of ZRV_DESCRIPTOR_BYTES has room
+ * for the whole ones. It returns its answer in the low 32 bits and how many descriptors it filled in the high 32. Refusal 1, and 2 for the state's length. */
+uint64_t zrv_report(uint32_t drives, uint32_t sector_bytes, uint32_t unit, uint32_t zones, uint32_t zone_sectors,
+                    const uint8_t *state, size_t state_bytes, uint8_t *list, size_t list_bytes);
 
 #ifdef __cplusplus
 }

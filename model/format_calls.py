@@ -5,8 +5,8 @@ hands on.
 """
 from format_numbers import (ALL_STORES, COUNTERS, FIRST_DATA_ZONE, GENERAL_LOG, LABEL, LAST_GENERATION, NO_DRIVE, PARITY_LOG, Answer,
                             Condition)
-from format_volume import (Drives, Logs, Memory, Refused, State, Store, Unfinished, Zone, ZoneRecord, counters, exclusive_or, label,
-                           partial_parity, reset_entry, seal, walk)
+from format_volume import (Drives, Logs, Memory, Refused, State, Store, Unfinished, Zone, ZoneRecord, counters, descriptor,
+                           exclusive_or, label, partial_parity, reset_entry, seal, walk)
 
 
 class Call:
@@ -33,15 +33,20 @@ class Call:
 
     # ---- section 7: refusals
 
-    def check_input(self, state=None, buffer=0, sectors=0):
-        """Refusals 1 to 3."""
-        g, memory = self.geometry, self.memory
+    def check_bounds(self, state=None):
+        """Refusal 1."""
+        g = self.geometry
         if not g.in_bounds():
             raise Refused(Answer.GEOMETRY)
         if state:
             self.state = state = state.of_zones(g.L)
             if state is None or g.D <= state.lost != NO_DRIVE or any(record.pointer > g.Q for record in state.zones):
                 raise Refused(Answer.GEOMETRY)
+
+    def check_input(self, state=None, buffer=0, sectors=0):
+        """Refusals 1 to 3."""
+        g, memory = self.geometry, self.memory
+        self.check_bounds(state)
         if self.lengths != g.lengths() or buffer != sectors * g.B:
             raise Refused(Answer.LENGTH)
         self.named = [d for d in range(g.D) if self.named_mask >> d & 1]
@@ -209,6 +214,12 @@ class Call:
             raise Refused(Answer.GONE)
         return g.byte_of(at.drive, FIRST_DATA_ZONE + z, at.sector)
 
+    def report(self, room):
+        """The descriptors of the first zones, as many as there is room for."""
+        self.check_bounds(self.state)
+        g = self.geometry
+        return [descriptor(g, z, record) for z, record in enumerate(self.state.zones[:room])]
+
     def look(self):
         self.check_input()
         self.settle_by_labels()
@@ -325,7 +336,7 @@ class Host:
             return Answer.UNFINISHED
 
     def ask(self, name, named, *arguments, state=None, lengths=None):
-        """A look, read or peek: its answer, and what it gives if it finishes."""
+        """A look, read, peek or report: its answer, and what it gives if it finishes."""
         call = Call(self.geometry, self.memory, named, state or self.state, lengths)
         try:
             return Answer.FINISHED, getattr(call, name)(*arguments)

@@ -10,7 +10,7 @@ from format_page import NotFound, Page, written_out
 from format_volume import Geometry, ZoneRecord, counters, partial_parity, reset_entry, seal, walk
 
 DRAWN_CUTS = 6
-CALL_LETTERS = {"f": "format", "l": "look", "m": "mount", "w": "write", "u": "flush", "r": "reset", "d": "read", "p": "peek"}
+CALL_LETTERS = {"f": "format", "l": "look", "m": "mount", "w": "write", "u": "flush", "r": "reset", "d": "read", "p": "peek", "o": "report"}
 
 
 def check_geometry(page):
@@ -190,7 +190,7 @@ def check_names(page):
 
 
 def check_matrix(page, answers):
-    """Section 7: which call knows which refusal, by the answers of the vectors; and refusal 3, which not every call meets there."""
+    """Section 7: which call knows which refusal, by the answers of the vectors; and refusals 2, 3 and 8, which not every call meets there."""
     met = {name: set() for name in CALL_LETTERS.values()}
     for letter, code, *_ in answers:
         if letter in CALL_LETTERS and Answer.FINISHED < int(code) < Answer.NO_STATE:
@@ -198,19 +198,27 @@ def check_matrix(page, answers):
     (_, numbers), *rows = page.table("| Call | 1 | 2 | 3 |")
     page.compare(rows[0][0], " ".join(cells[0] for _, cells in rows), " ".join(met))
     for position, (name, *marks) in rows:
-        gives = met[name] | ({Answer.POINTER} if refuses_pointers(name) else set())
+        gives = met[name] | tried(name)
         stands = [number for number, mark in zip(numbers[1:], marks) if mark == "x"]
         page.compare(position, " ".join(stands), " ".join(str(number) for number in sorted(gives)))
 
 
-def refuses_pointers(name):
-    """Whether a call answers 3 where a drive's pointers are out of order."""
-    volume = five_written()
-    volume.memory.written[0] = V.C + 1
-    calls = {"format": (ARRAY,), "write": (5, 1, sector(5)), "reset": (0,), "read": (0, 1, V.B), "peek": (0,)}
-    carry_out = volume.ask if name in ("look", "read", "peek") else volume.store
-    answer = carry_out(name, ALL_DRIVES, *calls.get(name, ()))
-    return (answer[0] if carry_out == volume.ask else answer) == Answer.POINTER
+def tried(name):
+    """The refusals of a call where a drive's pointers are out of order, where a table is short, and past the last address or zone."""
+    calls = {"format": (ARRAY,), "write": (5, 1, sector(5)), "reset": (0,), "read": (0, 1, V.B), "peek": (0,), "report": (V.L,)}
+    past = {"write": (V.L * V.Q, 1, sector(5)), "reset": (V.L,), "read": (V.L * V.Q, 1, V.B), "peek": (V.L * V.Q,)}
+    sectors, written, durable = V.lengths()
+
+    def answer(arguments, disorder=0, lengths=None):
+        volume = five_written()
+        volume.memory.written[0] += disorder
+        if name in ("look", "read", "peek", "report"):
+            return volume.ask(name, ALL_DRIVES, *arguments, lengths=lengths)[0]
+        return volume.store(name, ALL_DRIVES, *arguments, lengths=lengths)
+
+    own = calls.get(name, ())
+    found = {answer(own, disorder=V.C), answer(own, lengths=(sectors - 1, written, durable)), answer(past.get(name, own))}
+    return found - {Answer.FINISHED}
 
 
 def least_room(log, call):

@@ -12,10 +12,11 @@ import zlib
 
 from format_calls import Host
 from format_check import check
-from format_numbers import Answer, Condition
+from format_numbers import DESCRIPTOR_BYTES, Answer, Condition
 from format_volume import Drives, Geometry, State, ZoneRecord, header
 
 NOTHING_SHORT = (0, 0, 0, 0)
+UNTOUCHED = bytes([0xEE]) * DESCRIPTOR_BYTES
 
 
 def numbers(seed):
@@ -44,7 +45,7 @@ class Replay:
     def answer(self, line):
         letter, *arguments = line.split()
         arguments = [int(argument) for argument in arguments]
-        if letter in "wurdp" and self.host.state is None:
+        if letter in "wurdpo" and self.host.state is None:
             code, rest = Answer.NO_STATE, []
         else:
             code, rest = getattr(self, "command_" + letter)(*arguments) or (Answer.FINISHED, [])
@@ -100,6 +101,12 @@ class Replay:
     def command_p(self, named, address):
         code, at = self.ask("peek", named, address)
         return code, [] if code else [at, zlib.adler32(self.host.memory.sectors[at:at + self.host.geometry.B])]
+
+    def command_o(self, room):
+        code, filled = self.ask("report", 0, room)
+        if code:
+            return code, []
+        return code, [len(filled), zlib.adler32(b"".join(filled) + UNTOUCHED * (room - len(filled)))]
 
     def command_l(self, named):
         code, shown = self.ask("look", named)

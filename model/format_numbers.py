@@ -1,4 +1,4 @@
-"""The numbers that docs/FORMAT.md gives: answers (section 7, and sections 2 and 12), conditions and the state (section 10), entry types
+"""The numbers that docs/FORMAT.md gives: answers (section 7, and sections 2 and 12), conditions, the state and descriptors (section 10), entry types
 (section 4), zones of a drive (section 2)."""
 from enum import IntEnum
 
@@ -31,6 +31,13 @@ class Condition(IntEnum):
     WORN = 3
 
 
+class Told(IntEnum):
+    """A condition as a report tells it."""
+    EMPTY = 0
+    OPEN = 1
+    READ_ONLY = 2
+
+
 GENERAL_LOG, PARITY_LOG, FIRST_DATA_ZONE = 0, 1, 3
 LABEL, COUNTERS, RESET, PARTIAL_PARITY, SEAL = 1, 2, 3, 4, 5
 NO_DRIVE = 255
@@ -39,3 +46,4 @@ ALL_STORES = 2**32 - 1
 SECTOR_SIZES = (64, 128, 256, 512, 1024, 2048, 4096)
 MOST_ZONE_SECTORS = 65536
 STATE_RECORDS, STATE_RECORD_BYTES = 16, 16
+DESCRIPTOR_BYTES = 32

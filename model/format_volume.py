@@ -6,13 +6,14 @@ import struct
 from collections import namedtuple
 
 from format_numbers import (COUNTERS, FIRST_DATA_ZONE, GENERAL_LOG, LABEL, LAST_GENERATION, MOST_ZONE_SECTORS, NO_DRIVE, PARITY_LOG,
-                            PARTIAL_PARITY, RESET, SEAL, SECTOR_SIZES, STATE_RECORD_BYTES, STATE_RECORDS, Condition)
+                            PARTIAL_PARITY, RESET, SEAL, SECTOR_SIZES, STATE_RECORD_BYTES, STATE_RECORDS, Condition, Told)
 
 Place = namedtuple("Place", "drive sector parity_drive stripe unit row")
 Store = namedtuple("Store", "kind drive zone data sector", defaults=(None,) * 3)     # kind: append, reset or flush
 Entry = namedtuple("Entry", "type zone stripe end generation rows lost array generations", defaults=(None,) * 4 + (0,) + (None,) * 3)
 Walk = namedtuple("Walk", "whole torn broken_at")
 ZoneRecord = namedtuple("ZoneRecord", "generation condition pointer")
+TOLD = {Condition.EMPTY: Told.EMPTY, Condition.OPEN: Told.OPEN, Condition.SEALED: Told.READ_ONLY, Condition.WORN: Told.READ_ONLY}
 
 
 class Refused(Exception):
@@ -318,3 +319,8 @@ class State:
     def to_bytes(self):
         records = [struct.pack("<QB3xI", *record) for record in self.zones]
         return bytes([self.lost]) + bytes(7) + b"".join(records) + bytes(STATE_RECORD_BYTES * (STATE_RECORDS - len(records)))
+
+
+def descriptor(g, z, record):
+    """Section 10: the bytes in which a report tells of a zone."""
+    return struct.pack("<QQQB7x", z * g.Q, g.Q, record.pointer, TOLD[record.condition])

@@ -8,6 +8,7 @@ int flush_main(int argc, char **argv);
 int reset_main(int argc, char **argv);
 int read_main(int argc, char **argv);
 int peek_main(int argc, char **argv);
+int report_main(int argc, char **argv);
 int cut_main(int argc, char **argv);
 int pull_main(int argc, char **argv);
 int look_main(int argc, char **argv);

@@ -49,6 +49,9 @@ static const struct command commands[] = {
     {"peek", peek_main, "tell where a sector lies", "FOLDER --at ADDRESS",
      "Tells the drive, physical zone, sector and place in the drive's file, and the first bytes there.\n"
      "  --at ADDRESS      the sector's address\n"},
+    {"report", report_main, "list the zones as a zoned drive's tools do", "FOLDER [options]",
+     "A line a zone: its first address, its sectors, its write pointer from its start, and its condition: em empty, op open, ro read-only (sealed or worn).\n"
+     "  --json            the same as a JSON list, numbers decimal\n"},
     {"cut", cut_main, "cut the power", "FOLDER [options]",
      "What is durable stays; of the rest the write caches keep what is said here. After a cut the volume takes only looks and mounts until a mount is\n"
      "finished.\n"

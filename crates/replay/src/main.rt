@@ -122,7 +122,7 @@ fn show_look(
     }
 }
 
-// What a finished look, read or peek adds to the line.
+// What a finished look, read, peek or report adds to the line.
 fn show_rest(
     space: &[u8],
     written: &[u32],
@@ -148,6 +148,11 @@ fn show_rest(
     if letter == b'p' {
         field(replaying::showing::peek_place(places, written, durable, h, c));
         field(replaying::showing::peek_sum(space, written, durable, h, c));
+        return;
+    }
+    if letter == b'o' {
+        field(replaying::listing::report_filled(h, c));
+        field(replaying::listing::list_sum(h, c));
     }
 }
 

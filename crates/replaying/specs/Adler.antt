@@ -29,6 +29,10 @@ abbrev pub sumWords : Sums → List ℕ → ℕ → Sums
 sumWords s ws zero = s
 sumWords s ws (suc k) = addWord (sumWords s ws k) (getD ws k 0)
 
+-- a 64-bit number as eight bytes
+unfoldable pub addNumber : Sums → ℕ → Sums
+addNumber s n = addWord (addWord s (n % 4294967296)) (n / 4294967296)
+
 unfoldable pub adlerNumber : Sums → ℕ
 adlerNumber s = s .high * 65536 + s .low
 

@@ -10,7 +10,8 @@ use Rattle.tables.specs.meaning.Basics.{pick}
 use Rattle.tables.specs.meaning.Tables.{Tables}
 use Rattle.volume.specs.declared.State.{State}
 use Rattle.volume.specs.declared.Outcome.{Outcome}
-use Rattle.volume.specs.meaning.CallContracts.{Result, answerNumber, formatOn, mountOn, lookOn, writeOn, flushOn, resetOn, ReadResult, readOn, peekNumber}
+use Rattle.volume.specs.meaning.CallContracts.{viewState, Result, answerNumber, formatOn, mountOn, lookOn, writeOn, flushOn, resetOn, ReadResult, readOn, peekNumber}
+use Rattle.volume.specs.reading.Reporting.{reportedAs}
 use Rattle.replaying.specs.declared.Command.{Command}
 use Rattle.replaying.specs.declared.Host.{Host}
 use Rattle.replaying.specs.declared.Reply.{Reply}
@@ -27,7 +28,7 @@ pub record Done : Type 0 where
 abbrev pub plainReply : Host → ℕ → State → Reply
 plainReply h n s = record { host = h; code = n; shown = s }
 
--- "254 for a write, flush, reset, read or peek while there is no state"
+-- "254 for a write, flush, reset, read or peek while there is no state", and for a report
 abbrev pub statelessReply : Host → Reply
 statelessReply h = plainReply h 254 (h .state)
 
@@ -70,6 +71,9 @@ readReply h r = plainReply h (answerNumber (r .answer)) (h .state)
 unfoldable pub peekMade : Host → Command → Tables → ℕ
 peekMade h c t = peekNumber (h .geometry) (namedIn (c .first)) (h .state) (c .second) t
 
+unfoldable pub reportMade : Host → ℕ
+reportMade h = answerNumber (reportedAs (h .geometry) (viewState (h .state)) 0 .answer)
+
 -- ---- what each leaves
 abbrev pub storingDone : Host → List ℕ → Result → Done
 storingDone h out r = record { reply = keptReply h (r .outcome); tables = r .tables; buffer = out }
@@ -77,14 +81,15 @@ storingDone h out r = record { reply = keptReply h (r .outcome); tables = r .tab
 abbrev pub readingDone : Reply → List ℕ → Tables → Done
 readingDone r out t = record { reply = r; tables = t; buffer = out }
 
--- the call that a letter names where there is a state: w, u, r, d, else p
+-- the call that a letter names where there is a state: w, u, r, d, o, else p
 unfoldable pub stateDone : Host → Command → List ℕ → Tables → Done
 stateDone h c out t =
     pick (eqb (c .letter) 119) (storingDone h (writeBuffer c out) (writeMade h c out t))
     (pick (eqb (c .letter) 117) (storingDone h out (flushMade h c t))
     (pick (eqb (c .letter) 114) (storingDone h out (resetMade h c t))
     (pick (eqb (c .letter) 100) (readingDone (readReply h (readMade h c out t)) (readMade h c out t .buffer) t)
-    (readingDone (plainReply h (peekMade h c t) (h .state)) out t))))
+    (pick (eqb (c .letter) 111) (readingDone (plainReply h (reportMade h) (h .state)) out t)
+    (readingDone (plainReply h (peekMade h c t) (h .state)) out t)))))
 
 -- a call: f, m and l ask for no state
 unfoldable pub callDone : Host → Command → List ℕ → Tables → Done
@@ -142,7 +147,12 @@ module _ (h : Host) (c : Command) (out : List ℕ) (t : Tables) where
   unfolding stateDone
   state-read a b d e = passed-over _ _ _ a ∙ passed-over _ _ _ b ∙ passed-over _ _ _ d ∙ picked _ _ _ e
 
-  pub state-peek : eqb (c .letter) 119 ≡ false → eqb (c .letter) 117 ≡ false → eqb (c .letter) 114 ≡ false → eqb (c .letter) 100 ≡ false
+  pub state-report : eqb (c .letter) 119 ≡ false → eqb (c .letter) 117 ≡ false → eqb (c .letter) 114 ≡ false → eqb (c .letter) 100 ≡ false → eqb (c .letter) 111 ≡ true
+      → stateDone h c out t ≡ readingDone (plainReply h (reportMade h) (h .state)) out t
+  unfolding stateDone
+  state-report a b d e f = passed-over _ _ _ a ∙ passed-over _ _ _ b ∙ passed-over _ _ _ d ∙ passed-over _ _ _ e ∙ picked _ _ _ f
+
+  pub state-peek : eqb (c .letter) 119 ≡ false → eqb (c .letter) 117 ≡ false → eqb (c .letter) 114 ≡ false → eqb (c .letter) 100 ≡ false → eqb (c .letter) 111 ≡ false
       → stateDone h c out t ≡ readingDone (plainReply h (peekMade h c t) (h .state)) out t
   unfolding stateDone
-  state-peek a b d e = passed-over _ _ _ a ∙ passed-over _ _ _ b ∙ passed-over _ _ _ d ∙ passed-over _ _ _ e
+  state-peek a b d e f = passed-over _ _ _ a ∙ passed-over _ _ _ b ∙ passed-over _ _ _ d ∙ passed-over _ _ _ e ∙ passed-over _ _ _ f

@@ -2,6 +2,7 @@ pub mod Decimal
 pub mod Adler
 pub mod Stream
 pub mod Hosting
+pub mod Listing
 pub mod Calling
 pub mod Damaging
 pub mod Performing

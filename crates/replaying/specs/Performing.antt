@@ -45,7 +45,7 @@ changedHost h c =
 
 -- ---- letters
 unfoldable pub isCall : ℕ → Bool
-isCall x = eqb x 102 || (eqb x 109 || (eqb x 108 || (eqb x 119 || (eqb x 117 || (eqb x 114 || (eqb x 100 || eqb x 112))))))
+isCall x = eqb x 102 || (eqb x 109 || (eqb x 108 || (eqb x 119 || (eqb x 117 || (eqb x 114 || (eqb x 100 || (eqb x 112 || eqb x 111)))))))
 
 unfoldable pub isChange : ℕ → Bool
 isChange x = eqb x 99 || (eqb x 98 || (eqb x 116 || (eqb x 101 || eqb x 113)))

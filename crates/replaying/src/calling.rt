@@ -5,7 +5,7 @@ use super::Reply;
 use volume::Outcome;
 ghost use mathlib.Core.Path.{_≡_};
 ghost use Rattle.tables.specs.meaning.Tables.{tablesOf};
-ghost use Rattle.replaying.specs.Calling.{plainReply, statelessReply, keptReply, lookReply, readReply, writeBuffer, formatMade, mountMade, lookMade, writeMade, flushMade, resetMade, readMade, peekMade};
+ghost use Rattle.replaying.specs.Calling.{plainReply, statelessReply, keptReply, lookReply, readReply, writeBuffer, formatMade, mountMade, lookMade, writeMade, flushMade, resetMade, readMade, peekMade, reportMade};
 
 // A call while there is no state.
 pub fn stateless(h: Host) -> Reply
@@ -212,6 +212,22 @@ pub fn peek(sectors: &[u8], written: &[u32], durable: &[u32], h: Host, c: Comman
     let s = h.state;
     let named = super::hosting::named_in(c.first);
     let code = volume::reading::peek_refusal(sectors, written, durable, g, named, s, c.second);
+    Reply {
+        host: h,
+        code,
+        shown: s,
+    }
+}
+
+// Report: whether it is refused. What it fills is looked at when the answer is shown.
+pub fn report(h: Host) -> Reply
+    ensures { λ r. ⌜ r ≡ plainReply h (reportMade h) (h .state) ⌝ }
+{
+    let g = h.geometry;
+    let s = h.state;
+    let o = volume::reporting::reported(g, s, 0);
+    let a = o.answer;
+    let code = volume::numbers::answer_number(a);
     Reply {
         host: h,
         code,

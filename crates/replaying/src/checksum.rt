@@ -3,10 +3,10 @@ use super::Sums;
 ghost use mathlib.Core.Path.{_≡_};
 ghost use Prim.Native.Nat.{_<_};
 ghost use lib.ListN.{length};
-ghost use Rattle.replaying.specs.Adler.{Small, startSums, addByte, sumBytes, addWord, sumWords, adlerNumber, adlerOfBytes, adlerOfTables};
+ghost use Rattle.replaying.specs.Adler.{Small, startSums, addByte, sumBytes, addWord, sumWords, addNumber, adlerNumber, adlerOfBytes, adlerOfTables};
 
 // Before the first byte.
-fn start_sums() -> Sums
+pub fn start_sums() -> Sums
     ensures { λ r. ⌜ (r ≡ startSums) × Small r ⌝ }
 {
     Sums { low: 1, high: 0 }
@@ -23,7 +23,7 @@ fn add_byte(s: Sums, byte: u64) -> Sums
 }
 
 // The checksum that the sums stand for.
-fn sum_number(s: Sums) -> u64
+pub fn sum_number(s: Sums) -> u64
     requires { ⌜ Small s ⌝ }
     ensures { λ r. ⌜ r ≡ adlerNumber s ⌝ }
 {
@@ -58,6 +58,17 @@ fn add_word(s: Sums, word: u64) -> Sums
     let s1 = add_byte(s0, word1 % 256);
     let s2 = add_byte(s1, word2 % 256);
     add_byte(s2, word3 % 256)
+}
+
+// With the eight bytes of a number, the lowest first.
+pub fn add_number(s: Sums, n: u64) -> Sums
+    requires { ⌜ Small s ⌝ }
+    ensures { λ r. ⌜ (r ≡ addNumber s n) × Small r ⌝ }
+{
+    let low = n % 4294967296;
+    let high = n / 4294967296;
+    let t = add_word(s, low);
+    add_word(t, high)
 }
 
 // A pointer as a wider number.

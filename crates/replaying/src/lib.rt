@@ -7,6 +7,7 @@ pub mod calling;
 pub mod checksum;
 pub mod damaging;
 pub mod hosting;
+pub mod listing;
 pub mod parsing;
 pub mod performing;
 pub mod showing;

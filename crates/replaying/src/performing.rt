@@ -36,6 +36,9 @@ fn call_with_state(
     if letter == b'd' {
         return super::calling::read(sectors, written, durable, buffer, h, c);
     }
+    if letter == b'o' {
+        return super::calling::report(h);
+    }
     super::calling::peek(sectors, written, durable, h, c)
 }
 
@@ -216,7 +219,8 @@ fn is_call(letter: u8) -> bool
             | ((letter == b'l')
                 | ((letter == b'w')
                     | ((letter == b'u')
-                        | ((letter == b'r') | ((letter == b'd') | (letter == b'p')))))))
+                        | ((letter == b'r')
+                            | ((letter == b'd') | ((letter == b'p') | (letter == b'o'))))))))
 }
 
 // Whether a letter is that of a change of the tables.

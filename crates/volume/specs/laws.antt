@@ -24,5 +24,6 @@ pub mod PassedRows
 pub mod PlacedStores
 pub mod Refusals
 pub mod RefusalsDepend
+pub mod Report
 pub mod SectorsStored
 pub mod StoreCounts

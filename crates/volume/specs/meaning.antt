@@ -4,5 +4,6 @@ pub mod Calls
 pub mod Content
 pub mod Mount
 pub mod Refusals
+pub mod Report
 pub mod Rules
 pub mod State

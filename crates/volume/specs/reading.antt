@@ -1,3 +1,4 @@
 pub mod Peeking
 pub mod Reading
 pub mod ReadingHeld
+pub mod Reporting

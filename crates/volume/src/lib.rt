@@ -1,4 +1,4 @@
-// The volume: the eight calls over the tables that the host lends and the state that it keeps between calls.
+// The volume: the nine calls over the tables that the host lends and the state that it keeps between calls.
 use tables::Geometry;
 
 pub mod checks;
@@ -21,6 +21,7 @@ pub mod mount_zones;
 pub mod mounting;
 pub mod numbers;
 pub mod reading;
+pub mod reporting;
 pub mod resetting;
 pub mod write_checks;
 pub mod write_keeping;
@@ -77,6 +78,27 @@ pub struct Look {
     pub lost: usize,
     pub array: u64,
     pub zones: [ZoneLook; 16],
+}
+
+// A zone's condition as a report tells it: sealed and worn zones are read-only.
+pub enum ReportedCondition {
+    Empty,
+    Open,
+    ReadOnly,
+}
+
+// What a report tells of one zone: its first address, how many sectors it has, its write pointer (sectors from its start), and its condition.
+pub struct ZoneDescriptor {
+    pub start: u64,
+    pub capacity: u64,
+    pub pointer: u64,
+    pub condition: ReportedCondition,
+}
+
+// What a report hands back: its answer, and how many descriptors it filled.
+pub struct Reported {
+    pub answer: Answer,
+    pub number: usize,
 }
 
 // What the steps of a mount go by: the geometry, the drives that are here, and the look.

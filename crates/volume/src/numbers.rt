@@ -1,9 +1,11 @@
 // The numbers by which answers and conditions are told outside the volume: to C, in the bytes of a state, in a script's lines.
 use super::Answer;
 use super::Condition;
+use super::ReportedCondition;
 ghost use mathlib.Core.Path.{_≡_};
 ghost use Rattle.volume.specs.meaning.State.{conditionNumber, conditionOfNumber};
 ghost use Rattle.volume.specs.meaning.CallContracts.{answerNumber};
+ghost use Rattle.volume.specs.meaning.Report.{toldNumber};
 
 // 0 finished, 255 unfinished, else the refusal's number.
 pub fn answer_number(a: Answer) -> u8
@@ -25,6 +27,17 @@ pub fn condition_number(c: Condition) -> u32
         Condition::Open(_) => 1,
         Condition::Sealed(_) => 2,
         Condition::Worn(_) => 3,
+    }
+}
+
+// A condition as a report tells it: 0 empty, 1 open, 2 read-only.
+pub fn told_number(c: ReportedCondition) -> u64
+    ensures { λ r. ⌜ r ≡ toldNumber c ⌝ }
+{
+    match c {
+        ReportedCondition::Empty => 0,
+        ReportedCondition::Open => 1,
+        ReportedCondition::ReadOnly => 2,
     }
 }
 

@@ -61,7 +61,7 @@ fn sizes_fit(g: Geometry, state: usize, written: usize, durable: usize) -> bool
 }
 
 // Refusal 1, of the state's bytes.
-fn state_bad(g: Geometry, bytes: &[u8]) -> bool
+pub fn state_bad(g: Geometry, bytes: &[u8]) -> bool
     requires { ⌜ Valid g ⌝ }
     ensures { λ r. ⌜ r ≡ stateBad g (now (bytes .entry)) ⌝ }
 {

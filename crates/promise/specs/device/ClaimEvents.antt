@@ -31,7 +31,7 @@ use Rattle.promise.specs.calls.ResetKeeps.{reset-keeps, reset-rests}
 use Rattle.promise.specs.calls.FormatKeeps.{format-rests}
 use Rattle.volume.specs.meaning.Refusals.{Verdict, refuse, accept, TableLengths, zoneOf, formatRows, mountRows, writeRows, flushRows, resetRows, firstRefusal, badPointers, lookRows}
 use Rattle.volume.specs.meaning.Answers.{CallResult, storing, lostIn, leftOut, namedDrives, sectorsIn, giving}
-use Rattle.promise.specs.meaning.Claim.{Call, mounts, writes, flushes, resets, formats, Mode, ready, stopped, down, System, Event, calls, looks, reads, peeks, cuts, loses, settled, ledgerAfter, next, NotStopped, NamesAll, MayCome, Duty, allBut}
+use Rattle.promise.specs.meaning.Claim.{Call, mounts, writes, flushes, resets, formats, Mode, ready, stopped, down, System, Event, calls, looks, reads, peeks, reports, cuts, loses, settled, ledgerAfter, next, NotStopped, NamesAll, MayCome, Duty, allBut}
 use Rattle.promise.specs.meaning.OnDevice.{callOf, onDevice, lookResult, shownBy}
 use Rattle.volume.specs.declared.Answer.the-variants.{Finished, Unfinished, Refused}
 use Rattle.promise.specs.device.AcceptedCalls.{present-same, call-same, found-same, write-ok, reset-ok, mount-ok}
@@ -216,5 +216,6 @@ module _ (g : Geometry) (ok : Valid g) (t : TableLengths) where
     event-keeps (looks named taken) d = look-event named (d .0) taken
     event-keeps (reads named a count out) d = o
     event-keeps (peeks named a) d = o
+    event-keeps (reports list) d = o
     event-keeps (cuts w) c = cut-keeps g ok (s .lost) (s .memory) w (s .ledger) (inv-of g t s o) c
     event-keeps (loses d w) (h, e, c) = lose-in (s .mode) (s .lost) d (s .memory) w (s .state) (s .ledger) h e c o

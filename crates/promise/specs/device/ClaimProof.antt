@@ -36,11 +36,14 @@ use Rattle.promise.specs.invariant.Obligations.{Invs, Rests}
 use Rattle.promise.specs.look.LookFits.{look-fits, rest-known}
 use Rattle.promise.specs.calls.FormatKeeps.{format-rests}
 use Rattle.tables.specs.meaning.Tables.{bufferFits}
-use Rattle.volume.specs.meaning.Answers.{StoringCall, giving, storing, Given, refused, given, Place, leftOut, namedDrives, lookCall, readCall, peekCall, placeOf}
+use Rattle.volume.specs.meaning.Answers.{CallResult, StoringCall, giving, storing, Given, refused, given, Place, leftOut, namedDrives, lookCall, readCall, peekCall, placeOf}
 use Rattle.volume.specs.meaning.CallContracts.{byteOf}
 use Rattle.volume.specs.declared.Answer.the-variants.{Finished, Refused}
+use Rattle.volume.specs.declared.ZoneDescriptor.{ZoneDescriptor}
+use Rattle.volume.specs.meaning.Report.{reportOn}
+use Rattle.volume.specs.laws.Report.{report-finished, report-same}
 use Rattle.promise.specs.meaning.Claim.{mounts, writes, flushes, resets, formats, Event, next, Dutiful, Throughout, start, ready, System, NamesAll, allBut, contentBytes, SameZones, ResetRefusal, noSuchZone, wornOut, generalLogFull, WriteRefusal, bufferLength, noSuchAddress, noSectors, pastTheEnd, notAtPointer, sealedZone, wornZone, parityLogFull, Promise}
-use Rattle.promise.specs.meaning.OnDevice.{callOf, lookResult, readResult, peekResult, shownBy, onDevice, DeviceClaim}
+use Rattle.promise.specs.meaning.OnDevice.{callOf, lookResult, readResult, peekResult, reportShown, shownBy, onDevice, DeviceClaim}
 use Rattle.promise.specs.look.LookReads.{Unrefused, look-unrefused}
 use Rattle.promise.specs.look.LookRest.{generation-held, condition-held}
 use Rattle.promise.specs.device.AtRestAnswers.{absent-fine, state-fine, stale-fine, gone-fine, before-fine, worn-last, rest-held, rest-sector, left-out, drives-named}
@@ -288,6 +291,14 @@ module _ (g : Geometry) (ok : Valid g) (t : TableLengths) (wb : isValid g ≡ tr
         let q = passed (peekRows g t (badPointers g named (s .memory)) named (s .state) a (s .memory)) (row-1 m, (ap not lf, (row-3, (row-4 m, (row-7 m z, (r8, (r13, (r15, tt)))))))) in
         rw q refl
 
+    -- ---- reports
+    report-claim : s .mode ≡ ready → (list : List ZoneDescriptor) → reportOn g (s .state) list ≡ reportShown g (shownBy g named (s .memory) (s .memory)) list
+    report-claim m list =
+        let k = shownBy g named (s .memory) (s .memory) in
+        let e : lookResult (lookCall g t named (s .memory)) (s .state) (s .memory) .state ≡ mountState k = ap (λ (r : CallResult Device StateView). r .state) (look-claim .0) in
+        let same : (z : ℕ) → z < g .zones → s .state .condition z ≡ k .zone z .condition = λ z h. sym (held-claim m .1 .conditions z h) ∙ ap (λ (r : StateView). r .condition z) e in
+        report-finished g (s .state) (not-not (isValid g && stateWithin g (s .state)) (row-1 m)) list ∙ report-same g (s .state .condition) (λ z. k .zone z .condition) list same
+
   -- every point of a history is as claimed
   pub kept : Promise g (onDevice g t) s
   kept = record {
@@ -303,6 +314,7 @@ module _ (g : Geometry) (ok : Valid g) (t : TableLengths) (wb : isValid g ≡ tr
     read-accepted = read-accepted;
     peek-gives = peek-claim;
     peek-accepted = peek-accepted;
+    report-gives = report-claim;
   }
 
 -- THE THEOREM

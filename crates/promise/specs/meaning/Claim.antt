@@ -1,6 +1,6 @@
 -- What a volume promises, as one claim about lists of events (document 01, demand 3, "The book", with what reads and peeks give). The events are calls with
 -- any input, refused and stopped ones included, power cuts, and the loss of a drive. The hypotheses are the host's duties and what a cut and a loss can do;
--- the claim speaks of looks, mounts, reads, peeks and the ledger alone. It is stated once, of any `Volume`; OnDevice.antt and OnTables.antt say of which.
+-- the claim speaks of looks, mounts, reads, peeks, reports and the ledger alone. It is stated once, of any `Volume`; OnDevice.antt and OnTables.antt say of which.
 use mathlib.Core.Path.{_≡_}
 use mathlib.Core.Logic.{_≢_, _⊎_}
 use mathlib.Core.Bool.{Bool, true, not}
@@ -25,6 +25,7 @@ use Rattle.volume.specs.meaning.Rules.{Shown}
 use Rattle.volume.specs.meaning.Refusals.{zoneOf, offsetOf}
 use Rattle.volume.specs.meaning.Answers.{CallResult, leftOut, sectorsIn, placeOf}
 use Rattle.volume.specs.meaning.CallContracts.{ReadResult, byteOf}
+use Rattle.volume.specs.meaning.Report.{ReportResult}
 use Rattle.promise.specs.meaning.Ledger.{Ledger, freshLedger, Reply, isRefused, isUnfinished, isFinished, LedgerNote, noteWrite, noteFlush, noteReset, noteMount, noteFormat, noted, Fits}
 
 -- ==== the calls that store
@@ -50,8 +51,11 @@ pub record Volume : Type 1 where
   pub look : Names → State → Memory → CallResult Memory State
   pub read : Names → State → ℕ → ℕ → List ℕ → Memory → ReadResult  -- address; count of sectors; buffer
   pub peek : Names → State → ℕ → Memory → Peeked  -- address
+  pub Listing : Type 0  -- what the host lends for a report
+  pub report : State → Listing → ReportResult Listing
   pub shows : Names → Memory → Memory → Shown  -- what the drives that a look finds present in the first memory show in the second
   pub stateOf : Shown → State  -- the state that hands on what is shown
+  pub reportOf : Shown → Listing → ReportResult Listing  -- the finished report that tells the conditions shown
   pub lostIn : State → ℕ  -- the drive that is lost, or noDrive
   pub generation : State → ℕ → ℕ  -- of a zone
   pub condition : State → ℕ → Condition  -- of a zone
@@ -82,6 +86,7 @@ pub data Event (vol : Volume) : Type 0 where
   looks : vol .Names → Bool → Event vol  -- whether the host hands on the look's state from then on, or what it held
   reads : vol .Names → ℕ → ℕ → List ℕ → Event vol  -- address; count of sectors; buffer
   peeks : vol .Names → ℕ → Event vol  -- address
+  reports : vol .Listing → Event vol  -- what is lent
   cuts : vol .Memory → Event vol  -- what it leaves
   loses : ℕ → vol .Memory → Event vol  -- a drive; what is left of the memory
 
@@ -118,6 +123,7 @@ module _ (g : Geometry) (vol : Volume) where
   next s (looks named taken) = record { memory = s .memory; lost = s .lost; mode = s .mode; state = pick taken (vol .look named (s .state) (s .memory) .state) (s .state); ledger = s .ledger }
   next s (reads named a count out) = s
   next s (peeks named a) = s
+  next s (reports list) = s
   next s (cuts m) = record { memory = m; lost = s .lost; mode = down; state = s .state; ledger = s .ledger }
   next s (loses d m) = record { memory = m; lost = d; mode = s .mode; state = s .state; ledger = s .ledger }
 
@@ -164,6 +170,7 @@ module _ (g : Geometry) (vol : Volume) where
   Duty s (looks named taken) = NamesAll g vol s named × MayMount (s .mode)
   Duty s (reads named a count out) = NamesAll g vol s named × (s .mode ≡ ready)
   Duty s (peeks named a) = NamesAll g vol s named × (s .mode ≡ ready)
+  Duty s (reports list) = s .mode ≡ ready
   Duty s (cuts m) = vol .CutTo (s .lost) (s .memory) m
   Duty s (loses d m) = (d < g .drives) × ((s .lost ≡ noDrive) ⊎ (s .lost ≡ d)) × vol .LossTo d (s .memory) m
 
@@ -232,6 +239,8 @@ pub record Promise (g : Geometry) (vol : Volume) (s : System vol) : Type 0 where
       × (vol .peek named (s .state) a (s .memory) .part ≡ at (s .ledger .content (zoneOf g a)) (offsetOf g a))
   pub peek-accepted : (named : vol .Names) → NamesAll g vol s named → s .mode ≡ ready → (a : ℕ) → zoneOf g a < g .zones → offsetOf g a < pointerHeld vol (s .state) (zoneOf g a)
       → allBut (s .lost) (driveOf (g .drives) (g .unit) (zoneOf g a) (offsetOf g a)) ≡ true → vol .peek named (s .state) a (s .memory) .number ≡ 0
+  -- no report is refused, and it tells what a look of the same moment shows
+  pub report-gives : (named : vol .Names) → NamesAll g vol s named → s .mode ≡ ready → (list : vol .Listing) → vol .report (s .state) list ≡ vol .reportOf (vol .shows named (s .memory) (s .memory)) list
 
 module _ (g : Geometry) (vol : Volume) where
   -- before each event, and after the last

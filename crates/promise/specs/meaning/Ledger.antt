@@ -48,7 +48,7 @@ pub data Reply : Type 0 where
   isUnfinished : Reply
   isFinished : Reply
 
--- and of which call. (Of looks, reads and peeks it is told nothing that moves it: "All else: nothing.")
+-- and of which call. (Of looks, reads, peeks and reports it is told nothing that moves it: "All else: nothing.")
 pub data LedgerNote : Type 0 where
   noteWrite : ℕ → List (List ℕ) → Reply → LedgerNote
   noteFlush : Reply → LedgerNote

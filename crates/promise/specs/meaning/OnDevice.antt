@@ -12,7 +12,9 @@ use Rattle.volume.specs.meaning.Rules.{Shown, showing, isPresent, lostDrive}
 use Rattle.volume.specs.meaning.Refusals.{TableLengths}
 use Rattle.volume.specs.meaning.Mount.{mountState}
 use Rattle.volume.specs.meaning.Answers.{CallResult, carriedOut, StoringCall, Given, refused, given, Place, formatCall, mountCall, writeCall, flushCall, resetCall, lookCall, readCall, peekCall}
+use Rattle.volume.specs.declared.ZoneDescriptor.{ZoneDescriptor}
 use Rattle.volume.specs.meaning.CallContracts.{ReadResult, byteOf}
+use Rattle.volume.specs.meaning.Report.{ReportResult, reportOf, reportOn}
 use Rattle.promise.specs.meaning.Claim.{Call, mounts, writes, flushes, resets, formats, Peeked, Volume, KeepsPromise}
 
 abbrev pub callOf : Geometry → TableLengths → Call → (ℕ → Bool) → StateView → Device → StoringCall
@@ -37,6 +39,10 @@ peekResult g (given p) v = record { number = 0; from = byteOf g p; part = getD (
 abbrev pub shownBy : Geometry → (ℕ → Bool) → Device → Device → Shown
 shownBy g named v w = showing g (isPresent g named v) (lostDrive g named v) w
 
+-- a report of the conditions shown
+abbrev pub reportShown : Geometry → Shown → List ZoneDescriptor → ReportResult (List ZoneDescriptor)
+reportShown g k list = reportOf g (λ z. k .zone z .condition) list
+
 -- (t: the lengths of the tables, the same in every call, since the tables are)
 abbrev pub onDevice : Geometry → TableLengths → Volume
 onDevice g t = record {
@@ -48,8 +54,11 @@ onDevice g t = record {
   look = λ named state v. lookResult (lookCall g t named v) state v;
   read = λ named state a count out v. readResult (readCall g t named state a count (length out) v) out;
   peek = λ named state a v. peekResult g (peekCall g t named state a v) v;
+  Listing = List ZoneDescriptor;
+  report = reportOn g;
   shows = shownBy g;
   stateOf = mountState;
+  reportOf = reportShown g;
   lostIn = λ state. state .lost;
   generation = λ state. state .generation;
   condition = λ state. state .condition;

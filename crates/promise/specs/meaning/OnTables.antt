@@ -7,11 +7,13 @@ use Rattle.tables.specs.declared.Geometry.{Geometry}
 use Rattle.tables.specs.meaning.Tables.{Tables, TablesCut, TablesLoss, deviceOf}
 use Rattle.volume.specs.declared.State.{State}
 use Rattle.volume.specs.declared.Outcome.{Outcome}
+use Rattle.volume.specs.declared.ZoneDescriptor.{ZoneDescriptor}
 use Rattle.volume.specs.meaning.Rules.{Shown}
 use Rattle.volume.specs.meaning.Answers.{CallResult}
-use Rattle.volume.specs.meaning.CallContracts.{recordAt, isSet, Result, flushOn, resetOn, writeOn, formatOn, lookOn, stateShown, mountOn, readOn, peekNumber, peekFrom, peekOn}
+use Rattle.volume.specs.meaning.CallContracts.{recordAt, viewState, isSet, Result, flushOn, resetOn, writeOn, formatOn, lookOn, stateShown, mountOn, readOn, peekNumber, peekFrom, peekOn}
+use Rattle.volume.specs.meaning.Report.{reportOn}
 use Rattle.promise.specs.meaning.Claim.{Call, mounts, writes, flushes, resets, formats, Volume, KeepsPromise}
-use Rattle.promise.specs.meaning.OnDevice.{shownBy}
+use Rattle.promise.specs.meaning.OnDevice.{shownBy, reportShown}
 
 abbrev pub resultOn : Geometry → Call → List Bool → State → ℕ → Tables → Result
 resultOn g mounts named state stop t = mountOn g named state stop t
@@ -40,8 +42,11 @@ onTables g = record {
   look = λ named state t. resultOf (lookOn g named state t) t;
   read = readOn g;
   peek = λ named state a t. record { number = peekNumber g named state a t; from = peekFrom g named state a t; part = peekOn g named state a t };
+  Listing = List ZoneDescriptor;
+  report = λ state list. reportOn g (viewState state) list;
   shows = shownIn g;
   stateOf = stateShown g;
+  reportOf = reportShown g;
   lostIn = λ state. state .lost;
   generation = λ state z. recordAt state z .generation;
   condition = λ state z. recordAt state z .condition;

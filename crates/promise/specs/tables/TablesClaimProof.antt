@@ -50,7 +50,7 @@ use Rattle.volume.specs.meaning.CallContracts.{recordAt, viewState, isSet, verd
 use Rattle.tables.specs.laws.StoresFit.{fits-all-placed}
 use Rattle.promise.specs.tables.CallRefines.{ok-agrees, answer-finished}
 use Rattle.promise.specs.tables.CallVerdicts.{numbered-accept, look-verdict, read-number, read-numbered, peek-number, peek-numbered}
-use Rattle.promise.specs.meaning.Claim.{mounts, writes, flushes, resets, formats, Call, System, Event, calls, looks, reads, peeks, cuts, loses, next, NamesAll, Duty, contentBytes, SameZones, Promise, ready, allBut, start}
+use Rattle.promise.specs.meaning.Claim.{mounts, writes, flushes, resets, formats, Call, System, Event, calls, looks, reads, peeks, reports, cuts, loses, next, NamesAll, Duty, contentBytes, SameZones, Promise, ready, allBut, start}
 use Rattle.promise.specs.meaning.OnDevice.{onDevice, lookResult, readResult, peekResult}
 use Rattle.promise.specs.meaning.OnTables.{callResult, resultOf, onTables, shownIn, TablesClaim}
 use Rattle.promise.specs.tables.MountRefines.{shown-records, shown-agrees, mount-refines, mount-claim, mount-refusal}
@@ -227,6 +227,7 @@ module _ (g : Geometry) (ok : Valid g) (wb : isValid g ≡ true) where
         read-accepted = λ named n m a count out hz pos len h. rw (read-same g ok wb s o named n a count out) (promised .read-accepted (isSet named) (names-seen g s named n) m a count out hz pos len h);
         peek-gives = peek-claim g ok wb s o;
         peek-accepted = λ named n m a hz h there. peek-number-same g ok wb s o named n a ∙ promised .peek-accepted (isSet named) (names-seen g s named n) m a hz h there;
+        report-gives = λ named n m list. promised .report-gives (isSet named) (names-seen g s named n) m list;
       }
 
   call-keeps : (s : System (onTables g)) (o : TablesOk g s) (c : Call) (named : List Bool) (stop : ℕ) → Duty g (onTables g) s (calls c named stop) → TablesOk g (next g (onTables g) s (calls c named stop))
@@ -242,6 +243,7 @@ module _ (g : Geometry) (ok : Valid g) (wb : isValid g ≡ true) where
   tables-event s o (looks named true) d = look-event g ok wb s o named (d .0) d
   tables-event s o (reads named a count out) d = o
   tables-event s o (peeks named a) d = o
+  tables-event s o (reports list) d = o
   tables-event s o (cuts u) c = cut-event g ok s o u c
   tables-event s o (loses d u) (h, e, c) = loss-event g ok s o d h e u c
 

@@ -27,7 +27,7 @@ bytes-state-bytes zones xs h = same-bytes-eq (stateTo zones (stateFrom zones xs)
 
 -- ---- laws for the loops
 -- laid after what is there already
-lay-next : (p b src : List ℕ) (at : ℕ) → length p ≡ at → overlay (p ++ drop at b) at src ≡ p ++ src ++ drop (at + length src) b
+pub lay-next : (p b src : List ℕ) (at : ℕ) → length p ≡ at → overlay (p ++ drop at b) at src ≡ p ++ src ++ drop (at + length src) b
 lay-next p b src at e =
     ap₂ (λ (x y : List ℕ). x ++ src ++ y) (take-at p (drop at b) at e)
     (ap (λ (n : ℕ). drop (n + length src) (p ++ drop at b)) (sym e) ∙ drop-append-add p (drop at b) (length src) ∙ drop-drop (length src) at b)

@@ -1,5 +1,6 @@
 -- What the bytes of the C edge mean: document 01's "state and tables pass as bytes". A table is one little-endian 32-bit number for each drive and zone.
 -- A state is 264 bytes: byte 0 the lost drive or 255, bytes 1 to 7 zero, then 16 records of 16 bytes (generation 8, condition 1, three zeros, pointer 4).
+-- A zone's descriptor is 32 bytes: start 8, capacity 8, pointer 8, condition 1, seven zeros.
 use mathlib.Core.Bool.{Bool}
 use Prim.Native.Nat.{ℕ, zero, suc, _+_, _-_, _*_, _%_}
 use mathlib.Core.List.{List, [], _++_}
@@ -8,8 +9,10 @@ use Rattle.tables.specs.meaning.Below.{tabulate}
 use Rattle.tables.specs.meaning.LittleEndian.{bytesLE, readLE, sameBytes}
 use Rattle.volume.specs.declared.ZoneRecord.{ZoneRecord}
 use Rattle.volume.specs.declared.State.{State}
+use Rattle.volume.specs.declared.ZoneDescriptor.{ZoneDescriptor}
 use Rattle.volume.specs.meaning.State.{pointerIn, conditionNumber, conditionOfNumber}
 use Rattle.volume.specs.meaning.CallContracts.{blankRecord, recordAt}
+use Rattle.volume.specs.meaning.Report.{toldNumber}
 
 -- ---- tables
 -- the table of n numbers that the bytes hold
@@ -55,3 +58,7 @@ stateFrom zones xs = record { lost = readLE 8 xs 0; zones = tabulate (λ z. reco
 -- whether bytes have the form: what is read from them, written again, is they
 unfoldable pub stateWellFormed : ℕ → List ℕ → Bool
 stateWellFormed zones xs = sameBytes (stateTo zones (stateFrom zones xs)) xs
+
+-- ---- a zone's descriptor: a condition's number is below 256, so its eight bytes are itself and seven zeros
+unfoldable pub descriptorTo : ZoneDescriptor → List ℕ
+descriptorTo d = bytesLE 8 (d .start) ++ bytesLE 8 (d .capacity) ++ bytesLE 8 (d .pointer) ++ bytesLE 8 (toldNumber (d .condition))

@@ -1,20 +1,23 @@
 -- The functions of the C edge on bytes and numbers: each is the call on tables (volume's CallContracts), made on what the bytes hold. Before it, bytes
 -- that hold no tables or no state are refused. In each: g the geometry, mask the drives named, count the count of stores, m the byte ranges.
 use mathlib.Core.Bool.{Bool, _&&_, not}
-use Prim.Native.Nat.{ℕ, zero, suc, _-_, _*_, _/_, _%_}
-use mathlib.Core.List.{List, [], _∷_}
-use lib.ListN.{length, replicate}
+use Prim.Native.Nat.{ℕ, zero, suc, _+_, _-_, _*_, _/_, _%_}
+use mathlib.Core.List.{List, [], _∷_, _++_}
+use lib.ListN.{length, drop, replicate}
 use lib.Dec.{eqb}
 use Rattle.tables.specs.declared.Geometry.{Geometry}
 use Rattle.tables.specs.meaning.Basics.{pick}
+use Rattle.tables.specs.meaning.Below.{eachBelow}
 use Rattle.tables.specs.meaning.Geometry.{cells}
 use Rattle.tables.specs.meaning.GeometryTest.{isValid}
 use Rattle.tables.specs.meaning.Tables.{Tables, tablesOf}
+use Rattle.volume.specs.declared.Condition.{Condition}
 use Rattle.volume.specs.declared.State.{State}
 use Rattle.volume.specs.declared.Outcome.{Outcome}
 use Rattle.volume.specs.meaning.Refusals.{stateWithin}
 use Rattle.volume.specs.meaning.CallContracts.{blankRecord, viewState, answerNumber, Result, flushOn, lookOn, mountOn, formatOn, resetOn, writeOn, ReadResult, readOn, peekNumber, byteOf}
-use Rattle.zrv.specs.meaning.Bytes.{tableFrom, tableTo, stateFrom, stateTo, stateWellFormed}
+use Rattle.volume.specs.meaning.Report.{descriptorOf, filledNumber}
+use Rattle.zrv.specs.meaning.Bytes.{tableFrom, tableTo, stateFrom, stateTo, stateWellFormed, descriptorTo}
 use Rattle.tables.specs.meaning.LittleEndian.{bytesLE}
 use Rattle.volume.specs.meaning.Answers.{placeOf}
 
@@ -174,3 +177,26 @@ placeSized place r = pick (eqb (length place) 8) r (answered 2 place)
 
 abbrev pub peekEdge : Geometry → ℕ → ℕ → Ranges → List ℕ → Answered (List ℕ)
 peekEdge g mask a m place = readingState g m (placeSized place (placeAnswer g a (peekNumber g (namedOf mask) (stateIn g m) a (tablesIn g m)) place)) place
+
+-- report, from the state alone: what is refused before it
+unfoldable pub reportInput : Geometry → List ℕ → ℕ
+reportInput g st = pick (isValid g) (pick (stateBad g st) 1 (pick (eqb (length st) 264) 0 2)) 1
+
+-- a list of so many bytes has room for so many descriptors
+abbrev pub descriptorsIn : List ℕ → ℕ
+descriptorsIn list = length list / 32
+
+-- the list with its first n descriptors filled; those past them, and bytes that are no whole descriptor, stay
+unfoldable pub filledBytes : Geometry → (ℕ → Condition) → ℕ → List ℕ → List ℕ
+filledBytes g condition n list = eachBelow (λ z. descriptorTo (descriptorOf g z (condition z))) n ++ drop (n * 32) list
+
+-- a report returns its answer in the low 32 bits and the number of descriptors in the high 32
+abbrev pub withNumber : ℕ → ℕ → ℕ
+withNumber answer n = answer + 4294967296 * n
+
+-- a finished report of zones in these conditions
+abbrev pub reportBytes : Geometry → (ℕ → Condition) → List ℕ → Answered (List ℕ)
+reportBytes g condition list = answered (withNumber 0 (filledNumber g (descriptorsIn list))) (filledBytes g condition (filledNumber g (descriptorsIn list)) list)
+
+abbrev pub reportEdge : Geometry → List ℕ → List ℕ → Answered (List ℕ)
+reportEdge g st list = unlessRefused (reportInput g st) (reportBytes g (viewState (stateFrom (g .zones) st) .condition) list) list

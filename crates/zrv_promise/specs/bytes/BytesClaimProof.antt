@@ -28,22 +28,24 @@ use Rattle.volume.specs.meaning.Answers.{CallResult}
 use Rattle.volume.specs.meaning.CallContracts.{recordAt, isSet, answerNumber, Result, stateShown, lookOn, ReadResult}
 use Rattle.volume.specs.laws.ByteLists.{Bytes}
 use Rattle.promise.specs.meaning.Ledger.{Fits}
-use Rattle.promise.specs.meaning.Claim.{Call, mounts, writes, flushes, resets, formats, Peeked, System, Event, calls, looks, reads, peeks, cuts, loses, MayMount, settled, ledgerAfter, next, NamesAll, Duty, Promise, start}
+use Rattle.promise.specs.meaning.Claim.{Call, mounts, writes, flushes, resets, formats, Peeked, System, Event, calls, looks, reads, peeks, reports, cuts, loses, MayMount, ready, settled, ledgerAfter, next, NamesAll, Duty, Promise, start}
 use Rattle.promise.specs.meaning.OnTables.{resultOn, callResult, shownIn, onTables}
 use Rattle.promise.specs.invariant.Throughout.{throughout}
 use Rattle.promise.specs.device.AtRestAnswers.{left-out}
 use Rattle.promise.specs.tables.TablesEvents.{TablesOk, loss-event}
+use Rattle.promise.specs.tables.MountRefines.{shown-agrees}
 use Rattle.promise.specs.tables.TablesClaimProof.{tables-promise, tables-event, tables-start}
 use Rattle.zrv.specs.meaning.Bytes.{tableFrom, tableTo, stateFrom, stateTo}
 use Rattle.zrv.specs.meaning.EdgeCalls.{namedOf, inputNumber, sizesNumber, Ranges, tablesIn, unreadState, Answered, storedAll, lookOfBytes, lookEdge, formatOfBytes, formatEdge}
 use Rattle.zrv.specs.laws.EdgeCalls.{Sized, input-passed, sizes-passed, refused, made}
+use Rattle.zrv.specs.laws.Report.{input-reports}
 use Rattle.zrv.specs.laws.RoundTrips.{number-back}
 use Rattle.zrv.specs.laws.TablesRoundTrip.{table-long, table-bytes, table-bytes-long}
 use Rattle.zrv.specs.laws.CallsLeave.{format-stored}
 use Rattle.zrv.specs.laws.StateRoundTrip.{HandsOn, look-hands-on, format-hands-on}
-use Rattle.zrv_promise.specs.meaning.OnBytes.{LentBytes, rangesOf, tablesAt, answerOf, edgeOf, bytesResult, StillBytes, onBytes, BytesClaim}
+use Rattle.zrv_promise.specs.meaning.OnBytes.{LentBytes, rangesOf, tablesAt, answerOf, edgeOf, bytesResult, shownBytes, StillBytes, onBytes, BytesClaim}
 use Rattle.zrv_promise.specs.bytes.CallsOnBytes.{OnTheTables, format-small, storing-known, viewBytes, views, takes, format-on, mount-on, write-on, flush-on, reset-on}
-use Rattle.zrv_promise.specs.bytes.ReadsOnBytes.{sizes-pass, look-other, look-is, read-is, peek-is}
+use Rattle.zrv_promise.specs.bytes.ReadsOnBytes.{sizes-pass, look-other, look-is, read-is, peek-is, report-is}
 
 -- ---- numbers
 bytes-all : (xs : List ℕ) → ((i : ℕ) → getD xs i 0 < 256) → Bytes xs
@@ -122,6 +124,16 @@ module _ (g : Geometry) (ok : Valid g) (wb : isValid g ≡ true) (s : System (on
           let x = stateShown g (shownIn g (namedOf mask) t t) in
           look-hands .reads-back ∙ ap (λ (u : Outcome). u .state) (look-other g (namedOf mask) st unreadState x t look-on) ∙ ap (λ (u : Outcome). u .state) (sym look-on)
 
+      -- ---- reports
+      conditions-shown : s .mode ≡ ready → (z : ℕ) → z < g .zones → recordAt st z .condition ≡ shownIn g (namedOf mask) t t .zone z .condition
+      conditions-shown r z h =
+          let k = shownIn g (namedOf mask) t t in
+          sym (promised .look-holds (namedOf mask) names r .1 .conditions z h) ∙ ap (λ (u : Outcome). recordAt (u .state) z .condition) look-on ∙ sym (shown-agrees g k .condition-same z h)
+
+      report-claim : s .mode ≡ ready → (list : List ℕ) → onBytes g .report (s .state) list ≡ shownBytes g (shownIn g (namedOf mask) t t) list
+      report-claim r list =
+          report-is g (s .state) list (input-reports g (s .state) (length (s .memory .written)) (length (s .memory .durable)) (o .taken)) (shownIn g (namedOf mask) t t) (conditions-shown r)
+
       -- ---- a finished mount
       mount-claim : MayMount (s .mode) → (stop : ℕ) → let r = onBytes g .call mounts mask (s .state) stop (s .memory) in r .answer ≡ Finished
           → (r .state ≡ onBytes g .stateOf (onBytes g .shows mask (s .memory) (r .memory))) × Fits g (s .ledger) (onBytes g .shows mask (s .memory) (r .memory))
@@ -162,6 +174,7 @@ module _ (g : Geometry) (ok : Valid g) (wb : isValid g ≡ true) (s : System (on
         let (x, y, z) = promised .peek-gives (namedOf mask) (names mask n) r a (sym (ap (λ (u : Peeked). u .number) q) ∙ e) in
         (x, ap (λ (u : Peeked). u .from) q ∙ y, ap (λ (u : Peeked). u .part) q ∙ z);
     peek-accepted = λ mask n r a hz h there. ap (λ (u : Peeked). u .number) (peek-is g mask (s .memory) (s .state) (o .taken) a) ∙ promised .peek-accepted (namedOf mask) (names mask n) r a hz h there;
+    report-gives = report-claim;
   }
 
   -- ---- events
@@ -198,6 +211,7 @@ module _ (g : Geometry) (ok : Valid g) (wb : isValid g ≡ true) (s : System (on
   bytes-event (looks mask true) d = look-event mask d
   bytes-event (reads mask a count out) d = o
   bytes-event (peeks mask a) d = o
+  bytes-event (reports list) d = o
   bytes-event (cuts u) (b, c) = record {
     written-bytes = bytes-all (u .written) (b .written-bytes);
     durable-bytes = bytes-all (u .durable) (b .durable-bytes);

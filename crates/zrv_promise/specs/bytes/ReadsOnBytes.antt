@@ -1,7 +1,7 @@
 -- A look, a read and a peek on bytes are those on the tables which the bytes hold.
 use mathlib.Core.Path.{_≡_, refl, sym, ap, ap₂, _∙_}
 use mathlib.Core.Bool.{Bool, true, false}
-use Prim.Native.Nat.{ℕ, _*_, _^_, _<_}
+use Prim.Native.Nat.{ℕ, _*_, _/_, _%_, _^_, _<_}
 use native.Mathlib.Nat.{mod-lt}
 use native.Mathlib.Decide.{ℕ-discrete}
 use native.Mathlib.Omega.{arith}
@@ -23,15 +23,18 @@ use Rattle.tables.specs.laws.LittleEndian.{number-bytes-le}
 use Rattle.volume.specs.declared.State.{State}
 use Rattle.volume.specs.declared.Answer.the-variants.{Finished, Refused}
 use Rattle.volume.specs.declared.Outcome.{Outcome}
-use Rattle.volume.specs.meaning.Rules.{showing, isPresent, lostDrive}
+use Rattle.volume.specs.meaning.Rules.{Shown, showing, isPresent, lostDrive}
 use Rattle.volume.specs.meaning.Refusals.{zoneOf, offsetOf}
-use Rattle.volume.specs.meaning.CallContracts.{isSet, answerNumber, verdictNumber, stateShown, lookVerdict, lookOn, ReadResult, readNumber, readOn, peekNumber, peekFrom, peekOn}
+use Rattle.volume.specs.meaning.CallContracts.{recordAt, viewState, isSet, answerNumber, verdictNumber, stateShown, lookVerdict, lookOn, ReadResult, readNumber, readOn, peekNumber, peekFrom, peekOn}
+use Rattle.volume.specs.meaning.Report.{ReportResult, filledNumber}
+use Rattle.volume.specs.laws.Report.{filled-most}
 use Rattle.volume.specs.looking.KnowingValues.{sector-within}
 use Rattle.volume.specs.reading.Peeking.{peek-accepted, peek-refused, peek-done}
-use Rattle.zrv.specs.meaning.Bytes.{stateTo}
-use Rattle.zrv.specs.meaning.EdgeCalls.{namedOf, sizesFit, inputNumber, sizesNumber, stateAfter, Ranges, tablesIn, stateIn, unreadState, Answered, handedBack, lookOfBytes, lookEdge, readAnswer, readEdge, offsetAt, placeAnswer, placeSized, peekEdge}
+use Rattle.zrv.specs.meaning.Bytes.{stateFrom, stateTo}
+use Rattle.zrv.specs.meaning.EdgeCalls.{namedOf, sizesFit, inputNumber, sizesNumber, stateAfter, Ranges, tablesIn, stateIn, unreadState, Answered, answered, handedBack, lookOfBytes, lookEdge, readAnswer, readEdge, offsetAt, placeAnswer, placeSized, peekEdge, reportInput, descriptorsIn, filledBytes, withNumber, reportBytes, reportEdge}
 use Rattle.zrv.specs.laws.EdgeCalls.{Sized, input-passed, made, place-right, place-refused, place-made}
-use Rattle.zrv_promise.specs.meaning.OnBytes.{LentBytes, rangesOf, answerOf, bytesResult, readBytes, peekedBytes, noPlace}
+use Rattle.zrv.specs.laws.Report.{filled-same}
+use Rattle.zrv_promise.specs.meaning.OnBytes.{LentBytes, rangesOf, answerOf, bytesResult, readBytes, peekedBytes, noPlace, reportedBytes, shownBytes}
 use Rattle.zrv_promise.specs.bytes.CallsOnBytes.{read-small, refused-known}
 
 -- ranges of the right sizes pass where the state is not read
@@ -126,3 +129,19 @@ module _ (g : Geometry) (mask : ℕ) (m : LentBytes) (st : List ℕ) (n : inputN
         where
           none : pick (eqb v 0) (part (numberLE noPlace)) [] ≡ []
           none = rw (ne-eqb v 0 e) refl
+
+-- ---- report: where nothing is refused, it tells the conditions that are shown
+pub report-is : (g : Geometry) (st list : List ℕ) → reportInput g st ≡ 0 → (k : Shown) → ((z : ℕ) → z < g .zones → recordAt (stateFrom (g .zones) st) z .condition ≡ k .zone z .condition) → reportedBytes (reportEdge g st list) ≡ shownBytes g k list
+report-is g st list h k same =
+    let n = filledNumber g (descriptorsIn list) in
+    let c = viewState (stateFrom (g .zones) st) .condition in
+    ap reportedBytes (sym (made (reportInput g st) (reportBytes g c list) list h)) ∙ finished n (filledBytes g c n list) ∙ ap (finishedOf n) (filled-same g c (λ z. k .zone z .condition) same n list (filled-most g (descriptorsIn list)))
+  where
+    finishedOf : ℕ → List ℕ → ReportResult (List ℕ)
+    finishedOf n xs = record { answer = Finished; number = n; list = xs }
+
+    finished : (n : ℕ) (xs : List ℕ) → reportedBytes (answered (withNumber 0 n) xs) ≡ finishedOf n xs
+    finished n xs =
+        let a : withNumber 0 n % 4294967296 ≡ 0 = omega arith in
+        let b : withNumber 0 n / 4294967296 ≡ n = omega arith in
+        rw (a, b) refl

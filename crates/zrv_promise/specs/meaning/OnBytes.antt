@@ -2,7 +2,7 @@
 -- a mask, and each call is what the function of include/zrv.h does to those ranges (zrv's EdgeCalls, which the functions' contracts cite). So whatever a host
 -- in C does is an instance of the claim.
 use mathlib.Core.Path.{_≡_}
-use Prim.Native.Nat.{ℕ, _<_}
+use Prim.Native.Nat.{ℕ, _/_, _%_, _<_}
 use mathlib.Core.List.{List, []}
 use lib.ListN.{length, getD, take, drop, replicate}
 use lib.Dec.{eqb}
@@ -13,11 +13,13 @@ use Rattle.tables.specs.meaning.LittleEndian.{numberLE}
 use Rattle.volume.specs.declared.Answer.{Answer}
 use Rattle.volume.specs.declared.Answer.the-variants.{Finished, Unfinished, Refused}
 use Rattle.volume.specs.meaning.Answers.{CallResult}
+use Rattle.volume.specs.meaning.Report.{ReportResult, filledNumber}
+use Rattle.volume.specs.meaning.Rules.{Shown}
 use Rattle.volume.specs.meaning.CallContracts.{recordAt, isSet, stateShown, ReadResult}
 use Rattle.promise.specs.meaning.Claim.{Call, mounts, writes, flushes, resets, formats, Peeked, Volume, KeepsPromise}
 use Rattle.promise.specs.meaning.OnTables.{shownIn}
 use Rattle.zrv.specs.meaning.Bytes.{stateFrom, stateTo}
-use Rattle.zrv.specs.meaning.EdgeCalls.{namedOf, Ranges, ranges, tablesIn, Answered, formatEdge, lookEdge, mountEdge, writeEdge, flushEdge, resetEdge, readEdge, peekEdge}
+use Rattle.zrv.specs.meaning.EdgeCalls.{namedOf, Ranges, ranges, tablesIn, Answered, formatEdge, lookEdge, mountEdge, writeEdge, flushEdge, resetEdge, readEdge, peekEdge, descriptorsIn, filledBytes, reportEdge}
 
 -- the ranges of the sectors and of the two tables
 pub record LentBytes : Type 0 where
@@ -58,6 +60,14 @@ peekedBytes g e m = record { number = e .code; from = numberLE (e .left); part =
 abbrev pub noPlace : List ℕ
 noPlace = replicate 8 0
 
+-- what a report returns: its answer in the low 32 bits, the number of descriptors in the high 32
+abbrev pub reportedBytes : Answered (List ℕ) → ReportResult (List ℕ)
+reportedBytes e = record { answer = answerOf (e .code % 4294967296); number = e .code / 4294967296; list = e .left }
+
+-- the bytes of a report of the conditions shown
+abbrev pub shownBytes : Geometry → Shown → List ℕ → ReportResult (List ℕ)
+shownBytes g k list = let n = filledNumber g (descriptorsIn list) in record { answer = Finished; number = n; list = filledBytes g (λ z. k .zone z .condition) n list }
+
 -- what a cut or a loss leaves is bytes, as many as before
 pub record StillBytes (m u : LentBytes) : Type 0 where
   pub written-long : length (u .written) ≡ length (m .written)
@@ -75,8 +85,11 @@ onBytes g = record {
   look = λ mask st m. bytesResult (lookEdge g mask (rangesOf m st));
   read = λ mask st a k out m. readBytes (readEdge g mask a k (rangesOf m st) out);
   peek = λ mask st a m. peekedBytes g (peekEdge g mask a (rangesOf m st) noPlace) m;
+  Listing = List ℕ;
+  report = λ st list. reportedBytes (reportEdge g st list);
   shows = λ mask m u. shownIn g (namedOf mask) (tablesAt g m) (tablesAt g u);
   stateOf = λ k. stateTo (g .zones) (stateShown g k);
+  reportOf = shownBytes g;
   lostIn = λ st. stateFrom (g .zones) st .lost;
   generation = λ st z. recordAt (stateFrom (g .zones) st) z .generation;
   condition = λ st z. recordAt (stateFrom (g .zones) st) z .condition;

@@ -1,7 +1,7 @@
 use mathlib.Core.Path.{refl, sym, _∙_, ap}
 use denote.Ref.{now}
 use borrow.Author.Tests.{eq-eqb, ne-eqb}
-use Rattle.replaying.specs.Calling.{Done, state-write, state-flush, state-reset, state-read, state-peek}
+use Rattle.replaying.specs.Calling.{Done, state-write, state-flush, state-reset, state-read, state-report, state-peek}
 use Rattle.tables.specs.meaning.Tables.{tablesOf}
 use Rattle.replaying.proofs.performing.call_with_state.Statement.{statement}
 use Rattle.replaying.proofs.performing.call_with_state.Tie as tie
@@ -60,6 +60,12 @@ same-length-14 c = c .before .before .read .kept .1 .1 .1 .0
 returns-4 : tie.Need-returns-4
 returns-4 c = let a = c .before .before .before .before .before .before .before .before .before .before .before .before .before .before .before .args in let q = state-read (a .h) (a .c) (a .buffer .now) (tablesOf (a .sectors .now) (a .written .now) (a .durable .now)) (ne-eqb _ 119 (c .before .before .before .before .before .before .before .before .before .before .if1 .left)) (ne-eqb _ 117 (c .before .before .before .before .before .before .before .before .before .if2 .left)) (ne-eqb _ 114 (c .before .before .before .before .before .before .before .before .if3 .left)) (eq-eqb _ 100 (c .before .before .before .before .before .before .before .if4 .taken)) in (c .before .before .read .ensures .0 ∙ sym (ap (λ (x : Done). x .reply) q), sym (ap (λ (x : Done). x .tables) q), c .before .before .read .ensures .1 ∙ sym (ap (λ (x : Done). x .buffer) q))
 
+returns-5 : tie.Need-returns-5
+returns-5 c =
+    let a = c .before .before .before .before .before .before .before .before .before .before .args in
+    let q = state-report (a .h) (a .c) (a .buffer .now) (tablesOf (a .sectors .now) (a .written .now) (a .durable .now)) (ne-eqb _ 119 (c .before .before .before .before .before .if1 .left)) (ne-eqb _ 117 (c .before .before .before .before .if2 .left)) (ne-eqb _ 114 (c .before .before .before .if3 .left)) (ne-eqb _ 100 (c .before .before .if4 .left)) (eq-eqb _ 111 (c .before .if5 .taken)) in
+    (c .report .ensures ∙ sym (ap (λ (x : Done). x .reply) q), sym (ap (λ (x : Done). x .tables) q), sym (ap (λ (x : Done). x .buffer) q))
+
 same-length-15 : tie.Need-same-length-15
 same-length-15 c = refl
 
@@ -69,12 +75,15 @@ same-length-16 c = refl
 same-length-17 : tie.Need-same-length-17
 same-length-17 c = refl
 
-returns-5 : tie.Need-returns-5
-returns-5 c = let a = c .before .before .before .before .before .before .before .before .before .before .before .before .args in let q = state-peek (a .h) (a .c) (a .buffer .now) (tablesOf (a .sectors .now) (a .written .now) (a .durable .now)) (ne-eqb _ 119 (c .before .before .before .before .before .before .before .if1 .left)) (ne-eqb _ 117 (c .before .before .before .before .before .before .if2 .left)) (ne-eqb _ 114 (c .before .before .before .before .before .if3 .left)) (ne-eqb _ 100 (c .before .before .before .before .if4 .left)) in (c .peek .ensures ∙ sym (ap (λ (x : Done). x .reply) q), sym (ap (λ (x : Done). x .tables) q), sym (ap (λ (x : Done). x .buffer) q))
+returns-6 : tie.Need-returns-6
+returns-6 c =
+    let a = c .before .before .before .before .before .before .before .before .before .before .before .before .before .args in
+    let q = state-peek (a .h) (a .c) (a .buffer .now) (tablesOf (a .sectors .now) (a .written .now) (a .durable .now)) (ne-eqb _ 119 (c .before .before .before .before .before .before .before .before .if1 .left)) (ne-eqb _ 117 (c .before .before .before .before .before .before .before .if2 .left)) (ne-eqb _ 114 (c .before .before .before .before .before .before .if3 .left)) (ne-eqb _ 100 (c .before .before .before .before .before .if4 .left)) (ne-eqb _ 111 (c .before .before .before .before .if5 .left)) in
+    (c .peek .ensures ∙ sym (ap (λ (x : Done). x .reply) q), sym (ap (λ (x : Done). x .tables) q), sym (ap (λ (x : Done). x .buffer) q))
 
 pub call-with-state-spec : {M : Type 1} → statement M
 call-with-state-spec =
     tie.close
     (tie.spec (λ c κs. tt) same-length same-length-2 same-length-3 same-length-4 returns (λ c κs. tt) same-length-5 same-length-6 same-length-7
     returns-2 (λ c κs. tt) same-length-8 same-length-9 same-length-10 returns-3 (λ c κs. tt) same-length-11 same-length-12 same-length-13
-    same-length-14 returns-4 (λ c κs. tt) same-length-15 same-length-16 same-length-17 returns-5)
+    same-length-14 returns-4 (λ c κs. tt) returns-5 (λ c κs. tt) same-length-15 same-length-16 same-length-17 returns-6)

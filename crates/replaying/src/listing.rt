@@ -1,0 +1,81 @@
+// What the answer line of a report shows: how many descriptors it fills, and the checksum of the whole list as C's bytes, with those that it leaves.
+use super::Command;
+use super::Host;
+use super::Sums;
+use tables::Geometry;
+use volume::State;
+use volume::ZoneDescriptor;
+ghost use mathlib.Core.Path.{_≡_};
+ghost use Rattle.volume.specs.meaning.CallContracts.{viewState};
+ghost use Rattle.replaying.specs.Adler.{Small};
+ghost use Rattle.replaying.specs.Listing.{reportFilled, addDescriptor, addUntouched, addListed, listSum};
+
+// Eight bytes of a descriptor before any report, 0xEE each.
+const UNTOUCHED: u64 = 17216961135462248174;
+
+// With the bytes of a descriptor.
+fn add_descriptor(s: Sums, d: ZoneDescriptor) -> Sums
+    requires { ⌜ Small s ⌝ }
+    ensures { λ r. ⌜ (r ≡ addDescriptor s d) × Small r ⌝ }
+{
+    let start = d.start;
+    let capacity = d.capacity;
+    let pointer = d.pointer;
+    let condition = d.condition;
+    let told = volume::numbers::told_number(condition);
+    let s1 = super::checksum::add_number(s, start);
+    let s2 = super::checksum::add_number(s1, capacity);
+    let s3 = super::checksum::add_number(s2, pointer);
+    super::checksum::add_number(s3, told)
+}
+
+// With the bytes of a descriptor that is left.
+fn add_untouched(s: Sums) -> Sums
+    requires { ⌜ Small s ⌝ }
+    ensures { λ r. ⌜ (r ≡ addUntouched s) × Small r ⌝ }
+{
+    let s1 = super::checksum::add_number(s, UNTOUCHED);
+    let s2 = super::checksum::add_number(s1, UNTOUCHED);
+    let s3 = super::checksum::add_number(s2, UNTOUCHED);
+    super::checksum::add_number(s3, UNTOUCHED)
+}
+
+// With the bytes of the list's next descriptor.
+fn add_listed(s: Sums, g: Geometry, state: State, lent: usize, z: usize) -> Sums
+    requires { ⌜ Small s ⌝ }
+    ensures { λ r. ⌜ (r ≡ addListed g (viewState state) lent s z) × Small r ⌝ }
+{
+    let n = volume::reporting::report_number(g, state, lent);
+    if z < n {
+        let d = volume::reporting::describe(g, state, z);
+        return add_descriptor(s, d);
+    }
+    add_untouched(s)
+}
+
+// How many descriptors are filled.
+pub fn report_filled(h: Host, c: Command) -> u64
+    ensures { λ r. ⌜ r ≡ reportFilled h c ⌝ }
+{
+    let g = h.geometry;
+    let state = h.state;
+    let lent = c.first as usize;
+    let n = volume::reporting::report_number(g, state, lent);
+    n as u64
+}
+
+// The checksum of the list.
+pub fn list_sum(h: Host, c: Command) -> u64
+    ensures { λ r. ⌜ r ≡ listSum h c ⌝ }
+{
+    let g = h.geometry;
+    let state = h.state;
+    let lent = c.first as usize;
+    let mut s = super::checksum::start_sums();
+    let mut z = 0;
+    while z < lent {
+        s = add_listed(s, g, state, lent, z);
+        z += 1;
+    }
+    super::checksum::sum_number(s)
+}

@@ -1,0 +1,140 @@
+-- Laws of the report on bytes: what passing its test gives, how the list is filled, and that it is volume's report.
+use mathlib.Core.Path.{_≡_, refl, sym, ap, ap₂, _∙_}
+use mathlib.Core.Logic.{_≢_}
+use mathlib.Core.Bool.{Bool, true, false, _&&_, not}
+use Prim.Native.Nat.{ℕ, zero, suc, _+_, _*_, _/_, _%_, _≤_, _<_}
+use native.Mathlib.Omega.{arith}
+use native.Mathlib.Decide.{ℕ-discrete}
+use mathlib.Core.List.{List, [], _∷_, _++_}
+use lib.ListN.{length, drop, length-append}
+use lib.Dec.{ltb, eqb}
+use borrow.Author.Tests.{eqb-true, ltb-true, ltb-false, ne-eqb}
+use Rattle.tables.specs.declared.Geometry.{Geometry}
+use Rattle.tables.specs.meaning.Basics.{pick}
+use Rattle.tables.specs.laws.Basics.{and-split, and-join, not-not}
+use Rattle.tables.specs.meaning.Below.{eachBelow}
+use Rattle.tables.specs.meaning.Geometry.{Valid, cells}
+use Rattle.tables.specs.meaning.GeometryTest.{isValid}
+use Rattle.tables.specs.laws.GeometryTest.{valid-if-test}
+use Rattle.tables.specs.meaning.Lists.{overlay}
+use Rattle.tables.specs.meaning.LittleEndian.{bytesLE}
+use Rattle.tables.specs.laws.LittleEndian.{writeLE}
+use Rattle.tables.specs.laws.Lists.{lay-lay}
+use Rattle.volume.specs.declared.Condition.{Condition}
+use Rattle.volume.specs.declared.State.{State}
+use Rattle.volume.specs.declared.ZoneDescriptor.{ZoneDescriptor}
+use Rattle.volume.specs.meaning.Refusals.{stateWithin}
+use Rattle.volume.specs.meaning.CallContracts.{viewState}
+use Rattle.volume.specs.meaning.Report.{toldNumber, descriptorOf, mayReport, filledNumber}
+use Rattle.volume.specs.laws.Report.{filled-most}
+use Rattle.volume.specs.reading.Reporting.{reportNumber, number-if}
+use Rattle.zrv.specs.meaning.Bytes.{stateFrom, stateWellFormed, descriptorTo}
+use Rattle.zrv.specs.meaning.EdgeCalls.{sizesFit, stateBad, inputNumber, reportInput, descriptorsIn, filledBytes, withNumber, reportBytes, reportEdge, Answered, answered, unlessRefused}
+use Rattle.zrv.specs.laws.Bytes.{lay-next}
+use Rattle.zrv.specs.laws.EdgeCalls.{refused, made}
+
+-- what passing the test gives
+pub record Reportable (g : Geometry) (st : List ℕ) : Type 0 where
+  pub valid : Valid g
+  pub state-long : length st ≡ 264
+  pub may : mayReport g (viewState (stateFrom (g .zones) st)) ≡ true
+
+pub report-passed : (g : Geometry) (st : List ℕ) → reportInput g st ≡ 0 → Reportable g st
+unfolding reportInput stateBad
+report-passed g st h = go (isValid g) refl (eqb (length st) 264) refl (stateWellFormed (g .zones) st) refl (stateWithin g (viewState (stateFrom (g .zones) st))) refl h
+  where
+    go : (v : Bool) → isValid g ≡ v → (l : Bool) → eqb (length st) 264 ≡ l → (f : Bool) → stateWellFormed (g .zones) st ≡ f → (w : Bool) → stateWithin g (viewState (stateFrom (g .zones) st)) ≡ w
+        → _≡_ {A = ℕ} (pick v (pick (l && not (f && w)) 1 (pick l 0 2)) 1) 0 → Reportable g st
+    go false a l b f c w d k = absurd (omega arith)
+    go true a false b f c w d k = absurd (omega arith)
+    go true a true b false c w d k = absurd (omega arith)
+    go true a true b true c false d k = absurd (omega arith)
+    go true a true b true c true d k = record { valid = valid-if-test g a; state-long = eqb-true (length st) 264 b; may = and-join (isValid g) (stateWithin g (viewState (stateFrom (g .zones) st))) a d }
+
+-- then as many are filled as are lent, but at most the zones; and there is room for them
+pub number-passed : (g : Geometry) (st list : List ℕ) → Reportable g st → reportNumber g (viewState (stateFrom (g .zones) st)) (descriptorsIn list) ≡ filledNumber g (descriptorsIn list)
+number-passed g st list r = number-if g (viewState (stateFrom (g .zones) st)) (descriptorsIn list) true (ltb (descriptorsIn list) (g .zones)) (r .may) refl
+
+pub number-room : (g : Geometry) (list : List ℕ) → (filledNumber g (descriptorsIn list) ≤ g .zones) × (filledNumber g (descriptorsIn list) * 32 ≤ length list)
+number-room g list = (filled-most g (descriptorsIn list), go (ltb (length list / 32) (g .zones)) refl)
+  where
+    go : (b : Bool) → ltb (length list / 32) (g .zones) ≡ b → pick b (length list / 32) (g .zones) * 32 ≤ length list
+    go true e = omega arith
+    go false e = let l : g .zones ≤ length list / 32 = ltb-false (length list / 32) (g .zones) e in omega arith
+
+-- ---- a descriptor's four numbers, laid one after the other
+pub descriptor-laid : (xs : List ℕ) (at : ℕ) (d : ZoneDescriptor) → at + 32 ≤ length xs
+    → writeLE 8 (writeLE 8 (writeLE 8 (writeLE 8 xs at (d .start)) (at + 8) (d .capacity)) (at + 16) (d .pointer)) (at + 24) (toldNumber (d .condition)) ≡ overlay xs at (descriptorTo d)
+unfolding descriptorTo
+descriptor-laid xs at d h =
+    let a = bytesLE 8 (d .start) in
+    let b = bytesLE 8 (d .capacity) in
+    let c = bytesLE 8 (d .pointer) in
+    let e = bytesLE 8 (toldNumber (d .condition)) in
+    ap (λ (ys : List ℕ). overlay (overlay ys (at + 16) c) (at + 24) e) (lay-lay xs at a b (omega arith)) ∙ ap (λ (ys : List ℕ). overlay ys (at + 24) e) (lay-lay xs at (a ++ b) c (omega arith)) ∙ lay-lay xs at (a ++ b ++ c) e (omega arith)
+
+pub length-descriptor-to : (d : ZoneDescriptor) → length (descriptorTo d) ≡ 32
+unfolding descriptorTo
+length-descriptor-to d = refl
+
+-- ---- the list while it is filled
+module _ (g : Geometry) (condition : ℕ → Condition) where
+  abbrev told : ℕ → List ℕ
+  told z = descriptorTo (descriptorOf g z (condition z))
+
+  length-told : (n : ℕ) → length (eachBelow told n) ≡ n * 32
+  length-told zero = refl
+  length-told (suc n) = length-append (eachBelow told n) (told n) ∙ rw (length-told n, length-descriptor-to (descriptorOf g n (condition n))) (omega arith)
+
+  pub filled-start : (list : List ℕ) → list ≡ filledBytes g condition 0 list
+  unfolding filledBytes
+  filled-start list = refl
+
+  pub filled-more : (z : ℕ) (list : List ℕ) → overlay (filledBytes g condition z list) (z * 32) (descriptorTo (descriptorOf g z (condition z))) ≡ filledBytes g condition (suc z) list
+  unfolding filledBytes
+  filled-more z list =
+      let e : z * 32 + length (told z) ≡ suc z * 32 = rw (length-descriptor-to (descriptorOf g z (condition z))) (omega arith) in
+      lay-next (eachBelow told z) list (told z) (z * 32) (length-told z) ∙ ap (λ (k : ℕ). eachBelow told (suc z) ++ drop k list) e
+
+-- what is returned and left then
+pub report-made : (g : Geometry) (condition : ℕ → Condition) (list : List ℕ) {n : ℕ} {left : List ℕ} → n ≡ filledNumber g (descriptorsIn list) → left ≡ filledBytes g condition n list
+    → answered (4294967296 * n) left ≡ reportBytes g condition list
+report-made g condition list {n} {left} e f =
+    let k = filledNumber g (descriptorsIn list) in
+    let a : 4294967296 * n ≡ withNumber 0 k = omega arith in
+    ap₂ answered a (f ∙ ap (λ (m : ℕ). filledBytes g condition m list) e)
+
+-- ---- refused, the list is as it was: the low 32 bits of what is returned are the refusal's number
+pub report-refused : (g : Geometry) (st list : List ℕ) → reportEdge g st list .code % 4294967296 ≢ 0 → reportEdge g st list .left ≡ list
+report-refused g st list h = go (ℕ-discrete (reportInput g st) 0)
+  where
+    r : Answered (List ℕ)
+    r = reportBytes g (viewState (stateFrom (g .zones) st) .condition) list
+
+    low : (n : ℕ) → (0 + 4294967296 * n) % 4294967296 ≡ 0
+    low n = omega arith
+
+    go : Dec (reportInput g st ≡ 0) → reportEdge g st list .left ≡ list
+    go (no e) = ap (λ (x : Answered (List ℕ)). x .left) (sym (refused (reportInput g st) r list e))
+    go (yes e) = absurd (h (ap (λ (x : Answered (List ℕ)). x .code % 4294967296) (sym (made (reportInput g st) r list e)) ∙ low (filledNumber g (descriptorsIn list))))
+
+-- ---- what a call that reads the state is not refused for, a report is not refused for
+pub input-reports : (g : Geometry) (st : List ℕ) (w d : ℕ) → inputNumber g st w d ≡ 0 → reportInput g st ≡ 0
+unfolding inputNumber reportInput sizesFit
+input-reports g st w d h = go (isValid g) (stateBad g st) (eqb (length st) 264) (eqb w (cells g * 4) && eqb d (cells g * 4)) h
+  where
+    go : (v b l f : Bool) → _≡_ {A = ℕ} (pick v (pick b 1 (pick (l && f) 0 2)) 1) 0 → _≡_ {A = ℕ} (pick v (pick b 1 (pick l 0 2)) 1) 0
+    go false b l f k = absurd (omega arith)
+    go true true l f k = absurd (omega arith)
+    go true false true f k = refl
+    go true false false f k = absurd (omega arith)
+
+-- the same conditions of the volume's zones: the same bytes
+module _ (g : Geometry) (a b : ℕ → Condition) (same : (z : ℕ) → z < g .zones → a z ≡ b z) where
+  told-same : (n : ℕ) → n ≤ g .zones → eachBelow (told g a) n ≡ eachBelow (told g b) n
+  told-same zero h = refl
+  told-same (suc n) h = ap₂ _++_ (told-same n (omega arith)) (ap (λ (c : Condition). descriptorTo (descriptorOf g n c)) (same n (omega arith)))
+
+  pub filled-same : (n : ℕ) (list : List ℕ) → n ≤ g .zones → filledBytes g a n list ≡ filledBytes g b n list
+  unfolding filledBytes
+  filled-same n list h = ap (λ (xs : List ℕ). xs ++ drop (n * 32) list) (told-same n h)

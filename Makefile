@@ -41,11 +41,12 @@ EDGE = target/edge
 REPLAY_C = c/replay.c c/script_host.c c/damage.c c/script.c host/shelf.c host/call.c
 PLAIN_C = c/plain.c c/plain_logs.c c/plain_refusals.c host/journal.c
 BAD_INPUT_C = c/bad_input.c c/fixture.c c/expected.c $(PLAIN_C) host/shelf.c host/call.c
-BENCH_C = c/bench.c $(PLAIN_C) host/shelf.c host/call.c
+GROUPED_REPLAY_C = c/grouped_replay.c c/script.c host/shelf.c host/call.c
+BENCH_C = c/bench.c c/bench_grouped.c c/plain_grouped.c $(PLAIN_C) host/shelf.c host/call.c
 HOST_C = host/driver.c host/drives.c host/drive_file.c host/files.c host/journal.c host/progress.c host/message.c host/shelf.c host/call.c
 EXPLORE_C = tool/explore/explore.c tool/explore/options.c tool/explore/oracle.c tool/explore/caches.c tool/explore/world.c tool/explore/story.c \
 	tool/explore/check.c tool/explore/engine.c tool/explore/report.c tool/explore/picture.c
-ZRV_C = tool/zrv.c tool/commands.c tool/transfer.c tool/report.c tool/checklist.c tool/left_out.c tool/tool.c tool/options.c tool/words.c tool/refusals.c $(EXPLORE_C) $(HOST_C)
+ZRV_C = tool/zrv.c tool/commands.c tool/transfer.c tool/report.c tool/grouped.c tool/checklist.c tool/left_out.c tool/tool.c tool/options.c tool/words.c tool/refusals.c $(EXPLORE_C) $(HOST_C)
 ZRV_H = include/zrv.h $(wildcard host/*.h tool/*.h tool/explore/*.h)
 
 zrv: target/zrv
@@ -64,12 +65,16 @@ edge-test:
 	@mkdir -p $(EDGE)
 	@g++ -std=c++11 -Wall -Wextra -Werror -pedantic -fsyntax-only -x c++ include/zrv.h
 	@$(COMPILE) -O2 $(REPLAY_C) $(LIBRARY) -o $(EDGE)/replay
+	@$(COMPILE) -O2 $(GROUPED_REPLAY_C) $(LIBRARY) -o $(EDGE)/grouped_replay
 	@$(COMPILE) -O2 $(BAD_INPUT_C) $(LIBRARY) -o $(EDGE)/bad_input
 	@$(COMPILE) $(SANITIZE) $(REPLAY_C) $(LIBRARY) -o $(EDGE)/replay_sanitized
+	@$(COMPILE) $(SANITIZE) $(GROUPED_REPLAY_C) $(LIBRARY) -o $(EDGE)/grouped_replay_sanitized
 	@$(COMPILE) $(SANITIZE) $(BAD_INPUT_C) $(LIBRARY) -o $(EDGE)/bad_input_sanitized
 	@$(EDGE)/replay < crates/replay/stdin | cmp - crates/replay/stdout && echo "replay: $$(wc -l < crates/replay/stdout) lines equal"
+	@$(EDGE)/grouped_replay < c/vectors/grouped.txt | cmp - c/vectors/grouped.out && echo "grouped replay: $$(wc -l < c/vectors/grouped.out) lines equal"
 	@$(EDGE)/bad_input
 	@$(EDGE)/replay_sanitized < crates/replay/stdin | cmp - crates/replay/stdout && echo "replay, sanitized: $$(wc -l < crates/replay/stdout) lines equal"
+	@$(EDGE)/grouped_replay_sanitized < c/vectors/grouped.txt | cmp - c/vectors/grouped.out && echo "grouped replay, sanitized: $$(wc -l < c/vectors/grouped.out) lines equal"
 	@$(EDGE)/bad_input_sanitized
 
 tool-test: target/zrv target/zrv_sanitized
@@ -86,6 +91,7 @@ example:
 
 format-test:
 	@model/format_model.py replay < crates/replay/stdin | cmp - crates/replay/stdout && echo "format model: $$(wc -l < crates/replay/stdout) lines equal"
+	@model/format_model.py grouped < c/vectors/grouped.txt | cmp - c/vectors/grouped.out && echo "grouped model: $$(wc -l < c/vectors/grouped.out) lines equal"
 	@model/format_model.py check docs/FORMAT.md crates/replay/stdout
 
 VECTOR_PARTS = plain refusals damage worn corners

@@ -8,6 +8,7 @@
 #include <string.h>
 #include <time.h>
 
+#include "bench_grouped.h"
 #include "bytes.h"
 #include "plain.h"
 #include "shelf.h"
@@ -278,5 +279,6 @@ int main(void) {
     printf("%6s %15s %15s %15s %15s %15s\n", "wanted", "0.90", "0.90", "0.90", "0.60", "0.50");
     growth();
     sizes();
+    grouped_rows();
     return 0;
 }

@@ -5,27 +5,9 @@
 #include <stdlib.h>
 #include <string.h>
 
+#include "adler.h"
 #include "bytes.h"
 #include "script_host.h"
-
-enum { ADLER_BASE = 65521, ADLER_RUN = 5552 };
-
-/* Adler-32 carried on over further bytes; it starts at 1. ADLER_RUN bytes fit before a sum must be reduced. */
-static uint32_t adler(uint32_t sum, const uint8_t *bytes, size_t length) {
-    uint32_t low = sum & 0xffff, high = sum >> 16;
-    while (length > 0) {
-        size_t run = length < ADLER_RUN ? length : ADLER_RUN;
-        for (size_t i = 0; i < run; i++) {
-            low += bytes[i];
-            high += low;
-        }
-        low %= ADLER_BASE;
-        high %= ADLER_BASE;
-        bytes += run;
-        length -= run;
-    }
-    return high << 16 | low;
-}
 
 static void show_state(const uint8_t *state, uint32_t zones) {
     printf(" lost %u", state[ZRV_STATE_LOST]);

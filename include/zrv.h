@@ -105,6 +105,8 @@ extern "C" {
 #define ZRV_UNWRITTEN 13u   /* a read or peek past the pointer */
 #define ZRV_LOG_FULL 14u    /* mount, reset, write: too little unused log */
 #define ZRV_GONE 15u        /* a sector needed is not known; in a peek, not held */
+#define ZRV_GROUP_IDS 23u   /* zrv_grouped_read: in some group a present drive lacks a stripe ID, or has it twice */
+#define ZRV_GROUP_ALIKE 24u /* zrv_grouped_read: two data blocks, no fillers, with equal address and timestamp */
 #define ZRV_UNFINISHED 255u
 
 /* Format: an empty volume. array: the number that every label carries. Finished, `state` is the first state; what it held is never read.
@@ -167,6 +169,22 @@ uint32_t zrv_peek(uint32_t drives, uint32_t sector_bytes, uint32_t unit, uint32_
  * for the whole ones. It returns its answer in the low 32 bits and how many descriptors it filled in the high 32. Refusal 1, and 2 for the state's length. */
 uint64_t zrv_report(uint32_t drives, uint32_t sector_bytes, uint32_t unit, uint32_t zones, uint32_t zone_sectors,
                     const uint8_t *state, size_t state_bytes, uint8_t *list, size_t list_bytes);
+
+/* Segments with grouped stripes (ZapRAID's layout), read alone. The numbers: drives D, 3 to 8; block_bytes B, as a sector's; group G, the stripes of a
+ * group, 1 to 256; blocks_per_drive N, whole groups, at most 65536. `named` is as above. The ranges, each of exactly its length:
+ *   blocks    D * N * B bytes, drive by drive
+ *   metadata  ZRV_GROUPED_RECORD_BYTES for each block, in the same order: address 8, timestamp 8, stripe ID 4, little-endian
+ *   work      2 * D * N numbers of 4 bytes, scratch: what it holds before a call is not read, what it holds afterwards is left open, after a refusal too
+ *   answer    B bytes
+ * Finished, `answer` is the data block with that address and the greatest timestamp. One drive may be missing: its memory is never read. An address of
+ * ZRV_GROUPED_FILLER marks a filler, which is never read. Refusals, in this order: 1, 2, 4, 23, 24 and 13 (no data block has the address). */
+#define ZRV_GROUPED_RECORD_BYTES 20u
+#define ZRV_GROUPED_FILLER UINT64_MAX
+#define ZRV_GROUPED_WORK_BYTES(drives, blocks_per_drive) ((size_t)(drives) * (size_t)(blocks_per_drive) * 8u)
+
+uint32_t zrv_grouped_read(uint32_t drives, uint32_t block_bytes, uint32_t group, uint32_t blocks_per_drive, uint32_t named, uint64_t address,
+                          const uint8_t *blocks, size_t blocks_bytes, const uint8_t *metadata, size_t metadata_bytes,
+                          uint8_t *work, size_t work_bytes, uint8_t *answer, size_t answer_bytes);
 
 #ifdef __cplusplus
 }

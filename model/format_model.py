@@ -1,7 +1,8 @@
 #!/usr/bin/env python3
-"""A second implementation of the volume, written along docs/FORMAT.md (format_volume.py and format_calls.py), and two uses of it.
+"""A second implementation of the volume, written along docs/FORMAT.md (format_volume.py, format_calls.py and format_grouped.py), and its uses.
 
     model/format_model.py replay < crates/replay/stdin     the answers to a script of commands (section 12), one a line
+    model/format_model.py grouped < c/vectors/grouped.txt  the same for segments with grouped stripes (section 13)
     model/format_model.py check docs/FORMAT.md crates/replay/stdout
                                                            the page's worked values against the model's, and which call knows which
                                                            refusal against the answers of the vectors
@@ -12,24 +13,12 @@ import zlib
 
 from format_calls import Host
 from format_check import check
+from format_grouped import GroupedReplay, numbers, stream_bytes
 from format_numbers import DESCRIPTOR_BYTES, Answer, Condition
 from format_volume import Drives, Geometry, State, ZoneRecord, header
 
 NOTHING_SHORT = (0, 0, 0, 0)
 UNTOUCHED = bytes([0xEE]) * DESCRIPTOR_BYTES
-
-
-def numbers(seed):
-    """The stream of a seed."""
-    x = seed % 2**31
-    while True:
-        x = (x * 1103515245 + 12345) % 2**31
-        yield x
-
-
-def stream_bytes(seed, count):
-    stream = numbers(seed)
-    return bytes(next(stream) // 65536 % 256 for _ in range(count))
 
 
 def words(state):
@@ -162,15 +151,18 @@ class Replay:
             drives.append(drive, zone, data)
 
 
-def replay(lines):
+def replay(lines, script=None):
     """The answers to a script."""
-    script = Replay()
+    script = script or Replay()
     return [script.answer(line) for line in lines]
 
 
 def main(arguments):
     if arguments == ["replay"]:
         print("\n".join(replay(sys.stdin)))
+        return 0
+    if arguments == ["grouped"]:
+        print("\n".join(replay(sys.stdin, GroupedReplay())))
         return 0
     if len(arguments) == 3 and arguments[0] == "check":
         with open(arguments[2], encoding="utf-8") as answers:

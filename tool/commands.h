@@ -13,5 +13,6 @@ int cut_main(int argc, char **argv);
 int pull_main(int argc, char **argv);
 int look_main(int argc, char **argv);
 int mount_main(int argc, char **argv);
+int grouped_main(int argc, char **argv);
 
 #endif

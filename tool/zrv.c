@@ -68,6 +68,17 @@ static const struct command commands[] = {
      "whatever was found, and with 1 where it refuses to.\n"},
     {"mount", mount_main, "bring the volume up after a power cut or the loss of a drive", "FOLDER [options]",
      "Completes what was cut short and shows the zones.\n" STORES_HELP},
+    {"grouped", grouped_main, "read a block of a segment with grouped stripes", "read --blocks FILE --metadata FILE --at ADDRESS [options]",
+     "Reads a block of a partner's segment (ZapRAID's layout), kept as two files: the blocks drive by drive, and for each block 20 bytes of metadata in\n"
+     "the same order (address 8, timestamp 8, stripe ID 4, little-endian). The blocks of a drive are counted by the metadata.\n"
+     "  --blocks FILE     the blocks\n"
+     "  --metadata FILE   their metadata\n"
+     "  --at ADDRESS      the block's address; of several blocks with it the newest is read\n"
+     "  --drives D        drives, 3 to 8 (4)\n"
+     "  --block-bytes B   bytes of a block, 64 and so on by doubling to 4096 (4096)\n"
+     "  --group G         stripes of a group, 1 to 256 (256)\n"
+     "  --without DRIVE   read around a drive: its part of the files is not looked at\n"
+     "  --to FILE         where the block goes; without it standard output\n"},
     {"explore", explore_main, "go through every moment at which power can go, in memory", "[options]", NULL},
 };
 

@@ -28,7 +28,7 @@ pub fn shape(drives: u32, sector_bytes: u32, unit: u32, zones: u32, zone_sectors
 }
 
 // The drives that a mask names.
-fn named_drives(mask: u32) -> [bool; 8]
+pub fn named_drives(mask: u32) -> [bool; 8]
     ensures { λ r. ⌜ r ≡ namedOf mask ⌝ }
 {
     let m1 = mask / 2;

@@ -1,10 +1,12 @@
 // The C edge: the nine calls of include/zrv.h, `extern "C"`, on numbers and byte ranges (document 01: "The host driver is written in C and calls mount,
 // write, flush, reset and read with numbers and byte ranges; state and tables pass as bytes"). Each returns 0 finished, 1 to 15 the refusal's number,
-// 255 unfinished; a report adds its number of descriptors above that. Each reads its input, makes volume's call on scratch for the two tables, and hands back what that leaves.
+// 255 unfinished; a report adds its number of descriptors above that. Each reads its input, makes volume's call on scratch for the two tables, and hands
+// back what that leaves. `segments` has a tenth beside them, the read of a segment with grouped stripes.
 pub mod input;
 pub mod mounting;
 pub mod reading;
 pub mod reporting;
+pub mod segments;
 pub mod state;
 pub mod words;
 pub mod writing;

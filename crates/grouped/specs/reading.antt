@@ -1,0 +1,4 @@
+pub mod Blocks
+pub mod Later
+pub mod Call
+pub mod SameCall

@@ -18,8 +18,8 @@ use Rattle.logs.specs.meaning.Entry.{generalZone, parityZone, wornGeneration, H
 use Rattle.logs.specs.laws.Walk.{Whole, Left, cutEntries}
 use Rattle.volume.specs.meaning.Content.{parityDriveAt}
 use Rattle.promise.specs.meaning.Ledger.{Ledger}
-use Rattle.promise.specs.invariant.Invariant.{Ghost, Here, LogsOk, Capped, CappedBelow, TrueRows, Live, Dying, resetLasts, said, factsOf}
-use Rattle.promise.specs.invariant.SaidMoves.{Moves, HeadJoins, EntryJoins, Was, always-of, live-moves, dying-moves}
+use Rattle.promise.specs.invariant.Invariant.{Ghost, Here, LogsOk, Capped, TrueRows, Live, Dying, resetLasts, said, factsOf, Counts}
+use Rattle.promise.specs.invariant.SaidMoves.{Moves, HeadJoins, EntryJoins, Was, always-of, live-moves, dying-moves, said-sure}
 use Rattle.logs.specs.meaning.Heads.{generationIn}
 
 -- the ghosts with other logs
@@ -48,9 +48,6 @@ module _ (g : Geometry) (x y : ℕ) (v w : Device) (γ : Ghost) (G : ℕ → Lis
   pub less-capped : (z c : ℕ) → Capped g x v γ z c → Capped g y w (withLogs γ G P) z c
   less-capped z c h d a = let (b, q, m) = h d (k .here d a) in (b, q, k .general-lasts d a (seal z b (γ .generation z)) m)
 
-  pub less-below : (z n : ℕ) → CappedBelow g x v γ z n → CappedBelow g y w (withLogs γ G P) z n
-  less-below z n h = (h .0, less-capped z (h .0) (h .1), h .2)
-
   was : (d : ℕ) → Here g y d → (e : Entry) → List·Memᴰ e (P d) → Was g d e (λ (p : Entry). List·Memᴰ p (γ .parity d))
   was d a e m = let o = k .parity-sub d a e m in record { of = o .of; isSet = o .isSet; heads = o .heads; many = o .many; rows-are = o .rows-are; whole = left-whole g d true (γ .parity d) e o (lg .parity-lawful d (k .here d a)) }
 
@@ -63,13 +60,15 @@ module _ (g : Geometry) (x y : ℕ) (v w : Device) (γ : Ghost) (G : ℕ → Lis
   less-moves l z = record {
     here = k .here;
     heads = λ d a h m. always-of h z (List·Memᴰ h (γ .general d) ⊎ HeadJoins g x z (factsOf γ l z) (said g v γ z) h) (inl (k .general-sub d a h m));
-    caps = λ d a c m. (c, le-refl c, k .general-lasts d a (seal z c (γ .generation z)) m);
+    caps = λ d a c m. inl (c, le-refl c, k .general-lasts d a (seal z c (γ .generation z)) m);
     entries = λ d a e m. always-of (e .head) z (Was g d e (λ (p : Entry). List·Memᴰ p (γ .parity d)) ⊎ EntryJoins g x z (factsOf γ l z) (said g v γ z) (λ c h. List·Memᴰ h (G c)) d e) (inl (was d a e m));
   }
 
   pub less-live : (l : Ledger) (z : ℕ) → z < g .zones → Live g x v γ l z → Live g y w (withLogs γ G P) l z
-  less-live l z hz h = live-moves g x y z (factsOf γ l z) (said g v γ z) (said g w (withLogs γ G P) z) (less-moves l z) (λ d. v d (dataZone z)) (λ d. w d (dataZone z)) h
-      (λ d a e q r m. k .parity-lasts d a e q m) (λ d a. counts-of z (λ n. n ≡ γ .generation z) d a (h .counts d (k .here d a)))
+  less-live l z hz h =
+      let counts′ : Counts g y w (withLogs γ G P) z (λ n. n ≡ γ .generation z) = λ d a. counts-of z (λ n. n ≡ γ .generation z) d a (h .counts d (k .here d a)) in
+      live-moves g x y z (factsOf γ l z) (said g v γ z) (said g w (withLogs γ G P) z) (less-moves l z) (λ d. v d (dataZone z)) (λ d. w d (dataZone z)) h
+      (λ d a e q r m. k .parity-lasts d a e q m) counts′ (λ d a. said-sure g w (withLogs γ G P) z d (γ .generation z) (counts′ d a))
       (λ d a. prefix-trans (k .data-sub d z hz a) (h .places d (k .here d a))) (λ d a. le-trans (h .strong .places d (k .here d a)) (k .data-lasts d z hz a))
 
   pub less-dying : (l : Ledger) (z : ℕ) → z < g .zones → Dying g x v γ l z → Dying g y w (withLogs γ G P) l z

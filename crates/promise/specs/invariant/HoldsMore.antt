@@ -20,8 +20,8 @@ use Rattle.logs.specs.meaning.Heads.{generationIn}
 use Rattle.volume.specs.meaning.Content.{at, parityDriveAt}
 use Rattle.promise.specs.content.Columns.{column}
 use Rattle.promise.specs.meaning.Ledger.{Ledger}
-use Rattle.promise.specs.invariant.Invariant.{Ghost, Here, Capped, CappedBelow, TrueRows, Counts, Entries, Live, Dying, Logged, LoggedIn, resetLasts, countsPast, said, factsOf}
-use Rattle.promise.specs.invariant.SaidMoves.{HeadJoins, EntryJoins, Was, was-self, always-of, live-moves}
+use Rattle.promise.specs.invariant.Invariant.{Ghost, Here, TrueRows, Counts, Entries, Live, Dying, Logged, LoggedIn, resetLasts, countsPast, said, factsOf, Spent, SealSpent}
+use Rattle.promise.specs.invariant.SaidMoves.{HeadJoins, EntryJoins, Was, was-self, always-of, live-moves, said-sure}
 use native.Mathlib.Nat.{le-refl}
 use Rattle.promise.specs.invariant.HoldsLess.{withLogs}
 
@@ -44,12 +44,6 @@ other-head g x v γ l z h o = record {
 
 module _ (g : Geometry) (x : ℕ) (v w : Device) (γ : Ghost) (G : ℕ → List Header) (P : ℕ → List Entry)
     (keep : (d : ℕ) → Here g x d → (h : Header) → List·Memᴰ h (take (v d generalZone .durable) (γ .general d)) → List·Memᴰ h (take (w d generalZone .durable) (G d))) where
-  pub more-capped : (z c : ℕ) → Capped g x v γ z c → Capped g x w (withLogs γ G P) z c
-  more-capped z c h d a = let (b, q, m) = h d a in (b, q, keep d a (seal z b (γ .generation z)) m)
-
-  pub more-below : (z n : ℕ) → CappedBelow g x v γ z n → CappedBelow g x w (withLogs γ G P) z n
-  more-below z n h = (h .0, more-capped z (h .0) (h .1), h .2)
-
   module _ (l : Ledger) (z : ℕ)
       (plasts : (d : ℕ) → Here g x d → (e : Entry) → Whole g d true e → List·Memᴰ e (cutEntries g d true (γ .parity d) (v d parityZone .durable)) → List·Memᴰ e (cutEntries g d true (P d) (w d parityZone .durable))) where
     -- A LIVE ZONE STAYS LIVE
@@ -63,9 +57,9 @@ module _ (g : Geometry) (x : ℕ) (v w : Device) (γ : Ghost) (G : ℕ → List 
     live-more h heads entries′ counts′ places′ strong′ = live-moves g x x z (factsOf γ l z) (said g v γ z) (said g w (withLogs γ G P) z) (record {
       here = λ d a. a;
       heads = λ d a e m. always-of e z (List·Memᴰ e (γ .general d) ⊎ NewHead g x v γ l z e) (heads d a e m);
-      caps = λ d a c m. (c, le-refl c, keep d a (seal z c (γ .generation z)) m);
+      caps = λ d a c m. inl (c, le-refl c, keep d a (seal z c (γ .generation z)) m);
       entries = λ d a e m. always-of (e .head) z (Was g d e (λ (p : Entry). List·Memᴰ p (γ .parity d)) ⊎ NewEntry g x v γ G l z d e) (was d e (entries′ d a e m));
-    }) (λ d. v d (dataZone z)) (λ d. w d (dataZone z)) h (λ d a e q r m. plasts d a e q m) counts′ places′ strong′
+    }) (λ d. v d (dataZone z)) (λ d. w d (dataZone z)) h (λ d a e q r m. plasts d a e q m) counts′ (λ d a. said-sure g w (withLogs γ G P) z d (γ .generation z) (counts′ d a)) places′ strong′
       where
         was : (d : ℕ) (e : Entry) → List·Memᴰ e (γ .parity d) ⊎ NewEntry g x v γ G l z d e → Was g d e (λ (p : Entry). List·Memᴰ p (γ .parity d)) ⊎ NewEntry g x v γ G l z d e
         was d e (inl m) = inl (was-self g d e (λ (p : Entry). List·Memᴰ p (γ .parity d)) m)
@@ -81,11 +75,16 @@ module _ (g : Geometry) (x : ℕ) (v w : Device) (γ : Ghost) (G : ℕ → List 
       go (resetLasts m) = resetLasts (keep d a (zoneReset z (γ .generation z)) m)
       go (countsPast c) = countsPast (more d a c)
 
-  pub why-bare : (z : ℕ) → ((d : ℕ) → Here g x d → P d ≡ γ .parity d)
-      → ((d : ℕ) → Here g x d → (p : Entry) → List·Memᴰ p (γ .parity d) → Whole g d true p → (f : ℕ) → p .head ≡ partialParity z zero f (γ .generation z) → (g .unit < f) ⊎ CappedBelow g x v γ z f)
-      → (d : ℕ) → Here g x d → (p : Entry) → List·Memᴰ p (P d) → Whole g d true p → (f : ℕ) → p .head ≡ partialParity z zero f (γ .generation z) → (g .unit < f) ⊎ CappedBelow g x w (withLogs γ G P) z f
-  why-bare z e h d a p m q f r = go (h d a p (rw (e d a) at m) q f r)
+  pub why-bare : (z : ℕ) → ((d : ℕ) → Here g x d → ((j : ℕ) → v d generalZone .durable ≤ j → γ .generation z < generationIn z (take j (γ .general d))) → (j : ℕ) → w d generalZone .durable ≤ j → γ .generation z < generationIn z (take j (G d)))
+      → ((d : ℕ) → Here g x d → P d ≡ γ .parity d)
+      → ((d : ℕ) → Here g x d → (p : Entry) → List·Memᴰ p (γ .parity d) → Whole g d true p → (f : ℕ) → p .head ≡ partialParity z zero f (γ .generation z) → (g .unit < f) ⊎ Spent g x v γ z f)
+      → (d : ℕ) → Here g x d → (p : Entry) → List·Memᴰ p (P d) → Whole g d true p → (f : ℕ) → p .head ≡ partialParity z zero f (γ .generation z) → (g .unit < f) ⊎ Spent g x w (withLogs γ G P) z f
+  why-bare z more e h d a p m q f r = go (h d a p (rw (e d a) at m) q f r)
     where
-      go : (g .unit < f) ⊎ CappedBelow g x v γ z f → (g .unit < f) ⊎ CappedBelow g x w (withLogs γ G P) z f
+      go : (g .unit < f) ⊎ Spent g x v γ z f → (g .unit < f) ⊎ Spent g x w (withLogs γ G P) z f
       go (inl k) = inl k
-      go (inr k) = inr (more-below z f k)
+      go (inr (c, k, l)) = inr (c, (λ d a. on d a (k d a)), l)
+        where
+          on : (d : ℕ) → Here g x d → SealSpent (said g v γ z) z (γ .generation z) c d → SealSpent (said g w (withLogs γ G P) z) z (γ .generation z) c d
+          on d a (inl (b, o, i)) = inl (b, o, keep d a (seal z b (γ .generation z)) i)
+          on d a (inr i) = inr (more d a i)

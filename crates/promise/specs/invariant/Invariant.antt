@@ -117,8 +117,12 @@ pub record ZoneFacts : Type 0 where
 abbrev pub factsOf : Ghost → Ledger → ℕ → ZoneFacts
 factsOf γ l z = record { laid = γ .laid z; generation = γ .generation z; content = l .content z; committed = l .committed z; resetting = l .resetting z }
 
+-- on drive d a seal at or below c, of generation n, lasts
+abbrev pub SealLasts : Said → ℕ → ℕ → ℕ → ℕ → Type 0
+SealLasts s z n c d = (b : ℕ) × (b ≤ c) × s .generalLasts d (seal z b n)
+
 abbrev pub CappedIn : Geometry → ℕ → Said → ℕ → ℕ → ℕ → Type 0
-CappedIn g x s z n c = (d : ℕ) → Here g x d → (b : ℕ) × (b ≤ c) × s .generalLasts d (seal z b n)
+CappedIn g x s z n c = (d : ℕ) → Here g x d → SealLasts s z n c d
 
 abbrev pub CappedBelowIn : Geometry → ℕ → Said → ℕ → ℕ → ℕ → Type 0
 CappedBelowIn g x s z n m = (c : ℕ) × (CappedIn g x s z n c) × (c < m)
@@ -158,6 +162,20 @@ abbrev pub Live : Geometry → ℕ → Device → Ghost → Ledger → ℕ → T
 Live g x v γ l z = LiveZone g x z (factsOf γ l z) (said g v γ z) (λ d. v d (dataZone z))
 
 -- ---- a zone that every look shows empty
+-- a cap, but for drives whose counters have passed the generation: no look goes by it any more, and an emptied log (document 02, 2.2) keeps
+-- no seal of it
+abbrev pub SealSpent : Said → ℕ → ℕ → ℕ → ℕ → Type 0
+SealSpent s z n c d = SealLasts s z n c d ⊎ s .counts d (λ i. n < i)
+
+abbrev pub SpentIn : Geometry → ℕ → Said → ℕ → ℕ → ℕ → Type 0
+SpentIn g x s z n m = (c : ℕ) × ((d : ℕ) → Here g x d → SealSpent s z n c d) × (c < m)
+
+pub spent-of : (g : Geometry) (x : ℕ) (s : Said) (z n m : ℕ) → CappedBelowIn g x s z n m → SpentIn g x s z n m
+spent-of g x s z n m h = (h .0, λ d a. inl (h .1 d a), h .2)
+
+abbrev pub Spent : Geometry → ℕ → Device → Ghost → ℕ → ℕ → Type 0
+Spent g x v γ z m = SpentIn g x (said g v γ z) z (γ .generation z) m
+
 pub data LoggedIn (s : Said) (z n d : ℕ) : Type 0 where
   resetLasts : s .generalLasts d (zoneReset z n) → LoggedIn s z n d
   countsPast : s .counts d (λ m. n < m) → LoggedIn s z n d
@@ -169,9 +187,9 @@ pub data WhyIn (g : Geometry) (x z n : ℕ) (s : Said) (held : ℕ → ZoneView)
   -- on each present one of its two drives its reset lasts, or no cut gives its generation any more (a copied log keeps only the reset of
   -- the generation in force)
   logged : ((d : ℕ) → Here g x d → (d ≡ firstDriveOf g z) ⊎ (d ≡ parityDriveOf g z 0) → LoggedIn s z n d) → WhyIn g x z n s held
-  -- no data is left, and no entry makes sector 0 known alone
+  -- no data is left, and no entry makes sector 0 known alone, unless it ends past the cap
   bare : ((d : ℕ) → Here g x d → held d .sectors ≡ [])
-      → ((d : ℕ) → Here g x d → (p : Entry) → s .parity d p → Whole g d true p → (k : ℕ) → p .head ≡ partialParity z zero k n → (g .unit < k) ⊎ CappedBelowIn g x s z n k)
+      → ((d : ℕ) → Here g x d → (p : Entry) → s .parity d p → Whole g d true p → (k : ℕ) → p .head ≡ partialParity z zero k n → (g .unit < k) ⊎ SpentIn g x s z n k)
       → WhyIn g x z n s held
   -- no cut of any present drive gives its generation any more
   passed : ((d : ℕ) → Here g x d → s .counts d (λ m. n < m)) → WhyIn g x z n s held

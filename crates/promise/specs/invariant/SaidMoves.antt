@@ -1,6 +1,6 @@
 -- One law for every log that changes: it grows, is cut short, is copied, or a drive of it is lost. What the logs now say of a zone (t) against
--- what they said (s): no current header or entry is new, unless it may join; a cap stays a cap; what must last lasts. Then a Live zone
--- stays Live (live-moves) and a Dying one Dying (dying-moves).
+-- what they said (s): no current header or entry is new, unless it may join; a cap stays a cap, but on drives whose counters pass its
+-- generation; what must last lasts. Then a Live zone stays Live (live-moves) and a Dying one Dying (dying-moves).
 use mathlib.Core.Path.{_≡_, refl, sym, _∙_, subst}
 use mathlib.Core.Logic.{_⊎_, inl, inr}
 use mathlib.Core.Bool.{Bool, true, false}
@@ -9,17 +9,18 @@ use native.Mathlib.Omega.{arith}
 use mathlib.Core.List.{List, []}
 use lib.ListN.{length, take, length-take}
 use lib.Seq.{getD-take, take-length}
-use Rattle.tables.specs.meaning.Device.{ZoneView}
+use Rattle.tables.specs.meaning.Device.{ZoneView, Device}
 use Rattle.tables.specs.laws.Lists.{Prefix}
 use Rattle.tables.specs.meaning.Placement.{needed}
 use Rattle.tables.specs.declared.Geometry.{Geometry}
 use Rattle.tables.specs.meaning.Geometry.{stripeSectors}
-use Rattle.logs.specs.meaning.Entry.{wornGeneration, Header, label, counters, zoneReset, partialParity, seal, Entry}
+use Rattle.logs.specs.meaning.Entry.{wornGeneration, Header, label, counters, zoneReset, partialParity, seal, Entry, generalZone}
 use Rattle.logs.specs.laws.Heads.{zoneGen}
 use Rattle.logs.specs.laws.Walk.{Whole}
 use Rattle.promise.specs.content.Columns.{column}
 use Rattle.volume.specs.meaning.Content.{parityDriveAt, entryHeader}
-use Rattle.promise.specs.invariant.Invariant.{Here, Said, ZoneFacts, CappedIn, CappedBelowIn, TrueRows, EntriesIn, SurvivesLossIn, LiveZone, LoggedIn, resetLasts, countsPast, WhyIn, logged, bare, passed, DyingZone}
+use Rattle.promise.specs.invariant.Invariant.{Here, Said, ZoneFacts, CappedIn, CappedBelowIn, TrueRows, EntriesIn, SurvivesLossIn, LiveZone, LoggedIn, resetLasts, countsPast, WhyIn, logged, bare, passed, DyingZone, Ghost, said, SpentIn, SealLasts, SealSpent}
+use native.Mathlib.Nat.{le-refl}
 
 -- ---- headers of zone z
 -- if it speaks of zone z, then A; and by A it is of a generation such that Q
@@ -79,22 +80,27 @@ was-self g d e In m = record { of = e; isSet = m; heads = refl; many = length (e
 pub record Moves (g : Geometry) (x y z : ℕ) (f : ZoneFacts) (s t : Said) : Type 0 where
   pub here : (d : ℕ) → Here g y d → Here g x d
   pub heads : (d : ℕ) → Here g y d → (h : Header) → t .general d h → zoneGen h (λ w m. w ≡ z → s .general d h ⊎ HeadJoins g x z f s h)
-  pub caps : (d : ℕ) → Here g y d → (c : ℕ) → s .generalLasts d (seal z c (f .generation)) → (b : ℕ) × (b ≤ c) × t .generalLasts d (seal z b (f .generation))
+  pub caps : (d : ℕ) → Here g y d → (c : ℕ) → s .generalLasts d (seal z c (f .generation)) → SealSpent t z (f .generation) c d
   pub entries : (d : ℕ) → Here g y d → (e : Entry) → t .parity d e → zoneGen (e .head) (λ w m. w ≡ z → Was g d e (s .parity d) ⊎ EntryJoins g x z f s (t .general) d e)
 
 module _ (g : Geometry) (x y z : ℕ) (f : ZoneFacts) (s t : Said) (k : Moves g x y z f s t) where
-  pub moves-capped : (c : ℕ) → CappedIn g x s z (f .generation) c → CappedIn g y t z (f .generation) c
-  moves-capped c h d a =
-      let (b, q, m) = h d (k .here d a) in
-      let (e, r, n) = k .caps d a b m in
-      (e, omega (arith, q, r), n)
+  -- (sure: no drive's counters have passed the generation)
+  module _ (sure : (d : ℕ) → Here g y d → t .counts d (λ n. f .generation < n) → ⊥) where
+    pub moves-capped : (c : ℕ) → CappedIn g x s z (f .generation) c → CappedIn g y t z (f .generation) c
+    moves-capped c h d a =
+        let (b, q, m) = h d (k .here d a) in
+        go b q (k .caps d a b m)
+      where
+        go : (b : ℕ) → b ≤ c → SealSpent t z (f .generation) b d → SealLasts t z (f .generation) c d
+        go b q (inl (e, r, n)) = (e, omega (arith, q, r), n)
+        go b q (inr n) = absurd (sure d a n)
 
-  moves-below : (n : ℕ) → CappedBelowIn g x s z (f .generation) n → CappedBelowIn g y t z (f .generation) n
-  moves-below n h = (h .0, moves-capped (h .0) (h .1), h .2)
+    moves-below : (n : ℕ) → CappedBelowIn g x s z (f .generation) n → CappedBelowIn g y t z (f .generation) n
+    moves-below n h = (h .0, moves-capped (h .0) (h .1), h .2)
 
-  up : {A : Type 0} (n : ℕ) → A ⊎ CappedBelowIn g x s z (f .generation) n → A ⊎ CappedBelowIn g y t z (f .generation) n
-  up n (inl a) = inl a
-  up n (inr c) = inr (moves-below n c)
+    up : {A : Type 0} (n : ℕ) → A ⊎ CappedBelowIn g x s z (f .generation) n → A ⊎ CappedBelowIn g y t z (f .generation) n
+    up n (inl a) = inl a
+    up n (inr c) = inr (moves-below n c)
 
   tells-less : (i j many : ℕ) (rows : List (List ℕ)) → TrueRows g (f .laid) i j rows → TrueRows g (f .laid) i j (take many rows)
   tells-less i j many rows r = record {
@@ -120,11 +126,11 @@ module _ (g : Geometry) (x y z : ℕ) (f : ZoneFacts) (s t : Said) (k : Moves g 
   -- A LIVE ZONE STAYS LIVE
   pub live-moves : (held held′ : ℕ → ZoneView) → LiveZone g x z f s held
       → ((d : ℕ) → Here g y d → (e : Entry) → Whole g d true e → e .head ≡ entryHeader g z (f .generation) (f .committed) → s .parityLasts d e → t .parityLasts d e)
-      → ((d : ℕ) → Here g y d → t .counts d (λ n. n ≡ f .generation))
+      → ((d : ℕ) → Here g y d → t .counts d (λ n. n ≡ f .generation)) → ((d : ℕ) → Here g y d → t .counts d (λ n. f .generation < n) → ⊥)
       → ((d : ℕ) → Here g y d → Prefix (held′ d .sectors) (column (g .drives) (g .unit) z (f .laid) d))
       → ((d : ℕ) → Here g y d → needed (g .drives) (g .unit) z (f .committed) d ≤ held′ d .durable)
       → LiveZone g y z f t held′
-  live-moves held held′ h lasts counts′ places′ deep = record {
+  live-moves held held′ h lasts counts′ sure places′ deep = record {
     sizes = h .sizes;
     fits = h .fits;
     generation-top = h .generation-top;
@@ -132,9 +138,9 @@ module _ (g : Geometry) (x y z : ℕ) (f : ZoneFacts) (s t : Said) (k : Moves g 
     front = h .front;
     capped = cap (h .capped);
     places = places′;
-    tells = λ d a e m i j q. up (i * stripeSectors g + j) (told d a e i j q (partial-of (e .head) z i j (f .generation) q (k .entries d a e m)));
+    tells = λ d a e m i j q. up sure (i * stripeSectors g + j) (told d a e i j q (partial-of (e .head) z i j (f .generation) q (k .entries d a e m)));
     seals = λ d a c m. sealed d a c (k .heads d a (seal z c (f .generation)) m refl);
-    alone = λ d e a b c m p n w j q r. up j (lone d e a b c m p w j q r (k .heads d a (seal z c (f .generation)) m refl) (partial-of (p .head) z zero j (f .generation) q (k .entries e b p n)));
+    alone = λ d e a b c m p n w j q r. up sure j (lone d e a b c m p w j q r (k .heads d a (seal z c (f .generation)) m refl) (partial-of (p .head) z zero j (f .generation) q (k .entries e b p n)));
     strong = record { places = deep; entry = λ i a. let (e, q, r, w) = h .strong .entry i (k .here (parityDriveAt g z (f .committed)) a) in (e, lasts (parityDriveAt g z (f .committed)) a e r w q, r, w) };
     counts = counts′;
     no-reset = none (h .no-reset);
@@ -144,7 +150,7 @@ module _ (g : Geometry) (x y z : ℕ) (f : ZoneFacts) (s t : Said) (k : Moves g 
     where
       cap : (length (f .content) ≡ length (f .laid)) ⊎ CappedIn g x s z (f .generation) (length (f .content)) → (length (f .content) ≡ length (f .laid)) ⊎ CappedIn g y t z (f .generation) (length (f .content))
       cap (inl e) = inl e
-      cap (inr c) = inr (moves-capped (length (f .content)) c)
+      cap (inr c) = inr (moves-capped sure (length (f .content)) c)
 
       told : (d : ℕ) → Here g y d → (e : Entry) (i j : ℕ) → e .head ≡ partialParity z i j (f .generation) → Was g d e (s .parity d) ⊎ EntryJoins g x z f s (t .general) d e
           → TrueRows g (f .laid) i j (e .rows) ⊎ CappedBelowIn g x s z (f .generation) (i * stripeSectors g + j)
@@ -200,10 +206,26 @@ module _ (g : Geometry) (x y z : ℕ) (f : ZoneFacts) (s t : Said) (k : Moves g 
       still d a (resetLasts m) = resets d a m
       still d a (countsPast c) = countsPast (past d a c)
 
+      spent : (j : ℕ) → (g .unit < j) ⊎ SpentIn g x s z (f .generation) j → (g .unit < j) ⊎ SpentIn g y t z (f .generation) j
+      spent j (inl q) = inl q
+      spent j (inr (c, h, q)) = inr (c, (λ d a. on d a (h d (k .here d a))), q)
+        where
+          lower : (d b : ℕ) → b ≤ c → SealSpent t z (f .generation) b d → SealSpent t z (f .generation) c d
+          lower d b r (inl (e, o, n)) = inl (e, omega (arith, r, o), n)
+          lower d b r (inr n) = inr n
+
+          on : (d : ℕ) → Here g y d → SealSpent s z (f .generation) c d → SealSpent t z (f .generation) c d
+          on d a (inl (b, r, m)) = lower d b r (k .caps d a b m)
+          on d a (inr n) = inr (past d a n)
+
       reason : WhyIn g x z (f .generation) s held → WhyIn g y z (f .generation) t held′
       reason (logged q) = logged (λ d a r. still d a (q d (k .here d a) r))
-      reason (bare q n) = bare (λ d a. gone d a (q d (k .here d a))) (λ d a p m w j r. let o = partial-of (p .head) z zero j (f .generation) r (old d a p m) in up j (n d (k .here d a) (o .of) (o .isSet) (o .whole w) j (sym (o .heads) ∙ r)))
+      reason (bare q n) = bare (λ d a. gone d a (q d (k .here d a))) (λ d a p m w j r. let o = partial-of (p .head) z zero j (f .generation) r (old d a p m) in spent j (n d (k .here d a) (o .of) (o .isSet) (o .whole w) j (sym (o .heads) ∙ r)))
       reason (passed q) = passed (λ d a. past d a (q d (k .here d a)))
+
+-- of logs as they are: where every count is the generation, none has passed it
+pub said-sure : (g : Geometry) (v : Device) (γ : Ghost) (z d n : ℕ) → said g v γ z .counts d (λ m. m ≡ n) → said g v γ z .counts d (λ m. n < m) → ⊥
+said-sure g v γ z d n p q = let a = p (v d generalZone .durable) (le-refl (v d generalZone .durable)) in let b = q (v d generalZone .durable) (le-refl (v d generalZone .durable)) in omega (arith, a, b)
 
 -- ---- the flag goes up
 abbrev pub withFlag : ZoneFacts → Bool → ZoneFacts

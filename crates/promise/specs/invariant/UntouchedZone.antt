@@ -24,8 +24,8 @@ use Rattle.volume.specs.declared.Condition.{Condition}
 use Rattle.volume.specs.declared.Condition.the-variants.{Empty, Open, Sealed, Worn}
 use Rattle.volume.specs.meaning.State.{StateView}
 use Rattle.promise.specs.meaning.Ledger.{Ledger}
-use Rattle.promise.specs.invariant.Invariant.{Ghost, Here, LogsOk, Capped, CappedBelow, TrueRows, Counts, Entries, SurvivesLoss, durableEntries, Live, Plain, Shape, RestZone, said, factsOf, ZoneFacts, LiveZone}
-use Rattle.promise.specs.invariant.SaidMoves.{HeadJoins, EntryJoins, Was, always-of, live-moves, live-flag, withFlag}
+use Rattle.promise.specs.invariant.Invariant.{Ghost, Here, LogsOk, Capped, TrueRows, Counts, Entries, SurvivesLoss, durableEntries, Live, Plain, Shape, RestZone, said, factsOf, ZoneFacts, LiveZone}
+use Rattle.promise.specs.invariant.SaidMoves.{HeadJoins, EntryJoins, Was, always-of, live-moves, live-flag, withFlag, said-sure}
 
 -- a header that does not speak of zone z
 abbrev pub Other : ℕ → Header → Type 0
@@ -67,9 +67,6 @@ module _ (g : Geometry) (x : ℕ) (v w : Device) (γ δ : Ghost) (l m : Ledger) 
   pub untouched-capped : (c : ℕ) → Capped g x v γ z c → Capped g x w δ z c
   untouched-capped c h d a = let (b, q, m) = h d a in (b, q, rw (k .generation-is) (k .general-lasts d a (seal z b (γ .generation z)) m))
 
-  pub untouched-below : (n : ℕ) → CappedBelow g x v γ z n → CappedBelow g x w δ z n
-  untouched-below n h = (h .0, untouched-capped (h .0) (h .1), h .2)
-
   pub untouched-counts : (Q : ℕ → Type 0) → Counts g x v γ z Q → Counts g x w δ z Q
   untouched-counts Q h d a j r =
       let (i, p, e) = k .general-cuts d a j r in
@@ -101,15 +98,16 @@ module _ (g : Geometry) (x : ℕ) (v w : Device) (γ δ : Ghost) (l m : Ledger) 
       let f = withFlag (factsOf γ l z) (m .resetting z) in
       let s = said g v γ z in
       let r = said g w δ z in
+      let counts′ = untouched-counts (λ n. n ≡ γ .generation z) (h .counts) in
       let q : f ≡ factsOf δ m z = λ i. record { laid = sym (k .laid-is) i; generation = sym (k .generation-is) i; content = sym (k .content-is) i; committed = sym (k .committed-is) i; resetting = m .resetting z } in
       subst (λ (e : ZoneFacts). LiveZone g x z e r (λ d. w d (dataZone z))) q
       (live-moves g x x z f s r (record {
         here = λ d a. a;
         heads = λ d a e i. joined d e (k .general-new d a e i);
-        caps = λ d a c i. (c, le-refl c, k .general-lasts d a (seal z c (γ .generation z)) i);
+        caps = λ d a c i. inl (c, le-refl c, k .general-lasts d a (seal z c (γ .generation z)) i);
         entries = λ d a e i. was d a e (k .parity-new d a e i);
       }) (λ d. v d (dataZone z)) (λ d. w d (dataZone z)) (live-flag g x z (factsOf γ l z) s (λ d. v d (dataZone z)) (m .resetting z) (k .flag-stays) h)
-      (λ d a e i j p. k .parity-lasts d a e i p) (untouched-counts (λ n. n ≡ γ .generation z) (h .counts))
+      (λ d a e i j p. k .parity-lasts d a e i p) counts′ (λ d a. said-sure g w δ z d (γ .generation z) (counts′ d a))
       (λ d a. prefix-trans (k .data-sub d a) (h .places d a)) (λ d a. le-trans (h .strong .places d a) (k .data-lasts d a)))
     where
       joined : (d : ℕ) (e : Header) → List·Memᴰ e (γ .general d) ⊎ Joins z (γ .generation z) (m .resetting z) e

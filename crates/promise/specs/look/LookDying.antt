@@ -30,7 +30,7 @@ use Rattle.logs.specs.laws.Walk.{Whole, wholeEntries}
 use Rattle.logs.specs.meaning.Heads.{generationIn}
 use Rattle.logs.specs.laws.Heads.{zoneGen}
 use Rattle.promise.specs.meaning.Ledger.{Ledger, FitsZone}
-use Rattle.promise.specs.invariant.Invariant.{Ghost, Here, LogsOk, CappedBelow, Why, logged, bare, passed, Dying, Logged, LoggedIn, resetLasts, countsPast}
+use Rattle.promise.specs.invariant.Invariant.{Ghost, Here, LogsOk, CappedBelow, Why, logged, bare, passed, Dying, Logged, LoggedIn, resetLasts, countsPast, Spent, SealLasts, SealSpent, said}
 use Rattle.tables.specs.laws.Lists.{mem-take}
 use Rattle.promise.specs.look.LookReads.{general-heads, parity-entries}
 use Rattle.promise.specs.look.ServingEntries.{serving-all}
@@ -150,6 +150,14 @@ module _ (g : Geometry) (ok : Valid g) (x : ℕ) (v : Device) (γ : Ghost) (lg :
       go true = refl
       go false = rw (nothing-pointer g ok z (zoneView g (presentBut g x) v z n) blank (zoneSectors g)) (omega arith)
 
+  -- no drive's counters have passed the generation shown: what is spent is capped
+  pub spent-capped : (z f : ℕ) → generationOf g (presentBut g x) v z ≡ γ .generation z → Spent g x v γ z f → CappedBelow g x v γ z f
+  spent-capped z f e (c, h, l) = (c, (λ d a. on d a (h d a)), l)
+    where
+      on : (d : ℕ) → Here g x d → SealSpent (said g v γ z) z (γ .generation z) c d → SealLasts (said g v γ z) z (γ .generation z) c d
+      on d a (inl q) = q
+      on d a (inr q) = absurd (let p = count-now g ok x v γ lg z d a (λ n. γ .generation z < n) q in let r = generation-least g ok x v γ lg z d a in omega (arith, p, r, e))
+
   -- a generation above 0 is that of some present drive
   pub generation-some : (z n : ℕ) → n < generationOf g (presentBut g x) v z → (d : ℕ) × Here g x d × (generationOf g (presentBut g x) v z ≡ generationIn z (γ .general d))
   unfolding generationOf
@@ -228,9 +236,9 @@ module _ (g : Geometry) (ok : Valid g) (x : ℕ) (v : Device) (γ : Ghost) (lg :
             by-log d a (countsPast c) = absurd (omega (arith, count-now g ok x v γ lg z d a (λ n. γ .generation z < n) c, generation-least g ok x v γ lg z d a, e))
         by-why (bare h n) e = nothing-shown z (γ .generation z) h (λ d a p m w f q k. big f k (n d a p m w f q))
           where
-            big : (f : ℕ) → f ≤ sealLimit g (presentBut g x) v z (γ .generation z) → (g .unit < f) ⊎ CappedBelow g x v γ z f → g .unit < f
+            big : (f : ℕ) → f ≤ sealLimit g (presentBut g x) v z (γ .generation z) → (g .unit < f) ⊎ Spent g x v γ z f → g .unit < f
             big f k (inl u) = u
-            big f k (inr c) = absurd (omega (arith, limit-capped g ok x v γ lg z (c .0) (c .1), c .2))
+            big f k (inr c) = let b = spent-capped z f e c in absurd (omega (arith, limit-capped g ok x v γ lg z (b .0) (b .1), b .2))
         by-why (passed h) e =
             let (d, a) = some-present g ok x in
             absurd (omega (arith, counts-now g ok x v γ lg z (λ n. γ .generation z < n) h d a, generation-least g ok x v γ lg z d a))

@@ -19,7 +19,7 @@ use Rattle.tables.specs.laws.Drives.{presentBut, present-below}
 use Rattle.promise.specs.meaning.Ledger.{Ledger}
 use Rattle.volume.specs.meaning.Rules.{Shown, showing, generalHeads, parityEntries, parityEnding, cleanAt, endingPast, sealSeen, resetSeen, generationOf, pointerAt, sealLimit, zoneView, conditionOf, zoneShown, zoneAt, knownPrefix}
 use Rattle.volume.specs.declared.Condition.the-variants.{Empty, Open, Sealed, Worn}
-use Rattle.promise.specs.invariant.Invariant.{Ghost, Here, LogsOk, Inv, Live, Dying, CappedBelow, Why, logged, bare, passed, Logged, LoggedIn, resetLasts, countsPast}
+use Rattle.promise.specs.invariant.Invariant.{Ghost, Here, LogsOk, Inv, Live, Dying, CappedBelow, Why, logged, bare, passed, Logged, LoggedIn, resetLasts, countsPast, Spent}
 use Rattle.promise.specs.mount.MountRuns.{AllDurable}
 use Rattle.promise.specs.mount.MountPlan.{Start, AfterLabels, Fate, Stays, Clean, stays, wornOut, gone, emptied, bareOne, raisedOne}
 use lib.Dec.{leb}
@@ -33,7 +33,7 @@ use Rattle.logs.specs.meaning.Heads.{endsPast, isSeal}
 use Rattle.promise.specs.look.LookReads.{general-heads, parity-entries, parity-ending}
 use Rattle.logs.specs.laws.LogLaws.{mem-whole-entries}
 use Rattle.promise.specs.look.LookLive.{some-present, counts-now, count-now, generation-most, generation-least, reset-seen, seen-reset, limit-seal, live-generation, pointer-reset, pointer-free, knows-most, knows-value, live-least}
-use Rattle.promise.specs.look.LookDying.{dying-pointer, dying-raised, dying-least, reset-drive}
+use Rattle.promise.specs.look.LookDying.{dying-pointer, dying-raised, dying-least, reset-drive, spent-capped}
 use Rattle.promise.specs.mount.MountZoneResets.{needed-none}
 use Rattle.promise.specs.mount.MountAloneEntry.{alone-limit, alone-known, alone-fits}
 
@@ -240,6 +240,10 @@ module _ (g : Geometry) (ok : Valid g) (x : ℕ) (w : Device) (γ : Ghost) (lg :
           p2 : pointerAt g (presentBut g x) w z (γ .generation z) ≡ zero
           p2 = rw G1 at p1
 
+          tight : (f : ℕ) → (g .unit < f) ⊎ Spent g x w γ z f → (g .unit < f) ⊎ CappedBelow g x w γ z f
+          tight f (inl q) = inl q
+          tight f (inr q) = inr (spent-capped g ok x w γ lg z f G1 q)
+
           by : Why g x w γ z → resetSeen g (presentBut g x) w z (γ .generation z) ≡ false → Fate g x w γ l (showing g (presentBut g x) x w) z
           by (logged h) e =
               let (d, a, q) = reset-drive g ok x w γ lg z in
@@ -259,7 +263,7 @@ module _ (g : Geometry) (ok : Valid g) (x : ℕ) (w : Device) (γ : Ghost) (lg :
             none = p1;
             condition-is = rw (G1, p2, ne-eqb (γ .generation z) wornGeneration (λ q. omega (arith, dy .generation-top))) refl;
             gone = inr h;
-            no-entry = m;
+            no-entry = λ d a p o q f r. tight f (m d a p o q f r);
           }))
 
           go : (b : Bool) → resetSeen g (presentBut g x) w z (γ .generation z) ≡ b → Fate g x w γ l (showing g (presentBut g x) x w) z

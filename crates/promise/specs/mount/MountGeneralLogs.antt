@@ -189,7 +189,7 @@ module _ (g : Geometry) (x : ℕ) (u : Device) (γ : Ghost) (xs : List Store) (h
     where
       reason : Why g x u γ z → Why g x w (withLogs γ (grownGeneral γ u w hs) (γ .parity)) z
       reason (logged k) = logged (why-logged g x u w γ (grownGeneral γ u w hs) (γ .parity) grown-lasts z (λ d a p. grown-count z (λ n. γ .generation z < n) d a p (λ cs m. c d a cs m .past d a p)) k)
-      reason (bare k m) = bare (λ d a. rw (still-data d z a) (k d a)) (why-bare g x u w γ (grownGeneral γ u w hs) (γ .parity) grown-lasts z (λ d a. refl) m)
+      reason (bare k m) = bare (λ d a. rw (still-data d z a) (k d a)) (why-bare g x u w γ (grownGeneral γ u w hs) (γ .parity) grown-lasts z (λ d a p. grown-count z (λ n. γ .generation z < n) d a p (λ cs m. c d a cs m .past d a p)) (λ d a. refl) m)
       reason (passed k) = passed (grown-counts z (λ n. γ .generation z < n) k (λ d a cs m. c d a cs m .past d a (k d a)))
 
   -- ---- after the whole step

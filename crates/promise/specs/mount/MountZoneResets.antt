@@ -22,7 +22,7 @@ use Rattle.promise.specs.meaning.Ledger.{Ledger}
 use Rattle.volume.specs.meaning.Rules.{Shown}
 use Rattle.volume.specs.meaning.State.{isWorn}
 use Rattle.volume.specs.meaning.Mount.{withFlush, zoneResetStep, needsReset}
-use Rattle.promise.specs.invariant.Invariant.{Ghost, Here, LogsOk, Live, Dying, CappedBelow, Counts, Why, logged, bare, passed}
+use Rattle.promise.specs.invariant.Invariant.{Ghost, Here, LogsOk, Live, Dying, CappedBelow, Counts, Why, logged, bare, passed, Spent, spent-of, said}
 use Rattle.promise.specs.mount.MountPlan.{Start, AfterResetEntries, AfterZoneResets, countReset, ResetsLogged, Base, Stays, Bare, gone, Gone, emptied, bareOne, raisedOne, NoData, Lives}
 use lib.Dec.{eqb}
 use borrow.Author.Tests.{eq-eqb, ne-eqb}
@@ -163,7 +163,7 @@ module _ (g : Geometry) (ok : Valid g) (x : ℕ) (w : Device) (γ : Ghost) (l : 
       where
         reason : Why g x u δ z → Why g x w′ δ z
         reason (logged q) = logged (why-logged g x u w′ δ G (γ .parity) lasts z (λ d a p j n. p j (rw (← still d generalZone a (omega arith)) n)) q)
-        reason (bare q r) = bare (λ d a. less-data z d a hz (q d a)) (why-bare g x u w′ δ G (γ .parity) lasts z (λ d a. refl) r)
+        reason (bare q r) = bare (λ d a. less-data z d a hz (q d a)) (why-bare g x u w′ δ G (γ .parity) lasts z (λ d a p j n. p j (rw (← still d generalZone a (omega arith)) n)) (λ d a. refl) r)
         reason (passed q) = passed (counts-on z (λ n. γ .generation z < n) q)
 
     stays-on : (z : ℕ) → Stays g x w γ l k z → needsReset (k .zone z) ≡ false
@@ -226,12 +226,16 @@ module _ (g : Geometry) (ok : Valid g) (x : ℕ) (w : Device) (γ : Ghost) (l : 
         entries = h .0 .entries;
         counts = λ d a j m. rw (h .0 .counts d a j m) (le-refl (γ .generation z), omega (arith, q .unworn));
         raised = λ d a j m r. absurd (omega (arith, h .0 .counts d a j m));
-        why = bare n (λ d a p m o f r. up f (q .no-entry d a p m o f r));
+        why = bare n (λ d a p m o f r. spend f (up f (q .no-entry d a p m o f r)));
       }
         where
           up : (f : ℕ) → (g .unit < f) ⊎ CappedBelow g x w γ z f → (g .unit < f) ⊎ CappedBelow g x w′ δ z f
           up f (inl r) = inl r
           up f (inr r) = inr (below-up g x w γ w′ G (γ .parity) (1 + countReset g k) base′ z f r)
+
+          spend : (f : ℕ) → (g .unit < f) ⊎ CappedBelow g x w′ δ z f → (g .unit < f) ⊎ Spent g x w′ δ z f
+          spend f (inl r) = inl r
+          spend f (inr r) = inr (spent-of g x (said g w′ δ z) z (γ .generation z) f r)
 
       whole : AfterZoneResets g x w γ l k (1 + countReset g k) w′
       whole = (

@@ -32,7 +32,7 @@ use Rattle.logs.specs.meaning.Heads.{generationIn}
 use Rattle.logs.specs.laws.Heads.{zoneGen}
 use Rattle.volume.specs.meaning.Calls.{generationsFrom, appendGeneral, formatPhases, formatStores, formatState}
 use Rattle.promise.specs.meaning.Ledger.{freshLedger}
-use Rattle.promise.specs.invariant.Invariant.{Ghost, Here, LogsOk, Rest}
+use Rattle.promise.specs.invariant.Invariant.{Ghost, Here, LogsOk, Rest, LabelFits}
 use Rattle.promise.specs.invariant.EmptiedZone.{MadeEmpty, made-empty-rest}
 use Rattle.volume.specs.laws.Counters.{generations-length, generations-at, generations-small}
 use Rattle.promise.specs.invariant.Obligations.{FormatRests}
@@ -148,8 +148,8 @@ module _ (g : Geometry) (ok : Valid g) (x a : ℕ) (v : Device) (lost : (x ≡ n
       rw q (reads g ok d false (counters ones) (n, generations-small (λ z. 1) zero (g .zones) (λ k b. omega arith)) (eq-eqb (length ones) (g .zones) n))
   heads-read d h (List·Memᴰ·tail (List·Memᴰ·tail m)) = mem-nil h m
 
-  heads-labels : (y b : ℕ) → List·Memᴰ (label y b) heads → (y ≡ noDrive) ⊎ (y ≡ x)
-  heads-labels y b (List·Memᴰ·head q) = inr cc
+  heads-labels : (y b : ℕ) → List·Memᴰ (label y b) heads → LabelFits x a y b
+  heads-labels y b (List·Memᴰ·head q) = (inr cc, cc)
   heads-labels y b (List·Memᴰ·tail (List·Memᴰ·head q)) = absurd (let n : _≡_ {A = ℕ} 0 1 = cc in omega arith)
   heads-labels y b (List·Memᴰ·tail (List·Memᴰ·tail m)) = mem-nil (label y b) m
 

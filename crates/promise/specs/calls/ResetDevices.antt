@@ -21,7 +21,6 @@ use Rattle.tables.specs.declared.Geometry.{Geometry}
 use Rattle.tables.specs.meaning.Geometry.{Valid, physicalZones, dataZone}
 use Rattle.logs.specs.meaning.Entry.{generalZone, parityZone, wornGeneration, Header, label, counters, zoneReset, encode}
 use Rattle.tables.specs.laws.Drives.{presentBut}
-use Rattle.tables.specs.meaning.Drives.{noDrive}
 use Rattle.logs.specs.laws.Walk.{Reads, cut-mono}
 use Rattle.logs.specs.laws.Codec.{reads}
 use Rattle.logs.specs.meaning.Heads.{lastCounters, generationIn}
@@ -29,7 +28,7 @@ use Rattle.volume.specs.meaning.State.{StateView}
 use Rattle.promise.specs.invariant.Obligations.{ResetOk}
 use Rattle.volume.specs.meaning.Calls.{generationsFrom, raisedAt, logsReset}
 use Rattle.promise.specs.meaning.Ledger.{Ledger}
-use Rattle.promise.specs.invariant.Invariant.{Ghost, Here, LogsOk, Rest, RestZone}
+use Rattle.promise.specs.invariant.Invariant.{Ghost, Here, LogsOk, Rest, RestZone, LabelFits}
 use Rattle.promise.specs.invariant.UntouchedZone.{Other, Joins, other, itsReset, Untouched}
 use Rattle.promise.specs.calls.FlushKeeps.{MoreDurable}
 
@@ -96,7 +95,7 @@ module _ (g : Geometry) (ok : Valid g) (x : ℕ) (v : Device) (state : StateView
         old d a h (inl m) = r .logs .general-reads d a h m
         old d a h (inr m) = new-reads d a h (k .new d a h m)
 
-        lab : (d : ℕ) → Here g x d → (y b : ℕ) → List·Memᴰ (label y b) (γ .general d) ⊎ List·Memᴰ (label y b) (T d) → (y ≡ noDrive) ⊎ (y ≡ x)
+        lab : (d : ℕ) → Here g x d → (y b : ℕ) → List·Memᴰ (label y b) (γ .general d) ⊎ List·Memᴰ (label y b) (T d) → LabelFits x (γ .array) y b
         lab d a y b (inl m) = r .logs .labels d a y b m
         lab d a y b (inr m) = absurd (no (k .new d a (label y b) m))
           where

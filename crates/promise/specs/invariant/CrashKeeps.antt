@@ -64,7 +64,7 @@ module _ (g : Geometry) (ok : Valid g) (x y : ℕ) (hy : y < g .drives) (one : (
     general-reads = λ d a. lg .general-reads d (here-before d a);
     first = λ d a. lg .first d (here-before d a);
     first-lasts = λ d a. rw (same d generalZone a) (lg .first-lasts d (here-before d a));
-    labels = λ d a n b m. named-before n (lg .labels d (here-before d a) n b m);
+    labels = λ d a n b m. let (p, q) = lg .labels d (here-before d a) n b m in (named-before n p, q);
     parity-is = λ d a. rw (same d parityZone a) (lg .parity-is d (here-before d a));
     parity-lawful = λ d a. lg .parity-lawful d (here-before d a);
     parity-fits = λ d a. lg .parity-fits d (here-before d a);

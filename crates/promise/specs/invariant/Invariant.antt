@@ -37,6 +37,10 @@ abbrev pub Here : Geometry → ℕ → ℕ → Type 0
 Here g x d = presentBut g x d ≡ true
 
 -- ---- the logs
+-- every label names no drive or the lost one, and carries the array's number, so a log may begin with any of them
+abbrev pub LabelFits : ℕ → ℕ → ℕ → ℕ → Type 0
+LabelFits x array y a = ((y ≡ noDrive) ⊎ (y ≡ x)) × (a ≡ array)
+
 pub record LogsOk (g : Geometry) (x : ℕ) (v : Device) (γ : Ghost) : Type 0 where
   pub lost-ok : (x ≡ noDrive) ⊎ (x < g .drives)
   pub array-lt : γ .array < 256 ^ 8
@@ -44,7 +48,7 @@ pub record LogsOk (g : Geometry) (x : ℕ) (v : Device) (γ : Ghost) : Type 0 wh
   pub general-reads : (d : ℕ) → Here g x d → (h : Header) → List·Memᴰ h (γ .general d) → Reads g d false h
   pub first : (d : ℕ) → Here g x d → (y : ℕ) × (hs : List Header) × (γ .general d ≡ label y (γ .array) ∷ hs)
   pub first-lasts : (d : ℕ) → Here g x d → 1 ≤ v d generalZone .durable
-  pub labels : (d : ℕ) → Here g x d → (y a : ℕ) → List·Memᴰ (label y a) (γ .general d) → (y ≡ noDrive) ⊎ (y ≡ x)
+  pub labels : (d : ℕ) → Here g x d → (y a : ℕ) → List·Memᴰ (label y a) (γ .general d) → LabelFits x (γ .array) y a
   pub parity-is : (d : ℕ) → Here g x d → v d parityZone .sectors ≡ sectorsOfAll g d true (γ .parity d)
   pub parity-lawful : (d : ℕ) → Here g x d → WellFormedLog g d true (γ .parity d)
   pub parity-fits : (d : ℕ) → Here g x d → logExtent g d true (γ .parity d) ≤ g .capacity

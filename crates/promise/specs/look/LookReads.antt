@@ -111,7 +111,7 @@ module _ (g : Geometry) (ok : Valid g) (x : ℕ) (v : Device) (γ : Ghost) (lg :
   says-none d hd n e he = go (ℕ-discrete e x)
     where
       other : Here g x e → eqb (lastLost noDrive (γ .general e)) d ≡ false
-      other a = ne-eqb (lastLost noDrive (γ .general e)) d (last-lost-is (λ y. y ≢ d) (γ .general e) noDrive (λ q. omega (arith, ok .drives-most)) (λ y b m q. neither (lg .labels e a y b m) q))
+      other a = ne-eqb (lastLost noDrive (γ .general e)) d (last-lost-is (λ y. y ≢ d) (γ .general e) noDrive (λ q. omega (arith, ok .drives-most)) (λ y b m q. neither (lg .labels e a y b m .0) q))
         where
           neither : {y : ℕ} → (y ≡ noDrive) ⊎ (y ≡ x) → y ≡ d → ⊥
           neither (inl p) q = omega (arith, ok .drives-most)

@@ -166,7 +166,7 @@ module _ (g : Geometry) (ok : Valid g) (x : ℕ) (w : Device) (γ : Ghost) (l : 
     abbrev δ : Ghost
     δ = withLogs γ G (γ .parity)
 
-    fit : LogsFit g x u heads
+    fit : LogsFit g x u heads (γ .array)
     fit = record {
       reads = λ d a h m. rw (is-of d h m) (reads g ok d false (counters gens) (generations-length (nextGeneration k) zero (g .zones), generations-small (nextGeneration k) zero (g .zones) (λ j p. generation-small (nextGeneration k (zero + j)) (next-most (zero + j) (omega arith)))) (rw (eq-eqb (length gens) (g .zones) (generations-length (nextGeneration k) zero (g .zones))) refl));
       labels = λ d a y c m. absurd (let e = is-of d (label y c) m in let n : _≡_ {A = ℕ} 0 1 = cc in omega arith);

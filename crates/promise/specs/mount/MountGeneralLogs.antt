@@ -22,13 +22,12 @@ use Rattle.volume.specs.meaning.Calls.{appendGeneral}
 use Rattle.tables.specs.declared.Geometry.{Geometry}
 use Rattle.logs.specs.meaning.Entry.{generalZone, parityZone, wornGeneration, Header, label, counters, encode}
 use Rattle.tables.specs.meaning.Geometry.{physicalZones, dataZone}
-use Rattle.tables.specs.meaning.Drives.{noDrive}
 use Rattle.tables.specs.laws.Drives.{present-below}
 use Rattle.logs.specs.laws.Walk.{Reads}
 use Rattle.logs.specs.meaning.Heads.{generationIn, lastCounters}
 use Rattle.logs.specs.laws.Heads.{zoneGen}
 use Rattle.promise.specs.meaning.Ledger.{Ledger}
-use Rattle.promise.specs.invariant.Invariant.{Ghost, Here, LogsOk, Counts, Entries, Live, Why, logged, bare, passed, Dying, Logged, LoggedIn, resetLasts, countsPast}
+use Rattle.promise.specs.invariant.Invariant.{Ghost, Here, LogsOk, Counts, Entries, Live, Why, logged, bare, passed, Dying, Logged, LoggedIn, resetLasts, countsPast, LabelFits}
 use Rattle.promise.specs.invariant.HoldsLess.{withLogs}
 use Rattle.promise.specs.mount.MountRuns.{AllDurable, Between, Done, Joined, joinedBy, between-still, between-adds}
 use Rattle.logs.specs.laws.HeadLaws.{generation-append, last-counters-append, LastOf, old, new, last-counters-of}
@@ -40,9 +39,9 @@ pub record Logs (g : Geometry) (x : ℕ) (xs : List Store) (hs : ℕ → List He
   pub unseen : (d y : ℕ) → Here g x d → y ≢ generalZone → localStores d y xs ≡ []
 
 -- and what it may add
-pub record LogsFit (g : Geometry) (x : ℕ) (u : Device) (hs : ℕ → List Header) : Type 0 where
+pub record LogsFit (g : Geometry) (x : ℕ) (u : Device) (hs : ℕ → List Header) (array : ℕ) : Type 0 where
   pub reads : (d : ℕ) → Here g x d → (h : Header) → List·Memᴰ h (hs d) → Reads g d false h
-  pub labels : (d : ℕ) → Here g x d → (y a : ℕ) → List·Memᴰ (label y a) (hs d) → (y ≡ noDrive) ⊎ (y ≡ x)
+  pub labels : (d : ℕ) → Here g x d → (y a : ℕ) → List·Memᴰ (label y a) (hs d) → LabelFits x array y a
   pub room : (d : ℕ) → Here g x d → length (u d generalZone .sectors) + length (hs d) ≤ g .capacity
 
 -- the general logs after a part of the step
@@ -108,7 +107,7 @@ module _ (g : Geometry) (x : ℕ) (u : Device) (γ : Ghost) (xs : List Store) (h
       → Counts g x w (withLogs γ (grownGeneral γ u w hs) (γ .parity)) z Q
   grown-counts z Q c n d a = grown-count z Q d a (c d a) (n d a)
 
-  pub grown-logs : LogsFit g x u hs → LogsOk g x w (withLogs γ (grownGeneral γ u w hs) (γ .parity))
+  pub grown-logs : LogsFit g x u hs (γ .array) → LogsOk g x w (withLogs γ (grownGeneral γ u w hs) (γ .parity))
   unfolding grownGeneral
   grown-logs f = record {
     lost-ok = lg .lost-ok;
@@ -129,7 +128,7 @@ module _ (g : Geometry) (x : ℕ) (u : Device) (γ : Ghost) (xs : List Store) (h
       reads d a h (inl m) = lg .general-reads d a h m
       reads d a h (inr m) = f .reads d a h m
 
-      named : (d : ℕ) → Here g x d → (y c : ℕ) → List·Memᴰ (label y c) (γ .general d) ⊎ List·Memᴰ (label y c) (hs d) → (y ≡ noDrive) ⊎ (y ≡ x)
+      named : (d : ℕ) → Here g x d → (y c : ℕ) → List·Memᴰ (label y c) (γ .general d) ⊎ List·Memᴰ (label y c) (hs d) → LabelFits x (γ .array) y c
       named d a y c (inl m) = lg .labels d a y c m
       named d a y c (inr m) = f .labels d a y c m
 

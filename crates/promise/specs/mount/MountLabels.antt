@@ -69,10 +69,10 @@ module _ (g : Geometry) (ok : Valid g) (x : ℕ) (w : Device) (γ : Ghost) (l : 
   unfolding labelStep heads lacks
   the-logs = logs-drives g x (λ d. ltb x (g .drives) && not (eqb (lastLost noDrive (generalHeads g w d)) x)) (label x (k .array))
 
-  fit : LogsFit g x u heads
+  fit : LogsFit g x u heads (γ .array)
   fit = record {
     reads = λ d a h m. let (e, q) = is-label d h m in rw e (reads g ok d false (label x (k .array)) (rw array-is (s .inv .logs .array-lt)) (rw (lt-ltb x (g .drives) q) refl));
-    labels = λ d a y c m. let (e, q) = is-label d (label y c) m in inr (let r : y ≡ x = cc in r);
+    labels = λ d a y c m. let (e, q) = is-label d (label y c) m in (inr (let r : y ≡ x = cc in r), (let r : c ≡ k .array = cc in r) ∙ array-is);
     room = λ d a. let n : length (u d generalZone .sectors) ≡ length (G d) = ap length (t .base .logs .general-is d a) ∙ length-map (encode g d) (G d) in omega (arith, t .base .used d a, s .general-room d a, few d);
   }
 

@@ -73,7 +73,7 @@ module _ (g : Geometry) (x : ℕ) (w : Device) (γ : Ghost) (l : Ledger) (k : Sh
   pub grown-same : Same g x w γ l k u → Same g x w γ l k w′
   grown-same sm = record { data-same = λ z hz t d a. still-data g x u (withLogs γ G P) xs hs (bs .logs) (bs .settled) lo w′ b d z a ∙ sm .data-same z hz t d a }
 
-  pub grown-base : LogsFit g x u hs → (m : ℕ) → ((d : ℕ) → Here g x d → length (hs d) ≤ m) → Done g x u xs w′ → Base g x w γ w′ (grownGeneral (withLogs γ G P) u w′ hs) P (n + m)
+  pub grown-base : LogsFit g x u hs (γ .array) → (m : ℕ) → ((d : ℕ) → Here g x d → length (hs d) ≤ m) → Done g x u xs w′ → Base g x w γ w′ (grownGeneral (withLogs γ G P) u w′ hs) P (n + m)
   unfolding grownGeneral
   grown-base ft m h dn = record {
     logs = grown-logs g x u (withLogs γ G P) xs hs (bs .logs) (bs .settled) lo w′ b ft;

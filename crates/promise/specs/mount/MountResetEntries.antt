@@ -86,7 +86,7 @@ module _ (g : Geometry) (ok : Valid g) (x : ℕ) (w : Device) (γ : Ghost) (l : 
   count-most : countReset g k ≤ g .zones
   count-most = omega (arith, count-below-apart (λ z. k .zone z .byReset) (λ z. false) (g .zones) (λ z h e. refl))
 
-  fit : LogsFit g x u heads
+  fit : LogsFit g x u heads (γ .array)
   fit = record {
     reads = λ d a h m. let i = is-of d h m in
         rw (i .is) (reads g ok d false (zoneReset (i .zone) (γ .generation (i .zone))) (i .zone-lt, generation-small (γ .generation (i .zone)) (omega (arith, i .unworn))) (rw (lt-ltb (i .zone) (g .zones) (i .zone-lt)) (i .drive)));

@@ -111,7 +111,7 @@ module _ (g : Geometry) (ok : Valid g) (x : ℕ) (w : Device) (γ : Ghost) (l : 
       go z h e true q = absurd (true≢false (sym e ∙ only z h q .stay .not-reset))
       go z h e false q = refl
 
-  fit : LogsFit g x u heads
+  fit : LogsFit g x u heads (γ .array)
   fit = record {
     reads = λ d a h m. let i = is-of d h m in
         let y = i .zone in

@@ -5,7 +5,7 @@ use Rattle.tables.specs.laws.Basics.{and-same}
 use Rattle.tables.specs.meaning.Basics.{pick}
 use mathlib.Core.Path.{_≡_, refl, _∙_, subst, fun-ext}
 use mathlib.Core.Bool.{Bool, true, false, _&&_, not}
-use Prim.Native.Nat.{ℕ, _-_, _^_, _<_}
+use Prim.Native.Nat.{ℕ, _-_, _^_, _<_, zero, _≤_, zero-le}
 use native.Mathlib.Omega.{arith}
 use mathlib.Core.List.{List}
 use lib.ListN.{length, take}
@@ -18,11 +18,11 @@ use Rattle.tables.specs.laws.Drives.{presentBut}
 use Rattle.tables.specs.meaning.Drives.{noDrive}
 use Rattle.volume.specs.meaning.Content.{at}
 use Rattle.volume.specs.meaning.Rules.{Shown, isPresent, lostDrive, showing}
-use Rattle.volume.specs.meaning.State.{StateView, callPresent}
+use Rattle.volume.specs.meaning.State.{StateView, callPresent, setAt}
 use Rattle.volume.specs.meaning.Calls.{writeStores, writeState, flushStores, flushState, resetStores, resetState, formatStores, formatState}
 use Rattle.volume.specs.meaning.Mount.{mountStores, mountShows, mountState}
 use Rattle.promise.specs.invariant.Obligations.{MountOk, Invs, Rests, WriteOk, ResetOk}
-use Rattle.promise.specs.meaning.Ledger.{Ledger, freshLedger}
+use Rattle.promise.specs.meaning.Ledger.{Ledger, freshLedger, afterFlush, afterMount}
 use Rattle.promise.specs.look.LookReads.{present-is, lost-is}
 use Rattle.promise.specs.look.LookRest.{look-rests}
 use Rattle.promise.specs.calls.WriteKeeps.{write-keeps, write-rests}
@@ -40,6 +40,8 @@ use mathlib.Core.Logic.{_⊎_, inl, inr}
 use Rattle.promise.specs.invariant.Invariant.{rest-inv}
 use Rattle.promise.specs.mount.MountKeeps.{mount-keeps, mount-rests}
 use Rattle.promise.specs.invariant.CrashKeeps.{cut-keeps, loss-keeps, loss-rests}
+use Rattle.promise.specs.device.Marks.{withMarks, MarksAbove}
+use native.Mathlib.Nat.{le-refl}
 
 -- the drives that a call reaches are those not lost
 pub call-present : (g : Geometry) → Valid g → (x : ℕ) (state : StateView) → (state .lost ≡ noDrive) ⊎ (state .lost ≡ x) → callPresent g (allBut x) state ≡ presentBut g x
@@ -55,35 +57,46 @@ call-present g ok x state h = fun-ext λ d. go d (ltb d (g .drives)) refl (eqb d
     go d false p c q = rw p refl
 
 -- ---- what holds in each mode
+abbrev pub HoldsIn : Geometry → Mode → ℕ → Device → StateView → Ledger → Type 0
+HoldsIn g ready x v state l = Rests g x v state l
+HoldsIn g stopped x v state l = Invs g x v l
+HoldsIn g down x v state l = Invs g x v l
+
+-- it holds with some marks that are at least the ledger's
 abbrev pub OkIn : Geometry → Mode → ℕ → Device → StateView → Ledger → Type 0
-OkIn g ready x v state l = Rests g x v state l
-OkIn g stopped x v state l = Invs g x v l
-OkIn g down x v state l = Invs g x v l
+OkIn g m x v state l = (c : ℕ → ℕ) × MarksAbove l c × HoldsIn g m x v state (withMarks l c)
+
+-- the ledger's own marks are such
+pub own-marks : (g : Geometry) (m : Mode) (x : ℕ) (v : Device) (state : StateView) (l : Ledger) → HoldsIn g m x v state l → OkIn g m x v state l
+own-marks g m x v state l h = (l .committed, (λ z. le-refl (l .committed z)), h)
 
 -- (t: the lengths of the tables)
 abbrev pub Ok : (g : Geometry) (t : TableLengths) → System (onDevice g t) → Type 0
 Ok g t s = OkIn g (s .mode) (s .lost) (s .memory) (s .state) (s .ledger)
 
 module _ (g : Geometry) (t : TableLengths) (s : System (onDevice g t)) (o : Ok g t s) where
-  pub inv-of : Invs g (s .lost) (s .memory) (s .ledger)
-  inv-of = go (s .mode) o
+  abbrev pub marked : Ledger
+  marked = withMarks (s .ledger) (o .0)
+
+  pub inv-of : Invs g (s .lost) (s .memory) marked
+  inv-of = go (s .mode) (o .2)
     where
-      go : (m : Mode) → OkIn g m (s .lost) (s .memory) (s .state) (s .ledger) → Invs g (s .lost) (s .memory) (s .ledger)
-      go ready (γ, r) = (γ, rest-inv g (s .lost) (s .memory) (s .state) (s .ledger) γ r)
+      go : (m : Mode) → HoldsIn g m (s .lost) (s .memory) (s .state) marked → Invs g (s .lost) (s .memory) marked
+      go ready (γ, r) = (γ, rest-inv g (s .lost) (s .memory) (s .state) marked γ r)
       go stopped i = i
       go down i = i
 
-  pub rest-of : s .mode ≡ ready → Rests g (s .lost) (s .memory) (s .state) (s .ledger)
-  rest-of m = subst (λ (n : Mode). OkIn g n (s .lost) (s .memory) (s .state) (s .ledger)) m o
+  pub rest-of : s .mode ≡ ready → Rests g (s .lost) (s .memory) (s .state) marked
+  rest-of m = subst (λ (n : Mode). HoldsIn g n (s .lost) (s .memory) (s .state) marked) m (o .2)
 
 module _ (g : Geometry) (ok : Valid g) (t : TableLengths) where
-  lose-in : (m : Mode) (x d : ℕ) (v w : Device) (state : StateView) (l : Ledger) → d < g .drives → (x ≡ noDrive) ⊎ (x ≡ d) → Loss d v w → OkIn g m x v state l → OkIn g m d w state l
+  lose-in : (m : Mode) (x d : ℕ) (v w : Device) (state : StateView) (l : Ledger) → d < g .drives → (x ≡ noDrive) ⊎ (x ≡ d) → Loss d v w → HoldsIn g m x v state l → HoldsIn g m d w state l
   lose-in ready x d v w state l h e c o = loss-rests g ok x d v w state l h e c o
   lose-in stopped x d v w state l h e c o = loss-keeps g ok x d v w l h e c o
   lose-in down x d v w state l h e c o = loss-keeps g ok x d v w l h e c o
 
   -- with a look's state in place of what the host held
-  look-in : (m : Mode) (x : ℕ) (v : Device) (state : StateView) (l : Ledger) → OkIn g m x v state l → OkIn g m x v (mountState (showing g (presentBut g x) x v)) l
+  look-in : (m : Mode) (x : ℕ) (v : Device) (state : StateView) (l : Ledger) → HoldsIn g m x v state l → HoldsIn g m x v (mountState (showing g (presentBut g x) x v)) l
   look-in ready x v state l o = look-rests g ok x v state l o
   look-in stopped x v state l o = o
   look-in down x v state l o = o
@@ -143,29 +156,37 @@ module _ (g : Geometry) (ok : Valid g) (t : TableLengths) where
           let e = drives-of-call m in
           let accepted : firstRefusal (writeRows g t (badPointers g named (s .memory)) named (s .state) a count (length buffer) (s .memory)) ≡ accept → WriteOk g (presentBut g (s .lost)) (s .memory) (s .state) z ss = λ p. rw e at (write-ok g t named (s .state) a count buffer (s .memory) p) in
           by-call (writes a count buffer) stop (λ n. refl)
-          (λ p. rw e (write-keeps g ok (s .lost) (s .memory) (s .state) (s .ledger) z ss stop (rest-of g t s o m) (accepted p)))
-          (λ p. rw (e, lost-of-call m) (write-rests g ok (s .lost) (s .memory) (s .state) (s .ledger) z ss (rest-of g t s o m) (accepted p)))
+          (λ p. (o .0, o .1, rw e (write-keeps g ok (s .lost) (s .memory) (s .state) (marked g t s o) z ss stop (rest-of g t s o m) (accepted p))))
+          (λ p. (o .0, o .1, rw (e, lost-of-call m) (write-rests g ok (s .lost) (s .memory) (s .state) (marked g t s o) z ss (rest-of g t s o m) (accepted p))))
 
       flush-event : s .mode ≡ ready → (stop : ℕ) → Kept flushes stop
       flush-event m stop =
           let e = drives-of-call m in
-          by-call flushes stop (λ n. refl) (λ p. rw e (flush-keeps g ok (s .lost) (s .memory) (s .ledger) stop (inv-of g t s o)))
-          (λ p. rw (e, lost-of-call m) (flush-rests g ok (s .lost) (s .memory) (s .state) (s .ledger) (rest-of g t s o m)))
+          let c = callOf g t flushes named (s .state) (s .memory) in
+          let done = finishedResult (c .stores) (c .state) in
+          by-call flushes stop (λ n. refl) (λ p. (o .0, o .1, rw e (flush-keeps g ok (s .lost) (s .memory) (marked g t s o) stop (inv-of g t s o))))
+          (λ p. own-marks g ready (s .lost) (done .memory) (done .state) (afterFlush (s .ledger)) (rw (e, lost-of-call m) (flush-rests g ok (s .lost) (s .memory) (s .state) (marked g t s o) (rest-of g t s o m))))
 
       reset-event : s .mode ≡ ready → (z stop : ℕ) → Kept (resets z) stop
       reset-event m z stop =
           let e = drives-of-call m in
           let accepted : firstRefusal (resetRows g t (badPointers g named (s .memory)) named (s .state) z (s .memory)) ≡ accept → ResetOk g (presentBut g (s .lost)) (s .memory) (s .state) z = λ p. rw e at (reset-ok g t named (s .state) z (s .memory) p) in
           by-call (resets z) stop (λ n. refl)
-          (λ p. rw e (reset-keeps g ok (s .lost) (s .memory) (s .state) (s .ledger) z stop (rest-of g t s o m) (accepted p)))
-          (λ p. rw (e, lost-of-call m) (reset-rests g ok (s .lost) (s .memory) (s .state) (s .ledger) z (rest-of g t s o m) (accepted p)))
+          (λ p. (o .0, o .1, rw e (reset-keeps g ok (s .lost) (s .memory) (s .state) (marked g t s o) z stop (rest-of g t s o m) (accepted p))))
+          (λ p. (setAt (o .0) z zero, (λ y. less y (eqb y z)), rw (e, lost-of-call m) (reset-rests g ok (s .lost) (s .memory) (s .state) (marked g t s o) z (rest-of g t s o m) (accepted p))))
+        where
+          less : (y : ℕ) (b : Bool) → pick b zero (s .ledger .committed y) ≤ pick b zero (o .0 y)
+          less y true = zero-le
+          less y false = o .1 y
 
       mount-event : (stop : ℕ) → Kept mounts stop
       unfolding mountShows
       mount-event stop =
+          let c = callOf g t mounts named (s .state) (s .memory) in
+          let done = finishedResult (c .stores) (c .state) in
           by-call mounts stop (λ n. refl)
-          (λ p. rw (drives-of-look, lost-of-look) (mount-keeps g ok (s .lost) (s .memory) (s .ledger) stop (inv-of g t s o) (mount-accepted p)))
-          (λ p. rw (drives-of-look, lost-of-look) (mount-rests g ok (s .lost) (s .memory) (s .ledger) (inv-of g t s o) (mount-accepted p)))
+          (λ p. (o .0, o .1, rw (drives-of-look, lost-of-look) (mount-keeps g ok (s .lost) (s .memory) (marked g t s o) stop (inv-of g t s o) (mount-accepted p))))
+          (λ p. own-marks g ready (s .lost) (done .memory) (done .state) (afterMount (shownBy g named (s .memory) (done .memory))) (rw (drives-of-look, lost-of-look) (mount-rests g ok (s .lost) (s .memory) (marked g t s o) (inv-of g t s o) (mount-accepted p))))
 
       abbrev FormatLeaves : ℕ → CallResult Device StateView → Type 0
       FormatLeaves array r = NotStopped (r .answer) → Ok g t (settled g (onDevice g t) s r (ledgerAfter g (onDevice g t) s (formats array) named r))
@@ -182,7 +203,8 @@ module _ (g : Geometry) (ok : Valid g) (t : TableLengths) where
           done : OkIn g ready (s .lost) (applyAll xs (s .memory)) x freshLedger
           done =
               let (γ, r) = rest-of g t s o m in
-              rw (format-drives g (s .lost) named (names .drives), format-lost g ok (s .lost) (s .memory) γ (r .logs) named (names .drives)) (format-rests g ok (s .lost) array (s .memory) (r .logs .lost-ok) h)
+              own-marks g ready (s .lost) (applyAll xs (s .memory)) x freshLedger
+              (rw (format-drives g (s .lost) named (names .drives), format-lost g ok (s .lost) (s .memory) γ (r .logs) named (names .drives)) (format-rests g ok (s .lost) array (s .memory) (r .logs .lost-ok) h))
 
           cases : (b : Bool) → FormatLeaves array (pick b (stoppedResult xs stop) (finishedResult xs x))
           cases true n = absurd n
@@ -197,7 +219,7 @@ module _ (g : Geometry) (ok : Valid g) (t : TableLengths) where
       look-event true = go (firstRefusal (lookRows g t (badPointers g named (s .memory)) named (s .memory)))
         where
           shown : OkIn g (s .mode) (s .lost) (s .memory) (mountState (shownBy g named (s .memory) (s .memory))) (s .ledger)
-          shown = rw (drives-of-look, lost-of-look) (look-in (s .mode) (s .lost) (s .memory) (s .state) (s .ledger) o)
+          shown = (o .0, o .1, rw (drives-of-look, lost-of-look) (look-in (s .mode) (s .lost) (s .memory) (s .state) (marked g t s o) (o .2)))
 
           go : (r : Verdict) → OkIn g (s .mode) (s .lost) (s .memory) (lookResult (giving r (shownBy g named (s .memory) (s .memory))) (s .state) (s .memory) .state) (s .ledger)
           go (refuse n) = o
@@ -217,5 +239,5 @@ module _ (g : Geometry) (ok : Valid g) (t : TableLengths) where
     event-keeps (reads named a count out) d = o
     event-keeps (peeks named a) d = o
     event-keeps (reports list) d = o
-    event-keeps (cuts w) c = cut-keeps g ok (s .lost) (s .memory) w (s .ledger) (inv-of g t s o) c
-    event-keeps (loses d w) (h, e, c) = lose-in (s .mode) (s .lost) d (s .memory) w (s .state) (s .ledger) h e c o
+    event-keeps (cuts w) c = (o .0, o .1, cut-keeps g ok (s .lost) (s .memory) w (marked g t s o) (inv-of g t s o) c)
+    event-keeps (loses d w) (h, e, c) = (o .0, o .1, lose-in (s .mode) (s .lost) d (s .memory) w (s .state) (marked g t s o) h e c (o .2))

@@ -52,7 +52,8 @@ use Rattle.tables.specs.meaning.GeometryTest.{isValid}
 use Rattle.tables.specs.laws.GeometryTest.{valid-if-test}
 use Rattle.promise.specs.mount.MountKeeps.{mount-keeps}
 use Rattle.promise.specs.invariant.Throughout.{throughout}
-use Rattle.promise.specs.device.ClaimEvents.{Ok, inv-of, rest-of, drives-of-call, drives-of-look, lost-of-look, mount-accepted, event-keeps}
+use Rattle.promise.specs.device.ClaimEvents.{Ok, inv-of, rest-of, drives-of-call, drives-of-look, lost-of-look, mount-accepted, event-keeps, marked, own-marks}
+use Rattle.promise.specs.device.Marks.{fits-less}
 
 -- ---- what is promised of a system that is so (wb, lf: the format was accepted)
 module _ (g : Geometry) (ok : Valid g) (t : TableLengths) (wb : isValid g ≡ true) (lf : tablesFit g t ≡ true) (s : System (onDevice g t)) (o : Ok g t s) where
@@ -74,7 +75,7 @@ module _ (g : Geometry) (ok : Valid g) (t : TableLengths) (wb : isValid g ≡ tr
 
     -- ---- the rows that no call of such a host meets
     row-1 : s .mode ≡ ready → not (isValid g && stateWithin g (s .state)) ≡ false
-    row-1 m = let (γ, r) = rest-of g t s o m in ap not (and-join (isValid g) (stateWithin g (s .state)) wb (state-fine g ok (s .lost) (s .memory) (s .state) (s .ledger) γ r))
+    row-1 m = let (γ, r) = rest-of g t s o m in ap not (and-join (isValid g) (stateWithin g (s .state)) wb (state-fine g ok (s .lost) (s .memory) (s .state) (marked g t s o) γ r))
 
     row-3 : badPointers g named (s .memory) ≡ false
     row-3 = pointers-same g named (allBut (s .lost)) (names .drives) (s .memory) ∙ unrefused .pointers
@@ -92,7 +93,7 @@ module _ (g : Geometry) (ok : Valid g) (t : TableLengths) (wb : isValid g ≡ tr
     row-6 = rw seen (unrefused .logs)
 
     row-7 : s .mode ≡ ready → (z : ℕ) → stale g (callPresent g named (s .state)) (s .memory) (s .state) z ≡ false
-    row-7 m z = let (γ, r) = rest-of g t s o m in rw (drives m) (stale-fine g ok (s .lost) (s .memory) (s .state) (s .ledger) γ r z)
+    row-7 m z = let (γ, r) = rest-of g t s o m in rw (drives m) (stale-fine g ok (s .lost) (s .memory) (s .state) (marked g t s o) γ r z)
 
     -- ---- looks and mounts
     look-accepted : firstRefusal (lookRows g t (badPointers g named (s .memory)) named (s .memory)) ≡ accept
@@ -100,7 +101,7 @@ module _ (g : Geometry) (ok : Valid g) (t : TableLengths) (wb : isValid g ≡ tr
     look-accepted = passed (lookRows g t (badPointers g named (s .memory)) named (s .memory)) (ap not wb, (ap not lf, (row-3, (look-row-4, (row-5, (row-6, tt))))))
 
     look-claim : (lookResult (lookCall g t named (s .memory)) (s .state) (s .memory) ≡ record { answer = Finished; memory = s .memory; state = mountState (shownBy g named (s .memory) (s .memory)) }) × Fits g (s .ledger) (shownBy g named (s .memory) (s .memory))
-    look-claim = (rw look-accepted refl, rw (seen, lost) (look-fits g ok (s .lost) (s .memory) (s .ledger) (inv-of g t s o)))
+    look-claim = (rw look-accepted refl, rw (seen, lost) (fits-less g (s .ledger) (o .0) (showing g (presentBut g (s .lost)) (s .lost) (s .memory)) (o .1) (look-fits g ok (s .lost) (s .memory) (marked g t s o) (inv-of g t s o))))
 
     -- its state is what the host holds
     held-claim : s .mode ≡ ready → let looked = lookResult (lookCall g t named (s .memory)) (s .state) (s .memory) .state in (looked .lost ≡ s .lost) × SameZones g (onDevice g t) looked (s .state)
@@ -108,7 +109,7 @@ module _ (g : Geometry) (ok : Valid g) (t : TableLengths) (wb : isValid g ≡ tr
     held-claim m =
         let (γ, r) = rest-of g t s o m in
         rw (look-accepted, seen, lost)
-        (refl, record { generations = generation-held g ok (s .lost) (s .memory) (s .state) (s .ledger) γ r; conditions = condition-held g ok (s .lost) (s .memory) (s .state) (s .ledger) γ r })
+        (refl, record { generations = generation-held g ok (s .lost) (s .memory) (s .state) (marked g t s o) γ r; conditions = condition-held g ok (s .lost) (s .memory) (s .state) (marked g t s o) γ r })
 
     abbrev mountList : List Store
     mountList = mountStores g (isPresent g named (s .memory)) (lostDrive g named (s .memory)) (s .memory)
@@ -123,9 +124,9 @@ module _ (g : Geometry) (ok : Valid g) (t : TableLengths) (wb : isValid g ≡ tr
     mount-claim stop e =
         let (p, q) = storing-finished (firstRefusal (mountRows g t (badPointers g named (s .memory)) named (s .memory))) mountList mounted (s .state) stop (s .memory) e in
         let xs = mountStores g (presentBut g (s .lost)) (s .lost) (s .memory) in
-        let i = mount-keeps g ok (s .lost) (s .memory) (s .ledger) (length xs) (inv-of g t s o) (mount-accepted g ok t s o named names p) in
-        let j : Invs g (s .lost) (applyAll xs (s .memory)) (s .ledger) = rw (take-length xs) at i in
-        rw (p, q) (refl, rw (seen, lost) (look-fits g ok (s .lost) (applyAll xs (s .memory)) (s .ledger) j))
+        let i = mount-keeps g ok (s .lost) (s .memory) (marked g t s o) (length xs) (inv-of g t s o) (mount-accepted g ok t s o named names p) in
+        let j : Invs g (s .lost) (applyAll xs (s .memory)) (marked g t s o) = rw (take-length xs) at i in
+        rw (p, q) (refl, rw (seen, lost) (fits-less g (s .ledger) (o .0) (showing g (presentBut g (s .lost)) (s .lost) (applyAll xs (s .memory))) (o .1) (look-fits g ok (s .lost) (applyAll xs (s .memory)) (marked g t s o) j)))
 
     refused-claim : (stop n : ℕ) → onDevice g t .call mounts named (s .state) stop (s .memory) .answer ≡ Refused n → n ≡ 14
     unfolding mountRows
@@ -170,7 +171,7 @@ module _ (g : Geometry) (ok : Valid g) (t : TableLengths) (wb : isValid g ≡ tr
         worn h b = cases (isWorn (s .state .condition z)) refl b
           where
             cases : (w : Bool) → isWorn (s .state .condition z) ≡ w → w || leb wornGeneration (s .state .generation z) ≡ true → wornGeneration ≤ s .state .generation z
-            cases true e b = let (γ, r) = rest-of g t s o m in le-of-eq (sym (worn-last g ok (s .lost) (s .memory) (s .state) (s .ledger) γ r z (ltb-true z (g .zones) h) e))
+            cases true e b = let (γ, r) = rest-of g t s o m in le-of-eq (sym (worn-last g ok (s .lost) (s .memory) (s .state) (marked g t s o) γ r z (ltb-true z (g .zones) h) e))
             cases false e b = leb-true wornGeneration (s .state .generation z) b
 
         go : firstRefusal ((8, noZone g z) ∷ (12, wornFor (s .state) z) ∷ (14, resetFull g (callPresent g named (s .state)) (s .memory)) ∷ []) ≡ refuse n → ResetRefusal g (s .state .generation z) z n
@@ -193,7 +194,7 @@ module _ (g : Geometry) (ok : Valid g) (t : TableLengths) (wb : isValid g ≡ tr
         never p q = absurd (true≢false (sym q ∙ p))
 
         no-gone : ltb (zoneOf g a) (g .zones) ≡ true → goneBefore g (callPresent g named (s .state)) (s .memory) (zoneOf g a) (s .state .generation (zoneOf g a)) (pointerIn (s .state .condition (zoneOf g a))) ≡ false
-        no-gone h = let (γ, r) = rest-of g t s o m in rw (drives m) (before-fine g ok (s .lost) (s .memory) (s .state) (s .ledger) γ r (zoneOf g a) (ltb-true (zoneOf g a) (g .zones) h))
+        no-gone h = let (γ, r) = rest-of g t s o m in rw (drives m) (before-fine g ok (s .lost) (s .memory) (s .state) (marked g t s o) γ r (zoneOf g a) (ltb-true (zoneOf g a) (g .zones) h))
 
         run : n ≡ 9 → eqb count 0 || ltb (zoneSectors g) (offsetOf g a + count) ≡ true → WriteRefusal g (s .state .condition (zoneOf g a)) a count buffer n
         run k b = go (eqb count 0) refl b
@@ -222,7 +223,7 @@ module _ (g : Geometry) (ok : Valid g) (t : TableLengths) (wb : isValid g ≡ tr
         → tabulateFrom (valueAt g (callPresent g named (s .state)) (s .memory) z (s .state .generation z)) offset count ≡ tabulateFrom (at (s .ledger .content z)) offset count
     values m z h offset count k =
         let (γ, r) = rest-of g t s o m in
-        rw (drives m) (tabulate-from-cong (valueAt g (presentBut g (s .lost)) (s .memory) z (s .state .generation z)) (at (s .ledger .content z)) offset offset count (λ i hi. rest-known g ok (s .lost) (s .memory) (s .state) (s .ledger) γ r z h (offset + i) (omega arith) .1))
+        rw (drives m) (tabulate-from-cong (valueAt g (presentBut g (s .lost)) (s .memory) z (s .state .generation z)) (at (s .ledger .content z)) offset offset count (λ i hi. rest-known g ok (s .lost) (s .memory) (s .state) (marked g t s o) γ r z h (offset + i) (omega arith) .1))
 
     -- an answer "finished" is of an accepted call
     read-finished : (r : Verdict) (ss : List (List ℕ)) (out : List ℕ) → readResult (giving r ss) out .answer ≡ Finished → r ≡ accept
@@ -253,7 +254,7 @@ module _ (g : Geometry) (ok : Valid g) (t : TableLengths) (wb : isValid g ≡ tr
         let r8 : not (ltb z (g .zones)) ≡ false = ap not (lt-ltb z (g .zones) h) in
         let r9 : eqb count 0 || ltb (zoneSectors g) (offsetOf g a + count) ≡ false = rw (ne, le-ltb (zoneSectors g) (offsetOf g a + count) fit) refl in
         let r13 = le-ltb (pointerIn (s .state .condition z)) (offsetOf g a + count) k in
-        let r15 : goneIn g (callPresent g named (s .state)) (s .memory) z (s .state .generation z) (offsetOf g a) count ≡ false = rw (drives m) (gone-fine g ok (s .lost) (s .memory) (s .state) (s .ledger) γ r z h (offsetOf g a) count n) in
+        let r15 : goneIn g (callPresent g named (s .state)) (s .memory) z (s .state .generation z) (offsetOf g a) count ≡ false = rw (drives m) (gone-fine g ok (s .lost) (s .memory) (s .state) (marked g t s o) γ r z h (offsetOf g a) count n) in
         let p = passed (readRows g t (badPointers g named (s .memory)) named (s .state) a count (length out) (s .memory)) (row-1 m, (r2, (row-3, (row-4 m, (row-7 m z, (r8, (r9, (r13, (r15, tt))))))))) in
         rw p refl
 
@@ -273,7 +274,7 @@ module _ (g : Geometry) (ok : Valid g) (t : TableLengths) (wb : isValid g ≡ tr
         let q = peek-numbered (firstRefusal rows) (placeOf g a) (s .memory) (numbered rows refl) e in
         let h : z < g .zones = ltb-true z (g .zones) (not-not (ltb z (g .zones)) (accepted-row rows q 8)) in
         let n : offsetOf g a < length (s .ledger .content z) = omega (arith, ltb-false (pointerIn (s .state .condition z)) (offsetOf g a + 1) (accepted-row rows q 13), pointer-claim m z h) in
-        (n, rw q refl, rw q (rest-sector g ok (s .lost) (s .memory) (s .state) (s .ledger) γ r z h (offsetOf g a) n (rw (drives m) at (accepted-row rows q 15))))
+        (n, rw q refl, rw q (rest-sector g ok (s .lost) (s .memory) (s .state) (marked g t s o) γ r z h (offsetOf g a) n (rw (drives m) at (accepted-row rows q 15))))
 
     peek-accepted : s .mode ≡ ready → (a : ℕ) → zoneOf g a < g .zones → offsetOf g a < pointerIn (s .state .condition (zoneOf g a)) → allBut (s .lost) (driveOf (g .drives) (g .unit) (zoneOf g a) (offsetOf g a)) ≡ true
         → onDevice g t .peek named (s .state) a (s .memory) .number ≡ 0
@@ -287,7 +288,7 @@ module _ (g : Geometry) (ok : Valid g) (t : TableLengths) (wb : isValid g ≡ tr
         let b : presentBut g (s .lost) d ≡ true = and-join (ltb d (g .drives)) (not (eqb d (s .lost))) (lt-ltb d (g .drives) l) p in
         let r8 : not (ltb z (g .zones)) ≡ false = ap not (lt-ltb z (g .zones) h) in
         let r13 = le-ltb (pointerIn (s .state .condition z)) (offsetOf g a + 1) (omega arith) in
-        let r15 : notHeld g (callPresent g named (s .state)) (s .memory) z (s .state .generation z) (offsetOf g a) ≡ false = rw (drives m) (rest-held g ok (s .lost) (s .memory) (s .state) (s .ledger) γ r z h (offsetOf g a) n b) in
+        let r15 : notHeld g (callPresent g named (s .state)) (s .memory) z (s .state .generation z) (offsetOf g a) ≡ false = rw (drives m) (rest-held g ok (s .lost) (s .memory) (s .state) (marked g t s o) γ r z h (offsetOf g a) n b) in
         let q = passed (peekRows g t (badPointers g named (s .memory)) named (s .state) a (s .memory)) (row-1 m, (ap not lf, (row-3, (row-4 m, (row-7 m z, (r8, (r13, (r15, tt)))))))) in
         rw q refl
 
@@ -329,4 +330,4 @@ device-keeps-the-promise g t named array old stop v h e es d =
     let ok = valid-if-test g wb in
     let n : namedDrives g named ≡ presentBut g x = drives-named g ok named (accepted-row rows p 4) in
     let o : Rests g x (applyAll stores v) (formatState x) freshLedger = rw n (format-rests g ok x array v (left-out g named) h) in
-    throughout g (onDevice g t) (Ok g t) (kept g ok t wb (not-not (tablesFit g t) (accepted-row rows p 2))) (event-keeps g ok t) (start g (onDevice g t) named (storing (firstRefusal rows) stores (formatState x) old stop v)) (rw (p, q) o) es d
+    throughout g (onDevice g t) (Ok g t) (kept g ok t wb (not-not (tablesFit g t) (accepted-row rows p 2))) (event-keeps g ok t) (start g (onDevice g t) named (storing (firstRefusal rows) stores (formatState x) old stop v)) (rw (p, q) (own-marks g ready x (applyAll stores v) (formatState x) freshLedger o)) es d

@@ -34,7 +34,8 @@ use Rattle.volume.specs.laws.Refusals.{Numbered}
 use Rattle.promise.specs.meaning.Ledger.{Ledger}
 use Rattle.promise.specs.meaning.Claim.{Mode, ready, stopped, down}
 use Rattle.promise.specs.invariant.Invariant.{Ghost, Rest}
-use Rattle.promise.specs.device.ClaimEvents.{OkIn}
+use Rattle.promise.specs.device.ClaimEvents.{OkIn, HoldsIn}
+use Rattle.promise.specs.device.Marks.{withMarks}
 
 -- ---- states that say the same of the volume's zones
 pub record Agree (g : Geometry) (a b : StateView) : Type 0 where
@@ -63,9 +64,12 @@ rest-agrees g x v a b l γ e r = record {
 }
 
 pub ok-agrees : (g : Geometry) (m : Mode) (x : ℕ) (v : Device) (a b : StateView) (l : Ledger) → Agree g a b → OkIn g m x v a l → OkIn g m x v b l
-ok-agrees g ready x v a b l e (γ, r) = (γ, rest-agrees g x v a b l γ e r)
-ok-agrees g stopped x v a b l e o = o
-ok-agrees g down x v a b l e o = o
+ok-agrees g m x v a b l e (c, k, h) = (c, k, go m h)
+  where
+    go : (m : Mode) → HoldsIn g m x v a (withMarks l c) → HoldsIn g m x v b (withMarks l c)
+    go ready (γ, r) = (γ, rest-agrees g x v a b (withMarks l c) γ e r)
+    go stopped i = i
+    go down i = i
 
 -- ---- results that say the same
 pub record Agrees (g : Geometry) (a b : CallResult Device StateView) : Type 0 where

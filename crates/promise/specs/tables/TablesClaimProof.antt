@@ -42,7 +42,7 @@ use Rattle.volume.specs.meaning.Calls.{formatStores, formatState}
 use Rattle.volume.specs.meaning.Answers.{CallResult, Given, giving, lookCall, leftOut, namedDrives, placeOf, Place}
 use Rattle.promise.specs.meaning.Ledger.{freshLedger, Fits, Ledger}
 use Rattle.volume.specs.laws.Refusals.{accepted-row, Numbered, numbered}
-use Rattle.promise.specs.device.ClaimEvents.{OkIn, rest-of, drives-of-call, event-keeps}
+use Rattle.promise.specs.device.ClaimEvents.{OkIn, rest-of, drives-of-call, event-keeps, marked, own-marks}
 use Rattle.promise.specs.device.ClaimProof.{kept}
 use Rattle.promise.specs.device.AtRestAnswers.{left-out, drives-named}
 use Rattle.promise.specs.calls.FormatKeeps.{format-rests}
@@ -178,7 +178,7 @@ module _ (g : Geometry) (ok : Valid g) (wb : isValid g ≡ true) (s : System (on
         let hd : d < g .drives = drive-below (g .drives) (g .unit) z (omega (arith, ok .drives-least)) (ok .unit-least) (offsetOf g a) in
         let hy : dataZone z < physicalZones g = omega arith in
         let most = o .order d hd there .written-most (dataZone z) hy in
-        let long = content-long g (s .lost) w st (s .ledger) (rest-of g (lengthsOf t) (viewSystem g s) (o .holds) m) z hz (offsetOf g a) h in
+        let long = content-long g (s .lost) w st (marked g (lengthsOf t) (viewSystem g s) (o .holds)) (rest-of g (lengthsOf t) (viewSystem g s) (o .holds) m) z hz (offsetOf g a) h in
         let held : x < getD (t .written) (cell g d (dataZone z)) 0 = inside d (dataZone z) x hd hy (at (s .ledger .content z) (offsetOf g a)) e (omega (arith, long, ok .sector-least)) in
         sym (getD-tabulate (λ k. sectorAt g (t .sectors) d (dataZone z) k) (getD (t .written) (cell g d (dataZone z)) 0) x [] held) ∙ ap (λ (l : List (List ℕ)). getD l x []) (sym (device-sectors g t d (dataZone z) hd hy most)) ∙ e
       where
@@ -302,7 +302,7 @@ module _ (g : Geometry) (named : List Bool) (array : ℕ) (old : State) (stop : 
         sized = run-sized g stop stores t sized placed;
         order = λ k hk q. run-order g k stop stores t hk sized placed (order-passed g named (t .written) (t .durable) k (passed .pointers-fit) hk (named-in k hk q));
         records = fresh-records g ok x;
-        holds = rw d (ok-agrees g ready x (applyAll stores (deviceOf g t)) (formatState x) (viewState (freshState g x)) freshLedger (fresh-agrees g ok x) (format-rests g ok x array (deviceOf g t) (left-out g (isSet named)) small));
+        holds = rw d (ok-agrees g ready x (applyAll stores (deviceOf g t)) (formatState x) (viewState (freshState g x)) freshLedger (fresh-agrees g ok x) (own-marks g ready x (applyAll stores (deviceOf g t)) (formatState x) freshLedger (format-rests g ok x array (deviceOf g t) (left-out g (isSet named)) small)));
       })
 
 -- a finished format begins a history

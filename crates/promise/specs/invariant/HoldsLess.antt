@@ -6,7 +6,7 @@ use mathlib.Core.Path.{_≡_, sym, _∙_}
 use mathlib.Core.Logic.{_⊎_, inl, inr}
 use mathlib.Core.Bool.{true}
 use Prim.Native.Nat.{ℕ, _+_, _-_, _*_, _≤_, _<_, min}
-use native.Mathlib.Nat.{le-trans, le-refl}
+use native.Mathlib.Nat.{le-refl}
 use native.Mathlib.Omega.{arith}
 use mathlib.Core.List.{List, [], List·Memᴰ}
 use lib.ListN.{length, take, length-take}
@@ -18,7 +18,7 @@ use Rattle.logs.specs.meaning.Entry.{generalZone, parityZone, wornGeneration, H
 use Rattle.logs.specs.laws.Walk.{Whole, Left, cutEntries}
 use Rattle.volume.specs.meaning.Content.{parityDriveAt}
 use Rattle.promise.specs.meaning.Ledger.{Ledger}
-use Rattle.promise.specs.invariant.Invariant.{Ghost, Here, LogsOk, Capped, TrueRows, Live, Dying, resetLasts, said, factsOf, Counts}
+use Rattle.promise.specs.invariant.Invariant.{Ghost, Here, LogsOk, Capped, TrueRows, Live, Dying, resetLasts, said, factsOf, Counts, survives-still}
 use Rattle.promise.specs.invariant.SaidMoves.{Moves, HeadJoins, EntryJoins, Was, always-of, live-moves, dying-moves, said-sure}
 use Rattle.logs.specs.meaning.Heads.{generationIn}
 
@@ -68,8 +68,8 @@ module _ (g : Geometry) (x y : ℕ) (v w : Device) (γ : Ghost) (G : ℕ → Lis
   less-live l z hz h =
       let counts′ : Counts g y w (withLogs γ G P) z (λ n. n ≡ γ .generation z) = λ d a. counts-of z (λ n. n ≡ γ .generation z) d a (h .counts d (k .here d a)) in
       live-moves g x y z (factsOf γ l z) (said g v γ z) (said g w (withLogs γ G P) z) (less-moves l z) (λ d. v d (dataZone z)) (λ d. w d (dataZone z)) h
-      (λ d a e q r m. k .parity-lasts d a e q m) counts′ (λ d a. said-sure g w (withLogs γ G P) z d (γ .generation z) (counts′ d a))
-      (λ d a. prefix-trans (k .data-sub d z hz a) (h .places d (k .here d a))) (λ d a. le-trans (h .strong .places d (k .here d a)) (k .data-lasts d z hz a))
+      (survives-still g x y z (γ .generation z) (l .committed z) (k .here) (λ d a. k .data-lasts d z hz a) (k .parity-lasts) (h .strong))
+      counts′ (λ d a. said-sure g w (withLogs γ G P) z d (γ .generation z) (counts′ d a)) (λ d a. prefix-trans (k .data-sub d z hz a) (h .places d (k .here d a)))
 
   pub less-dying : (l : Ledger) (z : ℕ) → z < g .zones → Dying g x v γ l z → Dying g y w (withLogs γ G P) l z
   less-dying l z hz h = dying-moves g x y z (factsOf γ l z) (said g v γ z) (said g w (withLogs γ G P) z) (less-moves l z) (λ d. v d (dataZone z)) (λ d. w d (dataZone z)) h

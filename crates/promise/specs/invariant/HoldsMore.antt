@@ -54,12 +54,13 @@ module _ (g : Geometry) (x : ℕ) (v w : Device) (γ : Ghost) (G : ℕ → List 
         → ((d : ℕ) → Here g x d → Prefix (w d (dataZone z) .sectors) (column (g .drives) (g .unit) z (γ .laid z) d))
         → ((d : ℕ) → Here g x d → needed (g .drives) (g .unit) z (l .committed z) d ≤ w d (dataZone z) .durable)
         → Live g x w (withLogs γ G P) l z
-    live-more h heads entries′ counts′ places′ strong′ = live-moves g x x z (factsOf γ l z) (said g v γ z) (said g w (withLogs γ G P) z) (record {
+    live-more h heads entries′ counts′ places′ deep = live-moves g x x z (factsOf γ l z) (said g v γ z) (said g w (withLogs γ G P) z) (record {
       here = λ d a. a;
       heads = λ d a e m. always-of e z (List·Memᴰ e (γ .general d) ⊎ NewHead g x v γ l z e) (heads d a e m);
       caps = λ d a c m. inl (c, le-refl c, keep d a (seal z c (γ .generation z)) m);
       entries = λ d a e m. always-of (e .head) z (Was g d e (λ (p : Entry). List·Memᴰ p (γ .parity d)) ⊎ NewEntry g x v γ G l z d e) (was d e (entries′ d a e m));
-    }) (λ d. v d (dataZone z)) (λ d. w d (dataZone z)) h (λ d a e q r m. plasts d a e q m) counts′ (λ d a. said-sure g w (withLogs γ G P) z d (γ .generation z) (counts′ d a)) places′ strong′
+    }) (λ d. v d (dataZone z)) (λ d. w d (dataZone z)) h (record { places = deep; entry = λ i a. let (e, q, r, u) = h .strong .entry i a in (e, plasts (parityDriveAt g z (l .committed z)) a e r q, r, u) })
+        counts′ (λ d a. said-sure g w (withLogs γ G P) z d (γ .generation z) (counts′ d a)) places′
       where
         was : (d : ℕ) (e : Entry) → List·Memᴰ e (γ .parity d) ⊎ NewEntry g x v γ G l z d e → Was g d e (λ (p : Entry). List·Memᴰ p (γ .parity d)) ⊎ NewEntry g x v γ G l z d e
         was d e (inl m) = inl (was-self g d e (λ (p : Entry). List·Memᴰ p (γ .parity d)) m)

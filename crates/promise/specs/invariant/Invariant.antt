@@ -25,6 +25,7 @@ use Rattle.volume.specs.declared.Condition.{Condition}
 use Rattle.volume.specs.declared.Condition.the-variants.{Empty, Open, Sealed, Worn}
 use Rattle.volume.specs.meaning.State.{pointerIn, StateView}
 use Rattle.promise.specs.meaning.Ledger.{Ledger}
+use native.Mathlib.Nat.{le-trans}
 
 pub record Ghost : Type 0 where
   pub laid : ℕ → List (List ℕ)  -- the sectors that a zone's places follow, of which its content is a beginning
@@ -88,6 +89,14 @@ pub record SurvivesLossIn (g : Geometry) (x : ℕ) (z generation n : ℕ) (len :
 
 abbrev pub SurvivesLoss : Geometry → ℕ → ℕ → ℕ → ℕ → (ℕ → ℕ) → (ℕ → List Entry) → Type 0
 SurvivesLoss g x z generation n len par = SurvivesLossIn g x z generation n len (λ d e. List·Memᴰ e (par d))
+
+-- and stays so where no place is shorter and each whole entry is there still (y: the drive that is lost then)
+pub survives-still : (g : Geometry) (x y z generation n : ℕ) {len len′ : ℕ → ℕ} {par par′ : ℕ → Entry → Type 0} → ((d : ℕ) → Here g y d → Here g x d) → ((d : ℕ) → Here g y d → len d ≤ len′ d)
+    → ((d : ℕ) → Here g y d → (e : Entry) → Whole g d true e → par d e → par′ d e) → SurvivesLossIn g x z generation n len par → SurvivesLossIn g y z generation n len′ par′
+survives-still g x y z generation n here deep lasts s = record {
+  places = λ d a. le-trans (s .places d (here d a)) (deep d a);
+  entry = λ i a. let p = parityDriveAt g z n in let (e, m, w, q) = s .entry i (here p a) in (e, lasts p a e w m, w, q);
+}
 
 -- what is durable of the parity logs
 abbrev pub durableEntries : Geometry → Device → Ghost → ℕ → List Entry

@@ -11,14 +11,12 @@ use lib.ListN.{length, take, length-take}
 use lib.Seq.{getD-take, take-length}
 use Rattle.tables.specs.meaning.Device.{ZoneView, Device}
 use Rattle.tables.specs.laws.Lists.{Prefix}
-use Rattle.tables.specs.meaning.Placement.{needed}
 use Rattle.tables.specs.declared.Geometry.{Geometry}
 use Rattle.tables.specs.meaning.Geometry.{stripeSectors}
 use Rattle.logs.specs.meaning.Entry.{wornGeneration, Header, label, counters, zoneReset, partialParity, seal, Entry, generalZone}
 use Rattle.logs.specs.laws.Heads.{zoneGen}
 use Rattle.logs.specs.laws.Walk.{Whole}
 use Rattle.promise.specs.content.Columns.{column}
-use Rattle.volume.specs.meaning.Content.{parityDriveAt, entryHeader}
 use Rattle.promise.specs.invariant.Invariant.{Here, Said, ZoneFacts, CappedIn, CappedBelowIn, TrueRows, EntriesIn, SurvivesLossIn, LiveZone, LoggedIn, resetLasts, countsPast, WhyIn, logged, bare, passed, DyingZone, Ghost, said, SpentIn, SealLasts, SealSpent}
 use native.Mathlib.Nat.{le-refl}
 
@@ -125,12 +123,11 @@ module _ (g : Geometry) (x y z : ℕ) (f : ZoneFacts) (s t : Said) (k : Moves g 
 
   -- A LIVE ZONE STAYS LIVE
   pub live-moves : (held held′ : ℕ → ZoneView) → LiveZone g x z f s held
-      → ((d : ℕ) → Here g y d → (e : Entry) → Whole g d true e → e .head ≡ entryHeader g z (f .generation) (f .committed) → s .parityLasts d e → t .parityLasts d e)
+      → SurvivesLossIn g y z (f .generation) (f .committed) (λ d. held′ d .durable) (t .parityLasts)
       → ((d : ℕ) → Here g y d → t .counts d (λ n. n ≡ f .generation)) → ((d : ℕ) → Here g y d → t .counts d (λ n. f .generation < n) → ⊥)
       → ((d : ℕ) → Here g y d → Prefix (held′ d .sectors) (column (g .drives) (g .unit) z (f .laid) d))
-      → ((d : ℕ) → Here g y d → needed (g .drives) (g .unit) z (f .committed) d ≤ held′ d .durable)
       → LiveZone g y z f t held′
-  live-moves held held′ h lasts counts′ sure places′ deep = record {
+  live-moves held held′ h strong′ counts′ sure places′ = record {
     sizes = h .sizes;
     fits = h .fits;
     generation-top = h .generation-top;
@@ -141,7 +138,7 @@ module _ (g : Geometry) (x y z : ℕ) (f : ZoneFacts) (s t : Said) (k : Moves g 
     tells = λ d a e m i j q. up sure (i * stripeSectors g + j) (told d a e i j q (partial-of (e .head) z i j (f .generation) q (k .entries d a e m)));
     seals = λ d a c m. sealed d a c (k .heads d a (seal z c (f .generation)) m refl);
     alone = λ d e a b c m p n w j q r. up sure j (lone d e a b c m p w j q r (k .heads d a (seal z c (f .generation)) m refl) (partial-of (p .head) z zero j (f .generation) q (k .entries e b p n)));
-    strong = record { places = deep; entry = λ i a. let (e, q, r, w) = h .strong .entry i (k .here (parityDriveAt g z (f .committed)) a) in (e, lasts (parityDriveAt g z (f .committed)) a e r w q, r, w) };
+    strong = strong′;
     counts = counts′;
     no-reset = none (h .no-reset);
     entries = moves-entries (λ n. n ≤ f .generation) (λ m q. q .0) (h .entries);

@@ -7,7 +7,7 @@ use mathlib.Core.Path.{_≡_, refl, sym, ap, _∙_, subst}
 use mathlib.Core.Logic.{_≢_, _⊎_, inl, inr}
 use mathlib.Core.Bool.{Bool, true, false, true≢false}
 use Prim.Native.Nat.{ℕ, zero, _+_, _*_, _≤_, _<_}
-use native.Mathlib.Nat.{le-refl, le-trans}
+use native.Mathlib.Nat.{le-refl}
 use native.Mathlib.Omega.{arith}
 use mathlib.Core.List.{List, List·Memᴰ}
 use lib.ListN.{length, take}
@@ -24,7 +24,7 @@ use Rattle.volume.specs.declared.Condition.{Condition}
 use Rattle.volume.specs.declared.Condition.the-variants.{Empty, Open, Sealed, Worn}
 use Rattle.volume.specs.meaning.State.{StateView}
 use Rattle.promise.specs.meaning.Ledger.{Ledger}
-use Rattle.promise.specs.invariant.Invariant.{Ghost, Here, LogsOk, Capped, TrueRows, Counts, Entries, SurvivesLoss, durableEntries, Live, Plain, Shape, RestZone, said, factsOf, ZoneFacts, LiveZone}
+use Rattle.promise.specs.invariant.Invariant.{Ghost, Here, LogsOk, Capped, TrueRows, Counts, Entries, Live, Plain, Shape, RestZone, said, factsOf, ZoneFacts, LiveZone, survives-still}
 use Rattle.promise.specs.invariant.SaidMoves.{HeadJoins, EntryJoins, Was, always-of, live-moves, live-flag, withFlag, said-sure}
 
 -- a header that does not speak of zone z
@@ -87,12 +87,6 @@ module _ (g : Geometry) (x : ℕ) (v w : Device) (γ δ : Ghost) (l m : Ledger) 
       par d a e (inl o) = rw (o .heads) (h .in-parity d a (o .of) (o .isSet))
       par d a e (inr o) = other-any z (e .head) Q o
 
-  untouched-strong : (n : ℕ) → SurvivesLoss g x z (γ .generation z) n (λ d. v d (dataZone z) .durable) (durableEntries g v γ) → SurvivesLoss g x z (γ .generation z) n (λ d. w d (dataZone z) .durable) (durableEntries g w δ)
-  untouched-strong n h = record {
-    places = λ d a. le-trans (h .places d a) (k .data-lasts d a);
-    entry = λ i a. let (e, q, r, s) = h .entry i a in (e, k .parity-lasts (parityDriveAt g z n) a e r q, r, s);
-  }
-
   pub untouched-live : Live g x v γ l z → Live g x w δ m z
   untouched-live h =
       let f = withFlag (factsOf γ l z) (m .resetting z) in
@@ -107,8 +101,8 @@ module _ (g : Geometry) (x : ℕ) (v w : Device) (γ δ : Ghost) (l m : Ledger) 
         caps = λ d a c i. inl (c, le-refl c, k .general-lasts d a (seal z c (γ .generation z)) i);
         entries = λ d a e i. was d a e (k .parity-new d a e i);
       }) (λ d. v d (dataZone z)) (λ d. w d (dataZone z)) (live-flag g x z (factsOf γ l z) s (λ d. v d (dataZone z)) (m .resetting z) (k .flag-stays) h)
-      (λ d a e i j p. k .parity-lasts d a e i p) counts′ (λ d a. said-sure g w δ z d (γ .generation z) (counts′ d a))
-      (λ d a. prefix-trans (k .data-sub d a) (h .places d a)) (λ d a. le-trans (h .strong .places d a) (k .data-lasts d a)))
+      (survives-still g x x z (γ .generation z) (l .committed z) (λ d a. a) (k .data-lasts) (k .parity-lasts) (h .strong))
+      counts′ (λ d a. said-sure g w δ z d (γ .generation z) (counts′ d a)) (λ d a. prefix-trans (k .data-sub d a) (h .places d a)))
     where
       joined : (d : ℕ) (e : Header) → List·Memᴰ e (γ .general d) ⊎ Joins z (γ .generation z) (m .resetting z) e
           → zoneGen e (λ y n. y ≡ z → List·Memᴰ e (γ .general d) ⊎ HeadJoins g x z (withFlag (factsOf γ l z) (m .resetting z)) (said g v γ z) e)

@@ -31,7 +31,7 @@ use Rattle.volume.specs.meaning.Content.{rowXorBelow, at, parityDriveAt, fillOf
 use Rattle.volume.specs.laws.Content.{row-xor-none}
 use Rattle.promise.specs.content.Columns.{columns-tell-truth}
 use Rattle.promise.specs.meaning.Ledger.{Ledger, FitsZone}
-use Rattle.promise.specs.invariant.Invariant.{Ghost, Here, LogsOk, Capped, CappedBelow, TrueRows, Counts, SurvivesLoss, durableEntries, Live}
+use Rattle.promise.specs.invariant.Invariant.{Ghost, Here, LogsOk, Capped, CappedBelow, TrueRows, Counts, SurvivesLoss, durableEntries, Live, survives-still}
 use Rattle.promise.specs.look.LookReads.{general-heads, parity-entries}
 use Rattle.logs.specs.laws.HeadLaws.{reset-is, least-seal-most, least-seal-below, least-seal-least}
 use Rattle.promise.specs.look.ServingEntries.{serving-all, serving-mem}
@@ -187,10 +187,7 @@ module _ (g : Geometry) (ok : Valid g) (x : ℕ) (v : Device) (γ : Ghost) (lg :
 
     -- what is durable is written
     pub strong-written : (n m : ℕ) → z < g .zones → SurvivesLoss g x z n m (λ d. v d (dataZone z) .durable) (durableEntries g v γ) → SurvivesLoss g x z n m (λ d. length (v d (dataZone z) .sectors)) (γ .parity)
-    strong-written n m hz s = record {
-      places = λ d a. le-trans (s .places d a) (lg .lasting d (dataZone z) a (omega arith));
-      entry = λ i a. let (e, k, w, q) = s .entry i a in let p = parityDriveAt g z m in (e, cut-whole g p (γ .parity p) (v p parityZone .durable) e (lg .parity-lawful p a) k w, w, q);
-    }
+    strong-written n m hz s = survives-still g x x z n m (λ d a. a) (λ d a. lg .lasting d (dataZone z) a (omega arith)) (λ d a e w k. cut-whole g d (γ .parity d) (v d parityZone .durable) e (lg .parity-lawful d a) k w) s
 
     pub live-generation : generationOf g (presentBut g x) v z ≡ γ .generation z
     live-generation =

@@ -26,4 +26,5 @@ pub mod Refusals
 pub mod RefusalsDepend
 pub mod Report
 pub mod SectorsStored
+pub mod SpareZone
 pub mod StoreCounts

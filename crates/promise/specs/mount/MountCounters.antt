@@ -14,7 +14,7 @@ use native.Mathlib.Nat.{le-refl, le-trans, le-of-eq}
 use native.Mathlib.Omega.{arith}
 use mathlib.Core.List.{List, [], _∷_, _++_, append-nil, List·Memᴰ, List·Memᴰ·head}
 use lib.ListN.{length, getD, take}
-use Rattle.tables.specs.meaning.Device.{Device}
+use Rattle.tables.specs.meaning.Device.{Device, Store}
 use Rattle.tables.specs.declared.Geometry.{Geometry}
 use Rattle.tables.specs.meaning.Geometry.{Valid, dataZone}
 use Rattle.logs.specs.meaning.Entry.{generalZone, wornGeneration, Header, label, counters, encode}
@@ -46,6 +46,14 @@ use Rattle.tables.specs.meaning.LittleEndian.{sameBytes}
 use Rattle.tables.specs.laws.LittleEndian.{same-bytes-eq}
 use Rattle.promise.specs.look.LookLive.{counts-now}
 use Rattle.promise.specs.look.LookDying.{generation-some}
+
+-- the step's stores, by an answer to whether the counters differ
+abbrev countersBy : Geometry → Bool → Shown → List Store
+countersBy g differ k = pick (anyBelow (λ z. isEmpty (k .zone z .condition)) (g .zones) || differ) (eachBelow (λ d. appendGeneral g (counters (generationsFrom (nextGeneration k) zero (g .zones))) d) (g .drives)) []
+
+-- every present drive's last counters give every zone the same generation
+abbrev CountsAgree : Geometry → ℕ → Ghost → Type 0
+CountsAgree g x γ = (d e : ℕ) → Here g x d → Here g x e → (z : ℕ) → z < g .zones → generationIn z (γ .general d) ≡ generationIn z (γ .general e)
 
 module _ (g : Geometry) (ok : Valid g) (x : ℕ) (w : Device) (γ : Ghost) (l : Ledger) (k : Shown) (s : Start g x w γ l k) where
   pub next-live : (z : ℕ) → Stays g x w γ l k z ⊎ WornZone g x w γ l k z → nextGeneration k z ≡ γ .generation z
@@ -79,152 +87,164 @@ module _ (g : Geometry) (ok : Valid g) (x : ℕ) (w : Device) (γ : Ghost) (l : 
   gens-are : (z : ℕ) → z < g .zones → getD gens z zero ≡ nextGeneration k z
   gens-are z h = generations-at (nextGeneration k) zero (g .zones) z h ∙ ap (nextGeneration k) (let e : zero + z ≡ z = omega arith in e)
 
-  stored : Bool
-  stored = anyBelow (λ z. isEmpty (k .zone z .condition)) (g .zones) || countersDiffer g (presentBut g x) w
-
-  heads : ℕ → List Header
-  heads d = pick stored (counters gens ∷ []) []
-
-  the-logs : Logs g x (counterStep g (presentBut g x) k w) heads
-  unfolding counterStep heads stored
-  the-logs = go (anyBelow (λ z. isEmpty (k .zone z .condition)) (g .zones) || countersDiffer g (presentBut g x) w)
-    where
-      go : (c : Bool) → Logs g x (pick c (eachBelow (λ d. appendGeneral g (counters gens) d) (g .drives)) []) (λ d. pick c (counters gens ∷ []) [])
-      go true = logs-drives g x (λ d. true) (counters gens)
-      go false = record { sees = λ d a. refl; unseen = λ d y a q. refl }
-
-  is-of : (d : ℕ) (h : Header) → List·Memᴰ h (heads d) → h ≡ counters gens
-  unfolding heads
-  is-of d h m = go stored m
-    where
-      go : (c : Bool) → List·Memᴰ h (pick c (counters gens ∷ []) []) → h ≡ counters gens
-      go true (List·Memᴰ·head q) = q
-
-  few : (d : ℕ) → length (heads d) ≤ 1
-  unfolding heads
-  few d = go stored
-    where
-      go : (c : Bool) → length (pick c (counters gens ∷ []) []) ≤ 1
-      go true = le-refl 1
-      go false = zero-le
-
-  gens-of : (z : ℕ) → z < g .zones → (d : ℕ) (cs : List ℕ) → List·Memᴰ (counters cs) (heads d) → getD cs z zero ≡ nextGeneration k z
-  gens-of z h d cs m = let e = is-of d (counters cs) m in let q : cs ≡ gens = cc in rw q (gens-are z h)
-
-  none-of : (z d : ℕ) (h : Header) → List·Memᴰ h (heads d) → zoneGen h (λ y n. y ≢ z)
-  none-of z d h m = rw (is-of d h m) tt
-
-  within : (z d : ℕ) (h : Header) → List·Memᴰ h (heads d) → zoneGen h (λ y n. y ≡ z → n ≤ γ .generation z)
-  within z d h m = rw (is-of d h m) tt
-
   count-most : countReset g k ≤ g .zones
   count-most = omega (arith, count-below-apart (λ z. k .zone z .byReset) (λ z. false) (g .zones) (λ z h e. refl))
 
-  -- without new counters the present ones are right
-  unstored : stored ≡ false → (d : ℕ) → Here g x d → (z : ℕ) → z < g .zones → generationIn z (γ .general d) ≡ nextGeneration k z
-  unfolding stored countersDiffer showing zoneShown zoneAt
-  unstored e d a z h = go (s .fate z h)
+  -- counters that do not differ give the same generations
+  counters-agree : countersDiffer g (presentBut g x) w ≡ false → CountsAgree g x γ
+  unfolding countersDiffer
+  counters-agree e d c a b z hz = ap (λ (q : List ℕ). getD q z zero) (same-bytes-eq (lastCounters [] (γ .general d)) (lastCounters [] (γ .general c)) same)
     where
-      parts : (anyBelow (λ z. isEmpty (k .zone z .condition)) (g .zones) ≡ false) × (countersDiffer g (presentBut g x) w ≡ false)
-      parts = or-none (anyBelow (λ z. isEmpty (k .zone z .condition)) (g .zones)) (countersDiffer g (presentBut g x) w) e
+      f : ℕ → ℕ → Bool
+      f i j = sameBytes (lastCounters [] (generalHeads g w i)) (lastCounters [] (generalHeads g w j))
 
-      not-empty : k .zone z .condition ≡ Empty → ⊥
-      not-empty q = true≢false (rw q at (any-below-false (λ z. isEmpty (k .zone z .condition)) (g .zones) z (parts .0) h))
-
-      agree : (d0 : ℕ) → Here g x d0 → lastCounters [] (γ .general d) ≡ lastCounters [] (γ .general d0)
-      agree d0 a0 =
-          let f : ℕ → ℕ → Bool = λ i j. sameBytes (lastCounters [] (generalHeads g w i)) (lastCounters [] (generalHeads g w j)) in
-          let p1 = any-below-false (λ i. presentBut g x i && anyBelow (λ j. presentBut g x j && not (f i j)) (g .drives)) (g .drives) d (parts .1) (present-below g x d a) in
+      same : sameBytes (lastCounters [] (γ .general d)) (lastCounters [] (γ .general c)) ≡ true
+      same =
+          let p1 = any-below-false (λ i. presentBut g x i && anyBelow (λ j. presentBut g x j && not (f i j)) (g .drives)) (g .drives) d e (present-below g x d a) in
           let p2 : anyBelow (λ j. presentBut g x j && not (f d j)) (g .drives) ≡ false = rw a at p1 in
-          let p3 = any-below-false (λ j. presentBut g x j && not (f d j)) (g .drives) d0 p2 (present-below g x d0 a0) in
-          let p4 : not (f d d0) ≡ false = rw a0 at p3 in
-          let p5 : f d d0 ≡ true = not-not (f d d0) p4 in
-          let p6 : sameBytes (lastCounters [] (γ .general d)) (lastCounters [] (γ .general d0)) ≡ true = rw (general-heads g ok x w γ (s .inv .logs) d a, general-heads g ok x w γ (s .inv .logs) d0 a0) at p5 in
-          same-bytes-eq (lastCounters [] (γ .general d)) (lastCounters [] (γ .general d0)) p6
+          let p3 = any-below-false (λ j. presentBut g x j && not (f d j)) (g .drives) c p2 (present-below g x c b) in
+          let p4 : not (f d c) ≡ false = rw b at p3 in
+          rw (general-heads g ok x w γ (s .inv .logs) d a, general-heads g ok x w γ (s .inv .logs) c b) at (not-not (f d c) p4)
 
-      live : Live g x w γ l z → Stays g x w γ l k z ⊎ WornZone g x w γ l k z → generationIn z (γ .general d) ≡ nextGeneration k z
-      live lv q = counts-now g ok x w γ (s .inv .logs) z (λ n. n ≡ γ .generation z) (lv .counts) d a ∙ sym (next-live z q)
+  -- (differ: an answer to whether the counters differ, which may be that of an earlier look; asked of it is only that, where it says that they do
+  -- not, they give the same generations)
+  module _ (differ : Bool) (same : differ ≡ false → CountsAgree g x γ) where
+    stored : Bool
+    stored = anyBelow (λ z. isEmpty (k .zone z .condition)) (g .zones) || differ
 
-      kgen : k .zone z .generation ≡ generationOf g (presentBut g x) w z
-      kgen = ap (λ (q : Shown). q .zone z .generation) (s .look)
+    heads : ℕ → List Header
+    heads d = pick stored (counters gens ∷ []) []
 
-      raised : Raised g x w γ l k z → ((k .zone z .condition ≡ Empty) × (k .zone z .generation < wornGeneration)) ⊎ ((k .zone z .condition ≡ Worn zero) × (k .zone z .generation ≡ wornGeneration)) → generationIn z (γ .general d) ≡ nextGeneration k z
-      raised q (inl r) = absurd (not-empty (r .0))
-      raised q (inr r) =
-          let gt : γ .generation z < generationOf g (presentBut g x) w z = rw kgen at (q .generation-past) in
-          let (d0, a0, e0) = generation-some g ok x w γ (s .inv .logs) z (γ .generation z) gt in
-          rw (r .0) (ap (λ (c : List ℕ). getD c z zero) (agree d0 a0) ∙ sym e0 ∙ sym kgen)
+    the-logs : Logs g x (countersBy g differ k) heads
+    unfolding heads stored
+    the-logs = go (anyBelow (λ z. isEmpty (k .zone z .condition)) (g .zones) || differ)
+      where
+        go : (c : Bool) → Logs g x (pick c (eachBelow (λ d. appendGeneral g (counters gens) d) (g .drives)) []) (λ d. pick c (counters gens ∷ []) [])
+        go true = logs-drives g x (λ d. true) (counters gens)
+        go false = record { sees = λ d a. refl; unseen = λ d y a q. refl }
 
-      go : Fate g x w γ l k z → generationIn z (γ .general d) ≡ nextGeneration k z
-      go (stays q) = live (q .live) (inl q)
-      go (wornOut q) = live (q .live) (inr q)
-      go (gone (emptied q)) = absurd (not-empty (q .condition-is))
-      go (gone (bareOne q)) = absurd (not-empty (q .condition-is))
-      go (gone (raisedOne q)) = raised q (q .condition-is)
+    is-of : (d : ℕ) (h : Header) → List·Memᴰ h (heads d) → h ≡ counters gens
+    unfolding heads
+    is-of d h m = go stored m
+      where
+        go : (c : Bool) → List·Memᴰ h (pick c (counters gens ∷ []) []) → h ≡ counters gens
+        go true (List·Memᴰ·head q) = q
 
-  module _ (u : Device) (G : ℕ → List Header) (t : ZonesCleared g x w γ l k u G (1 + countReset g k)) where
-    abbrev δ : Ghost
-    δ = withLogs γ G (γ .parity)
+    few : (d : ℕ) → length (heads d) ≤ 1
+    unfolding heads
+    few d = go stored
+      where
+        go : (c : Bool) → length (pick c (counters gens ∷ []) []) ≤ 1
+        go true = le-refl 1
+        go false = zero-le
 
-    fit : LogsFit g x u heads (γ .array)
-    fit = record {
-      reads = λ d a h m. rw (is-of d h m) (reads g ok d false (counters gens) (generations-length (nextGeneration k) zero (g .zones), generations-small (nextGeneration k) zero (g .zones) (λ j p. generation-small (nextGeneration k (zero + j)) (next-most (zero + j) (omega arith)))) (rw (eq-eqb (length gens) (g .zones) (generations-length (nextGeneration k) zero (g .zones))) refl));
-      labels = λ d a y c m. absurd (let e = is-of d (label y c) m in let n : _≡_ {A = ℕ} 0 1 = cc in omega arith);
-      room = λ d a. le-trans (omega (arith, few d)) (room-for g x w γ u G (γ .parity) (1 + countReset g k) 1 (t .base) d a (s .general-room d a) (omega (arith, count-most)));
-    }
+    gens-of : (z : ℕ) → z < g .zones → (d : ℕ) (cs : List ℕ) → List·Memᴰ (counters cs) (heads d) → getD cs z zero ≡ nextGeneration k z
+    gens-of z h d cs m = let e = is-of d (counters cs) m in let q : cs ≡ gens = cc in rw q (gens-are z h)
 
-    module _ (w′ : Device) (b : Between g x u (counterStep g (presentBut g x) k w) w′) where
-      abbrev G′ : ℕ → List Header
-      G′ = grownGeneral δ u w′ heads
+    none-of : (z d : ℕ) (h : Header) → List·Memᴰ h (heads d) → zoneGen h (λ y n. y ≢ z)
+    none-of z d h m = rw (is-of d h m) tt
 
-      lives′ : Lives g x w γ l k w′ G′ (γ .parity)
-      lives′ = grown-lives g x w γ l k u G (γ .parity) (1 + countReset g k) (t .base) (counterStep g (presentBut g x) k w) heads the-logs w′ b (t .lives)
-          (λ z hz q d a h m. other-for g x w γ l k u δ z h (none-of z d h m)) (λ z hz q d a h m. other-head g x u δ l z h (none-of z d h m)) (λ z hz q d a cs m. gens-of z hz d cs m ∙ next-live z q)
+    within : (z d : ℕ) (h : Header) → List·Memᴰ h (heads d) → zoneGen h (λ y n. y ≡ z → n ≤ γ .generation z)
+    within z d h m = rw (is-of d h m) tt
 
-      dying′ : (z : ℕ) → z < g .zones → Gone g x w γ l k z → Dying g x u δ l z → NoData g x u z → Dying g x w′ (withLogs γ G′ (γ .parity)) l z
-      dying′ z hz o q e = grown-dying g x u δ (counterStep g (presentBut g x) k w) heads (t .base .logs) (t .base .settled) the-logs w′ b l z q (λ d a h m. within z d h m)
-          (λ d a cs m. let n = gens-of z hz d cs m in let (p, r) = next-gone z o in record { least = omega (arith, n, p); most = omega (arith, n, r); raises = λ _. e; past = λ _ _ _. omega (arith, n, p) })
+    -- without new counters the present ones are right
+    unstored : stored ≡ false → (d : ℕ) → Here g x d → (z : ℕ) → z < g .zones → generationIn z (γ .general d) ≡ nextGeneration k z
+    unfolding stored showing zoneShown zoneAt
+    unstored e d a z h = go (s .fate z h)
+      where
+        parts : (anyBelow (λ z. isEmpty (k .zone z .condition)) (g .zones) ≡ false) × (differ ≡ false)
+        parts = or-none (anyBelow (λ z. isEmpty (k .zone z .condition)) (g .zones)) differ e
 
-      still : (z d : ℕ) → Here g x d → w′ d (dataZone z) ≡ u d (dataZone z)
-      still z d a = still-data g x u δ (counterStep g (presentBut g x) k w) heads (t .base .logs) (t .base .settled) the-logs w′ b d z a
+        not-empty : k .zone z .condition ≡ Empty → ⊥
+        not-empty q = true≢false (rw q at (any-below-false (λ z. isEmpty (k .zone z .condition)) (g .zones) z (parts .0) h))
 
-      part-inv : Invs g x w′ l
-      part-inv = (
-        withLogs γ G′ (γ .parity),
-        zones-inv g x w γ l k s w′ G′ (γ .parity) (grown-logs g x u δ (counterStep g (presentBut g x) k w) heads (t .base .logs) (t .base .settled) the-logs w′ b fit) lives′
-            (λ z hz q. let r = t .gone-zone z hz q in inr (dying′ z hz q (r .0) (r .1))),
-      )
+        live : Live g x w γ l z → Stays g x w γ l k z ⊎ WornZone g x w γ l k z → generationIn z (γ .general d) ≡ nextGeneration k z
+        live lv q = counts-now g ok x w γ (s .inv .logs) z (λ n. n ≡ γ .generation z) (lv .counts) d a ∙ sym (next-live z q)
 
-      module _ (dn : Done g x u (counterStep g (presentBut g x) k w) w′) where
-        counted′ : (d : ℕ) → Here g x d → (z : ℕ) → z < g .zones → generationIn z (G′ d) ≡ nextGeneration k z
-        unfolding heads
-        counted′ d a z hz = ap (generationIn z) (done-general g x u δ (counterStep g (presentBut g x) k w) heads (t .base .logs) (t .base .settled) the-logs w′ b dn d a) ∙ go stored refl
-          where
-            go : (c : Bool) → stored ≡ c → generationIn z (G d ++ pick c (counters gens ∷ []) []) ≡ nextGeneration k z
-            go true e = ap (λ (q : List ℕ). getD q z zero) (last-counters-append [] (G d) (counters gens ∷ [])) ∙ gens-are z hz
-            go false e = ap (generationIn z) (append-nil (G d)) ∙ ap (λ (q : List ℕ). getD q z zero) (t .counters-same d a) ∙ unstored e d a z hz
+        kgen : k .zone z .generation ≡ generationOf g (presentBut g x) w z
+        kgen = ap (λ (q : Shown). q .zone z .generation) (s .look)
 
-        settled′ : Base g x w γ w′ G′ (γ .parity) (1 + countReset g k + 1)
-        settled′ = grown-base g x w γ l k u G (γ .parity) (1 + countReset g k) (t .base) (counterStep g (presentBut g x) k w) heads the-logs w′ b fit 1 (λ d a. few d) dn
+        raised : Raised g x w γ l k z → ((k .zone z .condition ≡ Empty) × (k .zone z .generation < wornGeneration)) ⊎ ((k .zone z .condition ≡ Worn zero) × (k .zone z .generation ≡ wornGeneration)) → generationIn z (γ .general d) ≡ nextGeneration k z
+        raised q (inl r) = absurd (not-empty (r .0))
+        raised q (inr r) =
+            let gt : γ .generation z < generationOf g (presentBut g x) w z = rw kgen at (q .generation-past) in
+            let (d0, a0, e0) = generation-some g ok x w γ (s .inv .logs) z (γ .generation z) gt in
+            rw (r .0) (same (parts .1) d d0 a a0 z h ∙ sym e0 ∙ sym kgen)
 
-        past′ : (z : ℕ) → z < g .zones → Gone g x w γ l k z → Counts g x w′ (withLogs γ G′ (γ .parity)) z (λ n. γ .generation z < n)
-        past′ z hz o d a j h =
-            let e : w′ d generalZone .durable ≡ length (G′ d) = settled′ .settled .lasts d generalZone a ∙ ap length (settled′ .logs .general-is d a) ∙ length-map (encode g d) (G′ d) in
-            let q : take j (G′ d) ≡ G′ d = take-all j (G′ d) (omega (arith, e)) in
-            rw (q, counted′ d a z hz) (next-gone z o .0)
+        go : Fate g x w γ l k z → generationIn z (γ .general d) ≡ nextGeneration k z
+        go (stays q) = live (q .live) (inl q)
+        go (wornOut q) = live (q .live) (inr q)
+        go (gone (emptied q)) = absurd (not-empty (q .condition-is))
+        go (gone (bareOne q)) = absurd (not-empty (q .condition-is))
+        go (gone (raisedOne q)) = raised q (q .condition-is)
 
-        whole : AfterCounters g x w γ l k (2 + countReset g k) w′
-        whole = (
-          G′,
-          record {
-            base = base-count g x w γ w′ G′ (γ .parity) (1 + countReset g k + 1) (2 + countReset g k) (omega arith) settled′;
-            lives = lives′;
-            gone-zone = λ z hz q. let r = t .gone-zone z hz q in record { dying = dying′ z hz q (r .0) (r .1); no-data = λ d a. rw (still z d a) (r .1 d a); past = past′ z hz q };
-            counted = counted′;
-          },
-          grown-same g x w γ l k u G (γ .parity) (1 + countReset g k) (t .base) (counterStep g (presentBut g x) k w) heads the-logs w′ b (t .same),
+    module _ (u : Device) (G : ℕ → List Header) (t : ZonesCleared g x w γ l k u G (1 + countReset g k)) where
+      abbrev δ : Ghost
+      δ = withLogs γ G (γ .parity)
+
+      fit : LogsFit g x u heads (γ .array)
+      fit = record {
+        reads = λ d a h m. rw (is-of d h m) (reads g ok d false (counters gens) (generations-length (nextGeneration k) zero (g .zones), generations-small (nextGeneration k) zero (g .zones) (λ j p. generation-small (nextGeneration k (zero + j)) (next-most (zero + j) (omega arith)))) (rw (eq-eqb (length gens) (g .zones) (generations-length (nextGeneration k) zero (g .zones))) refl));
+        labels = λ d a y c m. absurd (let e = is-of d (label y c) m in let n : _≡_ {A = ℕ} 0 1 = cc in omega arith);
+        room = λ d a. le-trans (omega (arith, few d)) (room-for g x w γ u G (γ .parity) (1 + countReset g k) 1 (t .base) d a (s .general-room d a) (omega (arith, count-most)));
+      }
+
+      module _ (w′ : Device) (b : Between g x u (countersBy g differ k) w′) where
+        abbrev G′ : ℕ → List Header
+        G′ = grownGeneral δ u w′ heads
+
+        lives′ : Lives g x w γ l k w′ G′ (γ .parity)
+        lives′ = grown-lives g x w γ l k u G (γ .parity) (1 + countReset g k) (t .base) (countersBy g differ k) heads the-logs w′ b (t .lives)
+            (λ z hz q d a h m. other-for g x w γ l k u δ z h (none-of z d h m)) (λ z hz q d a h m. other-head g x u δ l z h (none-of z d h m)) (λ z hz q d a cs m. gens-of z hz d cs m ∙ next-live z q)
+
+        dying′ : (z : ℕ) → z < g .zones → Gone g x w γ l k z → Dying g x u δ l z → NoData g x u z → Dying g x w′ (withLogs γ G′ (γ .parity)) l z
+        dying′ z hz o q e = grown-dying g x u δ (countersBy g differ k) heads (t .base .logs) (t .base .settled) the-logs w′ b l z q (λ d a h m. within z d h m)
+            (λ d a cs m. let n = gens-of z hz d cs m in let (p, r) = next-gone z o in record { least = omega (arith, n, p); most = omega (arith, n, r); raises = λ _. e; past = λ _ _ _. omega (arith, n, p) })
+
+        still : (z d : ℕ) → Here g x d → w′ d (dataZone z) ≡ u d (dataZone z)
+        still z d a = still-data g x u δ (countersBy g differ k) heads (t .base .logs) (t .base .settled) the-logs w′ b d z a
+
+        part-inv : Invs g x w′ l
+        part-inv = (
+          withLogs γ G′ (γ .parity),
+          zones-inv g x w γ l k s w′ G′ (γ .parity) (grown-logs g x u δ (countersBy g differ k) heads (t .base .logs) (t .base .settled) the-logs w′ b fit) lives′
+              (λ z hz q. let r = t .gone-zone z hz q in inr (dying′ z hz q (r .0) (r .1))),
         )
+
+        module _ (dn : Done g x u (countersBy g differ k) w′) where
+          counted′ : (d : ℕ) → Here g x d → (z : ℕ) → z < g .zones → generationIn z (G′ d) ≡ nextGeneration k z
+          unfolding heads
+          counted′ d a z hz = ap (generationIn z) (done-general g x u δ (countersBy g differ k) heads (t .base .logs) (t .base .settled) the-logs w′ b dn d a) ∙ go stored refl
+            where
+              go : (c : Bool) → stored ≡ c → generationIn z (G d ++ pick c (counters gens ∷ []) []) ≡ nextGeneration k z
+              go true e = ap (λ (q : List ℕ). getD q z zero) (last-counters-append [] (G d) (counters gens ∷ [])) ∙ gens-are z hz
+              go false e = ap (generationIn z) (append-nil (G d)) ∙ ap (λ (q : List ℕ). getD q z zero) (t .counters-same d a) ∙ unstored e d a z hz
+
+          settled′ : Base g x w γ w′ G′ (γ .parity) (1 + countReset g k + 1)
+          settled′ = grown-base g x w γ l k u G (γ .parity) (1 + countReset g k) (t .base) (countersBy g differ k) heads the-logs w′ b fit 1 (λ d a. few d) dn
+
+          past′ : (z : ℕ) → z < g .zones → Gone g x w γ l k z → Counts g x w′ (withLogs γ G′ (γ .parity)) z (λ n. γ .generation z < n)
+          past′ z hz o d a j h =
+              let e : w′ d generalZone .durable ≡ length (G′ d) = settled′ .settled .lasts d generalZone a ∙ ap length (settled′ .logs .general-is d a) ∙ length-map (encode g d) (G′ d) in
+              let q : take j (G′ d) ≡ G′ d = take-all j (G′ d) (omega (arith, e)) in
+              rw (q, counted′ d a z hz) (next-gone z o .0)
+
+          whole : AfterCounters g x w γ l k (2 + countReset g k) w′
+          whole = (
+            G′,
+            record {
+              base = base-count g x w γ w′ G′ (γ .parity) (1 + countReset g k + 1) (2 + countReset g k) (omega arith) settled′;
+              lives = lives′;
+              gone-zone = λ z hz q. let r = t .gone-zone z hz q in record { dying = dying′ z hz q (r .0) (r .1); no-data = λ d a. rw (still z d a) (r .1 d a); past = past′ z hz q };
+              counted = counted′;
+            },
+            grown-same g x w γ l k u G (γ .parity) (1 + countReset g k) (t .base) (countersBy g differ k) heads the-logs w′ b (t .same),
+          )
+
+    counters-run : (u : Device) → AfterZoneResets g x w γ l k (1 + countReset g k) u → Runs g x l u (concat (withFlush g (presentBut g x) (countersBy g differ k))) (AfterCounters g x w γ l k (2 + countReset g k))
+    counters-run u (G, t) = step-runs g x (countersBy g differ k) l u (AfterCounters g x w γ l k (2 + countReset g k)) (t .base .settled) (λ w′ b. part-inv u G t w′ b) (λ w′ b dn. whole u G t w′ b dn)
 
 pub counter-step : (g : Geometry) → Valid g → (x : ℕ) (w : Device) (γ : Ghost) (l : Ledger) (k : Shown) → Start g x w γ l k → (u : Device) → AfterZoneResets g x w γ l k (1 + countReset g k) u
     → Runs g x l u (concat (withFlush g (presentBut g x) (counterStep g (presentBut g x) k w))) (AfterCounters g x w γ l k (2 + countReset g k))
-counter-step g ok x w γ l k s u (G, t) = step-runs g x (counterStep g (presentBut g x) k w) l u (AfterCounters g x w γ l k (2 + countReset g k)) (t .base .settled) (λ w′ b. part-inv g ok x w γ l k s u G t w′ b) (λ w′ b dn. whole g ok x w γ l k s u G t w′ b dn)
+unfolding counterStep
+counter-step g ok x w γ l k s u t = counters-run g ok x w γ l k s (countersDiffer g (presentBut g x) w) (counters-agree g ok x w γ l k s) u t

@@ -1,4 +1,5 @@
 pub mod ExactPointer
+pub mod InForce
 pub mod LookDying
 pub mod LookFits
 pub mod LookLive

@@ -1,7 +1,7 @@
 -- The geometry of document 01's worked cases: D 4, U 2, C 32, B 64, L 2.
 use mathlib.Core.Path.{_≡_, refl}
 use Rattle.tables.specs.declared.Geometry.{Geometry}
-use Rattle.tables.specs.meaning.Geometry.{Valid, log2, stripeSectors, zoneSectors, physicalZones, totalBytes}
+use Rattle.tables.specs.meaning.Geometry.{Valid, geometryOf, log2, stripeSectors, zoneSectors, physicalZones, totalBytes}
 use Rattle.tables.specs.meaning.GeometryTest.{isValid}
 use Rattle.tables.specs.laws.GeometryTest.{valid-if-test}
 use Rattle.tables.specs.meaning.Placement.{stripeLength}
@@ -18,7 +18,7 @@ pub record Worked (g : Geometry) : Type 0 where
   pub bytes : totalBytes g ≡ 40960
 
 abbrev pub workedGeometry : Geometry
-workedGeometry = record { drives = 4; sector = 64; unit = 2; zones = 2; capacity = 32 }
+workedGeometry = geometryOf 4 64 2 2 32
 
 pub worked : Worked workedGeometry
 unfolding isValid zoneSectors stripeLength log2

@@ -22,13 +22,7 @@ const ARRAY: u64 = 81985529216486895;
 fn shape() -> Geometry
     ensures { λ r. ⌜ Worked r ⌝ }
 {
-    Geometry {
-        drives: 4,
-        sector: 64,
-        unit: 2,
-        zones: 2,
-        capacity: 32,
-    }
+    tables::bounds::geometry_of(4, 64, 2, 2, 32)
 }
 
 fn zeros() -> [u8; 40960]

@@ -94,13 +94,7 @@ fn all(g: Geometry)
 }
 
 fn main() {
-    let g = Geometry {
-        drives: 4,
-        sector: 64,
-        unit: 2,
-        zones: 2,
-        capacity: 32,
-    };
+    let g = tables::bounds::geometry_of(4, 64, 2, 2, 32);
     let ok = tables::bounds::valid(g);
     if ok {
         all(g);

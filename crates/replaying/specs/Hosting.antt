@@ -6,7 +6,7 @@ use lib.Dec.{leb, eqb}
 use lib.ListN.{replicate, set}
 use Rattle.tables.specs.declared.Geometry.{Geometry}
 use Rattle.tables.specs.meaning.Basics.{pick}
-use Rattle.tables.specs.meaning.Geometry.{cells, totalBytes}
+use Rattle.tables.specs.meaning.Geometry.{geometryOf, cells, totalBytes}
 use Rattle.tables.specs.meaning.GeometryTest.{isValid}
 use Rattle.volume.specs.declared.ZoneRecord.{ZoneRecord}
 use Rattle.volume.specs.declared.State.{State}
@@ -36,7 +36,7 @@ namedIn m =
     eqb (m % 2) 1 ∷ eqb (m / 2 % 2) 1 ∷ eqb (m / 4 % 2) 1 ∷ eqb (m / 8 % 2) 1 ∷ eqb (m / 16 % 2) 1 ∷ eqb (m / 32 % 2) 1 ∷ eqb (m / 64 % 2) 1 ∷ eqb (m / 128 % 2) 1 ∷ []
 
 abbrev pub geometryIn : Command → Geometry
-geometryIn c = record { drives = c .first; sector = c .second; unit = c .third; zones = c .fourth; capacity = c .fifth }
+geometryIn c = geometryOf (c .first) (c .second) (c .third) (c .fourth) (c .fifth)
 
 abbrev pub shortageIn : Command → Shortage
 shortageIn c = record { sectors = c .first; written = c .second; durable = c .third; buffer = c .fourth }
@@ -53,7 +53,7 @@ abbrev pub emptyHost : Geometry → ℕ → ℕ → Host
 emptyHost g bytes n = record { geometry = g; bytes = bytes; cells = n; held = false; zones = 0; state = blankState; shortage = noShortage }
 
 abbrev pub noGeometry : Geometry
-noGeometry = record { drives = 0; sector = 0; unit = 0; zones = 0; capacity = 0 }
+noGeometry = geometryOf 0 0 0 0 0
 
 -- a new shelf: its tables have the geometry's lengths, if it is valid and there is space for it
 unfoldable pub freshHost : Geometry → ℕ → Host

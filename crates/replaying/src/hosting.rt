@@ -105,13 +105,7 @@ fn empty_host(geometry: Geometry, bytes: usize, cells: usize) -> Host
 pub fn first_host() -> Host
     ensures { λ r. ⌜ r ≡ emptyHost noGeometry 0 0 ⌝ }
 {
-    let g = Geometry {
-        drives: 0,
-        sector: 0,
-        unit: 0,
-        zones: 0,
-        capacity: 0,
-    };
+    let g = tables::bounds::geometry_of(0, 0, 0, 0, 0);
     empty_host(g, 0, 0)
 }
 
@@ -119,13 +113,12 @@ pub fn first_host() -> Host
 pub fn geometry_in(c: Command) -> Geometry
     ensures { λ r. ⌜ r ≡ geometryIn c ⌝ }
 {
-    Geometry {
-        drives: c.first as usize,
-        sector: c.second as usize,
-        unit: c.third as usize,
-        zones: c.fourth as usize,
-        capacity: c.fifth as usize,
-    }
+    let drives = c.first as usize;
+    let sector = c.second as usize;
+    let unit = c.third as usize;
+    let zones = c.fourth as usize;
+    let capacity = c.fifth as usize;
+    tables::bounds::geometry_of(drives, sector, unit, zones, capacity)
 }
 
 // The host of a new shelf: with no tables where the geometry is none, or needs more than the space that there is.

@@ -20,3 +20,4 @@ pub mod Tables
 pub mod TablesFrame
 pub mod TablesRefine
 pub mod Xor
+pub mod ZonePlaces

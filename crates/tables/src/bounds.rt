@@ -5,9 +5,29 @@ ghost use mathlib.Core.Bool.{_&&_};
 ghost use Prim.Native.Nat.{_≤_, _<_};
 ghost use lib.ListN.{length};
 ghost use Rattle.tables.specs.meaning.Below.{anyBelow};
-ghost use Rattle.tables.specs.meaning.Geometry.{Valid, log2, zoneSectors, stripeSectors, physicalZones, cells, totalBytes};
+ghost use Rattle.tables.specs.meaning.Geometry.{Valid, geometryOf, log2, zoneSectors, stripeSectors, physicalZones, cells, totalBytes};
 ghost use Rattle.tables.specs.meaning.GeometryTest.{isValid, all, ranges, sectorSize};
 ghost use Rattle.tables.specs.meaning.Tables.{lengthsFit, bufferFits, pointerBad, pointersBad};
+
+// The geometry of document 01's five numbers, with each drive's logs at their first places.
+pub fn geometry_of(
+    drives: usize,
+    sector: usize,
+    unit: usize,
+    zones: usize,
+    capacity: usize,
+) -> Geometry
+    ensures { λ r. ⌜ r ≡ geometryOf drives sector unit zones capacity ⌝ }
+{
+    Geometry {
+        drives,
+        sector,
+        unit,
+        zones,
+        capacity,
+        logs: 0,
+    }
+}
 
 fn size_ok(b: usize) -> bool
     ensures { λ r. ⌜ r ≡ sectorSize b ⌝ }

@@ -9,11 +9,13 @@ pub mod stores;
 // Logical zone z lies in physical zone DATA_ZONES + z of every drive (specs: `dataZone`): those before it hold the logs.
 pub const DATA_ZONES: usize = 3;
 
-// The shape of a volume (document 01: D, B, U, L and C).
+// The shape of a volume (document 01: D, B, U, L and C), and where each drive's logs lie: four bits a drive, the physical zones of its general and of
+// its parity log in two bits each; all 0 for logs at their first places (specs: `zonePlace`).
 pub struct Geometry {
     pub drives: usize,
     pub sector: usize,
     pub unit: usize,
     pub zones: usize,
     pub capacity: usize,
+    pub logs: u64,
 }

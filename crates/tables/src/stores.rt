@@ -8,8 +8,38 @@ ghost use lib.ListN.{length, getD};
 ghost use Rattle.tables.specs.meaning.Basics.{pick};
 ghost use Rattle.tables.specs.meaning.Geometry.{Valid, physicalZones, cells, totalBytes};
 ghost use Rattle.tables.specs.meaning.Device.{append, reset, flush};
-ghost use Rattle.tables.specs.meaning.Tables.{hasRoom, cell, byteAt, sectorsAfterAppend, writtenAfterAppend, pointersAfterReset, durableAfterFlush};
+ghost use Rattle.tables.specs.meaning.Tables.{hasRoom, logPlace, zonePlace, firstCell, cell, byteAt, sectorsAfterAppend, writtenAfterAppend, pointersAfterReset, durableAfterFlush};
 ghost use Rattle.tables.specs.laws.Made.{MadeAppends, MadePointers, storeIf};
+
+// The physical zone that zone 0 (general log), 1 (parity log) or 2 (spare) is, by the physical zones a and b of the two logs.
+fn log_place(a: usize, b: usize, zone: usize) -> usize
+    requires { ⌜ zone < 3 ⌝ }
+    ensures { λ r. ⌜ r ≡ logPlace a b zone ⌝ }
+{
+    if (2 < a) | ((2 < b) | (a == b)) {
+        return zone;
+    }
+    if zone == 0 {
+        return a;
+    }
+    if zone == 1 {
+        return b;
+    }
+    3 - (a + b)
+}
+
+// The physical zone that a zone of a drive is.
+pub fn zone_place(g: Geometry, drive: usize, zone: usize) -> usize
+    requires { ⌜ drive < 8 ⌝ }
+    ensures { λ r. ⌜ r ≡ zonePlace g drive zone ⌝ }
+{
+    if super::DATA_ZONES <= zone {
+        return zone;
+    }
+    let logs = g.logs;
+    let bits = ((logs >> (4 * drive)) % 16) as usize;
+    log_place(bits % 4, bits / 4, zone)
+}
 
 // A zone's cell in the tables of pointers.
 pub fn cell_of(g: Geometry, drive: usize, zone: usize) -> usize
@@ -18,14 +48,15 @@ pub fn cell_of(g: Geometry, drive: usize, zone: usize) -> usize
     ensures { λ r. ⌜ (r ≡ cell g drive zone) × (r < cells g) ⌝ }
 {
     let l = g.zones;
-    drive * (l + super::DATA_ZONES) + zone
+    let place = zone_place(g, drive, zone);
+    drive * (l + super::DATA_ZONES) + place
 }
 
 // A drive's first cell.
 pub fn row_of(g: Geometry, drive: usize) -> usize
     requires { ⌜ Valid g ⌝ }
     requires { ⌜ drive < g .drives ⌝ }
-    ensures { λ r. ⌜ (r ≡ cell g drive 0) × (r + physicalZones g ≤ cells g) ⌝ }
+    ensures { λ r. ⌜ (r ≡ firstCell g drive) × (r + physicalZones g ≤ cells g) ⌝ }
 {
     let l = g.zones;
     drive * (l + super::DATA_ZONES)

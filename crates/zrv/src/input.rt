@@ -18,13 +18,13 @@ ghost use Rattle.zrv.specs.laws.EdgeCalls.{Opened};
 pub fn shape(drives: u32, sector_bytes: u32, unit: u32, zones: u32, zone_sectors: u32) -> Geometry
     ensures { λ r. ⌜ r ≡ shapeOf drives «sector_bytes» unit zones «zone_sectors» ⌝ }
 {
-    Geometry {
-        drives: drives as usize,
-        sector: sector_bytes as usize,
-        unit: unit as usize,
-        zones: zones as usize,
-        capacity: zone_sectors as usize,
-    }
+    tables::bounds::geometry_of(
+        drives as usize,
+        sector_bytes as usize,
+        unit as usize,
+        zones as usize,
+        zone_sectors as usize,
+    )
 }
 
 // The drives that a mask names.

@@ -17,4 +17,4 @@ returns-2 : tie.Need-returns-2
 returns-2 c = search needs
 
 pub main-spec : {M : Type 1} → statement M
-main-spec = tie.close (tie.spec valid-requires all-requires returns returns-2)
+main-spec = tie.close (tie.spec (λ c κs. search needs) valid-requires all-requires returns returns-2)

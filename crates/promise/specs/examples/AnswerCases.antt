@@ -11,7 +11,7 @@ use Rattle.tables.specs.meaning.Device.{Device, putZone}
 use Rattle.tables.specs.meaning.Basics.{pick}
 use Rattle.tables.specs.meaning.Placement.{driveOf, sectorOf, needed, stripeOf, unitIndex, rowIndex, parityDrive, stripeLength, unitDrive, unitOf, address, addressAt}
 use Rattle.tables.specs.meaning.Drives.{noDrive}
-use Rattle.tables.specs.meaning.Geometry.{log2, zoneSectors}
+use Rattle.tables.specs.meaning.Geometry.{geometryOf, log2, zoneSectors}
 use Rattle.logs.specs.meaning.Entry.{wornGeneration, encode, frame, labelBytes, readFields, kindOf, startOf, endOf, genOf, counters}
 use Rattle.tables.specs.meaning.LittleEndian.{sameBytes}
 use Rattle.volume.specs.meaning.Content.{rowXor, contentAt, rowXorBelow, entryAt}
@@ -46,7 +46,7 @@ pub answered : List (ℕ × ℕ)
 answered =
     (numberOf (does (formatCall geo lengths every 7) formattedState noStop blank), 0)
     ∷ (numberOf (does (formatCall geo lengths every 7) formattedState 3 blank), 255)
-    ∷ (numberOf (does (formatCall (record { drives = 2; unit = 2; sector = 64; zones = 2; capacity = 32 }) lengths every 7) formattedState noStop blank), 1)
+    ∷ (numberOf (does (formatCall (geometryOf 2 64 2 2 32) lengths every 7) formattedState noStop blank), 1)
     ∷ (numberOf (does (formatCall geo lengths (λ d. ltb d 2) 7) formattedState noStop blank), 4)
     ∷ (givenNumber (lookCall geo lengths every formatted), 0)
     ∷ (numberOf (does (mountCall geo lengths every) formattedState noStop formatted), 0)

@@ -9,6 +9,7 @@ use Rattle.tables.specs.meaning.Basics.{pick}
 use Rattle.tables.specs.meaning.Drives.{noDrive}
 use Rattle.tables.specs.meaning.Device.{Device, blankZone, putZone, keepFirst}
 use Rattle.tables.specs.declared.Geometry.{Geometry}
+use Rattle.tables.specs.meaning.Geometry.{geometryOf}
 use Rattle.volume.specs.meaning.State.{StateView}
 use Rattle.volume.specs.meaning.Refusals.{TableLengths}
 use Rattle.volume.specs.meaning.Calls.{formatState}
@@ -16,7 +17,7 @@ use Rattle.volume.specs.meaning.Answers.{CallResult, StoringCall, carriedOut, G
 use Rattle.volume.specs.meaning.CallContracts.{answerNumber}
 
 abbrev pub geo : Geometry
-geo = record { drives = 4; unit = 2; sector = 64; zones = 2; capacity = 32 }
+geo = geometryOf 4 64 2 2 32
 
 abbrev pub lengths : TableLengths
 lengths = record { sectors = 40960; written = 20; durable = 20 }

@@ -7,10 +7,11 @@ use Rattle.promise.specs.meaning.OnTables.{onTables}
 use Rattle.tables.specs.declared.Geometry.{Geometry}
 use Rattle.tables.specs.meaning.Lists.{overlay}
 use Rattle.tables.specs.meaning.Drives.{noDrive}
-use Rattle.tables.specs.meaning.Tables.{Tables, cell, sectorNo, TablesCut, TablesLoss, bufferFits, lengthsFit, sectorsAfterAppend, writtenAfterAppend, pointersAfterReset, durableAfterFlush, zoneAtCell, deviceOf, pointersBad}
+use Rattle.tables.specs.meaning.Tables.{Tables, zonePlace, logPlace, cell, sectorNo, TablesCut, TablesLoss, bufferFits, lengthsFit, sectorsAfterAppend, writtenAfterAppend, pointersAfterReset, durableAfterFlush, zoneAtCell, deviceOf, pointersBad}
+use Rattle.tables.specs.laws.ZonePlaces.{place-in}
 use Rattle.tables.specs.meaning.GeometryTest.{isValid}
 use Rattle.tables.specs.meaning.Placement.{driveOf, sectorOf, needed, stripeOf, unitIndex, rowIndex, parityDrive, stripeLength, unitDrive, unitOf, address, addressAt}
-use Rattle.tables.specs.meaning.Geometry.{log2, zoneSectors}
+use Rattle.tables.specs.meaning.Geometry.{geometryOf, log2, zoneSectors}
 use Rattle.logs.specs.meaning.Entry.{wornGeneration, encode, frame, labelBytes, readFields, kindOf, startOf, endOf, genOf}
 use Rattle.volume.specs.declared.State.{State}
 use Rattle.volume.specs.meaning.Answers.{lostIn, leftOut, namedDrives, sectorsIn}
@@ -39,7 +40,7 @@ use lib.Seq.{take-append-le, drop-append-le, length-take-le}
 use lib.Dec.{eqb, T, lit<}
 
 abbrev small : Geometry
-small = record { drives = 3; unit = 1; sector = 64; zones = 1; capacity = 9 }
+small = geometryOf 3 64 1 1 9
 
 abbrev vol : Volume
 vol = onTables small
@@ -190,7 +191,7 @@ wentSo =
     ∷ isMode ready (s14 .mode) ∷ eqb (length (s14 .ledger .content 0)) 2 ∷ eqb (vol .peek without2 (s14 .state) 0 (s14 .memory) .number) 0 ∷ []
 
 pub history-goes : T (all wentSo)
-unfolding formatStores writeStores zoneContent writeWith entryAt flushStores resetStores mountStores mountPhases phasesBeforeEntries mountLook mountShows afterOpening labelStep resetEntryStep zoneResetStep counterStep countersDiffer sealStep tornRowStep fillStep entryStep encode frame labelBytes readFields kindOf startOf endOf genOf generalHeads generalEnding parityEntries parityEnding isLost isPresent badPointers twoLost badLabels badLogs generationOf resetSeen sealSeen sealLimit zoneView valueAt pointerAt cleanAt zoneAt zoneShown showing viewOf driveOf sectorOf needed stripeOf unitIndex rowIndex parityDrive stripeLength unitDrive unitOf address addressAt zoneSectors log2 wornGeneration rowXor contentAt rowXorBelow callPresent isValid stateWithin twoAbsent twoUnnamed stale unusedBelow writeFull goneIn goneBefore notHeld formatRows lookRows mountRows writeRows flushRows resetRows readRows peekRows lostIn leftOut namedDrives sectorsIn lengthsFit bufferFits sectorsAfterAppend writtenAfterAppend pointersAfterReset durableAfterFlush zoneAtCell deviceOf pointersBad formatVerdict formatOn freshState flushVerdict flushOn writeVerdict writeOn resetVerdict resetOn stateShown lookVerdict lookOn mountVerdict storesBefore mountStoresOn mountShownOn mountOn readNumber valuesOn readOn peekNumber peekOn wentSo
+unfolding zonePlace logPlace formatStores writeStores zoneContent writeWith entryAt flushStores resetStores mountStores mountPhases phasesBeforeEntries mountLook mountShows afterOpening labelStep resetEntryStep zoneResetStep counterStep countersDiffer sealStep tornRowStep fillStep entryStep encode frame labelBytes readFields kindOf startOf endOf genOf generalHeads generalEnding parityEntries parityEnding isLost isPresent badPointers twoLost badLabels badLogs generationOf resetSeen sealSeen sealLimit zoneView valueAt pointerAt cleanAt zoneAt zoneShown showing viewOf driveOf sectorOf needed stripeOf unitIndex rowIndex parityDrive stripeLength unitDrive unitOf address addressAt zoneSectors log2 wornGeneration rowXor contentAt rowXorBelow callPresent isValid stateWithin twoAbsent twoUnnamed stale unusedBelow writeFull goneIn goneBefore notHeld formatRows lookRows mountRows writeRows flushRows resetRows readRows peekRows lostIn leftOut namedDrives sectorsIn lengthsFit bufferFits sectorsAfterAppend writtenAfterAppend pointersAfterReset durableAfterFlush zoneAtCell deviceOf pointersBad formatVerdict formatOn freshState flushVerdict flushOn writeVerdict writeOn resetVerdict resetOn stateShown lookVerdict lookOn mountVerdict storesBefore mountStoresOn mountShownOn mountOn readNumber valuesOn readOn peekNumber peekOn wentSo
 history-goes = tt
 
 -- ---- its duties are done
@@ -234,25 +235,25 @@ loss-done t w bs ws ds hb hw hd = record {
     sectors-long = length-overlay (t .sectors) 4608 bs (omega (arith, w .sectors-long));
     written-long = length-overlay (t .written) 8 ws (omega (arith, w .written-long));
     durable-long = length-overlay (t .durable) 8 ds (omega (arith, w .durable-long));
-    sectors-same = λ d z n h hz hn ne. sector-kept 64 4608 (t .sectors) bs (cell small d z * 9 + n) (omega arith) (omega (arith, w .sectors-long));
+    sectors-same = λ d z n h hz hn ne. sector-kept 64 4608 (t .sectors) bs (cell small d z * 9 + n) (omega (arith, place-in small d z hz)) (omega (arith, w .sectors-long));
   };
-  written-same = λ d z h hz ne. overlay-below (t .written) 8 ws (cell small d z) (omega (arith, w .written-long)) (omega arith);
-  durable-same = λ d z h hz ne. overlay-below (t .durable) 8 ds (cell small d z) (omega (arith, w .durable-long)) (omega arith);
+  written-same = λ d z h hz ne. overlay-below (t .written) 8 ws (cell small d z) (omega (arith, w .written-long)) (omega (arith, place-in small d z hz));
+  durable-same = λ d z h hz ne. overlay-below (t .durable) 8 ds (cell small d z) (omega (arith, w .durable-long)) (omega (arith, place-in small d z hz));
 }
 
 stopped-sized : WellSized small (s9 .memory)
-unfolding formatStores writeStores zoneContent writeWith entryAt flushStores resetStores mountStores mountPhases phasesBeforeEntries mountLook mountShows afterOpening labelStep resetEntryStep zoneResetStep counterStep countersDiffer sealStep tornRowStep fillStep entryStep encode frame labelBytes readFields kindOf startOf endOf genOf generalHeads generalEnding parityEntries parityEnding isLost isPresent badPointers twoLost badLabels badLogs generationOf resetSeen sealSeen sealLimit zoneView valueAt pointerAt cleanAt zoneAt zoneShown showing viewOf driveOf sectorOf needed stripeOf unitIndex rowIndex parityDrive stripeLength unitDrive unitOf address addressAt zoneSectors log2 wornGeneration rowXor contentAt rowXorBelow callPresent isValid stateWithin twoAbsent twoUnnamed stale unusedBelow writeFull goneIn goneBefore notHeld formatRows lookRows mountRows writeRows flushRows resetRows readRows peekRows lostIn leftOut namedDrives sectorsIn lengthsFit bufferFits sectorsAfterAppend writtenAfterAppend pointersAfterReset durableAfterFlush zoneAtCell deviceOf pointersBad formatVerdict formatOn freshState flushVerdict flushOn writeVerdict writeOn resetVerdict resetOn stateShown lookVerdict lookOn mountVerdict storesBefore mountStoresOn mountShownOn mountOn readNumber valuesOn readOn peekNumber peekOn
+unfolding zonePlace logPlace formatStores writeStores zoneContent writeWith entryAt flushStores resetStores mountStores mountPhases phasesBeforeEntries mountLook mountShows afterOpening labelStep resetEntryStep zoneResetStep counterStep countersDiffer sealStep tornRowStep fillStep entryStep encode frame labelBytes readFields kindOf startOf endOf genOf generalHeads generalEnding parityEntries parityEnding isLost isPresent badPointers twoLost badLabels badLogs generationOf resetSeen sealSeen sealLimit zoneView valueAt pointerAt cleanAt zoneAt zoneShown showing viewOf driveOf sectorOf needed stripeOf unitIndex rowIndex parityDrive stripeLength unitDrive unitOf address addressAt zoneSectors log2 wornGeneration rowXor contentAt rowXorBelow callPresent isValid stateWithin twoAbsent twoUnnamed stale unusedBelow writeFull goneIn goneBefore notHeld formatRows lookRows mountRows writeRows flushRows resetRows readRows peekRows lostIn leftOut namedDrives sectorsIn lengthsFit bufferFits sectorsAfterAppend writtenAfterAppend pointersAfterReset durableAfterFlush zoneAtCell deviceOf pointersBad formatVerdict formatOn freshState flushVerdict flushOn writeVerdict writeOn resetVerdict resetOn stateShown lookVerdict lookOn mountVerdict storesBefore mountStoresOn mountShownOn mountOn readNumber valuesOn readOn peekNumber peekOn
 stopped-sized = record { sectors-long = refl; written-long = refl; durable-long = refl }
 
 stopped-in-order : pointersBad small every (s9 .memory .written) (s9 .memory .durable) ≡ false
-unfolding formatStores writeStores zoneContent writeWith entryAt flushStores resetStores mountStores mountPhases phasesBeforeEntries mountLook mountShows afterOpening labelStep resetEntryStep zoneResetStep counterStep countersDiffer sealStep tornRowStep fillStep entryStep encode frame labelBytes readFields kindOf startOf endOf genOf generalHeads generalEnding parityEntries parityEnding isLost isPresent badPointers twoLost badLabels badLogs generationOf resetSeen sealSeen sealLimit zoneView valueAt pointerAt cleanAt zoneAt zoneShown showing viewOf driveOf sectorOf needed stripeOf unitIndex rowIndex parityDrive stripeLength unitDrive unitOf address addressAt zoneSectors log2 wornGeneration rowXor contentAt rowXorBelow callPresent isValid stateWithin twoAbsent twoUnnamed stale unusedBelow writeFull goneIn goneBefore notHeld formatRows lookRows mountRows writeRows flushRows resetRows readRows peekRows lostIn leftOut namedDrives sectorsIn lengthsFit bufferFits sectorsAfterAppend writtenAfterAppend pointersAfterReset durableAfterFlush zoneAtCell deviceOf pointersBad formatVerdict formatOn freshState flushVerdict flushOn writeVerdict writeOn resetVerdict resetOn stateShown lookVerdict lookOn mountVerdict storesBefore mountStoresOn mountShownOn mountOn readNumber valuesOn readOn peekNumber peekOn
+unfolding zonePlace logPlace formatStores writeStores zoneContent writeWith entryAt flushStores resetStores mountStores mountPhases phasesBeforeEntries mountLook mountShows afterOpening labelStep resetEntryStep zoneResetStep counterStep countersDiffer sealStep tornRowStep fillStep entryStep encode frame labelBytes readFields kindOf startOf endOf genOf generalHeads generalEnding parityEntries parityEnding isLost isPresent badPointers twoLost badLabels badLogs generationOf resetSeen sealSeen sealLimit zoneView valueAt pointerAt cleanAt zoneAt zoneShown showing viewOf driveOf sectorOf needed stripeOf unitIndex rowIndex parityDrive stripeLength unitDrive unitOf address addressAt zoneSectors log2 wornGeneration rowXor contentAt rowXorBelow callPresent isValid stateWithin twoAbsent twoUnnamed stale unusedBelow writeFull goneIn goneBefore notHeld formatRows lookRows mountRows writeRows flushRows resetRows readRows peekRows lostIn leftOut namedDrives sectorsIn lengthsFit bufferFits sectorsAfterAppend writtenAfterAppend pointersAfterReset durableAfterFlush zoneAtCell deviceOf pointersBad formatVerdict formatOn freshState flushVerdict flushOn writeVerdict writeOn resetVerdict resetOn stateShown lookVerdict lookOn mountVerdict storesBefore mountStoresOn mountShownOn mountOn readNumber valuesOn readOn peekNumber peekOn
 stopped-in-order = refl
 
 cut-sized : WellSized small (s11 .memory)
 cut-sized = record { sectors-long = stopped-sized .sectors-long; written-long = stopped-sized .durable-long; durable-long = stopped-sized .durable-long }
 
 pub duties-done : Dutiful small vol s0 history
-unfolding formatStores writeStores zoneContent writeWith entryAt flushStores resetStores mountStores mountPhases phasesBeforeEntries mountLook mountShows afterOpening labelStep resetEntryStep zoneResetStep counterStep countersDiffer sealStep tornRowStep fillStep entryStep encode frame labelBytes readFields kindOf startOf endOf genOf generalHeads generalEnding parityEntries parityEnding isLost isPresent badPointers twoLost badLabels badLogs generationOf resetSeen sealSeen sealLimit zoneView valueAt pointerAt cleanAt zoneAt zoneShown showing viewOf driveOf sectorOf needed stripeOf unitIndex rowIndex parityDrive stripeLength unitDrive unitOf address addressAt zoneSectors log2 wornGeneration rowXor contentAt rowXorBelow callPresent isValid stateWithin twoAbsent twoUnnamed stale unusedBelow writeFull goneIn goneBefore notHeld formatRows lookRows mountRows writeRows flushRows resetRows readRows peekRows lostIn leftOut namedDrives sectorsIn lengthsFit bufferFits sectorsAfterAppend writtenAfterAppend pointersAfterReset durableAfterFlush zoneAtCell deviceOf pointersBad formatVerdict formatOn freshState flushVerdict flushOn writeVerdict writeOn resetVerdict resetOn stateShown lookVerdict lookOn mountVerdict storesBefore mountStoresOn mountShownOn mountOn readNumber valuesOn readOn peekNumber peekOn
+unfolding zonePlace logPlace formatStores writeStores zoneContent writeWith entryAt flushStores resetStores mountStores mountPhases phasesBeforeEntries mountLook mountShows afterOpening labelStep resetEntryStep zoneResetStep counterStep countersDiffer sealStep tornRowStep fillStep entryStep encode frame labelBytes readFields kindOf startOf endOf genOf generalHeads generalEnding parityEntries parityEnding isLost isPresent badPointers twoLost badLabels badLogs generationOf resetSeen sealSeen sealLimit zoneView valueAt pointerAt cleanAt zoneAt zoneShown showing viewOf driveOf sectorOf needed stripeOf unitIndex rowIndex parityDrive stripeLength unitDrive unitOf address addressAt zoneSectors log2 wornGeneration rowXor contentAt rowXorBelow callPresent isValid stateWithin twoAbsent twoUnnamed stale unusedBelow writeFull goneIn goneBefore notHeld formatRows lookRows mountRows writeRows flushRows resetRows readRows peekRows lostIn leftOut namedDrives sectorsIn lengthsFit bufferFits sectorsAfterAppend writtenAfterAppend pointersAfterReset durableAfterFlush zoneAtCell deviceOf pointersBad formatVerdict formatOn freshState flushVerdict flushOn writeVerdict writeOn resetVerdict resetOn stateShown lookVerdict lookOn mountVerdict storesBefore mountStoresOn mountShownOn mountOn readNumber valuesOn readOn peekNumber peekOn
 duties-done =
     done (names-all s0 refl, refl, tt) (done (names-all s1 refl, refl, tt) (done (names-all s2 refl, refl, tt) (done (names-all s3 refl, tt)
     (done (names-all s4 refl, refl) (done (names-all s5 refl, refl, tt) (done (names-all s6 refl, refl, tt) (done (names-all s7 refl, refl, tt)
@@ -261,5 +262,5 @@ duties-done =
 
 -- ---- and what the promise says of it
 pub history-keeps-the-promise : Throughout small vol s0 history
-unfolding formatStores writeStores zoneContent writeWith entryAt flushStores resetStores mountStores mountPhases phasesBeforeEntries mountLook mountShows afterOpening labelStep resetEntryStep zoneResetStep counterStep countersDiffer sealStep tornRowStep fillStep entryStep encode frame labelBytes readFields kindOf startOf endOf genOf generalHeads generalEnding parityEntries parityEnding isLost isPresent badPointers twoLost badLabels badLogs generationOf resetSeen sealSeen sealLimit zoneView valueAt pointerAt cleanAt zoneAt zoneShown showing viewOf driveOf sectorOf needed stripeOf unitIndex rowIndex parityDrive stripeLength unitDrive unitOf address addressAt zoneSectors log2 wornGeneration rowXor contentAt rowXorBelow callPresent isValid stateWithin twoAbsent twoUnnamed stale unusedBelow writeFull goneIn goneBefore notHeld formatRows lookRows mountRows writeRows flushRows resetRows readRows peekRows lostIn leftOut namedDrives sectorsIn lengthsFit bufferFits sectorsAfterAppend writtenAfterAppend pointersAfterReset durableAfterFlush zoneAtCell deviceOf pointersBad formatVerdict formatOn freshState flushVerdict flushOn writeVerdict writeOn resetVerdict resetOn stateShown lookVerdict lookOn mountVerdict storesBefore mountStoresOn mountShownOn mountOn readNumber valuesOn readOn peekNumber peekOn
+unfolding zonePlace logPlace formatStores writeStores zoneContent writeWith entryAt flushStores resetStores mountStores mountPhases phasesBeforeEntries mountLook mountShows afterOpening labelStep resetEntryStep zoneResetStep counterStep countersDiffer sealStep tornRowStep fillStep entryStep encode frame labelBytes readFields kindOf startOf endOf genOf generalHeads generalEnding parityEntries parityEnding isLost isPresent badPointers twoLost badLabels badLogs generationOf resetSeen sealSeen sealLimit zoneView valueAt pointerAt cleanAt zoneAt zoneShown showing viewOf driveOf sectorOf needed stripeOf unitIndex rowIndex parityDrive stripeLength unitDrive unitOf address addressAt zoneSectors log2 wornGeneration rowXor contentAt rowXorBelow callPresent isValid stateWithin twoAbsent twoUnnamed stale unusedBelow writeFull goneIn goneBefore notHeld formatRows lookRows mountRows writeRows flushRows resetRows readRows peekRows lostIn leftOut namedDrives sectorsIn lengthsFit bufferFits sectorsAfterAppend writtenAfterAppend pointersAfterReset durableAfterFlush zoneAtCell deviceOf pointersBad formatVerdict formatOn freshState flushVerdict flushOn writeVerdict writeOn resetVerdict resetOn stateShown lookVerdict lookOn mountVerdict storesBefore mountStoresOn mountShownOn mountOn readNumber valuesOn readOn peekNumber peekOn
 history-keeps-the-promise = tables-keep-the-promise small every 7 held noStop zeros (lit< tt) refl history duties-done

@@ -21,22 +21,26 @@ use Rattle.tables.specs.meaning.Lists.{overlay}
 use Rattle.tables.specs.meaning.Geometry.{Valid, physicalZones, cells, totalBytes}
 use Rattle.tables.specs.meaning.Device.{ZoneView, blankZone}
 use Rattle.tables.specs.laws.Device.{at}
-use Rattle.tables.specs.meaning.Tables.{Tables, cell, byteAt, sectorNo, sectorAt, zoneAtCell, deviceOf}
+use Rattle.tables.specs.laws.ZonePlaces.{place-in, place-injective}
+use Rattle.tables.specs.meaning.Tables.{Tables, zonePlace, firstCell, cell, byteAt, sectorNo, sectorAt, zoneAtCell, deviceOf}
 
 -- ---- places lie within the tables
 pub cell-in : (g : Geometry) (d z : ℕ) → d < g .drives → z < physicalZones g → cell g d z < cells g
-cell-in g d z h k = digits-lt h k
+cell-in g d z h k = digits-lt h (place-in g d z k)
 
-pub row-in : (g : Geometry) (d : ℕ) → d < g .drives → cell g d 0 + physicalZones g ≤ cells g
+pub row-in : (g : Geometry) (d : ℕ) → d < g .drives → firstCell g d + physicalZones g ≤ cells g
 row-in g d h = omega (arith, rw suc-mul at (mul-le-mul-right (physicalZones g) h))
 
 pub sector-in : (g : Geometry) (d z n : ℕ) → d < g .drives → z < physicalZones g → n < g .capacity → byteAt g d z n + g .sector ≤ totalBytes g
 sector-in g d z n h k l =
-    let below : cell g d z * g .capacity + n < g .drives * physicalZones g * g .capacity = digits-lt (digits-lt h k) l in
+    let below : cell g d z * g .capacity + n < g .drives * physicalZones g * g .capacity = digits-lt (cell-in g d z h k) l in
     rw (← suc-mul) (mul-le-mul-right (g .sector) below)
 
 pub cell-injective : (g : Geometry) (d z e y : ℕ) → z < physicalZones g → y < physicalZones g → cell g e y ≡ cell g d z → (e ≡ d) × (y ≡ z)
-cell-injective g d z e y h k q = (sym (digits-div e k) ∙ rw q (digits-div d h), sym (digits-mod e k) ∙ rw q (digits-mod d h))
+cell-injective g d z e y h k q =
+    let p : e ≡ d = sym (digits-div e (place-in g e y k)) ∙ rw q (digits-div d (place-in g d z h)) in
+    let r : zonePlace g e y ≡ zonePlace g d z = sym (digits-mod e (place-in g e y k)) ∙ rw q (digits-mod d (place-in g d z h)) in
+    (p, place-injective g d y z (ap (λ (x : ℕ). zonePlace g x y) (sym p) ∙ r))
 
 -- no place of a valid geometry is large
 pub record SmallPlace (g : Geometry) (d z n : ℕ) : Type 0 where
@@ -49,7 +53,7 @@ pub record SmallPlace (g : Geometry) (d z n : ℕ) : Type 0 where
 pub small-place : (g : Geometry) (d z n : ℕ) → Valid g → d < g .drives → z < physicalZones g → n ≤ g .capacity → SmallPlace g d z n
 small-place g d z n ok hd hz hn =
     let a : d * physicalZones g ≤ 7 * 19 = mul-le-mul {n₂ = 7} {m₂ = 19} (omega (arith, ok .drives-most)) (omega (arith, ok .zones-most)) in
-    let b : cell g d z < 152 = omega (arith, ok .zones-most) in
+    let b : cell g d z < 152 = omega (arith, ok .zones-most, place-in g d z hz) in
     let c : cell g d z * g .capacity ≤ 152 * 65536 = mul-le-mul {n₂ = 152} {m₂ = 65536} (omega arith) (ok .zone-most) in
     let e : cell g d z * g .capacity + n ≤ 10027008 = omega (arith, ok .zone-most) in
     let f : byteAt g d z n ≤ 10027008 * 4096 = mul-le-mul {n₂ = 10027008} {m₂ = 4096} e (ok .sector-most) in

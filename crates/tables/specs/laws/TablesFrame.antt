@@ -20,8 +20,9 @@ use Rattle.tables.specs.laws.Below.{any-below-false}
 use Rattle.tables.specs.laws.Lists.{overlay-below, overlay-above}
 use Rattle.tables.specs.meaning.Geometry.{physicalZones, cells, totalBytes}
 use Rattle.tables.specs.meaning.Device.{Store, append, reset, flush, storeDrive}
-use Rattle.tables.specs.meaning.Tables.{hasRoom, Tables, tablesOf, cell, byteAt, sectorsAfterAppend, writtenAfterAppend, pointersAfterReset, makeStore, runStores, lengthsFit, pointerBad, pointersBad}
+use Rattle.tables.specs.meaning.Tables.{hasRoom, Tables, tablesOf, zonePlace, cell, byteAt, sectorsAfterAppend, writtenAfterAppend, pointersAfterReset, makeStore, runStores, lengthsFit, pointerBad, pointersBad}
 use Rattle.tables.specs.laws.Made.{Placed, AllPlaced, WellSized}
+use Rattle.tables.specs.laws.ZonePlaces.{place-in}
 use Rattle.tables.specs.laws.Tables.{sector-in, cell-injective}
 use Rattle.tables.specs.laws.TablesRefine.{flush-other, store-sized}
 use Rattle.tables.specs.laws.StoresFit.{AllOn}
@@ -49,7 +50,7 @@ same-drive-trans g e t u v p q = record {
 -- a sector's bytes lie within its drive's
 pub sector-within : (g : Geometry) (d z n : ℕ) → z < physicalZones g → n < g .capacity → byteAt g d z n + g .sector ≤ suc d * driveBytes g
 sector-within g d z n h k =
-    let below : z * g .capacity + n < physicalZones g * g .capacity = digits-lt h k in
+    let below : zonePlace g d z * g .capacity + n < physicalZones g * g .capacity = digits-lt (place-in g d z h) k in
     omega (arith, mul-le-mul-right (g .sector) below)
 
 -- a cell set at drive d is none of drive e's

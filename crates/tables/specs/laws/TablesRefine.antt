@@ -21,8 +21,9 @@ use Rattle.tables.specs.laws.Lists.{length-overlay, overlay-inside, over
 use Rattle.tables.specs.meaning.Geometry.{physicalZones, cells}
 use Rattle.tables.specs.meaning.Device.{ZoneView, Device, Store, append, reset, flush, apply, applyAll, appended, blankZone, flushed, putZone, Cut, ZoneCut, Loss}
 use Rattle.tables.specs.laws.Device.{put-zone-same, put-zone-other-drive, put-zone-other-zone, At, here, otherDrive, otherZone, at}
-use Rattle.tables.specs.meaning.Tables.{hasRoom, Tables, cell, byteAt, sectorNo, sectorsAfterAppend, writtenAfterAppend, pointersAfterReset, durableAfterFlush, makeStore, runStores, zoneAtCell, deviceOf, SameLent, TablesCut, TablesLoss}
+use Rattle.tables.specs.meaning.Tables.{hasRoom, Tables, zonePlace, firstCell, cell, byteAt, sectorNo, sectorsAfterAppend, writtenAfterAppend, pointersAfterReset, durableAfterFlush, makeStore, runStores, zoneAtCell, deviceOf, SameLent, TablesCut, TablesLoss}
 use Rattle.tables.specs.laws.Made.{Placed, AllPlaced, WellSized, Fits, FitsAll}
+use Rattle.tables.specs.laws.ZonePlaces.{place-in}
 use Rattle.tables.specs.laws.Tables.{cell-in, row-in, sector-in, cell-injective, sector-laid, sector-elsewhere, In, inside, outside, inOrOut, device-inside, device-outside, device-in, device-length}
 
 -- ---- append
@@ -100,30 +101,30 @@ store-is g t u d z x hd hz own other = fun-ext λ e. fun-ext λ y. go e y (inOrO
 
 -- ---- flush
 module _ (g : Geometry) (t : Tables) (w : WellSized g t) (d : ℕ) (hd : d < g .drives) where
-  row-long : length (take (physicalZones g) (drop (cell g d 0) (t .written))) ≡ physicalZones g
-  row-long = length-take-le (physicalZones g) (drop (cell g d 0) (t .written)) (rw (length-drop, w .written-long) (omega (arith, row-in g d hd)))
+  row-long : length (take (physicalZones g) (drop (firstCell g d) (t .written))) ≡ physicalZones g
+  row-long = length-take-le (physicalZones g) (drop (firstCell g d) (t .written)) (rw (length-drop, w .written-long) (omega (arith, row-in g d hd)))
 
-  row-fits : cell g d 0 + length (take (physicalZones g) (drop (cell g d 0) (t .written))) ≤ length (t .durable)
+  row-fits : firstCell g d + length (take (physicalZones g) (drop (firstCell g d) (t .written))) ≤ length (t .durable)
   row-fits = rw (row-long, w .durable-long) (row-in g d hd)
 
   -- the durable pointers of the drive are its written ones, and no others change
   pub flush-own : (y : ℕ) → y < physicalZones g → getD (durableAfterFlush g d (t .written) (t .durable)) (cell g d y) 0 ≡ getD (t .written) (cell g d y) 0
   unfolding durableAfterFlush
   flush-own y k =
-      let p = take (physicalZones g) (drop (cell g d 0) (t .written)) in
-      let e : cell g d 0 + y ≡ cell g d y = omega arith in
-      ap (λ (n : ℕ). getD (overlay (t .durable) (cell g d 0) p) n 0) (sym e) ∙ overlay-inside (t .durable) (cell g d 0) p y row-fits (rw row-long k)
-      ∙ getD-take (physicalZones g) (drop (cell g d 0) (t .written)) y 0 k ∙ getD-drop (cell g d 0) (t .written) y 0 ∙ ap (λ (n : ℕ). getD (t .written) n 0) e
+      let p = take (physicalZones g) (drop (firstCell g d) (t .written)) in
+      let q = zonePlace g d y in
+      let h : q < physicalZones g = place-in g d y k in
+      overlay-inside (t .durable) (firstCell g d) p q row-fits (rw row-long h) ∙ getD-take (physicalZones g) (drop (firstCell g d) (t .written)) q 0 h ∙ getD-drop (firstCell g d) (t .written) q 0
 
   pub flush-other : (e y : ℕ) → y < physicalZones g → e ≢ d → getD (durableAfterFlush g d (t .written) (t .durable)) (cell g e y) 0 ≡ getD (t .durable) (cell g e y) 0
   unfolding durableAfterFlush
   flush-other e y q n = go (decLt e d)
     where
-      go : Dec (e < d) → getD (overlay (t .durable) (cell g d 0) (take (physicalZones g) (drop (cell g d 0) (t .written)))) (cell g e y) 0 ≡ getD (t .durable) (cell g e y) 0
-      go (yes k) = overlay-below (t .durable) (cell g d 0) (take (physicalZones g) (drop (cell g d 0) (t .written))) (cell g e y) row-fits (omega (arith, mul-le-mul-right (physicalZones g) k))
+      go : Dec (e < d) → getD (overlay (t .durable) (firstCell g d) (take (physicalZones g) (drop (firstCell g d) (t .written)))) (cell g e y) 0 ≡ getD (t .durable) (cell g e y) 0
+      go (yes k) = overlay-below (t .durable) (firstCell g d) (take (physicalZones g) (drop (firstCell g d) (t .written))) (cell g e y) row-fits (omega (arith, place-in g e y q, mul-le-mul-right (physicalZones g) k))
       go (no k) =
           let m : d < e = omega arith in
-          overlay-above (t .durable) (cell g d 0) (take (physicalZones g) (drop (cell g d 0) (t .written))) (cell g e y) row-fits (omega (arith, row-long, mul-le-mul-right (physicalZones g) m))
+          overlay-above (t .durable) (firstCell g d) (take (physicalZones g) (drop (firstCell g d) (t .written))) (cell g e y) row-fits (omega (arith, row-long, mul-le-mul-right (physicalZones g) m))
 
   flush-is : deviceOf g (makeStore g (flush d) t) ≡ apply (flush d) (deviceOf g t)
   flush-is = fun-ext λ e. fun-ext λ y. go e y (inOrOut g e y) (ℕ-discrete e d)
@@ -177,7 +178,7 @@ store-sized g (reset d z) t w f = record { sectors-long = w .sectors-long; writt
 store-sized g (flush d) t w f = record {
   sectors-long = w .sectors-long;
   written-long = w .written-long;
-  durable-long = length-overlay (t .durable) (cell g d 0) (take (physicalZones g) (drop (cell g d 0) (t .written))) (row-fits g t w d f) ∙ w .durable-long;
+  durable-long = length-overlay (t .durable) (firstCell g d) (take (physicalZones g) (drop (firstCell g d) (t .written))) (row-fits g t w d f) ∙ w .durable-long;
 }
 
 pub fits-placed : (g : Geometry) (x : Store) (v : Device) → Fits g x v → Placed g x

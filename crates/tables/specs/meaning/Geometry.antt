@@ -1,11 +1,16 @@
 -- The geometry of a volume, its bounds (document 01, "The shelf and its tables"; refusal 1), and the sizes that follow from it.
--- The record itself is the code's struct: drives (D), sector (B, in bytes), unit (U, in sectors), zones (L), capacity (C, in sectors).
+-- The record itself is the code's struct: drives (D), sector (B, in bytes), unit (U, in sectors), zones (L), capacity (C, in sectors), and the physical
+-- zones of each drive's logs in one number (Tables' `zonePlace`).
 use mathlib.Core.Path.{_≡_}
 use Prim.Native.Nat.{ℕ, suc, _+_, _-_, _*_, _^_, _≤_}
 use lib.Dec.{leb}
 use Rattle.tables.specs.meaning.Greatest.{greatest}
 use Rattle.tables.specs.declared.Geometry.{Geometry}
 use Rattle.tables.specs.meaning.Placement.{stripeLength, parityDrive, unitDrive}
+
+-- the geometry of five numbers, with each drive's logs at their first places: the general log in physical zone 0, the parity log in 1
+abbrev pub geometryOf : ℕ → ℕ → ℕ → ℕ → ℕ → Geometry
+geometryOf d b u l c = record { drives = d; sector = b; unit = u; zones = l; capacity = c; logs = 0 }
 
 -- the exponent of the greatest power of two that is at most b
 unfoldable pub log2 : ℕ → ℕ

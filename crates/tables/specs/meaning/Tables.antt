@@ -4,7 +4,7 @@
 use mathlib.Core.Logic.{_≢_}
 use mathlib.Core.Path.{_≡_}
 use mathlib.Core.Bool.{Bool, false, _&&_, _||_}
-use Prim.Native.Nat.{ℕ, zero, suc, _+_, _*_, _≤_, _<_, min}
+use Prim.Native.Nat.{ℕ, zero, suc, _+_, _-_, _*_, _/_, _%_, _^_, _≤_, _<_, min}
 use mathlib.Core.List.{List, [], _∷_}
 use lib.ListN.{length, getD, take, drop, set}
 use lib.Dec.{ltb, eqb}
@@ -23,9 +23,33 @@ pub record Tables : Type 0 where
 abbrev pub tablesOf : List ℕ → List ℕ → List ℕ → Tables
 tablesOf xs ws ds = record { sectors = xs; written = ws; durable = ds }
 
--- ---- places: a zone's cell in a table of pointers, the first byte of its sector n, the bytes of that sector
+-- ---- where a zone lies. Zones 0, 1 and 2 of a drive are its general log, its parity log and its spare; which physical zones these are is the
+-- geometry's to say, drive by drive. The others lie at their numbers. Two logs that are not two of the first three zones say nothing.
+abbrev pub movedZone : ℕ → ℕ → ℕ → ℕ
+movedZone a b zero = a
+movedZone a b (suc zero) = b
+movedZone a b (suc (suc zero)) = 3 - (a + b)
+movedZone a b (suc (suc (suc z))) = suc (suc (suc z))
+
+abbrev pub unsaid : ℕ → ℕ → Bool
+unsaid a b = ltb 2 a || (ltb 2 b || eqb a b)
+
+unfoldable pub logPlace : ℕ → ℕ → ℕ → ℕ
+logPlace a b z = pick (unsaid a b) z (movedZone a b z)
+
+-- four bits a drive
+abbrev pub logBits : Geometry → ℕ → ℕ
+logBits g d = g .logs / 2 ^ (4 * d) % 16
+
+unfoldable pub zonePlace : Geometry → ℕ → ℕ → ℕ
+zonePlace g d z = logPlace (logBits g d % 4) (logBits g d / 4) z
+
+-- ---- places: a drive's first cell in a table of pointers, a zone's cell, the first byte of its sector n, the bytes of that sector
+abbrev pub firstCell : Geometry → ℕ → ℕ
+firstCell g d = d * physicalZones g
+
 abbrev pub cell : Geometry → ℕ → ℕ → ℕ
-cell g d z = d * physicalZones g + z
+cell g d z = firstCell g d + zonePlace g d z
 
 abbrev pub byteAt : Geometry → ℕ → ℕ → ℕ → ℕ
 byteAt g d z n = (cell g d z * g .capacity + n) * g .sector
@@ -49,7 +73,7 @@ unfoldable pub pointersAfterReset : Geometry → ℕ → ℕ → List ℕ → Li
 pointersAfterReset g d z ps = set ps (cell g d z) 0
 
 unfoldable pub durableAfterFlush : Geometry → ℕ → List ℕ → List ℕ → List ℕ
-durableAfterFlush g d ws ds = overlay ds (cell g d 0) (take (physicalZones g) (drop (cell g d 0) ws))
+durableAfterFlush g d ws ds = overlay ds (firstCell g d) (take (physicalZones g) (drop (firstCell g d) ws))
 
 -- a zone has room for one more sector
 abbrev pub hasRoom : Geometry → ℕ → ℕ → List ℕ → Bool

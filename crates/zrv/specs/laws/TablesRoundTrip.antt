@@ -14,7 +14,7 @@ use Rattle.tables.specs.laws.Below.{length-tabulate}
 use Rattle.tables.specs.meaning.Lists.{overlay}
 use Rattle.tables.specs.meaning.Geometry.{Valid, physicalZones, cells}
 use Rattle.tables.specs.meaning.Device.{Store, append, reset, flush}
-use Rattle.tables.specs.meaning.Tables.{Tables, cell, hasRoom, sectorsAfterAppend, writtenAfterAppend, pointersAfterReset, durableAfterFlush, makeStore, runStores}
+use Rattle.tables.specs.meaning.Tables.{Tables, firstCell, cell, hasRoom, sectorsAfterAppend, writtenAfterAppend, pointersAfterReset, durableAfterFlush, makeStore, runStores}
 use Rattle.tables.specs.meaning.LittleEndian.{readLE}
 use Rattle.volume.specs.laws.ByteLists.{Bytes, bytes-append, bytes-take, bytes-drop, number-in-bytes, number-small}
 use Rattle.zrv.specs.meaning.Bytes.{tableFrom, tableTo, wordsTo}
@@ -135,7 +135,7 @@ module _ (g : Geometry) (ok : Valid g) where
     durable-small = words-set (t .durable) (cell g d z) 0 (omega arith) (w .durable-small);
   }
   store-words (flush d) t w =
-      let at = cell g d 0 in
+      let at = firstCell g d in
       let row = take (physicalZones g) (drop at (t .written)) in
       let front : Words (take at (t .durable)) = words-take at (t .durable) (w .durable-small) in
       let copied : Words row = words-take (physicalZones g) (drop at (t .written)) (words-drop at (t .written) (w .written-small)) in

@@ -8,7 +8,7 @@ use lib.Dec.{eqb}
 use Rattle.tables.specs.declared.Geometry.{Geometry}
 use Rattle.tables.specs.meaning.Basics.{pick}
 use Rattle.tables.specs.meaning.Below.{eachBelow}
-use Rattle.tables.specs.meaning.Geometry.{cells}
+use Rattle.tables.specs.meaning.Geometry.{geometryOf, cells}
 use Rattle.tables.specs.meaning.GeometryTest.{isValid}
 use Rattle.tables.specs.meaning.Tables.{Tables, tablesOf}
 use Rattle.volume.specs.declared.Condition.{Condition}
@@ -24,7 +24,7 @@ use Rattle.volume.specs.meaning.Answers.{placeOf}
 -- ---- numbers
 -- the geometry of a call's first five numbers
 unfoldable pub shapeOf : ℕ → ℕ → ℕ → ℕ → ℕ → Geometry
-shapeOf d b u l c = record { drives = d; sector = b; unit = u; zones = l; capacity = c }
+shapeOf d b u l c = geometryOf d b u l c
 
 -- the lowest k bits of a number
 abbrev pub bitsOf : ℕ → ℕ → List Bool

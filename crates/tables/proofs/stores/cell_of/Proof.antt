@@ -10,13 +10,13 @@ known : (c : tie.Start) → SmallPlace (c .args .g) (c .args .drive) (c .args .z
 known c = small-place _ _ _ _ (c .pre .0) (c .pre .1 .0) (c .pre .1 .1) zero-le
 
 mul-result : tie.Need-mul-result
-mul-result c = omega (arith, known c .row)
+mul-result c = omega (arith, known (c .before) .row)
 
 add-result-2 : tie.Need-add-result-2
-add-result-2 c = omega (arith, known c .row)
+add-result-2 c = let s = c .before in omega (arith, known s .row, known s .cell-most, c .zone-place .ensures)
 
 returns : tie.Need-returns
-returns c = (refl, cell-in (c .args .g) (c .args .drive) (c .args .zone) (c .pre .1 .0) (c .pre .1 .1))
+returns c = let s = c .before in rw (c .zone-place .ensures) (refl, cell-in (s .args .g) (s .args .drive) (s .args .zone) (s .pre .1 .0) (s .pre .1 .1))
 
 pub cell-of-spec : {M : Type 1} → statement M
-cell-of-spec = tie.close (tie.spec (λ c. search needs) mul-result add-result-2 returns)
+cell-of-spec = tie.close (tie.spec (λ c κs. search needs) (λ c. search needs) mul-result add-result-2 returns)

@@ -1,7 +1,7 @@
 use Rattle.tables.specs.declared.Geometry.{Geometry}
 use Rattle.tables.specs.meaning.Geometry.{physicalZones}
 use Rattle.tables.specs.meaning.Lists.{overlay}
-use Rattle.tables.specs.meaning.Tables.{cell, durableAfterFlush}
+use Rattle.tables.specs.meaning.Tables.{firstCell, durableAfterFlush}
 use native.Mathlib.Omega.{arith}
 use mathlib.Core.Path.{_≡_, _∙_, refl}
 use Prim.Native.Nat.{ℕ, _+_, _-_}
@@ -12,7 +12,7 @@ use Rattle.tables.proofs.stores.flush_drive.Statement.{statement}
 use Rattle.tables.proofs.stores.flush_drive.Tie as tie
 
 -- n pointers copied from `at` on are a flush, if they are those of all the drive's zones
-copied : (g : Geometry) (d : ℕ) (ws ds left : List ℕ) (at n : ℕ) → left ≡ overlay ds at (take n (drop at ws)) → at ≡ cell g d 0 → n ≡ physicalZones g → left ≡ durableAfterFlush g d ws ds
+copied : (g : Geometry) (d : ℕ) (ws ds left : List ℕ) (at n : ℕ) → left ≡ overlay ds at (take n (drop at ws)) → at ≡ firstCell g d → n ≡ physicalZones g → left ≡ durableAfterFlush g d ws ds
 unfolding durableAfterFlush
 copied g d ws ds left at n is e all = is ∙ rw (e, all) refl
 

@@ -1,4 +1,3 @@
-use mathlib.Core.Path.{refl}
 use borrow.Author.Needs.{needs}
 use Rattle.zrv.specs.meaning.EdgeCalls.{shapeOf}
 use Rattle.zrv.proofs.input.shape.Statement.{statement}
@@ -6,9 +5,7 @@ use Rattle.zrv.proofs.input.shape.Tie as tie
 
 returns : tie.Need-returns
 unfolding shapeOf
-returns c = refl
+returns c = c .geometry-of .ensures
 
 pub shape-spec : {M : Type 1} → statement M
-shape-spec =
-    tie.close
-    (tie.spec returns)
+shape-spec = tie.close (tie.spec (λ c κs. search needs) returns)

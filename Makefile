@@ -12,7 +12,8 @@
 # format-test: the model of docs/FORMAT.md in Python: the conformance vectors replayed, then the worked values of the page
 # vectors: other conformance vectors put in place of those of crates/replay: `make vectors FROM=FOLDER` with a script PART.txt and its answers PART.out a part
 # bench: the archive's speed as a share of plain C's
-.PHONY: explore test check wrong archive zrv from-c edge-test tool-test explore-test example format-test vectors bench fmt
+# bench-isal: the time of a stripe's parity in the archive's writes beside that of ISA-L's xor_gen (needs libisal-dev; part of no test)
+.PHONY: explore test check wrong archive zrv from-c edge-test tool-test explore-test example format-test vectors bench bench-isal fmt
 
 explore: target/zrv
 	@target/zrv explore
@@ -43,6 +44,7 @@ PLAIN_C = c/plain.c c/plain_logs.c c/plain_refusals.c host/journal.c
 BAD_INPUT_C = c/bad_input.c c/fixture.c c/expected.c $(PLAIN_C) host/shelf.c host/call.c
 GROUPED_REPLAY_C = c/grouped_replay.c c/script.c host/shelf.c host/call.c
 BENCH_C = c/bench.c c/bench_grouped.c c/plain_grouped.c $(PLAIN_C) host/shelf.c host/call.c
+BENCH_ISAL_C = c/bench_isal.c host/shelf.c host/call.c
 HOST_C = host/driver.c host/drives.c host/drive_file.c host/files.c host/journal.c host/progress.c host/message.c host/shelf.c host/call.c
 EXPLORE_C = tool/explore/explore.c tool/explore/options.c tool/explore/oracle.c tool/explore/caches.c tool/explore/world.c tool/explore/story.c \
 	tool/explore/check.c tool/explore/engine.c tool/explore/report.c tool/explore/picture.c
@@ -104,6 +106,11 @@ bench:
 	@mkdir -p $(EDGE)
 	@$(COMPILE) -O3 $(BENCH_C) $(LIBRARY) -o $(EDGE)/bench
 	@$(EDGE)/bench
+
+bench-isal:
+	@mkdir -p $(EDGE)
+	@$(COMPILE) -O3 $(BENCH_ISAL_C) $(LIBRARY) -lisal -o $(EDGE)/bench_isal
+	@$(EDGE)/bench_isal
 
 fmt:
 	@rt fmt

@@ -1,6 +1,6 @@
-/* The archive's speed as a share of plain C's and of memcpy's, measured in one run by turns on the same work, medians of repeated passes, in processor time;
- * how a write's time grows with what zone and logs hold; and a look's and a mount's time per written sector as ratios to the smallest volume's. What is
- * timed beside plain C is held against its result byte by byte. */
+/* The archive's speed as a share of plain C's and of memcpy's, for units of 1, 4 and 16 sectors on 4 and 8 drives, measured in one run by turns on the same
+ * work, medians of repeated passes, in processor time; how a write's time grows with what zone and logs hold; and a look's and a mount's time per written
+ * sector as ratios to the smallest volume's. What is timed beside plain C is held against its result byte by byte. */
 #define _POSIX_C_SOURCE 199309L /* clock_gettime */
 
 #include <stdio.h>
@@ -15,7 +15,8 @@
 
 enum { PASSES = 31, SLOW_PASSES = 3 };
 
-static struct geometry speeds_geometry(uint32_t drives) { return (struct geometry){drives, ZRV_MOST_SECTOR_BYTES, 4, 1, 128}; }
+static struct geometry speeds_geometry(uint32_t drives, uint32_t unit) { return (struct geometry){drives, ZRV_MOST_SECTOR_BYTES, unit, 1, 128}; }
+static const uint32_t speeds_drives[] = {4, 8}, speeds_units[] = {1, 4, 16};
 static const struct geometry growth_geometry = {4, ZRV_MOST_SECTOR_BYTES, 4, 1, 512};
 static struct geometry sizes_geometry(uint32_t zone_sectors) { return (struct geometry){4, ZRV_LEAST_SECTOR_BYTES, 4, 1, zone_sectors}; }
 static const uint32_t sizes_zone_sectors[] = {4096, 16384, 32768, ZRV_MOST_ZONE_SECTORS};
@@ -172,8 +173,8 @@ static double speed(struct bench *b, uint64_t (*one)(struct bench *), uint64_t (
     return median(second, PASSES) / median(first, PASSES);
 }
 
-static void speeds(uint32_t drives) {
-    struct bench b = new_bench(speeds_geometry(drives));
+static void speeds_of(uint32_t drives, uint32_t unit) {
+    struct bench b = new_bench(speeds_geometry(drives, unit));
     double copies = speed(&b, write_archive, copy_bytes, true);
     memset(b.plain_answer, 0, zone_addresses(b.shelf.geometry) * b.shelf.geometry.sector_bytes);
     double stripes = speed(&b, write_archive, write_plain, true);
@@ -186,8 +187,17 @@ static void speeds(uint32_t drives) {
     b.run = 1;
     double single = speed(&b, write_archive, write_plain, true);
     must_agree(&b, "single-sector writes");
-    printf("%6u %15.2f %15.2f %15.2f %15.2f %15.2f\n", drives, stripes, reads, missing, single, copies);
+    printf("%6u %5u %15.2f %15.2f %15.2f %15.2f %15.2f\n", drives, unit, stripes, reads, missing, single, copies);
     free_bench(&b);
+}
+
+static void speeds(void) {
+    printf("speed as a share of plain C's, the last of memcpy's (4,096-byte sectors, C 128)\n");
+    printf("%6s %5s %15s %15s %15s %15s %15s\n", "drives", "unit", "stripe writes", "reads", "drive missing", "1-sector writes", "stripes/memcpy");
+    for (size_t d = 0; d < sizeof speeds_drives / sizeof *speeds_drives; d++)
+        for (size_t u = 0; u < sizeof speeds_units / sizeof *speeds_units; u++)
+            speeds_of(speeds_drives[d], speeds_units[u]);
+    printf("%12s %15s %15s %15s %15s %15s\n", "wanted", "0.95", "0.95", "0.95", "0.90", "(U 4) 0.60 0.65");
 }
 
 /* The archive's time for `calls` writes in a row from an address on. */
@@ -272,11 +282,7 @@ static void sizes(void) {
 }
 
 int main(void) {
-    printf("speed as a share of plain C's, the last of memcpy's (4,096-byte sectors, U 4, C 128)\n%6s %15s %15s %15s %15s %15s\n", "drives", "stripe writes",
-           "reads", "drive missing", "1-sector writes", "stripes/memcpy");
-    speeds(4);
-    speeds(8);
-    printf("%6s %15s %15s %15s %15s %15s\n", "wanted", "0.90", "0.90", "0.90", "0.60", "0.50");
+    speeds();
     growth();
     sizes();
     grouped_rows();

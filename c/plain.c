@@ -1,6 +1,7 @@
-/* Format, write, read and flush in plain C. A write appends its data sectors by address, keeps the exclusive or of each row beside them, and appends the
- * rows as the stripe's parity where the stripe is complete, or as a partial parity entry in the log where the write ends inside one. A read takes a
- * sector's own bytes, else the exclusive or of its row with the parity in place, else that with the last fitting log entry. */
+/* Format, write, read and flush in plain C. A write appends its data sectors by address, then the stripe's parity where the stripe is complete, or a partial
+ * parity entry in the log where the write ends inside one: each row is made where it is to lie, when its store is due, from the write's data and the
+ * sectors before it. A read takes a sector's own bytes, else the exclusive or of its row with the parity in place, else that with the last fitting log
+ * entry. */
 #include "plain.h"
 
 #include <string.h>
@@ -20,17 +21,32 @@ static void xor_into(uint8_t *restrict to, const uint8_t *restrict from, size_t 
         to[i] ^= from[i];
 }
 
-/* False where the count of stores has run out. A store to an absent drive is skipped. */
-static bool append(struct storing *storing, uint32_t drive, uint32_t physical_zone, const uint8_t *sector) {
-    struct volume *v = storing->v;
+/* Where the next store to a drive's zone goes; nowhere on an absent drive, whose stores are skipped. False where the count of stores has run out. */
+static bool next_place(const struct storing *storing, uint32_t drive, uint32_t physical_zone, uint8_t **place) {
+    const struct volume *v = storing->v;
+    *place = NULL;
     if (drive == storing->absent)
         return true;
     if (storing->left == 0)
         return false;
+    *place = sector_at(v, drive, physical_zone, v->written[cell(v->geometry, drive, physical_zone)]);
+    return true;
+}
+
+/* The sector there is stored: the write pointer moves past it. */
+static void count_store(struct storing *storing, uint32_t drive, uint32_t physical_zone) {
     storing->left--;
-    uint32_t *written = &v->written[cell(v->geometry, drive, physical_zone)];
-    memcpy(sector_at(v, drive, physical_zone, *written), sector, v->geometry.sector_bytes);
-    (*written)++;
+    storing->v->written[cell(storing->v->geometry, drive, physical_zone)]++;
+}
+
+static bool append(struct storing *storing, uint32_t drive, uint32_t physical_zone, const uint8_t *sector) {
+    uint8_t *place;
+    if (!next_place(storing, drive, physical_zone, &place))
+        return false;
+    if (place == NULL)
+        return true;
+    memcpy(place, sector, storing->v->geometry.sector_bytes);
+    count_store(storing, drive, physical_zone);
     return true;
 }
 
@@ -151,83 +167,100 @@ uint32_t plain_read(const struct volume *v, uint32_t named, uint64_t address, ui
     return ZRV_FINISHED;
 }
 
-/* A sector joins its row: the first of the row begins it. */
-static void join_row(struct geometry g, uint8_t *rows, uint32_t inside, const uint8_t *sector) {
-    uint8_t *row = rows + (size_t)(inside % g.unit) * g.sector_bytes;
-    if (inside < g.unit)
-        memcpy(row, sector, g.sector_bytes);
-    else
-        xor_into(row, sector, g.sector_bytes);
+/* The sectors of a write, from `offset` to `end` in their zone. */
+struct run {
+    uint32_t zone, offset, end;
+    const uint8_t *data;
+};
+
+static const uint8_t *run_bytes(struct geometry g, const struct run *run, uint32_t offset) {
+    return run->data + (size_t)(offset - run->offset) * g.sector_bytes;
 }
 
-/* The rows of a stripe's sectors before a write; false where one is not known. */
-static bool earlier_rows(const struct volume *v, uint32_t absent, uint32_t zone, uint32_t offset, uint8_t *rows) {
+/* The bytes of a sector below a write's end: of its data, or, known before it, as they are held or rebuilt in `space`. */
+static const uint8_t *row_bytes(const struct storing *storing, const struct run *run, uint32_t offset, uint8_t *space) {
+    if (offset >= run->offset)
+        return run_bytes(storing->v->geometry, run, offset);
+    struct sector_place place = place_of(storing->v->geometry, storing->absent, run->zone, offset);
+    return known_bytes(storing->v, &place, space);
+}
+
+/* One row of the stripe at `start`, of its sectors below `end`, made where it is to lie. */
+static void make_row(const struct storing *storing, const struct run *run, uint32_t start, uint32_t end, uint32_t row, uint8_t *to) {
+    struct geometry g = storing->v->geometry;
     uint8_t space[ZRV_MOST_SECTOR_BYTES];
-    uint32_t inside = offset % stripe_sectors(v->geometry);
-    for (uint32_t i = 0; i < inside; i++) {
-        struct sector_place place = place_of(v->geometry, absent, zone, offset - inside + i);
-        const uint8_t *sector = known_bytes(v, &place, space);
-        if (sector == NULL)
+    memcpy(to, row_bytes(storing, run, start + row, space), g.sector_bytes);
+    for (uint32_t offset = start + row + g.unit; offset < end; offset += g.unit)
+        xor_into(to, row_bytes(storing, run, offset, space), g.sector_bytes);
+}
+
+/* The rows of the stripe at `start`, of its sectors below `end`. */
+static bool append_rows(struct storing *storing, const struct run *run, uint32_t start, uint32_t end, uint32_t drive, uint32_t physical_zone) {
+    uint32_t unit = storing->v->geometry.unit, rows = end - start < unit ? end - start : unit;
+    for (uint32_t row = 0; row < rows; row++) {
+        uint8_t *place;
+        if (!next_place(storing, drive, physical_zone, &place))
             return false;
-        join_row(v->geometry, rows, i, sector);
+        if (place == NULL)
+            return true;
+        make_row(storing, run, start, end, row, place);
+        count_store(storing, drive, physical_zone);
     }
     return true;
 }
 
-static bool append_rows(struct storing *storing, uint32_t drive, uint32_t physical_zone, const uint8_t *rows, uint32_t count) {
-    for (uint32_t r = 0; r < count; r++)
-        if (!append(storing, drive, physical_zone, rows + (size_t)r * storing->v->geometry.sector_bytes))
-            return false;
-    return true;
-}
-
-/* A partial parity entry for a zone that ends at `end`, inside a stripe. */
-static bool append_partial(struct storing *storing, uint32_t zone, uint32_t end, const uint8_t *rows) {
+/* The partial parity entry of a write that ends inside the stripe at `start`. */
+static bool append_partial(struct storing *storing, const struct run *run, uint32_t start, uint32_t drive) {
     struct geometry g = storing->v->geometry;
-    uint32_t inside = end % stripe_sectors(g), drive = parity_drive(g, zone, end / stripe_sectors(g));
-    uint64_t start = (uint64_t)zone * zone_addresses(g) + end - inside;
-    uint8_t sector[ZRV_MOST_SECTOR_BYTES];
-    partial_header(sector, g, start, start + inside, storing->v->state.zone[zone].generation);
-    return append(storing, drive, PARITY_LOG, sector) && append_rows(storing, drive, PARITY_LOG, rows, inside < g.unit ? inside : g.unit);
+    uint64_t zone_start = (uint64_t)run->zone * zone_addresses(g);
+    uint8_t *place;
+    if (!next_place(storing, drive, PARITY_LOG, &place))
+        return false;
+    if (place == NULL)
+        return true;
+    partial_header(place, g, zone_start + start, zone_start + run->end, storing->v->state.zone[run->zone].generation);
+    count_store(storing, drive, PARITY_LOG);
+    return append_rows(storing, run, start, run->end, drive, PARITY_LOG);
 }
 
-/* The sectors of one stripe that a write brings, from `offset` to `end` in its zone. */
-static bool write_stripe(struct storing *storing, uint32_t zone, uint32_t offset, uint32_t end, const uint8_t *data, uint8_t *rows) {
+/* The sectors of one stripe that a write brings, from `offset` to `end` in its zone, and their parity. */
+static bool write_stripe(struct storing *storing, const struct run *run, uint32_t offset, uint32_t end) {
     struct geometry g = storing->v->geometry;
-    uint32_t parity = parity_drive(g, zone, offset / stripe_sectors(g));
-    for (; offset < end; offset++, data += g.sector_bytes) {
-        uint32_t inside = offset % stripe_sectors(g);
-        if (!append(storing, unit_drive(g, parity, inside / g.unit), ZRV_LOG_ZONES + zone, data))
+    uint32_t start = offset - offset % stripe_sectors(g), parity = parity_drive(g, run->zone, offset / stripe_sectors(g));
+    for (; offset < end; offset++)
+        if (!append(storing, unit_drive(g, parity, (offset - start) / g.unit), ZRV_LOG_ZONES + run->zone, run_bytes(g, run, offset)))
             return false;
-        if (parity != storing->absent)
-            join_row(g, rows, inside, data);
-    }
-    if (end % stripe_sectors(g) == 0)
-        return append_rows(storing, parity, ZRV_LOG_ZONES + zone, rows, g.unit);
-    return append_partial(storing, zone, end, rows);
+    if (end == start + stripe_sectors(g))
+        return append_rows(storing, run, start, end, parity, ZRV_LOG_ZONES + run->zone);
+    return append_partial(storing, run, start, parity);
 }
 
-uint32_t plain_write(struct volume *v, uint32_t named, uint64_t address, uint32_t run, uint32_t count, const uint8_t *data, size_t data_bytes) {
-    uint32_t refusal = write_refusal(v, named, address, run, data_bytes);
+/* Refusal 15 of a write: a sector before it, in its first stripe, that the stripe's parity needs and that is not known. */
+static bool earlier_known(const struct storing *storing, const struct run *run) {
+    struct geometry g = storing->v->geometry;
+    uint32_t inside = run->offset % stripe_sectors(g), parity = parity_drive(g, run->zone, run->offset / stripe_sectors(g));
+    return parity == storing->absent || run_known(storing->v, storing->absent, run->zone, run->offset - inside, inside);
+}
+
+uint32_t plain_write(struct volume *v, uint32_t named, uint64_t address, uint32_t run_sectors, uint32_t count, const uint8_t *data, size_t data_bytes) {
+    uint32_t refusal = write_refusal(v, named, address, run_sectors, data_bytes);
     if (refusal != ZRV_FINISHED)
         return refusal;
     struct geometry g = v->geometry;
-    uint32_t whole = (uint32_t)zone_addresses(g), zone = (uint32_t)(address / whole), offset = (uint32_t)(address % whole), end = offset + run;
+    uint32_t whole = (uint32_t)zone_addresses(g), offset = (uint32_t)(address % whole);
+    struct run run = {(uint32_t)(address / whole), offset, offset + run_sectors, data};
     struct storing storing = {v, absent_drive(g, named, v->state.lost), count};
-    uint8_t rows[ZRV_MOST_UNIT * ZRV_MOST_SECTOR_BYTES];
-    if (parity_drive(g, zone, offset / stripe_sectors(g)) != storing.absent && !earlier_rows(v, storing.absent, zone, offset, rows))
+    if (!earlier_known(&storing, &run))
         return ZRV_GONE;
-    while (offset < end) {
-        uint32_t stop = offset - offset % stripe_sectors(g) + stripe_sectors(g);
-        stop = stop < end ? stop : end;
-        if (!write_stripe(&storing, zone, offset, stop, data, rows))
+    for (uint32_t stop; offset < run.end; offset = stop) {
+        stop = offset - offset % stripe_sectors(g) + stripe_sectors(g);
+        stop = stop < run.end ? stop : run.end;
+        if (!write_stripe(&storing, &run, offset, stop))
             return ZRV_UNFINISHED;
-        data += (size_t)(stop - offset) * g.sector_bytes;
-        offset = stop;
     }
     v->state.lost = storing.absent;
-    v->state.zone[zone].condition = ZRV_OPEN;
-    v->state.zone[zone].pointer = end;
+    v->state.zone[run.zone].condition = ZRV_OPEN;
+    v->state.zone[run.zone].pointer = run.end;
     return ZRV_FINISHED;
 }
 

@@ -29,7 +29,7 @@ struct volume {
 
 /* Each answers as the C edge does, by the numbers of zrv.h. */
 uint32_t plain_format(struct volume *volume, uint32_t named, uint64_t array, uint32_t count);
-uint32_t plain_write(struct volume *volume, uint32_t named, uint64_t address, uint32_t run, uint32_t count, const uint8_t *data, size_t data_bytes);
+uint32_t plain_write(struct volume *volume, uint32_t named, uint64_t address, uint32_t run_sectors, uint32_t count, const uint8_t *data, size_t data_bytes);
 uint32_t plain_read(const struct volume *volume, uint32_t named, uint64_t address, uint32_t run, uint8_t *answer, size_t answer_bytes);
 uint32_t plain_flush(struct volume *volume, uint32_t named, uint32_t count);
 uint32_t plain_report(const struct volume *volume, uint8_t *list, size_t list_bytes, uint32_t *filled);

@@ -19,5 +19,6 @@ pub mod StoresFit
 pub mod Tables
 pub mod TablesFrame
 pub mod TablesRefine
+pub mod Within
 pub mod Xor
 pub mod ZonePlaces

@@ -2,12 +2,13 @@
 use super::Geometry;
 ghost use mathlib.Core.Path.{_≡_};
 ghost use Prim.Native.Nat.{_+_, _≤_, _<_};
-ghost use lib.ListN.{length, replicate};
+ghost use lib.ListN.{length, replicate, take, drop};
 ghost use Rattle.tables.specs.meaning.Basics.{pick};
 ghost use Rattle.tables.specs.meaning.Lists.{overlay};
 ghost use Rattle.tables.specs.meaning.Xor.{xorBytes};
 ghost use Rattle.tables.specs.meaning.Geometry.{Valid, physicalZones, totalBytes};
 ghost use Rattle.tables.specs.meaning.Tables.{sectorAt};
+ghost use Rattle.tables.specs.laws.Within.{Apart};
 
 // Lays src over dst from `at`.
 pub fn copy_in(dst: &mut [u8], at: usize, src: &[u8])
@@ -57,6 +58,30 @@ pub fn xor_into(acc: &mut [u8], src: &[u8])
     while k < n {
         acc[k] = acc[k] ^ src[k];
         k += 1;
+    }
+}
+
+// Copies the n bytes at `from` over those at `to`, in one slice. The two parts do not meet.
+pub fn copy_within(bytes: &mut [u8], to: usize, from: usize, n: usize)
+    requires { ⌜ (to + n ≤ length (now bytes)) × (from + n ≤ length (now bytes)) × Apart to from n ⌝ }
+    ensures { λ _. ⌜ now (bytes .exit) ≡ overlay (now (bytes .entry)) to (take n (drop from (now (bytes .entry)))) ⌝ }
+{
+    let mut i = 0;
+    while i < n {
+        bytes[to + i] = bytes[from + i];
+        i += 1;
+    }
+}
+
+// Adds them to those at `to` by exclusive or.
+pub fn xor_within(bytes: &mut [u8], to: usize, from: usize, n: usize)
+    requires { ⌜ (to + n ≤ length (now bytes)) × (from + n ≤ length (now bytes)) × Apart to from n ⌝ }
+    ensures { λ _. ⌜ now (bytes .exit) ≡ overlay (now (bytes .entry)) to (xorBytes (take n (drop to (now (bytes .entry)))) (take n (drop from (now (bytes .entry))))) ⌝ }
+{
+    let mut i = 0;
+    while i < n {
+        bytes[to + i] = bytes[to + i] ^ bytes[from + i];
+        i += 1;
     }
 }
 

@@ -74,6 +74,29 @@ pub fn byte_at(g: Geometry, drive: usize, zone: usize, n: usize) -> usize
     (at * c + n) * b
 }
 
+// The first byte of the sector that a zone's next append writes.
+pub fn next_byte(written: &[u32], g: Geometry, drive: usize, zone: usize) -> usize
+    requires { ⌜ Valid g ⌝ }
+    requires { ⌜ (drive < g .drives) × (zone < physicalZones g) × (length (now written) ≡ cells g) × (getD (now written) (cell g drive zone) 0 < g .capacity) ⌝ }
+    ensures { λ r. ⌜ (r ≡ byteAt g drive zone (getD (now (written .entry)) (cell g drive zone) 0)) × (r + g .sector ≤ totalBytes g) ⌝ }
+{
+    let at = cell_of(g, drive, zone);
+    let n = super::bounds::widen(written[at]);
+    byte_at(g, drive, zone, n)
+}
+
+// Moves a zone's written pointer past a sector that lies there already.
+pub fn advance(written: &mut [u32], g: Geometry, drive: usize, zone: usize)
+    requires { ⌜ Valid g ⌝ }
+    requires { ⌜ (drive < g .drives) × (zone < physicalZones g) × (length (now written) ≡ cells g) × (getD (now written) (cell g drive zone) 0 < g .capacity) ⌝ }
+    ensures { λ _. ⌜ now (written .exit) ≡ writtenAfterAppend g drive zone (now (written .entry)) ⌝ }
+{
+    let at = cell_of(g, drive, zone);
+    let n = written[at];
+    let next = n + 1;
+    written[at] = next;
+}
+
 // Appends one sector at the zone's written pointer.
 pub fn append_sector(
     sectors: &mut [u8],
@@ -90,12 +113,9 @@ pub fn append_sector(
     ensures { λ _. ⌜ (now (sectors .exit) ≡ sectorsAfterAppend g drive zone (now (src .entry)) (now (sectors .entry)) (now (written .entry)))
         × (now (written .exit) ≡ writtenAfterAppend g drive zone (now (written .entry))) ⌝ }
 {
-    let at = cell_of(g, drive, zone);
-    let n = written[at];
-    let next = n + 1;
-    let to = byte_at(g, drive, zone, n as usize);
+    let to = next_byte(written, g, drive, zone);
     super::sectors::copy_in(sectors, to, src);
-    written[at] = next;
+    advance(written, g, drive, zone);
 }
 
 // Resets one physical zone: both pointers 0, the bytes kept.
@@ -132,7 +152,7 @@ fn due(here: bool, budget: u64) -> bool
 }
 
 // What is left of the budget after a store that was due, or was wanting.
-fn left_after(here: bool, budget: u64) -> u64
+pub fn left_after(here: bool, budget: u64) -> u64
     ensures { λ r. ⌜ r ≡ budget - pick here 1 0 ⌝ }
 {
     if !here {
@@ -157,7 +177,7 @@ fn has_room(written: &[u32], g: Geometry, drive: usize, zone: usize) -> bool
 }
 
 // Whether an append is made: it is due, and the zone has room. Of a drive that is not present no pointer is read.
-fn append_due(
+pub fn append_due(
     written: &[u32],
     g: Geometry,
     here: bool,

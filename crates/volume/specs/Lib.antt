@@ -4,5 +4,6 @@ pub mod looking
 pub mod meaning
 pub mod mounting
 pub mod reading
+pub mod rows
 pub mod storing
 pub mod writing

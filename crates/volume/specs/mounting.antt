@@ -4,7 +4,7 @@ pub mod MountGenerations
 pub mod MountHeaders
 pub mod MountLastEntries
 pub mod MountLook
-pub mod MountParityRows
+pub mod MountReady
 pub mod MountResets
 pub mod MountRestoring
 pub mod MountRows

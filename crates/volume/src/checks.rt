@@ -1,19 +1,23 @@
 // What every call checks of its input before it looks at a zone: refusals 1 to 4, and the drives that are present.
+use super::Answer;
 use super::Condition;
+use super::Outcome;
 use super::State;
 use tables::Geometry;
 ghost use mathlib.Core.Path.{_≡_};
-ghost use mathlib.Core.Bool.{not};
+ghost use mathlib.Core.Bool.{not, _&&_};
 ghost use Prim.Native.Nat.{ℕ, _≤_, _<_};
 ghost use lib.Dec.{leb};
 ghost use Rattle.tables.specs.meaning.Basics.{pick};
 ghost use Rattle.tables.specs.meaning.Below.{allBelow, countBelow};
 ghost use Rattle.tables.specs.meaning.Drives.{findBelow};
 ghost use Rattle.tables.specs.meaning.Geometry.{Valid, zoneSectors};
+ghost use Rattle.tables.specs.meaning.GeometryTest.{isValid};
+ghost use Rattle.volume.specs.declared.Answer.the-variants.{Refused};
 ghost use Rattle.volume.specs.meaning.State.{pointerIn};
 ghost use Rattle.volume.specs.meaning.Refusals.{stateWithin};
 ghost use Rattle.volume.specs.meaning.CallContracts.{recordAt, viewState, isSet};
-ghost use Rattle.volume.specs.checks.CheckLaws.{presentList, openingNumber};
+ghost use Rattle.volume.specs.checks.CheckLaws.{presentList, openingFrom, Tested};
 
 // The pointer that a condition carries.
 pub fn pointer_of(c: Condition) -> usize
@@ -64,13 +68,16 @@ pub fn present_drives(g: Geometry, named: [bool; 8], lost: usize) -> [bool; 8]
     ensures { λ r. ⌜ r ≡ presentList g named lost ⌝ }
 {
     let n = g.drives;
-    let mut here = [false; 8];
-    let mut d = 0;
-    while d < n {
-        here[d] = named[d] & (d != lost);
-        d += 1;
-    }
-    here
+    [
+        named[0] & (0 != lost),
+        named[1] & (1 != lost),
+        named[2] & (2 != lost),
+        (3 < n) & (named[3] & (3 != lost)),
+        (4 < n) & (named[4] & (4 != lost)),
+        (5 < n) & (named[5] & (5 != lost)),
+        (6 < n) & (named[6] & (6 != lost)),
+        (7 < n) & (named[7] & (7 != lost)),
+    ]
 }
 
 fn one_unless(b: bool) -> usize
@@ -125,27 +132,44 @@ pub fn left_out(g: Geometry, here: [bool; 8]) -> usize
     x
 }
 
-// Refusals 1 to 4 of a call with a state; 0 if none applies. A call without a buffer passes count 0 and no bytes.
+// Refusal 1: whether the geometry is valid and the state lies within it.
+pub fn input_within(g: Geometry, state: State) -> bool
+    ensures { λ r. ⌜ r ≡ isValid g && stateWithin g (viewState state) ⌝ }
+{
+    let ok = tables::bounds::valid(g);
+    if !ok {
+        return false;
+    }
+    state_within(g, state)
+}
+
+// What refusal 2 looks at beside the pointer tables: the bytes of the sectors, and a call's buffer, its sectors and its bytes. A call without a
+// buffer has 0 of both.
+pub struct Sizes {
+    pub sectors: usize,
+    pub count: u64,
+    pub bytes: usize,
+}
+
+// Refusals 1 to 4 of a call with a state; 0 if none applies. `within`: what refusal 1 found.
 pub fn opening(
-    sectors: usize,
+    within: bool,
+    sizes: Sizes,
     written: &[u32],
     durable: &[u32],
     g: Geometry,
     named: [bool; 8],
-    state: State,
-    count: u64,
-    bytes: usize,
+    lost: usize,
 ) -> u8
-    ensures { λ r. ⌜ r ≡ openingNumber g named state count bytes sectors (now (written .entry)) (now (durable .entry)) ⌝ }
+    requires { ⌜ Tested within g ⌝ }
+    ensures { λ r. ⌜ r ≡ openingFrom g named within lost (sizes .count) (sizes .bytes) (sizes .sectors) (now (written .entry)) (now (durable .entry)) ⌝ }
 {
-    let ok = tables::bounds::valid(g);
-    if !ok {
-        return 1;
-    }
-    let within = state_within(g, state);
     if !within {
         return 1;
     }
+    let sectors = sizes.sectors;
+    let count = sizes.count;
+    let bytes = sizes.bytes;
     let lengths = tables::bounds::lengths_fit(g, sectors, written.len(), durable.len());
     let buffer = tables::bounds::buffer_fits(g, count, bytes);
     let fit = lengths & buffer;
@@ -156,11 +180,20 @@ pub fn opening(
     if bad {
         return 3;
     }
-    let lost = state.lost;
     let here = present_drives(g, named, lost);
     let absent = count_absent(g, here);
     if 1 < absent {
         return 4;
     }
     0
+}
+
+// A refused call hands the state back as it was.
+pub fn refused(number: u8, state: State) -> Outcome
+    ensures { λ r. ⌜ r ≡ record { answer = Refused number; state = state } ⌝ }
+{
+    Outcome {
+        answer: Answer::Refused(number),
+        state,
+    }
 }

@@ -2,6 +2,7 @@
 use super::Answer;
 use super::Outcome;
 use super::State;
+use super::checks::Sizes;
 use tables::Geometry;
 ghost use mathlib.Core.Path.{_≡_};
 ghost use Prim.Native.Nat.{_<_};
@@ -48,14 +49,17 @@ pub fn flush(
     ensures { λ r. ⌜ (r ≡ flushOn g named state count (tablesOf (now (sectors .entry)) (now (written .entry)) (now (durable .entry))) .outcome)
         × (tablesOf (now (sectors .entry)) (now (written .entry)) (now (durable .exit)) ≡ flushOn g named state count (tablesOf (now (sectors .entry)) (now (written .entry)) (now (durable .entry))) .tables) ⌝ }
 {
-    let refusal = super::checks::opening(sectors.len(), written, durable, g, named, state, 0, 0);
-    if refusal != 0 {
-        return Outcome {
-            answer: Answer::Refused(refusal),
-            state,
-        };
-    }
+    let within = super::checks::input_within(g, state);
     let lost = state.lost;
+    let sizes = Sizes {
+        sectors: sectors.len(),
+        count: 0,
+        bytes: 0,
+    };
+    let first = super::checks::opening(within, sizes, written, durable, g, named, lost);
+    if first != 0 {
+        return super::checks::refused(first, state);
+    }
     let here = super::checks::present_drives(g, named, lost);
     let budget = count as u64 + 1;
     let rest = flush_all(written, durable, g, here, budget);

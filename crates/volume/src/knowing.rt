@@ -3,6 +3,7 @@
 // current one in the log of its stripe's parity drive that ends past it, at or below every current seal, and whose other sectors of the
 // row below its end are held. The more an entry covers, the more sectors it needs: so the entries that serve are those that end past the sector
 // and at most at its row's first other sector that is not held. A sector that is held costs no walk of a log.
+use super::Zone;
 use logs::Found;
 use tables::Geometry;
 ghost use mathlib.Core.Path.{_≡_};
@@ -33,24 +34,19 @@ pub enum Source {
 }
 
 // The least current seal of one drive and of `most`.
-fn seal_of(
-    sectors: &[u8],
-    written: &[u32],
-    g: Geometry,
-    here: [bool; 8],
-    z: usize,
-    generation: u64,
-    d: usize,
-    most: usize,
-) -> usize
-    requires { ⌜ Valid g ⌝ }
-    requires { ⌜ Readable g here (now sectors) (now written) z × (d < g .drives) ⌝ }
-    ensures { λ r. ⌜ (r ≡ pick (isSet here d) (leastSeal z generation most (generalHeads g (readDevice g (now (sectors .entry)) (now (written .entry))) d)) most) × (r ≤ most) ⌝ }
+fn seal_of(sectors: &[u8], written: &[u32], zone: Zone, d: usize, most: usize) -> usize
+    requires { ⌜ Valid (zone .geometry) ⌝ }
+    requires { ⌜ Readable (zone .geometry) (zone .here) (now sectors) (now written) (zone .number) × (d < zone .geometry .drives) ⌝ }
+    ensures { λ r. ⌜ (r ≡ pick (isSet (zone .here) d) (leastSeal (zone .number) (zone .generation) most (generalHeads (zone .geometry) (readDevice (zone .geometry) (now (sectors .entry)) (now (written .entry))) d)) most) × (r ≤ most) ⌝ }
 {
+    let here = zone.here;
     let present = here[d];
     if !present {
         return most;
     }
+    let g = zone.geometry;
+    let z = zone.number;
+    let generation = zone.generation;
     let at = tables::stores::cell_of(g, d, logs::GENERAL_LOG);
     let n = tables::bounds::widen(written[at]);
     let log = logs::Log {
@@ -74,11 +70,17 @@ pub fn seal_limit(
     requires { ⌜ Readable g here (now sectors) (now written) z ⌝ }
     ensures { λ r. ⌜ (r ≡ sealLimit g (isSet here) (readDevice g (now (sectors .entry)) (now (written .entry))) z generation) × (r ≤ zoneSectors g) ⌝ }
 {
+    let zone = Zone {
+        geometry: g,
+        here,
+        number: z,
+        generation,
+    };
     let n = g.drives;
     let mut limit = tables::bounds::zone_sectors(g);
     let mut d = 0;
     while d < n {
-        limit = seal_of(sectors, written, g, here, z, generation, d, limit);
+        limit = seal_of(sectors, written, zone, d, limit);
         d += 1;
     }
     limit
@@ -221,20 +223,14 @@ fn reach_past(
 }
 
 // The place, counted from 1, of the last entry that serves address a; 0 if there is none.
-fn serving_place(
-    sectors: &[u8],
-    written: &[u32],
-    g: Geometry,
-    here: [bool; 8],
-    z: usize,
-    generation: u64,
-    limit: usize,
-    a: usize,
-) -> usize
-    requires { ⌜ Valid g ⌝ }
-    requires { ⌜ Readable g here (now sectors) (now written) z × (a < zoneSectors g) ⌝ }
-    ensures { λ r. ⌜ r ≡ servingPlace g here (now (sectors .entry)) (now (written .entry)) z generation limit a ⌝ }
+fn serving_place(sectors: &[u8], written: &[u32], zone: Zone, limit: usize, a: usize) -> usize
+    requires { ⌜ Valid (zone .geometry) ⌝ }
+    requires { ⌜ Readable (zone .geometry) (zone .here) (now sectors) (now written) (zone .number) × (a < zoneSectors (zone .geometry)) ⌝ }
+    ensures { λ r. ⌜ r ≡ servingPlace (zone .geometry) (zone .here) (now (sectors .entry)) (now (written .entry)) (zone .number) (zone .generation) limit a ⌝ }
 {
+    let g = zone.geometry;
+    let here = zone.here;
+    let z = zone.number;
     let p = parity_of(g, z, a);
     let present = here[p];
     if !present {
@@ -249,6 +245,7 @@ fn serving_place(
         zone: logs::PARITY_LOG,
         written: n,
     };
+    let generation = zone.generation;
     logs::folds::last_partial(sectors, g, log, z, generation, a, high)
 }
 
@@ -267,20 +264,14 @@ fn row_complete(written: &[u32], g: Geometry, here: [bool; 8], z: usize, a: usiz
 }
 
 // How address a is known.
-fn source_of(
-    sectors: &[u8],
-    written: &[u32],
-    g: Geometry,
-    here: [bool; 8],
-    z: usize,
-    generation: u64,
-    limit: usize,
-    a: usize,
-) -> Source
-    requires { ⌜ Valid g ⌝ }
-    requires { ⌜ Readable g here (now sectors) (now written) z × (a < zoneSectors g) ⌝ }
-    ensures { λ r. ⌜ r ≡ sourceOf g here (now (sectors .entry)) (now (written .entry)) z generation limit a ⌝ }
+fn source_of(sectors: &[u8], written: &[u32], zone: Zone, limit: usize, a: usize) -> Source
+    requires { ⌜ Valid (zone .geometry) ⌝ }
+    requires { ⌜ Readable (zone .geometry) (zone .here) (now sectors) (now written) (zone .number) × (a < zoneSectors (zone .geometry)) ⌝ }
+    ensures { λ r. ⌜ r ≡ sourceOf (zone .geometry) (zone .here) (now (sectors .entry)) (now (written .entry)) (zone .number) (zone .generation) limit a ⌝ }
 {
+    let g = zone.geometry;
+    let here = zone.here;
+    let z = zone.number;
     let held = own_held(written, g, here, z, a);
     if held {
         return Source::Held;
@@ -289,7 +280,7 @@ fn source_of(
     if row {
         return Source::Row;
     }
-    let place = serving_place(sectors, written, g, here, z, generation, limit, a);
+    let place = serving_place(sectors, written, zone, limit, a);
     if place == 0 {
         return Source::Unknown;
     }
@@ -308,22 +299,13 @@ fn has_source(way: Source) -> bool
 }
 
 // Whether address a of a zone is known under a generation; limit is the zone's least current seal.
-pub fn is_known(
-    sectors: &[u8],
-    written: &[u32],
-    g: Geometry,
-    here: [bool; 8],
-    z: usize,
-    generation: u64,
-    limit: usize,
-    a: usize,
-) -> bool
-    requires { ⌜ Valid g ⌝ }
-    requires { ⌜ Readable g here (now sectors) (now written) z × (a < zoneSectors g)
-        × (limit ≡ sealLimit g (isSet here) (readDevice g (now sectors) (now written)) z generation) ⌝ }
-    ensures { λ r. ⌜ r ≡ known (g .drives) (g .unit) z (zoneView g (isSet here) (readDevice g (now (sectors .entry)) (now (written .entry))) z generation) a ⌝ }
+pub fn is_known(sectors: &[u8], written: &[u32], zone: Zone, limit: usize, a: usize) -> bool
+    requires { ⌜ Valid (zone .geometry) ⌝ }
+    requires { ⌜ Readable (zone .geometry) (zone .here) (now sectors) (now written) (zone .number) × (a < zoneSectors (zone .geometry))
+        × (limit ≡ sealLimit (zone .geometry) (isSet (zone .here)) (readDevice (zone .geometry) (now sectors) (now written)) (zone .number) (zone .generation)) ⌝ }
+    ensures { λ r. ⌜ r ≡ known (zone .geometry .drives) (zone .geometry .unit) (zone .number) (zoneView (zone .geometry) (isSet (zone .here)) (readDevice (zone .geometry) (now (sectors .entry)) (now (written .entry))) (zone .number) (zone .generation)) a ⌝ }
 {
-    let way = source_of(sectors, written, g, here, z, generation, limit, a);
+    let way = source_of(sectors, written, zone, limit, a);
     has_source(way)
 }
 
@@ -459,22 +441,21 @@ fn value_by(sectors: &[u8], g: Geometry, z: usize, a: usize, way: Source, out: &
 pub fn served_value(
     sectors: &[u8],
     written: &[u32],
-    g: Geometry,
-    here: [bool; 8],
-    z: usize,
-    generation: u64,
+    zone: Zone,
     limit: usize,
     a: usize,
     out: &mut [u8],
 )
-    requires { ⌜ Valid g ⌝ }
-    requires { ⌜ Readable g here (now sectors) (now written) z × (a < zoneSectors g)
-        × (sourceOf g here (now sectors) (now written) z generation limit a ≡ sourceOf g here (now sectors) (now written) z generation (sealLimit g (isSet here) (readDevice g (now sectors) (now written)) z generation) a)
-        × (known (g .drives) (g .unit) z (zoneView g (isSet here) (readDevice g (now sectors) (now written)) z generation) a ≡ true)
-        × (length (now out) ≡ g .sector) ⌝ }
-    ensures { λ _. ⌜ now (out .exit) ≡ valueAt g (isSet here) (readDevice g (now (sectors .entry)) (now (written .entry))) z generation a ⌝ }
+    requires { ⌜ Valid (zone .geometry) ⌝ }
+    requires { ⌜ Readable (zone .geometry) (zone .here) (now sectors) (now written) (zone .number) × (a < zoneSectors (zone .geometry))
+        × (sourceOf (zone .geometry) (zone .here) (now sectors) (now written) (zone .number) (zone .generation) limit a ≡ sourceOf (zone .geometry) (zone .here) (now sectors) (now written) (zone .number) (zone .generation) (sealLimit (zone .geometry) (isSet (zone .here)) (readDevice (zone .geometry) (now sectors) (now written)) (zone .number) (zone .generation)) a)
+        × (known (zone .geometry .drives) (zone .geometry .unit) (zone .number) (zoneView (zone .geometry) (isSet (zone .here)) (readDevice (zone .geometry) (now sectors) (now written)) (zone .number) (zone .generation)) a ≡ true)
+        × (length (now out) ≡ zone .geometry .sector) ⌝ }
+    ensures { λ _. ⌜ now (out .exit) ≡ valueAt (zone .geometry) (isSet (zone .here)) (readDevice (zone .geometry) (now (sectors .entry)) (now (written .entry))) (zone .number) (zone .generation) a ⌝ }
 {
-    let way = source_of(sectors, written, g, here, z, generation, limit, a);
+    let way = source_of(sectors, written, zone, limit, a);
+    let g = zone.geometry;
+    let z = zone.number;
     value_by(sectors, g, z, a, way, out);
 }
 
@@ -497,5 +478,11 @@ pub fn sector_value(
         × (length (now out) ≡ g .sector) ⌝ }
     ensures { λ _. ⌜ now (out .exit) ≡ valueAt g (isSet here) (readDevice g (now (sectors .entry)) (now (written .entry))) z generation a ⌝ }
 {
-    served_value(sectors, written, g, here, z, generation, limit, a, out);
+    let zone = Zone {
+        geometry: g,
+        here,
+        number: z,
+        generation,
+    };
+    served_value(sectors, written, zone, limit, a, out);
 }

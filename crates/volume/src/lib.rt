@@ -12,9 +12,8 @@ pub mod looking;
 pub mod mount_counters;
 pub mod mount_entries;
 pub mod mount_fill;
-pub mod mount_log_rows;
+pub mod mount_known;
 pub mod mount_logs;
-pub mod mount_rows;
 pub mod mount_steps;
 pub mod mount_torn;
 pub mod mount_zones;
@@ -23,9 +22,8 @@ pub mod numbers;
 pub mod reading;
 pub mod reporting;
 pub mod resetting;
+pub mod rows;
 pub mod write_checks;
-pub mod write_keeping;
-pub mod write_rows;
 pub mod write_stores;
 pub mod writing;
 pub mod zone_checks;
@@ -49,6 +47,14 @@ pub struct ZoneRecord {
 pub struct State {
     pub lost: usize,
     pub zones: [ZoneRecord; 16],
+}
+
+// A zone as a call reads it: the geometry, the drives that are present, the zone's number, and the generation under which it is read.
+pub struct Zone {
+    pub geometry: Geometry,
+    pub here: [bool; 8],
+    pub number: usize,
+    pub generation: u64,
 }
 
 // A call's answer: finished, unfinished (stores were left when the count of stores ran out), or refused with document 01's number.

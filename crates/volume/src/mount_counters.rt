@@ -8,8 +8,8 @@ use tables::Geometry;
 ghost use mathlib.Core.Path.{_≡_};
 ghost use mathlib.Core.Bool.{_&&_, not};
 ghost use mathlib.Core.List.{[]};
-ghost use Prim.Native.Nat.{ℕ, _+_, _*_, _≤_, _<_};
-ghost use lib.ListN.{length, getD, take};
+ghost use Prim.Native.Nat.{ℕ, _+_, _*_, _<_};
+ghost use lib.ListN.{length, getD};
 ghost use lib.Dec.{eqb};
 ghost use Rattle.tables.specs.meaning.Below.{anyBelow, allBelow};
 ghost use Rattle.tables.specs.meaning.LittleEndian.{sameBytes, readLE};
@@ -24,7 +24,7 @@ ghost use Rattle.volume.specs.meaning.Mount.{nextGeneration, countersDif
 ghost use Rattle.volume.specs.meaning.CallContracts.{isSet};
 ghost use Rattle.volume.specs.mounting.MountLook.{zoneLook, shownBy, LookWithin};
 ghost use Rattle.volume.specs.mounting.MountHeaders.{Logging};
-ghost use Rattle.volume.specs.mounting.MountGenerations.{filled, counterStores, countersDue};
+ghost use Rattle.volume.specs.mounting.MountGenerations.{filled, countersDue};
 ghost use Rattle.volume.specs.looking.Knowing.{readDevice};
 
 fn is_empty(c: Condition) -> bool
@@ -226,52 +226,16 @@ pub fn counters_due(
     empty | differ
 }
 
-// Counters on every drive that is here: what is left of the budget of stores.
-fn log_counters(
-    sectors: &mut [u8],
-    written: &mut [u32],
-    out: &mut [u8],
-    g: Geometry,
-    here: [bool; 8],
-    generations: &[u64],
-    budget: u64,
-) -> u64
-    requires { ⌜ Valid g ⌝ }
-    requires { ⌜ (length (now sectors) ≡ totalBytes g) × (length (now written) ≡ cells g) × (length (now out) ≡ g .sector) × (g .zones ≤ length (now generations)) ⌝ }
-    ensures { λ r. ⌜ MadeAppends g budget r (onPresent (isSet here) (counterStores g (take (g .zones) (now (generations .entry))) (g .drives))) (now (sectors .entry)) (now (written .entry)) (now (sectors .exit)) (now (written .exit)) ⌝ }
-{
-    let n = g.drives;
-    let mut rest = budget;
-    let mut d = 0;
-    while d < n {
-        logs::headers::write_counters(out, g, d, generations);
-        let present = here[d];
-        rest = tables::stores::append_counted(
-            sectors,
-            written,
-            g,
-            present,
-            d,
-            logs::GENERAL_LOG,
-            out,
-            rest,
-        );
-        d += 1;
-    }
-    rest
-}
-
 // The counters of the step, if they are due.
 pub fn store_counters(
     sectors: &mut [u8],
     written: &mut [u32],
     pointers: &[u32],
-    out: &mut [u8],
     basis: Basis,
     budget: u64,
 ) -> u64
     requires { ⌜ Valid (basis .geometry) ⌝ }
-    requires { ⌜ (length (now out) ≡ basis .geometry .sector) × Logging (basis .geometry) (basis .look) (now pointers) (now sectors) (now written) ⌝ }
+    requires { ⌜ Logging (basis .geometry) (basis .look) (now pointers) (now sectors) (now written) ⌝ }
     ensures { λ r. ⌜ MadeAppends (basis .geometry) budget r (onPresent (isSet (basis .here)) (counterStep (basis .geometry) (isSet (basis .here)) (shownBy (basis .look)) (readDevice (basis .geometry) (now (sectors .entry)) (now (pointers .entry))))) (now (sectors .entry)) (now (written .entry)) (now (sectors .exit)) (now (written .exit)) ⌝ }
 {
     let g = basis.geometry;
@@ -282,5 +246,5 @@ pub fn store_counters(
         return budget;
     }
     let next = next_generations(g, look);
-    log_counters(sectors, written, out, g, here, &next, budget)
+    super::resetting::log_counters(sectors, written, g, here, &next, budget)
 }

@@ -1,23 +1,28 @@
 // Step 8 of a mount: "a type 4 entry at each pointer inside a stripe that by then has no whole current one ending there". Values are those of the
-// mount's look, read below its pointers. Whether there is such an entry is asked of the logs as they were when the step began: below a copy of the
-// written pointers of that moment, `starts`.
+// mount's look, read below its pointers; step 6 completes a torn entry with the same rows. Whether there is such an entry is asked of the logs as
+// they were when the step began: below a copy of the written pointers of that moment, `starts`.
+use super::Basis;
 use super::Look;
-use super::mount_rows::Extent;
+use super::rows::Target;
 use tables::Geometry;
 ghost use mathlib.Core.Path.{_≡_};
-ghost use Prim.Native.Nat.{_*_, _<_};
+ghost use mathlib.Core.Bool.{true};
+ghost use Prim.Native.Nat.{_+_, _*_, _≤_, _<_, min};
 ghost use lib.ListN.{length};
 ghost use Rattle.tables.specs.meaning.Below.{eachBelow};
 ghost use Rattle.tables.specs.meaning.Geometry.{Valid, stripeSectors, cells, totalBytes};
 ghost use Rattle.tables.specs.meaning.Placement.{stripeOf};
 ghost use Rattle.tables.specs.meaning.Phases.{onPresent};
 ghost use Rattle.tables.specs.laws.Made.{MadeAppends};
+ghost use Rattle.logs.specs.meaning.Entry.{parityZone};
+ghost use Rattle.volume.specs.meaning.Content.{rowXorBelow};
 ghost use Rattle.volume.specs.meaning.Rules.{parityEntries};
 ghost use Rattle.volume.specs.meaning.CallContracts.{isSet};
+ghost use Rattle.volume.specs.rows.RowStores.{rowsIf};
 ghost use Rattle.volume.specs.mounting.MountLook.{zoneLook, LookWithin};
 ghost use Rattle.volume.specs.mounting.MountValues.{shownAt};
 ghost use Rattle.volume.specs.mounting.MountRestoring.{Filling};
-ghost use Rattle.volume.specs.mounting.MountLastEntries.{Entering, entryDue, entryRows, newEntry, zoneEntryStores, entryStoresBelow};
+ghost use Rattle.volume.specs.mounting.MountLastEntries.{Entering, entryDue, newEntry, zoneEntryStores, entryStoresBelow};
 ghost use Rattle.volume.specs.looking.Knowing.{readDevice};
 
 // Whether an entry at a zone's pointer is due on a drive: the pointer lies inside a stripe, the drive holds the stripe's parity, and its log had no
@@ -58,82 +63,83 @@ fn entry_due(
     !there
 }
 
-// The rows of the entry at a zone's pointer, which lies inside a stripe, on the parity log of a drive.
-fn append_entry_rows(
+// The rows of a partial parity entry from one on: those of a zone's stripe and its first `fill` sectors, on the parity log of a drive.
+pub struct EntryRows {
+    pub drive: usize,
+    pub zone: usize,
+    pub stripe: usize,
+    pub fill: usize,
+    pub from: usize,
+}
+
+// The rows, of an entry that ends at or below the zone's pointer; each is built where it will lie.
+pub fn append_entry_rows(
     sectors: &mut [u8],
     written: &mut [u32],
     pointers: &[u32],
-    value: &mut [u8],
-    out: &mut [u8],
-    g: Geometry,
-    here: [bool; 8],
-    look: Look,
-    drive: usize,
-    z: usize,
+    basis: Basis,
+    entry: EntryRows,
     budget: u64,
 ) -> u64
-    requires { ⌜ Valid g ⌝ }
-    requires { ⌜ (drive < g .drives) × (length (now value) ≡ g .sector) × (length (now out) ≡ g .sector) × Filling g here look (now pointers) (now sectors) (now written)
-        × (z < g .zones) × (stripeOf (g .drives) (g .unit) (zoneLook look z .pointer) * stripeSectors g < zoneLook look z .pointer) ⌝ }
-    ensures { λ r. ⌜ MadeAppends g budget r (entryRows g (shownAt g here look (now (sectors .entry)) (now (pointers .entry)) .zone z .value) drive (zoneLook look z .pointer)) (now (sectors .entry)) (now (written .entry)) (now (sectors .exit)) (now (written .exit)) ⌝ }
+    requires { ⌜ Valid (basis .geometry) ⌝ }
+    requires { ⌜ (entry .drive < basis .geometry .drives) × (entry .zone < basis .geometry .zones) × (entry .stripe * stripeSectors (basis .geometry) + entry .fill ≤ zoneLook (basis .look) (entry .zone) .pointer) × (entry .from ≤ min (entry .fill) (basis .geometry .unit))
+        × Filling (basis .geometry) (basis .here) (basis .look) (now pointers) (now sectors) (now written) ⌝ }
+    ensures { λ r. ⌜ MadeAppends (basis .geometry) budget r (rowsIf true (entry .drive) parityZone (rowXorBelow (basis .geometry .drives) (basis .geometry .unit) (shownAt (basis .geometry) (basis .here) (basis .look) (now (sectors .entry)) (now (pointers .entry)) .zone (entry .zone) .value) (entry .stripe) (entry .stripe * stripeSectors (basis .geometry) + entry .fill)) (entry .from) (min (entry .fill) (basis .geometry .unit))) (now (sectors .entry)) (now (written .entry)) (now (sectors .exit)) (now (written .exit)) ⌝ }
 {
-    let zones = look.zones;
-    let zone = zones[z];
-    let generation = zone.generation;
-    let pointer = zone.pointer;
+    let g = basis.geometry;
+    let z = entry.zone;
+    let s = entry.stripe;
+    let fill = entry.fill;
     let k = tables::bounds::stripe_sectors(g);
-    let s = pointer / k;
-    let limit = super::knowing::seal_limit(sectors, pointers, g, here, z, generation);
+    let end = s * k + fill;
+    let known = super::mount_known::known_below(sectors, pointers, basis, z, end);
+    let target = Target {
+        drive: entry.drive,
+        zone: logs::PARITY_LOG,
+        present: true,
+    };
+    let from = entry.from;
     let u = g.unit;
-    let m = tables::placement::min(pointer - s * k, u);
-    super::mount_log_rows::append_rows(
+    let m = tables::placement::min(fill, u);
+    let none = [0u8; 1];
+    super::rows::append_rows(
         sectors,
         written,
         pointers,
-        value,
-        out,
-        g,
-        here,
-        drive,
-        Extent {
-            zone: z,
-            generation,
-            limit,
-            end: pointer,
-        },
-        true,
+        &none[..0],
+        known,
+        target,
         s,
-        0,
+        from,
         m,
         budget,
     )
 }
 
-// That entry: its header and then its rows.
+// The entry at a zone's pointer, which lies inside a stripe, on the parity log of a drive: its header and then its rows.
 fn append_entry(
     sectors: &mut [u8],
     written: &mut [u32],
     pointers: &[u32],
-    value: &mut [u8],
-    out: &mut [u8],
-    g: Geometry,
-    here: [bool; 8],
-    look: Look,
+    basis: Basis,
     drive: usize,
     z: usize,
     budget: u64,
 ) -> u64
-    requires { ⌜ Valid g ⌝ }
-    requires { ⌜ (drive < g .drives) × (length (now value) ≡ g .sector) × (length (now out) ≡ g .sector) × Filling g here look (now pointers) (now sectors) (now written)
-        × (z < g .zones) × (stripeOf (g .drives) (g .unit) (zoneLook look z .pointer) * stripeSectors g < zoneLook look z .pointer) ⌝ }
-    ensures { λ r. ⌜ MadeAppends g budget r (newEntry g (shownAt g here look (now (sectors .entry)) (now (pointers .entry))) drive z) (now (sectors .entry)) (now (written .entry)) (now (sectors .exit)) (now (written .exit)) ⌝ }
+    requires { ⌜ Valid (basis .geometry) ⌝ }
+    requires { ⌜ (drive < basis .geometry .drives) × (z < basis .geometry .zones) × (stripeOf (basis .geometry .drives) (basis .geometry .unit) (zoneLook (basis .look) z .pointer) * stripeSectors (basis .geometry) < zoneLook (basis .look) z .pointer)
+        × Filling (basis .geometry) (basis .here) (basis .look) (now pointers) (now sectors) (now written) ⌝ }
+    ensures { λ r. ⌜ MadeAppends (basis .geometry) budget r (newEntry (basis .geometry) (shownAt (basis .geometry) (basis .here) (basis .look) (now (sectors .entry)) (now (pointers .entry))) drive z) (now (sectors .entry)) (now (written .entry)) (now (sectors .exit)) (now (written .exit)) ⌝ }
 {
+    let g = basis.geometry;
+    let look = basis.look;
     let zones = look.zones;
     let zone = zones[z];
     let generation = zone.generation;
     let pointer = zone.pointer;
     let k = tables::bounds::stripe_sectors(g);
     let s = pointer / k;
+    let fill = pointer - s * k;
     let rest = super::write_stores::append_partial(
         sectors,
         written,
@@ -142,44 +148,38 @@ fn append_entry(
         drive,
         z,
         s,
-        pointer - s * k,
+        fill,
         generation,
         budget,
     );
-    append_entry_rows(
-        sectors,
-        written,
-        pointers,
-        value,
-        out,
-        g,
-        here,
-        look,
+    let entry = EntryRows {
         drive,
-        z,
-        rest,
-    )
+        zone: z,
+        stripe: s,
+        fill,
+        from: 0,
+    };
+    append_entry_rows(sectors, written, pointers, basis, entry, rest)
 }
 
-// The entry of one zone on one drive, if the drive is here and it is due: what is left of the budget of stores.
+// That entry, if the drive is here and it is due: what is left of the budget of stores.
 fn log_entry(
     sectors: &mut [u8],
     written: &mut [u32],
     pointers: &[u32],
     starts: &[u32],
-    value: &mut [u8],
-    out: &mut [u8],
-    g: Geometry,
-    here: [bool; 8],
-    look: Look,
+    basis: Basis,
     drive: usize,
     z: usize,
     budget: u64,
 ) -> u64
-    requires { ⌜ Valid g ⌝ }
-    requires { ⌜ (drive < g .drives) × (z < g .zones) × (length (now value) ≡ g .sector) × (length (now out) ≡ g .sector) × Entering g here look (now pointers) (now starts) (now sectors) (now written) ⌝ }
-    ensures { λ r. ⌜ MadeAppends g budget r (onPresent (isSet here) (zoneEntryStores g look (shownAt g here look (now (sectors .entry)) (now (pointers .entry))) (parityEntries g (readDevice g (now (sectors .entry)) (now (starts .entry))) drive) drive z)) (now (sectors .entry)) (now (written .entry)) (now (sectors .exit)) (now (written .exit)) ⌝ }
+    requires { ⌜ Valid (basis .geometry) ⌝ }
+    requires { ⌜ (drive < basis .geometry .drives) × (z < basis .geometry .zones) × Entering (basis .geometry) (basis .here) (basis .look) (now pointers) (now starts) (now sectors) (now written) ⌝ }
+    ensures { λ r. ⌜ MadeAppends (basis .geometry) budget r (onPresent (isSet (basis .here)) (zoneEntryStores (basis .geometry) (basis .look) (shownAt (basis .geometry) (basis .here) (basis .look) (now (sectors .entry)) (now (pointers .entry))) (parityEntries (basis .geometry) (readDevice (basis .geometry) (now (sectors .entry)) (now (starts .entry))) drive) drive z)) (now (sectors .entry)) (now (written .entry)) (now (sectors .exit)) (now (written .exit)) ⌝ }
 {
+    let g = basis.geometry;
+    let here = basis.here;
+    let look = basis.look;
     let present = here[drive];
     if !present {
         return budget;
@@ -188,19 +188,7 @@ fn log_entry(
     if !due {
         return budget;
     }
-    append_entry(
-        sectors,
-        written,
-        pointers,
-        value,
-        out,
-        g,
-        here,
-        look,
-        drive,
-        z,
-        budget,
-    )
+    append_entry(sectors, written, pointers, basis, drive, z, budget)
 }
 
 // The entries of one drive, zones ascending.
@@ -209,36 +197,20 @@ fn log_drive(
     written: &mut [u32],
     pointers: &[u32],
     starts: &[u32],
-    value: &mut [u8],
-    out: &mut [u8],
-    g: Geometry,
-    here: [bool; 8],
-    look: Look,
+    basis: Basis,
     drive: usize,
     budget: u64,
 ) -> u64
-    requires { ⌜ Valid g ⌝ }
-    requires { ⌜ (drive < g .drives) × (length (now value) ≡ g .sector) × (length (now out) ≡ g .sector) × Entering g here look (now pointers) (now starts) (now sectors) (now written) ⌝ }
-    ensures { λ r. ⌜ MadeAppends g budget r (onPresent (isSet here) (eachBelow (zoneEntryStores g look (shownAt g here look (now (sectors .entry)) (now (pointers .entry))) (parityEntries g (readDevice g (now (sectors .entry)) (now (starts .entry))) drive) drive) (g .zones))) (now (sectors .entry)) (now (written .entry)) (now (sectors .exit)) (now (written .exit)) ⌝ }
+    requires { ⌜ Valid (basis .geometry) ⌝ }
+    requires { ⌜ (drive < basis .geometry .drives) × Entering (basis .geometry) (basis .here) (basis .look) (now pointers) (now starts) (now sectors) (now written) ⌝ }
+    ensures { λ r. ⌜ MadeAppends (basis .geometry) budget r (onPresent (isSet (basis .here)) (eachBelow (zoneEntryStores (basis .geometry) (basis .look) (shownAt (basis .geometry) (basis .here) (basis .look) (now (sectors .entry)) (now (pointers .entry))) (parityEntries (basis .geometry) (readDevice (basis .geometry) (now (sectors .entry)) (now (starts .entry))) drive) drive) (basis .geometry .zones))) (now (sectors .entry)) (now (written .entry)) (now (sectors .exit)) (now (written .exit)) ⌝ }
 {
+    let g = basis.geometry;
     let n = g.zones;
     let mut rest = budget;
     let mut z = 0;
     while z < n {
-        rest = log_entry(
-            sectors,
-            written,
-            pointers,
-            starts,
-            value,
-            out,
-            g,
-            here,
-            look,
-            drive,
-            z,
-            rest,
-        );
+        rest = log_entry(sectors, written, pointers, starts, basis, drive, z, rest);
         z += 1;
     }
     rest
@@ -250,34 +222,19 @@ pub fn log_entries(
     written: &mut [u32],
     pointers: &[u32],
     starts: &[u32],
-    value: &mut [u8],
-    out: &mut [u8],
-    g: Geometry,
-    here: [bool; 8],
-    look: Look,
+    basis: Basis,
     budget: u64,
 ) -> u64
-    requires { ⌜ Valid g ⌝ }
-    requires { ⌜ (length (now value) ≡ g .sector) × (length (now out) ≡ g .sector) × Entering g here look (now pointers) (now starts) (now sectors) (now written) ⌝ }
-    ensures { λ r. ⌜ MadeAppends g budget r (onPresent (isSet here) (entryStoresBelow g look (shownAt g here look (now (sectors .entry)) (now (pointers .entry))) (parityEntries g (readDevice g (now (sectors .entry)) (now (starts .entry)))) (g .drives))) (now (sectors .entry)) (now (written .entry)) (now (sectors .exit)) (now (written .exit)) ⌝ }
+    requires { ⌜ Valid (basis .geometry) ⌝ }
+    requires { ⌜ Entering (basis .geometry) (basis .here) (basis .look) (now pointers) (now starts) (now sectors) (now written) ⌝ }
+    ensures { λ r. ⌜ MadeAppends (basis .geometry) budget r (onPresent (isSet (basis .here)) (entryStoresBelow (basis .geometry) (basis .look) (shownAt (basis .geometry) (basis .here) (basis .look) (now (sectors .entry)) (now (pointers .entry))) (parityEntries (basis .geometry) (readDevice (basis .geometry) (now (sectors .entry)) (now (starts .entry)))) (basis .geometry .drives))) (now (sectors .entry)) (now (written .entry)) (now (sectors .exit)) (now (written .exit)) ⌝ }
 {
+    let g = basis.geometry;
     let m = g.drives;
     let mut rest = budget;
     let mut d = 0;
     while d < m {
-        rest = log_drive(
-            sectors,
-            written,
-            pointers,
-            starts,
-            value,
-            out,
-            g,
-            here,
-            look,
-            d,
-            rest,
-        );
+        rest = log_drive(sectors, written, pointers, starts, basis, d, rest);
         d += 1;
     }
     rest

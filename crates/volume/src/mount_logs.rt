@@ -165,14 +165,13 @@ fn log_header(
     sectors: &mut [u8],
     written: &mut [u32],
     pointers: &[u32],
-    out: &mut [u8],
     basis: Basis,
     drive: usize,
     z: usize,
     budget: u64,
 ) -> u64
     requires { ⌜ Valid (basis .geometry) ⌝ }
-    requires { ⌜ (drive < basis .geometry .drives) × (z < basis .geometry .zones) × (length (now out) ≡ basis .geometry .sector) × Logging (basis .geometry) (basis .look) (now pointers) (now sectors) (now written) ⌝ }
+    requires { ⌜ (drive < basis .geometry .drives) × (z < basis .geometry .zones) × Logging (basis .geometry) (basis .look) (now pointers) (now sectors) (now written) ⌝ }
     ensures { λ r. ⌜ MadeAppends (basis .geometry) budget r (onPresent (isSet (basis .here)) (headerStores (basis .geometry) kind (basis .look) (readDevice (basis .geometry) (now (sectors .entry)) (now (pointers .entry))) drive z)) (now (sectors .entry)) (now (written .entry)) (now (sectors .exit)) (now (written .exit)) ⌝ }
 {
     let g = basis.geometry;
@@ -186,7 +185,9 @@ fn log_header(
     if !due {
         return budget;
     }
-    write_header(kind, out, g, look, drive, z);
+    let mut header = [0u8; 4096];
+    let b = g.sector;
+    write_header(kind, &mut header[..b], g, look, drive, z);
     tables::stores::append_counted(
         sectors,
         written,
@@ -194,7 +195,7 @@ fn log_header(
         true,
         drive,
         logs::GENERAL_LOG,
-        out,
+        &header[..b],
         budget,
     )
 }
@@ -205,20 +206,19 @@ fn log_drive(
     sectors: &mut [u8],
     written: &mut [u32],
     pointers: &[u32],
-    out: &mut [u8],
     basis: Basis,
     drive: usize,
     n: usize,
     budget: u64,
 ) -> u64
     requires { ⌜ Valid (basis .geometry) ⌝ }
-    requires { ⌜ (drive < basis .geometry .drives) × (n ≤ basis .geometry .zones) × (length (now out) ≡ basis .geometry .sector) × Logging (basis .geometry) (basis .look) (now pointers) (now sectors) (now written) ⌝ }
+    requires { ⌜ (drive < basis .geometry .drives) × (n ≤ basis .geometry .zones) × Logging (basis .geometry) (basis .look) (now pointers) (now sectors) (now written) ⌝ }
     ensures { λ r. ⌜ MadeAppends (basis .geometry) budget r (onPresent (isSet (basis .here)) (eachBelow (headerStores (basis .geometry) kind (basis .look) (readDevice (basis .geometry) (now (sectors .entry)) (now (pointers .entry))) drive) n)) (now (sectors .entry)) (now (written .entry)) (now (sectors .exit)) (now (written .exit)) ⌝ }
 {
     let mut rest = budget;
     let mut z = 0;
     while z < n {
-        rest = log_header(kind, sectors, written, pointers, out, basis, drive, z, rest);
+        rest = log_header(kind, sectors, written, pointers, basis, drive, z, rest);
         z += 1;
     }
     rest
@@ -230,13 +230,12 @@ pub fn log_headers(
     sectors: &mut [u8],
     written: &mut [u32],
     pointers: &[u32],
-    out: &mut [u8],
     basis: Basis,
     n: usize,
     budget: u64,
 ) -> u64
     requires { ⌜ Valid (basis .geometry) ⌝ }
-    requires { ⌜ (n ≤ basis .geometry .zones) × (length (now out) ≡ basis .geometry .sector) × Logging (basis .geometry) (basis .look) (now pointers) (now sectors) (now written) ⌝ }
+    requires { ⌜ (n ≤ basis .geometry .zones) × Logging (basis .geometry) (basis .look) (now pointers) (now sectors) (now written) ⌝ }
     ensures { λ r. ⌜ MadeAppends (basis .geometry) budget r (onPresent (isSet (basis .here)) (headerSteps (basis .geometry) kind (basis .look) (readDevice (basis .geometry) (now (sectors .entry)) (now (pointers .entry))) n (basis .geometry .drives))) (now (sectors .entry)) (now (written .entry)) (now (sectors .exit)) (now (written .exit)) ⌝ }
 {
     let g = basis.geometry;
@@ -244,7 +243,7 @@ pub fn log_headers(
     let mut rest = budget;
     let mut d = 0;
     while d < m {
-        rest = log_drive(kind, sectors, written, pointers, out, basis, d, n, rest);
+        rest = log_drive(kind, sectors, written, pointers, basis, d, n, rest);
         d += 1;
     }
     rest

@@ -47,19 +47,18 @@ fn header_step(
     written: &mut [u32],
     durable: &mut [u32],
     pointers: &[u32],
-    out: &mut [u8],
     basis: Basis,
     budget: u64,
 ) -> u64
     requires { ⌜ Valid (basis .geometry) ⌝ }
-    requires { ⌜ (length (now out) ≡ basis .geometry .sector) × Restoring (basis .geometry) (basis .here) (basis .look) (now pointers) (tablesOf (now sectors) (now written) (now durable)) ⌝ }
+    requires { ⌜ Restoring (basis .geometry) (basis .here) (basis .look) (now pointers) (tablesOf (now sectors) (now written) (now durable)) ⌝ }
     ensures { λ r. ⌜ StepMade (basis .geometry) (basis .here) (basis .look) (now (pointers .entry)) budget r (headersBy (basis .geometry) kind (basis .look))
         (tablesOf (now (sectors .entry)) (now (written .entry)) (now (durable .entry))) (tablesOf (now (sectors .exit)) (now (written .exit)) (now (durable .exit))) ⌝ }
 {
     let g = basis.geometry;
     let here = basis.here;
     let n = super::mount_logs::header_zones(kind, g);
-    let rest = log_headers(kind, sectors, written, pointers, out, basis, n, budget);
+    let rest = log_headers(kind, sectors, written, pointers, basis, n, budget);
     flush_after(written, durable, g, here, budget, rest)
 }
 
@@ -82,51 +81,37 @@ fn counter_step(
     written: &mut [u32],
     durable: &mut [u32],
     pointers: &[u32],
-    out: &mut [u8],
     basis: Basis,
     budget: u64,
 ) -> u64
     requires { ⌜ Valid (basis .geometry) ⌝ }
-    requires { ⌜ (length (now out) ≡ basis .geometry .sector) × Restoring (basis .geometry) (basis .here) (basis .look) (now pointers) (tablesOf (now sectors) (now written) (now durable)) ⌝ }
+    requires { ⌜ Restoring (basis .geometry) (basis .here) (basis .look) (now pointers) (tablesOf (now sectors) (now written) (now durable)) ⌝ }
     ensures { λ r. ⌜ StepMade (basis .geometry) (basis .here) (basis .look) (now (pointers .entry)) budget r (countersBy (basis .geometry) (basis .here) (basis .look))
         (tablesOf (now (sectors .entry)) (now (written .entry)) (now (durable .entry))) (tablesOf (now (sectors .exit)) (now (written .exit)) (now (durable .exit))) ⌝ }
 {
     let g = basis.geometry;
     let here = basis.here;
-    let rest = store_counters(sectors, written, pointers, out, basis, budget);
+    let rest = store_counters(sectors, written, pointers, basis, budget);
     flush_after(written, durable, g, here, budget, rest)
 }
 
-// 6. "Rows missing from torn entries". `value` and `out` are scratch of one sector, here and below.
+// 6. "Rows missing from torn entries".
 fn torn_row_step(
     sectors: &mut [u8],
     written: &mut [u32],
     durable: &mut [u32],
     pointers: &[u32],
-    value: &mut [u8],
-    out: &mut [u8],
     basis: Basis,
     budget: u64,
 ) -> u64
     requires { ⌜ Valid (basis .geometry) ⌝ }
-    requires { ⌜ (length (now value) ≡ basis .geometry .sector) × (length (now out) ≡ basis .geometry .sector) × Restoring (basis .geometry) (basis .here) (basis .look) (now pointers) (tablesOf (now sectors) (now written) (now durable)) ⌝ }
+    requires { ⌜ Restoring (basis .geometry) (basis .here) (basis .look) (now pointers) (tablesOf (now sectors) (now written) (now durable)) ⌝ }
     ensures { λ r. ⌜ StepMade (basis .geometry) (basis .here) (basis .look) (now (pointers .entry)) budget r (tornRowsBy (basis .geometry) (basis .here) (basis .look))
         (tablesOf (now (sectors .entry)) (now (written .entry)) (now (durable .entry))) (tablesOf (now (sectors .exit)) (now (written .exit)) (now (durable .exit))) ⌝ }
 {
     let g = basis.geometry;
     let here = basis.here;
-    let look = basis.look;
-    let rest = super::mount_torn::complete_logs(
-        sectors,
-        written,
-        pointers,
-        value,
-        out,
-        g,
-        here,
-        look,
-        budget,
-    );
+    let rest = super::mount_torn::complete_logs(sectors, written, pointers, basis, budget);
     flush_after(written, durable, g, here, budget, rest)
 }
 
@@ -136,30 +121,17 @@ fn fill_step(
     written: &mut [u32],
     durable: &mut [u32],
     pointers: &[u32],
-    value: &mut [u8],
-    out: &mut [u8],
     basis: Basis,
     budget: u64,
 ) -> u64
     requires { ⌜ Valid (basis .geometry) ⌝ }
-    requires { ⌜ (length (now value) ≡ basis .geometry .sector) × (length (now out) ≡ basis .geometry .sector) × Restoring (basis .geometry) (basis .here) (basis .look) (now pointers) (tablesOf (now sectors) (now written) (now durable)) ⌝ }
+    requires { ⌜ Restoring (basis .geometry) (basis .here) (basis .look) (now pointers) (tablesOf (now sectors) (now written) (now durable)) ⌝ }
     ensures { λ r. ⌜ StepMade (basis .geometry) (basis .here) (basis .look) (now (pointers .entry)) budget r (fillsBy (basis .geometry) (basis .here) (basis .look))
         (tablesOf (now (sectors .entry)) (now (written .entry)) (now (durable .entry))) (tablesOf (now (sectors .exit)) (now (written .exit)) (now (durable .exit))) ⌝ }
 {
     let g = basis.geometry;
     let here = basis.here;
-    let look = basis.look;
-    let rest = super::mount_fill::fill_drives(
-        sectors,
-        written,
-        pointers,
-        value,
-        out,
-        g,
-        here,
-        look,
-        budget,
-    );
+    let rest = super::mount_fill::fill_drives(sectors, written, pointers, basis, budget);
     flush_after(written, durable, g, here, budget, rest)
 }
 
@@ -171,31 +143,17 @@ fn entry_step(
     durable: &mut [u32],
     pointers: &[u32],
     starts: &[u32],
-    value: &mut [u8],
-    out: &mut [u8],
     basis: Basis,
     budget: u64,
 ) -> u64
     requires { ⌜ Valid (basis .geometry) ⌝ }
-    requires { ⌜ (length (now value) ≡ basis .geometry .sector) × (length (now out) ≡ basis .geometry .sector) × (now starts ≡ now written) × Restoring (basis .geometry) (basis .here) (basis .look) (now pointers) (tablesOf (now sectors) (now written) (now durable)) ⌝ }
+    requires { ⌜ (now starts ≡ now written) × Restoring (basis .geometry) (basis .here) (basis .look) (now pointers) (tablesOf (now sectors) (now written) (now durable)) ⌝ }
     ensures { λ r. ⌜ Made (basis .geometry) budget r (concat (withFlush (basis .geometry) (isSet (basis .here)) (entryStep (basis .geometry) (shownAt (basis .geometry) (basis .here) (basis .look) (now (sectors .entry)) (now (pointers .entry))) (deviceOf (basis .geometry) (tablesOf (now (sectors .entry)) (now (written .entry)) (now (durable .entry)))))))
         (tablesOf (now (sectors .entry)) (now (written .entry)) (now (durable .entry))) (tablesOf (now (sectors .exit)) (now (written .exit)) (now (durable .exit))) ⌝ }
 {
     let g = basis.geometry;
     let here = basis.here;
-    let look = basis.look;
-    let rest = super::mount_entries::log_entries(
-        sectors,
-        written,
-        pointers,
-        starts,
-        value,
-        out,
-        g,
-        here,
-        look,
-        budget,
-    );
+    let rest = super::mount_entries::log_entries(sectors, written, pointers, starts, basis, budget);
     flush_after(written, durable, g, here, budget, rest)
 }
 
@@ -206,45 +164,24 @@ pub fn restore_steps(
     durable: &mut [u32],
     pointers: &[u32],
     starts: &mut [u32],
-    value: &mut [u8],
-    out: &mut [u8],
     basis: Basis,
     budget: u64,
 ) -> u64
     requires { ⌜ Valid (basis .geometry) ⌝ }
-    requires { ⌜ (length (now starts) ≡ cells (basis .geometry)) × (length (now value) ≡ basis .geometry .sector) × (length (now out) ≡ basis .geometry .sector) × Restoring (basis .geometry) (basis .here) (basis .look) (now pointers) (tablesOf (now sectors) (now written) (now durable)) ⌝ }
+    requires { ⌜ (length (now starts) ≡ cells (basis .geometry)) × Restoring (basis .geometry) (basis .here) (basis .look) (now pointers) (tablesOf (now sectors) (now written) (now durable)) ⌝ }
     ensures { λ r. ⌜ Made (basis .geometry) budget r (restoreStores (basis .geometry) (basis .here) (basis .look) (now (sectors .entry)) (now (pointers .entry)) (tablesOf (now (sectors .entry)) (now (written .entry)) (now (durable .entry))))
         (tablesOf (now (sectors .entry)) (now (written .entry)) (now (durable .entry))) (tablesOf (now (sectors .exit)) (now (written .exit)) (now (durable .exit))) ⌝ }
 {
     let label = HeaderKind::Label;
-    let rest = header_step(
-        label,
-        sectors,
-        written,
-        durable,
-        pointers,
-        out,
-        basis,
-        budget,
-    );
+    let rest = header_step(label, sectors, written, durable, pointers, basis, budget);
     let reset = HeaderKind::Reset;
-    let rest = header_step(reset, sectors, written, durable, pointers, out, basis, rest);
+    let rest = header_step(reset, sectors, written, durable, pointers, basis, rest);
     let rest = zone_reset_step(written, durable, basis, rest);
-    let rest = counter_step(sectors, written, durable, pointers, out, basis, rest);
+    let rest = counter_step(sectors, written, durable, pointers, basis, rest);
     let seal = HeaderKind::Seal;
-    let rest = header_step(seal, sectors, written, durable, pointers, out, basis, rest);
-    let rest = torn_row_step(sectors, written, durable, pointers, value, out, basis, rest);
-    let rest = fill_step(sectors, written, durable, pointers, value, out, basis, rest);
+    let rest = header_step(seal, sectors, written, durable, pointers, basis, rest);
+    let rest = torn_row_step(sectors, written, durable, pointers, basis, rest);
+    let rest = fill_step(sectors, written, durable, pointers, basis, rest);
     tables::sectors::copy_pointers(starts, 0, written);
-    entry_step(
-        sectors,
-        written,
-        durable,
-        pointers,
-        starts,
-        value,
-        out,
-        basis,
-        rest,
-    )
+    entry_step(sectors, written, durable, pointers, starts, basis, rest)
 }

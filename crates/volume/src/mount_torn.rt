@@ -1,81 +1,113 @@
 // Step 6 of a mount: "rows missing from torn entries (the true rows if current and end is at or below the pointer, else zeros)". A parity log is read
 // below the pointers of the mount's look; what is missing from its torn entry goes at the written pointer.
-use super::Look;
-use super::mount_rows::Extent;
+use super::Basis;
+use super::mount_entries::EntryRows;
+use super::mount_entries::append_entry_rows;
 use logs::Found;
 use logs::WalkEnd;
 use tables::Geometry;
 ghost use mathlib.Core.Path.{_≡_};
-ghost use Prim.Native.Nat.{_+_, _-_, _*_, _≤_, _<_, min};
-ghost use lib.ListN.{length};
+ghost use mathlib.Core.Bool.{true};
+ghost use Prim.Native.Nat.{_+_, _*_, _≤_, _<_, min};
+ghost use lib.ListN.{length, replicate};
 ghost use Rattle.tables.specs.meaning.Below.{eachBelow};
-ghost use Rattle.tables.specs.meaning.Geometry.{Valid, stripeSectors, zoneSectors};
+ghost use Rattle.tables.specs.meaning.Geometry.{Valid, stripeSectors, zoneSectors, cells, totalBytes};
+ghost use Rattle.tables.specs.meaning.Device.{append};
 ghost use Rattle.tables.specs.meaning.Phases.{onPresent};
-ghost use Rattle.tables.specs.laws.Made.{MadeAppends};
+ghost use Rattle.tables.specs.laws.Made.{MadeAppends, storeIf};
 ghost use Rattle.logs.specs.meaning.Entry.{parityZone};
 ghost use Rattle.volume.specs.meaning.Calls.{appendAll};
 ghost use Rattle.volume.specs.meaning.Mount.{rowFor};
 ghost use Rattle.volume.specs.meaning.CallContracts.{isSet};
+ghost use Rattle.volume.specs.rows.RowStores.{rowsIf};
 ghost use Rattle.volume.specs.mounting.MountValues.{shownAt};
-ghost use Rattle.volume.specs.mounting.MountParityRows.{logRows};
 ghost use Rattle.volume.specs.mounting.MountRestoring.{Filling};
-ghost use Rattle.volume.specs.mounting.MountTornLogs.{missingSeen, TornFits, tornStores};
+ghost use Rattle.volume.specs.mounting.MountTornLogs.{missingSeen, TornFits, tornStores, zeroRow};
 ghost use Rattle.volume.specs.looking.Knowing.{readDevice};
 
-// The rows that are missing from an entry of zone z, stripe s, its first `fill` sectors and a generation n: it has `rows` of them.
+// A row of zeros on the parity log of a drive: what is left of the budget of stores.
+fn append_zeros(
+    sectors: &mut [u8],
+    written: &mut [u32],
+    g: Geometry,
+    drive: usize,
+    budget: u64,
+) -> u64
+    requires { ⌜ Valid g ⌝ }
+    requires { ⌜ (drive < g .drives) × (length (now sectors) ≡ totalBytes g) × (length (now written) ≡ cells g) ⌝ }
+    ensures { λ r. ⌜ MadeAppends g budget r (storeIf true (append drive parityZone (replicate (g .sector) 0))) (now (sectors .entry)) (now (written .entry)) (now (sectors .exit)) (now (written .exit)) ⌝ }
+{
+    let zeros = [0u8; 4096];
+    let b = g.sector;
+    tables::stores::append_counted(
+        sectors,
+        written,
+        g,
+        true,
+        drive,
+        logs::PARITY_LOG,
+        &zeros[..b],
+        budget,
+    )
+}
+
+// The rows of zeros from `from` on, below m.
+fn append_zero_rows(
+    sectors: &mut [u8],
+    written: &mut [u32],
+    g: Geometry,
+    drive: usize,
+    from: usize,
+    m: usize,
+    budget: u64,
+) -> u64
+    requires { ⌜ Valid g ⌝ }
+    requires { ⌜ (drive < g .drives) × (length (now sectors) ≡ totalBytes g) × (length (now written) ≡ cells g) × (from ≤ m) × (m ≤ g .unit) ⌝ }
+    ensures { λ r. ⌜ MadeAppends g budget r (rowsIf true drive parityZone (zeroRow g) from m) (now (sectors .entry)) (now (written .entry)) (now (sectors .exit)) (now (written .exit)) ⌝ }
+{
+    let mut rest = budget;
+    let mut r = from;
+    while r < m {
+        rest = append_zeros(sectors, written, g, drive, rest);
+        r += 1;
+    }
+    rest
+}
+
+// The rows that are missing from an entry of generation n.
 fn complete_rows(
     sectors: &mut [u8],
     written: &mut [u32],
     pointers: &[u32],
-    value: &mut [u8],
-    out: &mut [u8],
-    g: Geometry,
-    here: [bool; 8],
-    look: Look,
-    drive: usize,
-    z: usize,
-    s: usize,
-    fill: usize,
+    basis: Basis,
+    entry: EntryRows,
     n: u64,
-    rows: usize,
     budget: u64,
 ) -> u64
-    requires { ⌜ Valid g ⌝ }
-    requires { ⌜ (drive < g .drives) × (length (now value) ≡ g .sector) × (length (now out) ≡ g .sector) × Filling g here look (now pointers) (now sectors) (now written)
-        × (z < g .zones) × (s * stripeSectors g + fill ≤ zoneSectors g) × (rows ≤ min fill (g .unit)) ⌝ }
-    ensures { λ r. ⌜ MadeAppends g budget r (logRows drive (rowFor g (shownAt g here look (now (sectors .entry)) (now (pointers .entry)) .zone z) s fill n) rows (min fill (g .unit) - rows)) (now (sectors .entry)) (now (written .entry)) (now (sectors .exit)) (now (written .exit)) ⌝ }
+    requires { ⌜ Valid (basis .geometry) ⌝ }
+    requires { ⌜ (entry .drive < basis .geometry .drives) × (entry .zone < basis .geometry .zones) × (entry .stripe * stripeSectors (basis .geometry) + entry .fill ≤ zoneSectors (basis .geometry)) × (entry .from ≤ min (entry .fill) (basis .geometry .unit))
+        × Filling (basis .geometry) (basis .here) (basis .look) (now pointers) (now sectors) (now written) ⌝ }
+    ensures { λ r. ⌜ MadeAppends (basis .geometry) budget r (rowsIf true (entry .drive) parityZone (rowFor (basis .geometry) (shownAt (basis .geometry) (basis .here) (basis .look) (now (sectors .entry)) (now (pointers .entry)) .zone (entry .zone)) (entry .stripe) (entry .fill) n) (entry .from) (min (entry .fill) (basis .geometry .unit))) (now (sectors .entry)) (now (written .entry)) (now (sectors .exit)) (now (written .exit)) ⌝ }
 {
+    let g = basis.geometry;
+    let look = basis.look;
+    let z = entry.zone;
+    let s = entry.stripe;
+    let fill = entry.fill;
     let zones = look.zones;
     let zone = zones[z];
     let generation = zone.generation;
     let pointer = zone.pointer;
     let k = tables::bounds::stripe_sectors(g);
-    let end = s * k + fill;
-    let current = (n == generation) & (end <= pointer);
-    let limit = super::knowing::seal_limit(sectors, pointers, g, here, z, generation);
+    let current = (n == generation) & (s * k + fill <= pointer);
+    if current {
+        return append_entry_rows(sectors, written, pointers, basis, entry, budget);
+    }
+    let drive = entry.drive;
+    let from = entry.from;
     let u = g.unit;
     let m = tables::placement::min(fill, u);
-    super::mount_log_rows::append_rows(
-        sectors,
-        written,
-        pointers,
-        value,
-        out,
-        g,
-        here,
-        drive,
-        Extent {
-            zone: z,
-            generation,
-            limit,
-            end,
-        },
-        current,
-        s,
-        rows,
-        m,
-        budget,
-    )
+    append_zero_rows(sectors, written, g, drive, from, m, budget)
 }
 
 // The same by what was found; only a partial parity entry has rows.
@@ -83,20 +115,16 @@ fn complete_entry(
     sectors: &mut [u8],
     written: &mut [u32],
     pointers: &[u32],
-    value: &mut [u8],
-    out: &mut [u8],
-    g: Geometry,
-    here: [bool; 8],
-    look: Look,
+    basis: Basis,
     drive: usize,
     f: Found,
     rows: usize,
     budget: u64,
 ) -> u64
-    requires { ⌜ Valid g ⌝ }
-    requires { ⌜ (drive < g .drives) × (length (now value) ≡ g .sector) × (length (now out) ≡ g .sector) × Filling g here look (now pointers) (now sectors) (now written)
-        × TornFits g f rows ⌝ }
-    ensures { λ r. ⌜ MadeAppends g budget r (appendAll drive parityZone (missingSeen g (shownAt g here look (now (sectors .entry)) (now (pointers .entry))) f rows)) (now (sectors .entry)) (now (written .entry)) (now (sectors .exit)) (now (written .exit)) ⌝ }
+    requires { ⌜ Valid (basis .geometry) ⌝ }
+    requires { ⌜ (drive < basis .geometry .drives) × Filling (basis .geometry) (basis .here) (basis .look) (now pointers) (now sectors) (now written)
+        × TornFits (basis .geometry) f rows ⌝ }
+    ensures { λ r. ⌜ MadeAppends (basis .geometry) budget r (appendAll drive parityZone (missingSeen (basis .geometry) (shownAt (basis .geometry) (basis .here) (basis .look) (now (sectors .entry)) (now (pointers .entry))) f rows)) (now (sectors .entry)) (now (written .entry)) (now (sectors .exit)) (now (written .exit)) ⌝ }
 {
     match f {
         Found::Bad => budget,
@@ -107,17 +135,15 @@ fn complete_entry(
             sectors,
             written,
             pointers,
-            value,
-            out,
-            g,
-            here,
-            look,
-            drive,
-            z,
-            s,
-            fill,
+            basis,
+            EntryRows {
+                drive,
+                zone: z,
+                stripe: s,
+                fill,
+                from: rows,
+            },
             n,
-            rows,
             budget,
         ),
         Found::Seal(_, _, _) => budget,
@@ -129,18 +155,16 @@ fn complete_log(
     sectors: &mut [u8],
     written: &mut [u32],
     pointers: &[u32],
-    value: &mut [u8],
-    out: &mut [u8],
-    g: Geometry,
-    here: [bool; 8],
-    look: Look,
+    basis: Basis,
     drive: usize,
     budget: u64,
 ) -> u64
-    requires { ⌜ Valid g ⌝ }
-    requires { ⌜ (drive < g .drives) × (length (now value) ≡ g .sector) × (length (now out) ≡ g .sector) × Filling g here look (now pointers) (now sectors) (now written) ⌝ }
-    ensures { λ r. ⌜ MadeAppends g budget r (onPresent (isSet here) (tornStores g (shownAt g here look (now (sectors .entry)) (now (pointers .entry))) (readDevice g (now (sectors .entry)) (now (pointers .entry))) drive)) (now (sectors .entry)) (now (written .entry)) (now (sectors .exit)) (now (written .exit)) ⌝ }
+    requires { ⌜ Valid (basis .geometry) ⌝ }
+    requires { ⌜ (drive < basis .geometry .drives) × Filling (basis .geometry) (basis .here) (basis .look) (now pointers) (now sectors) (now written) ⌝ }
+    ensures { λ r. ⌜ MadeAppends (basis .geometry) budget r (onPresent (isSet (basis .here)) (tornStores (basis .geometry) (shownAt (basis .geometry) (basis .here) (basis .look) (now (sectors .entry)) (now (pointers .entry))) (readDevice (basis .geometry) (now (sectors .entry)) (now (pointers .entry))) drive)) (now (sectors .entry)) (now (written .entry)) (now (sectors .exit)) (now (written .exit)) ⌝ }
 {
+    let g = basis.geometry;
+    let here = basis.here;
     let present = here[drive];
     if !present {
         return budget;
@@ -151,20 +175,8 @@ fn complete_log(
         return budget;
     };
     let f = logs::walking::judge_at(sectors, g, drive, logs::PARITY_LOG, true, n, p);
-    complete_entry(
-        sectors,
-        written,
-        pointers,
-        value,
-        out,
-        g,
-        here,
-        look,
-        drive,
-        f,
-        n - (p + 1),
-        budget,
-    )
+    let rows = n - (p + 1);
+    complete_entry(sectors, written, pointers, basis, drive, f, rows, budget)
 }
 
 // The parity logs, drive by drive.
@@ -172,33 +184,19 @@ pub fn complete_logs(
     sectors: &mut [u8],
     written: &mut [u32],
     pointers: &[u32],
-    value: &mut [u8],
-    out: &mut [u8],
-    g: Geometry,
-    here: [bool; 8],
-    look: Look,
+    basis: Basis,
     budget: u64,
 ) -> u64
-    requires { ⌜ Valid g ⌝ }
-    requires { ⌜ (length (now value) ≡ g .sector) × (length (now out) ≡ g .sector) × Filling g here look (now pointers) (now sectors) (now written) ⌝ }
-    ensures { λ r. ⌜ MadeAppends g budget r (onPresent (isSet here) (eachBelow (tornStores g (shownAt g here look (now (sectors .entry)) (now (pointers .entry))) (readDevice g (now (sectors .entry)) (now (pointers .entry)))) (g .drives))) (now (sectors .entry)) (now (written .entry)) (now (sectors .exit)) (now (written .exit)) ⌝ }
+    requires { ⌜ Valid (basis .geometry) ⌝ }
+    requires { ⌜ Filling (basis .geometry) (basis .here) (basis .look) (now pointers) (now sectors) (now written) ⌝ }
+    ensures { λ r. ⌜ MadeAppends (basis .geometry) budget r (onPresent (isSet (basis .here)) (eachBelow (tornStores (basis .geometry) (shownAt (basis .geometry) (basis .here) (basis .look) (now (sectors .entry)) (now (pointers .entry))) (readDevice (basis .geometry) (now (sectors .entry)) (now (pointers .entry)))) (basis .geometry .drives))) (now (sectors .entry)) (now (written .entry)) (now (sectors .exit)) (now (written .exit)) ⌝ }
 {
+    let g = basis.geometry;
     let m = g.drives;
     let mut rest = budget;
     let mut d = 0;
     while d < m {
-        rest = complete_log(
-            sectors,
-            written,
-            pointers,
-            value,
-            out,
-            g,
-            here,
-            look,
-            d,
-            rest,
-        );
+        rest = complete_log(sectors, written, pointers, basis, d, rest);
         d += 1;
     }
     rest

@@ -73,8 +73,8 @@ fn shown_state(sectors: &[u8], written: &[u32], g: Geometry, here: [bool; 8]) ->
     State { lost, zones }
 }
 
-// The stores of a mount: the first flush, and the steps by the look, on scratch of their own: a copy of the look's pointers, one for step 8, and
-// two sectors. What is left of the budget.
+// The stores of a mount: the first flush, and the steps by the look, on scratch of their own: a copy of the look's pointers, and one for step 8.
+// What is left of the budget.
 fn restore(
     sectors: &mut [u8],
     written: &mut [u32],
@@ -91,11 +91,8 @@ fn restore(
     let flushed = super::flushing::flush_all(written, durable, g, here, budget);
     let look = super::looking::look_all(sectors, written, g, here);
     let n = written.len();
-    let b = g.sector;
     let mut pointers = [0u32; 152];
     let mut starts = [0u32; 152];
-    let mut value = [0u8; 4096];
-    let mut out = [0u8; 4096];
     tables::sectors::copy_pointers(&mut pointers[..n], 0, written);
     super::mount_steps::restore_steps(
         sectors,
@@ -103,8 +100,6 @@ fn restore(
         durable,
         &pointers[..n],
         &mut starts[..n],
-        &mut value[..b],
-        &mut out[..b],
         Basis {
             geometry: g,
             here,

@@ -4,24 +4,27 @@
 use super::Answer;
 use super::Condition;
 use super::State;
+use super::Zone;
+use super::checks::Sizes;
 use tables::Geometry;
 ghost use mathlib.Core.Path.{_≡_};
-ghost use mathlib.Core.Bool.{false};
-ghost use Prim.Native.Nat.{_+_, _*_, _≤_, _<_};
+ghost use mathlib.Core.Bool.{false, not};
+ghost use Prim.Native.Nat.{ℕ, _+_, _*_, _≤_, _<_};
 ghost use lib.ListN.{length};
+ghost use lib.Dec.{ltb};
 ghost use denote.Ref.{ptr};
 ghost use Rattle.tables.specs.meaning.Basics.{pick};
-ghost use Rattle.tables.specs.meaning.Below.{tabulateFrom};
+ghost use Rattle.tables.specs.meaning.Below.{countBelow, tabulateFrom};
 ghost use Rattle.tables.specs.meaning.Lists.{concat};
 ghost use Rattle.tables.specs.meaning.Geometry.{Valid, cells, totalBytes, zoneSectors};
 ghost use Rattle.tables.specs.meaning.Tables.{tablesOf};
 ghost use Rattle.volume.specs.meaning.Rules.{valueAt, sealLimit};
 ghost use Rattle.volume.specs.meaning.Refusals.{goneIn, zoneOf, offsetOf};
 ghost use Rattle.volume.specs.meaning.State.{pointerIn};
-ghost use Rattle.volume.specs.meaning.CallContracts.{isSet, recordAt, viewState, valuesOn, readNumber, readOn, peekNumber, peekOn, peekFrom, past};
+ghost use Rattle.volume.specs.meaning.CallContracts.{isSet, valuesOn, readOn, peekNumber, peekOn, peekFrom, past};
 ghost use Rattle.volume.specs.checks.ZoneChecks.{Reached, needsLog};
 ghost use Rattle.volume.specs.looking.Knowing.{Readable, readDevice, ownSector};
-ghost use Rattle.volume.specs.reading.Reading.{StateFits, zoneNumberOn, runNumber};
+ghost use Rattle.volume.specs.reading.Reading.{lateNumber};
 ghost use Rattle.volume.specs.reading.ReadingHeld.{LimitServes};
 ghost use Rattle.volume.specs.reading.Peeking.{placeNumberOn};
 
@@ -29,32 +32,20 @@ ghost use Rattle.volume.specs.reading.Peeking.{placeNumberOn};
 pub fn some_gone(
     sectors: &[u8],
     written: &[u32],
-    g: Geometry,
-    here: [bool; 8],
-    z: usize,
-    generation: u64,
+    zone: Zone,
     limit: usize,
     offset: usize,
     count: usize,
 ) -> bool
-    requires { ⌜ Valid g ⌝ }
-    requires { ⌜ Readable g here (now sectors) (now written) z × (offset + count ≤ zoneSectors g)
-        × (limit ≡ sealLimit g (isSet here) (readDevice g (now sectors) (now written)) z generation) ⌝ }
-    ensures { λ r. ⌜ r ≡ goneIn g (isSet here) (readDevice g (now (sectors .entry)) (now (written .entry))) z generation offset count ⌝ }
+    requires { ⌜ Valid (zone .geometry) ⌝ }
+    requires { ⌜ Readable (zone .geometry) (zone .here) (now sectors) (now written) (zone .number) × (offset + count ≤ zoneSectors (zone .geometry))
+        × (limit ≡ sealLimit (zone .geometry) (isSet (zone .here)) (readDevice (zone .geometry) (now sectors) (now written)) (zone .number) (zone .generation)) ⌝ }
+    ensures { λ r. ⌜ r ≡ goneIn (zone .geometry) (isSet (zone .here)) (readDevice (zone .geometry) (now (sectors .entry)) (now (written .entry))) (zone .number) (zone .generation) offset count ⌝ }
 {
     let mut gone = false;
     let mut i = 0;
     while i < count {
-        let ok = super::knowing::is_known(
-            sectors,
-            written,
-            g,
-            here,
-            z,
-            generation,
-            limit,
-            offset + i,
-        );
+        let ok = super::knowing::is_known(sectors, written, zone, limit, offset + i);
         gone = gone | !ok;
         i += 1;
     }
@@ -65,34 +56,25 @@ pub fn some_gone(
 fn is_gone(
     sectors: &[u8],
     written: &[u32],
-    g: Geometry,
-    here: [bool; 8],
-    z: usize,
-    generation: u64,
+    zone: Zone,
     pointer: usize,
     offset: usize,
     count: usize,
 ) -> bool
-    requires { ⌜ Valid g ⌝ }
-    requires { ⌜ Readable g here (now sectors) (now written) z × (offset + count ≤ zoneSectors g) × Reached g here (now written) z pointer × (offset + count ≤ pointer) ⌝ }
-    ensures { λ r. ⌜ r ≡ goneIn g (isSet here) (readDevice g (now (sectors .entry)) (now (written .entry))) z generation offset count ⌝ }
+    requires { ⌜ Valid (zone .geometry) ⌝ }
+    requires { ⌜ Readable (zone .geometry) (zone .here) (now sectors) (now written) (zone .number) × (offset + count ≤ zoneSectors (zone .geometry)) × Reached (zone .geometry) (zone .here) (now written) (zone .number) pointer × (offset + count ≤ pointer) ⌝ }
+    ensures { λ r. ⌜ r ≡ goneIn (zone .geometry) (isSet (zone .here)) (readDevice (zone .geometry) (now (sectors .entry)) (now (written .entry))) (zone .number) (zone .generation) offset count ⌝ }
 {
+    let g = zone.geometry;
+    let here = zone.here;
     let logged = super::zone_checks::needs_log(g, here, pointer, offset + count);
     if !logged {
         return false;
     }
+    let z = zone.number;
+    let generation = zone.generation;
     let limit = super::knowing::seal_limit(sectors, written, g, here, z, generation);
-    some_gone(
-        sectors,
-        written,
-        g,
-        here,
-        z,
-        generation,
-        limit,
-        offset,
-        count,
-    )
+    some_gone(sectors, written, zone, limit, offset, count)
 }
 
 // Copies a run that is held, sector after sector.
@@ -115,60 +97,43 @@ fn copy_run(sectors: &[u8], g: Geometry, z: usize, offset: usize, count: usize, 
 fn rebuild_run(
     sectors: &[u8],
     written: &[u32],
-    g: Geometry,
-    here: [bool; 8],
-    z: usize,
-    generation: u64,
+    zone: Zone,
     limit: usize,
     offset: usize,
     count: usize,
     out: &mut [u8],
 )
-    requires { ⌜ Valid g ⌝ }
-    requires { ⌜ Readable g here (now sectors) (now written) z × (offset + count ≤ zoneSectors g) × (length (now out) ≡ count * g .sector)
-        × (goneIn g (isSet here) (readDevice g (now sectors) (now written)) z generation offset count ≡ false)
-        × LimitServes g here (now sectors) (now written) z generation limit offset count ⌝ }
-    ensures { λ _. ⌜ now (out .exit) ≡ concat (tabulateFrom (valueAt g (isSet here) (readDevice g (now (sectors .entry)) (now (written .entry))) z generation) offset count) ⌝ }
+    requires { ⌜ Valid (zone .geometry) ⌝ }
+    requires { ⌜ Readable (zone .geometry) (zone .here) (now sectors) (now written) (zone .number) × (offset + count ≤ zoneSectors (zone .geometry)) × (length (now out) ≡ count * zone .geometry .sector)
+        × (goneIn (zone .geometry) (isSet (zone .here)) (readDevice (zone .geometry) (now sectors) (now written)) (zone .number) (zone .generation) offset count ≡ false)
+        × LimitServes (zone .geometry) (zone .here) (now sectors) (now written) (zone .number) (zone .generation) limit offset count ⌝ }
+    ensures { λ _. ⌜ now (out .exit) ≡ concat (tabulateFrom (valueAt (zone .geometry) (isSet (zone .here)) (readDevice (zone .geometry) (now (sectors .entry)) (now (written .entry))) (zone .number) (zone .generation)) offset count) ⌝ }
 {
+    let g = zone.geometry;
     let b = g.sector;
     let mut i = 0;
     while i < count {
         let at = i * b;
         let end = at + b;
-        super::knowing::served_value(
-            sectors,
-            written,
-            g,
-            here,
-            z,
-            generation,
-            limit,
-            offset + i,
-            &mut out[at..end],
-        );
+        super::knowing::served_value(sectors, written, zone, limit, offset + i, &mut out[at..end]);
         i += 1;
     }
 }
 
 // A limit that serves a run that ends at `end`, at or below the pointer: the zone's least current seal where the logs are needed.
-fn limit_of(
-    sectors: &[u8],
-    written: &[u32],
-    g: Geometry,
-    here: [bool; 8],
-    z: usize,
-    generation: u64,
-    pointer: usize,
-    end: usize,
-) -> usize
-    requires { ⌜ Valid g ⌝ }
-    requires { ⌜ Readable g here (now sectors) (now written) z ⌝ }
-    ensures { λ r. ⌜ r ≡ pick (needsLog g here pointer end) (sealLimit g (isSet here) (readDevice g (now (sectors .entry)) (now (written .entry))) z generation) 0 ⌝ }
+fn limit_of(sectors: &[u8], written: &[u32], zone: Zone, pointer: usize, end: usize) -> usize
+    requires { ⌜ Valid (zone .geometry) ⌝ }
+    requires { ⌜ Readable (zone .geometry) (zone .here) (now sectors) (now written) (zone .number) ⌝ }
+    ensures { λ r. ⌜ r ≡ pick (needsLog (zone .geometry) (zone .here) pointer end) (sealLimit (zone .geometry) (isSet (zone .here)) (readDevice (zone .geometry) (now (sectors .entry)) (now (written .entry))) (zone .number) (zone .generation)) 0 ⌝ }
 {
+    let g = zone.geometry;
+    let here = zone.here;
     let logged = super::zone_checks::needs_log(g, here, pointer, end);
     if !logged {
         return 0;
     }
+    let z = zone.number;
+    let generation = zone.generation;
     super::knowing::seal_limit(sectors, written, g, here, z, generation)
 }
 
@@ -176,39 +141,27 @@ fn limit_of(
 fn read_run(
     sectors: &[u8],
     written: &[u32],
-    g: Geometry,
-    here: [bool; 8],
-    z: usize,
-    generation: u64,
+    zone: Zone,
     pointer: usize,
     offset: usize,
     count: usize,
     out: &mut [u8],
 )
-    requires { ⌜ Valid g ⌝ }
-    requires { ⌜ Readable g here (now sectors) (now written) z × (offset + count ≤ zoneSectors g) × (length (now out) ≡ count * g .sector)
-        × (goneIn g (isSet here) (readDevice g (now sectors) (now written)) z generation offset count ≡ false) × Reached g here (now written) z pointer × (offset + count ≤ pointer) ⌝ }
-    ensures { λ _. ⌜ now (out .exit) ≡ valuesOn g (isSet here) (readDevice g (now (sectors .entry)) (now (written .entry))) z generation offset count ⌝ }
+    requires { ⌜ Valid (zone .geometry) ⌝ }
+    requires { ⌜ Readable (zone .geometry) (zone .here) (now sectors) (now written) (zone .number) × (offset + count ≤ zoneSectors (zone .geometry)) × (length (now out) ≡ count * zone .geometry .sector)
+        × (goneIn (zone .geometry) (isSet (zone .here)) (readDevice (zone .geometry) (now sectors) (now written)) (zone .number) (zone .generation) offset count ≡ false) × Reached (zone .geometry) (zone .here) (now written) (zone .number) pointer × (offset + count ≤ pointer) ⌝ }
+    ensures { λ _. ⌜ now (out .exit) ≡ valuesOn (zone .geometry) (isSet (zone .here)) (readDevice (zone .geometry) (now (sectors .entry)) (now (written .entry))) (zone .number) (zone .generation) offset count ⌝ }
 {
+    let g = zone.geometry;
+    let here = zone.here;
+    let z = zone.number;
     let absent = super::checks::count_absent(g, here);
     if absent == 0 {
         copy_run(sectors, g, z, offset, count, out);
         return;
     }
-    let end = offset + count;
-    let limit = limit_of(sectors, written, g, here, z, generation, pointer, end);
-    rebuild_run(
-        sectors,
-        written,
-        g,
-        here,
-        z,
-        generation,
-        limit,
-        offset,
-        count,
-        out,
-    );
+    let limit = limit_of(sectors, written, zone, pointer, offset + count);
+    rebuild_run(sectors, written, zone, limit, offset, count, out);
 }
 
 // The zone of an address.
@@ -229,107 +182,40 @@ pub fn offset_of(g: Geometry, address: u64) -> usize
     (address % size) as usize
 }
 
-// Refusals 7 and 8 of a zone; 0 if neither applies.
-fn zone_refusal(written: &[u32], g: Geometry, here: [bool; 8], state: State, z: usize) -> u8
-    requires { ⌜ Valid g ⌝ }
-    requires { ⌜ StateFits g state × (length (now written) ≡ cells g) ⌝ }
-    ensures { λ r. ⌜ r ≡ zoneNumberOn g here (now (written .entry)) state z ⌝ }
+// Refusals 7, 9, 13 and 15 of a run in a zone that exists; 0 if none applies.
+fn run_refusal(
+    sectors: &[u8],
+    written: &[u32],
+    zone: Zone,
+    c: Condition,
+    offset: usize,
+    count: usize,
+) -> u8
+    requires { ⌜ Valid (zone .geometry) ⌝ }
+    requires { ⌜ Readable (zone .geometry) (zone .here) (now sectors) (now written) (zone .number) × (pointerIn c ≤ zoneSectors (zone .geometry)) × (ltb 1 (countBelow (λ (d : ℕ). not (isSet (zone .here) d)) (zone .geometry .drives)) ≡ false) × (offset ≤ zoneSectors (zone .geometry)) × (count ≤ 4294967295) ⌝ }
+    ensures { λ r. ⌜ r ≡ lateNumber (zone .geometry) (zone .here) (now (sectors .entry)) (now (written .entry)) c (zone .generation) (zone .number) offset count ⌝ }
 {
-    let l = g.zones;
-    if l <= z {
-        return 8;
-    }
-    let zones = state.zones;
-    let record = zones[z];
-    let c = record.condition;
+    let g = zone.geometry;
+    let here = zone.here;
+    let z = zone.number;
     let stale = super::zone_checks::is_stale(written, g, here, c, z);
     if stale {
         return 7;
     }
-    0
-}
-
-// Refusals 9, 13 and 15 of a run in a zone that exists and is not stale; 0 if none applies.
-fn run_refusal(
-    sectors: &[u8],
-    written: &[u32],
-    g: Geometry,
-    here: [bool; 8],
-    state: State,
-    z: usize,
-    offset: usize,
-    count: usize,
-) -> u8
-    requires { ⌜ Valid g ⌝ }
-    requires { ⌜ Readable g here (now sectors) (now written) z × (offset ≤ zoneSectors g) × (count ≤ 4294967295) × Reached g here (now written) z (pointerIn (recordAt state z .condition)) ⌝ }
-    ensures { λ r. ⌜ r ≡ runNumber g (isSet here) (readDevice g (now (sectors .entry)) (now (written .entry))) (viewState state) z offset count ⌝ }
-{
     let most = tables::bounds::zone_sectors(g);
     let end = offset + count;
     if (count == 0) | (most < end) {
         return 9;
     }
-    let zones = state.zones;
-    let record = zones[z];
-    let c = record.condition;
     let pointer = super::checks::pointer_of(c);
     if pointer < end {
         return 13;
     }
-    let generation = record.generation;
-    let gone = is_gone(
-        sectors,
-        written,
-        g,
-        here,
-        z,
-        generation,
-        pointer,
-        offset,
-        count,
-    );
+    let gone = is_gone(sectors, written, zone, pointer, offset, count);
     if gone {
         return 15;
     }
     0
-}
-
-// The number of a read's refusal; 0 if it is accepted.
-pub fn read_refusal(
-    sectors: &[u8],
-    written: &[u32],
-    durable: &[u32],
-    g: Geometry,
-    named: [bool; 8],
-    state: State,
-    address: u64,
-    count: u32,
-    bytes: usize,
-) -> u8
-    ensures { λ r. ⌜ r ≡ readNumber g named state address count bytes (tablesOf (now (sectors .entry)) (now (written .entry)) (now (durable .entry))) ⌝ }
-{
-    let first = super::checks::opening(
-        sectors.len(),
-        written,
-        durable,
-        g,
-        named,
-        state,
-        count as u64,
-        bytes,
-    );
-    if first != 0 {
-        return first;
-    }
-    let lost = state.lost;
-    let here = super::checks::present_drives(g, named, lost);
-    let z = zone_of(g, address);
-    let second = zone_refusal(written, g, here, state, z);
-    if second != 0 {
-        return second;
-    }
-    let offset = offset_of(g, address);
-    run_refusal(sectors, written, g, here, state, z, offset, count as usize)
 }
 
 // The call. A refused read leaves the buffer as it was.
@@ -347,60 +233,58 @@ pub fn read(
     ensures { λ r. ⌜ (r ≡ readOn g named state address count (now (out .entry)) (tablesOf (now (sectors .entry)) (now (written .entry)) (now (durable .entry))) .answer)
         × (now (out .exit) ≡ readOn g named state address count (now (out .entry)) (tablesOf (now (sectors .entry)) (now (written .entry)) (now (durable .entry))) .buffer) ⌝ }
 {
-    let refusal = read_refusal(
-        sectors,
-        written,
-        durable,
-        g,
-        named,
-        state,
-        address,
-        count,
-        out.len(),
-    );
-    if refusal != 0 {
-        return Answer::Refused(refusal);
-    }
+    let within = super::checks::input_within(g, state);
     let lost = state.lost;
-    let here = super::checks::present_drives(g, named, lost);
+    let sizes = Sizes {
+        sectors: sectors.len(),
+        count: count as u64,
+        bytes: out.len(),
+    };
+    let first = super::checks::opening(within, sizes, written, durable, g, named, lost);
+    if first != 0 {
+        return Answer::Refused(first);
+    }
     let z = zone_of(g, address);
-    let offset = offset_of(g, address);
-    let zones = state.zones;
-    let record = zones[z];
-    let generation = record.generation;
+    let zones = g.zones;
+    if zones <= z {
+        return Answer::Refused(8);
+    }
+    let record = state.zones[z];
     let c = record.condition;
-    let pointer = super::checks::pointer_of(c);
-    read_run(
-        sectors,
-        written,
-        g,
+    let here = super::checks::present_drives(g, named, lost);
+    let zone = Zone {
+        geometry: g,
         here,
-        z,
-        generation,
-        pointer,
-        offset,
-        count as usize,
-        out,
-    );
+        number: z,
+        generation: record.generation,
+    };
+    let offset = offset_of(g, address);
+    let late = run_refusal(sectors, written, zone, c, offset, count as usize);
+    if late != 0 {
+        return Answer::Refused(late);
+    }
+    let pointer = super::checks::pointer_of(c);
+    read_run(sectors, written, zone, pointer, offset, count as usize, out);
     Answer::Finished
 }
 
-// Refusals 13 and 15 of a peek in a zone that exists and is not stale; 0 if neither applies.
+// Refusals 7, 13 and 15 of a peek in a zone that exists; 0 if none applies.
 fn place_refusal(
     written: &[u32],
     g: Geometry,
     here: [bool; 8],
-    state: State,
+    c: Condition,
     z: usize,
     offset: usize,
 ) -> u8
     requires { ⌜ Valid g ⌝ }
-    requires { ⌜ (z < g .zones) × (length (now written) ≡ cells g) × (offset < zoneSectors g) ⌝ }
-    ensures { λ r. ⌜ r ≡ placeNumberOn g here (now (written .entry)) state z offset ⌝ }
+    requires { ⌜ (z < g .zones) × (length (now written) ≡ cells g) × (pointerIn c ≤ zoneSectors g) × (offset < zoneSectors g) ⌝ }
+    ensures { λ r. ⌜ r ≡ placeNumberOn g here (now (written .entry)) c z offset ⌝ }
 {
-    let zones = state.zones;
-    let record = zones[z];
-    let c = record.condition;
+    let stale = super::zone_checks::is_stale(written, g, here, c, z);
+    if stale {
+        return 7;
+    }
     let pointer = super::checks::pointer_of(c);
     if pointer < offset + 1 {
         return 13;
@@ -424,19 +308,27 @@ pub fn peek_refusal(
 ) -> u8
     ensures { λ r. ⌜ r ≡ peekNumber g named state address (tablesOf (now (sectors .entry)) (now (written .entry)) (now (durable .entry))) ⌝ }
 {
-    let first = super::checks::opening(sectors.len(), written, durable, g, named, state, 0, 0);
+    let within = super::checks::input_within(g, state);
+    let lost = state.lost;
+    let sizes = Sizes {
+        sectors: sectors.len(),
+        count: 0,
+        bytes: 0,
+    };
+    let first = super::checks::opening(within, sizes, written, durable, g, named, lost);
     if first != 0 {
         return first;
     }
-    let lost = state.lost;
-    let here = super::checks::present_drives(g, named, lost);
     let z = zone_of(g, address);
-    let second = zone_refusal(written, g, here, state, z);
-    if second != 0 {
-        return second;
+    let zones = g.zones;
+    if zones <= z {
+        return 8;
     }
+    let record = state.zones[z];
+    let c = record.condition;
+    let here = super::checks::present_drives(g, named, lost);
     let offset = offset_of(g, address);
-    place_refusal(written, g, here, state, z, offset)
+    place_refusal(written, g, here, c, z, offset)
 }
 
 // The part of the lent sectors where a held sector sits, without copying; an empty part where the peek is refused.

@@ -4,6 +4,7 @@ use super::Condition;
 use super::Outcome;
 use super::State;
 use super::ZoneRecord;
+use super::checks::Sizes;
 use tables::Geometry;
 ghost use mathlib.Core.Path.{_≡_};
 ghost use mathlib.Core.Bool.{true};
@@ -61,11 +62,17 @@ fn reset_refusal(
 ) -> u8
     ensures { λ r. ⌜ r ≡ resetNumber g named state z sectors (now (written .entry)) (now (durable .entry)) ⌝ }
 {
-    let first = super::checks::opening(sectors, written, durable, g, named, state, 0, 0);
+    let within = super::checks::input_within(g, state);
+    let lost = state.lost;
+    let sizes = Sizes {
+        sectors,
+        count: 0,
+        bytes: 0,
+    };
+    let first = super::checks::opening(within, sizes, written, durable, g, named, lost);
     if first != 0 {
         return first;
     }
-    let lost = state.lost;
     let here = super::checks::present_drives(g, named, lost);
     zone_refusal(written, g, here, state, z)
 }
@@ -129,8 +136,8 @@ fn reset_zones(
     rest
 }
 
-// The fourth phase: the counters on every drive that is here.
-fn log_counters(
+// The fourth phase, and a step of a mount: the counters on every drive that is here.
+pub fn log_counters(
     sectors: &mut [u8],
     written: &mut [u32],
     g: Geometry,

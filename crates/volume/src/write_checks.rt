@@ -1,5 +1,6 @@
 // Refusals 7 to 15 of a write. No store is made before the last of them has passed.
 use super::Condition;
+use super::Zone;
 use tables::Geometry;
 ghost use mathlib.Core.Path.{_≡_};
 ghost use Prim.Native.Nat.{_+_, _≤_, _<_};
@@ -76,19 +77,14 @@ fn log_full(written: &[u32], g: Geometry, here: [bool; 8], z: usize, end: usize)
 }
 
 // Refusal 15: whether the stripe's parity drive is here and one of the stripe's earlier sectors is not known.
-fn gone_before(
-    sectors: &[u8],
-    written: &[u32],
-    g: Geometry,
-    here: [bool; 8],
-    z: usize,
-    generation: u64,
-    n: usize,
-) -> bool
-    requires { ⌜ Valid g ⌝ }
-    requires { ⌜ Readable g here (now sectors) (now written) z × (n ≤ zoneSectors g) ⌝ }
-    ensures { λ r. ⌜ r ≡ goneBefore g (isSet here) (readDevice g (now (sectors .entry)) (now (written .entry))) z generation n ⌝ }
+fn gone_before(sectors: &[u8], written: &[u32], zone: Zone, n: usize) -> bool
+    requires { ⌜ Valid (zone .geometry) ⌝ }
+    requires { ⌜ Readable (zone .geometry) (zone .here) (now sectors) (now written) (zone .number) × (n ≤ zoneSectors (zone .geometry)) ⌝ }
+    ensures { λ r. ⌜ r ≡ goneBefore (zone .geometry) (isSet (zone .here)) (readDevice (zone .geometry) (now (sectors .entry)) (now (written .entry))) (zone .number) (zone .generation) n ⌝ }
 {
+    let g = zone.geometry;
+    let here = zone.here;
+    let z = zone.number;
     let k = tables::bounds::stripe_sectors(g);
     let s = n / k;
     let d = g.drives;
@@ -102,37 +98,28 @@ fn gone_before(
     if held {
         return false;
     }
+    let generation = zone.generation;
     let limit = super::knowing::seal_limit(sectors, written, g, here, z, generation);
-    super::reading::some_gone(
-        sectors,
-        written,
-        g,
-        here,
-        z,
-        generation,
-        limit,
-        start,
-        n - start,
-    )
+    super::reading::some_gone(sectors, written, zone, limit, start, n - start)
 }
 
 // Refusals 7 and 9 to 15 of a write to a zone that there is; 0 if none applies.
 pub fn zone_refusal(
     sectors: &[u8],
     written: &[u32],
-    g: Geometry,
-    here: [bool; 8],
+    zone: Zone,
     c: Condition,
-    generation: u64,
-    z: usize,
     offset: usize,
     count: usize,
 ) -> u8
-    requires { ⌜ Valid g ⌝ }
-    requires { ⌜ Readable g here (now sectors) (now written) z × (pointerIn c ≤ zoneSectors g) ⌝ }
-    requires { ⌜ (offset < zoneSectors g) × (count < 4294967296) ⌝ }
-    ensures { λ r. ⌜ r ≡ zoneNumber g (isSet here) (now (sectors .entry)) (now (written .entry)) c generation z offset count ⌝ }
+    requires { ⌜ Valid (zone .geometry) ⌝ }
+    requires { ⌜ Readable (zone .geometry) (zone .here) (now sectors) (now written) (zone .number) × (pointerIn c ≤ zoneSectors (zone .geometry)) ⌝ }
+    requires { ⌜ (offset < zoneSectors (zone .geometry)) × (count < 4294967296) ⌝ }
+    ensures { λ r. ⌜ r ≡ zoneNumber (zone .geometry) (isSet (zone .here)) (now (sectors .entry)) (now (written .entry)) c (zone .generation) (zone .number) offset count ⌝ }
 {
+    let g = zone.geometry;
+    let here = zone.here;
+    let z = zone.number;
     let stale = super::zone_checks::is_stale(written, g, here, c, z);
     if stale {
         return 7;
@@ -145,7 +132,7 @@ pub fn zone_refusal(
     if full {
         return 14;
     }
-    let gone = gone_before(sectors, written, g, here, z, generation, offset);
+    let gone = gone_before(sectors, written, zone, offset);
     if gone {
         return 15;
     }

@@ -1,42 +1,57 @@
 // The stores of a write: sector by sector in the order of their addresses, the parity of each stripe that becomes complete, and one partial parity
-// entry if it ends inside a stripe. Stores to a drive that is not here are skipped.
+// entry if it ends inside a stripe. Stores to a drive that is not here are skipped. Rows are built where they will lie: from the write's buffer, and
+// where the write begins inside a stripe from that stripe's earlier sectors, read below a copy of the written pointers of its start.
+use super::Zone;
+use super::rows::Extent;
+use super::rows::Target;
 use tables::Geometry;
+use tables::stores;
 ghost use mathlib.Core.Path.{_≡_};
-ghost use Prim.Native.Nat.{_+_, _*_, _≤_, _<_};
+ghost use mathlib.Core.List.{[]};
+ghost use Prim.Native.Nat.{_+_, _-_, _*_, _≤_, _<_};
 ghost use lib.ListN.{length};
-ghost use Rattle.tables.specs.meaning.Geometry.{Valid, zoneSectors, stripeSectors, cells, totalBytes};
-ghost use Rattle.tables.specs.meaning.Phases.{onPresent};
-ghost use Rattle.tables.specs.laws.Made.{MadeAppends, storeIf};
-ghost use Rattle.volume.specs.meaning.CallContracts.{isSet};
 ghost use Rattle.tables.specs.meaning.Basics.{pick};
 ghost use Rattle.tables.specs.meaning.Device.{append};
+ghost use Rattle.tables.specs.meaning.Geometry.{Valid, zoneSectors, stripeSectors, cells, totalBytes};
+ghost use Rattle.tables.specs.meaning.Phases.{onPresent};
+ghost use Rattle.tables.specs.meaning.Placement.{stripeOf};
+ghost use Rattle.tables.specs.laws.Made.{MadeAppends, storeIf};
 ghost use Rattle.logs.specs.meaning.Entry.{parityZone, encode, partialParity};
-ghost use Rattle.volume.specs.meaning.Content.{insideStripe};
-ghost use mathlib.Core.List.{[]};
-ghost use Rattle.volume.specs.writing.ParityBuffer.{entryOf, withSector, addressStores, rowsAt, runOf, WriteSized};
+ghost use Rattle.volume.specs.meaning.Content.{insideStripe, fillOf};
+ghost use Rattle.volume.specs.meaning.Rules.{sealLimit};
+ghost use Rattle.volume.specs.meaning.Calls.{sectorStores, dataStores, entryStores, writeWith};
+ghost use Rattle.volume.specs.meaning.Answers.{sectorsIn};
+ghost use Rattle.volume.specs.meaning.CallContracts.{isSet};
+ghost use Rattle.volume.specs.looking.Knowing.{Readable, readDevice, allHeld};
+ghost use Rattle.volume.specs.rows.RowsInPlace.{contentOf};
+ghost use Rattle.volume.specs.writing.WriteStores.{WriteReady, Writing, runContent};
 
 // One address: its sector, and the stripe's parity if it is the last of its stripe. What is left of the budget of stores.
 fn write_sector(
     sectors: &mut [u8],
     written: &mut [u32],
-    rows: &mut [u8],
-    g: Geometry,
-    here: [bool; 8],
-    z: usize,
+    pointers: &[u32],
+    buffer: &[u8],
+    known: Extent,
     a: usize,
-    src: &[u8],
     budget: u64,
 ) -> u64
-    requires { ⌜ Valid g ⌝ }
-    requires { ⌜ WriteSized g z (now sectors) (now written) (now rows) ⌝ }
-    requires { ⌜ (a < zoneSectors g) × (length (now src) ≡ g .sector) ⌝ }
-    ensures { λ r. ⌜ MadeAppends g budget r (onPresent (isSet here) (addressStores g z a (now (src .entry)) (now (rows .entry)))) (now (sectors .entry)) (now (written .entry)) (now (sectors .exit)) (now (written .exit))
-        × (now (rows .exit) ≡ withSector g a (now (src .entry)) (now (rows .entry))) ⌝ }
+    requires { ⌜ Valid (known .geometry) ⌝ }
+    requires { ⌜ Writing known (now sectors) (now written) (now pointers) (now buffer) × (known .below ≤ a) × (a < known .end) ⌝ }
+    ensures { λ r. ⌜ MadeAppends (known .geometry) budget r (onPresent (isSet (known .here)) (sectorStores (known .geometry .drives) (known .geometry .unit) (known .zone) (contentOf known (readDevice (known .geometry) (now (sectors .entry)) (now (pointers .entry))) (now (buffer .entry))) a))
+        (now (sectors .entry)) (now (written .entry)) (now (sectors .exit)) (now (written .exit)) ⌝ }
 {
+    let g = known.geometry;
+    let here = known.here;
+    let z = known.zone;
+    let below = known.below;
     let zone = tables::DATA_ZONES + z;
     let d = tables::placement::drive_of(g, z, a);
-    let rest = tables::stores::append_counted(sectors, written, g, here[d], d, zone, src, budget);
-    super::write_rows::add_sector(rows, g, a, src);
+    let b = g.sector;
+    let at = (a - below) * b;
+    let end = at + b;
+    let due = here[d];
+    let rest = stores::append_counted(sectors, written, g, due, d, zone, &buffer[at..end], budget);
     let k = tables::bounds::stripe_sectors(g);
     if a % k + 1 < k {
         return rest;
@@ -44,51 +59,50 @@ fn write_sector(
     let n = g.drives;
     let u = g.unit;
     let p = tables::placement::parity_drive(n, z, a / k);
-    super::write_rows::store_rows(sectors, written, g, here, p, zone, rows, u, rest)
+    let target = Target {
+        drive: p,
+        zone,
+        present: here[p],
+    };
+    super::rows::append_rows(
+        sectors,
+        written,
+        pointers,
+        buffer,
+        known,
+        target,
+        a / k,
+        0,
+        u,
+        rest,
+    )
 }
 
-// The sectors of the data, from an address on.
-pub fn write_run(
+// The addresses from `below` to the end.
+fn write_run(
     sectors: &mut [u8],
     written: &mut [u32],
-    rows: &mut [u8],
-    g: Geometry,
-    here: [bool; 8],
-    z: usize,
-    from: usize,
-    count: usize,
+    pointers: &[u32],
     buffer: &[u8],
+    known: Extent,
     budget: u64,
 ) -> u64
-    requires { ⌜ Valid g ⌝ }
-    requires { ⌜ WriteSized g z (now sectors) (now written) (now rows) ⌝ }
-    requires { ⌜ (from + count ≤ zoneSectors g) × (length (now buffer) ≡ count * g .sector) ⌝ }
-    ensures { λ r. ⌜ MadeAppends g budget r (onPresent (isSet here) (runOf g z from (now (buffer .entry)) (now (rows .entry)) count)) (now (sectors .entry)) (now (written .entry)) (now (sectors .exit)) (now (written .exit))
-        × (now (rows .exit) ≡ rowsAt g from (now (buffer .entry)) (now (rows .entry)) count) ⌝ }
+    requires { ⌜ Valid (known .geometry) ⌝ }
+    requires { ⌜ Writing known (now sectors) (now written) (now pointers) (now buffer) ⌝ }
+    ensures { λ r. ⌜ MadeAppends (known .geometry) budget r (onPresent (isSet (known .here)) (dataStores (known .geometry .drives) (known .geometry .unit) (known .zone) (contentOf known (readDevice (known .geometry) (now (sectors .entry)) (now (pointers .entry))) (now (buffer .entry))) (known .below) (known .end - known .below)))
+        (now (sectors .entry)) (now (written .entry)) (now (sectors .exit)) (now (written .exit)) ⌝ }
 {
-    let b = g.sector;
+    let end = known.end;
     let mut rest = budget;
-    let mut i = 0;
-    while i < count {
-        let at = i * b;
-        let end = at + b;
-        rest = write_sector(
-            sectors,
-            written,
-            rows,
-            g,
-            here,
-            z,
-            from + i,
-            &buffer[at..end],
-            rest,
-        );
-        i += 1;
+    let mut a = known.below;
+    while a < end {
+        rest = write_sector(sectors, written, pointers, buffer, known, a, rest);
+        a += 1;
     }
     rest
 }
 
-// The header of a partial parity entry, on the parity log of a drive: stripe s, its first `fill` sectors.
+// The header of a partial parity entry, on the parity log of a drive: stripe s, its first `fill` sectors. It is written where it will lie.
 pub fn append_partial(
     sectors: &mut [u8],
     written: &mut [u32],
@@ -105,38 +119,37 @@ pub fn append_partial(
     requires { ⌜ (drive < g .drives) × (z < g .zones) × (s * stripeSectors g + fill ≤ zoneSectors g) × (length (now sectors) ≡ totalBytes g) × (length (now written) ≡ cells g) ⌝ }
     ensures { λ r. ⌜ MadeAppends g budget r (storeIf present (append drive parityZone (encode g drive (partialParity z s fill generation)))) (now (sectors .entry)) (now (written .entry)) (now (sectors .exit)) (now (written .exit)) ⌝ }
 {
-    let mut header = [0u8; 4096];
+    let made = stores::append_due(written, g, present, drive, logs::PARITY_LOG, budget);
+    if !made {
+        return stores::left_after(present, budget);
+    }
+    let from = stores::next_byte(written, g, drive, logs::PARITY_LOG);
     let b = g.sector;
-    logs::headers::write_partial(&mut header[..b], g, drive, z, s, fill, generation);
-    tables::stores::append_counted(
-        sectors,
-        written,
-        g,
-        present,
-        drive,
-        logs::PARITY_LOG,
-        &header[..b],
-        budget,
-    )
+    let end = from + b;
+    logs::headers::write_partial(&mut sectors[from..end], g, drive, z, s, fill, generation);
+    stores::advance(written, g, drive, logs::PARITY_LOG);
+    stores::left_after(present, budget)
 }
 
-// If the pointer `end` lies inside a stripe: the partial parity entry that ends there, its header and then its rows, on the stripe's parity drive.
-pub fn write_entry(
+// If the end lies inside a stripe: the partial parity entry that ends there, its header and then its rows, on the stripe's parity drive.
+fn write_entry(
     sectors: &mut [u8],
     written: &mut [u32],
-    g: Geometry,
-    here: [bool; 8],
-    z: usize,
-    generation: u64,
-    end: usize,
-    rows: &[u8],
+    pointers: &[u32],
+    buffer: &[u8],
+    known: Extent,
     budget: u64,
 ) -> u64
-    requires { ⌜ Valid g ⌝ }
-    requires { ⌜ WriteSized g z (now sectors) (now written) (now rows) ⌝ }
-    requires { ⌜ end ≤ zoneSectors g ⌝ }
-    ensures { λ r. ⌜ MadeAppends g budget r (onPresent (isSet here) (pick (insideStripe g end) (entryOf g z generation (now (rows .entry)) end) [])) (now (sectors .entry)) (now (written .entry)) (now (sectors .exit)) (now (written .exit)) ⌝ }
+    requires { ⌜ Valid (known .geometry) ⌝ }
+    requires { ⌜ Writing known (now sectors) (now written) (now pointers) (now buffer) ⌝ }
+    ensures { λ r. ⌜ MadeAppends (known .geometry) budget r (onPresent (isSet (known .here)) (pick (insideStripe (known .geometry) (known .end)) (entryStores (known .geometry) (known .zone) (known .generation) (contentOf known (readDevice (known .geometry) (now (sectors .entry)) (now (pointers .entry))) (now (buffer .entry))) (known .end)) []))
+        (now (sectors .entry)) (now (written .entry)) (now (sectors .exit)) (now (written .exit)) ⌝ }
 {
+    let g = known.geometry;
+    let here = known.here;
+    let z = known.zone;
+    let generation = known.generation;
+    let end = known.end;
     let k = tables::bounds::stripe_sectors(g);
     let s = end / k;
     let start = s * k;
@@ -147,28 +160,101 @@ pub fn write_entry(
     let n = g.drives;
     let u = g.unit;
     let p = tables::placement::parity_drive(n, z, s);
-    let rest = append_partial(
-        sectors,
-        written,
-        g,
-        here[p],
-        p,
-        z,
-        s,
-        fill,
-        generation,
-        budget,
-    );
+    let due = here[p];
+    let rest = append_partial(sectors, written, g, due, p, z, s, fill, generation, budget);
     let m = tables::placement::min(fill, u);
-    super::write_rows::store_rows(
+    let target = Target {
+        drive: p,
+        zone: logs::PARITY_LOG,
+        present: due,
+    };
+    super::rows::append_rows(
         sectors,
         written,
-        g,
-        here,
-        p,
-        logs::PARITY_LOG,
-        rows,
+        pointers,
+        buffer,
+        known,
+        target,
+        s,
+        0,
         m,
         rest,
+    )
+}
+
+// The whole write: its sectors, and the entry.
+fn write_extent(
+    sectors: &mut [u8],
+    written: &mut [u32],
+    pointers: &[u32],
+    buffer: &[u8],
+    known: Extent,
+    budget: u64,
+) -> u64
+    requires { ⌜ Valid (known .geometry) ⌝ }
+    requires { ⌜ Writing known (now sectors) (now written) (now pointers) (now buffer) ⌝ }
+    ensures { λ r. ⌜ MadeAppends (known .geometry) budget r (onPresent (isSet (known .here)) (writeWith (known .geometry) (known .zone) (known .generation) (contentOf known (readDevice (known .geometry) (now (sectors .entry)) (now (pointers .entry))) (now (buffer .entry))) (known .below) (known .end - known .below)))
+        (now (sectors .entry)) (now (written .entry)) (now (sectors .exit)) (now (written .exit)) ⌝ }
+{
+    let rest = write_run(sectors, written, pointers, buffer, known, budget);
+    write_entry(sectors, written, pointers, buffer, known, rest)
+}
+
+// The least current seal of a zone, where an earlier sector of pointer n's stripe is not held. Where all are held no log is walked: a write's time does
+// not grow with what the logs hold.
+fn earlier_limit(sectors: &[u8], written: &[u32], zone: Zone, n: usize) -> usize
+    requires { ⌜ Valid (zone .geometry) ⌝ }
+    requires { ⌜ Readable (zone .geometry) (zone .here) (now sectors) (now written) (zone .number) × (n ≤ zoneSectors (zone .geometry)) ⌝ }
+    ensures { λ r. ⌜ r ≡ pick (allHeld (zone .geometry) (zone .here) (now (written .entry)) (zone .number) (stripeOf (zone .geometry .drives) (zone .geometry .unit) n * stripeSectors (zone .geometry)) (fillOf (zone .geometry) n)) 0
+        (sealLimit (zone .geometry) (isSet (zone .here)) (readDevice (zone .geometry) (now (sectors .entry)) (now (written .entry))) (zone .number) (zone .generation)) ⌝ }
+{
+    let g = zone.geometry;
+    let here = zone.here;
+    let z = zone.number;
+    let k = tables::bounds::stripe_sectors(g);
+    let start = n / k * k;
+    let held = super::knowing::all_held(written, g, here, z, start, n - start);
+    if held {
+        return 0;
+    }
+    let generation = zone.generation;
+    super::knowing::seal_limit(sectors, written, g, here, z, generation)
+}
+
+// The stores of a write of `count` sectors from pointer n of a zone, as far as the budget of stores goes: what is left of it.
+pub fn write_all(
+    sectors: &mut [u8],
+    written: &mut [u32],
+    zone: Zone,
+    n: usize,
+    count: usize,
+    buffer: &[u8],
+    budget: u64,
+) -> u64
+    requires { ⌜ Valid (zone .geometry) ⌝ }
+    requires { ⌜ WriteReady (zone .geometry) (zone .here) (now sectors) (now written) (zone .number) (zone .generation) n count (now buffer) ⌝ }
+    ensures { λ r. ⌜ MadeAppends (zone .geometry) budget r (onPresent (isSet (zone .here)) (writeWith (zone .geometry) (zone .number) (zone .generation) (runContent (zone .geometry) (isSet (zone .here)) (readDevice (zone .geometry) (now (sectors .entry)) (now (written .entry))) (zone .number) (zone .generation) n (sectorsIn (zone .geometry) count (now (buffer .entry)))) n count)) (now (sectors .entry)) (now (written .entry)) (now (sectors .exit)) (now (written .exit)) ⌝ }
+{
+    let limit = earlier_limit(sectors, written, zone, n);
+    let g = zone.geometry;
+    let here = zone.here;
+    let cells = written.len();
+    let mut pointers = [0u32; 152];
+    tables::sectors::copy_pointers(&mut pointers[..cells], 0, written);
+    write_extent(
+        sectors,
+        written,
+        &pointers[..cells],
+        buffer,
+        Extent {
+            geometry: g,
+            here,
+            zone: zone.number,
+            generation: zone.generation,
+            limit,
+            below: n,
+            end: n + count,
+        },
+        budget,
     )
 }

@@ -1,5 +1,6 @@
 // What a look shows of one zone: rules 2, 3, 5 and 6.
 use super::Condition;
+use super::Zone;
 use super::ZoneLook;
 use logs::Query;
 use tables::Geometry;
@@ -98,24 +99,19 @@ fn is_told(query: Query, sectors: &[u8], written: &[u32], g: Geometry, here: [bo
 }
 
 // Rule 6, of one drive: it has no more sectors than pointer q needs, and no current partial parity entry, whole or torn, that ends past it.
-fn drive_clean(
-    sectors: &[u8],
-    written: &[u32],
-    g: Geometry,
-    here: [bool; 8],
-    d: usize,
-    z: usize,
-    generation: u64,
-    q: usize,
-) -> bool
-    requires { ⌜ Valid g ⌝ }
-    requires { ⌜ Sized g (now sectors) (now written) × (d < g .drives) × (z < g .zones) × (q ≤ zoneSectors g) ⌝ }
-    ensures { λ r. ⌜ r ≡ driveClean g (isSet here) (readDevice g (now (sectors .entry)) (now (written .entry))) z generation q d ⌝ }
+fn drive_clean(sectors: &[u8], written: &[u32], zone: Zone, d: usize, q: usize) -> bool
+    requires { ⌜ Valid (zone .geometry) ⌝ }
+    requires { ⌜ Sized (zone .geometry) (now sectors) (now written) × (d < zone .geometry .drives) × (zone .number < zone .geometry .zones) × (q ≤ zoneSectors (zone .geometry)) ⌝ }
+    ensures { λ r. ⌜ r ≡ driveClean (zone .geometry) (isSet (zone .here)) (readDevice (zone .geometry) (now (sectors .entry)) (now (written .entry))) (zone .number) (zone .generation) q d ⌝ }
 {
+    let here = zone.here;
     let present = here[d];
     if !present {
         return true;
     }
+    let g = zone.geometry;
+    let z = zone.number;
+    let generation = zone.generation;
     let n = super::drive_logs::zone_pointer(written, g, d, tables::DATA_ZONES + z);
     let needs = tables::placement::sectors_needed(g, z, q, d);
     let past = super::drive_logs::entry_past(sectors, written, g, d, z, generation, q);
@@ -123,24 +119,17 @@ fn drive_clean(
 }
 
 // Rule 6: whether a zone is clean at pointer q.
-pub fn is_clean(
-    sectors: &[u8],
-    written: &[u32],
-    g: Geometry,
-    here: [bool; 8],
-    z: usize,
-    generation: u64,
-    q: usize,
-) -> bool
-    requires { ⌜ Valid g ⌝ }
-    requires { ⌜ Sized g (now sectors) (now written) × (z < g .zones) × (q ≤ zoneSectors g) ⌝ }
-    ensures { λ r. ⌜ r ≡ cleanAt g (isSet here) (readDevice g (now (sectors .entry)) (now (written .entry))) z generation q ⌝ }
+pub fn is_clean(sectors: &[u8], written: &[u32], zone: Zone, q: usize) -> bool
+    requires { ⌜ Valid (zone .geometry) ⌝ }
+    requires { ⌜ Sized (zone .geometry) (now sectors) (now written) × (zone .number < zone .geometry .zones) × (q ≤ zoneSectors (zone .geometry)) ⌝ }
+    ensures { λ r. ⌜ r ≡ cleanAt (zone .geometry) (isSet (zone .here)) (readDevice (zone .geometry) (now (sectors .entry)) (now (written .entry))) (zone .number) (zone .generation) q ⌝ }
 {
+    let g = zone.geometry;
     let n = g.drives;
     let mut clean = true;
     let mut d = 0;
     while d < n {
-        let b = drive_clean(sectors, written, g, here, d, z, generation, q);
+        let b = drive_clean(sectors, written, zone, d, q);
         clean = clean & b;
         d += 1;
     }
@@ -164,24 +153,16 @@ fn condition_of(generation: u64, q: usize, clean: bool, sealed: bool) -> Conditi
 }
 
 // Rule 5: the sectors of a zone that are known, from its first on, up to a limit. It stops at the first that is not.
-fn known_prefix(
-    sectors: &[u8],
-    written: &[u32],
-    g: Geometry,
-    here: [bool; 8],
-    z: usize,
-    generation: u64,
-    limit: usize,
-) -> usize
-    requires { ⌜ Valid g ⌝ }
-    requires { ⌜ Readable g here (now sectors) (now written) z
-        × (limit ≡ sealLimit g (isSet here) (readDevice g (now sectors) (now written)) z generation)
-        × (limit ≤ zoneSectors g) ⌝ }
-    ensures { λ r. ⌜ r ≡ min (knownPrefix (g .drives) (g .unit) z (zoneView g (isSet here) (readDevice g (now (sectors .entry)) (now (written .entry))) z generation) (zoneSectors g)) limit ⌝ }
+fn known_prefix(sectors: &[u8], written: &[u32], zone: Zone, limit: usize) -> usize
+    requires { ⌜ Valid (zone .geometry) ⌝ }
+    requires { ⌜ Readable (zone .geometry) (zone .here) (now sectors) (now written) (zone .number)
+        × (limit ≡ sealLimit (zone .geometry) (isSet (zone .here)) (readDevice (zone .geometry) (now sectors) (now written)) (zone .number) (zone .generation))
+        × (limit ≤ zoneSectors (zone .geometry)) ⌝ }
+    ensures { λ r. ⌜ r ≡ min (knownPrefix (zone .geometry .drives) (zone .geometry .unit) (zone .number) (zoneView (zone .geometry) (isSet (zone .here)) (readDevice (zone .geometry) (now (sectors .entry)) (now (written .entry))) (zone .number) (zone .generation)) (zoneSectors (zone .geometry))) limit ⌝ }
 {
     let mut a = 0;
     'scan: while a < limit {
-        let known = super::knowing::is_known(sectors, written, g, here, z, generation, limit, a);
+        let known = super::knowing::is_known(sectors, written, zone, limit, a);
         if !known {
             break 'scan;
         }
@@ -191,25 +172,21 @@ fn known_prefix(
 }
 
 // Rules 3 and 5: a zone's pointer.
-pub fn pointer_at(
-    sectors: &[u8],
-    written: &[u32],
-    g: Geometry,
-    here: [bool; 8],
-    z: usize,
-    generation: u64,
-    reset: bool,
-) -> usize
-    requires { ⌜ Valid g ⌝ }
-    requires { ⌜ Readable g here (now sectors) (now written) z
-        × (reset ≡ resetSeen g (isSet here) (readDevice g (now sectors) (now written)) z generation) ⌝ }
-    ensures { λ r. ⌜ (r ≡ pointerAt g (isSet here) (readDevice g (now (sectors .entry)) (now (written .entry))) z generation) × (r ≤ zoneSectors g) ⌝ }
+pub fn pointer_at(sectors: &[u8], written: &[u32], zone: Zone, reset: bool) -> usize
+    requires { ⌜ Valid (zone .geometry) ⌝ }
+    requires { ⌜ Readable (zone .geometry) (zone .here) (now sectors) (now written) (zone .number)
+        × (reset ≡ resetSeen (zone .geometry) (isSet (zone .here)) (readDevice (zone .geometry) (now sectors) (now written)) (zone .number) (zone .generation)) ⌝ }
+    ensures { λ r. ⌜ (r ≡ pointerAt (zone .geometry) (isSet (zone .here)) (readDevice (zone .geometry) (now (sectors .entry)) (now (written .entry))) (zone .number) (zone .generation)) × (r ≤ zoneSectors (zone .geometry)) ⌝ }
 {
     if reset {
         return 0;
     }
+    let g = zone.geometry;
+    let here = zone.here;
+    let z = zone.number;
+    let generation = zone.generation;
     let limit = super::knowing::seal_limit(sectors, written, g, here, z, generation);
-    known_prefix(sectors, written, g, here, z, generation, limit)
+    known_prefix(sectors, written, zone, limit)
 }
 
 // What a look shows of a zone.
@@ -226,8 +203,14 @@ pub fn look_zone(
 {
     let generation = generation_of(sectors, written, g, here, z);
     let by_reset = is_told(Query::ResetOf(z, generation), sectors, written, g, here);
-    let pointer = pointer_at(sectors, written, g, here, z, generation, by_reset);
-    let clean = is_clean(sectors, written, g, here, z, generation, pointer);
+    let zone = Zone {
+        geometry: g,
+        here,
+        number: z,
+        generation,
+    };
+    let pointer = pointer_at(sectors, written, zone, by_reset);
+    let clean = is_clean(sectors, written, zone, pointer);
     let sealed = is_told(Query::SealOf(z, generation), sectors, written, g, here);
     let condition = condition_of(generation, pointer, clean, sealed);
     ZoneLook {

@@ -4,5 +4,6 @@ pub mod EdgeCalls
 pub mod RefusedCalls
 pub mod Report
 pub mod RoundTrips
+pub mod StateForm
 pub mod StateRoundTrip
 pub mod TablesRoundTrip

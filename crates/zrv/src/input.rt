@@ -1,5 +1,4 @@
 // What the C edge makes of a call's numbers and bytes before the call, and of its outcome after it.
-use super::Request;
 use tables::Geometry;
 use volume::Answer;
 use volume::Condition;
@@ -10,9 +9,7 @@ ghost use mathlib.Core.Path.{_≡_};
 ghost use lib.ListN.{length};
 ghost use Rattle.tables.specs.meaning.Geometry.{Valid};
 ghost use Rattle.volume.specs.meaning.CallContracts.{answerNumber};
-ghost use Rattle.zrv.specs.meaning.Bytes.{stateFrom};
 ghost use Rattle.zrv.specs.meaning.EdgeCalls.{shapeOf, namedOf, sizesFit, stateBad, inputNumber, sizesNumber, unreadState, stateAfter};
-ghost use Rattle.zrv.specs.laws.EdgeCalls.{Opened};
 
 // The geometry of a call's first five numbers.
 pub fn shape(drives: u32, sector_bytes: u32, unit: u32, zones: u32, zone_sectors: u32) -> Geometry
@@ -68,14 +65,12 @@ pub fn state_bad(g: Geometry, bytes: &[u8]) -> bool
     if bytes.len() != 264 {
         return false;
     }
-    let state = super::state::state_from(g, bytes);
-    let form = super::state::well_formed(g, state, bytes);
-    let within = volume::checks::state_within(g, state);
-    !(form & within)
+    let fits = super::state::state_fits(g, bytes);
+    !fits
 }
 
 // What is refused before a call that reads the state; 0 if nothing is.
-fn input_refusal(g: Geometry, state: &[u8], written: usize, durable: usize) -> u32
+pub fn input_refusal(g: Geometry, state: &[u8], written: usize, durable: usize) -> u32
     ensures { λ r. ⌜ r ≡ inputNumber g (now (state .entry)) written durable ⌝ }
 {
     let ok = tables::bounds::valid(g);
@@ -91,7 +86,7 @@ fn input_refusal(g: Geometry, state: &[u8], written: usize, durable: usize) -> u
 }
 
 // What is refused before a call that only writes the state; 0 if nothing is.
-fn sizes_refusal(g: Geometry, state: usize, written: usize, durable: usize) -> u32
+pub fn sizes_refusal(g: Geometry, state: usize, written: usize, durable: usize) -> u32
     ensures { λ r. ⌜ r ≡ sizesNumber g state written durable ⌝ }
 {
     let ok = tables::bounds::valid(g);
@@ -103,7 +98,7 @@ fn sizes_refusal(g: Geometry, state: usize, written: usize, durable: usize) -> u
 }
 
 // In place of the state that a format, look or mount never reads.
-fn unread_state() -> State
+pub fn unread_state() -> State
     ensures { λ r. ⌜ r ≡ unreadState ⌝ }
 {
     let blank = ZoneRecord {
@@ -112,61 +107,6 @@ fn unread_state() -> State
     };
     let zones = [blank; 16];
     State { lost: 0, zones }
-}
-
-// What a call that reads the state is made on.
-pub fn with_state(g: Geometry, named: u32, state: &[u8], written: usize, durable: usize) -> Request
-    ensures { λ r. ⌜ Opened g named (inputNumber g (now (state .entry)) written durable) (stateFrom (g .zones) (now (state .entry))) (length (now (state .entry))) written durable r ⌝ }
-{
-    let refusal = input_refusal(g, state, written, durable);
-    let drives = named_drives(named);
-    if refusal != 0 {
-        let unread = unread_state();
-        return Request {
-            refusal,
-            cells: 0,
-            drives,
-            state: unread,
-        };
-    }
-    let cells = tables::bounds::table_cells(g);
-    let held = super::state::state_from(g, state);
-    Request {
-        refusal,
-        cells,
-        drives,
-        state: held,
-    }
-}
-
-// What a call that only writes the state is made on.
-pub fn without_state(
-    g: Geometry,
-    named: u32,
-    state: usize,
-    written: usize,
-    durable: usize,
-) -> Request
-    ensures { λ r. ⌜ Opened g named (sizesNumber g state written durable) unreadState state written durable r ⌝ }
-{
-    let refusal = sizes_refusal(g, state, written, durable);
-    let drives = named_drives(named);
-    let unread = unread_state();
-    if refusal != 0 {
-        return Request {
-            refusal,
-            cells: 0,
-            drives,
-            state: unread,
-        };
-    }
-    let cells = tables::bounds::table_cells(g);
-    Request {
-        refusal,
-        cells,
-        drives,
-        state: unread,
-    }
 }
 
 // The number of an answer, as C has it.

@@ -10,13 +10,3 @@ pub mod segments;
 pub mod state;
 pub mod words;
 pub mod writing;
-
-use volume::State;
-
-// What a call is made on, but for the tables: 0 or what is refused before it, the numbers of a table, the drives named, the state.
-pub struct Request {
-    pub refusal: u32,
-    pub cells: usize,
-    pub drives: [bool; 8],
-    pub state: State,
-}

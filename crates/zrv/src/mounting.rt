@@ -22,14 +22,13 @@ pub extern "C" fn zrv_format(
         ≡ formatEdge (shapeOf drives «sector_bytes» unit zones «zone_sectors») named array count (ranges (now (sectors .entry)) (now (written .entry)) (now (durable .entry)) (now (state .entry))) ⌝ }
 {
     let g = super::input::shape(drives, sector_bytes, unit, zones, zone_sectors);
-    let request = super::input::without_state(g, named, state.len(), written.len(), durable.len());
-    let refusal = request.refusal;
+    let refusal = super::input::sizes_refusal(g, state.len(), written.len(), durable.len());
     if refusal != 0 {
         return refusal;
     }
-    let n = request.cells;
-    let here = request.drives;
-    let old = request.state;
+    let n = tables::bounds::table_cells(g);
+    let here = super::input::named_drives(named);
+    let old = super::input::unread_state();
     let mut w = [0u32; 152];
     let mut d = [0u32; 152];
     let ws = &mut w[..n];
@@ -59,14 +58,13 @@ pub extern "C" fn zrv_look(
         ≡ lookEdge (shapeOf drives «sector_bytes» unit zones «zone_sectors») named (ranges (now (sectors .entry)) (now (written .entry)) (now (durable .entry)) (now (state .entry))) ⌝ }
 {
     let g = super::input::shape(drives, sector_bytes, unit, zones, zone_sectors);
-    let request = super::input::without_state(g, named, state.len(), written.len(), durable.len());
-    let refusal = request.refusal;
+    let refusal = super::input::sizes_refusal(g, state.len(), written.len(), durable.len());
     if refusal != 0 {
         return refusal;
     }
-    let n = request.cells;
-    let here = request.drives;
-    let old = request.state;
+    let n = tables::bounds::table_cells(g);
+    let here = super::input::named_drives(named);
+    let old = super::input::unread_state();
     let mut w = [0u32; 152];
     let mut d = [0u32; 152];
     let ws = &mut w[..n];
@@ -95,14 +93,13 @@ pub extern "C" fn zrv_mount(
         ≡ mountEdge (shapeOf drives «sector_bytes» unit zones «zone_sectors») named count (ranges (now (sectors .entry)) (now (written .entry)) (now (durable .entry)) (now (state .entry))) ⌝ }
 {
     let g = super::input::shape(drives, sector_bytes, unit, zones, zone_sectors);
-    let request = super::input::without_state(g, named, state.len(), written.len(), durable.len());
-    let refusal = request.refusal;
+    let refusal = super::input::sizes_refusal(g, state.len(), written.len(), durable.len());
     if refusal != 0 {
         return refusal;
     }
-    let n = request.cells;
-    let here = request.drives;
-    let old = request.state;
+    let n = tables::bounds::table_cells(g);
+    let here = super::input::named_drives(named);
+    let old = super::input::unread_state();
     let mut w = [0u32; 152];
     let mut d = [0u32; 152];
     let ws = &mut w[..n];

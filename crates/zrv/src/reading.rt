@@ -27,14 +27,13 @@ pub extern "C" fn zrv_read(
         ≡ readEdge (shapeOf drives «sector_bytes» unit zones «zone_sectors») named address «sectors_to_read» (ranges (now (sectors .entry)) (now (written .entry)) (now (durable .entry)) (now (state .entry))) (now (answer .entry)) ⌝ }
 {
     let g = super::input::shape(drives, sector_bytes, unit, zones, zone_sectors);
-    let request = super::input::with_state(g, named, state, written.len(), durable.len());
-    let refusal = request.refusal;
+    let refusal = super::input::input_refusal(g, state, written.len(), durable.len());
     if refusal != 0 {
         return refusal;
     }
-    let n = request.cells;
-    let here = request.drives;
-    let old = request.state;
+    let n = tables::bounds::table_cells(g);
+    let here = super::input::named_drives(named);
+    let old = super::state::state_from(g, state);
     let mut w = [0u32; 152];
     let mut d = [0u32; 152];
     let ws = &mut w[..n];
@@ -87,17 +86,16 @@ pub extern "C" fn zrv_peek(
         ≡ peekEdge (shapeOf drives «sector_bytes» unit zones «zone_sectors») named address (ranges (now (sectors .entry)) (now (written .entry)) (now (durable .entry)) (now (state .entry))) (now (place .entry)) ⌝ }
 {
     let g = super::input::shape(drives, sector_bytes, unit, zones, zone_sectors);
-    let request = super::input::with_state(g, named, state, written.len(), durable.len());
-    let refusal = request.refusal;
+    let refusal = super::input::input_refusal(g, state, written.len(), durable.len());
     if refusal != 0 {
         return refusal;
     }
     if place.len() != 8 {
         return 2;
     }
-    let n = request.cells;
-    let here = request.drives;
-    let old = request.state;
+    let n = tables::bounds::table_cells(g);
+    let here = super::input::named_drives(named);
+    let old = super::state::state_from(g, state);
     let mut w = [0u32; 152];
     let mut d = [0u32; 152];
     let ws = &mut w[..n];

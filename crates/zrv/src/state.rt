@@ -4,12 +4,16 @@ use volume::Condition;
 use volume::State;
 use volume::ZoneRecord;
 ghost use mathlib.Core.Path.{_≡_};
-ghost use Prim.Native.Nat.{_+_, _≤_, _<_};
+ghost use mathlib.Core.Bool.{_&&_};
+ghost use Prim.Native.Nat.{ℕ, _+_, _*_, _≤_, _<_};
 ghost use lib.ListN.{length};
 ghost use Rattle.tables.specs.meaning.Geometry.{Valid};
 ghost use Rattle.tables.specs.meaning.Lists.{overlay};
-ghost use Rattle.tables.specs.meaning.LittleEndian.{sameBytes};
+ghost use Rattle.tables.specs.meaning.Below.{allBelow};
+ghost use Rattle.volume.specs.meaning.Refusals.{stateWithin};
+ghost use Rattle.volume.specs.meaning.CallContracts.{viewState};
 ghost use Rattle.zrv.specs.meaning.Bytes.{recordTo, recordFrom, stateTo, stateFrom, stateWellFormed};
+ghost use Rattle.zrv.specs.laws.StateForm.{recordFits, zerosFrom};
 
 // Writes a zone's record as the sixteen bytes from `at`.
 fn record_to(r: ZoneRecord, bytes: &mut [u8], at: usize)
@@ -82,28 +86,60 @@ pub fn state_from(g: Geometry, bytes: &[u8]) -> State
     State { lost, zones }
 }
 
-// Whether two lists of bytes are the same.
-fn same_bytes(a: &[u8], b: &[u8]) -> bool
-    requires { ⌜ length (now a) ≡ length (now b) ⌝ }
-    ensures { λ r. ⌜ r ≡ sameBytes (now (a .entry)) (now (b .entry)) ⌝ }
+// Whether the sixteen bytes from `at` are a record as it is written (the number is a condition's, and an empty zone has no pointer), its pointer at most
+// `most`. Any eight bytes are a generation.
+fn record_fits(bytes: &[u8], at: usize, most: usize) -> bool
+    requires { ⌜ at + 16 ≤ length (now bytes) ⌝ }
+    ensures { λ r. ⌜ r ≡ recordFits most (now (bytes .entry)) at ⌝ }
 {
-    let n = a.len();
-    let mut same = true;
-    let mut i = 0;
-    while i < n {
-        same = same & (a[i] == b[i]);
-        i += 1;
-    }
-    same
+    let kind = tables::bytes::read_u32(bytes, at + 8);
+    let pointer = tables::bytes::read_u32(bytes, at + 12);
+    let n = tables::bounds::widen(pointer);
+    (kind <= 3) & (((kind != 0) | (n == 0)) & (n <= most))
 }
 
-// Whether the bytes have a state's form: written again, they are the same.
-pub fn well_formed(g: Geometry, state: State, bytes: &[u8]) -> bool
-    requires { ⌜ Valid g ⌝ }
-    requires { ⌜ (length (now bytes) ≡ 264) × (state ≡ stateFrom (g .zones) (now bytes)) ⌝ }
-    ensures { λ r. ⌜ r ≡ stateWellFormed (g .zones) (now (bytes .entry)) ⌝ }
+// Whether the records of the first n zones are so.
+fn records_fit(bytes: &[u8], n: usize, most: usize) -> bool
+    requires { ⌜ (n ≤ 16) × (length (now bytes) ≡ 264) ⌝ }
+    ensures { λ r. ⌜ r ≡ allBelow (λ (z : ℕ). recordFits most (now (bytes .entry)) (8 + 16 * z)) n ⌝ }
 {
-    let mut again = [0u8; 264];
-    state_to(g, state, &mut again);
-    same_bytes(&again, bytes)
+    let mut ok = true;
+    let mut z = 0;
+    while z < n {
+        let fits = record_fits(bytes, 8 + 16 * z, most);
+        ok = ok & fits;
+        z += 1;
+    }
+    ok
+}
+
+// Whether all bytes from `at` on are zero. It leaves off at none, so that the compiler takes many at a time.
+fn zeros_from(bytes: &[u8], at: usize) -> bool
+    requires { ⌜ at ≤ length (now bytes) ⌝ }
+    ensures { λ r. ⌜ r ≡ zerosFrom (now (bytes .entry)) at ⌝ }
+{
+    let n = bytes.len() - at;
+    let mut zeros = true;
+    let mut i = 0;
+    while i < n {
+        zeros = zeros & (0 == bytes[at + i]);
+        i += 1;
+    }
+    zeros
+}
+
+// Whether the bytes have a state's form (written again, what they hold is they), and hold a state that refusal 1 does not meet. It is tested on the bytes
+// as they stand: neither is the state read for it nor written.
+pub fn state_fits(g: Geometry, bytes: &[u8]) -> bool
+    requires { ⌜ Valid g ⌝ }
+    requires { ⌜ length (now bytes) ≡ 264 ⌝ }
+    ensures { λ r. ⌜ r ≡ stateWellFormed (g .zones) (now (bytes .entry)) && stateWithin g (viewState (stateFrom (g .zones) (now (bytes .entry)))) ⌝ }
+{
+    let d = g.drives;
+    let n = g.zones;
+    let most = tables::bounds::zone_sectors(g);
+    let lost = tables::bytes::read_u64(bytes, 0) as usize;
+    let records = records_fit(bytes, n, most);
+    let rest = zeros_from(bytes, 8 + 16 * n);
+    ((lost < d) | (lost == 255)) & (records & rest)
 }

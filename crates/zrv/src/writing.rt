@@ -24,14 +24,13 @@ pub extern "C" fn zrv_write(
         ≡ writeEdge (shapeOf drives «sector_bytes» unit zones «zone_sectors») named address «sectors_to_write» count (now (buffer .entry)) (ranges (now (sectors .entry)) (now (written .entry)) (now (durable .entry)) (now (state .entry))) ⌝ }
 {
     let g = super::input::shape(drives, sector_bytes, unit, zones, zone_sectors);
-    let request = super::input::with_state(g, named, state, written.len(), durable.len());
-    let refusal = request.refusal;
+    let refusal = super::input::input_refusal(g, state, written.len(), durable.len());
     if refusal != 0 {
         return refusal;
     }
-    let n = request.cells;
-    let here = request.drives;
-    let old = request.state;
+    let n = tables::bounds::table_cells(g);
+    let here = super::input::named_drives(named);
+    let old = super::state::state_from(g, state);
     let mut w = [0u32; 152];
     let mut d = [0u32; 152];
     let ws = &mut w[..n];
@@ -72,14 +71,13 @@ pub extern "C" fn zrv_flush(
         ≡ flushEdge (shapeOf drives «sector_bytes» unit zones «zone_sectors») named count (ranges (now (sectors .entry)) (now (written .entry)) (now (durable .entry)) (now (state .entry))) ⌝ }
 {
     let g = super::input::shape(drives, sector_bytes, unit, zones, zone_sectors);
-    let request = super::input::with_state(g, named, state, written.len(), durable.len());
-    let refusal = request.refusal;
+    let refusal = super::input::input_refusal(g, state, written.len(), durable.len());
     if refusal != 0 {
         return refusal;
     }
-    let n = request.cells;
-    let here = request.drives;
-    let old = request.state;
+    let n = tables::bounds::table_cells(g);
+    let here = super::input::named_drives(named);
+    let old = super::state::state_from(g, state);
     let mut w = [0u32; 152];
     let mut d = [0u32; 152];
     let ws = &mut w[..n];
@@ -110,14 +108,13 @@ pub extern "C" fn zrv_reset(
         ≡ resetEdge (shapeOf drives «sector_bytes» unit zones «zone_sectors») named zone count (ranges (now (sectors .entry)) (now (written .entry)) (now (durable .entry)) (now (state .entry))) ⌝ }
 {
     let g = super::input::shape(drives, sector_bytes, unit, zones, zone_sectors);
-    let request = super::input::with_state(g, named, state, written.len(), durable.len());
-    let refusal = request.refusal;
+    let refusal = super::input::input_refusal(g, state, written.len(), durable.len());
     if refusal != 0 {
         return refusal;
     }
-    let n = request.cells;
-    let here = request.drives;
-    let old = request.state;
+    let n = tables::bounds::table_cells(g);
+    let here = super::input::named_drives(named);
+    let old = super::state::state_from(g, state);
     let mut w = [0u32; 152];
     let mut d = [0u32; 152];
     let ws = &mut w[..n];

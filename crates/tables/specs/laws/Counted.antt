@@ -8,14 +8,15 @@ use native.Mathlib.Nat.{sub-zero}
 use native.Mathlib.Decide.{ℕ-discrete}
 use native.Mathlib.Omega.{arith}
 use mathlib.Core.List.{List, [], _∷_, _++_}
-use lib.ListN.{length, length-append}
+use lib.ListN.{length, getD, length-append}
 use lib.Dec.{ltb}
 use borrow.Author.Tests.{ltb-true, le-ltb, lt-ltb}
 use Rattle.tables.specs.declared.Geometry.{Geometry}
 use Rattle.tables.specs.meaning.Basics.{pick}
 use Rattle.tables.specs.laws.Basics.{and-split}
 use Rattle.tables.specs.meaning.Device.{Store, append}
-use Rattle.tables.specs.meaning.Tables.{Tables, tablesOf, hasRoom, sectorsAfterAppend, writtenAfterAppend, makeStore, runStores}
+use Rattle.tables.specs.meaning.Lists.{overlay}
+use Rattle.tables.specs.meaning.Tables.{Tables, tablesOf, cell, byteAt, hasRoom, sectorsAfterAppend, writtenAfterAppend, makeStore, runStores}
 use Rattle.tables.specs.laws.Made.{storeIf, Made, MadeAppends}
 
 pub run-none : (g : Geometry) (xs : List Store) (t : Tables) → runStores g 0 xs t ≡ t
@@ -62,6 +63,18 @@ pub append-due : (g : Geometry) (here : Bool) (budget rest d z : ℕ) (s xs ws :
 append-due g here budget rest d z s xs ws r h =
     let (a, b) = and-split (here && ltb 1 budget) (hasRoom g d z ws) h in
     record { made = λ ds. let m = made-due g here budget rest (append d z s) (tablesOf xs ws ds) r a in record { rest-is = m .rest-is; tables-are = rw b at (m .tables-are) } }
+
+-- what it tells that an append is made
+pub due-parts : (g : Geometry) (here : Bool) (budget d z : ℕ) (ws : List ℕ) → (here && ltb 1 budget) && hasRoom g d z ws ≡ true → (here ≡ true) × (getD ws (cell g d z) 0 < g .capacity)
+due-parts g here budget d z ws h =
+    let (a, b) = and-split (here && ltb 1 budget) (hasRoom g d z ws) h in
+    (and-split here (ltb 1 budget) a .0, ltb-true (getD ws (cell g d z) 0) (g .capacity) b)
+
+-- an append whose sector is laid in place first: where the zone's written pointer stands, which is then moved past it
+pub append-laid : (g : Geometry) (here : Bool) (budget rest d z : ℕ) (s xs ws xs′ ws′ : List ℕ) → rest ≡ budget - pick here 1 0 → (here && ltb 1 budget) && hasRoom g d z ws ≡ true
+    → xs′ ≡ overlay xs (byteAt g d z (getD ws (cell g d z) 0)) s → ws′ ≡ writtenAfterAppend g d z ws → MadeAppends g budget rest (storeIf here (append d z s)) xs ws xs′ ws′
+unfolding sectorsAfterAppend
+append-laid g here budget rest d z s xs ws xs′ ws′ r h e f = rw (e, f) (append-due g here budget rest d z s xs ws r h)
 
 -- stores one after the other, under one count
 pub made-nil : (g : Geometry) (budget : ℕ) (t : Tables) → Made g budget budget [] t t

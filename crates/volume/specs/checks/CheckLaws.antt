@@ -31,19 +31,28 @@ use Rattle.volume.specs.meaning.CallContracts.{viewState, isSet, verdict
 unfoldable pub presentList : Geometry → List Bool → ℕ → List Bool
 presentList g named lost = tabulate (λ d. isSet named d && not (eqb d lost)) (g .drives) ++ replicate (8 - g .drives) false
 
--- the array while it is filled
-pub present-start : (f : ℕ → Bool) → replicate 8 false ≡ tabulate f 0 ++ replicate (8 - 0) false
-present-start f = refl
+-- written out, from three drives to eight
+pub present-eight : (g : Geometry) (named : List Bool) (lost : ℕ) → Valid g
+    → (isSet named 0 && not (eqb 0 lost)) ∷ (isSet named 1 && not (eqb 1 lost)) ∷ (isSet named 2 && not (eqb 2 lost)) ∷ (ltb 3 (g .drives) && (isSet named 3 && not (eqb 3 lost)))
+    ∷ (ltb 4 (g .drives) && (isSet named 4 && not (eqb 4 lost))) ∷ (ltb 5 (g .drives) && (isSet named 5 && not (eqb 5 lost))) ∷ (ltb 6 (g .drives) && (isSet named 6 && not (eqb 6 lost)))
+    ∷ (ltb 7 (g .drives) && (isSet named 7 && not (eqb 7 lost))) ∷ [] ≡ presentList g named lost
+unfolding presentList
+present-eight g named lost ok = go (g .drives) (ok .drives-least) (ok .drives-most)
+  where
+    f : ℕ → Bool
+    f d = isSet named d && not (eqb d lost)
 
-set-at-end : (xs : List Bool) (n : ℕ) (x : Bool) → set (xs ++ replicate (suc n) false) (length xs) x ≡ xs ++ (x ∷ []) ++ replicate n false
-set-at-end [] n x = refl
-set-at-end (y ∷ xs) n x = ap (λ (r : List Bool). y ∷ r) (set-at-end xs n x)
-
-pub present-more : (f : ℕ → Bool) (d : ℕ) → d < 8 → set (tabulate f d ++ replicate (8 - d) false) d (f d) ≡ tabulate f (suc d) ++ replicate (8 - suc d) false
-present-more f d h =
-    let e : 8 - d ≡ suc (8 - suc d) = omega arith in
-    let l : length (tabulate f d) ≡ d = length-tabulate f d in
-    rw e (ap (λ (i : ℕ). set (tabulate f d ++ replicate (suc (8 - suc d)) false) i (f d)) (sym l) ∙ set-at-end (tabulate f d) (8 - suc d) (f d))
+    go : (n : ℕ) → 3 ≤ n → n ≤ 8 → (f 0 ∷ f 1 ∷ f 2 ∷ (ltb 3 n && f 3) ∷ (ltb 4 n && f 4) ∷ (ltb 5 n && f 5) ∷ (ltb 6 n && f 6) ∷ (ltb 7 n && f 7) ∷ []) ≡ tabulate (λ d. isSet named d && not (eqb d lost)) n ++ replicate (8 - n) false
+    go zero l m = absurd (omega arith)
+    go (suc zero) l m = absurd (omega arith)
+    go (suc (suc zero)) l m = absurd (omega arith)
+    go (suc (suc (suc zero))) l m = refl
+    go (suc (suc (suc (suc zero)))) l m = refl
+    go (suc (suc (suc (suc (suc zero))))) l m = refl
+    go (suc (suc (suc (suc (suc (suc zero)))))) l m = refl
+    go (suc (suc (suc (suc (suc (suc (suc zero))))))) l m = refl
+    go (suc (suc (suc (suc (suc (suc (suc (suc zero)))))))) l m = refl
+    go (suc (suc (suc (suc (suc (suc (suc (suc (suc n))))))))) l m = absurd (omega arith)
 
 getD-none : (n i : ℕ) → getD (replicate n false) i false ≡ false
 getD-none zero i = refl
@@ -76,16 +85,32 @@ unfolding lostIn
 left-out-is g named s = ap (λ (p : ℕ → Bool). findBelow (λ d. not (p d)) (g .drives)) (present-is g named s)
 
 -- ---- refusals 1 to 4; a call without a buffer has count 0 and no bytes
-abbrev pub openingRows : Geometry → List Bool → State → ℕ → ℕ → ℕ → List ℕ → List ℕ → List (ℕ × Bool)
-openingRows g named s count bytes sectors ws ds =
-    (1, not (isValid g && stateWithin g (viewState s)))
+abbrev pub openingRows : Geometry → List Bool → Bool → ℕ → ℕ → ℕ → ℕ → List ℕ → List ℕ → List (ℕ × Bool)
+openingRows g named within lost count bytes sectors ws ds =
+    (1, not within)
     ∷ (2, not (lengthsFit g sectors (length ws) (length ds) && bufferFits g count bytes))
     ∷ (3, pointersBad g named ws ds)
-    ∷ (4, ltb 1 (countBelow (λ d. not (isSet (presentList g named (s .lost)) d)) (g .drives)))
+    ∷ (4, ltb 1 (countBelow (λ d. not (isSet (presentList g named lost) d)) (g .drives)))
     ∷ []
 
+-- by what refusal 1 found, and the lost drive
+unfoldable pub openingFrom : Geometry → List Bool → Bool → ℕ → ℕ → ℕ → ℕ → List ℕ → List ℕ → ℕ
+openingFrom g named within lost count bytes sectors ws ds = verdictNumber (firstRefusal (openingRows g named within lost count bytes sectors ws ds))
+
 unfoldable pub openingNumber : Geometry → List Bool → State → ℕ → ℕ → ℕ → List ℕ → List ℕ → ℕ
-openingNumber g named s count bytes sectors ws ds = verdictNumber (firstRefusal (openingRows g named s count bytes sectors ws ds))
+openingNumber g named s count bytes sectors ws ds = verdictNumber (firstRefusal (openingRows g named (isValid g && stateWithin g (viewState s)) (s .lost) count bytes sectors ws ds))
+
+pub opening-is : (g : Geometry) (named : List Bool) (s : State) (within : Bool) (count bytes sectors : ℕ) (ws ds : List ℕ) → within ≡ isValid g && stateWithin g (viewState s)
+    → openingFrom g named within (s .lost) count bytes sectors ws ds ≡ openingNumber g named s count bytes sectors ws ds
+unfolding openingFrom openingNumber
+opening-is g named s within count bytes sectors ws ds e = rw e refl
+
+-- a geometry that passed refusal 1 is valid
+pub record Tested (within : Bool) (g : Geometry) : Type 0 where
+  pub valid : within ≡ true → Valid g
+
+pub tested : (g : Geometry) (s : State) (within : Bool) → within ≡ isValid g && stateWithin g (viewState s) → Tested within g
+tested g s within e = record { valid = λ h. valid-if-test g (and-split (isValid g) (stateWithin g (viewState s)) (sym e ∙ h) .0) }
 
 -- what passing them gives
 pub record Opened (g : Geometry) (named : List Bool) (s : State) (count bytes sectors : ℕ) (ws ds : List ℕ) : Type 0 where
@@ -112,28 +137,28 @@ opened g named s count bytes sectors ws ds h =
     record { valid = valid-if-test g v; within = w; lengths = l; buffer = b; pointers = q .2; drives = q .3 }
 
 -- the number, case by case
-module _ (g : Geometry) (named : List Bool) (s : State) (count bytes sectors : ℕ) (ws ds : List ℕ) where
-  pub opening-1 : isValid g && stateWithin g (viewState s) ≡ false → 1 ≡ openingNumber g named s count bytes sectors ws ds
-  unfolding openingNumber
+module _ (g : Geometry) (named : List Bool) (within : Bool) (lost count bytes sectors : ℕ) (ws ds : List ℕ) where
+  pub opening-1 : within ≡ false → 1 ≡ openingFrom g named within lost count bytes sectors ws ds
+  unfolding openingFrom
   opening-1 a = rw a refl
 
-  pub opening-2 : isValid g && stateWithin g (viewState s) ≡ true → lengthsFit g sectors (length ws) (length ds) && bufferFits g count bytes ≡ false → 2 ≡ openingNumber g named s count bytes sectors ws ds
-  unfolding openingNumber
+  pub opening-2 : within ≡ true → lengthsFit g sectors (length ws) (length ds) && bufferFits g count bytes ≡ false → 2 ≡ openingFrom g named within lost count bytes sectors ws ds
+  unfolding openingFrom
   opening-2 a b = rw (a, b) refl
 
-  pub opening-3 : isValid g && stateWithin g (viewState s) ≡ true → lengthsFit g sectors (length ws) (length ds) && bufferFits g count bytes ≡ true → pointersBad g named ws ds ≡ true → 3 ≡ openingNumber g named s count bytes sectors ws ds
-  unfolding openingNumber
+  pub opening-3 : within ≡ true → lengthsFit g sectors (length ws) (length ds) && bufferFits g count bytes ≡ true → pointersBad g named ws ds ≡ true → 3 ≡ openingFrom g named within lost count bytes sectors ws ds
+  unfolding openingFrom
   opening-3 a b c = rw (a, b, c) refl
 
-  pub opening-4 : isValid g && stateWithin g (viewState s) ≡ true → lengthsFit g sectors (length ws) (length ds) && bufferFits g count bytes ≡ true → pointersBad g named ws ds ≡ false
-      → 1 < countBelow (λ d. not (isSet (presentList g named (s .lost)) d)) (g .drives) → 4 ≡ openingNumber g named s count bytes sectors ws ds
-  unfolding openingNumber
-  opening-4 a b c d = rw (a, b, c, lt-ltb 1 (countBelow (λ e. not (isSet (presentList g named (s .lost)) e)) (g .drives)) d) refl
+  pub opening-4 : within ≡ true → lengthsFit g sectors (length ws) (length ds) && bufferFits g count bytes ≡ true → pointersBad g named ws ds ≡ false
+      → 1 < countBelow (λ d. not (isSet (presentList g named lost) d)) (g .drives) → 4 ≡ openingFrom g named within lost count bytes sectors ws ds
+  unfolding openingFrom
+  opening-4 a b c d = rw (a, b, c, lt-ltb 1 (countBelow (λ e. not (isSet (presentList g named lost) e)) (g .drives)) d) refl
 
-  pub opening-0 : isValid g && stateWithin g (viewState s) ≡ true → lengthsFit g sectors (length ws) (length ds) && bufferFits g count bytes ≡ true → pointersBad g named ws ds ≡ false
-      → countBelow (λ d. not (isSet (presentList g named (s .lost)) d)) (g .drives) ≤ 1 → 0 ≡ openingNumber g named s count bytes sectors ws ds
-  unfolding openingNumber
-  opening-0 a b c d = rw (a, b, c, le-ltb 1 (countBelow (λ e. not (isSet (presentList g named (s .lost)) e)) (g .drives)) d) refl
+  pub opening-0 : within ≡ true → lengthsFit g sectors (length ws) (length ds) && bufferFits g count bytes ≡ true → pointersBad g named ws ds ≡ false
+      → countBelow (λ d. not (isSet (presentList g named lost) d)) (g .drives) ≤ 1 → 0 ≡ openingFrom g named within lost count bytes sectors ws ds
+  unfolding openingFrom
+  opening-0 a b c d = rw (a, b, c, le-ltb 1 (countBelow (λ e. not (isSet (presentList g named lost) e)) (g .drives)) d) refl
 
 -- ---- a call's refusal is that of these four, or that of its other rows
 pub after-four : (a b c d : Bool) (rest : List (ℕ × Bool)) → verdictNumber (firstRefusal ((1, a) ∷ (2, b) ∷ (3, c) ∷ (4, d) ∷ rest))

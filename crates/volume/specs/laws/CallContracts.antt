@@ -1,12 +1,15 @@
 -- The three ways a storing call ends; stores one after the other, of functions that are handed two of the tables.
-use mathlib.Core.Path.{_≡_, refl}
+use mathlib.Core.Path.{_≡_, refl, sym}
 use mathlib.Core.Logic.{_≢_}
 use Prim.Native.Nat.{suc, _-_, ℕ}
 use mathlib.Core.List.{_++_, List, []}
 use lib.ListN.{length}
+use native.Mathlib.Decide.{ℕ-discrete}
 use native.Mathlib.Omega.{arith}
+use lib.Dec.{eqb}
 use borrow.Author.Tests.{ne-eqb, eq-eqb}
 use Rattle.tables.specs.declared.Geometry.{Geometry}
+use Rattle.tables.specs.meaning.Basics.{pick}
 use Rattle.tables.specs.meaning.Device.{Store}
 use Rattle.tables.specs.laws.Counted.{made-nil, made-append, budget-unfinished, budget-finished}
 use Rattle.tables.specs.laws.Made.{Made, MadePointers, MadeAppends}
@@ -32,6 +35,15 @@ module _ (g : Geometry) (n : ℕ) (ss : List Store) (new old : State) (count : �
   storing-finished rest u e m z =
       let k : suc count - 1 ≡ count = omega arith in
       rw (eq-eqb n 0 e, budget-finished count rest (length ss) (m .rest-is) z, m .tables-are, k) (refl, refl)
+
+  -- whichever way it ends, once it has passed its refusals
+  pub storing-ends : (rest : ℕ) (u : Tables) → n ≡ 0 → Made g (suc count) rest ss t u
+      → (pick (eqb rest 0) (record { answer = Unfinished; state = old }) (record { answer = Finished; state = new }) ≡ storingOn g n ss new old count t .outcome) × (u ≡ storingOn g n ss new old count t .tables)
+  storing-ends rest u e m = go (ℕ-discrete rest 0)
+    where
+      go : Dec (rest ≡ 0) → (pick (eqb rest 0) (record { answer = Unfinished; state = old }) (record { answer = Finished; state = new }) ≡ storingOn g n ss new old count t .outcome) × (u ≡ storingOn g n ss new old count t .tables)
+      go (yes z) = let (p, q) = storing-unfinished rest u e m z in (rw (eq-eqb rest 0 z) (sym p), sym q)
+      go (no z) = let (p, q) = storing-finished rest u e m z in (rw (ne-eqb rest 0 z) (sym p), sym q)
 
 -- ---- laws: stores one after the other, of functions that are handed two of the tables
 pub pointers-nil : (g : Geometry) (budget : ℕ) (ws ds : List ℕ) → MadePointers g budget budget [] ws ds ws ds

@@ -43,7 +43,7 @@ use Rattle.volume.specs.checks.CheckLaws.{presentList, present-is}
 use Rattle.volume.specs.checks.ZoneChecks.{present-good}
 use Rattle.volume.specs.looking.Knowing.{Readable, readDevice}
 use Rattle.volume.specs.looking.KnowingLaws.{view-durable, known-in}
-use Rattle.volume.specs.writing.ParityBuffer.{part-length}
+use Rattle.tables.specs.laws.Within.{part-long}
 use Rattle.volume.specs.writing.WriteChecks.{gone-durable}
 use Rattle.volume.specs.laws.KnownLengths.{value-long}
 use Rattle.volume.specs.laws.PassedRows.{WritePassed, format-passed, reset-passed, write-passed, flush-passed, unused-at}
@@ -185,7 +185,7 @@ module _ (g : Geometry) (named : List Bool) (s : State) (a k : ℕ) (buffer : Li
       let i = b - pointer in
       let q : suc i ≤ k = omega arith in
       rw (le-ltb b pointer h, getD-tabulate-from (λ j. take (g .sector) (drop (j * g .sector) buffer)) zero k i q)
-      (let e0 : zero + i ≡ i = omega arith in rw e0 (part-length buffer (i * g .sector) (g .sector) (omega (arith, accepted .buffer-long, mul-le-mul-right (g .sector) q))))
+      (let e0 : zero + i ≡ i = omega arith in rw e0 (part-long buffer (i * g .sector) (g .sector) (omega (arith, accepted .buffer-long, mul-le-mul-right (g .sector) q))))
 
   -- so are the earlier sectors of the first stripe, where they are needed
   readable : Readable g (presentList g named (s .lost)) (t .sectors) (t .written) z

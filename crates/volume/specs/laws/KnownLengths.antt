@@ -25,7 +25,7 @@ use Rattle.volume.specs.looking.Knowing.{Readable, readDevice, stripeEnd
 use Rattle.volume.specs.looking.KnowingLaws.{parity-in}
 use Rattle.volume.specs.looking.KnowingEntries.{known-is}
 use Rattle.volume.specs.looking.KnowingValues.{sector-within, sector-long, value-is}
-use Rattle.volume.specs.writing.WriteContent.{row-long}
+use Rattle.volume.specs.laws.Content.{row-long}
 use Rattle.volume.specs.mounting.MountRows.{KnownBelow, valuesOf}
 
 -- the other sectors of a row, added up, are no longer than a sector

@@ -28,7 +28,7 @@ use Rattle.volume.specs.meaning.CallContracts.{isSet, storesBefore, moun
 use Rattle.volume.specs.looking.Knowing.{readDevice}
 use Rattle.volume.specs.looking.DrivesLost.{presentOf, saidList, look-present-is, lost-drive-is}
 use Rattle.volume.specs.looking.Looking.{lookOf, Lookable, present-read, lost-drive-read}
-use Rattle.volume.specs.mounting.MountTables.{StoreIn, StoresIn}
+use Rattle.volume.specs.rows.KeptBelow.{StoreIn, StoresIn}
 use Rattle.volume.specs.mounting.MountLook.{stays}
 use Rattle.volume.specs.mounting.MountSteps.{AllIn, labels-in, reset-entries-in, resets-in, counter-step-in, seals-in}
 use Rattle.volume.specs.mounting.MountValues.{shownAt, Restoring}

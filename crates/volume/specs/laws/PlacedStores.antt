@@ -28,7 +28,7 @@ use Rattle.volume.specs.meaning.Content.{rowXor, rowXorBelow, insideStri
 use Rattle.volume.specs.meaning.Calls.{appendAll, appendGeneral, generationsFrom, parityStores, sectorStores, dataStores, entryStores, writeWith, logsReset, raisedAt, resetPhases, resetStores, formatPhases, formatStores}
 use Rattle.logs.specs.laws.Legal.{CountersFit, header-long}
 use Rattle.volume.specs.laws.Counters.{generations-length}
-use Rattle.volume.specs.writing.WriteContent.{row-long, row-complete, stripe-last}
+use Rattle.volume.specs.laws.Content.{row-long, row-complete, stripe-last}
 use Rattle.tables.specs.laws.StoresFit.{placed-each, placed-present, placed-pick, placed-flushes, placed-concat}
 
 -- ---- a header on a general log
@@ -111,7 +111,7 @@ module _ (g : Geometry) (ok : Valid g) (present : ℕ → Bool) (z : ℕ) (hz : 
   full-row-long : (s r : ℕ) → n < s * stripeSectors g + stripeSectors g → present (parityDrive D z s) ≡ true → r < U → suc s * stripeSectors g ≤ n + k → length (rowXor D U S s r) ≡ g .sector
   full-row-long s r reach here hr h =
       let first : s * stripeSectors g + r < suc s * stripeSectors g = omega (arith, unit-row-lt D U 0 hD (ok .unit-least) 0 r (omega arith) hr) in
-      rw (← row-complete D U hD S s r (ok .unit-least) hr)
+      rw (← row-complete D U hD S s (suc s * stripeSectors g) r (ok .unit-least) hr (le-refl (suc s * stripeSectors g)))
       (row-long g ok S s (suc s * stripeSectors g) r hr first (λ j hj l. stripe-long s reach here (address D U s j r) (unfold address in omega arith) (omega arith)))
 
   entry-row-long : (r : ℕ) → present (parityDriveAt g z (n + k)) ≡ true → r < min (fillOf g (n + k)) U → length (rowXorBelow D U S (stripeOf D U (n + k)) (n + k) r) ≡ g .sector
@@ -129,7 +129,7 @@ module _ (g : Geometry) (ok : Valid g) (present : ℕ → Bool) (z : ℕ) (hz : 
     where
       last : eqb (suc (a % stripeLength D U)) (stripeLength D U) ≡ true → PlacedOn g present (parityStores D U z S (stripeOf D U a))
       last e =
-          let q = stripe-last g ok a (eqb-true (suc (a % stripeLength D U)) (stripeLength D U) e) .1 in
+          let q = stripe-last g a (eqb-true (suc (a % stripeLength D U)) (stripeLength D U) e) in
           placed-parity (stripeOf D U a) (omega (arith, stripe-above D U z hD (ok .unit-least) a)) (omega (arith, q))
 
   placed-data : (a m : ℕ) → n ≤ a → a + m ≤ n + k → PlacedOn g present (dataStores D U z S a m)

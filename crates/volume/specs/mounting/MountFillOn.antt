@@ -3,31 +3,30 @@
 use mathlib.Core.Path.{_≡_, refl, sym, ap, _∙_}
 use mathlib.Core.Logic.{_≢_}
 use mathlib.Core.Bool.{Bool, true, false}
-use Prim.Native.Nat.{ℕ, zero, suc, _+_, _-_, _*_, _/_, _%_, _≤_, _<_}
+use Prim.Native.Nat.{ℕ, zero, _+_, _-_, _*_, _/_, _%_, _≤_, _<_}
 use native.Mathlib.Nat.{mod-lt, div-add-mod', zero-mod, zero-div}
 use native.Mathlib.Decide.{ℕ-discrete, decLt}
 use native.Mathlib.Omega.{arith}
-use mathlib.Core.List.{List, [], _∷_, _++_}
+use mathlib.Core.List.{List, []}
 use lib.ListN.{length}
 use lib.Dec.{ltb}
 use borrow.Author.Tests.{eq-eqb, ne-eqb, lt-ltb}
 use Rattle.tables.specs.declared.Geometry.{Geometry}
 use Rattle.tables.specs.meaning.Basics.{pick}
 use Rattle.tables.specs.meaning.Below.{eachBelow, tabulateFrom}
-use Rattle.tables.specs.laws.Below.{tabulate-from-add}
-use Rattle.tables.specs.meaning.Geometry.{Valid, physicalZones, dataZone}
+use Rattle.tables.specs.meaning.Geometry.{Valid, dataZone}
 use Rattle.tables.specs.laws.Xor.{xor-below-cong}
 use Rattle.tables.specs.meaning.Placement.{needed, stripeOf, stripeLength, parityDrive, address, addressAt, driveOf, sectorOf}
 use Rattle.tables.specs.laws.Placement.{needed-iff, needed-parity, needed-start, complete-lt, place-onto}
-use Rattle.tables.specs.meaning.Device.{Device, Store, append}
+use Rattle.tables.specs.meaning.Device.{Device, Store}
 use Rattle.tables.specs.meaning.Phases.{onPresent}
 use Rattle.volume.specs.declared.Look.{Look}
 use Rattle.volume.specs.meaning.Content.{contentAt, rowXor, rowXorBelow}
 use Rattle.volume.specs.meaning.Calls.{appendAll}
 use Rattle.volume.specs.meaning.Rules.{Shown}
 use Rattle.volume.specs.meaning.Mount.{fillStep}
-use Rattle.volume.specs.writing.ParityBuffer.{present-all}
-use Rattle.volume.specs.mounting.MountTables.{StoresIn, each-in, on-present-in}
+use Rattle.volume.specs.rows.RowStores.{present-all, rowsIf, rows-in}
+use Rattle.volume.specs.rows.KeptBelow.{StoresIn, each-in, on-present-in}
 use Rattle.volume.specs.mounting.MountLook.{zoneLook, stays, pointed-stays}
 use Rattle.volume.specs.mounting.MountRows.{KnownBelow, valuesOf}
 use Rattle.volume.specs.mounting.MountValues.{shownAt, limitAt}
@@ -50,17 +49,6 @@ pub fill-steps : (g : Geometry) (s : Shown) (w : Device) → fillStep g s w ≡ 
 unfolding fillStep
 fill-steps g s w = refl
 
--- one sector more
-append-all-append : (d y : ℕ) (p q : List (List ℕ)) → appendAll d y (p ++ q) ≡ appendAll d y p ++ appendAll d y q
-append-all-append d y [] q = refl
-append-all-append d y (s ∷ p) q = ap (λ (r : List Store). append d y s ∷ r) (append-all-append d y p q)
-
-pub fill-more : (d y : ℕ) (f : ℕ → List ℕ) (i x : ℕ) → i ≤ x → appendAll d y (tabulateFrom f i (suc x - i)) ≡ appendAll d y (tabulateFrom f i (x - i)) ++ (append d y (f x) ∷ [])
-fill-more d y f i x h =
-    let e : suc x - i ≡ x - i + 1 = omega arith in
-    let k : i + (x - i) ≡ x = omega arith in
-    rw (e, tabulate-from-add f i (x - i) 1, append-all-append d y (tabulateFrom f i (x - i)) (tabulateFrom f (i + (x - i)) 1)) (ap (λ (j : ℕ). appendAll d y (tabulateFrom f i (x - i)) ++ (append d y (f j) ∷ [])) k)
-
 -- one zone of one drive: the drive is not here; nothing is missing; or so many sectors are
 pub fill-absent : (g : Geometry) (a : ℕ → Bool) (s : Shown) (w : Device) (d z : ℕ) → a d ≡ false → onPresent a (fillZone g s w d z) ≡ []
 fill-absent g a s w d z e = rw (present-all a d (dataZone z) (missing g s w d z), e) refl
@@ -69,7 +57,7 @@ pub fill-idle : (g : Geometry) (a : ℕ → Bool) (s : Shown) (w : Device) (d z 
 fill-idle g a s w d z h = let e : needed (g .drives) (g .unit) z (s .zone z .pointer) d - length (w d (dataZone z) .sectors) ≡ 0 = omega arith in rw e refl
 
 pub fill-made : (g : Geometry) (a : ℕ → Bool) (s : Shown) (w : Device) (d z from to : ℕ) → a d ≡ true → from ≡ length (w d (dataZone z) .sectors) → to ≡ needed (g .drives) (g .unit) z (s .zone z .pointer) d
-    → onPresent a (fillZone g s w d z) ≡ appendAll d (dataZone z) (tabulateFrom (contentAt (g .drives) (g .unit) z (s .zone z .value) d) from (to - from))
+    → onPresent a (fillZone g s w d z) ≡ rowsIf true d (dataZone z) (contentAt (g .drives) (g .unit) z (s .zone z .value) d) from to
 fill-made g a s w d z from to e p q = rw (present-all a d (dataZone z) (missing g s w d z), e, p, q) refl
 
 -- ---- what is missing is made of sectors below the pointer
@@ -131,28 +119,18 @@ content-long g here xs ps z generation limit end d x ok k hd h = go (ℕ-discret
         ∙ known-long g ok here xs ps z generation limit end k (addressAt (g .drives) (g .unit) z d x) (data-below (g .drives) (g .unit) z two (ok .unit-least) end d x hd h e)
 
 -- ---- the stores leave alone what the look found
-tabulated-in : (g : Geometry) (b : ℕ → Bool) (d y : ℕ) (f : ℕ → List ℕ) (i n : ℕ) → d < g .drives → y < physicalZones g → b y ≡ true → ((x : ℕ) → i ≤ x → x < i + n → length (f x) ≡ g .sector) → StoresIn g b (appendAll d y (tabulateFrom f i n))
-tabulated-in g b d y f i zero hd hy hb h = tt
-tabulated-in g b d y f i (suc n) hd hy hb h = ((hd, hy, h i (omega arith) (omega arith), hb), tabulated-in g b d y f (suc i) n hd hy hb (λ x l m. h x (omega arith) (omega arith)))
-
 module _ (g : Geometry) (here : List Bool) (k : Look) (ps xs ws : List ℕ) (ok : Valid g) (r : Filling g here k ps xs ws) where
   -- a zone of which something is needed is not reset
   pub filled-stays : (d z x : ℕ) → z < g .zones → x < needed (g .drives) (g .unit) z (zoneLook k z .pointer) d → stays k (dataZone z) ≡ true
   filled-stays d z x hz h = pointed-stays g k z (r .logging .within) hz (λ e. let q : needed (g .drives) (g .unit) z (zoneLook k z .pointer) d ≡ 0 = rw e (needed-none (g .drives) (g .unit) z (omega (arith, ok .drives-least)) (ok .unit-least) d) in omega arith)
 
-  -- sectors i up to i + n of drive d, all of them needed
-  pub fill-part-in : (d z i n : ℕ) → d < g .drives → z < g .zones → i + n ≤ needed (g .drives) (g .unit) z (zoneLook k z .pointer) d
-      → StoresIn g (stays k) (appendAll d (dataZone z) (tabulateFrom (contentAt (g .drives) (g .unit) z (valuesOf g here xs ps z (zoneLook k z .generation)) d) i n))
-  fill-part-in d z i zero hd hz h = tt
-  fill-part-in d z i (suc n) hd hz h =
-      tabulated-in g (stays k) d (dataZone z) (contentAt (g .drives) (g .unit) z (valuesOf g here xs ps z (zoneLook k z .generation)) d) i (suc n) hd (omega arith) (filled-stays d z i hz (omega arith))
-      (λ x l m. content-long g here xs ps z (zoneLook k z .generation) (limitAt g here k xs ps z) (zoneLook k z .pointer) d x ok (r .known-below z hz) hd (omega arith))
-
   pub fill-zone-in : (d z : ℕ) → d < g .drives → z < g .zones → StoresIn g (stays k) (fillZone g (shownAt g here k xs ps) (readDevice g xs ps) d z)
   fill-zone-in d z hd hz = go (decLt (length (readDevice g xs ps d (dataZone z) .sectors)) (needed (g .drives) (g .unit) z (zoneLook k z .pointer) d))
     where
       go : Dec (length (readDevice g xs ps d (dataZone z) .sectors) < needed (g .drives) (g .unit) z (zoneLook k z .pointer) d) → StoresIn g (stays k) (fillZone g (shownAt g here k xs ps) (readDevice g xs ps) d z)
-      go (yes h) = fill-part-in d z (length (readDevice g xs ps d (dataZone z) .sectors)) (needed (g .drives) (g .unit) z (zoneLook k z .pointer) d - length (readDevice g xs ps d (dataZone z) .sectors)) hd hz (omega arith)
+      go (yes h) =
+          rows-in g (stays k) true d (dataZone z) (contentAt (g .drives) (g .unit) z (valuesOf g here xs ps z (zoneLook k z .generation)) d) (length (readDevice g xs ps d (dataZone z) .sectors)) (needed (g .drives) (g .unit) z (zoneLook k z .pointer) d) hd (omega arith) (filled-stays d z (length (readDevice g xs ps d (dataZone z) .sectors)) hz h)
+          (λ _ x l. content-long g here xs ps z (zoneLook k z .generation) (limitAt g here k xs ps z) (zoneLook k z .pointer) d x ok (r .known-below z hz) hd l)
       go (no h) = let e : needed (g .drives) (g .unit) z (zoneLook k z .pointer) d - length (readDevice g xs ps d (dataZone z) .sectors) ≡ 0 = omega arith in rw e tt
 
   pub fill-drive-in : (a : ℕ → Bool) (d n : ℕ) → d < g .drives → n ≤ g .zones → StoresIn g (stays k) (onPresent a (eachBelow (fillZone g (shownAt g here k xs ps) (readDevice g xs ps) d) n))

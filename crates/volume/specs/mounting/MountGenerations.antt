@@ -20,10 +20,8 @@ use Rattle.tables.specs.laws.Lists.{numbers-same}
 use Rattle.tables.specs.meaning.LittleEndian.{sameBytes, readLE}
 use Rattle.tables.specs.laws.LittleEndian.{same-bytes-eq, same-bytes-refl}
 use Rattle.tables.specs.meaning.Geometry.{Valid}
-use Rattle.tables.specs.meaning.Device.{Device, Store, append}
-use Rattle.tables.specs.meaning.Phases.{onPresent}
-use Rattle.tables.specs.laws.Made.{storeIf}
-use Rattle.logs.specs.meaning.Entry.{generalZone, counters, encode}
+use Rattle.tables.specs.meaning.Device.{Device, Store}
+use Rattle.logs.specs.meaning.Entry.{generalZone, counters}
 use Rattle.logs.specs.meaning.Walk.{walkLog}
 use Rattle.logs.specs.code.Query.{headsOf}
 use Rattle.logs.specs.meaning.Heads.{lastCounters}
@@ -34,7 +32,7 @@ use Rattle.volume.specs.declared.Look.{Look}
 use Rattle.volume.specs.meaning.State.{isEmpty}
 use Rattle.volume.specs.meaning.Calls.{appendGeneral, generationsFrom}
 use Rattle.volume.specs.meaning.Mount.{nextGeneration, countersDiffer, counterStep}
-use Rattle.volume.specs.mounting.MountTables.{StoresIn, each-in}
+use Rattle.volume.specs.rows.KeptBelow.{StoresIn, each-in}
 use Rattle.volume.specs.mounting.MountLook.{zoneLook, shownBy, stays, log-stays}
 
 -- ---- two lists of one length, compared number by number
@@ -114,13 +112,6 @@ counterStores g cs m = eachBelow (λ d. appendGeneral g (counters cs) d) m
 pub counter-steps : (g : Geometry) (a : ℕ → Bool) (k : Look) (w : Device) → counterStep g a (shownBy k) w ≡ pick (countersDue g a k w) (counterStores g (generationsFrom (nextGeneration (shownBy k)) zero (g .zones)) (g .drives)) []
 unfolding counterStep countersDue
 counter-steps g a k w = refl
-
-pub counter-one : (g : Geometry) (a : ℕ → Bool) (cs : List ℕ) (d : ℕ) → onPresent a (appendGeneral g (counters cs) d) ≡ storeIf (a d) (append d generalZone (encode g d (counters cs)))
-counter-one g a cs d = go (a d) refl
-  where
-    go : (b : Bool) → a d ≡ b → onPresent a (appendGeneral g (counters cs) d) ≡ storeIf b (append d generalZone (encode g d (counters cs)))
-    go true e = rw e refl
-    go false e = rw e refl
 
 pub counters-in : (g : Geometry) (k : Look) (cs : List ℕ) (m : ℕ) → Valid g → length cs ≡ g .zones → m ≤ g .drives → StoresIn g (stays k) (counterStores g cs m)
 counters-in g k cs m ok l h = each-in g (stays k) (λ d. appendGeneral g (counters cs) d) m (λ d q. ((omega arith, omega arith, header-long g d (counters cs) ok l, log-stays k generalZone (omega arith)), tt))

@@ -31,7 +31,8 @@ use Rattle.volume.specs.meaning.State.{isSealed}
 use Rattle.volume.specs.meaning.Rules.{generalHeads}
 use Rattle.volume.specs.meaning.Calls.{appendGeneral, logsReset}
 use Rattle.volume.specs.meaning.Mount.{labelStep, resetEntryStep, sealStep}
-use Rattle.volume.specs.mounting.MountTables.{seen-sectors, StoresIn, each-in, on-present-in, pick-in, Behind, made-keeps, kept-device}
+use Rattle.volume.specs.rows.KeptBelow.{StoresIn, each-in, on-present-in, pick-in, Behind, made-keeps, kept-device}
+use Rattle.volume.specs.mounting.MountTables.{seen-sectors}
 use Rattle.volume.specs.mounting.MountLook.{zoneLook, shownBy, LookWithin, stays, log-stays}
 use Rattle.volume.specs.looking.Knowing.{readDevice}
 

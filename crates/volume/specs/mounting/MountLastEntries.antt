@@ -13,7 +13,7 @@ use borrow.Author.Tests.{lt-ltb, le-ltb, ltb-true, eq-eqb, ne-eqb}
 use Rattle.tables.specs.declared.Geometry.{Geometry}
 use Rattle.tables.specs.meaning.Basics.{pick}
 use Rattle.tables.specs.laws.Basics.{and-split}
-use Rattle.tables.specs.meaning.Below.{eachBelow}
+use Rattle.tables.specs.meaning.Below.{eachBelow, tabulateFrom}
 use Rattle.tables.specs.meaning.Lists.{anyOf}
 use Rattle.tables.specs.meaning.Geometry.{Valid, stripeSectors, cells}
 use Rattle.tables.specs.meaning.Placement.{stripeOf}
@@ -27,16 +27,17 @@ use Rattle.logs.specs.code.Query.{headOf, headsOf}
 use Rattle.logs.specs.meaning.Walk.{walkLog, sectorsOf}
 use Rattle.logs.specs.code.WalkCode.{logSectors}
 use Rattle.volume.specs.declared.Look.{Look}
-use Rattle.volume.specs.meaning.Content.{insideStripe, fillOf, parityDriveAt, entryHeader, entryAt}
+use Rattle.volume.specs.meaning.Content.{rowXorBelow, insideStripe, fillOf, parityDriveAt, entryHeader, entryAt}
 use Rattle.volume.specs.meaning.Rules.{Shown, parityEntries}
 use Rattle.volume.specs.meaning.Calls.{appendAll}
 use Rattle.volume.specs.meaning.Mount.{entryStep}
 use Rattle.volume.specs.looking.KnowingLaws.{sectors-alike}
-use Rattle.volume.specs.writing.ParityBuffer.{present-all}
-use Rattle.volume.specs.mounting.MountTables.{seen-sectors, StoresIn, each-in, pick-in, Behind, made-keeps, kept-device}
+use Rattle.volume.specs.rows.RowStores.{present-all, rowsIf, rows-in}
+use Rattle.volume.specs.rows.KeptBelow.{StoresIn, each-in, pick-in, Behind, made-keeps, kept-device}
+use Rattle.volume.specs.mounting.MountTables.{seen-sectors}
 use Rattle.volume.specs.mounting.MountLook.{zoneLook, shownWith, stays, log-stays}
 use Rattle.volume.specs.mounting.MountValues.{shownAt, limitAt, Restoring}
-use Rattle.volume.specs.mounting.MountParityRows.{storedRow, logRows, Rowing, behind-logs, stored-rows-in}
+use Rattle.volume.specs.laws.KnownLengths.{known-row-long}
 use Rattle.volume.specs.mounting.MountRestoring.{Filling, filling, filled}
 use Rattle.volume.specs.looking.Knowing.{readDevice}
 
@@ -158,27 +159,16 @@ header-in g b d z s f n ok hd hb = ((hd, omega arith, partial-long g d z s f n o
 
 -- "min(f, U) row sectors follow": the rows of the entry at pointer p
 abbrev pub entryRows : Geometry → (ℕ → List ℕ) → ℕ → ℕ → List Store
-entryRows g S d p = logRows d (storedRow g S true (stripeOf (g .drives) (g .unit) p) p) 0 (min (fillOf g p) (g .unit) - 0)
+entryRows g S d p = rowsIf true d parityZone (rowXorBelow (g .drives) (g .unit) S (stripeOf (g .drives) (g .unit) p) p) 0 (min (fillOf g p) (g .unit))
 
 abbrev pub entryParts : Geometry → ℕ → ℕ → ℕ → (ℕ → List ℕ) → ℕ → List Store
 entryParts g d z n S p = (append d parityZone (encode g d (entryHeader g z n p)) ∷ []) ++ entryRows g S d p
 
 pub entry-parts : (g : Geometry) (d z n : ℕ) (S : ℕ → List ℕ) (p : ℕ) → appendAll d parityZone (sectorsOf g d true (entryAt g z n S p)) ≡ entryParts g d z n S p
 unfolding entryAt
-entry-parts g d z n S p = ap (λ (m : ℕ). append d parityZone (encode g d (entryHeader g z n p)) ∷ logRows d (storedRow g S true (stripeOf (g .drives) (g .unit) p) p) 0 m) (sym (sub-zero (min (fillOf g p) (g .unit))))
+entry-parts g d z n S p = ap (λ (m : ℕ). append d parityZone (encode g d (entryHeader g z n p)) ∷ appendAll d parityZone (tabulateFrom (rowXorBelow (g .drives) (g .unit) S (stripeOf (g .drives) (g .unit) p) p) 0 m)) (sym (sub-zero (min (fillOf g p) (g .unit))))
 
 module _ (g : Geometry) (here : List Bool) (k : Look) (ps xs ws : List ℕ) (ok : Valid g) (fill : Filling g here k ps xs ws) where
-  pub entry-rowing : (z : ℕ) → z < g .zones → stripeOf (g .drives) (g .unit) (zoneLook k z .pointer) * stripeSectors g < zoneLook k z .pointer
-      → Rowing g here ps xs ws z (zoneLook k z .generation) (limitAt g here k xs ps z) true (stripeOf (g .drives) (g .unit) (zoneLook k z .pointer)) (zoneLook k z .pointer) (min (fillOf g (zoneLook k z .pointer)) (g .unit))
-  entry-rowing z h l = record {
-    sectors-long = fill .logging .sectors-long;
-    written-long = fill .logging .written-long;
-    behind = behind-logs g k ps ws (fill .logging .behind);
-    known-below = λ e. fill .known-below z h;
-    rows-below = omega (arith, l);
-    rows-most = omega arith;
-  }
-
   new-in : (d z : ℕ) → d < g .drives → z < g .zones → stripeOf (g .drives) (g .unit) (zoneLook k z .pointer) * stripeSectors g < zoneLook k z .pointer → StoresIn g (stays k) (newEntry g (shownAt g here k xs ps) d z)
   new-in d z hd hz l =
       let p = zoneLook k z .pointer in
@@ -186,7 +176,8 @@ module _ (g : Geometry) (here : List Bool) (k : Look) (ps xs ws : List ℕ) (ok 
       let b = log-stays k parityZone (omega arith) in
       subst (λ (stores : List Store). StoresIn g (stays k) stores) (sym (entry-parts g d z n (shownAt g here k xs ps .zone z .value) p)) (
         header-in g (stays k) d z (stripeOf (g .drives) (g .unit) p) (fillOf g p) n ok hd b .0,
-        stored-rows-in g here ps xs ws z n (limitAt g here k xs ps z) true (stripeOf (g .drives) (g .unit) p) p (min (fillOf g p) (g .unit)) (entry-rowing z hz l) ok (stays k) b d 0 (min (fillOf g p) (g .unit) - 0) hd (omega arith),
+        rows-in g (stays k) true d parityZone (rowXorBelow (g .drives) (g .unit) (shownAt g here k xs ps .zone z .value) (stripeOf (g .drives) (g .unit) p) p) 0 (min (fillOf g p) (g .unit)) hd (omega arith) b
+            (λ _ r h. known-row-long g ok here xs ps z n (limitAt g here k xs ps z) p (fill .known-below z hz) (stripeOf (g .drives) (g .unit) p) r (omega arith) (omega (arith, l, h))),
       )
 
   pub entry-in : (es : List Entry) (d z : ℕ) → d < g .drives → z < g .zones → StoresIn g (stays k) (zoneEntryStores g k (shownAt g here k xs ps) es d z)

@@ -12,7 +12,7 @@ use Rattle.tables.specs.meaning.Phases.{onPresent}
 use Rattle.tables.specs.laws.Made.{storeIf}
 use Rattle.volume.specs.declared.Look.{Look}
 use Rattle.volume.specs.meaning.Mount.{zoneResetStep}
-use Rattle.volume.specs.mounting.MountTables.{StoresIn, each-in, pick-in}
+use Rattle.volume.specs.rows.KeptBelow.{StoresIn, each-in, pick-in}
 use Rattle.volume.specs.mounting.MountLook.{zoneLook, shownBy, resetNeeded, stays, data-stays}
 use Rattle.tables.specs.meaning.Geometry.{dataZone}
 

@@ -11,12 +11,11 @@ use Rattle.tables.specs.meaning.Device.{Store}
 use Rattle.tables.specs.meaning.Tables.{Tables, tablesOf}
 use Rattle.tables.specs.laws.Made.{Made, MadeAppends}
 use Rattle.volume.specs.declared.Look.{Look}
-use Rattle.volume.specs.mounting.MountTables.{StoresIn, made-keeps, kept-device}
+use Rattle.volume.specs.rows.KeptBelow.{StoresIn, made-keeps, kept-device}
 use Rattle.volume.specs.mounting.MountLook.{zoneLook, stays}
 use Rattle.volume.specs.mounting.MountHeaders.{Logging}
-use Rattle.volume.specs.mounting.MountRows.{KnownBelow}
+use Rattle.volume.specs.mounting.MountRows.{KnownBelow, known-kept}
 use Rattle.volume.specs.mounting.MountValues.{limitAt, Restoring}
-use Rattle.volume.specs.mounting.MountParityRows.{known-kept}
 use Rattle.volume.specs.looking.Knowing.{readDevice}
 
 -- what is known stays known where the device of the look is the same

@@ -1,17 +1,13 @@
--- Rows that a mount stores: the exclusive or of the values of a row's sectors below an end (document 01, types 4; and the parity of a complete
--- stripe, where all of them are below it).
-use mathlib.Core.Path.{_≡_, refl, sym}
-use mathlib.Core.Bool.{Bool, true, false}
-use Prim.Native.Nat.{ℕ, _+_, _-_, _*_, _≤_, _<_}
-use mathlib.Core.List.{List, []}
-use lib.Dec.{ltb}
+-- The values that a mount restores from: those of a zone's sectors below an end, all of them known.
+use mathlib.Core.Path.{_≡_, sym, ap, _∙_}
+use mathlib.Core.Bool.{Bool, true}
+use Prim.Native.Nat.{ℕ, _≤_, _<_}
+use native.Mathlib.Omega.{arith}
+use mathlib.Core.List.{List}
+use lib.ListN.{length}
 use Rattle.tables.specs.declared.Geometry.{Geometry}
-use Rattle.tables.specs.meaning.Basics.{pick}
-use Rattle.tables.specs.meaning.Xor.{xorBytes, xorBelow}
-use Rattle.tables.specs.laws.Xor.{xor-nil}
-use Rattle.tables.specs.meaning.Placement.{address}
-use Rattle.tables.specs.meaning.Geometry.{zoneSectors, stripeSectors}
-use Rattle.volume.specs.meaning.Content.{rowXorBelow}
+use Rattle.tables.specs.meaning.Device.{Device}
+use Rattle.tables.specs.meaning.Geometry.{zoneSectors, totalBytes}
 use Rattle.volume.specs.meaning.Rules.{known, zoneView, sealLimit, valueAt}
 use Rattle.volume.specs.meaning.CallContracts.{isSet}
 use Rattle.volume.specs.looking.Knowing.{Readable, readDevice}
@@ -27,21 +23,16 @@ pub record KnownBelow (g : Geometry) (here : List Bool) (xs ps : List ℕ) (z ge
 abbrev pub valuesOf : Geometry → List Bool → List ℕ → List ℕ → ℕ → ℕ → ℕ → List ℕ
 valuesOf g here xs ps z generation = valueAt g (isSet here) (readDevice g xs ps) z generation
 
--- a member of a row, if it is below the end
-abbrev pub memberBelow : (ℕ → List ℕ) → ℕ → ℕ → List ℕ
-memberBelow S end a = pick (ltb a end) (S a) []
+-- known values stay known while the sectors below the pointers stay
+pub known-kept : (g : Geometry) (here : List Bool) (xs xs′ ps : List ℕ) (z generation limit end : ℕ) → length xs′ ≡ totalBytes g → readDevice g xs′ ps ≡ readDevice g xs ps → KnownBelow g here xs ps z generation limit end
+    → KnownBelow g here xs′ ps z generation limit end
+known-kept g here xs xs′ ps z generation limit end l e k = record {
+  readable = record { zone-in = k .readable .zone-in; sectors-long = l; written-long = k .readable .written-long; pointers = k .readable .pointers };
+  limit-is = k .limit-is ∙ sym (ap (λ (w : Device). sealLimit g (isSet here) w z generation) e);
+  end-most = k .end-most;
+  all-known = λ a h. ap (λ (w : Device). known (g .drives) (g .unit) z (zoneView g (isSet here) w z generation) a) e ∙ k .all-known a h;
+}
 
-pub member-added : (S : ℕ → List ℕ) (end a : ℕ) (ys : List ℕ) → pick (ltb a end) (xorBytes ys (S a)) ys ≡ xorBytes ys (memberBelow S end a)
-member-added S end a ys = go (ltb a end)
-  where
-    go : (b : Bool) → pick b (xorBytes ys (S a)) ys ≡ xorBytes ys (pick b (S a) [])
-    go true = refl
-    go false = sym (xor-nil ys)
-
--- the row's members below k
-abbrev pub rowTo : Geometry → (ℕ → List ℕ) → ℕ → ℕ → ℕ → ℕ → List ℕ
-rowTo g S s r end k = xorBelow (λ j. memberBelow S end (s * stripeSectors g + (j * g .unit + r))) k
-
-pub row-is : (g : Geometry) (S : ℕ → List ℕ) (s r end : ℕ) → rowTo g S s r end (g .drives - 1) ≡ rowXorBelow (g .drives) (g .unit) S s end r
-unfolding rowXorBelow address
-row-is g S s r end = refl
+-- known below an end, so below any lower one
+pub known-lower : (g : Geometry) (here : List Bool) (xs ps : List ℕ) (z generation limit end low : ℕ) → low ≤ end → KnownBelow g here xs ps z generation limit end → KnownBelow g here xs ps z generation limit low
+known-lower g here xs ps z generation limit end low h k = record { readable = k .readable; limit-is = k .limit-is; end-most = omega (arith, k .end-most); all-known = λ a l. k .all-known a (omega arith) }

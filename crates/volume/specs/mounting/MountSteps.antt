@@ -18,7 +18,8 @@ use Rattle.volume.specs.declared.mount_logs.HeaderKind.the-variants.{Lab
 use Rattle.volume.specs.meaning.Calls.{generationsFrom}
 use Rattle.volume.specs.meaning.CallContracts.{isSet}
 use Rattle.volume.specs.meaning.Mount.{withFlush, withFlushes, zoneResetStep, counterStep, tornRowStep, fillStep, nextGeneration}
-use Rattle.volume.specs.mounting.MountTables.{StoresIn, with-flush-in, pick-in}
+use Rattle.volume.specs.rows.KeptBelow.{StoresIn, pick-in}
+use Rattle.volume.specs.mounting.MountTables.{with-flush-in}
 use Rattle.volume.specs.mounting.MountLook.{shownBy, stays}
 use Rattle.volume.specs.mounting.MountHeaders.{headersBy, headers-in}
 use Rattle.volume.specs.mounting.MountValues.{shownIn, Restoring}

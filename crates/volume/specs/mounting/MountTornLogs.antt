@@ -3,16 +3,15 @@
 use mathlib.Core.Path.{_≡_, refl, sym, ap, ap₂, _∙_}
 use mathlib.Core.Logic.{_≢_}
 use mathlib.Core.Bool.{Bool, true, false, _&&_}
-use Prim.Native.Nat.{ℕ, suc, _+_, _-_, _*_, _≤_, _<_, min}
+use Prim.Native.Nat.{ℕ, zero, suc, _+_, _-_, _*_, _≤_, _<_, min}
 use native.Mathlib.Nat.{le-refl}
 use native.Mathlib.Omega.{arith}
-use mathlib.Core.List.{List, []}
-use lib.ListN.{length, getD, length-drop}
+use mathlib.Core.List.{List, [], _∷_}
+use lib.ListN.{length, getD, take, length-drop, replicate, length-replicate}
 use lib.Dec.{leb, eqb}
 use borrow.Author.Tests.{leb-true}
 use Rattle.tables.specs.declared.Geometry.{Geometry}
 use Rattle.tables.specs.meaning.Basics.{pick}
-use Rattle.tables.specs.laws.Basics.{and-split}
 use Rattle.tables.specs.meaning.Below.{eachBelow, tabulateFrom}
 use Rattle.tables.specs.laws.Below.{length-tabulate}
 use Rattle.tables.specs.meaning.Geometry.{Valid, stripeSectors, zoneSectors}
@@ -30,22 +29,20 @@ use Rattle.logs.specs.code.WalkCode.{logSectors, walkEndAt, walkEndOf}
 use Rattle.logs.specs.declared.WalkEnd.the-variants.{Torn}
 use Rattle.logs.specs.laws.Places.{EndsAt, walk-places}
 use Rattle.volume.specs.declared.Look.{Look}
-use Rattle.volume.specs.meaning.Rules.{Shown, parityEnding}
+use Rattle.volume.specs.meaning.Content.{rowXorBelow}
+use Rattle.volume.specs.meaning.Rules.{Shown, ZoneShown, parityEnding}
 use Rattle.volume.specs.meaning.Calls.{appendAll}
 use Rattle.volume.specs.meaning.Mount.{rowFor, missingRows, tornRowStep}
-use Rattle.volume.specs.writing.ParityBuffer.{present-all}
-use Rattle.volume.specs.mounting.MountTables.{seen-sectors, StoresIn, each-in}
+use Rattle.volume.specs.rows.RowStores.{present-all, rowsIf, rows-in}
+use Rattle.volume.specs.rows.KeptBelow.{StoresIn, each-in}
+use Rattle.volume.specs.mounting.MountTables.{seen-sectors}
 use Rattle.volume.specs.mounting.MountLook.{zoneLook, stays, log-stays}
-use Rattle.volume.specs.mounting.MountRows.{KnownBelow}
+use Rattle.volume.specs.mounting.MountRows.{known-lower}
 use Rattle.volume.specs.mounting.MountValues.{shownAt, limitAt}
-use Rattle.volume.specs.mounting.MountParityRows.{Rowing, behind-logs, stored-rows-in}
+use Rattle.volume.specs.laws.KnownLengths.{known-row-long}
 use Rattle.volume.specs.mounting.MountRestoring.{Filling}
 use Rattle.logs.specs.code.Judge as judge
 use Rattle.volume.specs.looking.Knowing.{readDevice}
-
--- known below the pointer, so below any end at or below it
-pub known-lower : (g : Geometry) (here : List Bool) (xs ps : List ℕ) (z generation limit end low : ℕ) → low ≤ end → KnownBelow g here xs ps z generation limit end → KnownBelow g here xs ps z generation limit low
-known-lower g here xs ps z generation limit end low h k = record { readable = k .readable; limit-is = k .limit-is; end-most = omega (arith, k .end-most); all-known = λ a l. k .all-known a (omega arith) }
 
 -- ---- the rows missing, by what the code has found: the torn entry's header, and how many of its rows are there
 abbrev pub missingSeen : Geometry → Shown → Found → ℕ → List (List ℕ)
@@ -55,6 +52,24 @@ missingSeen g k Counters c = []
 missingSeen g k (Resets z n) c = []
 missingSeen g k (Partial z s f n) c = tabulateFrom (rowFor g (k .zone z) s f n) c (min f (g .unit) - c)
 missingSeen g k (Seal z p n) c = []
+
+-- an entry is completed with true rows if it is current and ends at or below the pointer shown, else with zeros
+abbrev pub zeroRow : Geometry → ℕ → List ℕ
+zeroRow g r = replicate (g .sector) 0
+
+module _ (g : Geometry) (v : ZoneShown) (d s f n from : ℕ) where
+  pub rows-current : eqb n (v .generation) && leb (s * stripeSectors g + f) (v .pointer) ≡ true
+      → rowsIf true d parityZone (rowFor g v s f n) from (min f (g .unit)) ≡ rowsIf true d parityZone (rowXorBelow (g .drives) (g .unit) (v .value) s (s * stripeSectors g + f)) from (min f (g .unit))
+  rows-current e = ap (λ (b : Bool). rowsIf true d parityZone (λ r. pick b (rowXorBelow (g .drives) (g .unit) (v .value) s (s * stripeSectors g + f) r) (replicate (g .sector) 0)) from (min f (g .unit))) e
+
+  pub rows-stale : eqb n (v .generation) && leb (s * stripeSectors g + f) (v .pointer) ≡ false → rowsIf true d parityZone (rowFor g v s f n) from (min f (g .unit)) ≡ rowsIf true d parityZone (zeroRow g) from (min f (g .unit))
+  rows-stale e = ap (λ (b : Bool). rowsIf true d parityZone (λ r. pick b (rowXorBelow (g .drives) (g .unit) (v .value) s (s * stripeSectors g + f) r) (replicate (g .sector) 0)) from (min f (g .unit))) e
+
+-- a part of a buffer of zeros
+pub take-zeros : (n m : ℕ) → n ≤ m → take n (replicate {A = ℕ} m 0) ≡ replicate n 0
+take-zeros zero m h = refl
+take-zeros (suc n) zero h = absurd (omega arith)
+take-zeros (suc n) (suc m) h = ap (λ (l : List ℕ). 0 ∷ l) (take-zeros n m (omega arith))
 
 -- what the code needs to know of it
 abbrev pub TornFits : Geometry → Found → ℕ → Type 0
@@ -153,29 +168,23 @@ module _ (g : Geometry) (k : Shown) (xs ps : List ℕ) (a : ℕ → Bool) (d n :
       torn-made t = torn-here g k (readDevice g xs ps) a d t ∙ ap (λ (l : Ending). appendAll d parityZone (missingRows g k l)) ending-is ∙ ap (appendAll d parityZone) (there .1 ∙ ap₂ (missingSeen g k) (sym w) rows-are)
 
 module _ (g : Geometry) (here : List Bool) (k : Look) (ps xs ws : List ℕ) (ok : Valid g) (fill : Filling g here k ps xs ws) where
-  -- an entry is completed with true rows if it is current and ends at or below the pointer shown
-  abbrev pub isCurrent : ℕ → ℕ → ℕ → Bool
-  isCurrent z end n = eqb n (zoneLook k z .generation) && leb end (zoneLook k z .pointer)
-
-  pub torn-rowing : (z s f n : ℕ) → z < g .zones → Rowing g here ps xs ws z (zoneLook k z .generation) (limitAt g here k xs ps z) (isCurrent z (s * stripeSectors g + f) n) s (s * stripeSectors g + f) (min f (g .unit))
-  torn-rowing z s f n h = record {
-    sectors-long = fill .logging .sectors-long;
-    written-long = fill .logging .written-long;
-    behind = behind-logs g k ps ws (fill .logging .behind);
-    known-below = λ e.
-        let (p, q) = and-split (eqb n (zoneLook k z .generation)) (leb (s * stripeSectors g + f) (zoneLook k z .pointer)) e in
-        known-lower g here xs ps z (zoneLook k z .generation) (limitAt g here k xs ps z) (zoneLook k z .pointer) (s * stripeSectors g + f) (leb-true (s * stripeSectors g + f) (zoneLook k z .pointer) q) (fill .known-below z h);
-    rows-below = omega arith;
-    rows-most = omega arith;
-  }
+  -- a row that completes an entry is one sector long: a true one if it is current and ends at or below the pointer shown, else zeros
+  row-for-long : (z s f n r : ℕ) → z < g .zones → r < min f (g .unit) → length (rowFor g (shownAt g here k xs ps .zone z) s f n r) ≡ g .sector
+  row-for-long z s f n r hz h = go (eqb n (zoneLook k z .generation)) (leb (s * stripeSectors g + f) (zoneLook k z .pointer)) refl
+    where
+      go : (b c : Bool) → leb (s * stripeSectors g + f) (zoneLook k z .pointer) ≡ c → length (pick (b && c) (rowXorBelow (g .drives) (g .unit) (shownAt g here k xs ps .zone z .value) s (s * stripeSectors g + f) r) (replicate (g .sector) 0)) ≡ g .sector
+      go true true e =
+          known-row-long g ok here xs ps z (zoneLook k z .generation) (limitAt g here k xs ps z) (s * stripeSectors g + f)
+          (known-lower g here xs ps z (zoneLook k z .generation) (limitAt g here k xs ps z) (zoneLook k z .pointer) (s * stripeSectors g + f) (leb-true (s * stripeSectors g + f) (zoneLook k z .pointer) e) (fill .known-below z hz)) s r (omega arith) (omega arith)
+      go true false e = length-replicate {A = ℕ} (g .sector) 0
+      go false c e = length-replicate {A = ℕ} (g .sector) 0
 
   missing-in : (d c : ℕ) (f : Found) → d < g .drives → TornFits g f c → StoresIn g (stays k) (appendAll d parityZone (missingSeen g (shownAt g here k xs ps) f c))
   missing-in d c Bad hd t = tt
   missing-in d c (Label x a) hd t = tt
   missing-in d c Counters hd t = tt
   missing-in d c (Resets z n) hd t = tt
-  missing-in d c (Partial z s f n) hd t =
-      stored-rows-in g here ps xs ws z (zoneLook k z .generation) (limitAt g here k xs ps z) (isCurrent z (s * stripeSectors g + f) n) s (s * stripeSectors g + f) (min f (g .unit)) (torn-rowing z s f n (t .0)) ok (stays k) (log-stays k parityZone (omega arith)) d c (min f (g .unit) - c) hd (omega (arith, t .2))
+  missing-in d c (Partial z s f n) hd t = rows-in g (stays k) true d parityZone (rowFor g (shownAt g here k xs ps .zone z) s f n) c (min f (g .unit)) hd (omega arith) (log-stays k parityZone (omega arith)) (λ _ r h. row-for-long z s f n r (t .0) h)
   missing-in d c (Seal z p n) hd t = tt
 
   pub torn-drive-in : (d : ℕ) → d < g .drives → StoresIn g (stays k) (tornStores g (shownAt g here k xs ps) (readDevice g xs ps) d)

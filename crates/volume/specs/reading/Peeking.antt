@@ -2,11 +2,11 @@
 use mathlib.Core.Path.{_≡_, refl, sym, ap, ap₂, _∙_}
 use mathlib.Core.Logic.{_≢_}
 use mathlib.Core.Bool.{Bool, true, false, _&&_, not}
-use Prim.Native.Nat.{ℕ, _+_, _*_, _<_}
+use Prim.Native.Nat.{ℕ, _+_, _*_, _≤_, _<_}
 use native.Mathlib.Omega.{arith}
 use mathlib.Core.List.{List, [], _∷_, _++_}
 use lib.ListN.{length}
-use lib.Dec.{eqb}
+use lib.Dec.{ltb, eqb}
 use borrow.Author.Tests.{eq-eqb, ne-eqb}
 use Rattle.tables.specs.declared.Geometry.{Geometry}
 use Rattle.tables.specs.meaning.Basics.{pick}
@@ -16,16 +16,18 @@ use Rattle.tables.specs.meaning.Placement.{driveOf, sectorOf}
 use Rattle.tables.specs.laws.Placement.{drive-below}
 use Rattle.tables.specs.meaning.Device.{Device}
 use Rattle.tables.specs.meaning.Tables.{lengthsFit, bufferFits, pointersBad, Tables, tablesOf, deviceOf}
+use Rattle.volume.specs.declared.Condition.{Condition}
 use Rattle.volume.specs.declared.State.{State}
-use Rattle.volume.specs.meaning.State.{StateView, callPresent}
+use Rattle.volume.specs.meaning.State.{StateView, callPresent, pointerIn}
 use Rattle.volume.specs.meaning.Rules.{View, heldAt}
 use Rattle.volume.specs.meaning.Refusals.{firstRefusal, stateWithin, twoAbsent, stale, noZone, unwritten, notHeld, zoneOf, offsetOf, peekRows}
 use Rattle.volume.specs.meaning.Answers.{placeOf}
-use Rattle.volume.specs.meaning.CallContracts.{viewState, isSet, verdictNumber, peekNumber, partAt, peekOn, byteOf, peekFrom, past}
+use Rattle.volume.specs.meaning.CallContracts.{viewState, recordAt, isSet, verdictNumber, peekNumber, partAt, peekOn, byteOf, peekFrom, past}
 use Rattle.volume.specs.checks.CheckLaws.{presentList, present-is, absent-two, openingNumber, Opened, opened, after-four}
+use Rattle.volume.specs.checks.ZoneChecks.{staleOn}
 use Rattle.volume.specs.looking.Knowing.{readDevice, Readable, ownHeld}
 use Rattle.volume.specs.looking.KnowingLaws.{view-durable, held-is}
-use Rattle.volume.specs.reading.Reading.{zoneRows, zoneNumber, after-two, three, zone-on-in, second-is}
+use Rattle.volume.specs.reading.Reading.{zoneRows, zoneNumber, after-two, after-zone, three, opened-readable, zone-on-in, second-is, second-in, second-out}
 
 -- ---- the rows after those of its zone
 abbrev pub placeRows : Geometry → (ℕ → Bool) → Device → StateView → ℕ → ℕ → List (ℕ × Bool)
@@ -34,13 +36,13 @@ placeRows g present v state z offset = (13, unwritten state z offset 1) ∷ (15,
 unfoldable pub placeNumber : Geometry → (ℕ → Bool) → Device → StateView → ℕ → ℕ → ℕ
 placeNumber g present v state z offset = verdictNumber (firstRefusal (placeRows g present v state z offset))
 
--- on the written pointers
-unfoldable pub placeNumberOn : Geometry → List Bool → List ℕ → State → ℕ → ℕ → ℕ
-placeNumberOn g here ws s z offset = pick (unwritten (viewState s) z offset 1) 13 (pick (ownHeld g here ws z offset) 0 15)
+-- refusals 7, 13 and 15 on the written pointers, of a zone that there is
+unfoldable pub placeNumberOn : Geometry → List Bool → List ℕ → Condition → ℕ → ℕ → ℕ
+placeNumberOn g here ws c z offset = pick (staleOn g (isSet here) ws c z) 7 (pick (ltb (pointerIn c) (offset + 1)) 13 (pick (ownHeld g here ws z offset) 0 15))
 
 -- ---- laws
-pub place-number-is : (g : Geometry) (here : List Bool) (xs ws : List ℕ) (z : ℕ) (s : State) (offset : ℕ) → Valid g → Readable g here xs ws z → placeNumberOn g here ws s z offset ≡ placeNumber g (isSet here) (readDevice g xs ws) (viewState s) z offset
-unfolding placeNumber placeNumberOn notHeld
+place-number-is : (g : Geometry) (here : List Bool) (xs ws : List ℕ) (z : ℕ) (s : State) (offset : ℕ) → Valid g → Readable g here xs ws z → pick (unwritten (viewState s) z offset 1) 13 (pick (ownHeld g here ws z offset) 0 15) ≡ placeNumber g (isSet here) (readDevice g xs ws) (viewState s) z offset
+unfolding placeNumber notHeld
 place-number-is g here xs ws z s offset ok r =
     rw (held-is g here xs ws z r (viewState s .generation z) (driveOf (g .drives) (g .unit) z offset) (sectorOf (g .drives) (g .unit) offset) (drive-below (g .drives) (g .unit) z (omega (arith, ok .drives-least)) (ok .unit-least) offset))
     (go (unwritten (viewState s) z offset 1) (ownHeld g here ws z offset))
@@ -85,17 +87,22 @@ module _ (g : Geometry) (named : List Bool) (s : State) (a : ℕ) (xs ws ds : Li
   pub peek-first : first ≢ 0 → first ≡ peekNumber g named s a (tablesOf xs ws ds)
   peek-first h = sym (peek-number-is ∙ ap (λ (b : Bool). pick b (pick (eqb second 0) third second) first) (ne-eqb first 0 h))
 
-  pub peek-second : first ≡ 0 → second ≢ 0 → second ≡ peekNumber g named s a (tablesOf xs ws ds)
-  peek-second e h = sym (peek-number-is ∙ ap₂ (λ (b c : Bool). pick b (pick c third second) first) (eq-eqb first 0 e) (ne-eqb second 0 h))
-
-  pub peek-third : first ≡ 0 → second ≡ 0 → third ≡ peekNumber g named s a (tablesOf xs ws ds)
-  peek-third e f = sym (peek-number-is ∙ ap₂ (λ (b c : Bool). pick b (pick c third second) first) (eq-eqb first 0 e) (eq-eqb second 0 f))
-
-  pub place-is : Valid g → Readable g (presentList g named (s .lost)) xs ws (zoneOf g a) → placeNumberOn g (presentList g named (s .lost)) ws s (zoneOf g a) (offsetOf g a) ≡ third
-  place-is ok r =
-      place-number-is g (presentList g named (s .lost)) xs ws (zoneOf g a) s (offsetOf g a) ok r
+  third-is : Opened g named s 0 0 (length xs) ws ds → zoneOf g a < g .zones → pick (unwritten (viewState s) (zoneOf g a) (offsetOf g a) 1) 13 (pick (ownHeld g (presentList g named (s .lost)) ws (zoneOf g a) (offsetOf g a)) 0 15) ≡ third
+  third-is o h =
+      place-number-is g (presentList g named (s .lost)) xs ws (zoneOf g a) s (offsetOf g a) (o .valid) (opened-readable g named s 0 0 xs ws ds (zoneOf g a) o h)
       ∙ ap (λ (p : ℕ → Bool). placeNumber g p (readDevice g xs ws) (viewState s) (zoneOf g a) (offsetOf g a)) (present-is g named s)
       ∙ sym (place-durable g (callPresent g (isSet named) (viewState s)) xs ws ds (viewState s) (zoneOf g a) (offsetOf g a))
+
+  pub peek-8 : first ≡ 0 → g .zones ≤ zoneOf g a → 8 ≡ peekNumber g named s a (tablesOf xs ws ds)
+  peek-8 e h = let q = second-out g named s a 0 0 xs ws ds (opened g named s 0 0 (length xs) ws ds e) h in sym (peek-number-is ∙ rw (eq-eqb first 0 e, q) refl)
+
+  pub peek-late : first ≡ 0 → zoneOf g a < g .zones → placeNumberOn g (presentList g named (s .lost)) ws (recordAt s (zoneOf g a) .condition) (zoneOf g a) (offsetOf g a) ≡ peekNumber g named s a (tablesOf xs ws ds)
+  unfolding placeNumberOn
+  peek-late e h =
+      let o = opened g named s 0 0 (length xs) ws ds e in
+      let b = staleOn g (isSet (presentList g named (s .lost))) ws (recordAt s (zoneOf g a) .condition) (zoneOf g a) in
+      ap (λ (n : ℕ). pick b 7 n) (third-is o h) ∙ after-zone b second third (second-in g named s a 0 0 xs ws ds o h)
+      ∙ sym (peek-number-is ∙ ap (λ (c : Bool). pick c (pick (eqb second 0) third second) first) (eq-eqb first 0 e))
 
   -- what an accepted peek may rely on
   pub record PeekFits : Type 0 where

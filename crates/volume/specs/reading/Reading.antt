@@ -24,12 +24,13 @@ use Rattle.tables.specs.laws.Sizes.{zone-small}
 use Rattle.tables.specs.meaning.Placement.{needed}
 use Rattle.tables.specs.meaning.Device.{Device}
 use Rattle.tables.specs.meaning.Tables.{lengthsFit, bufferFits, pointersBad, Tables, tablesOf, deviceOf, cell}
+use Rattle.volume.specs.declared.Condition.{Condition}
 use Rattle.volume.specs.declared.State.{State}
 use Rattle.volume.specs.declared.Answer.the-variants.{Finished, Refused}
 use Rattle.volume.specs.meaning.State.{pointerIn, StateView, callPresent}
 use Rattle.volume.specs.meaning.Rules.{View, valueOf, known, valueAt}
 use Rattle.volume.specs.checks.ZoneChecks.{staleOn, Reached, reached}
-use Rattle.volume.specs.meaning.Refusals.{stateWithin, twoAbsent, firstRefusal, staleIn, stale, noZone, badRun, unwritten, goneIn, zoneOf, offsetOf, readRows}
+use Rattle.volume.specs.meaning.Refusals.{stateWithin, twoAbsent, firstRefusal, staleIn, stale, noZone, badRun, goneIn, zoneOf, offsetOf, readRows}
 use Rattle.tables.specs.meaning.Drives.{noDrive}
 use Rattle.tables.specs.meaning.GeometryTest.{isValid}
 use Rattle.tables.specs.laws.TablesFrame.{lengths-are, pointers-good}
@@ -43,22 +44,23 @@ use Rattle.volume.specs.looking.KnowingValues.{value-held}
 abbrev pub zoneRows : Geometry → (ℕ → Bool) → Device → StateView → ℕ → List (ℕ × Bool)
 zoneRows g present v state z = (7, stale g present v state z) ∷ (8, noZone g z) ∷ []
 
-abbrev pub runRows : Geometry → (ℕ → Bool) → Device → StateView → ℕ → ℕ → ℕ → List (ℕ × Bool)
-runRows g present v state z offset count = (9, badRun g offset count) ∷ (13, unwritten state z offset count) ∷ (15, goneIn g present v z (state .generation z) offset count) ∷ []
+-- c: the zone's condition, n: its generation
+abbrev pub runRows : Geometry → (ℕ → Bool) → Device → Condition → ℕ → ℕ → ℕ → ℕ → List (ℕ × Bool)
+runRows g present v c n z offset count = (9, badRun g offset count) ∷ (13, ltb (pointerIn c) (offset + count)) ∷ (15, goneIn g present v z n offset count) ∷ []
 
 unfoldable pub zoneNumber : Geometry → (ℕ → Bool) → Device → StateView → ℕ → ℕ
 zoneNumber g present v state z = verdictNumber (firstRefusal (zoneRows g present v state z))
 
-unfoldable pub runNumber : Geometry → (ℕ → Bool) → Device → StateView → ℕ → ℕ → ℕ → ℕ
-runNumber g present v state z offset count = verdictNumber (firstRefusal (runRows g present v state z offset count))
+unfoldable pub runNumber : Geometry → (ℕ → Bool) → Device → Condition → ℕ → ℕ → ℕ → ℕ → ℕ
+runNumber g present v c n z offset count = verdictNumber (firstRefusal (runRows g present v c n z offset count))
 
 -- refusals 7 and 8 on the written pointers
 unfoldable pub zoneNumberOn : Geometry → List Bool → List ℕ → State → ℕ → ℕ
 zoneNumberOn g here ws s z = pick (ltb z (g .zones)) (pick (staleOn g (isSet here) ws (recordAt s z .condition) z) 7 0) 8
 
--- what refusal 1 gives of the state
-pub record StateFits (g : Geometry) (s : State) : Type 0 where
-  pub pointers : (z : ℕ) → z < g .zones → pointerIn (recordAt s z .condition) ≤ zoneSectors g
+-- refusals 7, 9, 13 and 15 of a zone that there is
+unfoldable pub lateNumber : Geometry → List Bool → List ℕ → List ℕ → Condition → ℕ → ℕ → ℕ → ℕ → ℕ
+lateNumber g here xs ws c n z offset count = pick (staleOn g (isSet here) ws c z) 7 (runNumber g (isSet here) (readDevice g xs ws) c n z offset count)
 
 -- ---- a buffer filled sector after sector
 pub run-small : (g : Geometry) (offset count i : ℕ) → Valid g → offset + count ≤ zoneSectors g → i < count → (i * g .sector + g .sector ≤ count * g .sector) × (count * g .sector ≤ 1879048192)
@@ -114,12 +116,6 @@ module _ (g : Geometry) (here : List Bool) (xs ws : List ℕ) (z : ℕ) (r : Rea
       go false = refl
 
 -- ---- what the opening gives
-pub state-fits : (g : Geometry) (s : State) → stateWithin g (viewState s) ≡ true → StateFits g s
-unfolding stateWithin
-state-fits g s h =
-    let q = and-split (ltb (s .lost) (g .drives) || eqb (s .lost) noDrive) (allBelow (λ z. leb (pointerIn (recordAt s z .condition)) (zoneSectors g)) (g .zones)) h .1 in
-    record { pointers = λ z l. leb-true (pointerIn (recordAt s z .condition)) (zoneSectors g) (all-below-all (λ z. leb (pointerIn (recordAt s z .condition)) (zoneSectors g)) (g .zones) z q l) }
-
 present-named : (g : Geometry) (named : List Bool) (s : State) (d : ℕ) → isSet (presentList g named (s .lost)) d ≡ true → isSet named d ≡ true
 unfolding callPresent
 present-named g named s d h =
@@ -149,10 +145,10 @@ pub zone-durable : (g : Geometry) (present : ℕ → Bool) (xs ws ds : List ℕ)
 unfolding zoneNumber
 zone-durable g present xs ws ds s z = ap (λ (b : Bool). verdictNumber (firstRefusal ((7, b) ∷ (8, noZone g z) ∷ []))) (stale-durable g present xs ws ds s z)
 
-pub run-durable : (g : Geometry) (present : ℕ → Bool) (xs ws ds : List ℕ) (s : StateView) (z offset count : ℕ) → runNumber g present (deviceOf g (tablesOf xs ws ds)) s z offset count ≡ runNumber g present (readDevice g xs ws) s z offset count
+pub run-durable : (g : Geometry) (present : ℕ → Bool) (xs ws ds : List ℕ) (c : Condition) (n z offset count : ℕ) → runNumber g present (deviceOf g (tablesOf xs ws ds)) c n z offset count ≡ runNumber g present (readDevice g xs ws) c n z offset count
 unfolding runNumber goneIn
-run-durable g present xs ws ds s z offset count =
-    ap (λ (v : View). verdictNumber (firstRefusal ((9, badRun g offset count) ∷ (13, unwritten s z offset count) ∷ (15, anyBelow (λ i. not (known (g .drives) (g .unit) z v (offset + i))) count) ∷ []))) (view-durable g present xs ws ds z (s .generation z))
+run-durable g present xs ws ds c n z offset count =
+    ap (λ (v : View). verdictNumber (firstRefusal ((9, badRun g offset count) ∷ (13, ltb (pointerIn c) (offset + count)) ∷ (15, anyBelow (λ i. not (known (g .drives) (g .unit) z v (offset + i))) count) ∷ []))) (view-durable g present xs ws ds z n)
 
 pub values-durable : (g : Geometry) (present : ℕ → Bool) (xs ws ds : List ℕ) (z n offset count : ℕ) → valuesOn g present (deviceOf g (tablesOf xs ws ds)) z n offset count ≡ valuesOn g present (readDevice g xs ws) z n offset count
 unfolding valuesOn valueAt
@@ -164,6 +160,11 @@ pub after-two : (a b : Bool) (rest : List (ℕ × Bool)) → verdictNumber (firs
 after-two true b rest = refl
 after-two false true rest = refl
 after-two false false rest = refl
+
+-- the number of a zone that there is, then the rest
+pub after-zone : (b : Bool) (second third : ℕ) → second ≡ pick b 7 0 → pick b 7 third ≡ pick (eqb second 0) third second
+after-zone true second third e = rw e refl
+after-zone false second third e = rw e refl
 
 pub three : (a b c : ℕ) → pick (eqb a 0) (pick (eqb b 0) c b) a ≡ 0 → (a ≡ 0) × (b ≡ 0) × (c ≡ 0)
 three a b c h = go (ℕ-discrete a 0) (ℕ-discrete b 0)
@@ -203,25 +204,19 @@ module _ (g : Geometry) (named : List Bool) (s : State) (a count bytes : ℕ) (x
   second = zoneNumber g (callPresent g (isSet named) (viewState s)) (deviceOf g (tablesOf xs ws ds)) (viewState s) (zoneOf g a)
 
   abbrev third : ℕ
-  third = runNumber g (callPresent g (isSet named) (viewState s)) (deviceOf g (tablesOf xs ws ds)) (viewState s) (zoneOf g a) (offsetOf g a) count
+  third = runNumber g (callPresent g (isSet named) (viewState s)) (deviceOf g (tablesOf xs ws ds)) (recordAt s (zoneOf g a) .condition) (recordAt s (zoneOf g a) .generation) (zoneOf g a) (offsetOf g a) count
 
   pub read-number-is : readNumber g named s a count bytes (tablesOf xs ws ds) ≡ pick (eqb first 0) (pick (eqb second 0) third second) first
   unfolding readNumber readRows openingNumber zoneNumber runNumber
   read-number-is =
       rw (absent-two g named s) (after-four (not (isValid g && stateWithin g (viewState s))) (not (lengthsFit g (length xs) (length ws) (length ds) && bufferFits g count bytes)) (pointersBad g named ws ds) (twoAbsent g (isSet named) (viewState s))
-      (zoneRows g (callPresent g (isSet named) (viewState s)) (deviceOf g (tablesOf xs ws ds)) (viewState s) (zoneOf g a) ++ runRows g (callPresent g (isSet named) (viewState s)) (deviceOf g (tablesOf xs ws ds)) (viewState s) (zoneOf g a) (offsetOf g a) count)
+      (zoneRows g (callPresent g (isSet named) (viewState s)) (deviceOf g (tablesOf xs ws ds)) (viewState s) (zoneOf g a) ++ runRows g (callPresent g (isSet named) (viewState s)) (deviceOf g (tablesOf xs ws ds)) (recordAt s (zoneOf g a) .condition) (recordAt s (zoneOf g a) .generation) (zoneOf g a) (offsetOf g a) count)
       ∙ ap (λ (n : ℕ). pick (eqb (verdictNumber (firstRefusal ((1, not (isValid g && stateWithin g (viewState s))) ∷ (2, not (lengthsFit g (length xs) (length ws) (length ds) && bufferFits g count bytes)) ∷ (3, pointersBad g named ws ds) ∷ (4, twoAbsent g (isSet named) (viewState s)) ∷ []))) 0) n (verdictNumber (firstRefusal ((1, not (isValid g && stateWithin g (viewState s))) ∷ (2, not (lengthsFit g (length xs) (length ws) (length ds) && bufferFits g count bytes)) ∷ (3, pointersBad g named ws ds) ∷ (4, twoAbsent g (isSet named) (viewState s)) ∷ []))))
-      (after-two (stale g (callPresent g (isSet named) (viewState s)) (deviceOf g (tablesOf xs ws ds)) (viewState s) (zoneOf g a)) (noZone g (zoneOf g a)) (runRows g (callPresent g (isSet named) (viewState s)) (deviceOf g (tablesOf xs ws ds)) (viewState s) (zoneOf g a) (offsetOf g a) count)))
+      (after-two (stale g (callPresent g (isSet named) (viewState s)) (deviceOf g (tablesOf xs ws ds)) (viewState s) (zoneOf g a)) (noZone g (zoneOf g a)) (runRows g (callPresent g (isSet named) (viewState s)) (deviceOf g (tablesOf xs ws ds)) (recordAt s (zoneOf g a) .condition) (recordAt s (zoneOf g a) .generation) (zoneOf g a) (offsetOf g a) count)))
 
   -- the number, case by case
   pub read-first : first ≢ 0 → first ≡ readNumber g named s a count bytes (tablesOf xs ws ds)
   read-first h = sym (read-number-is ∙ ap (λ (b : Bool). pick b (pick (eqb second 0) third second) first) (ne-eqb first 0 h))
-
-  pub read-second : first ≡ 0 → second ≢ 0 → second ≡ readNumber g named s a count bytes (tablesOf xs ws ds)
-  read-second e h = sym (read-number-is ∙ ap₂ (λ (b c : Bool). pick b (pick c third second) first) (eq-eqb first 0 e) (ne-eqb second 0 h))
-
-  pub read-third : first ≡ 0 → second ≡ 0 → third ≡ readNumber g named s a count bytes (tablesOf xs ws ds)
-  read-third e f = sym (read-number-is ∙ ap₂ (λ (b c : Bool). pick b (pick c third second) first) (eq-eqb first 0 e) (eq-eqb second 0 f))
 
   -- as the code decides them
   pub second-is : Opened g named s count bytes (length xs) ws ds → zoneNumberOn g (presentList g named (s .lost)) ws s (zoneOf g a) ≡ second
@@ -235,10 +230,30 @@ module _ (g : Geometry) (named : List Bool) (s : State) (a count bytes : ℕ) (x
           ∙ sym (zone-durable g (callPresent g (isSet named) (viewState s)) xs ws ds (viewState s) (zoneOf g a))
       go (no h) = rw (le-ltb (zoneOf g a) (g .zones) (omega arith)) refl
 
-  pub third-is : runNumber g (isSet (presentList g named (s .lost))) (readDevice g xs ws) (viewState s) (zoneOf g a) (offsetOf g a) count ≡ third
+  pub third-is : runNumber g (isSet (presentList g named (s .lost))) (readDevice g xs ws) (recordAt s (zoneOf g a) .condition) (recordAt s (zoneOf g a) .generation) (zoneOf g a) (offsetOf g a) count ≡ third
   third-is =
-      ap (λ (p : ℕ → Bool). runNumber g p (readDevice g xs ws) (viewState s) (zoneOf g a) (offsetOf g a) count) (present-is g named s)
-      ∙ sym (run-durable g (callPresent g (isSet named) (viewState s)) xs ws ds (viewState s) (zoneOf g a) (offsetOf g a) count)
+      ap (λ (p : ℕ → Bool). runNumber g p (readDevice g xs ws) (recordAt s (zoneOf g a) .condition) (recordAt s (zoneOf g a) .generation) (zoneOf g a) (offsetOf g a) count) (present-is g named s)
+      ∙ sym (run-durable g (callPresent g (isSet named) (viewState s)) xs ws ds (recordAt s (zoneOf g a) .condition) (recordAt s (zoneOf g a) .generation) (zoneOf g a) (offsetOf g a) count)
+
+  -- of a zone that there is, and of none
+  pub second-in : Opened g named s count bytes (length xs) ws ds → zoneOf g a < g .zones → second ≡ pick (staleOn g (isSet (presentList g named (s .lost))) ws (recordAt s (zoneOf g a) .condition) (zoneOf g a)) 7 0
+  unfolding zoneNumberOn
+  second-in o h = sym (second-is o) ∙ rw (lt-ltb (zoneOf g a) (g .zones) h) refl
+
+  pub second-out : Opened g named s count bytes (length xs) ws ds → g .zones ≤ zoneOf g a → second ≡ 8
+  unfolding zoneNumberOn
+  second-out o h = sym (second-is o) ∙ rw (le-ltb (zoneOf g a) (g .zones) h) refl
+
+  pub read-8 : first ≡ 0 → g .zones ≤ zoneOf g a → 8 ≡ readNumber g named s a count bytes (tablesOf xs ws ds)
+  read-8 e h = let q = second-out (opened g named s count bytes (length xs) ws ds e) h in sym (read-number-is ∙ rw (eq-eqb first 0 e, q) refl)
+
+  pub read-late : first ≡ 0 → zoneOf g a < g .zones
+      → lateNumber g (presentList g named (s .lost)) xs ws (recordAt s (zoneOf g a) .condition) (recordAt s (zoneOf g a) .generation) (zoneOf g a) (offsetOf g a) count ≡ readNumber g named s a count bytes (tablesOf xs ws ds)
+  unfolding lateNumber
+  read-late e h =
+      let b = staleOn g (isSet (presentList g named (s .lost))) ws (recordAt s (zoneOf g a) .condition) (zoneOf g a) in
+      ap (λ (n : ℕ). pick b 7 n) third-is ∙ after-zone b second third (second-in (opened g named s count bytes (length xs) ws ds e) h)
+      ∙ sym (read-number-is ∙ ap (λ (c : Bool). pick c (pick (eqb second 0) third second) first) (eq-eqb first 0 e))
 
   -- what an accepted read may rely on
   pub record ReadFits : Type 0 where
@@ -255,7 +270,7 @@ module _ (g : Geometry) (named : List Bool) (s : State) (a count bytes : ℕ) (x
       let (p, q, t) = three first second third (sym read-number-is ∙ h) in
       let o = opened g named s count bytes (length xs) ws ds p in
       let z = zone-on-in g (presentList g named (s .lost)) ws s (zoneOf g a) (second-is o ∙ q) in
-      let (u, v, w) = run-none (badRun g (offsetOf g a) count) (unwritten (viewState s) (zoneOf g a) (offsetOf g a) count) (goneIn g (isSet (presentList g named (s .lost))) (readDevice g xs ws) (zoneOf g a) (recordAt s (zoneOf g a) .generation) (offsetOf g a) count) (third-is ∙ t) in
+      let (u, v, w) = run-none (badRun g (offsetOf g a) count) (ltb (pointerIn (recordAt s (zoneOf g a) .condition)) (offsetOf g a + count)) (goneIn g (isSet (presentList g named (s .lost))) (readDevice g xs ws) (zoneOf g a) (recordAt s (zoneOf g a) .generation) (offsetOf g a) count) (third-is ∙ t) in
       record {
         passed = o;
         zone-in = z;

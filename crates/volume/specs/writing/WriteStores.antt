@@ -1,47 +1,76 @@
--- The stores that follow from the buffer of rows are document 01's, for a zone's content S: those of each address, of a run of addresses, of the
--- partial parity entry; and how the buffer begins, with the earlier sectors of the pointer's stripe.
-use mathlib.Core.Path.{_≡_, refl, sym, ap, ap₂, _∙_, subst}
-use mathlib.Core.Bool.{Bool, true, false}
+-- The stores of a write on the tables: the content that it writes, what its functions rely on while they store, and their stores one after the other
+-- (document 01: "stripe by stripe its data sectors by address, then U parity sectors if the stripe is complete; if it ends inside a stripe, one type 4
+-- entry on the parity drive").
+use mathlib.Core.Path.{_≡_, refl, sym, ap, ap₂, _∙_, fun-ext, subst}
+use mathlib.Core.Bool.{Bool, true, false, true≢false}
 use Prim.Native.Nat.{ℕ, zero, suc, _+_, _-_, _*_, _%_, _≤_, _<_, min}
-use native.Mathlib.Nat.{mod-lt, mul-le-mul-right}
-use native.Mathlib.Decide.{ℕ-discrete, decLt}
+use native.Mathlib.Nat.{mod-lt, mul-le-mul-right, suc-mul}
+use native.Mathlib.Decide.{decLt, ℕ-discrete}
 use native.Mathlib.Omega.{arith}
 use mathlib.Core.List.{List, [], _∷_, _++_, append-assoc, append-nil}
-use lib.ListN.{length}
-use lib.Arith.{digits-div}
+use lib.ListN.{length, take, drop, drop-of-length-le, List·getD-eq-default}
+use lib.Seq.{take-nil}
+use lib.Dec.{ltb}
 use borrow.Author.Tests.{lt-ltb, le-ltb, eq-eqb, ne-eqb}
 use Rattle.tables.specs.declared.Geometry.{Geometry}
 use Rattle.tables.specs.meaning.Basics.{pick}
 use Rattle.tables.specs.meaning.Below.{tabulateFrom}
-use Rattle.tables.specs.laws.Below.{tabulate-from-cong}
-use Rattle.tables.specs.meaning.Device.{Store, append}
+use Rattle.tables.specs.laws.Below.{all-below-all, getD-tabulate-from, length-tabulate-from}
+use Rattle.tables.specs.laws.Within.{part-long}
+use Rattle.tables.specs.meaning.Device.{Device, Store, append}
 use Rattle.tables.specs.meaning.Phases.{onPresent}
 use Rattle.tables.specs.laws.Phases.{on-present-append}
-use Rattle.tables.specs.meaning.Geometry.{Valid, stripeSectors, dataZone}
+use Rattle.tables.specs.meaning.Geometry.{Valid, physicalZones, cells, totalBytes, stripeSectors, zoneSectors, dataZone}
 use Rattle.tables.specs.meaning.Placement.{stripeOf, stripeLength, driveOf, parityDrive}
-use Rattle.tables.specs.laws.Placement.{stripe-pos}
-use Rattle.tables.specs.meaning.Tables.{sectorNo}
+use Rattle.tables.specs.laws.Placement.{stripe-pos, stripe-below, stripe-above, drive-below, parity-drive-below}
+use Rattle.tables.specs.meaning.Tables.{tablesOf, sectorNo}
+use Rattle.tables.specs.laws.Made.{MadeAppends, storeIf}
 use Rattle.logs.specs.meaning.Entry.{parityZone, encode}
-use Rattle.volume.specs.meaning.Content.{rowXor, rowXorBelow, insideStripe, fillOf, parityDriveAt, entryHeader, entryAt}
+use Rattle.volume.specs.declared.rows.Extent.{Extent}
+use Rattle.volume.specs.meaning.Content.{at, rowXor, rowXorBelow, insideStripe, fillOf, parityDriveAt, entryHeader, entryAt}
+use Rattle.volume.specs.laws.Content.{row-complete, stripe-last}
+use Rattle.volume.specs.meaning.Rules.{known, zoneView, sealLimit, valueAt}
+use Rattle.volume.specs.meaning.Refusals.{goneIn, goneBefore}
 use Rattle.volume.specs.meaning.Calls.{appendAll, sectorStores, dataStores, entryStores, writeWith}
-use Rattle.volume.specs.writing.ParityBuffer.{rowOf, withSector, rowStores, addressStores, rowsAt, runOf, entryOf, present-all}
-use Rattle.volume.specs.writing.WriteContent.{Holds, row-complete, stripe-next, stripe-last, holds-start, added-length, holds-more}
+use Rattle.volume.specs.meaning.Answers.{sectorsIn}
+use Rattle.volume.specs.meaning.CallContracts.{isSet}
+use Rattle.volume.specs.looking.Knowing.{Readable, readDevice, ownHeld, allHeld}
+use Rattle.volume.specs.looking.KnowingLaws.{known-in}
+use Rattle.volume.specs.rows.KeptBelow.{StoresIn, Behind, stores-in-append, made-keeps, kept-device}
+use Rattle.volume.specs.rows.RowStores.{rowsIf, rows-whole, rows-cong, rows-in, store-if-in, present-all, present-one}
+use Rattle.volume.specs.rows.RowsInPlace.{contentOf, content-new, StripeKnown, stripe-kept, RowsReady, ready-long}
 
--- the buffer at pointer a, as far as it matters: no row is stored on a parity drive that is not present
-pub record Kept (g : Geometry) (present : ℕ → Bool) (z : ℕ) (S : ℕ → List ℕ) (a : ℕ) (rows : List ℕ) : Type 0 where
-  pub long : g .unit * g .sector ≤ length rows
-  pub held : present (parityDrive (g .drives) z (stripeOf (g .drives) (g .unit) a)) ≡ true → Holds g S (stripeOf (g .drives) (g .unit) a) a rows
+-- ---- the content: below the pointer n the values of rule 4, from it on the sectors that are written
+unfoldable pub runContent : Geometry → (ℕ → Bool) → Device → ℕ → ℕ → ℕ → List (List ℕ) → ℕ → List ℕ
+runContent g present v z generation n ss a = pick (ltb a n) (valueAt g present v z generation a) (at ss (a - n))
 
--- rows stored on a drive are the same stores if they are the same rows, or if the drive is not present
-rows-same : (g : Geometry) (present : ℕ → Bool) (d y : ℕ) (rows : List ℕ) (f : ℕ → List ℕ) (n : ℕ) → (present d ≡ true → (r : ℕ) → r < n → rowOf g rows r ≡ f r)
-    → onPresent present (rowStores g d y rows n) ≡ onPresent present (appendAll d y (tabulateFrom f zero n))
-rows-same g present d y rows f n h = present-all present d y (tabulateFrom (rowOf g rows) zero n) ∙ go (present d) refl ∙ sym (present-all present d y (tabulateFrom f zero n))
+-- the zone, from pointer n on, with what a write of `count` sectors is handed
+abbrev pub extentOf : Geometry → List Bool → ℕ → ℕ → ℕ → ℕ → ℕ → Extent
+extentOf g here z generation limit n count = record { geometry = g; here = here; zone = z; generation = generation; limit = limit; below = n; end = n + count }
+
+-- sector i of a buffer of `count` sectors
+buffer-sector : (g : Geometry) (count i : ℕ) (buffer : List ℕ) → length buffer ≡ count * g .sector → sectorNo (g .sector) buffer i ≡ at (sectorsIn g count buffer) i
+unfolding sectorsIn
+buffer-sector g count i buffer l = go (decLt i count)
   where
-    go : (b : Bool) → present d ≡ b → pick b (appendAll d y (tabulateFrom (rowOf g rows) zero n)) [] ≡ pick b (appendAll d y (tabulateFrom f zero n)) []
-    go true e = ap (appendAll d y) (tabulate-from-cong (rowOf g rows) f zero zero n (λ k l. let q : zero + k ≡ k = omega arith in rw q (h e k l)))
-    go false e = refl
+    go : Dec (i < count) → sectorNo (g .sector) buffer i ≡ at (sectorsIn g count buffer) i
+    go (yes h) = let o : zero + i ≡ i = omega arith in sym (getD-tabulate-from (λ j. take (g .sector) (drop (j * g .sector) buffer)) zero count i h ∙ ap (sectorNo (g .sector) buffer) o)
+    go (no h) =
+        let m : count * g .sector ≤ i * g .sector = mul-le-mul-right (g .sector) (omega arith) in
+        rw (drop-of-length-le buffer {i = i * g .sector} (omega arith), take-nil)
+        (sym (List·getD-eq-default (tabulateFrom (λ j. take (g .sector) (drop (j * g .sector) buffer)) zero count) [] {n = i} (rw (length-tabulate-from (λ j. take (g .sector) (drop (j * g .sector) buffer)) zero count) (omega arith))))
 
--- the stores of a run, by its last address
+pub content-is : (g : Geometry) (here : List Bool) (v : Device) (z generation limit n count : ℕ) (buffer : List ℕ) → length buffer ≡ count * g .sector
+    → contentOf (extentOf g here z generation limit n count) v buffer ≡ runContent g (isSet here) v z generation n (sectorsIn g count buffer)
+unfolding contentOf runContent
+content-is g here v z generation limit n count buffer l = fun-ext λ a. ap (pick (ltb a n) (valueAt g (isSet here) v z generation a)) (buffer-sector g count (a - n) buffer l)
+
+-- ---- a unit is no longer than its stripe
+pub unit-in-stripe : (g : Geometry) → Valid g → g .unit ≤ stripeSectors g
+unfolding stripeLength
+unit-in-stripe g ok = let q : 1 ≤ g .drives - 1 = omega (arith, ok .drives-least) in omega (arith, mul-le-mul-right (g .unit) q)
+
+-- ---- the stores of a run, by its last address
 pub data-snoc : (D U z : ℕ) (S : ℕ → List ℕ) (a k : ℕ) → dataStores D U z S a (suc k) ≡ dataStores D U z S a k ++ sectorStores D U z S (a + k)
 data-snoc D U z S a zero = let e : a + zero ≡ a = omega arith in append-nil (sectorStores D U z S a) ∙ ap (sectorStores D U z S) (sym e)
 data-snoc D U z S a (suc k) =
@@ -50,103 +79,239 @@ data-snoc D U z S a (suc k) =
     ∙ sym (append-assoc (sectorStores D U z S a) (dataStores D U z S (suc a) k) (sectorStores D U z S (a + suc k)))
 
 module _ (g : Geometry) (ok : Valid g) (present : ℕ → Bool) (z : ℕ) (S : ℕ → List ℕ) where
-  two-drives : 1 < g .drives
-  two-drives = omega (arith, ok .drives-least)
+  pub data-more : (n a : ℕ) → n ≤ a → onPresent present (dataStores (g .drives) (g .unit) z S n (suc a - n)) ≡ onPresent present (dataStores (g .drives) (g .unit) z S n (a - n)) ++ onPresent present (sectorStores (g .drives) (g .unit) z S a)
+  data-more n a h =
+      let e : suc a - n ≡ suc (a - n) = omega arith in
+      let q : n + (a - n) ≡ a = omega arith in
+      ap (λ (m : ℕ). onPresent present (dataStores (g .drives) (g .unit) z S n m)) e
+      ∙ ap (onPresent present) (data-snoc (g .drives) (g .unit) z S n (a - n) ∙ ap (λ (b : ℕ). dataStores (g .drives) (g .unit) z S n (a - n) ++ sectorStores (g .drives) (g .unit) z S b) q)
+      ∙ on-present-append present (dataStores (g .drives) (g .unit) z S n (a - n)) (sectorStores (g .drives) (g .unit) z S a)
 
-  -- ---- one address
-  module _ (a : ℕ) (rows : List ℕ) (full : length (S a) ≡ g .sector) (kept : Kept g present z S a rows) where
-    added : present (parityDrive (g .drives) z (stripeOf (g .drives) (g .unit) a)) ≡ true → Holds g S (stripeOf (g .drives) (g .unit) a) (suc a) (withSector g a (S a) rows)
-    added p = holds-more g ok S a rows (kept .long) full (kept .held p)
+  -- of an address inside its stripe: its sector
+  pub sector-inside : (a : ℕ) → suc (a % stripeSectors g) < stripeSectors g
+      → onPresent present (sectorStores (g .drives) (g .unit) z S a) ≡ storeIf (present (driveOf (g .drives) (g .unit) z a)) (append (driveOf (g .drives) (g .unit) z a) (dataZone z) (S a))
+  sector-inside a h = rw (ne-eqb (suc (a % stripeSectors g)) (stripeSectors g) (omega arith)) (present-one present (driveOf (g .drives) (g .unit) z a) (dataZone z) (S a))
 
-    -- at the stripe's end the buffer has its parity
-    parity-rows : suc (a % stripeSectors g) ≡ stripeSectors g → present (parityDrive (g .drives) z (stripeOf (g .drives) (g .unit) a)) ≡ true → (r : ℕ) → r < g .unit
-        → rowOf g (withSector g a (S a) rows) r ≡ rowXor (g .drives) (g .unit) S (stripeOf (g .drives) (g .unit) a) r
-    parity-rows h p r hr =
-        let s = stripeOf (g .drives) (g .unit) a in
-        let e : suc a ≡ suc s * stripeSectors g = stripe-last g ok a h .1 in
-        let k : r < stripeSectors g = (unfold stripeLength in omega (arith, le-times′)) in
-        added p .row r hr (omega (arith, e, k)) ∙ ap (λ (n : ℕ). rowXorBelow (g .drives) (g .unit) S s n r) e ∙ row-complete (g .drives) (g .unit) two-drives S s r (ok .unit-least) hr
-      where
-        le-times′ : g .unit ≤ (g .drives - 1) * g .unit
-        le-times′ = let q : 1 ≤ g .drives - 1 = omega (arith, ok .drives-least) in omega (arith, mul-le-mul-right (g .unit) q)
+  -- of its last: the sector and the stripe's parity, which a row below any later end is too
+  pub sector-last : (a end : ℕ) → suc (a % stripeSectors g) ≡ stripeSectors g → a < end
+      → onPresent present (sectorStores (g .drives) (g .unit) z S a)
+      ≡ storeIf (present (driveOf (g .drives) (g .unit) z a)) (append (driveOf (g .drives) (g .unit) z a) (dataZone z) (S a))
+      ++ rowsIf (present (parityDrive (g .drives) z (stripeOf (g .drives) (g .unit) a))) (parityDrive (g .drives) z (stripeOf (g .drives) (g .unit) a)) (dataZone z) (rowXorBelow (g .drives) (g .unit) S (stripeOf (g .drives) (g .unit) a) end) 0 (g .unit)
+  sector-last a end h l =
+      let d = driveOf (g .drives) (g .unit) z a in
+      let s = stripeOf (g .drives) (g .unit) a in
+      let p = parityDrive (g .drives) z s in
+      let rows = appendAll p (dataZone z) (tabulateFrom (rowXor (g .drives) (g .unit) S s) zero (g .unit)) in
+      let full : suc s * stripeSectors g ≤ end = omega (arith, stripe-last g a h) in
+      let two : 1 < g .drives = omega (arith, ok .drives-least) in
+      rw (eq-eqb (suc (a % stripeSectors g)) (stripeSectors g) h)
+      (on-present-append present (append d (dataZone z) (S a) ∷ []) rows
+      ∙ ap₂ (λ (x y : List Store). x ++ y) (present-one present d (dataZone z) (S a))
+      (present-all present p (dataZone z) (tabulateFrom (rowXor (g .drives) (g .unit) S s) zero (g .unit))
+      ∙ rows-whole (present p) p (dataZone z) (rowXor (g .drives) (g .unit) S s) (g .unit)
+      ∙ sym (rows-cong (present p) p (dataZone z) (rowXorBelow (g .drives) (g .unit) S s end) (rowXor (g .drives) (g .unit) S s) (g .unit) (λ r hr. row-complete (g .drives) (g .unit) two S s end r (ok .unit-least) hr full))))
 
-    pub address-stores : onPresent present (addressStores g z a (S a) rows) ≡ onPresent present (sectorStores (g .drives) (g .unit) z S a)
-    unfolding addressStores
-    address-stores = go (ℕ-discrete (suc (a % stripeSectors g)) (stripeSectors g))
-      where
-        go : Dec (suc (a % stripeSectors g) ≡ stripeSectors g) → onPresent present (addressStores g z a (S a) rows) ≡ onPresent present (sectorStores (g .drives) (g .unit) z S a)
-        go (yes e) = rw (eq-eqb (suc (a % stripeSectors g)) (stripeSectors g) e) (ap (λ (l : List Store). pick (present (driveOf (g .drives) (g .unit) z a)) (append (driveOf (g .drives) (g .unit) z a) (dataZone z) (S a) ∷ l) l)
-            (rows-same g present (parityDrive (g .drives) z (stripeOf (g .drives) (g .unit) a)) (dataZone z) (withSector g a (S a) rows) (rowXor (g .drives) (g .unit) S (stripeOf (g .drives) (g .unit) a)) (g .unit) (parity-rows e)))
-        go (no ne) = rw (ne-eqb (suc (a % stripeSectors g)) (stripeSectors g) ne) refl
+  -- the entry at pointer n: a header and the rows
+  pub entry-inside : (generation n : ℕ) → stripeOf (g .drives) (g .unit) n * stripeSectors g < n
+      → onPresent present (pick (insideStripe g n) (entryStores g z generation S n) [])
+      ≡ storeIf (present (parityDriveAt g z n)) (append (parityDriveAt g z n) parityZone (encode g (parityDriveAt g z n) (entryHeader g z generation n)))
+      ++ rowsIf (present (parityDriveAt g z n)) (parityDriveAt g z n) parityZone (rowXorBelow (g .drives) (g .unit) S (stripeOf (g .drives) (g .unit) n) n) 0 (min (fillOf g n) (g .unit))
+  unfolding entryAt
+  entry-inside generation n h =
+      let p = parityDriveAt g z n in
+      let s = encode g p (entryHeader g z generation n) in
+      let rows = tabulateFrom (rowXorBelow (g .drives) (g .unit) S (stripeOf (g .drives) (g .unit) n) n) zero (min (fillOf g n) (g .unit)) in
+      rw (lt-ltb (stripeOf (g .drives) (g .unit) n * stripeSectors g) n h)
+      (on-present-append present (append p parityZone s ∷ []) (appendAll p parityZone rows) ∙ ap₂ (λ (x y : List Store). x ++ y) (present-one present p parityZone s) (present-all present p parityZone rows ∙ rows-whole (present p) p parityZone (rowXorBelow (g .drives) (g .unit) S (stripeOf (g .drives) (g .unit) n) n) (min (fillOf g n) (g .unit))))
 
-    pub address-kept : Kept g present z S (suc a) (withSector g a (S a) rows)
-    address-kept = record { long = rw (added-length g ok S a rows (kept .long) full) (kept .long); held = λ p. go p (ℕ-discrete (suc (a % stripeSectors g)) (stripeSectors g)) }
-      where
-        go : present (parityDrive (g .drives) z (stripeOf (g .drives) (g .unit) (suc a))) ≡ true → Dec (suc (a % stripeSectors g) ≡ stripeSectors g) → Holds g S (stripeOf (g .drives) (g .unit) (suc a)) (suc a) (withSector g a (S a) rows)
-        go p (yes e) =
-            let s = suc (stripeOf (g .drives) (g .unit) a) in
-            rw (stripe-last g ok a e .0) (subst (λ (n : ℕ). Holds g S s n (withSector g a (S a) rows)) (sym (stripe-last g ok a e .1)) (holds-start g ok S s (withSector g a (S a) rows)))
-        go p (no ne) =
-            let h : suc (a % stripeSectors g) < stripeSectors g = omega (arith, mod-lt a (stripe-pos (g .drives) (g .unit) 0 two-drives (ok .unit-least))) in
-            rw (stripe-next g ok a h) (added (rw (stripe-next g ok a h) at p))
+  pub entry-none : (generation n : ℕ) → n ≤ stripeOf (g .drives) (g .unit) n * stripeSectors g → onPresent present (pick (insideStripe g n) (entryStores g z generation S n) []) ≡ []
+  entry-none generation n h = rw (le-ltb (stripeOf (g .drives) (g .unit) n * stripeSectors g) n h) refl
 
-  -- ---- a run of addresses, its sectors those of a list of bytes
-  pub run-is : (n : ℕ) (bytes rows : List ℕ) (k : ℕ) → ((i : ℕ) → i < k → (S (n + i) ≡ sectorNo (g .sector) bytes i) × (length (S (n + i)) ≡ g .sector)) → Kept g present z S n rows
-      → (onPresent present (runOf g z n bytes rows k) ≡ onPresent present (dataStores (g .drives) (g .unit) z S n k)) × Kept g present z S (n + k) (rowsAt g n bytes rows k)
-  run-is n bytes rows zero h kept = let e : n + zero ≡ n = omega arith in (refl, rw e kept)
-  run-is n bytes rows (suc k) h kept =
-      let (p, q) = run-is n bytes rows k (λ i l. h i (omega arith)) kept in
-      let (e, full) = h k (omega arith) in
-      let f : n + suc k ≡ suc (n + k) = omega arith in
-      let before = rowsAt g n bytes rows k in (
-        on-present-append present (runOf g z n bytes rows k) (addressStores g z (n + k) (sectorNo (g .sector) bytes k) before)
-            ∙ ap₂ (λ (x y : List Store). x ++ y) p (ap (λ (s : List ℕ). onPresent present (addressStores g z (n + k) s before)) (sym e) ∙ address-stores (n + k) before full q)
-            ∙ sym (on-present-append present (dataStores (g .drives) (g .unit) z S n k) (sectorStores (g .drives) (g .unit) z S (n + k)))
-            ∙ ap (onPresent present) (sym (data-snoc (g .drives) (g .unit) z S n k)),
-        rw f (subst (λ (s : List ℕ). Kept g present z S (suc (n + k)) (withSector g (n + k) s before)) e (address-kept (n + k) before full q)),
+  -- all of a write up to `end`
+  pub write-parts : (generation n end : ℕ) → n ≤ end
+      → onPresent present (writeWith g z generation S n (end - n)) ≡ onPresent present (dataStores (g .drives) (g .unit) z S n (end - n)) ++ onPresent present (pick (insideStripe g end) (entryStores g z generation S end) [])
+  unfolding writeWith
+  write-parts generation n end h =
+      let e : n + (end - n) ≡ end = omega arith in
+      on-present-append present (dataStores (g .drives) (g .unit) z S n (end - n)) (pick (insideStripe g (n + (end - n))) (entryStores g z generation S (n + (end - n))) [])
+      ∙ ap (λ (m : ℕ). onPresent present (dataStores (g .drives) (g .unit) z S n (end - n)) ++ onPresent present (pick (insideStripe g m) (entryStores g z generation S m) [])) e
+
+-- ---- what a write's refusals have found out
+pub record WriteReady (g : Geometry) (here : List Bool) (xs ws : List ℕ) (z generation n count : ℕ) (buffer : List ℕ) : Type 0 where
+  pub readable : Readable g here xs ws z
+  pub inside : n + count ≤ zoneSectors g
+  pub buffer-long : length buffer ≡ count * g .sector
+  pub earlier-known : goneBefore g (isSet here) (readDevice g xs ws) z generation n ≡ false
+
+-- ---- what its functions rely on while they store: ps are the pointers of its start
+pub record Writing (k : Extent) (xs ws ps buffer : List ℕ) : Type 0 where
+  pub zone-in : k .zone < k .geometry .zones
+  pub sectors-long : length xs ≡ totalBytes (k .geometry)
+  pub written-long : length ws ≡ cells (k .geometry)
+  pub below-most : k .below ≤ k .end
+  pub end-most : k .end ≤ zoneSectors (k .geometry)
+  pub buffer-long : length buffer ≡ (k .end - k .below) * k .geometry .sector
+  pub behind : Behind (k .geometry) (λ y. true) ps ws
+  pub stripe-known : (s : ℕ) → stripeOf (k .geometry .drives) (k .geometry .unit) (k .below) ≤ s → isSet (k .here) (parityDrive (k .geometry .drives) (k .zone) s) ≡ true → StripeKnown k xs ps buffer s
+
+-- its beginning. Below the pointer only the earlier sectors of the pointer's stripe are read, and only where that stripe's parity drive is present.
+module _ (g : Geometry) (ok : Valid g) (here : List Bool) (xs ws : List ℕ) (z generation n count : ℕ) (buffer : List ℕ) (r : WriteReady g here xs ws z generation n count buffer) (limit : ℕ)
+    (limit-is : limit ≡ pick (allHeld g here ws z (stripeOf (g .drives) (g .unit) n * stripeSectors g) (fillOf g n)) 0 (sealLimit g (isSet here) (readDevice g xs ws) z generation)) where
+  abbrev first : ℕ
+  first = stripeOf (g .drives) (g .unit) n
+
+  two : 1 < g .drives
+  two = omega (arith, ok .drives-least)
+
+  -- an address of stripe s or a later one that is below the pointer lies in the pointer's stripe, which is s
+  same-stripe : (s a : ℕ) → first ≤ s → s * stripeSectors g ≤ a → a < n → s ≡ first
+  same-stripe s a h l q = go (ℕ-discrete s first)
+    where
+      go : Dec (s ≡ first) → s ≡ first
+      go (yes e) = e
+      go (no ne) =
+          let m : suc first ≤ s = omega (arith, ne) in
+          absurd (omega (arith, mul-le-mul-right (stripeSectors g) m, stripe-above (g .drives) (g .unit) 0 two (ok .unit-least) n))
+
+  inside-first : (a : ℕ) → first * stripeSectors g ≤ a → a < n → (first * stripeSectors g + (a - first * stripeSectors g) ≡ a) × (a - first * stripeSectors g < fillOf g n)
+  inside-first a l q = (omega arith, omega arith)
+
+  earlier : isSet here (parityDriveAt g z n) ≡ true → (a : ℕ) → first * stripeSectors g ≤ a → a < n → known (g .drives) (g .unit) z (zoneView g (isSet here) (readDevice g xs ws) z generation) a ≡ true
+  unfolding goneBefore
+  earlier p a l q =
+      let (e, m) = inside-first a l q in
+      let gone : goneIn g (isSet here) (readDevice g xs ws) z generation (first * stripeSectors g) (fillOf g n) ≡ false = rw p at (r .earlier-known) in
+      subst (λ (x : ℕ). known (g .drives) (g .unit) z (zoneView g (isSet here) (readDevice g xs ws) z generation) x ≡ true) e (known-in g (isSet here) (readDevice g xs ws) z generation (first * stripeSectors g) (fillOf g n) (a - first * stripeSectors g) gone m)
+
+  limited : (a : ℕ) → first * stripeSectors g ≤ a → a < n → ownHeld g here ws z a ≡ false → limit ≡ sealLimit g (isSet here) (readDevice g xs ws) z generation
+  limited a l q h = go (allHeld g here ws z (first * stripeSectors g) (fillOf g n)) refl
+    where
+      go : (b : Bool) → allHeld g here ws z (first * stripeSectors g) (fillOf g n) ≡ b → limit ≡ sealLimit g (isSet here) (readDevice g xs ws) z generation
+      go true e =
+          let (i, m) = inside-first a l q in
+          absurd (true≢false (sym (subst (λ (x : ℕ). ownHeld g here ws z x ≡ true) i (all-below-all (λ i. ownHeld g here ws z (first * stripeSectors g + i)) (fillOf g n) (a - first * stripeSectors g) e m)) ∙ h))
+      go false e = limit-is ∙ rw e refl
+
+  pub writing-begins : Writing (extentOf g here z generation limit n count) xs ws ws buffer
+  writing-begins = record {
+    zone-in = r .readable .zone-in;
+    sectors-long = r .readable .sectors-long;
+    written-long = r .readable .written-long;
+    below-most = omega arith;
+    end-most = r .inside;
+    buffer-long = let e : n + count - n ≡ count = omega arith in rw e (r .buffer-long);
+    behind = record { least = λ d y hd hy hb. omega arith };
+    stripe-known = λ s h p. record {
+      member = λ a l. record {
+        readable = r .readable;
+        end-most = r .inside;
+        known-is = λ i q. let e = same-stripe s a h l q in earlier (subst (λ (x : ℕ). isSet here (parityDrive (g .drives) z x) ≡ true) e p) a (rw (← e) l) q;
+        limit-is = λ i q o. let e = same-stripe s a h l q in limited a (rw (← e) l) q o;
+        in-buffer = λ i q. let m : suc (a - n) ≤ count = omega arith in omega (arith, rw suc-mul at (mul-le-mul-right (g .sector) m), r .buffer-long);
+      };
+    };
+  }
+
+-- it goes on; the content stays
+module _ (k : Extent) (ok : Valid (k .geometry)) (xs ws ps buffer : List ℕ) (w : Writing k xs ws ps buffer) where
+  abbrev g : Geometry
+  g = k .geometry
+
+  abbrev present : ℕ → Bool
+  present = isSet (k .here)
+
+  abbrev S : ℕ → List ℕ
+  S = contentOf k (readDevice (k .geometry) xs ps) buffer
+
+  pub writing-kept : (budget rest : ℕ) (ss : List Store) (xs′ ws′ : List ℕ) → StoresIn (k .geometry) (λ y. true) ss → MadeAppends (k .geometry) budget rest ss xs ws xs′ ws′
+      → Writing k xs′ ws′ ps buffer × (readDevice (k .geometry) xs′ ps ≡ readDevice (k .geometry) xs ps)
+  writing-kept budget rest ss xs′ ws′ p q =
+      let h = made-keeps g (λ y. true) budget rest ss ps (tablesOf xs ws ws) (tablesOf xs′ ws′ ws) p (record { sectors-long = w .sectors-long; written-long = w .written-long; durable-long = w .written-long }) (w .behind) (q .made ws) in
+      let e = kept-device g ps xs xs′ [] (h .bytes) in (
+        record {
+          zone-in = w .zone-in;
+          sectors-long = h .sized .sectors-long;
+          written-long = h .sized .written-long;
+          below-most = w .below-most;
+          end-most = w .end-most;
+          buffer-long = w .buffer-long;
+          behind = h .behind;
+          stripe-known = λ s l c. stripe-kept k xs ps buffer s (w .stripe-known s l c) xs′ (h .sized .sectors-long) e;
+        },
+        e,
       )
 
-  -- ---- the entry at pointer n
-  pub entry-is : (generation n : ℕ) (rows : List ℕ) → Kept g present z S n rows
-      → onPresent present (pick (insideStripe g n) (entryOf g z generation rows n) []) ≡ onPresent present (pick (insideStripe g n) (entryStores g z generation S n) [])
-  unfolding entryOf entryAt
-  entry-is generation n rows kept = go (decLt (stripeOf (g .drives) (g .unit) n * stripeSectors g) n)
+  -- rows of a stripe that the write reaches can be appended to a zone of its parity drive
+  pub writing-rows : (s y : ℕ) → stripeOf (k .geometry .drives) (k .geometry .unit) (k .below) ≤ s → y < physicalZones (k .geometry) → parityDrive (k .geometry .drives) (k .zone) s < k .geometry .drives
+      → RowsReady k (record { drive = parityDrive (k .geometry .drives) (k .zone) s; zone = y; present = isSet (k .here) (parityDrive (k .geometry .drives) (k .zone) s) }) xs ws ps buffer s
+  writing-rows s y h hy hp = record {
+    drive-in = hp;
+    zone-in = hy;
+    sectors-long = w .sectors-long;
+    written-long = w .written-long;
+    behind = record { least = λ d x hd hx e. w .behind .least d x hd hx refl };
+    stripe-known = λ p. w .stripe-known s h p;
+  }
+
+  -- a sector of the buffer
+  pub buffer-fits : (a : ℕ) → k .below ≤ a → a < k .end → (a - k .below) * k .geometry .sector + k .geometry .sector ≤ length buffer
+  buffer-fits a l h = let m : suc (a - k .below) ≤ k .end - k .below = omega arith in omega (arith, rw suc-mul at (mul-le-mul-right (g .sector) m), w .buffer-long)
+
+  new-long : (a : ℕ) → k .below ≤ a → a < k .end → length (S a) ≡ g .sector
+  new-long a l h = ap (λ (x : List ℕ). length x) (content-new k (readDevice g xs ps) buffer a l) ∙ part-long buffer ((a - k .below) * g .sector) (g .sector) (buffer-fits a l h)
+
+  -- stripes only go up
+  pub stripe-reached : (a : ℕ) → k .below ≤ a → stripeOf (k .geometry .drives) (k .geometry .unit) (k .below) ≤ stripeOf (k .geometry .drives) (k .geometry .unit) a
+  stripe-reached a l = go (decLt (stripeOf (g .drives) (g .unit) a) (stripeOf (g .drives) (g .unit) (k .below)))
     where
-      row : present (parityDriveAt g z n) ≡ true → (r : ℕ) → r < min (fillOf g n) (g .unit) → rowOf g rows r ≡ rowXorBelow (g .drives) (g .unit) S (stripeOf (g .drives) (g .unit) n) n r
-      row p r h = kept .held p .row r (omega arith) (omega arith)
+      two : 1 < g .drives
+      two = omega (arith, ok .drives-least)
 
-      go : Dec (stripeOf (g .drives) (g .unit) n * stripeSectors g < n) → onPresent present (pick (insideStripe g n) (entryOf g z generation rows n) []) ≡ onPresent present (pick (insideStripe g n) (entryStores g z generation S n) [])
-      go (yes h) = rw (lt-ltb (stripeOf (g .drives) (g .unit) n * stripeSectors g) n h)
-          (ap (λ (l : List Store). pick (present (parityDriveAt g z n)) (append (parityDriveAt g z n) parityZone (encode g (parityDriveAt g z n) (entryHeader g z generation n)) ∷ l) l)
-          (rows-same g present (parityDriveAt g z n) parityZone rows (rowXorBelow (g .drives) (g .unit) S (stripeOf (g .drives) (g .unit) n) n) (min (fillOf g n) (g .unit)) row))
-      go (no h) = rw (le-ltb (stripeOf (g .drives) (g .unit) n * stripeSectors g) n (omega arith)) refl
+      go : Dec (stripeOf (g .drives) (g .unit) a < stripeOf (g .drives) (g .unit) (k .below)) → stripeOf (g .drives) (g .unit) (k .below) ≤ stripeOf (g .drives) (g .unit) a
+      go (yes h) = absurd (omega (arith, mul-le-mul-right (stripeSectors g) h, stripe-below (g .drives) (g .unit) 0 two (ok .unit-least) (k .below), stripe-above (g .drives) (g .unit) 0 two (ok .unit-least) a))
+      go (no h) = omega arith
 
-  -- ---- the whole write: the run, then the entry
-  pub write-is : (generation n : ℕ) (bytes rows : List ℕ) (k : ℕ) → ((i : ℕ) → i < k → (S (n + i) ≡ sectorNo (g .sector) bytes i) × (length (S (n + i)) ≡ g .sector)) → Kept g present z S n rows
-      → onPresent present (runOf g z n bytes rows k) ++ onPresent present (pick (insideStripe g (n + k)) (entryOf g z generation (rowsAt g n bytes rows k) (n + k)) []) ≡ onPresent present (writeWith g z generation S n k)
-  unfolding writeWith
-  write-is generation n bytes rows k h kept =
-      let (p, q) = run-is n bytes rows k h kept in
-      ap₂ (λ (x y : List Store). x ++ y) p (entry-is generation (n + k) (rowsAt g n bytes rows k) q)
-      ∙ sym (on-present-append present (dataStores (g .drives) (g .unit) z S n k) (pick (insideStripe g (n + k)) (entryStores g z generation S (n + k)) []))
+  -- what an address stores, and a run of them, are appends of whole sectors
+  pub new-in : (a : ℕ) → k .below ≤ a → a < k .end → (here : Bool) → StoresIn (k .geometry) (λ y. true) (storeIf here (append (driveOf (k .geometry .drives) (k .geometry .unit) (k .zone) a) (dataZone (k .zone)) (S a)))
+  new-in a l h here =
+      store-if-in g (λ y. true) here (driveOf (g .drives) (g .unit) (k .zone) a) (dataZone (k .zone)) (S a) (drive-below (g .drives) (g .unit) (k .zone) (omega (arith, ok .drives-least)) (ok .unit-least) a) (omega (arith, w .zone-in)) refl (λ _. new-long a l h)
 
--- ---- how the buffer begins: the sectors f of the addresses from `start` on, added to a buffer
-abbrev pub rowsWith : Geometry → (ℕ → List ℕ) → ℕ → List ℕ → ℕ → List ℕ
-rowsWith g f start rows zero = rows
-rowsWith g f start rows (suc i) = withSector g (start + i) (f (start + i)) (rowsWith g f start rows i)
+  address-in : (a : ℕ) → k .below ≤ a → a < k .end → StoresIn (k .geometry) (λ y. true) (onPresent present (sectorStores (g .drives) (g .unit) (k .zone) S a))
+  address-in a l h = go (ℕ-discrete (suc (a % stripeSectors g)) (stripeSectors g))
+    where
+      d : ℕ
+      d = driveOf (g .drives) (g .unit) (k .zone) a
 
-pub rows-with-cong : (g : Geometry) (f h : ℕ → List ℕ) (start : ℕ) (rows : List ℕ) (n : ℕ) → ((i : ℕ) → i < n → f (start + i) ≡ h (start + i)) → rowsWith g f start rows n ≡ rowsWith g h start rows n
-rows-with-cong g f h start rows zero e = refl
-rows-with-cong g f h start rows (suc n) e = ap₂ (λ (s r : List ℕ). withSector g (start + n) s r) (e n (omega arith)) (rows-with-cong g f h start rows n (λ i l. e i (omega arith)))
+      s : ℕ
+      s = stripeOf (g .drives) (g .unit) a
 
-pub rows-begin : (g : Geometry) → Valid g → (S : ℕ → List ℕ) (s : ℕ) (rows : List ℕ) → g .unit * g .sector ≤ length rows → (i : ℕ) → i ≤ stripeSectors g → ((j : ℕ) → j < i → length (S (s * stripeSectors g + j)) ≡ g .sector)
-    → Holds g S s (s * stripeSectors g + i) (rowsWith g S (s * stripeSectors g) rows i) × (length (rowsWith g S (s * stripeSectors g) rows i) ≡ length rows)
-rows-begin g ok S s rows h zero l full = let e : s * stripeSectors g + zero ≡ s * stripeSectors g = omega arith in (rw e (holds-start g ok S s rows), refl)
-rows-begin g ok S s rows h (suc i) l full =
-    let (p, q) = rows-begin g ok S s rows h i (omega arith) (λ j m. full j (omega arith)) in
-    let a = s * stripeSectors g + i in
-    let before = rowsWith g S (s * stripeSectors g) rows i in
-    let long : g .unit * g .sector ≤ length before = omega arith in
-    let e : s * stripeSectors g + suc i ≡ suc a = omega arith in
-    let t : stripeOf (g .drives) (g .unit) a ≡ s = (unfold stripeOf in digits-div s (omega arith)) in
-    (rw e (subst (λ (y : ℕ). Holds g S y (suc a) (withSector g a (S a) before)) t (holds-more g ok S a before long (full i (omega arith)) (subst (λ (y : ℕ). Holds g S y a before) (sym t) p))), added-length g ok S a before long (full i (omega arith)) ∙ q)
+      p : ℕ
+      p = parityDrive (g .drives) (k .zone) s
+
+      two : 1 < g .drives
+      two = omega (arith, ok .drives-least)
+
+      below : p < g .drives
+      below = parity-drive-below (g .drives) (g .unit) (k .zone) two (ok .unit-least) s
+
+      ready : RowsReady k (record { drive = p; zone = dataZone (k .zone); present = present p }) xs ws ps buffer s
+      ready = writing-rows s (dataZone (k .zone)) (stripe-reached a l) (omega (arith, w .zone-in)) below
+
+      rows : suc (a % stripeSectors g) ≡ stripeSectors g → StoresIn g (λ y. true) (rowsIf (present p) p (dataZone (k .zone)) (rowXorBelow (g .drives) (g .unit) S s (k .end)) 0 (g .unit))
+      rows e =
+          rows-in g (λ y. true) (present p) p (dataZone (k .zone)) (rowXorBelow (g .drives) (g .unit) S s (k .end)) 0 (g .unit) below (omega (arith, w .zone-in)) refl
+          (λ q r hr. ready-long k (record { drive = p; zone = dataZone (k .zone); present = present p }) xs ws ps buffer s ready ok r hr (last-row e r hr) q)
+        where
+          last-row : suc (a % stripeSectors g) ≡ stripeSectors g → (r : ℕ) → r < g .unit → s * stripeSectors g + r < k .end
+          last-row e r hr = omega (arith, stripe-last g a e, unit-in-stripe g ok)
+
+      go : Dec (suc (a % stripeSectors g) ≡ stripeSectors g) → StoresIn g (λ y. true) (onPresent present (sectorStores (g .drives) (g .unit) (k .zone) S a))
+      go (yes e) = rw (sector-last g ok present (k .zone) S a (k .end) e h) (stores-in-append g (λ y. true) (storeIf (present d) (append d (dataZone (k .zone)) (S a))) (rowsIf (present p) p (dataZone (k .zone)) (rowXorBelow (g .drives) (g .unit) S s (k .end)) 0 (g .unit)) (new-in a l h (present d)) (rows e))
+      go (no ne) = rw (sector-inside g ok present (k .zone) S a (omega (arith, ne, mod-lt a (stripe-pos (g .drives) (g .unit) 0 two (ok .unit-least))))) (new-in a l h (present d))
+
+  pub run-in : (j : ℕ) → j ≤ k .end - k .below → StoresIn (k .geometry) (λ y. true) (onPresent (isSet (k .here)) (dataStores (k .geometry .drives) (k .geometry .unit) (k .zone) (contentOf k (readDevice (k .geometry) xs ps) buffer) (k .below) j))
+  run-in zero h = tt
+  run-in (suc j) h =
+      let e : onPresent present (dataStores (g .drives) (g .unit) (k .zone) S (k .below) (suc j)) ≡ onPresent present (dataStores (g .drives) (g .unit) (k .zone) S (k .below) j) ++ onPresent present (sectorStores (g .drives) (g .unit) (k .zone) S (k .below + j)) =
+      ap (onPresent present) (data-snoc (g .drives) (g .unit) (k .zone) S (k .below) j) ∙ on-present-append present (dataStores (g .drives) (g .unit) (k .zone) S (k .below) j) (sectorStores (g .drives) (g .unit) (k .zone) S (k .below + j)) in
+      subst (StoresIn g (λ y. true)) (sym e) (stores-in-append g (λ y. true) (onPresent present (dataStores (g .drives) (g .unit) (k .zone) S (k .below) j)) (onPresent present (sectorStores (g .drives) (g .unit) (k .zone) S (k .below + j))) (run-in j (omega arith)) (address-in (k .below + j) (omega arith) (omega arith)))

@@ -36,7 +36,7 @@ use Rattle.volume.specs.looking.Knowing.{Readable, readDevice}
 use Rattle.volume.specs.looking.KnowingLaws.{view-durable}
 use Rattle.volume.specs.checks.ZoneChecks.{staleOn, stale-on-tables, present-good, pointer-within}
 use Rattle.volume.specs.writing.WriteChecks.{fullOn, full-is, gone-durable, runNumber, zoneNumber, RunFits, run-fits}
-use Rattle.volume.specs.writing.WriteParity.{runContent, WriteReady}
+use Rattle.volume.specs.writing.WriteStores.{runContent, WriteReady}
 
 -- ---- the state is the rules'
 same-lists : (x : ℕ) (p q : ℕ → ℕ) (c d : ℕ → Condition) → p ≡ q → c ≡ d → _≡_ {A = StateView} (record { lost = x; generation = p; condition = c }) (record { lost = x; generation = q; condition = d })
@@ -76,10 +76,6 @@ lateRows g named s a k t =
 unfoldable pub writeNumber : Geometry → List Bool → State → ℕ → ℕ → ℕ → List ℕ → List ℕ → List ℕ → ℕ
 writeNumber g named s a k bytes xs ws ds = verdictNumber (writeVerdict g named s a k bytes (tablesOf xs ws ds))
 
--- the number of what comes after refusals 1 to 4: zone z, an offset in it
-unfoldable pub lateNumber : Geometry → List Bool → State → ℕ → ℕ → ℕ → List ℕ → List ℕ → ℕ
-lateNumber g here s z offset k xs ws = pick (leb (g .zones) z) 8 (zoneNumber g (isSet here) xs ws (recordAt s z .condition) (recordAt s z .generation) z offset k)
-
 module _ (g : Geometry) (named : List Bool) (s : State) (a k bytes : ℕ) (xs ws ds : List ℕ) where
   number-is : writeNumber g named s a k bytes xs ws ds
       ≡ pick (eqb (openingNumber g named s k bytes (length xs) ws ds) 0) (verdictNumber (firstRefusal (lateRows g named s a k (tablesOf xs ws ds)))) (openingNumber g named s k bytes (length xs) ws ds)
@@ -112,14 +108,6 @@ module _ (g : Geometry) (named : List Bool) (s : State) (a k bytes : ℕ) (xs ws
           full-is g (open-is .valid) present t (zoneOf g a) (pointerOf s (zoneOf g a) + k),
           gone-durable g present xs ws ds (zoneOf g a) (recordAt s (zoneOf g a) .generation) (pointerOf s (zoneOf g a)),
         ) refl))
-
-    pub number-late : lateNumber g (presentList g named (s .lost)) s (zoneOf g a) (offsetOf g a) k xs ws ≡ writeNumber g named s a k bytes xs ws ds
-    unfolding lateNumber
-    number-late = go (decLt (zoneOf g a) (g .zones))
-      where
-        go : Dec (zoneOf g a < g .zones) → lateNumber g (presentList g named (s .lost)) s (zoneOf g a) (offsetOf g a) k xs ws ≡ writeNumber g named s a k bytes xs ws ds
-        go (yes h) = rw (lt-leb (g .zones) (zoneOf g a) h) (number-zone h)
-        go (no h) = let l : g .zones ≤ zoneOf g a = omega arith in rw (le-leb (g .zones) (zoneOf g a) l) (number-8 l)
 
 -- ---- what passing them all gives
 pub record WriteAccepted (g : Geometry) (named : List Bool) (s : State) (a k bytes : ℕ) (xs ws ds : List ℕ) : Type 0 where
@@ -164,20 +152,6 @@ pub readable-zone : (g : Geometry) (named : List Bool) (s : State) (k bytes : �
 readable-zone g named s k bytes xs ws ds z o h =
     let l = lengths-are g (length xs) (length ws) (length ds) (o .lengths) in
     record { zone-in = h; sectors-long = l .0; written-long = l .1; pointers = λ d y hd p hy. present-good g named s ws ds (o .pointers) d y hd hy (sym (ap (λ (f : ℕ → Bool). f d) (present-is g named s)) ∙ p) }
-
-pub record Aimed (g : Geometry) (here : List Bool) (s : State) (z offset k : ℕ) (xs ws : List ℕ) : Type 0 where
-  pub readable : z < g .zones → Readable g here xs ws z
-  pub pointer-most : z < g .zones → pointerOf s z ≤ zoneSectors g
-  pub offset-small : offset < zoneSectors g
-  pub count-small : k < 4294967296
-
-pub aimed : (g : Geometry) (named : List Bool) (s : State) (a k bytes : ℕ) (xs ws ds : List ℕ) → Opened g named s k bytes (length xs) ws ds → k < 4294967296 → Aimed g (presentList g named (s .lost)) s (zoneOf g a) (offsetOf g a) k xs ws
-aimed g named s a k bytes xs ws ds o small = record {
-  readable = readable-zone g named s k bytes xs ws ds (zoneOf g a) o;
-  pointer-most = pointer-within g s (zoneOf g a) (o .within);
-  offset-small = mod-lt a (zone-small g (o .valid) .0);
-  count-small = small;
-}
 
 pub buffer-is : (g : Geometry) (k bytes : ℕ) → bufferFits g k bytes ≡ true → bytes ≡ k * g .sector
 unfolding bufferFits

@@ -1,17 +1,16 @@
 -- What the bytes of the C edge mean: document 01's "state and tables pass as bytes". A table is one little-endian 32-bit number for each drive and zone.
 -- A state is 264 bytes: byte 0 the lost drive or 255, bytes 1 to 7 zero, then 16 records of 16 bytes (generation 8, condition 1, three zeros, pointer 4).
 use mathlib.Core.Path.{_≡_, refl, sym, ap, ap₂, _∙_}
-use mathlib.Core.Bool.{Bool, true, false, _&&_}
-use Prim.Native.Nat.{ℕ, zero, suc, _+_, _-_, _*_, _%_, _≤_, _<_}
+use mathlib.Core.Bool.{true}
+use Prim.Native.Nat.{ℕ, zero, suc, _+_, _*_, _%_, _≤_, _<_}
 use native.Mathlib.Omega.{arith}
-use mathlib.Core.List.{append-nil, List, [], _∷_, _++_}
-use lib.ListN.{length, getD, take, drop, set, length-append}
+use mathlib.Core.List.{append-nil, List, _++_}
+use lib.ListN.{length, getD, drop, set, length-append}
 use lib.Seq.{take-at, drop-cons, drop-drop, drop-append-add, set-at, append-snoc, drop-length}
-use lib.Dec.{eqb}
 use Rattle.tables.specs.meaning.Below.{tabulate}
 use Rattle.tables.specs.laws.Below.{length-tabulate}
 use Rattle.tables.specs.meaning.Lists.{overlay}
-use Rattle.tables.specs.meaning.LittleEndian.{bytesLE, sameBytes}
+use Rattle.tables.specs.meaning.LittleEndian.{bytesLE}
 use Rattle.tables.specs.laws.LittleEndian.{writeLE, same-bytes-eq}
 use Rattle.tables.specs.laws.Lists.{lay-lay}
 use Rattle.volume.specs.declared.ZoneRecord.{ZoneRecord}
@@ -78,18 +77,3 @@ unfolding stateTo
 state-more z s =
     let e : 8 + 16 * z + length (recordTo (recordAt s z)) ≡ 8 + 16 * suc z = rw (length-record-to (recordAt s z)) (omega arith) in
     lay-next (recordsTo z s) noState (recordTo (recordAt s z)) (8 + 16 * z) (length-records-to z s) ∙ ap (λ (k : ℕ). recordsTo (suc z) s ++ drop k noState) e
-
--- two lists compared from their front
-pub same-more : (xs ys : List ℕ) (i : ℕ) → i < length xs → i < length ys → sameBytes (take i xs) (take i ys) && eqb (getD xs i 0) (getD ys i 0) ≡ sameBytes (take (suc i) xs) (take (suc i) ys)
-same-more [] ys i h k = absurd (omega arith)
-same-more (x ∷ xs) [] i h k = absurd (omega arith)
-same-more (x ∷ xs) (y ∷ ys) zero h k = and-true (eqb x y)
-  where
-    and-true : (b : Bool) → b ≡ b && true
-    and-true true = refl
-    and-true false = refl
-same-more (x ∷ xs) (y ∷ ys) (suc i) h k = and-assoc (eqb x y) (sameBytes (take i xs) (take i ys)) (eqb (getD xs i 0) (getD ys i 0)) ∙ ap (λ (b : Bool). eqb x y && b) (same-more xs ys i (omega arith) (omega arith))
-  where
-    and-assoc : (a b c : Bool) → a && b && c ≡ a && (b && c)
-    and-assoc true b c = refl
-    and-assoc false b c = refl

@@ -22,9 +22,8 @@ use Rattle.volume.specs.declared.State.{State}
 use Rattle.volume.specs.meaning.CallContracts.{answerNumber, Result, ReadResult, peekNumber, peekOn}
 use Rattle.volume.specs.reading.Peeking.{peek-done}
 use Rattle.tables.specs.meaning.LittleEndian.{bytesLE}
-use Rattle.zrv.specs.declared.Request.{Request}
 use Rattle.zrv.specs.meaning.Bytes.{tableTo, stateTo}
-use Rattle.zrv.specs.meaning.EdgeCalls.{namedOf, sizesFit, stateBad, inputNumber, sizesNumber, stateAfter, Ranges, ranges, Answered, answered, unlessRefused, handedBack, storedAll, storedAppends, storedFlushes, readAnswer, offsetAt, placeAnswer, placeSized}
+use Rattle.zrv.specs.meaning.EdgeCalls.{sizesFit, stateBad, inputNumber, sizesNumber, stateAfter, Ranges, ranges, Answered, answered, unlessRefused, handedBack, storedAll, storedAppends, storedFlushes, readAnswer, offsetAt, placeAnswer, placeSized}
 
 -- ---- the input
 -- what passing its test gives
@@ -33,19 +32,6 @@ pub record Sized (g : Geometry) (n w d : ℕ) : Type 0 where
   pub state-long : n ≡ 264
   pub written-long : w ≡ cells g * 4
   pub durable-long : d ≡ cells g * 4
-
--- what a call is made on: i, where nothing is refused, holds it; s the state that it reads, n, w and d the lengths of its ranges
-pub record Ready (g : Geometry) (mask : ℕ) (s : State) (n w d : ℕ) (i : Request) : Type 0 where
-  pub sized : Sized g n w d
-  pub cells-are : i .cells ≡ cells g
-  pub drives-are : i .drives ≡ namedOf mask
-  pub state-is : i .state ≡ s
-
--- k: the number of what is refused
-pub record Opened (g : Geometry) (mask k : ℕ) (s : State) (n w d : ℕ) (i : Request) : Type 0 where
-  pub number : i .refusal ≡ k
-  pub small : i .cells ≤ 152
-  pub ready : i .refusal ≡ 0 → Ready g mask s n w d i
 
 sized : (g : Geometry) (n w d : ℕ) → isValid g ≡ true → sizesFit g n w d ≡ true → Sized g n w d
 unfolding sizesFit
@@ -73,13 +59,6 @@ sizes-passed g n w d h = let (a, b) = by (isValid g) (sizesFit g n w d) h in siz
     by true false k = absurd (omega arith)
     by false e k = absurd (omega arith)
 
-module _ {g : Geometry} {mask k : ℕ} {s : State} {n w d : ℕ} {i : Request} (e : i .refusal ≡ k) where
-  pub opened-refused : i .refusal ≢ 0 → i .cells ≤ 152 → Opened g mask k s n w d i
-  opened-refused h l = record { number = e; small = l; ready = λ z. absurd (h z) }
-
-  pub opened-ready : Sized g n w d → (i .cells ≡ cells g) × (i .cells ≤ 152) → i .drives ≡ namedOf mask → i .state ≡ s → Opened g mask k s n w d i
-  opened-ready q c h r = record { number = e; small = c .1; ready = λ z. record { sized = q; cells-are = c .0; drives-are = h; state-is = r } }
-
 -- ---- the tables
 -- what reading them needs: the bytes' lengths, and scratch for the two tables
 pub record Scratch (g : Geometry) (wb db w d : List ℕ) : Type 0 where
@@ -93,12 +72,10 @@ pub part-long : (n : ℕ) → n ≤ 152 → length {A = ℕ} (take n (replicate 
 part-long n h = length-take-le n (replicate 152 0) h
 
 -- the scratch is parts of two such arrays
-pub scratch-fits : {g : Geometry} {mask k n : ℕ} {s : State} (wb db : List ℕ) {i : Request} → Opened g mask k s n (length wb) (length db) i → i .refusal ≡ 0
-    → Scratch g wb db (take (i .cells) (replicate 152 0)) (take (i .cells) (replicate 152 0))
-scratch-fits wb db {i} o z =
-    let r = o .ready z in
-    let e = part-long (i .cells) (o .small) ∙ r .cells-are in
-    record { written-long = r .sized .written-long; durable-long = r .sized .durable-long; scratch-written = e; scratch-durable = e }
+pub scratch-fits : {g : Geometry} {n k : ℕ} (wb db : List ℕ) → Sized g n (length wb) (length db) → (k ≡ cells g) × (k ≤ 152) → Scratch g wb db (take k (replicate 152 0)) (take k (replicate 152 0))
+scratch-fits {g} {n} {k} wb db s h =
+    let e = part-long k (h .1) ∙ h .0 in
+    record { written-long = s .written-long; durable-long = s .durable-long; scratch-written = e; scratch-durable = e }
 
 -- ---- what is handed back
 module _ (g : Geometry) (o : Outcome) (st : List ℕ) where

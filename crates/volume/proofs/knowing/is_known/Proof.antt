@@ -17,8 +17,8 @@ returns : tie.Need-returns
 returns c =
     let s = c .before .before .before .before in
     let a = s .args in
-    c .has-source .ensures ∙ ap hasSource (c .before .source-of .ensures ∙ ap (λ (l : ℕ). sourceOf (a .g) (a .here) (now (a .sectors)) (now (a .written)) (a .z) (a .generation) l (a .a)) (s .pre .1 .2))
-    ∙ sym (known-is (a .g) (a .here) (now (a .sectors)) (now (a .written)) (a .z) (s .pre .1 .0) (s .pre .0) (a .generation) (a .a) (s .pre .1 .1))
+    c .has-source .ensures ∙ ap hasSource (c .before .source-of .ensures ∙ ap (λ (l : ℕ). sourceOf (a .zone .geometry) (a .zone .here) (now (a .sectors)) (now (a .written)) (a .zone .number) (a .zone .generation) l (a .a)) (s .pre .1 .2))
+    ∙ sym (known-is (a .zone .geometry) (a .zone .here) (now (a .sectors)) (now (a .written)) (a .zone .number) (s .pre .1 .0) (s .pre .0) (a .zone .generation) (a .a) (s .pre .1 .1))
 
 pub is-known-spec : {M : Type 1} → statement M
 is-known-spec = tie.close (tie.spec source-of-requires has-source-requires returns)

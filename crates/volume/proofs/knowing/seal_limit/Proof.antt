@@ -10,10 +10,10 @@ use Rattle.volume.proofs.knowing.seal_limit.Statement.{statement}
 use Rattle.volume.proofs.knowing.seal_limit.Tie as tie
 
 abbrev Inv-loop : tie.InvT-loop
-Inv-loop sectors written g here z generation n limit₀ d₀ limit d = (d ≤ n) × (limit ≡ sealLimitBelow g (isSet here) (readDevice g sectors written) z generation d) × (limit ≤ zoneSectors g)
+Inv-loop sectors written z generation zone n limit₀ d₀ limit d = (d ≤ n) × (limit ≡ sealLimitBelow (zone .geometry) (isSet (zone .here)) (readDevice (zone .geometry) sectors written) (zone .number) (zone .generation) d) × (limit ≤ zoneSectors (zone .geometry))
 
 abbrev μ-loop : tie.MeasureT-loop
-μ-loop sectors written g here z generation n limit₀ d₀ limit d = n - d
+μ-loop sectors written z generation zone n limit₀ d₀ limit d = n - d
 
 zone-sectors-requires : tie.Need-zone-sectors-requires Inv-loop μ-loop
 zone-sectors-requires c κs = c .before .before .pre .0

@@ -13,26 +13,26 @@ use Rattle.volume.proofs.knowing.seal_of.Tie as tie
 
 returns : tie.Need-returns
 returns c =
-    let a = c .before .before .before .args in
-    let h : isSet (a .t4) (a .d) ≡ false = not-true (isSet (a .t4) (a .d)) (c .if1 .taken) in
+    let a = c .before .before .before .before .args in
+    let h : isSet (a .zone .here) (a .d) ≡ false = not-true (isSet (a .zone .here) (a .d)) (c .if1 .taken) in
     rw h (refl, omega arith)
 
 least-seal-requires : tie.Need-least-seal-requires
 least-seal-requires c κs =
-    let s = c .before .before .before .before .before .before in
+    let s = c .before .before .before .before .before .before .before .before in
     let r = s .pre .1 .0 in
-    let h : isSet (s .args .t4) (s .args .d) ≡ true = not-not (isSet (s .args .t4) (s .args .d)) (c .before .before .before .if1 .left) in
-    let e : c .widen .result ≡ getD (now (s .args .written)) (cell (s .args .g) (s .args .d) 0) 0 = c .widen .ensures ∙ rw (c .before .before .cell-of .ensures .0) refl in
+    let h : isSet (s .args .zone .here) (s .args .d) ≡ true = not-not (isSet (s .args .zone .here) (s .args .d)) (c .before .before .before .before .if1 .left) in
+    let e : c .widen .result ≡ getD (now (s .args .written)) (cell (s .args .zone .geometry) (s .args .d) 0) 0 = c .widen .ensures ∙ rw (c .before .before .cell-of .ensures .0) refl in
     (s .pre .0, record { drive-in = s .pre .1 .1; zone-in = omega arith; short = rw e (r .pointers (s .args .d) 0 (s .pre .1 .1) h (omega arith)); long = r .sectors-long })
 
 returns-2 : tie.Need-returns-2
 returns-2 c =
-    let at-if = c .before .before .before .before in
-    let s = at-if .before .before .before in
+    let at-if = c .before .before .before .before .before in
+    let s = at-if .before .before .before .before in
     let a = s .args in
-    let h : isSet (a .t4) (a .d) ≡ true = not-not (isSet (a .t4) (a .d)) (at-if .if1 .left) in
-    let e : c .before .widen .result ≡ getD (now (a .written)) (cell (a .g) (a .d) 0) 0 = c .before .widen .ensures ∙ rw (c .before .before .before .cell-of .ensures .0) refl in
-    let k = heads-are (a .g) (a .t4) (now (a .sectors)) (now (a .written)) (a .z) (s .pre .1 .0) (a .d) (s .pre .1 .1) h in
+    let h : isSet (a .zone .here) (a .d) ≡ true = not-not (isSet (a .zone .here) (a .d)) (at-if .if1 .left) in
+    let e : c .before .widen .result ≡ getD (now (a .written)) (cell (a .zone .geometry) (a .d) 0) 0 = c .before .widen .ensures ∙ rw (c .before .before .before .cell-of .ensures .0) refl in
+    let k = heads-are (a .zone .geometry) (a .zone .here) (now (a .sectors)) (now (a .written)) (a .zone .number) (s .pre .1 .0) (a .d) (s .pre .1 .1) h in
     (c .least-seal .ensures .0 ∙ rw (h, e, k) refl, c .least-seal .ensures .1)
 
 pub seal-of-spec : {M : Type 1} → statement M

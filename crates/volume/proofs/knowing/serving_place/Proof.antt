@@ -22,19 +22,19 @@ use Rattle.volume.proofs.knowing.serving_place.Tie as tie
 returns : tie.Need-returns
 unfolding servingPlace
 returns c =
-    let a = c .before .before .before .before .args in
-    let h : isSet (a .t4) (parityOf (a .g .drives) (a .g .unit) (a .z) (a .a)) ≡ false = ap (λ (p : ℕ). isSet (a .t4) p) (sym (c .before .parity-of .ensures .0)) ∙ not-true (isSet (a .t4) (c .before .parity-of .result)) (c .if1 .taken) in
+    let a = c .before .before .before .before .before .before .args in
+    let h : isSet (a .zone .here) (parityOf (a .zone .geometry .drives) (a .zone .geometry .unit) (a .zone .number) (a .a)) ≡ false = ap (λ (p : ℕ). isSet (a .zone .here) p) (sym (c .before .parity-of .ensures .0)) ∙ not-true (isSet (a .zone .here) (c .before .parity-of .result)) (c .if1 .taken) in
     rw h refl
 
 last-partial-requires : tie.Need-last-partial-requires
 last-partial-requires c κs =
     let at-if = c .before .before .before .before .before in
     let at-parity-of = at-if .before in
-    let s = at-parity-of .before .before .before in
+    let s = at-parity-of .before .before .before .before .before in
     let a = s .args in
     let f = at-parity-of .parity-of in
-    let h : isSet (a .t4) (f .result) ≡ true = not-not (isSet (a .t4) (f .result)) (at-if .if1 .left) in
-    let e : c .widen .result ≡ getD (now (a .written)) (cell (a .g) (f .result) 1) 0 = c .widen .ensures ∙ rw (c .before .before .cell-of .ensures .0) refl in
+    let h : isSet (a .zone .here) (f .result) ≡ true = not-not (isSet (a .zone .here) (f .result)) (at-if .if1 .left) in
+    let e : c .widen .result ≡ getD (now (a .written)) (cell (a .zone .geometry) (f .result) 1) 0 = c .widen .ensures ∙ rw (c .before .before .cell-of .ensures .0) refl in
     (s .pre .0, record { drive-in = f .ensures .1; zone-in = omega arith; short = rw e (s .pre .1 .0 .pointers (f .result) 1 (f .ensures .1) h (omega arith)); long = s .pre .1 .0 .sectors-long })
 
 returns-2 : tie.Need-returns-2
@@ -44,16 +44,16 @@ returns-2 c =
     let at-reach-of = at-min .before in
     let at-if = at-reach-of .before in
     let at-parity-of = at-if .before in
-    let s = at-parity-of .before .before .before in
+    let s = at-parity-of .before .before .before .before .before in
     let a = s .args in
     let f = at-parity-of .parity-of in
-    let P = parityOf (a .g .drives) (a .g .unit) (a .z) (a .a) in
-    let place : ℕ → ℕ → ℕ → ℕ = λ p high w. lastPlace (a .g) (endsWithin (a .g) (a .z) (a .generation) (a .a) high) 0 0 (headsOf (walkLog (a .g) p true (logSectors (a .g) p 1 (now (a .sectors)) w))) in
-    let h : isSet (a .t4) P ≡ true = ap (λ (p : ℕ). isSet (a .t4) p) (sym (f .ensures .0)) ∙ not-not (isSet (a .t4) (f .result)) (at-if .if1 .left) in
-    let e : c .before .widen .result ≡ getD (now (a .written)) (cell (a .g) P 1) 0 = c .before .widen .ensures ∙ ap (λ (k : ℕ). getD (now (a .written)) k 0) (c .before .before .before .cell-of .ensures .0) ∙ ap (λ (p : ℕ). getD (now (a .written)) (cell (a .g) p 1) 0) (f .ensures .0) in
-    let m : at-min .min .result ≡ min (a .limit) (reachOf (a .g) (a .t4) (now (a .written)) (a .z) (a .a)) = at-min .min .ensures ∙ ap (λ (k : ℕ). min (a .limit) k) (at-reach-of .reach-of .ensures) in
+    let P = parityOf (a .zone .geometry .drives) (a .zone .geometry .unit) (a .zone .number) (a .a) in
+    let place : ℕ → ℕ → ℕ → ℕ = λ p high w. lastPlace (a .zone .geometry) (endsWithin (a .zone .geometry) (a .zone .number) (a .zone .generation) (a .a) high) 0 0 (headsOf (walkLog (a .zone .geometry) p true (logSectors (a .zone .geometry) p 1 (now (a .sectors)) w))) in
+    let h : isSet (a .zone .here) P ≡ true = ap (λ (p : ℕ). isSet (a .zone .here) p) (sym (f .ensures .0)) ∙ not-not (isSet (a .zone .here) (f .result)) (at-if .if1 .left) in
+    let e : c .before .widen .result ≡ getD (now (a .written)) (cell (a .zone .geometry) P 1) 0 = c .before .widen .ensures ∙ ap (λ (k : ℕ). getD (now (a .written)) k 0) (c .before .before .before .cell-of .ensures .0) ∙ ap (λ (p : ℕ). getD (now (a .written)) (cell (a .zone .geometry) p 1) 0) (f .ensures .0) in
+    let m : at-min .min .result ≡ min (a .limit) (reachOf (a .zone .geometry) (a .zone .here) (now (a .written)) (a .zone .number) (a .a)) = at-min .min .ensures ∙ ap (λ (k : ℕ). min (a .limit) k) (at-reach-of .reach-of .ensures) in
     c .last-partial .ensures .0 ∙ ap (λ (p : ℕ). place p (at-min .min .result) (c .before .widen .result)) (f .ensures .0) ∙ ap₂ (λ (k w : ℕ). place P k w) m e
-    ∙ sym (ap (λ (b : Bool). pick b (place P (min (a .limit) (reachOf (a .g) (a .t4) (now (a .written)) (a .z) (a .a))) (getD (now (a .written)) (cell (a .g) P 1) 0)) 0) h)
+    ∙ sym (ap (λ (b : Bool). pick b (place P (min (a .limit) (reachOf (a .zone .geometry) (a .zone .here) (now (a .written)) (a .zone .number) (a .a))) (getD (now (a .written)) (cell (a .zone .geometry) P 1) 0)) 0) h)
 
 pub serving-place-spec : {M : Type 1} → statement M
 serving-place-spec =

@@ -1,70 +1,117 @@
-use Rattle.volume.specs.mounting.MountLastEntries.{entryRows, entry-parts, header-in}
-use Rattle.volume.specs.mounting.MountRestoring.{filled}
-use Rattle.volume.specs.mounting.MountRows.{valuesOf}
-use Rattle.volume.specs.mounting.MountLook.{zoneLook, stays, log-stays}
-use Rattle.volume.specs.laws.CallContracts.{appends-append}
-use Rattle.volume.specs.meaning.Content.{fillOf, entryHeader}
-use Rattle.logs.specs.meaning.Entry.{parityZone, encode}
-use Rattle.tables.specs.laws.Sizes.{zone-small}
-use Rattle.tables.specs.meaning.Placement.{stripeOf}
-use Rattle.tables.specs.laws.Made.{MadeAppends}
-use Rattle.tables.specs.meaning.Device.{Store, append}
-use Rattle.tables.specs.meaning.Geometry.{stripeSectors}
-use denote.Ref.{now}
-use native.Mathlib.Omega.{arith}
-use native.Mathlib.Nat.{div-add-mod'}
+use Prim.Native.Nat.{ℕ, _+_, _-_, _*_, _/_, _≤_, min}
+use mathlib.Core.Path.{_≡_, sym, subst}
+use mathlib.Core.Bool.{true}
 use mathlib.Core.List.{List, [], _∷_}
-use mathlib.Core.Path.{sym, subst}
+use native.Mathlib.Nat.{div-add-mod'}
+use native.Mathlib.Omega.{arith}
+use denote.Ref.{now}
+use Rattle.tables.specs.meaning.Geometry.{stripeSectors}
+use Rattle.tables.specs.meaning.Placement.{stripeOf}
+use Rattle.tables.specs.meaning.Device.{Store, append}
+use Rattle.tables.specs.laws.Made.{MadeAppends}
+use Rattle.tables.specs.laws.Sizes.{zone-small}
+use Rattle.logs.specs.meaning.Entry.{parityZone, encode}
+use Rattle.volume.specs.meaning.Content.{rowXorBelow, fillOf, entryHeader}
+use Rattle.volume.specs.laws.CallContracts.{appends-append}
+use Rattle.volume.specs.looking.Knowing.{readDevice}
+use Rattle.volume.specs.rows.RowStores.{rowsIf}
+use Rattle.volume.specs.mounting.MountLook.{zoneLook, stays, log-stays}
+use Rattle.volume.specs.mounting.MountRows.{valuesOf}
+use Rattle.volume.specs.mounting.MountRestoring.{Filling, filled}
+use Rattle.volume.specs.mounting.MountLastEntries.{entryRows, entry-parts, header-in}
 use borrow.Author.Needs.{needs}
 use Rattle.volume.proofs.mount_entries.append_entry.Statement.{statement}
 use Rattle.volume.proofs.mount_entries.append_entry.Tie as tie
 
-mul-append-partial : tie.Need-mul-append-partial
-mul-append-partial c =
-    let s = c .before .before .before .before .before .before .before .before .before .before in
+-- the stripe begins at or below the pointer, which is small
+begins : (c : tie.After-stripe-sectors) → let a = c .before .before .before .before .before .before .before .before .args in let p = zoneLook (a .basis .look) (a .z) .pointer in
+    (p / c .stripe-sectors .result * c .stripe-sectors .result ≤ p) × (p ≤ 458752)
+begins c =
+    let s = c .before .before .before .before .before .before .before .before in
     let a = s .args in
-    omega (arith, div-add-mod' (zoneLook (a .look) (a .z) .pointer) (c .before .before .stripe-sectors .result), s .pre .1 .3 .logging .within .pointer-most (a .z) (s .pre .1 .4), zone-small (a .g) (s .pre .0) .1)
+    let p = zoneLook (a .basis .look) (a .z) .pointer in
+    (omega (arith, div-add-mod' p (c .stripe-sectors .result)), omega (arith, s .pre .1 .3 .logging .within .pointer-most (a .z) (s .pre .1 .1), zone-small (a .basis .geometry) (s .pre .0) .1))
 
-sub-append-partial : tie.Need-sub-append-partial
-sub-append-partial c =
-    let a = c .before .before .before .before .before .before .before .before .before .before .args in
-    omega (arith, div-add-mod' (zoneLook (a .look) (a .z) .pointer) (c .before .before .stripe-sectors .result))
+mul-fill : tie.Need-mul-fill
+mul-fill c = let e = begins c in omega (arith, e .0, e .1)
+
+sub-fill : tie.Need-sub-fill
+sub-fill c = omega (arith, begins c .0)
 
 append-partial-requires : tie.Need-append-partial-requires
 append-partial-requires c κs =
     let s = c .before .before .before .before .before .before .before .before .before .before in
     let a = s .args in
     let l = s .pre .1 .3 .logging in
-    (s .pre .0, (s .pre .1 .0, s .pre .1 .4, rw (c .before .before .stripe-sectors .ensures .0) (omega (arith, div-add-mod' (zoneLook (a .look) (a .z) .pointer) (stripeSectors (a .g)), l .within .pointer-most (a .z) (s .pre .1 .4))), l .sectors-long, l .written-long))
+    (s .pre .0, (s .pre .1 .0, s .pre .1 .1, rw (c .before .before .stripe-sectors .ensures .0) (omega (arith, div-add-mod' (zoneLook (a .basis .look) (a .z) .pointer) (stripeSectors (a .basis .geometry)), l .within .pointer-most (a .z) (s .pre .1 .1))), l .sectors-long, l .written-long))
+
+-- the zone's values
+abbrev values : tie.Start → ℕ → List ℕ
+values s = let a = s .args in let b = a .basis in valuesOf (b .geometry) (b .here) (now (a .sectors)) (now (a .pointers)) (a .z) (zoneLook (b .look) (a .z) .generation)
+
+-- the header
+abbrev header : tie.Start → List Store
+header s = let a = s .args in append (a .drive) parityZone (encode (a .basis .geometry) (a .drive) (entryHeader (a .basis .geometry) (a .z) (zoneLook (a .basis .look) (a .z) .generation) (zoneLook (a .basis .look) (a .z) .pointer))) ∷ []
+
+abbrev to-start : tie.After-append-partial → tie.Start
+to-start c = c .before .before .before .before .before .before .before .before .before .before .before
+
+headed : (c : tie.After-append-partial) → let a = to-start c .args in let f = c .append-partial in MadeAppends (a .basis .geometry) (a .budget) (f .result) (header (to-start c)) (now (a .sectors)) (now (a .written)) (f .last .0) (f .last .1 .0)
+unfolding stripeOf
+headed c = rw (c .before .before .before .stripe-sectors .ensures .0) at (c .append-partial .ensures)
+
+-- what it has left alone
+kept : (c : tie.After-append-partial) → let a = to-start c .args in let b = a .basis in let f = c .append-partial in
+    Filling (b .geometry) (b .here) (b .look) (now (a .pointers)) (f .last .0) (f .last .1 .0) × (readDevice (b .geometry) (f .last .0) (now (a .pointers)) ≡ readDevice (b .geometry) (now (a .sectors)) (now (a .pointers)))
+kept c =
+    let s = to-start c in
+    let a = s .args in
+    let b = a .basis in
+    let f = c .append-partial in
+    let p = zoneLook (b .look) (a .z) .pointer in
+    filled (b .geometry) (b .here) (b .look) (a .budget) (f .result) (header s) (now (a .pointers)) (now (a .sectors)) (now (a .written)) (f .last .0) (f .last .1 .0) (s .pre .1 .3)
+    (header-in (b .geometry) (stays (b .look)) (a .drive) (a .z) (stripeOf (b .geometry .drives) (b .geometry .unit) p) (fillOf (b .geometry) p) (zoneLook (b .look) (a .z) .generation) (s .pre .0) (s .pre .1 .0) (log-stays (b .look) parityZone (omega arith))) (headed c)
 
 append-entry-rows-requires : tie.Need-append-entry-rows-requires
-unfolding stripeOf
 append-entry-rows-requires c κs =
-    let at-append-partial = c .before .before .before .before .before .before .before .before in
-    let at-stripe-sectors = at-append-partial .before .before .before in
-    let s = at-stripe-sectors .before .before .before .before .before .before .before .before in
+    let s = c .before .before .before .before .before .before .before .before .before .before .before .before .before .before .before .before .before in
     let a = s .args in
-    let f = at-append-partial .append-partial in
-    let h : MadeAppends (a .g) (a .budget) (f .result) (append (a .drive) parityZone (encode (a .g) (a .drive) (entryHeader (a .g) (a .z) (zoneLook (a .look) (a .z) .generation) (zoneLook (a .look) (a .z) .pointer))) ∷ []) (now (a .sectors)) (now (a .written)) (f .last .0) (f .last .1 .0) = rw (at-stripe-sectors .stripe-sectors .ensures .0) at (f .ensures) in
-    (s .pre .0, (s .pre .1 .0, s .pre .1 .1, s .pre .1 .2, filled (a .g) (a .here) (a .look) (a .budget) (f .result) (append (a .drive) parityZone (encode (a .g) (a .drive) (entryHeader (a .g) (a .z) (zoneLook (a .look) (a .z) .generation) (zoneLook (a .look) (a .z) .pointer))) ∷ []) (now (a .pointers)) (now (a .sectors)) (now (a .written)) (f .last .0) (f .last .1 .0) (s .pre .1 .3) (header-in (a .g) (stays (a .look)) (a .drive) (a .z) (stripeOf (a .g .drives) (a .g .unit) (zoneLook (a .look) (a .z) .pointer)) (fillOf (a .g) (zoneLook (a .look) (a .z) .pointer)) (zoneLook (a .look) (a .z) .generation) (s .pre .0) (s .pre .1 .0) (log-stays (a .look) parityZone (omega arith))) h .0, s .pre .1 .4, s .pre .1 .5))
+    let k = c .before .before .before .before .before .before .before .before .before in
+    (s .pre .0, (s .pre .1 .0, s .pre .1 .1, rw (← k .stripe-sectors .ensures .0) (omega (arith, begins k .0)), omega arith, kept (c .before .before .before .before .before .before) .0))
+
+-- the rows, as they are meant
+rows : (c : tie.After-append-entry-rows) → let s = c .before .before .before .before .before .before .before .before .before .before .before .before .before .before .before .before .before .before in let a = s .args in let b = a .basis in let f = c .before .before .before .before .before .before .before .append-partial in let r = c .append-entry-rows in
+    MadeAppends (b .geometry) (f .result) (r .result) (entryRows (b .geometry) (values s) (a .drive) (zoneLook (b .look) (a .z) .pointer)) (f .last .0) (f .last .1 .0) (r .last .0) (r .last .1 .0)
+unfolding stripeOf
+rows c =
+    let s = c .before .before .before .before .before .before .before .before .before .before .before .before .before .before .before .before .before .before in
+    let a = s .args in
+    let b = a .basis in
+    let at = c .before .before .before .before .before .before .before in
+    let f = at .append-partial in
+    let r = c .append-entry-rows in
+    let p = zoneLook (b .look) (a .z) .pointer in
+    let K = stripeSectors (b .geometry) in
+    let e : p / K * K + (p - p / K * K) ≡ p = omega (arith, div-add-mod' p K) in
+    rw e at (
+    subst (λ (k : ℕ). MadeAppends (b .geometry) (f .result) (r .result) (rowsIf true (a .drive) parityZone (rowXorBelow (b .geometry .drives) (b .geometry .unit) (values s) (p / k) (p / k * K + (p - p / k * k))) 0 (min (p - p / k * k) (b .geometry .unit))) (f .last .0) (f .last .1 .0) (r .last .0) (r .last .1 .0))
+    (c .before .before .before .before .before .before .before .before .before .before .stripe-sectors .ensures .0) (rw (kept at .1) at (r .ensures))
+    )
 
 returns : tie.Need-returns
-unfolding stripeOf
 returns c =
-    let at-append-entry-rows = c .before .before .before .before .before .before .before .before in
-    let at-append-partial = at-append-entry-rows .before .before .before .before .before .before .before .before .before in
-    let at-stripe-sectors = at-append-partial .before .before .before in
-    let s = at-stripe-sectors .before .before .before .before .before .before .before .before in
+    let s = c .before .before .before .before .before .before .before .before .before .before .before .before .before .before .before .before .before .before .before .before .before .before in
     let a = s .args in
-    let f = at-append-partial .append-partial in
-    let r = at-append-entry-rows .append-entry-rows in
-    let h : MadeAppends (a .g) (a .budget) (f .result) (append (a .drive) parityZone (encode (a .g) (a .drive) (entryHeader (a .g) (a .z) (zoneLook (a .look) (a .z) .generation) (zoneLook (a .look) (a .z) .pointer))) ∷ []) (now (a .sectors)) (now (a .written)) (f .last .0) (f .last .1 .0) = rw (at-stripe-sectors .stripe-sectors .ensures .0) at (f .ensures) in
-    let e = filled (a .g) (a .here) (a .look) (a .budget) (f .result) (append (a .drive) parityZone (encode (a .g) (a .drive) (entryHeader (a .g) (a .z) (zoneLook (a .look) (a .z) .generation) (zoneLook (a .look) (a .z) .pointer))) ∷ []) (now (a .pointers)) (now (a .sectors)) (now (a .written)) (f .last .0) (f .last .1 .0) (s .pre .1 .3) (header-in (a .g) (stays (a .look)) (a .drive) (a .z) (stripeOf (a .g .drives) (a .g .unit) (zoneLook (a .look) (a .z) .pointer)) (fillOf (a .g) (zoneLook (a .look) (a .z) .pointer)) (zoneLook (a .look) (a .z) .generation) (s .pre .0) (s .pre .1 .0) (log-stays (a .look) parityZone (omega arith))) h .1 in
-    subst (λ (stores : List Store). MadeAppends (a .g) (a .budget) (r .result) stores (now (a .sectors)) (now (a .written)) (r .last .0) (r .last .1 .0)) (sym (entry-parts (a .g) (a .drive) (a .z) (zoneLook (a .look) (a .z) .generation) (valuesOf (a .g) (a .here) (now (a .sectors)) (now (a .pointers)) (a .z) (zoneLook (a .look) (a .z) .generation)) (zoneLook (a .look) (a .z) .pointer)))
-    (appends-append (a .g) (a .budget) (f .result) (r .result) (append (a .drive) parityZone (encode (a .g) (a .drive) (entryHeader (a .g) (a .z) (zoneLook (a .look) (a .z) .generation) (zoneLook (a .look) (a .z) .pointer))) ∷ []) (entryRows (a .g) (valuesOf (a .g) (a .here) (now (a .sectors)) (now (a .pointers)) (a .z) (zoneLook (a .look) (a .z) .generation)) (a .drive) (zoneLook (a .look) (a .z) .pointer)) (now (a .sectors)) (now (a .written)) (f .last .0) (f .last .1 .0) (r .last .0) (r .last .1 .0) h (rw e at (r .ensures)))
+    let b = a .basis in
+    let at = c .before .before .before .before .before .before .before .before .before .before .before in
+    let f = at .append-partial in
+    let r = c .before .before .before .before .append-entry-rows in
+    let p = zoneLook (b .look) (a .z) .pointer in
+    subst (λ (stores : List Store). MadeAppends (b .geometry) (a .budget) (r .result) stores (now (a .sectors)) (now (a .written)) (r .last .0) (r .last .1 .0)) (sym (entry-parts (b .geometry) (a .drive) (a .z) (zoneLook (b .look) (a .z) .generation) (values s) p))
+    (appends-append (b .geometry) (a .budget) (f .result) (r .result) (header s) (entryRows (b .geometry) (values s) (a .drive) p) (now (a .sectors)) (now (a .written)) (f .last .0) (f .last .1 .0) (r .last .0) (r .last .1 .0) (headed at) (rows (c .before .before .before .before)))
 
 pub append-entry-spec : {M : Type 1} → statement M
 append-entry-spec =
     tie.close
-    (tie.spec (λ c. search needs) (λ c. search needs) (λ c κs. search needs) (λ c. search needs) mul-append-partial sub-append-partial
-    append-partial-requires append-entry-rows-requires (λ c. search needs) (λ c. search needs) (λ c. search needs) (λ c. search needs) returns)
+    (tie.spec (λ c. search needs) (λ c. search needs) (λ c κs. search needs) (λ c. search needs) mul-fill sub-fill append-partial-requires append-entry-rows-requires
+    (λ c. search needs) (λ c. search needs) returns)

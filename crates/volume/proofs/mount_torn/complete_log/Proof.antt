@@ -17,21 +17,21 @@ use Rattle.volume.proofs.mount_torn.complete_log.Tie as tie
 use Rattle.volume.specs.looking.Knowing.{readDevice}
 
 abbrev shown : tie.Start → Shown
-shown s = let a = s .args in shownAt (a .g) (a .t7) (a .look) (now (a .sectors)) (now (a .pointers))
+shown s = let a = s .args in shownAt (a .basis .geometry) (a .basis .here) (a .basis .look) (now (a .sectors)) (now (a .pointers))
 
 returns : tie.Need-returns
 returns c =
     let s = c .before .before .before .before .before .before in
     let a = s .args in
-    rw (torn-absent (a .g) (shown s) (readDevice (a .g) (now (a .sectors)) (now (a .pointers))) (isSet (a .t7)) (a .drive) (not-true (isSet (a .t7) (a .drive)) (c .if1 .taken))) (appends-nil (a .g) (a .budget) (now (a .sectors)) (now (a .written)))
+    rw (torn-absent (a .basis .geometry) (shown s) (readDevice (a .basis .geometry) (now (a .sectors)) (now (a .pointers))) (isSet (a .basis .here)) (a .drive) (not-true (isSet (a .basis .here) (a .drive)) (c .if1 .taken))) (appends-nil (a .basis .geometry) (a .budget) (now (a .sectors)) (now (a .written)))
 
 returns-2 : tie.Need-returns-2
 returns-2 c =
     let s = c .before .before .before .before .before .before .before .before .before .before in
     let a = s .args in
     let n = c .before .before .before .sectors-then in
-    rw (torn-idle (a .g) (shown s) (now (a .sectors)) (now (a .pointers)) (isSet (a .t7)) (a .drive) (n .result) (s .pre .1 .0) (n .ensures .0) (λ e. let t = ap (tagOf WalkEnd.the-type) (sym e ∙ sym (c .before .walk-log .ensures .0)) in ⊎-elim (λ k. omega arith) (λ k. omega arith) (c .match .keys2)))
-    (appends-nil (a .g) (a .budget) (now (a .sectors)) (now (a .written)))
+    rw (torn-idle (a .basis .geometry) (shown s) (now (a .sectors)) (now (a .pointers)) (isSet (a .basis .here)) (a .drive) (n .result) (s .pre .1 .0) (n .ensures .0) (λ e. let t = ap (tagOf WalkEnd.the-type) (sym e ∙ sym (c .before .walk-log .ensures .0)) in ⊎-elim (λ k. omega arith) (λ k. omega arith) (c .match .keys2)))
+    (appends-nil (a .basis .geometry) (a .budget) (now (a .sectors)) (now (a .written)))
 
 -- where the walk has been left at a torn entry
 abbrev start : tie.After-w → tie.Start
@@ -43,47 +43,44 @@ inside k =
     let a = s .args in
     let n = k .before .before .before .before .sectors-then in
     let torn = sym (k .before .before .walk-log .ensures .0) ∙ k .w .given .1 in
-    (torn-inside (a .g) (shown s) (now (a .sectors)) (now (a .pointers)) (isSet (a .t7)) (a .drive) (n .result) (s .pre .1 .0) (n .ensures .0) (s .pre .0) (k .w .given .0 .0) torn, omega (arith, n .ensures .1, s .pre .0 .zone-most))
+    (torn-inside (a .basis .geometry) (shown s) (now (a .sectors)) (now (a .pointers)) (isSet (a .basis .here)) (a .drive) (n .result) (s .pre .1 .0) (n .ensures .0) (s .pre .0) (k .w .given .0 .0) torn, omega (arith, n .ensures .1, s .pre .0 .zone-most))
 
 judge-at-requires : tie.Need-judge-at-requires
 judge-at-requires c κs =
     let k = c .before .before in
     let s = start k in
     let n = k .before .before .before .before .sectors-then in
-    (s .pre .0, (record { drive-in = s .pre .1 .0; zone-in = omega arith; short = n .ensures .1; long = s .pre .1 .3 .logging .sectors-long }, inside k .0))
+    (s .pre .0, (record { drive-in = s .pre .1 .0; zone-in = omega arith; short = n .ensures .1; long = s .pre .1 .1 .logging .sectors-long }, inside k .0))
 
-add-complete-entry : tie.Need-add-complete-entry
-add-complete-entry c = let i = inside (c .before .before .before .before .before .before .before) in omega (arith, i .0, i .1)
+add-rows : tie.Need-add-rows
+add-rows c = let i = inside (c .before .before .before) in omega (arith, i .0, i .1)
 
-sub-complete-entry : tie.Need-sub-complete-entry
-sub-complete-entry c = omega (arith, inside (c .before .before .before .before .before .before .before) .0)
+sub-rows : tie.Need-sub-rows
+sub-rows c = omega (arith, inside (c .before .before .before) .0)
 
 complete-entry-requires : tie.Need-complete-entry-requires
 complete-entry-requires c κs =
-    let k = c .before .before .before .before .before .before .before in
+    let k = c .before .before .before .before .before in
     let s = start k in
     let a = s .args in
     let n = k .before .before .before .before .sectors-then in
     let torn = sym (k .before .before .walk-log .ensures .0) ∙ k .w .given .1 in
-    let j = c .before .before .before .before .judge-at in
-    (s .pre .0, (s .pre .1 .0, s .pre .1 .1, s .pre .1 .2, s .pre .1 .3, torn-found-fits (a .g) (shown s) (now (a .sectors)) (now (a .pointers)) (isSet (a .t7)) (a .drive) (n .result) (s .pre .1 .0) (n .ensures .0) (s .pre .0) (k .w .given .0 .0) torn (j .result) (j .ensures)))
+    let j = c .before .before .judge-at in
+    (s .pre .0, (s .pre .1 .0, s .pre .1 .1, torn-found-fits (a .basis .geometry) (shown s) (now (a .sectors)) (now (a .pointers)) (isSet (a .basis .here)) (a .drive) (n .result) (s .pre .1 .0) (n .ensures .0) (s .pre .0) (k .w .given .0 .0) torn (j .result) (j .ensures)))
 
 returns-3 : tie.Need-returns-3
 returns-3 c =
-    let at-complete-entry = c .before .before .before .before .before .before .before .before in
-    let at-judge-at = at-complete-entry .before .before .before .before .before in
-    let k = at-judge-at .before .before .before in
+    let k = c .before .before .before .before .before .before .before .before .before .before in
     let s = start k in
     let a = s .args in
     let n = k .before .before .before .before .sectors-then in
     let torn = sym (k .before .before .walk-log .ensures .0) ∙ k .w .given .1 in
-    let j = at-judge-at .judge-at in
-    let here = not-false (isSet (a .t7) (a .drive)) (k .before .before .before .before .before .if1 .left) in
-    rw (torn-made (a .g) (shown s) (now (a .sectors)) (now (a .pointers)) (isSet (a .t7)) (a .drive) (n .result) (s .pre .1 .0) (n .ensures .0) (s .pre .0) (k .w .given .0 .0) torn (j .result) (j .ensures) here) (at-complete-entry .complete-entry .ensures)
+    let j = c .before .before .before .before .before .before .before .judge-at in
+    let here = not-false (isSet (a .basis .here) (a .drive)) (c .before .before .before .before .before .before .before .before .before .before .before .before .before .before .before .if1 .left) in
+    rw (torn-made (a .basis .geometry) (shown s) (now (a .sectors)) (now (a .pointers)) (isSet (a .basis .here)) (a .drive) (n .result) (s .pre .1 .0) (n .ensures .0) (s .pre .0) (k .w .given .0 .0) torn (j .result) (j .ensures) here) (c .before .before .before .before .complete-entry .ensures)
 
 pub complete-log-spec : {M : Type 1} → statement M
 complete-log-spec =
     tie.close
     (tie.spec (λ c. search needs) returns (λ c κs. search needs) (λ c κs. search needs) (λ c. search needs) (λ c. search needs) returns-2
-    judge-at-requires add-complete-entry sub-complete-entry complete-entry-requires (λ c. search needs) (λ c. search needs) (λ c. search needs)
-    (λ c. search needs) returns-3)
+    judge-at-requires add-rows sub-rows complete-entry-requires (λ c. search needs) (λ c. search needs) returns-3)

@@ -1,68 +1,83 @@
-use Rattle.volume.specs.mounting.MountRestoring.{filled}
-use Rattle.volume.specs.mounting.MountTornLogs.{tornStores, torn-drives-in}
-use Rattle.volume.specs.mounting.MountValues.{shownAt}
-use Rattle.volume.specs.mounting.MountLook.{stays}
-use Rattle.volume.specs.mounting.MountTables.{appends-more, on-present-in}
-use Rattle.volume.specs.meaning.CallContracts.{isSet}
-use Rattle.volume.specs.laws.CallContracts.{appends-nil}
-use Rattle.tables.specs.laws.Made.{MadeAppends}
-use Rattle.tables.specs.meaning.Phases.{onPresent}
-use Rattle.tables.specs.meaning.Below.{eachBelow}
-use lib.ListN.{length}
+use Prim.Native.Nat.{ℕ, _-_, _≤_}
+use mathlib.Core.Path.{_≡_, refl, _∙_}
+use mathlib.Core.List.{List}
 use native.Mathlib.Numerals.{add-one}
 use native.Mathlib.Omega.{arith}
-use mathlib.Core.Path.{_≡_, refl, _∙_}
-use Prim.Native.Nat.{_-_, _≤_}
+use lib.ListN.{length}
+use Rattle.tables.specs.meaning.Below.{eachBelow}
+use Rattle.tables.specs.meaning.Device.{Store}
+use Rattle.tables.specs.meaning.Phases.{onPresent}
+use Rattle.tables.specs.laws.Made.{MadeAppends}
+use Rattle.volume.specs.meaning.CallContracts.{isSet}
+use Rattle.volume.specs.laws.CallContracts.{appends-nil}
+use Rattle.volume.specs.looking.Knowing.{readDevice}
+use Rattle.volume.specs.mounting.MountTables.{appends-more}
+use Rattle.volume.specs.mounting.MountValues.{shownAt}
+use Rattle.volume.specs.mounting.MountRestoring.{Filling, filled}
+use Rattle.volume.specs.rows.KeptBelow.{on-present-in}
+use Rattle.volume.specs.mounting.MountLook.{stays}
+use Rattle.volume.specs.mounting.MountTornLogs.{tornStores, torn-drives-in}
 use Rattle.volume.proofs.mount_torn.complete_logs.Statement.{statement}
 use Rattle.volume.proofs.mount_torn.complete_logs.Tie as tie
-use Rattle.volume.specs.looking.Knowing.{readDevice}
 
 abbrev Inv-loop : tie.InvT-loop
-Inv-loop sectors₀ written₀ pointers value₀ out₀ g here look budget m rest₀ d₀ sectors written value out rest d =
-    (d ≤ m) × (length sectors ≡ length sectors₀) × (length written ≡ length written₀) × (length value ≡ length value₀) × (length out ≡ length out₀)
-    × MadeAppends g budget rest (onPresent (isSet here) (eachBelow (tornStores g (shownAt g here look sectors₀ pointers) (readDevice g sectors₀ pointers)) d)) sectors₀ written₀ sectors written
+Inv-loop sectors₀ written₀ pointers basis budget m rest₀ d₀ sectors written rest d =
+    (d ≤ m) × (length sectors ≡ length sectors₀) × (length written ≡ length written₀)
+    × MadeAppends (basis .geometry) budget rest (onPresent (isSet (basis .here)) (eachBelow (tornStores (basis .geometry) (shownAt (basis .geometry) (basis .here) (basis .look) sectors₀ pointers) (readDevice (basis .geometry) sectors₀ pointers)) d)) sectors₀ written₀ sectors written
 
 abbrev μ-loop : tie.MeasureT-loop
-μ-loop sectors₀ written₀ pointers value₀ out₀ g here look budget m rest₀ d₀ sectors written value out rest d = m - d
+μ-loop sectors₀ written₀ pointers basis budget m rest₀ d₀ sectors written rest d = m - d
+
+abbrev to-start : tie.At-loop Inv-loop μ-loop → tie.Start Inv-loop μ-loop
+to-start c = c .before .before .before .before .before
+
+-- the stores of each drive
+abbrev row : tie.Start Inv-loop μ-loop → ℕ → List Store
+row s = let a = s .args in tornStores (a .basis .geometry) (shownAt (a .basis .geometry) (a .basis .here) (a .basis .look) (a .sectors .now) (a .pointers .now)) (readDevice (a .basis .geometry) (a .sectors .now) (a .pointers .now))
+
+-- what those so far have left alone
+kept : (c : tie.At-loop Inv-loop μ-loop) → let a = to-start c .args in
+    Filling (a .basis .geometry) (a .basis .here) (a .basis .look) (a .pointers .now) (c .loop .sectors) (c .loop .written) × (readDevice (a .basis .geometry) (c .loop .sectors) (a .pointers .now) ≡ readDevice (a .basis .geometry) (a .sectors .now) (a .pointers .now))
+kept c =
+    let s = to-start c in
+    let a = s .args in
+    let l = c .loop in
+    filled (a .basis .geometry) (a .basis .here) (a .basis .look) (a .budget) (l .rest) (onPresent (isSet (a .basis .here)) (eachBelow (row s) (l .d))) (a .pointers .now) (a .sectors .now) (a .written .now) (l .sectors) (l .written) (s .pre .1) (on-present-in (a .basis .geometry) (stays (a .basis .look)) (isSet (a .basis .here)) (eachBelow (row s) (l .d)) (torn-drives-in (a .basis .geometry) (a .basis .here) (a .basis .look) (a .pointers .now) (a .sectors .now) (a .written .now) (s .pre .0) (s .pre .1) (l .d) (l .inv .0))) (l .inv .3)
 
 complete-log-requires : tie.Need-complete-log-requires Inv-loop μ-loop
 complete-log-requires c κs =
-    let s = c .before .before .before .before .before .before .before .before .before .before .before in
-    let a = s .args in
-    let l = c .before .before .before .before .before .loop in
-    let k = filled (a .g) (a .here) (a .look) (a .budget) (l .rest) (onPresent (isSet (a .here)) (eachBelow (tornStores (a .g) (shownAt (a .g) (a .here) (a .look) (a .sectors .now) (a .pointers .now)) (readDevice (a .g) (a .sectors .now) (a .pointers .now))) (l .d))) (a .pointers .now) (a .sectors .now) (a .written .now) (l .sectors) (l .written) (s .pre .1 .2) (on-present-in (a .g) (stays (a .look)) (isSet (a .here)) (eachBelow (tornStores (a .g) (shownAt (a .g) (a .here) (a .look) (a .sectors .now) (a .pointers .now)) (readDevice (a .g) (a .sectors .now) (a .pointers .now))) (l .d)) (torn-drives-in (a .g) (a .here) (a .look) (a .pointers .now) (a .sectors .now) (a .written .now) (s .pre .0) (s .pre .1 .2) (l .d) (l .inv .0))) (l .inv .5) in
-    (s .pre .0, (c .before .before .before .before .loop-test .taken, l .inv .3 ∙ s .pre .1 .0, l .inv .4 ∙ s .pre .1 .1, k .0))
+    let l = c .before .before .before in
+    let s = to-start l in
+    (s .pre .0, (c .before .before .loop-test .taken, kept l .0))
 
 add-d : tie.Need-add-d Inv-loop μ-loop
-add-d c =
-    omega (arith, c .before .before .before .before .before .before .before .before .before .before .before .before .before .before .before .before .before .before .before .before .pre .0 .drives-most)
+add-d c = let t = c .before .before .before .before .before .before .before in omega (arith, t .loop-test .taken, to-start (t .before) .pre .0 .drives-most)
+
+loop-less : tie.Need-loop-less Inv-loop μ-loop
+loop-less c = omega (arith, c .before .before .before .before .before .before .before .loop-test .taken)
 
 loop-again : tie.Need-loop-again Inv-loop μ-loop
 loop-again c =
-    let at-complete-log = c .before .before .before .before .before .before .before .before in
-    let at-loop-test = at-complete-log .before .before .before .before .before in
+    let f = c .before .before .before .before .complete-log in
+    let at-loop-test = c .before .before .before .before .before .before .before in
     let at-loop = at-loop-test .before in
-    let s = at-loop .before .before .before .before .before .before in
+    let s = to-start at-loop in
     let a = s .args in
-    let l = at-loop .loop in
-    let f = at-complete-log .complete-log in
-    let k = filled (a .g) (a .here) (a .look) (a .budget) (l .rest) (onPresent (isSet (a .here)) (eachBelow (tornStores (a .g) (shownAt (a .g) (a .here) (a .look) (a .sectors .now) (a .pointers .now)) (readDevice (a .g) (a .sectors .now) (a .pointers .now))) (l .d))) (a .pointers .now) (a .sectors .now) (a .written .now) (l .sectors) (l .written) (s .pre .1 .2) (on-present-in (a .g) (stays (a .look)) (isSet (a .here)) (eachBelow (tornStores (a .g) (shownAt (a .g) (a .here) (a .look) (a .sectors .now) (a .pointers .now)) (readDevice (a .g) (a .sectors .now) (a .pointers .now))) (l .d)) (torn-drives-in (a .g) (a .here) (a .look) (a .pointers .now) (a .sectors .now) (a .written .now) (s .pre .0) (s .pre .1 .2) (l .d) (l .inv .0))) (l .inv .5) in (
+    let l = at-loop .loop in (
       omega (arith, at-loop-test .loop-test .taken),
       f .kept .0 ∙ l .inv .1,
       f .kept .1 .0 ∙ l .inv .2,
-      f .kept .1 .1 .1 .0 ∙ l .inv .3,
-      f .kept .1 .1 .1 .1 .0 ∙ l .inv .4,
-      rw add-one (appends-more (a .g) (isSet (a .here)) (a .budget) (l .rest) (f .result) (tornStores (a .g) (shownAt (a .g) (a .here) (a .look) (a .sectors .now) (a .pointers .now)) (readDevice (a .g) (a .sectors .now) (a .pointers .now))) (l .d) (a .sectors .now) (a .written .now) (l .sectors) (l .written) (f .last .0) (f .last .1 .0) (l .inv .5) (rw (k .1) at (f .ensures))),
+      rw add-one (appends-more (a .basis .geometry) (isSet (a .basis .here)) (a .budget) (l .rest) (f .result) (row s) (l .d) (a .sectors .now) (a .written .now) (l .sectors) (l .written) (f .last .0) (f .last .1 .0) (l .inv .3) (rw (kept at-loop .1) at (f .ensures))),
     )
 
 returns : tie.Need-returns Inv-loop μ-loop
 returns c =
     let l = c .before .loop in
-    let e : l .d ≡ c .before .before .before .before .before .before .before .args .g .drives = omega arith in
-    rw e at (l .inv .5)
+    let e : l .d ≡ to-start (c .before) .args .basis .geometry .drives = omega arith in
+    rw e at (l .inv .3)
 
 pub complete-logs-spec : {M : Type 1} → statement M
 complete-logs-spec =
     tie.close
-    (tie.spec Inv-loop μ-loop (λ c. (omega arith, refl, refl, refl, refl, appends-nil _ _ _ _)) complete-log-requires add-d (λ c. omega arith)
-    loop-again (λ c. c .before .loop .inv .1) (λ c. c .before .loop .inv .2) (λ c. c .before .loop .inv .3) (λ c. c .before .loop .inv .4) returns)
+    (tie.spec Inv-loop μ-loop (λ c. (omega arith, refl, refl, appends-nil _ _ _ _)) complete-log-requires add-d loop-less loop-again
+    (λ c. c .before .loop .inv .1) (λ c. c .before .loop .inv .2) returns)

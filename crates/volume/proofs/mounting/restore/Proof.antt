@@ -68,21 +68,12 @@ array-borrow-prefix-starts c = few (c .before .before .before .before .before .b
 slice-aggregate-restore-steps-2 : tie.Need-slice-aggregate-restore-steps-2
 slice-aggregate-restore-steps-2 c = sym (front-of (c .before .before .before .before .before .before .before .before .before .before .before .before .before .before .before .before .before .before .before .before))
 
-sector-of : (s : tie.Start) → length (take (s .args .g .sector) (replicate {A = ℕ} 4096 0)) ≡ s .args .g .sector
-sector-of s = length-take-le (s .args .g .sector) (replicate 4096 0) (s .pre .0 .sector-most)
-
-slice-aggregate-restore-steps-3 : tie.Need-slice-aggregate-restore-steps-3
-slice-aggregate-restore-steps-3 c = sym (sector-of (c .before .before .before .before .before .before .before .before .before .before .before .before .before .before .before .before .before .before .before .before .before))
-
-slice-aggregate-restore-steps-4 : tie.Need-slice-aggregate-restore-steps-4
-slice-aggregate-restore-steps-4 c = sym (sector-of (c .before .before .before .before .before .before .before .before .before .before .before .before .before .before .before .before .before .before .before .before .before .before))
-
 restore-steps-requires : tie.Need-restore-steps-requires
 restore-steps-requires c κs =
-    let at-start = c .before .before .before .before .before .before .before .before in
-    let at-look-all = at-start .before .before .before in
-    let at-flush-all = at-look-all .before .before .before .before .before in
-    let s = at-flush-all .before .before .before .before .before .before in
+    let at-start = c .before .before .before .before .before .before in
+    let at-look-all = c .before .before .before .before .before .before .before .before .before in
+    let at-flush-all = c .before .before .before .before .before .before .before .before .before .before .before .before .before .before in
+    let s = c .before .before .before .before .before .before .before .before .before .before .before .before .before .before .before .before .before .before .before .before in
     let a = s .args in
     let f = at-flush-all .flush-all in
     let ws = now (a .written) in
@@ -90,8 +81,6 @@ restore-steps-requires c κs =
       s .pre .0,
       (
         front-of s ∙ s .pre .1 .0 .written-long,
-        sector-of s,
-        sector-of s,
         rw (copied (at-start)) (subst (λ (k : Look). Restoring (a .g) (a .here) k ws t) (sym (at-look-all .look-all .ensures)) (restoring-start (a .g) (s .pre .0) (a .here) (now (a .sectors)) ws (f .last .1 .0) (s .pre .1 .0) (f .kept .1 .0 ∙ s .pre .1 .1))),
       ),
     )
@@ -99,11 +88,11 @@ restore-steps-requires c κs =
 returns : tie.Need-returns
 unfolding flushStores
 returns c =
-    let at-restore-steps = c .before .before .before .before .before .before .before .before .before in
-    let at-start = at-restore-steps .before .before .before .before .before .before .before .before .before in
-    let at-look-all = at-start .before .before .before in
-    let at-flush-all = at-look-all .before .before .before .before .before in
-    let s = at-flush-all .before .before .before .before .before .before in
+    let at-restore-steps = c .before .before .before .before .before .before .before in
+    let at-start = c .before .before .before .before .before .before .before .before .before .before .before .before .before .before in
+    let at-look-all = c .before .before .before .before .before .before .before .before .before .before .before .before .before .before .before .before .before in
+    let at-flush-all = c .before .before .before .before .before .before .before .before .before .before .before .before .before .before .before .before .before .before .before .before .before .before in
+    let s = c .before .before .before .before .before .before .before .before .before .before .before .before .before .before .before .before .before .before .before .before .before .before .before .before .before .before .before .before in
     let a = s .args in
     let f = at-flush-all .flush-all in
     let h = at-restore-steps .restore-steps in
@@ -118,6 +107,5 @@ pub restore-spec : {M : Type 1} → statement M
 restore-spec =
     tie.close
     (tie.spec (λ c κs. search needs) (λ c κs. search needs) array-borrow-prefix-pointers slice-aggregate-copy-pointers copy-pointers-requires
-    array-share-prefix-pointers slice-aggregate-restore-steps array-borrow-prefix-starts slice-aggregate-restore-steps-2 (λ c. search needs)
-    slice-aggregate-restore-steps-3 (λ c. search needs) slice-aggregate-restore-steps-4 restore-steps-requires (λ c. search needs) (λ c. search needs)
-    (λ c. search needs) returns)
+    array-share-prefix-pointers slice-aggregate-restore-steps array-borrow-prefix-starts slice-aggregate-restore-steps-2 restore-steps-requires
+    (λ c. search needs) (λ c. search needs) (λ c. search needs) returns)

@@ -8,9 +8,9 @@ use Rattle.volume.proofs.reading.is_gone.Tie as tie
 
 returns : tie.Need-returns
 returns c =
-    let s = c .before .before .before .before in
+    let s = c .before .before .before .before .before .before in
     let a = s .args in
-    sym (none-gone (a .g) (s .pre .0) (a .here) (now (a .sectors)) (now (a .written)) (a .z) (a .pointer) (s .pre .1 .0) (s .pre .1 .2) (a .generation) (a .offset) (a .count) (s .pre .1 .3) (s .pre .1 .1) (sym (c .before .needs-log .ensures) ∙ not-true (c .before .needs-log .result) (c .if1 .taken)))
+    sym (none-gone (a .zone .geometry) (s .pre .0) (a .zone .here) (now (a .sectors)) (now (a .written)) (a .zone .number) (a .pointer) (s .pre .1 .0) (s .pre .1 .2) (a .zone .generation) (a .offset) (a .count) (s .pre .1 .3) (s .pre .1 .1) (sym (c .before .needs-log .ensures) ∙ not-true (c .before .needs-log .result) (c .if1 .taken)))
 
 pub is-gone-spec : {M : Type 1} → statement M
 is-gone-spec =

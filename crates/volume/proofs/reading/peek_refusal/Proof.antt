@@ -5,87 +5,70 @@ use Prim.Native.Nat.{ℕ, _<_}
 use native.Mathlib.Omega.{arith}
 use lib.ListN.{length}
 use denote.Ref.{now}
-use Rattle.tables.specs.meaning.Tables.{tablesOf, deviceOf}
-use Rattle.tables.specs.laws.TablesFrame.{lengths-are}
-use Rattle.volume.specs.meaning.State.{callPresent}
-use Rattle.volume.specs.meaning.Refusals.{zoneOf}
-use Rattle.volume.specs.meaning.CallContracts.{isSet, viewState}
-use Rattle.volume.specs.checks.CheckLaws.{presentList, openingNumber, Opened, opened}
-use Rattle.volume.specs.reading.Reading.{zoneNumber, zoneNumberOn, state-fits, opened-readable, zone-on-in, second-is}
-use Rattle.volume.specs.reading.Peeking.{placeNumberOn, peek-first, peek-second, peek-third, place-is}
 use borrow.Author.Needs.{needs}
+use Rattle.tables.specs.laws.TablesFrame.{lengths-are}
+use Rattle.volume.specs.meaning.Refusals.{zoneOf}
+use Rattle.volume.specs.meaning.CallContracts.{recordAt}
+use Rattle.volume.specs.checks.CheckLaws.{presentList, openingNumber, opening-is, tested, Opened, opened}
+use Rattle.volume.specs.checks.ZoneChecks.{pointer-within}
+use Rattle.volume.specs.reading.Peeking.{placeNumberOn, peek-first, peek-8, peek-late}
 use Rattle.volume.proofs.reading.peek_refusal.Statement.{statement}
 use Rattle.volume.proofs.reading.peek_refusal.Tie as tie
 
+abbrev to-start : tie.After-opening → tie.Start
+to-start c = c .before .before .before .before .before
+
+-- refusals 1 to 4
+opened-as : (c : tie.After-opening) → let a = to-start c .args in c .opening .result ≡ openingNumber (a .g) (a .named) (a .t6) 0 0 (length (now (a .sectors))) (now (a .written)) (now (a .durable))
+opened-as c = let a = to-start c .args in c .opening .ensures ∙ opening-is (a .g) (a .named) (a .t6) (c .before .input-within .result) 0 0 (length (now (a .sectors))) (now (a .written)) (now (a .durable)) (c .before .input-within .ensures)
+
 returns : tie.Need-returns
 returns c =
-    let a = c .before .before .before .before .before .args in
-    let e = c .before .opening .ensures in
-    e ∙ peek-first (a .g) (a .named) (a .state) (a .address) (now (a .sectors)) (now (a .written)) (now (a .durable)) (λ k. c .if1 .taken (e ∙ k))
+    let a = to-start (c .before) .args in
+    let e = opened-as (c .before) in
+    e ∙ peek-first (a .g) (a .named) (a .t6) (a .address) (now (a .sectors)) (now (a .written)) (now (a .durable)) (λ k. c .if1 .taken (e ∙ k))
 
-opened-zero : (c : tie.Else1) → openingNumber (c .before .before .before .before .before .args .g) (c .before .before .before .before .before .args .named) (c .before .before .before .before .before .args .state) 0 0 (length (now (c .before .before .before .before .before .args .sectors))) (now (c .before .before .before .before .before .args .written)) (now (c .before .before .before .before .before .args .durable)) ≡ 0
-opened-zero c = let e : c .before .opening .result ≡ 0 = omega arith in sym (c .before .opening .ensures) ∙ e
+opened-zero : (c : tie.Else1) → let a = to-start (c .before) .args in openingNumber (a .g) (a .named) (a .t6) 0 0 (length (now (a .sectors))) (now (a .written)) (now (a .durable)) ≡ 0
+opened-zero c = let e : c .before .opening .result ≡ 0 = omega arith in sym (opened-as (c .before)) ∙ e
 
-passed : (c : tie.Else1) → Opened (c .before .before .before .before .before .args .g) (c .before .before .before .before .before .args .named) (c .before .before .before .before .before .args .state) 0 0 (length (now (c .before .before .before .before .before .args .sectors))) (now (c .before .before .before .before .before .args .written)) (now (c .before .before .before .before .before .args .durable))
-passed c = let a = c .before .before .before .before .before .args in opened (a .g) (a .named) (a .state) 0 0 (length (now (a .sectors))) (now (a .written)) (now (a .durable)) (opened-zero c)
+passed : (c : tie.Else1) → let a = to-start (c .before) .args in Opened (a .g) (a .named) (a .t6) 0 0 (length (now (a .sectors))) (now (a .written)) (now (a .durable))
+passed c = let a = to-start (c .before) .args in opened (a .g) (a .named) (a .t6) 0 0 (length (now (a .sectors))) (now (a .written)) (now (a .durable)) (opened-zero c)
 
-present-drives-requires : tie.Need-present-drives-requires
-present-drives-requires c κs = passed c .valid
-
-zone-of-requires : tie.Need-zone-of-requires
-zone-of-requires c κs = passed (c .before) .valid
-
-zone-refusal-requires : tie.Need-zone-refusal-requires
-zone-refusal-requires c κs =
-    let a = c .before .before .before .before .before .before .before .args in
-    let o = passed (c .before .before) in
-    (o .valid, (state-fits (a .g) (a .state) (o .within), lengths-are (a .g) (length (now (a .sectors))) (length (now (a .written))) (length (now (a .durable))) (o .lengths) .1))
-
--- the number of its zone's rows is the rules'
-zone-is : (c : tie.After-zone-refusal) → c .zone-refusal .result ≡ zoneNumber (c .before .before .before .before .before .before .before .before .args .g) (callPresent (c .before .before .before .before .before .before .before .before .args .g) (isSet (c .before .before .before .before .before .before .before .before .args .named)) (viewState (c .before .before .before .before .before .before .before .before .args .state))) (deviceOf (c .before .before .before .before .before .before .before .before .args .g) (tablesOf (now (c .before .before .before .before .before .before .before .before .args .sectors)) (now (c .before .before .before .before .before .before .before .before .args .written)) (now (c .before .before .before .before .before .before .before .before .args .durable)))) (viewState (c .before .before .before .before .before .before .before .before .args .state)) (zoneOf (c .before .before .before .before .before .before .before .before .args .g) (c .before .before .before .before .before .before .before .before .args .address))
-zone-is c =
-    let a = c .before .before .before .before .before .before .before .before .args in
-    c .zone-refusal .ensures ∙ ap₂ (λ (h : List Bool) (z : ℕ). zoneNumberOn (a .g) h (now (a .written)) (a .state) z) (c .before .before .present-drives .ensures) (c .before .zone-of .ensures) ∙ second-is (a .g) (a .named) (a .state) (a .address) 0 0 (now (a .sectors)) (now (a .written)) (now (a .durable)) (passed (c .before .before .before))
-
+-- the zone
 returns-2 : tie.Need-returns-2
 returns-2 c =
-    let a = c .before .before .before .before .before .before .before .before .before .args in
-    zone-is (c .before) ∙ peek-second (a .g) (a .named) (a .state) (a .address) (now (a .sectors)) (now (a .written)) (now (a .durable)) (opened-zero (c .before .before .before .before)) (λ k. c .if2 .taken (zone-is (c .before) ∙ k))
+    let e = c .before .before in
+    let a = to-start (e .before) .args in
+    peek-8 (a .g) (a .named) (a .t6) (a .address) (now (a .sectors)) (now (a .written)) (now (a .durable)) (opened-zero e) (omega (arith, c .before .zone-of .ensures, c .if2 .taken))
 
-zone-zero : (c : tie.Else2) → zoneNumber (c .before .before .before .before .before .before .before .before .before .args .g) (callPresent (c .before .before .before .before .before .before .before .before .before .args .g) (isSet (c .before .before .before .before .before .before .before .before .before .args .named)) (viewState (c .before .before .before .before .before .before .before .before .before .args .state))) (deviceOf (c .before .before .before .before .before .before .before .before .before .args .g) (tablesOf (now (c .before .before .before .before .before .before .before .before .before .args .sectors)) (now (c .before .before .before .before .before .before .before .before .before .args .written)) (now (c .before .before .before .before .before .before .before .before .before .args .durable)))) (viewState (c .before .before .before .before .before .before .before .before .before .args .state)) (zoneOf (c .before .before .before .before .before .before .before .before .before .args .g) (c .before .before .before .before .before .before .before .before .before .args .address)) ≡ 0
-zone-zero c = let e : c .before .zone-refusal .result ≡ 0 = omega arith in sym (zone-is (c .before)) ∙ e
+zone-in : (c : tie.Else2) → let a = to-start (c .before .before .before) .args in zoneOf (a .g) (a .address) < a .g .zones
+zone-in c = omega (arith, c .before .zone-of .ensures, c .if2 .left)
 
-zone-in : (c : tie.Else2) → zoneOf (c .before .before .before .before .before .before .before .before .before .args .g) (c .before .before .before .before .before .before .before .before .before .args .address) < c .before .before .before .before .before .before .before .before .before .args .g .zones
-zone-in c =
-    let a = c .before .before .before .before .before .before .before .before .before .args in
-    zone-on-in (a .g) (presentList (a .g) (a .named) (a .state .lost)) (now (a .written)) (a .state) (zoneOf (a .g) (a .address)) (second-is (a .g) (a .named) (a .state) (a .address) 0 0 (now (a .sectors)) (now (a .written)) (now (a .durable)) (passed (c .before .before .before .before)) ∙ zone-zero c)
-
-offset-of-requires : tie.Need-offset-of-requires
-offset-of-requires c κs = passed (c .before .before .before .before) .valid
+zone-small : (c : tie.Else2) → c .before .zone-of .result < 16
+zone-small c = omega (arith, c .before .zone-of .ensures, zone-in c, passed (c .before .before) .valid .zones-most)
 
 place-refusal-requires : tie.Need-place-refusal-requires
 place-refusal-requires c κs =
-    let a = c .before .before .before .before .before .before .before .before .before .before .args in
-    let o = passed (c .before .before .before .before .before) in
-    (o .valid, (rw (c .before .before .before .zone-of .ensures) (zone-in (c .before)), lengths-are (a .g) (length (now (a .sectors))) (length (now (a .written))) (length (now (a .durable))) (o .lengths) .1, c .offset-of .ensures .1))
+    let f = c .before .before .before in
+    let e = f .before .before in
+    let a = to-start (e .before) .args in
+    let o = passed e in
+    let z = f .before .zone-of .ensures in
+    (o .valid, (rw z (zone-in f), lengths-are (a .g) (length (now (a .sectors))) (length (now (a .written))) (length (now (a .durable))) (o .lengths) .1, rw z (pointer-within (a .g) (a .t6) (zoneOf (a .g) (a .address)) (o .within) (zone-in f)), c .offset-of .ensures .1))
 
 returns-3 : tie.Need-returns-3
 returns-3 c =
-    let s = c .before .before in
-    let at-zone-of = s .before .before in
-    let at-present-drives = at-zone-of .before in
-    let at-start = at-present-drives .before in
-    let at-start-2 = at-start .before .before .before .before .before in
-    let a = at-start-2 .args in
-    let o = passed (at-start) in
+    let f = c .before .before .before .before in
+    let e = f .before .before in
+    let a = to-start (e .before) .args in
     c .place-refusal .ensures
-    ∙ ap (λ (h : List Bool). placeNumberOn (a .g) h (now (a .written)) (a .state) (at-zone-of .zone-of .result) (c .before .offset-of .result)) (at-present-drives .present-drives .ensures)
-    ∙ ap₂ (λ (z o : ℕ). placeNumberOn (a .g) (presentList (a .g) (a .named) (a .state .lost)) (now (a .written)) (a .state) z o) (at-zone-of .zone-of .ensures) (c .before .offset-of .ensures .0)
-    ∙ place-is (a .g) (a .named) (a .state) (a .address) (now (a .sectors)) (now (a .written)) (now (a .durable)) (o .valid) (opened-readable (a .g) (a .named) (a .state) 0 0 (now (a .sectors)) (now (a .written)) (now (a .durable)) (zoneOf (a .g) (a .address)) o (zone-in (s)))
-    ∙ peek-third (a .g) (a .named) (a .state) (a .address) (now (a .sectors)) (now (a .written)) (now (a .durable)) (opened-zero (at-start)) (zone-zero (s))
+    ∙ ap (λ (h : List Bool). placeNumberOn (a .g) h (now (a .written)) (recordAt (a .t6) (f .before .zone-of .result) .condition) (f .before .zone-of .result) (c .before .offset-of .result)) (c .before .before .present-drives .ensures)
+    ∙ ap₂ (λ (z o : ℕ). placeNumberOn (a .g) (presentList (a .g) (a .named) (a .t6 .lost)) (now (a .written)) (recordAt (a .t6) z .condition) z o) (f .before .zone-of .ensures) (c .before .offset-of .ensures .0)
+    ∙ peek-late (a .g) (a .named) (a .t6) (a .address) (now (a .sectors)) (now (a .written)) (now (a .durable)) (opened-zero e) (zone-in f)
 
 pub peek-refusal-spec : {M : Type 1} → statement M
 peek-refusal-spec =
     tie.close
-    (tie.spec (λ c κs. search needs) returns present-drives-requires zone-of-requires zone-refusal-requires returns-2 offset-of-requires
-    place-refusal-requires returns-3)
+    (tie.spec (λ c κs. search needs) (λ c κs. tested _ (c .before .before .before .before .args .t6) _ (c .input-within .ensures)) returns (λ c κs. passed c .valid) returns-2
+    (λ c. let h = zone-small c in omega arith) zone-small (λ c κs. passed (c .before .before .before) .valid)
+    (λ c κs. passed (c .before .before .before .before) .valid) place-refusal-requires returns-3)

@@ -9,16 +9,16 @@ use Rattle.volume.proofs.reading.read_run.Tie as tie
 
 returns : tie.Need-returns
 returns c =
-    let s = c .before .before .before .before .before .before .before .before .before in
+    let s = c .before .before .before .before .before .before .before .before .before .before .before in
     let a = s .args in
-    let held = run-held (a .g) (s .pre .0) (a .here) (now (a .written)) (a .z) (a .pointer) (s .pre .1 .4) (a .offset) (a .count) (sym (c .before .before .before .before .before .count-absent .ensures) ∙ c .before .before .before .before .if1 .taken) (s .pre .1 .5) in
-    c .before .before .copy-run .ensures ∙ held-values (a .g) (a .here) (now (a .sectors)) (now (a .written)) (a .z) (s .pre .1 .0) (a .generation) (a .offset) (a .count) (s .pre .0) (s .pre .1 .1) held
+    let held = run-held (a .zone .geometry) (s .pre .0) (a .zone .here) (now (a .written)) (a .zone .number) (a .pointer) (s .pre .1 .4) (a .offset) (a .count) (sym (c .before .before .before .before .before .count-absent .ensures) ∙ c .before .before .before .before .if1 .taken) (s .pre .1 .5) in
+    c .before .before .copy-run .ensures ∙ held-values (a .zone .geometry) (a .zone .here) (now (a .sectors)) (now (a .written)) (a .zone .number) (s .pre .1 .0) (a .zone .generation) (a .offset) (a .count) (s .pre .0) (s .pre .1 .1) held
 
 rebuild-run-requires : tie.Need-rebuild-run-requires
 rebuild-run-requires c κs =
-    let s = c .before .before .before .before .before .before .before in
+    let s = c .before .before .before .before .before .before .before .before .before in
     let a = s .args in
-    let serves = limit-serves (a .g) (s .pre .0) (a .here) (now (a .sectors)) (now (a .written)) (a .z) (a .pointer) (s .pre .1 .0) (s .pre .1 .4) (a .generation) (a .offset) (a .count) (s .pre .1 .5) in
+    let serves = limit-serves (a .zone .geometry) (s .pre .0) (a .zone .here) (now (a .sectors)) (now (a .written)) (a .zone .number) (a .pointer) (s .pre .1 .0) (s .pre .1 .4) (a .zone .generation) (a .offset) (a .count) (s .pre .1 .5) in
     (s .pre .0, (s .pre .1 .0, s .pre .1 .1, s .pre .1 .2, s .pre .1 .3, rw (c .before .limit-of .ensures) serves))
 
 returns-2 : tie.Need-returns-2

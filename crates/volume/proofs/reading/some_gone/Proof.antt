@@ -11,23 +11,23 @@ use Rattle.volume.proofs.reading.some_gone.Statement.{statement}
 use Rattle.volume.proofs.reading.some_gone.Tie as tie
 
 abbrev Inv-loop : tie.InvT-loop
-Inv-loop sectors written g here z generation limit offset count gone₀ i₀ gone i = (i ≤ count) × (gone ≡ goneIn g (isSet here) (readDevice g sectors written) z generation offset i)
+Inv-loop sectors written zone limit offset count gone₀ i₀ gone i = (i ≤ count) × (gone ≡ goneIn (zone .geometry) (isSet (zone .here)) (readDevice (zone .geometry) sectors written) (zone .number) (zone .generation) offset i)
 
 abbrev μ-loop : tie.MeasureT-loop
-μ-loop sectors written g here z generation limit offset count gone₀ i₀ gone i = count - i
+μ-loop sectors written zone limit offset count gone₀ i₀ gone i = count - i
 
 loop-holds : tie.Need-loop-holds Inv-loop μ-loop
 unfolding goneIn
 loop-holds c = (omega arith, refl)
 
 add-is-known : tie.Need-add-is-known Inv-loop μ-loop
-add-is-known c = let s = c .before .before .before .before in omega (arith, s .pre .1 .1, zone-small (s .args .g) (s .pre .0) .1)
+add-is-known c = let s = c .before .before .before .before in omega (arith, s .pre .1 .1, zone-small (s .args .zone .geometry) (s .pre .0) .1)
 
 is-known-requires : tie.Need-is-known-requires Inv-loop μ-loop
 is-known-requires c κs = let s = c .before .before .before .before in (s .pre .0, (s .pre .1 .0, omega (arith, s .pre .1 .1), s .pre .1 .2))
 
 add-i : tie.Need-add-i Inv-loop μ-loop
-add-i c = let s = c .before .before .before .before .before in omega (arith, s .pre .1 .1, zone-small (s .args .g) (s .pre .0) .1)
+add-i c = let s = c .before .before .before .before .before in omega (arith, s .pre .1 .1, zone-small (s .args .zone .geometry) (s .pre .0) .1)
 
 loop-again : tie.Need-loop-again Inv-loop μ-loop
 unfolding goneIn

@@ -20,47 +20,47 @@ use Rattle.volume.proofs.write_checks.gone_before.Tie as tie
 parity-drive-requires : tie.Need-parity-drive-requires
 unfolding stripeOf
 parity-drive-requires c κs =
-    let s = c .before .before .before in
-    (omega (arith, s .pre .0 .drives-least), s .pre .0 .drives-most, omega (arith, s .pre .1 .0 .zone-in, s .pre .0 .zones-most), rw (c .stripe-sectors .ensures .0) (omega (arith, stripes-most (s .args .g) (s .args .n) (s .pre .0) (s .pre .1 .1), s .pre .0 .zone-most)))
+    let s = c .before .before .before .before .before in
+    (omega (arith, s .pre .0 .drives-least), s .pre .0 .drives-most, omega (arith, s .pre .1 .0 .zone-in, s .pre .0 .zones-most), rw (c .stripe-sectors .ensures .0) (omega (arith, stripes-most (s .args .zone .geometry) (s .args .n) (s .pre .0) (s .pre .1 .1), s .pre .0 .zone-most)))
 
-drive-is : (c : tie.After-parity-drive) → c .parity-drive .result ≡ parityDriveAt (c .before .before .before .before .args .g) (c .before .before .before .before .args .z) (c .before .before .before .before .args .n)
+drive-is : (c : tie.After-parity-drive) → c .parity-drive .result ≡ parityDriveAt (c .before .before .before .before .before .before .args .zone .geometry) (c .before .before .before .before .before .before .args .zone .number) (c .before .before .before .before .before .before .args .n)
 unfolding stripeOf
 drive-is c = c .parity-drive .ensures .0 ∙ rw (c .before .stripe-sectors .ensures .0) refl
 
 returns : tie.Need-returns
 unfolding goneBefore
 returns c =
-    let a = c .before .before .before .before .before .args in
-    let e : isSet (a .t4) (parityDriveAt (a .g) (a .z) (a .n)) ≡ false = rw (drive-is (c .before)) at (not-true (getD (a .t4) (c .before .parity-drive .result) false) (c .if1 .taken)) in
+    let a = c .before .before .before .before .before .before .before .args in
+    let e : isSet (a .zone .here) (parityDriveAt (a .zone .geometry) (a .zone .number) (a .n)) ≡ false = rw (drive-is (c .before)) at (not-true (getD (a .zone .here) (c .before .parity-drive .result) false) (c .if1 .taken)) in
     rw e refl
 
 -- the parity drive is here
-here : (c : tie.Else1) → isSet (c .before .before .before .before .before .args .t4) (parityDriveAt (c .before .before .before .before .before .args .g) (c .before .before .before .before .before .args .z) (c .before .before .before .before .before .args .n)) ≡ true
-here c = rw (drive-is (c .before)) at (not-false (getD (c .before .before .before .before .before .args .t4) (c .before .parity-drive .result) false) (c .if1 .left))
+here : (c : tie.Else1) → isSet (c .before .before .before .before .before .before .before .args .zone .here) (parityDriveAt (c .before .before .before .before .before .before .before .args .zone .geometry) (c .before .before .before .before .before .before .before .args .zone .number) (c .before .before .before .before .before .before .before .args .n)) ≡ true
+here c = rw (drive-is (c .before)) at (not-false (getD (c .before .before .before .before .before .before .before .args .zone .here) (c .before .parity-drive .result) false) (c .if1 .left))
 
 -- the stripe's earlier sectors lie in the zone
-earlier : (c : tie.Else1) → (c .before .before .before .before .before .args .n / c .before .before .stripe-sectors .result * c .before .before .stripe-sectors .result ≤ c .before .before .before .before .before .args .n) × (c .before .before .before .before .before .args .n ≤ zoneSectors (c .before .before .before .before .before .args .g))
+earlier : (c : tie.Else1) → (c .before .before .before .before .before .before .before .args .n / c .before .before .stripe-sectors .result * c .before .before .stripe-sectors .result ≤ c .before .before .before .before .before .before .before .args .n) × (c .before .before .before .before .before .before .before .args .n ≤ zoneSectors (c .before .before .before .before .before .before .before .args .zone .geometry))
 earlier c =
-    let s = c .before .before .before .before .before in
+    let s = c .before .before .before .before .before .before .before in
     (omega (arith, div-add-mod' (s .args .n) (c .before .before .stripe-sectors .result)), s .pre .1 .1)
 
 mul-start : tie.Need-mul-start
 mul-start c =
-    let s = c .before .before .before .before .before in
-    omega (arith, earlier c, zone-small (s .args .g) (s .pre .0))
+    let s = c .before .before .before .before .before .before .before in
+    omega (arith, earlier c, zone-small (s .args .zone .geometry) (s .pre .0))
 
 all-held-requires : tie.Need-all-held-requires
-all-held-requires c κs = let s = c .before .before .before .before .before in (s .pre .0, (s .pre .1 .0 .zone-in, s .pre .1 .0 .written-long, omega (arith, earlier c)))
+all-held-requires c κs = let s = c .before .before .before .before .before .before .before in (s .pre .0, (s .pre .1 .0 .zone-in, s .pre .1 .0 .written-long, omega (arith, earlier c)))
 
 returns-2 : tie.Need-returns-2
 unfolding goneBefore stripeOf
 returns-2 c =
-    let s = c .before .before .before .before .before .before .before in
+    let s = c .before .before .before .before .before .before .before .before .before in
     let a = s .args in
-    rw (here (c .before .before)) (sym (held-none-gone (a .g) (a .t4) (now (a .sectors)) (now (a .written)) (a .z) (s .pre .1 .0) (a .generation) _ _ (s .pre .0) (rw (c .before .before .before .before .stripe-sectors .ensures .0) at (sym (c .before .all-held .ensures) ∙ c .if2 .taken))))
+    rw (here (c .before .before)) (sym (held-none-gone (a .zone .geometry) (a .zone .here) (now (a .sectors)) (now (a .written)) (a .zone .number) (s .pre .1 .0) (a .zone .generation) _ _ (s .pre .0) (rw (c .before .before .before .before .stripe-sectors .ensures .0) at (sym (c .before .all-held .ensures) ∙ c .if2 .taken))))
 
 some-gone-requires : tie.Need-some-gone-requires
-some-gone-requires c κs = let s = c .before .before .before .before .before .before .before .before in (s .pre .0, (s .pre .1 .0, omega (arith, earlier (c .before .before .before)), c .seal-limit .ensures .0))
+some-gone-requires c κs = let s = c .before .before .before .before .before .before .before .before .before .before in (s .pre .0, (s .pre .1 .0, omega (arith, earlier (c .before .before .before)), c .seal-limit .ensures .0))
 
 returns-3 : tie.Need-returns-3
 unfolding goneBefore stripeOf

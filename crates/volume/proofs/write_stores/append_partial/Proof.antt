@@ -1,58 +1,66 @@
-use Prim.Native.Nat.{ℕ}
-use mathlib.Core.List.{List, _++_}
-use lib.ListN.{drop, replicate, length, take}
-use denote.Ref.{now}
-use Rattle.logs.specs.meaning.Entry.{parityZone, encode, partialParity}
+use Prim.Native.Nat.{ℕ, _+_, _-_, _<_}
+use mathlib.Core.Path.{_≡_, sym, ap, _∙_}
+use mathlib.Core.Bool.{true, false, _&&_}
+use mathlib.Core.List.{List}
 use native.Mathlib.Omega.{arith}
-use Rattle.volume.specs.checks.Logging.{front-fits, front-is, front-long, appended-as}
-use mathlib.Core.Path.{_≡_, sym, _∙_}
-use lib.Seq.{length-take-le}
+use lib.ListN.{getD}
+use lib.Dec.{ltb}
+use denote.Ref.{now}
+use borrow.Author.Tests.{not-true, not-false}
+use Rattle.tables.specs.meaning.Lists.{overlay}
+use Rattle.tables.specs.meaning.Tables.{cell, hasRoom}
+use Rattle.tables.specs.laws.Counted.{append-idle, append-laid, due-parts}
+use Rattle.tables.specs.laws.Within.{part-long, part-changed}
+use Rattle.logs.specs.meaning.Entry.{parityZone, encode, partialParity}
 use borrow.Author.Needs.{needs}
 use Rattle.volume.proofs.write_stores.append_partial.Statement.{statement}
 use Rattle.volume.proofs.write_stores.append_partial.Tie as tie
 
-slice-aggregate-write-partial : tie.Need-slice-aggregate-write-partial
-slice-aggregate-write-partial c = let s = c .before .before .before in sym (length-take-le (s .args .g .sector) _ (s .pre .0 .sector-most))
-
-write-partial-requires : tie.Need-write-partial-requires
-write-partial-requires c κs = let s = c .before .before .before in (s .pre .0, (length-take-le (s .args .g .sector) _ (s .pre .0 .sector-most), s .pre .1 .1, s .pre .1 .2))
-
--- the header is one sector long
-long : (c : tie.After-write-partial) → length (c .write-partial .last .0) ≡ c .before .before .before .before .args .g .sector
-long c = let s = c .before .before .before .before in c .write-partial .kept .0 ∙ length-take-le (s .args .g .sector) _ (s .pre .0 .sector-most)
-
--- the rest of the buffer
-abbrev rest : tie.Start → List ℕ
-rest s = drop (s .args .g .sector) (replicate 4096 0)
-
-array-share-prefix-header : tie.Need-array-share-prefix-header
-array-share-prefix-header c =
-    let w = c .before .before .before in
-    let s = w .before .before .before .before in
-    front-fits (s .args .g .sector) (w .write-partial .last .0) (rest s) (long w)
-
-slice-aggregate-append-counted : tie.Need-slice-aggregate-append-counted
-slice-aggregate-append-counted c =
-    let w = c .before .before .before .before in
-    let s = w .before .before .before .before in
-    front-long (s .args .g .sector) (w .write-partial .last .0) (rest s) (long w)
-
-append-counted-requires : tie.Need-append-counted-requires
-append-counted-requires c κs =
-    let w = c .before .before .before .before in
-    let s = w .before .before .before .before in
-    (s .pre .0, ((s .pre .1 .0, omega arith), (s .pre .1 .3, s .pre .1 .4, sym (front-long (s .args .g .sector) (w .write-partial .last .0) (rest s) (long w)))))
+-- the header that is meant
+abbrev header : tie.Start → List ℕ
+header s = let a = s .args in encode (a .g) (a .drive) (partialParity (a .z) (a .s) (a .fill) (a .generation))
 
 returns : tie.Need-returns
 returns c =
-    let w = c .before .before .before .before .before .before .before .before .before in
-    let s = w .before .before .before .before in
+    let d = c .before .before in
+    let s = d .before .before .before .before in
     let a = s .args in
-    let f = c .before .before .before .before .append-counted in
-    appended-as (a .g) (a .budget) (f .result) (a .present) (a .drive) parityZone (take (a .g .sector) (w .write-partial .last .0 ++ rest s)) (encode (a .g) (a .drive) (partialParity (a .z) (a .s) (a .fill) (a .generation))) (now (a .sectors)) (now (a .written)) (f .last .0) (f .last .1 .0) (front-is (a .g .sector) (w .write-partial .last .0) (rest s) (encode (a .g) (a .drive) (partialParity (a .z) (a .s) (a .fill) (a .generation))) (long w) (w .write-partial .ensures)) (f .ensures)
+    let e : (a .present && ltb 1 (a .budget)) && hasRoom (a .g) (a .drive) parityZone (now (a .written)) ≡ false = sym (d .append-due .ensures) ∙ not-true (d .append-due .result) (c .before .if1 .taken) in
+    append-idle (a .g) (a .present) (a .budget) (c .left-after .result) (a .drive) parityZone (header s) (now (a .sectors)) (now (a .written)) (c .left-after .ensures) e
+
+-- where the store is due
+abbrev to-start : tie.Else1 → tie.Start
+to-start c = c .before .before .before .before .before
+
+due : (c : tie.Else1) → let a = to-start c .args in (a .present && ltb 1 (a .budget)) && hasRoom (a .g) (a .drive) parityZone (now (a .written)) ≡ true
+due c = sym (c .before .append-due .ensures) ∙ not-false (c .before .append-due .result) (c .if1 .left)
+
+room : (c : tie.Else1) → let a = to-start c .args in getD (now (a .written)) (cell (a .g) (a .drive) parityZone) 0 < a .g .capacity
+room c = let a = to-start c .args in due-parts (a .g) (a .present) (a .budget) (a .drive) parityZone (now (a .written)) (due c) .1
+
+next-byte-requires : tie.Need-next-byte-requires
+next-byte-requires c κs = let s = to-start (c .before) in (s .pre .0, (s .pre .1 .0, omega arith, s .pre .1 .4, room (c .before)))
+
+advance-requires : tie.Need-advance-requires
+advance-requires c κs = let d = c .before .before .before .before .before .before .before in let s = to-start d in (s .pre .0, (s .pre .1 .0, omega arith, s .pre .1 .4, room d))
+
+returns-2 : tie.Need-returns-2
+returns-2 c =
+    let at-write-partial = c .before .before .before .before .before .before .before in
+    let at-next-byte = at-write-partial .before .before in
+    let d = at-next-byte .before .before in
+    let s = to-start d in
+    let a = s .args in
+    let f = at-write-partial .write-partial in
+    let n = at-next-byte .next-byte in
+    let b = a .g .sector in
+    let xs = now (a .sectors) in
+    let long = part-long xs (n .result) (n .result + b - n .result) (omega (arith, n .ensures .1, s .pre .1 .3)) in
+    append-laid (a .g) (a .present) (a .budget) (c .left-after2 .result) (a .drive) parityZone (header s) xs (now (a .written)) _ (c .before .before .before .advance .last .0) (c .left-after2 .ensures) (due d)
+    (part-changed xs (f .last .0) (n .result) (n .result + b - n .result) (f .kept .0 ∙ long) ∙ ap (λ (x : List ℕ). overlay xs (n .result) x) (f .ensures) ∙ ap (λ (x : ℕ). overlay xs x (header s)) (n .ensures .0)) (c .before .before .before .advance .ensures)
 
 pub append-partial-spec : {M : Type 1} → statement M
 append-partial-spec =
     tie.close
-    (tie.spec (λ c. let s = c .before .before in s .pre .0 .sector-most) slice-aggregate-write-partial write-partial-requires
-    array-share-prefix-header slice-aggregate-append-counted append-counted-requires (λ c. search needs) (λ c. search needs) returns)
+    (tie.spec (λ c κs. search needs) (λ c κs. search needs) (λ c. search needs) returns next-byte-requires (λ c. search needs) (λ c. search needs)
+    (λ c. search needs) (λ c. search needs) (λ c κs. search needs) advance-requires (λ c κs. search needs) (λ c. search needs) (λ c. search needs) returns-2)

@@ -1,86 +1,90 @@
-use Prim.Native.Nat.{suc, _+_, _-_, _*_, _≤_, _<_}
+use Prim.Native.Nat.{ℕ, _-_, _≤_}
 use mathlib.Core.Path.{_≡_, refl, _∙_}
-use native.Mathlib.Omega.{arith}
+use mathlib.Core.List.{List}
 use native.Mathlib.Numerals.{add-one}
+use native.Mathlib.Omega.{arith}
 use lib.ListN.{length}
-use denote.Ref.{now}
 use Rattle.tables.specs.meaning.Phases.{onPresent}
-use Rattle.tables.specs.laws.Phases.{on-present-append}
 use Rattle.tables.specs.laws.Made.{MadeAppends}
-use Rattle.tables.specs.meaning.Tables.{sectorNo}
+use Rattle.tables.specs.laws.Sizes.{zone-small}
+use Rattle.volume.specs.declared.rows.Extent.{Extent}
+use Rattle.volume.specs.meaning.Calls.{sectorStores, dataStores}
 use Rattle.volume.specs.meaning.CallContracts.{isSet}
 use Rattle.volume.specs.laws.CallContracts.{appends-nil, appends-append}
-use Rattle.volume.specs.writing.ParityBuffer.{addressStores, rowsAt, runOf, part-length}
-use Rattle.tables.specs.laws.Sizes.{zone-small}
-use native.Mathlib.Nat.{mul-le-mul-right, suc-mul}
+use Rattle.volume.specs.looking.Knowing.{readDevice}
+use Rattle.volume.specs.rows.RowsInPlace.{contentOf}
+use Rattle.volume.specs.writing.WriteStores.{Writing, data-more, writing-kept, run-in}
 use Rattle.volume.proofs.write_stores.write_run.Statement.{statement}
 use Rattle.volume.proofs.write_stores.write_run.Tie as tie
 
+-- the content, with the sectors that lie in the tables at the start
+abbrev content : Extent → List ℕ → List ℕ → List ℕ → ℕ → List ℕ
+content known xs ps buffer = contentOf known (readDevice (known .geometry) xs ps) buffer
+
 abbrev Inv-loop : tie.InvT-loop
-Inv-loop sectors₀ written₀ rows₀ g here z from count buffer budget b rest₀ i₀ sectors written rows rest i = (i ≤ count) × (length sectors ≡ length sectors₀) × (length written ≡ length written₀) × (length rows ≡ length rows₀) × MadeAppends g budget rest (onPresent (isSet here) (runOf g z from buffer rows₀ i)) sectors₀ written₀ sectors written × (rows ≡ rowsAt g from buffer rows₀ i)
+Inv-loop sectors₀ written₀ pointers buffer known budget end rest₀ a₀ sectors written rest a =
+    (known .below ≤ a) × (a ≤ known .end) × (length sectors ≡ length sectors₀) × (length written ≡ length written₀)
+    × MadeAppends (known .geometry) budget rest (onPresent (isSet (known .here)) (dataStores (known .geometry .drives) (known .geometry .unit) (known .zone) (content known sectors₀ pointers buffer) (known .below) (a - known .below))) sectors₀ written₀ sectors written
 
 abbrev μ-loop : tie.MeasureT-loop
-μ-loop sectors₀ written₀ rows₀ g here z from count buffer budget b rest₀ i₀ sectors written rows rest i = count - i
+μ-loop sectors₀ written₀ pointers buffer known budget end rest₀ a₀ sectors written rest a = known .end - a
 
--- the sector lies in the buffer
-inside : (c : tie.In-loop Inv-loop μ-loop) → c .before .loop .i * c .before .before .before .before .before .before .args .g .sector + c .before .before .before .before .before .before .args .g .sector ≤ length (now (c .before .before .before .before .before .before .args .buffer))
-inside c =
-    let s = c .before .before .before .before .before .before in
-    let h : suc (c .before .loop .i) ≤ s .args .count = omega arith in
-    let m : c .before .loop .i * s .args .g .sector + s .args .g .sector ≤ s .args .count * s .args .g .sector = rw (← suc-mul) (mul-le-mul-right (s .args .g .sector) h) in
-    omega (arith, m, s .pre .1 .1 .1)
+loop-holds : tie.Need-loop-holds Inv-loop μ-loop
+loop-holds c =
+    let s = c .before .before .before .before in
+    let a = s .args in
+    let e : a .known .below - a .known .below ≡ 0 = omega arith in
+    (omega arith, s .pre .1 .below-most, refl, refl, rw e (appends-nil (a .known .geometry) (a .budget) (a .sectors .now) (a .written .now)))
 
-below : (c : tie.In-loop Inv-loop μ-loop) → c .before .loop .i < c .before .before .before .before .before .before .args .count
-below c = omega arith
+-- what the sectors so far have left alone
+abbrev to-start : tie.At-loop Inv-loop μ-loop → tie.Start Inv-loop μ-loop
+to-start c = c .before .before .before .before .before
 
-add-write-sector : tie.Need-add-write-sector Inv-loop μ-loop
-add-write-sector c =
-    let s = c .before .before .before .before .before .before .before .before .before in
-    omega (arith, s .pre .1 .1 .0, zone-small (s .args .g) (s .pre .0))
+kept : (c : tie.At-loop Inv-loop μ-loop) → let a = to-start c .args in
+    Writing (a .known) (c .loop .sectors) (c .loop .written) (a .pointers .now) (a .buffer .now) × (readDevice (a .known .geometry) (c .loop .sectors) (a .pointers .now) ≡ readDevice (a .known .geometry) (a .sectors .now) (a .pointers .now))
+kept c =
+    let s = to-start c in
+    let a = s .args in
+    let g = a .known .geometry in
+    let l = c .loop in
+    writing-kept (a .known) (s .pre .0) (a .sectors .now) (a .written .now) (a .pointers .now) (a .buffer .now) (s .pre .1) (a .budget) (l .rest) (onPresent (isSet (a .known .here)) (dataStores (g .drives) (g .unit) (a .known .zone) (content (a .known) (a .sectors .now) (a .pointers .now) (a .buffer .now)) (a .known .below) (l .a - a .known .below))) (l .sectors) (l .written)
+    (run-in (a .known) (s .pre .0) (a .sectors .now) (a .written .now) (a .pointers .now) (a .buffer .now) (s .pre .1) (l .a - a .known .below) (omega (arith, l .inv .1))) (l .inv .4)
 
 write-sector-requires : tie.Need-write-sector-requires Inv-loop μ-loop
-write-sector-requires c κs =
-    let s = c .before .before .before .before .before .before .before .before .before .before in
-    let l = c .before .before .before .before .before .loop in
-    let e : l .i * s .args .g .sector + s .args .g .sector - l .i * s .args .g .sector ≡ s .args .g .sector = omega arith in
-    let w = s .pre .1 .0 in (
-      s .pre .0,
-      (
-        record { zone = w .zone; sectors-long = l .inv .1 ∙ w .sectors-long; written-long = l .inv .2 ∙ w .written-long; rows-long = omega (arith, l .inv .3, w .rows-long) },
-        (omega (arith, s .pre .1 .1 .0), rw e (part-length (now (s .args .buffer)) (l .i * s .args .g .sector) (s .args .g .sector) (inside (c .before .before .before .before)))),
-      ),
-    )
+write-sector-requires c κs = let l = c .before .before .before in let s = to-start l in (s .pre .0, (kept l .0, l .loop .inv .0, c .before .before .loop-test .taken))
+
+add-a : tie.Need-add-a Inv-loop μ-loop
+add-a c =
+    let t = c .before .before .before .before .before .before .before in
+    let s = to-start (t .before) in
+    omega (arith, t .loop-test .taken, s .pre .1 .end-most, zone-small (s .args .known .geometry) (s .pre .0) .1)
 
 loop-again : tie.Need-loop-again Inv-loop μ-loop
 loop-again c =
-    let at-write-sector = c .before .before .before .before .before .before in
-    let at-start = at-write-sector .before .before .before .before .before in
-    let at-loop = at-start .before in
-    let s = at-loop .before .before .before .before .before in
+    let f = c .before .before .before .before .write-sector in
+    let at-loop-test = c .before .before .before .before .before .before .before in
+    let at-loop = at-loop-test .before in
+    let s = to-start at-loop in
     let a = s .args in
+    let g = a .known .geometry in
     let l = at-loop .loop in
-    let f = at-write-sector .write-sector in
-    let e : l .i * a .g .sector + a .g .sector - l .i * a .g .sector ≡ a .g .sector = omega arith in
-    let run = runOf (a .g) (a .z) (a .from) (now (a .buffer)) (now (a .rows)) (l .i) in
-    let next = addressStores (a .g) (a .z) (a .from + l .i) (sectorNo (a .g .sector) (now (a .buffer)) (l .i)) (rowsAt (a .g) (a .from) (now (a .buffer)) (now (a .rows)) (l .i)) in (
-      omega (arith, below (at-start)),
-      f .kept .0 ∙ l .inv .1,
-      f .kept .1 .0 ∙ l .inv .2,
-      f .kept .1 .1 .0 ∙ l .inv .3,
-      rw (add-one, on-present-append (isSet (a .here)) run next) (appends-append (a .g) (a .budget) (l .rest) (f .result) (onPresent (isSet (a .here)) run) (onPresent (isSet (a .here)) next) (now (a .sectors)) (now (a .written)) (l .sectors) (l .written) (f .last .0) (f .last .1 .0) (l .inv .4) (rw (e, l .inv .5) at (f .ensures .0))),
-      f .ensures .1 ∙ rw (e, l .inv .5, add-one) refl,
+    let S = content (a .known) (a .sectors .now) (a .pointers .now) (a .buffer .now) in (
+      omega (arith, l .inv .0),
+      omega (arith, at-loop-test .loop-test .taken),
+      f .kept .0 ∙ l .inv .2,
+      f .kept .1 .0 ∙ l .inv .3,
+      rw (add-one, data-more g (s .pre .0) (isSet (a .known .here)) (a .known .zone) S (a .known .below) (l .a) (l .inv .0))
+          (appends-append g (a .budget) (l .rest) (f .result) (onPresent (isSet (a .known .here)) (dataStores (g .drives) (g .unit) (a .known .zone) S (a .known .below) (l .a - a .known .below))) (onPresent (isSet (a .known .here)) (sectorStores (g .drives) (g .unit) (a .known .zone) S (l .a))) (a .sectors .now) (a .written .now) (l .sectors) (l .written) (f .last .0) (f .last .1 .0) (l .inv .4) (rw (kept at-loop .1) at (f .ensures))),
     )
 
 returns : tie.Need-returns Inv-loop μ-loop
 returns c =
     let l = c .before .loop in
-    let e : l .i ≡ c .before .before .before .before .before .before .args .count = omega arith in
-    (rw e at (l .inv .4), l .inv .5 ∙ rw e refl)
+    let e : l .a ≡ to-start (c .before) .args .known .end = omega arith in
+    rw e at (l .inv .4)
 
 pub write-run-spec : {M : Type 1} → statement M
 write-run-spec =
     tie.close
-    (tie.spec Inv-loop μ-loop (λ c. (omega arith, refl, refl, refl, appends-nil _ _ _ _, refl)) (λ c. omega (arith, inside c))
-    (λ c. omega (arith, inside c)) add-write-sector (λ c. omega arith) (λ c. omega arith) (λ c. inside (c .before .before .before))
-    write-sector-requires (λ c. omega arith) (λ c. omega arith) loop-again (λ c. c .before .loop .inv .1) (λ c. c .before .loop .inv .2)
-    (λ c. c .before .loop .inv .3) returns)
+    (tie.spec Inv-loop μ-loop loop-holds write-sector-requires add-a (λ c. omega (arith, c .before .before .before .before .before .before .before .loop-test .taken)) loop-again
+    (λ c. c .before .loop .inv .2) (λ c. c .before .loop .inv .3) returns)

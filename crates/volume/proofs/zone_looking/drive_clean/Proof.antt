@@ -18,18 +18,18 @@ use Rattle.volume.proofs.zone_looking.drive_clean.Statement.{statement}
 use Rattle.volume.proofs.zone_looking.drive_clean.Tie as tie
 
 returns : tie.Need-returns
-returns c = let a = c .before .before .before .args in rw (not-true (getD (a .t4) (a .d) false) (c .if1 .taken)) refl
+returns c = let a = c .before .before .before .before .args in rw (not-true (getD (a .zone .here) (a .d) false) (c .if1 .taken)) refl
 
 returns-2 : tie.Need-returns-2
 returns-2 c =
-    let s = c .before .before .before .before .before .before in
+    let s = c .before .before .before .before .before .before .before .before in
     let a = s .args in
-    let p : isSet (a .t4) (a .d) ≡ true = not-false (getD (a .t4) (a .d) false) (c .before .before .before .if1 .left) in
-    let h : dataZone (a .z) < physicalZones (a .g) = omega arith in
-    let n : c .before .before .zone-pointer .result ≡ length (readDevice (a .g) (a .sectors .now) (a .written .now) (a .d) (dataZone (a .z)) .sectors) = c .before .before .zone-pointer .ensures .0 ∙ zone-length (a .g) (a .sectors .now) (a .written .now) (a .d) (dataZone (a .z)) (s .pre .1 .1) h in
-    let v = readDevice (a .g) (a .sectors .now) (a .written .now) in
-    let whole = anyOf (λ (e : Entry). endsPast (a .g) (a .z) (a .generation) (a .q) (e .head)) (parityEntries (a .g) v (a .d)) in
-    let torn = endingPast (a .g) (a .z) (a .generation) (a .q) (parityEnding (a .g) v (a .d)) in
+    let p : isSet (a .zone .here) (a .d) ≡ true = not-false (getD (a .zone .here) (a .d) false) (c .before .before .before .before .if1 .left) in
+    let h : dataZone (a .zone .number) < physicalZones (a .zone .geometry) = omega arith in
+    let n : c .before .before .zone-pointer .result ≡ length (readDevice (a .zone .geometry) (a .sectors .now) (a .written .now) (a .d) (dataZone (a .zone .number)) .sectors) = c .before .before .zone-pointer .ensures .0 ∙ zone-length (a .zone .geometry) (a .sectors .now) (a .written .now) (a .d) (dataZone (a .zone .number)) (s .pre .1 .1) h in
+    let v = readDevice (a .zone .geometry) (a .sectors .now) (a .written .now) in
+    let whole = anyOf (λ (e : Entry). endsPast (a .zone .geometry) (a .zone .number) (a .zone .generation) (a .q) (e .head)) (parityEntries (a .zone .geometry) v (a .d)) in
+    let torn = endingPast (a .zone .geometry) (a .zone .number) (a .zone .generation) (a .q) (parityEnding (a .zone .geometry) v (a .d)) in
     rw (p, n, c .before .sectors-needed .ensures .0, c .entry-past .ensures, neither whole torn) refl
 
 pub drive-clean-spec : {M : Type 1} → statement M

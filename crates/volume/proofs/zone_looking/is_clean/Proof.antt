@@ -11,19 +11,19 @@ use Rattle.volume.proofs.zone_looking.is_clean.Statement.{statement}
 use Rattle.volume.proofs.zone_looking.is_clean.Tie as tie
 
 abbrev Inv-loop : tie.InvT-loop
-Inv-loop sectors written g here z generation q n clean₀ d₀ clean d = (d ≤ n) × (clean ≡ allBelow (driveClean g (isSet here) (readDevice g sectors written) z generation q) d)
+Inv-loop sectors written zone q n clean₀ d₀ clean d = (d ≤ n) × (clean ≡ allBelow (driveClean (zone .geometry) (isSet (zone .here)) (readDevice (zone .geometry) sectors written) (zone .number) (zone .generation) q) d)
 
 abbrev μ-loop : tie.MeasureT-loop
-μ-loop sectors written g here z generation q n clean₀ d₀ clean d = n - d
+μ-loop sectors written zone q n clean₀ d₀ clean d = n - d
 
 loop-holds : tie.Need-loop-holds Inv-loop μ-loop
 loop-holds c = (omega arith, refl)
 
 drive-clean-requires : tie.Need-drive-clean-requires Inv-loop μ-loop
-drive-clean-requires c κs = let s = c .before .before .before .before in (s .pre .0, (s .pre .1 .0, omega arith, s .pre .1 .1, s .pre .1 .2))
+drive-clean-requires c κs = let s = c .before .before .before .before .before in (s .pre .0, (s .pre .1 .0, omega arith, s .pre .1 .1, s .pre .1 .2))
 
 add-d : tie.Need-add-d Inv-loop μ-loop
-add-d c = omega (arith, c .before .before .before .before .before .pre .0 .drives-most)
+add-d c = omega (arith, c .before .before .before .before .before .before .pre .0 .drives-most)
 
 loop-less : tie.Need-loop-less Inv-loop μ-loop
 loop-less c = omega arith
@@ -33,7 +33,7 @@ loop-again c = let l = c .before .before .loop in (omega arith, rw (l .inv .1, c
 
 returns : tie.Need-returns Inv-loop μ-loop
 unfolding cleanAt
-returns c = let l = c .before .loop in let e : l .d ≡ c .before .before .before .before .args .g .drives = omega arith in l .inv .1 ∙ rw e refl
+returns c = let l = c .before .loop in let e : l .d ≡ c .before .before .before .before .before .args .zone .geometry .drives = omega arith in l .inv .1 ∙ rw e refl
 
 pub is-clean-spec : {M : Type 1} → statement M
 is-clean-spec =

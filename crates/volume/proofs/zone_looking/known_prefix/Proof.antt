@@ -15,10 +15,10 @@ use Rattle.volume.proofs.zone_looking.known_prefix.Statement.{statement
 use Rattle.volume.proofs.zone_looking.known_prefix.Tie as tie
 
 abbrev Inv-scan : tie.InvT-scan
-Inv-scan sectors written g here z generation limit a₀ a = (a ≤ limit) × (allBelow (knownAt g (isSet here) (readDevice g sectors written) z generation) a ≡ true)
+Inv-scan sectors written zone limit a₀ a = (a ≤ limit) × (allBelow (knownAt (zone .geometry) (isSet (zone .here)) (readDevice (zone .geometry) sectors written) (zone .number) (zone .generation)) a ≡ true)
 
 abbrev μ-scan : tie.MeasureT-scan
-μ-scan sectors written g here z generation limit a₀ a = limit - a
+μ-scan sectors written zone limit a₀ a = limit - a
 
 scan-holds : tie.Need-scan-holds Inv-scan μ-scan
 scan-holds c = (omega arith, refl)
@@ -29,14 +29,14 @@ is-known-requires c κs = let s = c .before .before .before .before in (s .pre .
 add-a : tie.Need-add-a Inv-scan μ-scan
 add-a c =
     let s = c .before .before .before .before .before .before in
-    omega (arith, s .pre .1 .2, zone-small (s .args .g) (s .pre .0) .1)
+    omega (arith, s .pre .1 .2, zone-small (s .args .zone .geometry) (s .pre .0) .1)
 
 scan-again : tie.Need-scan-again Inv-scan μ-scan
 scan-again c =
     let s = c .before .before .before .before .before .before in
     let a = s .args in
     let l = c .before .before .before .scan in
-    let k : knownAt (a .g) (isSet (a .here)) (readDevice (a .g) (a .sectors .now) (a .written .now)) (a .z) (a .generation) (l .a) ≡ true = sym (known-at (a .g) (isSet (a .here)) (readDevice (a .g) (a .sectors .now) (a .written .now)) (a .z) (a .generation) (l .a)) ∙ sym (c .before .is-known .ensures) ∙ not-false (c .before .is-known .result) (c .if1 .left) in
+    let k : knownAt (a .zone .geometry) (isSet (a .zone .here)) (readDevice (a .zone .geometry) (a .sectors .now) (a .written .now)) (a .zone .number) (a .zone .generation) (l .a) ≡ true = sym (known-at (a .zone .geometry) (isSet (a .zone .here)) (readDevice (a .zone .geometry) (a .sectors .now) (a .written .now)) (a .zone .number) (a .zone .generation) (l .a)) ∙ sym (c .before .is-known .ensures) ∙ not-false (c .before .is-known .result) (c .if1 .left) in
     (omega arith, rw (add-one, l .inv .1, k) refl)
 
 returns : tie.Need-returns Inv-scan μ-scan
@@ -44,15 +44,15 @@ returns c =
     let s = c .before .before .before .before in
     let a = s .args in
     let l = c .before .scan in
-    prefix-stops (a .g) (isSet (a .here)) (readDevice (a .g) (a .sectors .now) (a .written .now)) (a .z) (a .generation) (a .limit) (l .a) (s .pre .1 .2) (l .inv .0) (l .inv .1) (inr (omega arith))
+    prefix-stops (a .zone .geometry) (isSet (a .zone .here)) (readDevice (a .zone .geometry) (a .sectors .now) (a .written .now)) (a .zone .number) (a .zone .generation) (a .limit) (l .a) (s .pre .1 .2) (l .inv .0) (l .inv .1) (inr (omega arith))
 
 returns-2 : tie.Need-returns-2 Inv-scan μ-scan
 returns-2 c =
     let s = c .before .before .before .before .before .before in
     let a = s .args in
     let l = c .before .before .before .scan in
-    let k : knownAt (a .g) (isSet (a .here)) (readDevice (a .g) (a .sectors .now) (a .written .now)) (a .z) (a .generation) (l .a) ≡ false = sym (known-at (a .g) (isSet (a .here)) (readDevice (a .g) (a .sectors .now) (a .written .now)) (a .z) (a .generation) (l .a)) ∙ sym (c .before .is-known .ensures) ∙ not-true (c .before .is-known .result) (c .if1 .taken) in
-    prefix-stops (a .g) (isSet (a .here)) (readDevice (a .g) (a .sectors .now) (a .written .now)) (a .z) (a .generation) (a .limit) (l .a) (s .pre .1 .2) (l .inv .0) (l .inv .1) (inl k)
+    let k : knownAt (a .zone .geometry) (isSet (a .zone .here)) (readDevice (a .zone .geometry) (a .sectors .now) (a .written .now)) (a .zone .number) (a .zone .generation) (l .a) ≡ false = sym (known-at (a .zone .geometry) (isSet (a .zone .here)) (readDevice (a .zone .geometry) (a .sectors .now) (a .written .now)) (a .zone .number) (a .zone .generation) (l .a)) ∙ sym (c .before .is-known .ensures) ∙ not-true (c .before .is-known .result) (c .if1 .taken) in
+    prefix-stops (a .zone .geometry) (isSet (a .zone .here)) (readDevice (a .zone .geometry) (a .sectors .now) (a .written .now)) (a .zone .number) (a .zone .generation) (a .limit) (l .a) (s .pre .1 .2) (l .inv .0) (l .inv .1) (inl k)
 
 pub known-prefix-spec : {M : Type 1} → statement M
 known-prefix-spec =

@@ -1,46 +1,52 @@
 use mathlib.Core.Path.{_≡_, sym, _∙_}
 use native.Mathlib.Omega.{arith}
 use lib.ListN.{length}
-use Prim.Native.Nat.{_*_}
 use denote.Ref.{now}
 use Rattle.zrv.specs.meaning.EdgeCalls.{ranges}
-use Rattle.zrv.specs.laws.EdgeCalls.{part-long, scratch-fits, refused, made, all-stored}
+use Rattle.zrv.specs.laws.EdgeCalls.{Sized, sizes-passed, part-long, scratch-fits, refused, made, all-stored}
 use borrow.Author.Needs.{needs}
 use Rattle.zrv.proofs.mounting.zrv_mount.Statement.{statement}
 use Rattle.zrv.proofs.mounting.zrv_mount.Tie as tie
 
 -- nothing is refused
-zero : (c : tie.Else1) → c .before .without-state .result .refusal ≡ 0
+zero : (c : tie.Else1) → c .before .sizes-refusal .result ≡ 0
 zero c = omega arith
 
--- the scratch keeps the tables' lengths
-lengths : (f : tie.After-mount) → let a = f .before .before .before .before .before .before .before .before .before .before .before .before .before .before .before .before .before .before .before .before .before .before .before .before .args in (length (now (a .written)) ≡ length (f .mount .last .1 .0) * 4) × (length (now (a .durable)) ≡ length (f .mount .last .1 .1 .0) * 4)
-lengths f =
+-- the ranges have the lengths of the geometry
+lengths : (c : tie.Else1) → let a = c .before .before .before .before .before .before .before .args in Sized (c .before .before .shape .result) (length (now (a .state))) (length (now (a .written))) (length (now (a .durable)))
+lengths c = sizes-passed _ _ _ _ (sym (c .before .sizes-refusal .ensures) ∙ zero c)
+
+table-to-requires : tie.Need-table-to-requires
+table-to-requires c κs =
+    let f = c .before .before .before .before .before .before .before .before in
     let d = f .before .before .before .before .before .before .before .before in
-    let o = d .before .before .before .before .before .before .before .before .before .before .without-state .ensures in
-    let k = o .ready (zero (d .before .before .before .before .before .before .before .before .before)) in
-    (omega (arith, k .sized .written-long, k .cells-are, part-long _ (o .small), f .mount .kept, d .tables-from .kept), omega (arith, k .sized .durable-long, k .cells-are, part-long _ (o .small), f .mount .kept, d .tables-from .kept))
+    let n = d .before .before .before .before .before .before .before .before .before .table-cells .ensures in
+    omega (arith, lengths (d .before .before .before .before .before .before .before .before .before .before) .written-long, n, part-long _ (n .1), f .mount .kept, d .tables-from .kept)
+
+table-to-requires-2 : tie.Need-table-to-requires-2
+table-to-requires-2 c κs =
+    let f = c .before .before .before .before .before .before .before .before .before .before .before .before .before .before in
+    let d = f .before .before .before .before .before .before .before .before in
+    let n = d .before .before .before .before .before .before .before .before .before .table-cells .ensures in
+    omega (arith, lengths (d .before .before .before .before .before .before .before .before .before .before) .durable-long, n, part-long _ (n .1), f .mount .kept, d .tables-from .kept)
 
 hand-back-requires : tie.Need-hand-back-requires
-hand-back-requires c κs = let e = c .before .before .before .before .before .before .before .before .before .before .before .before .before .before .before .before .before .before .before .before .before .before .before .before .before .before .before .before .before .before .before .before .before .before .before .before in let k = e .before .without-state .ensures .ready (zero e) .sized in (k .valid, k .state-long)
+hand-back-requires c κs = let k = lengths (c .before .before .before .before .before .before .before .before .before .before .before .before .before .before .before .before .before .before .before .before .before .before .before .before .before .before .before .before .before .before .before .before .before .before .before .before .before) in (k .valid, k .state-long)
+
+returns : tie.Need-returns
+returns c = rw (← c .before .before .shape .ensures, ← c .before .sizes-refusal .ensures) (refused _ _ _ (c .if1 .taken))
 
 returns-2 : tie.Need-returns-2
 returns-2 c =
     let f = c .before .before .before .before .before .before .before .before .before .before .before .before .before .before .before .before .before .before .before .before .before .before in
     let d = f .before .before .before .before .before .before .before .before in
-    let e = d .before .before .before .before .before .before .before .before .before in
+    let e = d .before .before .before .before .before .before .before .before .before .before in
     let a = e .before .before .before .before .before .before .before .args in
     let m = ranges (now (a .sectors)) (now (a .written)) (now (a .durable)) (now (a .state)) in
-    let k = e .before .without-state .ensures .ready (zero e) in
-    let r = rw (k .drives-are, k .state-is, d .tables-from .ensures .0, d .tables-from .ensures .1) at (f .mount .ensures) in
-    rw (← e .before .before .shape .ensures, ← e .before .without-state .ensures .number) (all-stored _ m _ r (c .before .before .hand-back .ensures) (c .before .before .before .before .before .before .before .before .before .before .before .before .before .table-to .ensures) (c .before .before .before .before .before .before .before .table-to2 .ensures) ∙ made _ _ _ (zero e))
+    let r = rw (d .before .before .before .before .before .before .before .before .named-drives .ensures, d .before .before .before .before .before .before .before .unread-state .ensures, d .tables-from .ensures .0, d .tables-from .ensures .1) at (f .mount .ensures) in
+    rw (← e .before .before .shape .ensures, ← e .before .sizes-refusal .ensures) (all-stored _ m _ r (c .before .before .hand-back .ensures) (c .before .before .before .before .before .before .before .before .before .before .before .before .before .table-to .ensures) (c .before .before .before .before .before .before .before .table-to2 .ensures) ∙ made _ _ _ (zero e))
 
 pub zrv-mount-spec : {M : Type 1} → statement M
 zrv-mount-spec =
     tie.close
-    (tie.spec (λ c κs. search needs) (λ c κs. search needs) (λ c. rw (← c .before .before .shape .ensures, ← c .before .without-state .ensures .number) (refused _ _ _ (c .if1 .taken))) (λ c. search needs)
-    (λ c. sym (part-long _ (c .before .before .before .before .without-state .ensures .small))) (λ c. search needs)
-    (λ c. sym (part-long _ (c .before .before .before .before .before .without-state .ensures .small)))
-    (λ c κs. scratch-fits _ _ (c .before .before .before .before .before .before .before .before .before .without-state .ensures) (zero (c .before .before .before .before .before .before .before .before)))
-    (λ c κs. search needs) (λ c κs. omega (arith, lengths (c .before .before .before .before .before .before .before .before) .0)) (λ c κs. omega (arith, lengths (c .before .before .before .before .before .before .before .before .before .before .before .before .before .before) .1)) hand-back-requires (λ c. search needs) (λ c. search needs) (λ c. search needs)
-    (λ c. search needs) returns-2)
+    (tie.spec (λ c κs. search needs) (λ c κs. search needs) returns (λ c κs. lengths c .valid) (λ c κs. search needs) (λ c κs. search needs) (λ c. search needs) (λ c. sym (part-long _ (c .before .before .before .table-cells .ensures .1))) (λ c. search needs) (λ c. sym (part-long _ (c .before .before .before .before .table-cells .ensures .1))) (λ c κs. scratch-fits _ _ (lengths (c .before .before .before .before .before .before .before .before .before)) (c .before .before .before .before .before .before .before .before .table-cells .ensures)) (λ c κs. search needs) table-to-requires table-to-requires-2 hand-back-requires (λ c. search needs) (λ c. search needs) (λ c. search needs) (λ c. search needs) returns-2)

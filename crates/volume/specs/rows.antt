@@ -1,0 +1,3 @@
+pub mod KeptBelow
+pub mod RowStores
+pub mod RowsInPlace

@@ -4,7 +4,7 @@ use mathlib.Core.Path.{_≡_, refl, sym, _∙_}
 use mathlib.Core.Logic.{_≢_, _↔_, _⊎_, inl, inr}
 use mathlib.Core.Bool.{true, false}
 use Prim.Native.Nat.{ℕ, zero, suc, _+_, _-_, _*_, _/_, _%_, _≤_, _<_, min}
-use native.Mathlib.Nat.{le-refl, le-trans, mod-lt, mod-eq-of-lt, mod-eq-sub-mod, div-add-mod', mul-le-mul-right, div-lt-iff-lt-mul, mul-pos}
+use native.Mathlib.Nat.{le-refl, le-trans, mod-lt, mod-eq-of-lt, mod-eq-sub-mod, div-add-mod', mul-le-mul-right, div-lt-iff-lt-mul, mul-pos, zero-div, zero-mod}
 use native.Mathlib.Decide.{ℕ-discrete, decLt}
 use native.Mathlib.Omega.{arith}
 use lib.Dec.{eqb}
@@ -77,6 +77,64 @@ module _ (D p : ℕ) (hp : p < D) where
       go : Dec (d ≡ p) → (d ≡ p) ⊎ ((j : ℕ) × (j + 1 < D) × (unitDrive D p j ≡ d) × ((i : ℕ) → i + 1 < D → unitDrive D p i ≡ d → i ≡ j))
       go (yes e) = inl e
       go (no n) = let (a, b) = unit-of-drive d h n in inr (unitOf D p d, a, b, λ i k e. unit-injective i (unitOf D p d) k a (e ∙ sym b))
+
+-- ---- what needs no condition on drives and units
+module _ (D U : ℕ) where
+  -- code divides by k, a stripe's length: the quotient is the stripe, and from the rest it has unit and row
+  pub stripe-length : stripeLength D U ≡ (D - 1) * U
+  unfolding stripeLength
+  stripe-length = refl
+
+  pub stripe-quotient : (a k : ℕ) → k ≡ stripeLength D U → a / k ≡ stripeOf D U a
+  unfolding stripeOf
+  stripe-quotient a k e = rw e refl
+
+  pub stripe-begin : (a k : ℕ) → k ≡ stripeLength D U → a / k * k ≡ stripeOf D U a * stripeLength D U
+  unfolding stripeOf
+  stripe-begin a k e = rw e refl
+
+  pub unit-quotient : (a k : ℕ) → k ≡ stripeLength D U → a % k / U ≡ unitIndex D U a
+  unfolding unitIndex
+  unit-quotient a k e = rw e refl
+
+  pub row-remainder : (a k : ℕ) → k ≡ stripeLength D U → a % k % U ≡ rowIndex D U a
+  unfolding rowIndex
+  row-remainder a k e = rw e refl
+
+  -- an address is its stripe's start and a rest
+  pub stripe-rest : (a : ℕ) → stripeOf D U a * stripeLength D U + a % stripeLength D U ≡ a
+  unfolding stripeOf
+  stripe-rest a = div-add-mod' a (stripeLength D U)
+
+  pub stripe-of-sum : (s f : ℕ) → f < stripeLength D U → stripeOf D U (s * stripeLength D U + f) ≡ s
+  unfolding stripeOf
+  stripe-of-sum s f h = digits-div s h
+
+  -- sector, address and drive as sums of their parts
+  pub sector-sum : (a : ℕ) → sectorOf D U a ≡ stripeOf D U a * U + rowIndex D U a
+  unfolding sectorOf
+  sector-sum a = refl
+
+  pub address-sum : (s j r : ℕ) → address D U s j r ≡ s * stripeLength D U + (j * U + r)
+  unfolding address
+  address-sum s j r = refl
+
+  pub drive-of-unit : (z a : ℕ) → driveOf D U z a ≡ unitDrive D (parityDrive D z (stripeOf D U a)) (unitIndex D U a)
+  unfolding driveOf
+  drive-of-unit z a = refl
+
+  -- address 0 begins stripe 0
+  pub stripe-zero : stripeOf D U zero ≡ zero
+  unfolding stripeOf
+  stripe-zero = zero-div (stripeLength D U)
+
+  pub unit-zero : unitIndex D U zero ≡ zero
+  unfolding unitIndex
+  unit-zero = rw (zero-mod (stripeLength D U)) (zero-div U)
+
+  pub row-zero : rowIndex D U zero ≡ zero
+  unfolding rowIndex
+  row-zero = rw (zero-mod (stripeLength D U)) (zero-mod U)
 
 -- ---- addresses: at least two drives, units of at least one sector
 module _ (D U z : ℕ) (hD : 1 < D) (hU : zero < U) where
@@ -385,6 +443,11 @@ module _ (D U z : ℕ) (hD : 1 < D) (hU : zero < U) where
   pub stripe-above : (n : ℕ) → n < stripeOf D U n * stripeLength D U + stripeLength D U
   unfolding stripeOf
   stripe-above n = omega (arith, div-add-mod' n (stripeLength D U), mod-lt n stripe-pos)
+
+  -- an address lies below m stripes exactly if its stripe does
+  pub stripe-lt : (m n : ℕ) → (n < m * stripeLength D U) ↔ (stripeOf D U n < m)
+  unfolding stripeOf
+  stripe-lt m n = (div-lt-iff-lt-mul stripe-pos .1, div-lt-iff-lt-mul stripe-pos .0)
 
   -- m stripes need at most m units of a drive
   pub needed-most : (m n d : ℕ) → n ≤ m * stripeLength D U → needed D U z n d ≤ m * U

@@ -54,6 +54,15 @@ zone-small g ok =
     let q : g .drives - 1 ≤ 7 = omega (arith, ok .drives-most) in
     (mul-pos p (omega (arith, ok .general-fits)), mul-le-mul {n₂ = 7} {m₂ = 65536} q (ok .zone-most))
 
+-- a zone is a whole number of stripes, and a stripe holds a unit
+pub zone-stripes : (g : Geometry) (ok : Valid g) → zoneSectors g ≡ ok .units * stripeSectors g
+unfolding zoneSectors stripeLength
+zone-stripes g ok = rw (ok .whole-units) (omega arith)
+
+pub unit-in-stripe : (g : Geometry) → Valid g → g .unit ≤ stripeSectors g
+unfolding stripeLength
+unit-in-stripe g ok = let q : 1 ≤ g .drives - 1 = omega (arith, ok .drives-least) in omega (arith, mul-le-mul-right (g .unit) q)
+
 pub cells-small : (g : Geometry) → Valid g → cells g ≤ 152
 cells-small g ok = mul-le-mul {n₂ = 8} {m₂ = 19} (ok .drives-most) (omega (arith, ok .zones-most))
 

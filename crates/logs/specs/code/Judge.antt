@@ -2,9 +2,8 @@
 -- its numbers (`seen`; the counters stay in the sector), or Bad where it holds no legal one. `foundType` gives each case's number.
 use mathlib.Core.Path.{_≡_, refl, sym, ap, _∙_}
 use mathlib.Core.Bool.{Bool, true, false, _&&_, _||_, not}
-use Prim.Native.Nat.{ℕ, _-_, _*_, _/_, _%_, _≤_, _<_}
-use Rattle.tables.specs.meaning.Placement.{stripeLength}
-use native.Mathlib.Nat.{mul-le-mul, mul-le-mul-left, le-of-mul-le-mul-right, div-add-mod', mod-lt}
+use Prim.Native.Nat.{ℕ, _+_, _-_, _*_, _/_, _%_, _≤_, _<_}
+use native.Mathlib.Nat.{mul-le-mul, div-add-mod', mod-lt}
 use native.Mathlib.Omega.{arith}
 use mathlib.Core.List.{List}
 use lib.ListN.{take, drop}
@@ -19,7 +18,8 @@ use Rattle.logs.specs.declared.Found.the-variants.{Bad, Label, Counters,
 use Rattle.tables.specs.meaning.LittleEndian.{numberLE, sameBytes}
 use Rattle.logs.specs.meaning.Entry.{Header, label, counters, zoneReset, partialParity, seal, Decoded, legal, bad, encode, readFields, kindOf, startOf, endOf, genOf, fitsLog, decode}
 use Rattle.logs.specs.laws.Entry.{typeOf}
-use Rattle.tables.specs.laws.Sizes.{zone-small}
+use Rattle.tables.specs.laws.Placement.{stripe-of-sum}
+use Rattle.tables.specs.laws.Sizes.{stripe-small, stripes-most, zone-small}
 
 abbrev pub seen : Header → Found
 seen (label x a) = Label x a
@@ -128,12 +128,6 @@ stripe-within g x ok =
 
 -- a stripe within the zone has a small number
 pub stripes-fit : (g : Geometry) (t : ℕ) → Valid g → t * stripeSectors g ≤ zoneSectors g → t ≤ 65536
-unfolding zoneSectors stripeLength
 stripes-fit g t ok h =
-    let e = g .drives - 1 in
-    let p : 1 ≤ e = omega (arith, ok .drives-least) in
-    let a : t * 1 ≤ t * g .unit = mul-le-mul-left t (ok .unit-least) in
-    let b : e * (t * 1) ≤ e * (t * g .unit) = mul-le-mul-left e a in
-    let c : t * e ≤ g .capacity * e = omega (arith, b, h) in
-    let d : t ≤ g .capacity = le-of-mul-le-mul-right c p in
-    omega (arith, ok .zone-most)
+    let e = stripe-of-sum (g .drives) (g .unit) t 0 (stripe-small g ok .0) in
+    omega (arith, e, stripes-most g (t * stripeSectors g + 0) ok (omega (arith, h)), ok .zone-most)

@@ -10,8 +10,8 @@ use lib.Dec.{eqb}
 use borrow.Author.Tests.{eqb-true}
 use Rattle.tables.specs.laws.Basics.{and-split}
 use Rattle.tables.specs.declared.Geometry.{Geometry}
-use Rattle.tables.specs.meaning.Placement.{stripeLength}
 use Rattle.tables.specs.meaning.Geometry.{Valid, stripeSectors, zoneSectors}
+use Rattle.tables.specs.laws.Sizes.{zone-stripes}
 use Rattle.tables.specs.laws.LittleEndian.{Small}
 use Rattle.tables.specs.meaning.LittleEndian.{wordsLE}
 use Rattle.logs.specs.meaning.Entry.{Header, label, counters, zoneReset, partialParity, seal, encode, frame, labelBytes, kindOf, decode, legal, fitsLog}
@@ -41,9 +41,8 @@ NumbersFit (seal z p n) = n < 256 ^ 8
 
 -- an entry inside a stripe ends inside its zone
 pub stripe-ends : (g : Geometry) (s f : ℕ) → Valid g → s * stripeSectors g < zoneSectors g → f ≤ stripeSectors g → s * stripeSectors g + f ≤ zoneSectors g
-unfolding zoneSectors stripeLength
 stripe-ends g s f ok h k =
-    let e : zoneSectors g ≡ ok .units * stripeSectors g = rw (ok .whole-units) (omega arith) in
+    let e : zoneSectors g ≡ ok .units * stripeSectors g = zone-stripes g ok in
     let l : s * stripeSectors g < ok .units * stripeSectors g = omega (arith, e, h) in
     let m : s < ok .units = lt-of-mul-lt-mul-right (stripeSectors g) l in
     let n : suc s * stripeSectors g ≤ ok .units * stripeSectors g = mul-le-mul-right (stripeSectors g) m in

@@ -2,7 +2,6 @@
 use mathlib.Core.Path.{_≡_, refl, _∙_}
 use mathlib.Core.Bool.{Bool, true, false}
 use Prim.Native.Nat.{ℕ, zero, suc, _+_, _-_, _*_, _%_, _≤_, _<_}
-use native.Mathlib.Nat.{div-add-mod'}
 use native.Mathlib.Decide.{ℕ-discrete}
 use native.Mathlib.Omega.{arith}
 use mathlib.Core.List.{List, []}
@@ -15,13 +14,13 @@ use Rattle.tables.specs.meaning.Geometry.{Valid, stripeSectors}
 use Rattle.tables.specs.meaning.Xor.{xorBelow, without}
 use Rattle.tables.specs.laws.Xor.{xor-below-none, xor-below-cong, xor-below-split, xor-below-length, xor-bytes-comm, length-xor, without-self, without-other}
 use Rattle.tables.specs.meaning.Placement.{stripeOf, stripeLength, address}
-use Rattle.tables.specs.laws.Placement.{unit-row-lt}
+use Rattle.tables.specs.laws.Placement.{unit-row-lt, address-sum, stripe-rest}
 use Rattle.volume.specs.meaning.Content.{rowXor, rowXorBelow}
 
 -- rows past the fill hold nothing
 pub row-xor-none : (D U : ℕ) (S : ℕ → List ℕ) (s end r : ℕ) → end ≤ s * stripeLength D U + r → rowXorBelow D U S s end r ≡ []
-unfolding rowXorBelow address
-row-xor-none D U S s end r h = xor-below-none (λ k. pick (ltb (s * stripeLength D U + (k * U + r)) end) (S (s * stripeLength D U + (k * U + r))) []) (D - 1) (λ k l. rw (le-ltb (s * stripeLength D U + (k * U + r)) end (omega arith)) refl)
+unfolding rowXorBelow
+row-xor-none D U S s end r h = xor-below-none (λ k. pick (ltb (address D U s k r) end) (S (address D U s k r)) []) (D - 1) (λ k l. rw (le-ltb (address D U s k r) end (omega (arith, address-sum D U s k r))) refl)
 
 pub row-xor-below-cong : (D U : ℕ) (S S′ : ℕ → List ℕ) (s end r : ℕ) → ((a : ℕ) → a < end → S a ≡ S′ a) → rowXorBelow D U S s end r ≡ rowXorBelow D U S′ s end r
 unfolding rowXorBelow
@@ -54,7 +53,7 @@ pub row-long : (g : Geometry) → Valid g → (S : ℕ → List ℕ) (s e r : �
     → ((k : ℕ) → k + 1 < g .drives → address (g .drives) (g .unit) s k r < e → length (S (address (g .drives) (g .unit) s k r)) ≡ g .sector) → length (rowXorBelow (g .drives) (g .unit) S s e r) ≡ g .sector
 unfolding rowXorBelow
 row-long g ok S s e r hr h size =
-    let l : address (g .drives) (g .unit) s 0 r < e = (unfold address in omega arith) in
+    let l : address (g .drives) (g .unit) s 0 r < e = omega (arith, address-sum (g .drives) (g .unit) s 0 r) in
     xor-below-full (g .sector) (λ k. pick (ltb (address (g .drives) (g .unit) s k r) e) (S (address (g .drives) (g .unit) s k r)) []) (g .drives - 1) 0 (omega (arith, ok .drives-least))
     (rw (lt-ltb (address (g .drives) (g .unit) s 0 r) e l) (size 0 (omega (arith, ok .drives-least)) l))
     (λ k hk. row-short (g .sector) (g .drives) (g .unit) S s e r k (λ q. size k (omega arith) q))
@@ -64,10 +63,9 @@ pub row-complete : (D U : ℕ) → 1 < D → (S : ℕ → List ℕ) (s end r : �
 unfolding rowXorBelow rowXor
 row-complete D U hD S s end r hU hr most =
     xor-below-cong (λ k. pick (ltb (address D U s k r) end) (S (address D U s k r)) []) (λ k. S (address D U s k r)) (D - 1) (λ k h.
-    let l : address D U s k r < end = (unfold address in omega (arith, most, unit-row-lt D U 0 hD hU k r (omega arith) hr)) in
+    let l : address D U s k r < end = omega (arith, most, unit-row-lt D U 0 hD hU k r (omega arith) hr, address-sum D U s k r) in
     rw (lt-ltb (address D U s k r) end l) refl)
 
 -- ---- stripes: the address after a stripe's last begins the next one
 pub stripe-last : (g : Geometry) (a : ℕ) → suc (a % stripeSectors g) ≡ stripeSectors g → suc a ≡ suc (stripeOf (g .drives) (g .unit) a) * stripeSectors g
-unfolding stripeOf
-stripe-last g a h = omega (arith, div-add-mod' a (stripeSectors g))
+stripe-last g a h = omega (arith, stripe-rest (g .drives) (g .unit) a)

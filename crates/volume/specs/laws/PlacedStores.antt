@@ -14,7 +14,7 @@ use Rattle.tables.specs.meaning.Basics.{pick}
 use Rattle.tables.specs.meaning.Below.{eachBelow, tabulateFrom}
 use Rattle.tables.specs.meaning.Geometry.{Valid, stripeSectors, physicalZones, dataZone}
 use Rattle.tables.specs.meaning.Placement.{stripeOf, stripeLength, parityDrive, address}
-use Rattle.tables.specs.laws.Placement.{drive-below, parity-drive-below, unit-row-lt, stripe-below, stripe-above}
+use Rattle.tables.specs.laws.Placement.{drive-below, parity-drive-below, unit-row-lt, stripe-below, stripe-above, address-sum}
 use Rattle.tables.specs.meaning.Device.{Store, reset, storeDrive}
 use Rattle.tables.specs.meaning.Phases.{onPresent}
 use Rattle.tables.specs.laws.Phases.{each-on-present}
@@ -112,12 +112,12 @@ module _ (g : Geometry) (ok : Valid g) (present : ℕ → Bool) (z : ℕ) (hz : 
   full-row-long s r reach here hr h =
       let first : s * stripeSectors g + r < suc s * stripeSectors g = omega (arith, unit-row-lt D U 0 hD (ok .unit-least) 0 r (omega arith) hr) in
       rw (← row-complete D U hD S s (suc s * stripeSectors g) r (ok .unit-least) hr (le-refl (suc s * stripeSectors g)))
-      (row-long g ok S s (suc s * stripeSectors g) r hr first (λ j hj l. stripe-long s reach here (address D U s j r) (unfold address in omega arith) (omega arith)))
+      (row-long g ok S s (suc s * stripeSectors g) r hr first (λ j hj l. stripe-long s reach here (address D U s j r) (omega (arith, address-sum D U s j r)) (omega arith)))
 
   entry-row-long : (r : ℕ) → present (parityDriveAt g z (n + k)) ≡ true → r < min (fillOf g (n + k)) U → length (rowXorBelow D U S (stripeOf D U (n + k)) (n + k) r) ≡ g .sector
   entry-row-long r here hr =
       let s = stripeOf D U (n + k) in
-      row-long g ok S s (n + k) r (omega arith) (omega arith) (λ j hj l. stripe-long s (omega (arith, stripe-above D U z hD (ok .unit-least) (n + k))) here (address D U s j r) (unfold address in omega arith) l)
+      row-long g ok S s (n + k) r (omega arith) (omega arith) (λ j hj l. stripe-long s (omega (arith, stripe-above D U z hD (ok .unit-least) (n + k))) here (address D U s j r) (omega (arith, address-sum D U s j r)) l)
 
   placed-parity : (s : ℕ) → n < s * stripeSectors g + stripeSectors g → suc s * stripeSectors g ≤ n + k → PlacedOn g present (parityStores D U z S s)
   placed-parity s reach h =

@@ -17,8 +17,8 @@ use Rattle.tables.specs.meaning.Below.{allBelow}
 use Rattle.tables.specs.laws.Below.{all-below-all, any-below-false, none-any-below, getD-tabulate}
 use Rattle.tables.specs.meaning.Geometry.{Valid, physicalZones, stripeSectors, zoneSectors, dataZone}
 use Rattle.tables.specs.laws.Sizes.{stripe-small, zone-small}
-use Rattle.tables.specs.meaning.Placement.{driveOf, sectorOf, unitIndex, rowIndex, stripeOf, address}
-use Rattle.tables.specs.laws.Placement.{drive-below, parity-drive-below, unit-drive-below, unit-row-lt, row-index-below}
+use Rattle.tables.specs.meaning.Placement.{driveOf, sectorOf, unitIndex, rowIndex, stripeOf}
+use Rattle.tables.specs.laws.Placement.{drive-below, parity-drive-below, unit-drive-below, unit-row-lt, row-index-below, stripe-rest, address-sum}
 use Rattle.tables.specs.meaning.Device.{Device, blankZone}
 use Rattle.tables.specs.meaning.Tables.{tablesOf, deviceOf, zoneAtCell, cell, sectorAt}
 use Rattle.tables.specs.laws.Tables.{device-sectors, device-pointer}
@@ -103,10 +103,10 @@ least-failing ok f m e (suc n) = go (ok n) (least-failing ok f m e n)
 
 -- ---- numbers of a row
 pub stripe-end-small : (g : Geometry) (a : ℕ) → Valid g → a < zoneSectors g → (stripeOf (g .drives) (g .unit) a * stripeSectors g ≤ a) × (a < stripeEnd g a) × (stripeEnd g a ≤ 458864)
-unfolding stripeEnd stripeOf
+unfolding stripeEnd
 stripe-end-small g a ok h =
     let k = stripe-small g ok in
-    let q = div-add-mod' a (stripeSectors g) in
+    let q = stripe-rest (g .drives) (g .unit) a in
     let r : a % stripeSectors g < stripeSectors g = mod-lt a (k .0) in
     (omega (arith, q), omega (arith, q, r), omega (arith, q, k .1, zone-small g ok .1))
 
@@ -115,10 +115,10 @@ unfolding stripeEnd
 stripe-end-is g a = refl
 
 pub row-address-below : (g : Geometry) (a k : ℕ) → Valid g → k < g .drives - 1 → rowAddress (g .drives) (g .unit) a k < stripeEnd g a
-unfolding stripeEnd address
+unfolding stripeEnd
 row-address-below g a k ok h =
     let l = unit-row-lt (g .drives) (g .unit) zero (omega (arith, ok .drives-least)) (ok .unit-least) k (rowIndex (g .drives) (g .unit) a) (omega arith) (row-index-below (g .drives) (g .unit) zero (omega (arith, ok .drives-least)) (ok .unit-least) a) in
-    omega (arith, l)
+    omega (arith, l, address-sum (g .drives) (g .unit) (stripeOf (g .drives) (g .unit) a) k (rowIndex (g .drives) (g .unit) a))
 
 -- the numbers of which the code makes a row's addresses (n: the stripe's sectors)
 pub row-small : (g : Geometry) (a k n : ℕ) → Valid g → a < zoneSectors g → k < g .drives → (a / n * n ≤ 458752) × (k * g .unit ≤ 112) × (a % n % g .unit ≤ 16)

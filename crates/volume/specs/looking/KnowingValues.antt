@@ -2,8 +2,7 @@
 use mathlib.Core.Path.{_≡_, refl, sym, ap, ap₂, _∙_}
 use mathlib.Core.Logic.{_≢_, _⊎_, inl, inr}
 use mathlib.Core.Bool.{Bool, true, false, _&&_, _||_, true≢false}
-use Prim.Native.Nat.{ℕ, zero, suc, _+_, _-_, _*_, _/_, _≤_, _<_, min}
-use native.Mathlib.Nat.{div-lt-iff-lt-mul}
+use Prim.Native.Nat.{ℕ, zero, suc, _+_, _-_, _*_, _≤_, _<_, min}
 use native.Mathlib.Omega.{arith}
 use mathlib.Core.List.{List, []}
 use lib.ListN.{length, getD, drop, length-drop}
@@ -16,9 +15,9 @@ use Rattle.tables.specs.meaning.Basics.{pick}
 use Rattle.tables.specs.laws.Basics.{and-split}
 use Rattle.tables.specs.laws.Below.{getD-tabulate, length-tabulate}
 use Rattle.tables.specs.meaning.Geometry.{Valid, stripeSectors, zoneSectors, physicalZones, totalBytes, dataZone}
-use Rattle.tables.specs.meaning.Placement.{sectorOf, unitIndex, rowIndex, stripeOf, stripeLength, driveOf}
-use Rattle.tables.specs.laws.Placement.{row-index-below, address-parts, drive-below}
-use Rattle.tables.specs.laws.Sizes.{stripe-small}
+use Rattle.tables.specs.meaning.Placement.{sectorOf, unitIndex, rowIndex, stripeOf, driveOf}
+use Rattle.tables.specs.laws.Placement.{row-index-below, address-parts, drive-below, sector-sum, stripe-lt}
+use Rattle.tables.specs.laws.Sizes.{zone-stripes}
 use Rattle.tables.specs.meaning.Tables.{cell, sectorAt}
 use Rattle.tables.specs.laws.Tables.{sector-in}
 use Rattle.tables.specs.meaning.Xor.{xorBytes, xorBelow, without}
@@ -42,12 +41,11 @@ use Rattle.volume.specs.declared.knowing.Source.the-variants as way
 -- ---- places and lengths
 -- a zone's sectors lie within its physical zones
 pub sector-within : (g : Geometry) (a : ℕ) → Valid g → a < zoneSectors g → sectorOf (g .drives) (g .unit) a < g .capacity
-unfolding sectorOf stripeOf zoneSectors stripeLength
 sector-within g a ok h =
-    let e : zoneSectors g ≡ ok .units * stripeSectors g = rw (ok .whole-units) (omega arith) in
-    let l : a < ok .units * stripeSectors g = omega (arith, e, h) in
-    let m : a / stripeSectors g < ok .units = div-lt-iff-lt-mul (stripe-small g ok .0) .1 l in
-    rw (ok .whole-units) (digits-lt m (row-index-below (g .drives) (g .unit) zero (omega (arith, ok .drives-least)) (ok .unit-least) a))
+    let two : 1 < g .drives = omega (arith, ok .drives-least) in
+    let l : a < ok .units * stripeSectors g = omega (arith, zone-stripes g ok, h) in
+    let m : stripeOf (g .drives) (g .unit) a < ok .units = stripe-lt (g .drives) (g .unit) zero two (ok .unit-least) (ok .units) a .0 l in
+    rw (sector-sum (g .drives) (g .unit) a, ok .whole-units) (digits-lt m (row-index-below (g .drives) (g .unit) zero two (ok .unit-least) a))
 
 pub sector-long : (g : Geometry) (xs : List ℕ) (d y i : ℕ) → length xs ≡ totalBytes g → d < g .drives → y < physicalZones g → i < g .capacity → length (sectorAt g xs d y i) ≡ g .sector
 sector-long g xs d y i e hd hy hi = length-take-le (g .sector) (drop ((cell g d y * g .capacity + i) * g .sector) xs) (rw (length-drop, e) (omega (arith, sector-in g d y i hd hy hi)))

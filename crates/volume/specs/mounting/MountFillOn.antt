@@ -4,7 +4,7 @@ use mathlib.Core.Path.{_≡_, refl, sym, ap, _∙_}
 use mathlib.Core.Logic.{_≢_}
 use mathlib.Core.Bool.{Bool, true, false}
 use Prim.Native.Nat.{ℕ, zero, _+_, _-_, _*_, _/_, _%_, _≤_, _<_}
-use native.Mathlib.Nat.{mod-lt, div-add-mod', zero-mod, zero-div}
+use native.Mathlib.Nat.{mod-lt, div-add-mod'}
 use native.Mathlib.Decide.{ℕ-discrete, decLt}
 use native.Mathlib.Omega.{arith}
 use mathlib.Core.List.{List, []}
@@ -17,7 +17,7 @@ use Rattle.tables.specs.meaning.Below.{eachBelow, tabulateFrom}
 use Rattle.tables.specs.meaning.Geometry.{Valid, dataZone}
 use Rattle.tables.specs.laws.Xor.{xor-below-cong}
 use Rattle.tables.specs.meaning.Placement.{needed, stripeOf, stripeLength, parityDrive, address, addressAt, driveOf, sectorOf}
-use Rattle.tables.specs.laws.Placement.{needed-iff, needed-parity, needed-start, complete-lt, place-onto}
+use Rattle.tables.specs.laws.Placement.{needed-iff, needed-parity, needed-zero, complete-lt, place-onto, address-sum}
 use Rattle.tables.specs.meaning.Device.{Device, Store}
 use Rattle.tables.specs.meaning.Phases.{onPresent}
 use Rattle.volume.specs.declared.Look.{Look}
@@ -85,8 +85,7 @@ module _ (D U z : ℕ) (hD : 1 < D) (hU : zero < U) where
       needed-parity D U z hD hU n (x / U) (x % U) (mod-lt x hU) .0 l
 
   pub parity-first : (n s r : ℕ) → s < stripeOf D U n → r < U → s * stripeLength D U + r < n
-  unfolding address
-  parity-first n s r h hr = omega (arith, complete-lt D U z hD hU n s 0 r h (omega arith) hr)
+  parity-first n s r h hr = omega (arith, complete-lt D U z hD hU n s 0 r h (omega arith) hr, address-sum D U s 0 r)
 
   -- a data sector that is needed has its address below the pointer
   pub data-below : (n d x : ℕ) → d < D → x < needed D U z n d → d ≢ parityDrive D z (x / U) → addressAt D U z d x < n
@@ -94,11 +93,6 @@ module _ (D U z : ℕ) (hD : 1 < D) (hU : zero < U) where
       let (p, q) = place-onto D U z hD hU d x hd e in
       let l : sectorOf D U (addressAt D U z d x) < needed D U z n (driveOf D U z (addressAt D U z d x)) = rw (p, q) h in
       needed-iff D U z hD hU n (addressAt D U z d x) .0 l
-
-  -- pointer 0 needs nothing
-  pub needed-none : (d : ℕ) → needed D U z 0 d ≡ 0
-  unfolding stripeOf
-  needed-none d = needed-start D U z hD hU 0 d (zero-mod (stripeLength D U)) ∙ rw (zero-div (stripeLength D U)) (omega arith)
 
 -- each is one sector long
 pub content-long : (g : Geometry) (here : List Bool) (xs ps : List ℕ) (z generation limit end d x : ℕ) → Valid g → KnownBelow g here xs ps z generation limit end → d < g .drives → x < needed (g .drives) (g .unit) z end d
@@ -122,7 +116,7 @@ content-long g here xs ps z generation limit end d x ok k hd h = go (ℕ-discret
 module _ (g : Geometry) (here : List Bool) (k : Look) (ps xs ws : List ℕ) (ok : Valid g) (r : Filling g here k ps xs ws) where
   -- a zone of which something is needed is not reset
   pub filled-stays : (d z x : ℕ) → z < g .zones → x < needed (g .drives) (g .unit) z (zoneLook k z .pointer) d → stays k (dataZone z) ≡ true
-  filled-stays d z x hz h = pointed-stays g k z (r .logging .within) hz (λ e. let q : needed (g .drives) (g .unit) z (zoneLook k z .pointer) d ≡ 0 = rw e (needed-none (g .drives) (g .unit) z (omega (arith, ok .drives-least)) (ok .unit-least) d) in omega arith)
+  filled-stays d z x hz h = pointed-stays g k z (r .logging .within) hz (λ e. let q : needed (g .drives) (g .unit) z (zoneLook k z .pointer) d ≡ 0 = rw e (needed-zero (g .drives) (g .unit) z (omega (arith, ok .drives-least)) (ok .unit-least) d) in omega arith)
 
   pub fill-zone-in : (d z : ℕ) → d < g .drives → z < g .zones → StoresIn g (stays k) (fillZone g (shownAt g here k xs ps) (readDevice g xs ps) d z)
   fill-zone-in d z hd hz = go (decLt (length (readDevice g xs ps d (dataZone z) .sectors)) (needed (g .drives) (g .unit) z (zoneLook k z .pointer) d))

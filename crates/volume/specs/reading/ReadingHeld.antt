@@ -4,8 +4,7 @@
 use mathlib.Core.Path.{_≡_, refl, sym, ap, _∙_}
 use mathlib.Core.Logic.{_≢_}
 use mathlib.Core.Bool.{Bool, true, false, _||_, not, true≢false}
-use Prim.Native.Nat.{ℕ, _+_, _-_, _*_, _/_, _≤_, _<_}
-use native.Mathlib.Nat.{div-lt-iff-lt-mul}
+use Prim.Native.Nat.{ℕ, _+_, _-_, _*_, _≤_, _<_}
 use native.Mathlib.Omega.{arith}
 use mathlib.Core.List.{List}
 use lib.ListN.{getD}
@@ -17,9 +16,8 @@ use Rattle.tables.specs.laws.Basics.{and-join, or-left, or-right}
 use Rattle.tables.specs.meaning.Below.{allBelow, countBelow}
 use Rattle.tables.specs.laws.Below.{all-all-below, none-any-below, some-count-below, two-count-below}
 use Rattle.tables.specs.meaning.Geometry.{Valid, stripeSectors, zoneSectors, dataZone}
-use Rattle.tables.specs.laws.Sizes.{stripe-small}
 use Rattle.tables.specs.meaning.Placement.{needed, driveOf, sectorOf, stripeOf, unitIndex, rowIndex}
-use Rattle.tables.specs.laws.Placement.{unit-injective, unit-index-below, row-index-below, drive-below, drive-not-parity, address-drive, address-sector, needed-iff, needed-parity, complete-lt}
+use Rattle.tables.specs.laws.Placement.{unit-injective, unit-index-below, row-index-below, drive-below, drive-not-parity, address-drive, address-sector, needed-iff, needed-parity, complete-lt, stripe-lt, sector-sum, drive-of-unit}
 use Rattle.tables.specs.meaning.Tables.{cell}
 use Rattle.volume.specs.declared.knowing.Source.{Source}
 use Rattle.volume.specs.declared.knowing.Source.the-variants.{Unknown, Held, Row, Entry}
@@ -63,20 +61,18 @@ module _ (g : Geometry) (ok : Valid g) (here : List Bool) (ws : List ℕ) (z n :
 
   -- ---- in a complete stripe
   parity-held : (a : ℕ) → stripeOf (g .drives) (g .unit) a < stripeOf (g .drives) (g .unit) n → isSet here (parityOf (g .drives) (g .unit) z a) ≡ true → heldOn g here ws z (parityOf (g .drives) (g .unit) z a) (sectorOf (g .drives) (g .unit) a) ≡ true
-  unfolding sectorOf
   parity-held a l h =
       needed-held (parityOf (g .drives) (g .unit) z a) (sectorOf (g .drives) (g .unit) a) (parity-in g z a ok) h
-      (needed-parity (g .drives) (g .unit) z two-drives (ok .unit-least) n (stripeOf (g .drives) (g .unit) a) (rowIndex (g .drives) (g .unit) a) (row-index-below (g .drives) (g .unit) z two-drives (ok .unit-least) a) .1 l)
+      (rw (sector-sum (g .drives) (g .unit) a) (needed-parity (g .drives) (g .unit) z two-drives (ok .unit-least) n (stripeOf (g .drives) (g .unit) a) (rowIndex (g .drives) (g .unit) a) (row-index-below (g .drives) (g .unit) z two-drives (ok .unit-least) a) .1 l))
 
   unit-held : (a k : ℕ) → k + 1 < g .drives → stripeOf (g .drives) (g .unit) a < stripeOf (g .drives) (g .unit) n → isSet here (rowDrive (g .drives) (g .unit) z a k) ≡ true → heldOn g here ws z (rowDrive (g .drives) (g .unit) z a k) (sectorOf (g .drives) (g .unit) a) ≡ true
-  unfolding sectorOf
   unit-held a k hk l h =
       let s = stripeOf (g .drives) (g .unit) a in
       let i = rowIndex (g .drives) (g .unit) a in
       let hi = row-index-below (g .drives) (g .unit) z two-drives (ok .unit-least) a in
       let m = needed-iff (g .drives) (g .unit) z two-drives (ok .unit-least) n (rowAddress (g .drives) (g .unit) a k) .1 (complete-lt (g .drives) (g .unit) z two-drives (ok .unit-least) n s k i l hk hi) in
       needed-held (rowDrive (g .drives) (g .unit) z a k) (sectorOf (g .drives) (g .unit) a) (row-drive-in g z a k ok) h
-      (rw (address-drive (g .drives) (g .unit) z two-drives (ok .unit-least) s k i hk hi, address-sector (g .drives) (g .unit) z two-drives (ok .unit-least) s k i hk hi) at m)
+      (rw (address-drive (g .drives) (g .unit) z two-drives (ok .unit-least) s k i hk hi, address-sector (g .drives) (g .unit) z two-drives (ok .unit-least) s k i hk hi, ← sector-sum (g .drives) (g .unit) a) at m)
 
   -- one drive is absent: all others are present
   others-present : (d e : ℕ) → d < g .drives → e < g .drives → d ≢ e → isSet here d ≡ false → isSet here e ≡ true
@@ -87,7 +83,7 @@ module _ (g : Geometry) (ok : Valid g) (here : List Bool) (ws : List ℕ) (z n :
       go false q = absurd (omega (arith, r .one-absent, two-count-below (λ d. not (isSet here d)) (g .drives) d e hd he ne (ap not h) (ap not q)))
 
   complete-row : (a : ℕ) → stripeOf (g .drives) (g .unit) a < stripeOf (g .drives) (g .unit) n → isSet here (driveOf (g .drives) (g .unit) z a) ≡ false → rowComplete g here ws z a ≡ true
-  unfolding reachOf driveOf
+  unfolding reachOf
   complete-row a l h =
       let d = driveOf (g .drives) (g .unit) z a in
       let hd = drive-below (g .drives) (g .unit) z two-drives (ok .unit-least) a in
@@ -102,21 +98,21 @@ module _ (g : Geometry) (ok : Valid g) (here : List Bool) (ws : List ℕ) (z n :
       at k m false e =
           let hk : k + 1 < g .drives = omega arith in
           let ne : driveOf (g .drives) (g .unit) z a ≢ rowDrive (g .drives) (g .unit) z a k =
-          λ q. eqb-false k (unitIndex (g .drives) (g .unit) a) e (unit-injective (g .drives) (parityOf (g .drives) (g .unit) z a) (parity-in g z a ok) k (unitIndex (g .drives) (g .unit) a) hk (unit-index-below (g .drives) (g .unit) z two-drives (ok .unit-least) a) (sym q)) in
+          λ q. eqb-false k (unitIndex (g .drives) (g .unit) a) e (unit-injective (g .drives) (parityOf (g .drives) (g .unit) z a) (parity-in g z a ok) k (unitIndex (g .drives) (g .unit) a) hk (unit-index-below (g .drives) (g .unit) z two-drives (ok .unit-least) a) (sym q ∙ drive-of-unit (g .drives) (g .unit) z a)) in
           unit-held a k hk l (others-present (driveOf (g .drives) (g .unit) z a) (rowDrive (g .drives) (g .unit) z a k) (drive-below (g .drives) (g .unit) z two-drives (ok .unit-least) a) (row-drive-in g z a k ok) ne h)
 
   -- ---- WHERE NO LOG IS NEEDED
   pub known-directly : (end a : ℕ) → end ≤ n → needsLog g here n end ≡ false → a < end → directly g here ws z a ≡ true
-  unfolding needsLog stripeOf
+  unfolding needsLog
   known-directly end a le none l = go (isSet here (driveOf (g .drives) (g .unit) z a)) refl
     where
       go : (b : Bool) → isSet here (driveOf (g .drives) (g .unit) z a) ≡ b → directly g here ws z a ≡ true
       go true e = or-left (ownHeld g here ws z a) (rowComplete g here ws z a) (data-held a (omega (arith, l, le)) e)
       go false e =
           let c = some-count-below (λ d. not (isSet here d)) (g .drives) (driveOf (g .drives) (g .unit) z a) (drive-below (g .drives) (g .unit) z two-drives (ok .unit-least) a) (ap not e) in
-          let p = ltb-false (n / stripeSectors g * stripeSectors g) end (second-fails (ltb 0 (countBelow (λ d. not (isSet here d)) (g .drives))) (ltb (n / stripeSectors g * stripeSectors g) end) (lt-ltb 0 (countBelow (λ d. not (isSet here d)) (g .drives)) (omega (arith, c))) none) in
-          let m : a < n / stripeSectors g * stripeSectors g = omega (arith, p, l) in
-          or-right (ownHeld g here ws z a) (rowComplete g here ws z a) (complete-row a (div-lt-iff-lt-mul (stripe-small g ok .0) .1 m) e)
+          let p = ltb-false (stripeOf (g .drives) (g .unit) n * stripeSectors g) end (second-fails (ltb 0 (countBelow (λ d. not (isSet here d)) (g .drives))) (ltb (stripeOf (g .drives) (g .unit) n * stripeSectors g) end) (lt-ltb 0 (countBelow (λ d. not (isSet here d)) (g .drives)) (omega (arith, c))) none) in
+          let m : a < stripeOf (g .drives) (g .unit) n * stripeSectors g = omega (arith, p, l) in
+          or-right (ownHeld g here ws z a) (rowComplete g here ws z a) (complete-row a (stripe-lt (g .drives) (g .unit) z two-drives (ok .unit-least) (stripeOf (g .drives) (g .unit) n) a .0 m) e)
 
 -- what is known without a log is found by the same way under every limit
 pub direct-way : (g : Geometry) (here : List Bool) (xs ws : List ℕ) (z generation a limit other : ℕ) → directly g here ws z a ≡ true → sourceOf g here xs ws z generation limit a ≡ sourceOf g here xs ws z generation other a

@@ -19,6 +19,7 @@ use Rattle.tables.specs.laws.Xor.{xor-nil, length-xor}
 use Rattle.tables.specs.meaning.Geometry.{Valid, physicalZones, cells, totalBytes, stripeSectors, zoneSectors, dataZone}
 use Rattle.tables.specs.meaning.Device.{Device, Store}
 use Rattle.tables.specs.meaning.Placement.{driveOf, sectorOf, address}
+use Rattle.tables.specs.laws.Placement.{address-sum}
 use Rattle.tables.specs.meaning.Tables.{tablesOf, cell, byteAt, sectorNo}
 use Rattle.tables.specs.laws.Made.{MadeAppends}
 use Rattle.tables.specs.laws.Tables.{sector-in}
@@ -158,8 +159,7 @@ module _ (k : Extent) (ok : Valid (k .geometry)) (xs ps buffer : List ℕ) (s r 
   v = readDevice (k .geometry) xs ps
 
   row-address-from : (j : ℕ) → s * stripeSectors (k .geometry) ≤ address (k .geometry .drives) (k .geometry .unit) s j r
-  unfolding address
-  row-address-from j = omega arith
+  row-address-from j = omega (arith, address-sum (k .geometry .drives) (k .geometry .unit) s j r)
 
   pub built-end : k .end ≤ zoneSectors (k .geometry)
   built-end = m .member (s * stripeSectors (k .geometry)) (le-refl (s * stripeSectors (k .geometry))) .end-most
@@ -171,8 +171,7 @@ module _ (k : Extent) (ok : Valid (k .geometry)) (xs ps buffer : List ℕ) (s r 
   member-in j h = member-long k xs ps buffer (address (g .drives) (g .unit) s j r) (m .member (address (g .drives) (g .unit) s j r) (row-address-from j)) ok h
 
   first-in : address (g .drives) (g .unit) s 0 r < k .end
-  unfolding address
-  first-in = omega (arith, first)
+  first-in = omega (arith, first, address-sum (g .drives) (g .unit) s 0 r)
 
   members-long : (j : ℕ) → 0 < j → length (xorBelow (rowMember k v buffer s r) j) ≡ g .sector
   members-long j h = xor-below-full (g .sector) (rowMember k v buffer s r) j 0 h (rw (lt-ltb (address (g .drives) (g .unit) s 0 r) (k .end) first-in) (member-in 0 first-in)) (λ i l. short i (ltb (address (g .drives) (g .unit) s i r) (k .end)) refl)
@@ -228,7 +227,7 @@ module _ (k : Extent) (t : Target) (xs ws ps buffer : List ℕ) (s : ℕ) (ready
       → length (rowXorBelow (k .geometry .drives) (k .geometry .unit) (contentOf k (readDevice (k .geometry) xs ps) buffer) s (k .end) r) ≡ k .geometry .sector
   ready-long ok r hr h p =
       row-long (k .geometry) ok (contentOf k (readDevice (k .geometry) xs ps) buffer) s (k .end) r hr h
-      (λ j hj l. member-long k xs ps buffer (address (k .geometry .drives) (k .geometry .unit) s j r) (ready .stripe-known p .member (address (k .geometry .drives) (k .geometry .unit) s j r) (unfold address in omega arith)) ok l)
+      (λ j hj l. member-long k xs ps buffer (address (k .geometry .drives) (k .geometry .unit) s j r) (ready .stripe-known p .member (address (k .geometry .drives) (k .geometry .unit) s j r) (omega (arith, address-sum (k .geometry .drives) (k .geometry .unit) s j r))) ok l)
 
   -- appends to that zone leave it so, and the content as it was
   pub ready-kept : (budget rest : ℕ) (ss : List Store) (xs′ ws′ : List ℕ) → StoresIn (k .geometry) (λ y. eqb y (t .zone)) ss → MadeAppends (k .geometry) budget rest ss xs ws xs′ ws′

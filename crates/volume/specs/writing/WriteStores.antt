@@ -21,7 +21,8 @@ use Rattle.tables.specs.meaning.Device.{Device, Store, append}
 use Rattle.tables.specs.meaning.Phases.{onPresent}
 use Rattle.tables.specs.laws.Phases.{on-present-append}
 use Rattle.tables.specs.meaning.Geometry.{Valid, physicalZones, cells, totalBytes, stripeSectors, zoneSectors, dataZone}
-use Rattle.tables.specs.meaning.Placement.{stripeOf, stripeLength, driveOf, parityDrive}
+use Rattle.tables.specs.meaning.Placement.{stripeOf, driveOf, parityDrive}
+use Rattle.tables.specs.laws.Sizes.{unit-in-stripe}
 use Rattle.tables.specs.laws.Placement.{stripe-pos, stripe-below, stripe-above, drive-below, parity-drive-below}
 use Rattle.tables.specs.meaning.Tables.{tablesOf, sectorNo}
 use Rattle.tables.specs.laws.Made.{MadeAppends, storeIf}
@@ -64,11 +65,6 @@ pub content-is : (g : Geometry) (here : List Bool) (v : Device) (z generation li
     → contentOf (extentOf g here z generation limit n count) v buffer ≡ runContent g (isSet here) v z generation n (sectorsIn g count buffer)
 unfolding contentOf runContent
 content-is g here v z generation limit n count buffer l = fun-ext λ a. ap (pick (ltb a n) (valueAt g (isSet here) v z generation a)) (buffer-sector g count (a - n) buffer l)
-
--- ---- a unit is no longer than its stripe
-pub unit-in-stripe : (g : Geometry) → Valid g → g .unit ≤ stripeSectors g
-unfolding stripeLength
-unit-in-stripe g ok = let q : 1 ≤ g .drives - 1 = omega (arith, ok .drives-least) in omega (arith, mul-le-mul-right (g .unit) q)
 
 -- ---- the stores of a run, by its last address
 pub data-snoc : (D U z : ℕ) (S : ℕ → List ℕ) (a k : ℕ) → dataStores D U z S a (suc k) ≡ dataStores D U z S a k ++ sectorStores D U z S (a + k)

@@ -1,6 +1,8 @@
+use Prim.Native.Nat.{_-_, _*_}
+use mathlib.Core.Path.{sym}
 use native.Mathlib.Omega.{arith}
 use Rattle.tables.specs.laws.Sizes.{striped}
-use Rattle.tables.specs.meaning.Placement.{stripeOf, stripeLength}
+use Rattle.tables.specs.laws.Placement.{stripe-length, stripe-quotient}
 use borrow.Author.Needs.{needs}
 use Rattle.volume.proofs.knowing.parity_of.Statement.{statement}
 use Rattle.volume.proofs.knowing.parity_of.Tie as tie
@@ -20,8 +22,7 @@ parity-drive-requires c κs =
     (omega (arith, p .0 .drives-least), p .0 .drives-most, omega (arith, p .0 .zones-most, p .1 .0), striped (c .args .g) (c .args .a) (p .0) (omega (arith, p .1 .1)) .stripes)
 
 returns : tie.Need-returns
-unfolding stripeOf stripeLength
-returns c = c .parity-drive .ensures
+returns c = let g = c .before .args .g in rw (stripe-quotient (g .drives) (g .unit) (c .before .args .a) ((g .drives - 1) * g .unit) (sym (stripe-length (g .drives) (g .unit)))) at (c .parity-drive .ensures)
 
 pub parity-of-spec : {M : Type 1} → statement M
 parity-of-spec = tie.close (tie.spec sub-k mul-k div-parity-drive parity-drive-requires returns)

@@ -1,8 +1,9 @@
-use mathlib.Core.Path.{_≡_, refl, ap, ap₂, _∙_}
+use mathlib.Core.Path.{_≡_, ap, ap₂, _∙_}
 use Prim.Native.Nat.{ℕ, _+_, _%_}
 use native.Mathlib.Omega.{arith}
 use denote.Ref.{now}
 use Rattle.tables.specs.meaning.Placement.{rowIndex}
+use Rattle.tables.specs.laws.Placement.{row-remainder}
 use Rattle.tables.specs.meaning.Tables.{sectorAt}
 use Rattle.tables.specs.meaning.Xor.{xorBytes}
 use Rattle.logs.specs.meaning.Entry.{parityZone}
@@ -19,8 +20,7 @@ entry-end-requires c κs =
     (s .pre .0, (c .parity-of .ensures .1, s .pre .1 .2, w .0, omega (arith, w .1), rw (c .parity-of .ensures .0) (w .2)))
 
 row : (c : tie.After-stripe-sectors) → c .before .before .before .before .before .args .a % c .stripe-sectors .result % c .before .before .before .before .before .args .g .unit ≡ rowIndex (c .before .before .before .before .before .args .g .drives) (c .before .before .before .before .before .args .g .unit) (c .before .before .before .before .before .args .a)
-unfolding rowIndex
-row c = rw (c .stripe-sectors .ensures .0) refl
+row c = let a = c .before .before .before .before .before .args in row-remainder (a .g .drives) (a .g .unit) (a .a) (c .stripe-sectors .result) (c .stripe-sectors .ensures .0)
 
 add-rebuild : tie.Need-add-rebuild
 add-rebuild c = let s = c .before .before .before .before .before in omega (arith, row c, s .pre .1 .4 .1, s .pre .0 .zone-most)

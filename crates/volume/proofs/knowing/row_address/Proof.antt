@@ -1,6 +1,7 @@
 use mathlib.Core.Path.{refl}
 use native.Mathlib.Omega.{arith}
-use Rattle.tables.specs.meaning.Placement.{address, stripeOf, rowIndex}
+use Rattle.tables.specs.meaning.Placement.{stripeOf, rowIndex}
+use Rattle.tables.specs.laws.Placement.{stripe-begin, row-remainder, address-sum}
 use Rattle.volume.specs.looking.KnowingLaws.{row-small}
 use borrow.Author.Needs.{needs}
 use Rattle.volume.proofs.knowing.row_address.Statement.{statement}
@@ -31,8 +32,12 @@ add-result-2 c =
     omega (arith, m .0, m .1, m .2)
 
 returns : tie.Need-returns
-unfolding address stripeOf rowIndex
-returns c = rw (c .stripe-sectors .ensures .0) refl
+returns c =
+    let a = c .before .args in
+    let D = a .g .drives in
+    let U = a .g .unit in
+    let k = c .stripe-sectors in
+    rw (stripe-begin D U (a .a) (k .result) (k .ensures .0), row-remainder D U (a .a) (k .result) (k .ensures .0), address-sum D U (stripeOf D U (a .a)) (a .k) (rowIndex D U (a .a))) refl
 
 pub row-address-spec : {M : Type 1} → statement M
 row-address-spec =

@@ -1,6 +1,5 @@
-use Prim.Native.Nat.{ℕ, _+_, _-_, _*_, _/_, _≤_, min}
+use Prim.Native.Nat.{ℕ, _+_, _-_, _*_, _/_, _≤_}
 use mathlib.Core.Path.{_≡_, sym, subst}
-use mathlib.Core.Bool.{true}
 use mathlib.Core.List.{List, [], _∷_}
 use native.Mathlib.Nat.{div-add-mod'}
 use native.Mathlib.Omega.{arith}
@@ -9,12 +8,12 @@ use Rattle.tables.specs.meaning.Geometry.{stripeSectors}
 use Rattle.tables.specs.meaning.Placement.{stripeOf}
 use Rattle.tables.specs.meaning.Device.{Store, append}
 use Rattle.tables.specs.laws.Made.{MadeAppends}
+use Rattle.tables.specs.laws.Placement.{stripe-quotient, stripe-begin, stripe-rest}
 use Rattle.tables.specs.laws.Sizes.{zone-small}
 use Rattle.logs.specs.meaning.Entry.{parityZone, encode}
-use Rattle.volume.specs.meaning.Content.{rowXorBelow, fillOf, entryHeader}
+use Rattle.volume.specs.meaning.Content.{fillOf, entryHeader}
 use Rattle.volume.specs.laws.CallContracts.{appends-append}
 use Rattle.volume.specs.looking.Knowing.{readDevice}
-use Rattle.volume.specs.rows.RowStores.{rowsIf}
 use Rattle.volume.specs.mounting.MountLook.{zoneLook, stays, log-stays}
 use Rattle.volume.specs.mounting.MountRows.{valuesOf}
 use Rattle.volume.specs.mounting.MountRestoring.{Filling, filled}
@@ -57,8 +56,12 @@ abbrev to-start : tie.After-append-partial → tie.Start
 to-start c = c .before .before .before .before .before .before .before .before .before .before .before
 
 headed : (c : tie.After-append-partial) → let a = to-start c .args in let f = c .append-partial in MadeAppends (a .basis .geometry) (a .budget) (f .result) (header (to-start c)) (now (a .sectors)) (now (a .written)) (f .last .0) (f .last .1 .0)
-unfolding stripeOf
-headed c = rw (c .before .before .before .stripe-sectors .ensures .0) at (c .append-partial .ensures)
+headed c =
+    let n = c .before .before .before .stripe-sectors in
+    let a = to-start c .args in
+    let g = a .basis .geometry in
+    let p = zoneLook (a .basis .look) (a .z) .pointer in
+    rw (stripe-begin (g .drives) (g .unit) p (n .result) (n .ensures .0), stripe-quotient (g .drives) (g .unit) p (n .result) (n .ensures .0)) at (c .append-partial .ensures)
 
 -- what it has left alone
 kept : (c : tie.After-append-partial) → let a = to-start c .args in let b = a .basis in let f = c .append-partial in
@@ -82,7 +85,6 @@ append-entry-rows-requires c κs =
 -- the rows, as they are meant
 rows : (c : tie.After-append-entry-rows) → let s = c .before .before .before .before .before .before .before .before .before .before .before .before .before .before .before .before .before .before in let a = s .args in let b = a .basis in let f = c .before .before .before .before .before .before .before .append-partial in let r = c .append-entry-rows in
     MadeAppends (b .geometry) (f .result) (r .result) (entryRows (b .geometry) (values s) (a .drive) (zoneLook (b .look) (a .z) .pointer)) (f .last .0) (f .last .1 .0) (r .last .0) (r .last .1 .0)
-unfolding stripeOf
 rows c =
     let s = c .before .before .before .before .before .before .before .before .before .before .before .before .before .before .before .before .before .before in
     let a = s .args in
@@ -91,12 +93,11 @@ rows c =
     let f = at .append-partial in
     let r = c .append-entry-rows in
     let p = zoneLook (b .look) (a .z) .pointer in
-    let K = stripeSectors (b .geometry) in
-    let e : p / K * K + (p - p / K * K) ≡ p = omega (arith, div-add-mod' p K) in
-    rw e at (
-    subst (λ (k : ℕ). MadeAppends (b .geometry) (f .result) (r .result) (rowsIf true (a .drive) parityZone (rowXorBelow (b .geometry .drives) (b .geometry .unit) (values s) (p / k) (p / k * K + (p - p / k * k))) 0 (min (p - p / k * k) (b .geometry .unit))) (f .last .0) (f .last .1 .0) (r .last .0) (r .last .1 .0))
-    (c .before .before .before .before .before .before .before .before .before .before .stripe-sectors .ensures .0) (rw (kept at .1) at (r .ensures))
-    )
+    let g = b .geometry in
+    let n = c .before .before .before .before .before .before .before .before .before .before .stripe-sectors in
+    let start = stripeOf (g .drives) (g .unit) p * stripeSectors g in
+    let e : start + (p - start) ≡ p = omega (arith, stripe-rest (g .drives) (g .unit) p) in
+    rw (stripe-begin (g .drives) (g .unit) p (n .result) (n .ensures .0), stripe-quotient (g .drives) (g .unit) p (n .result) (n .ensures .0), e) at (rw (kept at .1) at (r .ensures))
 
 returns : tie.Need-returns
 returns c =

@@ -5,7 +5,8 @@ use native.Mathlib.Numerals.{add-one}
 use native.Mathlib.Omega.{arith}
 use lib.ListN.{length}
 use denote.Ref.{now}
-use Rattle.tables.specs.meaning.Placement.{stripeLength, address}
+use Rattle.tables.specs.meaning.Placement.{address}
+use Rattle.tables.specs.laws.Placement.{stripe-length, address-sum}
 use Rattle.tables.specs.laws.Sizes.{stripe-small, zone-small}
 use Rattle.volume.specs.looking.Knowing.{readDevice}
 use Rattle.volume.specs.rows.RowsInPlace.{rowLaid, rowMember, members-are, built-end, built-member, built-more, built-all}
@@ -21,18 +22,16 @@ abbrev μ-loop : tie.MeasureT-loop
 
 -- where the row begins
 start-small : (s : tie.Start Inv-loop μ-loop) → s .args .s * ((s .args .known .geometry .drives - 1) * s .args .known .geometry .unit) + s .args .r < 458753
-unfolding stripeLength
 start-small s =
     let a = s .args in
-    let h : a .s * ((a .known .geometry .drives - 1) * a .known .geometry .unit) + a .r < a .known .end = s .pre .1 .1 in
+    let h : a .s * ((a .known .geometry .drives - 1) * a .known .geometry .unit) + a .r < a .known .end = rw (stripe-length (a .known .geometry .drives) (a .known .geometry .unit)) at (s .pre .1 .1) in
     omega (arith, h, built-end (a .known) (s .pre .0) (now (a .sectors)) (now (a .pointers)) (now (a .buffer)) (a .s) (a .r) (a .to) (s .pre .1 .0) (s .pre .1 .1) (s .pre .1 .2), zone-small (a .known .geometry) (s .pre .0) .1)
 
 mul-start : tie.Need-mul-start Inv-loop μ-loop
-unfolding stripeLength
 mul-start c =
     let s = c .before .before .before .before in
     let g = s .args .known .geometry in
-    let h : (g .drives - 1) * g .unit ≤ 112 = stripe-small g (s .pre .0) .1 in
+    let h : (g .drives - 1) * g .unit ≤ 112 = rw (stripe-length (g .drives) (g .unit)) at (stripe-small g (s .pre .0) .1) in
     omega arith
 
 -- a unit's place in the stripe
@@ -48,8 +47,11 @@ unit-small c =
 -- the address of its sector
 address-is : (c : tie.After-put-member-arg Inv-loop μ-loop) → let a = to-start c .args in
     a .s * ((a .known .geometry .drives - 1) * a .known .geometry .unit) + a .r + c .before .before .loop .k * a .known .geometry .unit ≡ address (a .known .geometry .drives) (a .known .geometry .unit) (a .s) (c .before .before .loop .k) (a .r)
-unfolding address stripeLength
-address-is c = omega arith
+address-is c =
+    let a = to-start c .args in
+    let D = a .known .geometry .drives in
+    let U = a .known .geometry .unit in
+    rw (address-sum D U (a .s) (c .before .before .loop .k) (a .r), stripe-length D U) (omega arith)
 
 put-member-requires : tie.Need-put-member-requires Inv-loop μ-loop
 put-member-requires c κs =

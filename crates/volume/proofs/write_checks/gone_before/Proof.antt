@@ -5,10 +5,11 @@ use native.Mathlib.Omega.{arith}
 use lib.ListN.{getD}
 use denote.Ref.{now}
 use borrow.Author.Needs.{needs}
-use Rattle.tables.specs.meaning.Geometry.{zoneSectors}
+use Rattle.tables.specs.meaning.Geometry.{stripeSectors, zoneSectors}
 use Rattle.tables.specs.meaning.Placement.{stripeOf}
 use Rattle.volume.specs.meaning.CallContracts.{isSet}
 use Rattle.volume.specs.looking.KnowingLaws.{held-none-gone}
+use Rattle.tables.specs.laws.Placement.{stripe-quotient, stripe-begin}
 use Rattle.tables.specs.laws.Sizes.{stripes-most, zone-small}
 use native.Mathlib.Nat.{div-add-mod'}
 use borrow.Author.Tests.{not-true, not-false}
@@ -17,15 +18,20 @@ use Rattle.volume.specs.meaning.Refusals.{goneBefore}
 use Rattle.volume.proofs.write_checks.gone_before.Statement.{statement}
 use Rattle.volume.proofs.write_checks.gone_before.Tie as tie
 
+-- the start of the pointer's stripe, and the stripe, as they are computed
+start-is : (c : tie.After-stripe-sectors) → let a = c .before .before .before .before .before .args in let g = a .zone .geometry in a .n / c .stripe-sectors .result * c .stripe-sectors .result ≡ stripeOf (g .drives) (g .unit) (a .n) * stripeSectors g
+start-is c = let a = c .before .before .before .before .before .args in stripe-begin (a .zone .geometry .drives) (a .zone .geometry .unit) (a .n) (c .stripe-sectors .result) (c .stripe-sectors .ensures .0)
+
+stripe-is : (c : tie.After-stripe-sectors) → let a = c .before .before .before .before .before .args in a .n / c .stripe-sectors .result ≡ stripeOf (a .zone .geometry .drives) (a .zone .geometry .unit) (a .n)
+stripe-is c = let a = c .before .before .before .before .before .args in stripe-quotient (a .zone .geometry .drives) (a .zone .geometry .unit) (a .n) (c .stripe-sectors .result) (c .stripe-sectors .ensures .0)
+
 parity-drive-requires : tie.Need-parity-drive-requires
-unfolding stripeOf
 parity-drive-requires c κs =
     let s = c .before .before .before .before .before in
-    (omega (arith, s .pre .0 .drives-least), s .pre .0 .drives-most, omega (arith, s .pre .1 .0 .zone-in, s .pre .0 .zones-most), rw (c .stripe-sectors .ensures .0) (omega (arith, stripes-most (s .args .zone .geometry) (s .args .n) (s .pre .0) (s .pre .1 .1), s .pre .0 .zone-most)))
+    (omega (arith, s .pre .0 .drives-least), s .pre .0 .drives-most, omega (arith, s .pre .1 .0 .zone-in, s .pre .0 .zones-most), rw (stripe-is c) (omega (arith, stripes-most (s .args .zone .geometry) (s .args .n) (s .pre .0) (s .pre .1 .1), s .pre .0 .zone-most)))
 
 drive-is : (c : tie.After-parity-drive) → c .parity-drive .result ≡ parityDriveAt (c .before .before .before .before .before .before .args .zone .geometry) (c .before .before .before .before .before .before .args .zone .number) (c .before .before .before .before .before .before .args .n)
-unfolding stripeOf
-drive-is c = c .parity-drive .ensures .0 ∙ rw (c .before .stripe-sectors .ensures .0) refl
+drive-is c = c .parity-drive .ensures .0 ∙ rw (stripe-is (c .before)) refl
 
 returns : tie.Need-returns
 unfolding goneBefore
@@ -53,18 +59,18 @@ all-held-requires : tie.Need-all-held-requires
 all-held-requires c κs = let s = c .before .before .before .before .before .before .before in (s .pre .0, (s .pre .1 .0 .zone-in, s .pre .1 .0 .written-long, omega (arith, earlier c)))
 
 returns-2 : tie.Need-returns-2
-unfolding goneBefore stripeOf
+unfolding goneBefore
 returns-2 c =
     let s = c .before .before .before .before .before .before .before .before .before in
     let a = s .args in
-    rw (here (c .before .before)) (sym (held-none-gone (a .zone .geometry) (a .zone .here) (now (a .sectors)) (now (a .written)) (a .zone .number) (s .pre .1 .0) (a .zone .generation) _ _ (s .pre .0) (rw (c .before .before .before .before .stripe-sectors .ensures .0) at (sym (c .before .all-held .ensures) ∙ c .if2 .taken))))
+    rw (here (c .before .before)) (sym (held-none-gone (a .zone .geometry) (a .zone .here) (now (a .sectors)) (now (a .written)) (a .zone .number) (s .pre .1 .0) (a .zone .generation) _ _ (s .pre .0) (rw (start-is (c .before .before .before .before)) at (sym (c .before .all-held .ensures) ∙ c .if2 .taken))))
 
 some-gone-requires : tie.Need-some-gone-requires
 some-gone-requires c κs = let s = c .before .before .before .before .before .before .before .before .before .before in (s .pre .0, (s .pre .1 .0, omega (arith, earlier (c .before .before .before)), c .seal-limit .ensures .0))
 
 returns-3 : tie.Need-returns-3
-unfolding goneBefore stripeOf
-returns-3 c = rw (here (c .before .before .before .before)) (c .some-gone .ensures ∙ rw (c .before .before .before .before .before .before .stripe-sectors .ensures .0) refl)
+unfolding goneBefore
+returns-3 c = rw (here (c .before .before .before .before)) (c .some-gone .ensures ∙ rw (start-is (c .before .before .before .before .before .before)) refl)
 
 pub gone-before-spec : {M : Type 1} → statement M
 gone-before-spec =

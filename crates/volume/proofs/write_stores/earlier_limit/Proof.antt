@@ -7,6 +7,7 @@ use denote.Ref.{now}
 use Rattle.tables.specs.meaning.Basics.{pick}
 use Rattle.tables.specs.meaning.Geometry.{stripeSectors}
 use Rattle.tables.specs.meaning.Placement.{stripeOf}
+use Rattle.tables.specs.laws.Placement.{stripe-begin}
 use Rattle.tables.specs.laws.Sizes.{zone-small}
 use Rattle.volume.specs.meaning.CallContracts.{isSet}
 use Rattle.volume.specs.meaning.Content.{fillOf}
@@ -22,10 +23,9 @@ start-most c = omega (arith, div-add-mod' (c .before .before .before .before .be
 
 -- the answer about what is held
 held-is : (c : tie.After-all-held) → let a = c .before .before .before .before .before .before .args in c .all-held .result ≡ allHeld (a .zone .geometry) (a .zone .here) (now (a .written)) (a .zone .number) (stripeOf (a .zone .geometry .drives) (a .zone .geometry .unit) (a .n) * stripeSectors (a .zone .geometry)) (fillOf (a .zone .geometry) (a .n))
-unfolding stripeOf
 held-is c =
     let a = c .before .before .before .before .before .before .args in
-    c .all-held .ensures ∙ ap (λ (k : ℕ). allHeld (a .zone .geometry) (a .zone .here) (now (a .written)) (a .zone .number) (a .n / k * k) (a .n - a .n / k * k)) (c .before .stripe-sectors .ensures .0)
+    c .all-held .ensures ∙ ap (λ (start : ℕ). allHeld (a .zone .geometry) (a .zone .here) (now (a .written)) (a .zone .number) start (a .n - start)) (stripe-begin (a .zone .geometry .drives) (a .zone .geometry .unit) (a .n) (c .before .stripe-sectors .result) (c .before .stripe-sectors .ensures .0))
 
 abbrev limit : tie.Start → Bool → ℕ
 limit s b = let a = s .args in pick b 0 (sealLimit (a .zone .geometry) (isSet (a .zone .here)) (readDevice (a .zone .geometry) (now (a .sectors)) (now (a .written))) (a .zone .number) (a .zone .generation))

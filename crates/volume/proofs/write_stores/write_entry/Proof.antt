@@ -9,7 +9,7 @@ use Rattle.tables.specs.meaning.Device.{Device, append}
 use Rattle.tables.specs.meaning.Geometry.{stripeSectors}
 use Rattle.tables.specs.meaning.Placement.{stripeOf, parityDrive}
 use Rattle.tables.specs.laws.Made.{MadeAppends, storeIf}
-use Rattle.tables.specs.laws.Placement.{parity-drive-below}
+use Rattle.tables.specs.laws.Placement.{parity-drive-below, stripe-quotient, stripe-begin}
 use Rattle.tables.specs.laws.Sizes.{stripes-most, zone-small}
 use Rattle.logs.specs.meaning.Entry.{parityZone, encode, partialParity}
 use Rattle.logs.specs.laws.Legal.{header-long}
@@ -42,36 +42,39 @@ start-most : (c : tie.After-stripe-sectors) → let k = c .before .before .befor
 start-most c = omega (arith, div-add-mod' (c .before .before .before .before .before .before .before .args .known .end) (c .stripe-sectors .result))
 
 returns : tie.Need-returns
-unfolding stripeOf
 returns c =
     let s = c .before .before .before .before .before .before .before .before in
     let a = s .args in
     let k = a .known in
-    rw (entry-none (k .geometry) (s .pre .0) (isSet (k .here)) (k .zone) (content s) (k .generation) (k .end) (rw (c .before .stripe-sectors .ensures .0) at (c .if1 .taken))) (appends-nil (k .geometry) (a .budget) (now (a .sectors)) (now (a .written)))
+    let n = c .before .stripe-sectors .result in
+    rw (entry-none (k .geometry) (s .pre .0) (isSet (k .here)) (k .zone) (content s) (k .generation) (k .end) (rw (stripe-begin (k .geometry .drives) (k .geometry .unit) (k .end) n (c .before .stripe-sectors .ensures .0)) at (c .if1 .taken))) (appends-nil (k .geometry) (a .budget) (now (a .sectors)) (now (a .written)))
 
--- the stripe and its parity drive, as they are computed
+-- the stripe, its start, its fill and its parity drive, as they are computed
 abbrev to-start : tie.Else1 → tie.Start
 to-start c = c .before .before .before .before .before .before .before .before
 
 stripe-is : (c : tie.Else1) → to-start c .args .known .end / c .before .stripe-sectors .result ≡ stripe (to-start c)
-unfolding stripeOf
-stripe-is c = ap (λ (k : ℕ). to-start c .args .known .end / k) (c .before .stripe-sectors .ensures .0)
+stripe-is c = let k = to-start c .args .known in stripe-quotient (k .geometry .drives) (k .geometry .unit) (k .end) (c .before .stripe-sectors .result) (c .before .stripe-sectors .ensures .0)
+
+start-is : (c : tie.Else1) → let k = to-start c .args .known in let n = c .before .stripe-sectors .result in k .end / n * n ≡ stripe (to-start c) * stripeSectors (k .geometry)
+start-is c = let k = to-start c .args .known in stripe-begin (k .geometry .drives) (k .geometry .unit) (k .end) (c .before .stripe-sectors .result) (c .before .stripe-sectors .ensures .0)
+
+fill-is : (c : tie.Else1) → let k = to-start c .args .known in let n = c .before .stripe-sectors .result in k .end - k .end / n * n ≡ fillOf (k .geometry) (k .end)
+fill-is c = ap (λ (x : ℕ). to-start c .args .known .end - x) (start-is c)
 
 parity-is : (c : tie.After-parity-drive) → c .parity-drive .result ≡ parity (to-start (c .before))
 parity-is c = let k = to-start (c .before) .args .known in c .parity-drive .ensures .0 ∙ ap (parityDrive (k .geometry .drives) (k .zone)) (stripe-is (c .before))
 
 -- the end lies inside it
 inside : (c : tie.Else1) → stripe (to-start c) * stripeSectors (to-start c .args .known .geometry) < to-start c .args .known .end
-unfolding stripeOf
-inside c = rw (c .before .stripe-sectors .ensures .0) at (c .if1 .left)
+inside c = rw (start-is c) at (c .if1 .left)
 
 parity-drive-requires : tie.Need-parity-drive-requires
-unfolding stripeOf
 parity-drive-requires c κs =
     let s = to-start c in
     let g = s .args .known .geometry in
     let w = s .pre .1 in
-    (omega (arith, s .pre .0 .drives-least), s .pre .0 .drives-most, omega (arith, w .zone-in, s .pre .0 .zones-most), rw (c .before .stripe-sectors .ensures .0) (omega (arith, stripes-most g (s .args .known .end) (s .pre .0) (w .end-most), s .pre .0 .zone-most)))
+    (omega (arith, s .pre .0 .drives-least), s .pre .0 .drives-most, omega (arith, w .zone-in, s .pre .0 .zones-most), rw (stripe-is c) (omega (arith, stripes-most g (s .args .known .end) (s .pre .0) (w .end-most), s .pre .0 .zone-most)))
 
 append-partial-requires : tie.Need-append-partial-requires
 append-partial-requires c κs =
@@ -87,14 +90,16 @@ at-if c = c .before .before .before .before
 
 stored : (c : tie.After-append-partial) → let s = to-start (at-if c) in
     MadeAppends (s .args .known .geometry) (s .args .budget) (c .append-partial .result) (storeIf (isSet (s .args .known .here) (parity s)) (append (parity s) parityZone (header s))) (now (s .args .sectors)) (now (s .args .written)) (c .append-partial .last .0) (c .append-partial .last .1 .0)
-unfolding stripeOf
 stored c =
-    let s = to-start (at-if c) in
+    let d = at-if c in
+    let s = to-start d in
     let a = s .args in
     let k = a .known in
     let f = c .append-partial in
-    let made : ℕ → ℕ → Type 0 = λ p n. MadeAppends (k .geometry) (a .budget) (f .result) (storeIf (isSet (k .here) p) (append p parityZone (encode (k .geometry) p (partialParity (k .zone) (k .end / n) (k .end - k .end / n * n) (k .generation))))) (now (a .sectors)) (now (a .written)) (f .last .0) (f .last .1 .0) in
-    subst (λ (n : ℕ). made (parity s) n) (at-if c .before .stripe-sectors .ensures .0) (subst (λ (p : ℕ). made p (at-if c .before .stripe-sectors .result)) (parity-is (c .before .before .before)) (f .ensures))
+    let n = d .before .stripe-sectors .result in
+    let made : ℕ → ℕ → ℕ → Type 0 = λ p t x. MadeAppends (k .geometry) (a .budget) (f .result) (storeIf (isSet (k .here) p) (append p parityZone (encode (k .geometry) p (partialParity (k .zone) t x (k .generation))))) (now (a .sectors)) (now (a .written)) (f .last .0) (f .last .1 .0) in
+    subst (λ (x : ℕ). made (parity s) (stripe s) x) (fill-is d)
+    (subst (λ (t : ℕ). made (parity s) t (k .end - k .end / n * n)) (stripe-is d) (subst (λ (p : ℕ). made p (k .end / n) (k .end - k .end / n * n)) (parity-is (c .before .before .before)) (f .ensures)))
 
 parity-below : (s : tie.Start) → parity s < s .args .known .geometry .drives
 parity-below s = let k = s .args .known in parity-drive-below (k .geometry .drives) (k .geometry .unit) (k .zone) (omega (arith, s .pre .0 .drives-least)) (s .pre .0 .unit-least) (stripe s)
@@ -148,8 +153,7 @@ returns-2 c =
     let x = f .append-partial in
     let n = d .before .stripe-sectors in
     let few = min (fillOf g (k .end)) (g .unit) in
-    let fill : k .end - k .end / n .result * n .result ≡ fillOf g (k .end) = (unfold stripeOf in ap (λ (y : ℕ). k .end - k .end / y * y) (n .ensures .0)) in
-    let m : at-min .min .result ≡ few = at-min .min .ensures ∙ ap (λ (y : ℕ). min y (g .unit)) fill in
+    let m : at-min .min .result ≡ few = at-min .min .ensures ∙ ap (λ (y : ℕ). min y (g .unit)) (fill-is d) in
     let rows : ℕ → ℕ → ℕ → Device → Type 0 = λ q t u v. MadeAppends g (x .result) (r .result) (rowsIf (isSet (k .here) q) q parityZone (rowXorBelow (g .drives) (g .unit) (contentOf k v (now (a .buffer))) t (k .end)) 0 u) (x .last .0) (x .last .1 .0) (r .last .0) (r .last .1 .0) in
     let v = readDevice g (x .last .0) (now (a .pointers)) in
     let made : rows (parity s) (stripe s) few (readDevice g (now (a .sectors)) (now (a .pointers))) =

@@ -1,7 +1,7 @@
 use Prim.Native.Nat.{ℕ, suc, _+_, _-_, _*_, _/_, _%_, _≤_, _<_}
 use mathlib.Core.Path.{_≡_, sym, ap, _∙_, subst}
 use mathlib.Core.List.{List}
-use native.Mathlib.Nat.{mod-lt, div-add-mod'}
+use native.Mathlib.Nat.{mod-lt}
 use native.Mathlib.Numerals.{add-one}
 use native.Mathlib.Omega.{arith}
 use lib.ListN.{length, take, drop}
@@ -10,8 +10,8 @@ use Rattle.tables.specs.meaning.Device.{Device, append}
 use Rattle.tables.specs.meaning.Geometry.{stripeSectors, zoneSectors, dataZone}
 use Rattle.tables.specs.meaning.Placement.{stripeOf, driveOf, parityDrive}
 use Rattle.tables.specs.laws.Made.{MadeAppends, storeIf}
-use Rattle.tables.specs.laws.Placement.{parity-drive-below}
-use Rattle.tables.specs.laws.Sizes.{stripes-most}
+use Rattle.tables.specs.laws.Placement.{parity-drive-below, stripe-quotient, stripe-rest}
+use Rattle.tables.specs.laws.Sizes.{stripes-most, unit-in-stripe}
 use Rattle.tables.specs.laws.Within.{part-long}
 use Rattle.volume.specs.checks.Logging.{appended-as}
 use Rattle.volume.specs.meaning.CallContracts.{isSet}
@@ -20,7 +20,7 @@ use Rattle.volume.specs.laws.CallContracts.{appends-append}
 use Rattle.volume.specs.looking.Knowing.{readDevice}
 use Rattle.volume.specs.rows.RowStores.{rowsIf}
 use Rattle.volume.specs.rows.RowsInPlace.{contentOf, content-new, RowsReady}
-use Rattle.volume.specs.writing.WriteStores.{Writing, unit-in-stripe, sector-inside, sector-last, writing-kept, writing-rows, buffer-fits, stripe-reached, new-in}
+use Rattle.volume.specs.writing.WriteStores.{Writing, sector-inside, sector-last, writing-kept, writing-rows, buffer-fits, stripe-reached, new-in}
 use borrow.Author.Needs.{needs}
 use Rattle.volume.proofs.write_stores.write_sector.Statement.{statement}
 use Rattle.volume.proofs.write_stores.write_sector.Tie as tie
@@ -85,14 +85,13 @@ returns c =
     rw (sector-inside (a .known .geometry) (s .pre .0) (isSet (a .known .here)) (a .known .zone) (content s) (a .a) h) (stored f)
 
 parity-drive-requires : tie.Need-parity-drive-requires
-unfolding stripeOf
 parity-drive-requires c κs =
     let s = c .before .before .before .before .before .before .before .before .before .before .before .before .before .before .before .before .before in
     let g = s .args .known .geometry in
     let w = s .pre .1 .0 in
     let k = c .before .stripe-sectors in
     let h : s .args .a ≤ zoneSectors g = omega (arith, s .pre .1 .2, w .end-most) in
-    (omega (arith, s .pre .0 .drives-least), s .pre .0 .drives-most, omega (arith, w .zone-in, s .pre .0 .zones-most), rw (k .ensures .0) (omega (arith, stripes-most g (s .args .a) (s .pre .0) h, s .pre .0 .zone-most)))
+    (omega (arith, s .pre .0 .drives-least), s .pre .0 .drives-most, omega (arith, w .zone-in, s .pre .0 .zones-most), rw (stripe-quotient (g .drives) (g .unit) (s .args .a) (k .result) (k .ensures .0)) (omega (arith, stripes-most g (s .args .a) (s .pre .0) h, s .pre .0 .zone-most)))
 
 -- at the stripe's end: what the sector's store has left alone
 kept : (c : tie.After-append-counted) → let a = to-start c .args in
@@ -106,8 +105,9 @@ kept c =
 
 -- the stripe and its parity drive, as they are computed
 stripe-is : (c : tie.Else1) → c .before .before .before .before .before .before .before .before .before .before .before .before .before .before .before .before .before .args .a / c .before .stripe-sectors .result ≡ stripe (c .before .before .before .before .before .before .before .before .before .before .before .before .before .before .before .before .before)
-unfolding stripeOf
-stripe-is c = ap (λ (k : ℕ). c .before .before .before .before .before .before .before .before .before .before .before .before .before .before .before .before .before .args .a / k) (c .before .stripe-sectors .ensures .0)
+stripe-is c =
+    let a = c .before .before .before .before .before .before .before .before .before .before .before .before .before .before .before .before .before .args in
+    stripe-quotient (a .known .geometry .drives) (a .known .geometry .unit) (a .a) (c .before .stripe-sectors .result) (c .before .stripe-sectors .ensures .0)
 
 parity-is : (c : tie.After-parity-drive) → c .parity-drive .result ≡ parity (c .before .before .before .before .before .before .before .before .before .before .before .before .before .before .before .before .before .before)
 parity-is c = let s = c .before .before .before .before .before .before .before .before .before .before .before .before .before .before .before .before .before .before in c .parity-drive .ensures .0 ∙ ap (parityDrive (s .args .known .geometry .drives) (s .args .known .zone)) (stripe-is (c .before))
@@ -145,7 +145,7 @@ append-rows-requires c κs =
     )
   where
     rows-in-end : (s : tie.Start) → suc (s .args .a % stripeSectors (s .args .known .geometry)) ≡ stripeSectors (s .args .known .geometry) → stripe s * stripeSectors (s .args .known .geometry) + s .args .known .geometry .unit ≤ s .args .known .end
-    rows-in-end s e = unfold stripeOf in omega (arith, div-add-mod' (s .args .a) (stripeSectors (s .args .known .geometry)), e, s .pre .1 .2, unit-in-stripe (s .args .known .geometry) (s .pre .0))
+    rows-in-end s e = let g = s .args .known .geometry in omega (arith, stripe-rest (g .drives) (g .unit) (s .args .a), e, s .pre .1 .2, unit-in-stripe g (s .pre .0))
 
 returns-2 : tie.Need-returns-2
 returns-2 c =

@@ -1,7 +1,7 @@
 use mathlib.Core.Path.{refl}
 use native.Mathlib.Nat.{div-add-mod'}
 use native.Mathlib.Omega.{arith}
-use Rattle.tables.specs.meaning.Placement.{stripeOf}
+use Rattle.tables.specs.laws.Placement.{stripe-begin}
 use Rattle.volume.specs.checks.ZoneChecks.{needsLog}
 use borrow.Author.Needs.{needs}
 use Rattle.volume.proofs.zone_checks.needs_log.Statement.{statement}
@@ -20,8 +20,8 @@ mul-complete : tie.Need-mul-complete
 mul-complete c = omega (arith, div-add-mod' (c .before .before .args .pointer) (c .stripe-sectors .result))
 
 returns : tie.Need-returns
-unfolding needsLog stripeOf
-returns c = rw (c .before .count-absent .ensures, c .stripe-sectors .ensures .0) refl
+unfolding needsLog
+returns c = let a = c .before .before .args in rw (c .before .count-absent .ensures, stripe-begin (a .g .drives) (a .g .unit) (a .pointer) (c .stripe-sectors .result) (c .stripe-sectors .ensures .0)) refl
 
 pub needs-log-spec : {M : Type 1} → statement M
 needs-log-spec =

@@ -20,7 +20,7 @@ use lib.ListN.{length}
 use lib.Dec.{ltb, leb, eqb}
 use borrow.Author.Tests.{lt-ltb, le-ltb, ltb-true, eq-eqb, eqb-true, leb-true, le-leb}
 use Rattle.tables.specs.meaning.Placement.{driveOf, sectorOf, needed, stripeOf, unitIndex, rowIndex, parityDrive, stripeLength, address}
-use Rattle.tables.specs.laws.Placement.{address-drive, address-sector, address-own, drive-below, stripe-mono, stripe-start, needed-iff, needed-parity, complete-lt, unit-index-below, row-index-below, parity-drive-below, unit-not-parity, unit-injective}
+use Rattle.tables.specs.laws.Placement.{address-drive, address-sector, address-own, drive-below, stripe-mono, stripe-start, needed-iff, needed-parity, complete-lt, unit-index-below, row-index-below, parity-drive-below, unit-not-parity, unit-injective, sector-sum, drive-of-unit}
 
 -- ---- a rebuilt member: the others are no longer than it
 abbrev pub All : (ParityEntry → Type 0) → List ParityEntry → Type 0
@@ -72,7 +72,7 @@ module _ (D U z : ℕ) (hD : 1 < D) (hU : zero < U) (S : ℕ → List ℕ) (N B 
       → (v .sectorAt (rowDrive D U z a k) (sectorOf D U a) ≡ S (rowAddress D U a k)) × (rowAddress D U a k < N)
   held-mate a k hk h =
       let e : driveOf D U z (rowAddress D U a k) ≡ rowDrive D U z a k = address-drive D U z hD hU (stripeOf D U a) k (rowIndex D U a) hk (row-index-below D U z hD hU a) in
-      let x : sectorOf D U (rowAddress D U a k) ≡ sectorOf D U a = address-sector D U z hD hU (stripeOf D U a) k (rowIndex D U a) hk (row-index-below D U z hD hU a) ∙ (unfold sectorOf in refl) in
+      let x : sectorOf D U (rowAddress D U a k) ≡ sectorOf D U a = address-sector D U z hD hU (stripeOf D U a) k (rowIndex D U a) hk (row-index-below D U z hD hU a) ∙ sym (sector-sum D U a) in
       rw (← e, ← x) (held-data (rowAddress D U a k) (rw (e, x) h))
 
   skip : (k i : ℕ) (b : Bool) → eqb k i || b ≡ true → k ≢ i → b ≡ true
@@ -89,7 +89,7 @@ module _ (D U z : ℕ) (hD : 1 < D) (hU : zero < U) (S : ℕ → List ℕ) (N B 
       let i = unitIndex D U a in
       let (p, q) = and-split (heldAt v (parityOf D U z a) (sectorOf D U a)) (allBelow (λ k. eqb k (unitIndex D U a) || heldAt v (rowDrive D U z a k) (sectorOf D U a)) (D - 1)) h in
       let (p1, p2) = and-split (v .present (parityOf D U z a)) (ltb (sectorOf D U a) (v .written (parityOf D U z a))) p in
-      let x : sectorOf D U a ≡ s * U + r = (unfold sectorOf in refl) in
+      let x : sectorOf D U a ≡ s * U + r = sector-sum D U a in
       let l : s * U + r < v .written (parityDrive D z s) = rw (← x) (ltb-true (sectorOf D U a) (v .written (parityOf D U z a)) p2) in
       let c : s < stripeOf D U N = needed-parity D U z hD hU N s r (row-index-below D U z hD hU a) .0 (le-trans l (t .upper (parityDrive D z s) (parity-drive-below D U z hD hU s) p1)) in
       let below : (k : ℕ) → k < D - 1 → rowAddress D U a k < N = λ k hk. complete-lt D U z hD hU N s k r c (omega arith) (row-index-below D U z hD hU a) in
@@ -187,7 +187,7 @@ module _ (D U z : ℕ) (hD : 1 < D) (hU : zero < U) (m : ℕ) (v : View) (w : La
         is-lost (no q) = absurd (true≢false (sym (w .others (driveOf D U z a) (drive-below D U z hD hU a) q) ∙ gone))
 
     drive-is : driveOf D U z a ≡ rowDrive D U z a (unitIndex D U a)
-    drive-is = unfold driveOf in refl
+    drive-is = drive-of-unit D U z a
 
     parity-here : v .present (parityOf D U z a) ≡ true
     parity-here = rest-here (parityOf D U z a) (parity-drive-below D U z hD hU (stripeOf D U a)) (λ e. unit-not-parity D (parityOf D U z a) (parity-drive-below D U z hD hU (stripeOf D U a)) (unitIndex D U a) (unit-index-below D U z hD hU a) (sym drive-is ∙ sym e))
@@ -195,14 +195,14 @@ module _ (D U z : ℕ) (hD : 1 < D) (hU : zero < U) (m : ℕ) (v : View) (w : La
     mate-held : (k : ℕ) → k < D - 1 → k ≢ unitIndex D U a → rowAddress D U a k < m → heldAt v (rowDrive D U z a k) (sectorOf D U a) ≡ true
     mate-held k hk n l =
         let e : driveOf D U z (rowAddress D U a k) ≡ rowDrive D U z a k = address-drive D U z hD hU (stripeOf D U a) k (rowIndex D U a) (omega arith) (row-index-below D U z hD hU a) in
-        let x : sectorOf D U (rowAddress D U a k) ≡ sectorOf D U a = address-sector D U z hD hU (stripeOf D U a) k (rowIndex D U a) (omega arith) (row-index-below D U z hD hU a) ∙ (unfold sectorOf in refl) in
+        let x : sectorOf D U (rowAddress D U a k) ≡ sectorOf D U a = address-sector D U z hD hU (stripeOf D U a) k (rowIndex D U a) (omega arith) (row-index-below D U z hD hU a) ∙ sym (sector-sum D U a) in
         let p : v .present (driveOf D U z (rowAddress D U a k)) ≡ true =
         rest-here (driveOf D U z (rowAddress D U a k)) (drive-below D U z hD hU (rowAddress D U a k)) (λ q. n (unit-injective D (parityOf D U z a) (parity-drive-below D U z hD hU (stripeOf D U a)) k (unitIndex D U a) (omega arith) (unit-index-below D U z hD hU a) (sym e ∙ q ∙ drive-is))) in
         rw (← e, ← x) (held-below (rowAddress D U a k) l p)
 
     done-stripe : stripeOf D U a < stripeOf D U m → byParity D U z v a ≡ true
     done-stripe c =
-        let x : sectorOf D U a ≡ stripeOf D U a * U + rowIndex D U a = (unfold sectorOf in refl) in
+        let x : sectorOf D U a ≡ stripeOf D U a * U + rowIndex D U a = sector-sum D U a in
         let q : heldAt v (parityOf D U z a) (sectorOf D U a) ≡ true =
         rw (parity-here, x, lt-ltb (stripeOf D U a * U + rowIndex D U a) (v .written (parityOf D U z a)) (le-trans (needed-parity D U z hD hU m (stripeOf D U a) (rowIndex D U a) (row-index-below D U z hD hU a) .1 c) (w .lower (parityOf D U z a) (parity-drive-below D U z hD hU (stripeOf D U a)) parity-here))) refl in
         let r = all-all-below (λ k. eqb k (unitIndex D U a) || heldAt v (rowDrive D U z a k) (sectorOf D U a)) (D - 1) (λ k hk. each k hk (ℕ-discrete k (unitIndex D U a))) in

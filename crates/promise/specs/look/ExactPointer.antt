@@ -8,7 +8,7 @@ use mathlib.Core.List.{List, [], _∷_}
 use lib.Dec.{eqb, leb}
 use borrow.Author.Tests.{le-ltb}
 use Rattle.tables.specs.meaning.Placement.{driveOf, sectorOf, needed, stripeOf, unitIndex, rowIndex}
-use Rattle.tables.specs.laws.Placement.{needed-own, needed-at-parity, drive-below, parity-drive-below}
+use Rattle.tables.specs.laws.Placement.{needed-own, needed-at-parity, drive-below, parity-drive-below, sector-sum}
 use Rattle.tables.specs.laws.Greatest.{greatest-is}
 use Rattle.volume.specs.meaning.Rules.{View, ParityEntry, nothing, lastOf, known, knownPrefix, heldAt, serves, entryFor, isFound, parityOf, rowDrive, rowAddress}
 use Rattle.promise.specs.content.Recover.{All, Lasts, known-below}
@@ -27,11 +27,10 @@ module _ (D U z : ℕ) (hD : 1 < D) (hU : zero < U) (n : ℕ) (v : View) (x : Ex
       go false e = rw e refl
 
   not-parity : heldAt v (parityOf D U z n) (sectorOf D U n) ≡ false
-  unfolding sectorOf
   not-parity = go (v .present (parityOf D U z n)) refl
     where
       go : (b : Bool) → v .present (parityOf D U z n) ≡ b → heldAt v (parityOf D U z n) (sectorOf D U n) ≡ false
-      go true e = rw (e, le-ltb (stripeOf D U n * U + rowIndex D U n) (v .written (parityOf D U z n)) (omega (arith, x .just (parityOf D U z n) (parity-drive-below D U z hD hU (stripeOf D U n)) e, needed-at-parity D U z hD hU n))) refl
+      go true e = rw (e, sector-sum D U n, le-ltb (stripeOf D U n * U + rowIndex D U n) (v .written (parityOf D U z n)) (omega (arith, x .just (parityOf D U z n) (parity-drive-below D U z hD hU (stripeOf D U n)) e, needed-at-parity D U z hD hU n))) refl
       go false e = rw e refl
 
   not-serves : (e : ParityEntry) → e .end ≤ n → serves D U z v n e ≡ false

@@ -6,7 +6,7 @@ use mathlib.Core.Path.{_≡_, refl, sym, ap, _∙_}
 use mathlib.Core.Logic.{_≢_, _⊎_, inl, inr}
 use mathlib.Core.Bool.{Bool, true, false, _&&_, _||_, not, true≢false}
 use Prim.Native.Nat.{ℕ, zero, _+_, _-_, _*_, _≤_, _<_, min, zero-le}
-use native.Mathlib.Nat.{le-refl, le-trans, not-suc-le-zero, zero-mod, zero-div}
+use native.Mathlib.Nat.{le-refl, le-trans, not-suc-le-zero}
 use native.Mathlib.Omega.{arith}
 use native.Mathlib.Decide.{ℕ-discrete, decLt}
 use mathlib.Core.List.{[], List·Memᴰ}
@@ -19,8 +19,8 @@ use Rattle.tables.specs.meaning.Basics.{pick}
 use Rattle.tables.specs.meaning.Below.{maxBelow, allBelow}
 use Rattle.tables.specs.laws.Below.{max-below-is, all-below-all}
 use Rattle.tables.specs.meaning.Device.{Device}
-use Rattle.tables.specs.meaning.Placement.{stripeOf, stripeLength, unitIndex, rowIndex, sectorOf, driveOf, address}
-use Rattle.tables.specs.laws.Placement.{parity-drive-below, unit-not-parity, unit-drive-below, drive-below}
+use Rattle.tables.specs.meaning.Placement.{stripeOf, unitIndex, sectorOf, driveOf}
+use Rattle.tables.specs.laws.Placement.{parity-drive-below, unit-not-parity, unit-drive-below, drive-below, address-sum, stripe-zero, unit-zero, row-zero}
 use Rattle.tables.specs.laws.Greatest.{greatest-is}
 use Rattle.tables.specs.declared.Geometry.{Geometry}
 use Rattle.tables.specs.meaning.Geometry.{Valid, stripeSectors, zoneSectors, parityDriveOf, firstDriveOf, dataZone}
@@ -49,22 +49,9 @@ module _ (g : Geometry) (ok : Valid g) (z : ℕ) (w : View) (b : NothingKnown g 
   hU : zero < g .unit
   hU = omega (arith, ok .unit-least)
 
-  stripe-zero : stripeOf (g .drives) (g .unit) zero ≡ zero
-  unfolding stripeOf
-  stripe-zero = zero-div (stripeLength (g .drives) (g .unit))
-
-  unit-zero : unitIndex (g .drives) (g .unit) zero ≡ zero
-  unfolding unitIndex
-  unit-zero = rw (zero-mod (stripeLength (g .drives) (g .unit))) (zero-div (g .unit))
-
-  row-zero : rowIndex (g .drives) (g .unit) zero ≡ zero
-  unfolding rowIndex
-  row-zero = rw (zero-mod (stripeLength (g .drives) (g .unit))) (zero-mod (g .unit))
-
   -- the second sector of row 0 has address U
   second : rowAddress (g .drives) (g .unit) zero 1 ≡ g .unit
-  unfolding address
-  second = rw (stripe-zero, row-zero) (omega arith)
+  second = rw (stripe-zero (g .drives) (g .unit), row-zero (g .drives) (g .unit)) (omega (arith, address-sum (g .drives) (g .unit) zero 1 zero))
 
   not-held : heldAt w (driveOf (g .drives) (g .unit) z zero) (sectorOf (g .drives) (g .unit) zero) ≡ false
   not-held = b .nothing-held (driveOf (g .drives) (g .unit) z zero) (sectorOf (g .drives) (g .unit) zero) (drive-below (g .drives) (g .unit) z hD hU zero)
@@ -79,7 +66,7 @@ module _ (g : Geometry) (ok : Valid g) (z : ℕ) (w : View) (b : NothingKnown g 
       let test : ℕ → Bool = λ k. eqb k i || (leb (e .end) (rowAddress (g .drives) (g .unit) zero k) || heldAt w (rowDrive (g .drives) (g .unit) z zero k) y) in
       let (p, q) = and-split (eqb (e .stripe) (stripeOf (g .drives) (g .unit) zero) && ltb zero (e .end)) (allBelow test (g .drives - 1)) s in
       let (p1, p2) = and-split (eqb (e .stripe) (stripeOf (g .drives) (g .unit) zero)) (ltb zero (e .end)) p in
-      go h (eqb-true (e .stripe) (stripeOf (g .drives) (g .unit) zero) p1 ∙ stripe-zero) (all-below-all test (g .drives - 1) 1 q (omega (arith, ok .drives-least)))
+      go h (eqb-true (e .stripe) (stripeOf (g .drives) (g .unit) zero) p1 ∙ stripe-zero (g .drives) (g .unit)) (all-below-all test (g .drives - 1) 1 q (omega (arith, ok .drives-least)))
     where
       go : (e .stripe ≢ zero) ⊎ (g .unit < e .end) → e .stripe ≡ zero
           → eqb 1 (unitIndex (g .drives) (g .unit) zero) || (leb (e .end) (rowAddress (g .drives) (g .unit) zero 1) || heldAt w (rowDrive (g .drives) (g .unit) z zero 1) (sectorOf (g .drives) (g .unit) zero)) ≡ true → ⊥
@@ -87,7 +74,7 @@ module _ (g : Geometry) (ok : Valid g) (z : ℕ) (w : View) (b : NothingKnown g 
       go (inr n) q t =
           let c : heldAt w (rowDrive (g .drives) (g .unit) z zero 1) (sectorOf (g .drives) (g .unit) zero) ≡ false =
           b .nothing-held (rowDrive (g .drives) (g .unit) z zero 1) (sectorOf (g .drives) (g .unit) zero) (unit-drive-below (g .drives) (parityOf (g .drives) (g .unit) z zero) (parity-drive-below (g .drives) (g .unit) z hD hU (stripeOf (g .drives) (g .unit) zero)) 1) in
-          let u : leb (e .end) (g .unit) || false ≡ true = rw (unit-zero, second, c) at t in
+          let u : leb (e .end) (g .unit) || false ≡ true = rw (unit-zero (g .drives) (g .unit), second, c) at t in
           big (or-cases (leb (e .end) (g .unit)) false u)
         where
           big : (leb (e .end) (g .unit) ≡ true) ⊎ ((leb (e .end) (g .unit) ≡ false) × (false ≡ true)) → ⊥
@@ -98,7 +85,7 @@ module _ (g : Geometry) (ok : Valid g) (z : ℕ) (w : View) (b : NothingKnown g 
   not-found = go (w .present (parityOf (g .drives) (g .unit) z zero)) refl (entryFor (g .drives) (g .unit) z w zero) refl
     where
       p : parityOf (g .drives) (g .unit) z zero ≡ parityDriveOf g z 0
-      p = rw stripe-zero refl
+      p = rw (stripe-zero (g .drives) (g .unit)) refl
 
       go : (h : Bool) → w .present (parityOf (g .drives) (g .unit) z zero) ≡ h → (f : Found) → entryFor (g .drives) (g .unit) z w zero ≡ f → isFound f ≡ false
       go h a nothing e = refl

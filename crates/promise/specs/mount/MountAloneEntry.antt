@@ -18,8 +18,8 @@ use lib.Dec.{leb, eqb}
 use borrow.Author.Tests.{lt-ltb, le-leb, eq-eqb}
 use Rattle.tables.specs.laws.Basics.{or-left, or-right}
 use Rattle.tables.specs.meaning.Device.{Device}
-use Rattle.tables.specs.meaning.Placement.{stripeOf, stripeLength, unitIndex, rowIndex, sectorOf, driveOf, address, parityDrive}
-use Rattle.tables.specs.laws.Placement.{stripe-at, unit-at, row-at}
+use Rattle.tables.specs.meaning.Placement.{stripeOf, stripeLength, unitIndex, rowIndex, sectorOf, driveOf, parityDrive}
+use Rattle.tables.specs.laws.Placement.{stripe-at, unit-at, row-at, address-sum}
 use Rattle.tables.specs.laws.Greatest.{greatest-max}
 use Rattle.tables.specs.declared.Geometry.{Geometry}
 use Rattle.tables.specs.meaning.Geometry.{Valid, stripeSectors, zoneSectors, parityDriveOf}
@@ -140,7 +140,7 @@ module _ (g : Geometry) (ok : Valid g) (x : ℕ) (w : Device) (γ : Ghost) (lg :
           each a q s0 u0 r0 k (no c) = or-right (eqb k (unitIndex (g .drives) (g .unit) a)) _ (or-left (leb (zero * stripeSectors g + f) (rowAddress (g .drives) (g .unit) a k)) _ (le-leb (zero * stripeSectors g + f) (rowAddress (g .drives) (g .unit) a k) (far a s0 r0 k c)))
             where
               far : (a : ℕ) → stripeOf (g .drives) (g .unit) a ≡ zero → rowIndex (g .drives) (g .unit) a ≡ a → (k : ℕ) → k ≢ zero → zero * stripeSectors g + f ≤ rowAddress (g .drives) (g .unit) a k
-              far a s0 r0 k c = rw (s0, r0) (unfold address in omega (arith, mul-le-mul-right (g .unit) (one-le k c)))
+              far a s0 r0 k c = rw (s0, r0) (omega (arith, mul-le-mul-right (g .unit) (one-le k c), address-sum (g .drives) (g .unit) zero k a))
                 where
                   one-le : (k : ℕ) → k ≢ zero → 1 ≤ k
                   one-le k c = omega arith

@@ -6,8 +6,8 @@ use Rattle.tables.specs.meaning.Lists.{concat, anyOf}
 use mathlib.Core.Path.{_≡_, refl, sym, ap, ap₂, _∙_}
 use mathlib.Core.Logic.{_≢_, _⊎_, inl, inr}
 use mathlib.Core.Bool.{Bool, true, false, _&&_, not}
-use Prim.Native.Nat.{ℕ, zero, suc, _+_, _-_, _*_, _/_, _%_, _≤_, _<_, min, zero-le}
-use native.Mathlib.Nat.{le-refl, le-trans, le-of-eq, not-suc-le-zero, mod-lt, div-add-mod'}
+use Prim.Native.Nat.{ℕ, zero, suc, _+_, _-_, _*_, _%_, _≤_, _<_, min, zero-le}
+use native.Mathlib.Nat.{le-refl, le-trans, le-of-eq, not-suc-le-zero, mod-lt}
 use native.Mathlib.Omega.{arith}
 use native.Mathlib.Decide.{ℕ-discrete}
 use mathlib.Core.List.{List, [], _∷_, _++_, map, append-nil, List·Memᴰ, List·Memᴰ·head, List·Memᴰ·tail}
@@ -37,9 +37,9 @@ use Rattle.logs.specs.meaning.Heads.{endsAt}
 use Rattle.promise.specs.invariant.HoldsLess.{withLogs}
 use Rattle.promise.specs.invariant.Obligations.{Invs}
 use lib.Seq.{take-all, getD-take}
-use lib.Arith.{digits-div}
 use Rattle.tables.specs.laws.Local.{LocalStore, appendHere, applyAllHere, localStores, local-append, appends-here}
 use Rattle.tables.specs.meaning.Placement.{stripeOf}
+use Rattle.tables.specs.laws.Placement.{stripe-rest, stripe-of-sum}
 use Rattle.tables.specs.laws.Sizes.{stripe-small}
 use Rattle.volume.specs.meaning.Calls.{appendAll}
 use Rattle.volume.specs.meaning.Content.{at, rowXorBelow, insideStripe, fillOf, entryHeader, entryAt, parityDriveAt}
@@ -139,15 +139,10 @@ module _ (g : Geometry) (d : ℕ) where
 
 -- a pointer, its stripe and its fill
 pub fill-parts : (g : Geometry) → Valid g → (n : ℕ) → (stripeOf (g .drives) (g .unit) n * stripeSectors g + fillOf g n ≡ n) × (fillOf g n < stripeSectors g)
-unfolding stripeOf
 fill-parts g ok n =
-    let e : n / stripeSectors g * stripeSectors g + n % stripeSectors g ≡ n = div-add-mod' n (stripeSectors g) in
+    let e = stripe-rest (g .drives) (g .unit) n in
     let l : n % stripeSectors g < stripeSectors g = mod-lt n (stripe-small g ok .0) in
     (omega (arith, e), omega (arith, e, l))
-
-pub stripe-is : (g : Geometry) → Valid g → (i f : ℕ) → f < stripeSectors g → stripeOf (g .drives) (g .unit) (i * stripeSectors g + f) ≡ i
-unfolding stripeOf
-stripe-is g ok i f h = digits-div i h
 
 module _ (g : Geometry) (ok : Valid g) (x : ℕ) (w : Device) (γ : Ghost) (l : Ledger) (k : Shown) (s : Start g x w γ l k) (u : Device) (G : ℕ → List Header) (P : ℕ → List Entry)
     (t : CountersDone g x w γ l k u G P (2 + (countReset g k + countSealed g k))) (cp : Caps g x w γ l k u G P) (wh : Wholes g x P) (fl : Full g x w γ l k u) where
@@ -388,7 +383,7 @@ module _ (g : Geometry) (ok : Valid g) (x : ℕ) (w : Device) (γ : Ghost) (l : 
               let (j, f, h, v) = ends-at-is g z (k .zone z .generation) (shownPointer z) (e .head) r in
               let h2 : e .head ≡ partialParity z j f (γ .generation z) = h ∙ ap (partialParity z j f) (q .generation-is) in
               let lf : f < stripeSectors g = fill-lt d z j f (rw h at (lawful-reads (P d) e (t .base .logs .parity-lawful d a) m1)) in
-              let sj : stripeOf (g .drives) (g .unit) (shownPointer z) ≡ j = ap (stripeOf (g .drives) (g .unit)) (sym v) ∙ stripe-is g ok j f lf in
+              let sj : stripeOf (g .drives) (g .unit) (shownPointer z) ≡ j = ap (stripeOf (g .drives) (g .unit)) (sym v) ∙ stripe-of-sum (g .drives) (g .unit) j f lf in
               let ff : fillOf g (shownPointer z) ≡ f = ap (λ (y : ℕ). shownPointer z - y * stripeSectors g) sj ∙ minus j f (shownPointer z) v in
               (e, mem-left (P d) (added d) e m1, m2, h2 ∙ sym (ap₂ (λ (y1 y2 : ℕ). partialParity z y1 y2 (γ .generation z)) sj ff))
             where

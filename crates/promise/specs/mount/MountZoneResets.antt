@@ -5,7 +5,7 @@ use mathlib.Core.Path.{_≡_, refl, sym, ap, _∙_}
 use mathlib.Core.Logic.{_≢_, _⊎_, inl, inr}
 use mathlib.Core.Bool.{Bool, true, false, _&&_, _||_, not, true≢false}
 use Prim.Native.Nat.{ℕ, zero, _+_, _-_, _≤_, _<_, zero-le}
-use native.Mathlib.Nat.{le-refl, zero-mod, zero-div}
+use native.Mathlib.Nat.{le-refl}
 use native.Mathlib.Omega.{arith}
 use native.Mathlib.Decide.{decLt}
 use mathlib.Core.List.{List, [], _∷_, _++_, List·Memᴰ}
@@ -31,16 +31,15 @@ use Rattle.promise.specs.invariant.HoldsLess.{withLogs}
 use Rattle.promise.specs.invariant.Obligations.{Invs}
 use Rattle.promise.specs.mount.MountLiveZones.{zones-inv, below-up}
 use Rattle.tables.specs.laws.Local.{LocalStore, resetHere, flushHere, applyAllHere, localStores}
-use Rattle.tables.specs.meaning.Placement.{needed, stripeOf, stripeLength}
-use Rattle.tables.specs.laws.Placement.{needed-start}
+use Rattle.tables.specs.meaning.Placement.{needed}
+use Rattle.tables.specs.laws.Placement.{needed-zero}
 use Rattle.promise.specs.content.Columns.{column}
 use Rattle.promise.specs.invariant.HoldsMore.{live-more, why-logged, why-bare}
 use Rattle.tables.specs.laws.Phases.{each-below-own, each-below-unseen, each-below-at}
 use Rattle.promise.specs.mount.MountGeneralLogs.{done-settled}
 
 pub needed-none : (g : Geometry) → Valid g → (z d : ℕ) → needed (g .drives) (g .unit) z zero d ≡ zero
-unfolding stripeOf
-needed-none g ok z d = needed-start (g .drives) (g .unit) z (omega (arith, ok .drives-least)) (omega (arith, ok .unit-least)) zero d (zero-mod (stripeLength (g .drives) (g .unit))) ∙ rw (zero-div (stripeLength (g .drives) (g .unit))) (omega arith)
+needed-none g ok z d = needed-zero (g .drives) (g .unit) z (omega (arith, ok .drives-least)) (omega (arith, ok .unit-least)) d
 
 -- ---- what places see
 module _ (g : Geometry) (k : Shown) where

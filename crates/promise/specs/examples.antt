@@ -2,5 +2,6 @@ pub mod AnswerCases
 pub mod Cases
 pub mod ClaimExample
 pub mod Example
+pub mod Opened
 pub mod TablesExample
 pub mod TablesHistory

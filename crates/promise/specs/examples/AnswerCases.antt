@@ -1,7 +1,5 @@
 -- The calls' answers computed on document 01's example: every number of the table of refusals is met, each beside an input that is
 -- just not refused. A check of the definitions, no part of the proof.
-use Rattle.tables.specs.meaning.Tables.{bufferFits, lengthsFit}
-use Rattle.tables.specs.meaning.GeometryTest.{isValid}
 use mathlib.Core.Bool.{Bool, true, _&&_, not}
 use Prim.Native.Nat.{ℕ, _+_, _-_}
 use mathlib.Core.List.{List, [], _∷_, _++_}
@@ -9,22 +7,17 @@ use lib.ListN.{length, getD, take, replicate}
 use lib.Dec.{eqb, ltb, T}
 use Rattle.tables.specs.meaning.Device.{Device, putZone}
 use Rattle.tables.specs.meaning.Basics.{pick}
-use Rattle.tables.specs.meaning.Placement.{driveOf, sectorOf, needed, stripeOf, unitIndex, rowIndex, parityDrive, stripeLength, unitDrive, unitOf, address, addressAt}
 use Rattle.tables.specs.meaning.Drives.{noDrive}
-use Rattle.tables.specs.meaning.Geometry.{geometryOf, log2, zoneSectors}
-use Rattle.logs.specs.meaning.Entry.{wornGeneration, encode, frame, labelBytes, readFields, kindOf, startOf, endOf, genOf, counters}
+use Rattle.tables.specs.meaning.Geometry.{geometryOf}
+use Rattle.logs.specs.meaning.Entry.{encode, counters}
 use Rattle.tables.specs.meaning.LittleEndian.{sameBytes}
-use Rattle.volume.specs.meaning.Content.{rowXor, contentAt, rowXorBelow, entryAt}
-use Rattle.volume.specs.meaning.Rules.{viewOf, generalHeads, generalEnding, parityEntries, parityEnding, isLost, isPresent, generationOf, resetSeen, sealSeen, sealLimit, zoneView, valueAt, pointerAt, cleanAt, zoneAt, zoneShown, showing}
 use Rattle.volume.specs.declared.Condition.{Condition}
 use Rattle.volume.specs.declared.Condition.the-variants.{Empty, Open, Sealed, Worn}
-use Rattle.volume.specs.meaning.State.{StateView, callPresent}
-use Rattle.volume.specs.meaning.Refusals.{badPointers, twoLost, badLabels, badLogs, stateWithin, twoAbsent, twoUnnamed, stale, unusedBelow, writeFull, goneIn, goneBefore, notHeld, formatRows, lookRows, mountRows, writeRows, flushRows, resetRows, readRows, peekRows}
-use Rattle.volume.specs.meaning.Calls.{formatStores, writeStores, zoneContent, writeWith, flushStores, resetStores}
-use Rattle.volume.specs.meaning.Mount.{mountStores, mountPhases, phasesBeforeEntries, mountLook, mountShows, afterOpening, labelStep, resetEntryStep, zoneResetStep, counterStep, countersDiffer, sealStep, tornRowStep, fillStep, entryStep}
-use Rattle.volume.specs.meaning.Answers.{Given, refused, given, lostIn, leftOut, namedDrives, sectorsIn, formatCall, lookCall, mountCall, writeCall, flushCall, resetCall, readCall, peekCall}
+use Rattle.volume.specs.meaning.State.{StateView}
+use Rattle.volume.specs.meaning.Answers.{Given, refused, given, formatCall, lookCall, mountCall, writeCall, flushCall, resetCall, readCall, peekCall}
 use Rattle.promise.specs.examples.Example.{geo, lengths, every, noStop, does, numberOf, givenNumber, blank, formatted, formattedState, bytes, writtenState, writtenDevice, filled}
 use Rattle.promise.specs.meaning.Claim.{allBut}
+use Rattle.promise.specs.examples.Opened.{deviceOpen}
 
 -- zone 0 in another condition or generation
 abbrev being : Condition → ℕ → StateView
@@ -111,7 +104,7 @@ answered =
     ∷ []
 
 pub answers-are : T (holds answered)
-unfolding formatStores writeStores zoneContent writeWith entryAt flushStores resetStores mountStores mountPhases phasesBeforeEntries mountLook mountShows afterOpening labelStep resetEntryStep zoneResetStep counterStep countersDiffer sealStep tornRowStep fillStep entryStep encode frame labelBytes readFields kindOf startOf endOf genOf generalHeads generalEnding parityEntries parityEnding isLost isPresent badPointers twoLost badLabels badLogs generationOf resetSeen sealSeen sealLimit zoneView valueAt pointerAt cleanAt zoneAt zoneShown showing viewOf driveOf sectorOf needed stripeOf unitIndex rowIndex parityDrive stripeLength unitDrive unitOf address addressAt zoneSectors log2 wornGeneration rowXor contentAt rowXorBelow callPresent isValid stateWithin twoAbsent twoUnnamed stale unusedBelow writeFull goneIn goneBefore notHeld formatRows lookRows mountRows writeRows flushRows resetRows readRows peekRows lostIn leftOut namedDrives sectorsIn lengthsFit bufferFits answered
+unfolding deviceOpen answered
 answers-are = tt
 
 abbrev sectorsRead : Given (List (List ℕ)) → List (List ℕ)
@@ -121,5 +114,5 @@ sectorsRead (given ss) = ss
 -- what is read of five sectors with drive 1 lost: four sectors from address 1, the third of them all 9
 pub read-with-a-drive-lost : T (eqb (length (sectorsRead (readCall geo lengths (allBut 1) (writtenState 5) 1 4 256 (writtenDevice 5)))) 4
     && sameBytes (getD (sectorsRead (readCall geo lengths (allBut 1) (writtenState 5) 1 4 256 (writtenDevice 5))) 2 []) (replicate 64 9))
-unfolding formatStores writeStores zoneContent writeWith entryAt flushStores resetStores mountStores mountPhases phasesBeforeEntries mountLook mountShows afterOpening labelStep resetEntryStep zoneResetStep counterStep countersDiffer sealStep tornRowStep fillStep entryStep encode frame labelBytes readFields kindOf startOf endOf genOf generalHeads generalEnding parityEntries parityEnding isLost isPresent badPointers twoLost badLabels badLogs generationOf resetSeen sealSeen sealLimit zoneView valueAt pointerAt cleanAt zoneAt zoneShown showing viewOf driveOf sectorOf needed stripeOf unitIndex rowIndex parityDrive stripeLength unitDrive unitOf address addressAt zoneSectors log2 wornGeneration rowXor contentAt rowXorBelow callPresent isValid stateWithin twoAbsent twoUnnamed stale unusedBelow writeFull goneIn goneBefore notHeld formatRows lookRows mountRows writeRows flushRows resetRows readRows peekRows lostIn leftOut namedDrives sectorsIn lengthsFit bufferFits
+unfolding deviceOpen
 read-with-a-drive-lost = tt

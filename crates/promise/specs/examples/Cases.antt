@@ -1,33 +1,28 @@
 -- Document 01, "Both edges": cases a to m, and some more of the same kinds, as rows of one table, with one theorem that the checker
 -- computes from the definitions, bytes and logs included.
-use Rattle.volume.specs.meaning.Calls.{appendGeneral, formatStores, writeStores, zoneContent, writeWith, flushStores, resetStores}
-use Rattle.logs.specs.meaning.Entry.{seal, wornGeneration, encode, frame, labelBytes, readFields, kindOf, startOf, endOf, genOf, parityZone}
+use Rattle.volume.specs.meaning.Calls.{appendGeneral, resetStores}
+use Rattle.logs.specs.meaning.Entry.{seal, parityZone}
 use Rattle.promise.specs.examples.Example.{blank, geo, lengths, every, noStop, does, numberOf, formatted, formattedState, bytes, writtenState, writtenDevice, kept, filled}
-use Rattle.volume.specs.meaning.Answers.{formatCall, Given, refused, given, lostIn, leftOut, namedDrives, sectorsIn, lookCall, mountCall, writeCall, Place, placeOf}
-use Rattle.tables.specs.meaning.Tables.{bufferFits, lengthsFit}
-use Rattle.tables.specs.meaning.GeometryTest.{isValid}
+use Rattle.volume.specs.meaning.Answers.{formatCall, Given, refused, given, lookCall, mountCall, writeCall, Place, placeOf}
 use mathlib.Core.Bool.{Bool, true, _&&_, false, _||_}
 use Prim.Native.Nat.{ℕ, _+_, _-_, _*_, suc}
 use mathlib.Core.List.{List, [], _∷_}
 use lib.ListN.{length, getD, take, replicate}
 use lib.Dec.{eqb, T}
 use Rattle.tables.specs.meaning.Device.{Device, applyAll}
-use Rattle.tables.specs.meaning.Placement.{driveOf, sectorOf, needed, stripeOf, unitIndex, rowIndex, parityDrive, stripeLength, unitDrive, unitOf, address, addressAt}
+use Rattle.tables.specs.meaning.Placement.{needed}
 use Rattle.tables.specs.meaning.Drives.{noDrive}
 use Rattle.tables.specs.laws.Drives.{presentBut}
-use Rattle.tables.specs.meaning.Geometry.{log2, zoneSectors}
-use Rattle.volume.specs.meaning.Content.{rowXor, contentAt, rowXorBelow, entryAt}
-use Rattle.volume.specs.meaning.Rules.{viewOf, generalHeads, generalEnding, parityEntries, parityEnding, isLost, isPresent, generationOf, resetSeen, sealSeen, sealLimit, zoneView, valueAt, pointerAt, cleanAt, zoneAt, zoneShown, showing, Shown}
+use Rattle.volume.specs.meaning.Rules.{Shown}
 use Rattle.volume.specs.declared.Condition.{Condition}
 use Rattle.volume.specs.declared.Condition.the-variants.{Empty, Open, Sealed, Worn}
-use Rattle.volume.specs.meaning.State.{pointerIn, callPresent}
-use Rattle.volume.specs.meaning.Refusals.{badPointers, twoLost, badLabels, badLogs, stateWithin, twoAbsent, twoUnnamed, stale, unusedBelow, writeFull, goneIn, goneBefore, notHeld, formatRows, lookRows, mountRows, writeRows, flushRows, resetRows, readRows, peekRows}
-use Rattle.volume.specs.meaning.Mount.{mountStores, mountPhases, phasesBeforeEntries, mountLook, mountShows, afterOpening, labelStep, resetEntryStep, zoneResetStep, counterStep, countersDiffer, sealStep, tornRowStep, fillStep, entryStep}
+use Rattle.volume.specs.meaning.State.{pointerIn}
 use Rattle.promise.specs.meaning.Claim.{allBut}
 use Rattle.tables.specs.meaning.Below.{allBelow, tabulateFrom}
 use Rattle.tables.specs.meaning.Lists.{concat}
 use Rattle.tables.specs.meaning.LittleEndian.{sameBytes}
 use Rattle.tables.specs.meaning.Xor.{xorBytes}
+use Rattle.promise.specs.examples.Opened.{deviceOpen}
 
 pub data Case : Type 0 where
   -- an address; its drive, physical zone and sector
@@ -164,5 +159,5 @@ allHold [] = true
 allHold (c ∷ cs) = holds c && allHold cs
 
 pub cases-hold : T (allHold cases)
-unfolding formatStores writeStores zoneContent writeWith entryAt flushStores resetStores mountStores mountPhases phasesBeforeEntries mountLook mountShows afterOpening labelStep resetEntryStep zoneResetStep counterStep countersDiffer sealStep tornRowStep fillStep entryStep encode frame labelBytes readFields kindOf startOf endOf genOf generalHeads generalEnding parityEntries parityEnding isLost isPresent badPointers twoLost badLabels badLogs generationOf resetSeen sealSeen sealLimit zoneView valueAt pointerAt cleanAt zoneAt zoneShown showing viewOf driveOf sectorOf needed stripeOf unitIndex rowIndex parityDrive stripeLength unitDrive unitOf address addressAt zoneSectors log2 wornGeneration rowXor contentAt rowXorBelow callPresent isValid stateWithin twoAbsent twoUnnamed stale unusedBelow writeFull goneIn goneBefore notHeld formatRows lookRows mountRows writeRows flushRows resetRows readRows peekRows lostIn leftOut namedDrives sectorsIn lengthsFit bufferFits cases
+unfolding deviceOpen cases
 cases-hold = tt

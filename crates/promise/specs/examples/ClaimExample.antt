@@ -4,16 +4,13 @@
 -- read and a peek.
 use Rattle.promise.specs.meaning.Claim.{Volume, pointerHeld, allBut, Call, mounts, writes, flushes, resets, formats, Mode, ready, stopped, down, System, Event, calls, looks, reads, peeks, cuts, loses, next, NamesAll, Dutiful, Throughout, start}
 use Rattle.promise.specs.meaning.OnDevice.{callOf, onDevice}
-use Rattle.volume.specs.meaning.Answers.{CallResult, storing, lostIn, leftOut, namedDrives, sectorsIn}
+use Rattle.volume.specs.meaning.Answers.{CallResult, storing}
 use Rattle.volume.specs.declared.Answer.the-variants.{Finished, Unfinished}
-use Rattle.volume.specs.meaning.Refusals.{refuse, accept, firstRefusal, Verdict, badPointers, twoLost, badLabels, badLogs, stateWithin, twoAbsent, twoUnnamed, stale, unusedBelow, writeFull, goneIn, goneBefore, notHeld, formatRows, lookRows, mountRows, writeRows, flushRows, resetRows, readRows, peekRows}
-use Rattle.volume.specs.meaning.Calls.{formatStores, writeStores, zoneContent, writeWith, flushStores, resetStores}
+use Rattle.volume.specs.meaning.Refusals.{refuse, accept, firstRefusal, Verdict}
 use Rattle.tables.specs.laws.Device.{well-formed-apply-all, WellFormed}
 use Rattle.tables.specs.meaning.Device.{Store, applyAll, Device, blankZone, keepFirst, Cut, Loss}
 use native.Mathlib.Nat.{le-refl}
 use Rattle.promise.specs.examples.Example.{geo, lengths, every, noStop, blank, formattedState, bytes}
-use Rattle.tables.specs.meaning.Tables.{bufferFits, lengthsFit}
-use Rattle.tables.specs.meaning.GeometryTest.{isValid}
 use mathlib.Core.Path.{_≡_, refl, sym}
 use mathlib.Core.Logic.{inl}
 use mathlib.Core.Bool.{Bool, true, _&&_, not, false}
@@ -24,15 +21,10 @@ use lib.Dec.{eqb, ltb, T, lit<}
 use native.Mathlib.Omega.{arith}
 use borrow.Author.Tests.{ne-eqb}
 use Rattle.tables.specs.meaning.Basics.{pick}
-use Rattle.tables.specs.meaning.Placement.{driveOf, sectorOf, needed, stripeOf, unitIndex, rowIndex, parityDrive, stripeLength, unitDrive, unitOf, address, addressAt}
 use Rattle.tables.specs.meaning.Drives.{noDrive}
-use Rattle.tables.specs.meaning.Geometry.{log2, zoneSectors}
-use Rattle.logs.specs.meaning.Entry.{wornGeneration, encode, frame, labelBytes, readFields, kindOf, startOf, endOf, genOf}
-use Rattle.volume.specs.meaning.Content.{rowXor, contentAt, rowXorBelow, entryAt}
-use Rattle.volume.specs.meaning.Rules.{viewOf, generalHeads, generalEnding, parityEntries, parityEnding, isLost, isPresent, generationOf, resetSeen, sealSeen, sealLimit, zoneView, valueAt, pointerAt, cleanAt, zoneAt, zoneShown, showing}
-use Rattle.volume.specs.meaning.State.{StateView, callPresent}
-use Rattle.volume.specs.meaning.Mount.{mountStores, mountPhases, phasesBeforeEntries, mountLook, mountShows, afterOpening, labelStep, resetEntryStep, zoneResetStep, counterStep, countersDiffer, sealStep, tornRowStep, fillStep, entryStep}
+use Rattle.volume.specs.meaning.State.{StateView}
 use Rattle.promise.specs.device.ClaimProof.{device-keeps-the-promise}
+use Rattle.promise.specs.examples.Opened.{deviceOpen}
 
 abbrev vol : Volume
 vol = onDevice geo lengths
@@ -173,7 +165,7 @@ wentSo =
     ∷ isMode ready (s13 .mode) ∷ eqb (length (s13 .ledger .content 0)) 2 ∷ eqb (vol .peek (allBut 1) (s13 .state) 0 (s13 .memory) .number) 0 ∷ []
 
 pub history-goes : T (all wentSo)
-unfolding formatStores writeStores zoneContent writeWith entryAt flushStores resetStores mountStores mountPhases phasesBeforeEntries mountLook mountShows afterOpening labelStep resetEntryStep zoneResetStep counterStep countersDiffer sealStep tornRowStep fillStep entryStep encode frame labelBytes readFields kindOf startOf endOf genOf generalHeads generalEnding parityEntries parityEnding isLost isPresent badPointers twoLost badLabels badLogs generationOf resetSeen sealSeen sealLimit zoneView valueAt pointerAt cleanAt zoneAt zoneShown showing viewOf driveOf sectorOf needed stripeOf unitIndex rowIndex parityDrive stripeLength unitDrive unitOf address addressAt zoneSectors log2 wornGeneration rowXor contentAt rowXorBelow callPresent isValid stateWithin twoAbsent twoUnnamed stale unusedBelow writeFull goneIn goneBefore notHeld formatRows lookRows mountRows writeRows flushRows resetRows readRows peekRows lostIn leftOut namedDrives sectorsIn lengthsFit bufferFits wentSo
+unfolding deviceOpen wentSo
 history-goes = tt
 
 -- ---- its duties are done
@@ -221,7 +213,7 @@ unfolding Loss
 lose-1 v d y n = rw (ne-eqb d 1 n) refl
 
 pub duties-done : Dutiful geo vol s0 history
-unfolding formatStores writeStores zoneContent writeWith entryAt flushStores resetStores mountStores mountPhases phasesBeforeEntries mountLook mountShows afterOpening labelStep resetEntryStep zoneResetStep counterStep countersDiffer sealStep tornRowStep fillStep entryStep encode frame labelBytes readFields kindOf startOf endOf genOf generalHeads generalEnding parityEntries parityEnding isLost isPresent badPointers twoLost badLabels badLogs generationOf resetSeen sealSeen sealLimit zoneView valueAt pointerAt cleanAt zoneAt zoneShown showing viewOf driveOf sectorOf needed stripeOf unitIndex rowIndex parityDrive stripeLength unitDrive unitOf address addressAt zoneSectors log2 wornGeneration rowXor contentAt rowXorBelow callPresent isValid stateWithin twoAbsent twoUnnamed stale unusedBelow writeFull goneIn goneBefore notHeld formatRows lookRows mountRows writeRows flushRows resetRows readRows peekRows lostIn leftOut namedDrives sectorsIn lengthsFit bufferFits
+unfolding deviceOpen
 duties-done =
     done (names-all s0 refl, refl, tt) (done (names-all s1 refl, refl, tt) (done (names-all s2 refl, refl, tt) (done (names-all s3 refl, tt)
     (done (names-all s4 refl, refl) (done (names-all s5 refl, refl, tt) (done (names-all s6 refl, refl, tt) (done (names-all s7 refl, refl, tt)
@@ -230,5 +222,5 @@ duties-done =
 
 -- ---- and what the claim says of it
 pub history-keeps-the-promise : Throughout geo vol s0 history
-unfolding formatStores writeStores zoneContent writeWith entryAt flushStores resetStores mountStores mountPhases phasesBeforeEntries mountLook mountShows afterOpening labelStep resetEntryStep zoneResetStep counterStep countersDiffer sealStep tornRowStep fillStep entryStep encode frame labelBytes readFields kindOf startOf endOf genOf generalHeads generalEnding parityEntries parityEnding isLost isPresent badPointers twoLost badLabels badLogs generationOf resetSeen sealSeen sealLimit zoneView valueAt pointerAt cleanAt zoneAt zoneShown showing viewOf driveOf sectorOf needed stripeOf unitIndex rowIndex parityDrive stripeLength unitDrive unitOf address addressAt zoneSectors log2 wornGeneration rowXor contentAt rowXorBelow callPresent isValid stateWithin twoAbsent twoUnnamed stale unusedBelow writeFull goneIn goneBefore notHeld formatRows lookRows mountRows writeRows flushRows resetRows readRows peekRows lostIn leftOut namedDrives sectorsIn lengthsFit bufferFits
+unfolding deviceOpen
 history-keeps-the-promise = device-keeps-the-promise geo lengths every 7 formattedState noStop blank (lit< tt) refl history duties-done

@@ -7,21 +7,11 @@ use Rattle.promise.specs.meaning.OnTables.{onTables}
 use Rattle.tables.specs.declared.Geometry.{Geometry}
 use Rattle.tables.specs.meaning.Lists.{overlay}
 use Rattle.tables.specs.meaning.Drives.{noDrive}
-use Rattle.tables.specs.meaning.Tables.{Tables, zonePlace, logPlace, cell, sectorNo, TablesCut, TablesLoss, bufferFits, lengthsFit, sectorsAfterAppend, writtenAfterAppend, pointersAfterReset, durableAfterFlush, zoneAtCell, deviceOf, pointersBad}
+use Rattle.tables.specs.meaning.Tables.{Tables, cell, sectorNo, TablesCut, TablesLoss, pointersBad}
 use Rattle.tables.specs.laws.ZonePlaces.{place-in}
-use Rattle.tables.specs.meaning.GeometryTest.{isValid}
-use Rattle.tables.specs.meaning.Placement.{driveOf, sectorOf, needed, stripeOf, unitIndex, rowIndex, parityDrive, stripeLength, unitDrive, unitOf, address, addressAt}
-use Rattle.tables.specs.meaning.Geometry.{geometryOf, log2, zoneSectors}
-use Rattle.logs.specs.meaning.Entry.{wornGeneration, encode, frame, labelBytes, readFields, kindOf, startOf, endOf, genOf}
+use Rattle.tables.specs.meaning.Geometry.{geometryOf}
 use Rattle.volume.specs.declared.State.{State}
-use Rattle.volume.specs.meaning.Answers.{lostIn, leftOut, namedDrives, sectorsIn}
-use Rattle.volume.specs.meaning.Refusals.{badPointers, twoLost, badLabels, badLogs, stateWithin, twoAbsent, twoUnnamed, stale, unusedBelow, writeFull, goneIn, goneBefore, notHeld, formatRows, lookRows, mountRows, writeRows, flushRows, resetRows, readRows, peekRows}
-use Rattle.volume.specs.meaning.Calls.{formatStores, writeStores, zoneContent, writeWith, flushStores, resetStores}
-use Rattle.volume.specs.meaning.Content.{rowXor, contentAt, rowXorBelow, entryAt}
-use Rattle.volume.specs.meaning.Rules.{viewOf, generalHeads, generalEnding, parityEntries, parityEnding, isLost, isPresent, generationOf, resetSeen, sealSeen, sealLimit, zoneView, valueAt, pointerAt, cleanAt, zoneAt, zoneShown, showing}
-use Rattle.volume.specs.meaning.State.{callPresent}
-use Rattle.volume.specs.meaning.Mount.{mountStores, mountPhases, phasesBeforeEntries, mountLook, mountShows, afterOpening, labelStep, resetEntryStep, zoneResetStep, counterStep, countersDiffer, sealStep, tornRowStep, fillStep, entryStep}
-use Rattle.volume.specs.meaning.CallContracts.{isSet, formatVerdict, formatOn, freshState, flushVerdict, flushOn, writeVerdict, writeOn, resetVerdict, resetOn, stateShown, lookVerdict, lookOn, mountVerdict, storesBefore, mountStoresOn, mountShownOn, mountOn, readNumber, valuesOn, readOn, peekNumber, peekOn}
+use Rattle.volume.specs.meaning.CallContracts.{isSet, freshState}
 use Rattle.tables.specs.laws.Lists.{length-overlay, overlay-below}
 use Rattle.tables.specs.laws.Made.{WellSized}
 use Rattle.tables.specs.laws.PointerOrder.{order-passed, cut-to-durable}
@@ -38,6 +28,7 @@ use mathlib.Core.List.{List, [], _∷_, _++_, append-assoc}
 use lib.ListN.{length, take, drop, length-drop, replicate, take-append-drop}
 use lib.Seq.{take-append-le, drop-append-le, length-take-le}
 use lib.Dec.{eqb, T, lit<}
+use Rattle.promise.specs.examples.Opened.{tablesOpen}
 
 abbrev small : Geometry
 small = geometryOf 3 64 1 1 9
@@ -191,7 +182,7 @@ wentSo =
     ∷ isMode ready (s14 .mode) ∷ eqb (length (s14 .ledger .content 0)) 2 ∷ eqb (vol .peek without2 (s14 .state) 0 (s14 .memory) .number) 0 ∷ []
 
 pub history-goes : T (all wentSo)
-unfolding zonePlace logPlace formatStores writeStores zoneContent writeWith entryAt flushStores resetStores mountStores mountPhases phasesBeforeEntries mountLook mountShows afterOpening labelStep resetEntryStep zoneResetStep counterStep countersDiffer sealStep tornRowStep fillStep entryStep encode frame labelBytes readFields kindOf startOf endOf genOf generalHeads generalEnding parityEntries parityEnding isLost isPresent badPointers twoLost badLabels badLogs generationOf resetSeen sealSeen sealLimit zoneView valueAt pointerAt cleanAt zoneAt zoneShown showing viewOf driveOf sectorOf needed stripeOf unitIndex rowIndex parityDrive stripeLength unitDrive unitOf address addressAt zoneSectors log2 wornGeneration rowXor contentAt rowXorBelow callPresent isValid stateWithin twoAbsent twoUnnamed stale unusedBelow writeFull goneIn goneBefore notHeld formatRows lookRows mountRows writeRows flushRows resetRows readRows peekRows lostIn leftOut namedDrives sectorsIn lengthsFit bufferFits sectorsAfterAppend writtenAfterAppend pointersAfterReset durableAfterFlush zoneAtCell deviceOf pointersBad formatVerdict formatOn freshState flushVerdict flushOn writeVerdict writeOn resetVerdict resetOn stateShown lookVerdict lookOn mountVerdict storesBefore mountStoresOn mountShownOn mountOn readNumber valuesOn readOn peekNumber peekOn wentSo
+unfolding tablesOpen wentSo
 history-goes = tt
 
 -- ---- its duties are done
@@ -242,18 +233,18 @@ loss-done t w bs ws ds hb hw hd = record {
 }
 
 stopped-sized : WellSized small (s9 .memory)
-unfolding zonePlace logPlace formatStores writeStores zoneContent writeWith entryAt flushStores resetStores mountStores mountPhases phasesBeforeEntries mountLook mountShows afterOpening labelStep resetEntryStep zoneResetStep counterStep countersDiffer sealStep tornRowStep fillStep entryStep encode frame labelBytes readFields kindOf startOf endOf genOf generalHeads generalEnding parityEntries parityEnding isLost isPresent badPointers twoLost badLabels badLogs generationOf resetSeen sealSeen sealLimit zoneView valueAt pointerAt cleanAt zoneAt zoneShown showing viewOf driveOf sectorOf needed stripeOf unitIndex rowIndex parityDrive stripeLength unitDrive unitOf address addressAt zoneSectors log2 wornGeneration rowXor contentAt rowXorBelow callPresent isValid stateWithin twoAbsent twoUnnamed stale unusedBelow writeFull goneIn goneBefore notHeld formatRows lookRows mountRows writeRows flushRows resetRows readRows peekRows lostIn leftOut namedDrives sectorsIn lengthsFit bufferFits sectorsAfterAppend writtenAfterAppend pointersAfterReset durableAfterFlush zoneAtCell deviceOf pointersBad formatVerdict formatOn freshState flushVerdict flushOn writeVerdict writeOn resetVerdict resetOn stateShown lookVerdict lookOn mountVerdict storesBefore mountStoresOn mountShownOn mountOn readNumber valuesOn readOn peekNumber peekOn
+unfolding tablesOpen
 stopped-sized = record { sectors-long = refl; written-long = refl; durable-long = refl }
 
 stopped-in-order : pointersBad small every (s9 .memory .written) (s9 .memory .durable) ≡ false
-unfolding zonePlace logPlace formatStores writeStores zoneContent writeWith entryAt flushStores resetStores mountStores mountPhases phasesBeforeEntries mountLook mountShows afterOpening labelStep resetEntryStep zoneResetStep counterStep countersDiffer sealStep tornRowStep fillStep entryStep encode frame labelBytes readFields kindOf startOf endOf genOf generalHeads generalEnding parityEntries parityEnding isLost isPresent badPointers twoLost badLabels badLogs generationOf resetSeen sealSeen sealLimit zoneView valueAt pointerAt cleanAt zoneAt zoneShown showing viewOf driveOf sectorOf needed stripeOf unitIndex rowIndex parityDrive stripeLength unitDrive unitOf address addressAt zoneSectors log2 wornGeneration rowXor contentAt rowXorBelow callPresent isValid stateWithin twoAbsent twoUnnamed stale unusedBelow writeFull goneIn goneBefore notHeld formatRows lookRows mountRows writeRows flushRows resetRows readRows peekRows lostIn leftOut namedDrives sectorsIn lengthsFit bufferFits sectorsAfterAppend writtenAfterAppend pointersAfterReset durableAfterFlush zoneAtCell deviceOf pointersBad formatVerdict formatOn freshState flushVerdict flushOn writeVerdict writeOn resetVerdict resetOn stateShown lookVerdict lookOn mountVerdict storesBefore mountStoresOn mountShownOn mountOn readNumber valuesOn readOn peekNumber peekOn
+unfolding tablesOpen
 stopped-in-order = refl
 
 cut-sized : WellSized small (s11 .memory)
 cut-sized = record { sectors-long = stopped-sized .sectors-long; written-long = stopped-sized .durable-long; durable-long = stopped-sized .durable-long }
 
 pub duties-done : Dutiful small vol s0 history
-unfolding zonePlace logPlace formatStores writeStores zoneContent writeWith entryAt flushStores resetStores mountStores mountPhases phasesBeforeEntries mountLook mountShows afterOpening labelStep resetEntryStep zoneResetStep counterStep countersDiffer sealStep tornRowStep fillStep entryStep encode frame labelBytes readFields kindOf startOf endOf genOf generalHeads generalEnding parityEntries parityEnding isLost isPresent badPointers twoLost badLabels badLogs generationOf resetSeen sealSeen sealLimit zoneView valueAt pointerAt cleanAt zoneAt zoneShown showing viewOf driveOf sectorOf needed stripeOf unitIndex rowIndex parityDrive stripeLength unitDrive unitOf address addressAt zoneSectors log2 wornGeneration rowXor contentAt rowXorBelow callPresent isValid stateWithin twoAbsent twoUnnamed stale unusedBelow writeFull goneIn goneBefore notHeld formatRows lookRows mountRows writeRows flushRows resetRows readRows peekRows lostIn leftOut namedDrives sectorsIn lengthsFit bufferFits sectorsAfterAppend writtenAfterAppend pointersAfterReset durableAfterFlush zoneAtCell deviceOf pointersBad formatVerdict formatOn freshState flushVerdict flushOn writeVerdict writeOn resetVerdict resetOn stateShown lookVerdict lookOn mountVerdict storesBefore mountStoresOn mountShownOn mountOn readNumber valuesOn readOn peekNumber peekOn
+unfolding tablesOpen
 duties-done =
     done (names-all s0 refl, refl, tt) (done (names-all s1 refl, refl, tt) (done (names-all s2 refl, refl, tt) (done (names-all s3 refl, tt)
     (done (names-all s4 refl, refl) (done (names-all s5 refl, refl, tt) (done (names-all s6 refl, refl, tt) (done (names-all s7 refl, refl, tt)
@@ -262,5 +253,5 @@ duties-done =
 
 -- ---- and what the promise says of it
 pub history-keeps-the-promise : Throughout small vol s0 history
-unfolding zonePlace logPlace formatStores writeStores zoneContent writeWith entryAt flushStores resetStores mountStores mountPhases phasesBeforeEntries mountLook mountShows afterOpening labelStep resetEntryStep zoneResetStep counterStep countersDiffer sealStep tornRowStep fillStep entryStep encode frame labelBytes readFields kindOf startOf endOf genOf generalHeads generalEnding parityEntries parityEnding isLost isPresent badPointers twoLost badLabels badLogs generationOf resetSeen sealSeen sealLimit zoneView valueAt pointerAt cleanAt zoneAt zoneShown showing viewOf driveOf sectorOf needed stripeOf unitIndex rowIndex parityDrive stripeLength unitDrive unitOf address addressAt zoneSectors log2 wornGeneration rowXor contentAt rowXorBelow callPresent isValid stateWithin twoAbsent twoUnnamed stale unusedBelow writeFull goneIn goneBefore notHeld formatRows lookRows mountRows writeRows flushRows resetRows readRows peekRows lostIn leftOut namedDrives sectorsIn lengthsFit bufferFits sectorsAfterAppend writtenAfterAppend pointersAfterReset durableAfterFlush zoneAtCell deviceOf pointersBad formatVerdict formatOn freshState flushVerdict flushOn writeVerdict writeOn resetVerdict resetOn stateShown lookVerdict lookOn mountVerdict storesBefore mountStoresOn mountShownOn mountOn readNumber valuesOn readOn peekNumber peekOn
+unfolding tablesOpen
 history-keeps-the-promise = tables-keep-the-promise small every 7 held noStop zeros (lit< tt) refl history duties-done

@@ -1,0 +1,62 @@
+-- What an example computes through, in groups. To unfold one of these names is to unfold all that its line names; the names say nothing else.
+use mathlib.Core.Bool.{Bool, true}
+use Rattle.tables.specs.meaning.Geometry.{log2, zoneSectors}
+use Rattle.tables.specs.meaning.GeometryTest.{isValid}
+use Rattle.tables.specs.meaning.Placement.{stripeLength, parityDrive, unitDrive, unitOf, stripeOf, unitIndex, rowIndex, driveOf, sectorOf, address, addressAt, needed}
+use Rattle.tables.specs.meaning.Tables.{bufferFits, lengthsFit, zonePlace, logPlace, sectorsAfterAppend, writtenAfterAppend, pointersAfterReset, durableAfterFlush, zoneAtCell, deviceOf, pointersBad}
+use Rattle.logs.specs.meaning.Entry.{wornGeneration, encode, frame, labelBytes, readFields, kindOf, startOf, endOf, genOf}
+use Rattle.volume.specs.meaning.Content.{rowXor, contentAt, rowXorBelow, entryAt}
+use Rattle.volume.specs.meaning.Rules.{viewOf, generalHeads, generalEnding, parityEntries, parityEnding, isLost, isPresent, generationOf, resetSeen, sealSeen, sealLimit, zoneView, valueAt, pointerAt, cleanAt, zoneAt, zoneShown, showing}
+use Rattle.volume.specs.meaning.State.{callPresent}
+use Rattle.volume.specs.meaning.Answers.{lostIn, leftOut, namedDrives, sectorsIn}
+use Rattle.volume.specs.meaning.Refusals.{badPointers, twoLost, badLabels, badLogs, stateWithin, twoAbsent, twoUnnamed, stale, unusedBelow, writeFull, goneIn, goneBefore, notHeld, formatRows, lookRows, mountRows, writeRows, flushRows, resetRows, readRows, peekRows}
+use Rattle.volume.specs.meaning.Calls.{formatStores, writeStores, zoneContent, writeWith, flushStores, resetStores}
+use Rattle.volume.specs.meaning.Mount.{mountStores, mountPhases, phasesBeforeEntries, mountLook, mountShows, afterOpening, labelStep, resetEntryStep, zoneResetStep, counterStep, countersDiffer, sealStep, tornRowStep, fillStep, entryStep}
+use Rattle.volume.specs.meaning.CallContracts.{formatVerdict, formatOn, freshState, flushVerdict, flushOn, writeVerdict, writeOn, resetVerdict, resetOn, stateShown, lookVerdict, lookOn, mountVerdict, storesBefore, mountStoresOn, mountShownOn, mountOn, readNumber, valuesOn, readOn, peekNumber, peekOn}
+
+-- geometry and placement
+unfoldable pub placementOpen : Bool
+unfolding isValid log2 zoneSectors stripeLength parityDrive unitDrive unitOf stripeOf unitIndex rowIndex driveOf sectorOf address addressAt needed
+placementOpen = true
+
+-- entries and their bytes
+unfoldable pub entriesOpen : Bool
+unfolding wornGeneration encode frame labelBytes readFields kindOf startOf endOf genOf rowXor contentAt rowXorBelow entryAt
+entriesOpen = true
+
+-- what the drives show
+unfoldable pub rulesOpen : Bool
+unfolding viewOf generalHeads generalEnding parityEntries parityEnding isLost isPresent callPresent generationOf resetSeen sealSeen sealLimit zoneView valueAt pointerAt cleanAt zoneAt zoneShown showing
+rulesOpen = true
+
+-- refusals
+unfoldable pub refusalsOpen : Bool
+unfolding lengthsFit bufferFits badPointers twoLost badLabels badLogs stateWithin twoAbsent twoUnnamed stale unusedBelow writeFull goneIn goneBefore notHeld
+refusalsOpen = true
+
+unfoldable pub refusalRowsOpen : Bool
+unfolding formatRows lookRows mountRows writeRows flushRows resetRows readRows peekRows
+refusalRowsOpen = true
+
+-- the calls' stores, and what they hand on
+unfoldable pub storesOpen : Bool
+unfolding formatStores writeStores zoneContent writeWith flushStores resetStores lostIn leftOut namedDrives sectorsIn
+storesOpen = true
+
+-- the mount's steps
+unfoldable pub mountOpen : Bool
+unfolding mountStores mountPhases phasesBeforeEntries mountLook mountShows afterOpening labelStep resetEntryStep zoneResetStep counterStep countersDiffer sealStep tornRowStep fillStep entryStep
+mountOpen = true
+
+-- ---- a case on the device, and one on the tables
+unfoldable pub deviceOpen : Bool
+unfolding placementOpen entriesOpen rulesOpen refusalsOpen refusalRowsOpen storesOpen mountOpen
+deviceOpen = true
+
+unfoldable pub contractsOpen : Bool
+unfolding formatVerdict formatOn freshState flushVerdict flushOn writeVerdict writeOn resetVerdict resetOn stateShown lookVerdict lookOn mountVerdict storesBefore mountStoresOn mountShownOn mountOn readNumber valuesOn readOn peekNumber peekOn
+contractsOpen = true
+
+unfoldable pub tablesOpen : Bool
+unfolding deviceOpen contractsOpen zonePlace logPlace sectorsAfterAppend writtenAfterAppend pointersAfterReset durableAfterFlush zoneAtCell deviceOf pointersBad
+tablesOpen = true

@@ -38,7 +38,7 @@ use Rattle.promise.specs.calls.FlushKeeps.{MoreDurable, more-durable-flu
 use Rattle.promise.specs.invariant.EmptiedZone.{MadeEmpty, made-empty-rest}
 use Rattle.promise.specs.calls.ResetDevices.{After, grown, after-logs, generation-after, more-after}
 use Rattle.volume.specs.laws.Counters.{generations-at}
-use Rattle.promise.specs.calls.ResetStages.{here as hereOf, resetEntry as resetEntryOf, resetEntries as resetEntriesOf, raisedCounters as raisedCountersOf, bothEntries as bothEntriesOf, bytes as bytesOf, loggingDevice as loggingDeviceOf, resettingDevice as resettingDeviceOf, countingDevice as countingDeviceOf, general≢ as general≢Of, at-zone as at-zoneOf, at-other as at-otherOf, both-entries-are as both-entries-areOf, both-entries-few as both-entries-fewOf, loggingGhost as loggingGhostOf, countingGhost as countingGhostOf, settled-at as settled-atOf, logging-inv as logging-invOf, general-length as general-lengthOf, entries-after as entries-afterOf, generation-lt as generation-ltOf, resetting-inv as resetting-invOf, counting-inv as counting-invOf}
+use Rattle.promise.specs.calls.ResetStages as stages
 
 pub front-is-part : (a b : ZoneView) → FrontOf (a .sectors) (a .durable) b → Part a b
 front-is-part a b k = record { front = k .pre; least = k .dur; most = k .wf }
@@ -46,73 +46,73 @@ front-is-part a b k = record { front = k .pre; least = k .dur; most = k .wf }
 module _ (g : Geometry) (ok : Valid g) (x : ℕ) (v : Device) (state : StateView) (l : Ledger) (γ : Ghost) (r : Rest g x v state l γ) (z : ℕ) (rk : ResetOk g (presentBut g x) v state z) where
   -- ---- from ResetStages.antt
   here : RestZone g x v state l γ z
-  here = hereOf g ok x v state l γ r z rk
+  here = stages.here g ok x v state l γ r z rk
 
   abbrev resetEntry : Header
-  resetEntry = resetEntryOf g ok x v state l γ r z rk
+  resetEntry = stages.resetEntry g ok x v state l γ r z rk
 
   abbrev resetEntries : ℕ → List Header
-  resetEntries = resetEntriesOf g ok x v state l γ r z rk
+  resetEntries = stages.resetEntries g ok x v state l γ r z rk
 
   abbrev raisedCounters : Header
-  raisedCounters = raisedCountersOf g ok x v state l γ r z rk
+  raisedCounters = stages.raisedCounters g ok x v state l γ r z rk
 
   abbrev bothEntries : ℕ → List Header
-  bothEntries = bothEntriesOf g ok x v state l γ r z rk
+  bothEntries = stages.bothEntries g ok x v state l γ r z rk
 
   abbrev bytes : ℕ → List Header → List (List ℕ)
-  bytes = bytesOf g ok x v state l γ r z rk
+  bytes = stages.bytes g ok x v state l γ r z rk
 
   abbrev loggingDevice : Device
-  loggingDevice = loggingDeviceOf g ok x v state l γ r z rk
+  loggingDevice = stages.loggingDevice g ok x v state l γ r z rk
 
   abbrev resettingDevice : Device
-  resettingDevice = resettingDeviceOf g ok x v state l γ r z rk
+  resettingDevice = stages.resettingDevice g ok x v state l γ r z rk
 
   abbrev countingDevice : Device
-  countingDevice = countingDeviceOf g ok x v state l γ r z rk
+  countingDevice = stages.countingDevice g ok x v state l γ r z rk
 
   general≢ : generalZone ≢ dataZone z
-  general≢ = general≢Of g ok x v state l γ r z rk
+  general≢ = stages.general≢ g ok x v state l γ r z rk
 
   at-zone : (d : ℕ) → (resettingDevice d (dataZone z) ≡ record { sectors = v d (dataZone z) .sectors; durable = zero }) × (countingDevice d (dataZone z) ≡ blankZone) × (loggingDevice d (dataZone z) ≡ v d (dataZone z))
-  at-zone = at-zoneOf g ok x v state l γ r z rk
+  at-zone = stages.at-zone g ok x v state l γ r z rk
 
   at-other : (d y : ℕ) → y ≢ generalZone → y ≢ dataZone z → (resettingDevice d y ≡ v d y) × (countingDevice d y ≡ v d y) × (loggingDevice d y ≡ v d y)
-  at-other = at-otherOf g ok x v state l γ r z rk
+  at-other = stages.at-other g ok x v state l γ r z rk
 
   both-entries-are : (d : ℕ) (h : Header) → List·Memᴰ h (bothEntries d) → ((h ≡ resetEntry) × (logsReset g z d ≡ true)) ⊎ (h ≡ raisedCounters)
-  both-entries-are = both-entries-areOf g ok x v state l γ r z rk
+  both-entries-are = stages.both-entries-are g ok x v state l γ r z rk
 
   both-entries-few : (d : ℕ) → length (bothEntries d) ≤ 2
-  both-entries-few = both-entries-fewOf g ok x v state l γ r z rk
+  both-entries-few = stages.both-entries-few g ok x v state l γ r z rk
 
   abbrev loggingGhost : Ghost
-  loggingGhost = loggingGhostOf g ok x v state l γ r z rk
+  loggingGhost = stages.loggingGhost g ok x v state l γ r z rk
 
   abbrev countingGhost : Ghost
-  countingGhost = countingGhostOf g ok x v state l γ r z rk
+  countingGhost = stages.countingGhost g ok x v state l γ r z rk
 
   settled-at : (w : Device) (T : ℕ → List Header) → After g ok x v state l γ r z rk w T → (y : ℕ) → y < g .zones → y ≢ z → (d : ℕ) → Here g x d → MoreDurable (v d (dataZone y)) (w d (dataZone y))
-  settled-at = settled-atOf g ok x v state l γ r z rk
+  settled-at = stages.settled-at g ok x v state l γ r z rk
 
   logging-inv : Inv g x loggingDevice (afterStoppedReset l z) loggingGhost
-  logging-inv = logging-invOf g ok x v state l γ r z rk
+  logging-inv = stages.logging-inv g ok x v state l γ r z rk
 
   general-length : (d : ℕ) → Here g x d → length (γ .general d) ≡ length (v d generalZone .sectors)
-  general-length = general-lengthOf g ok x v state l γ r z rk
+  general-length = stages.general-length g ok x v state l γ r z rk
 
   entries-after : (w : Device) (T : ℕ → List Header) → After g ok x v state l γ r z rk w T → Entries g x (grown g ok x v state l γ r z rk (γ .laid) (γ .generation) T) z (λ n. n ≤ γ .generation z)
-  entries-after = entries-afterOf g ok x v state l γ r z rk
+  entries-after = stages.entries-after g ok x v state l γ r z rk
 
   generation-lt : γ .generation z < wornGeneration
-  generation-lt = generation-ltOf g ok x v state l γ r z rk
+  generation-lt = stages.generation-lt g ok x v state l γ r z rk
 
   resetting-inv : Inv g x resettingDevice (afterStoppedReset l z) loggingGhost
-  resetting-inv = resetting-invOf g ok x v state l γ r z rk
+  resetting-inv = stages.resetting-inv g ok x v state l γ r z rk
 
   counting-inv : Inv g x countingDevice (afterStoppedReset l z) countingGhost
-  counting-inv = counting-invOf g ok x v state l γ r z rk
+  counting-inv = stages.counting-inv g ok x v state l γ r z rk
 
   -- ---- what each place sees of the phases
   abbrev phase0 : ℕ → List Store
@@ -240,8 +240,12 @@ module _ (g : Geometry) (ok : Valid g) (x : ℕ) (v : Device) (state : StateView
     lastingZ d a = r .logs .lasting d (dataZone z) a (omega (arith, rk .zone-ok))
 
     logging-log : (d : ℕ) → Here g x d → (i : ℕ) (os : List LocalStore) → i < 2 → SeenPart (tableLog d) i os → Part (loggingDevice d generalZone) (applyAllHere os (v d generalZone))
-    logging-log d a i os h s = front-is-part (loggingDevice d generalZone) (applyAllHere os (v d generalZone)) (front-part (v d generalZone .sectors ++ bytes d (resetEntries d)) (v d generalZone .durable) (v d generalZone) os (map appendHere (bytes d (resetEntries d)) ++ (flushHere ∷ [])) (lasting0 d a) (le-refl (v d generalZone .durable)) (no-reset-appends (bytes d (resetEntries d)) (flushHere ∷ []) tt) (few i h s)
-        (rw (appends-here (bytes d (resetEntries d)) (flushHere ∷ []) (v d generalZone)) (prefix-refl (v d generalZone .sectors ++ bytes d (resetEntries d)))))
+    logging-log d a i os h s =
+        let log = v d generalZone in
+        let new = bytes d (resetEntries d) in
+        let after : Prefix (applyAllHere (map appendHere new ++ (flushHere ∷ [])) log .sectors) (log .sectors ++ new) = rw (appends-here new (flushHere ∷ []) log) (prefix-refl (log .sectors ++ new)) in
+        front-is-part (loggingDevice d generalZone) (applyAllHere os log)
+        (front-part (log .sectors ++ new) (log .durable) log os (map appendHere new ++ (flushHere ∷ [])) (lasting0 d a) (le-refl (log .durable)) (no-reset-appends new (flushHere ∷ []) tt) (few i h s) after)
       where
         few : (i : ℕ) → i < 2 → SeenPart (tableLog d) i os → Prefix os (map appendHere (bytes d (resetEntries d)) ++ (flushHere ∷ []))
         few zero h s = rw (s .is) (prefix-trans (s .pre) (prefix-append (map appendHere (bytes d (resetEntries d))) (flushHere ∷ [])))
@@ -273,7 +277,10 @@ module _ (g : Geometry) (ok : Valid g) (x : ℕ) (v : Device) (state : StateView
         let p : Prefix t2 (appendHere (encode g d raisedCounters) ∷ flushHere ∷ []) = seen-prefix ((appendHere (encode g d raisedCounters) ∷ []) ∷ (flushHere ∷ []) ∷ []) j t2 u2 in
         let q : (v d generalZone .sectors ++ bytes d (resetEntries d)) ++ (encode g d raisedCounters ∷ []) ≡ v d generalZone .sectors ++ bytes d (bothEntries d) =
         append-assoc (v d generalZone .sectors) (bytes d (resetEntries d)) (encode g d raisedCounters ∷ []) ∙ ap (λ (b : List (List ℕ)). v d generalZone .sectors ++ b) (sym (map-append (encode g d) (resetEntries d) (raisedCounters ∷ []))) in
-        rw (e, e2) (front-is-part (countingDevice d generalZone) (applyAllHere t2 (flushed c)) (front-part (v d generalZone .sectors ++ bytes d (bothEntries d)) (length (c .sectors)) (flushed c) t2 (appendHere (encode g d raisedCounters) ∷ flushHere ∷ []) (le-refl (length (c .sectors))) (le-refl (length (c .sectors))) tt p (rw q (prefix-refl (v d generalZone .sectors ++ bytes d (bothEntries d))))))
+        let all = v d generalZone .sectors ++ bytes d (bothEntries d) in
+        let lasts = le-refl (length (c .sectors)) in
+        rw (e, e2) (front-is-part (countingDevice d generalZone) (applyAllHere t2 (flushed c))
+        (front-part all (length (c .sectors)) (flushed c) t2 (appendHere (encode g d raisedCounters) ∷ flushHere ∷ []) lasts lasts tt p (rw q (prefix-refl all))))
 
     logging-zone : (d : ℕ) → Here g x d → (i : ℕ) (os : List LocalStore) → i < 2 → SeenPart tableZone i os → Part (loggingDevice d (dataZone z)) (applyAllHere os (v d (dataZone z)))
     logging-zone d a i os h s = rw (at-zone d .2) (front-is-part (v d (dataZone z)) (applyAllHere os (v d (dataZone z))) (front-part (v d (dataZone z) .sectors) (v d (dataZone z) .durable) (v d (dataZone z)) os (flushHere ∷ []) (lastingZ d a) (le-refl (v d (dataZone z) .durable)) tt (few i h s) (prefix-refl (v d (dataZone z) .sectors))))

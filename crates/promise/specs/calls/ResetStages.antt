@@ -216,7 +216,10 @@ module _ (g : Geometry) (ok : Valid g) (x : ℕ) (v : Device) (state : StateView
       cuts y h = generation-kept g ok x v state l γ r z rk resettingDevice resetEntries resettingAfter only-reset-entries y h
 
       zone : (y : ℕ) → y < g .zones → Dec (y ≡ z) → Live g x resettingDevice loggingGhost (afterStoppedReset l z) y ⊎ Dying g x resettingDevice loggingGhost (afterStoppedReset l z) y
-      zone y h (no n) = inl (untouched-live g x v resettingDevice γ loggingGhost l (afterStoppedReset l z) y (r .logs) (more-after g ok x v state l γ r z rk resettingDevice resetEntries resettingAfter (γ .laid) (γ .generation) (afterStoppedReset l z) y h refl refl refl refl (flag-stays y) (flag-own y) (cuts y h) (settled-at resettingDevice resetEntries resettingAfter y h n)) (r .zones y h .live))
+      zone y h (no n) =
+          let still = settled-at resettingDevice resetEntries resettingAfter y h n in
+          let more = more-after g ok x v state l γ r z rk resettingDevice resetEntries resettingAfter (γ .laid) (γ .generation) (afterStoppedReset l z) y h refl refl refl refl (flag-stays y) (flag-own y) (cuts y h) still in
+          inl (untouched-live g x v resettingDevice γ loggingGhost l (afterStoppedReset l z) y (r .logs) more (r .zones y h .live))
       zone y h (yes e) = inr (rw e (record {
         idle = inr flag-up;
         generation-top = generation-lt;

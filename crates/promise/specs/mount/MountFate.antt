@@ -228,8 +228,8 @@ module _ (g : Geometry) (ok : Valid g) (x : ℕ) (w : Device) (γ : Ghost) (lg :
       }))
         where
           shape : Dec (generationOf g (presentBut g x) w z ≡ wornGeneration)
-              → ((conditionOf (generationOf g (presentBut g x) w z) (pointerAt g (presentBut g x) w z (generationOf g (presentBut g x) w z)) (cleanAt g (presentBut g x) w z (generationOf g (presentBut g x) w z) (pointerAt g (presentBut g x) w z (generationOf g (presentBut g x) w z))) (sealSeen g (presentBut g x) w z (generationOf g (presentBut g x) w z)) ≡ Empty) × (generationOf g (presentBut g x) w z < wornGeneration))
-              ⊎ ((conditionOf (generationOf g (presentBut g x) w z) (pointerAt g (presentBut g x) w z (generationOf g (presentBut g x) w z)) (cleanAt g (presentBut g x) w z (generationOf g (presentBut g x) w z) (pointerAt g (presentBut g x) w z (generationOf g (presentBut g x) w z))) (sealSeen g (presentBut g x) w z (generationOf g (presentBut g x) w z)) ≡ Worn zero) × (generationOf g (presentBut g x) w z ≡ wornGeneration))
+              → let m = generationOf g (presentBut g x) w z in let n = pointerAt g (presentBut g x) w z m in let c = conditionOf m n (cleanAt g (presentBut g x) w z m n) (sealSeen g (presentBut g x) w z m) in
+              ((c ≡ Empty) × (m < wornGeneration)) ⊎ ((c ≡ Worn zero) × (m ≡ wornGeneration))
           shape (yes q) = inr (rw (eq-eqb (generationOf g (presentBut g x) w z) wornGeneration q, p1) refl, q)
           shape (no q) = inl (rw (ne-eqb (generationOf g (presentBut g x) w z) wornGeneration q, p1) refl, omega (arith, top-most, q))
 

@@ -127,7 +127,12 @@ module _ (g : Geometry) (ok : Valid g) (x : ℕ) (w : Device) (γ : Ghost) (l : 
 
     content-shown : afterMount K .content z ≡ l′ .content z
     unfolding γ′ l′
-    content-shown = ap (tabulateFrom (K .zone z .value) zero) pointer-shown ∙ tab-take (K .zone z .value) (laidNow (k .zone z .condition) (γ .laid z)) (shownPointer z) (let h = content-length in let h2 : length (take (shownPointer z) (laidNow (k .zone z .condition) (γ .laid z))) ≡ min (shownPointer z) (length (laidNow (k .zone z .condition) (γ .laid z))) = rw length-take refl in unfold l′ in omega (arith, h, h2)) values
+    content-shown =
+        let laid = laidNow (k .zone z .condition) (γ .laid z) in
+        let h = content-length in
+        let h2 : length (take (shownPointer z) laid) ≡ min (shownPointer z) (length laid) = rw length-take refl in
+        let reach : shownPointer z ≤ length laid = omega (arith, h, h2) in
+        ap (tabulateFrom (K .zone z .value) zero) pointer-shown ∙ tab-take (K .zone z .value) laid (shownPointer z) reach values
 
     live-end : Live g x u γ′ (afterMount K) z
     live-end = live-here g x u γ′ (afterMount K) z (

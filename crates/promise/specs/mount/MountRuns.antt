@@ -80,7 +80,9 @@ module _ (g : Geometry) (x : ℕ) (xs : List Store) where
   step-local : (d y : ℕ) → Here g x d → ((localStores d y stepStores ≡ localStores d y xs ++ (flushHere ∷ [])) ⊎ ((localStores d y stepStores ≡ []) × (localStores d y xs ≡ [])))
   step-local d y a = go (isNil (onPresent (presentBut g x) xs)) refl
     where
-      go : (b : Bool) → isNil (onPresent (presentBut g x) xs) ≡ b → ((localStores d y (onPresent (presentBut g x) xs ++ (pick b [] (onPresent (presentBut g x) (flushAll (g .drives))) ++ [])) ≡ localStores d y xs ++ (flushHere ∷ [])) ⊎ ((localStores d y (onPresent (presentBut g x) xs ++ (pick b [] (onPresent (presentBut g x) (flushAll (g .drives))) ++ [])) ≡ []) × (localStores d y xs ≡ [])))
+      go : (b : Bool) → isNil (onPresent (presentBut g x) xs) ≡ b
+          → let seen = localStores d y (onPresent (presentBut g x) xs ++ (pick b [] (onPresent (presentBut g x) (flushAll (g .drives))) ++ [])) in
+          (seen ≡ localStores d y xs ++ (flushHere ∷ [])) ⊎ ((seen ≡ []) × (localStores d y xs ≡ []))
       go true e =
           let n : onPresent (presentBut g x) xs ≡ [] = is-nil (onPresent (presentBut g x) xs) e in
           let q : localStores d y xs ≡ [] = sym (on-present-local (presentBut g x) d y xs a) ∙ rw n refl in

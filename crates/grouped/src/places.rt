@@ -9,7 +9,7 @@ ghost use lib.Dec.{eqb};
 ghost use Rattle.tables.specs.meaning.Below.{anyBelow};
 ghost use Rattle.grouped.specs.meaning.Segment.{totalBlocks};
 ghost use Rattle.grouped.specs.meaning.Stripes.{wrongDrive, wrongIDs};
-ghost use Rattle.grouped.specs.laws.Segment.{Valid, Lent};
+ghost use Rattle.grouped.specs.laws.Segment.{Valid, Sized};
 ghost use Rattle.grouped.specs.laws.Words.{word};
 ghost use Rattle.grouped.specs.places.Places.{notePlace, placedDrive, Noted};
 
@@ -34,7 +34,7 @@ pub fn cell_of(s: Segment, d: usize, i: usize) -> usize
 
 // Notes block i of drive d as its stripe's, unless its stripe ID is none.
 fn note_place(metadata: &[u8], work: &mut [u8], s: Segment, d: usize, i: usize)
-    requires { ⌜ Lent s (now metadata) (now work) ⌝ }
+    requires { ⌜ Sized s (now metadata) (now work) ⌝ }
     requires { ⌜ (d < s .drives) × (i < s .blocks) ⌝ }
     ensures { λ _. ⌜ now (work .exit) ≡ notePlace s (now (metadata .entry)) d i (now (work .entry)) ⌝ }
 {
@@ -51,7 +51,7 @@ fn note_place(metadata: &[u8], work: &mut [u8], s: Segment, d: usize, i: usize)
 
 // Notes every block of a drive.
 fn place_drive(metadata: &[u8], work: &mut [u8], s: Segment, d: usize)
-    requires { ⌜ Lent s (now metadata) (now work) ⌝ }
+    requires { ⌜ Sized s (now metadata) (now work) ⌝ }
     requires { ⌜ d < s .drives ⌝ }
     ensures { λ _. ⌜ now (work .exit) ≡ placedDrive s (now (metadata .entry)) d (s .blocks) (now (work .entry)) ⌝ }
 {
@@ -83,7 +83,7 @@ fn drive_lacks(work: &[u8], s: Segment, d: usize) -> bool
 
 // Notes every block of a drive that is not missing; whether it lacks one.
 fn place_present(metadata: &[u8], work: &mut [u8], s: Segment, missing: usize, d: usize) -> bool
-    requires { ⌜ Lent s (now metadata) (now work) ⌝ }
+    requires { ⌜ Sized s (now metadata) (now work) ⌝ }
     requires { ⌜ (d < s .drives) × Noted s (now metadata) missing d (now work) ⌝ }
     ensures { λ r. ⌜ (r ≡ (not (eqb d missing) && wrongDrive s (now (metadata .entry)) d)) × Noted s (now (metadata .entry)) missing (d + 1) (now (work .exit)) ⌝ }
 {
@@ -97,7 +97,7 @@ fn place_present(metadata: &[u8], work: &mut [u8], s: Segment, missing: usize, d
 // Refusal 23: notes where all blocks lie; whether some present drive lacks a stripe ID in some group. Where one is lacking another is there twice, and the
 // other way round.
 pub fn place_all(metadata: &[u8], work: &mut [u8], s: Segment, missing: usize) -> bool
-    requires { ⌜ Lent s (now metadata) (now work) ⌝ }
+    requires { ⌜ Sized s (now metadata) (now work) ⌝ }
     ensures { λ r. ⌜ (r ≡ wrongIDs s (now (metadata .entry)) missing) × Noted s (now (metadata .entry)) missing (s .drives) (now (work .exit)) ⌝ }
 {
     tables::sectors::clear(work);

@@ -5,7 +5,7 @@ ghost use Prim.Native.Nat.{_*_, _≤_, _<_};
 ghost use lib.ListN.{length};
 ghost use Rattle.grouped.specs.meaning.Segment.{totalBlocks};
 ghost use Rattle.grouped.specs.meaning.Reading.{laterOf, newest, inputNumber, metadataNumber, request, groupedNumber, groupedLeft};
-ghost use Rattle.grouped.specs.laws.Segment.{Valid, Lent};
+ghost use Rattle.grouped.specs.laws.Segment.{Valid, Sized};
 ghost use Rattle.grouped.specs.places.Placed.{Placed, Found};
 ghost use Rattle.grouped.specs.reading.Blocks.{addBlock, rebuiltBlock, blockNotedAt, MetadataRead};
 
@@ -120,7 +120,7 @@ fn read_block(blocks: &[u8], work: &[u8], s: Segment, missing: usize, c: usize, 
 
 // What the metadata refuse, 23 or 24; 0 if nothing.
 fn metadata_refusal(metadata: &[u8], work: &mut [u8], s: Segment, missing: usize) -> u32
-    requires { ⌜ Lent s (now metadata) (now work) ⌝ }
+    requires { ⌜ Sized s (now metadata) (now work) ⌝ }
     requires { ⌜ missing ≤ 255 ⌝ }
     ensures { λ r. ⌜ MetadataRead s (now (metadata .entry)) missing (now (work .exit)) r ⌝ }
 {

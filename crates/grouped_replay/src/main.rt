@@ -85,8 +85,8 @@ fn cells(s: Segment) -> usize
     memory::bounded(all, memory::NONE)
 }
 
-// How much of the memory is lent to a read.
-fn lent(h: Host, most: Sizes) -> Sizes
+// How much of the memory a read is handed.
+fn sizes_for(h: Host, most: Sizes) -> Sizes
     ensures { λ r. ⌜ (r .blocks ≤ most .blocks) × (r .metadata ≤ most .metadata) × (r .work ≤ most .work) × (r .answer ≤ most .answer) ⌝ }
 {
     let s = h.made;
@@ -108,8 +108,8 @@ fn lent(h: Host, most: Sizes) -> Sizes
     }
 }
 
-// A read of lent memory.
-fn read_lent(
+// A read of the memory's first parts.
+fn read_prefixes(
     blocks: &[u8],
     metadata: &[u8],
     work: &mut [u8],
@@ -151,11 +151,11 @@ fn read(
         work: work.len(),
         answer: answer.len(),
     };
-    let t = lent(h, most);
+    let t = sizes_for(h, most);
     let n = t.answer;
     let s = h.handed;
     prefill(answer);
-    let code = read_lent(blocks, metadata, work, &mut answer[..n], t, s, c);
+    let code = read_prefixes(blocks, metadata, work, &mut answer[..n], t, s, c);
     let sum = replaying::checksum::adler_of(&answer[..n]);
     Reply { code, sum }
 }

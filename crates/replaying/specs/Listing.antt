@@ -29,22 +29,22 @@ addUntouched s = addNumber (addNumber (addNumber (addNumber s untouched) untouch
 
 -- descriptor z of a list of so many
 unfoldable pub addListed : Geometry → StateView → ℕ → Sums → ℕ → Sums
-addListed g state lent s z = pick (ltb z (reportNumber g state lent)) (addDescriptor s (descriptorOf g z (state .condition z))) (addUntouched s)
+addListed g state room s z = pick (ltb z (reportNumber g state room)) (addDescriptor s (descriptorOf g z (state .condition z))) (addUntouched s)
 
 -- the first k of them
 abbrev pub listedSums : Geometry → StateView → ℕ → ℕ → Sums
-listedSums g state lent zero = startSums
-listedSums g state lent (suc k) = addListed g state lent (listedSums g state lent k) k
+listedSums g state room zero = startSums
+listedSums g state room (suc k) = addListed g state room (listedSums g state room k) k
 
 unfoldable pub listSum : Host → Command → ℕ
 listSum h c = adlerNumber (listedSums (h .geometry) (viewState (h .state)) (c .first) (c .first))
 
 -- ---- laws: case by case
-module _ (g : Geometry) (state : StateView) (lent : ℕ) (s : Sums) (z : ℕ) where
-  pub listed-filled : z < reportNumber g state lent → addListed g state lent s z ≡ addDescriptor s (descriptorOf g z (state .condition z))
+module _ (g : Geometry) (state : StateView) (room : ℕ) (s : Sums) (z : ℕ) where
+  pub listed-filled : z < reportNumber g state room → addListed g state room s z ≡ addDescriptor s (descriptorOf g z (state .condition z))
   unfolding addListed
-  listed-filled h = rw (lt-ltb z (reportNumber g state lent) h) refl
+  listed-filled h = rw (lt-ltb z (reportNumber g state room) h) refl
 
-  pub listed-left : reportNumber g state lent ≤ z → addListed g state lent s z ≡ addUntouched s
+  pub listed-left : reportNumber g state room ≤ z → addListed g state room s z ≡ addUntouched s
   unfolding addListed
-  listed-left h = rw (le-ltb z (reportNumber g state lent) h) refl
+  listed-left h = rw (le-ltb z (reportNumber g state room) h) refl

@@ -41,11 +41,11 @@ fn add_untouched(s: Sums) -> Sums
 }
 
 // With the bytes of the list's next descriptor.
-fn add_listed(s: Sums, g: Geometry, state: State, lent: usize, z: usize) -> Sums
+fn add_listed(s: Sums, g: Geometry, state: State, room: usize, z: usize) -> Sums
     requires { ⌜ Small s ⌝ }
-    ensures { λ r. ⌜ (r ≡ addListed g (viewState state) lent s z) × Small r ⌝ }
+    ensures { λ r. ⌜ (r ≡ addListed g (viewState state) room s z) × Small r ⌝ }
 {
-    let n = volume::reporting::report_number(g, state, lent);
+    let n = volume::reporting::report_number(g, state, room);
     if z < n {
         let d = volume::reporting::describe(g, state, z);
         return add_descriptor(s, d);
@@ -59,8 +59,8 @@ pub fn report_filled(h: Host, c: Command) -> u64
 {
     let g = h.geometry;
     let state = h.state;
-    let lent = c.first as usize;
-    let n = volume::reporting::report_number(g, state, lent);
+    let room = c.first as usize;
+    let n = volume::reporting::report_number(g, state, room);
     n as u64
 }
 
@@ -70,11 +70,11 @@ pub fn list_sum(h: Host, c: Command) -> u64
 {
     let g = h.geometry;
     let state = h.state;
-    let lent = c.first as usize;
+    let room = c.first as usize;
     let mut s = super::checksum::start_sums();
     let mut z = 0;
-    while z < lent {
-        s = add_listed(s, g, state, lent, z);
+    while z < room {
+        s = add_listed(s, g, state, room, z);
         z += 1;
     }
     super::checksum::sum_number(s)

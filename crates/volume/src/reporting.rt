@@ -26,16 +26,16 @@ fn may_report(g: Geometry, state: State) -> bool
 }
 
 // How many descriptors are filled: as many as are lent but at most the zones; none if the report is refused.
-pub fn report_number(g: Geometry, state: State, lent: usize) -> usize
-    ensures { λ r. ⌜ r ≡ reportNumber g (viewState state) lent ⌝ }
+pub fn report_number(g: Geometry, state: State, room: usize) -> usize
+    ensures { λ r. ⌜ r ≡ reportNumber g (viewState state) room ⌝ }
 {
     let most = g.zones;
     let ok = may_report(g, state);
     if !ok {
         return 0;
     }
-    if lent < most {
-        return lent;
+    if room < most {
+        return room;
     }
     most
 }

@@ -68,7 +68,7 @@ find-most p (suc n) h = go (p n) (find-most p n (omega arith))
     go false k = k
 
 -- ---- what a call is lent, once refusals 1 and 2 are past
-pub record Lent (s : Segment) (ms ws : List ℕ) : Type 0 where
+pub record Sized (s : Segment) (ms ws : List ℕ) : Type 0 where
   pub valid : Valid s
   pub whole : s .blocks % s .group ≡ 0
   pub metadata-long : length ms ≡ totalBlocks s * 20

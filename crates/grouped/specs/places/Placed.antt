@@ -14,13 +14,13 @@ use Rattle.tables.specs.laws.Below.{any-below-false}
 use Rattle.grouped.specs.declared.Segment.{Segment}
 use Rattle.grouped.specs.meaning.Segment.{totalBlocks}
 use Rattle.grouped.specs.meaning.Stripes.{ofStripe, wrongDrive, wrongIDs, lastBelow, placeOf}
-use Rattle.grouped.specs.laws.Segment.{Lent, cell-in}
+use Rattle.grouped.specs.laws.Segment.{Sized, cell-in}
 use Rattle.grouped.specs.laws.Words.{word}
 use Rattle.grouped.specs.laws.Pigeonhole.{last-most}
 use Rattle.grouped.specs.places.Places.{Noted, wrong-drive-lacks}
 
 pub record Placed (s : Segment) (ms : List ℕ) (x : ℕ) (w : List ℕ) : Type 0 where
-  pub lent : Lent s ms w
+  pub sized : Sized s ms w
   pub missing-most : x ≤ 255
   pub noted : Noted s ms x (s .drives) w
   pub right : wrongIDs s ms x ≡ false
@@ -64,7 +64,7 @@ has-in s w d n h = let c = cell-in s d (word w (d * s .blocks + n) - 1) (h .driv
 
 pub placed-found : (s : Segment) (ms : List ℕ) (x : ℕ) (w : List ℕ) → Placed s ms x w → Found s x w
 placed-found s ms x w p = record {
-  work-long = p .lent .work-long;
+  work-long = p .sized .work-long;
   least = λ d n h ne k. rw (p .noted .here d n h ne k) (last-there s ms x d n (p .right) h ne k);
   most = λ d n h ne k. rw (p .noted .here d n h ne k) (last-most (ofStripe s ms d n) (s .blocks));
 }
@@ -80,7 +80,7 @@ place-in-total s x w d n f h ne k = omega (arith, has-in s w d n (found-has s x 
 -- ---- only the numbers of the first half count
 pub placed-kept : (s : Segment) (ms : List ℕ) (x : ℕ) (w u : List ℕ) → Placed s ms x w → length u ≡ length w → ((k : ℕ) → k < totalBlocks s → word u k ≡ word w k) → Placed s ms x u
 placed-kept s ms x w u p l same = record {
-  lent = record { valid = p .lent .valid; whole = p .lent .whole; metadata-long = p .lent .metadata-long; work-long = l ∙ p .lent .work-long };
+  sized = record { valid = p .sized .valid; whole = p .sized .whole; metadata-long = p .sized .metadata-long; work-long = l ∙ p .sized .work-long };
   missing-most = p .missing-most;
   noted = record {
     long = l ∙ p .noted .long;

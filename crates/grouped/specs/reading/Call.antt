@@ -14,7 +14,7 @@ use Rattle.tables.specs.laws.Basics.{and-split}
 use Rattle.grouped.specs.declared.Segment.{Segment}
 use Rattle.grouped.specs.meaning.Segment.{ranges, isValid, lengthsFit, twoMissing, missingDrive, totalBlocks}
 use Rattle.grouped.specs.meaning.Reading.{Request, inputNumber, metadataNumber, addressNumber, newest, orElse, groupedNumber, groupedLeft, blockIn}
-use Rattle.grouped.specs.laws.Segment.{Valid, Lent, ranged}
+use Rattle.grouped.specs.laws.Segment.{Valid, Sized, ranged}
 
 pub valid-if : (s : Segment) → isValid s ≡ true → Valid s
 unfolding isValid

@@ -49,8 +49,8 @@ sector-in-zone g p n h k = let l : suc p ≤ g .capacity = omega arith in rw suc
 pub zone-bytes-small : (g : Geometry) → Valid g → g .capacity * g .sector ≤ 268435456
 zone-bytes-small g ok = omega (arith, mul-le-mul {n₂ = 65536} {m₂ = 4096} (ok .zone-most) (ok .sector-most))
 
-pub zone-in-lent : (g : Geometry) (d z : ℕ) → d < g .drives → z < physicalZones g → cell g d z * (g .capacity * g .sector) + g .capacity * g .sector ≤ totalBytes g
-zone-in-lent g d z h k = rw (mul-assoc (cells g) (g .capacity) (g .sector)) (rw suc-mul at (mul-le-mul-right (g .capacity * g .sector) (cell-in g d z h k)))
+pub zone-in-sectors : (g : Geometry) (d z : ℕ) → d < g .drives → z < physicalZones g → cell g d z * (g .capacity * g .sector) + g .capacity * g .sector ≤ totalBytes g
+zone-in-sectors g d z h k = rw (mul-assoc (cells g) (g .capacity) (g .sector)) (rw suc-mul at (mul-le-mul-right (g .capacity * g .sector) (cell-in g d z h k)))
 
 -- ---- the zone's own sectors are the log's
 -- sector i of the c sectors that begin at sector k
@@ -69,7 +69,7 @@ part-sector B c k i xs h fits =
 pub zone-sectors-are-log : (g : Geometry) (d z n : ℕ) (xs : List ℕ) → InLog g d z n xs → sectorsIn (g .sector) (zoneBytes g d z xs) n ≡ logSectors g d z xs n
 zone-sectors-are-log g d z n xs ok =
     let start : cell g d z * (g .capacity * g .sector) ≡ cell g d z * g .capacity * g .sector = sym (mul-assoc (cell g d z) (g .capacity) (g .sector)) in
-    let fits : cell g d z * g .capacity * g .sector + g .capacity * g .sector ≤ length xs = omega (arith, start, zone-in-lent g d z (ok .drive-in) (ok .zone-in), ok .long) in
+    let fits : cell g d z * g .capacity * g .sector + g .capacity * g .sector ≤ length xs = omega (arith, start, zone-in-sectors g d z (ok .drive-in) (ok .zone-in), ok .long) in
     tabulate-cong (λ (i : ℕ). sectorNo (g .sector) (zoneBytes g d z xs) i) (λ (i : ℕ). sectorNo (g .sector) xs (cell g d z * g .capacity + i)) n
     (λ i l. ap (λ (m : ℕ). sectorNo (g .sector) (take (g .capacity * g .sector) (drop m xs)) i) start
     ∙ part-sector (g .sector) (g .capacity) (cell g d z * g .capacity) i xs (omega (arith, ok .short)) fits)
@@ -78,7 +78,7 @@ zone-sectors-are-log g d z n xs ok =
 pub zone-part-in-zone : (g : Geometry) (d z n : ℕ) (xs : List ℕ) → InLog g d z n xs → InZone g n (zoneBytes g d z xs)
 zone-part-in-zone g d z n xs ok =
     let start = cell g d z * (g .capacity * g .sector) in
-    let fits : g .capacity * g .sector ≤ length xs - start = omega (arith, zone-in-lent g d z (ok .drive-in) (ok .zone-in), ok .long) in
+    let fits : g .capacity * g .sector ≤ length xs - start = omega (arith, zone-in-sectors g d z (ok .drive-in) (ok .zone-in), ok .long) in
     record { short = ok .short; long = length-take-le (g .capacity * g .sector) (drop start xs) (rw length-drop fits) }
 
 -- so the log's legal part ends where the zone's own bytes say

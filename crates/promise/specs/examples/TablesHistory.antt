@@ -222,7 +222,7 @@ sector-kept B n xs ys j h k =
 loss-done : (t : Tables) → WellSized small t → (bs ws ds : List ℕ) → length bs ≡ 2304 → length ws ≡ 4 → length ds ≡ 4
     → TablesLoss small 2 t (record { sectors = overlay (t .sectors) 4608 bs; written = overlay (t .written) 8 ws; durable = overlay (t .durable) 8 ds })
 loss-done t w bs ws ds hb hw hd = record {
-  lent = record {
+  kept = record {
     sectors-long = length-overlay (t .sectors) 4608 bs (omega (arith, w .sectors-long));
     written-long = length-overlay (t .written) 8 ws (omega (arith, w .written-long));
     durable-long = length-overlay (t .durable) 8 ds (omega (arith, w .durable-long));

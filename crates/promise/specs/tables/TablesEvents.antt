@@ -17,7 +17,7 @@ use Rattle.tables.specs.meaning.Device.{Device, Store}
 use Rattle.tables.specs.meaning.Tables.{Tables, deviceOf, TablesCut, TablesLoss, pointersBad}
 use Rattle.tables.specs.laws.Tables.{device-length}
 use Rattle.tables.specs.laws.Made.{WellSized, FitsAll}
-use Rattle.tables.specs.laws.TablesRefine.{cut-refines, loss-refines, lent-sized}
+use Rattle.tables.specs.laws.TablesRefine.{cut-refines, loss-refines, kept-sized}
 use Rattle.tables.specs.laws.PointerOrder.{InOrder, order-passes, cut-order, loss-order}
 use Rattle.volume.specs.declared.State.{State}
 use Rattle.volume.specs.meaning.State.{StateView, callPresent}
@@ -225,7 +225,7 @@ module _ (g : Geometry) (ok : Valid g) (s : System (onTables g)) (o : TablesOk g
 -- ---- cuts and losses
 pub cut-event : (g : Geometry) → Valid g → (s : System (onTables g)) → TablesOk g s → (u : Tables) → TablesCut g (s .lost) (s .memory) u → TablesOk g (next g (onTables g) s (cuts u))
 cut-event g ok s o u c = record {
-  sized = lent-sized g (s .lost) (s .memory) u (c .lent) (o .sized);
+  sized = kept-sized g (s .lost) (s .memory) u (c .kept) (o .sized);
   order = λ d hd q. cut-order g (s .lost) d (s .memory) u c hd q (o .order d hd q);
   records = o .records;
   holds = event-keeps g ok (lengthsOf (s .memory)) (viewSystem g s) (o .holds) (cuts (deviceOf g u)) (cut-refines g (s .lost) (s .memory) u c);
@@ -233,7 +233,7 @@ cut-event g ok s o u c = record {
 
 pub loss-event : (g : Geometry) → Valid g → (s : System (onTables g)) → TablesOk g s → (d : ℕ) → d < g .drives → (s .lost ≡ noDrive) ⊎ (s .lost ≡ d) → (u : Tables) → TablesLoss g d (s .memory) u → TablesOk g (next g (onTables g) s (loses d u))
 loss-event g ok s o d h e u c = record {
-  sized = lent-sized g d (s .memory) u (c .lent) (o .sized);
+  sized = kept-sized g d (s .memory) u (c .kept) (o .sized);
   order = λ k hk q. loss-order g d k (s .memory) u c hk q (o .order k hk (before k hk q e));
   records = o .records;
   holds = event-keeps g ok (lengthsOf (s .memory)) (viewSystem g s) (o .holds) (loses d (deviceOf g u)) (h, e, loss-refines g d (s .memory) u c);

@@ -115,7 +115,7 @@ loss-order g x d t u c hd n o = record {
 -- there is always a cut: the one that leaves just what is durable
 pub cut-to-durable : (g : Geometry) (x : ℕ) (t : Tables) → WellSized g t → ((d : ℕ) → d < g .drives → d ≢ x → InOrder g d (t .written) (t .durable)) → TablesCut g x t (record { sectors = t .sectors; written = t .durable; durable = t .durable })
 cut-to-durable g x t w o = record {
-  lent = record { sectors-long = refl; written-long = w .durable-long ∙ sym (w .written-long); durable-long = refl; sectors-same = λ d z n hd hz h ne. refl };
+  kept = record { sectors-long = refl; written-long = w .durable-long ∙ sym (w .written-long); durable-long = refl; sectors-same = λ d z n hd hz h ne. refl };
   least = λ d z hd hz n. le-refl (getD (t .durable) (cell g d z) 0);
   most = λ d z hd hz n. o d hd n .durable-most z hz;
   durable-is = λ d z hd hz n. refl;
@@ -124,7 +124,7 @@ cut-to-durable g x t w o = record {
 -- and a loss: the one that leaves all as it is
 pub loss-none : (g : Geometry) (x : ℕ) (t : Tables) → TablesLoss g x t t
 loss-none g x t = record {
-  lent = record { sectors-long = refl; written-long = refl; durable-long = refl; sectors-same = λ d z n hd hz h ne. refl };
+  kept = record { sectors-long = refl; written-long = refl; durable-long = refl; sectors-same = λ d z n hd hz h ne. refl };
   written-same = λ d z hd hz n. refl;
   durable-same = λ d z hd hz n. refl;
 }

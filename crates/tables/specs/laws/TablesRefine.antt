@@ -21,7 +21,7 @@ use Rattle.tables.specs.laws.Lists.{length-overlay, overlay-inside, over
 use Rattle.tables.specs.meaning.Geometry.{physicalZones, cells}
 use Rattle.tables.specs.meaning.Device.{ZoneView, Device, Store, append, reset, flush, apply, applyAll, appended, blankZone, flushed, putZone, Cut, ZoneCut, Loss}
 use Rattle.tables.specs.laws.Device.{put-zone-same, put-zone-other-drive, put-zone-other-zone, At, here, otherDrive, otherZone, at}
-use Rattle.tables.specs.meaning.Tables.{hasRoom, Tables, zonePlace, firstCell, cell, byteAt, sectorNo, sectorsAfterAppend, writtenAfterAppend, pointersAfterReset, durableAfterFlush, makeStore, runStores, zoneAtCell, deviceOf, SameLent, TablesCut, TablesLoss}
+use Rattle.tables.specs.meaning.Tables.{hasRoom, Tables, zonePlace, firstCell, cell, byteAt, sectorNo, sectorsAfterAppend, writtenAfterAppend, pointersAfterReset, durableAfterFlush, makeStore, runStores, zoneAtCell, deviceOf, SectorsKept, TablesCut, TablesLoss}
 use Rattle.tables.specs.laws.Made.{Placed, AllPlaced, WellSized, Fits, FitsAll}
 use Rattle.tables.specs.laws.ZonePlaces.{place-in}
 use Rattle.tables.specs.laws.Tables.{cell-in, row-in, sector-in, cell-injective, sector-laid, sector-elsewhere, In, inside, outside, inOrOut, device-inside, device-outside, device-in, device-length}
@@ -205,7 +205,7 @@ run-sized g (suc k) (x ∷ xs) t w p = run-sized g k xs (makeStore g x t) (store
 
 -- ---- cuts and losses
 -- the first n sectors of a zone that is not the lost drive's
-sectors-kept : (g : Geometry) (x : ℕ) (t u : Tables) → SameLent g x t u → (d z n : ℕ) → d < g .drives → z < physicalZones g → d ≢ x → n ≤ g .capacity
+sectors-kept : (g : Geometry) (x : ℕ) (t u : Tables) → SectorsKept g x t u → (d z n : ℕ) → d < g .drives → z < physicalZones g → d ≢ x → n ≤ g .capacity
     → tabulate (λ i. sectorNo (g .sector) (u .sectors) (cell g d z * g .capacity + i)) n ≡ tabulate (λ i. sectorNo (g .sector) (t .sectors) (cell g d z * g .capacity + i)) n
 sectors-kept g x t u s d z n hd hz ne h = tabulate-cong _ _ n (λ i k. s .sectors-same d z i hd hz (omega arith) ne)
 
@@ -221,7 +221,7 @@ cut-zone g x t u c d z hd hz n =
       kept = a;
       least = omega (arith, c .least d z hd hz n);
       most = rw (length-tabulate f b) l;
-      is = rw (sectors-kept g x t u (c .lent) d z a hd hz n (omega arith), c .durable-is d z hd hz n, take-tabulate f b a l) refl;
+      is = rw (sectors-kept g x t u (c .kept) d z a hd hz n (omega arith), c .durable-is d z hd hz n, take-tabulate f b a l) refl;
     }
 
 pub cut-refines : (g : Geometry) (x : ℕ) (t u : Tables) → TablesCut g x t u → Cut x (deviceOf g t) (deviceOf g u)
@@ -234,7 +234,7 @@ cut-refines g x t u c d z n = go (inOrOut g d z)
 
 loss-zone : (g : Geometry) (x : ℕ) (t u : Tables) → TablesLoss g x t u → (d z : ℕ) → d < g .drives → z < physicalZones g → d ≢ x → zoneAtCell g u (cell g d z) ≡ zoneAtCell g t (cell g d z)
 unfolding zoneAtCell
-loss-zone g x t u c d z hd hz n = rw (c .written-same d z hd hz n, c .durable-same d z hd hz n, sectors-kept g x t u (c .lent) d z (min (getD (t .written) (cell g d z) 0) (g .capacity)) hd hz n (omega arith)) refl
+loss-zone g x t u c d z hd hz n = rw (c .written-same d z hd hz n, c .durable-same d z hd hz n, sectors-kept g x t u (c .kept) d z (min (getD (t .written) (cell g d z) 0) (g .capacity)) hd hz n (omega arith)) refl
 
 pub loss-refines : (g : Geometry) (x : ℕ) (t u : Tables) → TablesLoss g x t u → Loss x (deviceOf g t) (deviceOf g u)
 unfolding Loss
@@ -245,5 +245,5 @@ loss-refines g x t u c d z n = go (inOrOut g d z)
     go (outside i) = rw (device-outside g t d z i, device-outside g u d z i) refl
 
 -- tables of the same lengths have the lengths that the geometry gives
-pub lent-sized : (g : Geometry) (x : ℕ) (t u : Tables) → SameLent g x t u → WellSized g t → WellSized g u
-lent-sized g x t u s w = record { sectors-long = s .sectors-long ∙ w .sectors-long; written-long = s .written-long ∙ w .written-long; durable-long = s .durable-long ∙ w .durable-long }
+pub kept-sized : (g : Geometry) (x : ℕ) (t u : Tables) → SectorsKept g x t u → WellSized g t → WellSized g u
+kept-sized g x t u s w = record { sectors-long = s .sectors-long ∙ w .sectors-long; written-long = s .written-long ∙ w .written-long; durable-long = s .durable-long ∙ w .durable-long }

@@ -102,7 +102,7 @@ unfoldable pub deviceOf : Geometry → Tables → Device
 deviceOf g t d z = pick (ltb d (g .drives) && ltb z (physicalZones g)) (zoneAtCell g t (cell g d z)) blankZone
 
 -- ---- cuts and losses. The lent memory stays where it is: its lengths are the same. What becomes of a lost drive's memory (drive x's) is open.
-pub record SameLent (g : Geometry) (x : ℕ) (t u : Tables) : Type 0 where
+pub record SectorsKept (g : Geometry) (x : ℕ) (t u : Tables) : Type 0 where
   pub sectors-long : length (u .sectors) ≡ length (t .sectors)
   pub written-long : length (u .written) ≡ length (t .written)
   pub durable-long : length (u .durable) ≡ length (t .durable)
@@ -110,14 +110,14 @@ pub record SameLent (g : Geometry) (x : ℕ) (t u : Tables) : Type 0 where
 
 -- a cut "sets each written pointer to some value from its durable pointer up to itself, and durable to the same"
 pub record TablesCut (g : Geometry) (x : ℕ) (t u : Tables) : Type 0 where
-  pub lent : SameLent g x t u
+  pub kept : SectorsKept g x t u
   pub least : (d z : ℕ) → d < g .drives → z < physicalZones g → d ≢ x → getD (t .durable) (cell g d z) 0 ≤ getD (u .written) (cell g d z) 0
   pub most : (d z : ℕ) → d < g .drives → z < physicalZones g → d ≢ x → getD (u .written) (cell g d z) 0 ≤ getD (t .written) (cell g d z) 0
   pub durable-is : (d z : ℕ) → d < g .drives → z < physicalZones g → d ≢ x → getD (u .durable) (cell g d z) 0 ≡ getD (u .written) (cell g d z) 0
 
 -- the loss of drive x
 pub record TablesLoss (g : Geometry) (x : ℕ) (t u : Tables) : Type 0 where
-  pub lent : SameLent g x t u
+  pub kept : SectorsKept g x t u
   pub written-same : (d z : ℕ) → d < g .drives → z < physicalZones g → d ≢ x → getD (u .written) (cell g d z) 0 ≡ getD (t .written) (cell g d z) 0
   pub durable-same : (d z : ℕ) → d < g .drives → z < physicalZones g → d ≢ x → getD (u .durable) (cell g d z) 0 ≡ getD (t .durable) (cell g d z) 0
 

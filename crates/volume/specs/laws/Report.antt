@@ -21,11 +21,11 @@ unfolding reportOn
 report-finished g state h list = ap (λ (b : Bool). pick b (reportOf g (state .condition) list) (record { answer = Refused 1; number = 0; list = list })) h
 
 -- no more than there are zones
-pub filled-most : (g : Geometry) (lent : ℕ) → filledNumber g lent ≤ g .zones
-filled-most g lent = go (ltb lent (g .zones)) refl
+pub filled-most : (g : Geometry) (room : ℕ) → filledNumber g room ≤ g .zones
+filled-most g room = go (ltb room (g .zones)) refl
   where
-    go : (b : Bool) → ltb lent (g .zones) ≡ b → pick b lent (g .zones) ≤ g .zones
-    go true e = let l : lent < g .zones = ltb-true lent (g .zones) e in omega arith
+    go : (b : Bool) → ltb room (g .zones) ≡ b → pick b room (g .zones) ≤ g .zones
+    go true e = let l : room < g .zones = ltb-true room (g .zones) e in omega arith
     go false e = omega arith
 
 -- the same conditions of the volume's zones: the same report

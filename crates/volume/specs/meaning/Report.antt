@@ -44,7 +44,7 @@ mayReport g state = isValid g && stateWithin g state
 
 -- "as many as are lent but at most L"
 abbrev pub filledNumber : Geometry → ℕ → ℕ
-filledNumber g lent = pick (ltb lent (g .zones)) lent (g .zones)
+filledNumber g room = pick (ltb room (g .zones)) room (g .zones)
 
 -- the list with its first n descriptors filled "in zone order"; "descriptors past it keep their contents"
 abbrev pub filledList : Geometry → (ℕ → Condition) → ℕ → List ZoneDescriptor → List ZoneDescriptor

@@ -40,31 +40,31 @@ described g z c a b d = rw (a, b, d) refl
 
 -- ---- how many are filled: none if the report is refused
 unfoldable pub reportNumber : Geometry → StateView → ℕ → ℕ
-reportNumber g state lent = pick (mayReport g state) (filledNumber g lent) 0
+reportNumber g state room = pick (mayReport g state) (filledNumber g room) 0
 
-module _ (g : Geometry) (state : StateView) (lent : ℕ) where
-  pub number-if : (b c : Bool) → mayReport g state ≡ b → ltb lent (g .zones) ≡ c → reportNumber g state lent ≡ pick b (pick c lent (g .zones)) 0
+module _ (g : Geometry) (state : StateView) (room : ℕ) where
+  pub number-if : (b c : Bool) → mayReport g state ≡ b → ltb room (g .zones) ≡ c → reportNumber g state room ≡ pick b (pick c room (g .zones)) 0
   unfolding reportNumber
-  number-if b c e f = ap (λ (t : Bool). pick t (pick (ltb lent (g .zones)) lent (g .zones)) 0) e ∙ ap (λ (t : Bool). pick b (pick t lent (g .zones)) 0) f
+  number-if b c e f = ap (λ (t : Bool). pick t (pick (ltb room (g .zones)) room (g .zones)) 0) e ∙ ap (λ (t : Bool). pick b (pick t room (g .zones)) 0) f
 
   -- a number below it: its zone is there and can be described, and there is room for it
-  pub below-number : (z : ℕ) → z < reportNumber g state lent → Valid g × (z < g .zones) × (z < lent)
+  pub below-number : (z : ℕ) → z < reportNumber g state room → Valid g × (z < g .zones) × (z < room)
   unfolding reportNumber
-  below-number z h = go (mayReport g state) refl (ltb lent (g .zones)) refl h
+  below-number z h = go (mayReport g state) refl (ltb room (g .zones)) refl h
     where
-      go : (b : Bool) → mayReport g state ≡ b → (c : Bool) → ltb lent (g .zones) ≡ c → z < pick b (pick c lent (g .zones)) 0 → Valid g × (z < g .zones) × (z < lent)
+      go : (b : Bool) → mayReport g state ≡ b → (c : Bool) → ltb room (g .zones) ≡ c → z < pick b (pick c room (g .zones)) 0 → Valid g × (z < g .zones) × (z < room)
       go false e c f h = absurd (omega (arith, h))
-      go true e true f h = let l : lent < g .zones = ltb-true lent (g .zones) f in (valid-if-test g (and-split (isValid g) (stateWithin g state) e .0), omega (arith, h, l), h)
-      go true e false f h = let l : g .zones ≤ lent = ltb-false lent (g .zones) f in (valid-if-test g (and-split (isValid g) (stateWithin g state) e .0), h, omega (arith, h, l))
+      go true e true f h = let l : room < g .zones = ltb-true room (g .zones) f in (valid-if-test g (and-split (isValid g) (stateWithin g state) e .0), omega (arith, h, l), h)
+      go true e false f h = let l : g .zones ≤ room = ltb-false room (g .zones) f in (valid-if-test g (and-split (isValid g) (stateWithin g state) e .0), h, omega (arith, h, l))
 
-  pub number-most : reportNumber g state lent ≤ lent
+  pub number-most : reportNumber g state room ≤ room
   unfolding reportNumber
-  number-most = go (mayReport g state) (ltb lent (g .zones)) refl
+  number-most = go (mayReport g state) (ltb room (g .zones)) refl
     where
-      go : (b c : Bool) → ltb lent (g .zones) ≡ c → pick b (pick c lent (g .zones)) 0 ≤ lent
+      go : (b c : Bool) → ltb room (g .zones) ≡ c → pick b (pick c room (g .zones)) 0 ≤ room
       go false c f = omega arith
       go true true f = omega arith
-      go true false f = ltb-false lent (g .zones) f
+      go true false f = ltb-false room (g .zones) f
 
 -- ---- so they hand back what the report is
 module _ (g : Geometry) (state : StateView) (list : List ZoneDescriptor) where

@@ -19,7 +19,7 @@ use Rattle.tables.specs.meaning.Drives.{noDrive}
 use Rattle.tables.specs.meaning.Device.{Loss}
 use Rattle.tables.specs.meaning.Tables.{Tables, tablesOf, cell, deviceOf, TablesLoss}
 use Rattle.tables.specs.laws.Tables.{cell-in, device-outside}
-use Rattle.tables.specs.laws.TablesRefine.{lent-sized, loss-refines}
+use Rattle.tables.specs.laws.TablesRefine.{kept-sized, loss-refines}
 use Rattle.tables.specs.laws.PointerOrder.{loss-order}
 use Rattle.volume.specs.declared.State.{State}
 use Rattle.volume.specs.declared.Outcome.{Outcome}
@@ -231,7 +231,7 @@ lost-open : (g : Geometry) → Valid g → (s : System (onTables g)) → TablesO
     → TablesOk g (record { memory = u; lost = s .lost; mode = s .mode; state = s .state; ledger = s .ledger })
 lost-open g ok s o (inr h) u c = loss-event g ok s o (s .lost) h (inr refl) u c
 lost-open g ok s o (inl e) u c = record {
-  sized = lent-sized g (s .lost) (s .memory) u (c .lent) (o .sized);
+  sized = kept-sized g (s .lost) (s .memory) u (c .kept) (o .sized);
   order = λ d hd n. loss-order g (s .lost) d (s .memory) u c hd n (o .order d hd n);
   records = o .records;
   holds = rw (fun-ext λ d. fun-ext λ z. same d z (ℕ-discrete d (s .lost))) (o .holds);
@@ -250,7 +250,7 @@ module _ (g : Geometry) (ok : Valid g) (s : System (onTables g)) (o : TablesOk g
 
   read-again : TablesLoss g (s .lost) (s .memory) again
   read-again = record {
-    lent = record {
+    kept = record {
       sectors-long = refl;
       written-long = table-long (cells g) (tableTo (s .memory .written)) ∙ sym (o .sized .written-long);
       durable-long = table-long (cells g) (tableTo (s .memory .durable)) ∙ sym (o .sized .durable-long);

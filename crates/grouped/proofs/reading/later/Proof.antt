@@ -28,7 +28,7 @@ returns c = let a = c .before .before .before .before .args in
 block-of-requires : tie.Need-block-of-requires
 block-of-requires c κs = let s = c .before .before .before .before in
     let a = s .args in
-    (s .pre .0 .lent .valid, (placed-found (a .s) (now (a .metadata)) (a .missing) (now (a .work)) (s .pre .0), s .pre .1 .0))
+    (s .pre .0 .sized .valid, (placed-found (a .s) (now (a .metadata)) (a .missing) (now (a .work)) (s .pre .0), s .pre .1 .0))
 
 key-is : (c : tie.After-key-of) → c .key-of .result ≡ keyIn (c .before .before .before .before .before .before .args .s) (now (c .before .before .before .before .before .before .args .metadata)) (c .before .before .before .before .before .before .args .missing) (c .before .before .before .before .before .before .args .c)
 key-is c =
@@ -76,10 +76,10 @@ returns-3 c = let e = c .before in
 block-of-requires-2 : tie.Need-block-of-requires-2
 block-of-requires-2 c κs = let s = c .before .before .before .before .before .before .before .before .before .before in
     let a = s .args in
-    (s .pre .0 .lent .valid, (placed-found (a .s) (now (a .metadata)) (a .missing) (now (a .work)) (s .pre .0), omega (arith, s .pre .1 .0, s .pre .1 .1)))
+    (s .pre .0 .sized .valid, (placed-found (a .s) (now (a .metadata)) (a .missing) (now (a .work)) (s .pre .0), omega (arith, s .pre .1 .0, s .pre .1 .1)))
 
 add-result-2 : tie.Need-add-result-2
-add-result-2 c = let s = c .before .before .before .before .before .before .before .before .before .before .before .before .before .before .before in omega (arith, s .pre .1 .0, total-small (s .args .s) (s .pre .0 .lent .valid))
+add-result-2 c = let s = c .before .before .before .before .before .before .before .before .before .before .before .before .before .before .before in omega (arith, s .pre .1 .0, total-small (s .args .s) (s .pre .0 .sized .valid))
 
 old-is : (c : tie.After-key-of2) → c .key-of2 .result ≡ keyIn (c .before .before .before .before .before .before .before .before .before .before .before .before .args .s) (now (c .before .before .before .before .before .before .before .before .before .before .before .before .args .metadata)) (c .before .before .before .before .before .before .before .before .before .before .before .before .args .missing) (c .before .before .before .before .before .before .before .before .before .before .before .before .args .found - 1)
 old-is c =

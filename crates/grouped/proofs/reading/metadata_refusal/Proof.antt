@@ -17,7 +17,7 @@ places c =
     let l = s .pre .0 in
     let p = c .before .before .before .place-all .ensures in
     record {
-      lent = record { valid = l .valid; whole = l .whole; metadata-long = l .metadata-long; work-long = p .1 .long };
+      sized = record { valid = l .valid; whole = l .whole; metadata-long = l .metadata-long; work-long = p .1 .long };
       missing-most = s .pre .1;
       noted = p .1;
       right = sym (p .0) ∙ c .if1 .left;

@@ -16,7 +16,7 @@ abbrev μ-loop : tie.MeasureT-loop
 μ-loop metadata work s missing address cells found₀ c₀ found c = cells - c
 
 total-blocks-requires : tie.Need-total-blocks-requires Inv-loop μ-loop
-total-blocks-requires c κs = c .before .before .pre .lent .valid
+total-blocks-requires c κs = c .before .before .pre .sized .valid
 
 loop-holds : tie.Need-loop-holds Inv-loop μ-loop
 loop-holds c = (omega arith, c .total-blocks .ensures .0, refl)

@@ -26,14 +26,14 @@ returns c = let a = c .before .before .before .before .before .before .args in
 none : (c : tie.Else1) → inputNumber (c .before .before .before .before .before .before .args .s) (c .before .before .before .before .before .before .args .named) (length (now (c .before .before .before .before .before .before .args .blocks))) (length (now (c .before .before .before .before .before .before .args .metadata))) (length (now (c .before .before .before .before .before .before .args .work))) (length (now (c .before .before .before .before .before .before .args .answer))) ≡ 0
 none c = let z : c .before .input-refusal .result ≡ 0 = omega arith in sym (c .before .input-refusal .ensures) ∙ z
 
-lent : (c : tie.Else1) → Admitted (c .before .before .before .before .before .before .args .s) (length (now (c .before .before .before .before .before .before .args .blocks))) (length (now (c .before .before .before .before .before .before .args .metadata))) (length (now (c .before .before .before .before .before .before .args .work))) (length (now (c .before .before .before .before .before .before .args .answer)))
-lent c = let a = c .before .before .before .before .before .before .args in admitted (a .s) (a .named) (length (now (a .blocks))) (length (now (a .metadata))) (length (now (a .work))) (length (now (a .answer))) (none c)
+admits : (c : tie.Else1) → Admitted (c .before .before .before .before .before .before .args .s) (length (now (c .before .before .before .before .before .before .args .blocks))) (length (now (c .before .before .before .before .before .before .args .metadata))) (length (now (c .before .before .before .before .before .before .args .work))) (length (now (c .before .before .before .before .before .before .args .answer)))
+admits c = let a = c .before .before .before .before .before .before .args in admitted (a .s) (a .named) (length (now (a .blocks))) (length (now (a .metadata))) (length (now (a .work))) (length (now (a .answer))) (none c)
 
 missing-drive-requires : tie.Need-missing-drive-requires
-missing-drive-requires c κs = lent c .valid
+missing-drive-requires c κs = admits c .valid
 
 metadata-refusal-requires : tie.Need-metadata-refusal-requires
-metadata-refusal-requires c κs = let l = lent (c .before .before) in
+metadata-refusal-requires c κs = let l = admits (c .before .before) in
     (record { valid = l .valid; whole = l .whole; metadata-long = l .metadata-long; work-long = l .work-long }, c .before .missing-drive .ensures .1)
 
 returns-2 : tie.Need-returns-2
@@ -69,7 +69,7 @@ returns-3 c = let a = c .before .before .before .before .before .before .before 
 
 read-block-requires : tie.Need-read-block-requires
 read-block-requires c κs = let e2 = c .before .before .before .before .before in
-    let l = lent (e2 .before .before .before .before .before .before) in
+    let l = admits (e2 .before .before .before .before .before .before) in
     let a = c .before .before .before .before .before .before .before .before .before .before .before .before .before .before .before .before .before .args in
     let p = placed e2 in
     ((l .valid, placed-found (a .s) (now (a .metadata)) _ _ p), (omega (arith, c .before .before .before .newest .ensures .1), l .blocks-long, l .answer-long))

@@ -1,4 +1,4 @@
-use Rattle.logs.specs.code.ZoneWalk.{zone-in-lent}
+use Rattle.logs.specs.code.ZoneWalk.{zone-in-sectors}
 use Rattle.tables.specs.meaning.Geometry.{totalBytes}
 use Rattle.tables.specs.laws.Sizes.{bytes-small}
 use mathlib.Core.Path.{_≡_}
@@ -10,7 +10,7 @@ use Rattle.logs.proofs.walking.zone_part.Tie as tie
 
 -- the zone's part lies within the lent bytes, which are not many
 within : (c : tie.After-cell-of) → c .cell-of .result * (c .before .before .args .g .capacity * c .before .before .args .g .sector) + c .before .before .args .g .capacity * c .before .before .args .g .sector ≤ totalBytes (c .before .before .args .g)
-within c = let s = c .before .before in rw (c .cell-of .ensures .0) (zone-in-lent (s .args .g) (s .args .drive) (s .args .zone) (s .pre .1 .0) (s .pre .1 .1 .0))
+within c = let s = c .before .before in rw (c .cell-of .ensures .0) (zone-in-sectors (s .args .g) (s .args .drive) (s .args .zone) (s .pre .1 .0) (s .pre .1 .1 .0))
 
 small : (c : tie.After-cell-of) → totalBytes (c .before .before .args .g) ≤ 40802189312
 small c = let s = c .before .before in bytes-small (s .args .g) (s .pre .0) .1

@@ -10,10 +10,10 @@ use Rattle.replaying.proofs.listing.list_sum.Statement.{statement}
 use Rattle.replaying.proofs.listing.list_sum.Tie as tie
 
 abbrev Inv-loop : tie.InvT-loop
-Inv-loop g state lent s₀ z₀ s z = (z ≤ lent) × (s ≡ listedSums g (viewState state) lent z) × Small s
+Inv-loop g state room s₀ z₀ s z = (z ≤ room) × (s ≡ listedSums g (viewState state) room z) × Small s
 
 abbrev μ-loop : tie.MeasureT-loop
-μ-loop g state lent s₀ z₀ s z = lent - z
+μ-loop g state room s₀ z₀ s z = room - z
 
 loop-holds : tie.Need-loop-holds Inv-loop μ-loop
 loop-holds c = (omega arith, c .start-sums .ensures .0, c .start-sums .ensures .1)

@@ -15,17 +15,17 @@ may c = sym (c .before .may-report .ensures) ∙ not-false (c .before .may-repor
 returns : tie.Need-returns
 returns c =
     let a = c .before .before .args in
-    sym (number-if (a .g) (viewState (a .state)) (a .lent) false (ltb (a .lent) (a .g .zones)) (sym (c .before .may-report .ensures) ∙ not-true (c .before .may-report .result) (c .if1 .taken)) refl)
+    sym (number-if (a .g) (viewState (a .state)) (a .room) false (ltb (a .room) (a .g .zones)) (sym (c .before .may-report .ensures) ∙ not-true (c .before .may-report .result) (c .if1 .taken)) refl)
 
 returns-2 : tie.Need-returns-2
 returns-2 c =
     let a = c .before .before .before .args in
-    sym (number-if (a .g) (viewState (a .state)) (a .lent) true true (may (c .before)) (lt-ltb _ _ (c .if2 .taken)))
+    sym (number-if (a .g) (viewState (a .state)) (a .room) true true (may (c .before)) (lt-ltb _ _ (c .if2 .taken)))
 
 returns-3 : tie.Need-returns-3
 returns-3 c =
     let a = c .before .before .before .args in
-    sym (number-if (a .g) (viewState (a .state)) (a .lent) true false (may (c .before)) (le-ltb _ _ (c .if2 .left)))
+    sym (number-if (a .g) (viewState (a .state)) (a .room) true false (may (c .before)) (le-ltb _ _ (c .if2 .left)))
 
 pub report-number-spec : {M : Type 1} → statement M
 report-number-spec = tie.close (tie.spec (λ c κs. search needs) returns returns-2 returns-3)

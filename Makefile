@@ -40,7 +40,7 @@ SANITIZE = -O1 -g -fsanitize=address,undefined -fno-sanitize-recover=all
 EDGE = target/edge
 
 REPLAY_C = c/replay.c c/script_host.c c/damage.c c/script.c host/shelf.c host/call.c
-PLAIN_C = c/plain.c c/plain_logs.c c/plain_refusals.c host/journal.c
+PLAIN_C = c/plain.c c/plain_emptying.c c/plain_logs.c c/plain_refusals.c c/plain_rows.c c/plain_sectors.c c/plain_stores.c host/journal.c
 BAD_INPUT_C = c/bad_input.c c/fixture.c c/expected.c $(PLAIN_C) host/shelf.c host/call.c
 GROUPED_REPLAY_C = c/grouped_replay.c c/script.c host/shelf.c host/call.c
 BENCH_C = c/bench.c c/bench_grouped.c c/plain_grouped.c $(PLAIN_C) host/shelf.c host/call.c

@@ -215,14 +215,14 @@ static void zones(struct fixture *f) {
     }
 }
 
-/* A count of 0 stops every storing call before its first store; format, write and flush are followed store by store. */
+/* A count of 0 stops every storing call before its first store; all but mount are followed store by store. */
 static void counts(struct fixture *f) {
     const enum call_kind stores[] = {CALL_FORMAT, CALL_MOUNT, CALL_WRITE, CALL_FLUSH, CALL_RESET};
     for (size_t k = 0; k < sizeof stores / sizeof *stores; k++) {
         struct call call = usual_call(f, stores[k]);
         call.count = 0;
         judge(f, "no stores", &call, call.kind == CALL_WRITE ? ZRV_FINISHED : ZRV_UNFINISHED); /* a sealed zone refuses the write */
-        for (uint32_t count = 1; count < 80 && call.kind != CALL_MOUNT && call.kind != CALL_RESET; count++) {
+        for (uint32_t count = 1; count < 80 && call.kind != CALL_MOUNT; count++) {
             call.count = count;
             judge(f, "count of stores", &call, ZRV_FINISHED);
         }

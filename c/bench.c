@@ -1,6 +1,6 @@
 /* The archive's speed as a share of plain C's and of memcpy's, for units of 1, 4 and 16 sectors on 4 and 8 drives, measured in one run by turns on the same
- * work, medians of repeated passes, in processor time; how a write's time grows with what zone and logs hold; and a look's and a mount's time per written
- * sector as ratios to the smallest volume's. What is timed beside plain C is held against its result byte by byte. */
+ * work, medians of repeated passes, in processor time; how a write's time grows with what zone and logs hold, and what it costs to empty a log; and a look's
+ * and a mount's time per written sector as ratios to the smallest volume's. What is timed beside plain C is held against its result byte by byte. */
 #define _POSIX_C_SOURCE 199309L /* clock_gettime */
 
 #include <stdio.h>
@@ -10,10 +10,10 @@
 
 #include "bench_grouped.h"
 #include "bytes.h"
-#include "plain.h"
+#include "plain_logs.h"
 #include "shelf.h"
 
-enum { PASSES = 31, SLOW_PASSES = 3 };
+enum { PASSES = 31, SLOW_PASSES = 3, OTHER_BYTES = 64 << 20 };
 
 static struct geometry speeds_geometry(uint32_t drives, uint32_t unit) { return (struct geometry){drives, ZRV_MOST_SECTOR_BYTES, unit, 1, 128}; }
 static const uint32_t speeds_drives[] = {4, 8}, speeds_units[] = {1, 4, 16};
@@ -28,7 +28,9 @@ struct bench {
     struct volume plain;
     uint32_t all, named; /* every drive; those that reads name */
     uint32_t run;        /* sectors of one call */
+    uint64_t end;        /* of the addresses that writes go up to */
     uint8_t *data, *answer, *plain_answer;
+    uint8_t *other; /* more memory than the processor caches, or none */
 };
 
 static void *memory(size_t length) {
@@ -80,7 +82,7 @@ static void format_both(struct bench *b) {
 
 static struct bench new_bench(struct geometry g) {
     size_t cells = shelf_cells(g), zone = zone_addresses(g) * g.sector_bytes;
-    struct bench b = {.shelf = new_shelf(g), .all = (1u << g.drives) - 1, .named = (1u << g.drives) - 1, .run = (g.drives - 1) * g.unit};
+    struct bench b = {.shelf = new_shelf(g), .all = (1u << g.drives) - 1, .named = (1u << g.drives) - 1, .run = stripe_sectors(g), .end = zone_addresses(g)};
     b.data = memory(zone);
     b.answer = memory(zone);
     b.plain_answer = memory(zone);
@@ -95,33 +97,43 @@ static void free_bench(struct bench *b) {
     free(b->data);
     free(b->answer);
     free(b->plain_answer);
+    free(b->other);
     free(b->plain.sectors);
     free(b->plain.written);
     free(b->plain.durable);
 }
 
-/* Zone 0 written from its start in runs, until it is full or the parity log is; the sectors written. */
+/* Zone 0 written from its start in runs, up to the end that is set; the sectors written. */
 static uint64_t write_archive(struct bench *b) {
     struct call call = bench_call(b, CALL_WRITE);
-    uint32_t code = ZRV_FINISHED;
-    uint64_t bytes = b->shelf.geometry.sector_bytes, whole = zone_addresses(b->shelf.geometry);
-    for (call.run = b->run; call.address + b->run <= whole; call.address += b->run) {
+    uint64_t bytes = b->shelf.geometry.sector_bytes;
+    for (call.run = b->run; call.address + b->run <= b->end; call.address += b->run) {
         call.range[BUFFER] = (struct range){b->data + call.address * bytes, b->run * bytes};
-        code = make_call(&call);
-        if (code != ZRV_FINISHED)
-            break;
+        must_be(make_call(&call), ZRV_FINISHED, "write");
     }
-    if (code != ZRV_LOG_FULL)
-        must_be(code, ZRV_FINISHED, "write");
     return call.address;
 }
 
 static uint64_t write_plain(struct bench *b) {
-    uint64_t bytes = b->shelf.geometry.sector_bytes, whole = zone_addresses(b->shelf.geometry), address = 0;
-    for (; address + b->run <= whole; address += b->run)
-        if (plain_write(&b->plain, b->all, address, b->run, ZRV_ALL_STORES, b->data + address * bytes, b->run * bytes) != ZRV_FINISHED)
-            break;
+    uint64_t bytes = b->shelf.geometry.sector_bytes, address = 0;
+    for (; address + b->run <= b->end; address += b->run)
+        must_be(plain_write(&b->plain, b->all, address, b->run, ZRV_ALL_STORES, b->data + address * bytes, b->run * bytes), ZRV_FINISHED, "plain write");
     return address;
+}
+
+/* Whether a write in zone 0 that ends there would empty a log. */
+static bool would_empty(const struct volume *v, uint32_t end) {
+    uint32_t stripe = stripe_sectors(v->geometry), drive = parity_drive(v->geometry, 0, end / stripe);
+    return end % stripe != 0 && unused(v, drive, log_zone(v, drive, PARITY_LOG)) < entry_reserve(v->geometry, end);
+}
+
+/* From here on single sectors are written, up to the first write that would empty a log. */
+static void write_single_sectors(struct bench *b) {
+    format_both(b);
+    b->run = 1;
+    uint64_t whole = b->end;
+    for (b->end = 0; b->end < whole && !would_empty(&b->plain, (uint32_t)b->end + 1); b->end++)
+        must_be(plain_write(&b->plain, b->all, b->end, 1, ZRV_ALL_STORES, b->data, b->shelf.geometry.sector_bytes), ZRV_FINISHED, "plain write");
 }
 
 static uint64_t read_archive(struct bench *b) {
@@ -184,7 +196,7 @@ static void speeds_of(uint32_t drives, uint32_t unit) {
     b.named = b.all & ~1u;
     double missing = speed(&b, read_archive, read_plain, false);
     must_agree(&b, "reads with a drive missing");
-    b.run = 1;
+    write_single_sectors(&b);
     double single = speed(&b, write_archive, write_plain, true);
     must_agree(&b, "single-sector writes");
     printf("%6u %5u %15.2f %15.2f %15.2f %15.2f %15.2f\n", drives, unit, stripes, reads, missing, single, copies);
@@ -213,44 +225,125 @@ static double time_writes(struct bench *b, uint64_t address, uint32_t calls) {
     return seconds() - start;
 }
 
-/* Resets of zone 0 until the general logs have no room for one more. */
-static void fill_general_logs(struct bench *b) {
+static void reset_zone_0(struct bench *b) {
     struct call call = bench_call(b, CALL_RESET);
-    uint32_t code = ZRV_FINISHED;
-    while (code == ZRV_FINISHED)
-        code = make_call(&call);
-    must_be(code, ZRV_LOG_FULL, "reset");
+    must_be(make_call(&call), ZRV_FINISHED, "reset");
 }
 
-/* Forty stripes from the zone's start: the times of the first four and of the last four. */
-static void time_ends(struct bench *b, double *first, double *last) {
-    uint32_t stripe = (b->shelf.geometry.drives - 1) * b->shelf.geometry.unit, calls = 4 * stripe / b->run;
-    *first = time_writes(b, 0, calls);
-    time_writes(b, 4 * stripe, 8 * calls);
-    *last = time_writes(b, 36 * stripe, calls);
+/* Stripes that are timed, those written before the last of them, and those whose single-sector writes all but fill the parity logs. */
+enum { TIMED_STRIPES = 4, FAR_STRIPES = 36, FILLING_STRIPES = 36 };
+
+/* Resets of zone 0 until the next one would empty a general log: that of drive 0, which gets two entries of each. */
+static void fill_general_logs(struct bench *b) {
+    while (b->shelf.geometry.zone_sectors - get32(b->shelf.written.bytes) >= reset_reserve(b->shelf.geometry))
+        reset_zone_0(b);
 }
 
-/* How writes in runs of so many sectors grow: stripes far into the zone against its first, and the first beside full general logs against those beside fresh
- * ones. With runs of one sector the parity logs fill as the zone does. */
+static void fill_parity_logs(struct bench *b) {
+    b->run = 1;
+    time_writes(b, 0, FILLING_STRIPES * stripe_sectors(b->shelf.geometry));
+    reset_zone_0(b);
+}
+
+static uint32_t log_zone_of(const struct bench *b, uint32_t drive, uint32_t log) {
+    struct log_zones zones = log_zones_of(&b->shelf, drive);
+    return find_log(&zones, log);
+}
+
+/* How many drives have their log of that kind in another zone than a format gives it. */
+static uint32_t logs_moved(const struct bench *b, uint32_t log) {
+    uint32_t count = 0;
+    for (uint32_t d = 0; d < b->shelf.geometry.drives; d++)
+        count += log_zone_of(b, d, log) != log;
+    return count;
+}
+
+/* Writes of single sectors until every parity log was emptied, then resets until every general log was. */
+static void move_logs(struct bench *b) {
+    b->run = 1;
+    for (uint64_t address = 0; logs_moved(b, PARITY_LOG) < b->shelf.geometry.drives; address++)
+        time_writes(b, address, 1);
+    while (logs_moved(b, GENERAL_LOG) < b->shelf.geometry.drives)
+        reset_zone_0(b);
+}
+
+/* What a fresh volume is brought to before the first stripes of zone 0 are written; zone 0 is left empty. */
+static const struct {
+    const char *name;
+    void (*bring)(struct bench *b);
+} histories[] = {{"general logs full", fill_general_logs}, {"parity logs full", fill_parity_logs}, {"logs moved", move_logs}};
+enum { HISTORIES = sizeof histories / sizeof *histories };
+
+/* The time of writes with nothing of the volume in the processor's caches, whatever was done before. */
+static double time_from_memory(struct bench *b, uint64_t address, uint32_t calls) {
+    static uint8_t fill;
+    memset(b->other, ++fill, OTHER_BYTES);
+    must_be(b->other[address % OTHER_BYTES], fill, "memory");
+    return time_writes(b, address, calls);
+}
+
+/* How writes in runs of so many sectors grow: stripes far into the zone against its first, and the first of volumes with a history against those of a fresh
+ * one. With runs of one sector the parity logs fill as the zone does. */
 static void growth_of(struct bench *b, const char *what, uint32_t run) {
-    double first[PASSES], last[PASSES], beside_full[PASSES], unused;
-    b->run = run;
+    double first[PASSES], last[PASSES], after[HISTORIES][PASSES];
+    uint32_t stripe = stripe_sectors(b->shelf.geometry), calls = TIMED_STRIPES * stripe / run;
     for (int i = 0; i < PASSES; i++) {
         format_both(b);
-        time_ends(b, &first[i], &last[i]);
-        format_both(b);
-        fill_general_logs(b);
-        time_ends(b, &beside_full[i], &unused);
+        b->run = run;
+        first[i] = time_from_memory(b, 0, calls);
+        time_writes(b, TIMED_STRIPES * stripe, (FAR_STRIPES - TIMED_STRIPES) * stripe / run);
+        last[i] = time_from_memory(b, FAR_STRIPES * stripe, calls);
+        for (int h = 0; h < HISTORIES; h++) {
+            format_both(b);
+            histories[h].bring(b);
+            b->run = run;
+            after[h][i] = time_from_memory(b, 0, calls);
+        }
     }
     double fresh = median(first, PASSES);
-    printf("%16s %16.2f %18.2f\n", what, median(last, PASSES) / fresh, median(beside_full, PASSES) / fresh);
+    printf("%16s %18.2f", what, median(last, PASSES) / fresh);
+    for (int h = 0; h < HISTORIES; h++)
+        printf(" %18.2f", median(after[h], PASSES) / fresh);
+    putchar('\n');
+}
+
+static double time_reset(struct bench *b) {
+    double start = seconds();
+    reset_zone_0(b);
+    return seconds() - start;
+}
+
+/* Single-sector writes or resets from a fresh volume on: the time of the first that empties logs of a kind, and of the call before it. */
+static void time_emptying(struct bench *b, uint32_t log, double *usual, double *emptying) {
+    format_both(b);
+    b->run = 1;
+    *emptying = 0;
+    for (uint64_t address = 0; logs_moved(b, log) == 0; address++) {
+        *usual = *emptying;
+        *emptying = log == PARITY_LOG ? time_writes(b, address, 1) : time_reset(b);
+    }
+}
+
+static void emptyings(struct bench *b) {
+    double usual[2][PASSES], emptying[2][PASSES];
+    for (int i = 0; i < PASSES; i++)
+        for (uint32_t log = GENERAL_LOG; log <= PARITY_LOG; log++)
+            time_emptying(b, log, &usual[log][i], &emptying[log][i]);
+    printf("\na call that empties logs, and the same that empties none, in microseconds (the same volume)\n%16s %18s %18s\n", "", "emptying", "usual");
+    printf("%16s %18.2f %18.2f\n", "1-sector write", 1e6 * median(emptying[PARITY_LOG], PASSES), 1e6 * median(usual[PARITY_LOG], PASSES));
+    printf("%16s %18.2f %18.2f\n", "reset, two logs", 1e6 * median(emptying[GENERAL_LOG], PASSES), 1e6 * median(usual[GENERAL_LOG], PASSES));
 }
 
 static void growth(void) {
     struct bench b = new_bench(growth_geometry);
-    printf("\na write's time against the same in a fresh volume (D 4, 4,096-byte sectors, U 4, C 512)\n%16s %16s %18s\n", "", "far in the zone", "general logs full");
-    growth_of(&b, "stripe writes", 12);
+    b.other = memory(OTHER_BYTES);
+    printf("\na write's time against the same in a fresh volume, nothing of it in the caches (D 4, 4,096-byte sectors, U 4, C 512)\n%16s %18s", "", "far in the zone");
+    for (int h = 0; h < HISTORIES; h++)
+        printf(" %18s", histories[h].name);
+    putchar('\n');
+    growth_of(&b, "stripe writes", stripe_sectors(growth_geometry));
     growth_of(&b, "1-sector writes", 1);
+    emptyings(&b);
     free_bench(&b);
 }
 

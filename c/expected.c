@@ -5,7 +5,7 @@
 #include <string.h>
 
 #include "bytes.h"
-#include "plain_layout.h"
+#include "plain_logs.h"
 
 static bool reads_state(enum call_kind kind) {
     return kind != CALL_FORMAT && kind != CALL_LOOK && kind != CALL_MOUNT;
@@ -81,30 +81,27 @@ static void volume_of(struct expected *e, const struct call *call, const struct 
         state_from_bytes(&e->volume.state, range[STATE].bytes);
 }
 
-/* Refusals 5 and 6 of tables whose logs were legal: a geometry that the labels do not tell, no label, zeros where an entry should be. */
+/* Refusals 5 and 6 of tables whose logs were legal: a geometry that the labels do not tell, no label, something else where an entry should be. */
 static uint32_t log_refusal(const struct volume *v, uint32_t named, const struct made_by *made) {
     uint32_t absent = absent_drive(v->geometry, named, v->state.lost);
     if (v->geometry.unit != made->geometry.unit)
         return ZRV_LABEL;
     for (uint32_t d = 0; d < v->geometry.drives; d++)
-        if (d != absent && v->written[cell(v->geometry, d, GENERAL_LOG)] == 0)
+        if (d != absent && v->written[cell(v->geometry, d, log_zone(v, d, GENERAL_LOG))] == 0)
             return ZRV_LABEL;
     for (uint32_t d = 0; d < v->geometry.drives; d++)
-        for (uint32_t log = GENERAL_LOG; log <= PARITY_LOG; log++) {
-            size_t at = cell(v->geometry, d, log);
-            if (d != absent && v->written[at] > get32(made->written + 4 * at))
+        for (uint32_t log = GENERAL_LOG; d != absent && log <= PARITY_LOG; log++) {
+            size_t at = cell(v->geometry, d, log_zone(v, d, log));
+            if (v->written[at] > get32(made->written + 4 * at))
                 return ZRV_LOG;
         }
     return ZRV_FINISHED;
 }
 
+/* A mount's 14 is not met here: a fixture's log lacks room only where something else was put past its end, which is 6. */
 static uint32_t look_code(const struct volume *v, const struct call *call, const struct made_by *made) {
     uint32_t refusal = look_refusal(v, call->named);
-    if (refusal == ZRV_FINISHED)
-        refusal = log_refusal(v, call->named, made);
-    if (refusal == ZRV_FINISHED && call->kind == CALL_MOUNT && mount_log_full(v, call->named))
-        refusal = ZRV_LOG_FULL;
-    return refusal;
+    return refusal == ZRV_FINISHED ? log_refusal(v, call->named, made) : refusal;
 }
 
 /* The answer of a call whose state has its form and length. */
@@ -122,7 +119,7 @@ static uint32_t code_of(struct expected *e, const struct call *call, const struc
     case CALL_FLUSH:
         return plain_flush(v, call->named, call->count);
     case CALL_RESET:
-        return reset_refusal(v, call->named, call->zone);
+        return plain_reset(v, call->named, call->zone, call->count);
     case CALL_READ:
         return plain_read(v, call->named, call->address, call->run, e->answer, buffer->length);
     case CALL_PEEK:
@@ -139,7 +136,7 @@ void expect(struct expected *e, const struct call *call, const struct made_by *m
     bool state_length = state->length == ZRV_STATE_BYTES;
     bool place_length = call->kind != CALL_PEEK || call->range[BUFFER].length == ZRV_PLACE_BYTES;
     volume_of(e, call, made);
-    e->bytes_known = call->kind == CALL_FORMAT || call->kind == CALL_WRITE || call->kind == CALL_FLUSH || answers_in_buffer(call->kind);
+    e->bytes_known = call->kind != CALL_LOOK && call->kind != CALL_MOUNT && call->kind != CALL_PEEK;
     e->filled = 0;
     if (!geometry_fits(call->geometry) || (reads_state(call->kind) && state_length && !state_form(state->bytes, call->geometry.zones))) {
         e->code = ZRV_GEOMETRY;
@@ -150,8 +147,7 @@ void expect(struct expected *e, const struct call *call, const struct made_by *m
         e->code = ZRV_LENGTH;
         e->filled = 0;
     }
-    bool stores = call->kind == CALL_MOUNT || call->kind == CALL_RESET;
-    if (e->code == ZRV_FINISHED && stores && call->count == 0)
+    if (e->code == ZRV_FINISHED && call->kind == CALL_MOUNT && call->count == 0)
         e->code = ZRV_UNFINISHED;
 }
 

@@ -1,5 +1,5 @@
-/* What a call should answer: the number that document 01's table gives for its numbers and bytes, worked out in plain C, and for format, write, read and
- * flush the bytes that it should leave. */
+/* What a call should answer: the number that document 01's table gives for its numbers and bytes, worked out in plain C, and for all but look, mount and
+ * peek the bytes that it should leave. */
 #ifndef EXPECTED_H
 #define EXPECTED_H
 

@@ -1,4 +1,5 @@
-/* Fixtures, made through the C edge: format, writes that end inside a stripe and at a stripe's end, a flush; then a loss or a power cut, and a mount. */
+/* Fixtures, made through the C edge: format, perhaps resets until logs are emptied, writes that end inside a stripe and at a stripe's end, a flush; then a
+ * loss or a power cut, and a mount. */
 #include "fixture.h"
 
 #include <stdio.h>
@@ -11,12 +12,14 @@
 static const struct {
     const char *name;
     struct geometry geometry;
-    uint32_t lost; /* lost after the writes */
-    bool cut;      /* power is cut after the writes */
+    uint32_t resets; /* of zone 0, before the writes */
+    uint32_t lost;   /* lost after the writes */
+    bool cut;        /* power is cut after the writes */
 } plan[FIXTURES] = {
-    {"healthy", {4, 64, 2, 2, 32}, ZRV_NO_DRIVE, false},
-    {"a drive lost", {5, 64, 3, 3, 48}, 1, false},
-    {"a zone sealed", {3, 128, 1, 4, 24}, ZRV_NO_DRIVE, true},
+    {"healthy", {4, 64, 2, 2, 32}, 0, ZRV_NO_DRIVE, false},
+    {"a drive lost", {5, 64, 3, 3, 48}, 0, 1, false},
+    {"a zone sealed", {3, 128, 1, 4, 24}, 0, ZRV_NO_DRIVE, true},
+    {"logs emptied", {4, 64, 2, 2, 32}, 14, ZRV_NO_DRIVE, false}, /* the general logs of drives 0 and 3 */
 };
 
 static uint8_t *new_memory(size_t length) {
@@ -96,6 +99,9 @@ struct fixture new_fixture(int which) {
     lay_out(&f, plan[which].geometry);
     struct call call = usual_call(&f, CALL_FORMAT);
     must_finish(&call);
+    call = usual_call(&f, CALL_RESET);
+    for (uint32_t i = 0; i < plan[which].resets; i++)
+        must_finish(&call);
     write_zones(&f);
     call = usual_call(&f, CALL_FLUSH);
     must_finish(&call);

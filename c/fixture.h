@@ -19,7 +19,7 @@ struct fixture {
 };
 
 /* Volumes: healthy; with a drive lost for good; with a zone that a mount sealed. */
-enum { FIXTURES = 3 };
+enum { FIXTURES = 4 };
 struct fixture new_fixture(int which);
 void free_fixture(struct fixture *fixture);
 

@@ -1,6 +1,6 @@
 /* The refusals of document 01's table, least number first: 1 to 4 of every call, then those of each call from 7 on. Refusals 5 and 6 belong to look
- * and mount, which have no plain version; 15 of a read and a write is found where the sectors are sought. */
-#include "plain_layout.h"
+ * and mount, which have no plain version; 14 of a write is found with its log, 15 of a read and a write where the sectors are sought. */
+#include "plain_emptying.h"
 
 static uint32_t larger(uint32_t a, uint32_t b) { return a > b ? a : b; }
 
@@ -91,33 +91,20 @@ static uint32_t zone_refusal(const struct volume *v, uint32_t named, uint64_t zo
     return ZRV_FINISHED;
 }
 
-static uint32_t unused(const struct volume *v, uint32_t drive, uint32_t log) {
-    return v->geometry.zone_sectors - v->written[cell(v->geometry, drive, log)];
+/* Room that a write's entry wants in its parity log: its own, and what a mount may need. */
+uint32_t entry_reserve(struct geometry g, uint32_t end) {
+    uint32_t inside = end % stripe_sectors(g), entry = 1 + (inside < g.unit ? inside : g.unit);
+    return entry + g.zones * (1 + g.unit) + g.unit;
 }
 
-static bool log_below(const struct volume *v, uint32_t absent, uint32_t log, uint32_t least) {
+uint32_t reset_reserve(struct geometry g) { return g.zones + 4; }
+
+/* Refusal 14 of a reset. */
+static bool general_log_full(const struct volume *v, uint32_t absent) {
     for (uint32_t d = 0; d < v->geometry.drives; d++)
-        if (d != absent && unused(v, d, log) < least)
+        if (d != absent && log_stays_full(v, d, GENERAL_LOG, reset_reserve(v->geometry)))
             return true;
     return false;
-}
-
-/* Room that the parity log keeps for a mount. */
-static uint32_t parity_reserve(struct geometry g) { return g.zones * (1 + g.unit) + g.unit; }
-
-/* Refusal 14 of a write that ends at `end` in its zone. */
-static bool parity_log_full(const struct volume *v, uint32_t absent, uint32_t zone, uint32_t end) {
-    struct geometry g = v->geometry;
-    uint32_t inside = end % stripe_sectors(g), parity = parity_drive(g, zone, end / stripe_sectors(g));
-    if (inside == 0 || parity == absent)
-        return false;
-    uint32_t entry = 1 + (inside < g.unit ? inside : g.unit);
-    return unused(v, parity, PARITY_LOG) < entry + parity_reserve(g);
-}
-
-bool mount_log_full(const struct volume *v, uint32_t named) {
-    uint32_t absent = absent_drive(v->geometry, named, v->state.lost);
-    return log_below(v, absent, GENERAL_LOG, v->geometry.zones + 2) || log_below(v, absent, PARITY_LOG, parity_reserve(v->geometry));
 }
 
 uint32_t write_refusal(const struct volume *v, uint32_t named, uint64_t address, uint32_t run, size_t data_bytes) {
@@ -128,17 +115,15 @@ uint32_t write_refusal(const struct volume *v, uint32_t named, uint64_t address,
     refusal = zone_refusal(v, named, address / whole);
     if (refusal != ZRV_FINISHED)
         return refusal;
-    uint32_t zone = (uint32_t)(address / whole), offset = (uint32_t)(address % whole);
-    const struct zone_state *state = &v->state.zone[zone];
+    uint32_t offset = (uint32_t)(address % whole);
+    const struct zone_state *state = &v->state.zone[address / whole];
     if (run == 0 || run > whole - offset)
         return ZRV_RUN;
     if (offset != state->pointer)
         return ZRV_ORDER;
     if (state->condition == ZRV_SEALED)
         return ZRV_ZONE_SEALED;
-    if (state->condition == ZRV_WORN)
-        return ZRV_ZONE_WORN;
-    return parity_log_full(v, absent_drive(v->geometry, named, v->state.lost), zone, offset + run) ? ZRV_LOG_FULL : ZRV_FINISHED;
+    return state->condition == ZRV_WORN ? ZRV_ZONE_WORN : ZRV_FINISHED;
 }
 
 uint32_t read_refusal(const struct volume *v, uint32_t named, uint64_t address, uint32_t run, size_t answer_bytes) {
@@ -163,7 +148,7 @@ uint32_t reset_refusal(const struct volume *v, uint32_t named, uint32_t zone) {
         return refusal;
     if (v->state.zone[zone].condition == ZRV_WORN || v->state.zone[zone].generation == UINT64_MAX)
         return ZRV_ZONE_WORN;
-    return log_below(v, absent_drive(v->geometry, named, v->state.lost), GENERAL_LOG, v->geometry.zones + 4) ? ZRV_LOG_FULL : ZRV_FINISHED;
+    return general_log_full(v, absent_drive(v->geometry, named, v->state.lost)) ? ZRV_LOG_FULL : ZRV_FINISHED;
 }
 
 uint32_t peek_refusal(const struct volume *v, uint32_t named, uint64_t address) {

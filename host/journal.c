@@ -6,11 +6,9 @@
 #include "bytes.h"
 #include "placement.h"
 
+/* The first byte is zero and each is like the one before it. */
 static bool zeros(const uint8_t *sector, uint32_t from, uint32_t to) {
-    for (; from < to; from++)
-        if (sector[from] != 0)
-            return false;
-    return true;
+    return from == to || (sector[from] == 0 && memcmp(sector + from, sector + from + 1, to - from - 1) == 0);
 }
 
 static bool is_label(struct geometry g, uint32_t drive, const uint8_t *s) {
@@ -47,10 +45,16 @@ static bool is_seal(struct geometry g, const uint8_t *s) {
     return zeros(s, ENTRY_HEAD_BYTES, g.sector_bytes) && start % whole == 0 && start / whole < g.zones && end > start && end - start <= whole;
 }
 
+static bool is_closing(struct geometry g, uint32_t log, const uint8_t *s) {
+    return get64(s + ENTRY_START) == log && get64(s + ENTRY_END) == 0 && get64(s + ENTRY_GENERATION) != 0 && zeros(s, ENTRY_HEAD_BYTES, g.sector_bytes);
+}
+
 bool entry_is_legal(struct geometry g, uint32_t drive, uint32_t log, const uint8_t *header) {
     static const uint8_t version[] = {ENTRY_FORMAT, 0, 0, 0};
     if (memcmp(header, ENTRY_MARK, ENTRY_MARK_BYTES) != 0 || memcmp(header + ENTRY_VERSION, version, sizeof version) != 0)
         return false;
+    if (header[ENTRY_TYPE] == ENTRY_CLOSING)
+        return is_closing(g, log, header);
     if ((header[ENTRY_TYPE] == ENTRY_PARTIAL_PARITY) != (log == PARITY_LOG))
         return false;
     switch (header[ENTRY_TYPE]) {
@@ -76,18 +80,64 @@ uint32_t entry_rows(struct geometry g, const uint8_t *header) {
 }
 
 enum journal_step next_entry(struct journal_reader *reader, const uint8_t **header) {
-    struct geometry g = reader->shelf->geometry;
-    uint32_t written = get32(reader->shelf->written.bytes + 4 * cell(g, reader->drive, reader->log));
-    if (reader->at >= written || reader->at >= g.zone_sectors)
+    struct geometry g = reader->geometry;
+    if (reader->at >= reader->zone.written || reader->at >= g.zone_sectors)
         return JOURNAL_END;
-    *header = reader->shelf->sectors.bytes + sector_offset(g, reader->drive, reader->log, reader->at);
+    *header = reader->zone.bytes + (size_t)reader->at * g.sector_bytes;
     if (!entry_is_legal(g, reader->drive, reader->log, *header))
         return JOURNAL_NO_ENTRY;
     uint32_t next = reader->at + 1 + entry_rows(g, *header);
     if (next > g.zone_sectors)
         return JOURNAL_NO_ENTRY;
-    if (next > written)
+    if (next > reader->zone.written)
         return JOURNAL_TORN;
     reader->at = next;
     return JOURNAL_ENTRY;
+}
+
+uint64_t log_generation(const struct log_zones *zones, uint32_t log, uint32_t zone) {
+    struct journal_reader reader = {zones->geometry, zones->drive, log, zones->zone[zone], 0};
+    const uint8_t *header;
+    while (next_entry(&reader, &header) == JOURNAL_ENTRY)
+        if (header[ENTRY_TYPE] == ENTRY_CLOSING)
+            return get64(header + ENTRY_GENERATION);
+    return 0;
+}
+
+/* A kind's own zone, of its number, is that log unless it closes as the other kind. It is read only if another zone closes as this kind: a log that was never
+ * emptied need not be read to its end. */
+uint32_t find_log(const struct log_zones *zones, uint32_t log) {
+    uint32_t best = NO_ZONE;
+    uint64_t most = 0;
+    for (uint32_t y = 0; y < ZRV_LOG_ZONES; y++) {
+        uint64_t generation = y == log ? 0 : log_generation(zones, log, y);
+        if (generation > most) {
+            best = y;
+            most = generation;
+        }
+    }
+    uint32_t other = log == GENERAL_LOG ? PARITY_LOG : GENERAL_LOG;
+    if (best == NO_ZONE)
+        return log_generation(zones, other, log) == 0 ? log : NO_ZONE;
+    uint64_t own = log_generation(zones, log, log);
+    return own > most || (own == most && log < best) ? log : best;
+}
+
+uint32_t find_spare(const struct log_zones *zones) {
+    uint32_t general = find_log(zones, GENERAL_LOG), parity = find_log(zones, PARITY_LOG);
+    return general == NO_ZONE || parity == NO_ZONE ? NO_ZONE : 0 + 1 + 2 - general - parity;
+}
+
+struct log_zones log_zones_of(const struct shelf *shelf, uint32_t drive) {
+    struct geometry g = shelf->geometry;
+    struct log_zones zones = {.geometry = g, .drive = drive};
+    for (uint32_t y = 0; y < ZRV_LOG_ZONES; y++)
+        zones.zone[y] = (struct zone_bytes){shelf->sectors.bytes + sector_offset(g, drive, y, 0), get32(shelf->written.bytes + 4 * cell(g, drive, y))};
+    return zones;
+}
+
+struct journal_reader read_log(const struct log_zones *zones, uint32_t log) {
+    uint32_t zone = find_log(zones, log);
+    struct zone_bytes nothing = {NULL, 0};
+    return (struct journal_reader){zones->geometry, zones->drive, log, zone == NO_ZONE ? nothing : zones->zone[zone], 0};
 }

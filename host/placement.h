@@ -1,10 +1,11 @@
-/* Placement: where a logical zone's sectors lie. Physical zones 0 and 1 of a drive are its general log and its parity log; logical zone z is physical zone
+/* Placement: where a logical zone's sectors lie. Physical zones 0 to 2 of a drive are its logs and its spare zone (journal.h); logical zone z is physical zone
  * 3 + z of every drive. A stripe has D - 1 units of U sectors and one unit of parity, on a drive that moves on by one from stripe to stripe. */
 #ifndef PLACEMENT_H
 #define PLACEMENT_H
 
 #include "call.h"
 
+/* The kinds of log; each is also the number of the zone that is that log after a format. */
 enum { GENERAL_LOG = 0, PARITY_LOG = 1 };
 
 /* A cell is one drive's physical zone. */

@@ -94,7 +94,7 @@ extern "C" {
 #define ZRV_LENGTH 2u    /* a byte range has not its length */
 #define ZRV_POINTER 3u   /* a named drive has written > C or durable > written */
 #define ZRV_TWO_LOST 4u  /* more than one drive is lost */
-#define ZRV_LABEL 5u     /* look, mount: a present drive's general log has no fitting first label */
+#define ZRV_LABEL 5u     /* look, mount: a present drive lacks a log, or its general log has no fitting first label */
 #define ZRV_LOG 6u       /* look, mount: a present drive's log is broken */
 #define ZRV_STALE 7u     /* a present drive's pointer in the zone is not what the state needs */
 #define ZRV_ADDRESS 8u   /* no such zone or address */
@@ -103,7 +103,7 @@ extern "C" {
 #define ZRV_ZONE_SEALED 11u /* a write to a sealed zone */
 #define ZRV_ZONE_WORN 12u   /* a write or reset of a worn zone */
 #define ZRV_UNWRITTEN 13u   /* a read or peek past the pointer */
-#define ZRV_LOG_FULL 14u    /* mount, reset, write: too little unused log */
+#define ZRV_LOG_FULL 14u    /* mount, reset, write: a log lacks room, and emptying it would not give it */
 #define ZRV_GONE 15u        /* a sector needed is not known; in a peek, not held */
 #define ZRV_GROUP_IDS 23u   /* zrv_grouped_read: in some group a present drive lacks a stripe ID, or has it twice */
 #define ZRV_GROUP_ALIKE 24u /* zrv_grouped_read: two data blocks, no fillers, with equal address and timestamp */
@@ -129,11 +129,11 @@ uint32_t zrv_mount(uint32_t drives, uint32_t sector_bytes, uint32_t unit, uint32
                    uint8_t *durable, size_t durable_bytes, uint8_t *state, size_t state_bytes);
 
 /* Write: sectors_to_write sectors, the bytes of `data` (sectors_to_write * B of them), at an address that is its zone's pointer. Finished, `state` has
- * the zone open at its new pointer. `durable` is read only. Refusals 1 to 4, 7 to 12, 14 and 15. */
+ * the zone open at its new pointer. Refusals 1 to 4, 7 to 12, 14 and 15. */
 uint32_t zrv_write(uint32_t drives, uint32_t sector_bytes, uint32_t unit, uint32_t zones, uint32_t zone_sectors, uint32_t named,
                    uint64_t address, uint32_t sectors_to_write, uint32_t count,
                    uint8_t *sectors, size_t sectors_bytes, uint8_t *written, size_t written_bytes,
-                   const uint8_t *durable, size_t durable_bytes, uint8_t *state, size_t state_bytes,
+                   uint8_t *durable, size_t durable_bytes, uint8_t *state, size_t state_bytes,
                    const uint8_t *data, size_t data_bytes);
 
 /* Flush: every present drive is flushed: what is written becomes durable. Finished, a drive that is not named is lost in `state`.

@@ -3,9 +3,9 @@
 A call that stores is a generator: it raises Refused before its first store, yields its stores in order, and returns the state that it
 hands on.
 """
-from format_numbers import (ALL_STORES, COUNTERS, FIRST_DATA_ZONE, GENERAL_LOG, LABEL, LAST_GENERATION, NO_DRIVE, PARITY_LOG, Answer,
-                            Condition)
-from format_volume import (Drives, Logs, Memory, Refused, State, Store, Unfinished, Zone, ZoneRecord, counters, descriptor,
+from format_numbers import (ALL_STORES, COUNTERS, FIRST_DATA_ZONE, GENERAL_LOG, LABEL, LAST_GENERATION, LOGS, NO_DRIVE, PARITY_LOG, RESET, SEAL,
+                            Answer, Condition)
+from format_volume import (Drives, Logs, Memory, Refused, State, Store, Unfinished, Zone, ZoneRecord, closing, counters, descriptor,
                            exclusive_or, label, partial_parity, reset_entry, seal, walk)
 
 
@@ -68,11 +68,16 @@ class Call:
         self.logs = logs = Logs(self.drives, self.named)
         self.settle_present([logs.last(d, LABEL).lost for d in self.named if logs.first_label(d)])
         firsts = [logs.first_label(d) for d in self.present]
-        if None in firsts or len({first.array for first in firsts}) > 1:
+        if any(logs.lacks(d) for d in self.present) or None in firsts or len({first.array for first in firsts}) > 1:
             raise Refused(Answer.LABEL)
         self.array = firsts[0].array
-        if any(logs.walks[d, log].broken_at is not None for d in self.present for log in (GENERAL_LOG, PARITY_LOG)):
+        if any(logs.walks[d, log].broken_at is not None for d in self.present for log in LOGS):
             raise Refused(Answer.LOG)
+
+    def settle_by_state(self):
+        """The other calls: refusal 4, and the logs that they find."""
+        self.settle_present([self.state.lost])
+        self.logs = Logs(self.drives, self.present)
 
     def check_zone(self, z):
         """Refusals 7 and 8; the zone's record in the state."""
@@ -89,44 +94,112 @@ class Call:
     def check_run(self, address, sectors, buffer):
         """Refusals 1 to 4 and 7 to 9 of a write or a read: zone, offset and record."""
         self.check_input(self.state, buffer, sectors)
-        self.settle_present([self.state.lost])
+        self.settle_by_state()
         z, a = divmod(address, self.geometry.Q)
         record = self.check_zone(z)
         if sectors == 0 or a + sectors > self.geometry.Q:
             raise Refused(Answer.RUN)
         return z, a, record
 
-    def known(self, z, record, offsets):
+    def known(self, z, offsets):
         """Refusal 15: the values of these offsets by rule 4, with the state's generation."""
-        zone = Zone(self.drives, Logs(self.drives, self.present), self.present, z, record.generation)
+        zone = Zone(self.drives, self.logs, self.present, z, self.state.zones[z].generation)
         values = {a: zone.value(a) for a in offsets}
         if None in values.values():
             raise Refused(Answer.GONE)
         return values
 
-    # ---- section 8: the calls and their stores
+    # ---- section 8: stores
 
     def append(self, d, y, data):
         if d in self.present:
             yield Store("append", d, y, data)
 
-    def on_all(self, kind, y=None, data=None):
+    def on_all(self, kind, y=None):
         for d in self.present:
-            yield Store(kind, d, y, data)
+            yield Store(kind, d, y)
 
     def row_sum(self, values, s, r, end):
         """The exclusive or of the sectors of row r of stripe s that lie below end."""
         return exclusive_or([values[a] for a in self.geometry.row_offsets(s, r) if a < end], self.geometry.B)
 
     def parity_entry(self, z, n, generation, values):
-        """One type 4 entry for the pointer n, inside a stripe: header, then rows, on the stripe's parity drive."""
+        """The sectors of a type 4 entry for the pointer n, inside a stripe: header, then rows."""
         g = self.geometry
         s, f = divmod(n, g.K)
-        p = g.parity_drive(z, s)
-        if p in self.present:
-            yield from self.append(p, PARITY_LOG, partial_parity(g, z, n, generation))
-            for r in range(min(f, g.U)):
-                yield from self.append(p, PARITY_LOG, self.row_sum(values, s, r, n))
+        return [partial_parity(g, z, n, generation)] + [self.row_sum(values, s, r, n) for r in range(min(f, g.U))]
+
+    def to_log(self, d, log, *sectors):
+        for data in sectors:
+            yield Store("append", d, self.logs.zones[d, log], data)
+
+    # ---- section 8: emptying a log
+
+    def lacking(self, drives, log, least, records, in_mount=False):
+        """Refusal 14: the drives whose log has less room than that, to be emptied first. `records` tell the zones' generations and pointers."""
+        lacking = [d for d in drives if self.room(d, log) < least]
+        for d in lacking:
+            spare = self.logs.spare(d)
+            if spare is None or self.logs.generations[d, log] == LAST_GENERATION or (self.drives.written(d, spare) and not in_mount):
+                raise Refused(Answer.LOG_FULL)
+            if self.geometry.C - self.copied(d, log, records) - 1 < least:
+                raise Refused(Answer.LOG_FULL)
+        return lacking
+
+    def room(self, d, log):
+        """A log that the drive lacks has none."""
+        return self.drives.room(d, self.logs.zones[d, log]) if (d, log) in self.logs.zones else 0
+
+    def copied(self, d, log, records):
+        """How many sectors an emptying copies."""
+        g = self.geometry
+        if log == GENERAL_LOG:
+            return len(self.general_copies(d, records))
+        return sum(1 + min(records[z].pointer % g.K, g.U) for z in self.zones_inside(d, records))
+
+    def general_copies(self, d, records):
+        """Label, counters, seals and resets that are still needed of the walked general log."""
+        g, logs = self.geometry, self.logs
+        first, last = logs.first_label(d), logs.last(d, LABEL)
+        copies = [label(g, d, last.lost, (first or last).array)] if last else []
+        copies.append(counters(g, [record.generation for record in records]))
+        for z, record in enumerate(records):
+            ends = [entry.end for entry in logs.entries(d, SEAL) if entry.is_current(z, record.generation)]
+            copies += [seal(g, z, min(ends), record.generation)] if ends else []
+        for z, record in enumerate(records):
+            if any(entry.is_current(z, record.generation) for entry in logs.entries(d, RESET)):
+                copies.append(reset_entry(g, z, record.generation))
+        return copies
+
+    def zones_inside(self, d, records):
+        """The zones whose pointer lies inside a stripe that has its parity on this drive."""
+        g = self.geometry
+        return [z for z, (_, _, n) in enumerate(records) if n % g.K and d == g.parity_drive(z, n // g.K)]
+
+    def parity_copies(self, d, records, values_below):
+        """For each of these zones the last whole current entry at its pointer, as it stands in the log by now, or else one that is made."""
+        y, sectors = self.logs.zones[d, PARITY_LOG], []
+        whole = walk(self.drives, d, PARITY_LOG, y).whole
+        for z in self.zones_inside(d, records):
+            generation, _, n = records[z]
+            found = [range(x, x + 1 + entry.rows) for x, entry in whole if entry.is_current(z, generation) and entry.end == n]
+            if found:
+                sectors += [self.drives.sector(d, y, x) for x in found[-1]]
+            else:
+                sectors += self.parity_entry(z, n, generation, values_below(z, n))
+        return sectors
+
+    def empty(self, d, log, copies):
+        """The stores; the spare zone is the log from then on, and the old zone the spare."""
+        old, new = self.logs.zones[d, log], self.logs.spare(d)
+        yield from self.on_all("flush")
+        for data in copies + [closing(self.geometry, log, self.logs.generations[d, log] + 1)]:
+            yield Store("append", d, new, data)
+        yield from self.on_all("flush")
+        yield Store("reset", d, old)
+        self.logs.zones[d, log] = new
+
+    # ---- section 8: the calls and their stores
 
     def format(self, array):
         self.check_input()
@@ -144,55 +217,62 @@ class Call:
     def write(self, address, sectors, data):
         g = self.geometry
         z, a, record = self.check_run(address, sectors, len(data))
-        self.check_write(z, a, record, a + sectors)
+        self.check_order(a, record)
+        emptied = self.emptied_for_entry(z, a + sectors)
         first = a // g.K
         needed = range(first * g.K, a) if g.parity_drive(z, first) in self.present else ()
-        values = self.known(z, record, needed)
+        values = self.known(z, needed)
         values.update((a + i, data[i * g.B:(i + 1) * g.B]) for i in range(sectors))
+        for d, copies in emptied.items():
+            yield from self.empty(d, PARITY_LOG, copies)
         for b in range(a, a + sectors):
             at = g.place(z, b)
             yield from self.append(at.drive, FIRST_DATA_ZONE + z, values[b])
             if (b + 1) % g.K == 0 and at.parity_drive in self.present:
                 for r in range(g.U):
                     yield from self.append(at.parity_drive, FIRST_DATA_ZONE + z, self.row_sum(values, at.stripe, r, b + 1))
-        if (a + sectors) % g.K:
-            yield from self.parity_entry(z, a + sectors, record.generation, values)
+        if (a + sectors) % g.K and at.parity_drive in self.present:
+            yield from self.to_log(at.parity_drive, PARITY_LOG, *self.parity_entry(z, a + sectors, record.generation, values))
         return self.state.with_zone(self.lost, z, ZoneRecord(record.generation, Condition.OPEN, a + sectors))
 
-    def check_write(self, z, a, record, end):
-        """Refusals 10 to 12 and 14 of a write from offset a to end."""
-        g = self.geometry
+    def check_order(self, a, record):
+        """Refusals 10 to 12 of a write from offset a."""
         if a != record.pointer:
             raise Refused(Answer.ORDER)
         if record.condition in (Condition.SEALED, Condition.WORN):
             raise Refused(Answer.SEALED if record.condition == Condition.SEALED else Answer.WORN)
-        s, f = divmod(end, g.K)
-        p = g.parity_drive(z, s)
-        if f and p in self.present and self.drives.room(p, PARITY_LOG) < 1 + min(f, g.U) + g.R:
-            raise Refused(Answer.LOG_FULL)
+
+    def emptied_for_entry(self, z, n):
+        """Refusals 14 and 15 of a type 4 entry at the pointer n: the drive whose log is emptied for it, with the copies."""
+        g, records = self.geometry, self.state.zones
+        s, f = divmod(n, g.K)
+        on = [p for p in [g.parity_drive(z, s)] if f and p in self.present]
+        lacking = self.lacking(on, PARITY_LOG, 1 + min(f, g.U) + g.R, records)
+        return {d: self.parity_copies(d, records, lambda z, n: self.known(z, range(n - n % g.K, n))) for d in lacking}
 
     def flush(self):
         self.check_input(self.state)
-        self.settle_present([self.state.lost])
+        self.settle_by_state()
         yield from self.on_all("flush")
         return self.state.with_zone(self.lost)
 
     def reset(self, z):
         g = self.geometry
         self.check_input(self.state)
-        self.settle_present([self.state.lost])
+        self.settle_by_state()
         record = self.check_zone(z)
         if record.condition == Condition.WORN or record.generation == LAST_GENERATION:
             raise Refused(Answer.WORN)
-        if any(self.drives.room(d, GENERAL_LOG) < g.L + 4 for d in self.present):
-            raise Refused(Answer.LOG_FULL)
-        for d in sorted(g.reset_drives(z)):
-            yield from self.append(d, GENERAL_LOG, reset_entry(g, z, record.generation))
+        for d in self.lacking(self.present, GENERAL_LOG, g.L + 4, self.state.zones):
+            yield from self.empty(d, GENERAL_LOG, self.general_copies(d, self.state.zones))
+        for d in sorted(set(g.reset_drives(z)) & set(self.present)):
+            yield from self.to_log(d, GENERAL_LOG, reset_entry(g, z, record.generation))
         yield from self.on_all("flush")
         yield from self.on_all("reset", FIRST_DATA_ZONE + z)
         raised = record.generation + 1
         after = self.state.with_zone(self.lost, z, ZoneRecord(raised, Condition.WORN if raised == LAST_GENERATION else Condition.EMPTY, 0))
-        yield from self.on_all("append", GENERAL_LOG, counters(g, [zone.generation for zone in after.zones]))
+        for d in self.present:
+            yield from self.to_log(d, GENERAL_LOG, counters(g, [zone.generation for zone in after.zones]))
         yield from self.on_all("flush")
         return after
 
@@ -200,12 +280,12 @@ class Call:
         z, a, record = self.check_run(address, sectors, buffer)
         if a + sectors > record.pointer:
             raise Refused(Answer.UNWRITTEN)
-        return b"".join(self.known(z, record, range(a, a + sectors)).values())
+        return b"".join(self.known(z, range(a, a + sectors)).values())
 
     def peek(self, address):
         g = self.geometry
         self.check_input(self.state)
-        self.settle_present([self.state.lost])
+        self.settle_by_state()
         z, a = divmod(address, g.Q)
         if a >= self.check_zone(z).pointer:
             raise Refused(Answer.UNWRITTEN)
@@ -240,12 +320,12 @@ class Call:
         g = self.geometry
         self.check_input()
         self.settle_by_labels()
-        if any(self.drives.room(d, GENERAL_LOG) < g.L + 2 or self.drives.room(d, PARITY_LOG) < g.R for d in self.present):
-            raise Refused(Answer.LOG_FULL)
+        self.records = self.show().zones
+        self.lacking_general = self.lacking(self.present, GENERAL_LOG, g.L + 2, self.records, in_mount=True)
+        self.lacking_parity = self.lacking(self.present, PARITY_LOG, g.R, self.records, in_mount=True)
         yield from self.on_all("flush")
-        self.show()
-        for step in (self.labels_step, self.type_3_step, self.resets_step, self.counters_step, self.seals_step, self.torn_rows_step,
-                     self.sectors_step, self.type_4_step):
+        for step in (self.spares_step, self.general_logs_step, self.labels_step, self.type_3_step, self.resets_step, self.counters_step,
+                     self.seals_step, self.torn_rows_step, self.sectors_step, self.parity_logs_step, self.type_4_step):
             stored = False
             for store in step():
                 stored = True
@@ -259,15 +339,28 @@ class Call:
         """Drives ascend, and zones in each drive."""
         return ((d, z, zone) for d in self.present for z, zone in enumerate(self.zones))
 
+    def spares_step(self):
+        for d in self.present:
+            if self.drives.written(d, self.logs.spare(d)):
+                yield Store("reset", d, self.logs.spare(d))
+
+    def general_logs_step(self):
+        for d in self.lacking_general:
+            yield from self.empty(d, GENERAL_LOG, self.general_copies(d, self.records))
+
+    def parity_logs_step(self):
+        for d in self.lacking_parity:
+            yield from self.empty(d, PARITY_LOG, self.parity_copies(d, self.records, lambda z, n: self.zones[z].values))
+
     def labels_step(self):
         for d in self.present:
             if self.lost not in (NO_DRIVE, self.logs.last(d, LABEL).lost):
-                yield Store("append", d, GENERAL_LOG, label(self.geometry, d, self.lost, self.array))
+                yield from self.to_log(d, GENERAL_LOG, label(self.geometry, d, self.lost, self.array))
 
     def type_3_step(self):
         for d, z, zone in self.each_zone():
             if zone.emptied and d in self.geometry.reset_drives(z):
-                yield Store("append", d, GENERAL_LOG, reset_entry(self.geometry, z, zone.generation))
+                yield from self.to_log(d, GENERAL_LOG, reset_entry(self.geometry, z, zone.generation))
 
     def resets_step(self):
         for d, z, zone in self.each_zone():
@@ -278,12 +371,13 @@ class Call:
         empty = [zone.record.condition == Condition.EMPTY for zone in self.zones]
         if any(empty) or len({self.logs.last(d, COUNTERS) for d in self.present}) > 1:
             generations = [zone.generation + raised for zone, raised in zip(self.zones, empty)]
-            yield from self.on_all("append", GENERAL_LOG, counters(self.geometry, generations))
+            for d in self.present:
+                yield from self.to_log(d, GENERAL_LOG, counters(self.geometry, generations))
 
     def seals_step(self):
         for d, z, zone in self.each_zone():
             if zone.record.condition == Condition.SEALED and zone.record.pointer not in zone.seals[d]:
-                yield Store("append", d, GENERAL_LOG, seal(self.geometry, z, zone.record.pointer, zone.generation))
+                yield from self.to_log(d, GENERAL_LOG, seal(self.geometry, z, zone.record.pointer, zone.generation))
 
     def torn_rows_step(self):
         for d in self.present:
@@ -291,9 +385,9 @@ class Call:
                 x, entry = self.logs.torn(d)
                 zone = self.zones[entry.zone]
                 true = zone.current(entry) and entry.end <= zone.record.pointer
-                for r in range(self.drives.written(d, PARITY_LOG) - x - 1, entry.rows):
+                for r in range(self.drives.written(d, self.logs.zones[d, PARITY_LOG]) - x - 1, entry.rows):
                     row = self.row_sum(zone.values, entry.stripe, r, entry.end) if true else bytes(self.geometry.B)
-                    yield Store("append", d, PARITY_LOG, row)
+                    yield from self.to_log(d, PARITY_LOG, row)
 
     def sectors_step(self):
         g = self.geometry
@@ -311,9 +405,9 @@ class Call:
         for d, z, zone in self.each_zone():
             n = zone.record.pointer
             if n % g.K and d == g.parity_drive(z, n // g.K):
-                whole = walk(self.drives, d, PARITY_LOG).whole
+                whole = walk(self.drives, d, PARITY_LOG, self.logs.zones[d, PARITY_LOG]).whole
                 if not any(zone.current(entry) and entry.end == n for _, entry in whole):
-                    yield from self.parity_entry(z, n, zone.generation, zone.values)
+                    yield from self.to_log(d, PARITY_LOG, *self.parity_entry(z, n, zone.generation, zone.values))
 
 
 class Host:

@@ -3,13 +3,14 @@ from collections import namedtuple
 from itertools import groupby
 
 from format_calls import Host
-from format_numbers import FIRST_DATA_ZONE, GENERAL_LOG, PARITY_LOG, Condition
-from format_volume import Drives, Geometry, read_entry
+from format_numbers import FIRST_DATA_ZONE, GENERAL_LOG, LOGS, PARITY_LOG, Condition
+from format_volume import Drives, Geometry, Logs, read_entry
 
 V = Geometry(D=4, B=64, U=2, L=2, C=32)
 ARRAY = 0x1122334455667788
 FILLS = bytes([0x01, 0x02, 0x04, 0x08, 0x10, 0x20, 0x40, 0x80])
 ALL_DRIVES = 15
+SPARE = 2       # the spare zone after a format
 
 Run = namedtuple("Run", "stores drives span")
 
@@ -47,14 +48,23 @@ class Volume(Host):
         for i, pair in enumerate(zip(self.memory.durable, self.memory.written)):
             self.memory.written[i] = self.memory.durable[i] = zones.get(divmod(i, V.Z), choose(pair))
 
+    def walk(self, d, log):
+        return Logs(self.drives, [d]).walks[d, log]
+
     def entry(self, store):
-        return read_entry(V, store.drive, store.zone, store.data)
+        """The entry that an appended sector is, None for a row or a sector of a zone."""
+        found = [read_entry(V, store.drive, log, store.data) for log in LOGS] if store.zone < FIRST_DATA_ZONE else []
+        return next((entry for entry in found if entry), None)
+
+    def type_of(self, store):
+        entry = self.entry(store)
+        return entry and entry.type
 
     def runs(self):
         """The stores of the last call in runs of one kind: each with its drives, and its first and last number."""
         def kind(pair):
             store = pair[1]
-            return store.kind, store.zone, self.entry(store).type if store.kind == "append" and store.zone == GENERAL_LOG else None
+            return store.kind, store.zone, self.type_of(store) if store.kind == "append" and store.zone == GENERAL_LOG else None
 
         for _, pairs in groupby(enumerate(self.stores, 1), kind):
             numbers, stores = zip(*pairs)
@@ -89,6 +99,22 @@ def before_mount():
     volume.write(98, 3)
     volume.store("reset", ALL_DRIVES, 0, count=1)
     volume.keep({(0, PARITY_LOG): 4, (1, FIRST_DATA_ZONE + 1): 1, (3, FIRST_DATA_ZONE + 1): 1})
+    return volume
+
+
+def before_emptied_parity_log():
+    """Section 8: zone 0 written sector by sector, up to where the next write empties a log."""
+    volume = formatted()
+    for a in range(27):
+        volume.write(a, 1)
+    return volume
+
+
+def before_emptied_general_log():
+    """Section 8: drive 3 left out of the format, and zone 0 reset again and again, up to where the next reset empties a log."""
+    volume = formatted(without(3))
+    for _ in range(13):
+        volume.store("reset", without(3), 0)
     return volume
 
 

@@ -1,15 +1,15 @@
-"""The worked values of docs/FORMAT.md, section by section: each is computed by the model on the page's volume V and compared."""
+"""The worked values of docs/FORMAT.md, section by section: each is computed by the model on the page's volume V and compared. Sections 8 and 9 are in
+format_check_stores.py."""
 import re
-from random import Random
 
-from format_cases import (ALL_DRIVES, ARRAY, FILLS, V, Volume, before_mount, either, ends, five_written, formatted, in_words, kept, sector,
-                          without)
-from format_numbers import (COUNTERS, FIRST_DATA_ZONE, GENERAL_LOG, LABEL, MOST_ZONE_SECTORS, PARITY_LOG, RESET, SEAL, SECTOR_SIZES, Answer,
-                            Condition)
-from format_page import NotFound, Page, written_out
-from format_volume import Geometry, ZoneRecord, counters, partial_parity, reset_entry, seal, walk
+from format_cases import (ALL_DRIVES, ARRAY, FILLS, SPARE, V, Volume, before_emptied_general_log, before_emptied_parity_log, before_mount, either,
+                          ends, five_written, formatted, kept, sector, without)
+from format_check_stores import check_emptying, check_mount, check_stores
+from format_numbers import (CLOSING, COUNTERS, FIRST_DATA_ZONE, GENERAL_LOG, LABEL, LOGS, MOST_ZONE_SECTORS, PARITY_LOG, RESET, SEAL, SECTOR_SIZES,
+                            Answer, Condition)
+from format_page import NotFound, Page
+from format_volume import Geometry, Logs, ZoneRecord, closing, counters, partial_parity, reset_entry, seal
 
-DRAWN_CUTS = 6
 CALL_LETTERS = {"f": "format", "l": "look", "m": "mount", "w": "write", "u": "flush", "r": "reset", "d": "read", "p": "peek", "o": "report"}
 
 
@@ -17,8 +17,7 @@ def check_geometry(page):
     """Introduction, sections 1 and 2."""
     page.phrase("V: D = {} drives, B = {} bytes, U = {} sectors, L = {} zones, C = {} sectors; array number {}",
                 V.D, V.B, V.U, V.L, V.C, hex(ARRAY))
-    page.phrase("one byte each: {}, {}, {}, {}, {}, {}, {}, {} for offsets 0 to 7 of a zone", *(sector(a) for a in range(len(FILLS))))
-    page.phrase("(offsets 8 to 13 hold the bytes {} to {})", sector(8), sector(13))
+    page.phrase("one byte each: {}, {}, {}, {}, {}, {}, {}, {} for offsets 0 to 7 of a zone, then the offset itself", *(sector(a) for a in range(len(FILLS))))
     page.phrase("| Z, physical zones of a drive | L + 3 | {} |", V.Z)
     page.phrase("| K, data sectors of a stripe | (D − 1) × U | {} |", V.K)
     page.phrase("| Q, sectors of a logical zone | (D − 1) × C | {} |", V.Q)
@@ -68,6 +67,9 @@ def check_entries(page):
     sealed = kept([2, 1, 1, 0], 0)
     sealed.store("mount", ALL_DRIVES)
     mounted.store("mount", without(2))
+    general, parity = before_emptied_general_log(), before_emptied_parity_log()
+    general.store("reset", without(3), 0)
+    parity.write(27, 1)
     page.dumps({
         "drive 2 of V after a format with all drives": formatted().drives.sector(2, GENERAL_LOG, 0),
         "the same, on drive 1, by a mount without drive 0": only(lost, LABEL, 1),
@@ -75,6 +77,8 @@ def check_entries(page):
         "after a reset of zone 0: 2 and 1": only(reset, COUNTERS, 1),
         "type 3: zone 0 of V, 0 to 96, generation 1 (drives 0 and 3)": only(reset, RESET, 3),
         "type 5: zone 0 of V sealed at 3, generation 1": only(sealed, SEAL, 2),
+        "type 6: a general log emptied once": only(general, CLOSING, 0),
+        "type 6: a parity log emptied once": only(parity, CLOSING, 3),
         "V, addresses 0 to 4 written to zone 0: sectors 0, 1 and 2 of drive 3's parity log": five.drives.sector(3, PARITY_LOG, 0),
         "V after the write of 5 at 0": five.state.to_bytes(),
         "V after the mount of section 9": mounted.state.to_bytes(),
@@ -88,9 +92,8 @@ def check_entries(page):
 
 
 def only(volume, kind, d):
-    """The one entry of a type that the last call appended to a drive's general log."""
-    general = [store for store in volume.stores if (store.kind, store.drive, store.zone) == ("append", d, GENERAL_LOG)]
-    data, = [store.data for store in general if volume.entry(store).type == kind]
+    """The one entry of a type that the last call appended to a drive's logs."""
+    data, = [store.data for store in volume.stores if store.drive == d and store.kind == "append" and volume.type_of(store) == kind]
     return data
 
 
@@ -105,6 +108,22 @@ def check_walks(page):
     page.phrase("header that wants two rows at sector 30; written 31 | no entry at {}: {} is past C",
                 two_rows.broken_at, two_rows.broken_at + 3)
     page.phrase("header that wants one row at sector 30; written 31 | torn at {}", one_row.torn[0])
+    check_roles(page)
+
+
+def check_roles(page):
+    """Section 5: the table of which zones are the logs."""
+    copied, closed, lacking = formatted(), formatted(), Volume()
+    for volume in (copied, closed):
+        for x in (0, 1):
+            volume.drives.append(0, SPARE, volume.drives.sector(0, GENERAL_LOG, x))
+    closed.drives.append(0, SPARE, closing(V, GENERAL_LOG, 1))
+    lacking.drives.append(0, 0, closing(V, PARITY_LOG, 1))
+    rows = page.table("| Zones 0, 1, 2 of a drive of V |")[1:]
+    for (position, (_, *zones)), volume in zip(rows, (formatted(), copied, closed, lacking), strict=True):
+        logs = Logs(volume.drives, [0])
+        found = [logs.zones.get((0, log), "lacks") for log in LOGS] + ["none" if logs.spare(0) is None else logs.spare(0)]
+        page.compare(position, " ".join(zones), " ".join(str(zone) for zone in found))
 
 
 def log_of(d, sectors):
@@ -112,7 +131,7 @@ def log_of(d, sectors):
     volume = Volume()
     for sector in sectors:
         volume.drives.append(d, PARITY_LOG, sector)
-    return walk(volume.drives, d, PARITY_LOG)
+    return volume.walk(d, PARITY_LOG)
 
 
 def check_looks(page):
@@ -144,7 +163,7 @@ def check_two_entries(page):
     volume.write(0, 3)
     volume.write(3, 2)
     log = [volume.drives.sector(3, PARITY_LOG, x) for x in range(volume.drives.written(3, PARITY_LOG))]
-    end = [entry.end for _, entry in walk(volume.drives, 3, PARITY_LOG).whole]
+    end = [entry.end for _, entry in volume.walk(3, PARITY_LOG).whole]
     page.phrase("two entries in drive 3's log: end {} with rows {} and {}, end {} with rows {} and {}.",
                 end[0], *log[1:3], end[1], *log[4:])
     page.phrase("Kept 2 1 0 0 and the whole log, drives 1, 2, 3 named: offset 0 is {} ⊕ {} by the older entry", log[1], sector(2))
@@ -160,8 +179,7 @@ def check_refusals(page):
     write_1, write_5 = (lambda volume: volume.write(0, 1)), (lambda volume: volume.write(0, 5))
     cases = ((GENERAL_LOG, mount), (PARITY_LOG, mount), (GENERAL_LOG, reset), (PARITY_LOG, write_1))
     rooms = [least_room(log, call) for log, call in cases]
-    page.phrase("V: mount {} and {}, reset {}, write of one sector at 0 {} ({} is refused), of five sectors {}.",
-                *rooms, rooms[-1] - 1, least_room(PARITY_LOG, write_5))
+    page.phrase("V: mount {} and {}, reset {}, write of one sector at 0 {}, of five sectors {}.", *rooms, least_room(PARITY_LOG, write_5))
     check_refusals_on_v(page)
 
 
@@ -222,7 +240,7 @@ def tried(name):
 
 
 def least_room(log, call):
-    """The least room in one log of drive 3 with which a call on V, formatted, is not refused 14. The log is filled with old entries."""
+    """The least room in one log of drive 3 with which a call on V, formatted, does not empty that log. It is filled with old entries."""
     row = bytes(V.B)
     for room in range(V.C - 3, -1, -1):
         volume = formatted()
@@ -231,177 +249,10 @@ def least_room(log, call):
             rows = 0 if log == GENERAL_LOG else 2 if more == 3 else 1
             for sector in [partial_parity(V, 0, rows, 0) if rows else counters(V, [1] * V.L)] + [row] * rows:
                 volume.drives.append(3, log, sector)
-        if call(volume) == Answer.LOG_FULL:
+        call(volume)
+        if volume.drives.written(3, SPARE):
             return room + 1
     return 0
-
-
-def check_stores(page):
-    """Section 8: the stores of format, write and reset."""
-    page.phrase("V: {} stores; with one drive left out {}.", len(formatted().stores), len(formatted(without(1)).stores))
-    lists, volume = [], formatted()
-    for _, match in page.matches("V, fresh: write of", r"write of (\d+) at (\d+)"):
-        volume.write(int(match[2]), int(match[1]))
-        lists.append([(number, *listed(volume, store)) for number, store in enumerate(volume.stores, 1)])
-    pattern = r"(\d+)  (drive \d+ zone \d+ sector \d+: (?:type 4, \d+ to \d+|[0-9a-f]{2}))(?:  (parity|row \d+))?"
-    found = page.matches("V, fresh: write of", pattern)
-    found.sort(key=lambda pair: (pair[1].start(2), pair[0]))
-    page.compare(found[0][0], "%d stores in all" % len(found), "%d stores in all" % sum(map(len, lists)))
-    for (position, match), (number, store, note) in zip(found, sum(lists, [])):
-        page.compare(position, "%s  %s" % match.groups()[:2], "%d  %s" % (number, store))
-        if match[3]:
-            page.compare(position, match[3], note)
-    page.phrase("({} and {}: parity)", *(number for number, _, note in lists[1] if note == "parity"))
-    check_stores_with_a_loss(page)
-    check_reset(page)
-
-
-def listed(volume, store):
-    """A store of a write as the page lists it, and the word that may follow."""
-    where = "drive %d zone %d sector %d: " % (store.drive, store.zone, store.sector)
-    if store.zone == PARITY_LOG:
-        header_at = max(x for x, _ in walk(volume.drives, store.drive, PARITY_LOG).whole if x <= store.sector)
-        if header_at == store.sector:
-            return where + "type 4, %d to %d" % ends(store), ""
-        return where + written_out(store.data), "row %d" % (store.sector - header_at - 1)
-    is_parity = store.drive == V.parity_drive(store.zone - FIRST_DATA_ZONE, store.sector // V.U)
-    return where + written_out(store.data), "parity" if is_parity else ""
-
-
-def check_stores_with_a_loss(page):
-    volume = five_written()
-    volume.write(5, 3, without(0))
-    data = [store.data for store in volume.stores]
-    page.phrase("Without drive 0, a write of 3 at 5 after the first list makes {} stores: {}, parity {} and {} on drive {}",
-                len(data), *data[:3], volume.stores[1].drive)
-    page.phrase("(offsets 0 and 1 taken from the entry), {}, {}; no entry, since drive {} is the parity drive of stripe 1.",
-                *data[3:], V.parity_drive(0, 1))
-    volume = five_written()
-    volume.write(5, 3, without(3))
-    data = [store.data for store in volume.stores]
-    page.phrase("Without drive 3: {}, {}, {}, and the entry {} to {} with rows {} and {} on drive {}.",
-                *data[:3], *ends(volume.stores[3]), *data[4:], volume.stores[3].drive)
-
-
-def check_reset(page):
-    volume = formatted()
-    volume.store("reset", ALL_DRIVES, 0)
-    (type_3, flush, reset, raised, last) = volume.runs()
-    page.phrase("V, zone 0, {} stores: {}, {} type 3 on drives {} and {} {} to {} flush of {}, {}, {}, {}",
-                len(volume.stores), *type_3.span, *type_3.drives, *flush.span, *flush.drives)
-    page.phrase("{} to {} reset of zone {} on {}, {}, {}, {}", *reset.span, reset.stores[0].zone, *reset.drives)
-    page.phrase("{} to {} counters {} and {} on {}, {}, {}, {} {} to {} flush of {}, {}, {}, {}",
-                *raised.span, *volume.entry(raised.stores[0]).generations, *raised.drives, *last.span, *last.drives)
-    page.phrase("Reset of V's zone 0 ({} at {}, flushed), then a cut, after stores", *five_written().shown().split(" at "))
-    (position, counts), *rows = page.table("| Reset of V's zone 0 (")
-    page.compare(position, counts[-1].split()[-1], str(len(volume.stores)))
-    for (position, cells), choose in zip(rows, (max, min)):
-        for count, stands in zip(counts[1:], cells[1:]):
-            first, final = re.search(r"(\d+)(?:(?:,| to) (\d+))?$", count).groups()
-            gives = (after_reset(stores, choose) for stores in range(int(first), int(final or first) + 1))
-            page.compare(position, stands.replace("generation ", ""), either(gives))
-
-
-def after_reset(count, choose):
-    """What a look shows of zone 0 after a reset of so many stores and a cut."""
-    volume = five_written()
-    volume.store("flush", ALL_DRIVES)
-    volume.store("reset", ALL_DRIVES, 0, count=count)
-    volume.keep({}, choose)
-    record = volume.ask("look", ALL_DRIVES)[1].zones[0]
-    return "empty, %d" % record.generation if record.condition == Condition.EMPTY else in_words(record)
-
-
-def check_mount(page):
-    """Section 9: the worked mount, and the other mounts told beside it."""
-    page.phrase("V: write of 5 at 0, flush; write of 2 at 96, of 3 at 98; a reset of zone 0 stopped after one store. Power goes; drive 2 "
-                "does not come back. Drive 0 keeps its type 3 and 4 sectors of its parity log, drives 1 and 3 keep one sector each of zone "
-                "4. A look by drives 0, 1, 3:")
-    volume = before_mount()
-    zone_0, zone_1 = volume.ask("look", without(2))[1].zones
-    type_3, torn = walk(volume.drives, 0, GENERAL_LOG).whole[-1][1], walk(volume.drives, 0, PARITY_LOG).torn[1]
-    page.phrase("zone 0: type 3 of generation {} on drive 0 -> {}, generation {}", type_3.generation, in_words(zone_0), zone_0.generation)
-    page.phrase("zone 1: offset 0 held on drive {}; 1 by the entry 96 to 98 on drive {} (row 1: {}); 2 was on drive {},",
-                V.place(1, 0).drive, V.parity_drive(1, 0), volume.drives.sector(0, PARITY_LOG, 2), V.place(1, 2).drive)
-    page.phrase("drive 3 has a sector too many -> {} at {}, generation {}", *in_words(zone_1).split(" at "), zone_1.generation)
-    volume.store("mount", without(2))
-    page.phrase("mount, {} stores drives", len(volume.stores))
-    found = page.matches("stores drives", r"^ +(\d+ to \d+) +(\S.*?) {2,}(\d[\d ]*(?:, flush \d[\d ]*)?)$")
-    steps = list(mount_steps(volume))
-    page.compare(found[0][0], "%d steps that stored" % len(found), "%d steps that stored" % len(steps))
-    for (position, match), (span, words, drives) in zip(found, steps):
-        page.compare(position, match[1], span)
-        page.compare(position, match[2].split(": the torn entry")[0], words)
-        page.compare(position, match[3], drives)
-    page.phrase("the torn entry ends at {}, past {}", torn.end, zone_1.pointer)
-    page.phrase("8 nothing: the entry {} to {} is whole,", V.Q, V.Q + walk(volume.drives, 0, PARITY_LOG).whole[0][1].end)
-    page.phrase("written drive 0: {} {} {} {} {} drive 1: {} {} {} {} {} drive 3: {} {} {} {} {}",
-                *(volume.drives.written(d, y) for d in (0, 1, 3) for y in range(V.Z)))
-    page.phrase("Stopped after any of the {} stores, and whatever a cut then keeps, the next look shows zone 0 {} and zone 1 {} at {}.",
-                len(volume.stores), *stopped_mounts(len(volume.stores)))
-    check_other_mounts(page)
-
-
-def mount_steps(volume):
-    """The page's lines of a mount: numbers, what was stored, drives; a step's flush is told with it."""
-    parts = list(volume.runs())
-    opening = parts[0]
-    yield "%d to %d" % opening.span, "flush", joined(opening.drives)
-    for step, flush in zip(parts[1::2], parts[2::2]):
-        drives = "%s, flush %s" % (joined(step.drives), joined(flush.drives))
-        yield "%d to %d" % (step.span[0], flush.span[1]), step_words(volume, step), drives
-
-
-def joined(drives):
-    return " ".join(str(d) for d in drives)
-
-
-def step_words(volume, step):
-    store = step.stores[0]
-    if store.kind == "reset":
-        return "3 reset of physical zone %d" % store.zone
-    if store.zone == PARITY_LOG:
-        return "6 %s of zeros" % {1: "one row", 2: "two rows"}[len(step.stores)] if not any(store.data) else "6 true rows"
-    if store.zone >= FIRST_DATA_ZONE:
-        return "7 zone %d of drive %d, sector %d: %s" % (store.zone, store.drive, store.sector, written_out(store.data))
-    entry = volume.entry(store)
-    if entry.type == LABEL:
-        return "1 labels: lost drive %d" % entry.lost
-    if entry.type == RESET:
-        return "2 type 3 of zone %d, generation %d" % (entry.zone, entry.generation)
-    if entry.type == COUNTERS:
-        return "4 counters %d and %d" % entry.generations
-    return "5 seal %d to %d, generation %d" % (*ends(store), entry.generation)
-
-
-def stopped_mounts(stores):
-    """What a look shows after the worked mount stopped anywhere, and a cut: the first zone, the second one and its pointer."""
-    seen, draw = set(), Random(1)
-    for count in range(stores + 1):
-        for choose in [max, min] + [lambda pair: draw.randint(*pair)] * DRAWN_CUTS:
-            volume = before_mount()
-            volume.store("mount", without(2), count=count)
-            volume.keep({}, choose)
-            seen.add((volume.shown(0, without(2)), volume.shown(1, without(2))))
-    zone_0, zone_1 = (either(zones) for zones in zip(*seen))
-    return zone_0, *zone_1.split(" at ", 1)
-
-
-def check_other_mounts(page):
-    j, k, torn, fresh = kept([2, 1, 1, 0], 0), kept([2, 1, 1, 0], 3), kept([2, 2, 1, 0], 1), formatted()
-    page.phrase("so the entry is torn and the zone {} at {};", *torn.shown().split(" at "))
-    for volume in (j, k, torn, fresh):
-        volume.store("mount", ALL_DRIVES)
-    entry, = [run for run in j.runs() if run.stores[0].zone == PARITY_LOG]
-    page.phrase("case j of section 6 (sealed at 3) mounts with {} stores, of which {} to {} are a type 4 entry {} to {} on drive {}",
-                len(j.stores), *entry.span, *ends(entry.stores[0]), *entry.drives)
-    page.phrase("on drive 3 with rows {} and {}. Case k", *(store.data for store in entry.stores[1:]))
-    _, raised, _, sector, _ = k.runs()
-    page.phrase("Case k (open at 5) with {}: flush, counters {} and {}, flush, the sector {} on drive {}, flush.",
-                len(k.stores), *k.entry(raised.stores[0]).generations, sector.stores[0].data, *sector.drives)
-    rows, = [run.stores for run in torn.runs() if run.stores[0].zone == PARITY_LOG]
-    page.phrase("the mount appends the rows {} and {}.", *(store.data for store in rows))
-    page.phrase("One that finds an empty zone always stores counters: V, fresh: {} stores.", len(fresh.stores))
 
 
 def check_script(page, replay):
@@ -414,8 +265,8 @@ def check_script(page, replay):
 def check(path, answers, replay):
     """Compares the page with the model and with the answers of the vectors; 0 if they agree. `replay` gives the answers to the lines of a script."""
     page = Page(path)
-    for section in (check_geometry, check_placement, check_entries, check_walks, check_looks, check_refusals, check_names, check_stores, check_mount,
-                    lambda page: check_matrix(page, answers), lambda page: check_script(page, replay)):
+    for section in (check_geometry, check_placement, check_entries, check_walks, check_looks, check_refusals, check_names, check_emptying, check_stores,
+                    check_mount, lambda page: check_matrix(page, answers), lambda page: check_script(page, replay)):
         try:
             section(page)
         except NotFound as missing:

@@ -38,8 +38,9 @@ class Told(IntEnum):
     READ_ONLY = 2
 
 
-GENERAL_LOG, PARITY_LOG, FIRST_DATA_ZONE = 0, 1, 3
-LABEL, COUNTERS, RESET, PARTIAL_PARITY, SEAL = 1, 2, 3, 4, 5
+LOGS = GENERAL_LOG, PARITY_LOG = 0, 1       # the kinds of log; each is also the zone that is that log by default, and the start of its closing entry
+FIRST_DATA_ZONE = 3
+LABEL, COUNTERS, RESET, PARTIAL_PARITY, SEAL, CLOSING = 1, 2, 3, 4, 5, 6
 NO_DRIVE = 255
 LAST_GENERATION = 2**64 - 1
 ALL_STORES = 2**32 - 1

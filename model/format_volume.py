@@ -5,15 +5,22 @@ Written along that page, to be read beside it, not to be fast. Each part names i
 import struct
 from collections import namedtuple
 
-from format_numbers import (COUNTERS, FIRST_DATA_ZONE, GENERAL_LOG, LABEL, LAST_GENERATION, MOST_ZONE_SECTORS, NO_DRIVE, PARITY_LOG,
-                            PARTIAL_PARITY, RESET, SEAL, SECTOR_SIZES, STATE_RECORD_BYTES, STATE_RECORDS, Condition, Told)
+from format_numbers import (CLOSING, COUNTERS, FIRST_DATA_ZONE, GENERAL_LOG, LABEL, LAST_GENERATION, LOGS, MOST_ZONE_SECTORS, NO_DRIVE,
+                            PARITY_LOG, PARTIAL_PARITY, RESET, SEAL, SECTOR_SIZES, STATE_RECORD_BYTES, STATE_RECORDS, Condition, Told)
 
 Place = namedtuple("Place", "drive sector parity_drive stripe unit row")
 Store = namedtuple("Store", "kind drive zone data sector", defaults=(None,) * 3)     # kind: append, reset or flush
-Entry = namedtuple("Entry", "type zone stripe end generation rows lost array generations", defaults=(None,) * 4 + (0,) + (None,) * 3)
-Walk = namedtuple("Walk", "whole torn broken_at")
+Walk = namedtuple("Walk", "whole torn broken_at", defaults=((), None, None))
+Role = namedtuple("Role", "log generation")
 ZoneRecord = namedtuple("ZoneRecord", "generation condition pointer")
 TOLD = {Condition.EMPTY: Told.EMPTY, Condition.OPEN: Told.OPEN, Condition.SEALED: Told.READ_ONLY, Condition.WORN: Told.READ_ONLY}
+
+
+class Entry(namedtuple("Entry", "type zone stripe end generation rows lost array generations", defaults=(None,) * 4 + (0,) + (None,) * 3)):
+    """Section 4: an entry of a log."""
+
+    def is_current(self, z, generation):
+        return (self.zone, self.generation) == (z, generation)
 
 
 class Refused(Exception):
@@ -95,8 +102,8 @@ class Drives:
     def written(self, d, y):
         return self.memory.written[d * self.geometry.Z + y]
 
-    def room(self, d, log):
-        return self.geometry.C - self.written(d, log)
+    def room(self, d, y):
+        return self.geometry.C - self.written(d, y)
 
     def sector(self, d, y, x):
         at = self.geometry.byte_of(d, y, x)
@@ -160,6 +167,10 @@ def seal(g, z, n, generation):
     return header(g, SEAL, z * g.Q, z * g.Q + n, generation)
 
 
+def closing(g, log, generation):
+    return header(g, CLOSING, log, 0, generation)
+
+
 def read_label(g, d, sector):
     lost, (array,) = sector[36], struct.unpack_from("<Q", sector, 48)
     legal = (lost < g.D or lost == NO_DRIVE) and sector == label(g, d, lost, array)
@@ -171,9 +182,16 @@ def read_counters(g, sector):
     return Entry(COUNTERS, generations=generations) if sector == counters(g, generations) else None
 
 
+def read_closing(g, log, sector):
+    generation, = struct.unpack_from("<Q", sector, 24)
+    return Entry(CLOSING, generation=generation) if generation and sector == closing(g, log, generation) else None
+
+
 def read_entry(g, d, log, sector):
     """The entry whose legal header this sector is, on this drive and in this log; None if it is none. `end` is an offset in the zone."""
     kind = sector[3]
+    if kind == CLOSING:
+        return read_closing(g, log, sector)
     if (kind == PARTIAL_PARITY) != (log == PARITY_LOG):
         return None
     if kind == LABEL:
@@ -194,11 +212,12 @@ def read_entry(g, d, log, sector):
     return None
 
 
-def walk(drives, d, log):
-    """Section 5: the whole entries with their sectors, the torn entry with its sector or None, the sector where no entry stands or None."""
-    g, x, written, whole = drives.geometry, 0, drives.written(d, log), []
+def walk(drives, d, log, y):
+    """Section 5: zone y walked as a log of that kind: the whole entries with their sectors, the torn entry with its sector or None, the sector where
+    no entry stands or None."""
+    g, x, written, whole = drives.geometry, 0, drives.written(d, y), []
     while x < written:
-        entry = read_entry(g, d, log, drives.sector(d, log, x))
+        entry = read_entry(g, d, log, drives.sector(d, y, x))
         if entry is None or x + 1 + entry.rows > g.C:
             return Walk(whole, None, x)
         if x + 1 + entry.rows > written:
@@ -208,11 +227,38 @@ def walk(drives, d, log):
     return Walk(whole, None, None)
 
 
+def role(drives, d, y):
+    """Section 5: which kind of log zone y of a drive is, by its first closing entry, and the log's generation."""
+    for log in LOGS:
+        generations = [entry.generation for _, entry in walk(drives, d, log, y).whole if entry.type == CLOSING]
+        if generations:
+            return Role(log, generations[0])
+    return Role(y if y in LOGS else None, 0)
+
+
 class Logs:
-    """The walked logs of some drives."""
+    """Section 5: which zones the counting logs of some drives are, and those logs walked. `zones` has no log that its drive lacks."""
 
     def __init__(self, drives, numbers):
-        self.walks = {(d, log): walk(drives, d, log) for d in numbers for log in (GENERAL_LOG, PARITY_LOG)}
+        self.walks = {(d, log): Walk() for d in numbers for log in LOGS}
+        self.zones, self.generations = {}, {}
+        for d in numbers:
+            roles = [role(drives, d, y) for y in range(FIRST_DATA_ZONE)]
+            for log in {role.log for role in roles} - {None}:
+                y = max((y for y in range(FIRST_DATA_ZONE) if roles[y].log == log), key=lambda y: (roles[y].generation, -y))
+                self.zones[d, log], self.generations[d, log] = y, roles[y].generation
+                self.walks[d, log] = walk(drives, d, log, y)
+
+    def lacks(self, d):
+        """Whether the drive lacks a kind of log."""
+        return any((d, log) not in self.zones for log in LOGS)
+
+    def spare(self, d):
+        """The zone that is neither counting log; None where the drive lacks one."""
+        if self.lacks(d):
+            return None
+        y, = set(range(FIRST_DATA_ZONE)) - {self.zones[d, log] for log in LOGS}
+        return y
 
     def entries(self, d, kind):
         log = PARITY_LOG if kind == PARTIAL_PARITY else GENERAL_LOG
@@ -240,7 +286,7 @@ class Zone:
         self.emptied = any(self.current(e) for d in present for e in logs.entries(d, RESET))
 
     def current(self, entry):
-        return entry.zone == self.z and entry.generation == self.generation
+        return entry.is_current(self.z, self.generation)
 
     def held(self, d, x):
         return d in self.present and self.drives.written(d, FIRST_DATA_ZONE + self.z) > x
@@ -264,7 +310,7 @@ class Zone:
             if self.current(entry) and entry.stripe == at.stripe and a < entry.end <= self.sealed_at:
                 below = [d for d, b in others.items() if b < entry.end]
                 if all(self.held(d, at.sector) for d in below):
-                    return self.sum_of(below, at.sector, self.drives.sector(p, PARITY_LOG, x + 1 + at.row))
+                    return self.sum_of(below, at.sector, self.drives.sector(p, self.logs.zones[p, PARITY_LOG], x + 1 + at.row))
         return None
 
     def sum_of(self, numbers, x, *more):

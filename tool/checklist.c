@@ -48,13 +48,19 @@ static uint32_t written_in(const struct driver *driver, uint32_t drive, uint32_t
     return get32(driver->drives.shelf.written.bytes + 4 * cell(driver->drives.record.geometry, drive, physical_zone));
 }
 
+static struct journal_reader reader_of(const struct driver *driver, uint32_t drive, uint32_t log) {
+    struct log_zones zones = log_zones_of(&driver->drives.shelf, drive);
+    return read_log(&zones, log);
+}
+
 /* The least unused part of a log over the present drives. */
 static uint32_t least_unused(const struct driver *driver, uint32_t log) {
     struct geometry g = driver->drives.record.geometry;
     uint32_t least = g.zone_sectors;
-    for (uint32_t d = 0; d < g.drives; d++)
-        if (is_present(driver, d) && g.zone_sectors - written_in(driver, d, log) < least)
-            least = g.zone_sectors - written_in(driver, d, log);
+    for (uint32_t d = 0; d < g.drives; d++) {
+        uint32_t unused = g.zone_sectors - (is_present(driver, d) ? reader_of(driver, d, log).zone.written : 0);
+        least = unused < least ? unused : least;
+    }
     return least;
 }
 
@@ -62,7 +68,7 @@ static uint32_t least_unused(const struct driver *driver, uint32_t log) {
 static uint32_t labels_against(const struct driver *driver, uint32_t lost) {
     uint32_t count = 0;
     for (uint32_t d = 0; d < driver->drives.record.geometry.drives; d++) {
-        struct journal_reader reader = {.shelf = &driver->drives.shelf, .drive = d, .log = GENERAL_LOG};
+        struct journal_reader reader = reader_of(driver, d, GENERAL_LOG);
         const uint8_t *header;
         uint32_t named = ZRV_NO_DRIVE;
         while (is_present(driver, d) && next_entry(&reader, &header) == JOURNAL_ENTRY)
@@ -75,11 +81,14 @@ static uint32_t labels_against(const struct driver *driver, uint32_t lost) {
 
 static void check_label(struct line *line, uint32_t drive) {
     const struct drives *drives = &line->driver->drives;
-    struct journal_reader reader = {.shelf = &drives->shelf, .drive = drive, .log = GENERAL_LOG};
+    struct journal_reader reader = reader_of(line->driver, drive, GENERAL_LOG);
     const uint8_t *header;
     if ((drives->strange >> drive & 1) != 0)
         found(line, "drive %u: drive-%u.zrv is not as this shelf left it: another shelf's, or an older copy", drive, drive);
-    if (next_entry(&reader, &header) != JOURNAL_ENTRY || header[ENTRY_TYPE] != ENTRY_LABEL)
+    struct log_zones zones = log_zones_of(&drives->shelf, drive);
+    if (find_spare(&zones) == NO_ZONE)
+        found(line, "drive %u: it lacks a kind of log", drive);
+    else if (next_entry(&reader, &header) != JOURNAL_ENTRY || header[ENTRY_TYPE] != ENTRY_LABEL)
         found(line, "drive %u: its log does not begin with its label", drive);
     else if (get64(header + LABEL_ARRAY) != drives->record.array)
         found(line, "drive %u: its label is of array %llu, this shelf is array %llu", drive, (unsigned long long)get64(header + LABEL_ARRAY),
@@ -131,7 +140,7 @@ static void check_pointers(const struct driver *driver, bool shown) {
 /* Walks a log of a present drive to its end and tells what is wrong there; the whole entries. */
 static uint32_t check_log(struct line *line, uint32_t drive, uint32_t log) {
     struct geometry g = line->driver->drives.record.geometry;
-    struct journal_reader reader = {.shelf = &line->driver->drives.shelf, .drive = drive, .log = log};
+    struct journal_reader reader = reader_of(line->driver, drive, log);
     const uint8_t *header;
     uint32_t entries = 0;
     enum journal_step step;
@@ -139,7 +148,7 @@ static uint32_t check_log(struct line *line, uint32_t drive, uint32_t log) {
         entries++;
     if (step == JOURNAL_TORN)
         found(line, "drive %u: the entry at sector %u, ending at address %llu, is cut in half: %u of its %u rows are there; the next mount completes it",
-              drive, reader.at, (unsigned long long)get64(header + ENTRY_END), written_in(line->driver, drive, log) - reader.at - 1, entry_rows(g, header));
+              drive, reader.at, (unsigned long long)get64(header + ENTRY_END), reader.zone.written - reader.at - 1, entry_rows(g, header));
     if (step == JOURNAL_NO_ENTRY)
         found(line, "drive %u: sector %u is no entry", drive, reader.at);
     return entries;
@@ -157,7 +166,7 @@ static void check_parity_log(const struct driver *driver) {
 /* Whether a drive's log has a reset of the generation that the zone still has. */
 static bool logs_reset(const struct driver *driver, uint32_t drive, uint32_t zone) {
     struct geometry g = driver->drives.record.geometry;
-    struct journal_reader reader = {.shelf = &driver->drives.shelf, .drive = drive, .log = GENERAL_LOG};
+    struct journal_reader reader = reader_of(driver, drive, GENERAL_LOG);
     const uint8_t *header;
     while (is_present(driver, drive) && next_entry(&reader, &header) == JOURNAL_ENTRY)
         if (header[ENTRY_TYPE] == ENTRY_RESET && get64(header + ENTRY_START) == zone * zone_addresses(g) &&
@@ -221,6 +230,31 @@ static void check_left_out(const struct driver *driver, bool shown) {
         end_line(&line, "not judged: a drive is missing, and a second one cannot be left out");
     else
         end_line(&line, "%s", shown ? "ok, every zone shows the same sectors with any one drive left out" : NO_LOOK);
+}
+
+static void print_log(const struct log_zones *zones, uint32_t log, const char *name) {
+    uint32_t zone = find_log(zones, log);
+    if (zone == NO_ZONE)
+        printf("no %s log, ", name);
+    else
+        printf("%s log in zone %u (generation %llu, %u sectors unused), ", name, zone, (unsigned long long)log_generation(zones, log, zone),
+               zones->geometry.zone_sectors - zones->zone[zone].written);
+}
+
+void print_logs(const struct driver *driver) {
+    for (uint32_t d = 0; d < driver->drives.record.geometry.drives; d++) {
+        if (!is_present(driver, d))
+            continue;
+        struct log_zones zones = log_zones_of(&driver->drives.shelf, d);
+        uint32_t spare = find_spare(&zones);
+        printf("drive %u: ", d);
+        print_log(&zones, GENERAL_LOG, "general");
+        print_log(&zones, PARITY_LOG, "parity");
+        if (spare == NO_ZONE)
+            printf("no spare zone\n");
+        else
+            printf("spare zone %u\n", spare);
+    }
 }
 
 void print_checklist(const struct driver *driver, uint32_t answer) {

@@ -7,4 +7,7 @@
 /* The answer is that of the look; what it shows is in driver->shown if it finished. */
 void print_checklist(const struct driver *driver, uint32_t answer);
 
+/* Of each present drive which physical zones are its logs, their generations and unused sectors, and which is spare. */
+void print_logs(const struct driver *driver);
+
 #endif

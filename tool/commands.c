@@ -141,6 +141,8 @@ int look_main(int argc, char **argv) {
             print_checklist(&driver, answer);
         if (answer == ZRV_FINISHED)
             print_zones(driver.drives.record.geometry, driver.shown);
+        if (answer != ANSWER_NOT_NOW)
+            print_logs(&driver);
         if (driver.drives.record.phase == PHASE_MOUNT_DUE)
             printf("power was cut: a mount comes next\n");
         fflush(stdout);

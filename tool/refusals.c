@@ -25,7 +25,8 @@ static const struct {
     [ZRV_ZONE_SEALED] = {"sealed", "the zone takes no more; read it, then reset it or write to another zone"},
     [ZRV_ZONE_WORN] = {"worn", "the zone's generations are used up; read it and write to another zone"},
     [ZRV_UNWRITTEN] = {"unwritten", "nothing is written there yet; stay below address {pointer}"},
-    [ZRV_LOG_FULL] = {"log full", "too little of a log is unused; end writes at a stripe's end (every {stripe} sectors), copy the data out and format anew"},
+    [ZRV_LOG_FULL] = {"log full", "what has to be kept of a log leaves too little room; end writes at a stripe's end (every {stripe} sectors), or copy the "
+                                  "data out and format anew with more zone sectors"},
     [ZRV_GONE] = {"gone", "no drive that is here holds the sector; read it, which rebuilds it from parity"},
 };
 

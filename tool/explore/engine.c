@@ -40,7 +40,7 @@ static void send_one(struct explorer *explorer, struct level *level, const struc
     for (level->stores = 0;; level->stores++) {
         copy_world(&level->moment, &level->base);
         uint32_t answer = send_request(&level->moment, request, level->stores, explorer->options->breakage);
-        *outcome = (struct outcome){level->stores, answer};
+        *outcome = (struct outcome){level->stores, answer, logs_emptied(&level->base, &level->moment)};
         push_event(explorer, (struct event){.kind = EVENT_CALL, .request = request, .pointer = pointer, .stores = level->stores, .answer = answer});
         if (answer != ZRV_UNFINISHED && answer != ZRV_FINISHED)
             return;
@@ -158,7 +158,7 @@ static void second_loss(struct explorer *explorer, const struct world *world) {
     struct caches caches = new_caches(&world->shelf, limit, explorer->draw);
     explorer->counts.drawn += limit > 0 && caches_are_drawn(&caches);
     explorer->counts.left_out += limit == 0;
-    push_event(explorer, (struct event){.kind = EVENT_POWER, .caches = &caches});
+    push_event(explorer, (struct event){.kind = EVENT_POWER, .caches = &caches, .shelf = &world->shelf});
     while (next_caches(&caches))
         each_naming(explorer, world, &caches);
     explorer->trail.length--;
@@ -293,7 +293,7 @@ static void first_return(struct explorer *explorer, const struct caches *caches,
 static void first_loss(struct explorer *explorer, struct level *level) {
     uint64_t limit = explorer->moments[explorer->moment_at].limit;
     struct caches caches = new_caches(&level->moment.shelf, limit, explorer->options->seed + (uint32_t)explorer->moment_at);
-    push_event(explorer, (struct event){.kind = EVENT_POWER, .caches = &caches});
+    push_event(explorer, (struct event){.kind = EVENT_POWER, .caches = &caches, .shelf = &level->moment.shelf});
     while (next_caches(&caches)) {
         first_return(explorer, &caches, ZRV_NO_DRIVE);
         for (uint32_t d = 0; d < explorer->options->geometry.drives; d++)

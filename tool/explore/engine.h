@@ -8,6 +8,7 @@
 /* How a request ended, sent without a loss of power. */
 struct outcome {
     uint32_t stores, answer;
+    uint32_t emptied; /* logs */
 };
 
 /* Calls under way: the world before the call at hand, and as it is after some of its stores. */

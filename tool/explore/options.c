@@ -34,8 +34,9 @@ static const char *const help =
     "mount follows. Whatever is shown must fit: a beginning of what was written, at least as far as it was flushed. Ends with `every look fitted`\n"
     "or with a shortest history in which one did not, event by event.\n"
     "\n"
-    "  --calls LIST       the calls, by commas: wN writes N sectors, f flushes, rZ resets zone Z, zZ chooses the zone of the writes that follow\n"
-    "                     (default w3,w4: the first ends inside a stripe, the second goes past that stripe's end)\n"
+    "  --calls LIST       the calls, by commas: wN writes N sectors, f flushes, m mounts, rZ resets zone Z, zZ chooses the zone of the writes that\n"
+    "                     follow (default w3,w4: the first ends inside a stripe, the second goes past that stripe's end). To empty logs: --drives 3\n"
+    "                     --unit 1 --zone-sectors 8 with --calls w1,r0,w1,r0,w1 or --calls m,m,m,m,m\n"
     "  --then LIST        calls sent after the first mount, at every store of which power goes once more (default none)\n"
     "  --lose-later       where all drives came back, any one may be lost when power goes for the second time\n"
     "  --drives N         3 to 8 (4)\n"
@@ -83,8 +84,10 @@ static enum parsed parse_request(const char *word, struct geometry geometry, uin
         request = (struct request){.kind = CALL_WRITE, .zone = *zone, .sectors = (uint32_t)number};
     else if (*word == 'r' && parse_number(word + 1, 0, geometry.zones - 1, &number))
         request = (struct request){.kind = CALL_RESET, .zone = (uint32_t)number};
+    else if (strcmp(word, "m") == 0)
+        request.kind = CALL_MOUNT;
     else if (strcmp(word, "f") != 0)
-        return complain("'%s' is no call here; calls are wN (1 to a zone's sectors), f, rZ and zZ (a zone that there is)", word);
+        return complain("'%s' is no call here; calls are wN (1 to a zone's sectors), f, m, rZ and zZ (a zone that there is)", word);
     if (list->length == MOST_REQUESTS)
         return complain("the call '%s' is one too many", word);
     list->request[list->length++] = request;

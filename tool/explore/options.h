@@ -11,7 +11,7 @@ enum { MOST_REQUESTS = 32 };
 /* The duties of drives and host that can be broken on purpose. */
 enum breakage { BREAK_NOTHING, BREAK_FLUSH, BREAK_SECTOR, BREAK_SECOND_DRIVE, BREAK_LOST_AGAIN, BREAK_KEPT_OUT, BREAK_MOUNT, BREAKAGES };
 
-/* A call to be sent: a write at its zone's pointer, a flush, or a reset of a zone. */
+/* A call to be sent: a write at its zone's pointer, a flush, a mount, or a reset of a zone. */
 struct request {
     enum call_kind kind;
     uint32_t zone;

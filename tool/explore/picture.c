@@ -48,8 +48,8 @@ static uint32_t largest_pointer(const struct explorer *explorer, uint32_t zone) 
 
 static void draw_call_name(const struct panel *panel, const struct request *request, double x) {
     fprintf(panel->out, "<text class=\"call\" text-anchor=\"middle\" x=\"%.1f\" y=\"%.1f\">", x, plot_top(panel) - 9);
-    if (request->kind == CALL_FLUSH)
-        fputs("flush", panel->out);
+    if (request->kind == CALL_FLUSH || request->kind == CALL_MOUNT)
+        fputs(request->kind == CALL_FLUSH ? "flush" : "mount", panel->out);
     else if (request->kind == CALL_RESET)
         fprintf(panel->out, "reset z%u", request->zone);
     else if (request->zone == panel->zone)
@@ -183,7 +183,7 @@ static void draw_legend(FILE *out, double y, bool misfits) {
 
 static bool is_touched(const struct request_list *list, uint32_t zone) {
     for (size_t i = 0; i < list->length; i++)
-        if (list->request[i].kind != CALL_FLUSH && list->request[i].zone == zone)
+        if ((list->request[i].kind == CALL_WRITE || list->request[i].kind == CALL_RESET) && list->request[i].zone == zone)
             return true;
     return false;
 }

@@ -43,10 +43,12 @@ static void report_calls(const struct request_list *list, const struct outcome *
         tell_request(stdout, &list->request[i]);
         if (outcome == NULL)
             printf("\n");
-        else if (outcome[i].answer == ZRV_FINISHED)
+        else if (outcome[i].answer != ZRV_FINISHED)
+            printf(": refused with %u (%s)\n", outcome[i].answer, refusal_word(outcome[i].answer));
+        else if (outcome[i].emptied == 0)
             printf(": %u stores\n", outcome[i].stores);
         else
-            printf(": refused with %u (%s)\n", outcome[i].answer, refusal_word(outcome[i].answer));
+            printf(": %u stores, %u log%s emptied\n", outcome[i].stores, outcome[i].emptied, outcome[i].emptied == 1 ? "" : "s");
     }
 }
 

@@ -1,6 +1,7 @@
 /* A history told event by event, one on a line, and what its last look or mount should have shown. */
 #include "explore/story.h"
 
+#include "journal.h"
 #include "refusals.h"
 
 static void tell_answer(FILE *out, uint32_t answer) {
@@ -18,7 +19,7 @@ void tell_request(FILE *out, const struct request *request) {
     else if (request->kind == CALL_RESET)
         fprintf(out, "reset of zone %u", request->zone);
     else
-        fputs("flush", out);
+        fputs(request->kind == CALL_MOUNT ? "mount" : "flush", out);
 }
 
 static void tell_call(FILE *out, const struct event *event) {
@@ -30,23 +31,26 @@ static void tell_call(FILE *out, const struct event *event) {
     fputs("\n", out);
 }
 
-static void tell_place(FILE *out, size_t zone) {
-    static const char *const names[ZRV_LOG_ZONES] = {"general log", "parity log", "spare zone"};
-    if (zone < ZRV_LOG_ZONES)
-        fputs(names[zone], out);
+static void tell_place(FILE *out, const struct shelf *shelf, uint32_t drive, uint32_t zone) {
+    struct log_zones zones = log_zones_of(shelf, drive);
+    if (zone >= ZRV_LOG_ZONES)
+        fprintf(out, "zone %u", zone - ZRV_LOG_ZONES);
+    else if (zone == find_log(&zones, GENERAL_LOG))
+        fputs("general log", out);
     else
-        fprintf(out, "zone %zu", zone - ZRV_LOG_ZONES);
+        fputs(zone == find_log(&zones, PARITY_LOG) ? "parity log" : "spare zone", out);
 }
 
 /* Of each drive that had something at stake, where, and how much of it was kept. */
-static void tell_power(FILE *out, const struct caches *caches) {
+static void tell_power(FILE *out, const struct caches *caches, const struct shelf *shelf) {
     fputs("power goes", out);
     const char *separator = ": ";
     for (size_t cell = 0; cell < caches->cells; cell++) {
         if (caches->durable[cell] == caches->written[cell])
             continue;
-        fprintf(out, "%sdrive %zu ", separator, cell / caches->cells_of_drive);
-        tell_place(out, cell % caches->cells_of_drive);
+        uint32_t drive = (uint32_t)(cell / caches->cells_of_drive);
+        fprintf(out, "%sdrive %u ", separator, drive);
+        tell_place(out, shelf, drive, (uint32_t)(cell % caches->cells_of_drive));
         fprintf(out, " keeps %u of %u", caches->kept[cell], caches->written[cell]);
         if (caches->durable[cell] > 0)
             fprintf(out, " (%u durable)", caches->durable[cell]);
@@ -76,7 +80,7 @@ static void tell_event(FILE *out, const struct event *event, uint32_t zones) {
         tell_call(out, event);
         return;
     case EVENT_POWER:
-        tell_power(out, event->caches);
+        tell_power(out, event->caches, event->shelf);
         return;
     case EVENT_DRIVE_GONE:
         fprintf(out, "drive %u does not come back\n", event->drive);

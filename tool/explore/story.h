@@ -15,6 +15,7 @@ struct event {
     uint32_t stores, answer;       /* call, look, mount */
     uint32_t drive;                /* drive gone, left out or named again */
     const struct caches *caches;   /* power: what was kept */
+    const struct shelf *shelf;     /* power: as it was before */
     uint8_t *shown;                /* look, mount */
 };
 

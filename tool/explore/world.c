@@ -3,6 +3,8 @@
 
 #include <string.h>
 
+#include "journal.h"
+
 enum { ARRAY_NUMBER = 1 };
 
 struct world new_world(struct geometry geometry) {
@@ -52,18 +54,36 @@ static void take_flush_back(struct shelf *shelf, const uint8_t *before) {
     }
 }
 
+/* After a call before which a cell had so many sectors written. A log that is emptied may have been appended to before its zone was reset. */
+static void touch(struct world *world, size_t cell, uint32_t before) {
+    struct geometry g = world->shelf.geometry;
+    uint32_t written = get32(world->shelf.written.bytes + 4 * cell);
+    bool was_emptied = cell % physical_zones(g) < ZRV_LOG_ZONES && written < before;
+    uint32_t touched = was_emptied ? g.zone_sectors : written;
+    world->touched[cell] = touched > world->touched[cell] ? touched : world->touched[cell];
+}
+
 /* A call that stores, on drives that keep the duties less the broken one. */
 static uint32_t store_by(struct world *world, const struct call *call, enum breakage breakage) {
-    uint8_t durable[MOST_CELLS * 4];
+    uint8_t durable[MOST_CELLS * 4], written[MOST_CELLS * 4];
     memcpy(durable, world->shelf.durable.bytes, world->shelf.durable.length);
+    memcpy(written, world->shelf.written.bytes, world->shelf.written.length);
     uint32_t answer = make_call(call);
-    for (size_t cell = 0; cell < shelf_cells(world->shelf.geometry); cell++) {
-        uint32_t written = get32(world->shelf.written.bytes + 4 * cell);
-        world->touched[cell] = written > world->touched[cell] ? written : world->touched[cell];
-    }
+    for (size_t cell = 0; cell < shelf_cells(world->shelf.geometry); cell++)
+        touch(world, cell, get32(written + 4 * cell));
     if (breakage == BREAK_FLUSH)
         take_flush_back(&world->shelf, durable);
     return answer;
+}
+
+uint32_t logs_emptied(const struct world *before, const struct world *after) {
+    uint32_t count = 0;
+    for (uint32_t d = 0; d < before->shelf.geometry.drives; d++) {
+        struct log_zones from = log_zones_of(&before->shelf, d), to = log_zones_of(&after->shelf, d);
+        for (uint32_t log = GENERAL_LOG; log <= PARITY_LOG; log++)
+            count += find_log(&from, log) != find_log(&to, log);
+    }
+    return count;
 }
 
 uint32_t format_world(struct world *world) {
@@ -107,7 +127,7 @@ uint32_t send_request(struct world *world, const struct request *request, uint32
         oracle_write(&world->oracle, request->zone, request->data, request->sectors);
     else if (request->kind == CALL_RESET)
         oracle_reset(&world->oracle, request->zone, finished);
-    else if (finished)
+    else if (finished) /* a flush, or a mount before which power did not go, and which shows everything */
         oracle_flush(&world->oracle);
     return answer;
 }

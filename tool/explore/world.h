@@ -28,6 +28,9 @@ uint32_t read_world(struct world *world, uint8_t *shown, uint32_t zone, struct r
 /* A request sent, and told to the oracle. */
 uint32_t send_request(struct world *world, const struct request *request, uint32_t count, enum breakage breakage);
 
+/* How many logs a call emptied. */
+uint32_t logs_emptied(const struct world *before, const struct world *after);
+
 /* Power goes: a cut. Each drive and zone keeps what the caches say. torn_from: where not NULL, the last sector that a cache keeps past its durable
  * pointer has its second half from there. */
 void world_loses_power(struct world *world, const struct caches *caches, const struct shelf *torn_from);

@@ -3,6 +3,7 @@ pub mod Ends
 pub mod Generations
 pub mod Judge
 pub mod JudgeMore
+pub mod KeptLabel
 pub mod Lays
 pub mod Query
 pub mod QueryLaws

@@ -1,7 +1,11 @@
+pub mod Closing
 pub mod Codec
+pub mod Copies
+pub mod CopiesSay
 pub mod Entry
 pub mod HeadLaws
 pub mod Heads
+pub mod HeadsWalk
 pub mod Legal
 pub mod LogLaws
 pub mod Places

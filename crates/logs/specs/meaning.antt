@@ -1,3 +1,4 @@
+pub mod Copies
 pub mod Entry
 pub mod Heads
 pub mod Walk

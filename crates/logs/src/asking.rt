@@ -129,6 +129,7 @@ fn after_found(query: Query, g: Geometry, place: usize, f: Found, x: usize) -> u
         Found::Resets(z, n) => after_reset(query, z, n, x),
         Found::Partial(z, s, fill, n) => after_partial(query, z, s * k + fill, n, place, x),
         Found::Seal(z, p, n) => after_seal(query, z, p, n, x),
+        Found::Closing(_) => x,
     }
 }
 

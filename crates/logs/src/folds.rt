@@ -17,9 +17,11 @@ ghost use Rattle.tables.specs.meaning.LittleEndian.{readLE};
 ghost use Rattle.tables.specs.meaning.Geometry.{Valid};
 ghost use Rattle.logs.specs.code.WalkCode.{InLog, logSectors};
 ghost use Rattle.logs.specs.meaning.Walk.{walkLog};
-ghost use Rattle.logs.specs.meaning.Heads.{lastLost, labelled, arrayIn, generationIn, isReset, isSeal, isSealAt, leastSeal, endsPast, endsAt};
+ghost use Rattle.logs.specs.meaning.Heads.{lastLost, labelled, arrayIn, generationIn, isReset, isSeal, isSealAt, leastSeal, endsPast, endsAt, firstClosing};
 ghost use Rattle.logs.specs.laws.Heads.{isCounters, endsWithin};
-ghost use Rattle.logs.specs.code.Query.{logHeads, firstSeen, labelSeen, arraySeen, tornSeen};
+ghost use Rattle.logs.specs.code.Query.{logHeads, firstSeen, labelSeen, arraySeen, tornSeen, closingSeen};
+ghost use Rattle.logs.specs.declared.Found.the-variants.{Bad};
+ghost use Rattle.logs.specs.code.KeptLabel.{laterLabel, lastLabelSeen, arrayAfter, relabelled, labelKept, LabelFits};
 ghost use Rattle.logs.specs.laws.Places.{lastPlace};
 
 // The lost drive of the last label of a drive's general log; 255 if there is none.
@@ -200,6 +202,7 @@ fn is_label(f: Found) -> bool
         Found::Resets(_, _) => false,
         Found::Partial(_, _, _, _) => false,
         Found::Seal(_, _, _) => false,
+        Found::Closing(_) => false,
     }
 }
 
@@ -214,6 +217,7 @@ fn array_of(f: Found) -> u64
         Found::Resets(_, _) => 0,
         Found::Partial(_, _, _, _) => 0,
         Found::Seal(_, _, _) => 0,
+        Found::Closing(_) => 0,
     }
 }
 
@@ -251,4 +255,122 @@ pub fn torn_entry(sectors: &[u8], g: Geometry, log: Log, parity: bool) -> Found
         return Found::Bad;
     };
     super::walking::judge_at(sectors, g, drive, zone, parity, n, p)
+}
+
+// A closing entry's generation; 0 for anything else.
+fn closing_of(f: Found) -> u64
+    ensures { λ r. ⌜ r ≡ closingSeen f ⌝ }
+{
+    match f {
+        Found::Bad => 0,
+        Found::Label(_, _) => 0,
+        Found::Counters => 0,
+        Found::Resets(_, _) => 0,
+        Found::Partial(_, _, _, _) => 0,
+        Found::Seal(_, _, _) => 0,
+        Found::Closing(generation) => generation,
+    }
+}
+
+// The generation of the first closing entry; 0 if there is none. The walk goes no further than that entry.
+pub fn first_closing(sectors: &[u8], g: Geometry, log: Log, parity: bool) -> u64
+    requires { ⌜ Valid g ⌝ }
+    requires { ⌜ InLog g (log .drive) (log .zone) (log .written) (now sectors) ⌝ }
+    ensures { λ r. ⌜ r ≡ firstClosing (logHeads g (log .drive) parity (log .zone) (log .written) (now (sectors .entry))) ⌝ }
+{
+    let mut p = 0;
+    'walk: loop {
+        let step = super::walking::next_entry(sectors, g, log, parity, p);
+        match step {
+            Step::Left(_) => {
+                break 'walk 0;
+            }
+            Step::Whole(f, q) => {
+                let generation = closing_of(f);
+                if generation != 0 {
+                    break 'walk generation;
+                }
+                p = q;
+            }
+        }
+    }
+}
+
+// The last label so far, after what was found next.
+fn later_label(f: Found, last: Found) -> Found
+    ensures { λ r. ⌜ r ≡ laterLabel f last ⌝ }
+{
+    match f {
+        Found::Bad => last,
+        Found::Label(lost, array) => Found::Label(lost, array),
+        Found::Counters => last,
+        Found::Resets(_, _) => last,
+        Found::Partial(_, _, _, _) => last,
+        Found::Seal(_, _, _) => last,
+        Found::Closing(_) => last,
+    }
+}
+
+// The last label of a drive's general log; nothing if there is none.
+fn last_label(sectors: &[u8], g: Geometry, log: Log) -> Found
+    requires { ⌜ Valid g ⌝ }
+    requires { ⌜ InLog g (log .drive) (log .zone) (log .written) (now sectors) ⌝ }
+    ensures { λ r. ⌜ r ≡ lastLabelSeen Bad (logHeads g (log .drive) false (log .zone) (log .written) (now (sectors .entry))) ⌝ }
+{
+    let mut last = Found::Bad;
+    let mut p = 0;
+    'walk: loop {
+        let step = super::walking::next_entry(sectors, g, log, false, p);
+        match step {
+            Step::Left(_) => {
+                break 'walk;
+            }
+            Step::Whole(f, q) => {
+                last = later_label(f, last);
+                p = q;
+            }
+        }
+    }
+    last
+}
+
+// The array number of the log's first entry if that is a label, else a label's own.
+fn array_after(first: Found, own: u64) -> u64
+    ensures { λ r. ⌜ r ≡ arrayAfter first own ⌝ }
+{
+    match first {
+        Found::Bad => own,
+        Found::Label(_, array) => array,
+        Found::Counters => own,
+        Found::Resets(_, _) => own,
+        Found::Partial(_, _, _, _) => own,
+        Found::Seal(_, _, _) => own,
+        Found::Closing(_) => own,
+    }
+}
+
+// A label with that array number.
+fn relabel(first: Found, last: Found) -> Found
+    ensures { λ r. ⌜ r ≡ relabelled first last ⌝ }
+{
+    match last {
+        Found::Bad => Found::Bad,
+        Found::Label(lost, own) => Found::Label(lost, array_after(first, own)),
+        Found::Counters => Found::Bad,
+        Found::Resets(_, _) => Found::Bad,
+        Found::Partial(_, _, _, _) => Found::Bad,
+        Found::Seal(_, _, _) => Found::Bad,
+        Found::Closing(_) => Found::Bad,
+    }
+}
+
+// The label that is kept of a general log that is emptied: its last one, with the array number with which the log begins; nothing if it has none.
+pub fn kept_label(sectors: &[u8], g: Geometry, log: Log) -> Found
+    requires { ⌜ Valid g ⌝ }
+    requires { ⌜ InLog g (log .drive) (log .zone) (log .written) (now sectors) ⌝ }
+    ensures { λ r. ⌜ (r ≡ labelKept (logHeads g (log .drive) false (log .zone) (log .written) (now (sectors .entry)))) × LabelFits r ⌝ }
+{
+    let first = first_entry(sectors, g, log, false);
+    let last = last_label(sectors, g, log);
+    relabel(first, last)
 }

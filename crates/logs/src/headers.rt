@@ -7,7 +7,7 @@ ghost use Rattle.tables.specs.meaning.Lists.{overlay};
 ghost use Rattle.tables.specs.meaning.Geometry.{Valid, stripeSectors, zoneSectors};
 ghost use Rattle.tables.specs.meaning.LittleEndian.{wordsLE};
 ghost use Rattle.logs.specs.code.Lays.{labelStart};
-ghost use Rattle.logs.specs.meaning.Entry.{markBytes, frame, encode, label, counters, zoneReset, partialParity, seal};
+ghost use Rattle.logs.specs.meaning.Entry.{markBytes, frame, encode, label, counters, zoneReset, partialParity, seal, closing, kindOfLog};
 
 // The first eight bytes: mark, type, version 1, zeros.
 fn write_mark(out: &mut [u8], kind: u8)
@@ -35,7 +35,7 @@ fn write_frame(out: &mut [u8], kind: u8, start: u64, end: u64, generation: u64)
     tables::bytes::write_u64(out, 24, generation);
 }
 
-// A header with zeros from byte 32 on: all of types 3 to 5, the beginning of the others.
+// A header with zeros from byte 32 on: all of types 3 to 6, the beginning of the others.
 fn write_span(out: &mut [u8], kind: u8, start: u64, end: u64, generation: u64)
     requires { ⌜ 32 ≤ length (now out) ⌝ }
     ensures { λ _. ⌜ now (out .exit) ≡ frame kind start end generation (replicate (length (now (out .entry)) - 32) 0) ⌝ }
@@ -87,6 +87,26 @@ pub fn write_partial(
     let start = z * q + s * k;
     let end = start + fill;
     write_span(out, 4, start as u64, end as u64, generation);
+}
+
+// The number of a log's kind.
+pub fn kind_of_log(parity: bool) -> u64
+    ensures { λ r. ⌜ r ≡ kindOfLog parity ⌝ }
+{
+    if parity {
+        return 1;
+    }
+    0
+}
+
+// The header of a closing entry: the kind of its log, and the log's generation.
+pub fn write_closing(out: &mut [u8], g: Geometry, drive: usize, parity: bool, generation: u64)
+    requires { ⌜ Valid g ⌝ }
+    requires { ⌜ length (now out) ≡ g .sector ⌝ }
+    ensures { λ _. ⌜ now (out .exit) ≡ encode g drive (closing (kindOfLog parity) generation) ⌝ }
+{
+    let kind = kind_of_log(parity);
+    write_span(out, 6, kind, 0, generation);
 }
 
 // Bytes 32 to 39 of a label.

@@ -152,7 +152,7 @@ fn names_label(s: &[u8], g: Geometry, drive: usize, lost: usize) -> bool
 // Type 1, or any other byte 3.
 fn judge_label(s: &[u8], g: Geometry, drive: usize, parity: bool) -> Found
     requires { ⌜ Valid g ⌝ }
-    requires { ⌜ (length (now s) ≡ g .sector) × ((kindOf (now s) ≢ 2) × (kindOf (now s) ≢ 3) × (kindOf (now s) ≢ 4) × (kindOf (now s) ≢ 5)) ⌝ }
+    requires { ⌜ (length (now s) ≡ g .sector) × ((kindOf (now s) ≢ 2) × (kindOf (now s) ≢ 3) × (kindOf (now s) ≢ 4) × (kindOf (now s) ≢ 5) × (kindOf (now s) ≢ 6)) ⌝ }
     ensures { λ r. ⌜ r ≡ found (decode g drive parity (now (s .entry))) ⌝ }
 {
     let lost = byte_value(s[36]);
@@ -268,6 +268,26 @@ fn judge_seal(s: &[u8], g: Geometry, drive: usize, parity: bool) -> Found
     Found::Seal(z, n, generation)
 }
 
+// Type 6 stands in a log of the kind that its start tells; its generation is above 0.
+fn judge_closing(s: &[u8], g: Geometry, drive: usize, parity: bool) -> Found
+    requires { ⌜ Valid g ⌝ }
+    requires { ⌜ (length (now s) ≡ g .sector) × (kindOf (now s) ≡ 6) ⌝ }
+    ensures { λ r. ⌜ r ≡ found (decode g drive parity (now (s .entry))) ⌝ }
+{
+    let own = super::headers::kind_of_log(parity);
+    let kind = tables::bytes::read_u64(s, 8);
+    let generation = tables::bytes::read_u64(s, 24);
+    let ok = is_span(s, 6, kind, 0, generation);
+    let fit = (kind == own) & (0 < generation);
+    if !fit {
+        return Found::Bad;
+    }
+    if !ok {
+        return Found::Bad;
+    }
+    Found::Closing(generation)
+}
+
 // What a sector holds, as an entry of one log of one drive.
 pub fn judge(s: &[u8], g: Geometry, drive: usize, parity: bool) -> Found
     requires { ⌜ Valid g ⌝ }
@@ -287,6 +307,9 @@ pub fn judge(s: &[u8], g: Geometry, drive: usize, parity: bool) -> Found
     if kind == 5 {
         return judge_seal(s, g, drive, parity);
     }
+    if kind == 6 {
+        return judge_closing(s, g, drive, parity);
+    }
     judge_label(s, g, drive, parity)
 }
 
@@ -303,6 +326,7 @@ pub fn rows_of(f: Found, g: Geometry) -> usize
         Found::Resets(_, _) => 0,
         Found::Partial(_, _, n, _) => tables::placement::min(n, u),
         Found::Seal(_, _, _) => 0,
+        Found::Closing(_) => 0,
     }
 }
 
@@ -317,5 +341,6 @@ pub fn is_bad(f: Found) -> bool
         Found::Resets(_, _) => false,
         Found::Partial(_, _, _, _) => false,
         Found::Seal(_, _, _) => false,
+        Found::Closing(_) => false,
     }
 }

@@ -1,4 +1,4 @@
-// The logs of a drive: entries of five types, one sector for each header, laid one after the other from the start of a physical zone.
+// The logs of a drive: entries of six types, one sector for each header, laid one after the other from the start of a physical zone.
 // `headers` writes a header, `judging` tells what a sector holds, `walking` steps through a log and finds where its legal part ends, with a
 // `reader` laid over its zone, `asking` carries an answer through a log, and `folds` asks what the volume wants to know of it. Which physical
 // zone holds a log is told to each function of the lent sectors.
@@ -30,7 +30,7 @@ pub struct Log {
     pub written: usize,
 }
 
-// What a sector of a log holds (specs: `found`): nothing legal, or the header of an entry of type 1 to 5. Counters stay in the sector.
+// What a sector of a log holds (specs: `found`): nothing legal, or the header of an entry of type 1 to 6. Counters stay in the sector.
 pub enum Found {
     Bad,
     // the lost drive or 255, the array number
@@ -42,6 +42,8 @@ pub enum Found {
     Partial(usize, usize, usize, u64),
     // zone, pointer, generation
     Seal(usize, usize, u64),
+    // the log's generation
+    Closing(u64),
 }
 
 // Where a log's legal part ends, and why (specs: `walkEndOf`). Each case holds the first sector that belongs to no whole entry.

@@ -1,5 +1,14 @@
 pub mod AcceptedCalls
 pub mod AtRestAnswers
+pub mod BlankAtRest
+pub mod CallsOwed
+pub mod CallsProved
 pub mod ClaimEvents
 pub mod ClaimProof
+pub mod Looks
 pub mod Marks
+pub mod Modes
+pub mod MountCall
+pub mod PlainCalls
+pub mod ResetCall
+pub mod WriteCall

@@ -4,6 +4,7 @@ pub mod HoldsLess
 pub mod HoldsMore
 pub mod Invariant
 pub mod Obligations
+pub mod RoomAsked
 pub mod SaidMoves
 pub mod StoppedCall
 pub mod Throughout

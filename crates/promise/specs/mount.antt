@@ -1,10 +1,11 @@
 pub mod MountAloneEntry
 pub mod MountCounters
 pub mod MountEnd
+pub mod MountEntryAt
 pub mod MountFate
 pub mod MountFill
+pub mod MountFilled
 pub mod MountGeneralLogs
-pub mod MountKeeps
 pub mod MountLabels
 pub mod MountLiveZones
 pub mod MountOpening
@@ -15,5 +16,6 @@ pub mod MountResetEntries
 pub mod MountRest
 pub mod MountRuns
 pub mod MountSeals
+pub mod MountSteps
 pub mod MountTornRows
 pub mod MountZoneResets

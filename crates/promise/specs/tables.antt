@@ -1,5 +1,6 @@
 pub mod CallRefines
 pub mod CallVerdicts
 pub mod MountRefines
+pub mod RoomyTables
 pub mod TablesClaimProof
 pub mod TablesEvents

@@ -106,13 +106,13 @@ pub fn look(sectors: &[u8], written: &[u32], durable: &[u32], h: Host, c: Comman
 pub fn write(
     sectors: &mut [u8],
     written: &mut [u32],
-    durable: &[u32],
+    durable: &mut [u32],
     buffer: &mut [u8],
     h: Host,
     c: Command,
 ) -> Reply
     ensures { λ r. ⌜ (r ≡ keptReply h (writeMade h c (now (buffer .entry)) (tablesOf (now (sectors .entry)) (now (written .entry)) (now (durable .entry))) .outcome))
-        × (tablesOf (now (sectors .exit)) (now (written .exit)) (now (durable .entry)) ≡ writeMade h c (now (buffer .entry)) (tablesOf (now (sectors .entry)) (now (written .entry)) (now (durable .entry))) .tables)
+        × (tablesOf (now (sectors .exit)) (now (written .exit)) (now (durable .exit)) ≡ writeMade h c (now (buffer .entry)) (tablesOf (now (sectors .entry)) (now (written .entry)) (now (durable .entry))) .tables)
         × (now (buffer .exit) ≡ writeBuffer c (now (buffer .entry))) ⌝ }
 {
     let g = h.geometry;

@@ -19,6 +19,7 @@ pub mod StoresFit
 pub mod Tables
 pub mod TablesFrame
 pub mod TablesRefine
+pub mod Through
 pub mod Within
 pub mod Xor
 pub mod ZonePlaces

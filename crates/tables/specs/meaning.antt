@@ -10,4 +10,5 @@ pub mod LittleEndian
 pub mod Phases
 pub mod Placement
 pub mod Tables
+pub mod Through
 pub mod Xor

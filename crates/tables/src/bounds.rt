@@ -44,8 +44,12 @@ fn in_ranges(g: Geometry) -> bool
     let u = g.unit;
     let l = g.zones;
     let c = g.capacity;
+    let logs = g.logs;
     (3 <= d)
-        & ((d <= 8) & (size & ((1 <= u) & ((u <= 16) & ((1 <= l) & ((l <= 16) & (c <= 65536)))))))
+        & ((d <= 8)
+            & (size
+                & ((1 <= u)
+                    & ((u <= 16) & ((1 <= l) & ((l <= 16) & ((c <= 65536) & (logs == 0))))))))
 }
 
 // Whether every bound of document 01 holds.

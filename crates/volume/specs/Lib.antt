@@ -1,4 +1,5 @@
 pub mod checks
+pub mod emptying
 pub mod laws
 pub mod looking
 pub mod meaning

@@ -1,4 +1,5 @@
 pub mod CheckLaws
+pub mod LogRoom
 pub mod Logging
 pub mod StoreLoops
 pub mod ZoneChecks

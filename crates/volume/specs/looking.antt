@@ -1,8 +1,13 @@
 pub mod DriveLogs
 pub mod DrivesLost
+pub mod HiddenLogs
 pub mod Knowing
 pub mod KnowingEntries
 pub mod KnowingLaws
 pub mod KnowingValues
+pub mod LogZones
 pub mod Looking
+pub mod MovedLogs
+pub mod SeenByRoles
+pub mod Surveying
 pub mod ZoneLooking

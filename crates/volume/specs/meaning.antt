@@ -2,8 +2,10 @@ pub mod Answers
 pub mod CallContracts
 pub mod Calls
 pub mod Content
+pub mod Emptying
 pub mod Mount
 pub mod Refusals
 pub mod Report
+pub mod Roles
 pub mod Rules
 pub mod State

@@ -1,3 +1,4 @@
 pub mod KeptBelow
 pub mod RowStores
 pub mod RowsInPlace
+pub mod SameShape

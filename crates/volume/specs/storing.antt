@@ -1,3 +1,4 @@
 pub mod Flushing
 pub mod Formatting
+pub mod ResetZone
 pub mod Resetting

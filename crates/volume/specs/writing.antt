@@ -1,3 +1,9 @@
+pub mod RunSeen
 pub mod WriteChecks
+pub mod WriteMade
+pub mod WriteRoom
+pub mod WriteRun
+pub mod WriteSeen
 pub mod WriteStores
+pub mod WriteZone
 pub mod Writing

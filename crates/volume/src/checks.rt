@@ -6,7 +6,7 @@ use super::State;
 use tables::Geometry;
 ghost use mathlib.Core.Path.{_≡_};
 ghost use mathlib.Core.Bool.{not, _&&_};
-ghost use Prim.Native.Nat.{ℕ, _≤_, _<_};
+ghost use Prim.Native.Nat.{suc, ℕ, _≤_, _<_};
 ghost use lib.Dec.{leb};
 ghost use Rattle.tables.specs.meaning.Basics.{pick};
 ghost use Rattle.tables.specs.meaning.Below.{allBelow, countBelow};
@@ -196,4 +196,11 @@ pub fn refused(number: u8, state: State) -> Outcome
         answer: Answer::Refused(number),
         state,
     }
+}
+
+// The budget of a call that may make `count` stores: one more (specs: `Made`).
+pub fn budget_of(count: u32) -> u64
+    ensures { λ r. ⌜ r ≡ suc count ⌝ }
+{
+    count as u64 + 1
 }

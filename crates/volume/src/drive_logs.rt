@@ -128,6 +128,7 @@ fn found_past(f: Found, g: Geometry, z: usize, generation: u64, q: usize) -> boo
         Found::Resets(_, _) => false,
         Found::Partial(y, s, fill, n) => (y == z) & ((n == generation) & (q < s * k + fill)),
         Found::Seal(_, _, _) => false,
+        Found::Closing(_) => false,
     }
 }
 

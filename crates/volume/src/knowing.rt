@@ -374,6 +374,7 @@ fn end_of(f: Found, g: Geometry) -> usize
         Found::Resets(_, _) => 0,
         Found::Partial(_, s, fill, _) => s * k + fill,
         Found::Seal(_, _, _) => 0,
+        Found::Closing(_) => 0,
     }
 }
 

@@ -2,18 +2,26 @@
 use tables::Geometry;
 
 pub mod checks;
+pub mod copies_known;
 pub mod drive_logs;
 pub mod drives_lost;
+pub mod emptying;
+pub mod emptying_parity;
+pub mod emptyings;
 pub mod flushing;
 pub mod formatting;
 pub mod knowing;
+pub mod log_room;
 pub mod logging;
 pub mod looking;
 pub mod mount_counters;
+pub mod mount_ends;
 pub mod mount_entries;
 pub mod mount_fill;
 pub mod mount_known;
 pub mod mount_logs;
+pub mod mount_plan;
+pub mod mount_rooms;
 pub mod mount_steps;
 pub mod mount_torn;
 pub mod mount_zones;
@@ -22,8 +30,10 @@ pub mod numbers;
 pub mod reading;
 pub mod reporting;
 pub mod resetting;
+pub mod roles;
 pub mod rows;
 pub mod write_checks;
+pub mod write_room;
 pub mod write_stores;
 pub mod writing;
 pub mod zone_checks;
@@ -107,9 +117,10 @@ pub struct Reported {
     pub number: usize,
 }
 
-// What the steps of a mount go by: the geometry, the drives that are here, and the look.
+// What the steps of a mount go by: the geometry, the drives that are here, the look, and whether the drives' last counters differed then.
 pub struct Basis {
     pub geometry: Geometry,
     pub here: [bool; 8],
     pub look: Look,
+    pub differ: bool,
 }

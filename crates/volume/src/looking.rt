@@ -1,4 +1,4 @@
-// Look: what the present drives show, rules 1 to 6 over all zones. It stores nothing.
+// Look: what the present drives show, rules 1 to 6 over all zones, with their logs where these lie. It stores nothing.
 use super::Answer;
 use super::Condition;
 use super::Look;
@@ -6,18 +6,29 @@ use super::Outcome;
 use super::State;
 use super::ZoneLook;
 use super::ZoneRecord;
+use super::roles::LogPlaces;
 use tables::Geometry;
 ghost use mathlib.Core.Path.{_≡_};
 ghost use mathlib.Core.Bool.{not};
 ghost use Prim.Native.Nat.{ℕ};
+ghost use lib.ListN.{length};
 ghost use Rattle.tables.specs.meaning.Drives.{findBelow};
-ghost use Rattle.tables.specs.meaning.Geometry.{Valid};
+ghost use Rattle.tables.specs.meaning.Geometry.{Valid, cells};
 ghost use Rattle.tables.specs.meaning.Tables.{tablesOf};
-ghost use Rattle.volume.specs.meaning.CallContracts.{isSet, verdictNumber, lookVerdict, lookOn};
+ghost use Rattle.volume.specs.meaning.CallContracts.{isSet, lookOn};
 ghost use Rattle.volume.specs.meaning.Rules.{showing, zoneShown};
 ghost use Rattle.volume.specs.looking.DriveLogs.{Sized};
 ghost use Rattle.volume.specs.looking.Knowing.{readDevice};
+ghost use Rattle.volume.specs.looking.SeenByRoles.{kindLacksOn};
 ghost use Rattle.volume.specs.looking.Looking.{Lookable, shapeNumber, logNumber, looksFrom, lookOf, recordsOf};
+ghost use Rattle.volume.specs.looking.Surveying.{Surveyed};
+
+// What a look goes by: where the logs lie, which drives are present, and the refusal by their logs (4 to 6; 0 if none applies).
+pub struct Survey {
+    pub places: LogPlaces,
+    pub here: [bool; 8],
+    pub refusal: u8,
+}
 
 // Refusals 1 to 3, of a call that is handed no state; 0 if none applies.
 pub fn shape_refusal(
@@ -44,15 +55,38 @@ pub fn shape_refusal(
     0
 }
 
-// Refusals 4 to 6, by the drives that rule 1 leaves present; 0 if none applies.
-pub fn log_refusal(sectors: &[u8], written: &[u32], g: Geometry, here: [bool; 8]) -> u8
-    requires { ⌜ Valid g ⌝ }
-    requires { ⌜ Sized g (now sectors) (now written) ⌝ }
-    ensures { λ r. ⌜ r ≡ logNumber g here (readDevice g (now (sectors .entry)) (now (written .entry))) ⌝ }
+// Whether a present drive lacks a kind of log.
+fn kind_lacks(places: LogPlaces, here: [bool; 8]) -> bool
+    requires { ⌜ Valid (places .geometry) ⌝ }
+    ensures { λ r. ⌜ r ≡ kindLacksOn places here ⌝ }
 {
+    let g = places.geometry;
+    let no_general = places.no_general;
+    let no_parity = places.no_parity;
+    let n = g.drives;
+    let mut lacks = false;
+    let mut d = 0;
+    while d < n {
+        lacks = lacks | (here[d] & (no_general[d] | no_parity[d]));
+        d += 1;
+    }
+    lacks
+}
+
+// Refusals 4 to 6, by the drives that rule 1 leaves present; 0 if none applies.
+fn log_refusal(sectors: &[u8], written: &[u32], places: LogPlaces, here: [bool; 8]) -> u8
+    requires { ⌜ Valid (places .geometry) ⌝ }
+    requires { ⌜ Sized (places .geometry) (now sectors) (now written) ⌝ }
+    ensures { λ r. ⌜ r ≡ logNumber places here (readDevice (places .geometry) (now (sectors .entry)) (now (written .entry))) ⌝ }
+{
+    let g = places.geometry;
     let absent = super::checks::count_absent(g, here);
     if 1 < absent {
         return 4;
+    }
+    let lacks = kind_lacks(places, here);
+    if lacks {
+        return 5;
     }
     let labels = super::drives_lost::labels_bad(sectors, written, g, here);
     if labels {
@@ -65,22 +99,27 @@ pub fn log_refusal(sectors: &[u8], written: &[u32], g: Geometry, here: [bool; 8]
     0
 }
 
-// A look's refusal; 0 if there is none.
-pub fn look_refusal(
+// What a look goes by, in tables that passed refusals 1 to 3. It leaves the written pointers by which the tables are the device by its roles.
+pub fn survey_drives(
     sectors: &[u8],
     written: &[u32],
-    durable: &[u32],
+    pointers: &mut [u32],
     g: Geometry,
     named: [bool; 8],
-) -> u8
-    ensures { λ r. ⌜ r ≡ verdictNumber (lookVerdict g named (tablesOf (now (sectors .entry)) (now (written .entry)) (now (durable .entry)))) ⌝ }
+) -> Survey
+    requires { ⌜ Valid g ⌝ }
+    requires { ⌜ Sized g (now sectors) (now written) × (length (now pointers) ≡ cells g) × (g .logs ≡ 0) ⌝ }
+    ensures { λ r. ⌜ Surveyed g named (now (sectors .entry)) (now (written .entry)) r (now (pointers .exit)) ⌝ }
 {
-    let shape = shape_refusal(sectors.len(), written, durable, g, named);
-    if shape != 0 {
-        return shape;
+    let places = super::roles::see_by_roles(sectors, written, pointers, g);
+    let h = places.geometry;
+    let here = super::drives_lost::look_present(sectors, pointers, h, named);
+    let refusal = log_refusal(sectors, pointers, places, here);
+    Survey {
+        places,
+        here,
+        refusal,
     }
-    let here = super::drives_lost::look_present(sectors, written, g, named);
-    log_refusal(sectors, written, g, here)
 }
 
 // What is shown of every zone; those past the last are blank.
@@ -155,18 +194,24 @@ pub fn look(
 ) -> Outcome
     ensures { λ r. ⌜ r ≡ lookOn g named old (tablesOf (now (sectors .entry)) (now (written .entry)) (now (durable .entry))) ⌝ }
 {
-    let refusal = look_refusal(sectors, written, durable, g, named);
-    if refusal != 0 {
-        return Outcome {
-            answer: Answer::Refused(refusal),
-            state: old,
-        };
+    let shape = shape_refusal(sectors.len(), written, durable, g, named);
+    if shape != 0 {
+        return super::checks::refused(shape, old);
     }
-    let here = super::drives_lost::look_present(sectors, written, g, named);
-    let shown = look_all(sectors, written, g, here);
+    let cells = written.len();
+    let mut pointers = [0u32; 152];
+    let found = survey_drives(sectors, written, &mut pointers[..cells], g, named);
+    let refusal = found.refusal;
+    if refusal != 0 {
+        return super::checks::refused(refusal, old);
+    }
+    let places = found.places;
+    let h = places.geometry;
+    let here = found.here;
+    let shown = look_all(sectors, &pointers[..cells], h, here);
     let lost = shown.lost;
     let looks = shown.zones;
-    let zones = records_of(g, looks);
+    let zones = records_of(h, looks);
     Outcome {
         answer: Answer::Finished,
         state: State { lost, zones },

@@ -23,8 +23,8 @@ ghost use Rattle.volume.specs.meaning.Rules.{generalHeads};
 ghost use Rattle.volume.specs.meaning.Mount.{nextGeneration, countersDiffer, counterStep};
 ghost use Rattle.volume.specs.meaning.CallContracts.{isSet};
 ghost use Rattle.volume.specs.mounting.MountLook.{zoneLook, shownBy, LookWithin};
-ghost use Rattle.volume.specs.mounting.MountHeaders.{Logging};
 ghost use Rattle.volume.specs.mounting.MountGenerations.{filled, countersDue};
+ghost use Rattle.volume.specs.mounting.MountSteps.{CountersReady};
 ghost use Rattle.volume.specs.looking.Knowing.{readDevice};
 
 fn is_empty(c: Condition) -> bool
@@ -193,7 +193,8 @@ fn differs_at(sectors: &[u8], pointers: &[u32], g: Geometry, here: [bool; 8], d:
     any_differs(sectors, pointers, g, here, d)
 }
 
-fn counters_differ(sectors: &[u8], pointers: &[u32], g: Geometry, here: [bool; 8]) -> bool
+// Whether the last counters of the drives that are here differ.
+pub fn counters_differ(sectors: &[u8], pointers: &[u32], g: Geometry, here: [bool; 8]) -> bool
     requires { ⌜ Valid g ⌝ }
     requires { ⌜ (length (now sectors) ≡ totalBytes g) × (length (now pointers) ≡ cells g) ⌝ }
     ensures { λ r. ⌜ r ≡ countersDiffer g (isSet here) (readDevice g (now (sectors .entry)) (now (pointers .entry))) ⌝ }
@@ -210,38 +211,25 @@ fn counters_differ(sectors: &[u8], pointers: &[u32], g: Geometry, here: [bool; 8
 }
 
 // Whether new counters are due.
-pub fn counters_due(
-    sectors: &[u8],
-    pointers: &[u32],
-    g: Geometry,
-    here: [bool; 8],
-    look: Look,
-) -> bool
+fn counters_due(g: Geometry, look: Look, differ: bool) -> bool
     requires { ⌜ Valid g ⌝ }
-    requires { ⌜ (length (now sectors) ≡ totalBytes g) × (length (now pointers) ≡ cells g) ⌝ }
-    ensures { λ r. ⌜ r ≡ countersDue g (isSet here) look (readDevice g (now (sectors .entry)) (now (pointers .entry))) ⌝ }
+    ensures { λ r. ⌜ r ≡ countersDue g look differ ⌝ }
 {
     let empty = any_empty(g, look);
-    let differ = counters_differ(sectors, pointers, g, here);
     empty | differ
 }
 
 // The counters of the step, if they are due.
-pub fn store_counters(
-    sectors: &mut [u8],
-    written: &mut [u32],
-    pointers: &[u32],
-    basis: Basis,
-    budget: u64,
-) -> u64
+pub fn store_counters(sectors: &mut [u8], written: &mut [u32], basis: Basis, budget: u64) -> u64
     requires { ⌜ Valid (basis .geometry) ⌝ }
-    requires { ⌜ Logging (basis .geometry) (basis .look) (now pointers) (now sectors) (now written) ⌝ }
-    ensures { λ r. ⌜ MadeAppends (basis .geometry) budget r (onPresent (isSet (basis .here)) (counterStep (basis .geometry) (isSet (basis .here)) (shownBy (basis .look)) (readDevice (basis .geometry) (now (sectors .entry)) (now (pointers .entry))))) (now (sectors .entry)) (now (written .entry)) (now (sectors .exit)) (now (written .exit)) ⌝ }
+    requires { ⌜ CountersReady (basis .geometry) (basis .look) (now sectors) (now written) ⌝ }
+    ensures { λ r. ⌜ MadeAppends (basis .geometry) budget r (onPresent (isSet (basis .here)) (counterStep (basis .geometry) (shownBy (basis .look)) (basis .differ))) (now (sectors .entry)) (now (written .entry)) (now (sectors .exit)) (now (written .exit)) ⌝ }
 {
     let g = basis.geometry;
     let here = basis.here;
     let look = basis.look;
-    let due = counters_due(sectors, pointers, g, here, look);
+    let differ = basis.differ;
+    let due = counters_due(g, look, differ);
     if !due {
         return budget;
     }

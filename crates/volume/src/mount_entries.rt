@@ -1,6 +1,7 @@
 // Step 8 of a mount: "a type 4 entry at each pointer inside a stripe that by then has no whole current one ending there". Values are those of the
 // mount's look, read below its pointers; step 6 completes a torn entry with the same rows. Whether there is such an entry is asked of the logs as
-// they were when the step began: below a copy of the written pointers of that moment, `starts`.
+// they were when the step began: below a copy of the written pointers of that moment, `starts`. The look's values are read where the logs lay then, by
+// the basis' geometry; `to` says where they lie now, for `starts` and for what is stored.
 use super::Basis;
 use super::Look;
 use super::rows::Target;
@@ -21,7 +22,7 @@ ghost use Rattle.volume.specs.meaning.CallContracts.{isSet};
 ghost use Rattle.volume.specs.rows.RowStores.{rowsIf};
 ghost use Rattle.volume.specs.mounting.MountLook.{zoneLook, LookWithin};
 ghost use Rattle.volume.specs.mounting.MountValues.{shownAt};
-ghost use Rattle.volume.specs.mounting.MountRestoring.{Filling};
+ghost use Rattle.volume.specs.mounting.MountReady.{Appending};
 ghost use Rattle.volume.specs.mounting.MountLastEntries.{Entering, entryDue, newEntry, zoneEntryStores, entryStoresBelow};
 ghost use Rattle.volume.specs.looking.Knowing.{readDevice};
 
@@ -78,13 +79,14 @@ pub fn append_entry_rows(
     written: &mut [u32],
     pointers: &[u32],
     basis: Basis,
+    to: Geometry,
     entry: EntryRows,
     budget: u64,
 ) -> u64
     requires { ⌜ Valid (basis .geometry) ⌝ }
     requires { ⌜ (entry .drive < basis .geometry .drives) × (entry .zone < basis .geometry .zones) × (entry .stripe * stripeSectors (basis .geometry) + entry .fill ≤ zoneLook (basis .look) (entry .zone) .pointer) × (entry .from ≤ min (entry .fill) (basis .geometry .unit))
-        × Filling (basis .geometry) (basis .here) (basis .look) (now pointers) (now sectors) (now written) ⌝ }
-    ensures { λ r. ⌜ MadeAppends (basis .geometry) budget r (rowsIf true (entry .drive) parityZone (rowXorBelow (basis .geometry .drives) (basis .geometry .unit) (shownAt (basis .geometry) (basis .here) (basis .look) (now (sectors .entry)) (now (pointers .entry)) .zone (entry .zone) .value) (entry .stripe) (entry .stripe * stripeSectors (basis .geometry) + entry .fill)) (entry .from) (min (entry .fill) (basis .geometry .unit))) (now (sectors .entry)) (now (written .entry)) (now (sectors .exit)) (now (written .exit)) ⌝ }
+        × Appending (basis .geometry) to (basis .here) (basis .look) parityZone (now pointers) (now sectors) (now written) ⌝ }
+    ensures { λ r. ⌜ MadeAppends to budget r (rowsIf true (entry .drive) parityZone (rowXorBelow (basis .geometry .drives) (basis .geometry .unit) (shownAt (basis .geometry) (basis .here) (basis .look) (now (sectors .entry)) (now (pointers .entry)) .zone (entry .zone) .value) (entry .stripe) (entry .stripe * stripeSectors (basis .geometry) + entry .fill)) (entry .from) (min (entry .fill) (basis .geometry .unit))) (now (sectors .entry)) (now (written .entry)) (now (sectors .exit)) (now (written .exit)) ⌝ }
 {
     let g = basis.geometry;
     let z = entry.zone;
@@ -92,7 +94,7 @@ pub fn append_entry_rows(
     let fill = entry.fill;
     let k = tables::bounds::stripe_sectors(g);
     let end = s * k + fill;
-    let known = super::mount_known::known_below(sectors, pointers, basis, z, end);
+    let known = super::mount_known::known_below(sectors, pointers, basis, to, z, end);
     let target = Target {
         drive: entry.drive,
         zone: logs::PARITY_LOG,
@@ -122,14 +124,15 @@ fn append_entry(
     written: &mut [u32],
     pointers: &[u32],
     basis: Basis,
+    to: Geometry,
     drive: usize,
     z: usize,
     budget: u64,
 ) -> u64
     requires { ⌜ Valid (basis .geometry) ⌝ }
     requires { ⌜ (drive < basis .geometry .drives) × (z < basis .geometry .zones) × (stripeOf (basis .geometry .drives) (basis .geometry .unit) (zoneLook (basis .look) z .pointer) * stripeSectors (basis .geometry) < zoneLook (basis .look) z .pointer)
-        × Filling (basis .geometry) (basis .here) (basis .look) (now pointers) (now sectors) (now written) ⌝ }
-    ensures { λ r. ⌜ MadeAppends (basis .geometry) budget r (newEntry (basis .geometry) (shownAt (basis .geometry) (basis .here) (basis .look) (now (sectors .entry)) (now (pointers .entry))) drive z) (now (sectors .entry)) (now (written .entry)) (now (sectors .exit)) (now (written .exit)) ⌝ }
+        × Appending (basis .geometry) to (basis .here) (basis .look) parityZone (now pointers) (now sectors) (now written) ⌝ }
+    ensures { λ r. ⌜ MadeAppends to budget r (newEntry (basis .geometry) (shownAt (basis .geometry) (basis .here) (basis .look) (now (sectors .entry)) (now (pointers .entry))) drive z) (now (sectors .entry)) (now (written .entry)) (now (sectors .exit)) (now (written .exit)) ⌝ }
 {
     let g = basis.geometry;
     let look = basis.look;
@@ -143,7 +146,7 @@ fn append_entry(
     let rest = super::write_stores::append_partial(
         sectors,
         written,
-        g,
+        to,
         true,
         drive,
         z,
@@ -159,7 +162,7 @@ fn append_entry(
         fill,
         from: 0,
     };
-    append_entry_rows(sectors, written, pointers, basis, entry, rest)
+    append_entry_rows(sectors, written, pointers, basis, to, entry, rest)
 }
 
 // That entry, if the drive is here and it is due: what is left of the budget of stores.
@@ -169,26 +172,26 @@ fn log_entry(
     pointers: &[u32],
     starts: &[u32],
     basis: Basis,
+    to: Geometry,
     drive: usize,
     z: usize,
     budget: u64,
 ) -> u64
     requires { ⌜ Valid (basis .geometry) ⌝ }
-    requires { ⌜ (drive < basis .geometry .drives) × (z < basis .geometry .zones) × Entering (basis .geometry) (basis .here) (basis .look) (now pointers) (now starts) (now sectors) (now written) ⌝ }
-    ensures { λ r. ⌜ MadeAppends (basis .geometry) budget r (onPresent (isSet (basis .here)) (zoneEntryStores (basis .geometry) (basis .look) (shownAt (basis .geometry) (basis .here) (basis .look) (now (sectors .entry)) (now (pointers .entry))) (parityEntries (basis .geometry) (readDevice (basis .geometry) (now (sectors .entry)) (now (starts .entry))) drive) drive z)) (now (sectors .entry)) (now (written .entry)) (now (sectors .exit)) (now (written .exit)) ⌝ }
+    requires { ⌜ (drive < basis .geometry .drives) × (z < basis .geometry .zones) × Entering (basis .geometry) to (basis .here) (basis .look) (now pointers) (now starts) (now sectors) (now written) ⌝ }
+    ensures { λ r. ⌜ MadeAppends to budget r (onPresent (isSet (basis .here)) (zoneEntryStores (basis .geometry) (basis .look) (shownAt (basis .geometry) (basis .here) (basis .look) (now (sectors .entry)) (now (pointers .entry))) (parityEntries to (readDevice to (now (sectors .entry)) (now (starts .entry))) drive) drive z)) (now (sectors .entry)) (now (written .entry)) (now (sectors .exit)) (now (written .exit)) ⌝ }
 {
-    let g = basis.geometry;
     let here = basis.here;
     let look = basis.look;
     let present = here[drive];
     if !present {
         return budget;
     }
-    let due = entry_due(sectors, starts, g, look, drive, z);
+    let due = entry_due(sectors, starts, to, look, drive, z);
     if !due {
         return budget;
     }
-    append_entry(sectors, written, pointers, basis, drive, z, budget)
+    append_entry(sectors, written, pointers, basis, to, drive, z, budget)
 }
 
 // The entries of one drive, zones ascending.
@@ -198,19 +201,30 @@ fn log_drive(
     pointers: &[u32],
     starts: &[u32],
     basis: Basis,
+    to: Geometry,
     drive: usize,
     budget: u64,
 ) -> u64
     requires { ⌜ Valid (basis .geometry) ⌝ }
-    requires { ⌜ (drive < basis .geometry .drives) × Entering (basis .geometry) (basis .here) (basis .look) (now pointers) (now starts) (now sectors) (now written) ⌝ }
-    ensures { λ r. ⌜ MadeAppends (basis .geometry) budget r (onPresent (isSet (basis .here)) (eachBelow (zoneEntryStores (basis .geometry) (basis .look) (shownAt (basis .geometry) (basis .here) (basis .look) (now (sectors .entry)) (now (pointers .entry))) (parityEntries (basis .geometry) (readDevice (basis .geometry) (now (sectors .entry)) (now (starts .entry))) drive) drive) (basis .geometry .zones))) (now (sectors .entry)) (now (written .entry)) (now (sectors .exit)) (now (written .exit)) ⌝ }
+    requires { ⌜ (drive < basis .geometry .drives) × Entering (basis .geometry) to (basis .here) (basis .look) (now pointers) (now starts) (now sectors) (now written) ⌝ }
+    ensures { λ r. ⌜ MadeAppends to budget r (onPresent (isSet (basis .here)) (eachBelow (zoneEntryStores (basis .geometry) (basis .look) (shownAt (basis .geometry) (basis .here) (basis .look) (now (sectors .entry)) (now (pointers .entry))) (parityEntries to (readDevice to (now (sectors .entry)) (now (starts .entry))) drive) drive) (basis .geometry .zones))) (now (sectors .entry)) (now (written .entry)) (now (sectors .exit)) (now (written .exit)) ⌝ }
 {
     let g = basis.geometry;
     let n = g.zones;
     let mut rest = budget;
     let mut z = 0;
     while z < n {
-        rest = log_entry(sectors, written, pointers, starts, basis, drive, z, rest);
+        rest = log_entry(
+            sectors,
+            written,
+            pointers,
+            starts,
+            basis,
+            to,
+            drive,
+            z,
+            rest,
+        );
         z += 1;
     }
     rest
@@ -223,18 +237,19 @@ pub fn log_entries(
     pointers: &[u32],
     starts: &[u32],
     basis: Basis,
+    to: Geometry,
     budget: u64,
 ) -> u64
     requires { ⌜ Valid (basis .geometry) ⌝ }
-    requires { ⌜ Entering (basis .geometry) (basis .here) (basis .look) (now pointers) (now starts) (now sectors) (now written) ⌝ }
-    ensures { λ r. ⌜ MadeAppends (basis .geometry) budget r (onPresent (isSet (basis .here)) (entryStoresBelow (basis .geometry) (basis .look) (shownAt (basis .geometry) (basis .here) (basis .look) (now (sectors .entry)) (now (pointers .entry))) (parityEntries (basis .geometry) (readDevice (basis .geometry) (now (sectors .entry)) (now (starts .entry)))) (basis .geometry .drives))) (now (sectors .entry)) (now (written .entry)) (now (sectors .exit)) (now (written .exit)) ⌝ }
+    requires { ⌜ Entering (basis .geometry) to (basis .here) (basis .look) (now pointers) (now starts) (now sectors) (now written) ⌝ }
+    ensures { λ r. ⌜ MadeAppends to budget r (onPresent (isSet (basis .here)) (entryStoresBelow (basis .geometry) (basis .look) (shownAt (basis .geometry) (basis .here) (basis .look) (now (sectors .entry)) (now (pointers .entry))) (parityEntries to (readDevice to (now (sectors .entry)) (now (starts .entry)))) (basis .geometry .drives))) (now (sectors .entry)) (now (written .entry)) (now (sectors .exit)) (now (written .exit)) ⌝ }
 {
     let g = basis.geometry;
     let m = g.drives;
     let mut rest = budget;
     let mut d = 0;
     while d < m {
-        rest = log_drive(sectors, written, pointers, starts, basis, d, rest);
+        rest = log_drive(sectors, written, pointers, starts, basis, to, d, rest);
         d += 1;
     }
     rest

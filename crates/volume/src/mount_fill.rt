@@ -31,8 +31,9 @@ fn append_value(
 ) -> u64
     requires { ⌜ Valid (known .geometry) ⌝ }
     requires { ⌜ ZoneReady known target (now sectors) (now written) (now pointers) × (a < known .end) ⌝ }
-    ensures { λ rest. ⌜ MadeAppends (known .geometry) budget rest (storeIf (target .present) (append (target .drive) (target .zone) (valuesIn known (now (sectors .entry)) (now (pointers .entry)) a))) (now (sectors .entry)) (now (written .entry)) (now (sectors .exit)) (now (written .exit)) ⌝ }
+    ensures { λ rest. ⌜ MadeAppends (known .to) budget rest (storeIf (target .present) (append (target .drive) (target .zone) (valuesIn known (now (sectors .entry)) (now (pointers .entry)) a))) (now (sectors .entry)) (now (written .entry)) (now (sectors .exit)) (now (written .exit)) ⌝ }
 {
+    let to = known.to;
     let g = known.geometry;
     let here = known.here;
     let z = known.zone;
@@ -57,7 +58,7 @@ fn append_value(
     tables::stores::append_counted(
         sectors,
         written,
-        g,
+        to,
         present,
         drive,
         zone,
@@ -78,7 +79,7 @@ fn fill_sector(
 ) -> u64
     requires { ⌜ Valid (known .geometry) ⌝ }
     requires { ⌜ ZoneReady known target (now sectors) (now written) (now pointers) × (x < needed (known .geometry .drives) (known .geometry .unit) (known .zone) (known .end) (target .drive)) ⌝ }
-    ensures { λ rest. ⌜ MadeAppends (known .geometry) budget rest (storeIf (target .present) (append (target .drive) (target .zone) (contentAt (known .geometry .drives) (known .geometry .unit) (known .zone) (valuesIn known (now (sectors .entry)) (now (pointers .entry))) (target .drive) x)))
+    ensures { λ rest. ⌜ MadeAppends (known .to) budget rest (storeIf (target .present) (append (target .drive) (target .zone) (contentAt (known .geometry .drives) (known .geometry .unit) (known .zone) (valuesIn known (now (sectors .entry)) (now (pointers .entry))) (target .drive) x)))
         (now (sectors .entry)) (now (written .entry)) (now (sectors .exit)) (now (written .exit)) ⌝ }
 {
     let g = known.geometry;
@@ -119,7 +120,7 @@ fn fill_sectors(
 ) -> u64
     requires { ⌜ Valid (known .geometry) ⌝ }
     requires { ⌜ ZoneReady known target (now sectors) (now written) (now pointers) × (from ≤ to) × (to ≤ needed (known .geometry .drives) (known .geometry .unit) (known .zone) (known .end) (target .drive)) ⌝ }
-    ensures { λ rest. ⌜ MadeAppends (known .geometry) budget rest (rowsIf (target .present) (target .drive) (target .zone) (contentAt (known .geometry .drives) (known .geometry .unit) (known .zone) (valuesIn known (now (sectors .entry)) (now (pointers .entry))) (target .drive)) from to)
+    ensures { λ rest. ⌜ MadeAppends (known .to) budget rest (rowsIf (target .present) (target .drive) (target .zone) (contentAt (known .geometry .drives) (known .geometry .unit) (known .zone) (valuesIn known (now (sectors .entry)) (now (pointers .entry))) (target .drive)) from to)
         (now (sectors .entry)) (now (written .entry)) (now (sectors .exit)) (now (written .exit)) ⌝ }
 {
     let mut rest = budget;
@@ -160,7 +161,7 @@ fn fill_zone(
     if to <= from {
         return budget;
     }
-    let known = super::mount_known::known_below(sectors, pointers, basis, z, pointer);
+    let known = super::mount_known::known_below(sectors, pointers, basis, g, z, pointer);
     let target = Target {
         drive,
         zone: tables::DATA_ZONES + z,

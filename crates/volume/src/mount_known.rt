@@ -1,16 +1,25 @@
 // What a mount's look knows of a zone.
 use super::Basis;
 use super::rows::Extent;
+use tables::Geometry;
 ghost use mathlib.Core.Path.{_≡_};
 ghost use Rattle.tables.specs.meaning.Geometry.{Valid};
 ghost use Rattle.volume.specs.looking.Knowing.{Readable};
 ghost use Rattle.volume.specs.mounting.MountReady.{knownExtent};
 
 // The zone's content below an end that is at or below the pointer shown: all of it is known, no buffer follows.
-pub fn known_below(sectors: &[u8], pointers: &[u32], basis: Basis, z: usize, end: usize) -> Extent
+// What is stored goes by `to`.
+pub fn known_below(
+    sectors: &[u8],
+    pointers: &[u32],
+    basis: Basis,
+    to: Geometry,
+    z: usize,
+    end: usize,
+) -> Extent
     requires { ⌜ Valid (basis .geometry) ⌝ }
     requires { ⌜ Readable (basis .geometry) (basis .here) (now sectors) (now pointers) z ⌝ }
-    ensures { λ r. ⌜ r ≡ knownExtent (basis .geometry) (basis .here) (basis .look) (now (sectors .entry)) (now (pointers .entry)) z end ⌝ }
+    ensures { λ r. ⌜ r ≡ knownExtent (basis .geometry) to (basis .here) (basis .look) (now (sectors .entry)) (now (pointers .entry)) z end ⌝ }
 {
     let g = basis.geometry;
     let here = basis.here;
@@ -21,6 +30,7 @@ pub fn known_below(sectors: &[u8], pointers: &[u32], basis: Basis, z: usize, end
     let limit = super::knowing::seal_limit(sectors, pointers, g, here, z, generation);
     Extent {
         geometry: g,
+        to,
         here,
         zone: z,
         generation,

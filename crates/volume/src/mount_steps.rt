@@ -1,6 +1,6 @@
 // The steps of a mount, one function each, "with a flush of all present drives after each step that stored"; a step that stored has spent of the
-// budget. Each relies on the same things (`Restoring`) and leaves them so for the next (`StepMade`); `restore_steps` is the list of them in
-// document 01's order.
+// budget. Each relies on the same things (`Restoring`) and leaves them so for the next (`StepMade`); `restore_steps` is the list of steps 3 to 9 in
+// their order.
 use super::Basis;
 use super::mount_counters::store_counters;
 use super::mount_logs::HeaderKind;
@@ -10,18 +10,20 @@ ghost use mathlib.Core.Path.{_≡_};
 ghost use lib.ListN.{length};
 ghost use Rattle.tables.specs.meaning.Lists.{concat};
 ghost use Rattle.tables.specs.meaning.Geometry.{Valid, cells};
-ghost use Rattle.tables.specs.meaning.Tables.{tablesOf, deviceOf};
+ghost use Rattle.tables.specs.meaning.Tables.{tablesOf};
 ghost use Rattle.tables.specs.laws.Made.{Made};
-ghost use Rattle.volume.specs.meaning.Mount.{withFlush, entryStep};
+ghost use Rattle.volume.specs.meaning.Mount.{withFlush};
+ghost use Rattle.volume.specs.meaning.Rules.{parityEntries};
 ghost use Rattle.volume.specs.meaning.CallContracts.{isSet};
 ghost use Rattle.volume.specs.mounting.MountTables.{FlushedAfter};
 ghost use Rattle.volume.specs.mounting.MountHeaders.{headersBy};
 ghost use Rattle.volume.specs.mounting.MountValues.{shownAt, Restoring};
-ghost use Rattle.volume.specs.mounting.MountSteps.{countersBy, tornRowsBy, fillsBy, StepMade, ZonesReset};
-ghost use Rattle.volume.specs.mounting.Mounting.{restoreStores};
+ghost use Rattle.volume.specs.mounting.MountSteps.{tornRowsBy, fillsBy, StepMade, ZonesReset, CountersMade, CountersReady, Restored};
+ghost use Rattle.volume.specs.mounting.MountLastEntries.{Entering, entryStoresBelow};
+ghost use Rattle.volume.specs.looking.Knowing.{readDevice};
 
 // The flush after a step, if the step stored: it had `before` and left `rest`.
-fn flush_after(
+pub fn flush_after(
     written: &[u32],
     durable: &mut [u32],
     g: Geometry,
@@ -39,7 +41,7 @@ fn flush_after(
     super::flushing::flush_all(written, durable, g, here, rest)
 }
 
-// 1, 2 and 5. A step of headers of one kind on the general logs: "a new label on each present drive whose last doesn't name the lost one; type 3
+// 3, 4 and 7. A step of headers of one kind on the general logs: "a new label on each present drive whose last doesn't name the lost one; type 3
 // again on both its drives for each zone emptied by rule 3; .. the seal at its pointer of each zone shown sealed, on each present drive lacking it".
 fn header_step(
     kind: HeaderKind,
@@ -62,7 +64,7 @@ fn header_step(
     flush_after(written, durable, g, here, budget, rest)
 }
 
-// 3. "Resets of those zones and of unclean ones with pointer 0, worn zones excepted".
+// 5. "Resets of those zones and of unclean ones with pointer 0, worn zones excepted".
 fn zone_reset_step(written: &mut [u32], durable: &mut [u32], basis: Basis, budget: u64) -> u64
     requires { ⌜ Valid (basis .geometry) ⌝ }
     requires { ⌜ (length (now written) ≡ cells (basis .geometry)) × (length (now durable) ≡ cells (basis .geometry)) ⌝ }
@@ -75,27 +77,26 @@ fn zone_reset_step(written: &mut [u32], durable: &mut [u32], basis: Basis, budge
     flush_after(written, durable, g, here, budget, rest)
 }
 
-// 4. The counters, "every empty zone's raised by 1".
+// 6. The counters, "every empty zone's raised by 1".
 fn counter_step(
     sectors: &mut [u8],
     written: &mut [u32],
     durable: &mut [u32],
-    pointers: &[u32],
     basis: Basis,
     budget: u64,
 ) -> u64
     requires { ⌜ Valid (basis .geometry) ⌝ }
-    requires { ⌜ Restoring (basis .geometry) (basis .here) (basis .look) (now pointers) (tablesOf (now sectors) (now written) (now durable)) ⌝ }
-    ensures { λ r. ⌜ StepMade (basis .geometry) (basis .here) (basis .look) (now (pointers .entry)) budget r (countersBy (basis .geometry) (basis .here) (basis .look))
+    requires { ⌜ CountersReady (basis .geometry) (basis .look) (now sectors) (now written) × (length (now durable) ≡ cells (basis .geometry)) ⌝ }
+    ensures { λ r. ⌜ CountersMade (basis .geometry) (basis .here) (basis .look) (basis .differ) budget r
         (tablesOf (now (sectors .entry)) (now (written .entry)) (now (durable .entry))) (tablesOf (now (sectors .exit)) (now (written .exit)) (now (durable .exit))) ⌝ }
 {
     let g = basis.geometry;
     let here = basis.here;
-    let rest = store_counters(sectors, written, pointers, basis, budget);
+    let rest = store_counters(sectors, written, basis, budget);
     flush_after(written, durable, g, here, budget, rest)
 }
 
-// 6. "Rows missing from torn entries".
+// 8. "Rows missing from torn entries".
 fn torn_row_step(
     sectors: &mut [u8],
     written: &mut [u32],
@@ -115,7 +116,7 @@ fn torn_row_step(
     flush_after(written, durable, g, here, budget, rest)
 }
 
-// 7. "Sectors missing below the pointer, and parity of complete stripes".
+// 9. "Sectors missing below the pointer, and parity of complete stripes".
 fn fill_step(
     sectors: &mut [u8],
     written: &mut [u32],
@@ -135,53 +136,57 @@ fn fill_step(
     flush_after(written, durable, g, here, budget, rest)
 }
 
-// 8. "A type 4 entry at each pointer inside a stripe that by then has no whole current one ending there". `starts` is a copy of the written
-// pointers.
-fn entry_step(
+// 11. "A type 4 entry at each pointer inside a stripe that by then has no whole current one ending there". `starts` is a copy of the written
+// pointers; the logs lie now where `to` says.
+pub fn entry_step(
     sectors: &mut [u8],
     written: &mut [u32],
     durable: &mut [u32],
     pointers: &[u32],
     starts: &[u32],
     basis: Basis,
+    to: Geometry,
     budget: u64,
 ) -> u64
     requires { ⌜ Valid (basis .geometry) ⌝ }
-    requires { ⌜ (now starts ≡ now written) × Restoring (basis .geometry) (basis .here) (basis .look) (now pointers) (tablesOf (now sectors) (now written) (now durable)) ⌝ }
-    ensures { λ r. ⌜ Made (basis .geometry) budget r (concat (withFlush (basis .geometry) (isSet (basis .here)) (entryStep (basis .geometry) (shownAt (basis .geometry) (basis .here) (basis .look) (now (sectors .entry)) (now (pointers .entry))) (deviceOf (basis .geometry) (tablesOf (now (sectors .entry)) (now (written .entry)) (now (durable .entry)))))))
+    requires { ⌜ Entering (basis .geometry) to (basis .here) (basis .look) (now pointers) (now starts) (now sectors) (now written) × (length (now durable) ≡ cells (basis .geometry)) ⌝ }
+    ensures { λ r. ⌜ Made to budget r (concat (withFlush (basis .geometry) (isSet (basis .here)) (entryStoresBelow (basis .geometry) (basis .look) (shownAt (basis .geometry) (basis .here) (basis .look) (now (sectors .entry)) (now (pointers .entry))) (parityEntries to (readDevice to (now (sectors .entry)) (now (starts .entry)))) (basis .geometry .drives))))
         (tablesOf (now (sectors .entry)) (now (written .entry)) (now (durable .entry))) (tablesOf (now (sectors .exit)) (now (written .exit)) (now (durable .exit))) ⌝ }
 {
-    let g = basis.geometry;
     let here = basis.here;
-    let rest = super::mount_entries::log_entries(sectors, written, pointers, starts, basis, budget);
-    flush_after(written, durable, g, here, budget, rest)
+    let rest = super::mount_entries::log_entries(
+        sectors,
+        written,
+        pointers,
+        starts,
+        basis,
+        to,
+        budget,
+    );
+    flush_after(written, durable, to, here, budget, rest)
 }
 
-// The steps, by the mount's look. Step 8 looks at the logs as the others have left them: `starts` is scratch for the pointers of that moment.
+// Steps 3 to 9, by the mount's look.
 pub fn restore_steps(
     sectors: &mut [u8],
     written: &mut [u32],
     durable: &mut [u32],
     pointers: &[u32],
-    starts: &mut [u32],
     basis: Basis,
     budget: u64,
 ) -> u64
     requires { ⌜ Valid (basis .geometry) ⌝ }
-    requires { ⌜ (length (now starts) ≡ cells (basis .geometry)) × Restoring (basis .geometry) (basis .here) (basis .look) (now pointers) (tablesOf (now sectors) (now written) (now durable)) ⌝ }
-    ensures { λ r. ⌜ Made (basis .geometry) budget r (restoreStores (basis .geometry) (basis .here) (basis .look) (now (sectors .entry)) (now (pointers .entry)) (tablesOf (now (sectors .entry)) (now (written .entry)) (now (durable .entry))))
-        (tablesOf (now (sectors .entry)) (now (written .entry)) (now (durable .entry))) (tablesOf (now (sectors .exit)) (now (written .exit)) (now (durable .exit))) ⌝ }
+    requires { ⌜ Restoring (basis .geometry) (basis .here) (basis .look) (now pointers) (tablesOf (now sectors) (now written) (now durable)) ⌝ }
+    ensures { λ r. ⌜ Restored basis (now (pointers .entry)) budget r (tablesOf (now (sectors .entry)) (now (written .entry)) (now (durable .entry))) (tablesOf (now (sectors .exit)) (now (written .exit)) (now (durable .exit))) ⌝ }
 {
     let label = HeaderKind::Label;
     let rest = header_step(label, sectors, written, durable, pointers, basis, budget);
     let reset = HeaderKind::Reset;
     let rest = header_step(reset, sectors, written, durable, pointers, basis, rest);
     let rest = zone_reset_step(written, durable, basis, rest);
-    let rest = counter_step(sectors, written, durable, pointers, basis, rest);
+    let rest = counter_step(sectors, written, durable, basis, rest);
     let seal = HeaderKind::Seal;
     let rest = header_step(seal, sectors, written, durable, pointers, basis, rest);
     let rest = torn_row_step(sectors, written, durable, pointers, basis, rest);
-    let rest = fill_step(sectors, written, durable, pointers, basis, rest);
-    tables::sectors::copy_pointers(starts, 0, written);
-    entry_step(sectors, written, durable, pointers, starts, basis, rest)
+    fill_step(sectors, written, durable, pointers, basis, rest)
 }

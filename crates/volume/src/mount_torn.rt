@@ -101,7 +101,7 @@ fn complete_rows(
     let k = tables::bounds::stripe_sectors(g);
     let current = (n == generation) & (s * k + fill <= pointer);
     if current {
-        return append_entry_rows(sectors, written, pointers, basis, entry, budget);
+        return append_entry_rows(sectors, written, pointers, basis, g, entry, budget);
     }
     let drive = entry.drive;
     let from = entry.from;
@@ -147,6 +147,7 @@ fn complete_entry(
             budget,
         ),
         Found::Seal(_, _, _) => budget,
+        Found::Closing(_) => budget,
     }
 }
 

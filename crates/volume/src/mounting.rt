@@ -1,9 +1,11 @@
 // Mount (document 01): "flushes all present drives and takes a look. It then stores, by that look, drive by drive and zones ascending in each, with
-// a flush of all present drives after each step that stored".
+// a flush of all present drives after each step that stored". Its look, where the logs lie and which of them lack room are found before its first store
+// (`Plan`); the steps that follow read by copies of the written pointers.
 use super::Answer;
 use super::Basis;
 use super::Outcome;
 use super::State;
+use super::mount_rooms::Plan;
 use tables::Geometry;
 ghost use mathlib.Core.Path.{_≡_};
 ghost use mathlib.Core.Bool.{not};
@@ -14,51 +16,12 @@ ghost use Rattle.tables.specs.meaning.Geometry.{Valid, cells};
 ghost use Rattle.tables.specs.meaning.Tables.{tablesOf};
 ghost use Rattle.tables.specs.laws.Made.{Made};
 ghost use Rattle.volume.specs.meaning.Rules.{showing};
-ghost use Rattle.volume.specs.meaning.CallContracts.{isSet, verdictNumber, stateShown, mountVerdict, mountStoresOn, mountOn};
+ghost use Rattle.volume.specs.meaning.CallContracts.{isSet, stateShown, mountStoresOn, mountOn};
 ghost use Rattle.volume.specs.looking.Knowing.{readDevice};
 ghost use Rattle.volume.specs.looking.Looking.{Lookable};
-ghost use Rattle.volume.specs.mounting.Mounting.{mountFullOn};
-
-// Refusal 14: "mount, general below L + 2 or parity below L × (1 + U) + U".
-fn mount_full(written: &[u32], g: Geometry, here: [bool; 8]) -> bool
-    requires { ⌜ Valid g ⌝ }
-    requires { ⌜ length (now written) ≡ cells g ⌝ }
-    ensures { λ r. ⌜ r ≡ mountFullOn g (isSet here) (now (written .entry)) ⌝ }
-{
-    let l = g.zones;
-    let u = g.unit;
-    let general = super::zone_checks::unused_below(written, g, here, logs::GENERAL_LOG, l + 2);
-    let parity = super::zone_checks::unused_below(
-        written,
-        g,
-        here,
-        logs::PARITY_LOG,
-        l * (1 + u) + u,
-    );
-    general | parity
-}
-
-// A mount's refusal; 0 if there is none.
-fn mount_refusal(
-    sectors: &[u8],
-    written: &[u32],
-    durable: &[u32],
-    g: Geometry,
-    named: [bool; 8],
-) -> u8
-    ensures { λ r. ⌜ r ≡ verdictNumber (mountVerdict g named (tablesOf (now (sectors .entry)) (now (written .entry)) (now (durable .entry)))) ⌝ }
-{
-    let number = super::looking::look_refusal(sectors, written, durable, g, named);
-    if number != 0 {
-        return number;
-    }
-    let here = super::drives_lost::look_present(sectors, written, g, named);
-    let full = mount_full(written, g, here);
-    if full {
-        return 14;
-    }
-    0
-}
+ghost use Rattle.volume.specs.mounting.MountRooms.{lostAmong, Planned};
+ghost use Rattle.volume.specs.mounting.MountBetween.{Before};
+ghost use Rattle.volume.specs.mounting.Mounting.{mountedOn, ShownNow};
 
 // The state that the drives that are here show.
 fn shown_state(sectors: &[u8], written: &[u32], g: Geometry, here: [bool; 8]) -> State
@@ -73,40 +36,131 @@ fn shown_state(sectors: &[u8], written: &[u32], g: Geometry, here: [bool; 8]) ->
     State { lost, zones }
 }
 
-// The stores of a mount: the first flush, and the steps by the look, on scratch of their own: a copy of the look's pointers, and one for step 8.
-// What is left of the budget.
-fn restore(
+// The first flush and steps 1 to 9: what is left of the budget. `pointers` are afterwards those of the moment before step 3, by which what is missing is
+// read; the logs lie then where those of step 2 were emptied to.
+fn restore_before(
     sectors: &mut [u8],
     written: &mut [u32],
     durable: &mut [u32],
+    pointers: &mut [u32],
     g: Geometry,
-    here: [bool; 8],
+    plan: Plan,
     budget: u64,
 ) -> u64
     requires { ⌜ Valid g ⌝ }
-    requires { ⌜ Lookable g here (now sectors) (now written) × (length (now durable) ≡ cells g) ⌝ }
-    ensures { λ r. ⌜ Made g budget r (mountStoresOn g (isSet here) (findBelow (λ (d : ℕ). not (isSet here d)) (g .drives)) (tablesOf (now (sectors .entry)) (now (written .entry)) (now (durable .entry))))
-        (tablesOf (now (sectors .entry)) (now (written .entry)) (now (durable .entry))) (tablesOf (now (sectors .exit)) (now (written .exit)) (now (durable .exit))) ⌝ }
+    requires { ⌜ Planned g (tablesOf (now sectors) (now written) (now durable)) plan (now pointers) ⌝ }
+    ensures { λ r. ⌜ Before g (tablesOf (now (sectors .entry)) (now (written .entry)) (now (durable .entry))) plan budget r (now (pointers .exit)) (tablesOf (now (sectors .exit)) (now (written .exit)) (now (durable .exit))) ⌝ }
 {
-    let flushed = super::flushing::flush_all(written, durable, g, here, budget);
-    let look = super::looking::look_all(sectors, written, g, here);
-    let n = written.len();
-    let mut pointers = [0u32; 152];
-    let mut starts = [0u32; 152];
-    tables::sectors::copy_pointers(&mut pointers[..n], 0, written);
+    let rest = super::mount_rooms::open_logs(sectors, written, durable, pointers, g, plan, budget);
+    if rest == 0 {
+        return 0;
+    }
+    let places = plan.places;
+    let here = plan.here;
+    let look = plan.look;
+    let differ = plan.differ;
+    let room = plan.general;
+    let emptied = room.emptied;
+    let middle = super::mount_rooms::places_after(places, false, emptied);
+    super::roles::hide_lacking(written, pointers, middle);
+    let geometry = middle.geometry;
     super::mount_steps::restore_steps(
         sectors,
         written,
         durable,
-        &pointers[..n],
-        &mut starts[..n],
+        pointers,
         Basis {
-            geometry: g,
+            geometry,
             here,
             look,
+            differ,
         },
-        flushed,
+        rest,
     )
+}
+
+// The stores of a mount: what is left of the budget. `pointers` and `starts` are scratch: copies of the written pointers.
+fn restore(
+    sectors: &mut [u8],
+    written: &mut [u32],
+    durable: &mut [u32],
+    pointers: &mut [u32],
+    starts: &mut [u32],
+    g: Geometry,
+    plan: Plan,
+    budget: u64,
+) -> u64
+    requires { ⌜ Valid g ⌝ }
+    requires { ⌜ Planned g (tablesOf (now sectors) (now written) (now durable)) plan (now pointers) × (length (now starts) ≡ cells g) ⌝ }
+    ensures { λ r. ⌜ Made g budget r (mountStoresOn g (isSet (plan .here)) (lostAmong g (plan .here)) (tablesOf (now (sectors .entry)) (now (written .entry)) (now (durable .entry))))
+        (tablesOf (now (sectors .entry)) (now (written .entry)) (now (durable .entry))) (tablesOf (now (sectors .exit)) (now (written .exit)) (now (durable .exit))) ⌝ }
+{
+    let rest = restore_before(sectors, written, durable, pointers, g, plan, budget);
+    if rest == 0 {
+        return 0;
+    }
+    super::mount_ends::restore_ends(sectors, written, durable, pointers, starts, g, plan, rest)
+}
+
+// The state that the drives that are here show, their logs where these lie now. `pointers` is scratch: a copy of the written pointers.
+fn shown_now(
+    sectors: &[u8],
+    written: &[u32],
+    pointers: &mut [u32],
+    g: Geometry,
+    here: [bool; 8],
+) -> State
+    requires { ⌜ Valid g ⌝ }
+    requires { ⌜ Lookable g here (now sectors) (now written) × (length (now pointers) ≡ cells g) × (g .logs ≡ 0) ⌝ }
+    ensures { λ r. ⌜ ShownNow g here (now (sectors .entry)) (now (written .entry)) r ⌝ }
+{
+    let places = super::roles::see_by_roles(sectors, written, pointers, g);
+    let h = places.geometry;
+    shown_state(sectors, pointers, h, here)
+}
+
+// A mount that no refusal stopped: its stores, and the state that they leave.
+fn mount_planned(
+    sectors: &mut [u8],
+    written: &mut [u32],
+    durable: &mut [u32],
+    pointers: &mut [u32],
+    g: Geometry,
+    plan: Plan,
+    old: State,
+    count: u32,
+) -> Outcome
+    requires { ⌜ Valid g ⌝ }
+    requires { ⌜ Planned g (tablesOf (now sectors) (now written) (now durable)) plan (now pointers) ⌝ }
+    ensures { λ r. ⌜ (r ≡ mountedOn g (isSet (plan .here)) (lostAmong g (plan .here)) old count (tablesOf (now (sectors .entry)) (now (written .entry)) (now (durable .entry))) .outcome)
+        × (tablesOf (now (sectors .exit)) (now (written .exit)) (now (durable .exit))
+        ≡ mountedOn g (isSet (plan .here)) (lostAmong g (plan .here)) old count (tablesOf (now (sectors .entry)) (now (written .entry)) (now (durable .entry))) .tables) ⌝ }
+{
+    let here = plan.here;
+    let cells = written.len();
+    let mut starts = [0u32; 152];
+    let budget = super::checks::budget_of(count);
+    let rest = restore(
+        sectors,
+        written,
+        durable,
+        pointers,
+        &mut starts[..cells],
+        g,
+        plan,
+        budget,
+    );
+    if rest == 0 {
+        return Outcome {
+            answer: Answer::Unfinished,
+            state: old,
+        };
+    }
+    let state = shown_now(sectors, written, pointers, g, here);
+    Outcome {
+        answer: Answer::Finished,
+        state,
+    }
 }
 
 // The call.
@@ -122,25 +176,31 @@ pub fn mount(
     ensures { λ r. ⌜ (r ≡ mountOn g named old count (tablesOf (now (sectors .entry)) (now (written .entry)) (now (durable .entry))) .outcome)
         × (tablesOf (now (sectors .exit)) (now (written .exit)) (now (durable .exit)) ≡ mountOn g named old count (tablesOf (now (sectors .entry)) (now (written .entry)) (now (durable .entry))) .tables) ⌝ }
 {
-    let number = mount_refusal(sectors, written, durable, g, named);
-    if number != 0 {
-        return Outcome {
-            answer: Answer::Refused(number),
-            state: old,
-        };
+    let shape = super::looking::shape_refusal(sectors.len(), written, durable, g, named);
+    if shape != 0 {
+        return super::checks::refused(shape, old);
     }
-    let here = super::drives_lost::look_present(sectors, written, g, named);
-    let budget = count as u64 + 1;
-    let rest = restore(sectors, written, durable, g, here, budget);
-    if rest == 0 {
-        return Outcome {
-            answer: Answer::Unfinished,
-            state: old,
-        };
+    let cells = written.len();
+    let mut pointers = [0u32; 152];
+    let found = super::looking::survey_drives(sectors, written, &mut pointers[..cells], g, named);
+    let refusal = found.refusal;
+    if refusal != 0 {
+        return super::checks::refused(refusal, old);
     }
-    let state = shown_state(sectors, written, g, here);
-    Outcome {
-        answer: Answer::Finished,
-        state,
+    let plan = super::mount_plan::plan_mount(sectors, written, &pointers[..cells], g, found);
+    let general = plan.general;
+    let parity = plan.parity;
+    if general.full | parity.full {
+        return super::checks::refused(14, old);
     }
+    mount_planned(
+        sectors,
+        written,
+        durable,
+        &mut pointers[..cells],
+        g,
+        plan,
+        old,
+        count,
+    )
 }

@@ -1,6 +1,6 @@
 // Read and peek: the calls that store nothing. Read gives the values of rule 4; before it writes to the caller's buffer it knows that every
 // sector of the run is known. Such a run lies below the pointer of a zone that is not stale, so it needs no log unless a drive is absent and the
-// pointer's own stripe is read. Peek gives the part of the lent sectors where a held sector sits.
+// pointer's own stripe is read: only then does it look where the logs lie. Peek gives the part of the lent sectors where a held sector sits.
 use super::Answer;
 use super::Condition;
 use super::State;
@@ -8,23 +8,20 @@ use super::Zone;
 use super::checks::Sizes;
 use tables::Geometry;
 ghost use mathlib.Core.Path.{_≡_};
-ghost use mathlib.Core.Bool.{false, not};
-ghost use Prim.Native.Nat.{ℕ, _+_, _*_, _≤_, _<_};
+ghost use mathlib.Core.Bool.{false};
+ghost use Prim.Native.Nat.{_+_, _*_, _≤_, _<_};
 ghost use lib.ListN.{length};
-ghost use lib.Dec.{ltb};
 ghost use denote.Ref.{ptr};
-ghost use Rattle.tables.specs.meaning.Basics.{pick};
-ghost use Rattle.tables.specs.meaning.Below.{countBelow, tabulateFrom};
+ghost use Rattle.tables.specs.meaning.Below.{tabulateFrom};
 ghost use Rattle.tables.specs.meaning.Lists.{concat};
 ghost use Rattle.tables.specs.meaning.Geometry.{Valid, cells, totalBytes, zoneSectors};
 ghost use Rattle.tables.specs.meaning.Tables.{tablesOf};
 ghost use Rattle.volume.specs.meaning.Rules.{valueAt, sealLimit};
 ghost use Rattle.volume.specs.meaning.Refusals.{goneIn, zoneOf, offsetOf};
 ghost use Rattle.volume.specs.meaning.State.{pointerIn};
-ghost use Rattle.volume.specs.meaning.CallContracts.{isSet, valuesOn, readOn, peekNumber, peekOn, peekFrom, past};
-ghost use Rattle.volume.specs.checks.ZoneChecks.{Reached, needsLog};
+ghost use Rattle.volume.specs.meaning.CallContracts.{isSet, readOn, peekNumber, peekOn, peekFrom, past};
 ghost use Rattle.volume.specs.looking.Knowing.{Readable, readDevice, ownSector};
-ghost use Rattle.volume.specs.reading.Reading.{lateNumber};
+ghost use Rattle.volume.specs.reading.Reading.{lateNumber, RunReady, RunRead};
 ghost use Rattle.volume.specs.reading.ReadingHeld.{LimitServes};
 ghost use Rattle.volume.specs.reading.Peeking.{placeNumberOn};
 
@@ -50,31 +47,6 @@ pub fn some_gone(
         i += 1;
     }
     gone
-}
-
-// Refusal 15: whether some sector of a run below the pointer is not known.
-fn is_gone(
-    sectors: &[u8],
-    written: &[u32],
-    zone: Zone,
-    pointer: usize,
-    offset: usize,
-    count: usize,
-) -> bool
-    requires { ⌜ Valid (zone .geometry) ⌝ }
-    requires { ⌜ Readable (zone .geometry) (zone .here) (now sectors) (now written) (zone .number) × (offset + count ≤ zoneSectors (zone .geometry)) × Reached (zone .geometry) (zone .here) (now written) (zone .number) pointer × (offset + count ≤ pointer) ⌝ }
-    ensures { λ r. ⌜ r ≡ goneIn (zone .geometry) (isSet (zone .here)) (readDevice (zone .geometry) (now (sectors .entry)) (now (written .entry))) (zone .number) (zone .generation) offset count ⌝ }
-{
-    let g = zone.geometry;
-    let here = zone.here;
-    let logged = super::zone_checks::needs_log(g, here, pointer, offset + count);
-    if !logged {
-        return false;
-    }
-    let z = zone.number;
-    let generation = zone.generation;
-    let limit = super::knowing::seal_limit(sectors, written, g, here, z, generation);
-    some_gone(sectors, written, zone, limit, offset, count)
 }
 
 // Copies a run that is held, sector after sector.
@@ -120,24 +92,70 @@ fn rebuild_run(
     }
 }
 
-// A limit that serves a run that ends at `end`, at or below the pointer: the zone's least current seal where the logs are needed.
-fn limit_of(sectors: &[u8], written: &[u32], zone: Zone, pointer: usize, end: usize) -> usize
+// Reads a run by the logs, where these lie; `pointers` is room for the written pointers by which the tables are the device by its roles.
+fn read_by_roles(
+    sectors: &[u8],
+    written: &[u32],
+    pointers: &mut [u32],
+    zone: Zone,
+    offset: usize,
+    count: usize,
+    out: &mut [u8],
+) -> bool
     requires { ⌜ Valid (zone .geometry) ⌝ }
-    requires { ⌜ Readable (zone .geometry) (zone .here) (now sectors) (now written) (zone .number) ⌝ }
-    ensures { λ r. ⌜ r ≡ pick (needsLog (zone .geometry) (zone .here) pointer end) (sealLimit (zone .geometry) (isSet (zone .here)) (readDevice (zone .geometry) (now (sectors .entry)) (now (written .entry))) (zone .number) (zone .generation)) 0 ⌝ }
+    requires { ⌜ Readable (zone .geometry) (zone .here) (now sectors) (now written) (zone .number) × (zone .geometry .logs ≡ 0) × (length (now pointers) ≡ cells (zone .geometry))
+        × (offset + count ≤ zoneSectors (zone .geometry)) × (length (now out) ≡ count * zone .geometry .sector) ⌝ }
+    ensures { λ r. ⌜ RunRead zone (now (sectors .entry)) (now (written .entry)) offset count (now (out .entry)) r (now (out .exit)) ⌝ }
 {
     let g = zone.geometry;
     let here = zone.here;
-    let logged = super::zone_checks::needs_log(g, here, pointer, end);
-    if !logged {
-        return 0;
-    }
-    let z = zone.number;
+    let number = zone.number;
     let generation = zone.generation;
-    super::knowing::seal_limit(sectors, written, g, here, z, generation)
+    let places = super::roles::see_by_roles(sectors, written, pointers, g);
+    let h = places.geometry;
+    let seen = Zone {
+        geometry: h,
+        here,
+        number,
+        generation,
+    };
+    let limit = super::knowing::seal_limit(sectors, pointers, h, here, number, generation);
+    let gone = some_gone(sectors, pointers, seen, limit, offset, count);
+    if gone {
+        return true;
+    }
+    rebuild_run(sectors, pointers, seen, limit, offset, count, out);
+    false
 }
 
-// The values of a run below the pointer that is known, sector after sector.
+// Reads a run for which the logs are needed.
+fn read_logged(
+    sectors: &[u8],
+    written: &[u32],
+    zone: Zone,
+    offset: usize,
+    count: usize,
+    out: &mut [u8],
+) -> bool
+    requires { ⌜ Valid (zone .geometry) ⌝ }
+    requires { ⌜ Readable (zone .geometry) (zone .here) (now sectors) (now written) (zone .number) × (zone .geometry .logs ≡ 0)
+        × (offset + count ≤ zoneSectors (zone .geometry)) × (length (now out) ≡ count * zone .geometry .sector) ⌝ }
+    ensures { λ r. ⌜ RunRead zone (now (sectors .entry)) (now (written .entry)) offset count (now (out .entry)) r (now (out .exit)) ⌝ }
+{
+    let cells = written.len();
+    let mut pointers = [0u32; 152];
+    read_by_roles(
+        sectors,
+        written,
+        &mut pointers[..cells],
+        zone,
+        offset,
+        count,
+        out,
+    )
+}
+
+// Reads a run below the pointer, sector after sector: the values of rule 4. Gives whether some sector is not known (refusal 15); the buffer stays then.
 fn read_run(
     sectors: &[u8],
     written: &[u32],
@@ -146,11 +164,10 @@ fn read_run(
     offset: usize,
     count: usize,
     out: &mut [u8],
-)
+) -> bool
     requires { ⌜ Valid (zone .geometry) ⌝ }
-    requires { ⌜ Readable (zone .geometry) (zone .here) (now sectors) (now written) (zone .number) × (offset + count ≤ zoneSectors (zone .geometry)) × (length (now out) ≡ count * zone .geometry .sector)
-        × (goneIn (zone .geometry) (isSet (zone .here)) (readDevice (zone .geometry) (now sectors) (now written)) (zone .number) (zone .generation) offset count ≡ false) × Reached (zone .geometry) (zone .here) (now written) (zone .number) pointer × (offset + count ≤ pointer) ⌝ }
-    ensures { λ _. ⌜ now (out .exit) ≡ valuesOn (zone .geometry) (isSet (zone .here)) (readDevice (zone .geometry) (now (sectors .entry)) (now (written .entry))) (zone .number) (zone .generation) offset count ⌝ }
+    requires { ⌜ RunReady zone (now sectors) (now written) pointer offset count (now out) ⌝ }
+    ensures { λ r. ⌜ RunRead zone (now (sectors .entry)) (now (written .entry)) offset count (now (out .entry)) r (now (out .exit)) ⌝ }
 {
     let g = zone.geometry;
     let here = zone.here;
@@ -158,10 +175,14 @@ fn read_run(
     let absent = super::checks::count_absent(g, here);
     if absent == 0 {
         copy_run(sectors, g, z, offset, count, out);
-        return;
+        return false;
     }
-    let limit = limit_of(sectors, written, zone, pointer, offset + count);
-    rebuild_run(sectors, written, zone, limit, offset, count, out);
+    let logged = super::zone_checks::needs_log(g, here, pointer, offset + count);
+    if logged {
+        return read_logged(sectors, written, zone, offset, count, out);
+    }
+    rebuild_run(sectors, written, zone, 0, offset, count, out);
+    false
 }
 
 // The zone of an address.
@@ -182,18 +203,11 @@ pub fn offset_of(g: Geometry, address: u64) -> usize
     (address % size) as usize
 }
 
-// Refusals 7, 9, 13 and 15 of a run in a zone that exists; 0 if none applies.
-fn run_refusal(
-    sectors: &[u8],
-    written: &[u32],
-    zone: Zone,
-    c: Condition,
-    offset: usize,
-    count: usize,
-) -> u8
+// Refusals 7, 9 and 13 of a run in a zone that exists; 0 if none applies.
+fn run_refusal(written: &[u32], zone: Zone, c: Condition, offset: usize, count: usize) -> u8
     requires { ⌜ Valid (zone .geometry) ⌝ }
-    requires { ⌜ Readable (zone .geometry) (zone .here) (now sectors) (now written) (zone .number) × (pointerIn c ≤ zoneSectors (zone .geometry)) × (ltb 1 (countBelow (λ (d : ℕ). not (isSet (zone .here) d)) (zone .geometry .drives)) ≡ false) × (offset ≤ zoneSectors (zone .geometry)) × (count ≤ 4294967295) ⌝ }
-    ensures { λ r. ⌜ r ≡ lateNumber (zone .geometry) (zone .here) (now (sectors .entry)) (now (written .entry)) c (zone .generation) (zone .number) offset count ⌝ }
+    requires { ⌜ (length (now written) ≡ cells (zone .geometry)) × (zone .number < zone .geometry .zones) × (pointerIn c ≤ zoneSectors (zone .geometry)) × (offset ≤ zoneSectors (zone .geometry)) × (count ≤ 4294967295) ⌝ }
+    ensures { λ r. ⌜ r ≡ lateNumber (zone .geometry) (zone .here) (now (written .entry)) c (zone .number) offset count ⌝ }
 {
     let g = zone.geometry;
     let here = zone.here;
@@ -210,10 +224,6 @@ fn run_refusal(
     let pointer = super::checks::pointer_of(c);
     if pointer < end {
         return 13;
-    }
-    let gone = is_gone(sectors, written, zone, pointer, offset, count);
-    if gone {
-        return 15;
     }
     0
 }
@@ -259,12 +269,15 @@ pub fn read(
         generation: record.generation,
     };
     let offset = offset_of(g, address);
-    let late = run_refusal(sectors, written, zone, c, offset, count as usize);
+    let late = run_refusal(written, zone, c, offset, count as usize);
     if late != 0 {
         return Answer::Refused(late);
     }
     let pointer = super::checks::pointer_of(c);
-    read_run(sectors, written, zone, pointer, offset, count as usize, out);
+    let gone = read_run(sectors, written, zone, pointer, offset, count as usize, out);
+    if gone {
+        return Answer::Refused(15);
+    }
     Answer::Finished
 }
 

@@ -3,36 +3,42 @@ use super::Answer;
 use super::Condition;
 use super::Outcome;
 use super::State;
+use super::Zone;
 use super::ZoneRecord;
 use super::checks::Sizes;
+use super::emptyings::Emptyings;
+use super::log_room::RoomAsked;
+use super::roles::LogPlaces;
 use tables::Geometry;
 ghost use mathlib.Core.Path.{_≡_};
-ghost use mathlib.Core.Bool.{true};
-ghost use Prim.Native.Nat.{_≤_, _<_};
+ghost use mathlib.Core.Bool.{false, not};
+ghost use Prim.Native.Nat.{ℕ, _≤_, _<_};
 ghost use lib.ListN.{length, take};
+ghost use mathlib.Core.List.{_++_};
+ghost use lib.Dec.{eqb};
+ghost use Rattle.tables.specs.meaning.Basics.{pick};
+ghost use Rattle.tables.specs.meaning.Drives.{findBelow};
 ghost use Rattle.tables.specs.meaning.Below.{eachBelow};
-ghost use Rattle.tables.specs.meaning.Geometry.{Valid, cells, totalBytes};
+ghost use Rattle.tables.specs.meaning.Geometry.{Valid, zoneSectors, cells, totalBytes};
 ghost use Rattle.tables.specs.meaning.Phases.{onPresent};
 ghost use Rattle.tables.specs.meaning.Tables.{tablesOf};
 ghost use Rattle.tables.specs.laws.Made.{Made, MadeAppends, MadePointers};
 ghost use Rattle.logs.specs.meaning.Entry.{wornGeneration};
-ghost use Rattle.volume.specs.meaning.Refusals.{stateWithin};
-ghost use Rattle.volume.specs.meaning.Calls.{resetStores};
-ghost use Rattle.volume.specs.meaning.CallContracts.{recordAt, viewState, isSet, resetOn, resetRecord, withReset};
-ghost use Rattle.volume.specs.storing.Resetting.{resetNumber, resetRestNumber, resetEntry, zoneResetAt, countersAt, raisedList};
+ghost use Rattle.volume.specs.declared.Answer.the-variants.{Finished, Unfinished};
+ghost use Rattle.volume.specs.meaning.State.{pointerIn};
+ghost use Rattle.volume.specs.meaning.CallContracts.{recordAt, isSet, resetOn, resetRecord, withReset};
+ghost use Rattle.volume.specs.looking.DriveLogs.{Sized};
+ghost use Rattle.volume.specs.checks.LogRoom.{SeenByRoles};
+ghost use Rattle.volume.specs.emptying.Emptyings.{EmptyingReady, emptiedOn, newGeneralOn};
+ghost use Rattle.volume.specs.storing.Resetting.{resetLateNumber, resetWith, resetEntry, zoneResetAt, countersAt, raisedList};
+ghost use Rattle.volume.specs.storing.ResetZone.{generationsIn, ResetReady, resetZoneOn};
 
-// Refusals 7, 8, 12 and 14; 0 if none applies. Where there is no zone, 7 has nothing to say.
-fn zone_refusal(written: &[u32], g: Geometry, here: [bool; 8], state: State, z: usize) -> u8
+// Refusals 7 and 12 of a reset of a zone that there is, by the state's record of it; 0 if none applies.
+fn zone_refusal(written: &[u32], g: Geometry, here: [bool; 8], r: ZoneRecord, z: usize) -> u8
     requires { ⌜ Valid g ⌝ }
-    requires { ⌜ (length (now written) ≡ cells g) × (stateWithin g (viewState state) ≡ true) ⌝ }
-    ensures { λ r. ⌜ r ≡ resetRestNumber g (isSet here) state z (now (written .entry)) ⌝ }
+    requires { ⌜ (length (now written) ≡ cells g) × (z < g .zones) × (pointerIn (r .condition) ≤ zoneSectors g) ⌝ }
+    ensures { λ n. ⌜ n ≡ resetLateNumber g (isSet here) r z (now (written .entry)) ⌝ }
 {
-    let l = g.zones;
-    if l <= z {
-        return 8;
-    }
-    let zones = state.zones;
-    let r = zones[z];
     let condition = r.condition;
     let stale = super::zone_checks::is_stale(written, g, here, condition, z);
     if stale {
@@ -43,38 +49,7 @@ fn zone_refusal(written: &[u32], g: Geometry, here: [bool; 8], state: State, z: 
     if worn {
         return 12;
     }
-    let full = super::zone_checks::unused_below(written, g, here, logs::GENERAL_LOG, l + 4);
-    if full {
-        return 14;
-    }
     0
-}
-
-// Every refusal; 0 if none applies.
-fn reset_refusal(
-    sectors: usize,
-    written: &[u32],
-    durable: &[u32],
-    g: Geometry,
-    named: [bool; 8],
-    state: State,
-    z: usize,
-) -> u8
-    ensures { λ r. ⌜ r ≡ resetNumber g named state z sectors (now (written .entry)) (now (durable .entry)) ⌝ }
-{
-    let within = super::checks::input_within(g, state);
-    let lost = state.lost;
-    let sizes = Sizes {
-        sectors,
-        count: 0,
-        bytes: 0,
-    };
-    let first = super::checks::opening(within, sizes, written, durable, g, named, lost);
-    if first != 0 {
-        return first;
-    }
-    let here = super::checks::present_drives(g, named, lost);
-    zone_refusal(written, g, here, state, z)
 }
 
 // The first phase: a type 3 header on the drives of the first unit and of parity of the zone's stripe 0.
@@ -160,6 +135,21 @@ pub fn log_counters(
     rest
 }
 
+// The state's generations.
+pub fn generations_of(state: State) -> [u64; 16]
+    ensures { λ r. ⌜ r ≡ generationsIn state ⌝ }
+{
+    let zones = state.zones;
+    let mut out = [0u64; 16];
+    let mut i = 0;
+    while i < 16 {
+        let r = zones[i];
+        out[i] = r.generation;
+        i += 1;
+    }
+    out
+}
+
 // The state's generations, that of zone z raised by one.
 fn raised_generations(state: State, z: usize) -> [u64; 16]
     requires { ⌜ (z < 16) × (recordAt state z .generation < wornGeneration) ⌝ }
@@ -179,30 +169,59 @@ fn raised_generations(state: State, z: usize) -> [u64; 16]
     out
 }
 
-// The five phases.
+// The five phases, with the generations that the counters give afterwards.
 fn reset_stores(
     sectors: &mut [u8],
     written: &mut [u32],
     durable: &mut [u32],
-    g: Geometry,
-    here: [bool; 8],
-    state: State,
-    z: usize,
+    zone: Zone,
+    generations: &[u64],
     budget: u64,
 ) -> u64
-    requires { ⌜ Valid g ⌝ }
-    requires { ⌜ (z < g .zones) × (recordAt state z .generation < wornGeneration) × (length (now sectors) ≡ totalBytes g) × (length (now written) ≡ cells g) × (length (now durable) ≡ cells g) ⌝ }
-    ensures { λ r. ⌜ Made g budget r (resetStores g (isSet here) (viewState state) z) (tablesOf (now (sectors .entry)) (now (written .entry)) (now (durable .entry))) (tablesOf (now (sectors .exit)) (now (written .exit)) (now (durable .exit))) ⌝ }
+    requires { ⌜ Valid (zone .geometry) ⌝ }
+    requires { ⌜ (zone .number < zone .geometry .zones) × (zone .geometry .zones ≤ length (now generations)) × (length (now sectors) ≡ totalBytes (zone .geometry)) × (length (now written) ≡ cells (zone .geometry)) × (length (now durable) ≡ cells (zone .geometry)) ⌝ }
+    ensures { λ r. ⌜ Made (zone .geometry) budget r (resetWith (zone .geometry) (isSet (zone .here)) (zone .number) (zone .generation) (take (zone .geometry .zones) (now (generations .entry)))) (tablesOf (now (sectors .entry)) (now (written .entry)) (now (durable .entry))) (tablesOf (now (sectors .exit)) (now (written .exit)) (now (durable .exit))) ⌝ }
 {
-    let zones = state.zones;
-    let r = zones[z];
-    let generation = r.generation;
+    let g = zone.geometry;
+    let here = zone.here;
+    let z = zone.number;
+    let generation = zone.generation;
     let logged = log_resets(sectors, written, g, here, z, generation, budget);
     let flushed = super::flushing::flush_all(written, durable, g, here, logged);
     let cleared = reset_zones(written, durable, g, here, z, flushed);
-    let generations = raised_generations(state, z);
-    let counted = log_counters(sectors, written, g, here, &generations, cleared);
+    let counted = log_counters(sectors, written, g, here, generations, cleared);
     super::flushing::flush_all(written, durable, g, here, counted)
+}
+
+// The emptyings, and then the phases where the logs lie from then on.
+fn reset_from(
+    sectors: &mut [u8],
+    written: &mut [u32],
+    durable: &mut [u32],
+    pointers: &[u32],
+    all: Emptyings,
+    zone: Zone,
+    state: State,
+    budget: u64,
+) -> u64
+    requires { ⌜ Valid (all .from) × Valid (zone .geometry) ⌝ }
+    requires { ⌜ EmptyingReady false all (now pointers) (now sectors) (now written) (now durable) × (zone .geometry ≡ all .to) × (zone .number < all .from .zones) × (recordAt state (zone .number) .generation < wornGeneration) ⌝ }
+    ensures { λ r. ⌜ Made (all .to) budget r (eachBelow (λ d. emptiedOn all false (newGeneralOn all (generationsIn state) (now (sectors .entry)) (now (pointers .entry)) d) d) (all .from .drives) ++ resetWith (zone .geometry) (isSet (zone .here)) (zone .number) (zone .generation) (take (zone .geometry .zones) (raisedList state (zone .number))))
+        (tablesOf (now (sectors .entry)) (now (written .entry)) (now (durable .entry))) (tablesOf (now (sectors .exit)) (now (written .exit)) (now (durable .exit))) ⌝ }
+{
+    let z = zone.number;
+    let current = generations_of(state);
+    let raised = raised_generations(state, z);
+    let rest = super::emptyings::empty_generals(
+        sectors,
+        written,
+        durable,
+        pointers,
+        all,
+        &current,
+        budget,
+    );
+    reset_stores(sectors, written, durable, zone, &raised, rest)
 }
 
 // A zone's record after its reset.
@@ -223,15 +242,107 @@ fn reset_record(r: ZoneRecord) -> ZoneRecord
     }
 }
 
-// The state that a finished reset hands on.
-fn reset_state(state: State, z: usize, lost: usize) -> State
-    requires { ⌜ (z < 16) × (recordAt state z .generation < wornGeneration) ⌝ }
-    ensures { λ r. ⌜ r ≡ withReset state z lost ⌝ }
+// How it ends with `rest` left of the budget. If it finished, the zone's record is that of a zone reset, and a drive that was left out is lost.
+fn outcome(zone: Zone, state: State, rest: u64) -> Outcome
+    requires { ⌜ Valid (zone .geometry) ⌝ }
+    requires { ⌜ (zone .number < zone .geometry .zones) × (recordAt state (zone .number) .generation < wornGeneration) ⌝ }
+    ensures { λ r. ⌜ r ≡ pick (eqb rest 0) (record { answer = Unfinished; state = state })
+        (record { answer = Finished; state = withReset state (zone .number) (findBelow (λ (d : ℕ). not (isSet (zone .here) d)) (zone .geometry .drives)) }) ⌝ }
 {
+    if rest == 0 {
+        return Outcome {
+            answer: Answer::Unfinished,
+            state,
+        };
+    }
+    let g = zone.geometry;
+    let here = zone.here;
+    let z = zone.number;
+    let lost = super::checks::left_out(g, here);
     let mut zones = state.zones;
-    let r = zones[z];
-    zones[z] = reset_record(r);
-    State { lost, zones }
+    let record = zones[z];
+    zones[z] = reset_record(record);
+    Outcome {
+        answer: Answer::Finished,
+        state: State { lost, zones },
+    }
+}
+
+// A reset of a zone that passed refusals 7 and 12, with the logs where they lie: refusal 14, and the stores.
+fn reset_seen(
+    sectors: &mut [u8],
+    written: &mut [u32],
+    durable: &mut [u32],
+    pointers: &[u32],
+    zone: Zone,
+    places: LogPlaces,
+    state: State,
+    count: u32,
+) -> Outcome
+    requires { ⌜ Valid (zone .geometry) ⌝ }
+    requires { ⌜ SeenByRoles (zone .geometry) places (now sectors) (now written) (now pointers) × ResetReady zone state (now durable) ⌝ }
+    ensures { λ r. ⌜ (r ≡ resetZoneOn zone state count (tablesOf (now (sectors .entry)) (now (written .entry)) (now (durable .entry))) .outcome)
+        × (tablesOf (now (sectors .exit)) (now (written .exit)) (now (durable .exit)) ≡ resetZoneOn zone state count (tablesOf (now (sectors .entry)) (now (written .entry)) (now (durable .entry))) .tables) ⌝ }
+{
+    let g = zone.geometry;
+    let here = zone.here;
+    let zones = g.zones;
+    let asked = RoomAsked {
+        first: g,
+        places,
+        here,
+        due: here,
+        parity: false,
+        limit: zones + 4,
+        clears_spares: false,
+    };
+    let current = generations_of(state);
+    let room = super::log_room::general_room(sectors, written, pointers, asked, &current);
+    let full = room.full;
+    if full {
+        return super::checks::refused(14, state);
+    }
+    let all = super::log_room::emptyings_of(asked, room);
+    let to = all.to;
+    let own = Zone {
+        geometry: to,
+        here,
+        number: zone.number,
+        generation: zone.generation,
+    };
+    let budget = super::checks::budget_of(count);
+    let rest = reset_from(sectors, written, durable, pointers, all, own, state, budget);
+    outcome(zone, state, rest)
+}
+
+// The same, where the logs are still to be found.
+fn reset_zone(
+    sectors: &mut [u8],
+    written: &mut [u32],
+    durable: &mut [u32],
+    zone: Zone,
+    state: State,
+    count: u32,
+) -> Outcome
+    requires { ⌜ Valid (zone .geometry) ⌝ }
+    requires { ⌜ Sized (zone .geometry) (now sectors) (now written) × (zone .geometry .logs ≡ 0) × ResetReady zone state (now durable) ⌝ }
+    ensures { λ r. ⌜ (r ≡ resetZoneOn zone state count (tablesOf (now (sectors .entry)) (now (written .entry)) (now (durable .entry))) .outcome)
+        × (tablesOf (now (sectors .exit)) (now (written .exit)) (now (durable .exit)) ≡ resetZoneOn zone state count (tablesOf (now (sectors .entry)) (now (written .entry)) (now (durable .entry))) .tables) ⌝ }
+{
+    let g = zone.geometry;
+    let cells = written.len();
+    let mut pointers = [0u32; 152];
+    let places = super::roles::see_by_roles(sectors, written, &mut pointers[..cells], g);
+    reset_seen(
+        sectors,
+        written,
+        durable,
+        &pointers[..cells],
+        zone,
+        places,
+        state,
+        count,
+    )
 }
 
 // The call.
@@ -248,27 +359,32 @@ pub fn reset(
     ensures { λ r. ⌜ (r ≡ resetOn g named state zone count (tablesOf (now (sectors .entry)) (now (written .entry)) (now (durable .entry))) .outcome)
         × (tablesOf (now (sectors .exit)) (now (written .exit)) (now (durable .exit)) ≡ resetOn g named state zone count (tablesOf (now (sectors .entry)) (now (written .entry)) (now (durable .entry))) .tables) ⌝ }
 {
-    let refusal = reset_refusal(sectors.len(), written, durable, g, named, state, zone);
-    if refusal != 0 {
-        return Outcome {
-            answer: Answer::Refused(refusal),
-            state,
-        };
-    }
+    let within = super::checks::input_within(g, state);
     let lost = state.lost;
+    let sizes = Sizes {
+        sectors: sectors.len(),
+        count: 0,
+        bytes: 0,
+    };
+    let first = super::checks::opening(within, sizes, written, durable, g, named, lost);
+    if first != 0 {
+        return super::checks::refused(first, state);
+    }
+    let zones = g.zones;
+    if zones <= zone {
+        return super::checks::refused(8, state);
+    }
+    let record = state.zones[zone];
     let here = super::checks::present_drives(g, named, lost);
-    let budget = count as u64 + 1;
-    let rest = reset_stores(sectors, written, durable, g, here, state, zone, budget);
-    if rest == 0 {
-        return Outcome {
-            answer: Answer::Unfinished,
-            state,
-        };
+    let late = zone_refusal(written, g, here, record, zone);
+    if late != 0 {
+        return super::checks::refused(late, state);
     }
-    let x = super::checks::left_out(g, here);
-    let next = reset_state(state, zone, x);
-    Outcome {
-        answer: Answer::Finished,
-        state: next,
-    }
+    let own = Zone {
+        geometry: g,
+        here,
+        number: zone,
+        generation: record.generation,
+    };
+    reset_zone(sectors, written, durable, own, state, count)
 }

@@ -21,9 +21,11 @@ ghost use Rattle.volume.specs.rows.RowStores.{rowsIf};
 ghost use Rattle.volume.specs.rows.RowsInPlace.{withMember, contentOf, FreePlace, MemberKnown, StripeKnown, RowsReady};
 
 // The content of a zone below `end`. Up to `below` it is what is known under a generation, by rule 4; from there on the sectors of a buffer. limit is the
-// zone's least current seal, or any number where every sector that is read is held.
+// zone's least current seal, or any number where every sector that is read is held. Logs are read where `geometry` says they lie, and what is stored
+// goes where `to` does: the same but for logs that were emptied since.
 pub struct Extent {
     pub geometry: Geometry,
+    pub to: Geometry,
     pub here: [bool; 8],
     pub zone: usize,
     pub generation: u64,
@@ -174,10 +176,10 @@ pub fn append_row(
 ) -> u64
     requires { ⌜ Valid (known .geometry) ⌝ }
     requires { ⌜ RowsReady known target (now sectors) (now written) (now pointers) (now buffer) s × (s * stripeSectors (known .geometry) + r < known .end) ⌝ }
-    ensures { λ rest. ⌜ MadeAppends (known .geometry) budget rest (storeIf (target .present) (append (target .drive) (target .zone) (rowXorBelow (known .geometry .drives) (known .geometry .unit) (contentOf known (readDevice (known .geometry) (now (sectors .entry)) (now (pointers .entry))) (now (buffer .entry))) s (known .end) r)))
+    ensures { λ rest. ⌜ MadeAppends (known .to) budget rest (storeIf (target .present) (append (target .drive) (target .zone) (rowXorBelow (known .geometry .drives) (known .geometry .unit) (contentOf known (readDevice (known .geometry) (now (sectors .entry)) (now (pointers .entry))) (now (buffer .entry))) s (known .end) r)))
         (now (sectors .entry)) (now (written .entry)) (now (sectors .exit)) (now (written .exit)) ⌝ }
 {
-    let g = known.geometry;
+    let g = known.to;
     let drive = target.drive;
     let zone = target.zone;
     let present = target.present;
@@ -206,7 +208,7 @@ pub fn append_rows(
 ) -> u64
     requires { ⌜ Valid (known .geometry) ⌝ }
     requires { ⌜ RowsReady known target (now sectors) (now written) (now pointers) (now buffer) s × (from ≤ m) × (m ≤ known .geometry .unit) × (s * stripeSectors (known .geometry) + m ≤ known .end) ⌝ }
-    ensures { λ rest. ⌜ MadeAppends (known .geometry) budget rest (rowsIf (target .present) (target .drive) (target .zone) (rowXorBelow (known .geometry .drives) (known .geometry .unit) (contentOf known (readDevice (known .geometry) (now (sectors .entry)) (now (pointers .entry))) (now (buffer .entry))) s (known .end)) from m)
+    ensures { λ rest. ⌜ MadeAppends (known .to) budget rest (rowsIf (target .present) (target .drive) (target .zone) (rowXorBelow (known .geometry .drives) (known .geometry .unit) (contentOf known (readDevice (known .geometry) (now (sectors .entry)) (now (pointers .entry))) (now (buffer .entry))) s (known .end)) from m)
         (now (sectors .entry)) (now (written .entry)) (now (sectors .exit)) (now (written .exit)) ⌝ }
 {
     let mut rest = budget;

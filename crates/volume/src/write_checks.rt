@@ -1,16 +1,16 @@
-// Refusals 7 to 15 of a write. No store is made before the last of them has passed.
+// Refusals 7 to 12 of a write, and of 15 what its first stripe needs. No store is made before the last of them has passed.
 use super::Condition;
 use super::Zone;
 use tables::Geometry;
 ghost use mathlib.Core.Path.{_≡_};
-ghost use Prim.Native.Nat.{_+_, _≤_, _<_};
+ghost use Prim.Native.Nat.{_≤_, _<_};
 ghost use lib.ListN.{length};
 ghost use Rattle.tables.specs.meaning.Geometry.{Valid, zoneSectors, cells};
 ghost use Rattle.volume.specs.meaning.State.{pointerIn, isSealed};
 ghost use Rattle.volume.specs.meaning.Refusals.{goneBefore};
 ghost use Rattle.volume.specs.meaning.CallContracts.{isSet};
 ghost use Rattle.volume.specs.looking.Knowing.{Readable, readDevice};
-ghost use Rattle.volume.specs.writing.WriteChecks.{fullOn, runNumber, zoneNumber};
+ghost use Rattle.volume.specs.writing.WriteChecks.{runNumber, zoneNumber};
 
 // Whether a zone's condition is sealed.
 fn is_sealed(c: Condition) -> bool
@@ -49,35 +49,8 @@ fn run_refusal(g: Geometry, c: Condition, offset: usize, count: usize) -> u8
     0
 }
 
-// Refusal 14: whether the write ends inside a stripe and that stripe's parity drive, if it is here, has too little of its log unused.
-fn log_full(written: &[u32], g: Geometry, here: [bool; 8], z: usize, end: usize) -> bool
-    requires { ⌜ Valid g ⌝ }
-    requires { ⌜ (z < g .zones) × (end ≤ zoneSectors g) × (length (now written) ≡ cells g) ⌝ }
-    ensures { λ r. ⌜ r ≡ fullOn g (isSet here) (now (written .entry)) z end ⌝ }
-{
-    let k = tables::bounds::stripe_sectors(g);
-    let s = end / k;
-    let start = s * k;
-    if end <= start {
-        return false;
-    }
-    let d = g.drives;
-    let p = tables::placement::parity_drive(d, z, s);
-    let present = here[p];
-    if !present {
-        return false;
-    }
-    let w = super::zone_checks::written_at(written, g, p, logs::PARITY_LOG);
-    let c = g.capacity;
-    let unused = tables::placement::saturating_sub(c, w);
-    let u = g.unit;
-    let m = tables::placement::min(end - start, u);
-    let l = g.zones;
-    unused < m + 1 + (l * (1 + u) + u)
-}
-
 // Refusal 15: whether the stripe's parity drive is here and one of the stripe's earlier sectors is not known.
-fn gone_before(sectors: &[u8], written: &[u32], zone: Zone, n: usize) -> bool
+pub fn gone_before(sectors: &[u8], written: &[u32], zone: Zone, n: usize) -> bool
     requires { ⌜ Valid (zone .geometry) ⌝ }
     requires { ⌜ Readable (zone .geometry) (zone .here) (now sectors) (now written) (zone .number) × (n ≤ zoneSectors (zone .geometry)) ⌝ }
     ensures { λ r. ⌜ r ≡ goneBefore (zone .geometry) (isSet (zone .here)) (readDevice (zone .geometry) (now (sectors .entry)) (now (written .entry))) (zone .number) (zone .generation) n ⌝ }
@@ -103,19 +76,12 @@ fn gone_before(sectors: &[u8], written: &[u32], zone: Zone, n: usize) -> bool
     super::reading::some_gone(sectors, written, zone, limit, start, n - start)
 }
 
-// Refusals 7 and 9 to 15 of a write to a zone that there is; 0 if none applies.
-pub fn zone_refusal(
-    sectors: &[u8],
-    written: &[u32],
-    zone: Zone,
-    c: Condition,
-    offset: usize,
-    count: usize,
-) -> u8
+// Refusals 7 and 9 to 12 of a write to a zone that there is; 0 if none applies.
+pub fn zone_refusal(written: &[u32], zone: Zone, c: Condition, offset: usize, count: usize) -> u8
     requires { ⌜ Valid (zone .geometry) ⌝ }
-    requires { ⌜ Readable (zone .geometry) (zone .here) (now sectors) (now written) (zone .number) × (pointerIn c ≤ zoneSectors (zone .geometry)) ⌝ }
+    requires { ⌜ (zone .number < zone .geometry .zones) × (length (now written) ≡ cells (zone .geometry)) × (pointerIn c ≤ zoneSectors (zone .geometry)) ⌝ }
     requires { ⌜ (offset < zoneSectors (zone .geometry)) × (count < 4294967296) ⌝ }
-    ensures { λ r. ⌜ r ≡ zoneNumber (zone .geometry) (isSet (zone .here)) (now (sectors .entry)) (now (written .entry)) c (zone .generation) (zone .number) offset count ⌝ }
+    ensures { λ r. ⌜ r ≡ zoneNumber (zone .geometry) (isSet (zone .here)) (now (written .entry)) c (zone .number) offset count ⌝ }
 {
     let g = zone.geometry;
     let here = zone.here;
@@ -124,17 +90,5 @@ pub fn zone_refusal(
     if stale {
         return 7;
     }
-    let number = run_refusal(g, c, offset, count);
-    if number != 0 {
-        return number;
-    }
-    let full = log_full(written, g, here, z, offset + count);
-    if full {
-        return 14;
-    }
-    let gone = gone_before(sectors, written, zone, offset);
-    if gone {
-        return 15;
-    }
-    0
+    run_refusal(g, c, offset, count)
 }

@@ -1,6 +1,7 @@
 // The stores of a write: sector by sector in the order of their addresses, the parity of each stripe that becomes complete, and one partial parity
 // entry if it ends inside a stripe. Stores to a drive that is not here are skipped. Rows are built where they will lie: from the write's buffer, and
-// where the write begins inside a stripe from that stripe's earlier sectors, read below a copy of the written pointers of its start.
+// where the write begins inside a stripe from that stripe's earlier sectors, read below a copy of the written pointers of its start. The logs may lie
+// elsewhere for what is stored than for what is read: a log that was emptied between the two.
 use super::Zone;
 use super::rows::Extent;
 use super::rows::Target;
@@ -24,7 +25,7 @@ ghost use Rattle.volume.specs.meaning.Answers.{sectorsIn};
 ghost use Rattle.volume.specs.meaning.CallContracts.{isSet};
 ghost use Rattle.volume.specs.looking.Knowing.{Readable, readDevice, allHeld};
 ghost use Rattle.volume.specs.rows.RowsInPlace.{contentOf};
-ghost use Rattle.volume.specs.writing.WriteStores.{WriteReady, Writing, runContent};
+ghost use Rattle.volume.specs.writing.WriteStores.{WriteReady, StoresPast, Writing, runContent};
 
 // One address: its sector, and the stripe's parity if it is the last of its stripe. What is left of the budget of stores.
 fn write_sector(
@@ -38,9 +39,10 @@ fn write_sector(
 ) -> u64
     requires { ⌜ Valid (known .geometry) ⌝ }
     requires { ⌜ Writing known (now sectors) (now written) (now pointers) (now buffer) × (known .below ≤ a) × (a < known .end) ⌝ }
-    ensures { λ r. ⌜ MadeAppends (known .geometry) budget r (onPresent (isSet (known .here)) (sectorStores (known .geometry .drives) (known .geometry .unit) (known .zone) (contentOf known (readDevice (known .geometry) (now (sectors .entry)) (now (pointers .entry))) (now (buffer .entry))) a))
+    ensures { λ r. ⌜ MadeAppends (known .to) budget r (onPresent (isSet (known .here)) (sectorStores (known .geometry .drives) (known .geometry .unit) (known .zone) (contentOf known (readDevice (known .geometry) (now (sectors .entry)) (now (pointers .entry))) (now (buffer .entry))) a))
         (now (sectors .entry)) (now (written .entry)) (now (sectors .exit)) (now (written .exit)) ⌝ }
 {
+    let to = known.to;
     let g = known.geometry;
     let here = known.here;
     let z = known.zone;
@@ -51,7 +53,7 @@ fn write_sector(
     let at = (a - below) * b;
     let end = at + b;
     let due = here[d];
-    let rest = stores::append_counted(sectors, written, g, due, d, zone, &buffer[at..end], budget);
+    let rest = stores::append_counted(sectors, written, to, due, d, zone, &buffer[at..end], budget);
     let k = tables::bounds::stripe_sectors(g);
     if a % k + 1 < k {
         return rest;
@@ -89,7 +91,7 @@ fn write_run(
 ) -> u64
     requires { ⌜ Valid (known .geometry) ⌝ }
     requires { ⌜ Writing known (now sectors) (now written) (now pointers) (now buffer) ⌝ }
-    ensures { λ r. ⌜ MadeAppends (known .geometry) budget r (onPresent (isSet (known .here)) (dataStores (known .geometry .drives) (known .geometry .unit) (known .zone) (contentOf known (readDevice (known .geometry) (now (sectors .entry)) (now (pointers .entry))) (now (buffer .entry))) (known .below) (known .end - known .below)))
+    ensures { λ r. ⌜ MadeAppends (known .to) budget r (onPresent (isSet (known .here)) (dataStores (known .geometry .drives) (known .geometry .unit) (known .zone) (contentOf known (readDevice (known .geometry) (now (sectors .entry)) (now (pointers .entry))) (now (buffer .entry))) (known .below) (known .end - known .below)))
         (now (sectors .entry)) (now (written .entry)) (now (sectors .exit)) (now (written .exit)) ⌝ }
 {
     let end = known.end;
@@ -142,9 +144,10 @@ fn write_entry(
 ) -> u64
     requires { ⌜ Valid (known .geometry) ⌝ }
     requires { ⌜ Writing known (now sectors) (now written) (now pointers) (now buffer) ⌝ }
-    ensures { λ r. ⌜ MadeAppends (known .geometry) budget r (onPresent (isSet (known .here)) (pick (insideStripe (known .geometry) (known .end)) (entryStores (known .geometry) (known .zone) (known .generation) (contentOf known (readDevice (known .geometry) (now (sectors .entry)) (now (pointers .entry))) (now (buffer .entry))) (known .end)) []))
+    ensures { λ r. ⌜ MadeAppends (known .to) budget r (onPresent (isSet (known .here)) (pick (insideStripe (known .geometry) (known .end)) (entryStores (known .geometry) (known .zone) (known .generation) (contentOf known (readDevice (known .geometry) (now (sectors .entry)) (now (pointers .entry))) (now (buffer .entry))) (known .end)) []))
         (now (sectors .entry)) (now (written .entry)) (now (sectors .exit)) (now (written .exit)) ⌝ }
 {
+    let to = known.to;
     let g = known.geometry;
     let here = known.here;
     let z = known.zone;
@@ -161,7 +164,7 @@ fn write_entry(
     let u = g.unit;
     let p = tables::placement::parity_drive(n, z, s);
     let due = here[p];
-    let rest = append_partial(sectors, written, g, due, p, z, s, fill, generation, budget);
+    let rest = append_partial(sectors, written, to, due, p, z, s, fill, generation, budget);
     let m = tables::placement::min(fill, u);
     let target = Target {
         drive: p,
@@ -193,7 +196,7 @@ fn write_extent(
 ) -> u64
     requires { ⌜ Valid (known .geometry) ⌝ }
     requires { ⌜ Writing known (now sectors) (now written) (now pointers) (now buffer) ⌝ }
-    ensures { λ r. ⌜ MadeAppends (known .geometry) budget r (onPresent (isSet (known .here)) (writeWith (known .geometry) (known .zone) (known .generation) (contentOf known (readDevice (known .geometry) (now (sectors .entry)) (now (pointers .entry))) (now (buffer .entry))) (known .below) (known .end - known .below)))
+    ensures { λ r. ⌜ MadeAppends (known .to) budget r (onPresent (isSet (known .here)) (writeWith (known .geometry) (known .zone) (known .generation) (contentOf known (readDevice (known .geometry) (now (sectors .entry)) (now (pointers .entry))) (now (buffer .entry))) (known .below) (known .end - known .below)))
         (now (sectors .entry)) (now (written .entry)) (now (sectors .exit)) (now (written .exit)) ⌝ }
 {
     let rest = write_run(sectors, written, pointers, buffer, known, budget);
@@ -202,52 +205,54 @@ fn write_extent(
 
 // The least current seal of a zone, where an earlier sector of pointer n's stripe is not held. Where all are held no log is walked: a write's time does
 // not grow with what the logs hold.
-fn earlier_limit(sectors: &[u8], written: &[u32], zone: Zone, n: usize) -> usize
+fn earlier_limit(sectors: &[u8], pointers: &[u32], zone: Zone, n: usize) -> usize
     requires { ⌜ Valid (zone .geometry) ⌝ }
-    requires { ⌜ Readable (zone .geometry) (zone .here) (now sectors) (now written) (zone .number) × (n ≤ zoneSectors (zone .geometry)) ⌝ }
-    ensures { λ r. ⌜ r ≡ pick (allHeld (zone .geometry) (zone .here) (now (written .entry)) (zone .number) (stripeOf (zone .geometry .drives) (zone .geometry .unit) n * stripeSectors (zone .geometry)) (fillOf (zone .geometry) n)) 0
-        (sealLimit (zone .geometry) (isSet (zone .here)) (readDevice (zone .geometry) (now (sectors .entry)) (now (written .entry))) (zone .number) (zone .generation)) ⌝ }
+    requires { ⌜ Readable (zone .geometry) (zone .here) (now sectors) (now pointers) (zone .number) × (n ≤ zoneSectors (zone .geometry)) ⌝ }
+    ensures { λ r. ⌜ r ≡ pick (allHeld (zone .geometry) (zone .here) (now (pointers .entry)) (zone .number) (stripeOf (zone .geometry .drives) (zone .geometry .unit) n * stripeSectors (zone .geometry)) (fillOf (zone .geometry) n)) 0
+        (sealLimit (zone .geometry) (isSet (zone .here)) (readDevice (zone .geometry) (now (sectors .entry)) (now (pointers .entry))) (zone .number) (zone .generation)) ⌝ }
 {
     let g = zone.geometry;
     let here = zone.here;
     let z = zone.number;
     let k = tables::bounds::stripe_sectors(g);
     let start = n / k * k;
-    let held = super::knowing::all_held(written, g, here, z, start, n - start);
+    let held = super::knowing::all_held(pointers, g, here, z, start, n - start);
     if held {
         return 0;
     }
     let generation = zone.generation;
-    super::knowing::seal_limit(sectors, written, g, here, z, generation)
+    super::knowing::seal_limit(sectors, pointers, g, here, z, generation)
 }
 
-// The stores of a write of `count` sectors from pointer n of a zone, as far as the budget of stores goes: what is left of it.
+// The stores of a write of `count` sectors from pointer n of a zone, as far as the budget of stores goes: what is left of it. `pointers` is a copy of
+// the written pointers of its start, below which it reads; what it stores goes by `to`.
 pub fn write_all(
     sectors: &mut [u8],
     written: &mut [u32],
+    pointers: &[u32],
     zone: Zone,
+    to: Geometry,
     n: usize,
     count: usize,
     buffer: &[u8],
     budget: u64,
 ) -> u64
     requires { ⌜ Valid (zone .geometry) ⌝ }
-    requires { ⌜ WriteReady (zone .geometry) (zone .here) (now sectors) (now written) (zone .number) (zone .generation) n count (now buffer) ⌝ }
-    ensures { λ r. ⌜ MadeAppends (zone .geometry) budget r (onPresent (isSet (zone .here)) (writeWith (zone .geometry) (zone .number) (zone .generation) (runContent (zone .geometry) (isSet (zone .here)) (readDevice (zone .geometry) (now (sectors .entry)) (now (written .entry))) (zone .number) (zone .generation) n (sectorsIn (zone .geometry) count (now (buffer .entry)))) n count)) (now (sectors .entry)) (now (written .entry)) (now (sectors .exit)) (now (written .exit)) ⌝ }
+    requires { ⌜ WriteReady (zone .geometry) (zone .here) (now sectors) (now pointers) (zone .number) (zone .generation) n count (now buffer) × StoresPast (zone .geometry) to (now pointers) (now written) ⌝ }
+    ensures { λ r. ⌜ MadeAppends to budget r (onPresent (isSet (zone .here)) (writeWith (zone .geometry) (zone .number) (zone .generation) (runContent (zone .geometry) (isSet (zone .here)) (readDevice (zone .geometry) (now (sectors .entry)) (now (pointers .entry))) (zone .number) (zone .generation) n (sectorsIn (zone .geometry) count (now (buffer .entry)))) n count))
+        (now (sectors .entry)) (now (written .entry)) (now (sectors .exit)) (now (written .exit)) ⌝ }
 {
-    let limit = earlier_limit(sectors, written, zone, n);
+    let limit = earlier_limit(sectors, pointers, zone, n);
     let g = zone.geometry;
     let here = zone.here;
-    let cells = written.len();
-    let mut pointers = [0u32; 152];
-    tables::sectors::copy_pointers(&mut pointers[..cells], 0, written);
     write_extent(
         sectors,
         written,
-        &pointers[..cells],
+        pointers,
         buffer,
         Extent {
             geometry: g,
+            to,
             here,
             zone: zone.number,
             generation: zone.generation,

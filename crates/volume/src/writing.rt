@@ -7,17 +7,40 @@ use super::State;
 use super::Zone;
 use super::ZoneRecord;
 use super::checks::Sizes;
+use super::emptyings::Emptyings;
+use super::roles::LogPlaces;
 use tables::Geometry;
 ghost use mathlib.Core.Path.{_≡_};
-ghost use mathlib.Core.Bool.{not};
-ghost use Prim.Native.Nat.{ℕ, _<_};
+ghost use mathlib.Core.Bool.{true, _&&_, _||_, not};
+ghost use mathlib.Core.List.{_++_};
+ghost use Prim.Native.Nat.{ℕ, _≤_, _<_};
 ghost use lib.Dec.{eqb};
 ghost use Rattle.tables.specs.meaning.Basics.{pick};
 ghost use Rattle.tables.specs.meaning.Drives.{findBelow};
-ghost use Rattle.tables.specs.meaning.Geometry.{Valid};
+ghost use Rattle.tables.specs.meaning.Geometry.{Valid, zoneSectors};
 ghost use Rattle.tables.specs.meaning.Tables.{tablesOf};
 ghost use Rattle.volume.specs.declared.Answer.the-variants.{Finished, Unfinished};
+ghost use Rattle.tables.specs.laws.Made.{Made};
+ghost use Rattle.volume.specs.meaning.Refusals.{goneBefore};
+ghost use Rattle.volume.specs.meaning.Emptying.{goneForCopies};
 ghost use Rattle.volume.specs.meaning.CallContracts.{recordAt, isSet, writtenState, writeOn};
+ghost use Rattle.volume.specs.looking.DriveLogs.{Sized};
+ghost use Rattle.volume.specs.looking.Knowing.{readDevice};
+ghost use Rattle.volume.specs.checks.LogRoom.{SeenByRoles};
+ghost use Rattle.volume.specs.emptying.CopiesKnown.{inForceOf, CopiesReady};
+ghost use Rattle.volume.specs.emptying.Emptyings.{EmptyingReady, emptiedOn};
+ghost use Rattle.volume.specs.emptying.ParityEmptyings.{ParityKnown, newParityOn};
+ghost use Rattle.volume.specs.storing.ResetZone.{generationsIn};
+ghost use Rattle.volume.specs.writing.WriteRoom.{pointsIn};
+ghost use Rattle.volume.specs.writing.WriteStores.{WriteReady};
+ghost use Rattle.volume.specs.writing.WriteRun.{atPlaces, runStoresOf, RunReady, writeZoneOn};
+
+// What is written: so many sectors of a zone from its pointer on.
+pub struct Run {
+    pub zone: Zone,
+    pub pointer: usize,
+    pub count: usize,
+}
 
 // How it ends with `rest` left of the budget. If it finished, the zone is open at pointer n, and a drive that was left out is lost.
 fn outcome(zone: Zone, state: State, n: usize, rest: u64) -> Outcome
@@ -48,11 +71,205 @@ fn outcome(zone: Zone, state: State, n: usize, rest: u64) -> Outcome
     }
 }
 
+// Refusal 15: whether a sector that the write needs is not known, of its first stripe or, if a drive's parity log is emptied, of the entries made there.
+fn write_gone(
+    sectors: &[u8],
+    pointers: &[u32],
+    run: Run,
+    emptied: bool,
+    drive: usize,
+    generations: &[u64],
+    points: &[usize],
+) -> bool
+    requires { ⌜ Valid (run .zone .geometry) ⌝ }
+    requires { ⌜ CopiesReady (run .zone .geometry) (run .zone .here) (now sectors) (now pointers) (now generations) (now points) × (drive < run .zone .geometry .drives) × (run .zone .number < run .zone .geometry .zones) × (run .pointer ≤ zoneSectors (run .zone .geometry)) ⌝ }
+    ensures { λ r. ⌜ r ≡ (emptied && goneForCopies (run .zone .geometry) (isSet (run .zone .here)) (inForceOf (run .zone .geometry) (isSet (run .zone .here)) (readDevice (run .zone .geometry) (now (sectors .entry)) (now (pointers .entry))) (now (generations .entry)) (now (points .entry))) (readDevice (run .zone .geometry) (now (sectors .entry)) (now (pointers .entry))) drive)
+        || goneBefore (run .zone .geometry) (isSet (run .zone .here)) (readDevice (run .zone .geometry) (now (sectors .entry)) (now (pointers .entry))) (run .zone .number) (run .zone .generation) (run .pointer) ⌝ }
+{
+    let zone = run.zone;
+    let g = zone.geometry;
+    let here = zone.here;
+    let n = run.pointer;
+    let before = super::write_checks::gone_before(sectors, pointers, zone, n);
+    if !emptied {
+        return before;
+    }
+    let copies = super::copies_known::copies_gone(
+        sectors,
+        pointers,
+        g,
+        here,
+        drive,
+        generations,
+        points,
+    );
+    copies | before
+}
+
+// The emptying, if the log of the drive that gets the entry lacks room, and then the write's own stores, where the logs lie from then on. What is read is read
+// where they lay at its start, below the written pointers of then.
+fn write_from(
+    sectors: &mut [u8],
+    written: &mut [u32],
+    durable: &mut [u32],
+    pointers: &[u32],
+    run: Run,
+    all: Emptyings,
+    drive: usize,
+    state: State,
+    buffer: &[u8],
+    budget: u64,
+) -> u64
+    requires { ⌜ Valid (all .from) ⌝ }
+    requires { ⌜ EmptyingReady true all (now pointers) (now sectors) (now written) (now durable) × ParityKnown all (generationsIn state) (pointsIn state) (now pointers) (now sectors) (now written) drive
+        × (run .zone .geometry ≡ all .from) × WriteReady (all .from) (run .zone .here) (now sectors) (now pointers) (run .zone .number) (run .zone .generation) (run .pointer) (run .count) (now buffer) ⌝ }
+    ensures { λ r. ⌜ Made (all .to) budget r (emptiedOn all true (newParityOn all (generationsIn state) (pointsIn state) (now (sectors .entry)) (now (pointers .entry)) drive) drive
+        ++ runStoresOf run (now (sectors .entry)) (now (pointers .entry)) (now (buffer .entry)))
+        (tablesOf (now (sectors .entry)) (now (written .entry)) (now (durable .entry))) (tablesOf (now (sectors .exit)) (now (written .exit)) (now (durable .exit))) ⌝ }
+{
+    let generations = super::resetting::generations_of(state);
+    let points = super::write_room::points_of(state);
+    let rest = super::emptyings::empty_parity_on(
+        sectors,
+        written,
+        durable,
+        pointers,
+        all,
+        &generations,
+        &points,
+        drive,
+        budget,
+    );
+    let zone = run.zone;
+    let to = all.to;
+    let n = run.pointer;
+    let count = run.count;
+    super::write_stores::write_all(sectors, written, pointers, zone, to, n, count, buffer, rest)
+}
+
+// A write that passed refusals 7 to 12, with the logs where they lie: refusals 14 and 15, and the stores.
+fn write_seen(
+    sectors: &mut [u8],
+    written: &mut [u32],
+    durable: &mut [u32],
+    pointers: &[u32],
+    run: Run,
+    places: LogPlaces,
+    state: State,
+    buffer: &[u8],
+    count: u32,
+) -> Outcome
+    requires { ⌜ Valid (run .zone .geometry) ⌝ }
+    requires { ⌜ SeenByRoles (run .zone .geometry) places (now sectors) (now written) (now pointers) × RunReady run state (now written) (now durable) (now buffer) ⌝ }
+    ensures { λ r. ⌜ (r ≡ writeZoneOn run state (now (buffer .entry)) count (tablesOf (now (sectors .entry)) (now (written .entry)) (now (durable .entry))) .outcome)
+        × (tablesOf (now (sectors .exit)) (now (written .exit)) (now (durable .exit)) ≡ writeZoneOn run state (now (buffer .entry)) count (tablesOf (now (sectors .entry)) (now (written .entry)) (now (durable .entry))) .tables) ⌝ }
+{
+    let zone = run.zone;
+    let n = run.pointer;
+    let end = n + run.count;
+    let asked = super::write_room::write_asks(zone, places, end);
+    let points = super::write_room::points_of(state);
+    let room = super::log_room::parity_room(sectors, written, pointers, asked, &points);
+    let full = room.full;
+    if full {
+        return super::checks::refused(14, state);
+    }
+    let generations = super::resetting::generations_of(state);
+    let entry = super::write_room::entry_drive(zone.geometry, zone.number, end);
+    let drive = entry.drive;
+    let emptied = room.emptied;
+    let lies = at_places(run, places);
+    let gone = write_gone(
+        sectors,
+        pointers,
+        lies,
+        emptied[drive],
+        drive,
+        &generations,
+        &points,
+    );
+    if gone {
+        return super::checks::refused(15, state);
+    }
+    let all = super::log_room::emptyings_of(asked, room);
+    let budget = super::checks::budget_of(count);
+    let rest = write_from(
+        sectors,
+        written,
+        durable,
+        pointers,
+        lies,
+        all,
+        drive,
+        state,
+        buffer,
+        budget,
+    );
+    outcome(zone, state, end, rest)
+}
+
+// The run, read where the logs lie.
+fn at_places(run: Run, places: LogPlaces) -> Run
+    ensures { λ r. ⌜ r ≡ atPlaces run places ⌝ }
+{
+    let zone = run.zone;
+    let here = zone.here;
+    let number = zone.number;
+    let generation = zone.generation;
+    let pointer = run.pointer;
+    let count = run.count;
+    let geometry = places.geometry;
+    let lies = Zone {
+        geometry,
+        here,
+        number,
+        generation,
+    };
+    Run {
+        zone: lies,
+        pointer,
+        count,
+    }
+}
+
+// The same, where the logs are still to be found.
+fn write_zone(
+    sectors: &mut [u8],
+    written: &mut [u32],
+    durable: &mut [u32],
+    run: Run,
+    state: State,
+    buffer: &[u8],
+    count: u32,
+) -> Outcome
+    requires { ⌜ Valid (run .zone .geometry) ⌝ }
+    requires { ⌜ Sized (run .zone .geometry) (now sectors) (now written) × (run .zone .geometry .logs ≡ 0) × RunReady run state (now written) (now durable) (now buffer) ⌝ }
+    ensures { λ r. ⌜ (r ≡ writeZoneOn run state (now (buffer .entry)) count (tablesOf (now (sectors .entry)) (now (written .entry)) (now (durable .entry))) .outcome)
+        × (tablesOf (now (sectors .exit)) (now (written .exit)) (now (durable .exit)) ≡ writeZoneOn run state (now (buffer .entry)) count (tablesOf (now (sectors .entry)) (now (written .entry)) (now (durable .entry))) .tables) ⌝ }
+{
+    let zone = run.zone;
+    let g = zone.geometry;
+    let cells = written.len();
+    let mut pointers = [0u32; 152];
+    let places = super::roles::see_by_roles(sectors, written, &mut pointers[..cells], g);
+    write_seen(
+        sectors,
+        written,
+        durable,
+        &pointers[..cells],
+        run,
+        places,
+        state,
+        buffer,
+        count,
+    )
+}
+
 // The call: `run` sectors from an address, out of a buffer.
 pub fn write(
     sectors: &mut [u8],
     written: &mut [u32],
-    durable: &[u32],
+    durable: &mut [u32],
     g: Geometry,
     named: [bool; 8],
     state: State,
@@ -62,7 +279,7 @@ pub fn write(
     count: u32,
 ) -> Outcome
     ensures { λ r. ⌜ (r ≡ writeOn g named state address run (now (buffer .entry)) count (tablesOf (now (sectors .entry)) (now (written .entry)) (now (durable .entry))) .outcome)
-        × (tablesOf (now (sectors .exit)) (now (written .exit)) (now (durable .entry)) ≡ writeOn g named state address run (now (buffer .entry)) count (tablesOf (now (sectors .entry)) (now (written .entry)) (now (durable .entry))) .tables) ⌝ }
+        × (tablesOf (now (sectors .exit)) (now (written .exit)) (now (durable .exit)) ≡ writeOn g named state address run (now (buffer .entry)) count (tablesOf (now (sectors .entry)) (now (written .entry)) (now (durable .entry))) .tables) ⌝ }
 {
     let within = super::checks::input_within(g, state);
     let lost = state.lost;
@@ -91,11 +308,14 @@ pub fn write(
     };
     let offset = super::reading::offset_of(g, address);
     let n = run as usize;
-    let late = super::write_checks::zone_refusal(sectors, written, zone, c, offset, n);
+    let late = super::write_checks::zone_refusal(written, zone, c, offset, n);
     if late != 0 {
         return super::checks::refused(late, state);
     }
-    let budget = count as u64 + 1;
-    let rest = super::write_stores::write_all(sectors, written, zone, offset, n, buffer, budget);
-    outcome(zone, state, offset + n, rest)
+    let asked = Run {
+        zone,
+        pointer: offset,
+        count: n,
+    };
+    write_zone(sectors, written, durable, asked, state, buffer, count)
 }

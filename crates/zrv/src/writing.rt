@@ -2,7 +2,7 @@
 ghost use mathlib.Core.Path.{_≡_};
 ghost use Rattle.zrv.specs.meaning.EdgeCalls.{shapeOf, ranges, answered, writeEdge, flushEdge, resetEdge};
 
-// Write: so many sectors at an address, which must be their zone's pointer. It stores in `sectors` and `written`.
+// Write: so many sectors at an address, which must be their zone's pointer. It stores in `sectors` and `written`, and where it empties a log in `durable` too.
 #[no_mangle]
 pub extern "C" fn zrv_write(
     drives: u32,
@@ -16,11 +16,11 @@ pub extern "C" fn zrv_write(
     count: u32,
     sectors: &mut [u8],
     written: &mut [u8],
-    durable: &[u8],
+    durable: &mut [u8],
     state: &mut [u8],
     buffer: &[u8],
 ) -> u32
-    ensures { λ r. ⌜ answered r (ranges (now (sectors .exit)) (now (written .exit)) (now (durable .entry)) (now (state .exit)))
+    ensures { λ r. ⌜ answered r (ranges (now (sectors .exit)) (now (written .exit)) (now (durable .exit)) (now (state .exit)))
         ≡ writeEdge (shapeOf drives «sector_bytes» unit zones «zone_sectors») named address «sectors_to_write» count (now (buffer .entry)) (ranges (now (sectors .entry)) (now (written .entry)) (now (durable .entry)) (now (state .entry))) ⌝ }
 {
     let g = super::input::shape(drives, sector_bytes, unit, zones, zone_sectors);
@@ -49,6 +49,7 @@ pub extern "C" fn zrv_write(
         count,
     );
     super::words::table_to(ws, written);
+    super::words::table_to(ds, durable);
     super::input::hand_back(g, outcome, state)
 }
 

@@ -12,7 +12,7 @@ use Rattle.tables.specs.meaning.Lists.{anyOf}
 use Rattle.tables.specs.declared.Geometry.{Geometry}
 use Rattle.tables.specs.meaning.Geometry.{stripeSectors}
 use Rattle.logs.specs.declared.Query.the-variants.{LastLost, LastCounters, ResetOf, SealOf, SealAt, LeastSeal, LastPartial}
-use Rattle.logs.specs.meaning.Entry.{Header, label, counters, zoneReset, partialParity, seal, Entry, rowsOf, decode, fitsLog}
+use Rattle.logs.specs.meaning.Entry.{Header, label, counters, zoneReset, partialParity, seal, closing, Entry, rowsOf, decode, fitsLog}
 use Rattle.logs.specs.laws.Entry.{decode-legal}
 use Rattle.logs.specs.meaning.Heads.{lastLost, labelled, arrayIn, isReset, isSeal, isSealAt, leastSeal}
 use Rattle.logs.specs.laws.Heads.{isCounters, endsWithin}
@@ -50,6 +50,7 @@ module _ (g : Geometry) where
   lost-answer p x (zoneReset z n ∷ hs) = lost-answer (p + 1) x hs
   lost-answer p x (partialParity z s f n ∷ hs) = lost-answer (p + suc (min f (g .unit))) x hs
   lost-answer p x (seal z q n ∷ hs) = lost-answer (p + 1) x hs
+  lost-answer p x (closing kind gen ∷ hs) = lost-answer (p + 1) x hs
 
   pub counters-answer : (p x : ℕ) (hs : List Header) → answer g LastCounters p x hs ≡ lastPlace g isCounters p x hs
   counters-answer p x [] = refl
@@ -58,6 +59,7 @@ module _ (g : Geometry) where
   counters-answer p x (zoneReset z n ∷ hs) = counters-answer (p + 1) x hs
   counters-answer p x (partialParity z s f n ∷ hs) = counters-answer (p + suc (min f (g .unit))) x hs
   counters-answer p x (seal z q n ∷ hs) = counters-answer (p + 1) x hs
+  counters-answer p x (closing kind gen ∷ hs) = counters-answer (p + 1) x hs
 
   pub reset-answer : (z n p x : ℕ) (hs : List Header) → answer g (ResetOf z n) p x hs ≡ pick (anyOf (isReset z n) hs) 1 x
   reset-answer z n p x [] = refl
@@ -66,6 +68,7 @@ module _ (g : Geometry) where
   reset-answer z n p x (zoneReset y m ∷ hs) = reset-answer z n (p + 1) (pick (eqb y z && eqb m n) 1 x) hs ∙ pick-or (eqb y z && eqb m n) (anyOf (isReset z n) hs) x
   reset-answer z n p x (partialParity y s f m ∷ hs) = reset-answer z n (p + suc (min f (g .unit))) x hs
   reset-answer z n p x (seal y q m ∷ hs) = reset-answer z n (p + 1) x hs
+  reset-answer z n p x (closing kind gen ∷ hs) = reset-answer z n (p + 1) x hs
 
   pub seal-answer : (z n p x : ℕ) (hs : List Header) → answer g (SealOf z n) p x hs ≡ pick (anyOf (isSeal z n) hs) 1 x
   seal-answer z n p x [] = refl
@@ -74,6 +77,7 @@ module _ (g : Geometry) where
   seal-answer z n p x (zoneReset y m ∷ hs) = seal-answer z n (p + 1) x hs
   seal-answer z n p x (partialParity y s f m ∷ hs) = seal-answer z n (p + suc (min f (g .unit))) x hs
   seal-answer z n p x (seal y q m ∷ hs) = seal-answer z n (p + 1) (pick (eqb y z && eqb m n) 1 x) hs ∙ pick-or (eqb y z && eqb m n) (anyOf (isSeal z n) hs) x
+  seal-answer z n p x (closing kind gen ∷ hs) = seal-answer z n (p + 1) x hs
 
   pub seal-at-answer : (z n v p x : ℕ) (hs : List Header) → answer g (SealAt z n v) p x hs ≡ pick (anyOf (isSealAt z n v) hs) 1 x
   seal-at-answer z n v p x [] = refl
@@ -82,6 +86,7 @@ module _ (g : Geometry) where
   seal-at-answer z n v p x (zoneReset y m ∷ hs) = seal-at-answer z n v (p + 1) x hs
   seal-at-answer z n v p x (partialParity y s f m ∷ hs) = seal-at-answer z n v (p + suc (min f (g .unit))) x hs
   seal-at-answer z n v p x (seal y q m ∷ hs) = seal-at-answer z n v (p + 1) (pick (eqb y z && (eqb m n && eqb q v)) 1 x) hs ∙ pick-or (eqb y z && (eqb m n && eqb q v)) (anyOf (isSealAt z n v) hs) x
+  seal-at-answer z n v p x (closing kind gen ∷ hs) = seal-at-answer z n v (p + 1) x hs
 
   pub least-answer : (z n p x : ℕ) (hs : List Header) → answer g (LeastSeal z n) p x hs ≡ leastSeal z n x hs
   least-answer z n p x [] = refl
@@ -90,6 +95,7 @@ module _ (g : Geometry) where
   least-answer z n p x (zoneReset y m ∷ hs) = least-answer z n (p + 1) x hs
   least-answer z n p x (partialParity y s f m ∷ hs) = least-answer z n (p + suc (min f (g .unit))) x hs
   least-answer z n p x (seal y q m ∷ hs) = least-answer z n (p + 1) (pick (eqb y z && eqb m n) (min x q) x) hs
+  least-answer z n p x (closing kind gen ∷ hs) = least-answer z n (p + 1) x hs
 
   pub partial-answer : (z n low high p x : ℕ) (hs : List Header) → answer g (LastPartial z n low high) p x hs ≡ lastPlace g (endsWithin g z n low high) p x hs
   partial-answer z n low high p x [] = refl
@@ -98,6 +104,7 @@ module _ (g : Geometry) where
   partial-answer z n low high p x (zoneReset y m ∷ hs) = partial-answer z n low high (p + 1) x hs
   partial-answer z n low high p x (partialParity y s f m ∷ hs) = partial-answer z n low high (p + suc (min f (g .unit))) (pick (eqb y z && (eqb m n && (ltb low (s * stripeSectors g + f) && leb (s * stripeSectors g + f) high))) (p + 1) x) hs
   partial-answer z n low high p x (seal y q m ∷ hs) = partial-answer z n low high (p + 1) x hs
+  partial-answer z n low high p x (closing kind gen ∷ hs) = partial-answer z n low high (p + 1) x hs
 
 -- ---- the last label names a drive, or none
 abbrev pub NamesDrive : Geometry → ℕ → Type 0
@@ -117,6 +124,7 @@ module _ (g : Geometry) (d : ℕ) (ss : List (List ℕ)) where
   lost-after (zoneReset z m) hs x f n k = k x n
   lost-after (partialParity z s v m) hs x f n k = k x n
   lost-after (seal z q m) hs x f n k = k x n
+  lost-after (closing kind gen) hs x f n k = k x n
 
   lost-placed : (es : List Entry) (p x : ℕ) → Placed g d false ss p es → NamesDrive g x → NamesDrive g (lastLost x (map headOf es))
   lost-placed [] p x l n = n
@@ -147,6 +155,7 @@ labelled-seen (counters cs ∷ hs) = refl
 labelled-seen (zoneReset z n ∷ hs) = refl
 labelled-seen (partialParity z s f n ∷ hs) = refl
 labelled-seen (seal z p n ∷ hs) = refl
+labelled-seen (closing kind gen ∷ hs) = refl
 
 pub array-seen : (hs : List Header) → arraySeen (firstSeen hs) ≡ arrayIn hs
 array-seen [] = refl
@@ -155,6 +164,7 @@ array-seen (counters cs ∷ hs) = refl
 array-seen (zoneReset z n ∷ hs) = refl
 array-seen (partialParity z s f n ∷ hs) = refl
 array-seen (seal z p n ∷ hs) = refl
+array-seen (closing kind gen ∷ hs) = refl
 
 -- ---- the torn entry
 pub torn-none : (l : Ending) (x : ℕ) → walkEndAt l x ≢ Torn x → Bad ≡ tornSeen l

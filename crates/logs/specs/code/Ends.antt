@@ -12,7 +12,7 @@ use borrow.Author.Tests.{le-leb, lt-leb, lt-ltb, le-ltb, eq-eqb, ne-eqb}
 use Rattle.tables.specs.meaning.Lists.{anyOf}
 use Rattle.tables.specs.declared.Geometry.{Geometry}
 use Rattle.tables.specs.meaning.Geometry.{Valid, stripeSectors, zoneSectors}
-use Rattle.logs.specs.meaning.Entry.{Header, label, counters, zoneReset, partialParity, seal, Entry, rowsOf, fitsLog}
+use Rattle.logs.specs.meaning.Entry.{Header, label, counters, zoneReset, partialParity, seal, closing, Entry, rowsOf, fitsLog}
 use Rattle.logs.specs.laws.Entry.{decode-legal}
 use Rattle.logs.specs.meaning.Walk.{walkLog}
 use Rattle.logs.specs.laws.Heads.{endsWithin}
@@ -35,6 +35,7 @@ within-is-past g d par z n q (partialParity y s v m) ok f =
     let l : leb e (zoneSectors g) ≡ true = le-leb e (zoneSectors g) (stripe-ends g s v ok (k .1) (omega (arith, k .2))) in
     ap (λ (b : Bool). eqb y z && (eqb m n && b)) (ap (λ (b : Bool). ltb q e && b) l ∙ and-true (ltb q e))
 within-is-past g d par z n q (seal y p m) ok f = refl
+within-is-past g d par z n q (closing kind gen) ok f = refl
 
 between-is : (q e : ℕ) → ltb q e && leb e (suc q) ≡ eqb e (suc q)
 between-is q e = go (ℕ-discrete e (suc q)) (decLt q e)
@@ -50,6 +51,7 @@ within-is-at g z n q (counters cs) = refl
 within-is-at g z n q (zoneReset y m) = refl
 within-is-at g z n q (partialParity y s v m) = ap (λ (b : Bool). eqb y z && (eqb m n && b)) (between-is q (s * stripeSectors g + v))
 within-is-at g z n q (seal y p m) = refl
+within-is-at g z n q (closing kind gen) = refl
 
 -- ---- a whole log
 any-like : (t u : Header → Bool) (hs : List Header) → ((h : Header) → t h ≡ u h) → anyOf t hs ≡ anyOf u hs

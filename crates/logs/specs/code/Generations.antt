@@ -14,7 +14,7 @@ use Rattle.tables.specs.meaning.Lists.{anyOf}
 use Rattle.tables.specs.laws.Lists.{map-append}
 use Rattle.tables.specs.declared.Geometry.{Geometry}
 use Rattle.tables.specs.meaning.LittleEndian.{numberLE, numbersLE, readLE, sameBytes}
-use Rattle.logs.specs.meaning.Entry.{Header, label, counters, zoneReset, partialParity, seal, Entry, legal, bad, readFields, kindOf, encode, fitsLog, decode}
+use Rattle.logs.specs.meaning.Entry.{Header, label, counters, zoneReset, partialParity, seal, closing, Entry, legal, bad, readFields, kindOf, encode, fitsLog, decode}
 use Rattle.logs.specs.laws.Entry.{decode-legal}
 use Rattle.logs.specs.meaning.Walk.{walkLog}
 use Rattle.logs.specs.laws.Heads.{isCounters}
@@ -30,17 +30,20 @@ fields-of-legal g d par s h e = go (sameBytes (encode g d (readFields g s)) s &&
     go true q = cc
     go false q = absurd (let z : _≡_ {A = ℕ} 0 1 = cc in omega arith)
 
-of-kind : (a b c d : Bool) (xs cs : List ℕ) (h3 h4 h5 h1 : Header) → isCounters h3 ≡ false → isCounters h4 ≡ false → isCounters h5 ≡ false → isCounters h1 ≡ false
-    → pick a (counters xs) (pick b h3 (pick c h4 (pick d h5 h1))) ≡ counters cs → cs ≡ xs
-of-kind true b c d xs cs h3 h4 h5 h1 p q r s e = cc
-of-kind false true c d xs cs h3 h4 h5 h1 p q r s e = absurd (let z : true ≡ false = sym (ap isCounters e) ∙ p in true≢false z)
-of-kind false false true d xs cs h3 h4 h5 h1 p q r s e = absurd (let z : true ≡ false = sym (ap isCounters e) ∙ q in true≢false z)
-of-kind false false false true xs cs h3 h4 h5 h1 p q r s e = absurd (let z : true ≡ false = sym (ap isCounters e) ∙ r in true≢false z)
-of-kind false false false false xs cs h3 h4 h5 h1 p q r s e = absurd (let z : true ≡ false = sym (ap isCounters e) ∙ s in true≢false z)
+-- what is no counters entry, whichever of two it is
+neither : (b : Bool) (h k : Header) → isCounters h ≡ false → isCounters k ≡ false → isCounters (pick b h k) ≡ false
+neither true h k p q = p
+neither false h k p q = q
+
+of-kind : (a : Bool) (xs cs : List ℕ) (h : Header) → isCounters h ≡ false → pick a (counters xs) h ≡ counters cs → cs ≡ xs
+of-kind true xs cs h p e = cc
+of-kind false xs cs h p e = absurd (let z : true ≡ false = sym (ap isCounters e) ∙ p in true≢false z)
 
 counters-fields : (g : Geometry) (s cs : List ℕ) → readFields g s ≡ counters cs → cs ≡ numbersLE (g .zones) (drop 32 s)
 unfolding readFields
-counters-fields g s cs e = of-kind (eqb (kindOf s) 2) (eqb (kindOf s) 3) (eqb (kindOf s) 4) (eqb (kindOf s) 5) (numbersLE (g .zones) (drop 32 s)) cs _ _ _ _ refl refl refl refl e
+counters-fields g s cs e =
+    of-kind (eqb (kindOf s) 2) (numbersLE (g .zones) (drop 32 s)) cs _
+    (neither (eqb (kindOf s) 3) _ _ refl (neither (eqb (kindOf s) 4) _ _ refl (neither (eqb (kindOf s) 5) _ _ refl (neither (eqb (kindOf s) 6) _ _ refl refl)))) e
 
 number-in : (n z : ℕ) (t : List ℕ) → z < n → getD (numbersLE n t) z zero ≡ numberLE (take 8 (drop (8 * z) t))
 number-in zero z t h = absurd (omega arith)
@@ -60,6 +63,7 @@ counters-none c0 (counters cs ∷ hs) e = absurd (true≢false e)
 counters-none c0 (zoneReset z n ∷ hs) e = counters-none c0 hs e
 counters-none c0 (partialParity z s f n ∷ hs) e = counters-none c0 hs e
 counters-none c0 (seal z p n ∷ hs) e = counters-none c0 hs e
+counters-none c0 (closing kind gen ∷ hs) e = counters-none c0 hs e
 
 counters-last : (c0 cs : List ℕ) (fs hs : List Header) → anyOf isCounters hs ≡ false → lastCounters c0 (fs ++ (counters cs ∷ hs)) ≡ cs
 counters-last c0 cs [] hs e = counters-none cs hs e
@@ -68,6 +72,7 @@ counters-last c0 cs (counters bs ∷ fs) hs e = counters-last bs cs fs hs e
 counters-last c0 cs (zoneReset z n ∷ fs) hs e = counters-last c0 cs fs hs e
 counters-last c0 cs (partialParity z s f n ∷ fs) hs e = counters-last c0 cs fs hs e
 counters-last c0 cs (seal z p n ∷ fs) hs e = counters-last c0 cs fs hs e
+counters-last c0 cs (closing kind gen ∷ fs) hs e = counters-last c0 cs fs hs e
 
 -- a header that is counters, with its numbers
 counters-of : (h : Header) → isCounters h ≡ true → (cs : List ℕ) × (h ≡ counters cs)
@@ -76,6 +81,7 @@ counters-of (counters cs) e = (cs, refl)
 counters-of (zoneReset z n) e = absurd (true≢false (sym e))
 counters-of (partialParity z s f n) e = absurd (true≢false (sym e))
 counters-of (seal z p n) e = absurd (true≢false (sym e))
+counters-of (closing kind gen) e = absurd (true≢false (sym e))
 
 module _ (g : Geometry) (d : ℕ) (ss : List (List ℕ)) where
   abbrev pub countersPlace : ℕ

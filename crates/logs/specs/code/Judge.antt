@@ -8,15 +8,15 @@ use native.Mathlib.Omega.{arith}
 use mathlib.Core.List.{List}
 use lib.ListN.{take, drop}
 use lib.Dec.{ltb, leb, eqb}
-use borrow.Author.Tests.{ltb-true, leb-true}
+use borrow.Author.Tests.{ltb-true, leb-true, eqb-true}
 use Rattle.tables.specs.declared.Geometry.{Geometry}
 use Rattle.tables.specs.meaning.Basics.{pick}
 use Rattle.tables.specs.laws.Basics.{and-split}
 use Rattle.tables.specs.meaning.Geometry.{Valid, stripeSectors, zoneSectors, firstDriveOf, parityDriveOf}
 use Rattle.logs.specs.declared.Found.{Found}
-use Rattle.logs.specs.declared.Found.the-variants.{Bad, Label, Counters, Resets, Partial, Seal}
+use Rattle.logs.specs.declared.Found.the-variants.{Bad, Label, Counters, Resets, Partial, Seal, Closing}
 use Rattle.tables.specs.meaning.LittleEndian.{numberLE, sameBytes}
-use Rattle.logs.specs.meaning.Entry.{Header, label, counters, zoneReset, partialParity, seal, Decoded, legal, bad, encode, readFields, kindOf, startOf, endOf, genOf, fitsLog, decode}
+use Rattle.logs.specs.meaning.Entry.{Header, label, counters, zoneReset, partialParity, seal, closing, Decoded, legal, bad, encode, readFields, kindOf, startOf, endOf, genOf, kindOfLog, fitsLog, decode}
 use Rattle.logs.specs.laws.Entry.{typeOf}
 use Rattle.tables.specs.laws.Placement.{stripe-of-sum}
 use Rattle.tables.specs.laws.Sizes.{stripe-small, stripes-most, zone-small}
@@ -27,6 +27,7 @@ seen (counters cs) = Counters
 seen (zoneReset z n) = Resets z n
 seen (partialParity z s f n) = Partial z s f n
 seen (seal z p n) = Seal z p n
+seen (closing kind gen) = Closing gen
 
 abbrev pub found : Decoded → Found
 found (legal h) = seen h
@@ -40,6 +41,7 @@ foundType Counters = 2
 foundType (Resets z n) = 3
 foundType (Partial z s f n) = 4
 foundType (Seal z p n) = 5
+foundType (Closing gen) = 6
 
 pub found-type : (h : Header) → foundType (seen h) ≡ typeOf h
 found-type (label x a) = refl
@@ -47,6 +49,7 @@ found-type (counters cs) = refl
 found-type (zoneReset z n) = refl
 found-type (partialParity z s f n) = refl
 found-type (seal z p n) = refl
+found-type (closing kind gen) = refl
 
 found-pick : (b : Bool) (h : Header) → found (pick b (legal h) bad) ≡ pick b (seen h) Bad
 found-pick true h = refl
@@ -93,6 +96,13 @@ module _ (g : Geometry) (s : List ℕ) where
   unfolding readFields startOf endOf genOf
   fields-seal k = rw k refl
 
+  abbrev pub asClosing : Header
+  asClosing = closing (numberLE (take 8 (drop 8 s))) (numberLE (take 8 (drop 24 s)))
+
+  pub fields-closing : kindOf s ≡ 6 → readFields g s ≡ asClosing
+  unfolding readFields startOf genOf
+  fields-closing k = rw k refl
+
 -- ---- what fits is small
 pub reset-small : (g : Geometry) (d : ℕ) (par : Bool) (z n : ℕ) → fitsLog g d par (zoneReset z n) ≡ true → z < g .zones
 reset-small g d par z n h =
@@ -115,6 +125,14 @@ partial-small g d par z s f n h =
     let (m, o) = and-split (ltb 0 f) (ltb f (stripeSectors g) && t) l in
     let (q, r) = and-split (ltb f (stripeSectors g)) t o in
     (ltb-true z (g .zones) c, ltb-true (s * stripeSectors g) (zoneSectors g) k, ltb-true f (stripeSectors g) q)
+
+-- a closing entry that fits has the kind of its log, and a generation above 0
+pub closing-fits : (g : Geometry) (d : ℕ) (par : Bool) (kind gen : ℕ) → fitsLog g d par (closing kind gen) ≡ true → (kind ≡ kindOfLog par) × (0 < gen)
+closing-fits g d par kind gen h = let (a, b) = and-split (eqb kind (kindOfLog par)) (ltb 0 gen) h in (eqb-true kind (kindOfLog par) a, ltb-true 0 gen b)
+
+pub kind-small : (par : Bool) → kindOfLog par ≤ 1
+kind-small true = omega arith
+kind-small false = omega arith
 
 -- a zone's first sector has a small number
 pub start-small : (g : Geometry) (z q : ℕ) → Valid g → z < g .zones → q ≤ 458752 → z * q ≤ 7340032

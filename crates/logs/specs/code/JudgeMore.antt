@@ -58,9 +58,9 @@ module _ (g : Geometry) (s : List ℕ) where
   abbrev pub asLabel : Header
   asLabel = label (getD s 36 0) (numberLE (take 8 (drop 48 s)))
 
-  pub fields-label : kindOf s ≢ 2 → kindOf s ≢ 3 → kindOf s ≢ 4 → kindOf s ≢ 5 → readFields g s ≡ asLabel
+  pub fields-label : kindOf s ≢ 2 → kindOf s ≢ 3 → kindOf s ≢ 4 → kindOf s ≢ 5 → kindOf s ≢ 6 → readFields g s ≡ asLabel
   unfolding readFields
-  fields-label a b c d = rw (ne-eqb (kindOf s) 2 a, ne-eqb (kindOf s) 3 b, ne-eqb (kindOf s) 4 c, ne-eqb (kindOf s) 5 d) refl
+  fields-label a b c d e = rw (ne-eqb (kindOf s) 2 a, ne-eqb (kindOf s) 3 b, ne-eqb (kindOf s) 4 c, ne-eqb (kindOf s) 5 d, ne-eqb (kindOf s) 6 e) refl
 
 -- bytes 32 to 39 are a label's: D, U, log2 of B, the drive's index, the lost drive, zeros
 unfoldable pub labelSame : Geometry → ℕ → ℕ → List ℕ → Bool

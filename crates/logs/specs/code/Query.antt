@@ -7,7 +7,7 @@ use Rattle.tables.specs.meaning.Basics.{pick}
 use Rattle.tables.specs.declared.Geometry.{Geometry}
 use Rattle.tables.specs.meaning.Geometry.{stripeSectors}
 use Rattle.logs.specs.declared.Found.{Found}
-use Rattle.logs.specs.declared.Found.the-variants.{Bad, Label, Counters, Resets, Partial, Seal}
+use Rattle.logs.specs.declared.Found.the-variants.{Bad, Label, Counters, Resets, Partial, Seal, Closing}
 use Rattle.logs.specs.declared.Query.{Query}
 use Rattle.logs.specs.declared.Query.the-variants.{LastLost, LastCounters, ResetOf, SealOf, SealAt, LeastSeal, LastPartial}
 use Rattle.logs.specs.meaning.Entry.{Header, Entry, rowsOf}
@@ -38,6 +38,7 @@ labelSeen Counters = false
 labelSeen (Resets z n) = false
 labelSeen (Partial z s f n) = false
 labelSeen (Seal z p n) = false
+labelSeen (Closing gen) = false
 
 abbrev pub arraySeen : Found → ℕ
 arraySeen Bad = 0
@@ -46,6 +47,17 @@ arraySeen Counters = 0
 arraySeen (Resets z n) = 0
 arraySeen (Partial z s f n) = 0
 arraySeen (Seal z p n) = 0
+arraySeen (Closing gen) = 0
+
+-- the generation of a closing entry; 0 of anything else
+abbrev pub closingSeen : Found → ℕ
+closingSeen Bad = 0
+closingSeen (Label x a) = 0
+closingSeen Counters = 0
+closingSeen (Resets z n) = 0
+closingSeen (Partial z s f n) = 0
+closingSeen (Seal z p n) = 0
+closingSeen (Closing gen) = gen
 
 abbrev pub tornSeen : Ending → Found
 tornSeen atPointer = Bad
@@ -107,6 +119,7 @@ after g q place Counters x = afterCounters q place x
 after g q place (Resets z n) x = afterReset q z n x
 after g q place (Partial z s f n) x = afterPartial q z (s * stripeSectors g + f) n place x
 after g q place (Seal z p n) x = afterSeal q z p n x
+after g q place (Closing gen) x = x
 
 -- THE FOLD: over the headers of whole entries, the first of which stands at sector p
 abbrev pub answer : Geometry → Query → ℕ → ℕ → List Header → ℕ

@@ -118,6 +118,10 @@ module _ (g : Geometry) (d : ℕ) (par : Bool) (ss : List (List ℕ)) where
         at (yes l) = here (decodeAt g d par p (getD ss p [])) l refl
         at (no n) = none (AtPointer p) (ap (stepOf g p) (at-end g d par ss p (omega arith)))
 
+    -- the next one begins past p, at most at the written pointer
+    pub step-climbs : (f : Found) (q : ℕ) → stepOf g p (leftAt g d par ss p) ≡ Whole f q → (p < q) × (q ≤ length ss)
+    step-climbs f q e = let t = step-taken f q e in (omega (arith, t .next-is), omega (arith, t .next-is, t .stands .within))
+
   -- ---- THE STEPS ARE THE WALK. steps: what was found at each of them and where the next one begins, from p on; end: where they are left
   abbrev pub Stepped : ℕ → List (Found × ℕ) → WalkEnd → Type 0
   Stepped p [] end = stepOf g p (leftAt g d par ss p) ≡ Left end

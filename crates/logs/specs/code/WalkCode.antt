@@ -12,10 +12,10 @@ use Rattle.tables.specs.meaning.Geometry.{physicalZones, totalBytes}
 use Rattle.tables.specs.meaning.Tables.{sectorNo, cell}
 use Rattle.tables.specs.meaning.Below.{tabulate}
 use Rattle.logs.specs.declared.Found.{Found}
-use Rattle.logs.specs.declared.Found.the-variants.{Bad, Label, Counters, Resets, Partial, Seal}
+use Rattle.logs.specs.declared.Found.the-variants.{Bad, Label, Counters, Resets, Partial, Seal, Closing}
 use Rattle.logs.specs.declared.WalkEnd.{WalkEnd}
 use Rattle.logs.specs.declared.WalkEnd.the-variants.{AtPointer, NoEntry, Torn}
-use Rattle.logs.specs.meaning.Entry.{Header, label, counters, zoneReset, partialParity, seal, Decoded, legal, bad, rowsOf, decode}
+use Rattle.logs.specs.meaning.Entry.{Header, label, counters, zoneReset, partialParity, seal, closing, Decoded, legal, bad, rowsOf, decode}
 use Rattle.logs.specs.meaning.Walk.{Walked, withEntry, Ending, atPointer, noEntry, torn, between, inEntry, decodeAt, walk}
 use Rattle.logs.specs.laws.Walk.{step-zero, step-suc, walk-rows, walk-torn}
 use Rattle.logs.specs.code.Judge.{seen, found}
@@ -59,6 +59,7 @@ rowsSeen g Counters = zero
 rowsSeen g (Resets z n) = zero
 rowsSeen g (Partial z s f n) = min f (g .unit)
 rowsSeen g (Seal z p n) = zero
+rowsSeen g (Closing gen) = zero
 
 -- no legal header
 abbrev pub badSeen : Found → Bool
@@ -68,6 +69,7 @@ badSeen Counters = false
 badSeen (Resets z n) = false
 badSeen (Partial z s f n) = false
 badSeen (Seal z p n) = false
+badSeen (Closing gen) = false
 
 rows-seen : (g : Geometry) (h : Header) → rowsSeen g (seen h) ≡ rowsOf g h
 rows-seen g (label x a) = refl
@@ -75,6 +77,7 @@ rows-seen g (counters cs) = refl
 rows-seen g (zoneReset z n) = refl
 rows-seen g (partialParity z s f n) = refl
 rows-seen g (seal z p n) = refl
+rows-seen g (closing kind gen) = refl
 
 pub not-bad : (h : Header) → badSeen (seen h) ≡ false
 not-bad (label x a) = refl
@@ -82,6 +85,7 @@ not-bad (counters cs) = refl
 not-bad (zoneReset z n) = refl
 not-bad (partialParity z s f n) = refl
 not-bad (seal z p n) = refl
+not-bad (closing kind gen) = refl
 
 module _ (g : Geometry) (d : ℕ) (par : Bool) (ss : List (List ℕ)) where
   -- the walk that is left at p

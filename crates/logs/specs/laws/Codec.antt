@@ -12,7 +12,7 @@ use Rattle.tables.specs.declared.Geometry.{Geometry}
 use Rattle.tables.specs.meaning.Geometry.{Valid, stripeSectors, zoneSectors}
 use Rattle.tables.specs.laws.LittleEndian.{number-bytes-le, numbers-words-le, Small}
 use Rattle.tables.specs.meaning.LittleEndian.{wordsLE}
-use Rattle.logs.specs.meaning.Entry.{Header, label, counters, zoneReset, partialParity, seal, encode, frame, labelBytes, readFields, kindOf, startOf, endOf, genOf, fitsLog}
+use Rattle.logs.specs.meaning.Entry.{Header, label, counters, zoneReset, partialParity, seal, closing, encode, frame, labelBytes, readFields, kindOf, startOf, endOf, genOf, fitsLog}
 use Rattle.logs.specs.laws.Entry.{decode-enc, FieldsFit}
 use Rattle.logs.specs.laws.Walk.{Reads}
 
@@ -88,12 +88,19 @@ module _ (g : Geometry) (ok : Valid g) where
       rw (frame-kind 5 (z * q) (z * q + p) n t, frame-start 5 (z * q) (z * q + p) n t s, frame-end 5 (z * q) (z * q + p) n t b, frame-gen 5 (z * q) (z * q + p) n t hn)
       (rw (e, mul-div-cancel z (zone-small g ok .0)) refl)
 
+  fields-closing : (d k n : ℕ) → k < 256 ^ 8 → n < 256 ^ 8 → readFields g (encode g d (closing k n)) ≡ closing k n
+  unfolding readFields encode
+  fields-closing d k n hk hn =
+      let t : List ℕ = replicate (g .sector - 32) 0 in
+      rw (frame-kind 6 k 0 n t, frame-start 6 k 0 n t hk, frame-gen 6 k 0 n t hn) refl
+
   fields-enc : (d : ℕ) (h : Header) → FieldsFit g h → readFields g (encode g d h) ≡ h
   fields-enc d (label x a) r = fields-label d x a r
   fields-enc d (counters cs) r = fields-counters d cs (r .0) (r .1)
   fields-enc d (zoneReset z n) r = fields-resets d z n (r .0) (r .1)
   fields-enc d (partialParity z s f n) r = fields-partial d z s f n (r .0) (r .1) (r .2) (r .3)
   fields-enc d (seal z p n) r = fields-seal d z p n (r .0) (r .1) (r .2)
+  fields-enc d (closing kind gen) r = fields-closing d kind gen (r .0) (r .1)
 
   -- WHAT IS WRITTEN READS BACK
   pub reads : (d : ℕ) (par : Bool) (h : Header) → FieldsFit g h → fitsLog g d par h ≡ true → Reads g d par h

@@ -10,7 +10,7 @@ use Rattle.tables.specs.declared.Geometry.{Geometry}
 use Rattle.tables.specs.meaning.Geometry.{stripeSectors, zoneSectors}
 use Rattle.tables.specs.laws.LittleEndian.{Small, same-bytes-refl, same-bytes-eq}
 use Rattle.tables.specs.meaning.LittleEndian.{sameBytes}
-use Rattle.logs.specs.meaning.Entry.{wornGeneration, Header, label, counters, zoneReset, partialParity, seal, encode, fitsLog, readFields, legal, bad, decode}
+use Rattle.logs.specs.meaning.Entry.{wornGeneration, Header, label, counters, zoneReset, partialParity, seal, closing, encode, fitsLog, readFields, legal, bad, decode}
 
 -- document 01's number of each type, byte 3 of its header
 abbrev pub typeOf : Header → ℕ
@@ -19,6 +19,7 @@ typeOf (counters cs) = 2
 typeOf (zoneReset z n) = 3
 typeOf (partialParity z s f n) = 4
 typeOf (seal z p n) = 5
+typeOf (closing kind gen) = 6
 
 -- 2^64 − 1 as the code writes it
 pub worn-is : wornGeneration ≡ 18446744073709551615
@@ -32,6 +33,7 @@ FieldsFit g (counters cs) = (length cs ≡ g .zones) × Small cs
 FieldsFit g (zoneReset z n) = (z < g .zones) × (n < 256 ^ 8)
 FieldsFit g (partialParity z s f n) = (z < g .zones) × (s * stripeSectors g < zoneSectors g) × (s * stripeSectors g + f ≤ zoneSectors g) × (n < 256 ^ 8)
 FieldsFit g (seal z p n) = (z < g .zones) × (p ≤ zoneSectors g) × (n < 256 ^ 8)
+FieldsFit g (closing kind gen) = (kind < 256 ^ 8) × (gen < 256 ^ 8)
 
 pub decode-legal : (g : Geometry) (d : ℕ) (par : Bool) (s : List ℕ) (h : Header) → decode g d par s ≡ legal h → (encode g d h ≡ s) × (fitsLog g d par h ≡ true)
 decode-legal g d par s h q = go (sameBytes (encode g d (readFields g s)) s && fitsLog g d par (readFields g s)) refl

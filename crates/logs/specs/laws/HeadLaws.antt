@@ -14,7 +14,7 @@ use borrow.Author.Tests.{eq-eqb, ne-eqb, le-ltb, ltb-true, eqb-true, ltb-false}
 use Rattle.tables.specs.meaning.Basics.{pick}
 use Rattle.tables.specs.laws.Basics.{and-split}
 use Rattle.tables.specs.declared.Geometry.{Geometry}
-use Rattle.logs.specs.meaning.Entry.{wornGeneration, Header, label, counters, zoneReset, encode, partialParity, seal, fitsLog, rowsOf}
+use Rattle.logs.specs.meaning.Entry.{wornGeneration, Header, label, counters, zoneReset, encode, partialParity, seal, closing, fitsLog, rowsOf}
 use Rattle.logs.specs.laws.Entry.{decode-legal}
 use Rattle.logs.specs.laws.Walk.{Reads}
 use Rattle.logs.specs.meaning.Heads.{lastCounters, generationIn, lastLost, isReset, leastSeal, isSealAt, endsAt, endsPast, labelled, arrayIn}
@@ -28,6 +28,7 @@ general-no-rows g d (counters cs) f = refl
 general-no-rows g d (zoneReset z n) f = refl
 general-no-rows g d (partialParity z s k n) f = absurd (true≢false (sym f))
 general-no-rows g d (seal z p n) f = refl
+general-no-rows g d (closing kind gen) f = refl
 
 pub reads-fits : (g : Geometry) (d : ℕ) (par : Bool) (h : Header) → Reads g d par h → fitsLog g d par h ≡ true
 reads-fits g d par h r = decode-legal g d par (encode g d h) h r .1
@@ -40,6 +41,7 @@ last-lost-is P (counters cs ∷ hs) x0 p h = last-lost-is P hs x0 p (λ y b m. h
 last-lost-is P (zoneReset z n ∷ hs) x0 p h = last-lost-is P hs x0 p (λ y b m. h y b (List·Memᴰ·tail m))
 last-lost-is P (partialParity z s f n ∷ hs) x0 p h = last-lost-is P hs x0 p (λ y b m. h y b (List·Memᴰ·tail m))
 last-lost-is P (seal z q n ∷ hs) x0 p h = last-lost-is P hs x0 p (λ y b m. h y b (List·Memᴰ·tail m))
+last-lost-is P (closing kind gen ∷ hs) x0 p h = last-lost-is P hs x0 p (λ y b m. h y b (List·Memᴰ·tail m))
 
 pub reset-is : (z n : ℕ) (h : Header) → isReset z n h ≡ true → h ≡ zoneReset z n
 reset-is z n (label x a) e = absurd (true≢false (sym e))
@@ -47,6 +49,7 @@ reset-is z n (counters cs) e = absurd (true≢false (sym e))
 reset-is z n (zoneReset y m) e = let (p, q) = and-split (eqb y z) (eqb m n) e in ap₂ zoneReset (eqb-true y z p) (eqb-true m n q)
 reset-is z n (partialParity y s f m) e = absurd (true≢false (sym e))
 reset-is z n (seal y p m) e = absurd (true≢false (sym e))
+reset-is z n (closing kind gen) e = absurd (true≢false (sym e))
 
 pub seal-is : (z n q : ℕ) (h : Header) → isSealAt z n q h ≡ true → h ≡ seal z q n
 seal-is z n q (label x a) e = absurd (true≢false (sym e))
@@ -60,6 +63,7 @@ seal-is z n q (seal y p m) e =
     let j : m ≡ n = eqb-true m n c in
     let k : p ≡ q = eqb-true p q d in
     rw (i, j, k) refl
+seal-is z n q (closing kind gen) e = absurd (true≢false (sym e))
 
 pub ends-at-is : (g : Geometry) (z n q : ℕ) (h : Header) → endsAt g z n q h ≡ true → (i f : ℕ) × (h ≡ partialParity z i f n) × (i * stripeSectors g + f ≡ q)
 ends-at-is g z n q (label x a) e = absurd (true≢false (sym e))
@@ -72,6 +76,7 @@ ends-at-is g z n q (partialParity y i f m) e =
     let p2 : m ≡ n = eqb-true m n c in
     (i, f, rw (p1, p2) refl, eqb-true (i * stripeSectors g + f) q d)
 ends-at-is g z n q (seal y p m) e = absurd (true≢false (sym e))
+ends-at-is g z n q (closing kind gen) e = absurd (true≢false (sym e))
 
 pub not-past-within : (g : Geometry) (z n q i f : ℕ) → endsPast g z n q (partialParity z i f n) ≡ false → i * stripeSectors g + f ≤ q
 not-past-within g z n q i f e = let r : ltb q (i * stripeSectors g + f) ≡ false = rw (eq-eqb z z refl, eq-eqb n n refl) at e in omega (arith, ltb-false q (i * stripeSectors g + f) r)
@@ -87,6 +92,7 @@ within-not-past g z n q (partialParity y i j m) f = go (ℕ-discrete y z) (ℕ-d
     go (yes a) (no b) = rw (eq-eqb y z a, ne-eqb m n b) refl
     go (no a) b = rw (ne-eqb y z a) refl
 within-not-past g z n q (seal y p m) f = refl
+within-not-past g z n q (closing kind gen) f = refl
 
 pub least-seal-most : (z n q : ℕ) (hs : List Header) → leastSeal z n q hs ≤ q
 least-seal-most z n q [] = le-refl q
@@ -99,6 +105,7 @@ least-seal-most z n q (seal y p m ∷ hs) = le-trans (least-seal-most z n (pick 
     go : (b : Bool) → pick b (min q p) q ≤ q
     go true = omega arith
     go false = le-refl q
+least-seal-most z n q (closing kind gen ∷ hs) = least-seal-most z n q hs
 
 pub least-seal-below : (z n q : ℕ) (hs : List Header) (c : ℕ) → List·Memᴰ (seal z c n) hs → leastSeal z n q hs ≤ c
 least-seal-below z n q (label x a ∷ hs) c (List·Memᴰ·head e) = absurd (let k : _≡_ {A = ℕ} 0 1 = cc in omega arith)
@@ -115,6 +122,8 @@ least-seal-below z n q (seal y p k ∷ hs) c (List·Memᴰ·head e) =
     let d : k ≡ n = cc in
     rw (eq-eqb y z a, eq-eqb k n d) (le-trans (least-seal-most z n (min q p) hs) (omega arith))
 least-seal-below z n q (seal y p k ∷ hs) c (List·Memᴰ·tail m) = least-seal-below z n (pick (eqb y z && eqb k n) (min q p) q) hs c m
+least-seal-below z n q (closing kind gen ∷ hs) c (List·Memᴰ·head e) = absurd (let k : _≡_ {A = ℕ} 0 1 = cc in omega arith)
+least-seal-below z n q (closing kind gen ∷ hs) c (List·Memᴰ·tail m) = least-seal-below z n q hs c m
 
 pub least-seal-least : (z n q m : ℕ) (hs : List Header) → m ≤ q → ((c : ℕ) → List·Memᴰ (seal z c n) hs → m ≤ c) → m ≤ leastSeal z n q hs
 least-seal-least z n q m [] h f = h
@@ -131,6 +140,7 @@ least-seal-least z n q m (seal y p j ∷ hs) h f = least-seal-least z n (pick (e
         let t : m ≤ p = f p (List·Memᴰ·head s) in
         omega arith
     go false e = h
+least-seal-least z n q m (closing kind gen ∷ hs) h f = least-seal-least z n q m hs h (λ c k. f c (List·Memᴰ·tail k))
 
 pub last-counters-append : (c : List ℕ) (xs ys : List Header) → lastCounters c (xs ++ ys) ≡ lastCounters (lastCounters c xs) ys
 last-counters-append c [] ys = refl
@@ -139,6 +149,7 @@ last-counters-append c (counters cs ∷ xs) ys = last-counters-append cs xs ys
 last-counters-append c (zoneReset z n ∷ xs) ys = last-counters-append c xs ys
 last-counters-append c (partialParity z s f n ∷ xs) ys = last-counters-append c xs ys
 last-counters-append c (seal z p n ∷ xs) ys = last-counters-append c xs ys
+last-counters-append c (closing kind gen ∷ xs) ys = last-counters-append c xs ys
 
 -- they are those before, or some of the new ones
 pub data LastOf (c : List ℕ) (ys : List Header) : Type 0 where
@@ -172,6 +183,11 @@ last-counters-of c (seal z p n ∷ ys) = go (last-counters-of c ys)
     go : LastOf c ys → LastOf c (seal z p n ∷ ys)
     go (old e) = old e
     go (new cs m e) = new cs (List·Memᴰ·tail m) e
+last-counters-of c (closing kind gen ∷ ys) = go (last-counters-of c ys)
+  where
+    go : LastOf c ys → LastOf c (closing kind gen ∷ ys)
+    go (old e) = old e
+    go (new cs m e) = new cs (List·Memᴰ·tail m) e
 
 pub generation-append : (P : ℕ → Type 0) (z : ℕ) (xs ys : List Header) → P (generationIn z xs) → ((cs : List ℕ) → List·Memᴰ (counters cs) ys → P (getD cs z zero)) → P (generationIn z (xs ++ ys))
 generation-append P z xs ys p h = rw (last-counters-append [] xs ys) (go (last-counters-of (lastCounters [] xs) ys))
@@ -186,6 +202,7 @@ zone-gen-map (counters cs) P Q f p = tt
 zone-gen-map (zoneReset y n) P Q f p = f y n p
 zone-gen-map (partialParity y s k n) P Q f p = f y n p
 zone-gen-map (seal y c n) P Q f p = f y n p
+zone-gen-map (closing kind gen) P Q f p = tt
 
 -- what a header of the parity log says fits
 pub partial-parity-fits : (g : Geometry) (d z i f n : ℕ) → Reads g d true (partialParity z i f n) → (zero < f) × (f < stripeSectors g) × (d ≡ parityDriveOf g z i)
@@ -233,6 +250,7 @@ lost-of-append x (counters cs ∷ hs) ks = lost-of-append x hs ks
 lost-of-append x (zoneReset z n ∷ hs) ks = lost-of-append x hs ks
 lost-of-append x (partialParity z s f n ∷ hs) ks = lost-of-append x hs ks
 lost-of-append x (seal z p n ∷ hs) ks = lost-of-append x hs ks
+lost-of-append x (closing kind gen ∷ hs) ks = lost-of-append x hs ks
 
 pub least-of-append : (z n q : ℕ) (hs ks : List Header) → leastSeal z n q (hs ++ ks) ≡ leastSeal z n (leastSeal z n q hs) ks
 least-of-append z n q [] ks = refl
@@ -241,6 +259,7 @@ least-of-append z n q (counters cs ∷ hs) ks = least-of-append z n q hs ks
 least-of-append z n q (zoneReset y m ∷ hs) ks = least-of-append z n q hs ks
 least-of-append z n q (partialParity y s f m ∷ hs) ks = least-of-append z n q hs ks
 least-of-append z n q (seal y p m ∷ hs) ks = least-of-append z n (pick (eqb y z && eqb m n) (min q p) q) hs ks
+least-of-append z n q (closing kind gen ∷ hs) ks = least-of-append z n q hs ks
 
 or-assoc : (a b c : Bool) → a || (b || c) ≡ (a || b) || c
 or-assoc true b c = refl
@@ -258,6 +277,7 @@ labelled-of-append (counters cs ∷ hs) ks e = absurd (true≢false (sym e))
 labelled-of-append (zoneReset z n ∷ hs) ks e = absurd (true≢false (sym e))
 labelled-of-append (partialParity z s f n ∷ hs) ks e = absurd (true≢false (sym e))
 labelled-of-append (seal z p n ∷ hs) ks e = absurd (true≢false (sym e))
+labelled-of-append (closing kind gen ∷ hs) ks e = absurd (true≢false (sym e))
 
 -- ---- the least seal: no seal of that zone and generation is below it
 eqb-same : (n : ℕ) → eqb n n ≡ true

@@ -14,10 +14,10 @@ use Rattle.tables.specs.meaning.Geometry.{Valid, stripeSectors, zoneSectors}
 use Rattle.tables.specs.laws.Sizes.{zone-stripes}
 use Rattle.tables.specs.laws.LittleEndian.{Small}
 use Rattle.tables.specs.meaning.LittleEndian.{wordsLE}
-use Rattle.logs.specs.meaning.Entry.{Header, label, counters, zoneReset, partialParity, seal, encode, frame, labelBytes, kindOf, decode, legal, fitsLog}
+use Rattle.logs.specs.meaning.Entry.{Header, label, counters, zoneReset, partialParity, seal, closing, encode, frame, labelBytes, kindOf, decode, legal, fitsLog}
 use Rattle.logs.specs.laws.Entry.{typeOf, decode-legal, FieldsFit}
 use Rattle.logs.specs.code.Lays.{length-words}
-use Rattle.logs.specs.code.Judge.{reset-small, seal-small, partial-small}
+use Rattle.logs.specs.code.Judge.{reset-small, seal-small, partial-small, closing-fits, kind-small}
 use Rattle.logs.specs.laws.Codec.{reads}
 
 -- what a sector holds, written again, is that sector
@@ -38,6 +38,7 @@ NumbersFit (counters cs) = Small cs
 NumbersFit (zoneReset z n) = n < 256 ^ 8
 NumbersFit (partialParity z s f n) = n < 256 ^ 8
 NumbersFit (seal z p n) = n < 256 ^ 8
+NumbersFit (closing kind gen) = gen < 256 ^ 8
 
 -- an entry inside a stripe ends inside its zone
 pub stripe-ends : (g : Geometry) (s f : ℕ) → Valid g → s * stripeSectors g < zoneSectors g → f ≤ stripeSectors g → s * stripeSectors g + f ≤ zoneSectors g
@@ -56,6 +57,7 @@ module _ (g : Geometry) (ok : Valid g) (d : ℕ) (par : Bool) where
   fits-has-room (zoneReset z m) f n = (reset-small g d par z m f, n)
   fits-has-room (partialParity z s v m) f n = let k = partial-small g d par z s v m f in (k .0, k .1, stripe-ends g s v ok (k .1) (omega (arith, k .2)), n)
   fits-has-room (seal z p m) f n = let k = seal-small g d par z p m f in (k .0, k .1, n)
+  fits-has-room (closing kind gen) f n = (omega (arith, closing-fits g d par kind gen f .0, kind-small par), n)
 
   -- so it reads back
   pub fits-reads-back : (h : Header) → fitsLog g d par h ≡ true → NumbersFit h → decode g d par (encode g d h) ≡ legal h
@@ -68,6 +70,7 @@ CountersFit g (counters cs) = length cs ≡ g .zones
 CountersFit g (zoneReset z n) = Unit {0}
 CountersFit g (partialParity z s f n) = Unit {0}
 CountersFit g (seal z p n) = Unit {0}
+CountersFit g (closing kind gen) = Unit {0}
 
 -- a header is one sector
 pub header-long : (g : Geometry) (d : ℕ) (h : Header) → Valid g → CountersFit g h → length (encode g d h) ≡ g .sector
@@ -77,6 +80,7 @@ header-long g d (counters cs) ok r = rw (length-append (wordsLE cs) (replicate (
 header-long g d (zoneReset z n) ok r = rw (length-replicate {A = ℕ} (g .sector - 32) 0) (omega (arith, ok .sector-least))
 header-long g d (partialParity z s f n) ok r = rw (length-replicate {A = ℕ} (g .sector - 32) 0) (omega (arith, ok .sector-least))
 header-long g d (seal z p n) ok r = rw (length-replicate {A = ℕ} (g .sector - 32) 0) (omega (arith, ok .sector-least))
+header-long g d (closing kind gen) ok r = rw (length-replicate {A = ℕ} (g .sector - 32) 0) (omega (arith, ok .sector-least))
 
 -- byte 3 is its type
 pub type-written : (g : Geometry) (d : ℕ) (h : Header) → kindOf (encode g d h) ≡ typeOf h
@@ -86,3 +90,4 @@ type-written g d (counters cs) = refl
 type-written g d (zoneReset z n) = refl
 type-written g d (partialParity z s f n) = refl
 type-written g d (seal z p n) = refl
+type-written g d (closing kind gen) = refl

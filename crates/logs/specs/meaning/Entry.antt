@@ -1,4 +1,4 @@
--- The five kinds of log entries, their bytes on a drive, and what is a legal one.
+-- The six kinds of log entries, their bytes on a drive, and what is a legal one.
 use mathlib.Core.Bool.{Bool, _&&_, _||_, not}
 use Prim.Native.Nat.{ℕ, zero, _+_, _-_, _*_, _/_, _%_, _^_, min}
 use mathlib.Core.List.{List, [], _∷_, _++_}
@@ -10,12 +10,16 @@ use Rattle.tables.specs.meaning.Geometry.{stripeSectors, zoneSectors, parityDri
 use Rattle.tables.specs.meaning.Drives.{noDrive}
 use Rattle.tables.specs.meaning.LittleEndian.{bytesLE, numberLE, wordsLE, numbersLE, sameBytes}
 
--- the physical zones of the two logs (document 01, "Placement")
+-- the physical zones of the two logs (document 01, "Placement"), and the one between them and the data, which takes a log's copies when the
+-- log is emptied; of a drive whose logs have moved, the zones by their roles
 abbrev pub generalZone : ℕ
 generalZone = 0
 
 abbrev pub parityZone : ℕ
 parityZone = 1
+
+abbrev pub spareZone : ℕ
+spareZone = 2
 
 -- the greatest generation that 8 bytes hold: a zone that has it is worn
 unfoldable pub wornGeneration : ℕ
@@ -28,6 +32,7 @@ pub data Header : Type 0 where
   zoneReset : ℕ → ℕ → Header  -- type 3: zone; generation
   partialParity : ℕ → ℕ → ℕ → ℕ → Header  -- type 4: zone; stripe; sectors of the stripe below its end; generation
   seal : ℕ → ℕ → ℕ → Header  -- type 5: zone; pointer; generation
+  closing : ℕ → ℕ → Header  -- type 6: the kind of its log (`kindOfLog`); the log's generation
 
 -- an entry, or what there is of one: the rows that follow the header
 pub record Entry : Type 0 where
@@ -41,6 +46,7 @@ rowsOf g (counters cs) = zero
 rowsOf g (zoneReset z n) = zero
 rowsOf g (partialParity z s f n) = min f (g .unit)
 rowsOf g (seal z p n) = zero
+rowsOf g (closing kind gen) = zero
 
 -- ---- bytes: mark "ZRV", type, version 1, two zeros; start, end, generation; what the type adds; zeros
 abbrev pub mark : List ℕ
@@ -63,6 +69,11 @@ encode g d (counters cs) = frame 2 0 0 0 (wordsLE cs ++ replicate (g .sector - (
 encode g d (zoneReset z n) = frame 3 (z * zoneSectors g) (z * zoneSectors g + zoneSectors g) n (replicate (g .sector - 32) 0)
 encode g d (partialParity z s f n) = frame 4 (z * zoneSectors g + s * stripeSectors g) (z * zoneSectors g + s * stripeSectors g + f) n (replicate (g .sector - 32) 0)
 encode g d (seal z p n) = frame 5 (z * zoneSectors g) (z * zoneSectors g + p) n (replicate (g .sector - 32) 0)
+encode g d (closing kind gen) = frame 6 kind 0 gen (replicate (g .sector - 32) 0)
+
+-- the kind that a closing entry names: 0 in a general log, 1 in a parity log
+abbrev pub kindOfLog : Bool → ℕ
+kindOfLog par = pick par 1 0
 
 -- ---- what fits geometry, drive and log (par: the parity log)
 abbrev pub fitsLog : Geometry → ℕ → Bool → Header → Bool
@@ -71,6 +82,7 @@ fitsLog g d par (counters cs) = not par && eqb (length cs) (g .zones)
 fitsLog g d par (zoneReset z n) = not par && (ltb z (g .zones) && (eqb d (firstDriveOf g z) || eqb d (parityDriveOf g z 0)))
 fitsLog g d par (partialParity z s f n) = par && (ltb z (g .zones) && (ltb (s * stripeSectors g) (zoneSectors g) && (ltb 0 f && (ltb f (stripeSectors g) && eqb d (parityDriveOf g z s)))))
 fitsLog g d par (seal z p n) = not par && (ltb z (g .zones) && (ltb 0 p && leb p (zoneSectors g)))
+fitsLog g d par (closing kind gen) = eqb kind (kindOfLog par) && ltb 0 gen
 
 -- ---- reading: take the fields, write them again, compare
 unfoldable pub startOf : List ℕ → ℕ
@@ -91,7 +103,8 @@ readFields g s =
     (pick (eqb (kindOf s) 3) (zoneReset (startOf s / zoneSectors g) (genOf s))
     (pick (eqb (kindOf s) 4) (partialParity (startOf s / zoneSectors g) (startOf s % zoneSectors g / stripeSectors g) (endOf s - startOf s) (genOf s))
     (pick (eqb (kindOf s) 5) (seal (startOf s / zoneSectors g) (endOf s - startOf s) (genOf s))
-    (label (getD s 36 0) (numberLE (take 8 (drop 48 s)))))))
+    (pick (eqb (kindOf s) 6) (closing (startOf s) (genOf s))
+    (label (getD s 36 0) (numberLE (take 8 (drop 48 s))))))))
 
 pub data Decoded : Type 0 where
   legal : Header → Decoded

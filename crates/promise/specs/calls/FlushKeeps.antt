@@ -16,7 +16,7 @@ use Rattle.tables.specs.meaning.Phases.{flushAll, onPresent}
 use Rattle.tables.specs.laws.Phases.{flush-all-local, on-present-local, flush-all-flushes}
 use Rattle.tables.specs.declared.Geometry.{Geometry}
 use Rattle.tables.specs.meaning.Geometry.{Valid, physicalZones, dataZone}
-use Rattle.logs.specs.meaning.Entry.{generalZone, parityZone, seal}
+use Rattle.logs.specs.meaning.Entry.{generalZone, parityZone, seal, closing}
 use Rattle.tables.specs.laws.Drives.{presentBut, present-below}
 use Rattle.logs.specs.laws.Walk.{cut-mono, cut-all, sectorsOfAll}
 use Rattle.volume.specs.declared.Condition.{Condition}
@@ -25,7 +25,7 @@ use Rattle.volume.specs.meaning.State.{StateView}
 use Rattle.volume.specs.meaning.Calls.{flushStores, flushState}
 use Rattle.volume.specs.meaning.Content.{parityDriveAt}
 use Rattle.promise.specs.meaning.Ledger.{Ledger, afterFlush}
-use Rattle.promise.specs.invariant.Invariant.{Ghost, Here, LogsOk, Rest, RestZone, SurvivesLoss, Plain, Shape, durableEntries, said, factsOf}
+use Rattle.promise.specs.invariant.Invariant.{Ghost, Here, LogsOk, Rest, RestZone, SurvivesLoss, Plain, Shape, durableEntries, said, factsOf, closingEntry}
 use Rattle.promise.specs.invariant.SaidMoves.{live-mark}
 use Rattle.promise.specs.invariant.HoldsLess.{Less, less-live, less-capped}
 use Rattle.promise.specs.invariant.StoppedCall.{Parts, inv-part}
@@ -78,6 +78,10 @@ module _ (g : Geometry) (x : ℕ) (v w : Device) (γ : Ghost) (lg : LogsOk g x v
     first = lg .first;
     first-lasts = λ d a. le-trans (lg .first-lasts d a) (k d generalZone a (omega arith) .least);
     labels = lg .labels;
+    general-closes = lg .general-closes;
+    general-closed = λ d a p. mem-more (v d generalZone .durable) (w d generalZone .durable) (γ .general d) (closing 0 (γ .closed d .0)) (k d generalZone a (omega arith) .least) (lg .general-closed d a p);
+    parity-closes = lg .parity-closes;
+    parity-closed = λ d a p. cut-mono g d true (γ .parity d) (v d parityZone .durable) (w d parityZone .durable) (closingEntry 1 (γ .closed d .1)) (lg .parity-lawful d a) (k d parityZone a (omega arith) .least) refl (lg .parity-closed d a p);
     parity-is = λ d a. k d parityZone a (omega arith) .same ∙ lg .parity-is d a;
     parity-lawful = lg .parity-lawful;
     parity-fits = lg .parity-fits;
@@ -98,9 +102,10 @@ module _ (g : Geometry) (x : ℕ) (v w : Device) (γ : Ghost) (lg : LogsOk g x v
   }
 
 pub flush-keeps : (g : Geometry) → Valid g → FlushKeeps g
-flush-keeps g ok x v l n (γ, i) =
+flush-keeps g ok c x v l n (γ, i, e) =
     let w = applyAll (take n (flushStores g (presentBut g x))) v in
-    inv-part g x v w l γ i (more-durable-parts g x v w (flush-part g x v n (i .logs .lasting)))
+    let (δ, j, p) = inv-part g x v w l γ i (more-durable-parts g x v w (flush-part g x v n (i .logs .lasting))) in
+    (δ, j, p ∙ e)
 
 module _ (g : Geometry) (x : ℕ) (v : Device) (state : StateView) (l : Ledger) (γ : Ghost) (r : Rest g x v state l γ) where
   after : Device
@@ -152,7 +157,7 @@ module _ (g : Geometry) (x : ℕ) (v : Device) (state : StateView) (l : Ledger) 
 
 pub flush-rests : (g : Geometry) → Valid g → FlushRests g
 unfolding after
-flush-rests g ok x v state l (γ, r) = (
+flush-rests g ok c x v state l (γ, r, q) = (
   γ,
   record {
     logs = more-durable-logs g x v (after g x v state l γ r) γ (r .logs) (after-settled g x v state l γ r);
@@ -160,4 +165,5 @@ flush-rests g ok x v state l (γ, r) = (
     whole = r .whole;
     lost-is = inr refl;
   },
+  q,
 )

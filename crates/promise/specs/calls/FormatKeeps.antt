@@ -23,7 +23,7 @@ use Rattle.tables.specs.laws.Lists.{Prefix, mem-nil}
 use Rattle.tables.specs.meaning.Lists.{concat}
 use Rattle.tables.specs.declared.Geometry.{Geometry}
 use Rattle.tables.specs.meaning.Geometry.{Valid, physicalZones, dataZone}
-use Rattle.logs.specs.meaning.Entry.{generalZone, parityZone, wornGeneration, Header, label, counters, encode}
+use Rattle.logs.specs.meaning.Entry.{generalZone, parityZone, wornGeneration, Header, label, counters, encode, closing}
 use Rattle.tables.specs.laws.Drives.{presentBut, present-below}
 use Rattle.tables.specs.meaning.Drives.{noDrive}
 use Rattle.logs.specs.laws.Walk.{Reads}
@@ -35,7 +35,7 @@ use Rattle.promise.specs.meaning.Ledger.{freshLedger}
 use Rattle.promise.specs.invariant.Invariant.{Ghost, Here, LogsOk, Rest, LabelFits}
 use Rattle.promise.specs.invariant.EmptiedZone.{MadeEmpty, made-empty-rest}
 use Rattle.volume.specs.laws.Counters.{generations-length, generations-at, generations-small}
-use Rattle.promise.specs.invariant.Obligations.{FormatRests}
+use Rattle.promise.specs.invariant.Obligations.{FormatRests, neverEmptied}
 
 -- ---- how much longer a place can become
 abbrev appendsIn : List LocalStore → ℕ
@@ -132,7 +132,7 @@ module _ (g : Geometry) (ok : Valid g) (x a : ℕ) (v : Device) (lost : (x ≡ n
             rw h (omega (arith, appends-most os blankZone, appends-front os (p .rest), ap appendsIn t, ok .general-fits))
 
   ghost : Ghost
-  ghost = record { laid = λ z. []; generation = λ z. 1; general = λ d. heads; parity = λ d. []; array = a }
+  ghost = record { laid = λ z. []; generation = λ z. 1; general = λ d. heads; parity = λ d. []; array = a; closed = neverEmptied }
 
   label-fits : ltb x (g .drives) || eqb x noDrive ≡ true
   label-fits = go lost
@@ -153,6 +153,11 @@ module _ (g : Geometry) (ok : Valid g) (x a : ℕ) (v : Device) (lost : (x ≡ n
   heads-labels y b (List·Memᴰ·tail (List·Memᴰ·head q)) = absurd (let n : _≡_ {A = ℕ} 0 1 = cc in omega arith)
   heads-labels y b (List·Memᴰ·tail (List·Memᴰ·tail m)) = mem-nil (label y b) m
 
+  heads-closes : (j n : ℕ) → List·Memᴰ (closing j n) heads → n ≡ zero
+  heads-closes j n (List·Memᴰ·head q) = absurd (let n : _≡_ {A = ℕ} 0 1 = cc in omega arith)
+  heads-closes j n (List·Memᴰ·tail (List·Memᴰ·head q)) = absurd (let n : _≡_ {A = ℕ} 0 1 = cc in omega arith)
+  heads-closes j n (List·Memᴰ·tail (List·Memᴰ·tail m)) = mem-nil (closing j n) m
+
   heads-generation : (z : ℕ) (P : ℕ → Type 0) (h : Header) → List·Memᴰ h heads → zoneGen h (λ y n. y ≡ z → P n)
   heads-generation z P h (List·Memᴰ·head q) = subst (λ (t : Header). zoneGen t (λ y n. y ≡ z → P n)) (sym q) tt
   heads-generation z P h (List·Memᴰ·tail (List·Memᴰ·head q)) = subst (λ (t : Header). zoneGen t (λ y n. y ≡ z → P n)) (sym q) tt
@@ -168,6 +173,10 @@ module _ (g : Geometry) (ok : Valid g) (x a : ℕ) (v : Device) (lost : (x ≡ n
     first = λ d h. (x, counters ones ∷ [], refl);
     first-lasts = λ d h. rw (log-is d h) (omega arith);
     labels = λ d h. heads-labels;
+    general-closes = λ d h. heads-closes;
+    general-closed = λ d h p. absurd (omega (arith, p));
+    parity-closes = λ d h e m k n q. mem-nil e m;
+    parity-closed = λ d h p. absurd (omega (arith, p));
     parity-is = λ d h. rw (place-is d h parityZone (omega arith) (λ e. omega arith)) refl;
     parity-lawful = λ d h. tt;
     parity-fits = λ d h. zero-le;
@@ -199,7 +208,7 @@ module _ (g : Geometry) (ok : Valid g) (x a : ℕ) (v : Device) (lost : (x ≡ n
     before = record { in-general = λ d h. heads-generation z (λ n. n < 1); in-parity = λ d h e m. mem-nil e m };
   }
 
-  pub finishes : (δ : Ghost) × Rest g x (applyAll (concat phases) v) (formatState x) freshLedger δ
+  pub finishes : (δ : Ghost) × Rest g x (applyAll (concat phases) v) (formatState x) freshLedger δ × (δ .closed ≡ neverEmptied)
   unfolding after ghost
   finishes = (
     ghost,
@@ -209,6 +218,7 @@ module _ (g : Geometry) (ok : Valid g) (x a : ℕ) (v : Device) (lost : (x ≡ n
       whole = λ d h e m. mem-nil e m;
       lost-is = inr refl;
     },
+    unfold ghost in refl,
   )
 
 pub format-rests : (g : Geometry) → Valid g → FormatRests g

@@ -2,7 +2,7 @@
 -- its own entries; of the other zones nothing has changed but that more may last.
 use Rattle.logs.specs.laws.HeadLaws.{last-counters-either, last-counters-kept, last-counters-append, generation-small}
 use Rattle.volume.specs.laws.Counters.{generations-at, generations-length, generations-small}
-use Rattle.tables.specs.laws.Lists.{map-append, length-map, take-append, prefix-refl, mem-take, mem-more, mem-append}
+use Rattle.tables.specs.laws.Lists.{map-append, length-map, take-append, prefix-refl, mem-take, mem-more, mem-append, mem-left}
 use mathlib.Core.Path.{_≡_, refl, sym, ap, _∙_, subst}
 use mathlib.Core.Logic.{_≢_, _⊎_, inl, inr}
 use mathlib.Core.Bool.{true, false}
@@ -19,7 +19,7 @@ use Rattle.tables.specs.meaning.Device.{Device}
 use Rattle.tables.specs.meaning.Basics.{pick}
 use Rattle.tables.specs.declared.Geometry.{Geometry}
 use Rattle.tables.specs.meaning.Geometry.{Valid, physicalZones, dataZone}
-use Rattle.logs.specs.meaning.Entry.{generalZone, parityZone, wornGeneration, Header, label, counters, zoneReset, encode}
+use Rattle.logs.specs.meaning.Entry.{generalZone, parityZone, wornGeneration, Header, label, counters, zoneReset, encode, closing}
 use Rattle.tables.specs.laws.Drives.{presentBut}
 use Rattle.logs.specs.laws.Walk.{Reads, cut-mono}
 use Rattle.logs.specs.laws.Codec.{reads}
@@ -28,7 +28,7 @@ use Rattle.volume.specs.meaning.State.{StateView}
 use Rattle.promise.specs.invariant.Obligations.{ResetOk}
 use Rattle.volume.specs.meaning.Calls.{generationsFrom, raisedAt, logsReset}
 use Rattle.promise.specs.meaning.Ledger.{Ledger}
-use Rattle.promise.specs.invariant.Invariant.{Ghost, Here, LogsOk, Rest, RestZone, LabelFits}
+use Rattle.promise.specs.invariant.Invariant.{Ghost, Here, LogsOk, Rest, RestZone, LabelFits, closingEntry}
 use Rattle.promise.specs.invariant.UntouchedZone.{Other, Joins, other, itsReset, Untouched}
 use Rattle.promise.specs.calls.FlushKeeps.{MoreDurable}
 
@@ -69,7 +69,7 @@ module _ (g : Geometry) (ok : Valid g) (x : ℕ) (v : Device) (state : StateView
 
   -- the ghosts: other logs, and whatever the zone's own are
   abbrev pub grown : (ℕ → List (List ℕ)) → (ℕ → ℕ) → (ℕ → List Header) → Ghost
-  grown laid generation T = record { laid = laid; generation = generation; general = λ d. γ .general d ++ T d; parity = γ .parity; array = γ .array }
+  grown laid generation T = record { laid = laid; generation = generation; general = λ d. γ .general d ++ T d; parity = γ .parity; array = γ .array; closed = γ .closed }
 
   general-length : (d : ℕ) → Here g x d → length (γ .general d) ≡ length (v d generalZone .sectors)
   general-length d a = sym (length-map (encode g d) (γ .general d)) ∙ ap (λ (t : List (List ℕ)). length t) (sym (r .logs .general-is d a))
@@ -84,6 +84,10 @@ module _ (g : Geometry) (ok : Valid g) (x : ℕ) (v : Device) (state : StateView
       first = λ d a. let (y, hs, e) = r .logs .first d a in (y, hs ++ T d, ap (λ (t : List Header). t ++ T d) e);
       first-lasts = λ d a. le-trans (r .logs .first-lasts d a) (k .log-least d a);
       labels = λ d a y b m. lab d a y b (mem-append (γ .general d) (T d) (label y b) m);
+      general-closes = λ d a j n m. close d a j n (mem-append (γ .general d) (T d) (closing j n) m);
+      general-closed = λ d a p. mem-front d a (closing 0 (γ .closed d .0)) (r .logs .general-closed d a p);
+      parity-closes = r .logs .parity-closes;
+      parity-closed = λ d a p. cut-mono g d true (γ .parity d) (v d parityZone .durable) (w d parityZone .durable) (closingEntry 1 (γ .closed d .1)) (r .logs .parity-lawful d a) (k .others d parityZone a (omega arith) (λ t. omega arith) (λ t. omega arith) .least) refl (r .logs .parity-closed d a p);
       parity-is = λ d a. k .others d parityZone a (omega arith) (λ e. omega arith) (λ e. omega arith) .same ∙ r .logs .parity-is d a;
       parity-lawful = r .logs .parity-lawful;
       parity-fits = r .logs .parity-fits;
@@ -102,6 +106,17 @@ module _ (g : Geometry) (ok : Valid g) (x : ℕ) (v : Device) (state : StateView
             no : New d (label y b) → ⊥
             no (inl e) = let q : label y b ≡ zoneReset z (γ .generation z) = e .0 in let n : _≡_ {A = ℕ} 0 1 = cc in omega arith
             no (inr e) = let n : _≡_ {A = ℕ} 0 1 = cc in omega arith
+
+        close : (d : ℕ) → Here g x d → (j n : ℕ) → List·Memᴰ (closing j n) (γ .general d) ⊎ List·Memᴰ (closing j n) (T d) → n ≡ γ .closed d .0
+        close d a j n (inl m) = r .logs .general-closes d a j n m
+        close d a j n (inr m) = absurd (no (k .new d a (closing j n) m))
+          where
+            no : New d (closing j n) → ⊥
+            no (inl e) = let q : closing j n ≡ zoneReset z (γ .generation z) = e .0 in let n : _≡_ {A = ℕ} 0 1 = cc in omega arith
+            no (inr e) = let n : _≡_ {A = ℕ} 0 1 = cc in omega arith
+
+        mem-front : (d : ℕ) → Here g x d → (h : Header) → List·Memᴰ h (take (v d generalZone .durable) (γ .general d)) → List·Memᴰ h (take (w d generalZone .durable) (γ .general d ++ T d))
+        mem-front d a h m = rw (take-append (w d generalZone .durable) (γ .general d) (T d)) (mem-left (take (w d generalZone .durable) (γ .general d)) (take (w d generalZone .durable - length (γ .general d)) (T d)) h (mem-more (v d generalZone .durable) (w d generalZone .durable) (γ .general d) h (k .log-least d a) m))
 
         last : (d y : ℕ) → Here g x d → y < physicalZones g → Dec (y ≡ generalZone) → Dec (y ≡ dataZone z) → w d y .durable ≤ length (w d y .sectors)
         last d y a h (yes e) q = rw e (k .log-most d a)

@@ -305,7 +305,7 @@ module _ (g : Geometry) (ok : Valid g) (x : ℕ) (v : Device) (state : StateView
         let p : Prefix t3 (flushHere ∷ []) = seen-prefix ([] ∷ (flushHere ∷ []) ∷ []) j t3 u3 in
         rw (at-zone d .1, e, e2, e3) (front-is-part blankZone (applyAllHere t3 blankZone) (front-part [] zero blankZone t3 (flushHere ∷ []) zero-le zero-le tt p (prefix-refl [])))
 
-    stopped : (δ : Ghost) × Inv g x (applyAll some v) (afterStoppedReset l z) δ
+    stopped : (δ : Ghost) × Inv g x (applyAll some v) (afterStoppedReset l z) δ × (δ .closed ≡ γ .closed)
     stopped = go (stop .phase) refl
       where
         at-log : (d i : ℕ) → Here g x d → stop .phase ≡ i → SeenPart (tableLog d) i (localStores d generalZone some)
@@ -314,13 +314,13 @@ module _ (g : Geometry) (ok : Valid g) (x : ℕ) (v : Device) (state : StateView
         at-data : (d i : ℕ) → Here g x d → stop .phase ≡ i → SeenPart tableZone i (localStores d (dataZone z) some)
         at-data d i a e = rw e at (sawZone d a)
 
-        early : (i : ℕ) → i < 2 → stop .phase ≡ i → (δ : Ghost) × Inv g x (applyAll some v) (afterStoppedReset l z) δ
+        early : (i : ℕ) → i < 2 → stop .phase ≡ i → (δ : Ghost) × Inv g x (applyAll some v) (afterStoppedReset l z) δ × (δ .closed ≡ γ .closed)
         early i h e = inv-part g x loggingDevice (applyAll some v) (afterStoppedReset l z) loggingGhost logging-inv (parts loggingDevice
             (λ d a. rw (local-is d generalZone some v) (logging-log d a i (localStores d generalZone some) h (at-log d i a e)))
             (λ d a. rw (local-is d (dataZone z) some v) (logging-zone d a i (localStores d (dataZone z) some) h (at-data d i a e)))
             (λ d y p q. at-other d y p q .2))
 
-        go : (i : ℕ) → stop .phase ≡ i → (δ : Ghost) × Inv g x (applyAll some v) (afterStoppedReset l z) δ
+        go : (i : ℕ) → stop .phase ≡ i → (δ : Ghost) × Inv g x (applyAll some v) (afterStoppedReset l z) δ × (δ .closed ≡ γ .closed)
         go zero e = early zero (omega arith) e
         go (suc zero) e = early 1 (omega arith) e
         go (suc (suc zero)) e = inv-part g x resettingDevice (applyAll some v) (afterStoppedReset l z) loggingGhost resetting-inv (parts resettingDevice
@@ -453,14 +453,14 @@ module _ (g : Geometry) (ok : Valid g) (x : ℕ) (v : Device) (state : StateView
       zone y h (yes e) = rw e (made-empty-rest g ok x doneDevice doneGhost (afterReset l z) z done-emptied (resetState x state z) (rw (generation-own, eq-eqb z z refl, here .generation-is) refl) done-condition (here .no-flag))
       zone y h (no n) = done-others y h n
 
-  pub finishes : (δ : Ghost) × Rest g x (applyAll (concat phases) v) (resetState x state z) (afterReset l z) δ
-  unfolding doneDevice
-  finishes = (doneGhost, finished)
+  pub finishes : (δ : Ghost) × Rest g x (applyAll (concat phases) v) (resetState x state z) (afterReset l z) δ × (δ .closed ≡ γ .closed)
+  unfolding doneDevice doneGhost
+  finishes = (doneGhost, finished, refl)
 
 pub reset-keeps : (g : Geometry) → Valid g → ResetKeeps g
 unfolding resetStores
-reset-keeps g ok x v state l z n (γ, r) w = stopped g ok x v state l γ r z w n
+reset-keeps g ok c x v state l z n (γ, r, e) w = let (δ, j, p) = stopped g ok x v state l γ r z w n in (δ, j, p ∙ e)
 
 pub reset-rests : (g : Geometry) → Valid g → ResetRests g
 unfolding resetStores
-reset-rests g ok x v state l z (γ, r) w = finishes g ok x v state l γ r z w
+reset-rests g ok c x v state l z (γ, r, e) w = let (δ, j, p) = finishes g ok x v state l γ r z w in (δ, j, p ∙ e)

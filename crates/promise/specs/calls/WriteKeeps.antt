@@ -22,7 +22,7 @@ use Rattle.tables.specs.meaning.Placement.{needed, stripeOf}
 use Rattle.tables.specs.laws.Placement.{stripe-below, stripe-above}
 use Rattle.tables.specs.declared.Geometry.{Geometry}
 use Rattle.tables.specs.meaning.Geometry.{Valid, stripeSectors, zoneSectors, physicalZones, dataZone}
-use Rattle.logs.specs.meaning.Entry.{generalZone, parityZone, Header, partialParity, seal, Entry, rowsOf, fitsLog}
+use Rattle.logs.specs.meaning.Entry.{generalZone, parityZone, Header, partialParity, seal, Entry, rowsOf, fitsLog, closing}
 use Rattle.logs.specs.laws.Entry.{FieldsFit}
 use Rattle.tables.specs.laws.Drives.{presentBut, present-below}
 use Rattle.logs.specs.laws.Walk.{Whole, WellFormedLog, Reads, Left, cut-joins, sectorsOfAll, sectors-of-append, logExtent, extent-append, extent-whole, lawful-joins}
@@ -41,7 +41,7 @@ use Rattle.volume.specs.meaning.State.{pointerIn, StateView, setAt}
 use Rattle.volume.specs.meaning.Rules.{valueAt}
 use Rattle.promise.specs.invariant.Obligations.{WriteOk, Writable, WriteKeeps, WriteRests}
 use Rattle.promise.specs.meaning.Ledger.{Ledger, afterWrite}
-use Rattle.promise.specs.invariant.Invariant.{Ghost, Here, LogsOk, CappedBelow, TrueRows, Live, Inv, Rest, RestZone, rest-inv, Plain, Shape}
+use Rattle.promise.specs.invariant.Invariant.{Ghost, Here, LogsOk, CappedBelow, TrueRows, Live, Inv, Rest, RestZone, rest-inv, Plain, Shape, closingEntry}
 use Rattle.logs.specs.laws.Heads.{zoneGen}
 use Rattle.promise.specs.look.LookFits.{rest-known}
 use Rattle.tables.specs.laws.Sizes.{needed-fits}
@@ -255,7 +255,7 @@ module _ (g : Geometry) (ok : Valid g) (x : ℕ) (v : Device) (state : StateView
 
   -- ---- the ghosts after
   next : Ghost
-  next = record { laid = setAt (γ .laid) z all; generation = γ .generation; general = γ .general; parity = λ d. γ .parity d ++ logged d; array = γ .array }
+  next = record { laid = setAt (γ .laid) z all; generation = γ .generation; general = γ .general; parity = λ d. γ .parity d ++ logged d; array = γ .array; closed = γ .closed }
 
   next-laid : next .laid z ≡ all
   unfolding next
@@ -302,6 +302,10 @@ module _ (g : Geometry) (ok : Valid g) (x : ℕ) (v : Device) (state : StateView
     first = r .logs .first;
     first-lasts = λ d a. rw (keep-now d generalZone a) (r .logs .first-lasts d a);
     labels = r .logs .labels;
+    general-closes = r .logs .general-closes;
+    general-closed = λ d a. rw (keep-now d generalZone a) (r .logs .general-closed d a);
+    parity-closes = λ d a e m j n q. close d a e j n q (in-next d e m);
+    parity-closed = λ d a p. rw (keep-now d parityZone a) (cut-joins g d true (γ .parity d) (logged d) (v d parityZone .durable) (closingEntry 1 (γ .closed d .1)) (r .logs .parity-closed d a p));
     parity-is = sectors-log;
     parity-lawful = λ d a. lawful-joins g d true (γ .parity d) (logged d) (r .whole d a) (r .logs .parity-lawful d a) (logged-lawful d);
     parity-fits = λ d a. extents d a;
@@ -309,6 +313,10 @@ module _ (g : Geometry) (ok : Valid g) (x : ℕ) (v : Device) (state : StateView
     place-fits = λ d y a h. fit d y a h (ℕ-discrete y (dataZone z)) (ℕ-discrete y parityZone);
   }
     where
+      close : (d : ℕ) → Here g x d → (e : Entry) (j n : ℕ) → e .head ≡ closing j n → List·Memᴰ e (γ .parity d) ⊎ Logged d e → n ≡ γ .closed d .1
+      close d a e j n q (inl m) = r .logs .parity-closes d a e m j n q
+      close d a e j n q (inr k) = let p : e .head ≡ entry .head = ap (λ (t : Entry). t .head) (k .2) in let s = entry-head in absurd (let o : _≡_ {A = ℕ} 0 1 = cc in omega arith)
+
       extents : (d : ℕ) → Here g x d → logExtent g d true (γ .parity d ++ logged d) ≤ g .capacity
       extents d a =
           let q : logExtent g d true (γ .parity d) ≡ length (v d parityZone .sectors) = extent-whole g d true (γ .parity d) (r .whole d a) ∙ ap (λ (t : List (List ℕ)). length t) (sym (r .logs .parity-is d a)) in
@@ -457,15 +465,16 @@ module _ (g : Geometry) (ok : Valid g) (x : ℕ) (v : Device) (state : StateView
       zone y h (yes e) = rw e zone-now
       zone y h (no n) = others y h n
 
-  pub finished : (δ : Ghost) × Rest g x (applyAll (writeStores g (presentBut g x) v state z ss) v) (writeState x state z ss) (afterWrite l z ss) δ
-  unfolding after
-  finished = (next, rest-now)
+  pub finished : (δ : Ghost) × Rest g x (applyAll (writeStores g (presentBut g x) v state z ss) v) (writeState x state z ss) (afterWrite l z ss) δ × (δ .closed ≡ γ .closed)
+  unfolding after next
+  finished = (next, rest-now, refl)
 
-  pub stopped : (n : ℕ) → (δ : Ghost) × Inv g x (applyAll (take n (writeStores g (presentBut g x) v state z ss)) v) (afterWrite l z ss) δ
+  pub stopped : (n : ℕ) → (δ : Ghost) × Inv g x (applyAll (take n (writeStores g (presentBut g x) v state z ss)) v) (afterWrite l z ss) δ × (δ .closed ≡ γ .closed)
+  unfolding next
   stopped n = inv-part g x after (applyAll (take n (writeStores g (presentBut g x) v state z ss)) v) (afterWrite l z ss) next (rest-inv g x after (writeState x state z ss) (afterWrite l z ss) next rest-now) (stop-parts n)
 
 pub write-keeps : (g : Geometry) → Valid g → WriteKeeps g
-write-keeps g ok x v state l z ss n (γ, r) w = stopped g ok x v state l γ r z ss w n
+write-keeps g ok c x v state l z ss n (γ, r, e) w = let (δ, j, p) = stopped g ok x v state l γ r z ss w n in (δ, j, p ∙ e)
 
 pub write-rests : (g : Geometry) → Valid g → WriteRests g
-write-rests g ok x v state l z ss (γ, r) w = finished g ok x v state l γ r z ss w
+write-rests g ok c x v state l z ss (γ, r, e) w = let (δ, j, p) = finished g ok x v state l γ r z ss w in (δ, j, p ∙ e)

@@ -1,39 +1,41 @@
--- What an accepted call meets: no row of its table applies. So an accepted write, reset or mount is WriteOk, ResetOk or MountOk, and an
+-- What an accepted call meets: no row of its table applies. So the logs that it asks for room have it, or can be emptied (RoomAsked), and an
 -- answer that is finished came of an accepted call. A refused one meets a row that applies. Of the drives named only those below D matter.
-use Rattle.volume.specs.meaning.Answers.{CallResult, storing, Given, given, giving, sectorsIn}
+use Rattle.volume.specs.meaning.Answers.{CallResult, storing, sectorsIn, presentIn, lostDriveIn}
 use Rattle.volume.specs.declared.Answer.the-variants.{Finished, Unfinished, Refused}
 use Rattle.volume.specs.laws.Refusals.{accepted-row}
 use Rattle.tables.specs.meaning.Device.{applyAll, Store, Device}
 use Rattle.tables.specs.meaning.GeometryTest.{isValid}
 use Rattle.tables.specs.laws.GeometryTest.{valid-if-test}
 use Rattle.tables.specs.meaning.Tables.{bufferFits}
-use Rattle.volume.specs.meaning.Refusals.{firstRefusal, Verdict, badPointers, twoLost, refuse, accept, TableLengths, zoneOf, offsetOf, tablesFit, unusedBelow, writeFull, reserve, mountRows, writeRows, resetRows}
-use Rattle.volume.specs.meaning.Rules.{lostDrive, isLost, isPresent}
-use Rattle.tables.specs.laws.Below.{any-below-cong, count-below-cong, some-any-below, length-tabulate-from, getD-tabulate-from}
+use Rattle.volume.specs.meaning.Refusals.{firstRefusal, Verdict, badPointers, twoLost, refuse, accept, TableLengths, zoneOf, offsetOf, tablesFit, writeFull, resetFull, mountFull, goneForEntry, goneBefore, mountRows, writeRows, resetRows}
+use Rattle.volume.specs.meaning.Roles.{Roles, roles, byRoles, claimOfKind, lacksKind}
+use Rattle.volume.specs.meaning.Emptying.{InForce, byState, byLook, newParitySize, unusedIn, lacksRoom, staysFull, spareWritten, reserve, mountGeneralLimit, resetLimit, writeLimit, emptiedFor, emptiedForWrite, goneForCopies}
+use Rattle.volume.specs.meaning.Rules.{lostDrive, isLost, isPresent, showing}
+use Rattle.tables.specs.laws.Below.{any-below-cong, any-below-false, count-below-cong, length-tabulate-from, getD-tabulate-from}
 use Rattle.tables.specs.meaning.Below.{anyBelow, tabulateFrom}
 use Rattle.tables.specs.laws.Drives.{find-below-cong}
-use Rattle.tables.specs.laws.Basics.{or-none, not-not, and-split, not-both}
+use Rattle.tables.specs.laws.Basics.{or-none, not-not, and-split}
 use Rattle.tables.specs.meaning.Basics.{pick}
 use mathlib.Core.Path.{_≡_, refl, sym, ap, _∙_, fun-ext}
 use mathlib.Core.Logic.{_≢_, _⊎_, inl, inr}
-use mathlib.Core.Bool.{Bool, true, false, _&&_, _||_, not, true≢false}
-use Prim.Native.Nat.{ℕ, zero, suc, _+_, _-_, _*_, _≤_, _<_, min}
+use mathlib.Core.Bool.{Bool, true, false, _&&_, _||_, not, true≢false, and-assoc}
+use Prim.Native.Nat.{ℕ, zero, suc, _+_, _-_, _*_, _≤_, _<_}
 use native.Mathlib.Nat.{mul-le-mul-right}
 use native.Mathlib.Omega.{arith}
-use native.Mathlib.Decide.{decLt}
 use mathlib.Core.List.{List, [], _∷_}
 use lib.ListN.{length, getD, take, drop, length-drop}
 use lib.Seq.{length-take-le}
 use lib.Dec.{ltb, leb, eqb}
-use borrow.Author.Tests.{lt-ltb, ltb-true, ltb-false, eqb-true, eqb-false, leb-false}
+use borrow.Author.Tests.{ltb-true, ltb-false, eqb-true, eqb-false, leb-false}
 use Rattle.tables.specs.declared.Geometry.{Geometry}
 use Rattle.tables.specs.meaning.Geometry.{zoneSectors}
-use Rattle.logs.specs.meaning.Entry.{generalZone, parityZone, wornGeneration}
-use Rattle.volume.specs.meaning.Content.{at, insideStripe, fillOf, parityDriveAt}
+use Rattle.logs.specs.meaning.Entry.{spareZone, wornGeneration, kindOfLog}
+use Rattle.volume.specs.meaning.Content.{at, insideStripe, parityDriveAt}
 use Rattle.volume.specs.declared.Condition.{Condition}
 use Rattle.volume.specs.declared.Condition.the-variants.{Empty, Open, Sealed, Worn}
 use Rattle.volume.specs.meaning.State.{pointerIn, isSealed, isWorn, StateView, callPresent}
-use Rattle.promise.specs.invariant.Obligations.{Writable, WriteOk, ResetOk, MountOk}
+use Rattle.promise.specs.invariant.Obligations.{Writable}
+use Rattle.promise.specs.invariant.RoomAsked.{Emptiable, RoomAsked, generalSizes, ResetAccepted, askedByWrite, WriteAccepted, MountAccepted}
 
 module _ (g : Geometry) (named other : ℕ → Bool) (same : (d : ℕ) → d < g .drives → named d ≡ other d) where
   pub lost-same : (v : Device) (d : ℕ) → d < g .drives → isLost g named v d ≡ isLost g other v d
@@ -80,6 +82,43 @@ sectors-size g count buffer e a h =
     let p : getD (tabulateFrom (λ i. take (g .sector) (drop (i * g .sector) buffer)) zero count) a [] ≡ take (g .sector) (drop (a * g .sector) buffer) = getD-tabulate-from (λ i. take (g .sector) (drop (i * g .sector) buffer)) zero count a h ∙ ap (λ (i : ℕ). take (g .sector) (drop (i * g .sector) buffer)) z in
     ap length p ∙ length-take-le (g .sector) (drop (a * g .sector) buffer) l
 
+-- ---- the logs that are asked for room: limit > 0 sectors (size: of the new log)
+module _ (g : Geometry) (par : Bool) (r : ℕ → Roles) (w : Device) (limit : ℕ) (pos : zero < limit) where
+  unused-room : (d : ℕ) → lacksRoom g par r w limit d ≡ false → length (w d (kindOfLog par) .sectors) + limit ≤ g .capacity
+  unfolding unusedIn
+  unused-room d h = go (eqb (claimOfKind par (r d)) 0) (ltb-false (unusedIn g par r w d) limit h)
+    where
+      go : (b : Bool) → limit ≤ pick b 0 (g .capacity - length (w d (kindOfLog par) .sectors)) → length (w d (kindOfLog par) .sectors) + limit ≤ g .capacity
+      go true k = absurd (omega (arith, k, pos))
+      go false k = omega (arith, k, pos)
+
+  stays-none : (size d : ℕ) → staysFull g par r limit size d ≡ false → Emptiable g par (r d) limit size
+  unfolding staysFull
+  stays-none size d h =
+      let (p, q) = or-none (ltb (g .capacity - size) limit) (lacksKind (r d) || ltb wornGeneration (claimOfKind par (r d))) h in
+      let (a, b) = or-none (lacksKind (r d)) (ltb wornGeneration (claimOfKind par (r d))) q in
+      record { room = omega (arith, ltb-false (g .capacity - size) limit p, pos); kinds = a; top = ltb-false wornGeneration (claimOfKind par (r d)) b }
+
+  -- (asked: of which drives; emptied: those of them that lack it)
+  asked-by : (asked emptied : ℕ → Bool) (size : ℕ → ℕ) → ((d : ℕ) → emptied d ≡ asked d && lacksRoom g par r w limit d) → ((d : ℕ) → asked d ≡ true → d < g .drives)
+      → ((d : ℕ) → d < g .drives → emptied d ≡ true → staysFull g par r limit (size d) d ≡ false) → RoomAsked g par r w asked emptied limit size
+  asked-by asked emptied size is low fits = record {
+    roomy = λ d a e. unused-room d (rw a at (sym (is d) ∙ e));
+    emptiable = λ d e. let (a, b) = and-split (asked d) (lacksRoom g par r w limit d) (sym (is d) ∙ e) in stays-none (size d) d (fits d (low d a) e);
+  }
+
+-- a spare that has nothing written
+not-written : (w : Device) (d : ℕ) → spareWritten w d ≡ false → w d spareZone .sectors ≡ []
+not-written w d h = go (w d spareZone .sectors) (ltb-false 0 (length (w d spareZone .sectors)) h)
+  where
+    go : (ss : List (List ℕ)) → length ss ≤ 0 → ss ≡ []
+    go [] k = refl
+    go (s ∷ ss) k = absurd (omega (arith, k))
+
+-- one drive's part of a row that does not apply
+drive-passes : (p q : ℕ → Bool) (n : ℕ) → anyBelow (λ d. p d && q d) n ≡ false → (d : ℕ) → d < n → p d ≡ true → q d ≡ false
+drive-passes p q n h d hd e = rw e at (any-below-false (λ d. p d && q d) n d h hd)
+
 -- ---- an accepted write
 writable-by : (c : Condition) → isSealed c ≡ false → isWorn c ≡ false → Writable c
 writable-by Empty p q = tt
@@ -87,41 +126,10 @@ writable-by (Open n) p q = tt
 writable-by (Sealed n) p q = true≢false p
 writable-by (Worn n) p q = true≢false q
 
-room-by : (g : Geometry) (present : ℕ → Bool) (v : Device) (z end : ℕ) → writeFull g present v z end ≡ false → insideStripe g end ≡ true → present (parityDriveAt g z end) ≡ true
-    → length (v (parityDriveAt g z end) parityZone .sectors) + (suc (min (fillOf g end) (g .unit)) + (g .zones * (1 + g .unit) + g .unit)) ≤ g .capacity
-unfolding writeFull
-room-by g present v z end h i p =
-    let q : ltb (g .capacity - length (v (parityDriveAt g z end) parityZone .sectors)) (suc (min (fillOf g end) (g .unit)) + reserve g) ≡ false = rw (i, p) at h in
-    omega (arith, ltb-false (g .capacity - length (v (parityDriveAt g z end) parityZone .sectors)) (suc (min (fillOf g end) (g .unit)) + reserve g) q)
+write-asks : (g : Geometry) (present : ℕ → Bool) (r : ℕ → Roles) (w : Device) (z end d : ℕ) → emptiedForWrite g present r w z end d ≡ askedByWrite g present z end d && lacksRoom g true r w (writeLimit g end) d
+unfolding emptiedForWrite emptiedFor
+write-asks g present r w z end d = sym (and-assoc (insideStripe g end && eqb d (parityDriveAt g z end)) (present d) (lacksRoom g true r w (writeLimit g end) d))
 
--- at least n > 0 sectors of that log are unused on each present drive
-unused-by : (g : Geometry) (present : ℕ → Bool) (v : Device) (y n : ℕ) → zero < n → unusedBelow g present v y n ≡ false → (d : ℕ) → d < g .drives → present d ≡ true → length (v d y .sectors) + n ≤ g .capacity
-unfolding unusedBelow
-unused-by g present v y n pos h d hd p = go (decLt (g .capacity - length (v d y .sectors)) n)
-  where
-    go : Dec (g .capacity - length (v d y .sectors) < n) → length (v d y .sectors) + n ≤ g .capacity
-    go (yes l) = not-both (anyBelow (λ d. present d && ltb (g .capacity - length (v d y .sectors)) n) (g .drives)) (some-any-below (λ d. present d && ltb (g .capacity - length (v d y .sectors)) n) (g .drives) d hd (rw (p, lt-ltb (g .capacity - length (v d y .sectors)) n l) refl)) h
-    go (no l) = omega arith
-
-pub write-ok : (g : Geometry) (t : TableLengths) (named : ℕ → Bool) (state : StateView) (a count : ℕ) (buffer : List ℕ) (v : Device)
-    → firstRefusal (writeRows g t (badPointers g named v) named state a count (length buffer) v) ≡ accept → WriteOk g (callPresent g named state) v state (zoneOf g a) (sectorsIn g count buffer)
-unfolding writeRows bufferFits
-write-ok g t named state a count buffer v e =
-    let row = accepted-row (writeRows g t (badPointers g named v) named state a count (length buffer) v) e in
-    let (q1, q2) = and-split (tablesFit g t) (bufferFits g count (length buffer)) (not-not (tablesFit g t && bufferFits g count (length buffer)) (row 2)) in
-    let (n1, n2) = or-none (eqb count 0) (ltb (zoneSectors g) (offsetOf g a + count)) (row 9) in
-    let o : offsetOf g a ≡ pointerIn (state .condition (zoneOf g a)) = eqb-true (offsetOf g a) (pointerIn (state .condition (zoneOf g a))) (not-not (eqb (offsetOf g a) (pointerIn (state .condition (zoneOf g a)))) (row 10)) in
-    let n : count ≢ 0 = eqb-false count 0 n1 in
-    record {
-      zone-ok = ltb-true (zoneOf g a) (g .zones) (not-not (ltb (zoneOf g a) (g .zones)) (row 8));
-      writable = writable-by (state .condition (zoneOf g a)) (row 11) (row 12);
-      some = rw (sectors-length g count buffer) (omega arith);
-      run = rw (sectors-length g count buffer) (omega (arith, ltb-false (zoneSectors g) (offsetOf g a + count) n2));
-      sizes = λ i h. sectors-size g count buffer (eqb-true (length buffer) (count * g .sector) q2) i (rw (sectors-length g count buffer) at h);
-      room = rw (sectors-length g count buffer) (room-by g (callPresent g named state) v (zoneOf g a) (pointerIn (state .condition (zoneOf g a)) + count) (row 14));
-    }
-
--- ---- an accepted reset
 call-lt : (g : Geometry) (named : ℕ → Bool) (state : StateView) (d : ℕ) → callPresent g named state d ≡ true → d < g .drives
 unfolding callPresent
 call-lt g named state d h = ltb-true d (g .drives) (and-split (ltb d (g .drives)) (named d && not (eqb d (state .lost))) h .0)
@@ -130,27 +138,82 @@ present-lt : (g : Geometry) (named : ℕ → Bool) (v : Device) (d : ℕ) → is
 unfolding isPresent
 present-lt g named v d h = ltb-true d (g .drives) (and-split (ltb d (g .drives)) (not (isLost g named v d)) h .0)
 
-pub reset-ok : (g : Geometry) (t : TableLengths) (named : ℕ → Bool) (state : StateView) (z : ℕ) (v : Device) → firstRefusal (resetRows g t (badPointers g named v) named state z v) ≡ accept → ResetOk g (callPresent g named state) v state z
-unfolding resetRows
-reset-ok g t named state z v e =
-    let row = accepted-row (resetRows g t (badPointers g named v) named state z v) e in
-    let (w1, w2) = or-none (isWorn (state .condition z)) (leb wornGeneration (state .generation z)) (row 12) in
-    record {
-      zone-ok = ltb-true z (g .zones) (not-not (ltb z (g .zones)) (row 8));
-      not-worn = omega (arith, leb-false wornGeneration (state .generation z) w2);
-      room = λ d p. unused-by g (callPresent g named state) v generalZone (g .zones + 4) (omega arith) (row 14) d (call-lt g named state d p) p;
-    }
+module _ (g : Geometry) (t : TableLengths) (named : ℕ → Bool) (state : StateView) (v : Device) where
+  abbrev here : ℕ → Bool
+  here = callPresent g named state
+
+  abbrev force : InForce
+  force = byState g here (byRoles g v) state
+
+  pub write-accepted : (a count : ℕ) (buffer : List ℕ) → firstRefusal (writeRows g t (badPointers g named v) named state a count (length buffer) (roles g v) (byRoles g v)) ≡ accept
+      → WriteAccepted g here (roles g v) (byRoles g v) force state (zoneOf g a) (sectorsIn g count buffer)
+  unfolding writeRows bufferFits writeFull goneForEntry
+  write-accepted a count buffer e =
+      let z = zoneOf g a in
+      let end = pointerIn (state .condition z) + count in
+      let row = accepted-row (writeRows g t (badPointers g named v) named state a count (length buffer) (roles g v) (byRoles g v)) e in
+      let (q1, q2) = and-split (tablesFit g t) (bufferFits g count (length buffer)) (not-not (tablesFit g t && bufferFits g count (length buffer)) (row 2)) in
+      let (n1, n2) = or-none (eqb count 0) (ltb (zoneSectors g) (offsetOf g a + count)) (row 9) in
+      let (g1, g2) = or-none (goneForEntry g here (roles g v) force (byRoles g v) z end) (goneBefore g here (byRoles g v) z (state .generation z) (pointerIn (state .condition z))) (row 15) in
+      let o : offsetOf g a ≡ pointerIn (state .condition z) = eqb-true (offsetOf g a) (pointerIn (state .condition z)) (not-not (eqb (offsetOf g a) (pointerIn (state .condition z))) (row 10)) in
+      let n : count ≢ 0 = eqb-false count 0 n1 in
+      let emptied : ℕ → Bool = emptiedForWrite g here (roles g v) (byRoles g v) z end in
+      let stays : ℕ → Bool = λ d. staysFull g true (roles g v) (writeLimit g end) (newParitySize g force d) d in
+      let low : (d : ℕ) → emptied d ≡ true → d < g .drives = λ d m. asked-lt z end d (sym (write-asks g here (roles g v) (byRoles g v) z end d) ∙ m) in
+      let fits : (d : ℕ) → d < g .drives → emptied d ≡ true → (stays d ≡ false) × (spareWritten (byRoles g v) d ≡ false) = λ d hd m. or-none (stays d) (spareWritten (byRoles g v) d) (drive-passes emptied (λ d. stays d || spareWritten (byRoles g v) d) (g .drives) (row 14) d hd m) in
+      let len = sectors-length g count buffer in
+      record {
+        zone-ok = ltb-true z (g .zones) (not-not (ltb z (g .zones)) (row 8));
+        writable = writable-by (state .condition z) (row 11) (row 12);
+        some = rw len (omega arith);
+        run = rw len (omega (arith, ltb-false (zoneSectors g) (offsetOf g a + count) n2));
+        sizes = λ i h. sectors-size g count buffer (eqb-true (length buffer) (count * g .sector) q2) i (rw len at h);
+        logs = rw len (asked-by g true (roles g v) (byRoles g v) (writeLimit g end) (omega arith) (askedByWrite g here z end) emptied (newParitySize g force) (write-asks g here (roles g v) (byRoles g v) z end)
+            (λ d m. call-lt g named state d (and-split (insideStripe g end && eqb d (parityDriveAt g z end)) (here d) m .1)) (λ d hd m. fits d hd m .0));
+        blank = rw len (λ d m. not-written (byRoles g v) d (fits d (low d m) m .1));
+        known = rw len (λ d m. drive-passes emptied (goneForCopies g here force (byRoles g v)) (g .drives) g1 d (low d m) m);
+      }
+    where
+      asked-lt : (z end d : ℕ) → askedByWrite g here z end d && lacksRoom g true (roles g v) (byRoles g v) (writeLimit g end) d ≡ true → d < g .drives
+      asked-lt z end d m =
+          let (a, b) = and-split (askedByWrite g here z end d) (lacksRoom g true (roles g v) (byRoles g v) (writeLimit g end) d) m in
+          call-lt g named state d (and-split (insideStripe g end && eqb d (parityDriveAt g z end)) (here d) a .1)
+
+  -- ---- an accepted reset
+  pub reset-accepted : (z : ℕ) → firstRefusal (resetRows g t (badPointers g named v) named state z (roles g v) (byRoles g v)) ≡ accept → ResetAccepted g here (roles g v) (byRoles g v) force state z
+  unfolding resetRows resetFull emptiedFor
+  reset-accepted z e =
+      let row = accepted-row (resetRows g t (badPointers g named v) named state z (roles g v) (byRoles g v)) e in
+      let (w1, w2) = or-none (isWorn (state .condition z)) (leb wornGeneration (state .generation z)) (row 12) in
+      let emptied : ℕ → Bool = emptiedFor g here false (roles g v) (byRoles g v) (resetLimit g) in
+      let stays : ℕ → Bool = λ d. staysFull g false (roles g v) (resetLimit g) (generalSizes g force (byRoles g v) d) d in
+      let low : (d : ℕ) → emptied d ≡ true → d < g .drives = λ d m. call-lt g named state d (and-split (here d) (lacksRoom g false (roles g v) (byRoles g v) (resetLimit g) d) m .0) in
+      let fits : (d : ℕ) → d < g .drives → emptied d ≡ true → (stays d ≡ false) × (spareWritten (byRoles g v) d ≡ false) = λ d hd m. or-none (stays d) (spareWritten (byRoles g v) d) (drive-passes emptied (λ d. stays d || spareWritten (byRoles g v) d) (g .drives) (row 14) d hd m) in
+      record {
+        zone-ok = ltb-true z (g .zones) (not-not (ltb z (g .zones)) (row 8));
+        not-worn = omega (arith, leb-false wornGeneration (state .generation z) w2);
+        logs = asked-by g false (roles g v) (byRoles g v) (resetLimit g) (omega arith) here emptied (generalSizes g force (byRoles g v)) (λ d. refl) (call-lt g named state) (λ d hd m. fits d hd m .0);
+        blank = λ d m. not-written (byRoles g v) d (fits d (low d m) m .1);
+      }
 
 -- ---- an accepted mount
-pub mount-ok : (g : Geometry) (t : TableLengths) (named : ℕ → Bool) (v : Device) → firstRefusal (mountRows g t (badPointers g named v) named v) ≡ accept → MountOk g (isPresent g named v) v
-unfolding mountRows
-mount-ok g t named v e =
-    let row = accepted-row (mountRows g t (badPointers g named v) named v) e in
-    let (f1, f2) = or-none (unusedBelow g (isPresent g named v) v generalZone (g .zones + 2)) (unusedBelow g (isPresent g named v) v parityZone (reserve g)) (row 14) in
+pub mount-accepted : (g : Geometry) (t : TableLengths) (named : ℕ → Bool) (v : Device) → firstRefusal (mountRows g t (badPointers g named v) named (roles g v) (byRoles g v)) ≡ accept
+    → let present = presentIn g named v in MountAccepted g present (roles g v) (byRoles g v) (byLook (showing g present (lostDriveIn g named v) (byRoles g v)))
+unfolding mountRows mountFull emptiedFor
+mount-accepted g t named v e =
+    let present = presentIn g named v in
+    let r = roles g v in
+    let w = byRoles g v in
+    let f = byLook (showing g present (lostDriveIn g named v) w) in
+    let row = accepted-row (mountRows g t (badPointers g named v) named r w) e in
     let ok = valid-if-test g (not-not (isValid g) (row 1)) in
+    let general : ℕ → Bool = emptiedFor g present false r w (mountGeneralLimit g) in
+    let parity : ℕ → Bool = emptiedFor g present true r w (reserve g) in
+    let one : (d : ℕ) → d < g .drives → (general d && staysFull g false r (mountGeneralLimit g) (generalSizes g f w d) d ≡ false) × (parity d && staysFull g true r (reserve g) (newParitySize g f d) d ≡ false)
+    = λ d hd. or-none (general d && staysFull g false r (mountGeneralLimit g) (generalSizes g f w d) d) (parity d && staysFull g true r (reserve g) (newParitySize g f d) d) (any-below-false _ (g .drives) d (row 14) hd) in
     record {
-      general-room = λ d p. unused-by g (isPresent g named v) v generalZone (g .zones + 2) (omega arith) f1 d (present-lt g named v d p) p;
-      parity-room = λ d p. unused-by g (isPresent g named v) v parityZone (reserve g) (omega (arith, ok .unit-least)) f2 d (present-lt g named v d p) p;
+      general = asked-by g false r w (mountGeneralLimit g) (omega arith) present general (generalSizes g f w) (λ d. refl) (present-lt g named w) (λ d hd m. rw m at (one d hd .0));
+      parity = asked-by g true r w (reserve g) (omega (arith, ok .unit-least)) present parity (newParitySize g f) (λ d. refl) (present-lt g named w) (λ d hd m. rw m at (one d hd .1));
     }
 
 -- ---- a refused call: the row of that number applies, and none before it
@@ -167,10 +230,6 @@ refused-applies ((m, b) ∷ rows) n e = go b refl e (λ q. refused-applies rows 
     go false p q ih = inr (p, ih q)
 
 -- ---- what an answer tells of the call
-pub giving-is : {A : Type 0} (r : Verdict) (x y : A) → giving r x ≡ given y → (r ≡ accept) × (x ≡ y)
-giving-is (refuse n) x y e = absurd (let z : _≡_ {A = ℕ} 0 1 = cc in omega arith)
-giving-is accept x y e = (refl, cc)
-
 module _ (r : Verdict) (xs : List Store) (new old : StateView) (stop : ℕ) (v : Device) where
   pub storing-refused : (n : ℕ) → storing r xs new old stop v .answer ≡ Refused n → r ≡ refuse n
   storing-refused n e = go r e

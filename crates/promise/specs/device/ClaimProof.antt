@@ -1,26 +1,25 @@
 -- The claim holds. Under what the events keep (ClaimEvents.antt) no look is refused and each fits, so does each finished mount, a look's state is what
 -- the host holds, reads and peeks give the content, and calls are refused for a cause alone; so at every point of a history.
-use Rattle.volume.specs.meaning.Refusals.{Verdict, goneIn, notHeld, badPointers, twoLost, badLabels, badLogs, refuse, accept, TableLengths, zoneOf, offsetOf, stateWithin, tablesFit, noZone, wornFor, resetFull, goneBefore, mountFull, twoAbsent, stale, formatRows, lookRows, mountRows, writeRows, flushRows, resetRows, readRows, peekRows, firstRefusal}
+use Rattle.volume.specs.meaning.Refusals.{Verdict, goneIn, notHeld, badPointers, twoLost, kindLacks, badLabels, badLogs, refuse, accept, TableLengths, zoneOf, offsetOf, stateWithin, tablesFit, wornFor, goneBefore, goneForEntry, twoAbsent, stale, formatRows, lookRows, mountRows, writeRows, flushRows, resetRows, readRows, peekRows, firstRefusal}
 use mathlib.Core.Logic.{_≢_, inl, inr}
-use mathlib.Core.Bool.{_||_, Bool, true, false, _&&_, not, true≢false}
-use Rattle.promise.specs.device.AcceptedCalls.{Applies, refused-applies, giving-is, storing-finished, storing-refused, two-same, pointers-same}
+use mathlib.Core.Bool.{_||_, Bool, true, false, _&&_, not}
+use Rattle.promise.specs.device.AcceptedCalls.{Applies, refused-applies, storing-finished, storing-refused, two-same, pointers-same}
 use Rattle.volume.specs.laws.Refusals.{accepted-row, passed, Numbered, numbered}
-use mathlib.Core.Path.{_≡_, refl, sym, ap, _∙_, subst}
+use mathlib.Core.Path.{_≡_, refl, sym, ap, _∙_}
 use Prim.Native.Nat.{ℕ, zero, _+_, _-_, _*_, _≤_, _<_}
 use native.Mathlib.Nat.{le-of-eq}
 use native.Mathlib.Omega.{arith}
-use mathlib.Core.List.{List, [], _∷_}
-use lib.ListN.{length, getD}
+use mathlib.Core.List.{List}
+use lib.ListN.{length}
 use lib.Dec.{ltb, leb, eqb}
 use borrow.Author.Tests.{lt-ltb, le-ltb, ltb-true, ltb-false, leb-true, eq-eqb, ne-eqb, eqb-true, eqb-false}
-use Rattle.tables.specs.meaning.Device.{Device, Store, applyAll}
-use Rattle.tables.specs.meaning.Basics.{pick}
-use Rattle.tables.specs.laws.Basics.{and-join, not-not, not-true}
+use Rattle.tables.specs.meaning.Device.{Device, applyAll}
+use Rattle.tables.specs.laws.Basics.{and-join, not-not, not-true, not-both}
 use Rattle.tables.specs.laws.Lists.{prefix-length}
-use Rattle.tables.specs.meaning.Placement.{driveOf, sectorOf}
+use Rattle.tables.specs.meaning.Placement.{driveOf}
 use Rattle.tables.specs.laws.Placement.{drive-below}
 use Rattle.tables.specs.declared.Geometry.{Geometry}
-use Rattle.tables.specs.meaning.Geometry.{Valid, zoneSectors, dataZone}
+use Rattle.tables.specs.meaning.Geometry.{Valid, zoneSectors}
 use Rattle.tables.specs.laws.Drives.{presentBut}
 use Rattle.tables.specs.meaning.Below.{tabulateFrom}
 use Rattle.tables.specs.meaning.Lists.{concat}
@@ -28,120 +27,132 @@ use Rattle.logs.specs.meaning.Entry.{wornGeneration}
 use Rattle.volume.specs.meaning.State.{StateView, pointerIn, isWorn, callPresent}
 use Rattle.tables.specs.laws.Below.{tabulate-from-cong}
 use Rattle.volume.specs.meaning.Content.{at}
-use Rattle.volume.specs.meaning.Rules.{Shown, isPresent, showing, valueAt, lostDrive}
+use Rattle.volume.specs.meaning.Rules.{isPresent, showing, valueAt}
+use Rattle.volume.specs.meaning.Roles.{roles, byRoles}
+use Rattle.volume.specs.meaning.Emptying.{byState}
 use Rattle.volume.specs.meaning.Calls.{formatStores, formatState}
 use Rattle.volume.specs.meaning.Mount.{mountStores, mountShows, mountState}
 use Rattle.promise.specs.meaning.Ledger.{freshLedger, Fits}
-use Rattle.promise.specs.invariant.Obligations.{Invs, Rests}
-use Rattle.promise.specs.look.LookFits.{look-fits, rest-known}
-use Rattle.promise.specs.calls.FormatKeeps.{format-rests}
+use Rattle.promise.specs.invariant.Invariant.{Ghost, Rest}
+use Rattle.promise.specs.invariant.Obligations.{neverEmptied}
+use Rattle.promise.specs.look.LookFits.{rest-known}
 use Rattle.tables.specs.meaning.Tables.{bufferFits}
-use Rattle.volume.specs.meaning.Answers.{CallResult, StoringCall, giving, storing, Given, refused, given, Place, leftOut, namedDrives, lookCall, readCall, peekCall, placeOf}
+use Rattle.volume.specs.meaning.Answers.{CallResult, StoringCall, giving, storing, Place, leftOut, namedDrives, lookCall, placeOf, presentIn, lostDriveIn}
 use Rattle.volume.specs.meaning.CallContracts.{byteOf}
 use Rattle.volume.specs.declared.Answer.the-variants.{Finished, Refused}
 use Rattle.volume.specs.declared.ZoneDescriptor.{ZoneDescriptor}
 use Rattle.volume.specs.meaning.Report.{reportOn}
 use Rattle.volume.specs.laws.Report.{report-finished, report-same}
-use Rattle.promise.specs.meaning.Claim.{mounts, writes, flushes, resets, formats, Event, next, Dutiful, Throughout, start, ready, System, NamesAll, allBut, contentBytes, SameZones, ResetRefusal, noSuchZone, wornOut, generalLogFull, WriteRefusal, bufferLength, noSuchAddress, noSectors, pastTheEnd, notAtPointer, sealedZone, wornZone, parityLogFull, Promise}
+use Rattle.promise.specs.meaning.Claim.{mounts, writes, flushes, resets, start, ready, System, NamesAll, MayMount, allBut, contentBytes, SameZones, ResetRefusal, noSuchZone, wornOut, generalLogFull, WriteRefusal, bufferLength, noSuchAddress, noSectors, pastTheEnd, notAtPointer, sealedZone, wornZone, parityLogFull, Promise}
 use Rattle.promise.specs.meaning.OnDevice.{callOf, lookResult, readResult, peekResult, reportShown, shownBy, onDevice, DeviceClaim}
-use Rattle.promise.specs.look.LookReads.{Unrefused, look-unrefused}
 use Rattle.promise.specs.look.LookRest.{generation-held, condition-held}
-use Rattle.promise.specs.device.AtRestAnswers.{absent-fine, state-fine, stale-fine, gone-fine, before-fine, worn-last, rest-held, rest-sector, left-out, drives-named}
+use Rattle.promise.specs.device.AtRestAnswers.{absent-fine, state-fine, stale-fine, gone-fine, before-fine, entry-fine, worn-last, rest-held, rest-sector, left-out, drives-named}
 use lib.Seq.{take-length}
 use Rattle.tables.specs.meaning.GeometryTest.{isValid}
 use Rattle.tables.specs.laws.GeometryTest.{valid-if-test}
-use Rattle.promise.specs.mount.MountKeeps.{mount-keeps}
 use Rattle.promise.specs.invariant.Throughout.{throughout}
-use Rattle.promise.specs.device.ClaimEvents.{Ok, inv-of, rest-of, drives-of-call, drives-of-look, lost-of-look, mount-accepted, event-keeps, marked, own-marks}
-use Rattle.promise.specs.device.Marks.{fits-less}
+use Rattle.promise.specs.roles.ReadsSectors.{data-seen}
+use Rattle.promise.specs.roles.RoledCalls.{RoledRests, roled-format}
+use Rattle.promise.specs.device.Marks.{withMarks}
+use Rattle.promise.specs.device.Modes.{Halted, own-rests}
+use Rattle.promise.specs.device.Looks.{LookFine, halted-look}
+use Rattle.promise.specs.device.CallsProved.{calls-owed}
+use Rattle.promise.specs.device.ClaimEvents.{Ok, rests-of, invs-of, fine, drives-of-call, drives-of-look, lost-of-look, mount-allowed, event-keeps}
 
 -- ---- what is promised of a system that is so (wb, lf: the format was accepted)
 module _ (g : Geometry) (ok : Valid g) (t : TableLengths) (wb : isValid g ≡ true) (lf : tablesFit g t ≡ true) (s : System (onDevice g t)) (o : Ok g t s) where
-  unrefused : Unrefused g (s .lost) (s .memory)
-  unrefused = let (γ, i) = inv-of g t s o in look-unrefused g ok (s .lost) (s .memory) γ (i .logs)
+  -- the device by its roles
+  abbrev u : Device
+  u = byRoles g (s .memory)
+
+  looked : LookFine g (s .lost) (s .memory) (s .ledger)
+  looked = fine g ok t s o
+
+  -- at rest, with marks of its own
+  abbrev Resting : Type 0
+  Resting = (marks : ℕ → ℕ) × (γ : Ghost) × Rest g (s .lost) u (s .state) (withMarks (s .ledger) marks) γ
+
+  rest-of : s .mode ≡ ready → Resting
+  rest-of m = let (k, marks, a, (st, (γ, r, same))) = rests-of g t s o m in (marks, γ, r)
 
   pointer-claim : s .mode ≡ ready → (z : ℕ) → z < g .zones → pointerIn (s .state .condition z) ≡ length (s .ledger .content z)
-  pointer-claim m z h = let (γ, r) = rest-of g t s o m in sym (r .zones z h .pointer-is)
+  pointer-claim m z h = let (marks, γ, r) = rest-of m in sym (r .zones z h .pointer-is)
 
   module _ (named : ℕ → Bool) (names : NamesAll g (onDevice g t) s named) where
     drives : s .mode ≡ ready → callPresent g named (s .state) ≡ presentBut g (s .lost)
     drives m = drives-of-call g ok t s o named names m
 
-    seen : isPresent g named (s .memory) ≡ presentBut g (s .lost)
+    seen : presentIn g named (s .memory) ≡ presentBut g (s .lost)
     seen = drives-of-look g ok t s o named names
 
-    lost : lostDrive g named (s .memory) ≡ s .lost
+    lost : lostDriveIn g named (s .memory) ≡ s .lost
     lost = lost-of-look g ok t s o named names
 
     -- ---- the rows that no call of such a host meets
     row-1 : s .mode ≡ ready → not (isValid g && stateWithin g (s .state)) ≡ false
-    row-1 m = let (γ, r) = rest-of g t s o m in ap not (and-join (isValid g) (stateWithin g (s .state)) wb (state-fine g ok (s .lost) (s .memory) (s .state) (marked g t s o) γ r))
+    row-1 m = let (marks, γ, r) = rest-of m in ap not (and-join (isValid g) (stateWithin g (s .state)) wb (state-fine g ok (s .lost) u (s .state) (withMarks (s .ledger) marks) γ r))
 
     row-3 : badPointers g named (s .memory) ≡ false
-    row-3 = pointers-same g named (allBut (s .lost)) (names .drives) (s .memory) ∙ unrefused .pointers
+    row-3 = pointers-same g named (allBut (s .lost)) (names .drives) (s .memory) ∙ looked .pointers
 
     row-4 : s .mode ≡ ready → twoAbsent g named (s .state) ≡ false
-    row-4 m = let (γ, r) = rest-of g t s o m in absent-fine g ok (s .lost) (s .memory) γ (r .logs) named (s .state) (drives m)
+    row-4 m = let (marks, γ, r) = rest-of m in absent-fine g ok (s .lost) u γ (r .logs) named (s .state) (drives m)
 
-    look-row-4 : twoLost g named (s .memory) ≡ false
-    look-row-4 = two-same g named (allBut (s .lost)) (names .drives) (s .memory) ∙ unrefused .lost
+    look-row-4 : twoLost g named u ≡ false
+    look-row-4 = two-same g named (allBut (s .lost)) (names .drives) u ∙ looked .few-lost
 
-    row-5 : badLabels g (isPresent g named (s .memory)) (s .memory) ≡ false
-    row-5 = rw seen (unrefused .labels)
+    row-5 : kindLacks g (isPresent g named u) (roles g (s .memory)) || badLabels g (isPresent g named u) u ≡ false
+    row-5 = rw (seen, looked .kinds, looked .labels) refl
 
-    row-6 : badLogs g (isPresent g named (s .memory)) (s .memory) ≡ false
-    row-6 = rw seen (unrefused .logs)
+    row-6 : badLogs g (isPresent g named u) u ≡ false
+    row-6 = rw seen (looked .logs)
 
-    row-7 : s .mode ≡ ready → (z : ℕ) → stale g (callPresent g named (s .state)) (s .memory) (s .state) z ≡ false
-    row-7 m z = let (γ, r) = rest-of g t s o m in rw (drives m) (stale-fine g ok (s .lost) (s .memory) (s .state) (marked g t s o) γ r z)
+    row-7 : s .mode ≡ ready → (z : ℕ) → stale g (callPresent g named (s .state)) u (s .state) z ≡ false
+    row-7 m z = let (marks, γ, r) = rest-of m in rw (drives m) (stale-fine g ok (s .lost) u (s .state) (withMarks (s .ledger) marks) γ r z)
 
     -- ---- looks and mounts
-    look-accepted : firstRefusal (lookRows g t (badPointers g named (s .memory)) named (s .memory)) ≡ accept
+    look-accepted : firstRefusal (lookRows g t (badPointers g named (s .memory)) named (roles g (s .memory)) u) ≡ accept
     unfolding lookRows
-    look-accepted = passed (lookRows g t (badPointers g named (s .memory)) named (s .memory)) (ap not wb, (ap not lf, (row-3, (look-row-4, (row-5, (row-6, tt))))))
+    look-accepted = passed (lookRows g t (badPointers g named (s .memory)) named (roles g (s .memory)) u) (ap not wb, (ap not lf, (row-3, (look-row-4, (row-5, (row-6, tt))))))
 
     look-claim : (lookResult (lookCall g t named (s .memory)) (s .state) (s .memory) ≡ record { answer = Finished; memory = s .memory; state = mountState (shownBy g named (s .memory) (s .memory)) }) × Fits g (s .ledger) (shownBy g named (s .memory) (s .memory))
-    look-claim = (rw look-accepted refl, rw (seen, lost) (fits-less g (s .ledger) (o .0) (showing g (presentBut g (s .lost)) (s .lost) (s .memory)) (o .1) (look-fits g ok (s .lost) (s .memory) (marked g t s o) (inv-of g t s o))))
+    look-claim = (rw look-accepted refl, rw (seen, lost) (looked .fits))
 
     -- its state is what the host holds
     held-claim : s .mode ≡ ready → let looked = lookResult (lookCall g t named (s .memory)) (s .state) (s .memory) .state in (looked .lost ≡ s .lost) × SameZones g (onDevice g t) looked (s .state)
     unfolding showing
     held-claim m =
-        let (γ, r) = rest-of g t s o m in
+        let (marks, γ, r) = rest-of m in
         rw (look-accepted, seen, lost)
-        (refl, record { generations = generation-held g ok (s .lost) (s .memory) (s .state) (marked g t s o) γ r; conditions = condition-held g ok (s .lost) (s .memory) (s .state) (marked g t s o) γ r })
+        (refl, record { generations = generation-held g ok (s .lost) u (s .state) (withMarks (s .ledger) marks) γ r; conditions = condition-held g ok (s .lost) u (s .state) (withMarks (s .ledger) marks) γ r })
 
-    abbrev mountList : List Store
-    mountList = mountStores g (isPresent g named (s .memory)) (lostDrive g named (s .memory)) (s .memory)
+    abbrev mountCalled : StoringCall
+    mountCalled = callOf g t mounts named (s .state) (s .memory)
 
-    abbrev mounted : StateView
-    mounted = mountState (mountShows g (isPresent g named (s .memory)) (lostDrive g named (s .memory)) (s .memory))
-
-    -- what a finished mount shows is what a look after its last store shows, and the invariant held there
-    mount-claim : (stop : ℕ) → let r = onDevice g t .call mounts named (s .state) stop (s .memory) in
+    -- what a finished mount shows is what a look after its last store shows, and a look fitted there
+    mount-claim : MayMount (s .mode) → (stop : ℕ) → let r = onDevice g t .call mounts named (s .state) stop (s .memory) in
         r .answer ≡ Finished → (r .state ≡ mountState (shownBy g named (s .memory) (r .memory))) × Fits g (s .ledger) (shownBy g named (s .memory) (r .memory))
     unfolding mountShows
-    mount-claim stop e =
-        let (p, q) = storing-finished (firstRefusal (mountRows g t (badPointers g named (s .memory)) named (s .memory))) mountList mounted (s .state) stop (s .memory) e in
+    mount-claim m stop e =
+        let (p, q) = storing-finished (firstRefusal (mountCalled .refusals)) (mountCalled .stores) (mountCalled .state) (s .state) stop (s .memory) e in
         let xs = mountStores g (presentBut g (s .lost)) (s .lost) (s .memory) in
-        let i = mount-keeps g ok (s .lost) (s .memory) (marked g t s o) (length xs) (inv-of g t s o) (mount-accepted g ok t s o named names p) in
-        let j : Invs g (s .lost) (applyAll xs (s .memory)) (marked g t s o) = rw (take-length xs) at i in
-        rw (p, q) (refl, rw (seen, lost) (fits-less g (s .ledger) (o .0) (showing g (presentBut g (s .lost)) (s .lost) (applyAll xs (s .memory))) (o .1) (look-fits g ok (s .lost) (applyAll xs (s .memory)) (marked g t s o) j)))
+        let i = calls-owed g ok .mount (s .lost) (s .memory) (s .ledger) (invs-of g t s o m) (mount-allowed g ok t s o named names p) .0 (length xs) in
+        let j : Halted g (s .lost) (applyAll xs (s .memory)) (s .ledger) = rw (take-length xs) at i in
+        rw (p, q) (refl, rw (seen, lost) (halted-look g ok (s .lost) (applyAll xs (s .memory)) (s .ledger) j .fits))
 
     refused-claim : (stop n : ℕ) → onDevice g t .call mounts named (s .state) stop (s .memory) .answer ≡ Refused n → n ≡ 14
     unfolding mountRows
-    refused-claim stop n e = go (mountFull g (isPresent g named (s .memory)) (s .memory)) last
+    refused-claim stop n e = by (refused-applies (mountCalled .refusals) n (storing-refused (firstRefusal (mountCalled .refusals)) (mountCalled .stores) (mountCalled .state) (s .state) stop (s .memory) n e))
       where
-        last : firstRefusal ((14, mountFull g (isPresent g named (s .memory)) (s .memory)) ∷ []) ≡ refuse n
-        last =
-            let q = storing-refused (firstRefusal (mountRows g t (badPointers g named (s .memory)) named (s .memory))) mountList mounted (s .state) stop (s .memory) n e in
-            let p1 : not (isValid g) ≡ false = ap not wb in
-            let p2 : not (tablesFit g t) ≡ false = ap not lf in
-            rw (p1, p2, row-3, look-row-4, row-5, row-6) at q
-
-        go : (b : Bool) → pick b (refuse 14) accept ≡ refuse n → n ≡ 14
-        go true q = cc
-        go false q = absurd (let z : _≡_ {A = ℕ} 0 1 = cc in omega arith)
+        by : Applies (mountRows g t (badPointers g named (s .memory)) named (roles g (s .memory)) u) n → n ≡ 14
+        by (inl (k, b)) = not-both _ b (ap not wb)
+        by (inr (r1, inl (k, b))) = not-both _ b (ap not lf)
+        by (inr (r1, inr (r2, inl (k, b)))) = not-both _ b row-3
+        by (inr (r1, inr (r2, inr (r3, inl (k, b))))) = not-both _ b look-row-4
+        by (inr (r1, inr (r2, inr (r3, inr (r4, inl (k, b)))))) = not-both _ b row-5
+        by (inr (r1, inr (r2, inr (r3, inr (r4, inr (r5, inl (k, b))))))) = not-both _ b row-6
+        by (inr (r1, inr (r2, inr (r3, inr (r4, inr (r5, inr (r6, inl (k, b)))))))) = k
+        by (inr (r1, inr (r2, inr (r3, inr (r4, inr (r5, inr (r6, inr (r14, none)))))))) = absurd none
 
     -- ---- flushes, resets and writes
     flush-claim : s .mode ≡ ready → (stop n : ℕ) → onDevice g t .call flushes named (s .state) stop (s .memory) .answer ≢ Refused n
@@ -156,32 +167,27 @@ module _ (g : Geometry) (ok : Valid g) (t : TableLengths) (wb : isValid g ≡ tr
 
     reset-claim : s .mode ≡ ready → (z stop n : ℕ) → onDevice g t .call (resets z) named (s .state) stop (s .memory) .answer ≡ Refused n → ResetRefusal g (s .state .generation z) z n
     unfolding resetRows
-    reset-claim m z stop n e = go (rw (row-1 m, p2, row-3, row-4 m, row-7 m z) at q)
+    reset-claim m z stop n e =
+        let c = callOf g t (resets z) named (s .state) (s .memory) in
+        by (refused-applies (c .refusals) n (storing-refused (firstRefusal (c .refusals)) (c .stores) (c .state) (s .state) stop (s .memory) n e))
       where
-        c : StoringCall
-        c = callOf g t (resets z) named (s .state) (s .memory)
-
-        q : firstRefusal (resetRows g t (badPointers g named (s .memory)) named (s .state) z (s .memory)) ≡ refuse n
-        q = storing-refused (firstRefusal (c .refusals)) (c .stores) (c .state) (s .state) stop (s .memory) n e
-
-        p2 : not (tablesFit g t) ≡ false
-        p2 = ap not lf
-
         worn : ltb z (g .zones) ≡ true → wornFor (s .state) z ≡ true → wornGeneration ≤ s .state .generation z
         worn h b = cases (isWorn (s .state .condition z)) refl b
           where
             cases : (w : Bool) → isWorn (s .state .condition z) ≡ w → w || leb wornGeneration (s .state .generation z) ≡ true → wornGeneration ≤ s .state .generation z
-            cases true e b = let (γ, r) = rest-of g t s o m in le-of-eq (sym (worn-last g ok (s .lost) (s .memory) (s .state) (marked g t s o) γ r z (ltb-true z (g .zones) h) e))
+            cases true e b = let (marks, γ, r) = rest-of m in le-of-eq (sym (worn-last g ok (s .lost) u (s .state) (withMarks (s .ledger) marks) γ r z (ltb-true z (g .zones) h) e))
             cases false e b = leb-true wornGeneration (s .state .generation z) b
 
-        go : firstRefusal ((8, noZone g z) ∷ (12, wornFor (s .state) z) ∷ (14, resetFull g (callPresent g named (s .state)) (s .memory)) ∷ []) ≡ refuse n → ResetRefusal g (s .state .generation z) z n
-        go a = by (refused-applies ((8, noZone g z) ∷ (12, wornFor (s .state) z) ∷ (14, resetFull g (callPresent g named (s .state)) (s .memory)) ∷ []) n a)
-          where
-            by : Applies ((8, noZone g z) ∷ (12, wornFor (s .state) z) ∷ (14, resetFull g (callPresent g named (s .state)) (s .memory)) ∷ []) n → ResetRefusal g (s .state .generation z) z n
-            by (inl (k, b)) = noSuchZone k (ltb-false z (g .zones) (not-true (ltb z (g .zones)) b))
-            by (inr (h, inl (k, b))) = wornOut k (worn (not-not (ltb z (g .zones)) h) b)
-            by (inr (h, inr (i, inl (k, b)))) = generalLogFull k
-            by (inr (h, inr (i, inr (j, none)))) = absurd none
+        by : Applies (resetRows g t (badPointers g named (s .memory)) named (s .state) z (roles g (s .memory)) u) n → ResetRefusal g (s .state .generation z) z n
+        by (inl (k, b)) = not-both _ b (row-1 m)
+        by (inr (r1, inl (k, b))) = not-both _ b (ap not lf)
+        by (inr (r1, inr (r2, inl (k, b)))) = not-both _ b row-3
+        by (inr (r1, inr (r2, inr (r3, inl (k, b))))) = not-both _ b (row-4 m)
+        by (inr (r1, inr (r2, inr (r3, inr (r4, inl (k, b)))))) = not-both _ b (row-7 m z)
+        by (inr (r1, inr (r2, inr (r3, inr (r4, inr (r7, inl (k, b))))))) = noSuchZone k (ltb-false z (g .zones) (not-true (ltb z (g .zones)) b))
+        by (inr (r1, inr (r2, inr (r3, inr (r4, inr (r7, inr (r8, inl (k, b)))))))) = wornOut k (worn (not-not (ltb z (g .zones)) r8) b)
+        by (inr (r1, inr (r2, inr (r3, inr (r4, inr (r7, inr (r8, inr (r12, inl (k, b))))))))) = generalLogFull k
+        by (inr (r1, inr (r2, inr (r3, inr (r4, inr (r7, inr (r8, inr (r12, inr (r14, none))))))))) = absurd none
 
     write-claim : s .mode ≡ ready → (a count : ℕ) (buffer : List ℕ) (stop n : ℕ) → onDevice g t .call (writes a count buffer) named (s .state) stop (s .memory) .answer ≡ Refused n
         → WriteRefusal g (s .state .condition (zoneOf g a)) a count buffer n
@@ -190,11 +196,14 @@ module _ (g : Geometry) (ok : Valid g) (t : TableLengths) (wb : isValid g ≡ tr
         let c = callOf g t (writes a count buffer) named (s .state) (s .memory) in
         by (refused-applies (c .refusals) n (storing-refused (firstRefusal (c .refusals)) (c .stores) (c .state) (s .state) stop (s .memory) n e))
       where
-        never : {A : Type 0} {b : Bool} → b ≡ false → b ≡ true → A
-        never p q = absurd (true≢false (sym q ∙ p))
-
-        no-gone : ltb (zoneOf g a) (g .zones) ≡ true → goneBefore g (callPresent g named (s .state)) (s .memory) (zoneOf g a) (s .state .generation (zoneOf g a)) (pointerIn (s .state .condition (zoneOf g a))) ≡ false
-        no-gone h = let (γ, r) = rest-of g t s o m in rw (drives m) (before-fine g ok (s .lost) (s .memory) (s .state) (marked g t s o) γ r (zoneOf g a) (ltb-true (zoneOf g a) (g .zones) h))
+        no-gone : ltb (zoneOf g a) (g .zones) ≡ true → (end : ℕ) → let here = callPresent g named (s .state) in let z = zoneOf g a in
+            goneForEntry g here (roles g (s .memory)) (byState g here u (s .state)) u z end || goneBefore g here u z (s .state .generation z) (pointerIn (s .state .condition z)) ≡ false
+        no-gone h end =
+            let (marks, γ, r) = rest-of m in
+            let z = zoneOf g a in
+            let p = entry-fine g ok (s .lost) u (s .state) (withMarks (s .ledger) marks) γ r (roles g (s .memory)) z end in
+            let q = before-fine g ok (s .lost) u (s .state) (withMarks (s .ledger) marks) γ r z (ltb-true z (g .zones) h) in
+            rw (drives m, p, q) refl
 
         run : n ≡ 9 → eqb count 0 || ltb (zoneSectors g) (offsetOf g a + count) ≡ true → WriteRefusal g (s .state .condition (zoneOf g a)) a count buffer n
         run k b = go (eqb count 0) refl b
@@ -203,27 +212,27 @@ module _ (g : Geometry) (ok : Valid g) (t : TableLengths) (wb : isValid g ≡ tr
             go true p b = noSectors k (eqb-true count 0 p)
             go false p b = pastTheEnd k (ltb-true (zoneSectors g) (offsetOf g a + count) b)
 
-        by : Applies (writeRows g t (badPointers g named (s .memory)) named (s .state) a count (length buffer) (s .memory)) n → WriteRefusal g (s .state .condition (zoneOf g a)) a count buffer n
-        by (inl (k, b)) = never (row-1 m) b
+        by : Applies (writeRows g t (badPointers g named (s .memory)) named (s .state) a count (length buffer) (roles g (s .memory)) u) n → WriteRefusal g (s .state .condition (zoneOf g a)) a count buffer n
+        by (inl (k, b)) = not-both _ b (row-1 m)
         by (inr (r1, inl (k, b))) = bufferLength k (eqb-false (length buffer) (count * g .sector) (rw lf at (not-true (tablesFit g t && eqb (length buffer) (count * g .sector)) b)))
-        by (inr (r1, inr (r2, inl (k, b)))) = never row-3 b
-        by (inr (r1, inr (r2, inr (r3, inl (k, b))))) = never (row-4 m) b
-        by (inr (r1, inr (r2, inr (r3, inr (r4, inl (k, b)))))) = never (row-7 m (zoneOf g a)) b
+        by (inr (r1, inr (r2, inl (k, b)))) = not-both _ b row-3
+        by (inr (r1, inr (r2, inr (r3, inl (k, b))))) = not-both _ b (row-4 m)
+        by (inr (r1, inr (r2, inr (r3, inr (r4, inl (k, b)))))) = not-both _ b (row-7 m (zoneOf g a))
         by (inr (r1, inr (r2, inr (r3, inr (r4, inr (r7, inl (k, b))))))) = noSuchAddress k (ltb-false (zoneOf g a) (g .zones) (not-true (ltb (zoneOf g a) (g .zones)) b))
         by (inr (r1, inr (r2, inr (r3, inr (r4, inr (r7, inr (r8, inl (k, b)))))))) = run k b
         by (inr (r1, inr (r2, inr (r3, inr (r4, inr (r7, inr (r8, inr (r9, inl (k, b))))))))) = notAtPointer k (eqb-false (offsetOf g a) (pointerIn (s .state .condition (zoneOf g a))) (not-true (eqb (offsetOf g a) (pointerIn (s .state .condition (zoneOf g a)))) b))
         by (inr (r1, inr (r2, inr (r3, inr (r4, inr (r7, inr (r8, inr (r9, inr (r10, inl (k, b)))))))))) = sealedZone k b
         by (inr (r1, inr (r2, inr (r3, inr (r4, inr (r7, inr (r8, inr (r9, inr (r10, inr (r11, inl (k, b))))))))))) = wornZone k b
         by (inr (r1, inr (r2, inr (r3, inr (r4, inr (r7, inr (r8, inr (r9, inr (r10, inr (r11, inr (r12, inl (k, b)))))))))))) = parityLogFull k
-        by (inr (r1, inr (r2, inr (r3, inr (r4, inr (r7, inr (r8, inr (r9, inr (r10, inr (r11, inr (r12, inr (r14, inl (k, b))))))))))))) = never (no-gone (not-not (ltb (zoneOf g a) (g .zones)) r8)) b
+        by (inr (r1, inr (r2, inr (r3, inr (r4, inr (r7, inr (r8, inr (r9, inr (r10, inr (r11, inr (r12, inr (r14, inl (k, b))))))))))))) = not-both _ b (no-gone (not-not (ltb (zoneOf g a) (g .zones)) r8) (pointerIn (s .state .condition (zoneOf g a)) + count))
         by (inr (r1, inr (r2, inr (r3, inr (r4, inr (r7, inr (r8, inr (r9, inr (r10, inr (r11, inr (r12, inr (r14, inr (r15, none))))))))))))) = absurd none
 
     -- ---- reads
     values : s .mode ≡ ready → (z : ℕ) → z < g .zones → (offset count : ℕ) → offset + count ≤ length (s .ledger .content z)
-        → tabulateFrom (valueAt g (callPresent g named (s .state)) (s .memory) z (s .state .generation z)) offset count ≡ tabulateFrom (at (s .ledger .content z)) offset count
+        → tabulateFrom (valueAt g (callPresent g named (s .state)) u z (s .state .generation z)) offset count ≡ tabulateFrom (at (s .ledger .content z)) offset count
     values m z h offset count k =
-        let (γ, r) = rest-of g t s o m in
-        rw (drives m) (tabulate-from-cong (valueAt g (presentBut g (s .lost)) (s .memory) z (s .state .generation z)) (at (s .ledger .content z)) offset offset count (λ i hi. rest-known g ok (s .lost) (s .memory) (s .state) (marked g t s o) γ r z h (offset + i) (omega arith) .1))
+        let (marks, γ, r) = rest-of m in
+        rw (drives m) (tabulate-from-cong (valueAt g (presentBut g (s .lost)) u z (s .state .generation z)) (at (s .ledger .content z)) offset offset count (λ i hi. rest-known g ok (s .lost) u (s .state) (withMarks (s .ledger) marks) γ r z h (offset + i) (omega arith) .1))
 
     -- an answer "finished" is of an accepted call
     read-finished : (r : Verdict) (ss : List (List ℕ)) (out : List ℕ) → readResult (giving r ss) out .answer ≡ Finished → r ≡ accept
@@ -235,8 +244,8 @@ module _ (g : Geometry) (ok : Valid g) (t : TableLengths) (wb : isValid g ≡ tr
     unfolding readRows
     read-claim m a count out e =
         let z = zoneOf g a in
-        let rows = readRows g t (badPointers g named (s .memory)) named (s .state) a count (length out) (s .memory) in
-        let p = read-finished (firstRefusal rows) (tabulateFrom (valueAt g (callPresent g named (s .state)) (s .memory) z (s .state .generation z)) (offsetOf g a) count) out e in
+        let rows = readRows g t (badPointers g named (s .memory)) named (s .state) a count (length out) u in
+        let p = read-finished (firstRefusal rows) (tabulateFrom (valueAt g (callPresent g named (s .state)) u z (s .state .generation z)) (offsetOf g a) count) out e in
         let h : z < g .zones = ltb-true z (g .zones) (not-not (ltb z (g .zones)) (accepted-row rows p 8)) in
         let n : offsetOf g a + count ≤ length (s .ledger .content z) = omega (arith, ltb-false (pointerIn (s .state .condition z)) (offsetOf g a + count) (accepted-row rows p 13), pointer-claim m z h) in
         (n, rw p (ap concat (values m z h (offsetOf g a) count n)))
@@ -246,7 +255,7 @@ module _ (g : Geometry) (ok : Valid g) (t : TableLengths) (wb : isValid g ≡ tr
     unfolding readRows bufferFits
     read-accepted m a count out h pos len k =
         let z = zoneOf g a in
-        let (γ, r) = rest-of g t s o m in
+        let (marks, γ, r) = rest-of m in
         let n : offsetOf g a + count ≤ length (s .ledger .content z) = omega (arith, pointer-claim m z h) in
         let fit : offsetOf g a + count ≤ zoneSectors g = omega (arith, n, prefix-length (r .zones z h .live .front), r .zones z h .live .fits) in
         let ne : eqb count 0 ≡ false = ne-eqb count 0 (λ q. omega arith) in
@@ -254,8 +263,8 @@ module _ (g : Geometry) (ok : Valid g) (t : TableLengths) (wb : isValid g ≡ tr
         let r8 : not (ltb z (g .zones)) ≡ false = ap not (lt-ltb z (g .zones) h) in
         let r9 : eqb count 0 || ltb (zoneSectors g) (offsetOf g a + count) ≡ false = rw (ne, le-ltb (zoneSectors g) (offsetOf g a + count) fit) refl in
         let r13 = le-ltb (pointerIn (s .state .condition z)) (offsetOf g a + count) k in
-        let r15 : goneIn g (callPresent g named (s .state)) (s .memory) z (s .state .generation z) (offsetOf g a) count ≡ false = rw (drives m) (gone-fine g ok (s .lost) (s .memory) (s .state) (marked g t s o) γ r z h (offsetOf g a) count n) in
-        let p = passed (readRows g t (badPointers g named (s .memory)) named (s .state) a count (length out) (s .memory)) (row-1 m, (r2, (row-3, (row-4 m, (row-7 m z, (r8, (r9, (r13, (r15, tt))))))))) in
+        let r15 : goneIn g (callPresent g named (s .state)) u z (s .state .generation z) (offsetOf g a) count ≡ false = rw (drives m) (gone-fine g ok (s .lost) u (s .state) (withMarks (s .ledger) marks) γ r z h (offsetOf g a) count n) in
+        let p = passed (readRows g t (badPointers g named (s .memory)) named (s .state) a count (length out) u) (row-1 m, (r2, (row-3, (row-4 m, (row-7 m z, (r8, (r9, (r13, (r15, tt))))))))) in
         rw p refl
 
     -- ---- peeks
@@ -269,12 +278,12 @@ module _ (g : Geometry) (ok : Valid g) (t : TableLengths) (wb : isValid g ≡ tr
     unfolding peekRows
     peek-claim m a e =
         let z = zoneOf g a in
-        let (γ, r) = rest-of g t s o m in
-        let rows = peekRows g t (badPointers g named (s .memory)) named (s .state) a (s .memory) in
+        let (marks, γ, r) = rest-of m in
+        let rows = peekRows g t (badPointers g named (s .memory)) named (s .state) a u in
         let q = peek-numbered (firstRefusal rows) (placeOf g a) (s .memory) (numbered rows refl) e in
         let h : z < g .zones = ltb-true z (g .zones) (not-not (ltb z (g .zones)) (accepted-row rows q 8)) in
         let n : offsetOf g a < length (s .ledger .content z) = omega (arith, ltb-false (pointerIn (s .state .condition z)) (offsetOf g a + 1) (accepted-row rows q 13), pointer-claim m z h) in
-        (n, rw q refl, rw q (rest-sector g ok (s .lost) (s .memory) (s .state) (marked g t s o) γ r z h (offsetOf g a) n (rw (drives m) at (accepted-row rows q 15))))
+        (n, rw q refl, rw (q, ← data-seen g (s .memory) (driveOf (g .drives) (g .unit) z (offsetOf g a)) z) (rest-sector g ok (s .lost) u (s .state) (withMarks (s .ledger) marks) γ r z h (offsetOf g a) n (rw (drives m) at (accepted-row rows q 15))))
 
     peek-accepted : s .mode ≡ ready → (a : ℕ) → zoneOf g a < g .zones → offsetOf g a < pointerIn (s .state .condition (zoneOf g a)) → allBut (s .lost) (driveOf (g .drives) (g .unit) (zoneOf g a) (offsetOf g a)) ≡ true
         → onDevice g t .peek named (s .state) a (s .memory) .number ≡ 0
@@ -282,14 +291,14 @@ module _ (g : Geometry) (ok : Valid g) (t : TableLengths) (wb : isValid g ≡ tr
     peek-accepted m a h k p =
         let z = zoneOf g a in
         let d = driveOf (g .drives) (g .unit) z (offsetOf g a) in
-        let (γ, r) = rest-of g t s o m in
+        let (marks, γ, r) = rest-of m in
         let n : offsetOf g a < length (s .ledger .content z) = omega (arith, pointer-claim m z h) in
         let l : d < g .drives = drive-below (g .drives) (g .unit) z (omega (arith, ok .drives-least)) (ok .unit-least) (offsetOf g a) in
         let b : presentBut g (s .lost) d ≡ true = and-join (ltb d (g .drives)) (not (eqb d (s .lost))) (lt-ltb d (g .drives) l) p in
         let r8 : not (ltb z (g .zones)) ≡ false = ap not (lt-ltb z (g .zones) h) in
         let r13 = le-ltb (pointerIn (s .state .condition z)) (offsetOf g a + 1) (omega arith) in
-        let r15 : notHeld g (callPresent g named (s .state)) (s .memory) z (s .state .generation z) (offsetOf g a) ≡ false = rw (drives m) (rest-held g ok (s .lost) (s .memory) (s .state) (marked g t s o) γ r z h (offsetOf g a) n b) in
-        let q = passed (peekRows g t (badPointers g named (s .memory)) named (s .state) a (s .memory)) (row-1 m, (ap not lf, (row-3, (row-4 m, (row-7 m z, (r8, (r13, (r15, tt)))))))) in
+        let r15 : notHeld g (callPresent g named (s .state)) u z (s .state .generation z) (offsetOf g a) ≡ false = rw (drives m) (rest-held g ok (s .lost) u (s .state) (withMarks (s .ledger) marks) γ r z h (offsetOf g a) n b) in
+        let q = passed (peekRows g t (badPointers g named (s .memory)) named (s .state) a u) (row-1 m, (ap not lf, (row-3, (row-4 m, (row-7 m z, (r8, (r13, (r15, tt)))))))) in
         rw q refl
 
     -- ---- reports
@@ -304,7 +313,7 @@ module _ (g : Geometry) (ok : Valid g) (t : TableLengths) (wb : isValid g ≡ tr
   pub kept : Promise g (onDevice g t) s
   kept = record {
     look-fits = look-claim;
-    mount-fits = λ named n m stop e. mount-claim named n stop e;
+    mount-fits = mount-claim;
     mount-refused = refused-claim;
     pointer-is = pointer-claim;
     look-holds = held-claim;
@@ -329,5 +338,6 @@ device-keeps-the-promise g t named array old stop v h e es d =
     let wb = not-not (isValid g) (accepted-row rows p 1) in
     let ok = valid-if-test g wb in
     let n : namedDrives g named ≡ presentBut g x = drives-named g ok named (accepted-row rows p 4) in
-    let o : Rests g x (applyAll stores v) (formatState x) freshLedger = rw n (format-rests g ok x array v (left-out g named) h) in
-    throughout g (onDevice g t) (Ok g t) (kept g ok t wb (not-not (tablesFit g t) (accepted-row rows p 2))) (event-keeps g ok t) (start g (onDevice g t) named (storing (firstRefusal rows) stores (formatState x) old stop v)) (rw (p, q) (own-marks g ready x (applyAll stores v) (formatState x) freshLedger o)) es d
+    let o : RoledRests neverEmptied g x (applyAll stores v) (formatState x) freshLedger = rw n (roled-format g ok x array v (left-out g named) h) in
+    throughout g (onDevice g t) (Ok g t) (kept g ok t wb (not-not (tablesFit g t) (accepted-row rows p 2))) (event-keeps g ok t) (start g (onDevice g t) named (storing (firstRefusal rows) stores (formatState x) old stop v))
+    (rw (p, q) (own-rests neverEmptied g x (applyAll stores v) (formatState x) freshLedger o)) es d

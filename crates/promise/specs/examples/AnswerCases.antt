@@ -9,7 +9,7 @@ use Rattle.tables.specs.meaning.Device.{Device, putZone}
 use Rattle.tables.specs.meaning.Basics.{pick}
 use Rattle.tables.specs.meaning.Drives.{noDrive}
 use Rattle.tables.specs.meaning.Geometry.{geometryOf}
-use Rattle.logs.specs.meaning.Entry.{encode, counters}
+use Rattle.logs.specs.meaning.Entry.{encode, counters, closing}
 use Rattle.tables.specs.meaning.LittleEndian.{sameBytes}
 use Rattle.volume.specs.declared.Condition.{Condition}
 use Rattle.volume.specs.declared.Condition.the-variants.{Empty, Open, Sealed, Worn}
@@ -29,6 +29,14 @@ longLog n = putZone formatted 2 0 (record { sectors = take 1 (formatted 2 0 .sec
 
 abbrev zeroSector : List ℕ
 zeroSector = replicate 64 0
+
+-- with a sector written in the spare zone of drive d
+abbrev spared : ℕ → Device → Device
+spared d v = putZone v d 2 (record { sectors = zeroSector ∷ []; durable = 0 })
+
+-- a parity log of generation n, with a sector less than a write wants
+abbrev closedLog : ℕ → Device
+closedLog n = putZone formatted 3 1 (record { sectors = encode geo 3 (closing 1 n) ∷ replicate 22 zeroSector; durable = 0 })
 
 abbrev holds : List (ℕ × ℕ) → Bool
 holds [] = true
@@ -83,15 +91,20 @@ answered =
     -- 13
     ∷ (givenNumber (readCall geo lengths every formattedState 0 1 64 formatted), 13)
     ∷ (givenNumber (peekCall geo lengths every formattedState 0 formatted), 13)
-    -- 14: just room, and one sector less
-    ∷ (numberOf (does (writeCall geo lengths every formattedState 0 1 (bytes 1 9)) formattedState noStop (filled 3 1 22 zeroSector)), 0)
-    ∷ (numberOf (does (writeCall geo lengths every formattedState 0 1 (bytes 1 9)) formattedState noStop (filled 3 1 23 zeroSector)), 14)
-    ∷ (numberOf (does (writeCall geo lengths (allBut 3) formattedState 0 1 (bytes 1 9)) formattedState noStop (filled 3 1 23 zeroSector)), 0)
-    ∷ (numberOf (does (resetCall geo lengths every formattedState 0) formattedState noStop (longLog 25)), 0)
-    ∷ (numberOf (does (resetCall geo lengths every formattedState 0) formattedState noStop (longLog 26)), 14)
+    -- 14: a log with just the room is not emptied; one with a sector less is, but for a spare that is written, which a mount resets
+    ∷ (numberOf (does (writeCall geo lengths every formattedState 0 1 (bytes 1 9)) formattedState noStop (spared 3 (filled 3 1 22 zeroSector))), 0)
+    ∷ (numberOf (does (writeCall geo lengths every formattedState 0 1 (bytes 1 9)) formattedState noStop (filled 3 1 23 zeroSector)), 0)
+    ∷ (numberOf (does (writeCall geo lengths every formattedState 0 1 (bytes 1 9)) formattedState noStop (spared 3 (filled 3 1 23 zeroSector))), 14)
+    ∷ (numberOf (does (writeCall geo lengths (allBut 3) formattedState 0 1 (bytes 1 9)) formattedState noStop (spared 3 (filled 3 1 23 zeroSector))), 0)
+    ∷ (numberOf (does (resetCall geo lengths every formattedState 0) formattedState noStop (spared 2 (longLog 25))), 0)
+    ∷ (numberOf (does (resetCall geo lengths every formattedState 0) formattedState noStop (longLog 26)), 0)
+    ∷ (numberOf (does (resetCall geo lengths every formattedState 0) formattedState noStop (spared 2 (longLog 26))), 14)
     ∷ (numberOf (does (mountCall geo lengths every) formattedState noStop (longLog 27)), 0)
-    ∷ (numberOf (does (mountCall geo lengths every) formattedState noStop (longLog 28)), 14)
+    ∷ (numberOf (does (mountCall geo lengths every) formattedState noStop (spared 2 (longLog 28))), 0)
     ∷ (givenNumber (lookCall geo lengths every (longLog 28)), 0)
+    -- or a log of the last generation
+    ∷ (numberOf (does (writeCall geo lengths every formattedState 0 1 (bytes 1 9)) formattedState noStop (closedLog 18446744073709551614)), 0)
+    ∷ (numberOf (does (writeCall geo lengths every formattedState 0 1 (bytes 1 9)) formattedState noStop (closedLog 18446744073709551615)), 14)
     -- 15
     ∷ (numberOf (does (writeCall geo lengths (allBut 0) (being (Open 1) 1) 1 1 (bytes 1 9)) (being (Open 1) 1) noStop formatted), 15)
     ∷ (givenNumber (readCall geo lengths (allBut 0) (being (Open 1) 1) 0 1 64 formatted), 15)

@@ -37,8 +37,8 @@ pub data Case : Type 0 where
   shows : Device → ℕ → Condition → Case
   -- the lost drive that a look shows when every drive is named
   lostShown : Device → ℕ → Case
-  -- a write of one sector with so many sectors unused in the parity log of drive 3; the number answered, 0 for stored
-  answers : ℕ → ℕ → Case
+  -- a write of one sector with so many sectors unused in the parity log of drive 3; the number answered, 0 for stored; the sectors that its zones 1 and 2 hold then
+  logsHold : ℕ → ℕ → ℕ → ℕ → Case
   -- a reset of zone 0 with five sectors, stopped after so many stores; then a look by all drives but one: as before, or empty
   resetStops : ℕ → ℕ → Case
 
@@ -80,7 +80,9 @@ holds (needs n ks) = allBelow (λ d. eqb (needed 4 2 0 n d) (getD ks d 0)) 4
 holds (logged n d k) = eqb (length (writtenDevice n d parityZone .sectors)) k
 holds (shows v x c) = conditionShown (lookCall geo lengths (allBut x) v) (sameCondition c)
 holds (lostShown v x) = eqb (lostOf (lookCall geo lengths every v)) x
-holds (answers unused n) = eqb (numberOf (does (writeCall geo lengths every formattedState 0 1 (bytes 1 9)) formattedState noStop (filled 3 1 (32 - unused) (bytes 1 0)))) n
+holds (logsHold unused n p q) =
+    let r = does (writeCall geo lengths every formattedState 0 1 (bytes 1 9)) formattedState noStop (filled 3 1 (32 - unused) (bytes 1 0)) in
+    eqb (numberOf r) n && (eqb (length (r .memory 3 1 .sectors)) p && eqb (length (r .memory 3 2 .sectors)) q)
 holds (resetStops n x) =
     conditionShown (lookCall geo lengths (allBut x) (applyAll (take n (resetStores geo (presentBut geo noDrive) (writtenState 5) 0)) (writtenDevice 5))) (λ c. sameCondition (Open 5) c || sameCondition Empty c)
 
@@ -119,8 +121,8 @@ cases =
     ∷ shows (left (2 ∷ 1 ∷ 1 ∷ 0 ∷ []) 3) noDrive (Open 5)
     ∷ shows (left (0 ∷ 0 ∷ 0 ∷ 0 ∷ []) 3) noDrive Empty
     -- m
-    ∷ answers 10 0
-    ∷ answers 9 14
+    ∷ logsHold 10 0 24 0
+    ∷ logsHold 9 0 0 3
     -- more: a fresh zone; five sectors; with the entry torn; with a drive lost
     ∷ shows formatted noDrive Empty
     ∷ shows (writtenDevice 5) noDrive (Open 5)

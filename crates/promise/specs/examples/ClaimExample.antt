@@ -2,9 +2,9 @@
 -- and flushed; a write at the wrong address is refused; a look is handed on; a peek; another zone is written and reset; the reset of the first one is
 -- stopped; a cut leaves just what is durable; a look shows that zone empty; drive 1 is lost, its memory gone; a mount by the others finishes; a write, a
 -- read and a peek.
-use Rattle.promise.specs.meaning.Claim.{Volume, pointerHeld, allBut, Call, mounts, writes, flushes, resets, formats, Mode, ready, stopped, down, System, Event, calls, looks, reads, peeks, cuts, loses, next, NamesAll, Dutiful, Throughout, start}
+use Rattle.promise.specs.meaning.Claim.{Volume, pointerHeld, allBut, Call, mounts, writes, flushes, resets, formats, Mode, ready, stopped, down, System, Event, calls, looks, reads, peeks, cuts, loses, next, NamesAll, MayMount, Dutiful, Throughout, start}
 use Rattle.promise.specs.meaning.OnDevice.{callOf, onDevice}
-use Rattle.volume.specs.meaning.Answers.{CallResult, storing}
+use Rattle.volume.specs.meaning.Answers.{CallResult, storing, leftOut}
 use Rattle.volume.specs.declared.Answer.the-variants.{Finished, Unfinished}
 use Rattle.volume.specs.meaning.Refusals.{refuse, accept, firstRefusal, Verdict}
 use Rattle.tables.specs.laws.Device.{well-formed-apply-all, WellFormed}
@@ -13,10 +13,10 @@ use native.Mathlib.Nat.{le-refl}
 use Rattle.promise.specs.examples.Example.{geo, lengths, every, noStop, blank, formattedState, bytes}
 use mathlib.Core.Path.{_≡_, refl, sym}
 use mathlib.Core.Logic.{inl}
-use mathlib.Core.Bool.{Bool, true, _&&_, not, false}
-use Prim.Native.Nat.{ℕ, _<_}
+use mathlib.Core.Bool.{Bool, true, false, _&&_, not, true≢false}
+use Prim.Native.Nat.{ℕ, zero, suc, _<_}
 use mathlib.Core.List.{List, [], _∷_}
-use lib.ListN.{length, take}
+use lib.ListN.{length, getD, take}
 use lib.Dec.{eqb, ltb, T, lit<}
 use native.Mathlib.Omega.{arith}
 use borrow.Author.Tests.{ne-eqb}
@@ -150,25 +150,93 @@ abbrev pub all : List Bool → Bool
 all [] = true
 all (b ∷ bs) = b && all bs
 
+-- (each point is computed from the one before)
 pub wentSo : List Bool
 wentSo =
+    let a1 = next geo vol s0 e1 in
+    let a2 = next geo vol a1 e2 in
+    let a3 = next geo vol a2 e3 in
+    let a4 = next geo vol a3 e4 in
+    let a5 = next geo vol a4 e5 in
+    let a6 = next geo vol a5 e6 in
+    let a7 = next geo vol a6 e7 in
+    let a8 = next geo vol a7 e8 in
+    let cut : Device = λ d y. keepFirst (a8 .memory d y .durable) (a8 .memory d y) in
+    let a9 = next geo vol a8 (cuts cut) in
+    let a10 = next geo vol a9 e10 in
+    let a11 = next geo vol a10 (loses 1 (λ d y. pick (eqb d 1) blankZone (cut d y))) in
+    let a12 = next geo vol a11 e12 in
+    let a13 = next geo vol a12 e13 in
     -- written and flushed; refused
-    isMode ready (s2 .mode) ∷ eqb (s2 .ledger .committed 0) 5 ∷ isMode ready (s3 .mode) ∷ eqb (length (s3 .ledger .content 0)) 5
+    isMode ready (a1 .mode) ∷ isMode ready (a2 .mode) ∷ isMode ready (a3 .mode) ∷ eqb (a2 .ledger .committed 0) 5 ∷ eqb (length (a3 .ledger .content 0)) 5
     -- the look's state is what the host held
-    ∷ eqb (pointerHeld vol (s4 .state) 0) 5 ∷ eqb (s4 .state .generation 0) 1 ∷ eqb (vol .peek every (s4 .state) 4 (s4 .memory) .number) 0
+    ∷ eqb (pointerHeld vol (a4 .state) 0) 5 ∷ eqb (a4 .state .generation 0) 1 ∷ eqb (vol .peek every (a4 .state) 4 (a4 .memory) .number) 0
     -- a reset that finishes
-    ∷ eqb (length (s6 .ledger .content 1)) 3 ∷ isMode ready (s7 .mode) ∷ eqb (length (s7 .ledger .content 1)) 0 ∷ eqb (s7 .state .generation 1) 2
+    ∷ isMode ready (a6 .mode) ∷ isMode ready (a7 .mode) ∷ eqb (length (a6 .ledger .content 1)) 3 ∷ eqb (length (a7 .ledger .content 1)) 0 ∷ eqb (a7 .state .generation 1) 2
     -- one that is stopped: the flag is up, and what is committed is shown no more
-    ∷ isMode stopped (s8 .mode) ∷ s8 .ledger .resetting 0 ∷ eqb (s9 .ledger .committed 0) 5 ∷ isMode down (s9 .mode) ∷ eqb (vol .shows every (s9 .memory) (s9 .memory) .zone 0 .pointer) 0
+    ∷ isMode stopped (a8 .mode) ∷ a8 .ledger .resetting 0 ∷ eqb (a9 .ledger .committed 0) 5 ∷ isMode down (a9 .mode) ∷ eqb (vol .shows every (a9 .memory) (a9 .memory) .zone 0 .pointer) 0
     -- the mount finishes without drive 1, and the volume goes on
-    ∷ isMode ready (s12 .mode) ∷ not (s12 .ledger .resetting 0) ∷ eqb (s12 .state .lost) 1 ∷ eqb (pointerHeld vol (s12 .state) 0) 0
-    ∷ isMode ready (s13 .mode) ∷ eqb (length (s13 .ledger .content 0)) 2 ∷ eqb (vol .peek (allBut 1) (s13 .state) 0 (s13 .memory) .number) 0 ∷ []
+    ∷ isMode ready (a12 .mode) ∷ isMode ready (a13 .mode) ∷ not (a12 .ledger .resetting 0) ∷ eqb (a12 .state .lost) 1 ∷ eqb (pointerHeld vol (a12 .state) 0) 0
+    ∷ eqb (length (a13 .ledger .content 0)) 2 ∷ eqb (vol .peek (allBut 1) (a13 .state) 0 (a13 .memory) .number) 0 ∷ []
 
 pub history-goes : T (all wentSo)
 unfolding deviceOpen wentSo
 history-goes = tt
 
+-- what was computed is not computed again
+pub all-at : (bs : List Bool) → T (all bs) → (i : ℕ) → getD bs i true ≡ true
+all-at [] h i = refl
+all-at (true ∷ bs) h zero = refl
+all-at (true ∷ bs) h (suc i) = all-at bs h i
+all-at (false ∷ bs) h i = absurd h
+
+pub ready-is : (m : Mode) → isMode ready m ≡ true → m ≡ ready
+ready-is ready e = refl
+ready-is stopped e = absurd (true≢false (sym e))
+ready-is down e = absurd (true≢false (sym e))
+
+pub may-mount : (m : Mode) → m ≡ ready → MayMount m
+may-mount ready e = tt
+may-mount stopped e = absurd (let z : _≡_ {A = ℕ} 0 1 = cc in omega arith)
+may-mount down e = tt
+
+ready-1 : s1 .mode ≡ ready
+unfolding wentSo
+ready-1 = ready-is (s1 .mode) (all-at wentSo history-goes 0)
+
+ready-2 : s2 .mode ≡ ready
+unfolding wentSo
+ready-2 = ready-is (s2 .mode) (all-at wentSo history-goes 1)
+
+ready-3 : s3 .mode ≡ ready
+unfolding wentSo
+ready-3 = ready-is (s3 .mode) (all-at wentSo history-goes 2)
+
+ready-6 : s6 .mode ≡ ready
+unfolding wentSo
+ready-6 = ready-is (s6 .mode) (all-at wentSo history-goes 8)
+
+ready-7 : s7 .mode ≡ ready
+unfolding wentSo
+ready-7 = ready-is (s7 .mode) (all-at wentSo history-goes 9)
+
+ready-12 : s12 .mode ≡ ready
+unfolding wentSo
+ready-12 = ready-is (s12 .mode) (all-at wentSo history-goes 18)
+
+ready-13 : s13 .mode ≡ ready
+unfolding wentSo
+ready-13 = ready-is (s13 .mode) (all-at wentSo history-goes 19)
+
 -- ---- its duties are done
+none-lost : s0 .lost ≡ noDrive
+unfolding leftOut
+none-lost = refl
+
+format-finishes : vol .call (formats 7) every formattedState noStop blank .answer ≡ Finished
+unfolding deviceOpen
+format-finishes = refl
+
 abbrev pub done : {A B : Type 0} → A → B → A × B
 done a b = (a, b)
 
@@ -213,14 +281,12 @@ unfolding Loss
 lose-1 v d y n = rw (ne-eqb d 1 n) refl
 
 pub duties-done : Dutiful geo vol s0 history
-unfolding deviceOpen
 duties-done =
-    done (names-all s0 refl, refl, tt) (done (names-all s1 refl, refl, tt) (done (names-all s2 refl, refl, tt) (done (names-all s3 refl, tt)
-    (done (names-all s4 refl, refl) (done (names-all s5 refl, refl, tt) (done (names-all s6 refl, refl, tt) (done (names-all s7 refl, refl, tt)
-    (done (cut-to-durable (s8 .lost) (s8 .memory) well-formed-8) (done (names-all s9 refl, tt) (done (lit< tt, inl refl, lose-1 afterCut) (done (names-without-1 s11 refl, tt, tt)
-    (done (names-without-1 s12 refl, refl, tt) (done (names-without-1 s13 refl, refl) (done (names-without-1 s14 refl, refl) tt))))))))))))))
+    done (names-all s0 none-lost, refl, tt) (done (names-all s1 none-lost, ready-1, tt) (done (names-all s2 none-lost, ready-2, tt) (done (names-all s3 none-lost, may-mount (s3 .mode) ready-3)
+    (done (names-all s4 none-lost, ready-3) (done (names-all s5 none-lost, ready-3, tt) (done (names-all s6 none-lost, ready-6, tt) (done (names-all s7 none-lost, ready-7, tt)
+    (done (cut-to-durable (s8 .lost) (s8 .memory) well-formed-8) (done (names-all s9 none-lost, tt) (done (lit< tt, inl none-lost, lose-1 afterCut) (done (names-without-1 s11 refl, tt, tt)
+    (done (names-without-1 s12 refl, ready-12, tt) (done (names-without-1 s13 refl, ready-13) (done (names-without-1 s14 refl, ready-13) tt))))))))))))))
 
 -- ---- and what the claim says of it
 pub history-keeps-the-promise : Throughout geo vol s0 history
-unfolding deviceOpen
-history-keeps-the-promise = device-keeps-the-promise geo lengths every 7 formattedState noStop blank (lit< tt) refl history duties-done
+history-keeps-the-promise = device-keeps-the-promise geo lengths every 7 formattedState noStop blank (lit< tt) format-finishes history duties-done

@@ -8,11 +8,14 @@ use Rattle.logs.specs.meaning.Entry.{wornGeneration, encode, frame, labelBytes,
 use Rattle.volume.specs.meaning.Content.{rowXor, contentAt, rowXorBelow, entryAt}
 use Rattle.volume.specs.meaning.Rules.{viewOf, generalHeads, generalEnding, parityEntries, parityEnding, isLost, isPresent, generationOf, resetSeen, sealSeen, sealLimit, zoneView, valueAt, pointerAt, cleanAt, zoneAt, zoneShown, showing}
 use Rattle.volume.specs.meaning.State.{callPresent}
+use Rattle.logs.specs.meaning.Copies.{copiedGeneral}
+use Rattle.volume.specs.meaning.Roles.{claim, strength, rolesIn, driveByRoles}
+use Rattle.volume.specs.meaning.Emptying.{generalCopies, parityCopies, newGeneral, newParity, newGeneralSize, newParitySize, unusedIn, staysFull, emptiedFor, emptiedForWrite, emptyingStores, emptyings, emptyGeneral, emptyParity, writeAll, resetAll, goneForCopies}
 use Rattle.volume.specs.meaning.Answers.{lostIn, leftOut, namedDrives, sectorsIn}
-use Rattle.volume.specs.meaning.Refusals.{badPointers, twoLost, badLabels, badLogs, stateWithin, twoAbsent, twoUnnamed, stale, unusedBelow, writeFull, goneIn, goneBefore, notHeld, formatRows, lookRows, mountRows, writeRows, flushRows, resetRows, readRows, peekRows}
+use Rattle.volume.specs.meaning.Refusals.{badPointers, twoLost, badLabels, kindLacks, badLogs, stateWithin, twoAbsent, twoUnnamed, stale, mountFull, resetFull, writeFull, goneIn, goneBefore, goneForEntry, notHeld, formatRows, lookRows, mountRows, writeRows, flushRows, resetRows, readRows, peekRows}
 use Rattle.volume.specs.meaning.Calls.{formatStores, writeStores, zoneContent, writeWith, flushStores, resetStores}
-use Rattle.volume.specs.meaning.Mount.{mountStores, mountPhases, phasesBeforeEntries, mountLook, mountShows, afterOpening, labelStep, resetEntryStep, zoneResetStep, counterStep, countersDiffer, sealStep, tornRowStep, fillStep, entryStep}
-use Rattle.volume.specs.meaning.CallContracts.{formatVerdict, formatOn, freshState, flushVerdict, flushOn, writeVerdict, writeOn, resetVerdict, resetOn, stateShown, lookVerdict, lookOn, mountVerdict, storesBefore, mountStoresOn, mountShownOn, mountOn, readNumber, valuesOn, readOn, peekNumber, peekOn}
+use Rattle.volume.specs.meaning.Mount.{mountStores, phasesOfLogs, phasesBeforeEntries, phasesOfParityLogs, phasesOfEntries, mountLook, mountShows, afterOpening, spareStep, labelStep, resetEntryStep, zoneResetStep, counterStep, countersDiffer, sealStep, tornRowStep, fillStep, entryStep}
+use Rattle.volume.specs.meaning.CallContracts.{formatVerdict, formatOn, freshState, flushVerdict, flushOn, writeVerdict, writeOn, resetVerdict, resetOn, stateShown, lookVerdict, lookOn, mountVerdict, storesBefore, parityLogStores, storesToParityLogs, mountStoresOn, mountShownOn, mountOn, readNumber, valuesOn, readOn, peekNumber, peekOn}
 
 -- geometry and placement
 unfoldable pub placementOpen : Bool
@@ -29,9 +32,18 @@ unfoldable pub rulesOpen : Bool
 unfolding viewOf generalHeads generalEnding parityEntries parityEnding isLost isPresent callPresent generationOf resetSeen sealSeen sealLimit zoneView valueAt pointerAt cleanAt zoneAt zoneShown showing
 rulesOpen = true
 
+-- where the logs lie, and how they are emptied
+unfoldable pub rolesOpen : Bool
+unfolding claim strength rolesIn driveByRoles
+rolesOpen = true
+
+unfoldable pub emptyingOpen : Bool
+unfolding copiedGeneral generalCopies parityCopies newGeneral newParity newGeneralSize newParitySize unusedIn staysFull emptiedFor emptiedForWrite emptyingStores emptyings emptyGeneral emptyParity writeAll resetAll goneForCopies
+emptyingOpen = true
+
 -- refusals
 unfoldable pub refusalsOpen : Bool
-unfolding lengthsFit bufferFits badPointers twoLost badLabels badLogs stateWithin twoAbsent twoUnnamed stale unusedBelow writeFull goneIn goneBefore notHeld
+unfolding lengthsFit bufferFits badPointers twoLost badLabels kindLacks badLogs stateWithin twoAbsent twoUnnamed stale mountFull resetFull writeFull goneIn goneBefore goneForEntry notHeld
 refusalsOpen = true
 
 unfoldable pub refusalRowsOpen : Bool
@@ -45,16 +57,16 @@ storesOpen = true
 
 -- the mount's steps
 unfoldable pub mountOpen : Bool
-unfolding mountStores mountPhases phasesBeforeEntries mountLook mountShows afterOpening labelStep resetEntryStep zoneResetStep counterStep countersDiffer sealStep tornRowStep fillStep entryStep
+unfolding mountStores phasesOfLogs phasesBeforeEntries phasesOfParityLogs phasesOfEntries mountLook mountShows afterOpening spareStep labelStep resetEntryStep zoneResetStep counterStep countersDiffer sealStep tornRowStep fillStep entryStep
 mountOpen = true
 
 -- ---- a case on the device, and one on the tables
 unfoldable pub deviceOpen : Bool
-unfolding placementOpen entriesOpen rulesOpen refusalsOpen refusalRowsOpen storesOpen mountOpen
+unfolding placementOpen entriesOpen rulesOpen rolesOpen emptyingOpen refusalsOpen refusalRowsOpen storesOpen mountOpen
 deviceOpen = true
 
 unfoldable pub contractsOpen : Bool
-unfolding formatVerdict formatOn freshState flushVerdict flushOn writeVerdict writeOn resetVerdict resetOn stateShown lookVerdict lookOn mountVerdict storesBefore mountStoresOn mountShownOn mountOn readNumber valuesOn readOn peekNumber peekOn
+unfolding formatVerdict formatOn freshState flushVerdict flushOn writeVerdict writeOn resetVerdict resetOn stateShown lookVerdict lookOn mountVerdict storesBefore parityLogStores storesToParityLogs mountStoresOn mountShownOn mountOn readNumber valuesOn readOn peekNumber peekOn
 contractsOpen = true
 
 unfoldable pub tablesOpen : Bool

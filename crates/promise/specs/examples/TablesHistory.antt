@@ -11,19 +11,22 @@ use Rattle.tables.specs.meaning.Tables.{Tables, cell, sectorNo, TablesCut, Tabl
 use Rattle.tables.specs.laws.ZonePlaces.{place-in}
 use Rattle.tables.specs.meaning.Geometry.{geometryOf}
 use Rattle.volume.specs.declared.State.{State}
+use Rattle.volume.specs.declared.Answer.the-variants.{Finished}
+use Rattle.volume.specs.meaning.Answers.{leftOut}
 use Rattle.volume.specs.meaning.CallContracts.{isSet, freshState}
 use Rattle.tables.specs.laws.Lists.{length-overlay, overlay-below}
+use Rattle.tables.specs.laws.Basics.{not-true}
 use Rattle.tables.specs.laws.Made.{WellSized}
 use Rattle.tables.specs.laws.PointerOrder.{order-passed, cut-to-durable}
 use Rattle.promise.specs.tables.TablesClaimProof.{tables-keep-the-promise}
 use Rattle.promise.specs.examples.Example.{noStop}
-use Rattle.promise.specs.examples.ClaimExample.{isMode, all, done}
+use Rattle.promise.specs.examples.ClaimExample.{isMode, all, all-at, ready-is, may-mount, done}
 use mathlib.Core.Bool.{Bool, true, false, not}
 use mathlib.Core.Path.{_≡_, refl, sym, ap, _∙_}
 use mathlib.Core.Logic.{inl}
 use Prim.Native.Nat.{ℕ, zero, suc, _+_, _*_, _≤_, _<_}
 use native.Mathlib.Omega.{arith}
-use borrow.Author.Tests.{ne-eqb}
+use borrow.Author.Tests.{ne-eqb, eqb-true}
 use mathlib.Core.List.{List, [], _∷_, _++_, append-assoc}
 use lib.ListN.{length, take, drop, length-drop, replicate, take-append-drop}
 use lib.Seq.{take-append-le, drop-append-le, length-take-le}
@@ -167,25 +170,83 @@ abbrev history : List (Event vol)
 history = e1 ∷ e2 ∷ e3 ∷ e4 ∷ e5 ∷ e6 ∷ e7 ∷ e8 ∷ e9 ∷ e10 ∷ e11 ∷ e12 ∷ e13 ∷ e14 ∷ e15 ∷ e16 ∷ []
 
 -- ---- what became of it
+-- (each point is computed from the one before)
 pub wentSo : List Bool
 wentSo =
+    let a1 = next small vol s0 e1 in
+    let a2 = next small vol a1 e2 in
+    let a3 = next small vol a2 e3 in
+    let a4 = next small vol a3 e4 in
+    let a5 = next small vol a4 e5 in
+    let a6 = next small vol a5 e6 in
+    let a7 = next small vol a6 e7 in
+    let a8 = next small vol a7 e8 in
+    let a9 = next small vol a8 e9 in
+    let cut : Tables = record { sectors = a9 .memory .sectors; written = a9 .memory .durable; durable = a9 .memory .durable } in
+    let a10 = next small vol a9 (cuts cut) in
+    let a11 = next small vol a10 e11 in
+    let lost : Tables = record { sectors = overlay (cut .sectors) 4608 (replicate 2304 255); written = overlay (cut .written) 8 (replicate 4 99); durable = overlay (cut .durable) 8 (replicate 4 999) } in
+    let a12 = next small vol a11 (loses 2 lost) in
+    let a13 = next small vol a12 e13 in
+    let a14 = next small vol a13 e14 in
     -- written and flushed; refused
-    isMode ready (s2 .mode) ∷ eqb (s2 .ledger .committed 0) 1 ∷ isMode ready (s3 .mode) ∷ eqb (length (s3 .ledger .content 0)) 1
+    isMode ready (a1 .mode) ∷ isMode ready (a2 .mode) ∷ isMode ready (a3 .mode) ∷ eqb (a2 .ledger .committed 0) 1 ∷ eqb (length (a3 .ledger .content 0)) 1
     -- the look's state is what the host held
-    ∷ eqb (pointerHeld vol (s4 .state) 0) 1 ∷ eqb (vol .generation (s4 .state) 0) 1 ∷ eqb (vol .peek every (s4 .state) 0 (s4 .memory) .number) 0
+    ∷ eqb (pointerHeld vol (a4 .state) 0) 1 ∷ eqb (vol .generation (a4 .state) 0) 1 ∷ eqb (vol .peek every (a4 .state) 0 (a4 .memory) .number) 0
     -- a reset that finishes
-    ∷ isMode ready (s6 .mode) ∷ eqb (length (s6 .ledger .content 0)) 0 ∷ eqb (vol .generation (s6 .state) 0) 2 ∷ eqb (s8 .ledger .committed 0) 3
+    ∷ isMode ready (a6 .mode) ∷ isMode ready (a7 .mode) ∷ isMode ready (a8 .mode) ∷ eqb (length (a6 .ledger .content 0)) 0 ∷ eqb (vol .generation (a6 .state) 0) 2 ∷ eqb (a8 .ledger .committed 0) 3
     -- one that is stopped: the flag is up, and what is committed is shown no more
-    ∷ isMode stopped (s9 .mode) ∷ s9 .ledger .resetting 0 ∷ eqb (s10 .ledger .committed 0) 3 ∷ isMode down (s10 .mode) ∷ eqb (vol .shows every (s10 .memory) (s10 .memory) .zone 0 .pointer) 0
+    ∷ not (pointersBad small every (a9 .memory .written) (a9 .memory .durable)) ∷ eqb (length (a9 .memory .sectors)) 6912 ∷ eqb (length (a9 .memory .written)) 12 ∷ eqb (length (a9 .memory .durable)) 12
+    ∷ isMode stopped (a9 .mode) ∷ a9 .ledger .resetting 0 ∷ eqb (a10 .ledger .committed 0) 3 ∷ isMode down (a10 .mode) ∷ eqb (vol .shows every (a10 .memory) (a10 .memory) .zone 0 .pointer) 0
     -- the mount finishes without drive 2, and the volume goes on
-    ∷ isMode ready (s13 .mode) ∷ not (s13 .ledger .resetting 0) ∷ eqb (s13 .state .lost) 2 ∷ eqb (pointerHeld vol (s13 .state) 0) 0
-    ∷ isMode ready (s14 .mode) ∷ eqb (length (s14 .ledger .content 0)) 2 ∷ eqb (vol .peek without2 (s14 .state) 0 (s14 .memory) .number) 0 ∷ []
+    ∷ isMode ready (a13 .mode) ∷ isMode ready (a14 .mode) ∷ not (a13 .ledger .resetting 0) ∷ eqb (a13 .state .lost) 2 ∷ eqb (pointerHeld vol (a13 .state) 0) 0
+    ∷ eqb (length (a14 .ledger .content 0)) 2 ∷ eqb (vol .peek without2 (a14 .state) 0 (a14 .memory) .number) 0 ∷ []
 
 pub history-goes : T (all wentSo)
 unfolding tablesOpen wentSo
 history-goes = tt
 
+ready-1 : s1 .mode ≡ ready
+unfolding wentSo
+ready-1 = ready-is (s1 .mode) (all-at wentSo history-goes 0)
+
+ready-2 : s2 .mode ≡ ready
+unfolding wentSo
+ready-2 = ready-is (s2 .mode) (all-at wentSo history-goes 1)
+
+ready-3 : s3 .mode ≡ ready
+unfolding wentSo
+ready-3 = ready-is (s3 .mode) (all-at wentSo history-goes 2)
+
+ready-6 : s6 .mode ≡ ready
+unfolding wentSo
+ready-6 = ready-is (s6 .mode) (all-at wentSo history-goes 8)
+
+ready-7 : s7 .mode ≡ ready
+unfolding wentSo
+ready-7 = ready-is (s7 .mode) (all-at wentSo history-goes 9)
+
+ready-8 : s8 .mode ≡ ready
+unfolding wentSo
+ready-8 = ready-is (s8 .mode) (all-at wentSo history-goes 10)
+
+ready-13 : s13 .mode ≡ ready
+unfolding wentSo
+ready-13 = ready-is (s13 .mode) (all-at wentSo history-goes 23)
+
+ready-14 : s14 .mode ≡ ready
+unfolding wentSo
+ready-14 = ready-is (s14 .mode) (all-at wentSo history-goes 24)
+
 -- ---- its duties are done
+none-lost : s0 .lost ≡ noDrive
+unfolding leftOut
+none-lost = refl
+
+format-finishes : vol .call (formats 7) every held noStop zeros .answer ≡ Finished
+unfolding tablesOpen
+format-finishes = refl
+
 every-set : (d : ℕ) → d < 3 → isSet every d ≡ true
 every-set zero h = refl
 every-set (suc zero) h = refl
@@ -233,25 +294,27 @@ loss-done t w bs ws ds hb hw hd = record {
 }
 
 stopped-sized : WellSized small (s9 .memory)
-unfolding tablesOpen
-stopped-sized = record { sectors-long = refl; written-long = refl; durable-long = refl }
+unfolding wentSo
+stopped-sized = record {
+  sectors-long = eqb-true (length (s9 .memory .sectors)) 6912 (all-at wentSo history-goes 15);
+  written-long = eqb-true (length (s9 .memory .written)) 12 (all-at wentSo history-goes 16);
+  durable-long = eqb-true (length (s9 .memory .durable)) 12 (all-at wentSo history-goes 17);
+}
 
 stopped-in-order : pointersBad small every (s9 .memory .written) (s9 .memory .durable) ≡ false
-unfolding tablesOpen
-stopped-in-order = refl
+unfolding wentSo
+stopped-in-order = not-true (pointersBad small every (s9 .memory .written) (s9 .memory .durable)) (all-at wentSo history-goes 14)
 
 cut-sized : WellSized small (s11 .memory)
 cut-sized = record { sectors-long = stopped-sized .sectors-long; written-long = stopped-sized .durable-long; durable-long = stopped-sized .durable-long }
 
 pub duties-done : Dutiful small vol s0 history
-unfolding tablesOpen
 duties-done =
-    done (names-all s0 refl, refl, tt) (done (names-all s1 refl, refl, tt) (done (names-all s2 refl, refl, tt) (done (names-all s3 refl, tt)
-    (done (names-all s4 refl, refl) (done (names-all s5 refl, refl, tt) (done (names-all s6 refl, refl, tt) (done (names-all s7 refl, refl, tt)
-    (done (names-all s8 refl, refl, tt) (done (cut-done (s9 .memory) stopped-sized stopped-in-order (s9 .lost)) (done (names-all s10 refl, tt) (done (lit< tt, inl refl, loss-done (s11 .memory) cut-sized (replicate 2304 255) (replicate 4 99) (replicate 4 999) refl refl refl)
-    (done (names-without-2 s12 refl, tt, tt) (done (names-without-2 s13 refl, refl, tt) (done (names-without-2 s14 refl, refl) (done (names-without-2 s15 refl, refl) tt)))))))))))))))
+    done (names-all s0 none-lost, refl, tt) (done (names-all s1 none-lost, ready-1, tt) (done (names-all s2 none-lost, ready-2, tt) (done (names-all s3 none-lost, may-mount (s3 .mode) ready-3)
+    (done (names-all s4 none-lost, ready-3) (done (names-all s5 none-lost, ready-3, tt) (done (names-all s6 none-lost, ready-6, tt) (done (names-all s7 none-lost, ready-7, tt)
+    (done (names-all s8 none-lost, ready-8, tt) (done (cut-done (s9 .memory) stopped-sized stopped-in-order (s9 .lost)) (done (names-all s10 none-lost, tt) (done (lit< tt, inl none-lost, loss-done (s11 .memory) cut-sized (replicate 2304 255) (replicate 4 99) (replicate 4 999) refl refl refl)
+    (done (names-without-2 s12 refl, tt, tt) (done (names-without-2 s13 refl, ready-13, tt) (done (names-without-2 s14 refl, ready-14) (done (names-without-2 s15 refl, ready-14) tt)))))))))))))))
 
 -- ---- and what the promise says of it
 pub history-keeps-the-promise : Throughout small vol s0 history
-unfolding tablesOpen
-history-keeps-the-promise = tables-keep-the-promise small every 7 held noStop zeros (lit< tt) refl history duties-done
+history-keeps-the-promise = tables-keep-the-promise small every 7 held noStop zeros (lit< tt) format-finishes history duties-done

@@ -28,21 +28,22 @@ use Rattle.promise.specs.invariant.HoldsLess.{withLogs, Less, less-zone,
 use Rattle.promise.specs.invariant.Obligations.{CutKeeps, LossKeeps, LossRests}
 
 -- a cut leaves a part of each place
-cut-part : (a b : ZoneView) → ZoneCut a b → Part a b
+pub cut-part : (a b : ZoneView) → ZoneCut a b → Part a b
 cut-part a b c = rw (c .is) (record { front = prefix-take (c .kept) (a .sectors); least = c .least; most = le-of-eq (sym (length-take-le (c .kept) (a .sectors) (c .most))) })
 
 -- THE INVARIANT SURVIVES EVERY CUT
 pub cut-keeps : (g : Geometry) → Valid g → CutKeeps g
-cut-keeps g ok x v w l (γ, i) c = inv-part g x v w l γ i (λ d y a h. cut-part (v d y) (w d y) (cut-at x v w c d y (present-not g x d a)))
+cut-keeps g ok k x v w l (γ, i, e) c = let (δ, j, p) = inv-part g x v w l γ i (λ d y a h. cut-part (v d y) (w d y) (cut-at x v w c d y (present-not g x d a))) in (δ, j, p ∙ e)
+
+-- the drives that are present after a loss of y were so before (x: lost before, if any)
+pub present-before : (g : Geometry) → Valid g → (x y : ℕ) → (x ≡ noDrive) ⊎ (x ≡ y) → (d : ℕ) → Here g y d → Here g x d
+present-before g ok x y (inl e) d a = let h = present-below g y d a in rw e (present-other g noDrive d h (λ q. omega (arith, ok .drives-most)))
+present-before g ok x y (inr e) d a = rw e a
 
 -- ---- drive y is lost, or was before (x); v, w: the device before and after
 module _ (g : Geometry) (ok : Valid g) (x y : ℕ) (hy : y < g .drives) (one : (x ≡ noDrive) ⊎ (x ≡ y)) (v w : Device) (lo : Loss y v w) (γ : Ghost) where
   here-before : (d : ℕ) → Here g y d → Here g x d
-  here-before d a = go one
-    where
-      go : (x ≡ noDrive) ⊎ (x ≡ y) → Here g x d
-      go (inl e) = let h = present-below g y d a in rw e (present-other g noDrive d h (λ q. omega (arith, ok .drives-most)))
-      go (inr e) = rw e a
+  here-before = present-before g ok x y one
 
   -- the drives that are left are as they were
   same : (d z : ℕ) → Here g y d → w d z ≡ v d z
@@ -56,7 +57,7 @@ module _ (g : Geometry) (ok : Valid g) (x y : ℕ) (hy : y < g .drives) (one : (
       go (inl q) = inl (e ∙ q)
       go (inr q) = inr (e ∙ q)
 
-  lose-logs : LogsOk g x v γ → LogsOk g y w (withLogs γ (γ .general) (γ .parity))
+  pub lose-logs : LogsOk g x v γ → LogsOk g y w (withLogs γ (γ .general) (γ .parity))
   lose-logs lg = record {
     lost-ok = inr hy;
     array-lt = lg .array-lt;
@@ -65,6 +66,10 @@ module _ (g : Geometry) (ok : Valid g) (x y : ℕ) (hy : y < g .drives) (one : (
     first = λ d a. lg .first d (here-before d a);
     first-lasts = λ d a. rw (same d generalZone a) (lg .first-lasts d (here-before d a));
     labels = λ d a n b m. let (p, q) = lg .labels d (here-before d a) n b m in (named-before n p, q);
+    general-closes = λ d a. lg .general-closes d (here-before d a);
+    general-closed = λ d a. rw (same d generalZone a) (lg .general-closed d (here-before d a));
+    parity-closes = λ d a. lg .parity-closes d (here-before d a);
+    parity-closed = λ d a. rw (same d parityZone a) (lg .parity-closed d (here-before d a));
     parity-is = λ d a. rw (same d parityZone a) (lg .parity-is d (here-before d a));
     parity-lawful = λ d a. lg .parity-lawful d (here-before d a);
     parity-fits = λ d a. lg .parity-fits d (here-before d a);
@@ -75,7 +80,7 @@ module _ (g : Geometry) (ok : Valid g) (x y : ℕ) (hy : y < g .drives) (one : (
   left-self : (d : ℕ) (e : Entry) → List·Memᴰ e (γ .parity d) → Left g d true e (γ .parity d)
   left-self d e m = record { of = e; isSet = m; heads = refl; many = length (e .rows); rows-are = sym (take-length (e .rows)) }
 
-  lose-less : Less g x y v w γ (γ .general) (γ .parity)
+  pub lose-less : Less g x y v w γ (γ .general) (γ .parity)
   lose-less = record {
     here = here-before;
     general-sub = λ d a h m. m;
@@ -97,16 +102,17 @@ module _ (g : Geometry) (ok : Valid g) (x y : ℕ) (hy : y < g .drives) (one : (
   lose-shape l z (Worn n) s = s
 
 pub loss-keeps : (g : Geometry) → Valid g → LossKeeps g
-loss-keeps g ok x y v w l h one lo (γ, i) = (
+loss-keeps g ok c x y v w l h one lo (γ, i, q) = (
   withLogs γ (γ .general) (γ .parity),
   record {
     logs = lose-logs g ok x y h one v w lo γ (i .logs);
     zones = λ z k. less-zone g x y v w γ (γ .general) (γ .parity) (i .logs) (lose-less g ok x y h one v w lo γ) l z k (i .zones z k);
   },
+  q,
 )
 
 pub loss-rests : (g : Geometry) → Valid g → LossRests g
-loss-rests g ok x y v w state l h one lo (γ, r) = (
+loss-rests g ok c x y v w state l h one lo (γ, r, p) = (
   withLogs γ (γ .general) (γ .parity),
   record {
     logs = lose-logs g ok x y h one v w lo γ (r .logs);
@@ -125,4 +131,5 @@ loss-rests g ok x y v w state l h one lo (γ, r) = (
     whole = λ d a. r .whole d (here-before g ok x y h one v w lo γ d a);
     lost-is = named-before g ok x y h one v w lo γ (state .lost) (r .lost-is);
   },
+  p,
 )

@@ -24,7 +24,7 @@ use Rattle.logs.specs.meaning.Heads.{generationIn}
 
 -- the ghosts with other logs
 abbrev pub withLogs : Ghost → (ℕ → List Header) → (ℕ → List Entry) → Ghost
-withLogs γ G P = record { laid = γ .laid; generation = γ .generation; general = G; parity = P; array = γ .array }
+withLogs γ G P = record { laid = γ .laid; generation = γ .generation; general = G; parity = P; array = γ .array; closed = γ .closed }
 
 -- x lost, device v, ghosts γ; then y lost, device w, logs G and P
 pub record Less (g : Geometry) (x y : ℕ) (v w : Device) (γ : Ghost) (G : ℕ → List Header) (P : ℕ → List Entry) : Type 0 where

@@ -13,7 +13,7 @@ use Rattle.tables.specs.laws.Lists.{Prefix}
 use Rattle.tables.specs.meaning.Placement.{needed}
 use Rattle.tables.specs.declared.Geometry.{Geometry}
 use Rattle.tables.specs.meaning.Geometry.{stripeSectors, zoneSectors, parityDriveOf, firstDriveOf, physicalZones, dataZone}
-use Rattle.logs.specs.meaning.Entry.{generalZone, parityZone, wornGeneration, Header, label, counters, zoneReset, partialParity, seal, Entry, encode}
+use Rattle.logs.specs.meaning.Entry.{generalZone, parityZone, wornGeneration, Header, label, counters, zoneReset, partialParity, seal, closing, Entry, encode}
 use Rattle.tables.specs.meaning.Drives.{noDrive}
 use Rattle.tables.specs.laws.Drives.{presentBut}
 use Rattle.logs.specs.laws.Walk.{sectorsOfAll, Reads, Whole, WellFormedLog, logExtent, cutEntries}
@@ -27,15 +27,24 @@ use Rattle.volume.specs.meaning.State.{pointerIn, StateView}
 use Rattle.promise.specs.meaning.Ledger.{Ledger}
 use native.Mathlib.Nat.{le-trans}
 
+-- of each drive, the generations of its general and its parity log: of their first closing entries, 0 where a log has none
+abbrev pub LogGenerations : Type 0
+LogGenerations = ℕ → ℕ × ℕ
+
 pub record Ghost : Type 0 where
   pub laid : ℕ → List (List ℕ)  -- the sectors that a zone's places follow, of which its content is a beginning
   pub generation : ℕ → ℕ  -- the zone's generation when the tables were last at rest
   pub general : ℕ → List Header  -- what drive d's general log holds
   pub parity : ℕ → List Entry  -- what drive d's parity log holds, the last entry perhaps torn
   pub array : ℕ
+  pub closed : LogGenerations
 
 abbrev pub Here : Geometry → ℕ → ℕ → Type 0
 Here g x d = presentBut g x d ≡ true
+
+-- a closing entry has no rows
+abbrev pub closingEntry : ℕ → ℕ → Entry
+closingEntry k n = record { head = closing k n; rows = [] }
 
 -- ---- the logs
 -- every label names no drive or the lost one, and carries the array's number, so a log may begin with any of them
@@ -50,6 +59,11 @@ pub record LogsOk (g : Geometry) (x : ℕ) (v : Device) (γ : Ghost) : Type 0 wh
   pub first : (d : ℕ) → Here g x d → (y : ℕ) × (hs : List Header) × (γ .general d ≡ label y (γ .array) ∷ hs)
   pub first-lasts : (d : ℕ) → Here g x d → 1 ≤ v d generalZone .durable
   pub labels : (d : ℕ) → Here g x d → (y a : ℕ) → List·Memᴰ (label y a) (γ .general d) → LabelFits x (γ .array) y a
+  -- closing entries: all of one generation, and one lasts; or none
+  pub general-closes : (d : ℕ) → Here g x d → (k n : ℕ) → List·Memᴰ (closing k n) (γ .general d) → n ≡ γ .closed d .0
+  pub general-closed : (d : ℕ) → Here g x d → 0 < γ .closed d .0 → List·Memᴰ (closing 0 (γ .closed d .0)) (take (v d generalZone .durable) (γ .general d))
+  pub parity-closes : (d : ℕ) → Here g x d → (e : Entry) → List·Memᴰ e (γ .parity d) → (k n : ℕ) → e .head ≡ closing k n → n ≡ γ .closed d .1
+  pub parity-closed : (d : ℕ) → Here g x d → 0 < γ .closed d .1 → List·Memᴰ (closingEntry 1 (γ .closed d .1)) (cutEntries g d true (γ .parity d) (v d parityZone .durable))
   pub parity-is : (d : ℕ) → Here g x d → v d parityZone .sectors ≡ sectorsOfAll g d true (γ .parity d)
   pub parity-lawful : (d : ℕ) → Here g x d → WellFormedLog g d true (γ .parity d)
   pub parity-fits : (d : ℕ) → Here g x d → logExtent g d true (γ .parity d) ≤ g .capacity

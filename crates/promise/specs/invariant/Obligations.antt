@@ -1,6 +1,6 @@
--- What each call owes the invariant, as types: the files named ..Keeps prove them, ClaimEvents.antt puts them together. A call that is
--- stopped after any n of its stores keeps the invariant; a finished one leaves all at rest. And when a call is accepted, as far as these
--- proofs need it (AcceptedCalls.antt gets it from the refusals).
+-- What each call owes the invariant, as types, over the device by its roles and where no log has to be emptied: the files named ..Keeps prove them,
+-- roles/RoledCalls carries them to the physical zones. A call that is stopped after any n of its stores keeps the invariant; a finished one
+-- leaves all at rest. And what its proof needs of an accepted call. (With logs that are emptied: RoomAsked.antt, device/CallsOwed.antt.)
 use mathlib.Core.Path.{_≡_}
 use mathlib.Core.Logic.{_⊎_}
 use mathlib.Core.Bool.{Bool, true}
@@ -18,9 +18,8 @@ use Rattle.volume.specs.declared.Condition.the-variants.{Empty, Open, Sealed, W
 use Rattle.volume.specs.meaning.State.{pointerIn, StateView}
 use Rattle.volume.specs.meaning.Content.{at, insideStripe, fillOf, parityDriveAt}
 use Rattle.volume.specs.meaning.Calls.{writeStores, writeState, flushStores, flushState, resetStores, resetState, formatStores, formatState}
-use Rattle.volume.specs.meaning.Mount.{mountStores, mountShows, mountState}
-use Rattle.promise.specs.meaning.Ledger.{Ledger, freshLedger, afterWrite, afterFlush, afterReset, afterStoppedReset, afterMount}
-use Rattle.promise.specs.invariant.Invariant.{Ghost, Inv, Rest}
+use Rattle.promise.specs.meaning.Ledger.{Ledger, freshLedger, afterWrite, afterFlush, afterReset, afterStoppedReset}
+use Rattle.promise.specs.invariant.Invariant.{Ghost, Inv, Rest, LogGenerations}
 
 -- ---- accepted calls
 abbrev pub Writable : Condition → Type 0
@@ -45,60 +44,52 @@ pub record ResetOk (g : Geometry) (present : ℕ → Bool) (v : Device) (state :
   pub not-worn : state .generation z < wornGeneration
   pub room : (d : ℕ) → present d ≡ true → length (v d generalZone .sectors) + (g .zones + 4) ≤ g .capacity
 
--- a mount (refusal 14)
-pub record MountOk (g : Geometry) (present : ℕ → Bool) (v : Device) : Type 0 where
-  pub general-room : (d : ℕ) → present d ≡ true → length (v d generalZone .sectors) + (g .zones + 2) ≤ g .capacity
-  pub parity-room : (d : ℕ) → present d ≡ true → length (v d parityZone .sectors) + (g .zones * (1 + g .unit) + g .unit) ≤ g .capacity
-
 -- ---- some ghosts make the invariant hold
-abbrev pub Invs : Geometry → ℕ → Device → Ledger → Type 0
-Invs g x v l = (γ : Ghost) × Inv g x v l γ
+-- (c: the logs' generations)
+abbrev pub Invs : LogGenerations → Geometry → ℕ → Device → Ledger → Type 0
+Invs c g x v l = (γ : Ghost) × Inv g x v l γ × (γ .closed ≡ c)
 
-abbrev pub Rests : Geometry → ℕ → Device → StateView → Ledger → Type 0
-Rests g x v state l = (γ : Ghost) × Rest g x v state l γ
+abbrev pub Rests : LogGenerations → Geometry → ℕ → Device → StateView → Ledger → Type 0
+Rests c g x v state l = (γ : Ghost) × Rest g x v state l γ × (γ .closed ≡ c)
+
+-- as a format leaves them
+abbrev pub neverEmptied : LogGenerations
+neverEmptied d = (zero, zero)
 
 -- ---- cuts and losses
 abbrev pub CutKeeps : Geometry → Type 0
-CutKeeps g = (x : ℕ) (v w : Device) (l : Ledger) → Invs g x v l → Cut x v w → Invs g x w l
+CutKeeps g = (c : LogGenerations) (x : ℕ) (v w : Device) (l : Ledger) → Invs c g x v l → Cut x v w → Invs c g x w l
 
 -- drive d is lost, or was before (x)
 abbrev pub LossKeeps : Geometry → Type 0
-LossKeeps g = (x d : ℕ) (v w : Device) (l : Ledger) → d < g .drives → (x ≡ noDrive) ⊎ (x ≡ d) → Loss d v w → Invs g x v l → Invs g d w l
+LossKeeps g = (c : LogGenerations) (x d : ℕ) (v w : Device) (l : Ledger) → d < g .drives → (x ≡ noDrive) ⊎ (x ≡ d) → Loss d v w → Invs c g x v l → Invs c g d w l
 
 abbrev pub LossRests : Geometry → Type 0
-LossRests g = (x d : ℕ) (v w : Device) (state : StateView) (l : Ledger) → d < g .drives → (x ≡ noDrive) ⊎ (x ≡ d) → Loss d v w → Rests g x v state l → Rests g d w state l
+LossRests g = (c : LogGenerations) (x d : ℕ) (v w : Device) (state : StateView) (l : Ledger) → d < g .drives → (x ≡ noDrive) ⊎ (x ≡ d) → Loss d v w → Rests c g x v state l → Rests c g d w state l
 
 -- ---- calls
 abbrev pub WriteKeeps : Geometry → Type 0
-WriteKeeps g = (x : ℕ) (v : Device) (state : StateView) (l : Ledger) (z : ℕ) (ss : List (List ℕ)) (n : ℕ) → Rests g x v state l → WriteOk g (presentBut g x) v state z ss
-    → Invs g x (applyAll (take n (writeStores g (presentBut g x) v state z ss)) v) (afterWrite l z ss)
+WriteKeeps g = (c : LogGenerations) (x : ℕ) (v : Device) (state : StateView) (l : Ledger) (z : ℕ) (ss : List (List ℕ)) (n : ℕ) → Rests c g x v state l → WriteOk g (presentBut g x) v state z ss
+    → Invs c g x (applyAll (take n (writeStores g (presentBut g x) v state z ss)) v) (afterWrite l z ss)
 
 abbrev pub WriteRests : Geometry → Type 0
-WriteRests g = (x : ℕ) (v : Device) (state : StateView) (l : Ledger) (z : ℕ) (ss : List (List ℕ)) → Rests g x v state l → WriteOk g (presentBut g x) v state z ss
-    → Rests g x (applyAll (writeStores g (presentBut g x) v state z ss) v) (writeState x state z ss) (afterWrite l z ss)
+WriteRests g = (c : LogGenerations) (x : ℕ) (v : Device) (state : StateView) (l : Ledger) (z : ℕ) (ss : List (List ℕ)) → Rests c g x v state l → WriteOk g (presentBut g x) v state z ss
+    → Rests c g x (applyAll (writeStores g (presentBut g x) v state z ss) v) (writeState x state z ss) (afterWrite l z ss)
 
 abbrev pub FlushKeeps : Geometry → Type 0
-FlushKeeps g = (x : ℕ) (v : Device) (l : Ledger) (n : ℕ) → Invs g x v l → Invs g x (applyAll (take n (flushStores g (presentBut g x))) v) l
+FlushKeeps g = (c : LogGenerations) (x : ℕ) (v : Device) (l : Ledger) (n : ℕ) → Invs c g x v l → Invs c g x (applyAll (take n (flushStores g (presentBut g x))) v) l
 
 abbrev pub FlushRests : Geometry → Type 0
-FlushRests g = (x : ℕ) (v : Device) (state : StateView) (l : Ledger) → Rests g x v state l → Rests g x (applyAll (flushStores g (presentBut g x)) v) (flushState x state) (afterFlush l)
+FlushRests g = (c : LogGenerations) (x : ℕ) (v : Device) (state : StateView) (l : Ledger) → Rests c g x v state l → Rests c g x (applyAll (flushStores g (presentBut g x)) v) (flushState x state) (afterFlush l)
 
 abbrev pub ResetKeeps : Geometry → Type 0
-ResetKeeps g = (x : ℕ) (v : Device) (state : StateView) (l : Ledger) (z n : ℕ) → Rests g x v state l → ResetOk g (presentBut g x) v state z
-    → Invs g x (applyAll (take n (resetStores g (presentBut g x) state z)) v) (afterStoppedReset l z)
+ResetKeeps g = (c : LogGenerations) (x : ℕ) (v : Device) (state : StateView) (l : Ledger) (z n : ℕ) → Rests c g x v state l → ResetOk g (presentBut g x) v state z
+    → Invs c g x (applyAll (take n (resetStores g (presentBut g x) state z)) v) (afterStoppedReset l z)
 
 abbrev pub ResetRests : Geometry → Type 0
-ResetRests g = (x : ℕ) (v : Device) (state : StateView) (l : Ledger) (z : ℕ) → Rests g x v state l → ResetOk g (presentBut g x) v state z
-    → Rests g x (applyAll (resetStores g (presentBut g x) state z) v) (resetState x state z) (afterReset l z)
+ResetRests g = (c : LogGenerations) (x : ℕ) (v : Device) (state : StateView) (l : Ledger) (z : ℕ) → Rests c g x v state l → ResetOk g (presentBut g x) v state z
+    → Rests c g x (applyAll (resetStores g (presentBut g x) state z) v) (resetState x state z) (afterReset l z)
 
 -- of any device
 abbrev pub FormatRests : Geometry → Type 0
-FormatRests g = (x a : ℕ) (v : Device) → (x ≡ noDrive) ⊎ (x < g .drives) → a < 256 ^ 8 → Rests g x (applyAll (formatStores g (presentBut g x) x a) v) (formatState x) freshLedger
-
-abbrev pub MountKeeps : Geometry → Type 0
-MountKeeps g = (x : ℕ) (v : Device) (l : Ledger) (n : ℕ) → Invs g x v l → MountOk g (presentBut g x) v
-    → Invs g x (applyAll (take n (mountStores g (presentBut g x) x v)) v) l
-
-abbrev pub MountRests : Geometry → Type 0
-MountRests g = (x : ℕ) (v : Device) (l : Ledger) → Invs g x v l → MountOk g (presentBut g x) v
-    → Rests g x (applyAll (mountStores g (presentBut g x) x v) v) (mountState (mountShows g (presentBut g x) x v)) (afterMount (mountShows g (presentBut g x) x v))
+FormatRests g = (x a : ℕ) (v : Device) → (x ≡ noDrive) ⊎ (x < g .drives) → a < 256 ^ 8 → Rests neverEmptied g x (applyAll (formatStores g (presentBut g x) x a) v) (formatState x) freshLedger

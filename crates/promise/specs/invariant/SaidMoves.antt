@@ -13,7 +13,7 @@ use Rattle.tables.specs.meaning.Device.{ZoneView, Device}
 use Rattle.tables.specs.laws.Lists.{Prefix}
 use Rattle.tables.specs.declared.Geometry.{Geometry}
 use Rattle.tables.specs.meaning.Geometry.{stripeSectors}
-use Rattle.logs.specs.meaning.Entry.{wornGeneration, Header, label, counters, zoneReset, partialParity, seal, Entry, generalZone}
+use Rattle.logs.specs.meaning.Entry.{wornGeneration, Header, label, counters, zoneReset, partialParity, seal, closing, Entry, generalZone}
 use Rattle.logs.specs.laws.Heads.{zoneGen}
 use Rattle.logs.specs.laws.Walk.{Whole}
 use Rattle.promise.specs.content.Columns.{column}
@@ -28,6 +28,7 @@ then-of (counters cs) z A Q p k = tt
 then-of (zoneReset y n) z A Q p k = λ e. k (p e) e
 then-of (partialParity y s f n) z A Q p k = λ e. k (p e) e
 then-of (seal y c n) z A Q p k = λ e. k (p e) e
+then-of (closing kind gen) z A Q p k = tt
 
 pub always-of : (h : Header) (z : ℕ) (A : Type 0) → A → zoneGen h (λ y n. y ≡ z → A)
 always-of (label x a) z A p = tt
@@ -35,6 +36,7 @@ always-of (counters cs) z A p = tt
 always-of (zoneReset y n) z A p = λ e. p
 always-of (partialParity y s f n) z A p = λ e. p
 always-of (seal y c n) z A p = λ e. p
+always-of (closing kind gen) z A p = tt
 
 map-of : (h : Header) (z : ℕ) (P Q : ℕ → Type 0) → ((n : ℕ) → P n → Q n) → zoneGen h (λ y n. y ≡ z → P n) → zoneGen h (λ y n. y ≡ z → Q n)
 map-of (label x a) z P Q f p = tt
@@ -42,6 +44,7 @@ map-of (counters cs) z P Q f p = tt
 map-of (zoneReset y n) z P Q f p = λ e. f n (p e)
 map-of (partialParity y s k n) z P Q f p = λ e. f n (p e)
 map-of (seal y c n) z P Q f p = λ e. f n (p e)
+map-of (closing kind gen) z P Q f p = tt
 
 pub partial-of : {A : Type 0} (h : Header) (z i k n : ℕ) → h ≡ partialParity z i k n → zoneGen h (λ y m. y ≡ z → A) → A
 partial-of {A} h z i k n e p = subst (λ (t : Header). zoneGen t (λ y m. y ≡ z → A)) e p refl

@@ -1,7 +1,7 @@
 -- A call that was stopped: of each present place a front is there of what the finished call would have left, and no less of it lasts. The
 -- invariant of the finished call's device holds for it. (A cut and a flush are such too.)
 use Rattle.tables.specs.laws.Lists.{prefix-is-take, Prefix, prefix-length, mem-take, mem-more, take-map}
-use mathlib.Core.Path.{_≡_, refl, ap, _∙_}
+use mathlib.Core.Path.{_≡_, refl, ap, _∙_, sym}
 use mathlib.Core.Bool.{true}
 use Prim.Native.Nat.{ℕ, zero, suc, _+_, _-_, _≤_, _<_}
 use native.Mathlib.Nat.{le-refl, le-trans, not-suc-le-zero}
@@ -13,11 +13,11 @@ use lib.Seq.{take-all, take-take}
 use Rattle.tables.specs.meaning.Device.{ZoneView, Device, appended}
 use Rattle.tables.specs.laws.Local.{LocalStore, appendHere, applyAllHere}
 use Rattle.tables.specs.declared.Geometry.{Geometry}
-use Rattle.logs.specs.meaning.Entry.{generalZone, parityZone, Header, label, Entry, encode}
+use Rattle.logs.specs.meaning.Entry.{generalZone, parityZone, Header, label, Entry, encode, closing}
 use Rattle.tables.specs.meaning.Geometry.{physicalZones, dataZone}
 use Rattle.logs.specs.laws.Walk.{cutEntries, cut-mono, cut-flat, cut-lawful, cut-left, cut-extent, cut-cut}
 use Rattle.promise.specs.meaning.Ledger.{Ledger}
-use Rattle.promise.specs.invariant.Invariant.{Ghost, Here, LogsOk, Inv}
+use Rattle.promise.specs.invariant.Invariant.{Ghost, Here, LogsOk, Inv, closingEntry}
 use Rattle.promise.specs.invariant.HoldsLess.{withLogs, Less, less-zone}
 
 -- b after a part of what makes a
@@ -68,6 +68,12 @@ module _ (g : Geometry) (x : ℕ) (v w : Device) (γ : Ghost) (lg : LogsOk g x v
     first = λ d a. let (y, hs, e) = lg .first d a in cut-first (length (w d generalZone .sectors)) (γ .general d) y (γ .array) (omega (arith, lg .first-lasts d a, k d generalZone a g0 .least, k d generalZone a g0 .most)) hs e;
     first-lasts = λ d a. omega (arith, lg .first-lasts d a, k d generalZone a g0 .least);
     labels = λ d a y b m. lg .labels d a y b (mem-take (length (w d generalZone .sectors)) (γ .general d) (label y b) m);
+    general-closes = λ d a j n m. lg .general-closes d a j n (mem-take (length (w d generalZone .sectors)) (γ .general d) (closing j n) m);
+    general-closed = λ d a p. let q = k d generalZone a g0 in
+        rw (take-take (w d generalZone .durable) (length (w d generalZone .sectors)) (γ .general d) (q .most)) (mem-more (v d generalZone .durable) (w d generalZone .durable) (γ .general d) (closing 0 (γ .closed d .0)) (q .least) (lg .general-closed d a p));
+    parity-closes = λ d a e m j n r. let o = cut-left g d true (γ .parity d) (length (w d parityZone .sectors)) e m in lg .parity-closes d a (o .of) (o .isSet) j n (sym (o .heads) ∙ r);
+    parity-closed = λ d a p. let q = k d parityZone a g1 in
+        rw (cut-cut g d true (γ .parity d) (w d parityZone .durable) (length (w d parityZone .sectors)) (q .most)) (cut-mono g d true (γ .parity d) (v d parityZone .durable) (w d parityZone .durable) (closingEntry 1 (γ .closed d .1)) (lg .parity-lawful d a) (q .least) refl (lg .parity-closed d a p));
     parity-is = λ d a. prefix-is-take (w d parityZone .sectors) (v d parityZone .sectors) (k d parityZone a g1 .front) ∙ ap (take (length (w d parityZone .sectors))) (lg .parity-is d a) ∙ cut-flat g d true (γ .parity d) (length (w d parityZone .sectors));
     parity-lawful = λ d a. cut-lawful g d true (γ .parity d) (length (w d parityZone .sectors)) (lg .parity-lawful d a);
     parity-fits = λ d a. le-trans (cut-extent g d true (γ .parity d) (length (w d parityZone .sectors))) (lg .parity-fits d a);
@@ -97,11 +103,12 @@ module _ (g : Geometry) (x : ℕ) (v w : Device) (γ : Ghost) (lg : LogsOk g x v
           go (yes h) = (j, q, take-take j n (γ .general d) (omega arith))
           go (no h) = (n, p, take-all j (take n (γ .general d)) (rw length-take (omega arith)))
 
-pub inv-part : (g : Geometry) (x : ℕ) (v w : Device) (l : Ledger) (γ : Ghost) → Inv g x v l γ → Parts g x v w → (δ : Ghost) × Inv g x w l δ
+pub inv-part : (g : Geometry) (x : ℕ) (v w : Device) (l : Ledger) (γ : Ghost) → Inv g x v l γ → Parts g x v w → (δ : Ghost) × Inv g x w l δ × (δ .closed ≡ γ .closed)
 inv-part g x v w l γ i k = (
   withLogs γ (partGeneral w γ) (partParity g w γ),
   record {
     logs = part-logs g x v w γ (i .logs) k;
     zones = λ z h. less-zone g x x v w γ (partGeneral w γ) (partParity g w γ) (i .logs) (part-less g x v w γ (i .logs) k) l z h (i .zones z h);
   },
+  refl,
 )

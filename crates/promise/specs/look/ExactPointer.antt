@@ -51,7 +51,7 @@ module _ (D U z : ℕ) (hD : 1 < D) (hU : zero < U) (n : ℕ) (v : View) (x : Ex
       go true e = rw (e, none-serves (v .entries (parityOf D U z n)) (x .none-past (parityOf D U z n) (parity-drive-below D U z hD hU (stripeOf D U n)) e)) refl
       go false e = rw e refl
 
-  not-known : known D U z v n ≡ false
+  pub not-known : known D U z v n ≡ false
   not-known = rw (not-held, not-parity, no-entry) refl
 
   -- THE POINTER IS n

@@ -16,8 +16,7 @@ use Rattle.volume.specs.declared.Condition.{Condition}
 use Rattle.volume.specs.declared.Condition.the-variants.{Empty, Open, Sealed, Worn}
 use Rattle.volume.specs.meaning.State.{StateView}
 use Rattle.promise.specs.meaning.Ledger.{Ledger, FitsZone, Fits}
-use Rattle.promise.specs.invariant.Invariant.{Ghost, LogsOk, Live, Dying, Rest, Plain, RestZone, Shape}
-use Rattle.promise.specs.invariant.Obligations.{Invs}
+use Rattle.promise.specs.invariant.Invariant.{Ghost, LogsOk, Live, Dying, Rest, Plain, RestZone, Shape, Inv}
 use Rattle.promise.specs.look.LookLive.{live-fits, limit-least, knows-least, knows-value, content-is-laid, limit-committed}
 use Rattle.promise.specs.look.LookDying.{dying-fits}
 use mathlib.Core.Bool.{true, not}
@@ -27,7 +26,7 @@ pub zone-fits : (g : Geometry) → Valid g → (x : ℕ) (v : Device) (γ : Ghos
 zone-fits g ok x v γ lg l z h (inl lv) = live-fits g ok x v γ lg l z lv h
 zone-fits g ok x v γ lg l z h (inr dy) = dying-fits g ok x v γ lg l z dy
 
-pub look-fits : (g : Geometry) → Valid g → (x : ℕ) (v : Device) (l : Ledger) → Invs g x v l → Fits g l (showing g (presentBut g x) x v)
+pub look-fits : (g : Geometry) → Valid g → (x : ℕ) (v : Device) (l : Ledger) → (γ : Ghost) × Inv g x v l γ → Fits g l (showing g (presentBut g x) x v)
 unfolding showing
 look-fits g ok x v l (γ, i) = λ z h. zone-fits g ok x v γ (i .logs) l z h (i .zones z h)
 

@@ -31,29 +31,29 @@ use Rattle.promise.specs.meaning.Claim.{allBut}
 use Rattle.promise.specs.invariant.Invariant.{Ghost, Here, LogsOk}
 
 -- ---- a general log as entries without rows
-abbrev bareEntry : Header → Entry
+abbrev pub bareEntry : Header → Entry
 bareEntry h = record { head = h; rows = [] }
 
 module _ (g : Geometry) (d : ℕ) where
-  heads-flat : (hs : List Header) → sectorsOfAll g d false (map bareEntry hs) ≡ map (encode g d) hs
+  pub heads-flat : (hs : List Header) → sectorsOfAll g d false (map bareEntry hs) ≡ map (encode g d) hs
   heads-flat [] = refl
   heads-flat (h ∷ hs) = ap (λ (r : List (List ℕ)). encode g d h ∷ r) (heads-flat hs)
 
-  heads-back : (hs : List Header) → map (λ (e : Entry). e .head) (map bareEntry hs) ≡ hs
+  pub heads-back : (hs : List Header) → map (λ (e : Entry). e .head) (map bareEntry hs) ≡ hs
   heads-back [] = refl
   heads-back (h ∷ hs) = ap (λ (r : List Header). h ∷ r) (heads-back hs)
 
-  heads-lawful : (hs : List Header) → ((h : Header) → List·Memᴰ h hs → Reads g d false h) → WellFormedLog g d false (map bareEntry hs)
+  pub heads-lawful : (hs : List Header) → ((h : Header) → List·Memᴰ h hs → Reads g d false h) → WellFormedLog g d false (map bareEntry hs)
   heads-lawful [] r = tt
   heads-lawful (h ∷ hs) r = (r h (List·Memᴰ·head refl), inl (sym (general-no-rows g d h (reads-fits g d false h (r h (List·Memᴰ·head refl))))), heads-lawful hs (λ k m. r k (List·Memᴰ·tail m)))
 
-  heads-extent : (hs : List Header) → ((h : Header) → List·Memᴰ h hs → Reads g d false h) → logExtent g d false (map bareEntry hs) ≡ length hs
+  pub heads-extent : (hs : List Header) → ((h : Header) → List·Memᴰ h hs → Reads g d false h) → logExtent g d false (map bareEntry hs) ≡ length hs
   heads-extent [] r = refl
   heads-extent (h ∷ hs) r =
       let z : rowsOf g h ≡ zero = general-no-rows g d h (reads-fits g d false h (r h (List·Memᴰ·head refl))) in
       omega (arith, heads-extent hs (λ k m. r k (List·Memᴰ·tail m)))
 
-  heads-whole : (hs : List Header) → ((h : Header) → List·Memᴰ h hs → Reads g d false h) → (wholeEntries g d false (map bareEntry hs) ≡ map bareEntry hs) × (endingOf g d false (map bareEntry hs) ≡ atPointer)
+  pub heads-whole : (hs : List Header) → ((h : Header) → List·Memᴰ h hs → Reads g d false h) → (wholeEntries g d false (map bareEntry hs) ≡ map bareEntry hs) × (endingOf g d false (map bareEntry hs) ≡ atPointer)
   heads-whole [] r = (refl, refl)
   heads-whole (h ∷ hs) r =
       let z : zero ≡ rowsOf g h = sym (general-no-rows g d h (reads-fits g d false h (r h (List·Memᴰ·head refl)))) in

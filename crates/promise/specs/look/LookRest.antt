@@ -20,7 +20,7 @@ use Rattle.tables.specs.meaning.Placement.{needed}
 use Rattle.tables.specs.declared.Geometry.{Geometry}
 use Rattle.tables.specs.meaning.Geometry.{Valid, stripeSectors, dataZone}
 use Rattle.tables.specs.laws.Drives.{presentBut, present-below}
-use Rattle.logs.specs.meaning.Entry.{generalZone, wornGeneration, Header, label, counters, partialParity, seal, zoneReset, Entry}
+use Rattle.logs.specs.meaning.Entry.{generalZone, wornGeneration, Header, label, counters, partialParity, seal, closing, zoneReset, Entry}
 use Rattle.logs.specs.meaning.Heads.{endsPast, isSeal}
 use Rattle.logs.specs.meaning.Walk.{atPointer}
 use Rattle.logs.specs.laws.Walk.{Whole, wholeEntries}
@@ -30,7 +30,7 @@ use Rattle.volume.specs.meaning.State.{StateView, pointerIn}
 use Rattle.volume.specs.meaning.Rules.{showing, generalHeads, zoneShown, zoneAt, pointerAt, resetSeen, sealSeen, cleanAt, endingPast, conditionOf, parityEntries, parityEnding}
 use Rattle.volume.specs.meaning.Mount.{mountState}
 use Rattle.promise.specs.meaning.Ledger.{Ledger}
-use Rattle.promise.specs.invariant.Invariant.{Ghost, Here, LogsOk, Capped, CappedBelow, TrueRows, Plain, Shape, HasSectors, RestZone, Rest}
+use Rattle.promise.specs.invariant.Invariant.{Ghost, Here, LogsOk, Capped, CappedBelow, TrueRows, Plain, Shape, HasSectors, RestZone, Rest, LogGenerations}
 use Rattle.promise.specs.invariant.Obligations.{Rests}
 use Rattle.promise.specs.look.LookReads.{general-heads, parity-entries, parity-ending}
 use Rattle.promise.specs.look.LookLive.{some-present, reset-seen, live-at, live-most, knows-least, pointer-free}
@@ -44,6 +44,7 @@ module _ (g : Geometry) (ok : Valid g) (x : ℕ) (v : Device) (γ : Ghost) (lg :
   is-seal-of n (zoneReset y m) e = absurd (true≢false (sym e))
   is-seal-of n (partialParity y i f m) e = absurd (true≢false (sym e))
   is-seal-of n (seal y c m) e = let (a, b) = and-split (eqb y z) (eqb m n) e in (c, ap₂ (λ (y1 m1 : ℕ). seal y1 c m1) (eqb-true y z a) (eqb-true m n b))
+  is-seal-of n (closing kind gen) e = absurd (true≢false (sym e))
 
   pub no-seal-seen : (n : ℕ) → ((d : ℕ) → Here g x d → (c : ℕ) → List·Memᴰ (seal z c n) (γ .general d) → ⊥) → sealSeen g (presentBut g x) v z n ≡ false
   unfolding sealSeen
@@ -135,9 +136,9 @@ module _ (g : Geometry) (ok : Valid g) (x : ℕ) (v : Device) (state : StateView
   condition-held = rw (live-at g ok x v γ (r .logs) l z (q .live), pointer-there) condition-there
 
 -- so all is at rest with the look's state as well
-pub look-rests : (g : Geometry) → Valid g → (x : ℕ) (v : Device) (state : StateView) (l : Ledger) → Rests g x v state l → Rests g x v (mountState (showing g (presentBut g x) x v)) l
+pub look-rests : (g : Geometry) → Valid g → (c : LogGenerations) (x : ℕ) (v : Device) (state : StateView) (l : Ledger) → Rests c g x v state l → Rests c g x v (mountState (showing g (presentBut g x) x v)) l
 unfolding showing
-look-rests g ok x v state l (γ, r) = (
+look-rests g ok c x v state l (γ, r, p) = (
   γ,
   record {
     logs = r .logs;
@@ -156,4 +157,5 @@ look-rests g ok x v state l (γ, r) = (
     whole = r .whole;
     lost-is = inr refl;
   },
+  p,
 )

@@ -14,7 +14,7 @@ use Rattle.tables.specs.laws.Basics.{and-split}
 use Rattle.tables.specs.meaning.Basics.{pick}
 use Rattle.tables.specs.declared.Geometry.{Geometry}
 use Rattle.tables.specs.meaning.Geometry.{stripeSectors}
-use Rattle.logs.specs.meaning.Entry.{Header, label, counters, zoneReset, partialParity, seal, Entry}
+use Rattle.logs.specs.meaning.Entry.{Header, label, counters, zoneReset, partialParity, seal, closing, Entry}
 
 -- ---- entries that serve
 module _ (g : Geometry) (z n q : ℕ) where
@@ -35,6 +35,7 @@ module _ (g : Geometry) (z n q : ℕ) where
           (k s f (ap₂ (λ (u w : ℕ). partialParity u s f w) (eqb-true y z a) (eqb-true m n b)) (leb-true (s * stripeSectors g + f) q c), tt)
       go false e = tt
   as-all P (seal y p m) rs k = tt
+  as-all P (closing kind gen) rs k = tt
 
   pub serving-all : (P : ParityEntry → Type 0) (es : List Entry)
       → ((e : Entry) → List·Memᴰ e es → (s f : ℕ) → e .head ≡ partialParity z s f n → s * stripeSectors g + f ≤ q → P (record { stripe = s; end = s * stripeSectors g + f; rows = λ r. getD (e .rows) r [] }))

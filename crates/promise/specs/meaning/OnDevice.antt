@@ -8,10 +8,11 @@ use Rattle.tables.specs.meaning.Device.{Device, Cut, Loss}
 use Rattle.tables.specs.declared.Geometry.{Geometry}
 use Rattle.volume.specs.declared.Answer.the-variants.{Finished, Refused}
 use Rattle.volume.specs.meaning.State.{StateView}
-use Rattle.volume.specs.meaning.Rules.{Shown, showing, isPresent, lostDrive}
+use Rattle.volume.specs.meaning.Rules.{Shown, showing}
+use Rattle.volume.specs.meaning.Roles.{byRoles}
 use Rattle.volume.specs.meaning.Refusals.{TableLengths}
 use Rattle.volume.specs.meaning.Mount.{mountState}
-use Rattle.volume.specs.meaning.Answers.{CallResult, carriedOut, StoringCall, Given, refused, given, Place, formatCall, mountCall, writeCall, flushCall, resetCall, lookCall, readCall, peekCall}
+use Rattle.volume.specs.meaning.Answers.{CallResult, carriedOut, StoringCall, Given, refused, given, Place, presentIn, lostDriveIn, formatCall, mountCall, writeCall, flushCall, resetCall, lookCall, readCall, peekCall}
 use Rattle.volume.specs.declared.ZoneDescriptor.{ZoneDescriptor}
 use Rattle.volume.specs.meaning.CallContracts.{ReadResult, byteOf}
 use Rattle.volume.specs.meaning.Report.{ReportResult, reportOf, reportOn}
@@ -36,8 +37,9 @@ abbrev pub peekResult : Geometry → Given Place → Device → Peeked
 peekResult g (refused n) v = record { number = n; from = 0; part = [] }
 peekResult g (given p) v = record { number = 0; from = byteOf g p; part = getD (v (p .drive) (p .zone) .sectors) (p .sector) [] }
 
+-- what the drives that a look finds present in v show in w
 abbrev pub shownBy : Geometry → (ℕ → Bool) → Device → Device → Shown
-shownBy g named v w = showing g (isPresent g named v) (lostDrive g named v) w
+shownBy g named v w = showing g (presentIn g named v) (lostDriveIn g named v) (byRoles g w)
 
 -- a report of the conditions shown
 abbrev pub reportShown : Geometry → Shown → List ZoneDescriptor → ReportResult (List ZoneDescriptor)

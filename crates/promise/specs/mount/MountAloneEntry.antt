@@ -24,7 +24,7 @@ use Rattle.tables.specs.laws.Greatest.{greatest-max}
 use Rattle.tables.specs.declared.Geometry.{Geometry}
 use Rattle.tables.specs.meaning.Geometry.{Valid, stripeSectors, zoneSectors, parityDriveOf}
 use Rattle.tables.specs.laws.Drives.{presentBut, present-below}
-use Rattle.logs.specs.meaning.Entry.{Header, label, counters, zoneReset, partialParity, seal, Entry}
+use Rattle.logs.specs.meaning.Entry.{Header, label, counters, zoneReset, partialParity, seal, closing, Entry}
 use Rattle.logs.specs.laws.Walk.{Whole, wholeEntries}
 use Rattle.tables.specs.laws.Below.{all-all-below}
 use Rattle.promise.specs.meaning.Ledger.{Ledger}
@@ -83,6 +83,7 @@ module _ (g : Geometry) (ok : Valid g) (x : ℕ) (w : Device) (γ : Ghost) (lg :
               last : (f ≤ c) ⊎ CappedBelow g x w γ z f → ((c2 : ℕ) → seal y c i ≡ seal z c2 (γ .generation z) → f ≤ c2) ⊎ CappedBelow g x w γ z f
               last (inl h) = inl (λ c2 v. let t : c ≡ c2 = cc in rw (← t) h)
               last (inr h) = inr h
+      head d a (closing kind gen) n = inl (λ c q. absurd (let n : _≡_ {A = ℕ} 0 1 = cc in omega arith))
 
       one : (d : ℕ) (c : Bool) → presentBut g x d ≡ c → (Here g x d → (c : ℕ) → List·Memᴰ (seal z c (γ .generation z)) (γ .general d) → f ≤ c) ⊎ CappedBelow g x w γ z f
       one d false a = inl (λ h. absurd (true≢false (sym h ∙ a)))

@@ -1,4 +1,4 @@
--- Step 4 of a mount: counters on each present drive, every empty zone's generation raised by 1. Zones that stay keep theirs; of the others
+-- Step 6 of a mount: counters on each present drive, every empty zone's generation raised by 1. Zones that stay keep theirs; of the others
 -- the data is gone by now, so it does not matter which drives a stop leaves with the new counters. After the flush their old generation has
 -- passed on every drive.
 use Rattle.tables.specs.laws.Basics.{not-not, or-none}
@@ -9,15 +9,15 @@ use Rattle.tables.specs.meaning.Below.{eachBelow, anyBelow}
 use mathlib.Core.Path.{_≡_, refl, sym, ap, _∙_}
 use mathlib.Core.Logic.{_≢_, _⊎_, inl, inr}
 use mathlib.Core.Bool.{Bool, true, false, _&&_, _||_, not, true≢false}
-use Prim.Native.Nat.{ℕ, zero, _+_, _-_, _≤_, _<_, zero-le}
+use Prim.Native.Nat.{ℕ, zero, _+_, _≤_, _<_, zero-le}
 use native.Mathlib.Nat.{le-refl, le-trans, le-of-eq}
 use native.Mathlib.Omega.{arith}
 use mathlib.Core.List.{List, [], _∷_, _++_, append-nil, List·Memᴰ, List·Memᴰ·head}
 use lib.ListN.{length, getD, take}
-use Rattle.tables.specs.meaning.Device.{Device, Store}
+use Rattle.tables.specs.meaning.Device.{Device}
 use Rattle.tables.specs.declared.Geometry.{Geometry}
 use Rattle.tables.specs.meaning.Geometry.{Valid, dataZone}
-use Rattle.logs.specs.meaning.Entry.{generalZone, wornGeneration, Header, label, counters, encode}
+use Rattle.logs.specs.meaning.Entry.{generalZone, wornGeneration, Header, label, counters, encode, closing}
 use Rattle.tables.specs.laws.Drives.{presentBut, present-below}
 use Rattle.tables.specs.meaning.Lists.{concat}
 use Rattle.tables.specs.laws.Lists.{length-map}
@@ -25,7 +25,7 @@ use Rattle.promise.specs.meaning.Ledger.{Ledger}
 use Rattle.volume.specs.meaning.Rules.{Shown, generalHeads, showing, zoneShown, zoneAt, generationOf}
 use Rattle.volume.specs.declared.Condition.the-variants.{Empty, Open, Sealed, Worn}
 use Rattle.volume.specs.meaning.State.{isEmpty}
-use Rattle.volume.specs.meaning.Mount.{withFlush, counterStep, nextGeneration, countersDiffer}
+use Rattle.volume.specs.meaning.Mount.{withFlush, nextGeneration, countersDiffer, counterStep}
 use Rattle.promise.specs.invariant.Invariant.{Ghost, Here, Live, Dying, Counts}
 use Rattle.promise.specs.mount.MountRuns.{Runs, Between, Done, step-runs}
 use Rattle.promise.specs.mount.MountPlan.{Start, AfterZoneResets, AfterCounters, countReset, ZonesCleared, Base, Stays, WornZone, Raised, Fate, stays, wornOut, gone, Gone, emptied, bareOne, raisedOne, NoData, Lives, Clean}
@@ -47,13 +47,28 @@ use Rattle.tables.specs.laws.LittleEndian.{same-bytes-eq}
 use Rattle.promise.specs.look.LookLive.{counts-now}
 use Rattle.promise.specs.look.LookDying.{generation-some}
 
--- the step's stores, by an answer to whether the counters differ
-abbrev countersBy : Geometry → Bool → Shown → List Store
-countersBy g differ k = pick (anyBelow (λ z. isEmpty (k .zone z .condition)) (g .zones) || differ) (eachBelow (λ d. appendGeneral g (counters (generationsFrom (nextGeneration k) zero (g .zones))) d) (g .drives)) []
-
 -- every present drive's last counters give every zone the same generation
+abbrev pub CountsSame : Geometry → ℕ → Device → Type 0
+CountsSame g x w = (d e : ℕ) → Here g x d → Here g x e → (z : ℕ) → z < g .zones → generationIn z (generalHeads g w d) ≡ generationIn z (generalHeads g w e)
+
 abbrev CountsAgree : Geometry → ℕ → Ghost → Type 0
 CountsAgree g x γ = (d e : ℕ) → Here g x d → Here g x e → (z : ℕ) → z < g .zones → generationIn z (γ .general d) ≡ generationIn z (γ .general e)
+
+-- counters that do not differ give the same generations
+pub counters-same : (g : Geometry) (x : ℕ) (w : Device) → countersDiffer g (presentBut g x) w ≡ false → CountsSame g x w
+unfolding countersDiffer
+counters-same g x w e d c a b z hz = ap (λ (q : List ℕ). getD q z zero) (same-bytes-eq (lastCounters [] (generalHeads g w d)) (lastCounters [] (generalHeads g w c)) same)
+  where
+    f : ℕ → ℕ → Bool
+    f i j = sameBytes (lastCounters [] (generalHeads g w i)) (lastCounters [] (generalHeads g w j))
+
+    same : f d c ≡ true
+    same =
+        let p1 = any-below-false (λ i. presentBut g x i && anyBelow (λ j. presentBut g x j && not (f i j)) (g .drives)) (g .drives) d e (present-below g x d a) in
+        let p2 : anyBelow (λ j. presentBut g x j && not (f d j)) (g .drives) ≡ false = rw a at p1 in
+        let p3 = any-below-false (λ j. presentBut g x j && not (f d j)) (g .drives) c p2 (present-below g x c b) in
+        let p4 : not (f d c) ≡ false = rw b at p3 in
+        not-not (f d c) p4
 
 module _ (g : Geometry) (ok : Valid g) (x : ℕ) (w : Device) (γ : Ghost) (l : Ledger) (k : Shown) (s : Start g x w γ l k) where
   pub next-live : (z : ℕ) → Stays g x w γ l k z ⊎ WornZone g x w γ l k z → nextGeneration k z ≡ γ .generation z
@@ -90,22 +105,6 @@ module _ (g : Geometry) (ok : Valid g) (x : ℕ) (w : Device) (γ : Ghost) (l : 
   count-most : countReset g k ≤ g .zones
   count-most = omega (arith, count-below-apart (λ z. k .zone z .byReset) (λ z. false) (g .zones) (λ z h e. refl))
 
-  -- counters that do not differ give the same generations
-  counters-agree : countersDiffer g (presentBut g x) w ≡ false → CountsAgree g x γ
-  unfolding countersDiffer
-  counters-agree e d c a b z hz = ap (λ (q : List ℕ). getD q z zero) (same-bytes-eq (lastCounters [] (γ .general d)) (lastCounters [] (γ .general c)) same)
-    where
-      f : ℕ → ℕ → Bool
-      f i j = sameBytes (lastCounters [] (generalHeads g w i)) (lastCounters [] (generalHeads g w j))
-
-      same : sameBytes (lastCounters [] (γ .general d)) (lastCounters [] (γ .general c)) ≡ true
-      same =
-          let p1 = any-below-false (λ i. presentBut g x i && anyBelow (λ j. presentBut g x j && not (f i j)) (g .drives)) (g .drives) d e (present-below g x d a) in
-          let p2 : anyBelow (λ j. presentBut g x j && not (f d j)) (g .drives) ≡ false = rw a at p1 in
-          let p3 = any-below-false (λ j. presentBut g x j && not (f d j)) (g .drives) c p2 (present-below g x c b) in
-          let p4 : not (f d c) ≡ false = rw b at p3 in
-          rw (general-heads g ok x w γ (s .inv .logs) d a, general-heads g ok x w γ (s .inv .logs) c b) at (not-not (f d c) p4)
-
   -- (differ: an answer to whether the counters differ, which may be that of an earlier look; asked of it is only that, where it says that they do
   -- not, they give the same generations)
   module _ (differ : Bool) (same : differ ≡ false → CountsAgree g x γ) where
@@ -115,8 +114,8 @@ module _ (g : Geometry) (ok : Valid g) (x : ℕ) (w : Device) (γ : Ghost) (l : 
     heads : ℕ → List Header
     heads d = pick stored (counters gens ∷ []) []
 
-    the-logs : Logs g x (countersBy g differ k) heads
-    unfolding heads stored
+    the-logs : Logs g x (counterStep g k differ) heads
+    unfolding heads stored counterStep
     the-logs = go (anyBelow (λ z. isEmpty (k .zone z .condition)) (g .zones) || differ)
       where
         go : (c : Bool) → Logs g x (pick c (eachBelow (λ d. appendGeneral g (counters gens) d) (g .drives)) []) (λ d. pick c (counters gens ∷ []) [])
@@ -186,42 +185,44 @@ module _ (g : Geometry) (ok : Valid g) (x : ℕ) (w : Device) (γ : Ghost) (l : 
       fit = record {
         reads = λ d a h m. rw (is-of d h m) (reads g ok d false (counters gens) (generations-length (nextGeneration k) zero (g .zones), generations-small (nextGeneration k) zero (g .zones) (λ j p. generation-small (nextGeneration k (zero + j)) (next-most (zero + j) (omega arith)))) (rw (eq-eqb (length gens) (g .zones) (generations-length (nextGeneration k) zero (g .zones))) refl));
         labels = λ d a y c m. absurd (let e = is-of d (label y c) m in let n : _≡_ {A = ℕ} 0 1 = cc in omega arith);
+        closes = λ d a j i m. let e = is-of d (closing j i) m in let n : _≡_ {A = ℕ} 0 1 = cc in omega arith;
         room = λ d a. le-trans (omega (arith, few d)) (room-for g x w γ u G (γ .parity) (1 + countReset g k) 1 (t .base) d a (s .general-room d a) (omega (arith, count-most)));
       }
 
-      module _ (w′ : Device) (b : Between g x u (countersBy g differ k) w′) where
+      module _ (w′ : Device) (b : Between g x u (counterStep g k differ) w′) where
         abbrev G′ : ℕ → List Header
         G′ = grownGeneral δ u w′ heads
 
         lives′ : Lives g x w γ l k w′ G′ (γ .parity)
-        lives′ = grown-lives g x w γ l k u G (γ .parity) (1 + countReset g k) (t .base) (countersBy g differ k) heads the-logs w′ b (t .lives)
+        lives′ = grown-lives g x w γ l k u G (γ .parity) (1 + countReset g k) (t .base) (counterStep g k differ) heads the-logs w′ b (t .lives)
             (λ z hz q d a h m. other-for g x w γ l k u δ z h (none-of z d h m)) (λ z hz q d a h m. other-head g x u δ l z h (none-of z d h m)) (λ z hz q d a cs m. gens-of z hz d cs m ∙ next-live z q)
 
         dying′ : (z : ℕ) → z < g .zones → Gone g x w γ l k z → Dying g x u δ l z → NoData g x u z → Dying g x w′ (withLogs γ G′ (γ .parity)) l z
-        dying′ z hz o q e = grown-dying g x u δ (countersBy g differ k) heads (t .base .logs) (t .base .settled) the-logs w′ b l z q (λ d a h m. within z d h m)
+        dying′ z hz o q e = grown-dying g x u δ (counterStep g k differ) heads (t .base .logs) (t .base .settled) the-logs w′ b l z q (λ d a h m. within z d h m)
             (λ d a cs m. let n = gens-of z hz d cs m in let (p, r) = next-gone z o in record { least = omega (arith, n, p); most = omega (arith, n, r); raises = λ _. e; past = λ _ _ _. omega (arith, n, p) })
 
         still : (z d : ℕ) → Here g x d → w′ d (dataZone z) ≡ u d (dataZone z)
-        still z d a = still-data g x u δ (countersBy g differ k) heads (t .base .logs) (t .base .settled) the-logs w′ b d z a
+        still z d a = still-data g x u δ (counterStep g k differ) heads (t .base .logs) (t .base .settled) the-logs w′ b d z a
 
-        part-inv : Invs g x w′ l
+        part-inv : Invs (γ .closed) g x w′ l
         part-inv = (
           withLogs γ G′ (γ .parity),
-          zones-inv g x w γ l k s w′ G′ (γ .parity) (grown-logs g x u δ (countersBy g differ k) heads (t .base .logs) (t .base .settled) the-logs w′ b fit) lives′
+          zones-inv g x w γ l k s w′ G′ (γ .parity) (grown-logs g x u δ (counterStep g k differ) heads (t .base .logs) (t .base .settled) the-logs w′ b fit) lives′
               (λ z hz q. let r = t .gone-zone z hz q in inr (dying′ z hz q (r .0) (r .1))),
+          refl,
         )
 
-        module _ (dn : Done g x u (countersBy g differ k) w′) where
+        module _ (dn : Done g x u (counterStep g k differ) w′) where
           counted′ : (d : ℕ) → Here g x d → (z : ℕ) → z < g .zones → generationIn z (G′ d) ≡ nextGeneration k z
           unfolding heads
-          counted′ d a z hz = ap (generationIn z) (done-general g x u δ (countersBy g differ k) heads (t .base .logs) (t .base .settled) the-logs w′ b dn d a) ∙ go stored refl
+          counted′ d a z hz = ap (generationIn z) (done-general g x u δ (counterStep g k differ) heads (t .base .logs) (t .base .settled) the-logs w′ b dn d a) ∙ go stored refl
             where
               go : (c : Bool) → stored ≡ c → generationIn z (G d ++ pick c (counters gens ∷ []) []) ≡ nextGeneration k z
               go true e = ap (λ (q : List ℕ). getD q z zero) (last-counters-append [] (G d) (counters gens ∷ [])) ∙ gens-are z hz
               go false e = ap (generationIn z) (append-nil (G d)) ∙ ap (λ (q : List ℕ). getD q z zero) (t .counters-same d a) ∙ unstored e d a z hz
 
           settled′ : Base g x w γ w′ G′ (γ .parity) (1 + countReset g k + 1)
-          settled′ = grown-base g x w γ l k u G (γ .parity) (1 + countReset g k) (t .base) (countersBy g differ k) heads the-logs w′ b fit 1 (λ d a. few d) dn
+          settled′ = grown-base g x w γ l k u G (γ .parity) (1 + countReset g k) (t .base) (counterStep g k differ) heads the-logs w′ b fit 1 (λ d a. few d) dn
 
           past′ : (z : ℕ) → z < g .zones → Gone g x w γ l k z → Counts g x w′ (withLogs γ G′ (γ .parity)) z (λ n. γ .generation z < n)
           past′ z hz o d a j h =
@@ -238,13 +239,21 @@ module _ (g : Geometry) (ok : Valid g) (x : ℕ) (w : Device) (γ : Ghost) (l : 
               gone-zone = λ z hz q. let r = t .gone-zone z hz q in record { dying = dying′ z hz q (r .0) (r .1); no-data = λ d a. rw (still z d a) (r .1 d a); past = past′ z hz q };
               counted = counted′;
             },
-            grown-same g x w γ l k u G (γ .parity) (1 + countReset g k) (t .base) (countersBy g differ k) heads the-logs w′ b (t .same),
+            grown-same g x w γ l k u G (γ .parity) (1 + countReset g k) (t .base) (counterStep g k differ) heads the-logs w′ b (t .same),
           )
 
-    counters-run : (u : Device) → AfterZoneResets g x w γ l k (1 + countReset g k) u → Runs g x l u (concat (withFlush g (presentBut g x) (countersBy g differ k))) (AfterCounters g x w γ l k (2 + countReset g k))
-    counters-run u (G, t) = step-runs g x (countersBy g differ k) l u (AfterCounters g x w γ l k (2 + countReset g k)) (t .base .settled) (λ w′ b. part-inv u G t w′ b) (λ w′ b dn. whole u G t w′ b dn)
+    counters-run : (u : Device) → AfterZoneResets g x w γ l k (1 + countReset g k) u → Runs (γ .closed) g x l u (concat (withFlush g (presentBut g x) (counterStep g k differ))) (AfterCounters g x w γ l k (2 + countReset g k))
+    counters-run u (G, t) = step-runs g x (counterStep g k differ) (γ .closed) l u (AfterCounters g x w γ l k (2 + countReset g k)) (t .base .settled) (λ w′ b. part-inv u G t w′ b) (λ w′ b dn. whole u G t w′ b dn)
 
-pub counter-step : (g : Geometry) → Valid g → (x : ℕ) (w : Device) (γ : Ghost) (l : Ledger) (k : Shown) → Start g x w γ l k → (u : Device) → AfterZoneResets g x w γ l k (1 + countReset g k) u
-    → Runs g x l u (concat (withFlush g (presentBut g x) (counterStep g (presentBut g x) k w))) (AfterCounters g x w γ l k (2 + countReset g k))
-unfolding counterStep
-counter-step g ok x w γ l k s u t = counters-run g ok x w γ l k s (countersDiffer g (presentBut g x) w) (counters-agree g ok x w γ l k s) u t
+-- STEP 6, by any answer under which the counters, where they are said not to differ, give the same generations: that of the mount's own look, taken before
+-- general logs were emptied, is one
+pub counter-step : (g : Geometry) → Valid g → (x : ℕ) (w : Device) (γ : Ghost) (l : Ledger) (k : Shown) → Start g x w γ l k → (differ : Bool) → (differ ≡ false → CountsSame g x w)
+    → (u : Device) → AfterZoneResets g x w γ l k (1 + countReset g k) u
+    → Runs (γ .closed) g x l u (concat (withFlush g (presentBut g x) (counterStep g k differ))) (AfterCounters g x w γ l k (2 + countReset g k))
+counter-step g ok x w γ l k s differ same u t = counters-run g ok x w γ l k s differ agree u t
+  where
+    heads : (d : ℕ) → Here g x d → generalHeads g w d ≡ γ .general d
+    heads d a = general-heads g ok x w γ (s .inv .logs) d a
+
+    agree : differ ≡ false → CountsAgree g x γ
+    agree e d c a b z hz = ap (generationIn z) (sym (heads d a)) ∙ same e d c a b z hz ∙ ap (generationIn z) (heads c b)

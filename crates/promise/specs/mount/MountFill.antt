@@ -1,4 +1,4 @@
--- Step 7 of a mount: sectors missing below the pointer, and parity of complete stripes. Each present drive's column is filled as far as the
+-- Step 9 of a mount: sectors missing below the pointer, and parity of complete stripes. Each present drive's column is filled as far as the
 -- pointer needs, with values that are the content's, so that afterwards the loss of a drive costs nothing.
 use Rattle.promise.specs.mount.MountRuns.{logs-untouched, Runs, Between, Done, step-runs, between-still, between-adds, Joined, joinedBy}
 use Rattle.tables.specs.laws.Lists.{prefix-same, Prefix, prefix-take, prefix-trans, prefix-length}
@@ -6,7 +6,6 @@ use Rattle.tables.specs.meaning.Lists.{concat}
 use Rattle.tables.specs.laws.Sizes.{needed-fits}
 use mathlib.Core.Path.{_≡_, refl, sym, ap, ap₂, _∙_}
 use mathlib.Core.Logic.{_≢_, _⊎_, inl, inr}
-use mathlib.Core.Bool.{not}
 use Prim.Native.Nat.{ℕ, zero, _+_, _-_, _≤_, _<_}
 use native.Mathlib.Nat.{le-trans, le-of-eq}
 use native.Mathlib.Omega.{arith}
@@ -83,7 +82,7 @@ module _ (g : Geometry) (k : Shown) (w : Device) where
           go (no q) = appends-other-zone d e (dataZone z) (dataZone y) (missing e y) (λ r. q (omega arith))
 
 module _ (g : Geometry) (ok : Valid g) (x : ℕ) (w : Device) (γ : Ghost) (l : Ledger) (k : Shown) (s : Start g x w γ l k) (u : Device) (G : ℕ → List Header) (P : ℕ → List Entry)
-    (t : CountersDone g x w γ l k u G P (2 + (countReset g k + countSealed g k))) (sm : Same g x w γ l k u) (cp : Caps g x w γ l k u G P) (wh : Wholes g x P) where
+    (t : CountersDone g x w γ l k u G P (2 + (countReset g k + countSealed g k))) (sm : Same g x w γ l k u) (cp : Caps g x w γ l k u G P) (wh : Wholes g x w P) where
   abbrev δ : Ghost
   δ = withLogs γ G P
 
@@ -205,8 +204,8 @@ module _ (g : Geometry) (ok : Valid g) (x : ℕ) (w : Device) (γ : Ghost) (l : 
           past = c;
         }
 
-    part-inv : Invs g x w′ l
-    part-inv = (δ, zones-inv g x w γ l k s w′ G P logs′ lives′ (λ z hz q. inr (passed′ z hz q .dying)))
+    part-inv : Invs (γ .closed) g x w′ l
+    part-inv = (δ, zones-inv g x w γ l k s w′ G P logs′ lives′ (λ z hz q. inr (passed′ z hz q .dying)), refl)
 
     module _ (dn : Done g x u (fillStep g k w) w′) where
       base′ : Base g x w γ w′ G P (2 + (countReset g k + countSealed g k))
@@ -239,5 +238,5 @@ module _ (g : Geometry) (ok : Valid g) (x : ℕ) (w : Device) (γ : Ghost) (l : 
           exact z hz q e d a (inr c) = absurd (let v : Open (k .zone z .pointer) ≡ Sealed (k .zone z .pointer) = sym e ∙ c in let n : _≡_ {A = ℕ} 0 1 = cc in omega arith)
 
 pub fill-step : (g : Geometry) → Valid g → (x : ℕ) (w : Device) (γ : Ghost) (l : Ledger) (k : Shown) → Start g x w γ l k → (u : Device) → AfterTornRows g x w γ l k (2 + (countReset g k + countSealed g k)) u
-    → Runs g x l u (concat (withFlush g (presentBut g x) (fillStep g k w))) (AfterFill g x w γ l k (2 + (countReset g k + countSealed g k)))
-fill-step g ok x w γ l k s u (G, P, t, sm, cp, wh) = step-runs g x (fillStep g k w) l u (AfterFill g x w γ l k (2 + (countReset g k + countSealed g k))) (t .base .settled) (λ w′ b. part-inv g ok x w γ l k s u G P t sm cp wh w′ b) (λ w′ b dn. whole g ok x w γ l k s u G P t sm cp wh w′ b dn)
+    → Runs (γ .closed) g x l u (concat (withFlush g (presentBut g x) (fillStep g k w))) (AfterFill g x w γ l k (2 + (countReset g k + countSealed g k)))
+fill-step g ok x w γ l k s u (G, P, t, sm, cp, wh) = step-runs g x (fillStep g k w) (γ .closed) l u (AfterFill g x w γ l k (2 + (countReset g k + countSealed g k))) (t .base .settled) (λ w′ b. part-inv g ok x w γ l k s u G P t sm cp wh w′ b) (λ w′ b dn. whole g ok x w γ l k s u G P t sm cp wh w′ b dn)

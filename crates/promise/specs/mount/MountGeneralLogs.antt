@@ -1,4 +1,4 @@
--- A step of a mount that adds entries to the general logs alone (steps 1, 2, 4 and 5): what each place sees of it, what a stop leaves, and
+-- A step of a mount that adds entries to the general logs alone (steps 3, 4, 6 and 7): what each place sees of it, what a stop leaves, and
 -- what holds when it has been flushed.
 use Rattle.tables.specs.laws.Phases.{each-below-own, each-below-unseen}
 use Rattle.tables.specs.laws.Lists.{length-map, map-append, mem-take, mem-more, take-map, mem-left, mem-right, mem-append}
@@ -20,7 +20,7 @@ use Rattle.tables.specs.meaning.Below.{eachBelow, countBelow}
 use Rattle.tables.specs.laws.Local.{LocalStore, appendHere, applyAllHere, localStores, local-append, appends-here}
 use Rattle.volume.specs.meaning.Calls.{appendGeneral}
 use Rattle.tables.specs.declared.Geometry.{Geometry}
-use Rattle.logs.specs.meaning.Entry.{generalZone, parityZone, wornGeneration, Header, label, counters, encode}
+use Rattle.logs.specs.meaning.Entry.{generalZone, parityZone, wornGeneration, Header, label, counters, encode, closing}
 use Rattle.tables.specs.meaning.Geometry.{physicalZones, dataZone}
 use Rattle.tables.specs.laws.Drives.{present-below}
 use Rattle.logs.specs.laws.Walk.{Reads}
@@ -42,6 +42,7 @@ pub record Logs (g : Geometry) (x : ℕ) (xs : List Store) (hs : ℕ → List He
 pub record LogsFit (g : Geometry) (x : ℕ) (u : Device) (hs : ℕ → List Header) (array : ℕ) : Type 0 where
   pub reads : (d : ℕ) → Here g x d → (h : Header) → List·Memᴰ h (hs d) → Reads g d false h
   pub labels : (d : ℕ) → Here g x d → (y a : ℕ) → List·Memᴰ (label y a) (hs d) → LabelFits x array y a
+  pub closes : (d : ℕ) → Here g x d → (k n : ℕ) → List·Memᴰ (closing k n) (hs d) → ⊥
   pub room : (d : ℕ) → Here g x d → length (u d generalZone .sectors) + length (hs d) ≤ g .capacity
 
 -- the general logs after a part of the step
@@ -117,6 +118,10 @@ module _ (g : Geometry) (x : ℕ) (u : Device) (γ : Ghost) (xs : List Store) (h
     first = first′;
     first-lasts = λ d a. le-trans (lg .first-lasts d a) (joined-at d a .keeps);
     labels = λ d a y c m. named d a y c (grown-new d a (label y c) m);
+    general-closes = λ d a j n m. close d a j n (grown-new d a (closing j n) m);
+    general-closed = λ d a p. grown-lasts d a (closing 0 (γ .closed d .0)) (lg .general-closed d a p);
+    parity-closes = lg .parity-closes;
+    parity-closed = λ d a. rw (still-parity d a) (lg .parity-closed d a);
     parity-is = λ d a. rw (still-parity d a) (lg .parity-is d a);
     parity-lawful = lg .parity-lawful;
     parity-fits = lg .parity-fits;
@@ -131,6 +136,10 @@ module _ (g : Geometry) (x : ℕ) (u : Device) (γ : Ghost) (xs : List Store) (h
       named : (d : ℕ) → Here g x d → (y c : ℕ) → List·Memᴰ (label y c) (γ .general d) ⊎ List·Memᴰ (label y c) (hs d) → LabelFits x (γ .array) y c
       named d a y c (inl m) = lg .labels d a y c m
       named d a y c (inr m) = f .labels d a y c m
+
+      close : (d : ℕ) → Here g x d → (j n : ℕ) → List·Memᴰ (closing j n) (γ .general d) ⊎ List·Memᴰ (closing j n) (hs d) → n ≡ γ .closed d .0
+      close d a j n (inl m) = lg .general-closes d a j n m
+      close d a j n (inr m) = absurd (f .closes d a j n m)
 
       first′ : (d : ℕ) → Here g x d → (y : ℕ) × (t : List Header) × (grownGeneral γ u w hs d ≡ label y (γ .array) ∷ t)
       first′ d a = let (y, t, e) = lg .first d a in (y, t ++ take (joinedBy (u d generalZone) (w d generalZone)) (hs d), rw e refl)

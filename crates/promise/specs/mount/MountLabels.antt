@@ -1,4 +1,4 @@
--- Step 1 of a mount: new labels that name the lost drive. Labels speak of no zone, so every zone stays as it is.
+-- Step 3 of a mount: new labels that name the lost drive. Labels speak of no zone, so every zone stays as it is.
 use Rattle.tables.specs.laws.Drives.{find-below-some, presentBut, present-below}
 use Rattle.tables.specs.meaning.Drives.{noDrive, findBelow}
 use mathlib.Core.Path.{_≡_, refl, ap, _∙_}
@@ -14,7 +14,7 @@ use Rattle.tables.specs.meaning.Basics.{pick}
 use Rattle.tables.specs.laws.Basics.{and-split}
 use Rattle.tables.specs.declared.Geometry.{Geometry}
 use Rattle.tables.specs.meaning.Geometry.{Valid, dataZone}
-use Rattle.logs.specs.meaning.Entry.{generalZone, Header, label, counters, encode}
+use Rattle.logs.specs.meaning.Entry.{generalZone, Header, label, counters, encode, closing}
 use Rattle.tables.specs.meaning.Lists.{concat}
 use Rattle.tables.specs.laws.Lists.{length-map}
 use Rattle.promise.specs.meaning.Ledger.{Ledger}
@@ -73,6 +73,7 @@ module _ (g : Geometry) (ok : Valid g) (x : ℕ) (w : Device) (γ : Ghost) (l : 
   fit = record {
     reads = λ d a h m. let (e, q) = is-label d h m in rw e (reads g ok d false (label x (k .array)) (rw array-is (s .inv .logs .array-lt)) (rw (lt-ltb x (g .drives) q) refl));
     labels = λ d a y c m. let (e, q) = is-label d (label y c) m in (inr (let r : y ≡ x = cc in r), (let r : c ≡ k .array = cc in r) ∙ array-is);
+    closes = λ d a j i m. let (e, q) = is-label d (closing j i) m in let n : _≡_ {A = ℕ} 0 1 = cc in omega arith;
     room = λ d a. let n : length (u d generalZone .sectors) ≡ length (G d) = ap length (t .base .logs .general-is d a) ∙ length-map (encode g d) (G d) in omega (arith, t .base .used d a, s .general-room d a, few d);
   }
 
@@ -117,9 +118,9 @@ module _ (g : Geometry) (ok : Valid g) (x : ℕ) (w : Device) (γ : Ghost) (l : 
     bare′ z (inl q) = inl q
     bare′ z (inr q) = inr (λ d a. rw (still z d a) (q d a))
 
-    part-inv : Invs g x w′ l
+    part-inv : Invs (γ .closed) g x w′ l
     unfolding G′
-    part-inv = (withLogs γ G′ (γ .parity), zones-inv g x w γ l k s w′ G′ (γ .parity) (grown-logs g x u (withLogs γ G (γ .parity)) (labelStep g x k w) heads (t .base .logs) (t .base .settled) the-logs w′ b fit) lives′ (λ z hz q. go z hz q))
+    part-inv = (withLogs γ G′ (γ .parity), zones-inv g x w γ l k s w′ G′ (γ .parity) (grown-logs g x u (withLogs γ G (γ .parity)) (labelStep g x k w) heads (t .base .logs) (t .base .settled) the-logs w′ b fit) lives′ (λ z hz q. go z hz q), refl)
       where
         go : (z : ℕ) → z < g .zones → Gone g x w γ l k z → Live g x w′ (withLogs γ G′ (γ .parity)) l z ⊎ Dying g x w′ (withLogs γ G′ (γ .parity)) l z
         go z hz (emptied q) = flat (t .reset-zone z hz q)
@@ -150,5 +151,5 @@ module _ (g : Geometry) (ok : Valid g) (x : ℕ) (w : Device) (γ : Ghost) (l : 
     )
 
 pub label-step : (g : Geometry) → Valid g → (x : ℕ) (w : Device) (γ : Ghost) (l : Ledger) (k : Shown) → Start g x w γ l k → (u : Device) → AfterLabels g x w γ l k zero u
-    → Runs g x l u (concat (withFlush g (presentBut g x) (labelStep g x k w))) (AfterLabels g x w γ l k 1)
-label-step g ok x w γ l k s u (G, t) = step-runs g x (labelStep g x k w) l u (AfterLabels g x w γ l k 1) (t .base .settled) (λ w′ b. part-inv g ok x w γ l k s u G t w′ b) (λ w′ b dn. whole g ok x w γ l k s u G t w′ b dn)
+    → Runs (γ .closed) g x l u (concat (withFlush g (presentBut g x) (labelStep g x k w))) (AfterLabels g x w γ l k 1)
+label-step g ok x w γ l k s u (G, t) = step-runs g x (labelStep g x k w) (γ .closed) l u (AfterLabels g x w γ l k 1) (t .base .settled) (λ w′ b. part-inv g ok x w γ l k s u G t w′ b) (λ w′ b dn. whole g ok x w γ l k s u G t w′ b dn)

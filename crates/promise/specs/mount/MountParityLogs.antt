@@ -1,10 +1,10 @@
--- A step of a mount that changes the parity logs alone (steps 6 and 8): when the new entries and rows tell the truth, or end past the cap,
+-- A step of a mount that changes the parity logs alone (steps 8 and 11): when the new entries and rows tell the truth, or end past the cap,
 -- every zone stays what it was.
 use Rattle.logs.specs.laws.LogLaws.{sectors-of-most}
-use mathlib.Core.Path.{_≡_, _∙_}
+use mathlib.Core.Path.{_≡_, _∙_, refl}
 use mathlib.Core.Logic.{_≢_, _⊎_, inl, inr}
 use mathlib.Core.Bool.{true}
-use Prim.Native.Nat.{ℕ, _+_, _-_, _*_, _≤_, _<_}
+use Prim.Native.Nat.{ℕ, _+_, _*_, _≤_, _<_}
 use native.Mathlib.Nat.{le-trans}
 use native.Mathlib.Omega.{arith}
 use native.Mathlib.Decide.{ℕ-discrete}
@@ -13,13 +13,13 @@ use lib.ListN.{length, take}
 use Rattle.tables.specs.meaning.Device.{Device, Store}
 use Rattle.tables.specs.declared.Geometry.{Geometry}
 use Rattle.tables.specs.meaning.Geometry.{Valid, stripeSectors, physicalZones, dataZone}
-use Rattle.logs.specs.meaning.Entry.{generalZone, parityZone, wornGeneration, Header, partialParity, seal, Entry}
+use Rattle.logs.specs.meaning.Entry.{generalZone, parityZone, wornGeneration, Header, partialParity, seal, Entry, closing}
 use Rattle.promise.specs.meaning.Ledger.{Ledger}
 use Rattle.volume.specs.meaning.Rules.{Shown}
 use Rattle.volume.specs.declared.Condition.the-variants.{Open}
-use Rattle.promise.specs.invariant.Invariant.{Ghost, Here, LogsOk, Live, Counts, passed}
+use Rattle.promise.specs.invariant.Invariant.{Ghost, Here, LogsOk, Live, Counts, passed, closingEntry}
 use Rattle.promise.specs.mount.MountRuns.{Between, Done, between-still}
-use Rattle.promise.specs.mount.MountPlan.{Start, CountersDone, Caps, Same, Passed, Full, Staying, Stays, WornZone, stays, Gone, NoData, Lives}
+use Rattle.promise.specs.mount.MountPlan.{Start, CountersDone, Caps, Same, Passed, Staying, Stays, WornZone, Gone, NoData, Lives}
 use Rattle.logs.specs.laws.Walk.{Whole, sectorsOfAll, WellFormedLog, logExtent, cutEntries}
 use Rattle.logs.specs.laws.Heads.{zoneGen}
 use Rattle.promise.specs.invariant.HoldsLess.{withLogs}
@@ -34,8 +34,41 @@ pub record Changed (g : Geometry) (x : ℕ) (u w′ : Device) (P P′ : ℕ → 
   pub sectors-are : (d : ℕ) → Here g x d → w′ d parityZone .sectors ≡ sectorsOfAll g d true (P′ d)
   pub wf : (d : ℕ) → Here g x d → w′ d parityZone .durable ≤ length (w′ d parityZone .sectors)
   pub lawful : (d : ℕ) → Here g x d → WellFormedLog g d true (P′ d)
+  pub closes : (d : ℕ) → Here g x d → (e : Entry) → List·Memᴰ e (P′ d) → (j n : ℕ) → e .head ≡ closing j n → (f : Entry) × List·Memᴰ f (P d) × (f .head ≡ closing j n)
   pub fits : (d : ℕ) → Here g x d → logExtent g d true (P′ d) ≤ g .capacity
   pub lasts : (d : ℕ) → Here g x d → (e : Entry) → Whole g d true e → List·Memᴰ e (cutEntries g d true (P d) (u d parityZone .durable)) → List·Memᴰ e (cutEntries g d true (P′ d) (w′ d parityZone .durable))
+
+-- the logs are in order still, where nothing else has changed
+pub parity-logs-on : (g : Geometry) (x : ℕ) (u w′ : Device) (δ : Ghost) (P′ : ℕ → List Entry) → LogsOk g x u δ → ((d y : ℕ) → Here g x d → y ≢ parityZone → w′ d y ≡ u d y) → Changed g x u w′ (δ .parity) P′ → LogsOk g x w′ (withLogs δ (δ .general) P′)
+parity-logs-on g x u w′ δ P′ lg still ch = record {
+  lost-ok = lg .lost-ok;
+  array-lt = lg .array-lt;
+  general-is = λ d a. rw (general d a) (lg .general-is d a);
+  general-reads = lg .general-reads;
+  first = lg .first;
+  first-lasts = λ d a. rw (general d a) (lg .first-lasts d a);
+  labels = lg .labels;
+  general-closes = lg .general-closes;
+  general-closed = λ d a. rw (general d a) (lg .general-closed d a);
+  parity-closes = λ d a e m j n q. let (f, o, p) = ch .closes d a e m j n q in lg .parity-closes d a f o j n p;
+  parity-closed = λ d a p. ch .lasts d a (closingEntry 1 (δ .closed d .1)) refl (lg .parity-closed d a p);
+  parity-is = ch .sectors-are;
+  parity-lawful = ch .lawful;
+  parity-fits = ch .fits;
+  lasting = λ d y a h. low d y a h (ℕ-discrete y parityZone);
+  place-fits = λ d y a h. fit d y a h (ℕ-discrete y parityZone);
+}
+  where
+    general : (d : ℕ) → Here g x d → w′ d generalZone ≡ u d generalZone
+    general d a = still d generalZone a (λ e. omega arith)
+
+    low : (d y : ℕ) → Here g x d → y < physicalZones g → Dec (y ≡ parityZone) → w′ d y .durable ≤ length (w′ d y .sectors)
+    low d y a h (yes e) = rw e (ch .wf d a)
+    low d y a h (no e) = rw (still d y a e) (lg .lasting d y a h)
+
+    fit : (d y : ℕ) → Here g x d → y < physicalZones g → Dec (y ≡ parityZone) → length (w′ d y .sectors) ≤ g .capacity
+    fit d y a h (yes e) = rw (e, ch .sectors-are d a) (le-trans (sectors-of-most g d (P′ d) (ch .lawful d a)) (ch .fits d a))
+    fit d y a h (no e) = rw (still d y a e) (lg .place-fits d y a h)
 
 -- an entry that joins while a zone stays
 pub record EntryFor (g : Geometry) (x : ℕ) (γ : Ghost) (l : Ledger) (k : Shown) (u : Device) (G : ℕ → List Header) (P : ℕ → List Entry) (z d : ℕ) (e : Entry) : Type 0 where
@@ -62,28 +95,7 @@ module _ (g : Geometry) (ok : Valid g) (x : ℕ) (w : Device) (γ : Ghost) (l : 
   data-same z d a = still-other d (dataZone z) a (λ e. omega arith)
 
   pub parity-logs : LogsOk g x w′ (withLogs γ G P′)
-  parity-logs = let lg = t .base .logs in record {
-    lost-ok = lg .lost-ok;
-    array-lt = lg .array-lt;
-    general-is = λ d a. rw (general-same d a) (lg .general-is d a);
-    general-reads = lg .general-reads;
-    first = lg .first;
-    first-lasts = λ d a. rw (general-same d a) (lg .first-lasts d a);
-    labels = lg .labels;
-    parity-is = ch .sectors-are;
-    parity-lawful = ch .lawful;
-    parity-fits = ch .fits;
-    lasting = λ d y a h. low d y a h (ℕ-discrete y parityZone);
-    place-fits = λ d y a h. fit d y a h (ℕ-discrete y parityZone);
-  }
-    where
-      low : (d y : ℕ) → Here g x d → y < physicalZones g → Dec (y ≡ parityZone) → w′ d y .durable ≤ length (w′ d y .sectors)
-      low d y a h (yes e) = rw e (ch .wf d a)
-      low d y a h (no e) = rw (still-other d y a e) (t .base .logs .lasting d y a h)
-
-      fit : (d y : ℕ) → Here g x d → y < physicalZones g → Dec (y ≡ parityZone) → length (w′ d y .sectors) ≤ g .capacity
-      fit d y a h (yes e) = rw (e, ch .sectors-are d a) (le-trans (sectors-of-most g d (P′ d) (ch .lawful d a)) (ch .fits d a))
-      fit d y a h (no e) = rw (still-other d y a e) (t .base .logs .place-fits d y a h)
+  parity-logs = parity-logs-on g x u w′ δ P′ (t .base .logs) still-other ch
 
   lasts : (d : ℕ) → Here g x d → (h : Header) → List·Memᴰ h (take (u d generalZone .durable) (G d)) → List·Memᴰ h (take (w′ d generalZone .durable) (G d))
   lasts d a h m = rw (general-same d a) m
@@ -132,8 +144,8 @@ module _ (g : Geometry) (ok : Valid g) (x : ℕ) (w : Device) (γ : Ghost) (l : 
         past = c;
       }
 
-  pub parity-inv : Invs g x w′ l
-  parity-inv = (withLogs γ G P′, zones-inv g x w γ l k s w′ G P′ parity-logs parity-lives (λ z hz q. inr (parity-passed z hz q .dying)))
+  pub parity-inv : Invs (γ .closed) g x w′ l
+  parity-inv = (withLogs γ G P′, zones-inv g x w γ l k s w′ G P′ parity-logs parity-lives (λ z hz q. inr (parity-passed z hz q .dying)), refl)
 
   pub parity-stage : Done g x u xs w′ → CountersDone g x w γ l k w′ G P′ n
   parity-stage dn = record {
@@ -148,6 +160,3 @@ module _ (g : Geometry) (ok : Valid g) (x : ℕ) (w : Device) (γ : Ghost) (l : 
 
   pub parity-same : Same g x w γ l k u → Same g x w γ l k w′
   parity-same sm = record { data-same = λ z hz q d a. data-same z d a ∙ sm .data-same z hz q d a }
-
-  pub parity-full : Full g x w γ l k u → Full g x w γ l k w′
-  parity-full fl = record { places = λ z hz q d a. rw (data-same z d a) (fl .places z hz q d a); just = λ z hz q e d a. rw (data-same z d a) (fl .just z hz q e d a) }

@@ -3,7 +3,7 @@
 use mathlib.Core.Path.{_≡_}
 use mathlib.Core.Logic.{_⊎_}
 use mathlib.Core.Bool.{true, false}
-use Prim.Native.Nat.{ℕ, zero, _+_, _-_, _*_, _≤_, _<_}
+use Prim.Native.Nat.{ℕ, zero, _+_, _*_, _≤_, _<_}
 use mathlib.Core.List.{List, [], List·Memᴰ}
 use lib.ListN.{length}
 use Rattle.tables.specs.meaning.Device.{Device}
@@ -12,17 +12,17 @@ use Rattle.tables.specs.meaning.Below.{countBelow}
 use Rattle.tables.specs.meaning.Placement.{needed}
 use Rattle.tables.specs.declared.Geometry.{Geometry}
 use Rattle.tables.specs.meaning.Geometry.{stripeSectors, dataZone}
-use Rattle.logs.specs.meaning.Entry.{parityZone, wornGeneration, Header, counters, zoneReset, partialParity, seal, Entry}
+use Rattle.logs.specs.meaning.Entry.{parityZone, wornGeneration, Header, zoneReset, partialParity, seal, Entry}
 use Rattle.tables.specs.laws.Drives.{presentBut}
 use Rattle.logs.specs.laws.Walk.{Whole, logExtent}
 use Rattle.logs.specs.meaning.Heads.{lastCounters, generationIn}
-use Rattle.volume.specs.meaning.Content.{at, insideStripe, parityDriveAt, entryHeader}
+use Rattle.volume.specs.meaning.Content.{at}
 use Rattle.volume.specs.declared.Condition.the-variants.{Empty, Open, Sealed, Worn}
 use Rattle.volume.specs.meaning.State.{isSealed}
 use Rattle.volume.specs.meaning.Rules.{Shown, showing}
 use Rattle.volume.specs.meaning.Mount.{nextGeneration}
 use Rattle.promise.specs.meaning.Ledger.{Ledger}
-use Rattle.promise.specs.invariant.Invariant.{Ghost, Here, LogsOk, Capped, CappedBelow, Counts, Live, passed, Dying, Inv}
+use Rattle.promise.specs.invariant.Invariant.{Ghost, Here, LogsOk, Capped, CappedBelow, Counts, Live, Dying, Inv}
 use Rattle.promise.specs.invariant.HoldsLess.{withLogs}
 use Rattle.promise.specs.mount.MountRuns.{AllDurable}
 
@@ -167,21 +167,15 @@ pub record CountersDone (g : Geometry) (x : ℕ) (w : Device) (γ : Ghost) (l : 
 pub record Caps (g : Geometry) (x : ℕ) (w : Device) (γ : Ghost) (l : Ledger) (k : Shown) (u : Device) (G : ℕ → List Header) (P : ℕ → List Entry) : Type 0 where
   pub cap : (z : ℕ) → z < g .zones → Stays g x w γ l k z → k .zone z .condition ≡ Sealed (k .zone z .pointer) → Capped g x u (withLogs γ G P) z (k .zone z .pointer)
 
--- after the torn rows: every entry is whole, and there is room for one more of each zone
-pub record Wholes (g : Geometry) (x : ℕ) (P : ℕ → List Entry) : Type 0 where
+-- after the torn rows: every entry is whole, and no log is longer than it was by more than the rows of one entry
+pub record Wholes (g : Geometry) (x : ℕ) (w : Device) (P : ℕ → List Entry) : Type 0 where
   pub whole : (d : ℕ) → Here g x d → (e : Entry) → List·Memᴰ e (P d) → Whole g d true e
-  pub room : (d : ℕ) → Here g x d → logExtent g d true (P d) + g .zones * (1 + g .unit) ≤ g .capacity
+  pub extent : (d : ℕ) → Here g x d → logExtent g d true (P d) ≤ length (w d parityZone .sectors) + g .unit
 
 -- after the fill: all below the pointer is there
 pub record Full (g : Geometry) (x : ℕ) (w : Device) (γ : Ghost) (l : Ledger) (k : Shown) (u : Device) : Type 0 where
   pub places : (z : ℕ) → z < g .zones → Stays g x w γ l k z → (d : ℕ) → Here g x d → needed (g .drives) (g .unit) z (k .zone z .pointer) d ≤ length (u d (dataZone z) .sectors)
   pub just : (z : ℕ) → z < g .zones → Stays g x w γ l k z → k .zone z .condition ≡ Open (k .zone z .pointer) → (d : ℕ) → Here g x d → length (u d (dataZone z) .sectors) ≡ needed (g .drives) (g .unit) z (k .zone z .pointer) d
-
--- after the entries: so is the entry at the pointer
-pub record Ended (g : Geometry) (x : ℕ) (w : Device) (γ : Ghost) (l : Ledger) (k : Shown) (P : ℕ → List Entry) : Type 0 where
-  pub whole : (d : ℕ) → Here g x d → (e : Entry) → List·Memᴰ e (P d) → Whole g d true e
-  pub entry : (z : ℕ) → z < g .zones → Stays g x w γ l k z → insideStripe g (k .zone z .pointer) ≡ true → Here g x (parityDriveAt g z (k .zone z .pointer))
-      → (e : Entry) × List·Memᴰ e (P (parityDriveAt g z (k .zone z .pointer))) × Whole g (parityDriveAt g z (k .zone z .pointer)) true e × (e .head ≡ entryHeader g z (γ .generation z) (k .zone z .pointer))
 
 -- ---- as predicates of the device
 abbrev pub AfterLabels : Geometry → ℕ → Device → Ghost → Ledger → Shown → ℕ → Device → Type 0
@@ -200,13 +194,10 @@ abbrev pub AfterSeals : Geometry → ℕ → Device → Ghost → Ledger → Sho
 AfterSeals g x w γ l k n u = (G : ℕ → List Header) × CountersDone g x w γ l k u G (γ .parity) n × Same g x w γ l k u × Caps g x w γ l k u G (γ .parity)
 
 abbrev pub AfterTornRows : Geometry → ℕ → Device → Ghost → Ledger → Shown → ℕ → Device → Type 0
-AfterTornRows g x w γ l k n u = (G : ℕ → List Header) × (P : ℕ → List Entry) × CountersDone g x w γ l k u G P n × Same g x w γ l k u × Caps g x w γ l k u G P × Wholes g x P
+AfterTornRows g x w γ l k n u = (G : ℕ → List Header) × (P : ℕ → List Entry) × CountersDone g x w γ l k u G P n × Same g x w γ l k u × Caps g x w γ l k u G P × Wholes g x w P
 
 abbrev pub AfterFill : Geometry → ℕ → Device → Ghost → Ledger → Shown → ℕ → Device → Type 0
-AfterFill g x w γ l k n u = (G : ℕ → List Header) × (P : ℕ → List Entry) × CountersDone g x w γ l k u G P n × Caps g x w γ l k u G P × Wholes g x P × Full g x w γ l k u
-
-abbrev pub AfterEntries : Geometry → ℕ → Device → Ghost → Ledger → Shown → ℕ → Device → Type 0
-AfterEntries g x w γ l k n u = (G : ℕ → List Header) × (P : ℕ → List Entry) × CountersDone g x w γ l k u G P n × Caps g x w γ l k u G P × Full g x w γ l k u × Ended g x w γ l k P
+AfterFill g x w γ l k n u = (G : ℕ → List Header) × (P : ℕ → List Entry) × CountersDone g x w γ l k u G P n × Caps g x w γ l k u G P × Wholes g x w P × Full g x w γ l k u
 
 -- ---- what the steps know of the start
 pub record Start (g : Geometry) (x : ℕ) (w : Device) (γ : Ghost) (l : Ledger) (k : Shown) : Type 0 where
@@ -215,7 +206,6 @@ pub record Start (g : Geometry) (x : ℕ) (w : Device) (γ : Ghost) (l : Ledger)
   pub look : k ≡ showing g (presentBut g x) x w
   pub fate : (z : ℕ) → z < g .zones → Fate g x w γ l k z
   pub general-room : (d : ℕ) → Here g x d → length (γ .general d) + (g .zones + 2) ≤ g .capacity
-  pub parity-room : (d : ℕ) → Here g x d → length (w d parityZone .sectors) + (g .zones * (1 + g .unit) + g .unit) ≤ g .capacity
 
 -- how many entries have joined each general log
 abbrev pub countReset : Geometry → Shown → ℕ

@@ -1,4 +1,4 @@
--- Step 2 of a mount: type 3 again on both its drives for each zone emptied by rule 3. Before it one more loss could take the only reset entry
+-- Step 4 of a mount: type 3 again on both its drives for each zone emptied by rule 3. Before it one more loss could take the only reset entry
 -- and bring the zone back, which still fits; after its flush the entry lasts on both drives, and the zone is Dying.
 use mathlib.Core.Path.{_≡_, refl, sym, ap, _∙_}
 use mathlib.Core.Logic.{_≢_, _⊎_, inl, inr}
@@ -11,7 +11,7 @@ use lib.ListN.{length}
 use Rattle.tables.specs.meaning.Device.{Device}
 use Rattle.tables.specs.declared.Geometry.{Geometry}
 use Rattle.tables.specs.meaning.Geometry.{Valid, parityDriveOf, firstDriveOf, dataZone}
-use Rattle.logs.specs.meaning.Entry.{wornGeneration, Header, label, counters, zoneReset}
+use Rattle.logs.specs.meaning.Entry.{wornGeneration, Header, label, counters, zoneReset, closing}
 use Rattle.tables.specs.laws.Drives.{presentBut}
 use Rattle.tables.specs.meaning.Lists.{concat}
 use Rattle.tables.specs.laws.Lists.{mem-right}
@@ -91,6 +91,7 @@ module _ (g : Geometry) (ok : Valid g) (x : ℕ) (w : Device) (γ : Ghost) (l : 
     reads = λ d a h m. let i = is-of d h m in
         rw (i .is) (reads g ok d false (zoneReset (i .zone) (γ .generation (i .zone))) (i .zone-lt, generation-small (γ .generation (i .zone)) (omega (arith, i .unworn))) (rw (lt-ltb (i .zone) (g .zones) (i .zone-lt)) (i .drive)));
     labels = λ d a y c m. absurd (let i = is-of d (label y c) m in let e = i .is in let n : _≡_ {A = ℕ} 0 1 = cc in omega arith);
+    closes = λ d a j c m. let i = is-of d (closing j c) m in let e = i .is in let n : _≡_ {A = ℕ} 0 1 = cc in omega arith;
     room = λ d a. le-trans (omega (arith, few d)) (room-for g x w γ u G (γ .parity) 1 (countReset g k) (t .base) d a (s .general-room d a) (omega (arith, count-most)));
   }
 
@@ -136,8 +137,8 @@ module _ (g : Geometry) (ok : Valid g) (x : ℕ) (w : Device) (γ : Ghost) (l : 
     bare′ z (inl q) = inl q
     bare′ z (inr q) = inr (λ d a. rw (still z d a) (q d a))
 
-    part-inv : Invs g x w′ l
-    part-inv = (withLogs γ G′ (γ .parity), zones-inv g x w γ l k s w′ G′ (γ .parity) (grown-logs g x u δ (resetEntryStep g k) heads (t .base .logs) (t .base .settled) the-logs w′ b fit) lives′ (λ z hz q. go z hz q))
+    part-inv : Invs (γ .closed) g x w′ l
+    part-inv = (withLogs γ G′ (γ .parity), zones-inv g x w γ l k s w′ G′ (γ .parity) (grown-logs g x u δ (resetEntryStep g k) heads (t .base .logs) (t .base .settled) the-logs w′ b fit) lives′ (λ z hz q. go z hz q), refl)
       where
         go : (z : ℕ) → z < g .zones → Gone g x w γ l k z → Live g x w′ (withLogs γ G′ (γ .parity)) l z ⊎ Dying g x w′ (withLogs γ G′ (γ .parity)) l z
         go z hz (emptied q) = flagged (t .reset-zone z hz q)
@@ -189,5 +190,5 @@ module _ (g : Geometry) (ok : Valid g) (x : ℕ) (w : Device) (γ : Ghost) (l : 
     )
 
 pub reset-entry-step : (g : Geometry) → Valid g → (x : ℕ) (w : Device) (γ : Ghost) (l : Ledger) (k : Shown) → Start g x w γ l k → (u : Device) → AfterLabels g x w γ l k 1 u
-    → Runs g x l u (concat (withFlush g (presentBut g x) (resetEntryStep g k))) (AfterResetEntries g x w γ l k (1 + countReset g k))
-reset-entry-step g ok x w γ l k s u (G, t) = step-runs g x (resetEntryStep g k) l u (AfterResetEntries g x w γ l k (1 + countReset g k)) (t .base .settled) (λ w′ b. part-inv g ok x w γ l k s u G t w′ b) (λ w′ b dn. whole g ok x w γ l k s u G t w′ b dn)
+    → Runs (γ .closed) g x l u (concat (withFlush g (presentBut g x) (resetEntryStep g k))) (AfterResetEntries g x w γ l k (1 + countReset g k))
+reset-entry-step g ok x w γ l k s u (G, t) = step-runs g x (resetEntryStep g k) (γ .closed) l u (AfterResetEntries g x w γ l k (1 + countReset g k)) (t .base .settled) (λ w′ b. part-inv g ok x w γ l k s u G t w′ b) (λ w′ b dn. whole g ok x w γ l k s u G t w′ b dn)

@@ -4,7 +4,7 @@ use Rattle.tables.specs.laws.Lists.{length-zero-nil, prefix-of-nil}
 use mathlib.Core.Path.{_≡_, refl, sym, ap, ap₂, _∙_, subst}
 use mathlib.Core.Logic.{_≢_, _⊎_, inl, inr}
 use mathlib.Core.Bool.{Bool, true, false, not, true≢false}
-use Prim.Native.Nat.{ℕ, zero, suc, _+_, _-_, _≤_, _<_, min}
+use Prim.Native.Nat.{ℕ, zero, suc, _+_, _≤_, _<_, min}
 use native.Mathlib.Nat.{le-of-eq, not-suc-le-zero}
 use native.Mathlib.Omega.{arith}
 use native.Mathlib.Decide.{ℕ-discrete}
@@ -13,7 +13,7 @@ use lib.ListN.{length, take, length-take}
 use Rattle.tables.specs.meaning.Device.{Device}
 use Rattle.tables.specs.declared.Geometry.{Geometry}
 use Rattle.tables.specs.meaning.Geometry.{Valid, dataZone}
-use Rattle.logs.specs.meaning.Entry.{wornGeneration, Header, partialParity, seal, zoneReset, Entry}
+use Rattle.logs.specs.meaning.Entry.{wornGeneration, partialParity, seal, zoneReset}
 use Rattle.tables.specs.laws.Drives.{presentBut}
 use Rattle.promise.specs.meaning.Ledger.{Ledger, afterMount}
 use Rattle.volume.specs.meaning.Rules.{Shown, showing, zoneShown, zoneAt, generationOf, pointerAt, valueAt, resetSeen, sealSeen, cleanAt, conditionOf}
@@ -22,21 +22,19 @@ use Rattle.volume.specs.declared.Condition.the-variants.{Empty, Open, Sealed, W
 use Rattle.volume.specs.meaning.State.{pointerIn}
 use Rattle.volume.specs.meaning.Mount.{mountState, nextGeneration}
 use Rattle.promise.specs.invariant.Invariant.{Ghost, Here, LogsOk, Live, RestZone, Shape, HasSectors, SurvivesLoss}
-use Rattle.promise.specs.mount.MountPlan.{Start, AfterEntries, countReset, countSealed, CountersDone, Caps, Stays, Fate, stays, wornOut, gone, Gone, emptied, bareOne, raisedOne, Clean, Full, Ended}
+use Rattle.promise.specs.mount.MountFilled.{Kept, OpenNow, SealedNow, ZoneNow, keptNow, wornNow, goneNow, Filled, Ended, kept-next}
 use Rattle.promise.specs.invariant.Obligations.{Rests}
 use borrow.Author.Tests.{eq-eqb, ne-eqb}
 use Rattle.tables.specs.laws.Basics.{or-right}
 use Rattle.tables.specs.laws.Below.{length-tabulate-from}
 use Rattle.tables.specs.meaning.Below.{tabulateFrom}
-use Rattle.promise.specs.invariant.HoldsLess.{withLogs}
 use Rattle.promise.specs.look.LookRest.{no-seal-seen, cap-seen, clean-if}
 use lib.Seq.{take-all}
 use Rattle.volume.specs.meaning.Content.{at}
 use Rattle.promise.specs.content.Columns.{column}
 use Rattle.promise.specs.look.LookLive.{reset-seen, live-generation, live-least, live-most, pointer-free, knows-value, strong-written}
 use Rattle.promise.specs.mount.MountZoneResets.{needed-none}
-use Rattle.promise.specs.mount.MountCounters.{next-live, next-gone}
-use Rattle.promise.specs.mount.MountEnd.{oneGhost, oneLedger, live-here, live-there, laidNow, endGhost, endLedger, end-live}
+use Rattle.promise.specs.mount.MountEnd.{oneGhost, oneLedger, live-here, live-there, laidNow, endGhost, endLedger, end-live, gone-laid}
 
 -- a front of a list, read one by one
 tab-take : (f : ℕ → List ℕ) (xs : List (List ℕ)) (n : ℕ) → n ≤ length xs → ((a : ℕ) → a < n → f a ≡ at xs a) → tabulateFrom f zero n ≡ take n xs
@@ -50,13 +48,12 @@ tab-take f xs n h q = go f xs n h q zero (λ a. let e : zero + a ≡ a = omega a
         let b : f i ≡ y = ap f (sym e) ∙ r zero ∙ q zero (omega arith) in
         ap₂ (λ (a : List ℕ) (t : List (List ℕ)). a ∷ t) b (go f xs n (omega arith) {g = λ a. g (suc a)} (λ a h2. q (suc a) (omega arith)) (suc i) (λ a. let e2 : suc i + a ≡ i + suc a = omega arith in ap f e2 ∙ r (suc a)))
 
-module _ (g : Geometry) (ok : Valid g) (x : ℕ) (w : Device) (γ : Ghost) (l : Ledger) (k : Shown) (s : Start g x w γ l k) (u : Device) (G : ℕ → List Header) (P : ℕ → List Entry)
-    (t : CountersDone g x w γ l k u G P (2 + (countReset g k + countSealed g k))) (cp : Caps g x w γ l k u G P) (fl : Full g x w γ l k u) (en : Ended g x w γ l k P) where
+module _ (g : Geometry) (ok : Valid g) (x : ℕ) (u : Device) (δ : Ghost) (l : Ledger) (k : Shown) (fi : Filled g x u δ l k) (en : Ended g x δ k) where
   unfoldable pub γ′ : Ghost
-  γ′ = endGhost g ok x w γ l k s u G P t cp fl en
+  γ′ = endGhost g ok x u δ l k fi en
 
   l′ : Ledger
-  l′ = endLedger g ok x w γ l k s u G P t cp fl en
+  l′ = endLedger g ok x u δ l k fi en
 
   abbrev shownPointer : ℕ → ℕ
   shownPointer z = k .zone z .pointer
@@ -66,7 +63,7 @@ module _ (g : Geometry) (ok : Valid g) (x : ℕ) (w : Device) (γ : Ghost) (l : 
 
   logs′ : LogsOk g x u γ′
   unfolding γ′
-  logs′ = let lg = t .base .logs in record {
+  logs′ = let lg = fi .logs in record {
     lost-ok = lg .lost-ok;
     array-lt = lg .array-lt;
     general-is = lg .general-is;
@@ -74,6 +71,10 @@ module _ (g : Geometry) (ok : Valid g) (x : ℕ) (w : Device) (γ : Ghost) (l : 
     first = lg .first;
     first-lasts = lg .first-lasts;
     labels = lg .labels;
+    general-closes = lg .general-closes;
+    general-closed = lg .general-closed;
+    parity-closes = lg .parity-closes;
+    parity-closed = lg .parity-closed;
     parity-is = lg .parity-is;
     parity-lawful = lg .parity-lawful;
     parity-fits = lg .parity-fits;
@@ -84,7 +85,7 @@ module _ (g : Geometry) (ok : Valid g) (x : ℕ) (w : Device) (γ : Ghost) (l : 
   module _ (z : ℕ) (hz : z < g .zones) where
     lv′ : Live g x u γ′ l′ z
     unfolding γ′ l′
-    lv′ = end-live g ok x w γ l k s u G P t cp fl en z hz
+    lv′ = end-live g ok x u δ l k fi en z hz
 
     generation-shown : K .zone z .generation ≡ γ′ .generation z
     unfolding showing zoneShown zoneAt
@@ -104,7 +105,7 @@ module _ (g : Geometry) (ok : Valid g) (x : ℕ) (w : Device) (γ : Ghost) (l : 
     -- no pointer moved
     content-length : length (l′ .content z) ≡ shownPointer z
     unfolding l′
-    content-length = (let h : shownPointer z ≤ length (take (shownPointer z) (laidNow (k .zone z .condition) (γ .laid z))) = (unfold l′ in lv′ .committed-most) in let h2 : length (take (shownPointer z) (laidNow (k .zone z .condition) (γ .laid z))) ≤ shownPointer z = rw length-take (omega arith) in omega (arith, h, h2))
+    content-length = (let h : shownPointer z ≤ length (take (shownPointer z) (laidNow (k .zone z .condition) (δ .laid z))) = (unfold l′ in lv′ .committed-most) in let h2 : length (take (shownPointer z) (laidNow (k .zone z .condition) (δ .laid z))) ≤ shownPointer z = rw length-take (omega arith) in omega (arith, h, h2))
 
     pointer-there : pointerAt g (presentBut g x) u z (γ′ .generation z) ≡ shownPointer z
     pointer-there =
@@ -127,12 +128,7 @@ module _ (g : Geometry) (ok : Valid g) (x : ℕ) (w : Device) (γ : Ghost) (l : 
 
     content-shown : afterMount K .content z ≡ l′ .content z
     unfolding γ′ l′
-    content-shown =
-        let laid = laidNow (k .zone z .condition) (γ .laid z) in
-        let h = content-length in
-        let h2 : length (take (shownPointer z) laid) ≡ min (shownPointer z) (length laid) = rw length-take refl in
-        let reach : shownPointer z ≤ length laid = omega (arith, h, h2) in
-        ap (tabulateFrom (K .zone z .value) zero) pointer-shown ∙ tab-take (K .zone z .value) laid (shownPointer z) reach values
+    content-shown = ap (tabulateFrom (K .zone z .value) zero) pointer-shown ∙ tab-take (K .zone z .value) (laidNow (k .zone z .condition) (δ .laid z)) (shownPointer z) (let h = content-length in let h2 : length (take (shownPointer z) (laidNow (k .zone z .condition) (δ .laid z))) ≡ min (shownPointer z) (length (laidNow (k .zone z .condition) (δ .laid z))) = rw length-take refl in unfold l′ in omega (arith, h, h2)) values
 
     live-end : Live g x u γ′ (afterMount K) z
     live-end = live-here g x u γ′ (afterMount K) z (
@@ -157,35 +153,35 @@ module _ (g : Geometry) (ok : Valid g) (x : ℕ) (w : Device) (γ : Ghost) (l : 
       plain : (c : Condition) → K .zone z .condition ≡ c → pointerIn c ≡ shownPointer z → (Shape g x u γ′ (afterMount K) z c) → HasSectors c → Ends
 
     -- an open zone is clean
-    is-clean : (q : Stays g x w γ l k z) → k .zone z .condition ≡ Open (shownPointer z) → cleanAt g (presentBut g x) u z (γ′ .generation z) (shownPointer z) ≡ true
+    is-clean : OpenNow g x u δ k z → Kept g x u δ l k z → cleanAt g (presentBut g x) u z (γ′ .generation z) (shownPointer z) ≡ true
     unfolding γ′
-    is-clean q c = clean-if g ok x u (withLogs γ G P) (t .base .logs) z (nextGeneration k z) (shownPointer z) (λ d a. le-of-eq (fl .just z hz q c d a)) (en .whole)
-        (λ d a e m i f r. t .lives .staying z hz q .ends-in c d a e m i f (r ∙ ap (partialParity z i f) (next-live g ok x w γ l k s z (inl q))))
+    is-clean c q = clean-if g ok x u δ (fi .logs) z (nextGeneration k z) (shownPointer z) (λ d a. le-of-eq (c .just d a)) (fi .whole)
+        (λ d a e m i f r. c .ends-in d a e m i f (r ∙ ap (partialParity z i f) (kept-next g x u δ l k z (inl q))))
 
-    opened-ends : (q : Stays g x w γ l k z) → k .zone z .condition ≡ Open (shownPointer z) → Ends
+    opened-ends : Kept g x u δ l k z → OpenNow g x u δ k z → Ends
     unfolding γ′
     opened-ends q c =
-        let N : nextGeneration k z ≡ γ .generation z = next-live g ok x w γ l k s z (inl q) in
-        let no-seal : (d : ℕ) → Here g x d → (c : ℕ) → List·Memᴰ (seal z c (nextGeneration k z)) (G d) → ⊥ = λ d a c2 m. t .lives .staying z hz q .no-seal c d a c2 (rw N at m) in
-        let i1 = is-clean q c in
-        let i2 = no-seal-seen g ok x u (withLogs γ G P) (t .base .logs) z (nextGeneration k z) no-seal in
+        let N : nextGeneration k z ≡ δ .generation z = kept-next g x u δ l k z (inl q) in
+        let no-seal : (d : ℕ) → Here g x d → (c : ℕ) → List·Memᴰ (seal z c (nextGeneration k z)) (δ .general d) → ⊥ = λ d a c2 m. c .no-seal d a c2 (rw N at m) in
+        let i1 = is-clean c q in
+        let i2 = no-seal-seen g ok x u δ (fi .logs) z (nextGeneration k z) no-seal in
         plain (Open (shownPointer z)) (condition-is ∙ rw (i1, i2, ne-eqb (nextGeneration k z) wornGeneration (λ r. omega (arith, q .unworn, N, r)), ne-eqb (shownPointer z) 0 (λ r. omega (arith, q .some, r))) refl) refl (record {
           all-content = laid-is ∙ sym content-shown;
-          just = λ d a. rw content-long (fl .just z hz q c d a);
+          just = λ d a. rw content-long (c .just d a);
           no-seal = no-seal;
           unworn = omega (arith, q .unworn, N);
         }) (q .some)
       where
-        laid-is : laidNow (k .zone z .condition) (γ .laid z) ≡ l′ .content z
-        laid-is = unfold l′ in rw c (sym (take-all (shownPointer z) (take (shownPointer z) (γ .laid z)) (rw length-take (omega arith))))
+        laid-is : laidNow (k .zone z .condition) (δ .laid z) ≡ l′ .content z
+        laid-is = unfold l′ in rw (c .condition-is) (sym (take-all (shownPointer z) (take (shownPointer z) (δ .laid z)) (rw length-take (omega arith))))
 
-    sealed-ends : (q : Stays g x w γ l k z) → k .zone z .condition ≡ Sealed (shownPointer z) → Ends
+    sealed-ends : Kept g x u δ l k z → SealedNow g x u δ k z → Ends
     unfolding γ′
     sealed-ends q c =
-        let N : nextGeneration k z ≡ γ .generation z = next-live g ok x w γ l k s z (inl q) in
-        let i2 : sealSeen g (presentBut g x) u z (nextGeneration k z) ≡ true = rw N (cap-seen g ok x u (withLogs γ G P) (t .base .logs) z (shownPointer z) (cp .cap z hz q c)) in
+        let N : nextGeneration k z ≡ δ .generation z = kept-next g x u δ l k z (inl q) in
+        let i2 : sealSeen g (presentBut g x) u z (nextGeneration k z) ≡ true = rw N (cap-seen g ok x u δ (fi .logs) z (shownPointer z) (c .cap)) in
         plain (Sealed (shownPointer z)) (condition-is ∙ rw (i2, or-right (not (cleanAt g (presentBut g x) u z (nextGeneration k z) (shownPointer z))) true refl, ne-eqb (nextGeneration k z) wornGeneration (λ r. omega (arith, q .unworn, N, r)), ne-eqb (shownPointer z) 0 (λ r. omega (arith, q .some, r))) refl) refl
-        ((λ d a. rw (content-long, N) (cp .cap z hz q c d a)), omega (arith, q .unworn, N), sym (length-tabulate-from (K .zone z .value) zero (K .zone z .pointer))) (q .some)
+        ((λ d a. rw (content-long, N) (c .cap d a)), omega (arith, q .unworn, N), sym (length-tabulate-from (K .zone z .value) zero (K .zone z .pointer))) (q .some)
 
     -- a zone without content
     none-ends : shownPointer z ≡ zero → γ′ .laid z ≡ [] → (γ′ .generation z ≢ wornGeneration → (d : ℕ) → Here g x d → (c : ℕ) → List·Memᴰ (seal z c (γ′ .generation z)) (γ′ .general d) → ⊥) → Ends
@@ -206,27 +202,18 @@ module _ (g : Geometry) (ok : Valid g) (x : ℕ) (w : Device) (γ : Ghost) (l : 
           unworn = (let v = lv′ .generation-top in omega (arith, v, m));
         }) tt
 
-    ends-of : Fate g x w γ l k z → Ends
+    ends-of : ZoneNow g x u δ l k z → Ends
     unfolding γ′
-    ends-of (stays q) = how (q .how)
+    ends-of (keptNow q) = how (q .how)
       where
-        how : ((k .zone z .condition ≡ Open (k .zone z .pointer)) × Clean g x w γ k z) ⊎ (k .zone z .condition ≡ Sealed (k .zone z .pointer)) → Ends
-        how (inl c) = opened-ends q (c .0)
+        how : OpenNow g x u δ k z ⊎ SealedNow g x u δ k z → Ends
+        how (inl c) = opened-ends q c
         how (inr c) = sealed-ends q c
-    ends-of (wornOut q) = none-ends (q .none) (rw (q .condition-is) refl) (λ m. absurd (m (next-live g ok x w γ l k s z (inr q) ∙ q .most)))
-    ends-of (gone q) = none-ends (none q .0) (none q .1) (λ m d a c n. let b = t .gone-zone z hz q .dying .entries .in-general d a (seal z c (nextGeneration k z)) n refl in let b2 = next-gone g ok x w γ l k s z q .0 in omega (arith, b, b2))
-      where
-        none : Gone g x w γ l k z → (shownPointer z ≡ zero) × (laidNow (k .zone z .condition) (γ .laid z) ≡ [])
-        none (emptied q) = (q .none, rw (q .condition-is) refl)
-        none (bareOne q) = (q .none, rw (q .condition-is) refl)
-        none (raisedOne q) = (q .none, two (q .condition-is))
-          where
-            two : ((k .zone z .condition ≡ Empty) × (k .zone z .generation < wornGeneration)) ⊎ ((k .zone z .condition ≡ Worn zero) × (k .zone z .generation ≡ wornGeneration)) → laidNow (k .zone z .condition) (γ .laid z) ≡ []
-            two (inl r) = rw (r .0) refl
-            two (inr r) = rw (r .0) refl
+    ends-of (wornNow q) = none-ends (q .none) (rw (q .condition-is) refl) (λ m. absurd (m (kept-next g x u δ l k z (inr q) ∙ q .most)))
+    ends-of (goneNow q) = none-ends (q .none) (gone-laid g x u δ l k z q) (λ m d a c n. let b = q .dying .entries .in-general d a (seal z c (nextGeneration k z)) n refl in omega (arith, b, q .next .0))
 
     rest-zone : RestZone g x u (mountState K) (afterMount K) γ′ z
-    rest-zone = go (ends-of (s .fate z hz))
+    rest-zone = go (ends-of (fi .zones z hz))
       where
         strong : SurvivesLoss g x z (γ′ .generation z) (shownPointer z) (λ d. length (u d (dataZone z) .sectors)) (γ′ .parity)
         strong = unfold l′ in strong-written g ok x u γ′ logs′ l′ z lv′ (γ′ .generation z) (shownPointer z) hz (lv′ .strong)
@@ -242,14 +229,16 @@ module _ (g : Geometry) (ok : Valid g) (x : ℕ) (w : Device) (γ : Ghost) (l : 
           no-flag = refl;
         }
 
-pub end-rests : (g : Geometry) → Valid g → (x : ℕ) (w : Device) (γ : Ghost) (l : Ledger) (k : Shown) → Start g x w γ l k → (u : Device) → AfterEntries g x w γ l k (2 + (countReset g k + countSealed g k)) u
-    → Rests g x u (mountState (showing g (presentBut g x) x u)) (afterMount (showing g (presentBut g x) x u))
-end-rests g ok x w γ l k s u (G, P, t, cp, fl, en) = (
-  γ′ g ok x w γ l k s u G P t cp fl en,
+-- ALL IS AT REST, with the state and the ledger of what is shown
+pub end-rests : (g : Geometry) → Valid g → (x : ℕ) (u : Device) (δ : Ghost) (l : Ledger) (k : Shown) → Filled g x u δ l k → Ended g x δ k
+    → Rests (δ .closed) g x u (mountState (showing g (presentBut g x) x u)) (afterMount (showing g (presentBut g x) x u))
+end-rests g ok x u δ l k f en = (
+  γ′ g ok x u δ l k f en,
   record {
-    logs = logs′ g ok x w γ l k s u G P t cp fl en;
-    zones = rest-zone g ok x w γ l k s u G P t cp fl en;
-    whole = unfold γ′ in en .whole;
+    logs = logs′ g ok x u δ l k f en;
+    zones = rest-zone g ok x u δ l k f en;
+    whole = unfold γ′ in f .whole;
     lost-is = inr (unfold showing in refl);
   },
+  unfold γ′ in refl,
 )

@@ -1,7 +1,7 @@
 -- Lists of stores under which the invariant holds throughout and a fact holds at the end, and how such lists join. And one step of a mount
 -- with its flush: what each place sees of a part of it, and of all of it.
 use Rattle.logs.specs.meaning.Entry.{generalZone, parityZone}
-use Rattle.promise.specs.invariant.Invariant.{Ghost, LogsOk, Here}
+use Rattle.promise.specs.invariant.Invariant.{Ghost, LogsOk, Here, LogGenerations}
 use Rattle.tables.specs.meaning.Geometry.{physicalZones}
 use Rattle.tables.specs.laws.Lists.{is-nil, take-min, concat-append, Prefix, prefix-trans, prefix-nil, prefix-one}
 use Rattle.tables.specs.meaning.Lists.{concat, isNil}
@@ -28,15 +28,15 @@ use Rattle.volume.specs.meaning.Mount.{withFlush}
 use Rattle.promise.specs.invariant.Obligations.{Invs}
 
 -- from v, after any part of the stores xs the invariant holds, and after all of them Q
-pub record Runs (g : Geometry) (x : ℕ) (l : Ledger) (v : Device) (xs : List Store) (Q : Device → Type 0) : Type 0 where
-  pub during : (n : ℕ) → Invs g x (applyAll (take n xs) v) l
+pub record Runs (c : LogGenerations) (g : Geometry) (x : ℕ) (l : Ledger) (v : Device) (xs : List Store) (Q : Device → Type 0) : Type 0 where
+  pub during : (n : ℕ) → Invs c g x (applyAll (take n xs) v) l
   pub after : Q (applyAll xs v)
 
-pub runs-append : (g : Geometry) (x : ℕ) (l : Ledger) (v : Device) (xs ys : List Store) (Q R : Device → Type 0)
-    → Runs g x l v xs Q → ((u : Device) → Q u → Runs g x l u ys R) → Runs g x l v (xs ++ ys) R
-runs-append g x l v xs ys Q R a b = record { during = λ n. part n (decLt n (length xs)); after = rw (apply-all-append xs ys v) (b (applyAll xs v) (a .after) .after) }
+pub runs-append : (c : LogGenerations) (g : Geometry) (x : ℕ) (l : Ledger) (v : Device) (xs ys : List Store) (Q R : Device → Type 0)
+    → Runs c g x l v xs Q → ((u : Device) → Q u → Runs c g x l u ys R) → Runs c g x l v (xs ++ ys) R
+runs-append c g x l v xs ys Q R a b = record { during = λ n. part n (decLt n (length xs)); after = rw (apply-all-append xs ys v) (b (applyAll xs v) (a .after) .after) }
   where
-    part : (n : ℕ) → Dec (n < length xs) → Invs g x (applyAll (take n (xs ++ ys)) v) l
+    part : (n : ℕ) → Dec (n < length xs) → Invs c g x (applyAll (take n (xs ++ ys)) v) l
     part n (yes h) = rw (take-append-le n xs ys (omega arith)) (a .during n)
     part n (no h) =
         let m : n ≡ length xs + (n - length xs) = omega arith in
@@ -44,18 +44,18 @@ runs-append g x l v xs ys Q R a b = record { during = λ n. part n (decLt n (len
         rw (e, apply-all-append xs (take (n - length xs) ys) v) (b (applyAll xs v) (a .after) .during (n - length xs))
 
 -- phases joined
-pub runs-phases : (g : Geometry) (x : ℕ) (l : Ledger) (v : Device) (ps qs : List (List Store)) (Q R : Device → Type 0)
-    → Runs g x l v (concat ps) Q → ((u : Device) → Q u → Runs g x l u (concat qs) R) → Runs g x l v (concat (ps ++ qs)) R
-runs-phases g x l v ps qs Q R a b = rw (concat-append ps qs) (runs-append g x l v (concat ps) (concat qs) Q R a b)
+pub runs-phases : (c : LogGenerations) (g : Geometry) (x : ℕ) (l : Ledger) (v : Device) (ps qs : List (List Store)) (Q R : Device → Type 0)
+    → Runs c g x l v (concat ps) Q → ((u : Device) → Q u → Runs c g x l u (concat qs) R) → Runs c g x l v (concat (ps ++ qs)) R
+runs-phases c g x l v ps qs Q R a b = rw (concat-append ps qs) (runs-append c g x l v (concat ps) (concat qs) Q R a b)
 
 -- the same, the second list being made for the device that the first one leaves
-pub runs-then : (g : Geometry) (x : ℕ) (l : Ledger) (v : Device) (xs ys : List Store) (Q R : Device → Type 0)
-    → Runs g x l v xs Q → (Q (applyAll xs v) → Runs g x l (applyAll xs v) ys R) → Runs g x l v (xs ++ ys) R
-runs-then g x l v xs ys Q R a b = runs-append g x l v xs ys (λ u. (u ≡ applyAll xs v) × Q u) R (record { during = a .during; after = (refl, a .after) }) (λ u q. subst (λ t. Runs g x l t ys R) (sym (q .0)) (b (a .after)))
+pub runs-then : (c : LogGenerations) (g : Geometry) (x : ℕ) (l : Ledger) (v : Device) (xs ys : List Store) (Q R : Device → Type 0)
+    → Runs c g x l v xs Q → (Q (applyAll xs v) → Runs c g x l (applyAll xs v) ys R) → Runs c g x l v (xs ++ ys) R
+runs-then c g x l v xs ys Q R a b = runs-append c g x l v xs ys (λ u. (u ≡ applyAll xs v) × Q u) R (record { during = a .during; after = (refl, a .after) }) (λ u q. subst (λ t. Runs c g x l t ys R) (sym (q .0)) (b (a .after)))
 
-pub runs-phases-then : (g : Geometry) (x : ℕ) (l : Ledger) (v : Device) (ps qs : List (List Store)) (Q R : Device → Type 0)
-    → Runs g x l v (concat ps) Q → (Q (applyAll (concat ps) v) → Runs g x l (applyAll (concat ps) v) (concat qs) R) → Runs g x l v (concat (ps ++ qs)) R
-runs-phases-then g x l v ps qs Q R a b = rw (concat-append ps qs) (runs-then g x l v (concat ps) (concat qs) Q R a b)
+pub runs-phases-then : (c : LogGenerations) (g : Geometry) (x : ℕ) (l : Ledger) (v : Device) (ps qs : List (List Store)) (Q R : Device → Type 0)
+    → Runs c g x l v (concat ps) Q → (Q (applyAll (concat ps) v) → Runs c g x l (applyAll (concat ps) v) (concat qs) R) → Runs c g x l v (concat (ps ++ qs)) R
+runs-phases-then c g x l v ps qs Q R a b = rw (concat-append ps qs) (runs-then c g x l v (concat ps) (concat qs) Q R a b)
 
 -- ---- all on the present drives lasts
 pub record AllDurable (g : Geometry) (x : ℕ) (v : Device) : Type 0 where
@@ -104,8 +104,8 @@ module _ (g : Geometry) (x : ℕ) (xs : List Store) where
       go (inr e) = rw (e .0, e .1) (sym (flushed-durable (u d y) (s .lasts d y a)))
 
   -- A STEP WITH ITS FLUSH
-  pub step-runs : (l : Ledger) (u : Device) (Q : Device → Type 0) → AllDurable g x u → ((w : Device) → Between g x u xs w → Invs g x w l) → ((w : Device) → Between g x u xs w → Done g x u xs w → Q w) → Runs g x l u stepStores Q
-  step-runs l u Q s p q = record {
+  pub step-runs : (c : LogGenerations) (l : Ledger) (u : Device) (Q : Device → Type 0) → AllDurable g x u → ((w : Device) → Between g x u xs w → Invs c g x w l) → ((w : Device) → Between g x u xs w → Done g x u xs w → Q w) → Runs c g x l u stepStores Q
+  step-runs c l u Q s p q = record {
     during = λ n. p (applyAll (take n stepStores) u) (step-between u n);
     after = q (applyAll stepStores u) (subst (λ (t : List Store). Between g x u xs (applyAll t u)) (take-length stepStores) (step-between u (length stepStores))) (step-done u s);
   }
@@ -121,6 +121,10 @@ logs-untouched g x u w γ lg still lasts fits = record {
   first = lg .first;
   first-lasts = λ d a. rw (still d generalZone a (omega arith)) (lg .first-lasts d a);
   labels = lg .labels;
+  general-closes = lg .general-closes;
+  general-closed = λ d a. rw (still d generalZone a (omega arith)) (lg .general-closed d a);
+  parity-closes = lg .parity-closes;
+  parity-closed = λ d a. rw (still d parityZone a (omega arith)) (lg .parity-closed d a);
   parity-is = λ d a. rw (still d parityZone a (omega arith)) (lg .parity-is d a);
   parity-lawful = lg .parity-lawful;
   parity-fits = lg .parity-fits;

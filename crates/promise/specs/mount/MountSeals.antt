@@ -1,4 +1,4 @@
--- Step 5 of a mount: the seal at its pointer of each zone shown sealed. Every current seal stays at or above what is committed; after the
+-- Step 7 of a mount: the seal at its pointer of each zone shown sealed. Every current seal stays at or above what is committed; after the
 -- flush the seal lasts on every present drive and is the zone's cap: whatever ends past it is not believed any more.
 use Rattle.logs.specs.laws.HeadLaws.{seal-is, generation-small}
 use mathlib.Core.Path.{_≡_, refl, sym, ap, _∙_, subst}
@@ -13,7 +13,7 @@ use lib.ListN.{length, getD}
 use Rattle.tables.specs.meaning.Device.{Device}
 use Rattle.tables.specs.declared.Geometry.{Geometry}
 use Rattle.tables.specs.meaning.Geometry.{Valid, zoneSectors, dataZone}
-use Rattle.logs.specs.meaning.Entry.{wornGeneration, Header, label, counters, seal}
+use Rattle.logs.specs.meaning.Entry.{wornGeneration, Header, label, counters, seal, closing}
 use Rattle.tables.specs.laws.Drives.{presentBut}
 use Rattle.tables.specs.meaning.Lists.{concat, anyOf}
 use Rattle.tables.specs.laws.Lists.{any-of-some, mem-left, mem-right}
@@ -120,6 +120,7 @@ module _ (g : Geometry) (ok : Valid g) (x : ℕ) (w : Device) (γ : Ghost) (l : 
         rw (i .is) (reads g ok d false (seal y (shownPointer y) (γ .generation y)) (i .zone-lt, top, generation-small (γ .generation y) (omega (arith, q .unworn)))
         (rw (lt-ltb y (g .zones) (i .zone-lt), lt-ltb 0 (shownPointer y) (q .some), le-leb (shownPointer y) (zoneSectors g) top) refl));
     labels = λ d a y c m. absurd (let i = is-of d (label y c) m in let e = i .is in let n : _≡_ {A = ℕ} 0 1 = cc in omega arith);
+    closes = λ d a j c m. let i = is-of d (closing j c) m in let e = i .is in let n : _≡_ {A = ℕ} 0 1 = cc in omega arith;
     room = λ d a. le-trans (omega (arith, few d)) (room-for g x w γ u G (γ .parity) (2 + countReset g k) (countSealed g k) (t .base) d a (s .general-room d a) (omega (arith, count-most)));
   }
 
@@ -172,8 +173,8 @@ module _ (g : Geometry) (ok : Valid g) (x : ℕ) (w : Device) (γ : Ghost) (l : 
     still : (z d : ℕ) → Here g x d → w′ d (dataZone z) ≡ u d (dataZone z)
     still z d a = still-data g x u δ (sealStep g k w) heads (t .base .logs) (t .base .settled) the-logs w′ b d z a
 
-    part-inv : Invs g x w′ l
-    part-inv = (withLogs γ G′ (γ .parity), zones-inv g x w γ l k s w′ G′ (γ .parity) (grown-logs g x u δ (sealStep g k w) heads (t .base .logs) (t .base .settled) the-logs w′ b fit) lives′ (λ z hz q. inr (dying′ z (t .gone-zone z hz q .dying))))
+    part-inv : Invs (γ .closed) g x w′ l
+    part-inv = (withLogs γ G′ (γ .parity), zones-inv g x w γ l k s w′ G′ (γ .parity) (grown-logs g x u δ (sealStep g k w) heads (t .base .logs) (t .base .settled) the-logs w′ b fit) lives′ (λ z hz q. inr (dying′ z (t .gone-zone z hz q .dying))), refl)
 
     -- the seal is on every drive
     has : Done g x u (sealStep g k w) w′ → (z : ℕ) → z < g .zones → Stays g x w γ l k z → k .zone z .condition ≡ Sealed (shownPointer z) → Capped g x w′ (withLogs γ G′ (γ .parity)) z (shownPointer z)
@@ -207,5 +208,5 @@ module _ (g : Geometry) (ok : Valid g) (x : ℕ) (w : Device) (γ : Ghost) (l : 
     )
 
 pub seal-step : (g : Geometry) → Valid g → (x : ℕ) (w : Device) (γ : Ghost) (l : Ledger) (k : Shown) → Start g x w γ l k → (u : Device) → AfterCounters g x w γ l k (2 + countReset g k) u
-    → Runs g x l u (concat (withFlush g (presentBut g x) (sealStep g k w))) (AfterSeals g x w γ l k (2 + (countReset g k + countSealed g k)))
-seal-step g ok x w γ l k s u (G, t, sm) = step-runs g x (sealStep g k w) l u (AfterSeals g x w γ l k (2 + (countReset g k + countSealed g k))) (t .base .settled) (λ w′ b. part-inv g ok x w γ l k s u G t sm w′ b) (λ w′ b dn. whole g ok x w γ l k s u G t sm w′ b dn)
+    → Runs (γ .closed) g x l u (concat (withFlush g (presentBut g x) (sealStep g k w))) (AfterSeals g x w γ l k (2 + (countReset g k + countSealed g k)))
+seal-step g ok x w γ l k s u (G, t, sm) = step-runs g x (sealStep g k w) (γ .closed) l u (AfterSeals g x w γ l k (2 + (countReset g k + countSealed g k))) (t .base .settled) (λ w′ b. part-inv g ok x w γ l k s u G t sm w′ b) (λ w′ b dn. whole g ok x w γ l k s u G t sm w′ b dn)

@@ -1,4 +1,4 @@
--- Step 6 of a mount: rows missing from torn entries. The entry is completed with true rows if it is current and ends at or below the pointer;
+-- Step 8 of a mount: rows missing from torn entries. The entry is completed with true rows if it is current and ends at or below the pointer;
 -- else with zeros, which is safe: the entry ends past its zone's cap, or is of a generation that has passed.
 use mathlib.Core.Path.{_≡_, refl, sym, ap, ap₂, _∙_}
 use mathlib.Core.Logic.{_≢_, _⊎_, inl, inr}
@@ -12,7 +12,7 @@ use lib.ListN.{length, getD, take, length-take, length-append, List·getD-append
 use Rattle.tables.specs.meaning.Device.{ZoneView, Device, flushed}
 use Rattle.tables.specs.declared.Geometry.{Geometry}
 use Rattle.tables.specs.meaning.Geometry.{Valid, stripeSectors}
-use Rattle.logs.specs.meaning.Entry.{generalZone, parityZone, wornGeneration, Header, label, counters, partialParity, seal, zoneReset, Entry, encode, rowsOf}
+use Rattle.logs.specs.meaning.Entry.{generalZone, parityZone, wornGeneration, Header, label, counters, partialParity, seal, closing, zoneReset, Entry, encode, rowsOf}
 use Rattle.tables.specs.laws.Drives.{presentBut, present-below}
 use Rattle.tables.specs.meaning.Lists.{concat}
 use Rattle.tables.specs.laws.Lists.{mem-take}
@@ -172,6 +172,7 @@ module _ (g : Geometry) (d : ℕ) where
       most (zoneReset y n) = zero-le
       most (partialParity y i f n) = omega arith
       most (seal y c n) = zero-le
+      most (closing kind gen) = zero-le
 
       go : Whole g d true e ⊎ ((length (e .rows) < rowsOf g (e .head)) × (es ≡ [])) → logExtent g d true es ≤ length (sectorsOfAll g d true es) + g .unit → suc (rowsOf g (e .head)) + logExtent g d true es ≤ suc (length (e .rows) + length (sectorsOfAll g d true es)) + g .unit
       go (inl q) ih = omega (arith, ih)
@@ -185,6 +186,7 @@ missing-length g d k (torn (counters cs) rs) = omega arith
 missing-length g d k (torn (zoneReset y n) rs) = omega arith
 missing-length g d k (torn (partialParity y i f n) rs) = length-tabulate-from (rowFor g (k .zone y) i f n) (length rs) (min f (g .unit) - length rs)
 missing-length g d k (torn (seal y c n) rs) = omega arith
+missing-length g d k (torn (closing kind gen) rs) = omega arith
 
 module _ (g : Geometry) (ok : Valid g) (x : ℕ) (w : Device) (γ : Ghost) (l : Ledger) (k : Shown) (s : Start g x w γ l k) (u : Device) (G : ℕ → List Header)
     (t : CountersDone g x w γ l k u G (γ .parity) (2 + (countReset g k + countSealed g k))) (sm : Same g x w γ l k u) (cp : Caps g x w γ l k u G (γ .parity)) where
@@ -239,18 +241,6 @@ module _ (g : Geometry) (ok : Valid g) (x : ℕ) (w : Device) (γ : Ghost) (l : 
     unfolding P′
     lawful′ d a = extend-lawful g d (γ .parity d) (rows′ d) (t .base .logs .parity-lawful d a) (rows-few d a)
 
-    changed : Changed g x u w′ (γ .parity) P′
-    unfolding P′ rows′
-    changed = record {
-      sectors-are = λ d a. zoneContent d a .sectors-are ∙ ap (λ (r : List (List ℕ)). r ++ rows′ d) (t .base .logs .parity-is d a) ∙ sym (extend-flat g d (γ .parity d) (rows′ d) (λ q. rows-none d a (rw q refl)));
-      wf = λ d a. zoneContent d a .wf;
-      lawful = lawful′;
-      fits = λ d a. rw (extend-extent g d (γ .parity d) (rows′ d)) (t .base .logs .parity-fits d a);
-      lasts = λ d a e q m. let o : List·Memᴰ e (γ .parity d) = cut-whole g d (γ .parity d) (u d parityZone .durable) e (t .base .logs .parity-lawful d a) m q in
-          let n : length (sectorsOfAll g d true (γ .parity d)) ≤ w′ d parityZone .durable = (let e1 = ap length (t .base .logs .parity-is d a) in omega (arith, e1, t .base .settled .lasts d parityZone a, zoneContent d a .keeps)) in
-          cut-mono g d true (P′ d) (length (sectorsOfAll g d true (γ .parity d))) (w′ d parityZone .durable) e (lawful′ d a) n q (rw (extend-cut g d (γ .parity d) (rows′ d)) o);
-    }
-
     -- the one entry that grew
     pub record Grown (d : ℕ) (p : Entry) : Type 0 where
       pub of : Entry
@@ -270,6 +260,23 @@ module _ (g : Geometry) (ok : Valid g) (x : ℕ) (w : Device) (γ : Ghost) (l : 
             last : (List·Memᴰ p (γ .parity d) × Whole g d true p) ⊎ (p ≡ withRows e (rows′ d)) → (List·Memᴰ p (γ .parity d) × Whole g d true p) ⊎ Grown d p
             last (inl j) = inl j
             last (inr j) = inr (record { of = e; isSet = n; tail-is = q; short = i; is = j })
+
+    changed : Changed g x u w′ (γ .parity) P′
+    unfolding P′ rows′
+    changed = record {
+      sectors-are = λ d a. zoneContent d a .sectors-are ∙ ap (λ (r : List (List ℕ)). r ++ rows′ d) (t .base .logs .parity-is d a) ∙ sym (extend-flat g d (γ .parity d) (rows′ d) (λ q. rows-none d a (rw q refl)));
+      wf = λ d a. zoneContent d a .wf;
+      lawful = lawful′;
+      closes = λ d a e m j n q. old d e j n q (grown-of d a e m);
+      fits = λ d a. rw (extend-extent g d (γ .parity d) (rows′ d)) (t .base .logs .parity-fits d a);
+      lasts = λ d a e q m. let o : List·Memᴰ e (γ .parity d) = cut-whole g d (γ .parity d) (u d parityZone .durable) e (t .base .logs .parity-lawful d a) m q in
+          let n : length (sectorsOfAll g d true (γ .parity d)) ≤ w′ d parityZone .durable = (let e1 = ap length (t .base .logs .parity-is d a) in omega (arith, e1, t .base .settled .lasts d parityZone a, zoneContent d a .keeps)) in
+          cut-mono g d true (P′ d) (length (sectorsOfAll g d true (γ .parity d))) (w′ d parityZone .durable) e (lawful′ d a) n q (rw (extend-cut g d (γ .parity d) (rows′ d)) o);
+    }
+      where
+        old : (d : ℕ) (e : Entry) (j n : ℕ) → e .head ≡ closing j n → (List·Memᴰ e (γ .parity d) × Whole g d true e) ⊎ Grown d e → (f : Entry) × List·Memᴰ f (γ .parity d) × (f .head ≡ closing j n)
+        old d e j n q (inl m) = (e, m .0, q)
+        old d e j n q (inr k) = (k .of, k .isSet, ap (λ (t : Entry). t .head) (sym (k .is)) ∙ q)
 
     -- its rows
     row-is : (d : ℕ) → Here g x d → (p : Entry) (o : Grown d p) (z i f n : ℕ) → o .of .head ≡ partialParity z i f n → (r : ℕ) → length (o .of .rows) ≤ r → r < length (p .rows) → getD (p .rows) r [] ≡ rowFor g (k .zone z) i f n r
@@ -357,7 +364,7 @@ module _ (g : Geometry) (ok : Valid g) (x : ℕ) (w : Device) (γ : Ghost) (l : 
     unfolding P′
     gones z hz q d a p m = let (e, n, r) = extend-heads (γ .parity d) (rows′ d) p m in rw r (t .gone-zone z hz q .dying .entries .in-parity d a e n)
 
-    part-inv : Invs g x w′ l
+    part-inv : Invs (γ .closed) g x w′ l
     part-inv = parity-inv g ok x w γ l k s u G (γ .parity) (2 + (countReset g k + countSealed g k)) t (tornRowStep g k w) unseen w′ b P′ changed joins worns gones
 
     module _ (dn : Done g x u (tornRowStep g k w) w′) where
@@ -388,10 +395,10 @@ module _ (g : Geometry) (ok : Valid g) (x : ℕ) (w : Device) (γ : Ghost) (l : 
         parity-caps g ok x w γ l k s u G (γ .parity) (2 + (countReset g k + countSealed g k)) t (tornRowStep g k w) unseen w′ b P′ changed joins worns gones cp,
         record {
           whole = whole-all;
-          room = λ d a. rw (extend-extent g d (γ .parity d) (rows′ d)) (let e = ap length (s .inv .logs .parity-is d a) in omega (arith, e, extent-most g d (γ .parity d) (s .inv .logs .parity-lawful d a), s .parity-room d a));
+          extent = λ d a. rw (extend-extent g d (γ .parity d) (rows′ d)) (let e = ap length (s .inv .logs .parity-is d a) in omega (arith, e, extent-most g d (γ .parity d) (s .inv .logs .parity-lawful d a)));
         },
       )
 
 pub torn-row-step : (g : Geometry) → Valid g → (x : ℕ) (w : Device) (γ : Ghost) (l : Ledger) (k : Shown) → Start g x w γ l k → (u : Device) → AfterSeals g x w γ l k (2 + (countReset g k + countSealed g k)) u
-    → Runs g x l u (concat (withFlush g (presentBut g x) (tornRowStep g k w))) (AfterTornRows g x w γ l k (2 + (countReset g k + countSealed g k)))
-torn-row-step g ok x w γ l k s u (G, t, sm, cp) = step-runs g x (tornRowStep g k w) l u (AfterTornRows g x w γ l k (2 + (countReset g k + countSealed g k))) (t .base .settled) (λ w′ b. part-inv g ok x w γ l k s u G t sm cp w′ b) (λ w′ b dn. whole g ok x w γ l k s u G t sm cp w′ b dn)
+    → Runs (γ .closed) g x l u (concat (withFlush g (presentBut g x) (tornRowStep g k w))) (AfterTornRows g x w γ l k (2 + (countReset g k + countSealed g k)))
+torn-row-step g ok x w γ l k s u (G, t, sm, cp) = step-runs g x (tornRowStep g k w) (γ .closed) l u (AfterTornRows g x w γ l k (2 + (countReset g k + countSealed g k))) (t .base .settled) (λ w′ b. part-inv g ok x w γ l k s u G t sm cp w′ b) (λ w′ b dn. whole g ok x w γ l k s u G t sm cp w′ b dn)

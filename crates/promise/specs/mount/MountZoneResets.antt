@@ -1,4 +1,4 @@
--- Step 3 of a mount: the physical zones of every zone to be emptied are reset. Those with a reset entry are Dying by it; the others show
+-- Step 5 of a mount: the physical zones of every zone to be emptied are reset. Those with a reset entry are Dying by it; the others show
 -- pointer 0 while their data goes, for no entry makes sector 0 known alone.
 use Rattle.promise.specs.mount.MountRuns.{logs-untouched, Runs, Between, Done, step-runs, between-still}
 use mathlib.Core.Path.{_≡_, refl, sym, ap, _∙_}
@@ -191,8 +191,8 @@ module _ (g : Geometry) (ok : Valid g) (x : ℕ) (w : Device) (γ : Ghost) (l : 
     quiet z hz (inl q) = inl (live′ z hz (q .0) (λ e. q .1), q .1)
     quiet z hz (inr q) = inr (dying′ z hz q)
 
-    part-inv : Invs g x w′ l
-    part-inv = (δ, zones-inv g x w γ l k s w′ G (γ .parity) logs′ lives′ (λ z hz q. go z hz q))
+    part-inv : Invs (γ .closed) g x w′ l
+    part-inv = (δ, zones-inv g x w γ l k s w′ G (γ .parity) logs′ lives′ (λ z hz q. go z hz q), refl)
       where
         go : (z : ℕ) → z < g .zones → Gone g x w γ l k z → Live g x w′ δ l z ⊎ Dying g x w′ δ l z
         go z hz (emptied q) = inr (dying′ z hz (t .reset-zone z hz q))
@@ -254,5 +254,5 @@ module _ (g : Geometry) (ok : Valid g) (x : ℕ) (w : Device) (γ : Ghost) (l : 
           go z hz (raisedOne q) = let r = t .raised-zone z hz q in (dying′ z hz (r .0), λ d a. less-data z d a hz (r .1 d a))
 
 pub zone-reset-step : (g : Geometry) → Valid g → (x : ℕ) (w : Device) (γ : Ghost) (l : Ledger) (k : Shown) → Start g x w γ l k → (u : Device) → AfterResetEntries g x w γ l k (1 + countReset g k) u
-    → Runs g x l u (concat (withFlush g (presentBut g x) (zoneResetStep g k))) (AfterZoneResets g x w γ l k (1 + countReset g k))
-zone-reset-step g ok x w γ l k s u (G, t) = step-runs g x (zoneResetStep g k) l u (AfterZoneResets g x w γ l k (1 + countReset g k)) (t .base .settled) (λ w′ b. part-inv g ok x w γ l k s u G t w′ b) (λ w′ b dn. whole g ok x w γ l k s u G t w′ b dn)
+    → Runs (γ .closed) g x l u (concat (withFlush g (presentBut g x) (zoneResetStep g k))) (AfterZoneResets g x w γ l k (1 + countReset g k))
+zone-reset-step g ok x w γ l k s u (G, t) = step-runs g x (zoneResetStep g k) (γ .closed) l u (AfterZoneResets g x w γ l k (1 + countReset g k)) (t .base .settled) (λ w′ b. part-inv g ok x w γ l k s u G t w′ b) (λ w′ b dn. whole g ok x w γ l k s u G t w′ b dn)

@@ -27,6 +27,7 @@ use Rattle.volume.specs.declared.State.{State}
 use Rattle.volume.specs.declared.Outcome.{Outcome}
 use Rattle.volume.specs.declared.Answer.the-variants.{Finished, Unfinished, Refused}
 use Rattle.volume.specs.meaning.State.{StateView, pointerIn}
+use Rattle.volume.specs.meaning.Roles.{byRoles}
 use Rattle.volume.specs.meaning.Refusals.{Verdict, refuse, accept, badPointers}
 use Rattle.volume.specs.meaning.Answers.{CallResult, storing}
 use Rattle.volume.specs.meaning.CallContracts.{viewState, isSet, verdictNumber, Result, storingOn}
@@ -34,7 +35,7 @@ use Rattle.volume.specs.laws.Refusals.{Numbered}
 use Rattle.promise.specs.meaning.Ledger.{Ledger}
 use Rattle.promise.specs.meaning.Claim.{Mode, ready, stopped, down}
 use Rattle.promise.specs.invariant.Invariant.{Ghost, Rest}
-use Rattle.promise.specs.device.ClaimEvents.{OkIn, HoldsIn}
+use Rattle.promise.specs.device.Modes.{OkIn}
 use Rattle.promise.specs.device.Marks.{withMarks}
 
 -- ---- states that say the same of the volume's zones
@@ -64,12 +65,9 @@ rest-agrees g x v a b l γ e r = record {
 }
 
 pub ok-agrees : (g : Geometry) (m : Mode) (x : ℕ) (v : Device) (a b : StateView) (l : Ledger) → Agree g a b → OkIn g m x v a l → OkIn g m x v b l
-ok-agrees g m x v a b l e (c, k, h) = (c, k, go m h)
-  where
-    go : (m : Mode) → HoldsIn g m x v a (withMarks l c) → HoldsIn g m x v b (withMarks l c)
-    go ready (γ, r) = (γ, rest-agrees g x v a b (withMarks l c) γ e r)
-    go stopped i = i
-    go down i = i
+ok-agrees g ready x v a b l e (k, c, h, (s, (γ, r, q))) = (k, c, h, (s, (γ, rest-agrees g x (byRoles g v) a b (withMarks l c) γ e r, q)))
+ok-agrees g stopped x v a b l e o = o
+ok-agrees g down x v a b l e o = o
 
 -- ---- results that say the same
 pub record Agrees (g : Geometry) (a b : CallResult Device StateView) : Type 0 where

@@ -7,7 +7,7 @@ use Rattle.tables.specs.declared.Geometry.{Geometry}
 use Rattle.tables.specs.meaning.Tables.{Tables, deviceOf, pointersBad}
 use Rattle.volume.specs.declared.State.{State}
 use Rattle.volume.specs.meaning.Refusals.{Verdict, refuse, accept, firstRefusal, formatRows, lookRows, mountRows, writeRows, flushRows, resetRows, readRows, peekRows, badPointers}
-use Rattle.volume.specs.meaning.CallContracts.{viewState, isSet, verdictNumber, lengthsOf, formatVerdict, lookVerdict, mountVerdict, writeVerdict, flushVerdict, resetVerdict, readNumber, peekNumber}
+use Rattle.volume.specs.meaning.CallContracts.{viewState, isSet, verdictNumber, lengthsOf, rolesOf, seenIn, formatVerdict, lookVerdict, mountVerdict, writeVerdict, flushVerdict, resetVerdict, readNumber, peekNumber}
 use Rattle.volume.specs.laws.Refusals.{Numbered, numbered}
 use Rattle.promise.specs.tables.CallRefines.{pointers-pass}
 
@@ -21,11 +21,11 @@ module _ (g : Geometry) (named : List Bool) (t : Tables) (h : pointersBad g name
   unfolding formatVerdict formatRows
   format-verdict = rw (h, pointers-pass g named t h) refl
 
-  pub look-verdict : lookVerdict g named t ≡ firstRefusal (lookRows g (lengthsOf t) (badPointers g (isSet named) (deviceOf g t)) (isSet named) (deviceOf g t))
+  pub look-verdict : lookVerdict g named t ≡ firstRefusal (lookRows g (lengthsOf t) (badPointers g (isSet named) (deviceOf g t)) (isSet named) (rolesOf g t) (seenIn g t))
   unfolding lookVerdict lookRows
   look-verdict = rw (h, pointers-pass g named t h) refl
 
-  pub mount-verdict : mountVerdict g named t ≡ firstRefusal (mountRows g (lengthsOf t) (badPointers g (isSet named) (deviceOf g t)) (isSet named) (deviceOf g t))
+  pub mount-verdict : mountVerdict g named t ≡ firstRefusal (mountRows g (lengthsOf t) (badPointers g (isSet named) (deviceOf g t)) (isSet named) (rolesOf g t) (seenIn g t))
   unfolding mountVerdict mountRows
   mount-verdict = rw (h, pointers-pass g named t h) refl
 
@@ -34,19 +34,19 @@ module _ (g : Geometry) (named : List Bool) (t : Tables) (h : pointersBad g name
     unfolding flushVerdict flushRows
     flush-verdict = rw (h, pointers-pass g named t h) refl
 
-    pub write-verdict : (a count bytes : ℕ) → writeVerdict g named s a count bytes t ≡ firstRefusal (writeRows g (lengthsOf t) (badPointers g (isSet named) (deviceOf g t)) (isSet named) (viewState s) a count bytes (deviceOf g t))
+    pub write-verdict : (a count bytes : ℕ) → writeVerdict g named s a count bytes t ≡ firstRefusal (writeRows g (lengthsOf t) (badPointers g (isSet named) (deviceOf g t)) (isSet named) (viewState s) a count bytes (rolesOf g t) (seenIn g t))
     unfolding writeVerdict writeRows
     write-verdict a count bytes = rw (h, pointers-pass g named t h) refl
 
-    pub reset-verdict : (z : ℕ) → resetVerdict g named s z t ≡ firstRefusal (resetRows g (lengthsOf t) (badPointers g (isSet named) (deviceOf g t)) (isSet named) (viewState s) z (deviceOf g t))
+    pub reset-verdict : (z : ℕ) → resetVerdict g named s z t ≡ firstRefusal (resetRows g (lengthsOf t) (badPointers g (isSet named) (deviceOf g t)) (isSet named) (viewState s) z (rolesOf g t) (seenIn g t))
     unfolding resetVerdict resetRows
     reset-verdict z = rw (h, pointers-pass g named t h) refl
 
-    pub read-number : (a count bytes : ℕ) → readNumber g named s a count bytes t ≡ verdictNumber (firstRefusal (readRows g (lengthsOf t) (badPointers g (isSet named) (deviceOf g t)) (isSet named) (viewState s) a count bytes (deviceOf g t)))
+    pub read-number : (a count bytes : ℕ) → readNumber g named s a count bytes t ≡ verdictNumber (firstRefusal (readRows g (lengthsOf t) (badPointers g (isSet named) (deviceOf g t)) (isSet named) (viewState s) a count bytes (seenIn g t)))
     unfolding readNumber readRows
     read-number a count bytes = rw (h, pointers-pass g named t h) refl
 
-    pub peek-number : (a : ℕ) → peekNumber g named s a t ≡ verdictNumber (firstRefusal (peekRows g (lengthsOf t) (badPointers g (isSet named) (deviceOf g t)) (isSet named) (viewState s) a (deviceOf g t)))
+    pub peek-number : (a : ℕ) → peekNumber g named s a t ≡ verdictNumber (firstRefusal (peekRows g (lengthsOf t) (badPointers g (isSet named) (deviceOf g t)) (isSet named) (viewState s) a (seenIn g t)))
     unfolding peekNumber peekRows
     peek-number a = rw (h, pointers-pass g named t h) refl
 
@@ -56,27 +56,27 @@ module _ (g : Geometry) (named : List Bool) (t : Tables) where
   unfolding formatRows
   format-numbered = numbered (formatRows g (lengthsOf t) (badPointers g (isSet named) (deviceOf g t)) (isSet named) (deviceOf g t)) refl
 
-  pub mount-numbered : Numbered (firstRefusal (mountRows g (lengthsOf t) (badPointers g (isSet named) (deviceOf g t)) (isSet named) (deviceOf g t)))
+  pub mount-numbered : Numbered (firstRefusal (mountRows g (lengthsOf t) (badPointers g (isSet named) (deviceOf g t)) (isSet named) (rolesOf g t) (seenIn g t)))
   unfolding mountRows
-  mount-numbered = numbered (mountRows g (lengthsOf t) (badPointers g (isSet named) (deviceOf g t)) (isSet named) (deviceOf g t)) refl
+  mount-numbered = numbered (mountRows g (lengthsOf t) (badPointers g (isSet named) (deviceOf g t)) (isSet named) (rolesOf g t) (seenIn g t)) refl
 
   module _ (s : State) where
     pub flush-numbered : Numbered (firstRefusal (flushRows g (lengthsOf t) (badPointers g (isSet named) (deviceOf g t)) (isSet named) (viewState s) (deviceOf g t)))
     unfolding flushRows
     flush-numbered = numbered (flushRows g (lengthsOf t) (badPointers g (isSet named) (deviceOf g t)) (isSet named) (viewState s) (deviceOf g t)) refl
 
-    pub write-numbered : (a count bytes : ℕ) → Numbered (firstRefusal (writeRows g (lengthsOf t) (badPointers g (isSet named) (deviceOf g t)) (isSet named) (viewState s) a count bytes (deviceOf g t)))
+    pub write-numbered : (a count bytes : ℕ) → Numbered (firstRefusal (writeRows g (lengthsOf t) (badPointers g (isSet named) (deviceOf g t)) (isSet named) (viewState s) a count bytes (rolesOf g t) (seenIn g t)))
     unfolding writeRows
-    write-numbered a count bytes = numbered (writeRows g (lengthsOf t) (badPointers g (isSet named) (deviceOf g t)) (isSet named) (viewState s) a count bytes (deviceOf g t)) refl
+    write-numbered a count bytes = numbered (writeRows g (lengthsOf t) (badPointers g (isSet named) (deviceOf g t)) (isSet named) (viewState s) a count bytes (rolesOf g t) (seenIn g t)) refl
 
-    pub reset-numbered : (z : ℕ) → Numbered (firstRefusal (resetRows g (lengthsOf t) (badPointers g (isSet named) (deviceOf g t)) (isSet named) (viewState s) z (deviceOf g t)))
+    pub reset-numbered : (z : ℕ) → Numbered (firstRefusal (resetRows g (lengthsOf t) (badPointers g (isSet named) (deviceOf g t)) (isSet named) (viewState s) z (rolesOf g t) (seenIn g t)))
     unfolding resetRows
-    reset-numbered z = numbered (resetRows g (lengthsOf t) (badPointers g (isSet named) (deviceOf g t)) (isSet named) (viewState s) z (deviceOf g t)) refl
+    reset-numbered z = numbered (resetRows g (lengthsOf t) (badPointers g (isSet named) (deviceOf g t)) (isSet named) (viewState s) z (rolesOf g t) (seenIn g t)) refl
 
-    pub read-numbered : (a count bytes : ℕ) → Numbered (firstRefusal (readRows g (lengthsOf t) (badPointers g (isSet named) (deviceOf g t)) (isSet named) (viewState s) a count bytes (deviceOf g t)))
+    pub read-numbered : (a count bytes : ℕ) → Numbered (firstRefusal (readRows g (lengthsOf t) (badPointers g (isSet named) (deviceOf g t)) (isSet named) (viewState s) a count bytes (seenIn g t)))
     unfolding readRows
-    read-numbered a count bytes = numbered (readRows g (lengthsOf t) (badPointers g (isSet named) (deviceOf g t)) (isSet named) (viewState s) a count bytes (deviceOf g t)) refl
+    read-numbered a count bytes = numbered (readRows g (lengthsOf t) (badPointers g (isSet named) (deviceOf g t)) (isSet named) (viewState s) a count bytes (seenIn g t)) refl
 
-    pub peek-numbered : (a : ℕ) → Numbered (firstRefusal (peekRows g (lengthsOf t) (badPointers g (isSet named) (deviceOf g t)) (isSet named) (viewState s) a (deviceOf g t)))
+    pub peek-numbered : (a : ℕ) → Numbered (firstRefusal (peekRows g (lengthsOf t) (badPointers g (isSet named) (deviceOf g t)) (isSet named) (viewState s) a (seenIn g t)))
     unfolding peekRows
-    peek-numbered a = numbered (peekRows g (lengthsOf t) (badPointers g (isSet named) (deviceOf g t)) (isSet named) (viewState s) a (deviceOf g t)) refl
+    peek-numbered a = numbered (peekRows g (lengthsOf t) (badPointers g (isSet named) (deviceOf g t)) (isSet named) (viewState s) a (seenIn g t)) refl

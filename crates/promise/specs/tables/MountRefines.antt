@@ -1,12 +1,10 @@
--- A mount on the tables. Since its stores fit, those made on the tables are the rules', step 8 included, which goes by what the tables have become;
+-- A mount on the tables. Since its stores fit, those made on the tables are the rules', steps 10 and 11 included, which go by what the tables have become;
 -- so a mount keeps the invariant, and what it shows is what the rules' mount shows.
 use mathlib.Core.Path.{_≡_, refl, sym, ap, _∙_}
 use mathlib.Core.Bool.{Bool, false}
-use Prim.Native.Nat.{ℕ, _-_}
-use mathlib.Core.List.{List, _++_}
-use lib.ListN.{length, replicate, length-append, length-replicate}
-use lib.Seq.{take-length}
-use native.Mathlib.Omega.{arith}
+use Prim.Native.Nat.{ℕ}
+use mathlib.Core.List.{List}
+use lib.ListN.{length}
 use lib.Dec.{ltb}
 use borrow.Author.Tests.{ltb-false}
 use Rattle.tables.specs.declared.Geometry.{Geometry}
@@ -17,12 +15,13 @@ use Rattle.tables.specs.laws.Made.{FitsAll}
 use Rattle.tables.specs.laws.Counted.{run-covered}
 use Rattle.volume.specs.declared.State.{State}
 use Rattle.volume.specs.looking.DrivesLost.{fill-long}
-use Rattle.volume.specs.meaning.CallContracts.{zoneLookOf, blankRecord, viewState, isSet, verdictNumber, lengthsOf, Result, storingOn, recordFrom, stateShown, storesBefore, mountStoresOn, mountShownOn, mountOn}
+use Rattle.volume.specs.meaning.CallContracts.{zoneLookOf, blankRecord, viewState, isSet, lengthsOf, recordFrom, stateShown, mountStoresOn, mountShownOn, mountOn}
 use Rattle.volume.specs.declared.Answer.the-variants.{Finished, Refused}
-use Rattle.volume.specs.meaning.Rules.{Shown, isPresent, lostDrive, showing}
+use Rattle.volume.specs.meaning.Rules.{Shown, showing}
+use Rattle.volume.specs.meaning.Roles.{roles, byRoles}
+use Rattle.volume.specs.meaning.Answers.{presentIn, lostDriveIn}
 use Rattle.volume.specs.meaning.Refusals.{Verdict, accept, firstRefusal, mountRows, badPointers}
-use Rattle.volume.specs.meaning.Mount.{withFlush, entryStep, afterOpening, mountLook, phasesBeforeEntries, mountPhases, mountStores, mountShows, mountState}
-use Rattle.volume.specs.declared.ZoneRecord.{ZoneRecord}
+use Rattle.volume.specs.meaning.Mount.{mountStores, mountShows, mountState}
 use Rattle.promise.specs.meaning.Ledger.{Fits}
 use Rattle.promise.specs.meaning.Claim.{mounts, System, NamesAll, Promise, MayMount}
 use Rattle.promise.specs.meaning.OnDevice.{onDevice}
@@ -49,13 +48,13 @@ module _ (g : Geometry) (ok : Valid g) (s : System (onTables g)) (o : TablesOk g
   w = deviceOf g (s .memory)
 
   abbrev present : ℕ → Bool
-  present = isPresent g (isSet named) w
+  present = presentIn g (isSet named) w
 
   abbrev lost : ℕ
-  lost = lostDrive g (isSet named) w
+  lost = lostDriveIn g (isSet named) w
 
   abbrev verdict : Verdict
-  verdict = firstRefusal (mountRows g (lengthsOf t) (badPointers g (isSet named) w) (isSet named) w)
+  verdict = firstRefusal (mountRows g (lengthsOf t) (badPointers g (isSet named) w) (isSet named) (roles g w) (byRoles g w))
 
   abbrev xs : List Store
   xs = mountStores g present lost w
@@ -64,23 +63,20 @@ module _ (g : Geometry) (ok : Valid g) (s : System (onTables g)) (o : TablesOk g
   ss = mountStoresOn g present lost t
 
   abbrev new : State
-  new = stateShown g (showing g present lost (deviceOf g (runStores g (length ss) ss t)))
-
-  on-tables : verdict ≡ accept → FitsAll g ss w
-  on-tables p = mount-stores-fit g named t (mount-verdict g named t (pointers-fine g s named n o) ∙ p)
-
-  same : verdict ≡ accept → ss ≡ xs
-  same p = mount-stores-are g present lost t (o .sized) (on-tables p)
+  new = stateShown g (showing g present lost (byRoles g (deviceOf g (runStores g (length ss) ss t))))
 
   fits : verdict ≡ accept → FitsAll g xs w
-  fits p = rw (← same p) (on-tables p)
+  fits p = mount-stores-fit g named t (mount-verdict g named t (pointers-fine g s named n o) ∙ p)
+
+  same : verdict ≡ accept → ss ≡ xs
+  same p = mount-stores-are g present lost t (o .sized) (fits p)
 
   -- what it shows when it has made all its stores
-  shows-end : (stop : ℕ) → verdict ≡ accept → ltb stop (length xs) ≡ false → showing g present lost (deviceOf g (runStores g (length ss) ss t)) ≡ mountShows g present lost w
+  shows-end : (stop : ℕ) → verdict ≡ accept → ltb stop (length xs) ≡ false → showing g present lost (byRoles g (deviceOf g (runStores g (length ss) ss t))) ≡ mountShows g present lost w
   unfolding mountShows
   shows-end stop p e =
-      ap (λ (u : Tables). showing g present lost (deviceOf g u)) (sym (run-covered g stop ss t (rw (same p) (ltb-false stop (length xs) e))))
-      ∙ ap (λ (u : Device). showing g present lost u) (all-made g t verdict (mount-numbered g named t) ss xs new (s .state) (mountState (mountShows g present lost w)) stop (o .sized) same fits p e)
+      ap (λ (u : Tables). showing g present lost (byRoles g (deviceOf g u))) (sym (run-covered g stop ss t (rw (same p) (ltb-false stop (length xs) e))))
+      ∙ ap (λ (u : Device). showing g present lost (byRoles g u)) (all-made g t verdict (mount-numbered g named t) ss xs new (s .state) (mountState (mountShows g present lost w)) stop (o .sized) same fits p e)
 
   pub mount-refines : (stop : ℕ) → Refines g s mounts named stop
   unfolding mountOn mountShownOn
@@ -93,7 +89,7 @@ module _ (g : Geometry) (ok : Valid g) (s : System (onTables g)) (o : TablesOk g
     has-number = mount-numbered g named t;
     same = same;
     fit = fits;
-    long = λ p. shown-records g ok (showing g present lost (deviceOf g (runStores g (length ss) ss t)));
+    long = λ p. shown-records g ok (showing g present lost (byRoles g (deviceOf g (runStores g (length ss) ss t))));
     agree = λ p e. rw (shows-end stop p e) (shown-agrees g (mountShows g present lost w));
   }
 
@@ -103,7 +99,7 @@ module _ (g : Geometry) (ok : Valid g) (s : System (onTables g)) (o : TablesOk g
   state-is stop e =
       let v = mount-verdict g named t (pointers-fine g s named n o) in
       let (p, q) = answer-finished g verdict (mount-numbered g named t) ss new (s .state) stop t (rw v at e) in
-      rw (v, p, q) (ap (λ (u : Tables). stateShown g (showing g present lost (deviceOf g u))) (sym (run-covered g stop ss t (ltb-false stop (length ss) q))))
+      rw (v, p, q) (ap (λ (u : Tables). stateShown g (showing g present lost (byRoles g (deviceOf g u)))) (sym (run-covered g stop ss t (ltb-false stop (length ss) q))))
 
   -- a finished mount shows what fits
   pub mount-claim : Promise g (onDevice g (lengthsOf t)) (viewSystem g s) → MayMount (s .mode) → (stop : ℕ) → mountOn g named (s .state) stop t .outcome .answer ≡ Finished

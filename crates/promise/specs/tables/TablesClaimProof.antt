@@ -37,27 +37,33 @@ use Rattle.volume.specs.meaning.State.{StateView, callPresent}
 use Rattle.volume.specs.meaning.Content.{at}
 use Rattle.volume.specs.meaning.Mount.{mountState}
 use Rattle.volume.specs.meaning.Rules.{Shown, valueAt, zoneView, viewOf}
+use Rattle.volume.specs.meaning.Roles.{roles, byRoles}
 use Rattle.volume.specs.meaning.Refusals.{Verdict, refuse, accept, firstRefusal, zoneOf, offsetOf, notHeld, twoUnnamed, formatRows, lookRows, readRows, peekRows, badPointers}
 use Rattle.volume.specs.meaning.Calls.{formatStores, formatState}
-use Rattle.volume.specs.meaning.Answers.{CallResult, Given, giving, lookCall, leftOut, namedDrives, placeOf, Place}
+use Rattle.volume.specs.meaning.Answers.{CallResult, giving, lookCall, leftOut, namedDrives, placeOf}
 use Rattle.promise.specs.meaning.Ledger.{freshLedger, Fits, Ledger}
 use Rattle.volume.specs.laws.Refusals.{accepted-row, Numbered, numbered}
-use Rattle.promise.specs.device.ClaimEvents.{OkIn, rest-of, drives-of-call, event-keeps, marked, own-marks}
+use Rattle.promise.specs.device.Marks.{withMarks}
+use Rattle.promise.specs.device.Modes.{OkIn, own-rests}
+use Rattle.promise.specs.device.ClaimEvents.{rests-of, drives-of-call, event-keeps}
 use Rattle.promise.specs.device.ClaimProof.{kept}
 use Rattle.promise.specs.device.AtRestAnswers.{left-out, drives-named}
-use Rattle.promise.specs.calls.FormatKeeps.{format-rests}
-use Rattle.volume.specs.meaning.CallContracts.{recordAt, viewState, isSet, verdictNumber, lengthsOf, storingOn, formatVerdict, formatOn, freshState, lookOn, stateShown, readNumber, readOn, valuesOn, peekNumber, peekOn, partAt, badIn, peekFrom, byteOf}
+use Rattle.promise.specs.roles.RoledCalls.{roled-format}
+use Rattle.promise.specs.emptying.BlankSpares.{BlankSpares}
+use Rattle.promise.specs.device.BlankAtRest.{format-blank}
+use Rattle.volume.specs.meaning.CallContracts.{viewState, isSet, verdictNumber, lengthsOf, storingOn, formatVerdict, formatOn, freshState, lookOn, stateShown, readOn, valuesOn, peekNumber, peekOn, partAt, badIn, peekFrom, byteOf}
 use Rattle.tables.specs.laws.StoresFit.{fits-all-placed}
 use Rattle.promise.specs.tables.CallRefines.{ok-agrees, answer-finished}
 use Rattle.promise.specs.tables.CallVerdicts.{numbered-accept, look-verdict, read-number, read-numbered, peek-number, peek-numbered}
-use Rattle.promise.specs.meaning.Claim.{mounts, writes, flushes, resets, formats, Call, System, Event, calls, looks, reads, peeks, reports, cuts, loses, next, NamesAll, Duty, contentBytes, SameZones, Promise, ready, allBut, start}
+use Rattle.promise.specs.meaning.Claim.{mounts, writes, flushes, resets, formats, Call, System, Event, calls, looks, reads, peeks, reports, cuts, loses, next, NamesAll, Duty, SameZones, Promise, ready, start}
 use Rattle.promise.specs.meaning.OnDevice.{onDevice, lookResult, readResult, peekResult}
 use Rattle.promise.specs.meaning.OnTables.{callResult, resultOf, onTables, shownIn, TablesClaim}
 use Rattle.promise.specs.tables.MountRefines.{shown-records, shown-agrees, mount-refines, mount-claim, mount-refusal}
 use Rattle.promise.specs.tables.TablesEvents.{viewSystem, TablesOk, names-seen, pointers-fine, fresh-records, fresh-agrees, call-agrees, call-event, write-refines, flush-refines, reset-refines, format-refines, cut-event, loss-event}
 use Rattle.volume.specs.laws.CallStoresFit.{format-stores-fit}
-use Rattle.promise.specs.invariant.Obligations.{Rests}
+use Rattle.promise.specs.invariant.Obligations.{neverEmptied, Rests}
 use Rattle.promise.specs.invariant.Throughout.{throughout}
+use Rattle.promise.specs.invariant.Invariant.{LogGenerations}
 
 -- a list has nothing past its end
 getD-nothing : (xs : List (List ℕ)) (i : ℕ) → length xs ≤ i → getD xs i [] ≡ []
@@ -76,8 +82,8 @@ finished-zero k e = go (eqb k 0) refl e
 at-prefix : (xs ys : List (List ℕ)) → Prefix xs ys → (a : ℕ) → a < length xs → at xs a ≡ at ys a
 at-prefix xs ys p a h = ap (λ (l : List (List ℕ)). at l a) (prefix-is-take xs ys p) ∙ getD-take (length xs) ys a [] h
 
-content-long : (g : Geometry) (x : ℕ) (v : Device) (state : StateView) (l : Ledger) → Rests g x v state l → (z : ℕ) → z < g .zones → (a : ℕ) → a < length (l .content z) → length (at (l .content z) a) ≡ g .sector
-content-long g x v state l r z h a k =
+content-long : (g : Geometry) (c : LogGenerations) (x : ℕ) (v : Device) (state : StateView) (l : Ledger) → Rests c g x v state l → (z : ℕ) → z < g .zones → (a : ℕ) → a < length (l .content z) → length (at (l .content z) a) ≡ g .sector
+content-long g c x v state l r z h a k =
     let q = r .1 .zones z h .live in
     rw (at-prefix (l .content z) (r .0 .laid z) (q .front) a k) (q .sizes a (omega (arith, k, prefix-length (q .front))))
 
@@ -111,7 +117,7 @@ module _ (g : Geometry) (ok : Valid g) (wb : isValid g ≡ true) (s : System (on
     look-is : lookOn g named (s .state) t ≡ record { answer = Finished; state = stateShown g (shownIn g named t t) }
     unfolding lookOn
     look-is =
-        let p = look-accepted (firstRefusal (lookRows g (lengthsOf t) (badPointers g (isSet named) w) (isSet named) w)) (shownIn g named t t) st (mountState (shownIn g named t t)) w (promised .look-fits (isSet named) names .0) in
+        let p = look-accepted (firstRefusal (lookRows g (lengthsOf t) (badPointers g (isSet named) w) (isSet named) (roles g w) (byRoles g w))) (shownIn g named t t) st (mountState (shownIn g named t t)) w (promised .look-fits (isSet named) names .0) in
         rw (look-verdict g named t fine, p) refl
 
     look-claim : (resultOf (lookOn g named (s .state) t) t ≡ record { answer = Finished; memory = t; state = stateShown g (shownIn g named t t) }) × Fits g (s .ledger) (shownIn g named t t)
@@ -147,10 +153,10 @@ module _ (g : Geometry) (ok : Valid g) (wb : isValid g ≡ true) (s : System (on
 
     -- a read by the rules
     abbrev sectors : ℕ → ℕ → List (List ℕ)
-    sectors a count = tabulateFrom (valueAt g (callPresent g (isSet named) st) w (zoneOf g a) (st .generation (zoneOf g a))) (offsetOf g a) count
+    sectors a count = tabulateFrom (valueAt g (callPresent g (isSet named) st) (byRoles g w) (zoneOf g a) (st .generation (zoneOf g a))) (offsetOf g a) count
 
     abbrev readVerdict : ℕ → ℕ → List ℕ → Verdict
-    readVerdict a count out = firstRefusal (readRows g (lengthsOf t) (badPointers g (isSet named) w) (isSet named) st a count (length out) w)
+    readVerdict a count out = firstRefusal (readRows g (lengthsOf t) (badPointers g (isSet named) w) (isSet named) st a count (length out) (byRoles g w))
 
     read-same : (a count : ℕ) (out : List ℕ) → readOn g named (s .state) a count out t ≡ readResult (giving (readVerdict a count out) (sectors a count)) out
     unfolding readOn valuesOn
@@ -160,8 +166,8 @@ module _ (g : Geometry) (ok : Valid g) (wb : isValid g ≡ true) (s : System (on
         go accept h = refl
         go (refuse k) h = rw (ne-eqb k 0 h) refl
 
-    peek-number-same : (a : ℕ) → peekNumber g named (s .state) a t ≡ peekResult g (giving (firstRefusal (peekRows g (lengthsOf t) (badPointers g (isSet named) w) (isSet named) st a w)) (placeOf g a)) w .number
-    peek-number-same a = peek-number g named t fine (s .state) a ∙ go (firstRefusal (peekRows g (lengthsOf t) (badPointers g (isSet named) w) (isSet named) st a w))
+    peek-number-same : (a : ℕ) → peekNumber g named (s .state) a t ≡ peekResult g (giving (firstRefusal (peekRows g (lengthsOf t) (badPointers g (isSet named) w) (isSet named) st a (byRoles g w))) (placeOf g a)) w .number
+    peek-number-same a = peek-number g named t fine (s .state) a ∙ go (firstRefusal (peekRows g (lengthsOf t) (badPointers g (isSet named) w) (isSet named) st a (byRoles g w)))
       where
         go : (v : Verdict) → verdictNumber v ≡ peekResult g (giving v (placeOf g a)) w .number
         go accept = refl
@@ -178,7 +184,8 @@ module _ (g : Geometry) (ok : Valid g) (wb : isValid g ≡ true) (s : System (on
         let hd : d < g .drives = drive-below (g .drives) (g .unit) z (omega (arith, ok .drives-least)) (ok .unit-least) (offsetOf g a) in
         let hy : dataZone z < physicalZones g = omega arith in
         let most = o .order d hd there .written-most (dataZone z) hy in
-        let long = content-long g (s .lost) w st (marked g (lengthsOf t) (viewSystem g s) (o .holds)) (rest-of g (lengthsOf t) (viewSystem g s) (o .holds) m) z hz (offsetOf g a) h in
+        let (k, marks, above, (standing, r)) = rests-of g (lengthsOf t) (viewSystem g s) (o .holds) m in
+        let long = content-long g k (s .lost) (byRoles g w) st (withMarks (s .ledger) marks) r z hz (offsetOf g a) h in
         let held : x < getD (t .written) (cell g d (dataZone z)) 0 = inside d (dataZone z) x hd hy (at (s .ledger .content z) (offsetOf g a)) e (omega (arith, long, ok .sector-least)) in
         sym (getD-tabulate (λ k. sectorAt g (t .sectors) d (dataZone z) k) (getD (t .written) (cell g d (dataZone z)) 0) x [] held) ∙ ap (λ (l : List (List ℕ)). getD l x []) (sym (device-sectors g t d (dataZone z) hd hy most)) ∙ e
       where
@@ -197,10 +204,10 @@ module _ (g : Geometry) (ok : Valid g) (wb : isValid g ≡ true) (s : System (on
         let z = zoneOf g a in
         let d = driveOf (g .drives) (g .unit) z (offsetOf g a) in
         let x = sectorOf (g .drives) (g .unit) (offsetOf g a) in
-        let rows = peekRows g (lengthsOf t) (badPointers g (isSet named) w) (isSet named) st a w in
+        let rows = peekRows g (lengthsOf t) (badPointers g (isSet named) w) (isSet named) st a (byRoles g w) in
         let p = numbered-accept (firstRefusal rows) (peek-numbered g named t (s .state) a) (sym (peek-number g named t fine (s .state) a) ∙ e) in
         let hz : z < g .zones = ltb-true z (g .zones) (not-not (ltb z (g .zones)) (accepted-row rows p 8)) in
-        let (here, held) = and-split (callPresent g (isSet named) st d) (ltb x (length (w d (dataZone z) .sectors))) (not-not (callPresent g (isSet named) st d && ltb x (length (w d (dataZone z) .sectors))) (accepted-row rows p 15)) in
+        let (here, held) = and-split (callPresent g (isSet named) st d) (ltb x (length (byRoles g w d (dataZone z) .sectors))) (not-not (callPresent g (isSet named) st d && ltb x (length (byRoles g w d (dataZone z) .sectors))) (accepted-row rows p 15)) in
         let there : d ≢ s .lost = present-not g (s .lost) d (sym (ap (λ (f : ℕ → Bool). f d) (drives-of-call g ok (lengthsOf t) (viewSystem g s) (o .holds) (isSet named) names m)) ∙ here) in
         let (h, b, c) = promised .peek-gives (isSet named) names m a (sym (peek-number-same a) ∙ e) in
         let n = eq-eqb (peekNumber g named (s .state) a t) 0 e in
@@ -218,8 +225,8 @@ module _ (g : Geometry) (ok : Valid g) (wb : isValid g ≡ true) where
         pointer-is = promised .pointer-is;
         look-holds = held-claim g ok wb s o;
         flush-accepted = λ named n m stop k e. promised .flush-accepted (isSet named) (names-seen g s named n) m stop k (call-agrees g ok s o flushes named stop (flush-refines g ok s o named n stop) .answer-same ∙ e);
-        reset-refused = λ named n m z stop k e. promised .reset-refused (isSet named) (names-seen g s named n) m z stop k (call-agrees g ok s o (resets z) named stop (reset-refines g ok s o named n m z stop) .answer-same ∙ e);
-        write-refused = λ named n m a count buffer stop k e. promised .write-refused (isSet named) (names-seen g s named n) m a count buffer stop k (call-agrees g ok s o (writes a count buffer) named stop (write-refines g ok s o named n m a count buffer stop) .answer-same ∙ e);
+        reset-refused = λ named n m z stop k e. promised .reset-refused (isSet named) (names-seen g s named n) m z stop k (call-agrees g ok s o (resets z) named stop (reset-refines g ok s o named n z stop) .answer-same ∙ e);
+        write-refused = λ named n m a count buffer stop k e. promised .write-refused (isSet named) (names-seen g s named n) m a count buffer stop k (call-agrees g ok s o (writes a count buffer) named stop (write-refines g ok s o named n a count buffer stop) .answer-same ∙ e);
         read-gives = λ named n m a count out e.
             let r = read-same g ok wb s o named n a count out in
             let (p, q) = promised .read-gives (isSet named) (names-seen g s named n) m a count out (rw r at e) in
@@ -232,9 +239,9 @@ module _ (g : Geometry) (ok : Valid g) (wb : isValid g ≡ true) where
 
   call-keeps : (s : System (onTables g)) (o : TablesOk g s) (c : Call) (named : List Bool) (stop : ℕ) → Duty g (onTables g) s (calls c named stop) → TablesOk g (next g (onTables g) s (calls c named stop))
   call-keeps s o mounts named stop (n, m, q) = call-event g ok s o mounts named stop (mount-refines g ok s o named n stop) (n, m, q)
-  call-keeps s o (writes a count buffer) named stop (n, m, q) = call-event g ok s o (writes a count buffer) named stop (write-refines g ok s o named n m a count buffer stop) (n, m, q)
+  call-keeps s o (writes a count buffer) named stop (n, m, q) = call-event g ok s o (writes a count buffer) named stop (write-refines g ok s o named n a count buffer stop) (n, m, q)
   call-keeps s o flushes named stop (n, m, q) = call-event g ok s o flushes named stop (flush-refines g ok s o named n stop) (n, m, q)
-  call-keeps s o (resets z) named stop (n, m, q) = call-event g ok s o (resets z) named stop (reset-refines g ok s o named n m z stop) (n, m, q)
+  call-keeps s o (resets z) named stop (n, m, q) = call-event g ok s o (resets z) named stop (reset-refines g ok s o named n z stop) (n, m, q)
   call-keeps s o (formats array) named stop (n, m, q) = call-event g ok s o (formats array) named stop (format-refines g ok s o named n array stop) (n, m, q)
 
   pub tables-event : (s : System (onTables g)) → TablesOk g s → (e : Event (onTables g)) → Duty g (onTables g) s e → TablesOk g (next g (onTables g) s e)
@@ -292,17 +299,25 @@ module _ (g : Geometry) (named : List Bool) (array : ℕ) (old : State) (stop : 
   unfolding namedDrives
   named-in d h q = and-split (ltb d (g .drives)) (isSet named d) (ap (λ (f : ℕ → Bool). f d) drives ∙ present-other g x d h q) .1
 
+  -- what it leaves, seen as a device
+  left-is : ltb stop (length (formatStores g (namedDrives g (isSet named)) x array)) ≡ false → deviceOf g (runStores g stop stores t) ≡ applyAll stores (deviceOf g t)
+  left-is e =
+      let e′ : ltb stop (length stores) ≡ false = rw (← drives) e in
+      run-refines g stop stores t sized stores-fit ∙ ap (λ (r : List Store). applyAll r (deviceOf g t)) (take-all stop stores (ltb-false stop (length stores) e′))
+
+  start-blank : ltb stop (length (formatStores g (namedDrives g (isSet named)) x array)) ≡ false → BlankSpares g x (deviceOf g (storingOn g 0 (formatStores g (namedDrives g (isSet named)) x array) (freshState g x) old stop t .tables))
+  start-blank e = rw (drives, left-is e) (format-blank g ok x array (deviceOf g t) (left-out g (isSet named)) small)
+
   pub start-ok : ltb stop (length (formatStores g (namedDrives g (isSet named)) x array)) ≡ false → TablesOk g (start g (onTables g) named (callResult (storingOn g 0 (formatStores g (namedDrives g (isSet named)) x array) (freshState g x) old stop t)))
   start-ok e =
-      let e′ : ltb stop (length stores) ≡ false = rw (← drives) e in
-      let d : deviceOf g (runStores g stop stores t) ≡ applyAll stores (deviceOf g t) = run-refines g stop stores t sized stores-fit ∙ ap (λ (r : List Store). applyAll r (deviceOf g t)) (take-all stop stores (ltb-false stop (length stores) e′)) in
+      let d = left-is e in
       let placed = fits-all-placed g stores (deviceOf g t) stores-fit in
       rw (e, drives)
       (record {
         sized = run-sized g stop stores t sized placed;
         order = λ k hk q. run-order g k stop stores t hk sized placed (order-passed g named (t .written) (t .durable) k (passed .pointers-fit) hk (named-in k hk q));
         records = fresh-records g ok x;
-        holds = rw d (ok-agrees g ready x (applyAll stores (deviceOf g t)) (formatState x) (viewState (freshState g x)) freshLedger (fresh-agrees g ok x) (own-marks g ready x (applyAll stores (deviceOf g t)) (formatState x) freshLedger (format-rests g ok x array (deviceOf g t) (left-out g (isSet named)) small)));
+        holds = rw d (ok-agrees g ready x (applyAll stores (deviceOf g t)) (formatState x) (viewState (freshState g x)) freshLedger (fresh-agrees g ok x) (own-rests neverEmptied g x (applyAll stores (deviceOf g t)) (formatState x) freshLedger (roled-format g ok x array (deviceOf g t) (left-out g (isSet named)) small)));
       })
 
 -- a finished format begins a history
@@ -315,6 +330,16 @@ tables-start g named array old stop t small e =
     let (p, q) = answer-finished g (formatVerdict g named t) (format-numbered-on g named t) ss (freshState g x) old stop t e in
     let passed = format-passed g named t p in
     (passed .valid-test, rw p (start-ok g named array old stop t small p q))
+
+-- with blank spares
+pub tables-start-blank : (g : Geometry) (named : List Bool) (array : ℕ) (old : State) (stop : ℕ) (t : Tables) → array < 256 ^ 8 → formatOn g named array old stop t .outcome .answer ≡ Finished
+    → BlankSpares g (leftOut g (isSet named)) (deviceOf g (formatOn g named array old stop t .tables))
+unfolding formatOn
+tables-start-blank g named array old stop t small e =
+    let x = leftOut g (isSet named) in
+    let ss = formatStores g (namedDrives g (isSet named)) x array in
+    let (p, q) = answer-finished g (formatVerdict g named t) (format-numbered-on g named t) ss (freshState g x) old stop t e in
+    rw p (start-blank g named array old stop t small p q)
 
 -- THE THEOREM
 pub tables-keep-the-promise : TablesClaim

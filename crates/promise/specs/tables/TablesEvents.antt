@@ -8,36 +8,33 @@ use native.Mathlib.Omega.{arith}
 use mathlib.Core.List.{List}
 use lib.ListN.{length, length-set}
 use lib.Dec.{ltb}
-use borrow.Author.Tests.{eq-eqb}
+use borrow.Author.Tests.{eq-eqb, ltb-true}
 use Rattle.tables.specs.declared.Geometry.{Geometry}
 use Rattle.tables.specs.meaning.Geometry.{Valid}
+use Rattle.tables.specs.laws.Basics.{not-not}
 use Rattle.tables.specs.meaning.Drives.{noDrive}
-use Rattle.tables.specs.laws.Drives.{presentBut}
 use Rattle.tables.specs.meaning.Device.{Device, Store}
 use Rattle.tables.specs.meaning.Tables.{Tables, deviceOf, TablesCut, TablesLoss, pointersBad}
-use Rattle.tables.specs.laws.Tables.{device-length}
 use Rattle.tables.specs.laws.Made.{WellSized, FitsAll}
 use Rattle.tables.specs.laws.TablesRefine.{cut-refines, loss-refines, kept-sized}
 use Rattle.tables.specs.laws.PointerOrder.{InOrder, order-passes, cut-order, loss-order}
 use Rattle.volume.specs.declared.State.{State}
-use Rattle.volume.specs.meaning.State.{StateView, callPresent}
+use Rattle.volume.specs.meaning.State.{StateView}
 use Rattle.volume.specs.meaning.Calls.{formatState}
-use Rattle.volume.specs.meaning.Refusals.{Verdict, accept, firstRefusal, zoneOf, writeRows, resetRows}
-use Rattle.volume.specs.meaning.Answers.{CallResult, StoringCall, lostIn, leftOut, sectorsIn}
+use Rattle.volume.specs.meaning.Refusals.{Verdict, accept, firstRefusal, TableLengths, zoneOf, writeRows, resetRows}
+use Rattle.volume.specs.meaning.Answers.{StoringCall, lostIn, leftOut, writeCall, resetCall}
 use Rattle.volume.specs.meaning.CallContracts.{blankRecord, freshRecord, viewState, isSet, verdictNumber, lengthsOf, Result, storingOn, withLost, flushOn, withReset, resetOn, writtenState, pointerOf, writeOn, freshState, formatOn}
-use Rattle.volume.specs.laws.Refusals.{Numbered}
+use Rattle.volume.specs.laws.Refusals.{accepted-row, Numbered}
 use Rattle.volume.specs.looking.DrivesLost.{fill-long}
-use Rattle.volume.specs.storing.Flushing.{flush-stores}
 use Rattle.volume.specs.storing.Formatting.{format-views}
 use Rattle.volume.specs.storing.Resetting.{reset-views}
 use Rattle.volume.specs.writing.Writing.{written-state}
-use Rattle.promise.specs.meaning.Claim.{Call, writes, flushes, resets, formats, ready, System, calls, cuts, loses, next, NamesAll, Duty, modeAfter, noteOf, replyTo}
+use Rattle.promise.specs.meaning.Claim.{Call, writes, flushes, resets, formats, System, calls, cuts, loses, next, NamesAll, Duty, modeAfter, noteOf, replyTo}
 use Rattle.promise.specs.meaning.Ledger.{noted}
 use Rattle.promise.specs.meaning.OnDevice.{callOf, onDevice, shownBy}
 use Rattle.promise.specs.meaning.OnTables.{resultOn, onTables, shownIn}
-use Rattle.promise.specs.invariant.Obligations.{WriteOk, ResetOk}
-use Rattle.promise.specs.device.AcceptedCalls.{write-ok, reset-ok}
-use Rattle.promise.specs.device.ClaimEvents.{OkIn, drives-of-call, event-keeps}
+use Rattle.promise.specs.device.Modes.{OkIn}
+use Rattle.promise.specs.device.ClaimEvents.{event-keeps}
 use Rattle.promise.specs.tables.CallRefines.{Agree, agree-refl, ok-agrees, Agrees, viewResult, storing-agrees, storing-sized, storing-order, storing-state}
 use Rattle.promise.specs.tables.CallVerdicts.{format-verdict, format-numbered, flush-verdict, flush-numbered, write-verdict, write-numbered, reset-verdict, reset-numbered}
 use Rattle.volume.specs.laws.CallStoresFit.{flush-stores-fit, reset-stores-fit, format-stores-fit, write-stores-fit}
@@ -126,6 +123,15 @@ fresh-agrees g ok x = record {
   condition-same = λ z h. sym (format-views g x z h .2);
 }
 
+-- ---- an accepted write or reset is of a zone of the volume
+write-zone : (g : Geometry) (l : TableLengths) (named : ℕ → Bool) (state : StateView) (a count : ℕ) (buffer : List ℕ) (v : Device) → firstRefusal (writeCall g l named state a count buffer v .refusals) ≡ accept → zoneOf g a < g .zones
+unfolding writeRows
+write-zone g l named state a count buffer v e = ltb-true (zoneOf g a) (g .zones) (not-not (ltb (zoneOf g a) (g .zones)) (accepted-row (writeCall g l named state a count buffer v .refusals) e 8))
+
+reset-zone : (g : Geometry) (l : TableLengths) (named : ℕ → Bool) (state : StateView) (z : ℕ) (v : Device) → firstRefusal (resetCall g l named state z v .refusals) ≡ accept → z < g .zones
+unfolding resetRows
+reset-zone g l named state z v e = ltb-true z (g .zones) (not-not (ltb z (g .zones)) (accepted-row (resetCall g l named state z v .refusals) e 8))
+
 -- ---- the calls but mount (MountRefines.antt)
 module _ (g : Geometry) (ok : Valid g) (s : System (onTables g)) (o : TablesOk g s) (named : List Bool) (n : NamesAll g (onTables g) s named) where
   abbrev t : Tables
@@ -140,21 +146,15 @@ module _ (g : Geometry) (ok : Valid g) (s : System (onTables g)) (o : TablesOk g
   abbrev fine : pointersBad g named (t .written) (t .durable) ≡ false
   fine = pointers-fine g s named n o
 
-  -- the drives that a call reaches
-  here : s .mode ≡ ready → callPresent g (isSet named) st ≡ presentBut g (s .lost)
-  here m = drives-of-call g ok (lengthsOf t) (viewSystem g s) (o .holds) (isSet named) (names-seen g s named n) m
-
   record-in : (z : ℕ) → z < g .zones → z < length (s .state .zones)
   record-in z h = omega (arith, h, ok .zones-most, o .records)
 
-  pub write-refines : s .mode ≡ ready → (a count : ℕ) (buffer : List ℕ) (stop : ℕ) → Refines g s (writes a count buffer) named stop
+  pub write-refines : (a count : ℕ) (buffer : List ℕ) (stop : ℕ) → Refines g s (writes a count buffer) named stop
   unfolding writeOn
-  write-refines m a count buffer stop =
+  write-refines a count buffer stop =
       let z = zoneOf g a in
-      let ss = sectorsIn g count buffer in
       let k = callOf g (lengthsOf t) (writes a count buffer) (isSet named) st w in
       let y = lostIn g (isSet named) st in
-      let accepted : firstRefusal (k .refusals) ≡ accept → WriteOk g (presentBut g (s .lost)) w st z ss = λ p. rw (here m) at (write-ok g (lengthsOf t) (isSet named) st a count buffer w p) in
       record {
         verdict = firstRefusal (k .refusals);
         stores = k .stores;
@@ -165,7 +165,7 @@ module _ (g : Geometry) (ok : Valid g) (s : System (onTables g)) (o : TablesOk g
         same = λ p. refl;
         fit = λ p. write-stores-fit g named (s .state) a count buffer t (write-verdict g named t fine (s .state) a count (length buffer) ∙ p);
         long = λ p. rw length-set (o .records);
-        agree = λ p e. agree-refl g (k .state) (viewState (writtenState (s .state) y z (pointerOf (s .state) z + count))) (sym (written-state g (s .state) y z count buffer (record-in z (accepted p .zone-ok))));
+        agree = λ p e. agree-refl g (k .state) (viewState (writtenState (s .state) y z (pointerOf (s .state) z + count))) (sym (written-state g (s .state) y z count buffer (record-in z (write-zone g (lengthsOf t) (isSet named) st a count buffer w p))));
       }
 
   pub flush-refines : (stop : ℕ) → Refines g s flushes named stop
@@ -185,12 +185,11 @@ module _ (g : Geometry) (ok : Valid g) (s : System (onTables g)) (o : TablesOk g
         agree = λ p e. agree-refl g (k .state) (k .state) refl;
       }
 
-  pub reset-refines : s .mode ≡ ready → (z stop : ℕ) → Refines g s (resets z) named stop
+  pub reset-refines : (z stop : ℕ) → Refines g s (resets z) named stop
   unfolding resetOn
-  reset-refines m z stop =
+  reset-refines z stop =
       let k = callOf g (lengthsOf t) (resets z) (isSet named) st w in
       let y = lostIn g (isSet named) st in
-      let accepted : firstRefusal (k .refusals) ≡ accept → ResetOk g (presentBut g (s .lost)) w st z = λ p. rw (here m) at (reset-ok g (lengthsOf t) (isSet named) st z w p) in
       record {
         verdict = firstRefusal (k .refusals);
         stores = k .stores;
@@ -201,7 +200,7 @@ module _ (g : Geometry) (ok : Valid g) (s : System (onTables g)) (o : TablesOk g
         same = λ p. refl;
         fit = λ p. reset-stores-fit g named (s .state) z t (reset-verdict g named t fine (s .state) z ∙ p);
         long = λ p. rw length-set (o .records);
-        agree = λ p e. agree-refl g (k .state) (viewState (withReset (s .state) z y)) (sym (reset-views (s .state) z y (record-in z (accepted p .zone-ok))));
+        agree = λ p e. agree-refl g (k .state) (viewState (withReset (s .state) z y)) (sym (reset-views (s .state) z y (record-in z (reset-zone g (lengthsOf t) (isSet named) st z w p))));
       }
 
   pub format-refines : (array stop : ℕ) → Refines g s (formats array) named stop

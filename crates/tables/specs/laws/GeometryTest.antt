@@ -34,6 +34,7 @@ pub record Ranged (g : Geometry) : Type 0 where
   pub zones-low : 1 ≤ g .zones
   pub zones-high : g .zones ≤ 16
   pub capacity-high : g .capacity ≤ 65536
+  pub logs-first : g .logs ≡ 0
 
 pub ranged : (g : Geometry) → all (ranges g) ≡ true → Ranged g
 ranged g h =
@@ -47,6 +48,7 @@ ranged g h =
       zones-low = leb-true _ _ (at 5);
       zones-high = leb-true _ _ (at 6);
       capacity-high = leb-true _ _ (at 7);
+      logs-first = eqb-true (g .logs) 0 (at 8);
     }
 
 -- ---- sector sizes
@@ -116,6 +118,11 @@ valid-if-test g h =
       general-fits = leb-true _ _ (at 3);
     }
 
+-- where the logs lie is not handed in
+pub first-if-test : (g : Geometry) → isValid g ≡ true → g .logs ≡ 0
+unfolding isValid
+first-if-test g h = ranged g (and-split (all (ranges g)) (all (fits g)) h .0) .logs-first
+
 power-size : (k : ℕ) → 64 ≤ 2 ^ k → 2 ^ k ≤ 4096 → k ≤ 16 → sectorSize (2 ^ k) ≡ true
 power-size zero l m h = absurd (omega arith)
 power-size (suc zero) l m h = absurd (omega arith)
@@ -143,12 +150,12 @@ is-size b e l m = ap sectorSize e ∙ power-size (log2 b) (omega arith) (omega a
 both : (a b : Bool) → a ≡ true → b ≡ true → a && b ≡ true
 both a b h k = rw (h, k) refl
 
-pub test-if-valid : (g : Geometry) → Valid g → isValid g ≡ true
+pub test-if-valid : (g : Geometry) → Valid g → g .logs ≡ 0 → isValid g ≡ true
 unfolding isValid
-test-if-valid g v =
+test-if-valid g v first =
     let m : g .capacity % g .unit ≡ 0 = rw (v .whole-units) (mul-mod-left (v .units) (g .unit)) in
     both (all (ranges g)) (all (fits g))
-    (rw (le-leb 3 (g .drives) (v .drives-least), le-leb (g .drives) 8 (v .drives-most), is-size (g .sector) (v .sector) (v .sector-least) (v .sector-most), le-leb 1 (g .unit) (v .unit-least), le-leb (g .unit) 16 (v .unit-most), le-leb 1 (g .zones) (v .zones-least), le-leb (g .zones) 16 (v .zones-most), le-leb (g .capacity) 65536 (v .zone-most)) refl)
+    (rw (le-leb 3 (g .drives) (v .drives-least), le-leb (g .drives) 8 (v .drives-most), is-size (g .sector) (v .sector) (v .sector-least) (v .sector-most), le-leb 1 (g .unit) (v .unit-least), le-leb (g .unit) 16 (v .unit-most), le-leb 1 (g .zones) (v .zones-least), le-leb (g .zones) 16 (v .zones-most), le-leb (g .capacity) 65536 (v .zone-most), eq-eqb (g .logs) 0 first) refl)
     (rw (le-leb (32 + 8 * g .zones) (g .sector) (v .counters-fit), eq-eqb (g .capacity % g .unit) 0 m, le-leb (g .zones * (1 + g .unit) + 2 * g .unit + 1) (g .capacity) (v .logs-fit), le-leb (g .zones + 6) (g .capacity) (v .general-fits)) refl)
 
 pub size-last : (g : Geometry) → Valid g → g .sector ≢ 64 → g .sector ≢ 128 → g .sector ≢ 256 → g .sector ≢ 512 → g .sector ≢ 1024 → g .sector ≢ 2048 → g .sector ≡ 4096

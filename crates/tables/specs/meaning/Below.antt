@@ -1,4 +1,4 @@
--- Folds over the numbers below n: some, all, how many, the greatest; lists made for each of them. Every loop of the code counts upwards, so each
+-- Folds over the numbers below n: some, all, how many, the sum, the greatest; lists made for each of them. Every loop of the code counts upwards, so each
 -- fold takes its last number off: the loop's invariant is the definition at the loop's counter.
 use mathlib.Core.Bool.{Bool, true, false, _&&_, _||_}
 use Prim.Native.Nat.{ℕ, zero, suc, _+_}
@@ -15,6 +15,11 @@ anyBelow p (suc n) = anyBelow p n || p n
 abbrev pub countBelow : (ℕ → Bool) → ℕ → ℕ
 countBelow p zero = zero
 countBelow p (suc n) = countBelow p n + pick (p n) 1 0
+
+-- ---- the sum of f 0 .. f (n - 1)
+abbrev pub sumBelow : (ℕ → ℕ) → ℕ → ℕ
+sumBelow f zero = zero
+sumBelow f (suc n) = sumBelow f n + f n
 
 -- ---- the greatest of f 0 .. f (n - 1), 0 if there is none
 abbrev pub larger : ℕ → ℕ → ℕ

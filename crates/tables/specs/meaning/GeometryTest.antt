@@ -22,7 +22,8 @@ ranges g =
     ∷ sectorSize (g .sector)
     ∷ leb 1 (g .unit) ∷ leb (g .unit) 16
     ∷ leb 1 (g .zones) ∷ leb (g .zones) 16
-    ∷ leb (g .capacity) 65536 ∷ []
+    ∷ leb (g .capacity) 65536
+    ∷ eqb (g .logs) 0 ∷ []  -- where the logs lie is found on the drives, not handed in
 
 -- the fields fit each other
 abbrev pub fits : Geometry → List Bool

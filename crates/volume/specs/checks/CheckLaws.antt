@@ -6,7 +6,7 @@ use Prim.Native.Nat.{ℕ, zero, suc, _+_, _-_, _≤_, _<_}
 use native.Mathlib.Decide.{decLt}
 use native.Mathlib.Omega.{arith}
 use mathlib.Core.List.{List, [], _∷_, _++_}
-use lib.ListN.{length, getD, set, replicate, List·getD-append}
+use lib.ListN.{length, getD, replicate, List·getD-append}
 use lib.Seq.{getD-append-add}
 use lib.Dec.{ltb, eqb}
 use borrow.Author.Tests.{lt-ltb, le-ltb}
@@ -19,7 +19,7 @@ use Rattle.tables.specs.meaning.Drives.{findBelow}
 use Rattle.volume.specs.meaning.Answers.{lostIn}
 use Rattle.tables.specs.meaning.Geometry.{Valid}
 use Rattle.tables.specs.meaning.GeometryTest.{isValid}
-use Rattle.tables.specs.laws.GeometryTest.{valid-if-test}
+use Rattle.tables.specs.laws.GeometryTest.{valid-if-test, first-if-test}
 use Rattle.tables.specs.meaning.Tables.{lengthsFit, bufferFits, pointersBad}
 use Rattle.volume.specs.declared.State.{State}
 use Rattle.volume.specs.meaning.State.{callPresent}
@@ -85,7 +85,7 @@ unfolding lostIn
 left-out-is g named s = ap (λ (p : ℕ → Bool). findBelow (λ d. not (p d)) (g .drives)) (present-is g named s)
 
 -- ---- refusals 1 to 4; a call without a buffer has count 0 and no bytes
-abbrev pub openingRows : Geometry → List Bool → Bool → ℕ → ℕ → ℕ → ℕ → List ℕ → List ℕ → List (ℕ × Bool)
+abbrev openingRows : Geometry → List Bool → Bool → ℕ → ℕ → ℕ → ℕ → List ℕ → List ℕ → List (ℕ × Bool)
 openingRows g named within lost count bytes sectors ws ds =
     (1, not within)
     ∷ (2, not (lengthsFit g sectors (length ws) (length ds) && bufferFits g count bytes))
@@ -115,6 +115,7 @@ tested g s within e = record { valid = λ h. valid-if-test g (and-split (isValid
 -- what passing them gives
 pub record Opened (g : Geometry) (named : List Bool) (s : State) (count bytes sectors : ℕ) (ws ds : List ℕ) : Type 0 where
   pub valid : Valid g
+  pub logs-first : g .logs ≡ 0
   pub within : stateWithin g (viewState s) ≡ true
   pub lengths : lengthsFit g sectors (length ws) (length ds) ≡ true
   pub buffer : bufferFits g count bytes ≡ true
@@ -134,7 +135,7 @@ opened g named s count bytes sectors ws ds h =
     let q = four (isValid g && stateWithin g (viewState s)) (lengthsFit g sectors (length ws) (length ds) && bufferFits g count bytes) (pointersBad g named ws ds) (ltb 1 (countBelow (λ d. not (isSet (presentList g named (s .lost)) d)) (g .drives))) h in
     let (v, w) = and-split (isValid g) (stateWithin g (viewState s)) (q .0) in
     let (l, b) = and-split (lengthsFit g sectors (length ws) (length ds)) (bufferFits g count bytes) (q .1) in
-    record { valid = valid-if-test g v; within = w; lengths = l; buffer = b; pointers = q .2; drives = q .3 }
+    record { valid = valid-if-test g v; logs-first = first-if-test g v; within = w; lengths = l; buffer = b; pointers = q .2; drives = q .3 }
 
 -- the number, case by case
 module _ (g : Geometry) (named : List Bool) (within : Bool) (lost count bytes sectors : ℕ) (ws ds : List ℕ) where

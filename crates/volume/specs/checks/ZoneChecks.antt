@@ -2,7 +2,7 @@
 -- they are what the rules say of the device that the tables stand for.
 use mathlib.Core.Path.{_≡_, refl, ap}
 use mathlib.Core.Bool.{Bool, true, false, _&&_, _||_, not}
-use Prim.Native.Nat.{ℕ, _+_, _-_, _*_, _≤_, _<_}
+use Prim.Native.Nat.{ℕ, _-_, _*_, _≤_, _<_}
 use native.Mathlib.Omega.{arith}
 use mathlib.Core.List.{List}
 use lib.ListN.{length, getD}
@@ -16,13 +16,13 @@ use Rattle.tables.specs.laws.Below.{any-below-cong, any-below-false, all-below-
 use Rattle.tables.specs.meaning.Geometry.{physicalZones, zoneSectors, stripeSectors, dataZone}
 use Rattle.tables.specs.meaning.Placement.{needed, stripeOf}
 use Rattle.tables.specs.meaning.Tables.{Tables, tablesOf, cell, deviceOf, pointersBad}
-use Rattle.tables.specs.laws.Tables.{device-pointer, device-length}
+use Rattle.tables.specs.laws.Tables.{device-pointer}
 use Rattle.tables.specs.laws.TablesFrame.{pointers-good}
 use Rattle.volume.specs.declared.Condition.{Condition}
 use Rattle.volume.specs.declared.Condition.the-variants.{Empty, Open, Sealed, Worn}
 use Rattle.volume.specs.declared.State.{State}
 use Rattle.volume.specs.meaning.State.{pointerIn, StateView, callPresent}
-use Rattle.volume.specs.meaning.Refusals.{staleIn, stale, unusedBelow, stateWithin}
+use Rattle.volume.specs.meaning.Refusals.{staleIn, stale, stateWithin}
 use Rattle.volume.specs.meaning.CallContracts.{viewState, recordAt, isSet}
 
 -- refusal 7 of a zone that there is
@@ -65,15 +65,8 @@ and-cong : (a b c : Bool) → (a ≡ true → b ≡ c) → a && b ≡ a && c
 and-cong true b c h = h refl
 and-cong false b c h = refl
 
--- a pointer past its zone's end has nothing unused either way
-pub unused-is : (g : Geometry) (present : ℕ → Bool) (t : Tables) (log n : ℕ) → log < physicalZones g → unusedBelow g present (deviceOf g t) log n ≡ unusedOn g present (t .written) log n
-unfolding unusedBelow unusedOn
-unused-is g present t log n hl = any-below-cong (λ d. present d && ltb (g .capacity - length (deviceOf g t d log .sectors)) n) (λ d. present d && ltb (g .capacity - getD (t .written) (cell g d log) 0) n) (g .drives) (λ d h.
-    let e : g .capacity - length (deviceOf g t d log .sectors) ≡ g .capacity - getD (t .written) (cell g d log) 0 = omega (arith, device-length g t d log h hl) in
-    ap (λ (m : ℕ). present d && ltb m n) e)
-
 -- where the pointers of present drives are within their zones
-pub stale-is : (g : Geometry) (present : ℕ → Bool) (t : Tables) (state : StateView) (z : ℕ) → z < g .zones
+stale-is : (g : Geometry) (present : ℕ → Bool) (t : Tables) (state : StateView) (z : ℕ) → z < g .zones
     → ((d : ℕ) → d < g .drives → present d ≡ true → getD (t .written) (cell g d (dataZone z)) 0 ≤ g .capacity)
     → stale g present (deviceOf g t) state z ≡ staleOn g present (t .written) (state .condition z) z
 unfolding stale staleOn
@@ -84,7 +77,7 @@ stale-is g present t state z hz good = rw (lt-ltb z (g .zones) hz) (any-below-co
     ap (λ (m : ℕ). staleIn (state .condition z) m (needed (g .drives) (g .unit) z (pointerIn (state .condition z)) d)) (device-pointer g t d (dataZone z) h (omega arith) (good d h p)))))
 
 -- a drive of the call is named, so refusal 3 has looked at its pointers
-pub present-named : (g : Geometry) (named : List Bool) (s : State) (d : ℕ) → callPresent g (isSet named) (viewState s) d ≡ true → isSet named d ≡ true
+present-named : (g : Geometry) (named : List Bool) (s : State) (d : ℕ) → callPresent g (isSet named) (viewState s) d ≡ true → isSet named d ≡ true
 unfolding callPresent
 present-named g named s d h = and-split (isSet named d) (not (eqb d (s .lost))) (and-split (ltb d (g .drives)) (isSet named d && not (eqb d (s .lost))) h .1) .0
 

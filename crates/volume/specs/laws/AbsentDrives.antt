@@ -1,11 +1,11 @@
 -- "AN ABSENT DRIVE'S MEMORY IS NEITHER READ NOR CHANGED", on any input: two inputs that agree but for the memory of drives that are not named get the same answer,
 -- state and buffer from a call, and leave memory that agrees so; and that of a drive not named is afterwards as it was. (Mount: MountAbsentDrives.)
-use mathlib.Core.Path.{_≡_, refl, sym, ap, fun-ext}
-use mathlib.Core.Bool.{Bool, true, false}
+use mathlib.Core.Path.{_≡_, refl, sym, ap, ap₂, _∙_, fun-ext}
+use mathlib.Core.Bool.{Bool, true, false, _&&_, not}
 use Prim.Native.Nat.{ℕ, _+_, _-_, _<_}
 use native.Mathlib.Decide.{ℕ-discrete}
 use native.Mathlib.Omega.{arith}
-use mathlib.Core.List.{List, [], _∷_}
+use mathlib.Core.List.{List, [], _∷_, _++_, map}
 use lib.ListN.{length}
 use lib.Dec.{ltb, eqb}
 use borrow.Author.Tests.{eq-eqb, ne-eqb, ltb-true}
@@ -19,23 +19,29 @@ use Rattle.tables.specs.meaning.Phases.{onPresent, flushAll}
 use Rattle.tables.specs.laws.Phases.{each-on-present}
 use Rattle.tables.specs.meaning.Tables.{Tables, deviceOf, pointersBad}
 use Rattle.tables.specs.laws.Made.{WellSized, AllPlaced}
-use Rattle.tables.specs.laws.StoresFit.{AllOn, on-present-on, fits-all-placed}
+use Rattle.tables.specs.meaning.Through.{carry}
+use Rattle.tables.specs.laws.Through.{carry-drive}
+use Rattle.tables.specs.laws.StoresFit.{AllOn, on-present-on, on-append, fits-all-placed}
 use Rattle.tables.specs.laws.TablesFrame.{SameDrive, same-drive-refl, run-frame}
 use Rattle.tables.specs.laws.NamedDrives.{AgreeOn, sector-same, device-agrees, pointers-agree, run-agrees}
 use Rattle.volume.specs.declared.State.{State}
-use Rattle.logs.specs.meaning.Entry.{generalZone}
-use Rattle.volume.specs.meaning.State.{callPresent}
+use Rattle.volume.specs.meaning.State.{StateView, callPresent, pointerIn}
 use Rattle.volume.specs.meaning.Content.{at}
-use Rattle.volume.specs.meaning.Rules.{valueAt, zoneView, viewOf}
+use Rattle.volume.specs.meaning.Rules.{valueAt, zoneView, viewOf, generalHeads, parityEntries}
 use Rattle.volume.specs.meaning.Refusals.{zoneOf, offsetOf, formatRows, flushRows, resetRows, writeRows, readRows, peekRows}
 use Rattle.volume.specs.meaning.Calls.{formatPhases, formatStores, flushStores, resetPhases, resetStores, writeWith, zoneContent, writeStores}
 use Rattle.volume.specs.meaning.Answers.{lostIn, leftOut, namedDrives, sectorsIn, placeOf}
-use Rattle.volume.specs.meaning.CallContracts.{viewState, isSet, recordAt, pointerOf, lengthsOf, verdictNumber, Result, storingOn, withLost, withReset, writtenState, freshState, formatVerdict, formatOn, flushVerdict, flushOn, resetVerdict, resetOn, writeVerdict, writeOn, readNumber, readOn, valuesOn, peekNumber, peekOn, partAt}
-use Rattle.volume.specs.checks.ZoneChecks.{present-named}
+use Rattle.volume.specs.meaning.CallContracts.{viewState, isSet, rolesOf, seenIn, recordAt, pointerOf, verdictNumber, Result, storingOn, withLost, withReset, writtenState, freshState, formatVerdict, formatOn, flushVerdict, flushOn, resetVerdict, resetOn, writeVerdict, writeOn, readNumber, readOn, valuesOn, peekNumber, peekOn, partAt}
 use Rattle.volume.specs.laws.PassedRows.{format-passed, format-number-accepts, flush-passed, flush-number-accepts, reset-passed, reset-number-accepts, write-passed, write-number-accepts, peek-passed}
 use Rattle.volume.specs.laws.CallStoresFit.{zone-short, call-present-below, format-stores-fit, flush-stores-fit, reset-stores-fit, write-stores-fit}
 use Rattle.volume.specs.laws.Depends.{SameOn, value-depends}
-use Rattle.volume.specs.laws.RefusalsDepend.{stale-depends, unused-depends, write-full-depends, gone-depends, gone-before-depends, not-held-depends}
+use Rattle.volume.specs.laws.RefusalsDepend.{stale-depends, emptied-depends, emptied-write-depends, reset-full-depends, write-full-depends, gone-entry-depends, gone-depends, gone-before-depends, not-held-depends, by-state-depends}
+use Rattle.volume.specs.meaning.Roles.{roles, byRoles, placedBy, rolesAfter}
+use Rattle.volume.specs.meaning.Emptying.{byState, newGeneral, newParity, resetLimit, emptiedFor, emptiedForWrite, emptyings, emptyGeneral, emptyParity, writeAll, resetAll}
+use Rattle.volume.specs.laws.RolesDepend.{roles-depend, by-roles-depend}
+use Rattle.volume.specs.laws.EmptyingDepends.{carry-same, placed-depends, empty-general-depends, empty-parity-depends}
+use Rattle.volume.specs.laws.EmptyingFits.{emptyings-on}
+use Rattle.volume.specs.laws.LogRoom.{emptied-here, emptied-write-here, data-by-roles}
 
 -- ---- WHAT IS PROVED OF EACH STORING CALL
 pub record LeavesAbsent (g : Geometry) (named : List Bool) (call : Tables → Result) : Type 0 where
@@ -71,6 +77,25 @@ module _ (g : Geometry) (named : List Bool) (old : State) (count : ℕ) where
       go (yes z) = let q = o z in rw (eq-eqb n 0 z) (run-frame g (isSet named) count ss t e (q .sized) (q .placed) (q .named-only) absent)
       go (no z) = rw (ne-eqb n 0 z) (same-drive-refl g e t)
 
+-- a call's present drives are named
+pub present-named : (g : Geometry) (named : List Bool) (s : State) (d : ℕ) → callPresent g (isSet named) (viewState s) d ≡ true → isSet named d ≡ true
+unfolding callPresent
+present-named g named s d h = and-split (isSet named d) (not (eqb d (s .lost))) (and-split (ltb d (g .drives)) (isSet named d && not (eqb d (s .lost))) h .1) .0
+
+-- carried stores are on the drives that they were on
+pub carry-on : (a : ℕ → Bool) (ρ : ℕ → ℕ → ℕ) (xs : List Store) → AllOn a xs → AllOn a (map (carry ρ) xs)
+carry-on a ρ [] p = tt
+carry-on a ρ (x ∷ xs) p = (rw (carry-drive ρ x) (p .0), carry-on a ρ xs (p .1))
+
+-- a call's own stores are on present drives
+own-reset-on : (g : Geometry) (present : ℕ → Bool) (state : StateView) (z : ℕ) → AllOn present (resetStores g present state z)
+unfolding resetStores
+own-reset-on g present state z = rw (each-on-present present (resetPhases g state z)) (on-present-on present (concat (resetPhases g state z)))
+
+own-write-on : (g : Geometry) (present : ℕ → Bool) (w : Device) (state : StateView) (z : ℕ) (ss : List (List ℕ)) → AllOn present (writeStores g present w state z ss)
+unfolding writeStores
+own-write-on g present w state z ss = on-present-on present (writeWith g z (state .generation z) (zoneContent g present w state z ss) (pointerIn (state .condition z)) (length ss))
+
 -- ---- two inputs that agree
 module _ (g : Geometry) (named : List Bool) (t u : Tables) (same : AgreeOn g (isSet named) t u) where
   -- their devices agree on any drives that are named
@@ -96,8 +121,18 @@ module _ (g : Geometry) (named : List Bool) (t u : Tables) (same : AgreeOn g (is
     abbrev present : ℕ → Bool
     present = callPresent g (isSet named) (viewState s)
 
-    abbrev drives-same : SameOn present v w
-    drives-same = devices-same present (present-named g named s)
+    devices-alike : SameOn present v w
+    devices-alike = devices-same present (present-named g named s)
+
+    -- by their roles too
+    abbrev seen-same : SameOn present (byRoles g v) (byRoles g w)
+    seen-same = by-roles-depend g present v w devices-alike
+
+    abbrev roles-same : (d : ℕ) → present d ≡ true → roles g v d ≡ roles g w d
+    roles-same = roles-depend g present v w devices-alike
+
+    force-same : byState g present (byRoles g v) (viewState s) ≡ byState g present (byRoles g w) (viewState s)
+    force-same = by-state-depends g present (byRoles g v) (byRoles g w) seen-same (viewState s)
 
     flush-same : flushVerdict g named s t ≡ flushVerdict g named s u
     unfolding flushVerdict flushRows
@@ -106,7 +141,14 @@ module _ (g : Geometry) (named : List Bool) (t u : Tables) (same : AgreeOn g (is
     reset-same : (z : ℕ) → resetVerdict g named s z t ≡ resetVerdict g named s z u
     unfolding resetVerdict resetRows
     reset-same z =
-        rw (same .sectors-long, same .written-long, same .durable-long, pointers-same, stale-depends g present v w drives-same (viewState s) z, unused-depends g present v w drives-same generalZone (g .zones + 4)) refl
+        rw (
+          same .sectors-long,
+          same .written-long,
+          same .durable-long,
+          pointers-same,
+          stale-depends g present (byRoles g v) (byRoles g w) seen-same (viewState s) z,
+          reset-full-depends g present (byRoles g v) (byRoles g w) seen-same (roles g v) (roles g w) roles-same (byState g present (byRoles g v) (viewState s)) (byState g present (byRoles g w) (viewState s)) force-same,
+        ) refl
 
     write-same : (a k bytes : ℕ) → writeVerdict g named s a k bytes t ≡ writeVerdict g named s a k bytes u
     unfolding writeVerdict writeRows
@@ -117,9 +159,10 @@ module _ (g : Geometry) (named : List Bool) (t u : Tables) (same : AgreeOn g (is
           same .written-long,
           same .durable-long,
           pointers-same,
-          stale-depends g present v w drives-same (viewState s) z,
-          write-full-depends g present v w drives-same z (pointerOf s z + k),
-          gone-before-depends g present v w drives-same z (recordAt s z .generation) (pointerOf s z),
+          stale-depends g present (byRoles g v) (byRoles g w) seen-same (viewState s) z,
+          write-full-depends g present (byRoles g v) (byRoles g w) seen-same (roles g v) (roles g w) roles-same (byState g present (byRoles g v) (viewState s)) (byState g present (byRoles g w) (viewState s)) force-same z (pointerOf s z + k),
+          gone-entry-depends g present (byRoles g v) (byRoles g w) seen-same (roles g v) (roles g w) roles-same (byState g present (byRoles g v) (viewState s)) (byState g present (byRoles g w) (viewState s)) force-same z (pointerOf s z + k),
+          gone-before-depends g present (byRoles g v) (byRoles g w) seen-same z (recordAt s z .generation) (pointerOf s z),
         ) refl
 
     read-same : (a count bytes : ℕ) → readNumber g named s a count bytes t ≡ readNumber g named s a count bytes u
@@ -131,8 +174,8 @@ module _ (g : Geometry) (named : List Bool) (t u : Tables) (same : AgreeOn g (is
           same .written-long,
           same .durable-long,
           pointers-same,
-          stale-depends g present v w drives-same (viewState s) z,
-          gone-depends g present v w drives-same z (recordAt s z .generation) (offsetOf g a) count,
+          stale-depends g present (byRoles g v) (byRoles g w) seen-same (viewState s) z,
+          gone-depends g present (byRoles g v) (byRoles g w) seen-same z (recordAt s z .generation) (offsetOf g a) count,
         ) refl
 
     peek-same : (a : ℕ) → peekNumber g named s a t ≡ peekNumber g named s a u
@@ -144,18 +187,50 @@ module _ (g : Geometry) (named : List Bool) (t u : Tables) (same : AgreeOn g (is
           same .written-long,
           same .durable-long,
           pointers-same,
-          stale-depends g present v w drives-same (viewState s) z,
-          not-held-depends g present v w drives-same z (recordAt s z .generation) (offsetOf g a),
+          stale-depends g present (byRoles g v) (byRoles g w) seen-same (viewState s) z,
+          not-held-depends g present (byRoles g v) (byRoles g w) seen-same z (recordAt s z .generation) (offsetOf g a),
         ) refl
 
-    -- ---- a write's stores
-    content-same : (z : ℕ) (ss : List (List ℕ)) → zoneContent g present v (viewState s) z ss ≡ zoneContent g present w (viewState s) z ss
-    unfolding zoneContent
-    content-same z ss i a = pick (ltb a (pointerOf s z)) (value-depends g present v w drives-same z (recordAt s z .generation) a i) (at ss (a - pointerOf s z))
+    -- ---- a reset's stores
+    abbrev emptiedByReset : Device → ℕ → Bool
+    emptiedByReset u = emptiedFor g present false (roles g u) (byRoles g u) (resetLimit g)
 
-    write-stores-same : (z : ℕ) (ss : List (List ℕ)) → writeStores g present v (viewState s) z ss ≡ writeStores g present w (viewState s) z ss
+    reset-stores-same : (z : ℕ) → resetAll g present (roles g v) (byRoles g v) (viewState s) z ≡ resetAll g present (roles g w) (byRoles g w) (viewState s) z
+    unfolding resetAll
+    reset-stores-same z =
+        let which = emptied-depends g present (byRoles g v) (byRoles g w) seen-same (roles g v) (roles g w) roles-same false (resetLimit g) in
+        let there = emptied-here g present (roles g v) (byRoles g v) false (resetLimit g) in
+        let own = resetStores g present (viewState s) z in
+        ap₂ (λ (xs ys : List Store). xs ++ ys)
+        (empty-general-depends g present (roles g v) (roles g w) roles-same (emptiedByReset v) (emptiedByReset w) which there (byRoles g v) (byRoles g w) seen-same (byState g present (byRoles g v) (viewState s)) (byState g present (byRoles g w) (viewState s)) force-same)
+        (carry-same present (placedBy (rolesAfter false (emptiedByReset v) (roles g v))) (placedBy (rolesAfter false (emptiedByReset w) (roles g w))) own
+        (placed-depends g present (roles g v) (roles g w) roles-same (emptiedByReset v) (emptiedByReset w) which there false) (own-reset-on g present (viewState s) z))
+
+    -- ---- a write's stores
+    content-same : (z : ℕ) (ss : List (List ℕ)) → zoneContent g present (byRoles g v) (viewState s) z ss ≡ zoneContent g present (byRoles g w) (viewState s) z ss
+    unfolding zoneContent
+    content-same z ss i a = pick (ltb a (pointerOf s z)) (value-depends g present (byRoles g v) (byRoles g w) seen-same z (recordAt s z .generation) a i) (at ss (a - pointerOf s z))
+
+    own-write-same : (z : ℕ) (ss : List (List ℕ)) → writeStores g present (byRoles g v) (viewState s) z ss ≡ writeStores g present (byRoles g w) (viewState s) z ss
     unfolding writeStores
-    write-stores-same z ss = ap (λ (S : ℕ → List ℕ). onPresent present (writeWith g z (recordAt s z .generation) S (pointerOf s z) (length ss))) (content-same z ss)
+    own-write-same z ss = ap (λ (S : ℕ → List ℕ). onPresent present (writeWith g z (recordAt s z .generation) S (pointerOf s z) (length ss))) (content-same z ss)
+
+    abbrev emptiedByWrite : ℕ → ℕ → Device → ℕ → Bool
+    emptiedByWrite z end u = emptiedForWrite g present (roles g u) (byRoles g u) z end
+
+    write-stores-same : (z : ℕ) (ss : List (List ℕ)) → writeAll g present (roles g v) (byRoles g v) (viewState s) z ss ≡ writeAll g present (roles g w) (byRoles g w) (viewState s) z ss
+    unfolding writeAll
+    write-stores-same z ss =
+        let end = pointerOf s z + length ss in
+        let which = emptied-write-depends g present (byRoles g v) (byRoles g w) seen-same (roles g v) (roles g w) roles-same z end in
+        let there = emptied-write-here g present (roles g v) (byRoles g v) z end in
+        let ρ = placedBy (rolesAfter true (emptiedByWrite z end v) (roles g v)) in
+        let τ = placedBy (rolesAfter true (emptiedByWrite z end w) (roles g w)) in
+        let own = writeStores g present (byRoles g v) (viewState s) z ss in
+        ap₂ (λ (xs ys : List Store). xs ++ ys)
+        (empty-parity-depends g present (roles g v) (roles g w) roles-same (emptiedByWrite z end v) (emptiedByWrite z end w) which there (byRoles g v) (byRoles g w) seen-same (byState g present (byRoles g v) (viewState s)) (byState g present (byRoles g w) (viewState s)) force-same)
+        (carry-same present ρ τ own (placed-depends g present (roles g v) (roles g w) roles-same (emptiedByWrite z end v) (emptiedByWrite z end w) which there true) (own-write-on g present (byRoles g v) (viewState s) z ss)
+        ∙ ap (λ (xs : List Store). map (carry τ) xs) (own-write-same z ss))
 
 -- ==== THE CALLS THAT STORE
 -- their stores are on named drives
@@ -185,26 +260,45 @@ module _ (g : Geometry) (named : List Bool) where
           named-only = on-fewer drives (isSet named) (flushStores g drives) (present-named g named s) (unfold flushStores in on-present-on drives (flushAll (g .drives)));
         }
 
-    reset-on : (z : ℕ) (t : Tables) → verdictNumber (resetVerdict g named s z t) ≡ 0 → OnNamed g named (resetStores g drives (viewState s) z) t
+    reset-all-on : (z : ℕ) (t : Tables) → AllOn drives (resetAll g drives (rolesOf g t) (seenIn g t) (viewState s) z)
+    unfolding resetAll emptyGeneral
+    reset-all-on z t =
+        let emptied = emptiedFor g drives false (rolesOf g t) (seenIn g t) (resetLimit g) in
+        let new : ℕ → List (List ℕ) = λ d. newGeneral g (byState g drives (seenIn g t) (viewState s)) (rolesOf g t d) d (generalHeads g (seenIn g t) d) in
+        let ρ = placedBy (rolesAfter false emptied (rolesOf g t)) in
+        on-append drives (emptyings g drives false (rolesOf g t) emptied new) (map (carry ρ) (resetStores g drives (viewState s) z)) (emptyings-on g drives false (rolesOf g t) emptied new (emptied-here g drives (rolesOf g t) (seenIn g t) false (resetLimit g)))
+        (carry-on drives ρ (resetStores g drives (viewState s) z) (own-reset-on g drives (viewState s) z))
+
+    reset-on : (z : ℕ) (t : Tables) → verdictNumber (resetVerdict g named s z t) ≡ 0 → OnNamed g named (resetAll g drives (rolesOf g t) (seenIn g t) (viewState s) z) t
     reset-on z t e =
         let p = reset-number-accepts g named t s z e in
+        let stores = resetAll g drives (rolesOf g t) (seenIn g t) (viewState s) z in
         record {
           sized = reset-passed g named s z t p .opening .tables .sized;
-          placed = fits-all-placed g (resetStores g drives (viewState s) z) (deviceOf g t) (reset-stores-fit g named s z t p);
-          named-only = on-fewer drives (isSet named) (resetStores g drives (viewState s) z) (present-named g named s)
-              (unfold resetStores in rw (each-on-present drives (resetPhases g (viewState s) z)) (on-present-on drives (concat (resetPhases g (viewState s) z))));
+          placed = fits-all-placed g stores (deviceOf g t) (reset-stores-fit g named s z t p);
+          named-only = on-fewer drives (isSet named) stores (present-named g named s) (reset-all-on z t);
         }
 
-    write-on : (a k : ℕ) (buffer : List ℕ) (t : Tables) → verdictNumber (writeVerdict g named s a k (length buffer) t) ≡ 0 → OnNamed g named (writeStores g drives (deviceOf g t) (viewState s) (zoneOf g a) (sectorsIn g k buffer)) t
+    write-all-on : (z : ℕ) (ss : List (List ℕ)) (t : Tables) → AllOn drives (writeAll g drives (rolesOf g t) (seenIn g t) (viewState s) z ss)
+    unfolding writeAll emptyParity
+    write-all-on z ss t =
+        let end = pointerOf s z + length ss in
+        let emptied = emptiedForWrite g drives (rolesOf g t) (seenIn g t) z end in
+        let new : ℕ → List (List ℕ) = λ d. newParity g (byState g drives (seenIn g t) (viewState s)) (rolesOf g t d) d (parityEntries g (seenIn g t) d) in
+        let ρ = placedBy (rolesAfter true emptied (rolesOf g t)) in
+        let own = writeStores g drives (seenIn g t) (viewState s) z ss in
+        on-append drives (emptyings g drives true (rolesOf g t) emptied new) (map (carry ρ) own) (emptyings-on g drives true (rolesOf g t) emptied new (emptied-write-here g drives (rolesOf g t) (seenIn g t) z end)) (carry-on drives ρ own (own-write-on g drives (seenIn g t) (viewState s) z ss))
+
+    write-on : (a k : ℕ) (buffer : List ℕ) (t : Tables) → verdictNumber (writeVerdict g named s a k (length buffer) t) ≡ 0 → OnNamed g named (writeAll g drives (rolesOf g t) (seenIn g t) (viewState s) (zoneOf g a) (sectorsIn g k buffer)) t
     write-on a k buffer t e =
         let p = write-number-accepts g named t s a k (length buffer) e in
         let z = zoneOf g a in
         let ss = sectorsIn g k buffer in
-        let stores = writeStores g drives (deviceOf g t) (viewState s) z ss in
+        let stores = writeAll g drives (rolesOf g t) (seenIn g t) (viewState s) z ss in
         record {
           sized = write-passed g named s a k (length buffer) t p .opening .tables .sized;
           placed = fits-all-placed g stores (deviceOf g t) (write-stores-fit g named s a k buffer t p);
-          named-only = on-fewer drives (isSet named) stores (present-named g named s) (unfold writeStores in on-present-on drives (writeWith g z (recordAt s z .generation) (zoneContent g drives (deviceOf g t) (viewState s) z ss) (pointerOf s z) (length ss)));
+          named-only = on-fewer drives (isSet named) stores (present-named g named s) (write-all-on z ss t);
         }
 
 pub format-absent : (g : Geometry) (named : List Bool) (array : ℕ) (old : State) (count : ℕ) → LeavesAbsent g named (formatOn g named array old count)
@@ -233,11 +327,11 @@ pub reset-absent : (g : Geometry) (named : List Bool) (s : State) (z count : ℕ
 unfolding resetOn
 reset-absent g named s z count =
     let number : Tables → ℕ = λ t. verdictNumber (resetVerdict g named s z t) in
-    let stores = resetStores g (callPresent g (isSet named) (viewState s)) (viewState s) z in
+    let stores : Tables → List Store = λ t. resetAll g (callPresent g (isSet named) (viewState s)) (rolesOf g t) (seenIn g t) (viewState s) z in
     let new = withReset s z (lostIn g (isSet named) (viewState s)) in
     record {
-      not-read = λ t u same. storing-same g named s count t u same (number t) (number u) (ap verdictNumber (reset-same g named t u same s z)) stores stores (λ e. refl) new new (λ e. refl) (reset-on g named s z t);
-      not-changed = λ t. storing-kept g named s count t (number t) stores new (reset-on g named s z t);
+      not-read = λ t u same. storing-same g named s count t u same (number t) (number u) (ap verdictNumber (reset-same g named t u same s z)) (stores t) (stores u) (λ e. reset-stores-same g named t u same s z) new new (λ e. refl) (reset-on g named s z t);
+      not-changed = λ t. storing-kept g named s count t (number t) (stores t) new (reset-on g named s z t);
     }
 
 pub write-absent : (g : Geometry) (named : List Bool) (s : State) (a k : ℕ) (buffer : List ℕ) (count : ℕ) → LeavesAbsent g named (writeOn g named s a k buffer count)
@@ -245,7 +339,7 @@ unfolding writeOn
 write-absent g named s a k buffer count =
     let z = zoneOf g a in
     let number : Tables → ℕ = λ t. verdictNumber (writeVerdict g named s a k (length buffer) t) in
-    let stores : Tables → List Store = λ t. writeStores g (callPresent g (isSet named) (viewState s)) (deviceOf g t) (viewState s) z (sectorsIn g k buffer) in
+    let stores : Tables → List Store = λ t. writeAll g (callPresent g (isSet named) (viewState s)) (rolesOf g t) (seenIn g t) (viewState s) z (sectorsIn g k buffer) in
     let new = writtenState s (lostIn g (isSet named) (viewState s)) z (pointerOf s z + k) in
     record {
       not-read = λ t u same. storing-same g named s count t u same (number t) (number u) (ap verdictNumber (write-same g named t u same s a k (length buffer))) (stores t) (stores u) (λ e. write-stores-same g named t u same s z (sectorsIn g k buffer)) new new (λ e. refl) (write-on g named s a k buffer t);
@@ -258,7 +352,7 @@ unfolding readOn valuesOn
 read-absent g named s a count out t u same =
     let z = zoneOf g a in
     let present = callPresent g (isSet named) (viewState s) in
-    let values : valueAt g present (deviceOf g t) z (recordAt s z .generation) ≡ valueAt g present (deviceOf g u) z (recordAt s z .generation) = fun-ext (value-depends g present (deviceOf g t) (deviceOf g u) (drives-same g named t u same s) z (recordAt s z .generation)) in
+    let values : valueAt g present (seenIn g t) z (recordAt s z .generation) ≡ valueAt g present (seenIn g u) z (recordAt s z .generation) = fun-ext (value-depends g present (seenIn g t) (seenIn g u) (seen-same g named t u same s) z (recordAt s z .generation)) in
     rw (read-same g named t u same s a count (length out), values) refl
 
 -- the sector that a peek gives lies on a named drive
@@ -275,10 +369,11 @@ peek-place g named s a t e =
     let d = placeOf g a .drive in
     let y = placeOf g a .zone in
     let x = placeOf g a .sector in
-    let (here, held) = and-split (callPresent g (isSet named) (viewState s) d) (ltb x (length (deviceOf g t d y .sectors))) (q .held) in
+    let (here, held) = and-split (callPresent g (isSet named) (viewState s) d) (ltb x (length (seenIn g t d y .sectors))) (q .held) in
+    let lies = ap (λ (a : ZoneView). length (a .sectors)) (data-by-roles g (deviceOf g t) d y (omega arith)) in
     let hd = call-present-below g named s d here in
     let hy : y < physicalZones g = omega (arith, q .zone) in
-    record { drive-in = hd; drive-named = present-named g named s d here; zone-in = hy; sector-in = omega (arith, ltb-true x (length (deviceOf g t d y .sectors)) held, zone-short g t d y hd hy) }
+    record { drive-in = hd; drive-named = present-named g named s d here; zone-in = hy; sector-in = omega (arith, ltb-true x (length (seenIn g t d y .sectors)) held, lies, zone-short g t d y hd hy) }
 
 pub peek-absent : (g : Geometry) (named : List Bool) (s : State) (a : ℕ) (t u : Tables) → AgreeOn g (isSet named) t u → (peekNumber g named s a t ≡ peekNumber g named s a u) × (peekOn g named s a t ≡ peekOn g named s a u)
 peek-absent g named s a t u same = (peek-same g named t u same s a, unfold peekOn in rw (← peek-same g named t u same s a) (go (ℕ-discrete (peekNumber g named s a t) 0)))

@@ -11,7 +11,7 @@ use native.Mathlib.Omega.{arith}
 use mathlib.Core.List.{List, [], _∷_, _++_}
 use lib.ListN.{length, take, drop}
 use lib.Dec.{ltb, eqb}
-use borrow.Author.Tests.{lt-ltb, le-ltb, ltb-true, ltb-false, eq-eqb, ne-eqb}
+use borrow.Author.Tests.{lt-ltb, le-ltb, ltb-true, eq-eqb, ne-eqb}
 use Rattle.tables.specs.declared.Geometry.{Geometry}
 use Rattle.tables.specs.meaning.Basics.{pick}
 use Rattle.tables.specs.laws.Basics.{and-split}
@@ -21,7 +21,8 @@ use Rattle.tables.specs.meaning.Lists.{concat}
 use Rattle.tables.specs.meaning.Geometry.{Valid, stripeSectors, physicalZones, dataZone}
 use Rattle.tables.specs.meaning.Placement.{stripeOf}
 use Rattle.tables.specs.laws.Sizes.{needed-fits}
-use Rattle.tables.specs.meaning.Device.{Device, Store, reset, applyAll, blankZone}
+use Rattle.tables.specs.meaning.Device.{ZoneView, Device, Store, reset, applyAll, blankZone}
+use Rattle.tables.specs.meaning.Through.{through}
 use Rattle.tables.specs.meaning.Phases.{onPresent, eachOnPresent, flushAll}
 use Rattle.tables.specs.laws.Phases.{each-on-present, on-present-append, on-present-local, each-below-own, each-below-at, each-below-unseen}
 use Rattle.tables.specs.laws.Local.{resetHere, localStores, local-is}
@@ -29,27 +30,30 @@ use Rattle.tables.specs.meaning.Tables.{Tables, deviceOf}
 use Rattle.tables.specs.laws.Tables.{device-length}
 use Rattle.tables.specs.laws.Made.{AllPlaced, FitsAll}
 use Rattle.tables.specs.laws.StoresFit.{on-present-on, placed-present, placed-flushes, fits-append}
-use Rattle.logs.specs.meaning.Entry.{generalZone, parityZone, label, counters}
+use Rattle.logs.specs.meaning.Entry.{generalZone, parityZone, spareZone, label, counters}
 use Rattle.logs.specs.meaning.Walk.{sectorsOf}
 use Rattle.volume.specs.declared.State.{State}
 use Rattle.volume.specs.meaning.State.{callPresent}
 use Rattle.volume.specs.meaning.Content.{at, insideStripe, fillOf, parityDriveAt, entryAt}
-use Rattle.volume.specs.meaning.Rules.{valueAt}
-use Rattle.volume.specs.meaning.Refusals.{accept, zoneOf, reserve, writeFull, goneBefore}
+use Rattle.volume.specs.meaning.Rules.{generalHeads, parityEntries}
+use Rattle.volume.specs.meaning.Refusals.{accept, zoneOf, goneBefore}
 use Rattle.volume.specs.meaning.Calls.{appendGeneral, generationsFrom, dataStores, entryStores, writeWith, zoneContent, writeStores, flushStores, resetPhases, resetStores, formatPhases, formatStores}
 use Rattle.volume.specs.meaning.Answers.{sectorsIn, namedDrives, leftOut}
-use Rattle.volume.specs.meaning.CallContracts.{viewState, isSet, recordAt, pointerOf, flushVerdict, resetVerdict, writeVerdict, formatVerdict}
-use Rattle.volume.specs.checks.CheckLaws.{presentList, present-is}
-use Rattle.volume.specs.checks.ZoneChecks.{present-good}
-use Rattle.volume.specs.looking.Knowing.{Readable, readDevice}
-use Rattle.volume.specs.looking.KnowingLaws.{view-durable, known-in}
+use Rattle.volume.specs.meaning.CallContracts.{viewState, isSet, rolesOf, seenIn, recordAt, pointerOf, flushVerdict, resetVerdict, writeVerdict, formatVerdict}
+use Rattle.volume.specs.looking.KnowingLaws.{known-in}
 use Rattle.tables.specs.laws.Within.{part-long}
-use Rattle.volume.specs.writing.WriteChecks.{gone-durable}
-use Rattle.volume.specs.laws.KnownLengths.{value-long}
-use Rattle.volume.specs.laws.PassedRows.{WritePassed, format-passed, reset-passed, write-passed, flush-passed, unused-at}
-use Rattle.volume.specs.laws.PlacedStores.{placed-write, reset-placed, format-placed}
+use Rattle.volume.specs.laws.PassedRows.{WritePassed, format-passed, reset-passed, write-passed, flush-passed}
+use Rattle.volume.specs.laws.PlacedStores.{AllLong, placed-write, reset-placed, format-placed}
 use Rattle.tables.specs.laws.AppendCounts.{NoneVanishes, none-vanishes, appendsTo, fits-by-count, appends-present, appends-append, appends-flushes, appends-each}
 use Rattle.volume.specs.laws.CallAppends.{inGeneral, reset-appends, format-appends, data-appends, data-elsewhere, appends-all, entry-long}
+use Rattle.volume.specs.meaning.Roles.{Roles, zoneOfRole, placedBy, rolesAfter}
+use Rattle.volume.specs.meaning.Emptying.{InForce, byState, newGeneral, newParity, newGeneralSize, newParitySize, resetLimit, writeLimit, emptiedFor, emptiedForWrite, emptyings, emptyGeneral, emptyParity, writeAll, resetAll}
+use Rattle.volume.specs.laws.LogPlaces.{role-of-other}
+use Rattle.volume.specs.laws.LogRoom.{CanEmpty, has-room, emptied-here, emptied-write-here, write-asks, log-by-roles, spare-by-roles, data-by-roles, reset-empties, write-empties, write-copies}
+use Rattle.volume.specs.laws.EmptiedLogs.{new-general-length}
+use Rattle.volume.specs.laws.SectorLengths.{LongDevice, tables-long, by-roles-long, known-value-long}
+use Rattle.volume.specs.laws.CopyLengths.{new-general-long, new-parity-length, new-parity-long, made-of-known}
+use Rattle.volume.specs.laws.EmptyingFits.{roles-firm, after-firm, role-below, after-short, after-room, after-data, carried-fit}
 
 -- ---- a zone of the tables is never seen longer than C
 pub zone-short : (g : Geometry) (t : Tables) (d y : ℕ) → d < g .drives → y < physicalZones g → length (deviceOf g t d y .sectors) ≤ g .capacity
@@ -84,7 +88,7 @@ flush-stores-fit g named s t e =
     present-fit g (callPresent g (isSet named) (viewState s)) (flushAll (g .drives)) (deviceOf g t) (placed-present g (callPresent g (isSet named) (viewState s)) (flushAll (g .drives)) (placed-flushes g (g .drives) (le-refl (g .drives))))
     (λ d y hd hy. omega (arith, appends-flushes d y (g .drives), zone-short g t d y (call-present-below g named s d hd) hy))
 
--- ==== reset: its two headers have their room in the general log
+-- ==== reset: general logs that lack room are emptied; then its two headers have their room in them
 module _ (g : Geometry) (named : List Bool) (s : State) (z : ℕ) (t : Tables) (e : resetVerdict g named s z t ≡ accept) where
   abbrev drivesOfReset : ℕ → Bool
   drivesOfReset = callPresent g (isSet named) (viewState s)
@@ -92,23 +96,76 @@ module _ (g : Geometry) (named : List Bool) (s : State) (z : ℕ) (t : Tables) (
   abbrev headers : List Store
   headers = concat (resetPhases g (viewState s) z)
 
-  reset-room : (d y : ℕ) → drivesOfReset d ≡ true → y < physicalZones g → length (deviceOf g t d y .sectors) + appendsTo d y headers ≤ g .capacity
-  reset-room d y hd hy = go (ℕ-discrete y generalZone) (zone-short g t d y (call-present-below g named s d hd) hy) (reset-appends g (viewState s) z d y)
+  abbrev resetForce : InForce
+  resetForce = byState g drivesOfReset (seenIn g t) (viewState s)
+
+  abbrev emptiedByReset : ℕ → Bool
+  emptiedByReset = emptiedFor g drivesOfReset false (rolesOf g t) (seenIn g t) (resetLimit g)
+
+  abbrev newLogs : ℕ → List (List ℕ)
+  newLogs d = newGeneral g resetForce (rolesOf g t d) d (generalHeads g (seenIn g t) d)
+
+  reset-there : (d : ℕ) → emptiedByReset d ≡ true → (drivesOfReset d ≡ true) × (d < g .drives)
+  reset-there d q = let p = emptied-here g drivesOfReset (rolesOf g t) (seenIn g t) false (resetLimit g) d q in (p, call-present-below g named s d p)
+
+  reset-can : (d : ℕ) → emptiedByReset d ≡ true → CanEmpty g false (rolesOf g t d) (resetLimit g) (newGeneralSize g resetForce (generalHeads g (seenIn g t) d)) × (length (seenIn g t d spareZone .sectors) ≡ 0)
+  reset-can d q = reset-empties g drivesOfReset (rolesOf g t) resetForce (seenIn g t) (reset-passed g named s z t e .log-room) d (reset-there d q .1) q
+
+  reset-kept : (d : ℕ) → drivesOfReset d ≡ true → emptiedByReset d ≡ false → length (deviceOf g t d (rolesOf g t d .general) .sectors) + resetLimit g ≤ g .capacity
+  reset-kept d hd q =
+      let (there, room) = has-room g drivesOfReset false (rolesOf g t) (seenIn g t) (resetLimit g) d (omega arith) hd q in
+      let same = ap (λ (x : ZoneView). length (x .sectors)) (log-by-roles g (deviceOf g t) d false there) in
+      omega (arith, room, same)
+
+  reset-long : (d : ℕ) → emptiedByReset d ≡ true → AllLong (g .sector) (newLogs d)
+  reset-long d q = new-general-long g resetForce (generalHeads g (seenIn g t) d) (rolesOf g t d) d (reset-passed g named s z t e .opening .tables .valid)
+
+  reset-blank : (d : ℕ) → emptiedByReset d ≡ true → length (deviceOf g t d (rolesOf g t d .spare) .sectors) ≡ 0
+  reset-blank d q = ap (λ (x : ZoneView). length (x .sectors)) (sym (spare-by-roles g (deviceOf g t) d)) ∙ reset-can d q .1
+
+  -- a new log leaves the limit's room
+  pub reset-fits : (d : ℕ) → emptiedByReset d ≡ true → length (newLogs d) + resetLimit g ≤ g .capacity
+  reset-fits d q = omega (arith, reset-can d q .0 .fits, new-general-length g resetForce (rolesOf g t d) d (generalHeads g (seenIn g t) d))
+
+  short-of-reset : (d y : ℕ) → drivesOfReset d ≡ true → y < physicalZones g → length (deviceOf g t d y .sectors) ≤ g .capacity
+  short-of-reset d y hd hy = zone-short g t d y (call-present-below g named s d hd) hy
+
+  abbrev rolesOfReset : ℕ → Roles
+  rolesOfReset = rolesAfter false emptiedByReset (rolesOf g t)
+
+  -- the device by the roles after the emptyings
+  abbrev seenByReset : Device
+  seenByReset = through (placedBy rolesOfReset) (applyAll (emptyings g drivesOfReset false (rolesOf g t) emptiedByReset newLogs) (deviceOf g t))
+
+  reset-room : (d y : ℕ) → drivesOfReset d ≡ true → y < physicalZones g → length (seenByReset d y .sectors) + appendsTo d y headers ≤ g .capacity
+  reset-room d y hd hy = go (ℕ-discrete y generalZone) short (reset-appends g (viewState s) z d y)
     where
-      go : Dec (y ≡ generalZone) → length (deviceOf g t d y .sectors) ≤ g .capacity → appendsTo d y headers ≤ inGeneral y + inGeneral y → length (deviceOf g t d y .sectors) + appendsTo d y headers ≤ g .capacity
+      short : length (seenByReset d y .sectors) ≤ g .capacity
+      short =
+          after-short g drivesOfReset false (rolesOf g t) emptiedByReset newLogs (resetLimit g) (deviceOf g t) (roles-firm g (deviceOf g t)) reset-there reset-long reset-blank reset-fits short-of-reset d (zoneOfRole (rolesOfReset d) y) hd
+          (role-below (rolesOfReset d) y (physicalZones g) (after-firm false emptiedByReset (rolesOf g t) d (roles-firm g (deviceOf g t) d)) (omega arith) hy)
+
+      go : Dec (y ≡ generalZone) → length (seenByReset d y .sectors) ≤ g .capacity → appendsTo d y headers ≤ inGeneral y + inGeneral y → length (seenByReset d y .sectors) + appendsTo d y headers ≤ g .capacity
       go (yes i) short count =
           let c : appendsTo d y headers ≤ 1 + 1 = rw (eq-eqb y generalZone i) at count in
-          let u = unused-at g drivesOfReset (deviceOf g t) generalZone (g .zones + 4) (reset-passed g named s z t e .log-room) d (call-present-below g named s d hd) hd in
-          let l : length (deviceOf g t d y .sectors) ≡ length (deviceOf g t d generalZone .sectors) = ap (λ (x : ℕ). length (deviceOf g t d x .sectors)) i in
-          omega (arith, c, u, l, short)
+          let u = after-room g drivesOfReset false (rolesOf g t) emptiedByReset newLogs (resetLimit g) (deviceOf g t) (roles-firm g (deviceOf g t)) reset-there reset-long reset-blank reset-fits short-of-reset d (reset-kept d hd) in
+          let l : length (seenByReset d y .sectors) ≡ length (seenByReset d generalZone .sectors) = ap (λ (x : ℕ). length (seenByReset d x .sectors)) i in
+          omega (arith, c, u, l)
       go (no n) short count = let c : appendsTo d y headers ≤ 0 + 0 = rw (ne-eqb y generalZone n) at count in omega (arith, c, short)
 
-  pub reset-stores-fit : FitsAll g (resetStores g drivesOfReset (viewState s) z) (deviceOf g t)
+  -- its own stores, before they are carried
+  own-reset-fit : FitsAll g (resetStores g drivesOfReset (viewState s) z) seenByReset
   unfolding resetStores
-  reset-stores-fit =
+  own-reset-fit =
       let q = reset-passed g named s z t e in
       let same = each-on-present drivesOfReset (resetPhases g (viewState s) z) in
-      rw same (present-fit g drivesOfReset headers (deviceOf g t) (rw (← same) (reset-placed g (q .opening .tables .valid) drivesOfReset (viewState s) z (q .zone))) reset-room)
+      rw same (present-fit g drivesOfReset headers seenByReset (rw (← same) (reset-placed g (q .opening .tables .valid) drivesOfReset (viewState s) z (q .zone))) reset-room)
+
+  pub reset-stores-fit : FitsAll g (resetAll g drivesOfReset (rolesOf g t) (seenIn g t) (viewState s) z) (deviceOf g t)
+  unfolding resetAll emptyGeneral
+  reset-stores-fit =
+      carried-fit g drivesOfReset false (rolesOf g t) emptiedByReset newLogs (resetLimit g) (deviceOf g t) (roles-firm g (deviceOf g t)) reset-there reset-long reset-blank reset-fits short-of-reset
+      (resetStores g drivesOfReset (viewState s) z) own-reset-fit
 
 -- ==== format: after the resets every zone is empty, and the two headers have their room
 resets-local : (g : Geometry) (d y : ℕ) → d < g .drives → y < physicalZones g → localStores d y (eachBelow (λ k. eachBelow (λ z. reset k z ∷ []) (physicalZones g)) (g .drives)) ≡ resetHere ∷ []
@@ -155,7 +212,8 @@ module _ (g : Geometry) (named : List Bool) (array : ℕ) (t : Tables) (e : form
       rw same (fits-append g (onPresent drivesOfFormat resets) (onPresent drivesOfFormat rest) (deviceOf g t) (present-fit g drivesOfFormat resets (deviceOf g t) p resets-room)
       (present-fit g drivesOfFormat rest (applyAll (onPresent drivesOfFormat resets) (deviceOf g t)) q rest-room))
 
--- ==== write: what is appended to the zone is what the later pointer needs; the entry has its room in the parity log
+-- ==== write: the parity log that gets its entry is emptied if it lacks room, and then has room for it; what is appended to the zone is what the later
+-- pointer needs
 module _ (g : Geometry) (named : List Bool) (s : State) (a k : ℕ) (buffer : List ℕ) (t : Tables) (e : writeVerdict g named s a k (length buffer) t ≡ accept) where
   abbrev drivesOfWrite : ℕ → Bool
   drivesOfWrite = callPresent g (isSet named) (viewState s)
@@ -170,7 +228,7 @@ module _ (g : Geometry) (named : List Bool) (s : State) (a k : ℕ) (buffer : Li
   generation = recordAt s z .generation
 
   abbrev content : ℕ → List ℕ
-  content = zoneContent g drivesOfWrite (deviceOf g t) (viewState s) z (sectorsIn g k buffer)
+  content = zoneContent g drivesOfWrite (seenIn g t) (viewState s) z (sectorsIn g k buffer)
 
   accepted : WritePassed g named s a k (length buffer) t
   accepted = write-passed g named s a k (length buffer) t e
@@ -188,25 +246,77 @@ module _ (g : Geometry) (named : List Bool) (s : State) (a k : ℕ) (buffer : Li
       (let e0 : zero + i ≡ i = omega arith in rw e0 (part-long buffer (i * g .sector) (g .sector) (omega (arith, accepted .buffer-long, mul-le-mul-right (g .sector) q))))
 
   -- so are the earlier sectors of the first stripe, where they are needed
-  readable : Readable g (presentList g named (s .lost)) (t .sectors) (t .written) z
-  readable = record {
-    zone-in = accepted .zone;
-    sectors-long = accepted .opening .tables .sized .sectors-long;
-    written-long = accepted .opening .tables .sized .written-long;
-    pointers = λ d y hd p hy. present-good g named s (t .written) (t .durable) (accepted .opening .tables .pointers) d y hd hy (sym (ap (λ (f : ℕ → Bool). f d) (present-is g named s)) ∙ p);
-  }
+  sectors-seen : LongDevice (g .sector) (seenIn g t)
+  sectors-seen = by-roles-long g (deviceOf g t) (tables-long g t (accepted .opening .tables .sized))
 
   old-long : drivesOfWrite (parityDriveAt g z pointer) ≡ true → (b : ℕ) → stripeOf (g .drives) (g .unit) pointer * stripeSectors g ≤ b → b < pointer → length (content b) ≡ g .sector
-  unfolding zoneContent goneBefore valueAt
+  unfolding zoneContent goneBefore
   old-long here b h l =
       let start = stripeOf (g .drives) (g .unit) pointer * stripeSectors g in
-      let list = presentList g named (s .lost) in
-      let seen : goneBefore g drivesOfWrite (readDevice g (t .sectors) (t .written)) z generation pointer ≡ false = sym (gone-durable g drivesOfWrite (t .sectors) (t .written) (t .durable) z generation pointer) ∙ accepted .known-before in
-      let some = known-in g drivesOfWrite (readDevice g (t .sectors) (t .written)) z generation start (fillOf g pointer) (b - start) (rw here at seen) (omega arith) in
+      let some = known-in g drivesOfWrite (seenIn g t) z generation start (fillOf g pointer) (b - start) (rw here at (accepted .known-before)) (omega arith) in
       let is : start + (b - start) ≡ b = omega arith in
-      let known = rw (is, ← present-is g named s) at some in
-      let value : length (valueAt g (isSet list) (readDevice g (t .sectors) (t .written)) z generation b) ≡ g .sector = value-long g list (t .sectors) (t .written) z readable ok b (omega (arith, accepted .inside)) generation known in
-      rw (lt-ltb b pointer l, view-durable g drivesOfWrite (t .sectors) (t .written) (t .durable) z generation) (rw (present-is g named s) at value)
+      rw (lt-ltb b pointer l) (known-value-long g ok drivesOfWrite (seenIn g t) sectors-seen z generation b (rw is at some))
+
+  -- ---- the log that is emptied
+  abbrev end : ℕ
+  end = pointer + k
+
+  abbrev writeForce : InForce
+  writeForce = byState g drivesOfWrite (seenIn g t) (viewState s)
+
+  abbrev emptiedByWrite : ℕ → Bool
+  emptiedByWrite = emptiedForWrite g drivesOfWrite (rolesOf g t) (seenIn g t) z end
+
+  abbrev newParityLogs : ℕ → List (List ℕ)
+  newParityLogs d = newParity g writeForce (rolesOf g t d) d (parityEntries g (seenIn g t) d)
+
+  write-there : (d : ℕ) → emptiedByWrite d ≡ true → (drivesOfWrite d ≡ true) × (d < g .drives)
+  write-there d q = let p = emptied-write-here g drivesOfWrite (rolesOf g t) (seenIn g t) z end d q in (p, call-present-below g named s d p)
+
+  write-can : (d : ℕ) → emptiedByWrite d ≡ true → CanEmpty g true (rolesOf g t d) (writeLimit g end) (newParitySize g writeForce d) × (length (seenIn g t d spareZone .sectors) ≡ 0)
+  write-can d q = write-empties g drivesOfWrite (rolesOf g t) writeForce (seenIn g t) z end (accepted .log-room) d (write-there d q .1) q
+
+  write-long : (d : ℕ) → emptiedByWrite d ≡ true → AllLong (g .sector) (newParityLogs d)
+  write-long d q =
+      let gone = write-copies g drivesOfWrite (rolesOf g t) writeForce (seenIn g t) z end (accepted .known-copies) d (write-there d q .1) q in
+      new-parity-long g ok writeForce (seenIn g t) d (sectors-seen d parityZone) (rolesOf g t d) (made-of-known g ok drivesOfWrite (seenIn g t) sectors-seen (viewState s) d gone)
+
+  write-blank : (d : ℕ) → emptiedByWrite d ≡ true → length (deviceOf g t d (rolesOf g t d .spare) .sectors) ≡ 0
+  write-blank d q = ap (λ (x : ZoneView). length (x .sectors)) (sym (spare-by-roles g (deviceOf g t) d)) ∙ write-can d q .1
+
+  pub write-fits : (d : ℕ) → emptiedByWrite d ≡ true → length (newParityLogs d) + writeLimit g end ≤ g .capacity
+  write-fits d q = omega (arith, write-can d q .0 .fits, new-parity-length g ok writeForce (seenIn g t) d (sectors-seen d parityZone) (rolesOf g t d))
+
+  short-of-write : (d y : ℕ) → drivesOfWrite d ≡ true → y < physicalZones g → length (deviceOf g t d y .sectors) ≤ g .capacity
+  short-of-write d y hd hy = zone-short g t d y (call-present-below g named s d hd) hy
+
+  abbrev rolesOfWrite : ℕ → Roles
+  rolesOfWrite = rolesAfter true emptiedByWrite (rolesOf g t)
+
+  -- the device by the roles after that
+  abbrev seenByWrite : Device
+  seenByWrite = through (placedBy rolesOfWrite) (applyAll (emptyings g drivesOfWrite true (rolesOf g t) emptiedByWrite newParityLogs) (deviceOf g t))
+
+  seen-short : (d y : ℕ) → drivesOfWrite d ≡ true → y < physicalZones g → length (seenByWrite d y .sectors) ≤ g .capacity
+  seen-short d y hd hy =
+      after-short g drivesOfWrite true (rolesOf g t) emptiedByWrite newParityLogs (writeLimit g end) (deviceOf g t) (roles-firm g (deviceOf g t)) write-there write-long write-blank write-fits short-of-write d (zoneOfRole (rolesOfWrite d) y) hd
+      (role-below (rolesOfWrite d) y (physicalZones g) (after-firm true emptiedByWrite (rolesOf g t) d (roles-firm g (deviceOf g t) d)) (omega arith) hy)
+
+  -- the zone written is as it was
+  seen-data : (d : ℕ) → length (seenByWrite d (dataZone z) .sectors) ≡ length (seenIn g t d (dataZone z) .sectors)
+  seen-data d =
+      let there : zoneOfRole (rolesOfWrite d) (dataZone z) ≡ dataZone z = role-of-other (rolesOfWrite d) (dataZone z) (omega arith) in
+      let u = applyAll (emptyings g drivesOfWrite true (rolesOf g t) emptiedByWrite newParityLogs) (deviceOf g t) in
+      ap (λ (y : ℕ). length (u d y .sectors)) there
+      ∙ ap (λ (ss : List (List ℕ)). length ss) (after-data g drivesOfWrite true (rolesOf g t) emptiedByWrite newParityLogs (writeLimit g end) (deviceOf g t) (roles-firm g (deviceOf g t)) write-there write-long write-blank write-fits short-of-write d (dataZone z) (omega arith))
+      ∙ ap (λ (x : ZoneView). length (x .sectors)) (sym (data-by-roles g (deviceOf g t) d (dataZone z) (omega arith)))
+
+  -- the parity drive's log has the limit's room
+  write-kept : (d : ℕ) → drivesOfWrite d ≡ true → insideStripe g end ≡ true → d ≡ parityDriveAt g z end → emptiedByWrite d ≡ false → length (deviceOf g t d (rolesOf g t d .parity) .sectors) + writeLimit g end ≤ g .capacity
+  write-kept d hd i p q =
+      let (there, room) = has-room g drivesOfWrite true (rolesOf g t) (seenIn g t) (writeLimit g end) d (omega arith) hd (write-asks g drivesOfWrite (rolesOf g t) (seenIn g t) z end d i p q) in
+      let same = ap (λ (x : ZoneView). length (x .sectors)) (log-by-roles g (deviceOf g t) d true there) in
+      omega (arith, room, same)
 
   abbrev stores : List Store
   stores = writeWith g z generation content pointer k
@@ -225,27 +335,19 @@ module _ (g : Geometry) (named : List Bool) (s : State) (a k : ℕ) (buffer : Li
       go true = appends-all d y p parityZone (sectorsOf g p true (entryAt g z generation content (pointer + k))) ∙ rw (entry-long g p z generation content (pointer + k)) refl
       go false = refl
 
-  -- the parity drive's log has room for the entry
-  entry-room : (d : ℕ) → drivesOfWrite d ≡ true → length (deviceOf g t d parityZone .sectors) ≤ g .capacity
-      → length (deviceOf g t d parityZone .sectors) + pick (insideStripe g (pointer + k)) (pick (eqb d (parityDriveAt g z (pointer + k))) (suc (min (fillOf g (pointer + k)) (g .unit))) 0) 0 ≤ g .capacity
-  unfolding writeFull
-  entry-room d hd short = go (insideStripe g (pointer + k)) (accepted .log-room) (ℕ-discrete d (parityDriveAt g z (pointer + k)))
+  -- and so room for the entry
+  entry-room : (d : ℕ) → drivesOfWrite d ≡ true → length (seenByWrite d parityZone .sectors) + pick (insideStripe g (pointer + k)) (pick (eqb d (parityDriveAt g z (pointer + k))) (suc (min (fillOf g (pointer + k)) (g .unit))) 0) 0 ≤ g .capacity
+  entry-room d hd = go (insideStripe g end) refl (ℕ-discrete d (parityDriveAt g z end)) (seen-short d parityZone hd (omega arith))
     where
-      p : ℕ
-      p = parityDriveAt g z (pointer + k)
+      go : (b : Bool) → insideStripe g end ≡ b → Dec (d ≡ parityDriveAt g z (pointer + k)) → length (seenByWrite d parityZone .sectors) ≤ g .capacity
+          → length (seenByWrite d parityZone .sectors) + pick b (pick (eqb d (parityDriveAt g z (pointer + k))) (suc (min (fillOf g (pointer + k)) (g .unit))) 0) 0 ≤ g .capacity
+      go true h (yes i) short =
+          let u = after-room g drivesOfWrite true (rolesOf g t) emptiedByWrite newParityLogs (writeLimit g end) (deviceOf g t) (roles-firm g (deviceOf g t)) write-there write-long write-blank write-fits short-of-write d (write-kept d hd h i) in
+          rw (eq-eqb d (parityDriveAt g z (pointer + k)) i) (omega (arith, u))
+      go true h (no i) short = rw (ne-eqb d (parityDriveAt g z (pointer + k)) i) (omega (arith, short))
+      go false h i short = omega (arith, short)
 
-      n : ℕ
-      n = suc (min (fillOf g (pointer + k)) (g .unit))
-
-      go : (b : Bool) → b && (drivesOfWrite (parityDriveAt g z (pointer + k)) && ltb (g .capacity - length (deviceOf g t (parityDriveAt g z (pointer + k)) parityZone .sectors)) (suc (min (fillOf g (pointer + k)) (g .unit)) + reserve g)) ≡ false
-          → Dec (d ≡ parityDriveAt g z (pointer + k)) → length (deviceOf g t d parityZone .sectors) + pick b (pick (eqb d (parityDriveAt g z (pointer + k))) (suc (min (fillOf g (pointer + k)) (g .unit))) 0) 0 ≤ g .capacity
-      go true h (yes i) =
-          let u = ltb-false (g .capacity - length (deviceOf g t d parityZone .sectors)) (suc (min (fillOf g (pointer + k)) (g .unit)) + reserve g) (rw (← i, hd) at h) in
-          rw (eq-eqb d p i) (omega (arith, u, short))
-      go true h (no i) = rw (ne-eqb d p i) (omega (arith, short))
-      go false h i = omega (arith, short)
-
-  write-room : (d y : ℕ) → drivesOfWrite d ≡ true → y < physicalZones g → length (deviceOf g t d y .sectors) + appendsTo d y stores ≤ g .capacity
+  write-room : (d y : ℕ) → drivesOfWrite d ≡ true → y < physicalZones g → length (seenByWrite d y .sectors) + appendsTo d y stores ≤ g .capacity
   unfolding writeWith
   write-room d y hd hy = go (ℕ-discrete y (dataZone z)) (ℕ-discrete y parityZone)
     where
@@ -269,22 +371,31 @@ module _ (g : Geometry) (named : List Bool) (s : State) (a k : ℕ) (buffer : Li
           none true false = refl
           none false c = refl
 
-      go : Dec (y ≡ dataZone z) → Dec (y ≡ parityZone) → length (deviceOf g t d y .sectors) + appendsTo d y stores ≤ g .capacity
+      go : Dec (y ≡ dataZone z) → Dec (y ≡ parityZone) → length (seenByWrite d y .sectors) + appendsTo d y stores ≤ g .capacity
       go (yes i) j =
           let q : appendsTo d y data-part ≡ appendsTo d (dataZone z) data-part = ap (λ (x : ℕ). appendsTo d x data-part) i in
-          let l : length (deviceOf g t d y .sectors) ≡ length (deviceOf g t d (dataZone z) .sectors) = ap (λ (x : ℕ). length (deviceOf g t d x .sectors)) i in
-          omega (arith, split, q, l, entry-none (omega (arith, i)), data-appends (g .drives) (g .unit) z hD (ok .unit-least) content pointer k d below, accepted .written-is d below hd, needed-fits g ok z (pointer + k) d (accepted .inside))
+          let l : length (seenByWrite d y .sectors) ≡ length (seenByWrite d (dataZone z) .sectors) = ap (λ (x : ℕ). length (seenByWrite d x .sectors)) i in
+          omega (arith, split, q, l, seen-data d, entry-none (omega (arith, i)), data-appends (g .drives) (g .unit) z hD (ok .unit-least) content pointer k d below, accepted .written-is d below hd, needed-fits g ok z (pointer + k) d (accepted .inside))
       go (no i) (yes j) =
           let c : appendsTo d y entry-part ≡ pick (insideStripe g (pointer + k)) (pick (eqb d (parityDriveAt g z (pointer + k))) (suc (min (fillOf g (pointer + k)) (g .unit))) 0) 0 = entry-appends d y ∙ rw (eq-eqb y parityZone j, and-true (eqb d (parityDriveAt g z (pointer + k)))) refl in
-          let l : length (deviceOf g t d y .sectors) ≡ length (deviceOf g t d parityZone .sectors) = ap (λ (x : ℕ). length (deviceOf g t d x .sectors)) j in
-          omega (arith, split, c, l, data-elsewhere (g .drives) (g .unit) z hD (ok .unit-least) content pointer k d y i, entry-room d hd (zone-short g t d parityZone below (omega arith)))
-      go (no i) (no j) = omega (arith, split, entry-none j, data-elsewhere (g .drives) (g .unit) z hD (ok .unit-least) content pointer k d y i, zone-short g t d y below hy)
+          let l : length (seenByWrite d y .sectors) ≡ length (seenByWrite d parityZone .sectors) = ap (λ (x : ℕ). length (seenByWrite d x .sectors)) j in
+          omega (arith, split, c, l, data-elsewhere (g .drives) (g .unit) z hD (ok .unit-least) content pointer k d y i, entry-room d hd)
+      go (no i) (no j) = omega (arith, split, entry-none j, data-elsewhere (g .drives) (g .unit) z hD (ok .unit-least) content pointer k d y i, seen-short d y hd hy)
 
-  pub write-stores-fit : FitsAll g (writeStores g drivesOfWrite (deviceOf g t) (viewState s) z (sectorsIn g k buffer)) (deviceOf g t)
+  length-in : length (sectorsIn g k buffer) ≡ k
+  unfolding sectorsIn
+  length-in = length-tabulate-from (λ i. take (g .sector) (drop (i * g .sector) buffer)) zero k
+
+  -- its own stores, before they are carried
+  own-write-fit : FitsAll g (writeStores g drivesOfWrite (seenIn g t) (viewState s) z (sectorsIn g k buffer)) seenByWrite
   unfolding writeStores
-  write-stores-fit =
-      let l : length (sectorsIn g k buffer) ≡ k = (unfold sectorsIn in length-tabulate-from (λ i. take (g .sector) (drop (i * g .sector) buffer)) zero k) in
-      rw l (present-fit g drivesOfWrite stores (deviceOf g t) (placed-write g ok drivesOfWrite z (accepted .zone) content pointer k new-long old-long generation) write-room)
+  own-write-fit = rw length-in (present-fit g drivesOfWrite stores seenByWrite (placed-write g ok drivesOfWrite z (accepted .zone) content pointer k new-long old-long generation) write-room)
+
+  pub write-stores-fit : FitsAll g (writeAll g drivesOfWrite (rolesOf g t) (seenIn g t) (viewState s) z (sectorsIn g k buffer)) (deviceOf g t)
+  unfolding writeAll emptyParity
+  write-stores-fit = rw length-in (
+      carried-fit g drivesOfWrite true (rolesOf g t) emptiedByWrite newParityLogs (writeLimit g end) (deviceOf g t) (roles-firm g (deviceOf g t)) write-there write-long write-blank write-fits short-of-write
+      (writeStores g drivesOfWrite (seenIn g t) (viewState s) z (sectorsIn g k buffer)) own-write-fit)
 
 -- ==== ON THE TABLES: no append of an accepted call finds its zone full
 module _ (g : Geometry) (named : List Bool) (t : Tables) where
@@ -298,9 +409,9 @@ module _ (g : Geometry) (named : List Bool) (t : Tables) where
     pub flush-none-vanishes : flushVerdict g named s t ≡ accept → NoneVanishes g (flushStores g drivesOf) t
     flush-none-vanishes e = none-vanishes g (flushStores g drivesOf) t (flush-passed g named s t e .tables .sized) (flush-stores-fit g named s t e)
 
-    pub reset-none-vanishes : (z : ℕ) → resetVerdict g named s z t ≡ accept → NoneVanishes g (resetStores g drivesOf (viewState s) z) t
-    reset-none-vanishes z e = none-vanishes g (resetStores g drivesOf (viewState s) z) t (reset-passed g named s z t e .opening .tables .sized) (reset-stores-fit g named s z t e)
+    pub reset-none-vanishes : (z : ℕ) → resetVerdict g named s z t ≡ accept → NoneVanishes g (resetAll g drivesOf (rolesOf g t) (seenIn g t) (viewState s) z) t
+    reset-none-vanishes z e = none-vanishes g (resetAll g drivesOf (rolesOf g t) (seenIn g t) (viewState s) z) t (reset-passed g named s z t e .opening .tables .sized) (reset-stores-fit g named s z t e)
 
-    pub write-none-vanishes : (a k : ℕ) (buffer : List ℕ) → writeVerdict g named s a k (length buffer) t ≡ accept → NoneVanishes g (writeStores g drivesOf (deviceOf g t) (viewState s) (zoneOf g a) (sectorsIn g k buffer)) t
+    pub write-none-vanishes : (a k : ℕ) (buffer : List ℕ) → writeVerdict g named s a k (length buffer) t ≡ accept → NoneVanishes g (writeAll g drivesOf (rolesOf g t) (seenIn g t) (viewState s) (zoneOf g a) (sectorsIn g k buffer)) t
     write-none-vanishes a k buffer e =
-        none-vanishes g (writeStores g drivesOf (deviceOf g t) (viewState s) (zoneOf g a) (sectorsIn g k buffer)) t (write-passed g named s a k (length buffer) t e .opening .tables .sized) (write-stores-fit g named s a k buffer t e)
+        none-vanishes g (writeAll g drivesOf (rolesOf g t) (seenIn g t) (viewState s) (zoneOf g a) (sectorsIn g k buffer)) t (write-passed g named s a k (length buffer) t e .opening .tables .sized) (write-stores-fit g named s a k buffer t e)

@@ -14,7 +14,7 @@ use Rattle.tables.specs.meaning.Below.{maxBelow}
 use Rattle.tables.specs.laws.Below.{max-below-is}
 use Rattle.tables.specs.meaning.LittleEndian.{wordsLE}
 use Rattle.tables.specs.meaning.Device.{Device}
-use Rattle.logs.specs.meaning.Entry.{generalZone, Header, label, counters, zoneReset, partialParity, seal, encode, frame, legal}
+use Rattle.logs.specs.meaning.Entry.{generalZone, Header, label, counters, zoneReset, partialParity, seal, closing, encode, frame, legal}
 use Rattle.logs.specs.laws.Legal.{legal-written-again}
 use Rattle.logs.specs.meaning.Walk.{walkLog}
 use Rattle.logs.specs.laws.Heads.{isCounters}
@@ -36,6 +36,7 @@ counters-of (counters cs) e = (cs, refl)
 counters-of (zoneReset z n) e = absurd (true≢false (sym e))
 counters-of (partialParity z s f n) e = absurd (true≢false (sym e))
 counters-of (seal z p n) e = absurd (true≢false (sym e))
+counters-of (closing kind gen) e = absurd (true≢false (sym e))
 
 module _ (g : Geometry) (d : ℕ) (ss : List (List ℕ)) (z : ℕ) (hz : z < g .zones) where
   there : (p : ℕ) → countersPlace g d ss ≡ p + 1 → generationIn z (headsOf (walkLog g d false ss)) < 256 ^ 8

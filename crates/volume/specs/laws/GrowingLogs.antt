@@ -1,7 +1,7 @@
 -- Logs that grow. A general log that is whole up to its pointer stays so when legal headers join it (`general-grows`); a parity log whose last entry is
 -- torn is whole up to its pointer once the rows that lack, and whole entries, have joined it (`parity-grows`).
 use mathlib.Core.Path.{_≡_, refl, sym, ap, ap₂, _∙_}
-use mathlib.Core.Logic.{inl}
+use mathlib.Core.Logic.{_≢_, inl}
 use mathlib.Core.Bool.{true, false}
 use Prim.Native.Nat.{ℕ, zero, suc, _+_, _≤_}
 use native.Mathlib.Omega.{arith}
@@ -9,7 +9,7 @@ use mathlib.Core.List.{List, [], _∷_, _++_, append-assoc, append-nil, map, Lis
 use lib.ListN.{length, getD, length-append}
 use Rattle.tables.specs.declared.Geometry.{Geometry}
 use Rattle.tables.specs.laws.Lists.{map-append, mem-nil}
-use Rattle.logs.specs.meaning.Entry.{Header, Entry, Decoded, legal, bad, rowsOf, encode}
+use Rattle.logs.specs.meaning.Entry.{Header, closing, Entry, Decoded, legal, bad, rowsOf, encode}
 use Rattle.logs.specs.meaning.Walk.{Walked, Ending, atPointer, noEntry, torn, WalkState, between, inEntry, decodeAt, walk, walkLog, sectorsOf}
 use Rattle.logs.specs.laws.Walk.{sectorsOfAll, sectors-of-append, Reads, Whole, WellFormedLog, logExtent, walk-lawful, walk-rows, step-zero, step-suc, lawful-joins, extent-whole}
 use Rattle.logs.specs.laws.WalkLaws.{entries-in-front, last-in-front, walk-goes-on, walk-of-append, AllWhole}
@@ -20,11 +20,15 @@ use Rattle.logs.specs.laws.Places.{EndsAt, walk-places}
 use Rattle.logs.specs.code.Query.{headsOf}
 
 -- ---- contradictions
-pointer-not-torn : (h : Header) (rs : List (List ℕ)) → atPointer ≡ torn h rs → ⊥
+pub pointer-not-torn : (h : Header) (rs : List (List ℕ)) → atPointer ≡ torn h rs → ⊥
 pointer-not-torn h rs e = let z : _≡_ {A = ℕ} 0 1 = cc in omega arith
 
-none-not-torn : (h : Header) (rs : List (List ℕ)) → noEntry ≡ torn h rs → ⊥
+pub none-not-torn : (h : Header) (rs : List (List ℕ)) → noEntry ≡ torn h rs → ⊥
 none-not-torn h rs e = let z : _≡_ {A = ℕ} 0 1 = cc in omega arith
+
+-- a header that is no closing entry
+abbrev pub Plain : Header → Type 0
+Plain h = (k n : ℕ) → h ≡ closing k n → ⊥
 
 -- ==== the general log of drive d
 module _ (g : Geometry) (d : ℕ) (Q : Header → Type 0) where
@@ -85,7 +89,7 @@ module _ (g : Geometry) (d : ℕ) (Q : Header → Type 0) where
       with-first h q hs f k (List·Memᴰ·tail m) = f k m
 
 -- an entry of a general log has no rows: its walk is never left inside one
-pub general-not-torn : (g : Geometry) (d : ℕ) (ss : List (List ℕ)) (h : Header) (rs : List (List ℕ)) → walkLog g d false ss .last ≡ torn h rs → ⊥
+general-not-torn : (g : Geometry) (d : ℕ) (ss : List (List ℕ)) (h : Header) (rs : List (List ℕ)) → walkLog g d false ss .last ≡ torn h rs → ⊥
 general-not-torn g d ss h rs e = go (walkLog g d false ss .last) e (walk-places g d false ss .left)
   where
     go : (l : Ending) → l ≡ torn h rs → EndsAt g d false ss l (walkLog g d false ss .position) → ⊥
@@ -95,23 +99,36 @@ general-not-torn g d ss h rs e = go (walkLog g d false ss .last) e (walk-places 
         let n : rowsOf g k ≡ zero = general-no-rows g d k (legal-fits g d false (getD ss (walkLog g d false ss .position) []) k (p .1)) in
         omega (arith, n, p .0, p .3)
 
+-- so one that ends at no bad entry is whole
+pub general-whole : (g : Geometry) (d : ℕ) (ss : List (List ℕ)) → walkLog g d false ss .last ≢ noEntry → walkLog g d false ss .last ≡ atPointer
+general-whole g d ss n = go (walkLog g d false ss .last) refl n
+  where
+    go : (l : Ending) → walkLog g d false ss .last ≡ l → l ≢ noEntry → l ≡ atPointer
+    go atPointer q n = refl
+    go noEntry q n = absurd (n refl)
+    go (torn h rs) q n = absurd (general-not-torn g d ss h rs q)
+
 -- ==== the parity log of drive d
 module _ (g : Geometry) (d : ℕ) where
-  -- sectors that are whole entries which read back
+  -- sectors that are whole entries which read back, none of them a closing entry
   pub record Entries (ss : List (List ℕ)) : Type 0 where
     pub entries : List Entry
     pub sectors-are : ss ≡ sectorsOfAll g d true entries
     pub lawful : WellFormedLog g d true entries
     pub whole : AllWhole g d true entries
+    pub plain : (e : Entry) → List·Memᴰ e entries → Plain (e .head)
 
   pub no-entries : Entries []
-  no-entries = record { entries = []; sectors-are = refl; lawful = tt; whole = λ e m. mem-nil e m }
+  no-entries = record { entries = []; sectors-are = refl; lawful = tt; whole = λ e m. mem-nil e m; plain = λ e m. mem-nil e m }
 
-  pub one-entry : (e : Entry) → Reads g d true (e .head) → Whole g d true e → Entries (sectorsOf g d true e)
-  one-entry e r w = record { entries = e ∷ []; sectors-are = sym (append-nil (sectorsOf g d true e)); lawful = (r, inl w, tt); whole = λ f m. only f m }
+  pub one-entry : (e : Entry) → Reads g d true (e .head) → Whole g d true e → Plain (e .head) → Entries (sectorsOf g d true e)
+  one-entry e r w n = record { entries = e ∷ []; sectors-are = sym (append-nil (sectorsOf g d true e)); lawful = (r, inl w, tt); whole = λ f m. only f m; plain = λ f m. free f m }
     where
       only : (f : Entry) → List·Memᴰ f (e ∷ []) → Whole g d true f
       only f (List·Memᴰ·head q) = rw q w
+
+      free : (f : Entry) → List·Memᴰ f (e ∷ []) → Plain (f .head)
+      free f (List·Memᴰ·head q) = rw q n
 
   pub entries-join : (a b : List (List ℕ)) → Entries a → Entries b → Entries (a ++ b)
   entries-join a b p q = record {
@@ -119,8 +136,14 @@ module _ (g : Geometry) (d : ℕ) where
     sectors-are = ap₂ (λ (u w : List (List ℕ)). u ++ w) (p .sectors-are) (q .sectors-are) ∙ sym (sectors-of-append g d true (p .entries) (q .entries));
     lawful = lawful-joins g d true (p .entries) (q .entries) (p .whole) (p .lawful) (q .lawful);
     whole = both (p .entries) (p .whole);
+    plain = free (p .entries) (p .plain);
   }
     where
+      free : (es : List Entry) → ((e : Entry) → List·Memᴰ e es → Plain (e .head)) → (e : Entry) → List·Memᴰ e (es ++ q .entries) → Plain (e .head)
+      free [] w e m = q .plain e m
+      free (f ∷ es) w e (List·Memᴰ·head k) = w e (List·Memᴰ·head k)
+      free (f ∷ es) w e (List·Memᴰ·tail m) = free es (λ k l. w k (List·Memᴰ·tail l)) e m
+
       both : (es : List Entry) → AllWhole g d true es → AllWhole g d true (es ++ q .entries)
       both [] w e m = q .whole e m
       both (f ∷ es) w e (List·Memᴰ·head k) = w e (List·Memᴰ·head k)
@@ -133,7 +156,7 @@ module _ (g : Geometry) (d : ℕ) where
       ap (λ (b : List (List ℕ)). walk g d true x between b .last) (p .sectors-are) ∙ walk-lawful g d true (p .entries) x (p .lawful) (omega (arith, l, long)) .1 ∙ whole-ends g d (p .entries) (p .whole)
 
   -- ---- a torn entry, with the rows that lack
-  abbrev Counted : WalkState → Type 0
+  abbrev pub Counted : WalkState → Type 0
   Counted between = Unit {0}
   Counted (inEntry y h k acc) = length acc + suc k ≡ rowsOf g h
 

@@ -20,10 +20,10 @@ use Rattle.volume.specs.declared.Answer.{Answer}
 use Rattle.volume.specs.declared.Answer.the-variants.{Finished, Unfinished, Refused}
 use Rattle.volume.specs.meaning.Refusals.{Verdict, refuse, accept, firstRefusal, zoneOf, formatRows, lookRows, mountRows, writeRows, flushRows, resetRows, readRows, peekRows}
 use Rattle.volume.specs.meaning.State.{callPresent}
-use Rattle.volume.specs.meaning.Rules.{isPresent, lostDrive}
-use Rattle.volume.specs.meaning.Calls.{flushStores, resetStores, writeStores, formatStores}
-use Rattle.volume.specs.meaning.Answers.{lostIn, sectorsIn, leftOut, namedDrives}
-use Rattle.volume.specs.meaning.CallContracts.{viewState, isSet, lengthsOf, badIn, verdictNumber, storingOn, flushVerdict, withLost, flushOn, resetVerdict, withReset, resetOn, writeVerdict, writtenState, pointerOf, writeOn, formatVerdict, freshState, formatOn, lookVerdict, lookOn, mountVerdict, mountStoresOn, mountShownOn, mountOn, readNumber, readOn, peekNumber}
+use Rattle.volume.specs.meaning.Calls.{flushStores, formatStores}
+use Rattle.volume.specs.meaning.Emptying.{writeAll, resetAll}
+use Rattle.volume.specs.meaning.Answers.{lostIn, sectorsIn, leftOut, namedDrives, presentIn, lostDriveIn}
+use Rattle.volume.specs.meaning.CallContracts.{viewState, isSet, lengthsOf, badIn, rolesOf, seenIn, verdictNumber, storingOn, flushVerdict, withLost, flushOn, resetVerdict, withReset, resetOn, writeVerdict, writtenState, pointerOf, writeOn, formatVerdict, freshState, formatOn, lookVerdict, lookOn, mountVerdict, mountStoresOn, mountShownOn, mountOn, readNumber, readOn, peekNumber}
 use Rattle.volume.specs.laws.Refusals.{conditionOfRow, accepted-row, Numbered, numbered, nonzero, refusalOrder, inOrder}
 
 -- ==== orders
@@ -82,7 +82,7 @@ pub record Least (order : List ℕ) (rows : List (ℕ × Bool)) (n : ℕ) : Type
   pub applies : conditionOfRow n rows ≡ true
   pub none-before : (m : ℕ) → asksFirst order m n ≡ true → conditionOfRow m rows ≡ false
 
-first-least : (order : List ℕ) (rows : List (ℕ × Bool)) (n : ℕ) → distinct order ≡ true → inOrder order rows ≡ true → firstRefusal rows ≡ refuse n → Least order rows n
+pub first-least : (order : List ℕ) (rows : List (ℕ × Bool)) (n : ℕ) → distinct order ≡ true → inOrder order rows ≡ true → firstRefusal rows ≡ refuse n → Least order rows n
 first-least [] [] n u o e = absurd (let z : _≡_ {A = ℕ} 0 1 = cc in omega arith)
 first-least (k ∷ order) [] n u o e = absurd (let z : _≡_ {A = ℕ} 0 1 = cc in omega arith)
 first-least [] (r ∷ rows) n u o e = absurd (true≢false (sym o))
@@ -163,36 +163,36 @@ module _ (g : Geometry) (named : List Bool) (s : State) (t : Tables) where
       storing-by-rows _ (refl, refl) g (flushStores g (callPresent g (isSet named) (viewState s)))
       (withLost s (lostIn g (isSet named) (viewState s))) s count t
 
-  pub reset-by-rows : (z count : ℕ) → ByRows (resetRows g (lengthsOf t) (badIn g named t) (isSet named) (viewState s) z (deviceOf g t)) (resetOn g named s z count t .outcome .answer)
+  pub reset-by-rows : (z count : ℕ) → ByRows (resetRows g (lengthsOf t) (badIn g named t) (isSet named) (viewState s) z (rolesOf g t) (seenIn g t)) (resetOn g named s z count t .outcome .answer)
   unfolding resetOn resetVerdict resetRows
   reset-by-rows z count =
-      storing-by-rows _ (refl, refl) g (resetStores g (callPresent g (isSet named) (viewState s)) (viewState s) z)
+      storing-by-rows _ (refl, refl) g (resetAll g (callPresent g (isSet named) (viewState s)) (rolesOf g t) (seenIn g t) (viewState s) z)
       (withReset s z (lostIn g (isSet named) (viewState s))) s count t
 
   pub write-by-rows : (a k count : ℕ) (buffer : List ℕ)
-      → ByRows (writeRows g (lengthsOf t) (badIn g named t) (isSet named) (viewState s) a k (length buffer) (deviceOf g t)) (writeOn g named s a k buffer count t .outcome .answer)
+      → ByRows (writeRows g (lengthsOf t) (badIn g named t) (isSet named) (viewState s) a k (length buffer) (rolesOf g t) (seenIn g t)) (writeOn g named s a k buffer count t .outcome .answer)
   unfolding writeOn writeVerdict writeRows
   write-by-rows a k count buffer =
-      storing-by-rows _ (refl, refl) g (writeStores g (callPresent g (isSet named) (viewState s)) (deviceOf g t) (viewState s) (zoneOf g a) (sectorsIn g k buffer))
+      storing-by-rows _ (refl, refl) g (writeAll g (callPresent g (isSet named) (viewState s)) (rolesOf g t) (seenIn g t) (viewState s) (zoneOf g a) (sectorsIn g k buffer))
       (writtenState s (lostIn g (isSet named) (viewState s)) (zoneOf g a) (pointerOf s (zoneOf g a) + k)) s count t
 
-  pub mount-by-rows : (count : ℕ) → ByRows (mountRows g (lengthsOf t) (badIn g named t) (isSet named) (deviceOf g t)) (mountOn g named s count t .outcome .answer)
+  pub mount-by-rows : (count : ℕ) → ByRows (mountRows g (lengthsOf t) (badIn g named t) (isSet named) (rolesOf g t) (seenIn g t)) (mountOn g named s count t .outcome .answer)
   unfolding mountOn mountVerdict mountRows
   mount-by-rows count =
-      storing-by-rows _ (refl, refl) g (mountStoresOn g (isPresent g (isSet named) (deviceOf g t)) (lostDrive g (isSet named) (deviceOf g t)) t)
-      (mountShownOn g (isPresent g (isSet named) (deviceOf g t)) (lostDrive g (isSet named) (deviceOf g t)) t) s count t
+      storing-by-rows _ (refl, refl) g (mountStoresOn g (presentIn g (isSet named) (deviceOf g t)) (lostDriveIn g (isSet named) (deviceOf g t)) t)
+      (mountShownOn g (presentIn g (isSet named) (deviceOf g t)) (lostDriveIn g (isSet named) (deviceOf g t)) t) s count t
 
-  pub look-by-rows : ByRows (lookRows g (lengthsOf t) (badIn g named t) (isSet named) (deviceOf g t)) (lookOn g named s t .answer)
+  pub look-by-rows : ByRows (lookRows g (lengthsOf t) (badIn g named t) (isSet named) (rolesOf g t) (seenIn g t)) (lookOn g named s t .answer)
   unfolding lookOn lookVerdict lookRows
   look-by-rows = by-verdict _ (refl, refl) (lookOn g named s t .answer) (λ n e h. rw (e, ne-eqb n 0 h) refl) (λ e n q. let q′ : Finished ≡ Refused n = rw e at q in let z : _≡_ {A = ℕ} 0 1 = cc in omega arith)
 
-  pub read-by-rows : (a k : ℕ) (out : List ℕ) → ByRows (readRows g (lengthsOf t) (badIn g named t) (isSet named) (viewState s) a k (length out) (deviceOf g t)) (readOn g named s a k out t .answer)
+  pub read-by-rows : (a k : ℕ) (out : List ℕ) → ByRows (readRows g (lengthsOf t) (badIn g named t) (isSet named) (viewState s) a k (length out) (seenIn g t)) (readOn g named s a k out t .answer)
   unfolding readOn readNumber readRows
   read-by-rows a k out =
       by-verdict _ (refl, refl) (readOn g named s a k out t .answer) (λ n e h. rw (e, ne-eqb n 0 h) refl) (λ e n q. let q′ : Finished ≡ Refused n = rw e at q in let z : _≡_ {A = ℕ} 0 1 = cc in omega arith)
 
   -- (a peek's number: 0 where it is not refused)
-  pub peek-by-rows : (a : ℕ) → ByRows (peekRows g (lengthsOf t) (badIn g named t) (isSet named) (viewState s) a (deviceOf g t)) (pick (eqb (peekNumber g named s a t) 0) Finished (Refused (peekNumber g named s a t)))
+  pub peek-by-rows : (a : ℕ) → ByRows (peekRows g (lengthsOf t) (badIn g named t) (isSet named) (viewState s) a (seenIn g t)) (pick (eqb (peekNumber g named s a t) 0) Finished (Refused (peekNumber g named s a t)))
   unfolding peekNumber peekRows
   peek-by-rows a =
       by-verdict _ (refl, refl) (pick (eqb (peekNumber g named s a t) 0) Finished (Refused (peekNumber g named s a t))) (λ n e h. rw (e, ne-eqb n 0 h) refl)

@@ -20,9 +20,11 @@ use Rattle.tables.specs.meaning.Device.{Device}
 use Rattle.tables.specs.meaning.Tables.{Tables, deviceOf}
 use Rattle.logs.specs.meaning.Walk.{Ending, atPointer, noEntry}
 use Rattle.logs.specs.meaning.Heads.{labelled, arrayIn, lastLost}
-use Rattle.volume.specs.meaning.Rules.{generalHeads, generalEnding, parityEnding, isLost, isPresent, lostDrive}
-use Rattle.volume.specs.meaning.Refusals.{accept, isNoEntry, twoLost, badLabels, badLogs, mountRows}
-use Rattle.volume.specs.meaning.CallContracts.{isSet, lengthsOf, badIn, mountVerdict}
+use Rattle.volume.specs.meaning.Rules.{generalHeads, generalEnding, parityEnding, isLost, lostDrive}
+use Rattle.volume.specs.meaning.Refusals.{accept, isNoEntry, twoLost, badLabels, kindLacks, badLogs, mountRows}
+use Rattle.volume.specs.meaning.CallContracts.{isSet, lengthsOf, badIn, rolesOf, seenIn, mountVerdict}
+use Rattle.volume.specs.meaning.Answers.{presentIn}
+use Rattle.volume.specs.meaning.Roles.{Roles, lacksKind}
 use Rattle.volume.specs.laws.Refusals.{accepted-row}
 
 pub same-if : (a b : Bool) → (a ≡ true → b ≡ true) → (b ≡ true → a ≡ true) → a ≡ b
@@ -82,13 +84,31 @@ module _ (g : Geometry) (ok : Valid g) (named : ℕ → Bool) (v : Device) (one 
 -- ---- rows 4 to 6 of an accepted mount
 pub record LooksAccepted (g : Geometry) (named : List Bool) (t : Tables) : Type 0 where
   pub geometry : not (isValid g) ≡ false
-  pub one-lost : twoLost g (isSet named) (deviceOf g t) ≡ false
-  pub labels : badLabels g (isPresent g (isSet named) (deviceOf g t)) (deviceOf g t) ≡ false
-  pub logs : badLogs g (isPresent g (isSet named) (deviceOf g t)) (deviceOf g t) ≡ false
+  pub one-lost : twoLost g (isSet named) (seenIn g t) ≡ false
+  pub kinds : kindLacks g (presentIn g (isSet named) (deviceOf g t)) (rolesOf g t) ≡ false
+  pub labels : badLabels g (presentIn g (isSet named) (deviceOf g t)) (seenIn g t) ≡ false
+  pub logs : badLogs g (presentIn g (isSet named) (deviceOf g t)) (seenIn g t) ≡ false
 
 pub looks-accepted : (g : Geometry) (named : List Bool) (t : Tables) → mountVerdict g named t ≡ accept → LooksAccepted g named t
 unfolding mountVerdict mountRows
-looks-accepted g named t e = let row = accepted-row (mountRows g (lengthsOf t) (badIn g named t) (isSet named) (deviceOf g t)) e in record { geometry = row 1; one-lost = row 4; labels = row 5; logs = row 6 }
+looks-accepted g named t e =
+    let row = accepted-row (mountRows g (lengthsOf t) (badIn g named t) (isSet named) (rolesOf g t) (seenIn g t)) e in
+    let present = presentIn g (isSet named) (deviceOf g t) in
+    let (a, b) = or-none (kindLacks g present (rolesOf g t)) (badLabels g present (seenIn g t)) (row 5) in
+    record { geometry = row 1; one-lost = row 4; kinds = a; labels = b; logs = row 6 }
+
+-- what row 5 says of a present drive's roles: it lacks no kind
+pub kinds-there : (g : Geometry) (present : ℕ → Bool) (r : ℕ → Roles) → kindLacks g present r ≡ false → (d : ℕ) → d < g .drives → present d ≡ true → lacksKind (r d) ≡ false
+unfolding kindLacks
+kinds-there g present r h d hd p = rw p at (any-below-false (λ e. present e && lacksKind (r e)) (g .drives) d h hd)
+
+pub kinds-pass : (g : Geometry) (present : ℕ → Bool) (r : ℕ → Roles) → ((d : ℕ) → present d ≡ true → lacksKind (r d) ≡ false) → kindLacks g present r ≡ false
+unfolding kindLacks
+kinds-pass g present r h = none-any-below (λ e. present e && lacksKind (r e)) (g .drives) (λ d hd. go d (present d) refl)
+  where
+    go : (d : ℕ) (b : Bool) → present d ≡ b → b && lacksKind (r d) ≡ false
+    go d false p = refl
+    go d true p = h d p
 
 pub entry-ends : (l : Ending) → isNoEntry l ≡ false → l ≢ noEntry
 entry-ends l h q = true≢false (sym (rw q refl) ∙ h)

@@ -4,116 +4,115 @@ use mathlib.Core.Bool.{Bool, true}
 use Prim.Native.Nat.{ℕ, _≤_}
 use native.Mathlib.Decide.{ℕ-discrete}
 use native.Mathlib.Omega.{arith}
-use mathlib.Core.List.{List, _++_}
+use mathlib.Core.List.{List, [], _++_, map}
 use lib.ListN.{length}
 use lib.Dec.{eqb}
-use borrow.Author.Tests.{ne-eqb}
+use borrow.Author.Tests.{ne-eqb, eqb-true}
 use Rattle.tables.specs.declared.Geometry.{Geometry}
 use Rattle.tables.specs.meaning.Basics.{pick}
 use Rattle.tables.specs.meaning.Lists.{concat}
+use Rattle.tables.specs.laws.Lists.{concat-append}
 use Rattle.tables.specs.meaning.Drives.{noDrive}
-use Rattle.tables.specs.meaning.Device.{ZoneView, Device, Store}
+use Rattle.tables.specs.meaning.Device.{ZoneView, Device, Store, applyAll}
+use Rattle.tables.specs.meaning.Through.{through, carry}
 use Rattle.tables.specs.meaning.Phases.{onPresent, flushAll}
 use Rattle.tables.specs.meaning.Tables.{Tables, deviceOf, runStores}
-use Rattle.tables.specs.laws.Made.{WellSized, AllPlaced}
-use Rattle.tables.specs.laws.StoresFit.{fits-front, fits-all-placed}
+use Rattle.tables.specs.laws.StoresFit.{AllOn, on-present-on, on-append, fits-all-placed}
 use Rattle.tables.specs.laws.NamedDrives.{AgreeOn, device-agrees, pointers-agree, run-agrees}
 use Rattle.volume.specs.declared.State.{State}
 use Rattle.volume.specs.declared.Outcome.{Outcome}
 use Rattle.volume.specs.declared.Answer.the-variants.{Finished, Refused}
 use Rattle.volume.specs.meaning.Rules.{Shown, showing, isPresent, lostDrive}
-use Rattle.volume.specs.meaning.Refusals.{accept, badLabels, badLogs, mountFull, lookRows, mountRows}
-use Rattle.volume.specs.meaning.Mount.{withFlush, withFlushes, stepsBeforeEntries, phasesBeforeEntries, entryStep, afterOpening, mountLook}
-use Rattle.volume.specs.meaning.CallContracts.{isSet, verdictNumber, stateShown, lookVerdict, lookOn, mountVerdict, storesBefore, mountStoresOn, mountShownOn, mountOn}
-use Rattle.volume.specs.mounting.RestoreAgrees.{opening-sectors}
+use Rattle.volume.specs.meaning.Refusals.{accept, kindLacks, badLabels, badLogs, mountFull, lookRows, mountRows}
+use Rattle.volume.specs.meaning.Roles.{placedBy}
+use Rattle.volume.specs.meaning.Emptying.{byLook, emptyGeneral, emptyParity}
+use Rattle.volume.specs.meaning.Answers.{presentIn, lostDriveIn}
+use Rattle.volume.specs.meaning.Mount.{spareStep, entryStep, withFlush, withFlushes, stepsBeforeEntries, carryPhases, mountView, mountLook, startRoles, emptiedGeneral, emptiedParity, middleRoles, endRoles, phasesOfLogs, phasesBeforeEntries, phasesOfParityLogs, phasesOfEntries, afterFill, mountStores}
+use Rattle.volume.specs.meaning.CallContracts.{isSet, rolesOf, seenIn, verdictNumber, stateShown, lookVerdict, lookOn, mountVerdict, mountStoresOn, mountShownOn, mountOn}
 use Rattle.volume.specs.laws.PassedRows.{look-passed, look-number-accepts, mount-passed, mount-number-accepts}
 use Rattle.volume.specs.laws.Depends.{SameOn}
-use Rattle.volume.specs.laws.RefusalsDepend.{present-depends, lost-drive-depends, two-lost-depends, labels-depend, logs-depend, mount-full-depends}
-use Rattle.volume.specs.laws.MountDepends.{entry-depends, flush-depends, steps-depend, showing-depends, opening-same}
-use Rattle.volume.specs.laws.MountPlaced.{before-on, mount-on, present-is-named}
-use Rattle.volume.specs.laws.MountStoresFit.{mount-stores-fit}
-use Rattle.volume.specs.laws.AbsentDrives.{LeavesAbsent, OnNamed, on-fewer, storing-same, storing-kept, devices-same}
+use Rattle.volume.specs.laws.RefusalsDepend.{present-depends, lost-drive-depends, two-lost-depends, labels-depend, logs-depend, kinds-depend, by-look-depends, mount-full-depends}
+use Rattle.volume.specs.laws.RolesDepend.{roles-depend, by-roles-depend}
+use Rattle.volume.specs.laws.MountDepends.{showing-depends}
+use Rattle.volume.specs.laws.MountStoresDepend.{mount-stores-depend}
+use Rattle.volume.specs.laws.CarriedSteps.{concat-carried}
+use Rattle.volume.specs.laws.MountPlaced.{on-step, on-steps, present-is-named}
+use Rattle.volume.specs.laws.MountStoresFit.{mount-stores-are, mount-stores-fit, mount-tables-fit}
+use Rattle.volume.specs.laws.AbsentDrives.{LeavesAbsent, OnNamed, on-fewer, carry-on, storing-same, storing-kept, devices-same}
 
--- ---- what named drives show
+-- ---- what named drives show, by their roles
 module _ (g : Geometry) (named : List Bool) (few : g .drives ≤ 8) (present : ℕ → Bool) (inside : (d : ℕ) → present d ≡ true → isSet named d ≡ true) (t u : Tables) (same : AgreeOn g (isSet named) t u) where
   -- there is no drive of that number
   past-same : (y : ℕ) → deviceOf g t noDrive y .sectors ≡ deviceOf g u noDrive y .sectors
   past-same y = ap (λ (z : ZoneView). z .sectors) (device-agrees g (isSet named) t u same noDrive (λ l. absurd (omega arith)) y)
 
-  showing-same : (x : ℕ) → showing g present x (deviceOf g t) ≡ showing g present x (deviceOf g u)
-  showing-same = showing-depends g present (deviceOf g t) (deviceOf g u) (devices-same g named t u same present inside) past-same
+  drives-agree : SameOn present (deviceOf g t) (deviceOf g u)
+  drives-agree = devices-same g named t u same present inside
 
-  -- ---- the stores of a mount's steps 1 to 7, x being lost
-  module _ (x : ℕ) where
-    abbrev opened : Tables → Device
-    opened a = afterOpening g present (deviceOf g a)
+  showing-same : (x : ℕ) → showing g present x (seenIn g t) ≡ showing g present x (seenIn g u)
+  showing-same = showing-depends g present (seenIn g t) (seenIn g u) (by-roles-depend g present (deviceOf g t) (deviceOf g u) drives-agree)
+      (λ y. by-roles-depend g (λ d. eqb d noDrive) (deviceOf g t) (deviceOf g u) (λ d p z. rw (eqb-true d noDrive p) (past-same z)) noDrive refl y)
 
-    opened-same : SameOn present (opened t) (opened u)
-    opened-same = opening-same g present present (deviceOf g t) (deviceOf g u) (devices-same g named t u same present inside)
-
-    look-same : mountLook g present x (deviceOf g t) ≡ mountLook g present x (deviceOf g u)
-    unfolding mountLook
-    look-same = showing-depends g present (opened t) (opened u) opened-same (λ y. opening-sectors g present (deviceOf g t) noDrive y ∙ past-same y ∙ sym (opening-sectors g present (deviceOf g u) noDrive y)) x
-
-    before-same : storesBefore g present x t ≡ storesBefore g present x u
-    unfolding storesBefore phasesBeforeEntries
-    before-same =
-        ap (λ (ps : List (List Store)). onPresent present (flushAll (g .drives)) ++ concat ps) (steps-depend g present (opened t) (opened u) opened-same (mountLook g present x (deviceOf g t)) x)
-        ∙ ap (λ (k : Shown). onPresent present (flushAll (g .drives)) ++ concat (withFlushes g present (stepsBeforeEntries g present x k (opened u)))) look-same
-
-    -- ---- step 8, by what they have left, which agrees again
-    module _ (sized : WellSized g t) (placed : AllPlaced g (storesBefore g present x t)) where
-      abbrev left : Tables → Tables
-      left a = runStores g (length (storesBefore g present x t)) (storesBefore g present x t) a
-
-      left-agree : AgreeOn g (isSet named) (left t) (left u)
-      left-agree = run-agrees g (isSet named) (length (storesBefore g present x t)) (storesBefore g present x t) t u sized placed (on-fewer present (isSet named) (storesBefore g present x t) inside (before-on g present x t)) same
-
-      last-same : withFlush g present (entryStep g (mountLook g present x (deviceOf g t)) (deviceOf g (left t))) ≡ withFlush g present (entryStep g (mountLook g present x (deviceOf g u)) (deviceOf g (left u)))
-      last-same =
-          let k = mountLook g present x (deviceOf g t) in
-          let v = deviceOf g (left t) in
-          let w = deviceOf g (left u) in
-          let agree = devices-same g named (left t) (left u) left-agree present inside in
-          flush-depends g present v w agree k (entryStep g k v) (entryStep g k w) (entry-depends g present v w agree k) ∙ ap (λ (l : Shown). withFlush g present (entryStep g l w)) look-same
-
-      pub mount-stores-same : mountStoresOn g present x t ≡ mountStoresOn g present x u
-      unfolding mountStoresOn
-      mount-stores-same =
-          ap (λ (ps : List (List Store)). storesBefore g present x t ++ concat ps) last-same
-          ∙ ap (λ (b : List Store). b ++ concat (withFlush g present (entryStep g (mountLook g present x (deviceOf g u)) (deviceOf g (runStores g (length b) b u))))) before-same
+  pub mount-stores-same : (x : ℕ) → mountStores g present x (deviceOf g t) ≡ mountStores g present x (deviceOf g u)
+  mount-stores-same x = mount-stores-depend g present x (deviceOf g t) (deviceOf g u) drives-agree past-same
 
 -- ---- the stores of an accepted mount are on named drives
-stores-on : (g : Geometry) (named : List Bool) (t : Tables) → mountVerdict g named t ≡ accept → OnNamed g named (mountStoresOn g (isPresent g (isSet named) (deviceOf g t)) (lostDrive g (isSet named) (deviceOf g t)) t) t
+pub mount-on : (g : Geometry) (present : ℕ → Bool) (x : ℕ) (v : Device) → AllOn present (mountStores g present x v)
+unfolding mountStores phasesBeforeEntries phasesOfLogs phasesOfParityLogs phasesOfEntries
+mount-on g present x v =
+    let R = startRoles g present x v in
+    let M = middleRoles g present x v in
+    let E = endRoles g present x v in
+    let k = mountLook g present x v in
+    let flushes = onPresent present (flushAll (g .drives)) in
+    let spares = withFlush g present (map (carry (placedBy R)) (spareStep g (mountView g present x v))) in
+    let general = withFlush g present (emptyGeneral g present R (byLook k) (emptiedGeneral g present x v) (mountView g present x v)) in
+    let steps = withFlushes g present (stepsBeforeEntries g present x k (mountView g present x v)) in
+    let a = afterFill g present x v in
+    let p = concat (phasesOfParityLogs g present x v a) in
+    let last = withFlush g present (entryStep g k (through (placedBy E) (applyAll p a))) in
+    let logs : AllOn present (flushes ++ concat (spares ++ general)) = on-append present flushes (concat (spares ++ general)) (on-present-on present (flushAll (g .drives)))
+    (rw (concat-append spares general) (on-append present (concat spares) (concat general) (on-step g present (map (carry (placedBy R)) (spareStep g (mountView g present x v)))) (on-step g present (emptyGeneral g present R (byLook k) (emptiedGeneral g present x v) (mountView g present x v))))) in
+    let own : AllOn present (concat (carryPhases (placedBy M) steps)) = rw (concat-carried (placedBy M) steps) (carry-on present (placedBy M) (concat steps) (on-steps g present (stepsBeforeEntries g present x k (mountView g present x v)))) in
+    let end : AllOn present (concat (carryPhases (placedBy E) last)) = rw (concat-carried (placedBy E) last) (carry-on present (placedBy E) (concat last) (on-step g present (entryStep g k (through (placedBy E) (applyAll p a))))) in
+    on-append present (concat (phasesBeforeEntries g present x v)) (p ++ concat (carryPhases (placedBy E) last))
+    (rw (concat-append (phasesOfLogs g present x v) (carryPhases (placedBy M) steps)) (on-append present (concat (phasesOfLogs g present x v)) (concat (carryPhases (placedBy M) steps)) logs own))
+    (on-append present p (concat (carryPhases (placedBy E) last)) (on-step g present (emptyParity g present M (byLook k) (emptiedParity g present x v) (through (placedBy M) a))) end)
+
+stores-on : (g : Geometry) (named : List Bool) (t : Tables) → mountVerdict g named t ≡ accept → OnNamed g named (mountStoresOn g (presentIn g (isSet named) (deviceOf g t)) (lostDriveIn g (isSet named) (deviceOf g t)) t) t
 stores-on g named t e =
-    let present = isPresent g (isSet named) (deviceOf g t) in
-    let lost = lostDrive g (isSet named) (deviceOf g t) in
+    let present = presentIn g (isSet named) (deviceOf g t) in
+    let lost = lostDriveIn g (isSet named) (deviceOf g t) in
     let stores = mountStoresOn g present lost t in
+    let sized = mount-passed g named t e .tables .sized in
     record {
-      sized = mount-passed g named t e .tables .sized;
-      placed = fits-all-placed g stores (deviceOf g t) (mount-stores-fit g named t e);
-      named-only = on-fewer present (isSet named) stores (λ d h. present-is-named g (isSet named) (deviceOf g t) d h .1) (mount-on g present lost t);
+      sized = sized;
+      placed = fits-all-placed g stores (deviceOf g t) (mount-tables-fit g named t e);
+      named-only = on-fewer present (isSet named) stores (λ d h. present-is-named g (isSet named) (seenIn g t) d h .1) (rw (mount-stores-are g present lost t sized (mount-stores-fit g named t e)) (mount-on g present lost (deviceOf g t)));
     }
 
 -- ==== two inputs that agree
 module _ (g : Geometry) (named : List Bool) (t u : Tables) (same : AgreeOn g (isSet named) t u) where
   abbrev v : Device
-  v = deviceOf g t
+  v = seenIn g t
 
   abbrev w : Device
-  w = deviceOf g u
+  w = seenIn g u
 
   abbrev found : Device → ℕ → Bool
   found x = isPresent g (isSet named) x
 
   all-same : SameOn (isSet named) v w
-  all-same = devices-same g named t u same (isSet named) (λ d p. p)
+  all-same = by-roles-depend g (isSet named) (deviceOf g t) (deviceOf g u) (devices-same g named t u same (isSet named) (λ d p. p))
 
   found-named : (x : Device) (d : ℕ) → found x d ≡ true → isSet named d ≡ true
   found-named x d h = present-is-named g (isSet named) x d h .1
 
   drives-same : SameOn (found v) v w
-  drives-same = devices-same g named t u same (found v) (found-named v)
+  drives-same d p = all-same d (found-named v d p)
+
+  roles-same : (d : ℕ) → found v d ≡ true → rolesOf g t d ≡ rolesOf g u d
+  roles-same d p = roles-depend g (isSet named) (deviceOf g t) (deviceOf g u) (devices-same g named t u same (isSet named) (λ d p. p)) d (found-named v d p)
 
   found-same : found v ≡ found w
   found-same = present-depends g (isSet named) v w all-same
@@ -128,16 +127,25 @@ module _ (g : Geometry) (named : List Bool) (t u : Tables) (same : AgreeOn g (is
   logs-same : badLogs g (found v) v ≡ badLogs g (found w) w
   logs-same = logs-depend g (found v) v w drives-same ∙ ap (λ (f : ℕ → Bool). badLogs g f w) found-same
 
-  full-same : mountFull g (found v) v ≡ mountFull g (found w) w
-  full-same = mount-full-depends g (found v) v w drives-same ∙ ap (λ (f : ℕ → Bool). mountFull g f w) found-same
+  kinds-same : kindLacks g (found v) (rolesOf g t) ≡ kindLacks g (found w) (rolesOf g u)
+  kinds-same = kinds-depend g (found v) v w drives-same (rolesOf g t) (rolesOf g u) roles-same ∙ ap (λ (f : ℕ → Bool). kindLacks g f (rolesOf g u)) found-same
+
+  abbrev fullFor : (ℕ → Bool) → ℕ → Bool
+  fullFor f x = mountFull g f (rolesOf g u) (byLook (showing g f x w)) w
+
+  full-same : mountFull g (found v) (rolesOf g t) (byLook (showing g (found v) (lostDrive g (isSet named) v) v)) v ≡ mountFull g (found w) (rolesOf g u) (byLook (showing g (found w) (lostDrive g (isSet named) w) w)) w
+  full-same =
+      let x = lostDrive g (isSet named) v in
+      mount-full-depends g (found v) v w drives-same (rolesOf g t) (rolesOf g u) roles-same (byLook (showing g (found v) x v)) (byLook (showing g (found v) x w)) (by-look-depends g (found v) v w drives-same x)
+      ∙ ap₂ (λ (f : ℕ → Bool) (x : ℕ). fullFor f x) found-same lost-same
 
   look-verdict-same : lookVerdict g named t ≡ lookVerdict g named u
   unfolding lookVerdict lookRows
-  look-verdict-same = rw (same .sectors-long, same .written-long, same .durable-long, pointers-agree g named t u same, two-lost-depends g (isSet named) v w all-same, labels-same, logs-same) refl
+  look-verdict-same = rw (same .sectors-long, same .written-long, same .durable-long, pointers-agree g named t u same, two-lost-depends g (isSet named) v w all-same, kinds-same, labels-same, logs-same) refl
 
   mount-verdict-same : mountVerdict g named t ≡ mountVerdict g named u
   unfolding mountVerdict mountRows
-  mount-verdict-same = rw (same .sectors-long, same .written-long, same .durable-long, pointers-agree g named t u same, two-lost-depends g (isSet named) v w all-same, labels-same, logs-same, full-same) refl
+  mount-verdict-same = rw (same .sectors-long, same .written-long, same .durable-long, pointers-agree g named t u same, two-lost-depends g (isSet named) v w all-same, kinds-same, labels-same, logs-same, full-same) refl
 
   -- ==== LOOK, which changes no memory
   shown-same : g .drives ≤ 8 → showing g (found v) (lostDrive g (isSet named) v) v ≡ showing g (found w) (lostDrive g (isSet named) w) w
@@ -165,14 +173,12 @@ module _ (g : Geometry) (named : List Bool) (t u : Tables) (same : AgreeOn g (is
     abbrev on : OnNamed g named (mountStoresOn g (found v) lost t) t
     on = stores-on g named t e
 
-    before-placed : AllPlaced g (storesBefore g (found v) lost t)
-    unfolding mountStoresOn
-    before-placed =
-        let before = storesBefore g (found v) lost t in
-        fits-all-placed g before v (fits-front g before (concat (withFlush g (found v) (entryStep g (mountLook g (found v) lost v) (deviceOf g (runStores g (length before) before t))))) v (mount-stores-fit g named t e))
-
     stores-same : mountStoresOn g (found v) lost t ≡ mountStoresOn g (found w) (lostDrive g (isSet named) w) u
-    stores-same = mount-stores-same g named few (found v) (found-named v) t u same lost (on .sized) before-placed ∙ ap₂ (λ (f : ℕ → Bool) (x : ℕ). mountStoresOn g f x u) found-same lost-same
+    stores-same =
+        let accepted = sym mount-verdict-same ∙ e in
+        mount-stores-are g (found v) lost t (on .sized) (mount-stores-fit g named t e) ∙ mount-stores-same g named few (found v) (found-named v) t u same lost
+        ∙ ap₂ (λ (f : ℕ → Bool) (x : ℕ). mountStores g f x (deviceOf g u)) found-same lost-same
+        ∙ sym (mount-stores-are g (found w) (lostDrive g (isSet named) w) u (mount-passed g named u accepted .tables .sized) (mount-stores-fit g named u accepted))
 
     state-same : mountShownOn g (found v) lost t ≡ mountShownOn g (found w) (lostDrive g (isSet named) w) u
     unfolding mountShownOn
@@ -181,16 +187,16 @@ module _ (g : Geometry) (named : List Bool) (t u : Tables) (same : AgreeOn g (is
         let after = run-agrees g (isSet named) (length ss) ss t u (on .sized) (on .placed) (on .named-only) same in
         ap (stateShown g) (
         showing-same g named few (found v) (found-named v) (runStores g (length ss) ss t) (runStores g (length ss) ss u) after lost
-        ∙ ap (λ (rs : List Store). showing g (found v) lost (deviceOf g (runStores g (length rs) rs u))) stores-same
-        ∙ ap₂ (λ (f : ℕ → Bool) (x : ℕ). showing g f x (deviceOf g (runStores g (length (mountStoresOn g (found w) (lostDrive g (isSet named) w) u)) (mountStoresOn g (found w) (lostDrive g (isSet named) w) u) u))) found-same lost-same
+        ∙ ap (λ (rs : List Store). showing g (found v) lost (seenIn g (runStores g (length rs) rs u))) stores-same
+        ∙ ap₂ (λ (f : ℕ → Bool) (x : ℕ). showing g f x (seenIn g (runStores g (length (mountStoresOn g (found w) (lostDrive g (isSet named) w) u)) (mountStoresOn g (found w) (lostDrive g (isSet named) w) u) u))) found-same lost-same
         )
 
 pub mount-absent : (g : Geometry) (named : List Bool) (old : State) (count : ℕ) → LeavesAbsent g named (mountOn g named old count)
 unfolding mountOn
 mount-absent g named old count =
     let number : Tables → ℕ = λ t. verdictNumber (mountVerdict g named t) in
-    let stores : Tables → List Store = λ t. mountStoresOn g (isPresent g (isSet named) (deviceOf g t)) (lostDrive g (isSet named) (deviceOf g t)) t in
-    let new : Tables → State = λ t. mountShownOn g (isPresent g (isSet named) (deviceOf g t)) (lostDrive g (isSet named) (deviceOf g t)) t in
+    let stores : Tables → List Store = λ t. mountStoresOn g (presentIn g (isSet named) (deviceOf g t)) (lostDriveIn g (isSet named) (deviceOf g t)) t in
+    let new : Tables → State = λ t. mountShownOn g (presentIn g (isSet named) (deviceOf g t)) (lostDriveIn g (isSet named) (deviceOf g t)) t in
     record {
       not-read = λ t u same.
           storing-same g named old count t u same (number t) (number u) (ap verdictNumber (mount-verdict-same g named t u same)) (stores t) (stores u) (λ e. stores-same g named t u same (mount-number-accepts g named t e)) (new t) (new u) (λ e. state-same g named t u same (mount-number-accepts g named t e))

@@ -23,14 +23,14 @@ use Rattle.tables.specs.meaning.Placement.{needed}
 use Rattle.tables.specs.meaning.Drives.{noDrive}
 use Rattle.tables.specs.meaning.Device.{Device, Store, reset}
 use Rattle.tables.specs.meaning.Phases.{onPresent, flushAll}
-use Rattle.logs.specs.meaning.Entry.{parityZone, label, counters, zoneReset, seal, partialParity, Entry}
+use Rattle.logs.specs.meaning.Entry.{parityZone, label, counters, zoneReset, seal, closing, partialParity, Entry}
 use Rattle.logs.specs.meaning.Heads.{lastLost, isSealAt, endsAt}
 use Rattle.logs.specs.meaning.Walk.{Ending, atPointer, noEntry, torn, sectorsOf}
 use Rattle.volume.specs.meaning.State.{isEmpty, isSealed}
 use Rattle.volume.specs.meaning.Content.{contentAt, insideStripe, entryAt, parityDriveAt}
 use Rattle.volume.specs.meaning.Rules.{Shown, generalHeads, parityEntries, parityEnding}
 use Rattle.volume.specs.meaning.Calls.{appendAll, appendGeneral, generationsFrom, logsReset}
-use Rattle.volume.specs.meaning.Mount.{labelStep, resetEntryStep, needsReset, zoneResetStep, nextGeneration, countersDiffer, counterStep, sealStep, rowFor, missingRows, tornRowStep, fillStep, entryStep, withFlush, withFlushes}
+use Rattle.volume.specs.meaning.Mount.{labelStep, resetEntryStep, needsReset, zoneResetStep, nextGeneration, counterStep, sealStep, rowFor, missingRows, tornRowStep, fillStep, entryStep, withFlush, withFlushes}
 use Rattle.volume.specs.mounting.MountFillOn.{missing, fillZone}
 use Rattle.tables.specs.laws.AppendCounts.{appendsTo, appends-append, appends-present, appends-flushes, appends-pick, appends-each, appends-one, appends-both, appends-zones}
 use Rattle.volume.specs.laws.CallAppends.{inGeneral, appends-general, appends-general-pick, appends-all, appends-all-most, appends-elsewhere, entry-long}
@@ -57,11 +57,11 @@ module _ (g : Geometry) (k : Shown) (d y : ℕ) where
   unfolding labelStep
   label-appends x w = appends-one d y d _ (g .drives) (inGeneral y) (λ e l. appends-general-pick g (ltb x (g .drives) && not (eqb (lastLost noDrive (generalHeads g w e)) x)) (label x (k .array)) d y e)
 
-  pub counter-appends : (present : ℕ → Bool) (w : Device) → appendsTo d y (counterStep g present k w) ≤ inGeneral y
+  pub counter-appends : (differ : Bool) → appendsTo d y (counterStep g k differ) ≤ inGeneral y
   unfolding counterStep
-  counter-appends present w =
+  counter-appends differ =
       let cs = counters (generationsFrom (nextGeneration k) zero (g .zones)) in
-      appends-pick d y (inGeneral y) (anyBelow (λ z. isEmpty (k .zone z .condition)) (g .zones) || countersDiffer g present w) (eachBelow (λ e. appendGeneral g cs e) (g .drives))
+      appends-pick d y (inGeneral y) (anyBelow (λ z. isEmpty (k .zone z .condition)) (g .zones) || differ) (eachBelow (λ e. appendGeneral g cs e) (g .drives))
       (appends-one d y d (λ e. appendGeneral g cs e) (g .drives) (inGeneral y) (λ e l. appends-general g cs d y e))
 
   -- a zone gets a reset entry or a seal, not both
@@ -119,6 +119,7 @@ module _ (g : Geometry) (k : Shown) (d y : ℕ) where
   missing-most (torn (zoneReset z n) rs) = omega arith
   missing-most (torn (partialParity z s f n) rs) = omega (arith, length-tabulate-from (rowFor g (k .zone z) s f n) (length rs) (min f (g .unit) - length rs))
   missing-most (torn (seal z p n) rs) = omega arith
+  missing-most (torn (closing kind gen) rs) = omega arith
 
   pub torn-appends : (w : Device) → appendsTo d y (tornRowStep g k w) ≤ inParity (g .unit)
   unfolding tornRowStep

@@ -2,7 +2,7 @@
 -- on present drives are the same.
 use mathlib.Core.Path.{_≡_, refl, sym, ap, ap₂, _∙_}
 use mathlib.Core.Logic.{_⊎_, inl, inr}
-use mathlib.Core.Bool.{Bool, true, false, _&&_, _||_, not}
+use mathlib.Core.Bool.{Bool, true, false, _&&_, not}
 use Prim.Native.Nat.{ℕ, zero, suc, _-_, _<_}
 use mathlib.Core.List.{List, [], _∷_, _++_, map}
 use lib.ListN.{length}
@@ -19,20 +19,20 @@ use Rattle.tables.specs.laws.Drives.{find-below-is}
 use Rattle.tables.specs.meaning.Device.{Device, Store, storeDrive}
 use Rattle.tables.specs.meaning.Phases.{onPresent, flushAll}
 use Rattle.tables.specs.laws.Phases.{on-present-append}
-use Rattle.logs.specs.meaning.Entry.{generalZone, parityZone, label, counters, seal, Header, Entry}
+use Rattle.logs.specs.meaning.Entry.{generalZone, parityZone, label, seal, Header, Entry}
 use Rattle.logs.specs.meaning.Heads.{arrayIn, lastLost, lastCounters, isSealAt, endsAt}
 use Rattle.logs.specs.meaning.Walk.{walkLog, sectorsOf}
-use Rattle.volume.specs.meaning.State.{isEmpty, isSealed}
+use Rattle.volume.specs.meaning.State.{isSealed}
 use Rattle.volume.specs.meaning.Content.{contentAt, insideStripe, entryAt, parityDriveAt}
 use Rattle.volume.specs.meaning.Rules.{Shown, showing, generalHeads, parityEntries, parityEnding}
-use Rattle.volume.specs.meaning.Calls.{appendAll, appendGeneral, generationsFrom}
-use Rattle.volume.specs.meaning.Mount.{labelStep, resetEntryStep, zoneResetStep, nextGeneration, countersDiffer, counterStep, sealStep, missingRows, tornRowStep, fillStep, entryStep, withFlush, withFlushes, stepsBeforeEntries, afterOpening}
+use Rattle.volume.specs.meaning.Calls.{appendAll, appendGeneral}
+use Rattle.volume.specs.meaning.Mount.{labelStep, resetEntryStep, zoneResetStep, countersDiffer, counterStep, sealStep, missingRows, tornRowStep, fillStep, entryStep, withFlush, withFlushes, stepsBeforeEntries, afterOpening}
 use Rattle.volume.specs.mounting.MountFillOn.{missing, fillZone}
 use Rattle.volume.specs.mounting.RestoreAgrees.{opening-sectors}
 use Rattle.volume.specs.laws.Depends.{SameOn, and-same, heads-same, parity-same, ending-same, zone-depends}
 
 -- ---- stores of one drive
-abbrev AllOf : ℕ → List Store → Type 0
+abbrev pub AllOf : ℕ → List Store → Type 0
 AllOf d [] = Unit {0}
 AllOf d (x ∷ xs) = (storeDrive x ≡ d) × AllOf d xs
 
@@ -44,7 +44,7 @@ of-each : (d : ℕ) (f : ℕ → List Store) (n : ℕ) → ((k : ℕ) → AllOf 
 of-each d f zero h = tt
 of-each d f (suc n) h = of-append d (eachBelow f n) (f n) (of-each d f n h) (h n)
 
-of-pick : (d : ℕ) (b : Bool) (xs : List Store) → AllOf d xs → AllOf d (pick b xs [])
+pub of-pick : (d : ℕ) (b : Bool) (xs : List Store) → AllOf d xs → AllOf d (pick b xs [])
 of-pick d true xs p = p
 of-pick d false xs p = tt
 
@@ -58,7 +58,7 @@ own-absent a d [] h p = refl
 own-absent a d (x ∷ xs) h p = rw (p .0, h) (own-absent a d xs h (p .1))
 
 -- so lists for each drive count only where a drive is present
-present-each : (a : ℕ → Bool) (f h : ℕ → List Store) (n : ℕ) → ((d : ℕ) → AllOf d (f d)) → ((d : ℕ) → AllOf d (h d)) → ((d : ℕ) → a d ≡ true → f d ≡ h d) → onPresent a (eachBelow f n) ≡ onPresent a (eachBelow h n)
+pub present-each : (a : ℕ → Bool) (f h : ℕ → List Store) (n : ℕ) → ((d : ℕ) → AllOf d (f d)) → ((d : ℕ) → AllOf d (h d)) → ((d : ℕ) → a d ≡ true → f d ≡ h d) → onPresent a (eachBelow f n) ≡ onPresent a (eachBelow h n)
 present-each a f h zero p q e = refl
 present-each a f h (suc n) p q e =
     on-present-append a (eachBelow f n) (f n) ∙ ap₂ (λ (xs ys : List Store). xs ++ ys) (present-each a f h n p q e) (go (a n) refl) ∙ sym (on-present-append a (eachBelow h n) (h n))
@@ -95,9 +95,8 @@ module _ (g : Geometry) (present : ℕ → Bool) (v w : Device) (same : SameOn p
       others : (d e : ℕ) → present d ≡ true → present e ≡ true → other v d e ≡ other w d e
       others d e p q = ap₂ (λ (a b : List Header). not (sameBytes (lastCounters [] a) (lastCounters [] b))) (heads d p) (heads e q)
 
-  counter-depends : counterStep g present k v ≡ counterStep g present k w
-  unfolding counterStep
-  counter-depends = ap (λ (b : Bool). pick (anyBelow (λ z. isEmpty (k .zone z .condition)) (g .zones) || b) (eachBelow (λ d. appendGeneral g (counters (generationsFrom (nextGeneration k) zero (g .zones))) d) (g .drives)) []) counters-differ-depends
+  counter-depends : counterStep g k (countersDiffer g present v) ≡ counterStep g k (countersDiffer g present w)
+  counter-depends = ap (counterStep g k) counters-differ-depends
 
   seal-depends : onPresent present (sealStep g k v) ≡ onPresent present (sealStep g k w)
   unfolding sealStep

@@ -1,11 +1,10 @@
 -- What a mount writes into the logs reads back, on any input: the numbers that its look shows have room in their fields, and its headers fit their drives.
-use mathlib.Core.Path.{_≡_, refl, sym, ap, _∙_, subst}
+use mathlib.Core.Path.{_≡_, refl, sym, _∙_}
 use mathlib.Core.Logic.{_≢_, _⊎_, inl, inr}
-use mathlib.Core.Bool.{Bool, true, false, _&&_, _||_, not, true≢false}
+use mathlib.Core.Bool.{Bool, true, false, _||_, not, true≢false}
 use Prim.Native.Nat.{ℕ, zero, suc, _+_, _-_, _*_, _^_, _<_, min}
 use native.Mathlib.Omega.{arith}
-use mathlib.Core.List.{List, [], _∷_, _++_, map}
-use lib.ListN.{length, take, replicate, length-take}
+use lib.ListN.{length}
 use lib.Dec.{ltb, eqb}
 use borrow.Author.Tests.{lt-ltb, le-leb, ltb-true, eq-eqb, eqb-false}
 use Rattle.tables.specs.declared.Geometry.{Geometry}
@@ -15,59 +14,22 @@ use Rattle.tables.specs.meaning.Drives.{findBelow, noDrive}
 use Rattle.tables.specs.meaning.Geometry.{Valid, stripeSectors, zoneSectors}
 use Rattle.tables.specs.meaning.Placement.{stripeOf}
 use Rattle.tables.specs.laws.Placement.{stripe-above}
-use Rattle.tables.specs.meaning.LittleEndian.{sameBytes, numberLE, bytesLE}
 use Rattle.tables.specs.meaning.Device.{Device}
-use Rattle.logs.specs.meaning.Entry.{generalZone, wornGeneration, Header, Entry, label, counters, zoneReset, partialParity, seal, legal, bad, encode, frame, labelBytes, readFields, kindOf, decode, fitsLog}
-use Rattle.logs.specs.meaning.Walk.{walkLog}
-use Rattle.logs.specs.meaning.Heads.{arrayIn}
+use Rattle.logs.specs.meaning.Entry.{generalZone, wornGeneration, label, counters, zoneReset, partialParity, seal}
 use Rattle.logs.specs.laws.Entry.{worn-is}
 use Rattle.logs.specs.laws.Walk.{Reads, Whole}
-use Rattle.logs.specs.laws.Legal.{legal-reads-back, fits-reads-back}
-use Rattle.logs.specs.laws.Places.{entry-place}
-use Rattle.logs.specs.code.Query.{headsOf}
+use Rattle.logs.specs.laws.Legal.{fits-reads-back}
 use Rattle.volume.specs.declared.Condition.the-variants.{Empty, Open, Sealed, Worn}
 use Rattle.volume.specs.meaning.State.{isEmpty, isSealed}
 use Rattle.volume.specs.meaning.Content.{insideStripe, fillOf, parityDriveAt, entryAt}
 use Rattle.volume.specs.meaning.Rules.{Shown, generalHeads, conditionOf, pointerAt, cleanAt, sealSeen, generationOf, zoneAt, zoneShown, showing}
 use Rattle.volume.specs.meaning.Calls.{generationsFrom, logsReset}
-use Rattle.volume.specs.meaning.Mount.{mountLook, afterOpening, nextGeneration}
+use Rattle.volume.specs.meaning.Mount.{mountView, mountLook, nextGeneration}
 use Rattle.volume.specs.mounting.MountStart.{empty-fresh}
-use Rattle.volume.specs.laws.ByteLists.{bytes-append, bytes-take, bytes-zeros, number-in-bytes, number-small}
+use Rattle.volume.specs.laws.ArrayNumbers.{array-small}
 use Rattle.volume.specs.laws.Counters.{generations-length, generations-small}
 use Rattle.volume.specs.laws.GenerationRange.{generation-range}
-use Rattle.volume.specs.laws.MountStoresFit.{look-pointer}
-
--- ---- the array number of a legal label has room in 8 bytes
-fields-are : (g : Geometry) (d : ℕ) (par : Bool) (s : List ℕ) (h : Header) → decode g d par s ≡ legal h → readFields g s ≡ h
-fields-are g d par s h e = go (sameBytes (encode g d (readFields g s)) s && fitsLog g d par (readFields g s)) e
-  where
-    go : (b : Bool) → pick b (legal (readFields g s)) bad ≡ legal h → readFields g s ≡ h
-    go true q = cc
-    go false q = absurd (let z : _≡_ {A = ℕ} 0 1 = cc in omega arith)
-
-abbrev arrayBytes : Geometry → ℕ → List ℕ
-arrayBytes g a = take 8 (bytesLE 8 a ++ replicate (g .sector - 56) 0)
-
-array-bytes : (g : Geometry) (a : ℕ) → numberLE (arrayBytes g a) < 256 ^ 8
-array-bytes g a = number-small 8 (arrayBytes g a) (rw length-take (omega arith)) (bytes-take 8 (bytesLE 8 a ++ replicate (g .sector - 56) 0) (bytes-append (bytesLE 8 a) (replicate (g .sector - 56) 0) (number-in-bytes 8 a) (bytes-zeros (g .sector - 56))))
-
-array-read : (g : Geometry) (d x a : ℕ) → readFields g (encode g d (label x a)) ≡ label x a → numberLE (arrayBytes g a) ≡ a
-unfolding readFields kindOf encode frame labelBytes
-array-read g d x a e = ap (λ (h : Header). arrayIn (h ∷ [])) e
-
-array-legal : (g : Geometry) (d : ℕ) (s : List ℕ) (h : Header) (hs : List Header) → decode g d false s ≡ legal h → arrayIn (h ∷ hs) < 256 ^ 8
-array-legal g d s (label x a) hs r = subst (λ (n : ℕ). n < 256 ^ 8) (array-read g d x a (fields-are g d false (encode g d (label x a)) (label x a) (legal-reads-back g d false s (label x a) r))) (array-bytes g a)
-array-legal g d s (counters cs) hs r = omega arith
-array-legal g d s (zoneReset z n) hs r = omega arith
-array-legal g d s (partialParity z i f n) hs r = omega arith
-array-legal g d s (seal z p n) hs r = omega arith
-
-array-small : (g : Geometry) (d : ℕ) (ss : List (List ℕ)) → arrayIn (headsOf (walkLog g d false ss)) < 256 ^ 8
-array-small g d ss = go (walkLog g d false ss .entries) refl
-  where
-    go : (es : List Entry) → walkLog g d false ss .entries ≡ es → arrayIn (map (λ (e : Entry). e .head) es) < 256 ^ 8
-    go [] q = omega arith
-    go (e ∷ es) q = array-legal g d _ (e .head) (map (λ (e : Entry). e .head) es) (entry-place g d false ss [] e es q .reads)
+use Rattle.volume.specs.laws.LookPointers.{look-pointer}
 
 -- ---- a sealed zone has sectors
 sealed-positive : (n q : ℕ) (c s : Bool) → isSealed (conditionOf n q c s) ≡ true → zero < q
@@ -84,12 +46,12 @@ module _ (g : Geometry) (ok : Valid g) (present : ℕ → Bool) (x : ℕ) (v : D
 
   generation-small : (z : ℕ) → z < g .zones → k .zone z .generation < 256 ^ 8
   unfolding mountLook showing zoneShown zoneAt
-  generation-small z hz = generation-range g present (afterOpening g present v) z hz
+  generation-small z hz = generation-range g present (mountView g present x v) z hz
 
   empty-raises : (z : ℕ) → isEmpty (k .zone z .condition) ≡ true → k .zone z .generation ≢ wornGeneration
   unfolding mountLook showing zoneShown zoneAt
   empty-raises z e =
-      let w = afterOpening g present v in
+      let w = mountView g present x v in
       let n = generationOf g present w z in
       let q = pointerAt g present w z n in
       empty-fresh n q (cleanAt g present w z n q) (sealSeen g present w z n) e
@@ -104,14 +66,14 @@ module _ (g : Geometry) (ok : Valid g) (present : ℕ → Bool) (x : ℕ) (v : D
   sealed-pointer : (z : ℕ) → isSealed (k .zone z .condition) ≡ true → zero < k .zone z .pointer
   unfolding mountLook showing zoneShown zoneAt
   sealed-pointer z e =
-      let w = afterOpening g present v in
+      let w = mountView g present x v in
       let n = generationOf g present w z in
       let q = pointerAt g present w z n in
       sealed-positive n q (cleanAt g present w z n q) (sealSeen g present w z n) e
 
   array-here : k .array < 256 ^ 8
   unfolding mountLook showing generalHeads
-  array-here = array-small g (findBelow present (g .drives)) (afterOpening g present v (findBelow present (g .drives)) generalZone .sectors)
+  array-here = array-small g (findBelow present (g .drives)) (mountView g present x v (findBelow present (g .drives)) generalZone .sectors)
 
   -- ---- the headers of steps 1, 2, 4, 5, and the entry of step 8
   pub label-reads : (d : ℕ) → (x < g .drives) ⊎ (x ≡ noDrive) → Reads g d false (label x (k .array))

@@ -20,7 +20,7 @@ use Rattle.tables.specs.meaning.Drives.{noDrive}
 use Rattle.tables.specs.meaning.Geometry.{Valid, dataZone}
 use Rattle.tables.specs.meaning.Placement.{needed}
 use Rattle.tables.specs.meaning.Device.{Device, Store, reset}
-use Rattle.logs.specs.meaning.Entry.{generalZone, parityZone, Header, Entry, label, counters, zoneReset, partialParity, seal, rowsOf, encode, fitsLog}
+use Rattle.logs.specs.meaning.Entry.{generalZone, parityZone, Header, Entry, label, counters, zoneReset, partialParity, seal, closing, rowsOf, encode, fitsLog}
 use Rattle.logs.specs.meaning.Walk.{Ending, atPointer, noEntry, torn, walkLog, sectorsOf}
 use Rattle.logs.specs.meaning.Heads.{lastLost, isSealAt, endsAt}
 use Rattle.logs.specs.laws.Walk.{Reads}
@@ -30,18 +30,28 @@ use Rattle.volume.specs.meaning.State.{isEmpty, isSealed}
 use Rattle.volume.specs.meaning.Content.{contentAt, insideStripe, entryAt, parityDriveAt}
 use Rattle.volume.specs.meaning.Rules.{Shown, generalHeads, parityEntries, parityEnding}
 use Rattle.volume.specs.meaning.Calls.{appendAll, appendGeneral, generationsFrom, logsReset}
-use Rattle.volume.specs.meaning.Mount.{labelStep, resetEntryStep, zoneResetStep, counterStep, sealStep, tornRowStep, fillStep, entryStep, needsReset, nextGeneration, countersDiffer, rowFor, missingRows, mountLook, afterOpening, stepsBeforeEntries}
+use Rattle.volume.specs.meaning.Mount.{labelStep, resetEntryStep, zoneResetStep, counterStep, sealStep, tornRowStep, fillStep, entryStep, needsReset, nextGeneration, countersDiffer, rowFor, missingRows, mountLook, mountView, stepsBeforeEntries}
 use Rattle.volume.specs.laws.SectorsStored.{sectorsTo, AllKeepLogs, EachKeepsLogs, keep-each, keep-pick, keep-appends, sectors-append, each-stored, pick-stored, steps-stored, none-join, own-stored, appends-there, appends-other-drive, appends-other-zone}
-use Rattle.volume.specs.laws.GrowingLogs.{Headers, headers-join, Entries, no-entries, one-entry, entries-join, Lacks}
+use Rattle.volume.specs.laws.GrowingLogs.{Plain, Headers, headers-join, Entries, no-entries, one-entry, entries-join, Lacks}
 use Rattle.volume.specs.laws.MountHeadersRead.{label-reads, reset-reads, counters-read, seal-reads, entry-reads, entry-whole}
 
--- a label that names drive x, and any other header
+-- a label that names drive x, and any other header but a closing entry
 abbrev pub NamesLost : ℕ → Header → Type 0
 NamesLost x (label y a) = y ≡ x
 NamesLost x (counters cs) = Unit {0}
 NamesLost x (zoneReset z n) = Unit {0}
 NamesLost x (partialParity z s f n) = Unit {0}
 NamesLost x (seal z p n) = Unit {0}
+NamesLost x (closing kind gen) = ⊥
+
+-- what a mount appends to a general log is no closing entry
+pub names-plain : (x : ℕ) (h : Header) → NamesLost x h → Plain h
+names-plain x (label y a) p k n e = let o : _≡_ {A = ℕ} 0 1 = cc in omega arith
+names-plain x (counters cs) p k n e = let o : _≡_ {A = ℕ} 0 1 = cc in omega arith
+names-plain x (zoneReset z i) p k n e = let o : _≡_ {A = ℕ} 0 1 = cc in omega arith
+names-plain x (partialParity z s f i) p k n e = let o : _≡_ {A = ℕ} 0 1 = cc in omega arith
+names-plain x (seal z q i) p k n e = let o : _≡_ {A = ℕ} 0 1 = cc in omega arith
+names-plain x (closing j i) p k n e = p
 
 -- ---- parts of the steps: when each stores, and what
 abbrev labelDue : Geometry → ℕ → Device → ℕ → Bool
@@ -50,8 +60,8 @@ labelDue g x w d = ltb x (g .drives) && not (eqb (lastLost noDrive (generalHeads
 abbrev lostLabel : ℕ → Shown → Header
 lostLabel x k = label x (k .array)
 
-abbrev countersDue : Geometry → (ℕ → Bool) → Shown → Device → Bool
-countersDue g present k w = anyBelow (λ z. isEmpty (k .zone z .condition)) (g .zones) || countersDiffer g present w
+abbrev countersDue : Geometry → Shown → Bool → Bool
+countersDue g k differ = anyBelow (λ z. isEmpty (k .zone z .condition)) (g .zones) || differ
 
 abbrev nextCounters : Geometry → Shown → Header
 nextCounters g k = counters (generationsFrom (nextGeneration k) zero (g .zones))
@@ -93,8 +103,8 @@ module _ (g : Geometry) (k : Shown) where
       resets : AllKeepLogs (zoneResetStep g k)
       resets = keep-each _ (g .drives) (λ d. keep-each _ (g .zones) (λ z. keep-pick (needsReset (k .zone z)) (reset d (dataZone z) ∷ []) (omega arith, tt)))
 
-      raised : AllKeepLogs (counterStep g present k w)
-      raised = keep-pick (countersDue g present k w) (eachBelow (λ d. appendGeneral g (nextCounters g k) d) (g .drives)) (keep-each (λ d. appendGeneral g (nextCounters g k) d) (g .drives) (λ d. (tt, tt)))
+      raised : AllKeepLogs (counterStep g k (countersDiffer g present w))
+      raised = keep-pick (countersDue g k (countersDiffer g present w)) (eachBelow (λ d. appendGeneral g (nextCounters g k) d) (g .drives)) (keep-each (λ d. appendGeneral g (nextCounters g k) d) (g .drives) (λ d. (tt, tt)))
 
       seals : AllKeepLogs (sealStep g k w)
       seals = keep-each _ (g .drives) (λ d. keep-each _ (g .zones) (λ z. keep-general (sealDue g k w d z) (sealHere k z) d))
@@ -111,7 +121,7 @@ module _ (g : Geometry) (ok : Valid g) (present : ℕ → Bool) (x : ℕ) (v : D
   look = mountLook g present x v
 
   abbrev opened : Device
-  opened = afterOpening g present v
+  opened = mountView g present x v
 
   abbrev Joins : List (List ℕ) → Type 0
   Joins = Headers g d (NamesLost x)
@@ -150,10 +160,10 @@ module _ (g : Geometry) (ok : Valid g) (present : ℕ → Bool) (x : ℕ) (v : D
   unfolding zoneResetStep
   resets-join = each-joins _ (g .drives) (λ e l. each-joins _ (g .zones) (λ z hz. pick-joins (needsReset (look .zone z)) (reset e (dataZone z) ∷ []) (λ q. tt)))
 
-  counters-join : Joins (sectorsTo d generalZone (counterStep g present look opened))
+  counters-join : Joins (sectorsTo d generalZone (counterStep g look (countersDiffer g present opened)))
   unfolding counterStep
   counters-join =
-      pick-joins (countersDue g present look opened) (eachBelow (λ e. appendGeneral g (nextCounters g look) e) (g .drives))
+      pick-joins (countersDue g look (countersDiffer g present opened)) (eachBelow (λ e. appendGeneral g (nextCounters g look) e) (g .drives))
       (λ q. each-joins (λ e. appendGeneral g (nextCounters g look) e) (g .drives) (λ e l. one-joins (nextCounters g look) e (λ i. (counters-read g ok present x v d, tt))))
 
   seals-join : Joins (sectorsTo d generalZone (sealStep g look opened))
@@ -212,10 +222,10 @@ module _ (g : Geometry) (k : Shown) (w : Device) (d : ℕ) where
   unfolding zoneResetStep
   resets-unseen = each-unseen _ (g .drives) (λ e l. each-unseen _ (g .zones) (λ z hz. pick-unseen (needsReset (k .zone z)) (reset e (dataZone z) ∷ []) (λ q. refl)))
 
-  counters-unseen : (present : ℕ → Bool) → Unseen (sectorsTo d parityZone (counterStep g present k w))
+  counters-unseen : (present : ℕ → Bool) → Unseen (sectorsTo d parityZone (counterStep g k (countersDiffer g present w)))
   unfolding counterStep
   counters-unseen present =
-      pick-unseen (countersDue g present k w) (eachBelow (λ e. appendGeneral g (nextCounters g k) e) (g .drives)) (λ q. each-unseen (λ e. appendGeneral g (nextCounters g k) e) (g .drives) (λ e l. general-unseen (nextCounters g k) e))
+      pick-unseen (countersDue g k (countersDiffer g present w)) (eachBelow (λ e. appendGeneral g (nextCounters g k) e) (g .drives)) (λ q. each-unseen (λ e. appendGeneral g (nextCounters g k) e) (g .drives) (λ e l. general-unseen (nextCounters g k) e))
 
   seals-unseen : Unseen (sectorsTo d parityZone (sealStep g k w))
   unfolding sealStep
@@ -237,10 +247,10 @@ module _ (g : Geometry) (k : Shown) (w : Device) (d : ℕ) where
       let rows = tornRowStep g k w in
       let from6 : List (List Store) = rows ∷ fillStep g k w ∷ [] in
       let from5 : List (List Store) = sealStep g k w ∷ from6 in
-      let from4 : List (List Store) = counterStep g present k w ∷ from5 in
+      let from4 : List (List Store) = counterStep g k (countersDiffer g present w) ∷ from5 in
       let from3 : List (List Store) = zoneResetStep g k ∷ from4 in
       let from2 : List (List Store) = resetEntryStep g k ∷ from3 in
-      skip-step (labelStep g x k w) from2 (labels-unseen x) ∙ skip-step (resetEntryStep g k) from3 reset-entries-unseen ∙ skip-step (zoneResetStep g k) from4 resets-unseen ∙ skip-step (counterStep g present k w) from5 (counters-unseen present) ∙ skip-step (sealStep g k w) from6 seals-unseen
+      skip-step (labelStep g x k w) from2 (labels-unseen x) ∙ skip-step (resetEntryStep g k) from3 reset-entries-unseen ∙ skip-step (zoneResetStep g k) from4 resets-unseen ∙ skip-step (counterStep g k (countersDiffer g present w)) from5 (counters-unseen present) ∙ skip-step (sealStep g k w) from6 seals-unseen
       ∙ sectors-append d parityZone rows (fillStep g k w ++ []) ∙ ap (λ (ss : List (List ℕ)). sectorsTo d parityZone rows ++ ss) (skip-step (fillStep g k w) [] fill-unseen)
       ∙ append-nil (sectorsTo d parityZone rows) ∙ torn-rows-there hd
 
@@ -254,6 +264,7 @@ missing-lack g k d ss n = go (walkLog g d true ss .last) n (walk-places g d true
     rows (zoneReset z m) rs f l = absurd (true≢false (sym f))
     rows (partialParity z s c m) rs f l = omega (arith, l, length-tabulate-from (rowFor g (k .zone z) s c m) (length rs) (min c (g .unit) - length rs))
     rows (seal z p m) rs f l = absurd (true≢false (sym f))
+    rows (closing kind gen) rs f l = absurd (omega arith)
 
     go : (end : Ending) → end ≢ noEntry → EndsAt g d true ss end (walkLog g d true ss .position) → Lacks g d end (length (missingRows g k end))
     go atPointer q p = refl
@@ -268,6 +279,10 @@ module _ (g : Geometry) (ok : Valid g) (present : ℕ → Bool) (x : ℕ) (v u :
   abbrev shown : Shown
   shown = mountLook g present x v
 
+  entry-plain : (z : ℕ) → Plain (entryHere g shown z .head)
+  unfolding entryAt
+  entry-plain z k n e = let o : _≡_ {A = ℕ} 0 1 = cc in omega arith
+
   entry-joins : (e z : ℕ) → z < g .zones → insideStripe g (shown .zone z .pointer) ≡ true → e ≡ parityDriveAt g z (shown .zone z .pointer)
       → Entries g d (sectorsTo d parityZone (appendAll e parityZone (sectorsOf g e true (entryHere g shown z))))
   entry-joins e z hz i p = go (ℕ-discrete d e)
@@ -277,7 +292,7 @@ module _ (g : Geometry) (ok : Valid g) (present : ℕ → Bool) (x : ℕ) (v u :
 
       go : Dec (d ≡ e) → Entries g d (sectorsTo d parityZone (appendAll e parityZone (sectorsOf g e true entry)))
       go (yes q) = subst (λ (j : ℕ). Entries g d (sectorsTo d parityZone (appendAll j parityZone (sectorsOf g j true entry)))) q
-          (subst (Entries g d) (sym (appends-there d parityZone (sectorsOf g d true entry))) (one-entry g d entry (entry-reads g ok present x v d z hz i (q ∙ p)) (entry-whole g ok present x v d z)))
+          (subst (Entries g d) (sym (appends-there d parityZone (sectorsOf g d true entry))) (one-entry g d entry (entry-reads g ok present x v d z hz i (q ∙ p)) (entry-whole g ok present x v d z) (entry-plain z)))
       go (no n) = subst (Entries g d) (sym (appends-other-drive d parityZone e parityZone (sectorsOf g e true entry) n)) (no-entries g d)
 
   each-entries : (f : ℕ → List Store) (n : ℕ) → ((i : ℕ) → i < n → Entries g d (sectorsTo d parityZone (f i))) → Entries g d (sectorsTo d parityZone (eachBelow f n))

@@ -1,112 +1,162 @@
--- The stores of an accepted mount have their place, on any input: what a look shows is sectors of B bytes; and they are on present drives.
-use mathlib.Core.Path.{_≡_, sym, ap, subst, _∙_}
-use mathlib.Core.Bool.{Bool, true, false, not}
-use Prim.Native.Nat.{ℕ, _-_, _<_}
-use native.Mathlib.Nat.{le-refl}
+-- The stores of a mount's steps have their place, on any input, where what its look shows is sectors of B bytes (`look-values`); and they are on present drives.
+use mathlib.Core.Path.{_≡_, refl, sym, ap, _∙_}
+use mathlib.Core.Bool.{Bool, true, false, _&&_, _||_, not}
+use Prim.Native.Nat.{ℕ, zero, _+_, _-_, _*_, _/_, _%_, _<_, min}
+use native.Mathlib.Nat.{le-refl, mod-lt}
+use native.Mathlib.Decide.{ℕ-discrete}
+use native.Mathlib.Omega.{arith}
 use mathlib.Core.List.{List, [], _∷_, _++_}
-use lib.ListN.{length, replicate}
-use lib.Dec.{ltb}
-use borrow.Author.Tests.{ltb-true}
+use lib.ListN.{length, replicate, length-replicate}
+use lib.Dec.{ltb, leb, eqb}
+use borrow.Author.Tests.{ltb-true, leb-true}
 use Rattle.tables.specs.declared.Geometry.{Geometry}
 use Rattle.tables.specs.meaning.Basics.{pick}
 use Rattle.tables.specs.laws.Basics.{and-split, or-none, not-true, not-not}
-use Rattle.tables.specs.meaning.Below.{tabulate}
-use Rattle.tables.specs.meaning.Geometry.{Valid}
-use Rattle.tables.specs.meaning.Lists.{concat, isNil}
+use Rattle.tables.specs.meaning.Below.{anyBelow, eachBelow, tabulateFrom}
+use Rattle.tables.specs.meaning.Geometry.{Valid, stripeSectors, dataZone}
+use Rattle.tables.specs.meaning.Placement.{needed, parityDrive, address, addressAt}
+use Rattle.tables.specs.meaning.Lists.{anyOf, concat, isNil}
 use Rattle.tables.specs.laws.Lists.{concat-append}
 use Rattle.tables.specs.meaning.Phases.{onPresent, flushAll}
-use Rattle.tables.specs.meaning.Device.{Device, Store, append, reset, flush}
-use Rattle.tables.specs.meaning.Tables.{Tables, deviceOf, runStores}
-use Rattle.tables.specs.laws.Made.{Placed, AllPlaced}
+use Rattle.tables.specs.meaning.Device.{Device, Store, reset}
+use Rattle.tables.specs.laws.Made.{AllPlaced}
 use Rattle.tables.specs.laws.TablesRefine.{all-placed-append}
-use Rattle.tables.specs.laws.TablesFrame.{pointers-good}
-use Rattle.tables.specs.laws.StoresFit.{on-append, AllOn, on-present-on, placed-present, placed-flushes, EachPlaced}
-use Rattle.volume.specs.declared.Look.{Look}
-use Rattle.volume.specs.meaning.Rules.{Shown, isLost, isPresent, lostDrive}
-use Rattle.volume.specs.meaning.Mount.{withFlush, withFlushes, entryStep, mountLook, stepsBeforeEntries, afterOpening, phasesBeforeEntries}
-use Rattle.volume.specs.meaning.CallContracts.{isSet, storesBefore, mountStoresOn}
-use Rattle.volume.specs.looking.Knowing.{readDevice}
-use Rattle.volume.specs.looking.DrivesLost.{presentOf, saidList, look-present-is, lost-drive-is}
-use Rattle.volume.specs.looking.Looking.{lookOf, Lookable, present-read, lost-drive-read}
-use Rattle.volume.specs.rows.KeptBelow.{StoreIn, StoresIn}
-use Rattle.volume.specs.mounting.MountLook.{stays}
-use Rattle.volume.specs.mounting.MountSteps.{AllIn, labels-in, reset-entries-in, resets-in, counter-step-in, seals-in}
-use Rattle.volume.specs.mounting.MountValues.{shownAt, Restoring}
-use Rattle.volume.specs.mounting.MountTornLogs.{torn-rows-in}
-use Rattle.volume.specs.mounting.MountLastEntries.{entries-in}
-use Rattle.volume.specs.mounting.MountRestoring.{filling}
-use Rattle.volume.specs.mounting.MountFillOn.{fill-in}
-use Rattle.volume.specs.mounting.MountStart.{shownHere, restoring-start}
-use Rattle.volume.specs.mounting.Mounting.{stepsBy, lostHere, steps-are, entries-are}
-use Rattle.volume.specs.laws.PassedRows.{TablesPassed}
+use Rattle.tables.specs.laws.StoresFit.{on-append, AllOn, on-present-on, placed-each, placed-pick, placed-present, placed-flushes, EachPlaced}
+use Rattle.tables.specs.meaning.Drives.{noDrive}
+use Rattle.logs.specs.meaning.Entry.{parityZone, label, counters, zoneReset, partialParity, seal, closing, Entry}
+use Rattle.logs.specs.meaning.Walk.{Ending, atPointer, noEntry, torn, sectorsOf}
+use Rattle.logs.specs.meaning.Heads.{lastLost, isSealAt, endsAt}
+use Rattle.volume.specs.meaning.State.{isEmpty, isSealed}
+use Rattle.volume.specs.meaning.Content.{contentAt, rowXorBelow, insideStripe, entryAt, parityDriveAt}
+use Rattle.volume.specs.meaning.Rules.{Shown, isLost, isPresent, generalHeads, parityEntries, parityEnding, generationOf, zoneAt, zoneShown, showing}
+use Rattle.volume.specs.meaning.Calls.{appendAll, appendGeneral, generationsFrom, logsReset}
+use Rattle.volume.specs.meaning.Mount.{labelStep, resetEntryStep, needsReset, zoneResetStep, nextGeneration, countersDiffer, counterStep, sealStep, rowFor, missingRows, tornRowStep, fillStep, entryStep, withFlush, withFlushes, stepsBeforeEntries}
+use Rattle.volume.specs.mounting.MountStart.{below-known}
+use Rattle.volume.specs.mounting.MountFillOn.{row-all, content-parity, content-data, parity-complete, parity-first, data-below}
+use Rattle.volume.specs.laws.Counters.{generations-length}
+use Rattle.volume.specs.laws.Content.{row-long}
+use Rattle.volume.specs.laws.PlacedStores.{AllLong, placed-general, placed-appends, long-from}
+use Rattle.volume.specs.laws.SectorLengths.{LongDevice, known-value-long}
+use Rattle.volume.specs.laws.CopyLengths.{entry-sectors-long}
 
--- ---- stores that a mount's functions may make have their place
-in-placed : (g : Geometry) (b : ℕ → Bool) (xs : List Store) → StoresIn g b xs → AllPlaced g xs
-in-placed g b [] p = tt
-in-placed g b (x ∷ xs) p = (one x (p .0), in-placed g b xs (p .1))
-  where
-    one : (x : Store) → StoreIn g b x → Placed g x
-    one (append d z s) q = (q .0, q .1, q .2)
-    one (reset d z) q = (q .0, q .1)
-    one (flush d) q = q
+-- ---- what a look shows is sectors
+abbrev pub ShowsSectors : Geometry → Shown → Type 0
+ShowsSectors g k = (z a : ℕ) → a < k .zone z .pointer → length (k .zone z .value a) ≡ g .sector
 
-each-in-placed : (g : Geometry) (b : ℕ → Bool) (steps : List (List Store)) → AllIn g b steps → EachPlaced g steps
-each-in-placed g b [] p = tt
-each-in-placed g b (xs ∷ steps) p = (in-placed g b xs (p .0), each-in-placed g b steps (p .1))
+pub look-values : (g : Geometry) → Valid g → (present : ℕ → Bool) (x : ℕ) (w : Device) → LongDevice (g .sector) w → ShowsSectors g (showing g present x w)
+unfolding showing zoneShown zoneAt
+look-values g ok present x w longs z a h = let n = generationOf g present w z in known-value-long g ok present w longs z n a (below-known g present w z n a h)
 
--- a step with its flush, and several
+-- ---- the steps
+module _ (g : Geometry) (ok : Valid g) (k : Shown) (values : ShowsSectors g k) where
+  labels-placed : (x : ℕ) (w : Device) → AllPlaced g (labelStep g x k w)
+  unfolding labelStep
+  labels-placed x w = placed-each g _ (g .drives) (λ d hd. placed-pick g (ltb x (g .drives) && not (eqb (lastLost noDrive (generalHeads g w d)) x)) (appendGeneral g (label x (k .array)) d) (placed-general g (label x (k .array)) d ok tt hd))
+
+  reset-entries-placed : AllPlaced g (resetEntryStep g k)
+  unfolding resetEntryStep
+  reset-entries-placed = placed-each g _ (g .drives) (λ d hd. placed-each g _ (g .zones) (λ z hz. placed-pick g (k .zone z .byReset && logsReset g z d) (appendGeneral g (zoneReset z (k .zone z .generation)) d) (placed-general g (zoneReset z (k .zone z .generation)) d ok tt hd)))
+
+  zone-resets-placed : AllPlaced g (zoneResetStep g k)
+  unfolding zoneResetStep
+  zone-resets-placed = placed-each g _ (g .drives) (λ d hd. placed-each g _ (g .zones) (λ z hz. placed-pick g (needsReset (k .zone z)) (reset d (dataZone z) ∷ []) ((hd, omega (arith, hz)), tt)))
+
+  counters-placed : (differ : Bool) → AllPlaced g (counterStep g k differ)
+  unfolding counterStep
+  counters-placed differ =
+      let cs = generationsFrom (nextGeneration k) zero (g .zones) in
+      placed-pick g (anyBelow (λ z. isEmpty (k .zone z .condition)) (g .zones) || differ) (eachBelow (λ d. appendGeneral g (counters cs) d) (g .drives))
+      (placed-each g (λ d. appendGeneral g (counters cs) d) (g .drives) (λ d hd. placed-general g (counters cs) d ok (generations-length (nextGeneration k) zero (g .zones)) hd))
+
+  seals-placed : (w : Device) → AllPlaced g (sealStep g k w)
+  unfolding sealStep
+  seals-placed w =
+      placed-each g _ (g .drives) (λ d hd. placed-each g _ (g .zones) (λ z hz. placed-pick g (isSealed (k .zone z .condition) && not (anyOf (isSealAt z (k .zone z .generation) (k .zone z .pointer)) (generalHeads g w d)))
+      (appendGeneral g (seal z (k .zone z .pointer) (k .zone z .generation)) d) (placed-general g (seal z (k .zone z .pointer) (k .zone z .generation)) d ok tt hd)))
+
+  row-for-long : (z s f n r : ℕ) → r < min f (g .unit) → length (rowFor g (k .zone z) s f n r) ≡ g .sector
+  row-for-long z s f n r h = go (eqb n (k .zone z .generation) && leb (s * stripeSectors g + f) (k .zone z .pointer)) refl
+    where
+      go : (b : Bool) → eqb n (k .zone z .generation) && leb (s * stripeSectors g + f) (k .zone z .pointer) ≡ b
+          → length (pick b (rowXorBelow (g .drives) (g .unit) (k .zone z .value) s (s * stripeSectors g + f) r) (replicate (g .sector) 0)) ≡ g .sector
+      go true q =
+          let below = leb-true (s * stripeSectors g + f) (k .zone z .pointer) (and-split (eqb n (k .zone z .generation)) (leb (s * stripeSectors g + f) (k .zone z .pointer)) q .1) in
+          row-long g ok (k .zone z .value) s (s * stripeSectors g + f) r (omega (arith, h)) (omega (arith, h)) (λ j hj l. values z (address (g .drives) (g .unit) s j r) (omega (arith, l, below)))
+      go false q = length-replicate {A = ℕ} (g .sector) 0
+
+  missing-long : (l : Ending) → AllLong (g .sector) (missingRows g k l)
+  missing-long atPointer = tt
+  missing-long noEntry = tt
+  missing-long (torn (label x a) rs) = tt
+  missing-long (torn (counters cs) rs) = tt
+  missing-long (torn (zoneReset z n) rs) = tt
+  missing-long (torn (partialParity z s f n) rs) = long-from (g .sector) (rowFor g (k .zone z) s f n) (length rs) (min f (g .unit) - length rs) (λ i h. row-for-long z s f n (length rs + i) (omega (arith, h)))
+  missing-long (torn (seal z p n) rs) = tt
+  missing-long (torn (closing kind gen) rs) = tt
+
+  torn-placed : (w : Device) → AllPlaced g (tornRowStep g k w)
+  unfolding tornRowStep
+  torn-placed w = placed-each g _ (g .drives) (λ d hd. placed-appends g d parityZone (missingRows g k (parityEnding g w d)) hd (omega arith) (missing-long (parityEnding g w d)))
+
+  content-long : (z d x : ℕ) → d < g .drives → x < needed (g .drives) (g .unit) z (k .zone z .pointer) d → length (contentAt (g .drives) (g .unit) z (k .zone z .value) d x) ≡ g .sector
+  content-long z d x hd h = go (ℕ-discrete d (parityDrive (g .drives) z (x / g .unit)))
+    where
+      two : 1 < g .drives
+      two = omega (arith, ok .drives-least)
+
+      go : Dec (d ≡ parityDrive (g .drives) z (x / g .unit)) → length (contentAt (g .drives) (g .unit) z (k .zone z .value) d x) ≡ g .sector
+      go (yes e) =
+          let c = parity-complete (g .drives) (g .unit) z two (ok .unit-least) (k .zone z .pointer) d x h e in
+          let r : x % g .unit < g .unit = mod-lt x (ok .unit-least) in
+          ap (λ (l : List ℕ). length l) (content-parity (g .drives) (g .unit) z two (ok .unit-least) (k .zone z .value) d x e ∙ sym (row-all (g .drives) (g .unit) z two (ok .unit-least) (k .zone z .value) (k .zone z .pointer) (x / g .unit) (x % g .unit) c r))
+          ∙ row-long g ok (k .zone z .value) (x / g .unit) (k .zone z .pointer) (x % g .unit) r (parity-first (g .drives) (g .unit) z two (ok .unit-least) (k .zone z .pointer) (x / g .unit) (x % g .unit) c r) (λ j hj l. values z (address (g .drives) (g .unit) (x / g .unit) j (x % g .unit)) l)
+      go (no e) =
+          ap (λ (l : List ℕ). length l) (content-data (g .drives) (g .unit) z two (ok .unit-least) (k .zone z .value) d x e)
+          ∙ values z (addressAt (g .drives) (g .unit) z d x) (data-below (g .drives) (g .unit) z two (ok .unit-least) (k .zone z .pointer) d x hd h e)
+
+  fill-placed : (w : Device) → AllPlaced g (fillStep g k w)
+  unfolding fillStep
+  fill-placed w = placed-each g _ (g .drives) (λ d hd. placed-each g _ (g .zones) (λ z hz.
+      let from = length (w d (dataZone z) .sectors) in
+      let many = needed (g .drives) (g .unit) z (k .zone z .pointer) d - from in
+      placed-appends g d (dataZone z) (tabulateFrom (contentAt (g .drives) (g .unit) z (k .zone z .value) d) from many) hd (omega (arith, hz)) (long-from (g .sector) (contentAt (g .drives) (g .unit) z (k .zone z .value) d) from many (λ i h. content-long z d (from + i) hd (omega (arith, h))))))
+
+  pub entries-placed : (u : Device) → AllPlaced g (entryStep g k u)
+  unfolding entryStep
+  entries-placed u = placed-each g _ (g .drives) (λ d hd. placed-each g _ (g .zones) (λ z hz.
+      let rows = sectorsOf g d true (entryAt g z (k .zone z .generation) (k .zone z .value) (k .zone z .pointer)) in
+      placed-pick g (insideStripe g (k .zone z .pointer) && (eqb d (parityDriveAt g z (k .zone z .pointer)) && not (anyOf (λ (e : Entry). endsAt g z (k .zone z .generation) (k .zone z .pointer) (e .head)) (parityEntries g u d))))
+      (appendAll d parityZone rows) (placed-appends g d parityZone rows hd (omega arith) (entry-sectors-long g ok d z (k .zone z .generation) (k .zone z .value) (k .zone z .pointer) (λ a low h. values z a h)))))
+
+  pub steps-placed : (present : ℕ → Bool) (x : ℕ) (w : Device) → EachPlaced g (stepsBeforeEntries g present x k w)
+  steps-placed present x w = (labels-placed x w, (reset-entries-placed, (zone-resets-placed, (counters-placed (countersDiffer g present w), (seals-placed w, (torn-placed w, (fill-placed w, tt)))))))
+
+-- ---- a step with its flush, and several
 module _ (g : Geometry) (a : ℕ → Bool) where
   abbrev flushAfter : List Store → List Store
   flushAfter xs = pick (isNil (onPresent a xs)) [] (onPresent a (flushAll (g .drives)))
 
-  placed-step : (xs : List Store) → AllPlaced g xs → AllPlaced g (concat (withFlush g a xs))
+  pub placed-step : (xs : List Store) → AllPlaced g xs → AllPlaced g (concat (withFlush g a xs))
   placed-step xs p = all-placed-append g (onPresent a xs) (flushAfter xs ++ []) (placed-present g a xs p) (all-placed-append g (flushAfter xs) [] (go (isNil (onPresent a xs))) tt)
     where
       go : (b : Bool) → AllPlaced g (pick b [] (onPresent a (flushAll (g .drives))))
       go true = tt
       go false = placed-present g a (flushAll (g .drives)) (placed-flushes g (g .drives) (le-refl (g .drives)))
 
-  placed-steps : (steps : List (List Store)) → EachPlaced g steps → AllPlaced g (concat (withFlushes g a steps))
+  pub placed-steps : (steps : List (List Store)) → EachPlaced g steps → AllPlaced g (concat (withFlushes g a steps))
   placed-steps [] p = tt
   placed-steps (xs ∷ steps) p = rw (concat-append (withFlush g a xs) (withFlushes g a steps)) (all-placed-append g (concat (withFlush g a xs)) (concat (withFlushes g a steps)) (placed-step xs (p .0)) (placed-steps steps (p .1)))
 
-  on-step : (xs : List Store) → AllOn a (concat (withFlush g a xs))
+  pub on-step : (xs : List Store) → AllOn a (concat (withFlush g a xs))
   on-step xs = on-append a (onPresent a xs) (flushAfter xs ++ []) (on-present-on a xs) (on-append a (flushAfter xs) [] (go (isNil (onPresent a xs))) tt)
     where
       go : (b : Bool) → AllOn a (pick b [] (onPresent a (flushAll (g .drives))))
       go true = tt
       go false = on-present-on a (flushAll (g .drives))
 
-  on-steps : (steps : List (List Store)) → AllOn a (concat (withFlushes g a steps))
+  pub on-steps : (steps : List (List Store)) → AllOn a (concat (withFlushes g a steps))
   on-steps [] = tt
   on-steps (xs ∷ steps) = rw (concat-append (withFlush g a xs) (withFlushes g a steps)) (on-append a (concat (withFlush g a xs)) (concat (withFlushes g a steps)) (on-step xs) (on-steps steps))
-
--- ---- the stores of a mount, step by step
-module _ (g : Geometry) (a : ℕ → Bool) (x : ℕ) (t : Tables) where
-  abbrev look : Shown
-  look = mountLook g a x (deviceOf g t)
-
-  abbrev steps : List (List Store)
-  steps = stepsBeforeEntries g a x look (afterOpening g a (deviceOf g t))
-
-  abbrev after : Device
-  after = deviceOf g (runStores g (length (storesBefore g a x t)) (storesBefore g a x t) t)
-
-  pub before-on : AllOn a (storesBefore g a x t)
-  unfolding storesBefore phasesBeforeEntries
-  before-on = on-append a (onPresent a (flushAll (g .drives))) (concat (withFlushes g a steps)) (on-present-on a (flushAll (g .drives))) (on-steps g a steps)
-
-  pub mount-on : AllOn a (mountStoresOn g a x t)
-  unfolding mountStoresOn
-  mount-on = on-append a (storesBefore g a x t) (concat (withFlush g a (entryStep g look after))) before-on (on-step g a (entryStep g look after))
-
-  before-placed : EachPlaced g steps → AllPlaced g (storesBefore g a x t)
-  unfolding storesBefore phasesBeforeEntries
-  before-placed p = all-placed-append g (onPresent a (flushAll (g .drives))) (concat (withFlushes g a steps)) (placed-present g a (flushAll (g .drives)) (placed-flushes g (g .drives) (le-refl (g .drives)))) (placed-steps g a steps p)
-
-  steps-placed : EachPlaced g steps → ((u : Device) → AllPlaced g (entryStep g look u)) → AllPlaced g (mountStoresOn g a x t)
-  unfolding mountStoresOn
-  steps-placed p q = all-placed-append g (storesBefore g a x t) (concat (withFlush g a (entryStep g look after))) (before-placed p) (placed-step g a (entryStep g look after) (q after))
 
 -- a drive that a look finds present is one of the geometry's, and named
 pub present-is-named : (g : Geometry) (named : ℕ → Bool) (v : Device) (d : ℕ) → isPresent g named v d ≡ true → (d < g .drives) × (named d ≡ true)
@@ -115,60 +165,3 @@ present-is-named g named v d h =
     let (p, q) = and-split (ltb d (g .drives)) (not (isLost g named v d)) h in
     let (a, b) = or-none (not (named d)) _ (not-true (isLost g named v d) q) in
     (ltb-true d (g .drives) p, not-not (named d) a)
-
--- ---- on tables that refusals 1 to 3 let pass
-module _ (g : Geometry) (named : List Bool) (t : Tables) (q : TablesPassed g named t) where
-  abbrev xs : List ℕ
-  xs = t .sectors
-
-  abbrev ws : List ℕ
-  ws = t .written
-
-  abbrev ds : List ℕ
-  ds = t .durable
-
-  ok : Valid g
-  ok = q .valid
-
-  -- the drives that a look finds present, as the code's list
-  here : List Bool
-  here = tabulate (presentOf g named (saidList g named (readDevice g xs ws))) (g .drives) ++ replicate (8 - g .drives) false
-
-  here-read : isSet here ≡ isPresent g (isSet named) (readDevice g xs ws)
-  unfolding here
-  here-read = look-present-is g named (readDevice g xs ws) ok
-
-  here-is : isSet here ≡ isPresent g (isSet named) (deviceOf g t)
-  here-is = here-read ∙ sym (present-read g xs ws ds (isSet named))
-
-  lost-is : lostHere g ok here xs ws ds ≡ lostDrive g (isSet named) (deviceOf g t)
-  lost-is = lost-drive-is g named here (readDevice g xs ws) here-read ∙ sym (lost-drive-read g xs ws ds (isSet named))
-
-  lookable-here : Lookable g here xs ws
-  lookable-here = record {
-    sectors-long = q .sized .sectors-long;
-    written-long = q .sized .written-long;
-    pointers = λ d y hd p hy. pointers-good g named ws ds d y (q .pointers) hd (present-is-named g (isSet named) (deviceOf g t) d (sym (ap (λ (f : ℕ → Bool). f d) here-is) ∙ p) .1) hy .0;
-  }
-
-  abbrev k : Look
-  k = lookOf g (shownHere g ok here xs ws)
-
-  restoring : Restoring g here k ws t
-  restoring = restoring-start g ok here xs ws ds lookable-here (q .sized .durable-long)
-
-  -- each step's stores have their place
-  each-placed : EachPlaced g (stepsBy g here k xs ws)
-  each-placed =
-      let v = readDevice g xs ws in
-      let filled = filling g here k ws t restoring in
-      each-in-placed g (stays k) (stepsBy g here k xs ws)
-      (labels-in g k v ok, (reset-entries-in g k v ok, (resets-in g k v ok, (counter-step-in g k v ok (isSet here), (seals-in g k v ok, (torn-rows-in g here k ws xs ws ok filled, (fill-in g here k ws xs ws ok filled, tt)))))))
-
-  placed-here : AllPlaced g (mountStoresOn g (isSet here) (lostHere g ok here xs ws ds) t)
-  placed-here =
-      steps-placed g (isSet here) (lostHere g ok here xs ws ds) t (subst (EachPlaced g) (steps-are g ok here xs ws ds) each-placed)
-      (λ u. subst (AllPlaced g) (entries-are g ok here xs ws ds u) (in-placed g (stays k) (entryStep g (shownAt g here k xs ws) u) (entries-in g here k ws xs ws ok (filling g here k ws t restoring) u)))
-
-  pub mount-placed : AllPlaced g (mountStoresOn g (isPresent g (isSet named) (deviceOf g t)) (lostDrive g (isSet named) (deviceOf g t)) t)
-  mount-placed = subst (λ (f : ℕ → Bool). AllPlaced g (mountStoresOn g f (lostDrive g (isSet named) (deviceOf g t)) t)) here-is (subst (λ (x : ℕ). AllPlaced g (mountStoresOn g (isSet here) x t)) lost-is placed-here)

@@ -1,14 +1,15 @@
 -- A MOUNT SHOWS WHAT A LOOK SHOWS AFTER ITS LAST STORE (document 01): on any input, where a mount finishes, a look on the tables that it leaves, with the
 -- same drives named, finishes and leaves the very state that the mount handed back (`mount-shows-the-look`). A mount states its state by the drives that were
 -- present, and the drive that was lost, before its stores. So rule 1 must say the same of the tables that it leaves: its labels name the lost drive, and
--- stand on present drives alone. And the look must not be refused: every log that the mount appended to is whole up to its pointer.
+-- stand on present drives alone. And the look must not be refused: every log that the mount
+-- appended to or made anew is found again by the drives' roles, and is whole up to its pointer (RolesAfterMount).
 use mathlib.Core.Path.{_≡_, refl, sym, ap, ap₂, _∙_, subst, fun-ext}
 use mathlib.Core.Logic.{_⊎_, inl, inr}
 use mathlib.Core.Bool.{Bool, true, false, _&&_, not, true≢false}
-use Prim.Native.Nat.{ℕ, _+_, _≤_, _<_}
+use Prim.Native.Nat.{ℕ, _≤_, _<_}
 use native.Mathlib.Omega.{arith}
-use mathlib.Core.List.{List, _++_}
-use lib.ListN.{length, length-append}
+use mathlib.Core.List.{List}
+use lib.ListN.{length}
 use lib.Seq.{take-length}
 use lib.Dec.{ltb, eqb}
 use borrow.Author.Tests.{ltb-true, ltb-false, eqb-true, eq-eqb}
@@ -17,51 +18,54 @@ use Rattle.tables.specs.meaning.Basics.{pick}
 use Rattle.tables.specs.laws.Below.{count-below-cong}
 use Rattle.tables.specs.meaning.Drives.{noDrive}
 use Rattle.tables.specs.laws.Drives.{find-below-is, find-below-cong}
-use Rattle.tables.specs.meaning.Geometry.{Valid}
-use Rattle.tables.specs.meaning.Lists.{concat}
+use Rattle.tables.specs.meaning.Geometry.{Valid, physicalZones}
 use Rattle.tables.specs.meaning.Device.{Device, ZoneView, Store, applyAll}
 use Rattle.tables.specs.meaning.Tables.{Tables, deviceOf, runStores, lengthsFit, pointersBad}
 use Rattle.tables.specs.laws.Made.{AllPlaced}
+use Rattle.tables.specs.laws.StoresFit.{fits-all-placed}
 use Rattle.tables.specs.laws.TablesRefine.{run-refines, run-sized}
 use Rattle.tables.specs.laws.TablesFrame.{sized-lengths}
 use Rattle.tables.specs.laws.PointerOrder.{order-passed, order-passes, run-order}
 use Rattle.tables.specs.laws.Counted.{run-covered}
-use Rattle.logs.specs.meaning.Entry.{generalZone, parityZone, label}
-use Rattle.logs.specs.meaning.Walk.{Ending, atPointer, noEntry, torn, walkLog}
+use Rattle.logs.specs.meaning.Entry.{generalZone}
+use Rattle.logs.specs.meaning.Walk.{walkLog}
 use Rattle.logs.specs.meaning.Heads.{labelled, arrayIn, lastLost}
-use Rattle.logs.specs.laws.HeadLaws.{last-lost-is, lost-of-append, labelled-of-append}
 use Rattle.logs.specs.code.Query.{headsOf}
 use Rattle.volume.specs.declared.State.{State}
 use Rattle.volume.specs.declared.Outcome.{Outcome}
 use Rattle.volume.specs.declared.Answer.the-variants.{Finished, Unfinished, Refused}
-use Rattle.volume.specs.meaning.Rules.{Shown, generalHeads, generalEnding, parityEnding, isLost, isPresent, lostDrive, showing}
-use Rattle.volume.specs.meaning.Refusals.{accept, isNoEntry, twoLost, badLabels, badLogs, lookRows}
-use Rattle.volume.specs.meaning.Mount.{mountLook, afterOpening, missingRows}
-use Rattle.volume.specs.meaning.CallContracts.{isSet, lengthsOf, badIn, answerNumber, verdictNumber, stateShown, lookVerdict, lookOn, mountVerdict, mountStoresOn, mountShownOn, mountOn}
+use Rattle.volume.specs.meaning.Rules.{generalHeads, isLost, isPresent, lostDrive, showing}
+use Rattle.volume.specs.meaning.Roles.{roles, byRoles, driveByRoles, lacksKind}
+use Rattle.volume.specs.meaning.Refusals.{accept, twoLost, kindLacks, badLabels, badLogs, lookRows}
+use Rattle.volume.specs.meaning.Mount.{afterOpening, mountView, startRoles, mountStores}
+use Rattle.volume.specs.meaning.Answers.{presentIn, lostDriveIn}
+use Rattle.volume.specs.meaning.CallContracts.{isSet, lengthsOf, badIn, rolesOf, seenIn, answerNumber, verdictNumber, stateShown, lookVerdict, lookOn, mountVerdict, mountStoresOn, mountShownOn, mountOn}
 use Rattle.volume.specs.mounting.RestoreAgrees.{opening-sectors}
 use Rattle.volume.specs.laws.Refusals.{passed}
 use Rattle.volume.specs.laws.PassedRows.{MountPassed, mount-passed, mount-number-accepts}
 use Rattle.volume.specs.laws.CallStoresFit.{zone-short}
-use Rattle.volume.specs.laws.MountPlaced.{mount-on, mount-placed, present-is-named}
-use Rattle.volume.specs.laws.MountStoresFit.{mount-stores-fit}
-use Rattle.volume.specs.laws.LookRows.{same-if, Said, lost-said, said-lost, lost-is-lost, lost-unique, LooksAccepted, looks-accepted, label-there, array-same, labels-pass, entry-ends, logs-end, logs-pass}
-use Rattle.volume.specs.laws.SectorsStored.{sectorsTo, log-after, absent-after, mountSteps, mountEntries, mount-keeps, mount-sectors}
-use Rattle.volume.specs.laws.GrowingLogs.{Grown, general-grows, general-not-torn, parity-grows}
-use Rattle.volume.specs.laws.MountLogSectors.{NamesLost, entries-keep, steps-keep, general-joins, torn-rows-join, missing-lack, entries-join-parity}
+use Rattle.volume.specs.laws.SectorLengths.{LongDevice, tables-long}
+use Rattle.volume.specs.laws.Depends.{SameOn}
+use Rattle.volume.specs.laws.RolesDepend.{roles-depend, by-roles-depend}
+use Rattle.volume.specs.laws.RefusalsDepend.{labels-depend, logs-depend, kinds-depend}
+use Rattle.volume.specs.laws.MountPlaced.{present-is-named}
+use Rattle.volume.specs.laws.MountStoresFit.{mount-stores-are, not-full-here, mount-stores-fit, mount-tables-fit}
+use Rattle.volume.specs.laws.MountAbsentDrives.{mount-on}
+use Rattle.volume.specs.laws.LookRows.{same-if, Said, lost-said, said-lost, lost-is-lost, lost-unique, LooksAccepted, looks-accepted, kinds-pass, label-there, array-same, labels-pass, logs-pass}
+use Rattle.volume.specs.laws.SectorsStored.{absent-after}
+use Rattle.volume.specs.laws.RolesAfterMount.{LogsLeft, v11, mount-leaves, kinds-left, logs-left}
 
 -- ==== an accepted mount, and the tables that all its stores leave
 module _ (g : Geometry) (named : List Bool) (t : Tables) (e : mountVerdict g named t ≡ accept) where
+  -- the devices before and after, by the drives' roles
   abbrev v : Device
-  v = deviceOf g t
+  v = seenIn g t
 
   abbrev present : ℕ → Bool
-  present = isPresent g (isSet named) v
+  present = presentIn g (isSet named) (deviceOf g t)
 
   abbrev x : ℕ
-  x = lostDrive g (isSet named) v
-
-  abbrev look : Shown
-  look = mountLook g present x v
+  x = lostDriveIn g (isSet named) (deviceOf g t)
 
   abbrev stores : List Store
   stores = mountStoresOn g present x t
@@ -70,7 +74,7 @@ module _ (g : Geometry) (named : List Bool) (t : Tables) (e : mountVerdict g nam
   left = runStores g (length stores) stores t
 
   abbrev w : Device
-  w = deviceOf g left
+  w = seenIn g left
 
   accepted : MountPassed g named t
   accepted = mount-passed g named t e
@@ -84,31 +88,24 @@ module _ (g : Geometry) (named : List Bool) (t : Tables) (e : mountVerdict g nam
   below : (d : ℕ) → present d ≡ true → d < g .drives
   below d p = present-is-named g (isSet named) v d p .0
 
-  placed : AllPlaced g stores
-  placed = mount-placed g named t (accepted .tables)
+  longs : LongDevice (g .sector) (deviceOf g t)
+  longs = tables-long g t (accepted .tables .sized)
 
-  device-left : w ≡ applyAll stores v
-  device-left = run-refines g (length stores) stores t (accepted .tables .sized) (mount-stores-fit g named t e) ∙ ap (λ (xs : List Store). applyAll xs v) (take-length stores)
+  short : (d y : ℕ) → present d ≡ true → y < physicalZones g → length (deviceOf g t d y .sectors) ≤ g .capacity
+  short d y p hy = zone-short g t d y (below d p) hy
+
+  placed : AllPlaced g stores
+  placed = fits-all-placed g stores (deviceOf g t) (mount-tables-fit g named t e)
+
+  device-left : deviceOf g left ≡ applyAll (mountStores g present x (deviceOf g t)) (deviceOf g t)
+  device-left =
+      run-refines g (length stores) stores t (accepted .tables .sized) (mount-tables-fit g named t e)
+      ∙ ap (λ (xs : List Store). applyAll xs (deviceOf g t)) (take-length stores ∙ mount-stores-are g present x t (accepted .tables .sized) (mount-stores-fit g named t e))
 
   -- a drive that is not present is left alone
-  absent-left : (d y : ℕ) → present d ≡ false → w d y ≡ v d y
-  absent-left d y p = ap (λ (u : Device). u d y) device-left ∙ absent-after present stores v d y (mount-on g present x t) p
+  absent-left : (d : ℕ) → present d ≡ false → w d ≡ v d
+  absent-left d p = ap (driveByRoles g d) (fun-ext λ y. ap (λ (u : Device). u d y) device-left ∙ absent-after present (mountStores g present x (deviceOf g t)) (deviceOf g t) d y (mount-on g present x (deviceOf g t)) p)
 
-  -- what the mount appends to a log of a present drive
-  abbrev joins : ℕ → ℕ → List (List ℕ)
-  joins d y = sectorsTo d y (concat (mountSteps g present x t)) ++ sectorsTo d y (mountEntries g present x t)
-
-  log-left : (d y : ℕ) → y ≤ parityZone → present d ≡ true → w d y .sectors ≡ v d y .sectors ++ joins d y
-  log-left d y h p =
-      ap (λ (u : Device). u d y .sectors) device-left ∙ log-after stores v d y h (mount-keeps g present x t (steps-keep g look present x (afterOpening g present v)) (entries-keep g look _))
-      ∙ ap (λ (ss : List (List ℕ)). v d y .sectors ++ ss) (mount-sectors g present x t d y p)
-
-  log-room : (d y : ℕ) → y ≤ parityZone → present d ≡ true → length (v d y .sectors) + length (joins d y) ≤ g .capacity
-  log-room d y h p =
-      let long : length (w d y .sectors) ≡ length (v d y .sectors) + length (joins d y) = ap length (log-left d y h p) ∙ length-append (v d y .sectors) (joins d y) in
-      omega (arith, long, zone-short g left d y (below d p) (omega (arith, h)))
-
-  -- ---- the general logs
   lost-or-none : (x < g .drives) ⊎ (x ≡ noDrive)
   lost-or-none = go (find-below-is (isLost g (isSet named) v) (g .drives))
     where
@@ -116,53 +113,49 @@ module _ (g : Geometry) (named : List Bool) (t : Tables) (e : mountVerdict g nam
       go (inl (q, n)) = inr q
       go (inr (l, q)) = inl l
 
-  general-whole : (d : ℕ) → present d ≡ true → walkLog g d false (v d generalZone .sectors) .last ≡ atPointer
-  unfolding generalEnding
-  general-whole d p = go (walkLog g d false (v d generalZone .sectors) .last) refl (logs-end g present v (looks .logs) d (below d p) p .0)
-    where
-      go : (l : Ending) → walkLog g d false (v d generalZone .sectors) .last ≡ l → isNoEntry l ≡ false → l ≡ atPointer
-      go atPointer q n = refl
-      go noEntry q n = absurd (true≢false n)
-      go (torn h rs) q n = absurd (general-not-torn g d (v d generalZone .sectors) h rs q)
+  -- ---- the first flush changes no sector
+  abbrev opened : Device
+  opened = mountView g present x (deviceOf g t)
 
-  grown : (d : ℕ) → present d ≡ true → Grown g d (NamesLost x) (v d generalZone .sectors) (joins d generalZone)
-  grown d p = general-grows g d (NamesLost x) (joins d generalZone) (v d generalZone .sectors) (general-whole d p) (general-joins g ok present x v d lost-or-none _) (log-room d generalZone (omega arith) p)
+  opens : (a : ℕ → Bool) → SameOn a v opened
+  opens a = by-roles-depend g a (deviceOf g t) (afterOpening g present (deviceOf g t)) (λ d p y. sym (opening-sectors g present (deviceOf g t) d y))
 
-  heads-left : (d : ℕ) (p : present d ≡ true) → generalHeads g w d ≡ generalHeads g v d ++ grown d p .more
+  opened-heads : (d : ℕ) → generalHeads g opened d ≡ generalHeads g v d
   unfolding generalHeads
-  heads-left d p = ap (λ (ss : List (List ℕ)). headsOf (walkLog g d false ss)) (log-left d generalZone (omega arith) p) ∙ grown d p .heads-are
+  opened-heads d = ap (λ (ss : List (List ℕ)). headsOf (walkLog g d false ss)) (sym (opens (λ i. true) d refl generalZone))
 
-  general-ends : (d : ℕ) → present d ≡ true → generalEnding g w d ≡ atPointer
-  unfolding generalEnding
-  general-ends d p = ap (λ (ss : List (List ℕ)). walkLog g d false ss .last) (log-left d generalZone (omega arith) p) ∙ grown d p .ends
+  kinds-opened : kindLacks g present (startRoles g present x (deviceOf g t)) ≡ false
+  kinds-opened =
+      sym (kinds-depend g present v opened (opens present) (rolesOf g t) (startRoles g present x (deviceOf g t)) (roles-depend g present (deviceOf g t) (afterOpening g present (deviceOf g t)) (λ d p y. sym (opening-sectors g present (deviceOf g t) d y)))) ∙ looks .kinds
 
-  -- ---- the parity logs
-  parity-ends : (d : ℕ) → present d ≡ true → parityEnding g w d ≡ atPointer
-  unfolding parityEnding
-  parity-ends d p =
-      let ss = v d parityZone .sectors in
-      let ms = missingRows g look (walkLog g d true ss .last) in
-      let ts = sectorsTo d parityZone (mountEntries g present x t) in
-      let opened : walkLog g d true (afterOpening g present v d parityZone .sectors) .last ≡ walkLog g d true ss .last = ap (λ (us : List (List ℕ)). walkLog g d true us .last) (opening-sectors g present v d parityZone) in
-      let rows : sectorsTo d parityZone (concat (mountSteps g present x t)) ≡ ms = torn-rows-join g look (afterOpening g present v) d present x (below d p) ∙ ap (missingRows g look) opened in
-      let both : joins d parityZone ≡ ms ++ ts = ap (λ (us : List (List ℕ)). us ++ ts) rows in
-      let room : length ss + length (ms ++ ts) ≤ g .capacity = rw both at (log-room d parityZone (omega arith) p) in
-      ap (λ (us : List (List ℕ)). walkLog g d true us .last) (log-left d parityZone (omega arith) p ∙ ap (λ (us : List (List ℕ)). ss ++ us) both)
-      ∙ parity-grows g d ss ms ts (missing-lack g look d ss (entry-ends (walkLog g d true ss .last) (logs-end g present v (looks .logs) d (below d p) p .1))) (entries-join-parity g ok present x v _ d) room
+  labels-opened : badLabels g present opened ≡ false
+  labels-opened = sym (labels-depend g present v opened (opens present)) ∙ looks .labels
+
+  logs-opened : badLogs g present opened ≡ false
+  logs-opened = sym (logs-depend g present v opened (opens present)) ∙ looks .logs
+
+  -- ---- the logs afterwards
+  left-is : deviceOf g left ≡ v11 g ok present x (deviceOf g t) longs below short (not-full-here g named t e) lost-or-none kinds-opened labels-opened logs-opened
+  left-is = device-left ∙ mount-leaves g ok present x (deviceOf g t) longs below short (not-full-here g named t e) lost-or-none kinds-opened labels-opened logs-opened
+
+  logs : LogsLeft g present x opened w
+  logs = subst (λ (u : Device). LogsLeft g present x opened (byRoles g u)) (sym left-is)
+      (logs-left g ok present x (deviceOf g t) longs below short (not-full-here g named t e) lost-or-none kinds-opened labels-opened logs-opened)
+
+  kinds : (d : ℕ) → present d ≡ true → lacksKind (rolesOf g left d) ≡ false
+  kinds = subst (λ (u : Device). (d : ℕ) → present d ≡ true → lacksKind (roles g u d) ≡ false) (sym left-is)
+      (kinds-left g ok present x (deviceOf g t) longs below short (not-full-here g named t e) lost-or-none kinds-opened labels-opened logs-opened)
 
   -- ---- rule 1 says the same
   labelled-left : (d : ℕ) → present d ≡ true → (labelled (generalHeads g w d) ≡ true) × (arrayIn (generalHeads g w d) ≡ arrayIn (generalHeads g v d))
-  labelled-left d p = rw (heads-left d p) (labelled-of-append (generalHeads g v d) (grown d p .more) (label-there g present v (looks .labels) d (below d p) p))
+  labelled-left d p = let (a, b) = logs .labels-stay d p in (a, b ∙ ap arrayIn (opened-heads d))
 
   label-left : (d : ℕ) → present d ≡ true → (lastLost noDrive (generalHeads g w d) ≡ lastLost noDrive (generalHeads g v d)) ⊎ (lastLost noDrive (generalHeads g w d) ≡ x)
-  label-left d p =
-      let before = lastLost noDrive (generalHeads g v d) in
-      rw (heads-left d p, lost-of-append noDrive (generalHeads g v d) (grown d p .more))
-      (last-lost-is (λ (y : ℕ). (y ≡ before) ⊎ (y ≡ x)) (grown d p .more) before (inl refl) (λ y a m. inr (grown d p .each (label y a) m)))
+  label-left d p = rw (opened-heads d) at (logs .last-names d p)
 
   absent-heads : (d : ℕ) → present d ≡ false → generalHeads g w d ≡ generalHeads g v d
   unfolding generalHeads
-  absent-heads d p = ap (λ (u : ZoneView). headsOf (walkLog g d false (u .sectors))) (absent-left d generalZone p)
+  absent-heads d p = ap (λ (zs : ℕ → ZoneView). headsOf (walkLog g d false (zs generalZone .sectors))) (absent-left d p)
 
   said-before : (d : ℕ) → d < g .drives → Said g (isSet named) w d → isLost g (isSet named) v d ≡ true
   said-before d hd s = go (present (s .by)) refl
@@ -223,12 +216,15 @@ module _ (g : Geometry) (named : List Bool) (t : Tables) (e : mountVerdict g nam
   labels-left : badLabels g (isPresent g (isSet named) w) w ≡ false
   labels-left = rw present-left (labels-pass g present w (λ d hd p. labelled-left d p .0) (λ d i hd hi p q. labelled-left d p .1 ∙ array-same g present v (looks .labels) d i hd hi p q ∙ sym (labelled-left i q .1)))
 
-  logs-left : badLogs g (isPresent g (isSet named) w) w ≡ false
-  logs-left = rw present-left (logs-pass g present w (λ d hd p. (general-ends d p, parity-ends d p)))
+  kinds-there-left : kindLacks g (isPresent g (isSet named) w) (rolesOf g left) ≡ false
+  kinds-there-left = rw present-left (kinds-pass g present (rolesOf g left) kinds)
+
+  logs-end-left : badLogs g (isPresent g (isSet named) w) w ≡ false
+  logs-end-left = rw present-left (logs-pass g present w (λ d hd p. (logs .general-ends d p, logs .parity-ends d p)))
 
   pub look-accepts : lookVerdict g named left ≡ accept
   unfolding lookVerdict lookRows
-  look-accepts = passed (lookRows g (lengthsOf left) (badIn g named left) (isSet named) w) (looks .geometry, (ap not lengths-left, (pointers-left, (one-lost-left, (labels-left, (logs-left, tt))))))
+  look-accepts = passed (lookRows g (lengthsOf left) (badIn g named left) (isSet named) (rolesOf g left) w) (looks .geometry, (ap not lengths-left, (pointers-left, (one-lost-left, (rw (kinds-there-left, labels-left) refl, (logs-end-left, tt))))))
 
   -- and shows what the mount handed back
   look-left : (old : State) → lookOn g named old left ≡ record { answer = Finished; state = mountShownOn g present x t }
@@ -244,10 +240,10 @@ unfolding mountOn
 mount-shows-the-look g named old old′ count t f = go (eqb n 0) refl (ltb count (length ss)) refl f
   where
     a : ℕ → Bool
-    a = isPresent g (isSet named) (deviceOf g t)
+    a = presentIn g (isSet named) (deviceOf g t)
 
     y : ℕ
-    y = lostDrive g (isSet named) (deviceOf g t)
+    y = lostDriveIn g (isSet named) (deviceOf g t)
 
     n : ℕ
     n = verdictNumber (mountVerdict g named t)

@@ -1,11 +1,11 @@
 -- "A count of 2^32 − 1 stops no call": the stores of an accepted mount are fewer than that, on any input.
-use mathlib.Core.Path.{_≡_, ap, _∙_}
+use mathlib.Core.Path.{_≡_, sym, ap, subst, _∙_}
 use mathlib.Core.Logic.{_≢_}
 use mathlib.Core.Bool.{Bool, true, false, _&&_, _||_, not}
-use Prim.Native.Nat.{ℕ, zero, _+_, _-_, _*_, _^_, _≤_}
+use Prim.Native.Nat.{ℕ, zero, _+_, _-_, _*_, _^_, _≤_, _<_}
 use native.Mathlib.Nat.{le-refl}
 use native.Mathlib.Omega.{arith}
-use mathlib.Core.List.{List, [], _∷_, _++_}
+use mathlib.Core.List.{List, [], _∷_, _++_, map}
 use lib.ListN.{length, length-append}
 use lib.Dec.{ltb, eqb}
 use Rattle.tables.specs.declared.Geometry.{Geometry}
@@ -13,33 +13,43 @@ use Rattle.tables.specs.meaning.Basics.{pick}
 use Rattle.tables.specs.meaning.Below.{eachBelow, anyBelow}
 use Rattle.tables.specs.laws.Below.{length-tabulate-from}
 use Rattle.tables.specs.meaning.Lists.{concat, isNil, anyOf}
-use Rattle.tables.specs.laws.Lists.{concat-append}
-use Rattle.tables.specs.meaning.Geometry.{Valid, zoneSectors, dataZone}
+use Rattle.tables.specs.laws.Lists.{concat-append, length-map}
+use Rattle.tables.specs.meaning.Geometry.{Valid, zoneSectors, physicalZones, dataZone}
 use Rattle.tables.specs.meaning.Placement.{needed}
 use Rattle.tables.specs.laws.Sizes.{needed-fits}
 use Rattle.tables.specs.meaning.Drives.{noDrive}
-use Rattle.tables.specs.meaning.Device.{Device, Store, reset}
+use Rattle.tables.specs.meaning.Device.{Device, Store, reset, applyAll}
+use Rattle.tables.specs.meaning.Through.{through, carry}
 use Rattle.tables.specs.meaning.Phases.{onPresent, flushAll}
-use Rattle.tables.specs.meaning.Tables.{Tables, deviceOf, runStores}
+use Rattle.tables.specs.meaning.Tables.{Tables, deviceOf}
 use Rattle.tables.specs.laws.AppendCounts.{each-most, present-most, flushes-long}
-use Rattle.logs.specs.meaning.Entry.{parityZone, label, counters, zoneReset, seal, Entry}
+use Rattle.logs.specs.meaning.Entry.{parityZone, spareZone, label, counters, zoneReset, seal, Entry}
 use Rattle.logs.specs.meaning.Heads.{lastLost, isSealAt, endsAt}
 use Rattle.logs.specs.meaning.Walk.{sectorsOf}
 use Rattle.volume.specs.declared.State.{State}
 use Rattle.volume.specs.declared.Answer.the-variants.{Unfinished}
 use Rattle.volume.specs.meaning.State.{isEmpty, isSealed}
 use Rattle.volume.specs.meaning.Content.{contentAt, insideStripe, entryAt, parityDriveAt}
-use Rattle.volume.specs.meaning.Rules.{Shown, isPresent, lostDrive, generalHeads, parityEntries, parityEnding}
-use Rattle.volume.specs.meaning.Refusals.{accept}
+use Rattle.volume.specs.meaning.Rules.{Shown, generalHeads, parityEntries, parityEnding}
+use Rattle.volume.specs.meaning.Refusals.{accept, mountFull}
+use Rattle.volume.specs.meaning.Roles.{placedBy}
+use Rattle.volume.specs.meaning.Emptying.{byLook, spareWritten, emptyParity}
+use Rattle.volume.specs.meaning.Answers.{presentIn, lostDriveIn}
 use Rattle.volume.specs.meaning.Calls.{appendAll, appendGeneral, generationsFrom, logsReset}
-use Rattle.volume.specs.meaning.Mount.{labelStep, resetEntryStep, needsReset, zoneResetStep, nextGeneration, countersDiffer, counterStep, sealStep, missingRows, tornRowStep, fillStep, entryStep, withFlush, withFlushes, afterOpening, mountLook, stepsBeforeEntries, phasesBeforeEntries}
-use Rattle.volume.specs.meaning.CallContracts.{isSet, verdictNumber, mountVerdict, storesBefore, mountStoresOn, mountShownOn, mountOn}
+use Rattle.volume.specs.meaning.Mount.{spareStep, labelStep, resetEntryStep, needsReset, zoneResetStep, nextGeneration, countersDiffer, counterStep, sealStep, missingRows, tornRowStep, fillStep, entryStep, withFlush, withFlushes, stepsBeforeEntries, mountView, mountLook, startRoles, emptiedParity, middleRoles, endRoles, phasesBeforeEntries, phasesOfParityLogs, phasesOfEntries, afterFill, mountStores}
+use Rattle.volume.specs.meaning.CallContracts.{isSet, seenIn, verdictNumber, mountVerdict, mountStoresOn, mountShownOn, mountOn}
 use Rattle.volume.specs.mounting.MountFillOn.{missing, fillZone}
 use Rattle.volume.specs.laws.PassedRows.{mount-passed, mount-number-accepts}
 use Rattle.volume.specs.laws.CallAppends.{entry-long}
 use Rattle.volume.specs.laws.MountAppends.{missing-most}
-use Rattle.volume.specs.laws.MountStoresFit.{look-pointer}
-use Rattle.volume.specs.laws.StoreCounts.{covered-ends, appends-long, pick-most}
+use Rattle.volume.specs.laws.LookPointers.{look-pointer}
+use Rattle.volume.specs.laws.StoreCounts.{covered-ends, appends-long, pick-most, emptyings-few}
+use Rattle.volume.specs.laws.CallStoresFit.{zone-short}
+use Rattle.volume.specs.laws.SectorLengths.{LongDevice, tables-long}
+use Rattle.volume.specs.laws.MountPlaced.{present-is-named}
+use Rattle.volume.specs.laws.CarriedSteps.{concat-carried}
+use Rattle.volume.specs.laws.MountLogsFit.{EG, NG, generals, new-general-fits}
+use Rattle.volume.specs.laws.MountStoresFit.{carried, filled, NP, parities, new-parity-fits, s0, s1, s2, before-is, fill-is, mount-stores-are, not-full-here, mount-stores-fit}
 
 -- the flush after a step
 flush-most : (g : Geometry) (a : ℕ → Bool) (xs : List Store) → g .drives ≤ 8 → length (concat (withFlush g a xs)) ≤ length xs + 8
@@ -78,11 +88,11 @@ module _ (g : Geometry) (ok : Valid g) (k : Shown) where
   unfolding zoneResetStep
   zone-reset-few = places-most (λ d z. pick (needsReset (k .zone z)) (reset d (dataZone z) ∷ []) []) 1 (λ d z. pick-most (needsReset (k .zone z)) (reset d (dataZone z) ∷ []) 1 (le-refl 1))
 
-  counter-few : (present : ℕ → Bool) (w : Device) → length (counterStep g present k w) ≤ 8 * 1
+  counter-few : (differ : Bool) → length (counterStep g k differ) ≤ 8 * 1
   unfolding counterStep
-  counter-few present w =
+  counter-few differ =
       let cs = counters (generationsFrom (nextGeneration k) zero (g .zones)) in
-      pick-most (anyBelow (λ z. isEmpty (k .zone z .condition)) (g .zones) || countersDiffer g present w) (eachBelow (λ d. appendGeneral g cs d) (g .drives)) (8 * 1) (drives-most (λ d. appendGeneral g cs d) 1 (λ d. le-refl 1))
+      pick-most (anyBelow (λ z. isEmpty (k .zone z .condition)) (g .zones) || differ) (eachBelow (λ d. appendGeneral g cs d) (g .drives)) (8 * 1) (drives-most (λ d. appendGeneral g cs d) 1 (λ d. le-refl 1))
 
   seal-few : (w : Device) → length (sealStep g k w) ≤ 8 * (16 * 1)
   unfolding sealStep
@@ -121,7 +131,7 @@ module _ (g : Geometry) (ok : Valid g) (k : Shown) where
       let s1 = labelStep g x k w in
       let s2 = resetEntryStep g k in
       let s3 = zoneResetStep g k in
-      let s4 = counterStep g present k w in
+      let s4 = counterStep g k (countersDiffer g present w) in
       let s5 = sealStep g k w in
       let s6 = tornRowStep g k w in
       let s7 = fillStep g k w in
@@ -137,49 +147,101 @@ module _ (g : Geometry) (ok : Valid g) (k : Shown) where
         label-few x w,
         reset-entry-few,
         zone-reset-few,
-        counter-few present w,
+        counter-few (countersDiffer g present w),
         seal-few w,
         torn-few w,
         fill-few w h,
       )
 
--- ---- the call
-before-few : (g : Geometry) → Valid g → (present : ℕ → Bool) (x : ℕ) (t : Tables) → length (storesBefore g present x t) ≤ 8389200
-unfolding storesBefore phasesBeforeEntries
-before-few g ok present x t =
-    let v = deviceOf g t in
-    let steps = stepsBeforeEntries g present x (mountLook g present x v) (afterOpening g present v) in
-    let flushes = onPresent present (flushAll (g .drives)) in
-    omega (
-      arith,
-      length-append flushes (concat (withFlushes g present steps)),
-      present-most present (flushAll (g .drives)),
-      flushes-long (g .drives),
-      ok .drives-most,
-      flushes-most g present steps (ok .drives-most),
-      steps-few g ok (mountLook g present x v) present x (afterOpening g present v) (look-pointer g present x v),
-    )
+  spare-few : (w : Device) → length (spareStep g w) ≤ 8 * 1
+  unfolding spareStep
+  spare-few w = drives-most (λ d. pick (spareWritten w d) (reset d spareZone ∷ []) []) 1 (λ d. pick-most (spareWritten w d) (reset d spareZone ∷ []) 1 (le-refl 1))
 
-pub mount-few : (g : Geometry) (named : List Bool) (t : Tables) → mountVerdict g named t ≡ accept → length (mountStoresOn g (isPresent g (isSet named) (deviceOf g t)) (lostDrive g (isSet named) (deviceOf g t)) t) ≤ 8391384
-unfolding mountStoresOn
+-- ---- the mount of v (refusal 14 asked of its look)
+module _ (g : Geometry) (ok : Valid g) (present : ℕ → Bool) (x : ℕ) (v : Device) (longs : LongDevice (g .sector) v) (below : (d : ℕ) → present d ≡ true → d < g .drives)
+    (short : (d y : ℕ) → present d ≡ true → y < physicalZones g → length (v d y .sectors) ≤ g .capacity)
+    (full : mountFull g present (startRoles g present x v) (byLook (mountLook g present x v)) (mountView g present x v) ≡ false) where
+  abbrev k : Shown
+  k = mountLook g present x v
+
+  before-few : length (concat (phasesBeforeEntries g present x v)) ≤ 8913648
+  before-few =
+      let R = startRoles g present x v in
+      let M = middleRoles g present x v in
+      let steps = stepsBeforeEntries g present x k (mountView g present x v) in
+      let resets = map (carry (placedBy R)) (spareStep g (mountView g present x v)) in
+      let general = generals g ok present x v longs below short full in
+      let own = concat (withFlushes g present steps) in
+      let a = s0 g ok present x v longs below short full in
+      let b = s1 g ok present x v longs below short full in
+      let c = s2 g ok present x v longs below short full in
+      let d = carried g ok present x v longs below short full in
+      omega (
+        arith,
+        ap (λ (xs : List Store). length xs) (before-is g ok present x v longs below short full),
+        length-append (a ++ (b ++ c)) d,
+        length-append a (b ++ c),
+        length-append b c,
+        present-most present (flushAll (g .drives)),
+        flushes-long (g .drives),
+        ok .drives-most,
+        flush-most g present resets (ok .drives-most),
+        length-map (carry (placedBy R)) (spareStep g (mountView g present x v)),
+        spare-few g ok k (mountView g present x v),
+        flush-most g present general (ok .drives-most),
+        emptyings-few g present false R (EG g ok present x v longs below short full) (NG g ok present x v longs below short full) (ok .drives-most) (λ d e. omega (arith, new-general-fits g ok present x v longs below short full d e, ok .zone-most)),
+        length-map (carry (placedBy M)) own,
+        flushes-most g present steps (ok .drives-most),
+        steps-few g ok k present x (mountView g present x v) (look-pointer g present x v),
+      )
+
+  parity-few : (u : Device) → u ≡ filled g ok present x v longs below short full → length (concat (phasesOfParityLogs g present x v u)) ≤ 524432
+  unfolding phasesOfParityLogs emptyParity
+  parity-few u e =
+      let logs = parities g ok present x v longs below short full in
+      subst (λ (w : Device). length (concat (withFlush g present (emptyParity g present (middleRoles g present x v) (byLook k) (emptiedParity g present x v) (through (placedBy (middleRoles g present x v)) w)))) ≤ 524432) (sym e) (
+      omega (
+        arith,
+        flush-most g present logs (ok .drives-most),
+        emptyings-few g present true (middleRoles g present x v) (emptiedParity g present x v) (NP g ok present x v longs below short full) (ok .drives-most) (λ d e. omega (arith, new-parity-fits g ok present x v longs below short full d e, ok .zone-most)),
+      ))
+
+  entries-few : (u : Device) → length (concat (phasesOfEntries g present x v u)) ≤ 2184
+  unfolding phasesOfEntries
+  entries-few u =
+      let ρ = placedBy (endRoles g present x v) in
+      let last = entryStep g k (through ρ u) in
+      omega (
+        arith,
+        ap (λ (xs : List Store). length xs) (concat-carried ρ (withFlush g present last)),
+        length-map (carry ρ) (concat (withFlush g present last)),
+        flush-most g present last (ok .drives-most),
+        entry-few g ok k (through ρ u),
+      )
+
+  pub stores-few : length (mountStores g present x v) ≤ 9440264
+  unfolding mountStores
+  stores-few =
+      let b = concat (phasesBeforeEntries g present x v) in
+      let a = afterFill g present x v in
+      let p = concat (phasesOfParityLogs g present x v a) in
+      let q = concat (phasesOfEntries g present x v (applyAll p a)) in
+      omega (arith, length-append b (p ++ q), length-append p q, before-few, parity-few a (fill-is g ok present x v longs below short full), entries-few (applyAll p a))
+
+-- ---- the call
+pub mount-few : (g : Geometry) (named : List Bool) (t : Tables) → mountVerdict g named t ≡ accept → length (mountStoresOn g (presentIn g (isSet named) (deviceOf g t)) (lostDriveIn g (isSet named) (deviceOf g t)) t) ≤ 9440264
 mount-few g named t e =
-    let ok = mount-passed g named t e .tables .valid in
+    let q = mount-passed g named t e in
     let v = deviceOf g t in
-    let present = isPresent g (isSet named) v in
-    let x = lostDrive g (isSet named) v in
-    let before = storesBefore g present x t in
-    let last = entryStep g (mountLook g present x v) (deviceOf g (runStores g (length before) before t)) in
-    omega (
-      arith,
-      length-append before (concat (withFlush g present last)),
-      before-few g ok present x t,
-      flush-most g present last (ok .drives-most),
-      entry-few g ok (mountLook g present x v) (deviceOf g (runStores g (length before) before t)),
-    )
+    let present = presentIn g (isSet named) v in
+    let x = lostDriveIn g (isSet named) v in
+    let within : (d : ℕ) → present d ≡ true → d < g .drives = λ d h. present-is-named g (isSet named) (seenIn g t) d h .0 in
+    rw (mount-stores-are g present x t (q .tables .sized) (mount-stores-fit g named t e)) (
+    stores-few g (q .tables .valid) present x v (tables-long g t (q .tables .sized)) within (λ d y p hy. zone-short g t d y (within d p) hy) (not-full-here g named t e))
 
 pub mount-ends : (g : Geometry) (named : List Bool) (old : State) (t : Tables) → mountOn g named old (2 ^ 32 - 1) t .outcome .answer ≢ Unfinished
 unfolding mountOn
 mount-ends g named old t =
-    let present = isPresent g (isSet named) (deviceOf g t) in
-    let x = lostDrive g (isSet named) (deviceOf g t) in
+    let present = presentIn g (isSet named) (deviceOf g t) in
+    let x = lostDriveIn g (isSet named) (deviceOf g t) in
     covered-ends g (verdictNumber (mountVerdict g named t)) (mountStoresOn g present x t) (mountShownOn g present x t) old (2 ^ 32 - 1) t (λ e. omega (arith, mount-few g named t (mount-number-accepts g named t e)))

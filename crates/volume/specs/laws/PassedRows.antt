@@ -22,10 +22,11 @@ use Rattle.volume.specs.declared.State.{State}
 use Rattle.volume.specs.declared.Condition.{Condition}
 use Rattle.volume.specs.declared.Condition.the-variants.{Empty, Open, Sealed, Worn}
 use Rattle.volume.specs.meaning.State.{StateView, callPresent, pointerIn, isSealed, isWorn}
-use Rattle.volume.specs.meaning.Rules.{isPresent, heldAt, zoneView}
-use Rattle.volume.specs.meaning.Answers.{placeOf}
-use Rattle.volume.specs.meaning.Refusals.{Verdict, accept, refuse, firstRefusal, zoneOf, offsetOf, stateWithin, staleIn, stale, badRun, badOrder, unusedBelow, mountFull, resetFull, writeFull, goneBefore, notHeld, formatRows, lookRows, mountRows, writeRows, flushRows, resetRows, peekRows}
-use Rattle.volume.specs.meaning.CallContracts.{viewState, isSet, lengthsOf, verdictNumber, badIn, pointerOf, recordAt, formatVerdict, lookVerdict, mountVerdict, writeVerdict, flushVerdict, resetVerdict, peekNumber}
+use Rattle.volume.specs.meaning.Rules.{heldAt, zoneView, showing}
+use Rattle.volume.specs.meaning.Answers.{placeOf, presentIn, lostDriveIn}
+use Rattle.volume.specs.meaning.Refusals.{Verdict, accept, refuse, firstRefusal, zoneOf, offsetOf, stateWithin, staleIn, stale, badRun, badOrder, mountFull, resetFull, writeFull, goneForEntry, goneBefore, notHeld, formatRows, lookRows, mountRows, writeRows, flushRows, resetRows, peekRows}
+use Rattle.volume.specs.meaning.CallContracts.{viewState, isSet, lengthsOf, verdictNumber, badIn, rolesOf, seenIn, pointerOf, recordAt, formatVerdict, lookVerdict, mountVerdict, writeVerdict, flushVerdict, resetVerdict, peekNumber}
+use Rattle.volume.specs.meaning.Emptying.{byLook, byState}
 use Rattle.volume.specs.laws.Refusals.{accepted-row, Numbered, nonzero, numbered}
 
 -- the number 0 is no refusal's
@@ -43,11 +44,11 @@ module _ (g : Geometry) (named : List Bool) (t : Tables) where
 
   pub look-number-accepts : verdictNumber (lookVerdict g named t) ≡ 0 → lookVerdict g named t ≡ accept
   unfolding lookVerdict lookRows
-  look-number-accepts = number-accepts (lookRows g (lengthsOf t) (badIn g named t) (isSet named) (deviceOf g t)) refl
+  look-number-accepts = number-accepts (lookRows g (lengthsOf t) (badIn g named t) (isSet named) (rolesOf g t) (seenIn g t)) refl
 
   pub mount-number-accepts : verdictNumber (mountVerdict g named t) ≡ 0 → mountVerdict g named t ≡ accept
   unfolding mountVerdict mountRows
-  mount-number-accepts = number-accepts (mountRows g (lengthsOf t) (badIn g named t) (isSet named) (deviceOf g t)) refl
+  mount-number-accepts = number-accepts (mountRows g (lengthsOf t) (badIn g named t) (isSet named) (rolesOf g t) (seenIn g t)) refl
 
   module _ (s : State) where
     pub flush-number-accepts : verdictNumber (flushVerdict g named s t) ≡ 0 → flushVerdict g named s t ≡ accept
@@ -56,11 +57,11 @@ module _ (g : Geometry) (named : List Bool) (t : Tables) where
 
     pub reset-number-accepts : (z : ℕ) → verdictNumber (resetVerdict g named s z t) ≡ 0 → resetVerdict g named s z t ≡ accept
     unfolding resetVerdict resetRows
-    reset-number-accepts z = number-accepts (resetRows g (lengthsOf t) (badIn g named t) (isSet named) (viewState s) z (deviceOf g t)) refl
+    reset-number-accepts z = number-accepts (resetRows g (lengthsOf t) (badIn g named t) (isSet named) (viewState s) z (rolesOf g t) (seenIn g t)) refl
 
     pub write-number-accepts : (a count bytes : ℕ) → verdictNumber (writeVerdict g named s a count bytes t) ≡ 0 → writeVerdict g named s a count bytes t ≡ accept
     unfolding writeVerdict writeRows
-    write-number-accepts a count bytes = number-accepts (writeRows g (lengthsOf t) (badIn g named t) (isSet named) (viewState s) a count bytes (deviceOf g t)) refl
+    write-number-accepts a count bytes = number-accepts (writeRows g (lengthsOf t) (badIn g named t) (isSet named) (viewState s) a count bytes (rolesOf g t) (seenIn g t)) refl
 
 -- ---- rows 1 to 3, which every call has
 pub record TablesPassed (g : Geometry) (named : List Bool) (t : Tables) : Type 0 where
@@ -82,7 +83,7 @@ format-passed g named t e =
 pub look-passed : (g : Geometry) (named : List Bool) (t : Tables) → lookVerdict g named t ≡ accept → TablesPassed g named t
 unfolding lookVerdict lookRows
 look-passed g named t e =
-    let row = accepted-row (lookRows g (lengthsOf t) (badIn g named t) (isSet named) (deviceOf g t)) e in
+    let row = accepted-row (lookRows g (lengthsOf t) (badIn g named t) (isSet named) (rolesOf g t) (seenIn g t)) e in
     tables-passed g named t (not-not (isValid g) (row 1)) (not-not (lengthsFit g (length (t .sectors)) (length (t .written)) (length (t .durable))) (row 2)) (row 3)
 
 -- ---- flush
@@ -104,12 +105,12 @@ module _ (g : Geometry) (named : List Bool) (s : State) (t : Tables) where
 pub record ResetPassed (g : Geometry) (named : List Bool) (s : State) (z : ℕ) (t : Tables) : Type 0 where
   pub opening : StatePassed g named s t
   pub zone : z < g .zones
-  pub log-room : resetFull g (callPresent g (isSet named) (viewState s)) (deviceOf g t) ≡ false
+  pub log-room : resetFull g (callPresent g (isSet named) (viewState s)) (rolesOf g t) (byState g (callPresent g (isSet named) (viewState s)) (seenIn g t) (viewState s)) (seenIn g t) ≡ false
 
 pub reset-passed : (g : Geometry) (named : List Bool) (s : State) (z : ℕ) (t : Tables) → resetVerdict g named s z t ≡ accept → ResetPassed g named s z t
 unfolding resetVerdict resetRows
 reset-passed g named s z t e =
-    let row = accepted-row (resetRows g (lengthsOf t) (badIn g named t) (isSet named) (viewState s) z (deviceOf g t)) e in
+    let row = accepted-row (resetRows g (lengthsOf t) (badIn g named t) (isSet named) (viewState s) z (rolesOf g t) (seenIn g t)) e in
     record {
       opening = state-passed g named s t (row 1) (not-not (lengthsFit g (length (t .sectors)) (length (t .written)) (length (t .durable))) (row 2)) (row 3);
       zone = ltb-true z (g .zones) (not-not (ltb z (g .zones)) (row 8));
@@ -123,9 +124,11 @@ pub record WritePassed (g : Geometry) (named : List Bool) (s : State) (a count b
   pub zone : zoneOf g a < g .zones
   pub inside : pointerOf s (zoneOf g a) + count ≤ zoneSectors g
   -- a present drive has just what the pointer needs
-  pub written-is : (d : ℕ) → d < g .drives → callPresent g (isSet named) (viewState s) d ≡ true → length (deviceOf g t d (dataZone (zoneOf g a)) .sectors) ≡ needed (g .drives) (g .unit) (zoneOf g a) (pointerOf s (zoneOf g a)) d
-  pub log-room : writeFull g (callPresent g (isSet named) (viewState s)) (deviceOf g t) (zoneOf g a) (pointerOf s (zoneOf g a) + count) ≡ false
-  pub known-before : goneBefore g (callPresent g (isSet named) (viewState s)) (deviceOf g t) (zoneOf g a) (recordAt s (zoneOf g a) .generation) (pointerOf s (zoneOf g a)) ≡ false
+  pub written-is : (d : ℕ) → d < g .drives → callPresent g (isSet named) (viewState s) d ≡ true → length (seenIn g t d (dataZone (zoneOf g a)) .sectors) ≡ needed (g .drives) (g .unit) (zoneOf g a) (pointerOf s (zoneOf g a)) d
+  pub log-room : writeFull g (callPresent g (isSet named) (viewState s)) (rolesOf g t) (byState g (callPresent g (isSet named) (viewState s)) (seenIn g t) (viewState s)) (seenIn g t) (zoneOf g a) (pointerOf s (zoneOf g a) + count) ≡ false
+  -- where it empties a log, the sectors of which entries are made are known
+  pub known-copies : goneForEntry g (callPresent g (isSet named) (viewState s)) (rolesOf g t) (byState g (callPresent g (isSet named) (viewState s)) (seenIn g t) (viewState s)) (seenIn g t) (zoneOf g a) (pointerOf s (zoneOf g a) + count) ≡ false
+  pub known-before : goneBefore g (callPresent g (isSet named) (viewState s)) (seenIn g t) (zoneOf g a) (recordAt s (zoneOf g a) .generation) (pointerOf s (zoneOf g a)) ≡ false
 
 -- not stale, and neither sealed nor worn
 not-stale : (c : Condition) (written needs : ℕ) → isSealed c ≡ false → isWorn c ≡ false → staleIn c written needs ≡ false → written ≡ needs
@@ -151,29 +154,33 @@ pub write-passed : (g : Geometry) (named : List Bool) (s : State) (a count bytes
 unfolding writeVerdict writeRows bufferFits
 write-passed g named s a count bytes t e =
     let z = zoneOf g a in
-    let row = accepted-row (writeRows g (lengthsOf t) (badIn g named t) (isSet named) (viewState s) a count bytes (deviceOf g t)) e in
+    let row = accepted-row (writeRows g (lengthsOf t) (badIn g named t) (isSet named) (viewState s) a count bytes (rolesOf g t) (seenIn g t)) e in
     let lengths = lengthsFit g (length (t .sectors)) (length (t .written)) (length (t .durable)) in
     let (l, b) = and-split lengths (eqb bytes (count * g .sector)) (not-not (lengths && eqb bytes (count * g .sector)) (row 2)) in
     let hz : z < g .zones = ltb-true z (g .zones) (not-not (ltb z (g .zones)) (row 8)) in
+    let present = callPresent g (isSet named) (viewState s) in
+    let end = pointerOf s z + count in
+    let (k, b′) = or-none (goneForEntry g present (rolesOf g t) (byState g present (seenIn g t) (viewState s)) (seenIn g t) z end) (goneBefore g present (seenIn g t) z (recordAt s z .generation) (pointerOf s z)) (row 15) in
     record {
       opening = state-passed g named s t (row 1) l (row 3);
       buffer-long = eqb-true bytes (count * g .sector) b;
       zone = hz;
       inside = run-inside g s z (offsetOf g a) count (row 9) (row 10);
-      written-is = fresh-at g (callPresent g (isSet named) (viewState s)) (deviceOf g t) (viewState s) z hz (row 7) (row 11) (row 12);
+      written-is = fresh-at g present (seenIn g t) (viewState s) z hz (row 7) (row 11) (row 12);
       log-room = row 14;
-      known-before = row 15;
+      known-copies = k;
+      known-before = b′;
     }
 
 -- ---- mount
 pub record MountPassed (g : Geometry) (named : List Bool) (t : Tables) : Type 0 where
   pub tables : TablesPassed g named t
-  pub log-room : mountFull g (isPresent g (isSet named) (deviceOf g t)) (deviceOf g t) ≡ false
+  pub log-room : mountFull g (presentIn g (isSet named) (deviceOf g t)) (rolesOf g t) (byLook (showing g (presentIn g (isSet named) (deviceOf g t)) (lostDriveIn g (isSet named) (deviceOf g t)) (seenIn g t))) (seenIn g t) ≡ false
 
 pub mount-passed : (g : Geometry) (named : List Bool) (t : Tables) → mountVerdict g named t ≡ accept → MountPassed g named t
 unfolding mountVerdict mountRows
 mount-passed g named t e =
-    let row = accepted-row (mountRows g (lengthsOf t) (badIn g named t) (isSet named) (deviceOf g t)) e in
+    let row = accepted-row (mountRows g (lengthsOf t) (badIn g named t) (isSet named) (rolesOf g t) (seenIn g t)) e in
     record {
       tables = tables-passed g named t (not-not (isValid g) (row 1)) (not-not (lengthsFit g (length (t .sectors)) (length (t .written)) (length (t .durable))) (row 2)) (row 3);
       log-room = row 14;
@@ -183,22 +190,15 @@ mount-passed g named t e =
 pub record PeekPassed (g : Geometry) (named : List Bool) (s : State) (a : ℕ) (t : Tables) : Type 0 where
   pub opening : StatePassed g named s t
   pub zone : zoneOf g a < g .zones
-  pub held : heldAt (zoneView g (callPresent g (isSet named) (viewState s)) (deviceOf g t) (zoneOf g a) (recordAt s (zoneOf g a) .generation)) (placeOf g a .drive) (placeOf g a .sector) ≡ true
+  pub held : heldAt (zoneView g (callPresent g (isSet named) (viewState s)) (seenIn g t) (zoneOf g a) (recordAt s (zoneOf g a) .generation)) (placeOf g a .drive) (placeOf g a .sector) ≡ true
 
 pub peek-passed : (g : Geometry) (named : List Bool) (s : State) (a : ℕ) (t : Tables) → peekNumber g named s a t ≡ 0 → PeekPassed g named s a t
 unfolding peekNumber peekRows notHeld
 peek-passed g named s a t e =
-    let rows = peekRows g (lengthsOf t) (badIn g named t) (isSet named) (viewState s) a (deviceOf g t) in
+    let rows = peekRows g (lengthsOf t) (badIn g named t) (isSet named) (viewState s) a (seenIn g t) in
     let row = accepted-row rows (number-accepts rows refl e) in
     record {
       opening = state-passed g named s t (row 1) (not-not (lengthsFit g (length (t .sectors)) (length (t .written)) (length (t .durable))) (row 2)) (row 3);
       zone = ltb-true (zoneOf g a) (g .zones) (not-not (ltb (zoneOf g a) (g .zones)) (row 8));
       held = not-not _ (row 15);
     }
-
--- ---- room in a log of a present drive
-pub unused-at : (g : Geometry) (present : ℕ → Bool) (v : Device) (log n : ℕ) → unusedBelow g present v log n ≡ false → (d : ℕ) → d < g .drives → present d ≡ true → n ≤ g .capacity - length (v d log .sectors)
-unfolding unusedBelow
-unused-at g present v log n h d hd p =
-    let q = any-below-false (λ e. present e && ltb (g .capacity - length (v e log .sectors)) n) (g .drives) d h hd in
-    ltb-false (g .capacity - length (v d log .sectors)) n (rw p at q)

@@ -1,23 +1,28 @@
 -- The refusals depend on the sectors of the present drives, and on nothing else of the device: the conditions of rows 4 to 15, of two devices that agree there.
-use mathlib.Core.Path.{_≡_, ap, ap₂, fun-ext}
-use mathlib.Core.Bool.{Bool, true, _&&_, _||_, not}
-use Prim.Native.Nat.{ℕ, suc, _+_, _-_, _*_, min}
+use mathlib.Core.Path.{_≡_, refl, sym, ap, ap₂, _∙_, fun-ext}
+use mathlib.Core.Bool.{Bool, true, false, _&&_, _||_, not, true≢false}
+use Prim.Native.Nat.{ℕ, _+_, _-_, _*_}
 use mathlib.Core.List.{List}
 use lib.ListN.{length}
 use lib.Dec.{ltb, eqb}
 use Rattle.tables.specs.declared.Geometry.{Geometry}
+use Rattle.tables.specs.meaning.Basics.{pick}
+use Rattle.tables.specs.laws.Basics.{and-split}
 use Rattle.tables.specs.meaning.Below.{anyBelow, countBelow}
 use Rattle.tables.specs.meaning.Drives.{findBelow}
+use Rattle.tables.specs.meaning.Lists.{anyOf}
 use Rattle.tables.specs.meaning.Geometry.{stripeSectors, dataZone}
 use Rattle.tables.specs.meaning.Placement.{needed, stripeOf, driveOf, sectorOf}
 use Rattle.tables.specs.meaning.Device.{Device}
-use Rattle.logs.specs.meaning.Entry.{generalZone, parityZone, Header}
+use Rattle.logs.specs.meaning.Entry.{wornGeneration, spareZone, Header, kindOfLog}
 use Rattle.logs.specs.meaning.Heads.{labelled, arrayIn}
 use Rattle.volume.specs.meaning.State.{StateView, pointerIn}
 use Rattle.volume.specs.meaning.Content.{insideStripe, fillOf, parityDriveAt}
-use Rattle.volume.specs.meaning.Rules.{generalHeads, generalEnding, parityEnding, isLost, isPresent, lostDrive}
-use Rattle.volume.specs.meaning.Refusals.{twoLost, isNoEntry, badLabels, badLogs, staleIn, stale, unusedBelow, reserve, mountFull, writeFull, goneIn, goneBefore, notHeld}
-use Rattle.volume.specs.laws.Depends.{SameOn, and-same, heads-same, general-ending-same, ending-same, lost-depends, known-depends, held-depends}
+use Rattle.volume.specs.meaning.Rules.{generalHeads, generalEnding, parityEnding, isLost, isPresent, lostDrive, known, zoneView, showing}
+use Rattle.volume.specs.meaning.Roles.{Roles, lacksKind, claimOfKind}
+use Rattle.volume.specs.meaning.Emptying.{InForce, byState, byLook, isCopied, isAtPointer, newGeneralSize, newParitySize, unusedIn, lacksRoom, staysFull, spareWritten, reserve, mountGeneralLimit, resetLimit, writeLimit, emptiedFor, emptiedForWrite, goneForCopies}
+use Rattle.volume.specs.meaning.Refusals.{twoLost, isNoEntry, badLabels, kindLacks, badLogs, staleIn, stale, mountFull, resetFull, writeFull, goneForEntry, goneIn, goneBefore, notHeld}
+use Rattle.volume.specs.laws.Depends.{SameOn, and-same, heads-same, parity-same, general-ending-same, ending-same, lost-depends, value-depends, known-depends, held-depends, zone-depends}
 
 module _ (g : Geometry) (present : ℕ → Bool) (v w : Device) (same : SameOn present v w) where
   -- 4 (here `present` are the drives named), with rule 1
@@ -66,21 +71,6 @@ module _ (g : Geometry) (present : ℕ → Bool) (v w : Device) (same : SameOn p
       stale-at : Device → ℕ → Bool
       stale-at x d = staleIn (state .condition z) (length (x d (dataZone z) .sectors)) (needed (g .drives) (g .unit) z (pointerIn (state .condition z)) d)
 
-  -- 14
-  pub unused-depends : (log n : ℕ) → unusedBelow g present v log n ≡ unusedBelow g present w log n
-  unfolding unusedBelow
-  unused-depends log n i = anyBelow (λ d. and-same (present d) (ltb (g .capacity - length (v d log .sectors)) n) (ltb (g .capacity - length (w d log .sectors)) n) (λ p. ap (λ (ss : List (List ℕ)). ltb (g .capacity - length ss) n) (same d p log)) i) (g .drives)
-
-  pub mount-full-depends : mountFull g present v ≡ mountFull g present w
-  mount-full-depends = ap₂ (λ (a b : Bool). a || b) (unused-depends generalZone (g .zones + 2)) (unused-depends parityZone (reserve g))
-
-  pub write-full-depends : (z end : ℕ) → writeFull g present v z end ≡ writeFull g present w z end
-  unfolding writeFull
-  write-full-depends z end =
-      let p = parityDriveAt g z end in
-      let n = suc (min (fillOf g end) (g .unit)) + reserve g in
-      ap (λ (b : Bool). insideStripe g end && b) (and-same (present p) (ltb (g .capacity - length (v p parityZone .sectors)) n) (ltb (g .capacity - length (w p parityZone .sectors)) n) (λ q. ap (λ (ss : List (List ℕ)). ltb (g .capacity - length ss) n) (same p q parityZone)))
-
   -- 15
   pub gone-depends : (z n offset count : ℕ) → goneIn g present v z n offset count ≡ goneIn g present w z n offset count
   unfolding goneIn
@@ -93,3 +83,96 @@ module _ (g : Geometry) (present : ℕ → Bool) (v w : Device) (same : SameOn p
   pub not-held-depends : (z n offset : ℕ) → notHeld g present v z n offset ≡ notHeld g present w z n offset
   unfolding notHeld
   not-held-depends z n offset = ap not (held-depends g present v w same z n (driveOf (g .drives) (g .unit) z offset) (sectorOf (g .drives) (g .unit) offset))
+
+  -- what the copies of logs go by
+  pub by-state-depends : (state : StateView) → byState g present v state ≡ byState g present w state
+  by-state-depends state i = record { generation = state .generation; pointer = λ z. pointerIn (state .condition z); value = λ z a. value-depends g present v w same z (state .generation z) a i }
+
+  pub by-look-depends : (x : ℕ) → byLook (showing g present x v) ≡ byLook (showing g present x w)
+  unfolding showing
+  by-look-depends x i = record { generation = λ z. zone-depends g present v w same z i .generation; pointer = λ z. zone-depends g present v w same z i .pointer; value = λ z. zone-depends g present v w same z i .value }
+
+-- ---- 5, 14 and 15 by the drives' roles
+and-both : (p q a b : Bool) → p ≡ q → (p ≡ true → a ≡ b) → p && a ≡ q && b
+and-both true true a b e h = h refl
+and-both true false a b e h = absurd (true≢false e)
+and-both false true a b e h = absurd (true≢false (sym e))
+and-both false false a b e h = refl
+
+module _ (g : Geometry) (present : ℕ → Bool) (v w : Device) (same : SameOn present v w) (r s : ℕ → Roles) (alike : (d : ℕ) → present d ≡ true → r d ≡ s d) where
+  pub kinds-depend : kindLacks g present r ≡ kindLacks g present s
+  unfolding kindLacks
+  kinds-depend i = anyBelow (λ d. and-same (present d) (lacksKind (r d)) (lacksKind (s d)) (λ p. ap (λ (x : Roles). lacksKind x) (alike d p)) i) (g .drives)
+
+  -- which logs are emptied
+  pub emptied-depends : (par : Bool) (limit d : ℕ) → emptiedFor g present par r v limit d ≡ emptiedFor g present par s w limit d
+  unfolding emptiedFor unusedIn
+  emptied-depends par limit d = and-same (present d) (lacksRoom g par r v limit d) (lacksRoom g par s w limit d)
+      (λ p i. ltb (pick (eqb (claimOfKind par (alike d p i)) 0) 0 (g .capacity - length (same d p (kindOfLog par) i))) limit)
+
+  pub emptied-write-depends : (z end d : ℕ) → emptiedForWrite g present r v z end d ≡ emptiedForWrite g present s w z end d
+  unfolding emptiedForWrite
+  emptied-write-depends z end d = ap (λ (b : Bool). (insideStripe g end && eqb d (parityDriveAt g z end)) && b) (emptied-depends true (writeLimit g end) d)
+
+  pub emptied-present : (par : Bool) (limit d : ℕ) → emptiedFor g present par r v limit d ≡ true → present d ≡ true
+  unfolding emptiedFor
+  emptied-present par limit d e = and-split (present d) (lacksRoom g par r v limit d) e .0
+
+  pub emptied-write-present : (z end d : ℕ) → emptiedForWrite g present r v z end d ≡ true → present d ≡ true
+  unfolding emptiedForWrite
+  emptied-write-present z end d e = emptied-present true (writeLimit g end) d (and-split (insideStripe g end && eqb d (parityDriveAt g z end)) (emptiedFor g present true r v (writeLimit g end) d) e .1)
+
+  -- whether they would stay full (f and h: what the copies go by)
+  stays-depends : (par : Bool) (limit m n d : ℕ) → m ≡ n → present d ≡ true → staysFull g par r limit m d ≡ staysFull g par s limit n d
+  unfolding staysFull
+  stays-depends par limit m n d e p i = ltb (g .capacity - e i) limit || (lacksKind (alike d p i) || ltb wornGeneration (claimOfKind par (alike d p i)))
+
+  spare-depends : (d : ℕ) → present d ≡ true → spareWritten v d ≡ spareWritten w d
+  spare-depends d p = ap (λ (ss : List (List ℕ)). ltb 0 (length ss)) (same d p spareZone)
+
+  module _ (f h : InForce) (force : f ≡ h) where
+    size-depends : (d : ℕ) → present d ≡ true → newGeneralSize g f (generalHeads g v d) ≡ newGeneralSize g h (generalHeads g w d)
+    size-depends d p = ap₂ (newGeneralSize g) force (heads-same g present v w same d p)
+
+    parity-size-depends : (d : ℕ) → newParitySize g f d ≡ newParitySize g h d
+    parity-size-depends d = ap (λ (x : InForce). newParitySize g x d) force
+
+    pub mount-full-depends : mountFull g present r f v ≡ mountFull g present s h w
+    unfolding mountFull
+    mount-full-depends i = anyBelow (λ d. and-both (emptiedFor g present false r v (mountGeneralLimit g) d) (emptiedFor g present false s w (mountGeneralLimit g) d)
+        (staysFull g false r (mountGeneralLimit g) (newGeneralSize g f (generalHeads g v d)) d) (staysFull g false s (mountGeneralLimit g) (newGeneralSize g h (generalHeads g w d)) d) (emptied-depends false (mountGeneralLimit g) d)
+        (λ e. let p = emptied-present false (mountGeneralLimit g) d e in stays-depends false (mountGeneralLimit g) (newGeneralSize g f (generalHeads g v d)) (newGeneralSize g h (generalHeads g w d)) d (size-depends d p) p) i
+        || and-both (emptiedFor g present true r v (reserve g) d) (emptiedFor g present true s w (reserve g) d) (staysFull g true r (reserve g) (newParitySize g f d) d) (staysFull g true s (reserve g) (newParitySize g h d) d) (emptied-depends true (reserve g) d)
+        (λ e. stays-depends true (reserve g) (newParitySize g f d) (newParitySize g h d) d (parity-size-depends d) (emptied-present true (reserve g) d e)) i) (g .drives)
+
+    pub reset-full-depends : resetFull g present r f v ≡ resetFull g present s h w
+    unfolding resetFull
+    reset-full-depends i = anyBelow (λ d. and-both (emptiedFor g present false r v (resetLimit g) d) (emptiedFor g present false s w (resetLimit g) d) (full r f v d) (full s h w d) (emptied-depends false (resetLimit g) d)
+        (λ e. let p = emptied-present false (resetLimit g) d e in ap₂ (λ (a b : Bool). a || b) (stays-depends false (resetLimit g) (newGeneralSize g f (generalHeads g v d)) (newGeneralSize g h (generalHeads g w d)) d (size-depends d p) p) (spare-depends d p)) i) (g .drives)
+      where
+        full : (ℕ → Roles) → InForce → Device → ℕ → Bool
+        full x k u d = staysFull g false x (resetLimit g) (newGeneralSize g k (generalHeads g u d)) d || spareWritten u d
+
+    pub write-full-depends : (z end : ℕ) → writeFull g present r f v z end ≡ writeFull g present s h w z end
+    unfolding writeFull
+    write-full-depends z end i = anyBelow (λ d. and-both (emptiedForWrite g present r v z end d) (emptiedForWrite g present s w z end d) (full r f v d) (full s h w d) (emptied-write-depends z end d)
+        (λ e. let p = emptied-write-present z end d e in ap₂ (λ (a b : Bool). a || b) (stays-depends true (writeLimit g end) (newParitySize g f d) (newParitySize g h d) d (parity-size-depends d) p) (spare-depends d p)) i) (g .drives)
+      where
+        full : (ℕ → Roles) → InForce → Device → ℕ → Bool
+        full x k u d = staysFull g true x (writeLimit g end) (newParitySize g k d) d || spareWritten u d
+
+    gone-copies-depends : (d : ℕ) → present d ≡ true → goneForCopies g present f v d ≡ goneForCopies g present h w d
+    unfolding goneForCopies
+    gone-copies-depends d p i = anyBelow (λ z. (isCopied g (force i) d z && not (anyOf (isAtPointer g (force i) z) (parity-same g present v w same d p i)))
+        && anyBelow (λ k. not (unknown z k i)) (fillOf g (force i .pointer z))) (g .zones)
+      where
+        at : InForce → ℕ → ℕ → ℕ
+        at k z j = stripeOf (g .drives) (g .unit) (k .pointer z) * stripeSectors g + j
+
+        unknown : (z j : ℕ) → known (g .drives) (g .unit) z (zoneView g present v z (f .generation z)) (at f z j) ≡ known (g .drives) (g .unit) z (zoneView g present w z (h .generation z)) (at h z j)
+        unknown z j = known-depends g present v w same z (f .generation z) (at f z j) ∙ ap (λ (k : InForce). known (g .drives) (g .unit) z (zoneView g present w z (k .generation z)) (at k z j)) force
+
+    pub gone-entry-depends : (z end : ℕ) → goneForEntry g present r f v z end ≡ goneForEntry g present s h w z end
+    unfolding goneForEntry
+    gone-entry-depends z end i = anyBelow (λ d. and-both (emptiedForWrite g present r v z end d) (emptiedForWrite g present s w z end d) (goneForCopies g present f v d) (goneForCopies g present h w d) (emptied-write-depends z end d)
+        (λ e. gone-copies-depends d (emptied-write-present z end d e)) i) (g .drives)

@@ -1,5 +1,5 @@
 -- The sectors that a list of stores appends to a zone, in their order. Stores that reset no log leave each log what it was, and then these sectors
--- (`log-after`); a drive that they are not on they leave alone (`absent-after`). And what the stores of a mount append to a present drive (`mount-sectors`).
+-- (`log-after`); a drive that they are not on they leave alone (`absent-after`). And what steps with their flushes append to a present drive (`sectors-steps`).
 use mathlib.Core.Path.{_≡_, refl, sym, ap, ap₂, _∙_}
 use mathlib.Core.Logic.{_≢_}
 use mathlib.Core.Bool.{Bool, true, false, _&&_, true≢false}
@@ -8,7 +8,6 @@ use native.Mathlib.Nat.{not-suc-le-zero}
 use native.Mathlib.Decide.{ℕ-discrete}
 use native.Mathlib.Omega.{arith}
 use mathlib.Core.List.{List, [], _∷_, _++_, append-assoc, append-nil}
-use lib.ListN.{length}
 use lib.Dec.{eqb}
 use borrow.Author.Tests.{ne-eqb, eqb-true}
 use Rattle.tables.specs.declared.Geometry.{Geometry}
@@ -20,12 +19,10 @@ use Rattle.tables.specs.laws.Lists.{concat-append}
 use Rattle.tables.specs.meaning.Device.{ZoneView, Device, Store, append, reset, flush, storeDrive, appended, blankZone, flushed, apply, applyAll}
 use Rattle.tables.specs.laws.Device.{apply-frame}
 use Rattle.tables.specs.meaning.Phases.{onPresent, flushAll}
-use Rattle.tables.specs.meaning.Tables.{Tables, deviceOf, runStores}
 use Rattle.tables.specs.laws.StoresFit.{AllOn}
 use Rattle.logs.specs.meaning.Entry.{parityZone}
 use Rattle.volume.specs.meaning.Calls.{appendAll}
-use Rattle.volume.specs.meaning.Mount.{withFlush, withFlushes, entryStep, mountLook, afterOpening, stepsBeforeEntries, phasesBeforeEntries}
-use Rattle.volume.specs.meaning.CallContracts.{storesBefore, mountStoresOn}
+use Rattle.volume.specs.meaning.Mount.{withFlush, withFlushes}
 
 -- ---- the sectors appended to zone y of drive d
 abbrev pub sectorsOfStore : ℕ → ℕ → Store → List (List ℕ)
@@ -187,19 +184,19 @@ module _ (g : Geometry) (a : ℕ → Bool) where
   abbrev flushAfter : List Store → List Store
   flushAfter xs = pick (isNil (onPresent a xs)) [] (onPresent a (flushAll (g .drives)))
 
-  keep-step : (xs : List Store) → AllKeepLogs xs → AllKeepLogs (concat (withFlush g a xs))
+  pub keep-step : (xs : List Store) → AllKeepLogs xs → AllKeepLogs (concat (withFlush g a xs))
   keep-step xs p = keep-append (onPresent a xs) (flushAfter xs ++ []) (keep-present a xs p) (keep-append (flushAfter xs) [] (go (isNil (onPresent a xs))) tt)
     where
       go : (b : Bool) → AllKeepLogs (pick b [] (onPresent a (flushAll (g .drives))))
       go true = tt
       go false = keep-present a (flushAll (g .drives)) (keep-flushes (g .drives))
 
-  keep-steps : (steps : List (List Store)) → EachKeepsLogs steps → AllKeepLogs (concat (withFlushes g a steps))
+  pub keep-steps : (steps : List (List Store)) → EachKeepsLogs steps → AllKeepLogs (concat (withFlushes g a steps))
   keep-steps [] p = tt
   keep-steps (xs ∷ steps) p = rw (concat-append (withFlush g a xs) (withFlushes g a steps)) (keep-append (concat (withFlush g a xs)) (concat (withFlushes g a steps)) (keep-step xs (p .0)) (keep-steps steps (p .1)))
 
   module _ (d y : ℕ) (here : a d ≡ true) where
-    sectors-step : (xs : List Store) → sectorsTo d y (concat (withFlush g a xs)) ≡ sectorsTo d y xs
+    pub sectors-step : (xs : List Store) → sectorsTo d y (concat (withFlush g a xs)) ≡ sectorsTo d y xs
     sectors-step xs =
         sectors-append d y (onPresent a xs) (flushAfter xs ++ []) ∙ ap₂ (λ (p q : List (List ℕ)). p ++ q) (sectors-present a d y xs here) (sectors-append d y (flushAfter xs) [] ∙ ap (λ (r : List (List ℕ)). r ++ []) (go (isNil (onPresent a xs))))
         ∙ append-nil (sectorsTo d y xs)
@@ -208,35 +205,8 @@ module _ (g : Geometry) (a : ℕ → Bool) where
         go true = refl
         go false = sectors-present a d y (flushAll (g .drives)) here ∙ sectors-flushes d y (g .drives)
 
-    sectors-steps : (steps : List (List Store)) → sectorsTo d y (concat (withFlushes g a steps)) ≡ sectorsTo d y (concat steps)
+    pub sectors-steps : (steps : List (List Store)) → sectorsTo d y (concat (withFlushes g a steps)) ≡ sectorsTo d y (concat steps)
     sectors-steps [] = refl
     sectors-steps (xs ∷ steps) =
         ap (sectorsTo d y) (concat-append (withFlush g a xs) (withFlushes g a steps)) ∙ sectors-append d y (concat (withFlush g a xs)) (concat (withFlushes g a steps))
         ∙ ap₂ (λ (p q : List (List ℕ)). p ++ q) (sectors-step xs) (sectors-steps steps) ∙ sym (sectors-append d y xs (concat steps))
-
--- ---- the stores of a mount
-module _ (g : Geometry) (a : ℕ → Bool) (x : ℕ) (t : Tables) where
-  abbrev pub mountSteps : List (List Store)
-  mountSteps = stepsBeforeEntries g a x (mountLook g a x (deviceOf g t)) (afterOpening g a (deviceOf g t))
-
-  -- step 8, by what the stores before it leave
-  abbrev pub mountEntries : List Store
-  mountEntries = entryStep g (mountLook g a x (deviceOf g t)) (deviceOf g (runStores g (length (storesBefore g a x t)) (storesBefore g a x t) t))
-
-  before-keeps : EachKeepsLogs mountSteps → AllKeepLogs (storesBefore g a x t)
-  unfolding storesBefore phasesBeforeEntries
-  before-keeps p = keep-append (onPresent a (flushAll (g .drives))) (concat (withFlushes g a mountSteps)) (keep-present a (flushAll (g .drives)) (keep-flushes (g .drives))) (keep-steps g a mountSteps p)
-
-  pub mount-keeps : EachKeepsLogs mountSteps → AllKeepLogs mountEntries → AllKeepLogs (mountStoresOn g a x t)
-  unfolding mountStoresOn
-  mount-keeps p q = keep-append (storesBefore g a x t) (concat (withFlush g a mountEntries)) (before-keeps p) (keep-step g a mountEntries q)
-
-  before-sectors : (d y : ℕ) → a d ≡ true → sectorsTo d y (storesBefore g a x t) ≡ sectorsTo d y (concat mountSteps)
-  unfolding storesBefore phasesBeforeEntries
-  before-sectors d y here =
-      sectors-append d y (onPresent a (flushAll (g .drives))) (concat (withFlushes g a mountSteps))
-      ∙ ap₂ (λ (p q : List (List ℕ)). p ++ q) (sectors-present a d y (flushAll (g .drives)) here ∙ sectors-flushes d y (g .drives)) (sectors-steps g a d y here mountSteps)
-
-  pub mount-sectors : (d y : ℕ) → a d ≡ true → sectorsTo d y (mountStoresOn g a x t) ≡ sectorsTo d y (concat mountSteps) ++ sectorsTo d y mountEntries
-  unfolding mountStoresOn
-  mount-sectors d y here = sectors-append d y (storesBefore g a x t) (concat (withFlush g a mountEntries)) ∙ ap₂ (λ (p q : List (List ℕ)). p ++ q) (before-sectors d y here) (sectors-step g a d y here mountEntries)

@@ -1,6 +1,5 @@
--- The spare zone of a drive is nobody's: no call appends to it, and only a format resets it. So a write, flush, reset or mount, stopped
--- anywhere, leaves its sectors as they were (`still`), and a format leaves none there (`format-clears`). On any input.
--- (Document 02, 2.2: there a log is emptied into it, and the calls stay as they are.)
+-- The spare zone of a drive takes a log that is emptied, and nothing else: a call's own stores, and a mount's steps by its look, name other zones. So,
+-- stopped anywhere, they leave its sectors as they were (`still`), and a format leaves none there (`format-clears`). On any input.
 use mathlib.Core.Path.{_≡_, refl, sym, ap, _∙_}
 use mathlib.Core.Logic.{_≢_, _⊎_, inl, inr}
 use mathlib.Core.Bool.{Bool, true, false, _&&_, _||_, not}
@@ -22,18 +21,15 @@ use Rattle.tables.specs.laws.Device.{apply-all-append, put-zone-other-zone}
 use Rattle.tables.specs.meaning.Phases.{onPresent, eachOnPresent, flushAll}
 use Rattle.tables.specs.laws.Local.{LocalStore, resetHere, localStores, applyAllHere, local-is}
 use Rattle.tables.specs.laws.Phases.{on-present-local, each-below-own, each-below-at, each-below-unseen}
-use Rattle.logs.specs.meaning.Entry.{generalZone, parityZone, Header, label, counters, encode, Entry}
+use Rattle.logs.specs.meaning.Entry.{generalZone, parityZone, spareZone, Header, label, counters, encode, Entry}
 use Rattle.logs.specs.meaning.Walk.{sectorsOf}
 use Rattle.volume.specs.meaning.State.{StateView, pointerIn, isEmpty, isSealed}
 use Rattle.volume.specs.meaning.Content.{rowXor, entryAt, insideStripe, parityDriveAt, contentAt}
 use Rattle.volume.specs.meaning.Rules.{Shown, generalHeads, parityEnding, parityEntries}
 use Rattle.volume.specs.meaning.Calls.{appendAll, appendGeneral, parityStores, sectorStores, dataStores, entryStores, writeWith, zoneContent, writeStores, flushStores, resetPhases, resetStores, generationsFrom, formatStores, logsReset}
-use Rattle.volume.specs.meaning.Mount.{labelStep, resetEntryStep, zoneResetStep, counterStep, sealStep, tornRowStep, fillStep, entryStep, withFlush, afterOpening, mountLook, withFlushes, phasesBeforeEntries, mountPhases, mountStores, needsReset, countersDiffer, missingRows}
+use Rattle.volume.specs.meaning.Mount.{labelStep, resetEntryStep, zoneResetStep, counterStep, sealStep, tornRowStep, fillStep, entryStep, withFlush, withFlushes, stepsBeforeEntries, needsReset, countersDiffer, missingRows}
 use Rattle.tables.specs.meaning.Drives.{noDrive}
 use Rattle.logs.specs.meaning.Heads.{lastLost, isSealAt, endsAt}
-
-abbrev pub spareZone : ℕ
-spareZone = 2
 
 abbrev Elsewhere : Store → Type 0
 Elsewhere (append d z s) = z ≢ spareZone
@@ -57,7 +53,7 @@ store-still (flush e) v d n = go (eqb d e)
     go true = refl
     go false = refl
 
-all-still : (xs : List Store) (v : Device) (d : ℕ) → KeepsOff xs → applyAll xs v d spareZone .sectors ≡ v d spareZone .sectors
+pub all-still : (xs : List Store) (v : Device) (d : ℕ) → KeepsOff xs → applyAll xs v d spareZone .sectors ≡ v d spareZone .sectors
 all-still [] v d p = refl
 all-still (x ∷ xs) v d p = all-still xs (apply x v) d (rest-of x xs p) ∙ store-still x v d (p .each x (List·Memᴰ·head refl))
 
@@ -199,9 +195,9 @@ off-zone-resets : (g : Geometry) (k : Shown) → KeepsOff (zoneResetStep g k)
 unfolding zoneResetStep
 off-zone-resets g k = off-where (λ d z. needsReset (k .zone z)) _ (g .drives) (g .zones) off-reset
 
-off-counters : (g : Geometry) (present : ℕ → Bool) (k : Shown) (w : Device) → KeepsOff (counterStep g present k w)
+off-counters : (g : Geometry) (k : Shown) (differ : Bool) → KeepsOff (counterStep g k differ)
 unfolding counterStep
-off-counters g present k w = off-pick (anyBelow (λ z. isEmpty (k .zone z .condition)) (g .zones) || countersDiffer g present w) _ (off-each _ (g .drives) (λ d. off-general g _ d))
+off-counters g k differ = off-pick (anyBelow (λ z. isEmpty (k .zone z .condition)) (g .zones) || differ) _ (off-each _ (g .drives) (λ d. off-general g _ d))
 
 off-seals : (g : Geometry) (k : Shown) (w : Device) → KeepsOff (sealStep g k w)
 unfolding sealStep
@@ -234,15 +230,12 @@ off-with-flushes : (g : Geometry) (present : ℕ → Bool) (ps : List (List Stor
 off-with-flushes g present [] h = phases-nil
 off-with-flushes g present (p ∷ ps) h = phases-append (withFlush g present p) (withFlushes g present ps) (off-with-flush g present p (h .each p (List·Memᴰ·head refl))) (off-with-flushes g present ps (phases-rest p ps h))
 
-pub mount-keeps-off : (g : Geometry) (present : ℕ → Bool) (x : ℕ) (v : Device) → KeepsOff (mountStores g present x v)
-unfolding mountStores mountPhases phasesBeforeEntries
-mount-keeps-off g present x v =
-    let k = mountLook g present x v in
-    let w = afterOpening g present v in
-    off-concat _ (phases-append _ _
-    (phases-cons _ _ (off-present present (flushAll (g .drives)) (off-flushes (g .drives))) (off-with-flushes g present _
-    (phases-cons _ _ (off-labels g x k w) (phases-cons _ _ (off-reset-entries g k) (phases-cons _ _ (off-zone-resets g k) (phases-cons _ _ (off-counters g present k w) (phases-cons _ _ (off-seals g k w) (phases-cons _ _ (off-torn-rows g k w) (phases-cons _ _ (off-fill g k w) phases-nil)))))))))
-    (off-with-flush g present _ (off-entries g k _)))
+pub steps-keep-off : (g : Geometry) (present : ℕ → Bool) (x : ℕ) (k : Shown) (w : Device) → KeepsOff (concat (withFlushes g present (stepsBeforeEntries g present x k w)))
+steps-keep-off g present x k w = off-concat _ (off-with-flushes g present _
+    (phases-cons _ _ (off-labels g x k w) (phases-cons _ _ (off-reset-entries g k) (phases-cons _ _ (off-zone-resets g k) (phases-cons _ _ (off-counters g k (countersDiffer g present w)) (phases-cons _ _ (off-seals g k w) (phases-cons _ _ (off-torn-rows g k w) (phases-cons _ _ (off-fill g k w) phases-nil))))))))
+
+pub entries-keep-off : (g : Geometry) (present : ℕ → Bool) (k : Shown) (u : Device) → KeepsOff (concat (withFlush g present (entryStep g k u)))
+entries-keep-off g present k u = off-concat _ (off-with-flush g present _ (off-entries g k u))
 
 -- ---- A FORMAT resets it, and then keeps off it
 pub format-clears : (g : Geometry) (present : ℕ → Bool) (x a : ℕ) (v : Device) (d : ℕ) → d < g .drives → present d ≡ true → applyAll (formatStores g present x a) v d spareZone .sectors ≡ []

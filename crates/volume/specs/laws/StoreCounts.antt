@@ -7,8 +7,9 @@ use Prim.Native.Nat.{ℕ, zero, suc, _+_, _-_, _*_, _%_, _^_, _≤_}
 use native.Mathlib.Nat.{le-refl}
 use native.Mathlib.Decide.{ℕ-discrete}
 use native.Mathlib.Omega.{arith}
-use mathlib.Core.List.{List, [], _∷_, _++_}
+use mathlib.Core.List.{List, [], _∷_, _++_, map}
 use lib.ListN.{length, length-append}
+use Rattle.tables.specs.laws.Lists.{length-map}
 use lib.Dec.{eqb}
 use borrow.Author.Tests.{le-ltb, eq-eqb, ne-eqb}
 use Rattle.tables.specs.declared.Geometry.{Geometry}
@@ -20,9 +21,10 @@ use Rattle.tables.specs.meaning.Geometry.{physicalZones, dataZone}
 use Rattle.tables.specs.laws.Sizes.{zone-small}
 use Rattle.tables.specs.meaning.Placement.{stripeOf, stripeLength, parityDrive}
 use Rattle.tables.specs.meaning.Device.{Store, reset}
-use Rattle.tables.specs.meaning.Phases.{flushAll}
+use Rattle.tables.specs.meaning.Phases.{onPresent, flushAll}
+use Rattle.tables.specs.meaning.Through.{carry}
 use Rattle.tables.specs.laws.Phases.{each-on-present}
-use Rattle.tables.specs.meaning.Tables.{Tables, deviceOf}
+use Rattle.tables.specs.meaning.Tables.{Tables}
 use Rattle.tables.specs.laws.AppendCounts.{each-most, present-most, flushes-long}
 use Rattle.logs.specs.meaning.Entry.{parityZone, label, counters, zoneReset}
 use Rattle.logs.specs.meaning.Walk.{sectorsOf}
@@ -33,9 +35,13 @@ use Rattle.volume.specs.meaning.Content.{rowXor, insideStripe, entryAt, 
 use Rattle.volume.specs.meaning.Refusals.{accept, zoneOf}
 use Rattle.volume.specs.meaning.Calls.{appendAll, appendGeneral, generationsFrom, parityStores, sectorStores, dataStores, entryStores, writeWith, zoneContent, writeStores, flushStores, logsReset, raisedAt, resetPhases, resetStores, formatPhases, formatStores}
 use Rattle.volume.specs.meaning.Answers.{lostIn, sectorsIn, namedDrives, leftOut}
-use Rattle.volume.specs.meaning.CallContracts.{viewState, isSet, recordAt, pointerOf, withLost, withReset, writtenState, freshState, verdictNumber, storingOn, flushVerdict, flushOn, resetVerdict, resetOn, writeVerdict, writeOn, formatVerdict, formatOn}
+use Rattle.volume.specs.meaning.CallContracts.{viewState, isSet, rolesOf, seenIn, recordAt, pointerOf, withLost, withReset, writtenState, freshState, verdictNumber, storingOn, flushVerdict, flushOn, resetVerdict, resetOn, writeVerdict, writeOn, formatVerdict, formatOn}
 use Rattle.volume.specs.laws.PassedRows.{format-passed, format-number-accepts, flush-passed, flush-number-accepts, reset-passed, reset-number-accepts, write-passed, write-number-accepts}
+use Rattle.volume.specs.meaning.Rules.{generalHeads, parityEntries}
+use Rattle.volume.specs.meaning.Roles.{Roles, zoneOfKind, placedBy, rolesAfter}
+use Rattle.volume.specs.meaning.Emptying.{byState, newGeneral, newParity, resetLimit, emptiedFor, emptiedForWrite, emptyingStores, emptyings, emptyGeneral, emptyParity, writeAll, resetAll}
 use Rattle.volume.specs.laws.CallAppends.{entry-long}
+use Rattle.volume.specs.laws.CallStoresFit.{reset-fits, write-fits}
 
 -- ---- a count that covers the stores stops nothing
 pub covered-ends : (g : Geometry) (n : ℕ) (ss : List Store) (new old : State) (count : ℕ) (t : Tables) → (n ≡ 0 → length ss ≤ count) → storingOn g n ss new old count t .outcome .answer ≢ Unfinished
@@ -54,6 +60,31 @@ pub pick-most : (b : Bool) (xs : List Store) (m : ℕ) → length xs ≤ m → l
 pick-most true xs m h = h
 pick-most false xs m h = omega arith
 
+-- emptyings: of each drive at most two flushes, a log of 65,536 sectors, and a reset
+pub emptyings-few : (g : Geometry) (present : ℕ → Bool) (par : Bool) (r : ℕ → Roles) (emptied : ℕ → Bool) (ss : ℕ → List (List ℕ)) → g .drives ≤ 8 → ((d : ℕ) → emptied d ≡ true → length (ss d) ≤ 65536)
+    → length (emptyings g present par r emptied ss) ≤ 524424
+unfolding emptyings emptyingStores
+emptyings-few g present par r emptied ss most few =
+    omega (arith, each-most (λ d. pick (emptied d) (emptyingStores g present d (zoneOfKind par (r d)) (r d .spare) (ss d)) []) (g .drives) 8 65553 most (λ d l. go d (emptied d) refl))
+  where
+    go : (d : ℕ) (b : Bool) → emptied d ≡ b → length (pick b (emptyingStores g present d (zoneOfKind par (r d)) (r d .spare) (ss d)) []) ≤ 65553
+    go d false e = omega arith
+    go d true e =
+        let flushes = onPresent present (flushAll (g .drives)) in
+        let copies = appendAll d (r d .spare) (ss d) in
+        let end = reset d (zoneOfKind par (r d)) ∷ [] in
+        omega (
+          arith,
+          few d e,
+          most,
+          present-most present (flushAll (g .drives)),
+          flushes-long (g .drives),
+          appends-long d (r d .spare) (ss d),
+          length-append flushes (copies ++ (flushes ++ end)),
+          length-append copies (flushes ++ end),
+          length-append flushes end,
+        )
+
 -- ==== flush
 pub flush-few : (g : Geometry) (named : List Bool) (s : State) (t : Tables) → flushVerdict g named s t ≡ accept → length (flushStores g (callPresent g (isSet named) (viewState s))) ≤ 8
 unfolding flushStores
@@ -65,9 +96,9 @@ flush-ends g named s t =
     covered-ends g (verdictNumber (flushVerdict g named s t)) (flushStores g (callPresent g (isSet named) (viewState s))) (withLost s (lostIn g (isSet named) (viewState s))) s (2 ^ 32 - 1) t (λ e. omega (arith, flush-few g named s t (flush-number-accepts g named t s e)))
 
 -- ==== reset
-pub reset-few : (g : Geometry) (named : List Bool) (s : State) (z : ℕ) (t : Tables) → resetVerdict g named s z t ≡ accept → length (resetStores g (callPresent g (isSet named) (viewState s)) (viewState s) z) ≤ 40
+own-reset-few : (g : Geometry) (named : List Bool) (s : State) (z : ℕ) (t : Tables) → resetVerdict g named s z t ≡ accept → length (resetStores g (callPresent g (isSet named) (viewState s)) (viewState s) z) ≤ 40
 unfolding resetStores
-reset-few g named s z t e =
+own-reset-few g named s z t e =
     let D = g .drives in
     let most = reset-passed g named s z t e .opening .tables .valid .drives-most in
     let present = callPresent g (isSet named) (viewState s) in
@@ -92,10 +123,28 @@ reset-few g named s z t e =
     )
     )
 
+pub reset-few : (g : Geometry) (named : List Bool) (s : State) (z : ℕ) (t : Tables) → resetVerdict g named s z t ≡ accept
+    → length (resetAll g (callPresent g (isSet named) (viewState s)) (rolesOf g t) (seenIn g t) (viewState s) z) ≤ 524464
+unfolding resetAll emptyGeneral
+reset-few g named s z t e =
+    let ok = reset-passed g named s z t e .opening .tables .valid in
+    let present = callPresent g (isSet named) (viewState s) in
+    let emptied = emptiedFor g present false (rolesOf g t) (seenIn g t) (resetLimit g) in
+    let new : ℕ → List (List ℕ) = λ d. newGeneral g (byState g present (seenIn g t) (viewState s)) (rolesOf g t d) d (generalHeads g (seenIn g t) d) in
+    let own = resetStores g present (viewState s) z in
+    let ρ = placedBy (rolesAfter false emptied (rolesOf g t)) in
+    omega (
+      arith,
+      emptyings-few g present false (rolesOf g t) emptied new (ok .drives-most) (λ d q. omega (arith, reset-fits g named s z t e d q, ok .zone-most)),
+      own-reset-few g named s z t e,
+      length-map (carry ρ) own,
+      length-append (emptyings g present false (rolesOf g t) emptied new) (map (carry ρ) own),
+    )
+
 pub reset-ends : (g : Geometry) (named : List Bool) (s : State) (z : ℕ) (t : Tables) → resetOn g named s z (2 ^ 32 - 1) t .outcome .answer ≢ Unfinished
 unfolding resetOn
 reset-ends g named s z t =
-    covered-ends g (verdictNumber (resetVerdict g named s z t)) (resetStores g (callPresent g (isSet named) (viewState s)) (viewState s) z) (withReset s z (lostIn g (isSet named) (viewState s))) s (2 ^ 32 - 1) t
+    covered-ends g (verdictNumber (resetVerdict g named s z t)) (resetAll g (callPresent g (isSet named) (viewState s)) (rolesOf g t) (seenIn g t) (viewState s) z) (withReset s z (lostIn g (isSet named) (viewState s))) s (2 ^ 32 - 1) t
     (λ e. omega (arith, reset-few g named s z t (reset-number-accepts g named t s z e)))
 
 -- ==== format
@@ -139,16 +188,16 @@ module _ (D U z : ℕ) (S : ℕ → List ℕ) (most : U ≤ 16) where
       let last = pick-most (eqb (suc (a % stripeLength D U)) (stripeLength D U)) (parityStores D U z S (stripeOf D U a)) 16 (parity-few (stripeOf D U a)) in
       omega (arith, last, length-append (sectorStores D U z S a) (dataStores D U z S (suc a) k), data-few (suc a) k)
 
-pub write-few : (g : Geometry) (named : List Bool) (s : State) (a k : ℕ) (buffer : List ℕ) (t : Tables) → writeVerdict g named s a k (length buffer) t ≡ accept
-    → length (writeStores g (callPresent g (isSet named) (viewState s)) (deviceOf g t) (viewState s) (zoneOf g a) (sectorsIn g k buffer)) ≤ 7798801
+own-write-few : (g : Geometry) (named : List Bool) (s : State) (a k : ℕ) (buffer : List ℕ) (t : Tables) → writeVerdict g named s a k (length buffer) t ≡ accept
+    → length (writeStores g (callPresent g (isSet named) (viewState s)) (seenIn g t) (viewState s) (zoneOf g a) (sectorsIn g k buffer)) ≤ 7798801
 unfolding writeStores writeWith
-write-few g named s a k buffer t e =
+own-write-few g named s a k buffer t e =
     let q = write-passed g named s a k (length buffer) t e in
     let ok = q .opening .tables .valid in
     let present = callPresent g (isSet named) (viewState s) in
     let z = zoneOf g a in
     let ss = sectorsIn g k buffer in
-    let S = zoneContent g present (deviceOf g t) (viewState s) z ss in
+    let S = zoneContent g present (seenIn g t) (viewState s) z ss in
     let n = pointerOf s z in
     let l : length ss ≡ k = (unfold sectorsIn in length-tabulate-from _ zero k) in
     let m = n + length ss in
@@ -167,8 +216,30 @@ write-few g named s a k buffer t e =
       zone-small g ok .1,
     )
 
+pub write-few : (g : Geometry) (named : List Bool) (s : State) (a k : ℕ) (buffer : List ℕ) (t : Tables) → writeVerdict g named s a k (length buffer) t ≡ accept
+    → length (writeAll g (callPresent g (isSet named) (viewState s)) (rolesOf g t) (seenIn g t) (viewState s) (zoneOf g a) (sectorsIn g k buffer)) ≤ 8323225
+unfolding writeAll emptyParity
+write-few g named s a k buffer t e =
+    let q = write-passed g named s a k (length buffer) t e in
+    let ok = q .opening .tables .valid in
+    let present = callPresent g (isSet named) (viewState s) in
+    let z = zoneOf g a in
+    let ss = sectorsIn g k buffer in
+    let l : length ss ≡ k = (unfold sectorsIn in length-tabulate-from _ zero k) in
+    let emptied = emptiedForWrite g present (rolesOf g t) (seenIn g t) z (pointerOf s z + length ss) in
+    let new : ℕ → List (List ℕ) = λ d. newParity g (byState g present (seenIn g t) (viewState s)) (rolesOf g t d) d (parityEntries g (seenIn g t) d) in
+    let own = writeStores g present (seenIn g t) (viewState s) z ss in
+    let ρ = placedBy (rolesAfter true emptied (rolesOf g t)) in
+    omega (
+      arith,
+      emptyings-few g present true (rolesOf g t) emptied new (ok .drives-most) (λ d i. omega (arith, write-fits g named s a k buffer t e d (rw l at i), ok .zone-most)),
+      own-write-few g named s a k buffer t e,
+      length-map (carry ρ) own,
+      length-append (emptyings g present true (rolesOf g t) emptied new) (map (carry ρ) own),
+    )
+
 pub write-ends : (g : Geometry) (named : List Bool) (s : State) (a k : ℕ) (buffer : List ℕ) (t : Tables) → writeOn g named s a k buffer (2 ^ 32 - 1) t .outcome .answer ≢ Unfinished
 unfolding writeOn
 write-ends g named s a k buffer t =
-    covered-ends g (verdictNumber (writeVerdict g named s a k (length buffer) t)) (writeStores g (callPresent g (isSet named) (viewState s)) (deviceOf g t) (viewState s) (zoneOf g a) (sectorsIn g k buffer))
+    covered-ends g (verdictNumber (writeVerdict g named s a k (length buffer) t)) (writeAll g (callPresent g (isSet named) (viewState s)) (rolesOf g t) (seenIn g t) (viewState s) (zoneOf g a) (sectorsIn g k buffer))
     (writtenState s (lostIn g (isSet named) (viewState s)) (zoneOf g a) (pointerOf s (zoneOf g a) + k)) s (2 ^ 32 - 1) t (λ e. omega (arith, write-few g named s a k buffer t (write-number-accepts g named t s a k (length buffer) e)))

@@ -20,8 +20,8 @@ use Rattle.tables.specs.meaning.Tables.{tablesOf, cell, zoneAtCell}
 use Rattle.tables.specs.laws.Tables.{device-in}
 use Rattle.logs.specs.declared.Log.{Log}
 use Rattle.logs.specs.declared.Found.{Found}
-use Rattle.logs.specs.declared.Found.the-variants.{Bad, Label, Counters, Resets, Partial, Seal}
-use Rattle.logs.specs.meaning.Entry.{generalZone, parityZone, Header, label, counters, zoneReset, partialParity, seal, Entry, rowsOf, fitsLog}
+use Rattle.logs.specs.declared.Found.the-variants.{Bad, Label, Counters, Resets, Partial, Seal, Closing}
+use Rattle.logs.specs.meaning.Entry.{generalZone, parityZone, Header, label, counters, zoneReset, partialParity, seal, closing, Entry, rowsOf, fitsLog}
 use Rattle.logs.specs.laws.Entry.{decode-legal}
 use Rattle.logs.specs.meaning.Walk.{Walked, Ending, atPointer, noEntry, torn, walkLog}
 use Rattle.logs.specs.code.WalkCode.{InLog, logSectors, walkEndAt, noEntryEnd}
@@ -103,6 +103,7 @@ pastSeen g z n q Counters = false
 pastSeen g z n q (Resets y m) = false
 pastSeen g z n q (Partial y s f m) = eqb y z && (eqb m n && ltb q (s * stripeSectors g + f))
 pastSeen g z n q (Seal y p m) = false
+pastSeen g z n q (Closing gen) = false
 
 past-seen : (g : Geometry) (z n q : ℕ) (h : Header) → pastSeen g z n q (seen h) ≡ endsPast g z n q h
 past-seen g z n q (label x a) = refl
@@ -110,6 +111,7 @@ past-seen g z n q (counters cs) = refl
 past-seen g z n q (zoneReset y m) = refl
 past-seen g z n q (partialParity y s f m) = refl
 past-seen g z n q (seal y p m) = refl
+past-seen g z n q (closing kind gen) = refl
 
 -- where the code adds up its end (k: the sectors of a stripe), its numbers are small
 pub end-small : (g : Geometry) → Valid g → (k y s fill n : ℕ) → k ≡ stripeSectors g → (f : Found) → f ≡ Partial y s fill n → SmallSeen g f → (s * k < 458752) × (s * k + fill < 458864)
@@ -129,6 +131,7 @@ small-fits g d par (counters cs) e = tt
 small-fits g d par (zoneReset z n) e = tt
 small-fits g d par (partialParity z s f n) e = let k = partial-small g d par z s f n e in (k .1, k .2)
 small-fits g d par (seal z p n) e = tt
+small-fits g d par (closing kind gen) e = tt
 
 -- its end can be computed
 pub torn-small : (g : Geometry) (d : ℕ) (par : Bool) (ss : List (List ℕ)) → SmallSeen g (tornSeen (walkLog g d par ss .last))
@@ -154,6 +157,7 @@ within-past g z n q (partialParity y s f m) d par ok e =
     and-true true false c = refl
     and-true false b c = refl
 within-past g z n q (seal y p m) d par ok e = refl
+within-past g z n q (closing kind gen) d par ok e = refl
 
 module _ (g : Geometry) (ok : Valid g) (d : ℕ) (par : Bool) (ss : List (List ℕ)) (z n q : ℕ) where
   placed-past : (es : List Entry) (p : ℕ) → Placed g d par ss p es → anyOf (endsWithin g z n q (zoneSectors g)) (map headOf es) ≡ anyOf (λ (e : Entry). endsPast g z n q (e .head)) es

@@ -15,7 +15,7 @@ use Rattle.tables.specs.meaning.Device.{Device}
 use Rattle.tables.specs.meaning.Tables.{tablesOf, deviceOf, cell, sectorAt}
 use Rattle.tables.specs.meaning.Xor.{xorBytes, xorBelow, without}
 use Rattle.logs.specs.declared.Found.{Found}
-use Rattle.logs.specs.declared.Found.the-variants.{Bad, Label, Counters, Resets, Partial, Seal}
+use Rattle.logs.specs.declared.Found.the-variants.{Bad, Label, Counters, Resets, Partial, Seal, Closing}
 use Rattle.logs.specs.meaning.Entry.{parityZone, decode}
 use Rattle.logs.specs.code.Judge.{found}
 use Rattle.logs.specs.laws.Heads.{endsWithin}
@@ -117,6 +117,7 @@ endSeen g Counters = zero
 endSeen g (Resets z n) = zero
 endSeen g (Partial z s f n) = s * stripeSectors g + f
 endSeen g (Seal z p n) = zero
+endSeen g (Closing gen) = zero
 
 -- of the one whose header is at a place of drive d's parity log, counted from 1
 unfoldable pub entryEnd : Geometry → List ℕ → ℕ → ℕ → ℕ

@@ -20,7 +20,7 @@ use Rattle.tables.specs.meaning.Geometry.{Valid, stripeSectors, zoneSectors, pa
 use Rattle.tables.specs.meaning.Placement.{sectorOf, unitIndex, stripeOf, driveOf}
 use Rattle.tables.specs.laws.Placement.{drive-below}
 use Rattle.tables.specs.meaning.Tables.{cell}
-use Rattle.logs.specs.meaning.Entry.{Header, label, counters, zoneReset, partialParity, seal, Entry, parityZone, rowsOf, fitsLog}
+use Rattle.logs.specs.meaning.Entry.{Header, label, counters, zoneReset, partialParity, seal, closing, Entry, parityZone, rowsOf, fitsLog}
 use Rattle.logs.specs.laws.Entry.{decode-legal}
 use Rattle.logs.specs.laws.Heads.{endsWithin}
 use Rattle.logs.specs.meaning.Walk.{walkLog}
@@ -28,7 +28,6 @@ use Rattle.logs.specs.code.WalkCode.{logSectors}
 use Rattle.logs.specs.code.Query.{headOf, headsOf}
 use Rattle.logs.specs.code.Steps.{Stands, Placed}
 use Rattle.logs.specs.laws.Places.{lastPlace, LastSuch, last-place, walk-places}
-use Rattle.volume.specs.declared.knowing.Source.{Source}
 use Rattle.volume.specs.declared.knowing.Source.the-variants.{Unknown, Held, Row}
 use Rattle.volume.specs.meaning.Rules.{ParityEntry, Found, found, nothing, orElse, isFound, lastOf, heldAt, parityOf, rowDrive, rowAddress, serves, entryFor, known, sealLimit, servingEntry, servingEntries, parityEntries, viewOf, zoneView}
 use Rattle.volume.specs.meaning.CallContracts.{isSet}
@@ -44,6 +43,7 @@ stripeIn (counters cs) = zero
 stripeIn (zoneReset y m) = zero
 stripeIn (partialParity y s f m) = s
 stripeIn (seal y p m) = zero
+stripeIn (closing kind gen) = zero
 
 abbrev pub endIn : Geometry → Header → ℕ
 endIn g (label x a) = zero
@@ -51,6 +51,7 @@ endIn g (counters cs) = zero
 endIn g (zoneReset y m) = zero
 endIn g (partialParity y s f m) = s * stripeSectors g + f
 endIn g (seal y p m) = zero
+endIn g (closing kind gen) = zero
 
 abbrev pub parityEntryOf : Geometry → Header → List (List ℕ) → ParityEntry
 parityEntryOf g h rs = record { stripe = stripeIn h; end = endIn g h; rows = λ r. getD rs r [] }
@@ -150,6 +151,7 @@ module _ (g : Geometry) (here : List Bool) (xs ws : List ℕ) (z : ℕ) (r : Rea
   serves-more limit (counters cs) rs rest fit = or-nothing (lastOf (serves (g .drives) (g .unit) z (zoneView g (isSet here) (readDevice g xs ws) z n) a) rest)
   serves-more limit (zoneReset y m) rs rest fit = or-nothing (lastOf (serves (g .drives) (g .unit) z (zoneView g (isSet here) (readDevice g xs ws) z n) a) rest)
   serves-more limit (seal y p m) rs rest fit = or-nothing (lastOf (serves (g .drives) (g .unit) z (zoneView g (isSet here) (readDevice g xs ws) z n) a) rest)
+  serves-more limit (closing kind gen) rs rest fit = or-nothing (lastOf (serves (g .drives) (g .unit) z (zoneView g (isSet here) (readDevice g xs ws) z n) a) rest)
   serves-more limit (partialParity y s f m) rs rest fit =
       let e = s * stripeSectors g + f in
       let v = zoneView g (isSet here) (readDevice g xs ws) z n in
@@ -179,60 +181,91 @@ module _ (g : Geometry) (here : List Bool) (xs ws : List ℕ) (z : ℕ) (r : Rea
       serves-more limit (b .head) (b .rows) (servingEntries g z n limit (before ++ (e ∷ after))) (fit .0)
       ∙ ap (λ (o : Found). orElse o (pick (endsWithin g z n a (min limit (reachOf g here ws z a)) (b .head)) (found (parityEntryOf g (b .head) (b .rows))) nothing)) (serving-some limit before e after (fit .1) h none)
 
+  -- ---- the drive of the parity log that may hold it, that log's sectors and entries
+  abbrev pub host : ℕ
+  host = parityOf (g .drives) (g .unit) z a
+
+  abbrev pub hostLog : List (List ℕ)
+  hostLog = logSectors g host parityZone xs (getD ws (cell g host parityZone) 0)
+
+  abbrev logEntries : List Entry
+  logEntries = walkLog g host true hostLog .entries
+
+  -- the least current seal; the entries that end past the sector, and at most there and at the row's reach
+  abbrev pub sealed : ℕ
+  sealed = sealLimit g (isSet here) (readDevice g xs ws) z n
+
+  abbrev pub inReach : Header → Bool
+  inReach = endsWithin g z n a (min sealed (reachOf g here ws z a))
+
+  -- the entry by rule 4, and where the code finds it (one past its sector, or 0)
+  abbrev pub chosenEntry : Found
+  chosenEntry = entryFor (g .drives) (g .unit) z (zoneView g (isSet here) (readDevice g xs ws) z n) a
+
+  abbrev pub placeFound : ℕ
+  placeFound = servingPlace g here xs ws z n sealed a
+
   -- ---- the choice, as the rule and as the code make it
-  entry-present : isSet here (parityOf (g .drives) (g .unit) z a) ≡ true → entryFor (g .drives) (g .unit) z (zoneView g (isSet here) (readDevice g xs ws) z n) a ≡ chosen (sealLimit g (isSet here) (readDevice g xs ws) z n) (parityEntries g (readDevice g xs ws) (parityOf (g .drives) (g .unit) z a))
+  entry-present : isSet here host ≡ true → chosenEntry ≡ chosen sealed (parityEntries g (readDevice g xs ws) host)
   unfolding zoneView viewOf
-  entry-present h = ap (λ (b : Bool). pick b (lastOf (serves (g .drives) (g .unit) z (zoneView g (isSet here) (readDevice g xs ws) z n) a) (servingEntries g z n (sealLimit g (isSet here) (readDevice g xs ws) z n) (parityEntries g (readDevice g xs ws) (parityOf (g .drives) (g .unit) z a)))) nothing) h
+  entry-present h = ap (λ (b : Bool). pick b (lastOf (serves (g .drives) (g .unit) z (zoneView g (isSet here) (readDevice g xs ws) z n) a) (servingEntries g z n sealed (parityEntries g (readDevice g xs ws) host))) nothing) h
 
-  entry-absent : isSet here (parityOf (g .drives) (g .unit) z a) ≡ false → entryFor (g .drives) (g .unit) z (zoneView g (isSet here) (readDevice g xs ws) z n) a ≡ nothing
+  entry-absent : isSet here host ≡ false → chosenEntry ≡ nothing
   unfolding zoneView viewOf
-  entry-absent h = ap (λ (b : Bool). pick b (lastOf (serves (g .drives) (g .unit) z (zoneView g (isSet here) (readDevice g xs ws) z n) a) (servingEntries g z n (sealLimit g (isSet here) (readDevice g xs ws) z n) (parityEntries g (readDevice g xs ws) (parityOf (g .drives) (g .unit) z a)))) nothing) h
+  entry-absent h = ap (λ (b : Bool). pick b (lastOf (serves (g .drives) (g .unit) z (zoneView g (isSet here) (readDevice g xs ws) z n) a) (servingEntries g z n sealed (parityEntries g (readDevice g xs ws) host))) nothing) h
 
-  place-present : (limit : ℕ) → isSet here (parityOf (g .drives) (g .unit) z a) ≡ true → servingPlace g here xs ws z n limit a ≡ lastPlace g (endsWithin g z n a (min limit (reachOf g here ws z a))) 0 0 (headsOf (walkLog g (parityOf (g .drives) (g .unit) z a) true (logSectors g (parityOf (g .drives) (g .unit) z a) parityZone xs (getD ws (cell g (parityOf (g .drives) (g .unit) z a) parityZone) 0))))
+  place-present : (limit : ℕ) → isSet here host ≡ true → servingPlace g here xs ws z n limit a ≡ lastPlace g (endsWithin g z n a (min limit (reachOf g here ws z a))) 0 0 (headsOf (walkLog g host true hostLog))
   unfolding servingPlace
-  place-present limit h = ap (λ (b : Bool). pick b (lastPlace g (endsWithin g z n a (min limit (reachOf g here ws z a))) 0 0 (headsOf (walkLog g (parityOf (g .drives) (g .unit) z a) true (logSectors g (parityOf (g .drives) (g .unit) z a) parityZone xs (getD ws (cell g (parityOf (g .drives) (g .unit) z a) parityZone) 0))))) 0) h
+  place-present limit h = ap (λ (b : Bool). pick b (lastPlace g (endsWithin g z n a (min limit (reachOf g here ws z a))) 0 0 (headsOf (walkLog g host true hostLog))) 0) h
 
-  place-absent : (limit : ℕ) → isSet here (parityOf (g .drives) (g .unit) z a) ≡ false → servingPlace g here xs ws z n limit a ≡ 0
+  place-absent : (limit : ℕ) → isSet here host ≡ false → servingPlace g here xs ws z n limit a ≡ 0
   unfolding servingPlace
-  place-absent limit h = ap (λ (b : Bool). pick b (lastPlace g (endsWithin g z n a (min limit (reachOf g here ws z a))) 0 0 (headsOf (walkLog g (parityOf (g .drives) (g .unit) z a) true (logSectors g (parityOf (g .drives) (g .unit) z a) parityZone xs (getD ws (cell g (parityOf (g .drives) (g .unit) z a) parityZone) 0))))) 0) h
+  place-absent limit h = ap (λ (b : Bool). pick b (lastPlace g (endsWithin g z n a (min limit (reachOf g here ws z a))) 0 0 (headsOf (walkLog g host true hostLog))) 0) h
 
   -- the entry that serves stands at sector q of the log
   pub record Serving (q : ℕ) : Type 0 where
     pub entry : Entry
-    pub present : isSet here (parityOf (g .drives) (g .unit) z a) ≡ true
-    pub stands : Stands g (parityOf (g .drives) (g .unit) z a) true (logSectors g (parityOf (g .drives) (g .unit) z a) parityZone xs (getD ws (cell g (parityOf (g .drives) (g .unit) z a) parityZone) 0)) q entry
-    pub passes : endsWithin g z n a (min (sealLimit g (isSet here) (readDevice g xs ws) z n) (reachOf g here ws z a)) (entry .head) ≡ true
-    pub chosen-is : entryFor (g .drives) (g .unit) z (zoneView g (isSet here) (readDevice g xs ws) z n) a ≡ found (parityEntryOf g (entry .head) (entry .rows))
+    pub present : isSet here host ≡ true
+    pub stands : Stands g host true hostLog q entry
+    pub passes : inReach (entry .head) ≡ true
+    pub chosen-is : chosenEntry ≡ found (parityEntryOf g (entry .head) (entry .rows))
+
+  -- none serves, or one does and is found
+  abbrev pub Served : Type 0
+  Served = ((placeFound ≡ 0) × (chosenEntry ≡ nothing)) ⊎ ((q : ℕ) × Serving q × (placeFound ≡ q + 1))
+
+  abbrev Last : Type 0
+  Last =
+      ((anyOf inReach (map headOf logEntries) ≡ false) × (lastPlace g inReach zero zero (map headOf logEntries) ≡ zero))
+      ⊎ ((q : ℕ) × LastSuch g host true hostLog inReach logEntries q × (lastPlace g inReach zero zero (map headOf logEntries) ≡ q + 1))
 
   -- THE LAST ENTRY THAT SERVES is the one that the code finds
-  pub serving-is : ((servingPlace g here xs ws z n (sealLimit g (isSet here) (readDevice g xs ws) z n) a ≡ 0) × (entryFor (g .drives) (g .unit) z (zoneView g (isSet here) (readDevice g xs ws) z n) a ≡ nothing)) ⊎ ((q : ℕ) × Serving q × (servingPlace g here xs ws z n (sealLimit g (isSet here) (readDevice g xs ws) z n) a ≡ q + 1))
-  serving-is = go (isSet here (parityOf (g .drives) (g .unit) z a)) refl
+  pub serving-is : Served
+  serving-is = go (isSet here host) refl
     where
-      fit : AllFit (walkLog g (parityOf (g .drives) (g .unit) z a) true (logSectors g (parityOf (g .drives) (g .unit) z a) parityZone xs (getD ws (cell g (parityOf (g .drives) (g .unit) z a) parityZone) 0)) .entries)
-      fit = placed-fit (logSectors g (parityOf (g .drives) (g .unit) z a) parityZone xs (getD ws (cell g (parityOf (g .drives) (g .unit) z a) parityZone) 0)) zero (walkLog g (parityOf (g .drives) (g .unit) z a) true (logSectors g (parityOf (g .drives) (g .unit) z a) parityZone xs (getD ws (cell g (parityOf (g .drives) (g .unit) z a) parityZone) 0)) .entries) (walk-places g (parityOf (g .drives) (g .unit) z a) true (logSectors g (parityOf (g .drives) (g .unit) z a) parityZone xs (getD ws (cell g (parityOf (g .drives) (g .unit) z a) parityZone) 0)) .placed)
+      fit : AllFit logEntries
+      fit = placed-fit hostLog zero logEntries (walk-places g host true hostLog .placed)
 
-      here-is : isSet here (parityOf (g .drives) (g .unit) z a) ≡ true → entryFor (g .drives) (g .unit) z (zoneView g (isSet here) (readDevice g xs ws) z n) a ≡ chosen (sealLimit g (isSet here) (readDevice g xs ws) z n) (walkLog g (parityOf (g .drives) (g .unit) z a) true (logSectors g (parityOf (g .drives) (g .unit) z a) parityZone xs (getD ws (cell g (parityOf (g .drives) (g .unit) z a) parityZone) 0)) .entries)
-      here-is h = entry-present h ∙ ap (chosen (sealLimit g (isSet here) (readDevice g xs ws) z n)) (entries-are g here xs ws z r (parityOf (g .drives) (g .unit) z a) (parity-in g z a ok) h)
+      here-is : isSet here host ≡ true → chosenEntry ≡ chosen sealed logEntries
+      here-is h = entry-present h ∙ ap (chosen sealed) (entries-are g here xs ws z r host (parity-in g z a ok) h)
 
-      by : isSet here (parityOf (g .drives) (g .unit) z a) ≡ true
-          → ((anyOf (endsWithin g z n a (min (sealLimit g (isSet here) (readDevice g xs ws) z n) (reachOf g here ws z a))) (map headOf (walkLog g (parityOf (g .drives) (g .unit) z a) true (logSectors g (parityOf (g .drives) (g .unit) z a) parityZone xs (getD ws (cell g (parityOf (g .drives) (g .unit) z a) parityZone) 0)) .entries)) ≡ false) × (lastPlace g (endsWithin g z n a (min (sealLimit g (isSet here) (readDevice g xs ws) z n) (reachOf g here ws z a))) zero zero (map headOf (walkLog g (parityOf (g .drives) (g .unit) z a) true (logSectors g (parityOf (g .drives) (g .unit) z a) parityZone xs (getD ws (cell g (parityOf (g .drives) (g .unit) z a) parityZone) 0)) .entries)) ≡ zero)) ⊎ ((q : ℕ) × LastSuch g (parityOf (g .drives) (g .unit) z a) true (logSectors g (parityOf (g .drives) (g .unit) z a) parityZone xs (getD ws (cell g (parityOf (g .drives) (g .unit) z a) parityZone) 0)) (endsWithin g z n a (min (sealLimit g (isSet here) (readDevice g xs ws) z n) (reachOf g here ws z a))) (walkLog g (parityOf (g .drives) (g .unit) z a) true (logSectors g (parityOf (g .drives) (g .unit) z a) parityZone xs (getD ws (cell g (parityOf (g .drives) (g .unit) z a) parityZone) 0)) .entries) q × (lastPlace g (endsWithin g z n a (min (sealLimit g (isSet here) (readDevice g xs ws) z n) (reachOf g here ws z a))) zero zero (map headOf (walkLog g (parityOf (g .drives) (g .unit) z a) true (logSectors g (parityOf (g .drives) (g .unit) z a) parityZone xs (getD ws (cell g (parityOf (g .drives) (g .unit) z a) parityZone) 0)) .entries)) ≡ q + 1))
-          → ((servingPlace g here xs ws z n (sealLimit g (isSet here) (readDevice g xs ws) z n) a ≡ 0) × (entryFor (g .drives) (g .unit) z (zoneView g (isSet here) (readDevice g xs ws) z n) a ≡ nothing)) ⊎ ((q : ℕ) × Serving q × (servingPlace g here xs ws z n (sealLimit g (isSet here) (readDevice g xs ws) z n) a ≡ q + 1))
-      by h (inl (none, p)) = inl (place-present (sealLimit g (isSet here) (readDevice g xs ws) z n) h ∙ p, here-is h ∙ serving-none (sealLimit g (isSet here) (readDevice g xs ws) z n) (walkLog g (parityOf (g .drives) (g .unit) z a) true (logSectors g (parityOf (g .drives) (g .unit) z a) parityZone xs (getD ws (cell g (parityOf (g .drives) (g .unit) z a) parityZone) 0)) .entries) fit none)
+      by : isSet here host ≡ true → Last → Served
+      by h (inl (none, p)) = inl (place-present sealed h ∙ p, here-is h ∙ serving-none sealed logEntries fit none)
       by h (inr (q, l, p)) =
-          let m = ap (chosen (sealLimit g (isSet here) (readDevice g xs ws) z n)) (l .split) in
+          let m = ap (chosen sealed) (l .split) in
           let f : AllFit (l .before ++ (l .entry ∷ l .after)) = rw (l .split) at fit in
-          inr (q, record { entry = l .entry; present = h; stands = l .stands; passes = l .passes; chosen-is = here-is h ∙ m ∙ serving-some (sealLimit g (isSet here) (readDevice g xs ws) z n) (l .before) (l .entry) (l .after) f (l .passes) (l .none-after) }, place-present (sealLimit g (isSet here) (readDevice g xs ws) z n) h ∙ p)
+          inr (q, record { entry = l .entry; present = h; stands = l .stands; passes = l .passes; chosen-is = here-is h ∙ m ∙ serving-some sealed (l .before) (l .entry) (l .after) f (l .passes) (l .none-after) }, place-present sealed h ∙ p)
 
-      go : (b : Bool) → isSet here (parityOf (g .drives) (g .unit) z a) ≡ b → ((servingPlace g here xs ws z n (sealLimit g (isSet here) (readDevice g xs ws) z n) a ≡ 0) × (entryFor (g .drives) (g .unit) z (zoneView g (isSet here) (readDevice g xs ws) z n) a ≡ nothing)) ⊎ ((q : ℕ) × Serving q × (servingPlace g here xs ws z n (sealLimit g (isSet here) (readDevice g xs ws) z n) a ≡ q + 1))
-      go true h = by h (last-place g (parityOf (g .drives) (g .unit) z a) true (logSectors g (parityOf (g .drives) (g .unit) z a) parityZone xs (getD ws (cell g (parityOf (g .drives) (g .unit) z a) parityZone) 0)) (endsWithin g z n a (min (sealLimit g (isSet here) (readDevice g xs ws) z n) (reachOf g here ws z a))) (walkLog g (parityOf (g .drives) (g .unit) z a) true (logSectors g (parityOf (g .drives) (g .unit) z a) parityZone xs (getD ws (cell g (parityOf (g .drives) (g .unit) z a) parityZone) 0)) .entries) zero zero (walk-places g (parityOf (g .drives) (g .unit) z a) true (logSectors g (parityOf (g .drives) (g .unit) z a) parityZone xs (getD ws (cell g (parityOf (g .drives) (g .unit) z a) parityZone) 0)) .placed))
-      go false h = inl (place-absent (sealLimit g (isSet here) (readDevice g xs ws) z n) h, entry-absent h)
+      go : (b : Bool) → isSet here host ≡ b → Served
+      go true h = by h (last-place g host true hostLog inReach logEntries zero zero (walk-places g host true hostLog .placed))
+      go false h = inl (place-absent sealed h, entry-absent h)
 
-  found-is : isFound (entryFor (g .drives) (g .unit) z (zoneView g (isSet here) (readDevice g xs ws) z n) a) ≡ not (eqb (servingPlace g here xs ws z n (sealLimit g (isSet here) (readDevice g xs ws) z n) a) 0)
+  found-is : isFound chosenEntry ≡ not (eqb placeFound 0)
   found-is = go serving-is
     where
-      go : ((servingPlace g here xs ws z n (sealLimit g (isSet here) (readDevice g xs ws) z n) a ≡ 0) × (entryFor (g .drives) (g .unit) z (zoneView g (isSet here) (readDevice g xs ws) z n) a ≡ nothing)) ⊎ ((q : ℕ) × Serving q × (servingPlace g here xs ws z n (sealLimit g (isSet here) (readDevice g xs ws) z n) a ≡ q + 1)) → isFound (entryFor (g .drives) (g .unit) z (zoneView g (isSet here) (readDevice g xs ws) z n) a) ≡ not (eqb (servingPlace g here xs ws z n (sealLimit g (isSet here) (readDevice g xs ws) z n) a) 0)
-      go (inl (p, e)) = ap isFound e ∙ sym (ap not (eq-eqb (servingPlace g here xs ws z n (sealLimit g (isSet here) (readDevice g xs ws) z n) a) 0 p))
-      go (inr (q, s, p)) = ap isFound (s .chosen-is) ∙ sym (ap not (ne-eqb (servingPlace g here xs ws z n (sealLimit g (isSet here) (readDevice g xs ws) z n) a) 0 (λ e. omega (arith, e, p))))
+      go : Served → isFound chosenEntry ≡ not (eqb placeFound 0)
+      go (inl (p, e)) = ap isFound e ∙ sym (ap not (eq-eqb placeFound 0 p))
+      go (inr (q, s, p)) = ap isFound (s .chosen-is) ∙ sym (ap not (ne-eqb placeFound 0 (λ e. omega (arith, e, p))))
 
   -- WHEN A SECTOR IS KNOWN
   pub known-is : known (g .drives) (g .unit) z (zoneView g (isSet here) (readDevice g xs ws) z n) a ≡ hasSource (sourceOf g here xs ws z n (sealLimit g (isSet here) (readDevice g xs ws) z n) a)

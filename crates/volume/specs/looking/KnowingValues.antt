@@ -22,7 +22,7 @@ use Rattle.tables.specs.meaning.Tables.{cell, sectorAt}
 use Rattle.tables.specs.laws.Tables.{sector-in}
 use Rattle.tables.specs.meaning.Xor.{xorBytes, xorBelow, without}
 use Rattle.tables.specs.laws.Xor.{xor-nil, xor-bytes-assoc, xor-below-cong}
-use Rattle.logs.specs.meaning.Entry.{Header, label, counters, zoneReset, partialParity, seal, Entry, parityZone, rowsOf, Decoded, decode, legal, fitsLog}
+use Rattle.logs.specs.meaning.Entry.{Header, label, counters, zoneReset, partialParity, seal, closing, Entry, parityZone, rowsOf, Decoded, decode, legal, fitsLog}
 use Rattle.logs.specs.laws.Entry.{decode-legal}
 use Rattle.logs.specs.code.Judge.{seen, partial-small}
 use Rattle.logs.specs.laws.Heads.{endsWithin}
@@ -84,6 +84,7 @@ end-seen g (counters cs) = refl
 end-seen g (zoneReset y m) = refl
 end-seen g (partialParity y s f m) = refl
 end-seen g (seal y p m) = refl
+end-seen g (closing kind gen) = refl
 
 small-seen : (g : Geometry) (d : ℕ) (h : Header) → fitsLog g d true h ≡ true → SmallSeen g (seen h)
 small-seen g d (label x a) e = tt
@@ -91,12 +92,14 @@ small-seen g d (counters cs) e = tt
 small-seen g d (zoneReset y m) e = tt
 small-seen g d (partialParity y s f m) e = let k = partial-small g d true y s f m e in (k .1, k .2)
 small-seen g d (seal y p m) e = tt
+small-seen g d (closing kind gen) e = tt
 
 ends-within : (g : Geometry) (z n low high : ℕ) (h : Header) → endsWithin g z n low high h ≡ true → (low < endIn g h) × (leb (endIn g h) high ≡ true)
 ends-within g z n low high (label x a) e = absurd (true≢false (sym e))
 ends-within g z n low high (counters cs) e = absurd (true≢false (sym e))
 ends-within g z n low high (zoneReset y m) e = absurd (true≢false (sym e))
 ends-within g z n low high (seal y p m) e = absurd (true≢false (sym e))
+ends-within g z n low high (closing kind gen) e = absurd (true≢false (sym e))
 ends-within g z n low high (partialParity y s f m) e =
     let x = s * stripeSectors g + f in
     let (a, b) = and-split (eqb y z) (eqb m n && (ltb low x && leb x high)) e in
@@ -110,6 +113,7 @@ has-row g d a z n high (label x y) ok ha fit e m = absurd (true≢false (sym e))
 has-row g d a z n high (counters cs) ok ha fit e m = absurd (true≢false (sym e))
 has-row g d a z n high (zoneReset x y) ok ha fit e m = absurd (true≢false (sym e))
 has-row g d a z n high (seal x y p) ok ha fit e m = absurd (true≢false (sym e))
+has-row g d a z n high (closing kind gen) ok ha fit e m = absurd (true≢false (sym e))
 has-row g d a z n high (partialParity y s f k) ok ha fit e m =
     let i = partial-inside g d y s f k fit in
     let w = ends-within g z n a high (partialParity y s f k) e in

@@ -1,5 +1,5 @@
 -- A look on the tables: what it shows as the code's record, the state that it leaves, and its answer on any input.
-use mathlib.Core.Path.{_≡_, refl, sym, ap, ap₂, _∙_, fun-ext}
+use mathlib.Core.Path.{_≡_, refl, sym, ap, _∙_, fun-ext}
 use mathlib.Core.Logic.{_≢_}
 use mathlib.Core.Bool.{Bool, true, false, _&&_, _||_, not}
 use Prim.Native.Nat.{ℕ, zero, suc, _+_, _-_, _≤_, _<_}
@@ -17,25 +17,28 @@ use Rattle.tables.specs.laws.Below.{tabulate-cong, none-any-below}
 use Rattle.tables.specs.meaning.Drives.{findBelow}
 use Rattle.tables.specs.meaning.Geometry.{Valid, physicalZones, cells, totalBytes}
 use Rattle.tables.specs.meaning.GeometryTest.{isValid}
-use Rattle.tables.specs.laws.GeometryTest.{valid-if-test}
+use Rattle.tables.specs.laws.GeometryTest.{valid-if-test, first-if-test}
 use Rattle.tables.specs.meaning.Device.{Device, ZoneView, blankZone}
 use Rattle.tables.specs.meaning.Tables.{tablesOf, cell, zoneAtCell, deviceOf, lengthsFit, pointersBad}
 use Rattle.tables.specs.laws.TablesFrame.{lengths-are, pointers-good}
 use Rattle.tables.specs.laws.Tables.{device-pointer, device-durable}
-use Rattle.volume.specs.meaning.Refusals.{badPointers, firstRefusal, lookRows, twoLost, badLabels, badLogs}
+use Rattle.volume.specs.meaning.Refusals.{badPointers, firstRefusal, lookRows, twoLost, badLabels, kindLacks, badLogs}
 use Rattle.volume.specs.declared.Condition.the-variants.{Empty}
 use Rattle.volume.specs.declared.ZoneRecord.{ZoneRecord}
 use Rattle.volume.specs.declared.State.{State}
 use Rattle.volume.specs.declared.ZoneLook.{ZoneLook}
 use Rattle.volume.specs.declared.Look.{Look}
 use Rattle.volume.specs.declared.Outcome.{Outcome}
-use Rattle.volume.specs.declared.Answer.the-variants.{Finished, Refused}
+use Rattle.volume.specs.declared.Answer.the-variants.{Refused}
 use Rattle.logs.specs.meaning.Heads.{arrayIn, leastSeal}
 use Rattle.volume.specs.meaning.Rules.{sealLimitBelow, servingEntries, View, valueOf, Shown, ZoneShown, showing, isLost, isPresent, lostDrive, generalHeads, generalEnding, parityEntries, parityEnding, generationOf, resetSeen, sealSeen, sealLimit, viewOf, zoneView, valueAt, pointerAt, cleanAt, zoneAt, zoneShown}
 use Rattle.volume.specs.meaning.Mount.{mountState}
-use Rattle.volume.specs.meaning.CallContracts.{blankRecord, recordAt, viewState, isSet, verdictNumber, lengthsOf, zoneLookOf, recordFrom, stateShown, lookVerdict, lookOn}
+use Rattle.volume.specs.meaning.CallContracts.{blankRecord, recordAt, viewState, isSet, verdictNumber, lengthsOf, rolesOf, seenIn, zoneLookOf, recordFrom, stateShown, lookVerdict, lookOn}
+use Rattle.volume.specs.meaning.Roles.{Roles}
+use Rattle.volume.specs.declared.roles.LogPlaces.{LogPlaces}
 use Rattle.volume.specs.looking.Knowing.{Readable, readDevice}
-use Rattle.volume.specs.looking.DrivesLost.{fill-at, fill-past, two-lost-is, lost-drive-is}
+use Rattle.volume.specs.looking.SeenByRoles.{kindLacksOn}
+use Rattle.volume.specs.looking.DrivesLost.{fill-at, fill-past}
 
 -- ---- what is shown, as the code's record; zones past the last are blank
 abbrev pub blankLook : ZoneLook
@@ -179,8 +182,9 @@ unfoldable pub shapeNumber : Geometry → List Bool → ℕ → List ℕ → Lis
 shapeNumber g named sectors ws ds = verdictNumber (firstRefusal ((1, not (isValid g)) ∷ (2, not (lengthsFit g sectors (length ws) (length ds))) ∷ (3, pointersBad g named ws ds) ∷ []))
 
 -- 4 to 6 by the logs of the drives present
-unfoldable pub logNumber : Geometry → List Bool → Device → ℕ
-logNumber g here v = verdictNumber (firstRefusal ((4, ltb 1 (countBelow (λ d. not (isSet here d)) (g .drives))) ∷ (5, badLabels g (isSet here) v) ∷ (6, badLogs g (isSet here) v) ∷ []))
+unfoldable pub logNumber : LogPlaces → List Bool → Device → ℕ
+logNumber p here v =
+    verdictNumber (firstRefusal ((4, ltb 1 (countBelow (λ d. not (isSet here d)) (p .geometry .drives))) ∷ (5, kindLacksOn p here || badLabels (p .geometry) (isSet here) v) ∷ (6, badLogs (p .geometry) (isSet here) v) ∷ []))
 
 -- case by case
 module _ (g : Geometry) (named : List Bool) (sectors : ℕ) (ws ds : List ℕ) where
@@ -207,6 +211,14 @@ module _ (g : Geometry) (named : List Bool) (sectors : ℕ) (ws ds : List ℕ) w
   three true false c h = absurd (omega arith)
   three false b c h = absurd (omega arith)
 
+  pub shaped-first : shapeNumber g named sectors ws ds ≡ 0 → g .logs ≡ 0
+  unfolding shapeNumber
+  shaped-first h = first-if-test g (three (isValid g) (lengthsFit g sectors (length ws) (length ds)) (pointersBad g named ws ds) h .0)
+
+  pub shaped-durable : shapeNumber g named sectors ws ds ≡ 0 → length ds ≡ cells g
+  unfolding shapeNumber
+  shaped-durable h = lengths-are g sectors (length ws) (length ds) (three (isValid g) (lengthsFit g sectors (length ws) (length ds)) (pointersBad g named ws ds) h .1) .2
+
   pub shaped : shapeNumber g named sectors ws ds ≡ 0 → Valid g × (sectors ≡ totalBytes g) × (length ws ≡ cells g) × (pointersBad g named ws ds ≡ false)
   unfolding shapeNumber
   shaped h =
@@ -214,23 +226,27 @@ module _ (g : Geometry) (named : List Bool) (sectors : ℕ) (ws ds : List ℕ) w
       let (x, y, z) = lengths-are g sectors (length ws) (length ds) b in
       (valid-if-test g a, x, y, c)
 
-module _ (g : Geometry) (here : List Bool) (v : Device) where
-  pub logs-4 : 1 < countBelow (λ d. not (isSet here d)) (g .drives) → 4 ≡ logNumber g here v
+module _ (p : LogPlaces) (here : List Bool) (v : Device) where
+  pub logs-4 : 1 < countBelow (λ d. not (isSet here d)) (p .geometry .drives) → 4 ≡ logNumber p here v
   unfolding logNumber
-  logs-4 a = rw (lt-ltb 1 (countBelow (λ e. not (isSet here e)) (g .drives)) a) refl
+  logs-4 a = rw (lt-ltb 1 (countBelow (λ e. not (isSet here e)) (p .geometry .drives)) a) refl
 
-  module _ (one : countBelow (λ d. not (isSet here d)) (g .drives) ≤ 1) where
-    pub logs-5 : badLabels g (isSet here) v ≡ true → 5 ≡ logNumber g here v
+  module _ (one : countBelow (λ d. not (isSet here d)) (p .geometry .drives) ≤ 1) where
+    pub logs-5-kind : kindLacksOn p here ≡ true → 5 ≡ logNumber p here v
     unfolding logNumber
-    logs-5 b = rw (le-ltb 1 (countBelow (λ e. not (isSet here e)) (g .drives)) one, b) refl
+    logs-5-kind k = rw (le-ltb 1 (countBelow (λ e. not (isSet here e)) (p .geometry .drives)) one, k) refl
 
-    pub logs-6 : badLabels g (isSet here) v ≡ false → badLogs g (isSet here) v ≡ true → 6 ≡ logNumber g here v
+    pub logs-5 : kindLacksOn p here ≡ false → badLabels (p .geometry) (isSet here) v ≡ true → 5 ≡ logNumber p here v
     unfolding logNumber
-    logs-6 b c = rw (le-ltb 1 (countBelow (λ e. not (isSet here e)) (g .drives)) one, b, c) refl
+    logs-5 k b = rw (le-ltb 1 (countBelow (λ e. not (isSet here e)) (p .geometry .drives)) one, k, b) refl
 
-    pub logs-0 : badLabels g (isSet here) v ≡ false → badLogs g (isSet here) v ≡ false → 0 ≡ logNumber g here v
+    pub logs-6 : kindLacksOn p here ≡ false → badLabels (p .geometry) (isSet here) v ≡ false → badLogs (p .geometry) (isSet here) v ≡ true → 6 ≡ logNumber p here v
     unfolding logNumber
-    logs-0 b c = rw (le-ltb 1 (countBelow (λ e. not (isSet here e)) (g .drives)) one, b, c) refl
+    logs-6 k b c = rw (le-ltb 1 (countBelow (λ e. not (isSet here e)) (p .geometry .drives)) one, k, b, c) refl
+
+    pub logs-0 : kindLacksOn p here ≡ false → badLabels (p .geometry) (isSet here) v ≡ false → badLogs (p .geometry) (isSet here) v ≡ false → 0 ≡ logNumber p here v
+    unfolding logNumber
+    logs-0 k b c = rw (le-ltb 1 (countBelow (λ e. not (isSet here e)) (p .geometry .drives)) one, k, b, c) refl
 
 -- the look's refusal is that of the shape, else that of the logs
 after-three : (a b c : Bool) (rest : List (ℕ × Bool)) → verdictNumber (firstRefusal ((1, a) ∷ (2, b) ∷ (3, c) ∷ rest))
@@ -240,21 +256,21 @@ after-three false true c rest = refl
 after-three false false true rest = refl
 after-three false false false rest = refl
 
+-- (w: the device by its roles r)
+abbrev pub lateRows : Geometry → (ℕ → Bool) → (ℕ → Roles) → Device → List (ℕ × Bool)
+lateRows g named r w = (4, twoLost g named w) ∷ (5, kindLacks g (isPresent g named w) r || badLabels g (isPresent g named w) w) ∷ (6, badLogs g (isPresent g named w) w) ∷ []
+
 module _ (g : Geometry) (named : List Bool) (xs ws ds : List ℕ) where
-  look-number : verdictNumber (lookVerdict g named (tablesOf xs ws ds)) ≡ pick (eqb (shapeNumber g named (length xs) ws ds) 0)
-      (verdictNumber (firstRefusal ((4, twoLost g (isSet named) (deviceOf g (tablesOf xs ws ds))) ∷ (5, badLabels g (isPresent g (isSet named) (deviceOf g (tablesOf xs ws ds))) (deviceOf g (tablesOf xs ws ds))) ∷ (6, badLogs g (isPresent g (isSet named) (deviceOf g (tablesOf xs ws ds))) (deviceOf g (tablesOf xs ws ds))) ∷ [])))
-      (shapeNumber g named (length xs) ws ds)
+  pub look-number : verdictNumber (lookVerdict g named (tablesOf xs ws ds)) ≡ pick (eqb (shapeNumber g named (length xs) ws ds) 0)
+      (verdictNumber (firstRefusal (lateRows g (isSet named) (rolesOf g (tablesOf xs ws ds)) (seenIn g (tablesOf xs ws ds))))) (shapeNumber g named (length xs) ws ds)
   unfolding lookVerdict lookRows shapeNumber
-  look-number = after-three (not (isValid g)) (not (lengthsFit g (length xs) (length ws) (length ds))) (pointersBad g named ws ds)
-      ((4, twoLost g (isSet named) (deviceOf g (tablesOf xs ws ds))) ∷ (5, badLabels g (isPresent g (isSet named) (deviceOf g (tablesOf xs ws ds))) (deviceOf g (tablesOf xs ws ds))) ∷ (6, badLogs g (isPresent g (isSet named) (deviceOf g (tablesOf xs ws ds))) (deviceOf g (tablesOf xs ws ds))) ∷ [])
+  look-number = after-three (not (isValid g)) (not (lengthsFit g (length xs) (length ws) (length ds))) (pointersBad g named ws ds) (lateRows g (isSet named) (rolesOf g (tablesOf xs ws ds)) (seenIn g (tablesOf xs ws ds)))
 
   pub look-shape : shapeNumber g named (length xs) ws ds ≢ 0 → shapeNumber g named (length xs) ws ds ≡ verdictNumber (lookVerdict g named (tablesOf xs ws ds))
   look-shape h = sym (look-number ∙ rw (ne-eqb (shapeNumber g named (length xs) ws ds) 0 h) refl)
 
-  pub look-logs : (here : List Bool) → isSet here ≡ isPresent g (isSet named) (readDevice g xs ws) → shapeNumber g named (length xs) ws ds ≡ 0
-      → logNumber g here (readDevice g xs ws) ≡ verdictNumber (lookVerdict g named (tablesOf xs ws ds))
-  unfolding logNumber
-  look-logs here e h = sym (look-number ∙ rw (eq-eqb (shapeNumber g named (length xs) ws ds) 0 h, two-lost-read g xs ws ds (isSet named), present-read g xs ws ds (isSet named), labels-read g xs ws ds (isPresent g (isSet named) (readDevice g xs ws)), logs-read g xs ws ds (isPresent g (isSet named) (readDevice g xs ws)), e, sym (two-lost-is g named here (readDevice g xs ws) e)) refl)
+  pub look-late : shapeNumber g named (length xs) ws ds ≡ 0 → verdictNumber (lookVerdict g named (tablesOf xs ws ds)) ≡ verdictNumber (firstRefusal (lateRows g (isSet named) (rolesOf g (tablesOf xs ws ds)) (seenIn g (tablesOf xs ws ds))))
+  look-late h = look-number ∙ ap (λ (b : Bool). pick b (verdictNumber (firstRefusal (lateRows g (isSet named) (rolesOf g (tablesOf xs ws ds)) (seenIn g (tablesOf xs ws ds))))) (shapeNumber g named (length xs) ws ds)) (eq-eqb (shapeNumber g named (length xs) ws ds) 0 h)
 
 -- ---- what the deed needs: the tables' lengths, and that no written pointer of a drive that is here is past its zone's end
 pub record Lookable (g : Geometry) (here : List Bool) (xs ws : List ℕ) : Type 0 where
@@ -265,7 +281,7 @@ pub record Lookable (g : Geometry) (here : List Bool) (xs ws : List ℕ) : Type 
 pub lookable-zone : (g : Geometry) (here : List Bool) (xs ws : List ℕ) (z : ℕ) → Lookable g here xs ws → z < g .zones → Readable g here xs ws z
 lookable-zone g here xs ws z r h = record { zone-in = h; sectors-long = r .sectors-long; written-long = r .written-long; pointers = r .pointers }
 
-present-named : (g : Geometry) (named : ℕ → Bool) (v : Device) (d : ℕ) → isPresent g named v d ≡ true → named d ≡ true
+pub present-named : (g : Geometry) (named : ℕ → Bool) (v : Device) (d : ℕ) → isPresent g named v d ≡ true → named d ≡ true
 unfolding isPresent isLost
 present-named g named v d h =
     let p = and-split (ltb d (g .drives)) (not (isLost g named v d)) h in
@@ -294,23 +310,6 @@ module _ (g : Geometry) (named : List Bool) (old : State) (xs ws ds : List ℕ) 
   unfolding lookOn
   look-refused n e h = rw (← e, ne-eqb n 0 h) refl
 
-  -- what is shown, by the drives that are here
-  shown-here : (here : List Bool) → isSet here ≡ isPresent g (isSet named) (readDevice g xs ws)
-      → showing g (isSet here) (findBelow (λ d. not (isSet here d)) (g .drives)) (readDevice g xs ws) ≡ showing g (isPresent g (isSet named) (deviceOf g (tablesOf xs ws ds))) (lostDrive g (isSet named) (deviceOf g (tablesOf xs ws ds))) (deviceOf g (tablesOf xs ws ds))
-  shown-here here e =
-      ap₂ (λ (p : ℕ → Bool) (x : ℕ). showing g p x (readDevice g xs ws)) (e ∙ sym (present-read g xs ws ds (isSet named))) (lost-drive-is g named here (readDevice g xs ws) e ∙ sym (lost-drive-read g xs ws ds (isSet named)))
-      ∙ sym (shown-read g xs ws ds (isPresent g (isSet named) (deviceOf g (tablesOf xs ws ds))) (lostDrive g (isSet named) (deviceOf g (tablesOf xs ws ds))))
-
-  pub look-finished : verdictNumber (lookVerdict g named (tablesOf xs ws ds)) ≡ 0 → (here : List Bool) → isSet here ≡ isPresent g (isSet named) (readDevice g xs ws)
-      → (k : Look) → k ≡ lookOf g (showing g (isSet here) (findBelow (λ d. not (isSet here d)) (g .drives)) (readDevice g xs ws))
-      → _≡_ {A = Outcome} (record { answer = Finished; state = record { lost = k .lost; zones = recordsOf g (k .zones) } }) (lookOn g named old (tablesOf xs ws ds))
-  unfolding lookOn
-  look-finished z here e k q =
-      let a : _≡_ {A = State} (record { lost = k .lost; zones = recordsOf g (k .zones) }) (stateShown g (showing g (isPresent g (isSet named) (deviceOf g (tablesOf xs ws ds))) (lostDrive g (isSet named) (deviceOf g (tablesOf xs ws ds))) (deviceOf g (tablesOf xs ws ds)))) =
-      ap (λ (l : Look). record { lost = l .lost; zones = recordsOf g (l .zones) }) q
-      ∙ state-of-look g (showing g (isSet here) (findBelow (λ d. not (isSet here d)) (g .drives)) (readDevice g xs ws)) ∙ ap (stateShown g) (shown-here here e) in
-      rw (eq-eqb (verdictNumber (lookVerdict g named (tablesOf xs ws ds))) 0 z) (ap (λ (s : State). record { answer = Finished; state = s }) a)
-
 -- ---- where no pointer is bad, row 3 of the tables is row 3 of the device: the look's answer is the rules' (Answers: lookCall)
 pointer-fine : (g : Geometry) (named : List Bool) (xs ws ds : List ℕ) (d y : ℕ) → pointersBad g named ws ds ≡ false → d < g .drives → y < physicalZones g → isSet named d ≡ true
     → ltb (g .capacity) (length (deviceOf g (tablesOf xs ws ds) d y .sectors)) || ltb (length (deviceOf g (tablesOf xs ws ds) d y .sectors)) (deviceOf g (tablesOf xs ws ds) d y .durable) ≡ false
@@ -332,6 +331,6 @@ pointers-fine g named xs ws ds h = none-any-below _ (g .drives) (λ d hd. go d h
     go d hd true e = none-any-below (bad d) (physicalZones g) (λ y hy. pointer-fine g named xs ws ds d y h hd hy e)
 
 pub look-verdict : (g : Geometry) (named : List Bool) (xs ws ds : List ℕ) → pointersBad g named ws ds ≡ false
-    → lookVerdict g named (tablesOf xs ws ds) ≡ firstRefusal (lookRows g (lengthsOf (tablesOf xs ws ds)) (badPointers g (isSet named) (deviceOf g (tablesOf xs ws ds))) (isSet named) (deviceOf g (tablesOf xs ws ds)))
+    → lookVerdict g named (tablesOf xs ws ds) ≡ firstRefusal (lookRows g (lengthsOf (tablesOf xs ws ds)) (badPointers g (isSet named) (deviceOf g (tablesOf xs ws ds))) (isSet named) (rolesOf g (tablesOf xs ws ds)) (seenIn g (tablesOf xs ws ds)))
 unfolding lookVerdict lookRows
 look-verdict g named xs ws ds h = rw (h, pointers-fine g named xs ws ds h) refl

@@ -14,7 +14,9 @@ use Rattle.tables.specs.declared.Geometry.{Geometry}
 use Rattle.tables.specs.meaning.Below.{tabulateFrom}
 use Rattle.tables.specs.meaning.Drives.{findBelow}
 use Rattle.volume.specs.meaning.State.{StateView, callPresent}
-use Rattle.volume.specs.meaning.Calls.{writeStores, writeState, flushStores, flushState, resetStores, resetState, formatStores, formatState}
+use Rattle.volume.specs.meaning.Calls.{writeState, flushStores, flushState, resetState, formatStores, formatState}
+use Rattle.volume.specs.meaning.Roles.{roles, byRoles}
+use Rattle.volume.specs.meaning.Emptying.{writeAll, resetAll}
 use Rattle.volume.specs.meaning.Mount.{mountStores, mountShows, mountState}
 use Rattle.volume.specs.declared.Answer.{Answer}
 use Rattle.volume.specs.declared.Answer.the-variants.{Finished, Unfinished, Refused}
@@ -75,23 +77,30 @@ pub record Place : Type 0 where
 abbrev pub placeOf : Geometry → ℕ → Place
 placeOf g a = record { drive = driveOf (g .drives) (g .unit) (zoneOf g a) (offsetOf g a); zone = dataZone (zoneOf g a); sector = sectorOf (g .drives) (g .unit) (offsetOf g a) }
 
--- ==== the calls (t: the lengths of the tables; v: the device)
+-- ==== the calls (t: the lengths of the tables; v: the device, whose rules see it by its roles)
+-- the drives that a look finds present, and the lost one
+abbrev pub presentIn : Geometry → (ℕ → Bool) → Device → ℕ → Bool
+presentIn g named v = isPresent g named (byRoles g v)
+
+abbrev pub lostDriveIn : Geometry → (ℕ → Bool) → Device → ℕ
+lostDriveIn g named v = lostDrive g named (byRoles g v)
+
 abbrev pub formatCall : Geometry → TableLengths → (ℕ → Bool) → ℕ → Device → StoringCall
 formatCall g t named array v = record { refusals = formatRows g t (badPointers g named v) named v; stores = formatStores g (namedDrives g named) (leftOut g named) array; state = formatState (leftOut g named) }
 
 -- "It shows what a look shows after its last store": the state it leaves is mountState of that
 abbrev pub mountCall : Geometry → TableLengths → (ℕ → Bool) → Device → StoringCall
 mountCall g t named v = record {
-  refusals = mountRows g t (badPointers g named v) named v;
-  stores = mountStores g (isPresent g named v) (lostDrive g named v) v;
-  state = mountState (mountShows g (isPresent g named v) (lostDrive g named v) v);
+  refusals = mountRows g t (badPointers g named v) named (roles g v) (byRoles g v);
+  stores = mountStores g (presentIn g named v) (lostDriveIn g named v) v;
+  state = mountState (mountShows g (presentIn g named v) (lostDriveIn g named v) v);
 }
 
 -- count sectors from address a, out of a buffer
 abbrev pub writeCall : Geometry → TableLengths → (ℕ → Bool) → StateView → ℕ → ℕ → List ℕ → Device → StoringCall
 writeCall g t named state a count buffer v = record {
-  refusals = writeRows g t (badPointers g named v) named state a count (length buffer) v;
-  stores = writeStores g (callPresent g named state) v state (zoneOf g a) (sectorsIn g count buffer);
+  refusals = writeRows g t (badPointers g named v) named state a count (length buffer) (roles g v) (byRoles g v);
+  stores = writeAll g (callPresent g named state) (roles g v) (byRoles g v) state (zoneOf g a) (sectorsIn g count buffer);
   state = writeState (lostIn g named state) state (zoneOf g a) (sectorsIn g count buffer);
 }
 
@@ -99,15 +108,19 @@ abbrev pub flushCall : Geometry → TableLengths → (ℕ → Bool) → StateVie
 flushCall g t named state v = record { refusals = flushRows g t (badPointers g named v) named state v; stores = flushStores g (callPresent g named state); state = flushState (lostIn g named state) state }
 
 abbrev pub resetCall : Geometry → TableLengths → (ℕ → Bool) → StateView → ℕ → Device → StoringCall
-resetCall g t named state z v = record { refusals = resetRows g t (badPointers g named v) named state z v; stores = resetStores g (callPresent g named state) state z; state = resetState (lostIn g named state) state z }
+resetCall g t named state z v = record {
+  refusals = resetRows g t (badPointers g named v) named state z (roles g v) (byRoles g v);
+  stores = resetAll g (callPresent g named state) (roles g v) (byRoles g v) state z;
+  state = resetState (lostIn g named state) state z;
+}
 
 abbrev pub lookCall : Geometry → TableLengths → (ℕ → Bool) → Device → Given Shown
-lookCall g t named v = giving (firstRefusal (lookRows g t (badPointers g named v) named v)) (showing g (isPresent g named v) (lostDrive g named v) v)
+lookCall g t named v = giving (firstRefusal (lookRows g t (badPointers g named v) named (roles g v) (byRoles g v))) (showing g (presentIn g named v) (lostDriveIn g named v) (byRoles g v))
 
 -- the values of rule 4
 abbrev pub readCall : Geometry → TableLengths → (ℕ → Bool) → StateView → ℕ → ℕ → ℕ → Device → Given (List (List ℕ))
 readCall g t named state a count len v =
-    giving (firstRefusal (readRows g t (badPointers g named v) named state a count len v)) (tabulateFrom (valueAt g (callPresent g named state) v (zoneOf g a) (state .generation (zoneOf g a))) (offsetOf g a) count)
+    giving (firstRefusal (readRows g t (badPointers g named v) named state a count len (byRoles g v))) (tabulateFrom (valueAt g (callPresent g named state) (byRoles g v) (zoneOf g a) (state .generation (zoneOf g a))) (offsetOf g a) count)
 
 abbrev pub peekCall : Geometry → TableLengths → (ℕ → Bool) → StateView → ℕ → Device → Given Place
-peekCall g t named state a v = giving (firstRefusal (peekRows g t (badPointers g named v) named state a v)) (placeOf g a)
+peekCall g t named state a v = giving (firstRefusal (peekRows g t (badPointers g named v) named state a (byRoles g v))) (placeOf g a)

@@ -18,15 +18,17 @@ use Rattle.volume.specs.declared.Answer.the-variants.{Finished, Unfinish
 use Rattle.volume.specs.declared.Outcome.{Outcome}
 use Rattle.volume.specs.meaning.State.{StateView, callPresent, pointerIn}
 use Rattle.volume.specs.meaning.Refusals.{Verdict, refuse, accept, firstRefusal, TableLengths, flushRows, resetRows, writeRows, zoneOf, offsetOf, formatRows, lookRows, mountRows, readRows, peekRows}
-use Rattle.volume.specs.meaning.Calls.{flushStores, resetStores, writeStores, formatStores}
-use Rattle.volume.specs.meaning.Answers.{lostIn, sectorsIn, leftOut, namedDrives, Place, placeOf}
+use Rattle.volume.specs.meaning.Calls.{flushStores, formatStores}
+use Rattle.volume.specs.meaning.Answers.{lostIn, sectorsIn, leftOut, namedDrives, Place, placeOf, presentIn, lostDriveIn}
+use Rattle.volume.specs.meaning.Roles.{Roles, roles, byRoles}
+use Rattle.volume.specs.meaning.Emptying.{writeAll, resetAll}
 use Rattle.tables.specs.meaning.Below.{tabulate, tabulateFrom}
 use Rattle.logs.specs.meaning.Entry.{wornGeneration}
 use Rattle.volume.specs.meaning.Content.{at}
-use Rattle.volume.specs.meaning.Rules.{valueAt, ZoneShown, Shown, showing, isPresent, lostDrive}
+use Rattle.volume.specs.meaning.Rules.{valueAt, ZoneShown, Shown, showing}
 use Rattle.volume.specs.declared.ZoneLook.{ZoneLook}
 use Rattle.tables.specs.meaning.Lists.{concat}
-use Rattle.volume.specs.meaning.Mount.{withFlush, phasesBeforeEntries, entryStep, afterOpening, mountLook}
+use Rattle.volume.specs.meaning.Mount.{phasesBeforeEntries, phasesOfParityLogs, phasesOfEntries}
 
 -- ---- the state
 -- past its end the array of records is all empty
@@ -63,6 +65,13 @@ lengthsOf t = record { sectors = length (t .sectors); written = length (t .writt
 abbrev pub badIn : Geometry → List Bool → Tables → Bool
 badIn g named t = pointersBad g named (t .written) (t .durable)
 
+-- the drives' roles in the tables, and the device by them
+abbrev pub rolesOf : Geometry → Tables → ℕ → Roles
+rolesOf g t = roles g (deviceOf g t)
+
+abbrev pub seenIn : Geometry → Tables → Device
+seenIn g t = byRoles g (deviceOf g t)
+
 -- ---- a storing call: the outcome, and the tables that it leaves
 pub record Result : Type 0 where
   pub outcome : Outcome
@@ -90,7 +99,7 @@ flushOn g named s count t =
 
 -- ==== reset
 unfoldable pub resetVerdict : Geometry → List Bool → State → ℕ → Tables → Verdict
-resetVerdict g named s z t = firstRefusal (resetRows g (lengthsOf t) (badIn g named t) (isSet named) (viewState s) z (deviceOf g t))
+resetVerdict g named s z t = firstRefusal (resetRows g (lengthsOf t) (badIn g named t) (isSet named) (viewState s) z (rolesOf g t) (seenIn g t))
 
 -- the zone's record afterwards: its generation raised; empty, or worn where that is now 2^64 − 1
 abbrev pub resetRecord : ZoneRecord → ZoneRecord
@@ -102,11 +111,11 @@ withReset s z x = record { lost = x; zones = set (s .zones) z (resetRecord (reco
 
 unfoldable pub resetOn : Geometry → List Bool → State → ℕ → ℕ → Tables → Result
 resetOn g named s z count t =
-    storingOn g (verdictNumber (resetVerdict g named s z t)) (resetStores g (callPresent g (isSet named) (viewState s)) (viewState s) z) (withReset s z (lostIn g (isSet named) (viewState s))) s count t
+    storingOn g (verdictNumber (resetVerdict g named s z t)) (resetAll g (callPresent g (isSet named) (viewState s)) (rolesOf g t) (seenIn g t) (viewState s) z) (withReset s z (lostIn g (isSet named) (viewState s))) s count t
 
 -- ==== write: k sectors from address a
 unfoldable pub writeVerdict : Geometry → List Bool → State → ℕ → ℕ → ℕ → Tables → Verdict
-writeVerdict g named s a k bytes t = firstRefusal (writeRows g (lengthsOf t) (badIn g named t) (isSet named) (viewState s) a k bytes (deviceOf g t))
+writeVerdict g named s a k bytes t = firstRefusal (writeRows g (lengthsOf t) (badIn g named t) (isSet named) (viewState s) a k bytes (rolesOf g t) (seenIn g t))
 
 -- the state handed on: the zone open at n, and a drive left out of the call is lost
 abbrev pub writtenState : State → ℕ → ℕ → ℕ → State
@@ -118,7 +127,7 @@ pointerOf s z = pointerIn (recordAt s z .condition)
 
 unfoldable pub writeOn : Geometry → List Bool → State → ℕ → ℕ → List ℕ → ℕ → Tables → Result
 writeOn g named s a k buffer count t =
-    storingOn g (verdictNumber (writeVerdict g named s a k (length buffer) t)) (writeStores g (callPresent g (isSet named) (viewState s)) (deviceOf g t) (viewState s) (zoneOf g a) (sectorsIn g k buffer))
+    storingOn g (verdictNumber (writeVerdict g named s a k (length buffer) t)) (writeAll g (callPresent g (isSet named) (viewState s)) (rolesOf g t) (seenIn g t) (viewState s) (zoneOf g a) (sectorsIn g k buffer))
     (writtenState s (lostIn g (isSet named) (viewState s)) (zoneOf g a) (pointerOf s (zoneOf g a) + k)) s count t
 
 -- ==== format
@@ -150,40 +159,48 @@ stateShown g k = record { lost = k .lost; zones = tabulate (λ z. recordFrom (zo
 
 -- ==== look
 unfoldable pub lookVerdict : Geometry → List Bool → Tables → Verdict
-lookVerdict g named t = firstRefusal (lookRows g (lengthsOf t) (badIn g named t) (isSet named) (deviceOf g t))
+lookVerdict g named t = firstRefusal (lookRows g (lengthsOf t) (badIn g named t) (isSet named) (rolesOf g t) (seenIn g t))
 
 -- refused: the state stays; else what is shown is the state from then on. Nothing is stored.
 unfoldable pub lookOn : Geometry → List Bool → State → Tables → Outcome
 lookOn g named old t =
     pick (eqb (verdictNumber (lookVerdict g named t)) 0)
-    (record { answer = Finished; state = stateShown g (showing g (isPresent g (isSet named) (deviceOf g t)) (lostDrive g (isSet named) (deviceOf g t)) (deviceOf g t)) })
+    (record { answer = Finished; state = stateShown g (showing g (presentIn g (isSet named) (deviceOf g t)) (lostDriveIn g (isSet named) (deviceOf g t)) (seenIn g t)) })
     (record { answer = Refused (verdictNumber (lookVerdict g named t)); state = old })
 
 -- ==== mount
 unfoldable pub mountVerdict : Geometry → List Bool → Tables → Verdict
-mountVerdict g named t = firstRefusal (mountRows g (lengthsOf t) (badIn g named t) (isSet named) (deviceOf g t))
+mountVerdict g named t = firstRefusal (mountRows g (lengthsOf t) (badIn g named t) (isSet named) (rolesOf g t) (seenIn g t))
 
--- the stores of steps 1 to 7, with the first flush
+-- the stores up to step 9; of step 10; of step 11, each by what those before have made of the tables
 unfoldable pub storesBefore : Geometry → (ℕ → Bool) → ℕ → Tables → List Store
-storesBefore g present x t = concat (phasesBeforeEntries g present x (mountLook g present x (deviceOf g t)) (afterOpening g present (deviceOf g t)))
+storesBefore g present x t = concat (phasesBeforeEntries g present x (deviceOf g t))
 
--- and of step 8, by what they have made of the tables
+abbrev pub afterStores : Geometry → List Store → Tables → Tables
+afterStores g ss t = runStores g (length ss) ss t
+
+unfoldable pub parityLogStores : Geometry → (ℕ → Bool) → ℕ → Tables → List Store
+parityLogStores g present x t = concat (phasesOfParityLogs g present x (deviceOf g t) (deviceOf g (afterStores g (storesBefore g present x t) t)))
+
+unfoldable pub storesToParityLogs : Geometry → (ℕ → Bool) → ℕ → Tables → List Store
+storesToParityLogs g present x t = storesBefore g present x t ++ parityLogStores g present x t
+
 unfoldable pub mountStoresOn : Geometry → (ℕ → Bool) → ℕ → Tables → List Store
 mountStoresOn g present x t =
-    storesBefore g present x t ++ concat (withFlush g present (entryStep g (mountLook g present x (deviceOf g t)) (deviceOf g (runStores g (length (storesBefore g present x t)) (storesBefore g present x t) t))))
+    storesToParityLogs g present x t ++ concat (phasesOfEntries g present x (deviceOf g t) (deviceOf g (afterStores g (storesToParityLogs g present x t) t)))
 
 -- "It shows what a look shows after its last store"
 unfoldable pub mountShownOn : Geometry → (ℕ → Bool) → ℕ → Tables → State
-mountShownOn g present x t = stateShown g (showing g present x (deviceOf g (runStores g (length (mountStoresOn g present x t)) (mountStoresOn g present x t) t)))
+mountShownOn g present x t = stateShown g (showing g present x (seenIn g (afterStores g (mountStoresOn g present x t) t)))
 
 unfoldable pub mountOn : Geometry → List Bool → State → ℕ → Tables → Result
 mountOn g named old count t =
-    storingOn g (verdictNumber (mountVerdict g named t)) (mountStoresOn g (isPresent g (isSet named) (deviceOf g t)) (lostDrive g (isSet named) (deviceOf g t)) t)
-    (mountShownOn g (isPresent g (isSet named) (deviceOf g t)) (lostDrive g (isSet named) (deviceOf g t)) t) old count t
+    storingOn g (verdictNumber (mountVerdict g named t)) (mountStoresOn g (presentIn g (isSet named) (deviceOf g t)) (lostDriveIn g (isSet named) (deviceOf g t)) t)
+    (mountShownOn g (presentIn g (isSet named) (deviceOf g t)) (lostDriveIn g (isSet named) (deviceOf g t)) t) old count t
 
 -- ==== read: its answer, and its buffer
 unfoldable pub readNumber : Geometry → List Bool → State → ℕ → ℕ → ℕ → Tables → ℕ
-readNumber g named s a count len t = verdictNumber (firstRefusal (readRows g (lengthsOf t) (badIn g named t) (isSet named) (viewState s) a count len (deviceOf g t)))
+readNumber g named s a count len t = verdictNumber (firstRefusal (readRows g (lengthsOf t) (badIn g named t) (isSet named) (viewState s) a count len (seenIn g t)))
 
 pub record ReadResult : Type 0 where
   pub answer : Answer
@@ -196,12 +213,12 @@ valuesOn g present v z n offset count = concat (tabulateFrom (valueAt g present 
 unfoldable pub readOn : Geometry → List Bool → State → ℕ → ℕ → List ℕ → Tables → ReadResult
 readOn g named s a count out t = record {
   answer = pick (eqb (readNumber g named s a count (length out) t) 0) Finished (Refused (readNumber g named s a count (length out) t));
-  buffer = pick (eqb (readNumber g named s a count (length out) t) 0) (valuesOn g (callPresent g (isSet named) (viewState s)) (deviceOf g t) (zoneOf g a) (recordAt s (zoneOf g a) .generation) (offsetOf g a) count) out;
+  buffer = pick (eqb (readNumber g named s a count (length out) t) 0) (valuesOn g (callPresent g (isSet named) (viewState s)) (seenIn g t) (zoneOf g a) (recordAt s (zoneOf g a) .generation) (offsetOf g a) count) out;
 }
 
 -- ==== peek
 unfoldable pub peekNumber : Geometry → List Bool → State → ℕ → Tables → ℕ
-peekNumber g named s a t = verdictNumber (firstRefusal (peekRows g (lengthsOf t) (badIn g named t) (isSet named) (viewState s) a (deviceOf g t)))
+peekNumber g named s a t = verdictNumber (firstRefusal (peekRows g (lengthsOf t) (badIn g named t) (isSet named) (viewState s) a (seenIn g t)))
 
 abbrev pub partAt : Geometry → List ℕ → Place → List ℕ
 partAt g xs p = sectorAt g xs (p .drive) (p .zone) (p .sector)

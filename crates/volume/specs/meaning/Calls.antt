@@ -1,5 +1,6 @@
 -- The stores of write, flush, reset and format, in document 01's order, and the state that each hands on. A call's stores are written
--- down as if every drive were there; those to a lost drive are skipped at the end (onPresent). (Mount: Mount.antt.)
+-- down as if every drive were there; those to a lost drive are skipped at the end (onPresent). Zones are those of the device by its roles.
+-- (With the logs that a write or reset empties first: Emptying.antt. Mount: Mount.antt.)
 use mathlib.Core.Bool.{Bool, true, _||_}
 use Prim.Native.Nat.{ℕ, zero, suc, _+_, _-_, _%_}
 use mathlib.Core.List.{List, [], _∷_, _++_}

@@ -15,14 +15,16 @@ use Rattle.tables.specs.declared.Geometry.{Geometry}
 use Rattle.tables.specs.meaning.Geometry.{stripeSectors, zoneSectors, physicalZones, dataZone}
 use Rattle.tables.specs.meaning.GeometryTest.{isValid}
 use Rattle.tables.specs.meaning.Tables.{lengthsFit, bufferFits}
-use Rattle.logs.specs.meaning.Entry.{generalZone, parityZone, wornGeneration}
+use Rattle.logs.specs.meaning.Entry.{wornGeneration}
 use Rattle.logs.specs.meaning.Walk.{Ending, atPointer, noEntry, torn}
 use Rattle.logs.specs.meaning.Heads.{labelled, arrayIn}
 use Rattle.volume.specs.declared.Condition.{Condition}
 use Rattle.volume.specs.declared.Condition.the-variants.{Empty, Open, Sealed, Worn}
 use Rattle.volume.specs.meaning.State.{pointerIn, isSealed, isWorn, StateView, callPresent}
 use Rattle.volume.specs.meaning.Content.{insideStripe, fillOf, parityDriveAt}
-use Rattle.volume.specs.meaning.Rules.{generalHeads, generalEnding, parityEnding, isLost, isPresent, known, heldAt, zoneView}
+use Rattle.volume.specs.meaning.Rules.{generalHeads, generalEnding, parityEnding, isLost, isPresent, lostDrive, known, heldAt, zoneView, showing}
+use Rattle.volume.specs.meaning.Roles.{Roles, lacksKind}
+use Rattle.volume.specs.meaning.Emptying.{InForce, byLook, byState, newGeneralSize, newParitySize, staysFull, spareWritten, reserve, mountGeneralLimit, resetLimit, writeLimit, emptiedFor, emptiedForWrite, goneForCopies}
 
 pub data Verdict : Type 0 where
   refuse : ℕ → Verdict
@@ -47,8 +49,8 @@ abbrev pub offsetOf : Geometry → ℕ → ℕ
 offsetOf g a = a % zoneSectors g
 
 -- ==== the table
--- 1, geometry: "a bound above is broken" (isValid of the geometry), "by a lost drive or pointer in the state too": the lost drive is below
--- D or 255, each zone's pointer is at most (D − 1) × C
+-- 1, geometry: "a bound above is broken" (isValid of the geometry, which has its logs in their first places), "by a lost drive or pointer in the
+-- state too": the lost drive is below D or 255, each zone's pointer is at most (D − 1) × C
 unfoldable pub stateWithin : Geometry → StateView → Bool
 stateWithin g state = (ltb (state .lost) (g .drives) || eqb (state .lost) noDrive) && allBelow (λ z. leb (pointerIn (state .condition z)) (zoneSectors g)) (g .zones)
 
@@ -76,6 +78,10 @@ twoUnnamed g named = ltb 1 (countBelow (λ d. not (named d)) (g .drives))
 unfoldable pub badLabels : Geometry → (ℕ → Bool) → Device → Bool
 badLabels g present v =
     anyBelow (λ d. present d && (not (labelled (generalHeads g v d)) || anyBelow (λ e. present e && not (eqb (arrayIn (generalHeads g v d)) (arrayIn (generalHeads g v e)))) (g .drives))) (g .drives)
+
+-- ".. a drive lacking a kind is 5 in look and mount"
+unfoldable pub kindLacks : Geometry → (ℕ → Bool) → (ℕ → Roles) → Bool
+kindLacks g present r = anyBelow (λ d. present d && lacksKind (r d)) (g .drives)
 
 -- 6, log: "a sector where a present drive's log should have an entry is no legal one, or rows pass C"
 abbrev pub isNoEntry : Ending → Bool
@@ -119,25 +125,20 @@ wornFor state z = isWorn (state .condition z) || leb wornGeneration (state .gene
 abbrev pub unwritten : StateView → ℕ → ℕ → ℕ → Bool
 unwritten state z offset count = ltb (pointerIn (state .condition z)) (offset + count)
 
--- 14, log full, "where unused is the least over present drives": some present drive has fewer than n sectors of that log unused
-unfoldable pub unusedBelow : Geometry → (ℕ → Bool) → Device → ℕ → ℕ → Bool
-unusedBelow g present v log n = anyBelow (λ d. present d && ltb (g .capacity - length (v d log .sectors)) n) (g .drives)
+-- 14, log full: a log lacks room and emptying it would not give that room, or cannot be (Emptying; f: the generations and pointers in force)
+unfoldable pub mountFull : Geometry → (ℕ → Bool) → (ℕ → Roles) → InForce → Device → Bool
+mountFull g present r f w =
+    anyBelow (λ d. emptiedFor g present false r w (mountGeneralLimit g) d && staysFull g false r (mountGeneralLimit g) (newGeneralSize g f (generalHeads g w d)) d
+    || (emptiedFor g present true r w (reserve g) d && staysFull g true r (reserve g) (newParitySize g f d) d)) (g .drives)
 
--- "L × (1 + U) + U"
-abbrev pub reserve : Geometry → ℕ
-reserve g = g .zones * (1 + g .unit) + g .unit
+unfoldable pub resetFull : Geometry → (ℕ → Bool) → (ℕ → Roles) → InForce → Device → Bool
+resetFull g present r f w =
+    anyBelow (λ d. emptiedFor g present false r w (resetLimit g) d && (staysFull g false r (resetLimit g) (newGeneralSize g f (generalHeads g w d)) d || spareWritten w d)) (g .drives)
 
--- "mount, general below L + 2 or parity below L × (1 + U) + U"
-abbrev pub mountFull : Geometry → (ℕ → Bool) → Device → Bool
-mountFull g present v = unusedBelow g present v generalZone (g .zones + 2) || unusedBelow g present v parityZone (reserve g)
-
--- "reset, general below L + 4"
-abbrev pub resetFull : Geometry → (ℕ → Bool) → Device → Bool
-resetFull g present v = unusedBelow g present v generalZone (g .zones + 4)
-
--- "write ending inside a stripe, the parity drive's log, if present, below its entry plus L × (1 + U) + U" (end: the pointer after it)
-unfoldable pub writeFull : Geometry → (ℕ → Bool) → Device → ℕ → ℕ → Bool
-writeFull g present v z end = insideStripe g end && (present (parityDriveAt g z end) && ltb (g .capacity - length (v (parityDriveAt g z end) parityZone .sectors)) (suc (min (fillOf g end) (g .unit)) + reserve g))
+-- (end: the pointer after the write)
+unfoldable pub writeFull : Geometry → (ℕ → Bool) → (ℕ → Roles) → InForce → Device → ℕ → ℕ → Bool
+writeFull g present r f w z end =
+    anyBelow (λ d. emptiedForWrite g present r w z end d && (staysFull g true r (writeLimit g end) (newParitySize g f d) d || spareWritten w d)) (g .drives)
 
 -- 15, gone: "a sector needed is not known; in peek, not held"
 -- of the count sectors from offset (n: the state's generation)
@@ -148,10 +149,15 @@ goneIn g present v z n offset count = anyBelow (λ i. not (known (g .drives) (g 
 unfoldable pub goneBefore : Geometry → (ℕ → Bool) → Device → ℕ → ℕ → ℕ → Bool
 goneBefore g present v z n pointer = present (parityDriveAt g z pointer) && goneIn g present v z n (stripeOf (g .drives) (g .unit) pointer * stripeSectors g) (fillOf g pointer)
 
+-- and where it empties a log, what that log's copies are made of
+unfoldable pub goneForEntry : Geometry → (ℕ → Bool) → (ℕ → Roles) → InForce → Device → ℕ → ℕ → Bool
+goneForEntry g present r f w z end = anyBelow (λ d. emptiedForWrite g present r w z end d && goneForCopies g present f w d) (g .drives)
+
 unfoldable pub notHeld : Geometry → (ℕ → Bool) → Device → ℕ → ℕ → ℕ → Bool
 notHeld g present v z n offset = not (heldAt (zoneView g present v z n) (driveOf (g .drives) (g .unit) z offset) (sectorOf (g .drives) (g .unit) offset))
 
--- ==== the calls. bad: row 3, which the device answers by badPointers and the tables by their numbers (CallContracts)
+-- ==== the calls. bad: row 3, which the device answers by badPointers and the tables by their numbers (CallContracts); it is asked of the zones as they lie.
+-- r: the drives' roles; w: the device by them
 -- rows 1 to 4, which every call begins with: shape, lengths, pointers, drives
 abbrev pub openingRows : Bool → Bool → Bool → Bool → List (ℕ × Bool) → List (ℕ × Bool)
 openingRows shape fits bad absent rest = (1, not shape) ∷ (2, not fits) ∷ (3, bad) ∷ (4, absent) ∷ rest
@@ -160,46 +166,50 @@ unfoldable pub formatRows : Geometry → TableLengths → Bool → (ℕ → Bool
 formatRows g t bad named v =
     openingRows (isValid g) (tablesFit g t) bad (twoUnnamed g named) []
 
-unfoldable pub lookRows : Geometry → TableLengths → Bool → (ℕ → Bool) → Device → List (ℕ × Bool)
-lookRows g t bad named v =
-    openingRows (isValid g) (tablesFit g t) bad (twoLost g named v)
-    ((5, badLabels g (isPresent g named v) v)
-    ∷ (6, badLogs g (isPresent g named v) v)
+unfoldable pub lookRows : Geometry → TableLengths → Bool → (ℕ → Bool) → (ℕ → Roles) → Device → List (ℕ × Bool)
+lookRows g t bad named r w =
+    openingRows (isValid g) (tablesFit g t) bad (twoLost g named w)
+    ((5, kindLacks g (isPresent g named w) r || badLabels g (isPresent g named w) w)
+    ∷ (6, badLogs g (isPresent g named w) w)
     ∷ [])
 
-unfoldable pub mountRows : Geometry → TableLengths → Bool → (ℕ → Bool) → Device → List (ℕ × Bool)
-mountRows g t bad named v =
-    openingRows (isValid g) (tablesFit g t) bad (twoLost g named v)
-    ((5, badLabels g (isPresent g named v) v)
-    ∷ (6, badLogs g (isPresent g named v) v)
-    ∷ (14, mountFull g (isPresent g named v) v)
+unfoldable pub mountRows : Geometry → TableLengths → Bool → (ℕ → Bool) → (ℕ → Roles) → Device → List (ℕ × Bool)
+mountRows g t bad named r w =
+    openingRows (isValid g) (tablesFit g t) bad (twoLost g named w)
+    ((5, kindLacks g (isPresent g named w) r || badLabels g (isPresent g named w) w)
+    ∷ (6, badLogs g (isPresent g named w) w)
+    ∷ (14, mountFull g (isPresent g named w) r (byLook (showing g (isPresent g named w) (lostDrive g named w) w)) w)
     ∷ [])
 
 -- count sectors from address a, out of a buffer of len bytes
-unfoldable pub writeRows : Geometry → TableLengths → Bool → (ℕ → Bool) → StateView → ℕ → ℕ → ℕ → Device → List (ℕ × Bool)
-writeRows g t bad named state a count len v =
+unfoldable pub writeRows : Geometry → TableLengths → Bool → (ℕ → Bool) → StateView → ℕ → ℕ → ℕ → (ℕ → Roles) → Device → List (ℕ × Bool)
+writeRows g t bad named state a count len r w =
     openingRows (isValid g && stateWithin g state) (tablesFit g t && bufferFits g count len) bad (twoAbsent g named state)
-    ((7, stale g (callPresent g named state) v state (zoneOf g a))
+    ((7, stale g (callPresent g named state) w state (zoneOf g a))
     ∷ (8, noZone g (zoneOf g a))
     ∷ (9, badRun g (offsetOf g a) count)
     ∷ (10, badOrder state (zoneOf g a) (offsetOf g a))
     ∷ (11, isSealed (state .condition (zoneOf g a)))
     ∷ (12, isWorn (state .condition (zoneOf g a)))
-    ∷ (14, writeFull g (callPresent g named state) v (zoneOf g a) (pointerIn (state .condition (zoneOf g a)) + count))
-    ∷ (15, goneBefore g (callPresent g named state) v (zoneOf g a) (state .generation (zoneOf g a)) (pointerIn (state .condition (zoneOf g a))))
+    ∷ (14, writeFull g (callPresent g named state) r (byState g (callPresent g named state) w state) w (zoneOf g a) (pointerIn (state .condition (zoneOf g a)) + count))
+    ∷ (
+      15,
+      goneForEntry g (callPresent g named state) r (byState g (callPresent g named state) w state) w (zoneOf g a) (pointerIn (state .condition (zoneOf g a)) + count)
+          || goneBefore g (callPresent g named state) w (zoneOf g a) (state .generation (zoneOf g a)) (pointerIn (state .condition (zoneOf g a))),
+    )
     ∷ [])
 
 unfoldable pub flushRows : Geometry → TableLengths → Bool → (ℕ → Bool) → StateView → Device → List (ℕ × Bool)
 flushRows g t bad named state v =
     openingRows (isValid g && stateWithin g state) (tablesFit g t) bad (twoAbsent g named state) []
 
-unfoldable pub resetRows : Geometry → TableLengths → Bool → (ℕ → Bool) → StateView → ℕ → Device → List (ℕ × Bool)
-resetRows g t bad named state z v =
+unfoldable pub resetRows : Geometry → TableLengths → Bool → (ℕ → Bool) → StateView → ℕ → (ℕ → Roles) → Device → List (ℕ × Bool)
+resetRows g t bad named state z r w =
     openingRows (isValid g && stateWithin g state) (tablesFit g t) bad (twoAbsent g named state)
-    ((7, stale g (callPresent g named state) v state z)
+    ((7, stale g (callPresent g named state) w state z)
     ∷ (8, noZone g z)
     ∷ (12, wornFor state z)
-    ∷ (14, resetFull g (callPresent g named state) v)
+    ∷ (14, resetFull g (callPresent g named state) r (byState g (callPresent g named state) w state) w)
     ∷ [])
 
 -- count sectors from address a, into a buffer of len bytes

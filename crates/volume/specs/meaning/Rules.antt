@@ -1,5 +1,6 @@
 -- Rules 1 to 6 of document 01, "What a look shows", in its order, as functions of the geometry, of the drives named and of the device.
--- `present` is from rule 2 on the drives that rule 1 leaves; n is a zone's generation by rule 2, handed to the later rules.
+-- `present` is from rule 2 on the drives that rule 1 leaves; n is a zone's generation by rule 2, handed to the later rules. The device is the one
+-- by its roles (Roles.antt): its zone 0 is the general log that counts, zone 1 the parity log.
 -- (What is refused before anything is shown: Refusals.antt.)
 use mathlib.Core.Bool.{Bool, true, false, _&&_, _||_, not}
 use Prim.Native.Nat.{ℕ, zero, suc, _+_, _-_, _*_, min}
@@ -16,7 +17,7 @@ use Rattle.tables.specs.meaning.Device.{Device}
 use Rattle.tables.specs.meaning.Placement.{driveOf, sectorOf, needed, stripeOf, unitIndex, rowIndex, parityDrive, unitDrive, address}
 use Rattle.tables.specs.declared.Geometry.{Geometry}
 use Rattle.tables.specs.meaning.Geometry.{stripeSectors, zoneSectors, dataZone}
-use Rattle.logs.specs.meaning.Entry.{generalZone, parityZone, wornGeneration, Header, label, counters, zoneReset, partialParity, seal, Entry}
+use Rattle.logs.specs.meaning.Entry.{generalZone, parityZone, wornGeneration, Header, label, counters, zoneReset, partialParity, seal, closing, Entry}
 use Rattle.logs.specs.meaning.Walk.{Ending, atPointer, noEntry, torn, walkLog}
 use Rattle.logs.specs.meaning.Heads.{labelled, arrayIn, lastLost, generationIn, isReset, isSeal, endsPast, leastSeal}
 use Rattle.volume.specs.declared.Condition.{Condition}
@@ -161,6 +162,7 @@ servingEntry g z n limit (counters cs) rs = []
 servingEntry g z n limit (zoneReset y m) rs = []
 servingEntry g z n limit (partialParity y s f m) rs = pick (eqb y z && (eqb m n && leb (s * stripeSectors g + f) limit)) (record { stripe = s; end = s * stripeSectors g + f; rows = λ r. getD rs r [] } ∷ []) []
 servingEntry g z n limit (seal y p m) rs = []
+servingEntry g z n limit (closing kind gen) rs = []
 
 abbrev pub servingEntries : Geometry → ℕ → ℕ → ℕ → List Entry → List ParityEntry
 servingEntries g z n limit [] = []

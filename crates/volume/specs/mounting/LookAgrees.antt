@@ -3,13 +3,13 @@ use mathlib.Core.Path.{_≡_, refl, sym, ap, ap₂, _∙_, fun-ext}
 use mathlib.Core.Bool.{Bool, false, _&&_, _||_, not}
 use Prim.Native.Nat.{ℕ, zero, suc, _+_, _<_}
 use native.Mathlib.Omega.{arith}
-use mathlib.Core.List.{List, [], _∷_, _++_, map}
+use mathlib.Core.List.{List, [], _∷_, map}
 use Rattle.tables.specs.declared.Geometry.{Geometry}
 use Rattle.tables.specs.meaning.Basics.{pick}
 use Rattle.tables.specs.meaning.Below.{eachBelow, anyBelow}
 use Rattle.tables.specs.laws.Below.{any-below-cong}
 use Rattle.tables.specs.meaning.Lists.{anyOf}
-use Rattle.tables.specs.meaning.Device.{Device, ZoneView, Store}
+use Rattle.tables.specs.meaning.Device.{Device, ZoneView}
 use Rattle.tables.specs.meaning.Drives.{noDrive}
 use Rattle.tables.specs.meaning.LittleEndian.{sameBytes}
 use Rattle.tables.specs.meaning.Tables.{tablesOf, deviceOf}
@@ -23,13 +23,10 @@ use Rattle.volume.specs.meaning.State.{isEmpty, isSealed}
 use Rattle.volume.specs.meaning.Rules.{Shown, ZoneShown, generalHeads}
 use Rattle.volume.specs.meaning.Calls.{appendGeneral, generationsFrom}
 use Rattle.volume.specs.meaning.Mount.{labelStep, resetEntryStep, zoneResetStep, counterStep, sealStep, nextGeneration, countersDiffer}
+use Rattle.volume.specs.laws.EachBelow.{each-below-cong}
 use Rattle.volume.specs.mounting.MountLook.{zoneLook, shownBy, LookShows}
 use Rattle.volume.specs.mounting.MountTables.{seen-sectors}
 use Rattle.volume.specs.looking.Knowing.{readDevice}
-
-pub each-below-cong : (f h : ℕ → List Store) (n : ℕ) → ((k : ℕ) → k < n → f k ≡ h k) → eachBelow f n ≡ eachBelow h n
-each-below-cong f h zero e = refl
-each-below-cong f h (suc n) e = ap₂ (λ (x y : List Store). x ++ y) (each-below-cong f h n (λ k l. e k (omega arith))) (e n (omega arith))
 
 generations-cong : (f h : ℕ → ℕ) (i n : ℕ) → ((k : ℕ) → i + k < i + n → f (i + k) ≡ h (i + k)) → generationsFrom f i n ≡ generationsFrom h i n
 generations-cong f h i zero e = refl
@@ -69,11 +66,11 @@ module _ (g : Geometry) (k : Look) (s : Shown) (t : LookShows g k s) where
   next-told : (z : ℕ) → z < g .zones → nextGeneration (shownBy k) z ≡ nextGeneration s z
   next-told z h = rw (condition-told z h, generation-told z h) refl
 
-  pub counters-told : (a : ℕ → Bool) (w : Device) → counterStep g a (shownBy k) w ≡ counterStep g a s w
+  pub counters-told : (differ : Bool) → counterStep g (shownBy k) differ ≡ counterStep g s differ
   unfolding counterStep
-  counters-told a w =
+  counters-told differ =
       rw (any-below-cong (λ z. isEmpty (zoneLook k z .condition)) (λ z. isEmpty (s .zone z .condition)) (g .zones) (λ z h. ap isEmpty (condition-told z h)))
-      (ap (λ (cs : List ℕ). pick (anyBelow (λ z. isEmpty (s .zone z .condition)) (g .zones) || countersDiffer g a w) (eachBelow (λ d. appendGeneral g (counters cs) d) (g .drives)) [])
+      (ap (λ (cs : List ℕ). pick (anyBelow (λ z. isEmpty (s .zone z .condition)) (g .zones) || differ) (eachBelow (λ d. appendGeneral g (counters cs) d) (g .drives)) [])
       (generations-cong (nextGeneration (shownBy k)) (nextGeneration s) zero (g .zones) (λ z h. let q : zero + z ≡ z = omega arith in rw q (next-told z (omega arith)))))
 
   pub seals-told : (w : Device) → sealStep g (shownBy k) w ≡ sealStep g s w
@@ -82,7 +79,7 @@ module _ (g : Geometry) (k : Look) (s : Shown) (t : LookShows g k s) where
 
 -- ---- the steps read sectors alone: what is durable plays no part
 module _ (g : Geometry) (v w : Device) (same : (d z : ℕ) → v d z .sectors ≡ w d z .sectors) where
-  heads-same : generalHeads g v ≡ generalHeads g w
+  pub heads-same : generalHeads g v ≡ generalHeads g w
   unfolding generalHeads
   heads-same = fun-ext λ d. ap (λ (ss : List (List ℕ)). map (λ (e : Entry). e .head) (walkLog g d false ss .entries)) (same d generalZone)
 
@@ -90,9 +87,9 @@ module _ (g : Geometry) (v w : Device) (same : (d z : ℕ) → v d z .sectors �
   unfolding labelStep
   labels-same x s = ap (λ (hs : ℕ → List Header). eachBelow (λ d. pick (ltb x (g .drives) && not (eqb (lastLost noDrive (hs d)) x)) (appendGeneral g (label x (s .array)) d) []) (g .drives)) heads-same
 
-  pub counters-same : (a : ℕ → Bool) (s : Shown) → counterStep g a s v ≡ counterStep g a s w
-  unfolding counterStep countersDiffer
-  counters-same a s = ap (λ (hs : ℕ → List Header). pick (anyBelow (λ z. isEmpty (s .zone z .condition)) (g .zones) || anyBelow (λ d. a d && anyBelow (λ e. a e && not (sameBytes (lastCounters [] (hs d)) (lastCounters [] (hs e)))) (g .drives)) (g .drives)) (eachBelow (λ d. appendGeneral g (counters (generationsFrom (nextGeneration s) zero (g .zones))) d) (g .drives)) []) heads-same
+  pub differ-same : (a : ℕ → Bool) → countersDiffer g a v ≡ countersDiffer g a w
+  unfolding countersDiffer
+  differ-same a = ap (λ (hs : ℕ → List Header). anyBelow (λ d. a d && anyBelow (λ e. a e && not (sameBytes (lastCounters [] (hs d)) (lastCounters [] (hs e)))) (g .drives)) (g .drives)) heads-same
 
   pub seals-same : (s : Shown) → sealStep g s v ≡ sealStep g s w
   unfolding sealStep

@@ -118,7 +118,7 @@ module _ (g : Geometry) (here : List Bool) (k : Look) (ps xs ws : List ℕ) (ok 
   pub filled-stays : (d z x : ℕ) → z < g .zones → x < needed (g .drives) (g .unit) z (zoneLook k z .pointer) d → stays k (dataZone z) ≡ true
   filled-stays d z x hz h = pointed-stays g k z (r .logging .within) hz (λ e. let q : needed (g .drives) (g .unit) z (zoneLook k z .pointer) d ≡ 0 = rw e (needed-zero (g .drives) (g .unit) z (omega (arith, ok .drives-least)) (ok .unit-least) d) in omega arith)
 
-  pub fill-zone-in : (d z : ℕ) → d < g .drives → z < g .zones → StoresIn g (stays k) (fillZone g (shownAt g here k xs ps) (readDevice g xs ps) d z)
+  fill-zone-in : (d z : ℕ) → d < g .drives → z < g .zones → StoresIn g (stays k) (fillZone g (shownAt g here k xs ps) (readDevice g xs ps) d z)
   fill-zone-in d z hd hz = go (decLt (length (readDevice g xs ps d (dataZone z) .sectors)) (needed (g .drives) (g .unit) z (zoneLook k z .pointer) d))
     where
       go : Dec (length (readDevice g xs ps d (dataZone z) .sectors) < needed (g .drives) (g .unit) z (zoneLook k z .pointer) d) → StoresIn g (stays k) (fillZone g (shownAt g here k xs ps) (readDevice g xs ps) d z)

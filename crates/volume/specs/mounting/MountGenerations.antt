@@ -20,7 +20,7 @@ use Rattle.tables.specs.laws.Lists.{numbers-same}
 use Rattle.tables.specs.meaning.LittleEndian.{sameBytes, readLE}
 use Rattle.tables.specs.laws.LittleEndian.{same-bytes-eq, same-bytes-refl}
 use Rattle.tables.specs.meaning.Geometry.{Valid}
-use Rattle.tables.specs.meaning.Device.{Device, Store}
+use Rattle.tables.specs.meaning.Device.{Store}
 use Rattle.logs.specs.meaning.Entry.{generalZone, counters}
 use Rattle.logs.specs.meaning.Walk.{walkLog}
 use Rattle.logs.specs.code.Query.{headsOf}
@@ -31,7 +31,7 @@ use Rattle.logs.specs.laws.Legal.{header-long}
 use Rattle.volume.specs.declared.Look.{Look}
 use Rattle.volume.specs.meaning.State.{isEmpty}
 use Rattle.volume.specs.meaning.Calls.{appendGeneral, generationsFrom}
-use Rattle.volume.specs.meaning.Mount.{nextGeneration, countersDiffer, counterStep}
+use Rattle.volume.specs.meaning.Mount.{nextGeneration, counterStep}
 use Rattle.volume.specs.rows.KeptBelow.{StoresIn, each-in}
 use Rattle.volume.specs.mounting.MountLook.{zoneLook, shownBy, stays, log-stays}
 
@@ -48,19 +48,19 @@ same-numbers xs ys n p q = go (sameBytes xs ys) refl (allBelow (λ z. eqb (getD 
         absurd (true≢false (sym (same-bytes-refl ys) ∙ rw s at e))
 
 -- of two drives' last counters
-pub same-one-none : (xs ys : List ℕ) → xs ≡ [] → ys ≢ [] → sameBytes xs ys ≡ false
+same-one-none : (xs ys : List ℕ) → xs ≡ [] → ys ≢ [] → sameBytes xs ys ≡ false
 same-one-none xs [] e f = absurd (f refl)
 same-one-none xs (y ∷ ys) e f = rw e refl
 
-pub same-none-one : (xs ys : List ℕ) → ys ≡ [] → xs ≢ [] → sameBytes xs ys ≡ false
+same-none-one : (xs ys : List ℕ) → ys ≡ [] → xs ≢ [] → sameBytes xs ys ≡ false
 same-none-one [] ys e f = absurd (f refl)
 same-none-one (x ∷ xs) ys e f = rw e refl
 
-pub long-some : (xs : List ℕ) (n : ℕ) → length xs ≡ n → 1 ≤ n → xs ≢ []
+long-some : (xs : List ℕ) (n : ℕ) → length xs ≡ n → 1 ≤ n → xs ≢ []
 long-some xs n e h q = absurd (let l : length xs ≡ 0 = ap length q in omega arith)
 
 -- ---- the generations, as the array that the code fills
-pub generations-list : (f : ℕ → ℕ) (i n : ℕ) → generationsFrom f i n ≡ tabulate (λ k. f (i + k)) n
+generations-list : (f : ℕ → ℕ) (i n : ℕ) → generationsFrom f i n ≡ tabulate (λ k. f (i + k)) n
 generations-list f i zero = refl
 generations-list f i (suc n) = front f i n (generations-list f (suc i) n)
   where
@@ -102,23 +102,23 @@ filled-take f n = take-at (tabulate f n) (replicate (16 - n) 0) n (length-tabula
         same p q (suc m) h = ap₂ (λ (l : List ℕ) (x : ℕ). l ++ (x ∷ [])) (same p q m h) (h m)
 
 -- ---- the step
-unfoldable pub countersDue : Geometry → (ℕ → Bool) → Look → Device → Bool
-countersDue g a k w = anyBelow (λ z. isEmpty (zoneLook k z .condition)) (g .zones) || countersDiffer g a w
+unfoldable pub countersDue : Geometry → Look → Bool → Bool
+countersDue g k differ = anyBelow (λ z. isEmpty (zoneLook k z .condition)) (g .zones) || differ
 
 -- the counters on the drives below m
 abbrev pub counterStores : Geometry → List ℕ → ℕ → List Store
 counterStores g cs m = eachBelow (λ d. appendGeneral g (counters cs) d) m
 
-pub counter-steps : (g : Geometry) (a : ℕ → Bool) (k : Look) (w : Device) → counterStep g a (shownBy k) w ≡ pick (countersDue g a k w) (counterStores g (generationsFrom (nextGeneration (shownBy k)) zero (g .zones)) (g .drives)) []
+pub counter-steps : (g : Geometry) (k : Look) (differ : Bool) → counterStep g (shownBy k) differ ≡ pick (countersDue g k differ) (counterStores g (generationsFrom (nextGeneration (shownBy k)) zero (g .zones)) (g .drives)) []
 unfolding counterStep countersDue
-counter-steps g a k w = refl
+counter-steps g k differ = refl
 
 pub counters-in : (g : Geometry) (k : Look) (cs : List ℕ) (m : ℕ) → Valid g → length cs ≡ g .zones → m ≤ g .drives → StoresIn g (stays k) (counterStores g cs m)
 counters-in g k cs m ok l h = each-in g (stays k) (λ d. appendGeneral g (counters cs) d) m (λ d q. ((omega arith, omega arith, header-long g d (counters cs) ok l, log-stays k generalZone (omega arith)), tt))
 
 -- ---- two drives' last counters, by where they stand
 module _ (g : Geometry) (d e : ℕ) (ss ts : List (List ℕ)) (some : 1 ≤ g .zones) where
-  abbrev pub sameLast : Bool
+  abbrev sameLast : Bool
   sameLast = sameBytes (lastCounters [] (headsOf (walkLog g d false ss))) (lastCounters [] (headsOf (walkLog g e false ts)))
 
   pub same-if-none : countersPlace g d ss ≡ zero → eqb (countersPlace g e ts) 0 ≡ sameLast

@@ -112,13 +112,13 @@ pub header-made : (g : Geometry) (kind : HeaderKind) (k : Look) (w : Device) (a 
 header-made g kind k w a d z e f = rw f (general-one a d (encode g d (headerFor kind k z)) true e)
 
 -- ---- they are appends to general logs
-pub header-for-long : (g : Geometry) (d : ℕ) (kind : HeaderKind) (k : Look) (z : ℕ) → Valid g → length (encode g d (headerFor kind k z)) ≡ g .sector
+header-for-long : (g : Geometry) (d : ℕ) (kind : HeaderKind) (k : Look) (z : ℕ) → Valid g → length (encode g d (headerFor kind k z)) ≡ g .sector
 header-for-long g d Label k z ok = header-long g d (label (k .lost) (k .array)) ok tt
 header-for-long g d Reset k z ok = header-long g d (zoneReset z (zoneLook k z .generation)) ok tt
 header-for-long g d Seal k z ok = header-long g d (seal z (zoneLook k z .pointer) (zoneLook k z .generation)) ok tt
 
 module _ (g : Geometry) (kind : HeaderKind) (k : Look) (w : Device) (a : ℕ → Bool) (ok : Valid g) where
-  pub header-in : (d z : ℕ) → d < g .drives → StoresIn g (stays k) (headerStores g kind k w d z)
+  header-in : (d z : ℕ) → d < g .drives → StoresIn g (stays k) (headerStores g kind k w d z)
   header-in d z hd = pick-in g (stays k) (headerDue g kind k w d z) (appendGeneral g (headerFor kind k z) d) (λ e. ((hd, omega arith, header-for-long g d kind k z ok, log-stays k generalZone (omega arith)), tt))
 
   pub header-row-in : (d n : ℕ) → d < g .drives → StoresIn g (stays k) (onPresent a (eachBelow (headerStores g kind k w d) n))

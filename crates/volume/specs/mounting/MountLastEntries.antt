@@ -14,14 +14,14 @@ use Rattle.tables.specs.declared.Geometry.{Geometry}
 use Rattle.tables.specs.meaning.Basics.{pick}
 use Rattle.tables.specs.laws.Basics.{and-split}
 use Rattle.tables.specs.meaning.Below.{eachBelow, tabulateFrom}
-use Rattle.tables.specs.meaning.Lists.{anyOf}
-use Rattle.tables.specs.meaning.Geometry.{Valid, stripeSectors, cells}
+use Rattle.tables.specs.meaning.Lists.{anyOf, isNil}
+use Rattle.tables.specs.meaning.Geometry.{Valid, stripeSectors, zoneSectors, cells, totalBytes}
 use Rattle.tables.specs.meaning.Placement.{stripeOf}
-use Rattle.tables.specs.meaning.Device.{Device, Store, append}
-use Rattle.tables.specs.meaning.Phases.{onPresent}
-use Rattle.tables.specs.meaning.Tables.{Tables, tablesOf, deviceOf, cell}
+use Rattle.tables.specs.meaning.Device.{Store, append}
+use Rattle.tables.specs.meaning.Phases.{flushAll, onPresent}
+use Rattle.tables.specs.meaning.Tables.{tablesOf, cell}
 use Rattle.tables.specs.laws.Made.{MadeAppends}
-use Rattle.logs.specs.meaning.Entry.{parityZone, Header, partialParity, Entry, encode, frame}
+use Rattle.logs.specs.meaning.Entry.{parityZone, Header, label, counters, zoneReset, partialParity, seal, closing, Entry, encode, frame}
 use Rattle.logs.specs.meaning.Heads.{endsAt}
 use Rattle.logs.specs.code.Query.{headOf, headsOf}
 use Rattle.logs.specs.meaning.Walk.{walkLog, sectorsOf}
@@ -30,38 +30,36 @@ use Rattle.volume.specs.declared.Look.{Look}
 use Rattle.volume.specs.meaning.Content.{rowXorBelow, insideStripe, fillOf, parityDriveAt, entryHeader, entryAt}
 use Rattle.volume.specs.meaning.Rules.{Shown, parityEntries}
 use Rattle.volume.specs.meaning.Calls.{appendAll}
-use Rattle.volume.specs.meaning.Mount.{entryStep}
-use Rattle.volume.specs.looking.KnowingLaws.{sectors-alike}
+use Rattle.volume.specs.meaning.Mount.{withFlush}
 use Rattle.volume.specs.rows.RowStores.{present-all, rowsIf, rows-in}
-use Rattle.volume.specs.rows.KeptBelow.{StoresIn, each-in, pick-in, Behind, made-keeps, kept-device}
+use Rattle.volume.specs.rows.SameShape.{SameShape, withLogs, shape-refl, by-shape, shape-valid, shape-cells, shape-bytes}
+use Rattle.volume.specs.rows.KeptBelow.{StoresIn, each-in, pick-in, Behind, stores-in-same, stored-keeps}
 use Rattle.volume.specs.mounting.MountTables.{seen-sectors}
-use Rattle.volume.specs.mounting.MountLook.{zoneLook, shownWith, stays, log-stays}
-use Rattle.volume.specs.mounting.MountValues.{shownAt, limitAt, Restoring}
+use Rattle.volume.specs.mounting.MountLook.{zoneLook, LookWithin}
+use Rattle.volume.specs.mounting.MountValues.{shownAt, limitAt}
 use Rattle.volume.specs.laws.KnownLengths.{known-row-long}
-use Rattle.volume.specs.mounting.MountRestoring.{Filling, filling, filled}
+use Rattle.volume.specs.mounting.MountRows.{KnownBelow}
+use Rattle.volume.specs.mounting.MountReady.{Appending, appending-kept}
 use Rattle.volume.specs.looking.Knowing.{readDevice}
 
--- ---- what the code relies on: as in the steps before, and that nothing was reset since the step began, with pointers ss
-pub record Entering (g : Geometry) (here : List Bool) (k : Look) (ps ss xs ws : List ℕ) : Type 0 where
-  pub fills : Filling g here k ps xs ws
-  pub starts-long : length ss ≡ cells g
-  pub starts-behind : Behind g (stays k) ss ws
+-- the zones to which the step stores
+abbrev pub onParity : ℕ → Bool
+onParity y = eqb y parityZone
 
-pub entering : (g : Geometry) (here : List Bool) (k : Look) (ps ss : List ℕ) (t : Tables) → ss ≡ t .written → Restoring g here k ps t → Entering g here k ps ss (t .sectors) (t .written)
-entering g here k ps ss t e r = record {
-  fills = filling g here k ps t r;
-  starts-long = ap (λ (l : List ℕ). length l) e ∙ r .logging .written-long;
-  starts-behind = rw e (record { least = λ d z hd hz hb. le-refl (getD (t .written) (cell g d z) 0) });
-}
+-- ---- what the code relies on: the look's values, and parity logs that lie by `to` where the step began, with pointers ss
+pub record Entering (g to : Geometry) (here : List Bool) (k : Look) (ps ss xs ws : List ℕ) : Type 0 where
+  pub appends : Appending g to here k parityZone ps xs ws
+  pub starts-long : length ss ≡ cells g
+  pub starts-behind : Behind to onParity ss ws
 
 -- and it can go on relying on it: the look's device is the same, and so is that of the step's beginning
-pub entered : (g : Geometry) (here : List Bool) (k : Look) (budget rest : ℕ) (stores : List Store) (ps ss xs ws xs′ ws′ : List ℕ) → Entering g here k ps ss xs ws → StoresIn g (stays k) stores → MadeAppends g budget rest stores xs ws xs′ ws′
-    → Entering g here k ps ss xs′ ws′ × (readDevice g xs′ ps ≡ readDevice g xs ps) × (readDevice g xs′ ss ≡ readDevice g xs ss)
-entered g here k budget rest stores ps ss xs ws xs′ ws′ n p m =
-    let l = n .fills .logging in
-    let (f, e) = filled g here k budget rest stores ps xs ws xs′ ws′ (n .fills) p m in
-    let h = made-keeps g (stays k) budget rest stores ss (tablesOf xs ws ws) (tablesOf xs′ ws′ ws) p (record { sectors-long = l .sectors-long; written-long = l .written-long; durable-long = l .written-long }) (n .starts-behind) (m .made ws) in
-    (record { fills = f; starts-long = n .starts-long; starts-behind = h .behind }, e, kept-device g ss xs xs′ [] (h .bytes))
+pub entered : (g to : Geometry) (here : List Bool) (k : Look) (budget rest : ℕ) (stores : List Store) (ps ss xs ws xs′ ws′ : List ℕ) → Entering g to here k ps ss xs ws → StoresIn g onParity stores → MadeAppends to budget rest stores xs ws xs′ ws′
+    → Entering g to here k ps ss xs′ ws′ × (readDevice g xs′ ps ≡ readDevice g xs ps) × (readDevice to xs′ ss ≡ readDevice to xs ss)
+entered g to here k budget rest stores ps ss xs ws xs′ ws′ n p m =
+    let a = n .appends in
+    let (f, e) = appending-kept g to here k parityZone budget rest stores ps xs ws xs′ ws′ a p m in
+    let h = stored-keeps to to onParity budget rest stores ss xs ws xs′ ws′ (shape-refl to) (stores-in-same g to (a .shape) onParity stores p) (a .sectors-long ∙ sym (shape-bytes g to (a .shape))) (a .written-long ∙ sym (shape-cells g to (a .shape))) (n .starts-behind) m in
+    (record { appends = f; starts-long = n .starts-long; starts-behind = h .behind }, e, h .device)
 
 -- ---- when an entry is due on drive d for zone z; es: the whole entries of its parity log
 unfoldable pub entryDue : Geometry → Look → List Entry → ℕ → ℕ → Bool
@@ -78,24 +76,8 @@ zoneEntryStores g k s es d z = pick (entryDue g k es d z) (newEntry g s d z) []
 abbrev pub entryStoresBelow : Geometry → Look → Shown → (ℕ → List Entry) → ℕ → List Store
 entryStoresBelow g k s es m = eachBelow (λ d. eachBelow (zoneEntryStores g k s (es d) d) (g .zones)) m
 
-entry-steps : (g : Geometry) (k : Look) (value : ℕ → ℕ → List ℕ) (u : Device) → entryStep g (shownWith k value) u ≡ entryStoresBelow g k (shownWith k value) (parityEntries g u) (g .drives)
-unfolding entryStep entryDue
-entry-steps g k value u = refl
-
--- durable pointers play no part
-entries-durable : (g : Geometry) (xs ws ds : List ℕ) → parityEntries g (deviceOf g (tablesOf xs ws ds)) ≡ parityEntries g (readDevice g xs ws)
-unfolding parityEntries
-entries-durable g xs ws ds = fun-ext λ d. ap (λ (ss : List (List ℕ)). walkLog g d true ss .entries) (sectors-alike g xs ws ds d parityZone)
-
--- THE STEP, as the code makes it
-pub entry-step-is : (g : Geometry) (here : List Bool) (k : Look) (ps ss xs ws ds : List ℕ) → ss ≡ ws
-    → entryStep g (shownAt g here k xs ps) (deviceOf g (tablesOf xs ws ds)) ≡ entryStoresBelow g k (shownAt g here k xs ps) (parityEntries g (readDevice g xs ss)) (g .drives)
-entry-step-is g here k ps ss xs ws ds e =
-    entry-steps g k (λ z. shownAt g here k xs ps .zone z .value) (deviceOf g (tablesOf xs ws ds))
-    ∙ ap (λ (es : ℕ → List Entry). entryStoresBelow g k (shownAt g here k xs ps) es (g .drives)) (entries-durable g xs ws ds ∙ ap (λ (l : List ℕ). parityEntries g (readDevice g xs l)) (sym e))
-
 -- ---- the parity log of a drive, of n sectors
-pub seen-entries : (g : Geometry) (xs ps : List ℕ) (d : ℕ) → d < g .drives → parityEntries g (readDevice g xs ps) d ≡ walkLog g d true (logSectors g d parityZone xs (min (getD ps (cell g d parityZone) 0) (g .capacity))) .entries
+seen-entries : (g : Geometry) (xs ps : List ℕ) (d : ℕ) → d < g .drives → parityEntries g (readDevice g xs ps) d ≡ walkLog g d true (logSectors g d parityZone xs (min (getD ps (cell g d parityZone) 0) (g .capacity))) .entries
 unfolding parityEntries
 seen-entries g xs ps d hd = ap (λ (ss : List (List ℕ)). walkLog g d true ss .entries) (seen-sectors g (tablesOf xs ps []) d parityZone hd (omega arith))
 
@@ -131,6 +113,36 @@ module _ (g : Geometry) (k : Look) (d z : ℕ) where
   due-inside es e = ltb-true (stripeOf (g .drives) (g .unit) (zoneLook k z .pointer) * stripeSectors g) (zoneLook k z .pointer)
       (and-split (insideStripe g (zoneLook k z .pointer)) (eqb d (parityDriveAt g z (zoneLook k z .pointer)) && not (anyOf (λ (e : Entry). endsAt g z (zoneLook k z .generation) (zoneLook k z .pointer) (e .head)) es)) e .0)
 
+-- ---- the same wherever the logs lie
+ends-same : (g : Geometry) (l z n q : ℕ) (h : Header) → endsAt (withLogs g l) z n q h ≡ endsAt g z n q h
+ends-same g l z n q (label x a) = refl
+ends-same g l z n q (counters cs) = refl
+ends-same g l z n q (zoneReset y m) = refl
+ends-same g l z n q (partialParity y s f m) = refl
+ends-same g l z n q (seal y p m) = refl
+ends-same g l z n q (closing kind gen) = refl
+
+pub due-same : (g to : Geometry) → SameShape g to → (k : Look) (es : List Entry) (d z : ℕ) → entryDue to k es d z ≡ entryDue g k es d z
+unfolding entryDue
+due-same g to same k es d z =
+    let p = zoneLook k z .pointer in
+    let n = zoneLook k z .generation in
+    by-shape g to same (λ (x : Geometry). entryDue x k es d z ≡ entryDue g k es d z)
+    (ap (λ (t : Header → Bool). insideStripe g p && (eqb d (parityDriveAt g z p) && not (anyOf (λ (e : Entry). t (e .head)) es))) (fun-ext (ends-same g (to .logs) z n p)))
+
+within-same : (g to : Geometry) → SameShape g to → (k : Look) → LookWithin g k → LookWithin to k
+unfolding zoneSectors
+within-same g to same k w = by-shape g to same (λ (x : Geometry). LookWithin x k) (record { lost-small = w .lost-small; pointer-most = w .pointer-most; generation-small = w .generation-small; raises = w .raises; reset-empty = w .reset-empty })
+
+-- what asking for it relies on
+pub due-placed : (g to : Geometry) → SameShape g to → (k : Look) (xs ss : List ℕ) (d z : ℕ) → Valid g → d < g .drives → z < g .zones → length xs ≡ totalBytes g → length ss ≡ cells g → LookWithin g k
+    → Valid to × ((d < to .drives) × (z < to .zones) × (length xs ≡ totalBytes to) × (length ss ≡ cells to) × LookWithin to k)
+due-placed g to same k xs ss d z ok hd hz lx ls w =
+    (shape-valid g to same ok, (rw (same .drives-same) hd, rw (same .zones-same) hz, lx ∙ sym (shape-bytes g to same), ls ∙ sym (shape-cells g to same), within-same g to same k w))
+
+pub with-flush-same : (g to : Geometry) → SameShape g to → (a : ℕ → Bool) (ss : List Store) → withFlush to a ss ≡ withFlush g a ss
+with-flush-same g to same a ss = ap (λ (n : ℕ). onPresent a ss ∷ pick (isNil (onPresent a ss)) [] (onPresent a (flushAll n)) ∷ []) (same .drives-same)
+
 -- ---- one entry on the present drives
 module _ (g : Geometry) (k : Look) (s : Shown) (es : List Entry) (a : ℕ → Bool) (d z : ℕ) where
   new-present : onPresent a (newEntry g s d z) ≡ pick (a d) (newEntry g s d z) []
@@ -161,34 +173,30 @@ header-in g b d z s f n ok hd hb = ((hd, omega arith, partial-long g d z s f n o
 abbrev pub entryRows : Geometry → (ℕ → List ℕ) → ℕ → ℕ → List Store
 entryRows g S d p = rowsIf true d parityZone (rowXorBelow (g .drives) (g .unit) S (stripeOf (g .drives) (g .unit) p) p) 0 (min (fillOf g p) (g .unit))
 
-abbrev pub entryParts : Geometry → ℕ → ℕ → ℕ → (ℕ → List ℕ) → ℕ → List Store
+abbrev entryParts : Geometry → ℕ → ℕ → ℕ → (ℕ → List ℕ) → ℕ → List Store
 entryParts g d z n S p = (append d parityZone (encode g d (entryHeader g z n p)) ∷ []) ++ entryRows g S d p
 
 pub entry-parts : (g : Geometry) (d z n : ℕ) (S : ℕ → List ℕ) (p : ℕ) → appendAll d parityZone (sectorsOf g d true (entryAt g z n S p)) ≡ entryParts g d z n S p
 unfolding entryAt
 entry-parts g d z n S p = ap (λ (m : ℕ). append d parityZone (encode g d (entryHeader g z n p)) ∷ appendAll d parityZone (tabulateFrom (rowXorBelow (g .drives) (g .unit) S (stripeOf (g .drives) (g .unit) p) p) 0 m)) (sym (sub-zero (min (fillOf g p) (g .unit))))
 
-module _ (g : Geometry) (here : List Bool) (k : Look) (ps xs ws : List ℕ) (ok : Valid g) (fill : Filling g here k ps xs ws) where
-  new-in : (d z : ℕ) → d < g .drives → z < g .zones → stripeOf (g .drives) (g .unit) (zoneLook k z .pointer) * stripeSectors g < zoneLook k z .pointer → StoresIn g (stays k) (newEntry g (shownAt g here k xs ps) d z)
+module _ (g : Geometry) (here : List Bool) (k : Look) (ps xs : List ℕ) (ok : Valid g)
+    (known-below : (z : ℕ) → z < g .zones → KnownBelow g here xs ps z (zoneLook k z .generation) (limitAt g here k xs ps z) (zoneLook k z .pointer)) where
+  new-in : (d z : ℕ) → d < g .drives → z < g .zones → stripeOf (g .drives) (g .unit) (zoneLook k z .pointer) * stripeSectors g < zoneLook k z .pointer → StoresIn g onParity (newEntry g (shownAt g here k xs ps) d z)
   new-in d z hd hz l =
       let p = zoneLook k z .pointer in
       let n = zoneLook k z .generation in
-      let b = log-stays k parityZone (omega arith) in
-      subst (λ (stores : List Store). StoresIn g (stays k) stores) (sym (entry-parts g d z n (shownAt g here k xs ps .zone z .value) p)) (
-        header-in g (stays k) d z (stripeOf (g .drives) (g .unit) p) (fillOf g p) n ok hd b .0,
-        rows-in g (stays k) true d parityZone (rowXorBelow (g .drives) (g .unit) (shownAt g here k xs ps .zone z .value) (stripeOf (g .drives) (g .unit) p) p) 0 (min (fillOf g p) (g .unit)) hd (omega arith) b
-            (λ _ r h. known-row-long g ok here xs ps z n (limitAt g here k xs ps z) p (fill .known-below z hz) (stripeOf (g .drives) (g .unit) p) r (omega arith) (omega (arith, l, h))),
+      subst (λ (stores : List Store). StoresIn g onParity stores) (sym (entry-parts g d z n (shownAt g here k xs ps .zone z .value) p)) (
+        header-in g onParity d z (stripeOf (g .drives) (g .unit) p) (fillOf g p) n ok hd refl .0,
+        rows-in g onParity true d parityZone (rowXorBelow (g .drives) (g .unit) (shownAt g here k xs ps .zone z .value) (stripeOf (g .drives) (g .unit) p) p) 0 (min (fillOf g p) (g .unit)) hd (omega arith) refl
+            (λ _ r h. known-row-long g ok here xs ps z n (limitAt g here k xs ps z) p (known-below z hz) (stripeOf (g .drives) (g .unit) p) r (omega arith) (omega (arith, l, h))),
       )
 
-  pub entry-in : (es : List Entry) (d z : ℕ) → d < g .drives → z < g .zones → StoresIn g (stays k) (zoneEntryStores g k (shownAt g here k xs ps) es d z)
-  entry-in es d z hd hz = pick-in g (stays k) (entryDue g k es d z) (newEntry g (shownAt g here k xs ps) d z) (λ e. new-in d z hd hz (due-inside g k d z es e))
+  entry-in : (es : List Entry) (d z : ℕ) → d < g .drives → z < g .zones → StoresIn g onParity (zoneEntryStores g k (shownAt g here k xs ps) es d z)
+  entry-in es d z hd hz = pick-in g onParity (entryDue g k es d z) (newEntry g (shownAt g here k xs ps) d z) (λ e. new-in d z hd hz (due-inside g k d z es e))
 
-  pub drive-entries-in : (es : List Entry) (d n : ℕ) → d < g .drives → n ≤ g .zones → StoresIn g (stays k) (eachBelow (zoneEntryStores g k (shownAt g here k xs ps) es d) n)
-  drive-entries-in es d n hd hn = each-in g (stays k) (zoneEntryStores g k (shownAt g here k xs ps) es d) n (λ z h. entry-in es d z hd (omega arith))
+  pub drive-entries-in : (es : List Entry) (d n : ℕ) → d < g .drives → n ≤ g .zones → StoresIn g onParity (eachBelow (zoneEntryStores g k (shownAt g here k xs ps) es d) n)
+  drive-entries-in es d n hd hn = each-in g onParity (zoneEntryStores g k (shownAt g here k xs ps) es d) n (λ z h. entry-in es d z hd (omega arith))
 
-  pub entries-below-in : (es : ℕ → List Entry) (m : ℕ) → m ≤ g .drives → StoresIn g (stays k) (entryStoresBelow g k (shownAt g here k xs ps) es m)
-  entries-below-in es m h = each-in g (stays k) (λ d. eachBelow (zoneEntryStores g k (shownAt g here k xs ps) (es d) d) (g .zones)) m (λ d l. drive-entries-in (es d) d (g .zones) (omega arith) (le-refl (g .zones)))
-
-  -- THE STORES OF STEP 8 leave alone what lies below the look's pointers
-  pub entries-in : (u : Device) → StoresIn g (stays k) (entryStep g (shownAt g here k xs ps) u)
-  entries-in u = rw (entry-steps g k (λ z. shownAt g here k xs ps .zone z .value) u) (entries-below-in (parityEntries g u) (g .drives) (le-refl (g .drives)))
+  pub entries-below-in : (es : ℕ → List Entry) (m : ℕ) → m ≤ g .drives → StoresIn g onParity (entryStoresBelow g k (shownAt g here k xs ps) es m)
+  entries-below-in es m h = each-in g onParity (λ d. eachBelow (zoneEntryStores g k (shownAt g here k xs ps) (es d) d) (g .zones)) m (λ d l. drive-entries-in (es d) d (g .zones) (omega arith) (le-refl (g .zones)))

@@ -35,7 +35,7 @@ reset-one a needed d y = go (a d) refl needed
     go false e false = refl
 
 -- they touch no zone that stays
-pub zone-resets-in : (g : Geometry) (k : Look) (d n : ℕ) → d < g .drives → n ≤ g .zones → StoresIn g (stays k) (zoneResets k d n)
+zone-resets-in : (g : Geometry) (k : Look) (d n : ℕ) → d < g .drives → n ≤ g .zones → StoresIn g (stays k) (zoneResets k d n)
 zone-resets-in g k d n hd hn = each-in g (stays k) (λ z. pick (resetNeeded (zoneLook k z)) (reset d (dataZone z) ∷ []) []) n (λ z h. pick-in g (stays k) (resetNeeded (zoneLook k z)) (reset d (dataZone z) ∷ []) (λ e. ((hd, omega arith, data-stays k z ∙ rw e refl), tt)))
 
 pub zone-reset-steps-in : (g : Geometry) (k : Look) (m : ℕ) → m ≤ g .drives → StoresIn g (stays k) (eachBelow (λ d. zoneResets k d (g .zones)) m)

@@ -19,7 +19,7 @@ use Rattle.volume.specs.mounting.MountValues.{limitAt, Restoring}
 use Rattle.volume.specs.looking.Knowing.{readDevice}
 
 -- what is known stays known where the device of the look is the same
-below-kept : (g : Geometry) (here : List Bool) (k : Look) (ps xs ys : List ℕ) (z : ℕ) → length ys ≡ totalBytes g → readDevice g ys ps ≡ readDevice g xs ps
+pub below-kept : (g : Geometry) (here : List Bool) (k : Look) (ps xs ys : List ℕ) (z : ℕ) → length ys ≡ totalBytes g → readDevice g ys ps ≡ readDevice g xs ps
     → KnownBelow g here xs ps z (zoneLook k z .generation) (limitAt g here k xs ps z) (zoneLook k z .pointer) → KnownBelow g here ys ps z (zoneLook k z .generation) (limitAt g here k ys ps z) (zoneLook k z .pointer)
 below-kept g here k ps xs ys z l e b =
     let q = known-kept g here xs ys ps z (zoneLook k z .generation) (limitAt g here k xs ps z) (zoneLook k z .pointer) l e b in

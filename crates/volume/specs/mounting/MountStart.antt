@@ -3,10 +3,9 @@ use mathlib.Core.Path.{_≡_, refl, sym, ap, _∙_}
 use mathlib.Core.Logic.{_≢_, _⊎_, inl, inr}
 use mathlib.Core.Bool.{Bool, true, false, _||_, not, true≢false}
 use Prim.Native.Nat.{ℕ, zero, suc, _-_, _^_, _≤_, _<_, min, zero-le}
-use native.Mathlib.Nat.{le-refl}
 use native.Mathlib.Omega.{arith}
 use mathlib.Core.List.{List}
-use lib.ListN.{length, getD}
+use lib.ListN.{length}
 use lib.Dec.{eqb}
 use borrow.Author.Tests.{eq-eqb}
 use Rattle.tables.specs.declared.Geometry.{Geometry}
@@ -16,7 +15,7 @@ use Rattle.tables.specs.laws.Drives.{find-below-is}
 use Rattle.tables.specs.laws.Greatest.{greatest-le, greatest-all}
 use Rattle.tables.specs.meaning.Geometry.{Valid, zoneSectors, cells}
 use Rattle.tables.specs.meaning.Device.{Device}
-use Rattle.tables.specs.meaning.Tables.{tablesOf, cell}
+use Rattle.tables.specs.meaning.Tables.{tablesOf}
 use Rattle.logs.specs.meaning.Entry.{wornGeneration}
 use Rattle.volume.specs.declared.Condition.the-variants.{Empty, Open, Sealed, Worn}
 use Rattle.volume.specs.declared.ZoneLook.{ZoneLook}
@@ -28,7 +27,8 @@ use Rattle.volume.specs.looking.DrivesLost.{fill-at}
 use Rattle.volume.specs.looking.ZoneLooking.{pointer-reset}
 use Rattle.volume.specs.looking.Looking.{looksFrom, lookOf, Lookable, lookable-zone}
 use Rattle.volume.specs.laws.GenerationRange.{generation-range}
-use Rattle.volume.specs.mounting.MountLook.{blankLook, zoneLook, zoneWith, LookShows, LookWithin}
+use Rattle.volume.specs.rows.KeptBelow.{Behind}
+use Rattle.volume.specs.mounting.MountLook.{blankLook, zoneLook, zoneWith, LookShows, LookWithin, stays}
 use Rattle.volume.specs.mounting.MountRows.{valuesOf}
 use Rattle.volume.specs.mounting.MountValues.{shownAt, Restoring}
 
@@ -85,7 +85,7 @@ module _ (g : Geometry) (ok : Valid g) (here : List Bool) (xs ws : List ℕ) whe
   unfolding showing
   zone-here z h = look-of-zone g shownHere z h
 
-  pub generation-here : (z : ℕ) → z < g .zones → zoneLook (lookOf g shownHere) z .generation ≡ generationOf g (isSet here) (readDevice g xs ws) z
+  generation-here : (z : ℕ) → z < g .zones → zoneLook (lookOf g shownHere) z .generation ≡ generationOf g (isSet here) (readDevice g xs ws) z
   unfolding zoneShown zoneAt
   generation-here z h = ap (λ (l : ZoneLook). l .generation) (zone-here z h)
 
@@ -99,7 +99,11 @@ module _ (g : Geometry) (ok : Valid g) (here : List Bool) (xs ws : List ℕ) whe
 
   empty-here : (z : ℕ) → z < g .zones → isEmpty (zoneLook (lookOf g shownHere) z .condition) ≡ true → generationOf g (isSet here) (readDevice g xs ws) z ≢ wornGeneration
   unfolding zoneShown zoneAt
-  empty-here z h e = empty-fresh (generationOf g (isSet here) (readDevice g xs ws) z) (pointerAt g (isSet here) (readDevice g xs ws) z (generationOf g (isSet here) (readDevice g xs ws) z)) (cleanAt g (isSet here) (readDevice g xs ws) z (generationOf g (isSet here) (readDevice g xs ws) z) (pointerAt g (isSet here) (readDevice g xs ws) z (generationOf g (isSet here) (readDevice g xs ws) z))) (sealSeen g (isSet here) (readDevice g xs ws) z (generationOf g (isSet here) (readDevice g xs ws) z)) (sym (ap (λ (l : ZoneLook). isEmpty (l .condition)) (zone-here z h)) ∙ e)
+  empty-here z h e =
+      let v = readDevice g xs ws in
+      let n = generationOf g (isSet here) v z in
+      let p = pointerAt g (isSet here) v z n in
+      empty-fresh n p (cleanAt g (isSet here) v z n p) (sealSeen g (isSet here) v z n) (sym (ap (λ (l : ZoneLook). isEmpty (l .condition)) (zone-here z h)) ∙ e)
 
   -- with the values it is what is shown
   pub shown-at : (z : ℕ) → z < g .zones → shownAt g here (lookOf g shownHere) xs ws .zone z ≡ shownHere .zone z
@@ -126,10 +130,10 @@ module _ (g : Geometry) (ok : Valid g) (here : List Bool) (xs ws : List ℕ) whe
           let n : zoneLook (lookOf g shownHere) z .generation ≢ 2 ^ 64 - 1 = λ q. empty-here z h e (sym (generation-here z h) ∙ q ∙ sym worn-top) in
           omega (arith, small z h, n)
 
-  -- nothing is stored yet
-  pub restoring-start : (ds : List ℕ) → Lookable g here xs ws → length ds ≡ cells g → Restoring g here (lookOf g shownHere) ws (tablesOf xs ws ds)
-  restoring-start ds r l = record {
-    logging = record { sectors-long = r .sectors-long; written-long = r .written-long; pointers-long = r .written-long; within = look-within; behind = record { least = λ d z hd hz b. le-refl (getD ws (cell g d z) 0) } };
+  -- nothing is stored yet (us: the written pointers, behind which the look's are not)
+  pub restoring-from : (us ds : List ℕ) → Lookable g here xs ws → length us ≡ cells g → length ds ≡ cells g → Behind g (stays (lookOf g shownHere)) ws us → Restoring g here (lookOf g shownHere) ws (tablesOf xs us ds)
+  restoring-from us ds r m l b = record {
+    logging = record { sectors-long = r .sectors-long; written-long = m; pointers-long = r .written-long; within = look-within; behind = b };
     durable-long = l;
     known-below = λ z h. record {
       readable = lookable-zone g here xs ws z r h;

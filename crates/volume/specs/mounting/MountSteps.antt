@@ -5,23 +5,25 @@ use mathlib.Core.Bool.{Bool}
 use Prim.Native.Nat.{ℕ, zero}
 use native.Mathlib.Nat.{le-refl}
 use mathlib.Core.List.{List, [], _∷_}
+use lib.ListN.{length}
 use Rattle.tables.specs.declared.Geometry.{Geometry}
 use Rattle.tables.specs.meaning.Lists.{concat}
 use Rattle.tables.specs.laws.Lists.{concat-append}
-use Rattle.tables.specs.meaning.Geometry.{Valid}
+use Rattle.tables.specs.meaning.Geometry.{Valid, cells, totalBytes}
 use Rattle.tables.specs.meaning.Device.{Device, Store}
 use Rattle.tables.specs.meaning.Tables.{Tables, tablesOf}
 use Rattle.tables.specs.laws.Made.{Made}
 use Rattle.tables.specs.laws.Counted.{made-nil, made-append}
 use Rattle.volume.specs.declared.Look.{Look}
+use Rattle.volume.specs.declared.Basis.{Basis}
 use Rattle.volume.specs.declared.mount_logs.HeaderKind.the-variants.{Label, Reset, Seal}
 use Rattle.volume.specs.meaning.Calls.{generationsFrom}
 use Rattle.volume.specs.meaning.CallContracts.{isSet}
 use Rattle.volume.specs.meaning.Mount.{withFlush, withFlushes, zoneResetStep, counterStep, tornRowStep, fillStep, nextGeneration}
 use Rattle.volume.specs.rows.KeptBelow.{StoresIn, pick-in}
 use Rattle.volume.specs.mounting.MountTables.{with-flush-in}
-use Rattle.volume.specs.mounting.MountLook.{shownBy, stays}
-use Rattle.volume.specs.mounting.MountHeaders.{headersBy, headers-in}
+use Rattle.volume.specs.mounting.MountLook.{shownBy, LookWithin, stays}
+use Rattle.volume.specs.mounting.MountHeaders.{headersBy}
 use Rattle.volume.specs.mounting.MountValues.{shownIn, Restoring}
 use Rattle.volume.specs.mounting.MountRestoring.{restoring-kept}
 use Rattle.volume.specs.mounting.MountResets.{zone-reset-steps, zone-reset-steps-in}
@@ -33,8 +35,8 @@ use Rattle.volume.specs.looking.Knowing.{readDevice}
 abbrev pub zoneResetsBy : Geometry → Look → Device → List Store
 zoneResetsBy g k w = zoneResetStep g (shownBy k)
 
-abbrev pub countersBy : Geometry → List Bool → Look → Device → List Store
-countersBy g here k w = counterStep g (isSet here) (shownBy k) w
+abbrev pub countersBy : Geometry → Look → Bool → Device → List Store
+countersBy g k differ w = counterStep g (shownBy k) differ
 
 abbrev pub tornRowsBy : Geometry → List Bool → Look → Device → List Store
 tornRowsBy g here k w = tornRowStep g (shownIn g here k w) w
@@ -60,6 +62,16 @@ step-made g here k ps budget rest step t u r p m =
 pub record ZonesReset (g : Geometry) (here : List Bool) (k : Look) (budget rest : ℕ) (ws ds ws′ ds′ : List ℕ) : Type 0 where
   pub step : (ps xs : List ℕ) → Restoring g here k ps (tablesOf xs ws ds) → StepMade g here k ps budget rest (zoneResetsBy g k) (tablesOf xs ws ds) (tablesOf xs ws′ ds′)
 
+-- the counters: the step that reads nothing below the look's pointers
+pub record CountersMade (g : Geometry) (here : List Bool) (k : Look) (differ : Bool) (budget rest : ℕ) (t u : Tables) : Type 0 where
+  pub step : (ps : List ℕ) → Restoring g here k ps t → StepMade g here k ps budget rest (countersBy g k differ) t u
+
+-- what it relies on
+pub record CountersReady (g : Geometry) (k : Look) (xs ws : List ℕ) : Type 0 where
+  pub sectors-long : length xs ≡ totalBytes g
+  pub written-long : length ws ≡ cells g
+  pub within : LookWithin g k
+
 -- ---- steps in a row
 abbrev pub stepsOn : List (Device → List Store) → Device → List (List Store)
 stepsOn [] w = []
@@ -83,25 +95,21 @@ steps-then {g} {here} {k} {ps} {budget} {mid} {rest} {step} {steps} {t} {u} {v} 
       same-device = b .same-device ∙ a .same-device;
     }
 
+-- ---- STEPS 3 TO 9, by the code's look k (differ: whether the drives' last counters differed at the look)
+abbrev pub stepList : Geometry → List Bool → Look → Bool → List (Device → List Store)
+stepList g here k differ = headersBy g Label k ∷ headersBy g Reset k ∷ zoneResetsBy g k ∷ countersBy g k differ ∷ headersBy g Seal k ∷ tornRowsBy g here k ∷ fillsBy g here k ∷ []
+
+-- they are made, and leave what the steps rely on
+pub record Restored (b : Basis) (ps : List ℕ) (budget rest : ℕ) (t u : Tables) : Type 0 where
+  pub steps : StepsMade (b .geometry) (b .here) ps budget rest (stepList (b .geometry) (b .here) (b .look) (b .differ)) t u
+  pub restoring : Restoring (b .geometry) (b .here) (b .look) ps u
+
 -- ---- the stores of each step leave alone what the look found
-abbrev pub AllIn : Geometry → (ℕ → Bool) → List (List Store) → Type 0
-AllIn g b [] = Unit {0}
-AllIn g b (ss ∷ more) = StoresIn g b ss × AllIn g b more
-
 module _ (g : Geometry) (k : Look) (w : Device) (ok : Valid g) where
-  pub labels-in : StoresIn g (stays k) (headersBy g Label k w)
-  labels-in = headers-in g Label k w ok
-
-  pub reset-entries-in : StoresIn g (stays k) (headersBy g Reset k w)
-  reset-entries-in = headers-in g Reset k w ok
-
   pub resets-in : StoresIn g (stays k) (zoneResetsBy g k w)
   resets-in = rw (zone-reset-steps g k) (zone-reset-steps-in g k (g .drives) (le-refl (g .drives)))
 
-  pub counter-step-in : (a : ℕ → Bool) → StoresIn g (stays k) (counterStep g a (shownBy k) w)
-  counter-step-in a =
+  pub counter-step-in : (differ : Bool) → StoresIn g (stays k) (counterStep g (shownBy k) differ)
+  counter-step-in differ =
       let cs = generationsFrom (nextGeneration (shownBy k)) zero (g .zones) in
-      rw (counter-steps g a k w) (pick-in g (stays k) (countersDue g a k w) (counterStores g cs (g .drives)) (λ e. counters-in g k cs (g .drives) ok (generations-length (nextGeneration (shownBy k)) zero (g .zones)) (le-refl (g .drives))))
-
-  pub seals-in : StoresIn g (stays k) (headersBy g Seal k w)
-  seals-in = headers-in g Seal k w ok
+      rw (counter-steps g k differ) (pick-in g (stays k) (countersDue g k differ) (counterStores g cs (g .drives)) (λ e. counters-in g k cs (g .drives) ok (generations-length (nextGeneration (shownBy k)) zero (g .zones)) (le-refl (g .drives))))

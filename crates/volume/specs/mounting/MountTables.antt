@@ -29,7 +29,7 @@ pub seen-sectors : (g : Geometry) (t : Tables) (d z : ℕ) → d < g .drives →
 unfolding zoneAtCell
 seen-sectors g t d z hd hz = ap (λ (x : ZoneView). x .sectors) (device-in g t d z hd hz)
 
-pub flushes-in : (g : Geometry) (b : ℕ → Bool) (n : ℕ) → n ≤ g .drives → StoresIn g b (flushAll n)
+flushes-in : (g : Geometry) (b : ℕ → Bool) (n : ℕ) → n ≤ g .drives → StoresIn g b (flushAll n)
 flushes-in g b zero h = tt
 flushes-in g b (suc n) h = stores-in-append g b (flushAll n) (flush n ∷ []) (flushes-in g b n (omega arith)) (omega arith, tt)
 

@@ -19,8 +19,8 @@ use Rattle.tables.specs.meaning.Device.{Device, Store}
 use Rattle.tables.specs.meaning.Phases.{onPresent}
 use Rattle.tables.specs.meaning.Tables.{tablesOf, cell, sectorAt}
 use Rattle.logs.specs.declared.Found.{Found}
-use Rattle.logs.specs.declared.Found.the-variants.{Bad, Label, Counters, Resets, Partial, Seal}
-use Rattle.logs.specs.meaning.Entry.{parityZone, Header, label, counters, zoneReset, partialParity, seal, rowsOf, decode, fitsLog}
+use Rattle.logs.specs.declared.Found.the-variants.{Bad, Label, Counters, Resets, Partial, Seal, Closing}
+use Rattle.logs.specs.meaning.Entry.{parityZone, Header, label, counters, zoneReset, partialParity, seal, closing, rowsOf, decode, fitsLog}
 use Rattle.logs.specs.laws.Entry.{decode-legal}
 use Rattle.logs.specs.laws.Legal.{stripe-ends}
 use Rattle.logs.specs.code.Judge.{found, partial-small}
@@ -52,6 +52,7 @@ missingSeen g k Counters c = []
 missingSeen g k (Resets z n) c = []
 missingSeen g k (Partial z s f n) c = tabulateFrom (rowFor g (k .zone z) s f n) c (min f (g .unit) - c)
 missingSeen g k (Seal z p n) c = []
+missingSeen g k (Closing gen) c = []
 
 -- an entry is completed with true rows if it is current and ends at or below the pointer shown, else with zeros
 abbrev pub zeroRow : Geometry → ℕ → List ℕ
@@ -79,6 +80,7 @@ TornFits g Counters c = Unit {0}
 TornFits g (Resets z n) c = Unit {0}
 TornFits g (Partial z s f n) c = (z < g .zones) × (s * stripeSectors g + f ≤ zoneSectors g) × (c ≤ min f (g .unit))
 TornFits g (Seal z p n) c = Unit {0}
+TornFits g (Closing gen) c = Unit {0}
 
 missing-rows : (g : Geometry) (k : Shown) (h : Header) (rs : List (List ℕ)) → missingRows g k (torn h rs) ≡ missingSeen g k (judge.seen h) (length rs)
 missing-rows g k (label x a) rs = refl
@@ -86,6 +88,7 @@ missing-rows g k (counters cs) rs = refl
 missing-rows g k (zoneReset z n) rs = refl
 missing-rows g k (partialParity z s f n) rs = refl
 missing-rows g k (seal z p n) rs = refl
+missing-rows g k (closing kind gen) rs = refl
 
 torn-fits : (g : Geometry) (d c : ℕ) (h : Header) → Valid g → fitsLog g d true h ≡ true → c < rowsOf g h → TornFits g (judge.seen h) c
 torn-fits g d c (label x a) ok e l = tt
@@ -93,6 +96,7 @@ torn-fits g d c (counters cs) ok e l = tt
 torn-fits g d c (zoneReset z n) ok e l = tt
 torn-fits g d c (partialParity z s f n) ok e l = let k = partial-small g d true z s f n e in (k .0, stripe-ends g s f ok (k .1) (omega (arith, k .2)), omega (arith, l))
 torn-fits g d c (seal z p n) ok e l = tt
+torn-fits g d c (closing kind gen) ok e l = tt
 
 -- where a walk ends at p in a torn entry, that is what the code finds there
 torn-at : (g : Geometry) (k : Shown) (d : ℕ) (ss : List (List ℕ)) (l : Ending) (x p : ℕ) → Valid g → EndsAt g d true ss l x → walkEndAt l x ≡ Torn p
@@ -123,17 +127,17 @@ unfolding tornRowStep
 torn-steps g k w = refl
 
 -- the parity log of a drive, as the look found it
-abbrev pub parityLog : Geometry → List ℕ → List ℕ → ℕ → List (List ℕ)
+abbrev parityLog : Geometry → List ℕ → List ℕ → ℕ → List (List ℕ)
 parityLog g xs ps d = logSectors g d parityZone xs (min (getD ps (cell g d parityZone) 0) (g .capacity))
 
-pub seen-ending : (g : Geometry) (xs ps : List ℕ) (d : ℕ) → d < g .drives → parityEnding g (readDevice g xs ps) d ≡ walkLog g d true (parityLog g xs ps d) .last
+seen-ending : (g : Geometry) (xs ps : List ℕ) (d : ℕ) → d < g .drives → parityEnding g (readDevice g xs ps) d ≡ walkLog g d true (parityLog g xs ps d) .last
 unfolding parityEnding
 seen-ending g xs ps d hd = ap (λ (ss : List (List ℕ)). walkLog g d true ss .last) (seen-sectors g (tablesOf xs ps []) d parityZone hd (omega arith))
 
 pub torn-absent : (g : Geometry) (k : Shown) (w : Device) (a : ℕ → Bool) (d : ℕ) → a d ≡ false → onPresent a (tornStores g k w d) ≡ []
 torn-absent g k w a d e = present-all a d parityZone (missingRows g k (parityEnding g w d)) ∙ ap (λ (b : Bool). pick b (tornStores g k w d) []) e
 
-pub torn-here : (g : Geometry) (k : Shown) (w : Device) (a : ℕ → Bool) (d : ℕ) → a d ≡ true → onPresent a (tornStores g k w d) ≡ tornStores g k w d
+torn-here : (g : Geometry) (k : Shown) (w : Device) (a : ℕ → Bool) (d : ℕ) → a d ≡ true → onPresent a (tornStores g k w d) ≡ tornStores g k w d
 torn-here g k w a d e = present-all a d parityZone (missingRows g k (parityEnding g w d)) ∙ ap (λ (b : Bool). pick b (tornStores g k w d) []) e
 
 -- by the walk of the log's n sectors: it does not end in a torn entry, or it does, at p
@@ -186,8 +190,9 @@ module _ (g : Geometry) (here : List Bool) (k : Look) (ps xs ws : List ℕ) (ok 
   missing-in d c (Resets z n) hd t = tt
   missing-in d c (Partial z s f n) hd t = rows-in g (stays k) true d parityZone (rowFor g (shownAt g here k xs ps .zone z) s f n) c (min f (g .unit)) hd (omega arith) (log-stays k parityZone (omega arith)) (λ _ r h. row-for-long z s f n r (t .0) h)
   missing-in d c (Seal z p n) hd t = tt
+  missing-in d c (Closing gen) hd t = tt
 
-  pub torn-drive-in : (d : ℕ) → d < g .drives → StoresIn g (stays k) (tornStores g (shownAt g here k xs ps) (readDevice g xs ps) d)
+  torn-drive-in : (d : ℕ) → d < g .drives → StoresIn g (stays k) (tornStores g (shownAt g here k xs ps) (readDevice g xs ps) d)
   torn-drive-in d hd = let w = walkLog g d true (parityLog g xs ps d) in rw (seen-ending g xs ps d hd) (go (w .last) (w .position) (walk-places g d true (parityLog g xs ps d) .left))
     where
       go : (l : Ending) (x : ℕ) → EndsAt g d true (parityLog g xs ps d) l x → StoresIn g (stays k) (appendAll d parityZone (missingRows g (shownAt g here k xs ps) l))

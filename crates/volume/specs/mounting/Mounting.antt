@@ -1,57 +1,43 @@
--- A mount on the tables: its refusal, its stores, the state that it hands on; and the laws by which the code's steps are those of the rules.
-use mathlib.Core.Path.{_≡_, refl, sym, ap, ap₂, _∙_, subst}
+-- A mount on the tables: its refusals; what a mount that none of them stopped leaves; the state that it hands on.
+use mathlib.Core.Path.{_≡_, refl, sym, ap, ap₂, _∙_}
 use mathlib.Core.Logic.{_≢_}
 use mathlib.Core.Bool.{Bool, true, false, _||_, not}
-use Prim.Native.Nat.{ℕ, suc, _+_, _-_, _≤_, _<_}
-use native.Mathlib.Decide.{ℕ-discrete}
+use Prim.Native.Nat.{ℕ, suc, _-_, _≤_}
 use native.Mathlib.Omega.{arith}
-use mathlib.Core.List.{List, [], _∷_, _++_, append-assoc}
+use mathlib.Core.List.{List, [], _∷_}
 use lib.ListN.{length}
 use lib.Dec.{eqb}
 use borrow.Author.Tests.{eq-eqb, ne-eqb}
 use Rattle.tables.specs.declared.Geometry.{Geometry}
 use Rattle.tables.specs.meaning.Basics.{pick}
-use Rattle.tables.specs.meaning.Lists.{concat}
-use Rattle.tables.specs.meaning.Drives.{findBelow}
-use Rattle.tables.specs.meaning.Geometry.{Valid, cells, totalBytes}
 use Rattle.tables.specs.meaning.Device.{Device, Store}
-use Rattle.tables.specs.meaning.Phases.{onPresent, flushAll}
+use Rattle.tables.specs.meaning.Geometry.{Valid}
 use Rattle.tables.specs.meaning.GeometryTest.{isValid}
-use Rattle.tables.specs.meaning.Tables.{Tables, tablesOf, cell, deviceOf, runStores, lengthsFit, pointersBad}
+use Rattle.tables.specs.meaning.Tables.{Tables, tablesOf, cell, deviceOf, runStores}
 use Rattle.tables.specs.laws.Made.{Made}
-use Rattle.tables.specs.laws.TablesFrame.{lengths-are}
-use Rattle.logs.specs.meaning.Entry.{generalZone, parityZone}
+use Rattle.tables.specs.laws.Counted.{run-covered}
+use Rattle.tables.specs.laws.PointerOrder.{run-most}
 use Rattle.volume.specs.declared.State.{State}
-use Rattle.volume.specs.declared.Look.{Look}
 use Rattle.volume.specs.declared.Outcome.{Outcome}
 use Rattle.volume.specs.declared.Answer.the-variants.{Finished, Unfinished, Refused}
-use Rattle.volume.specs.meaning.Refusals.{firstRefusal, mountRows, lookRows, twoLost, badLabels, badLogs, mountFull, reserve}
-use Rattle.volume.specs.meaning.Rules.{Shown, showing, isPresent}
-use Rattle.volume.specs.meaning.Mount.{withFlush, withFlushes, stepsBeforeEntries, phasesBeforeEntries, entryStep, afterOpening, mountLook}
-use Rattle.volume.specs.meaning.CallContracts.{isSet, verdictNumber, Result, storingOn, lookVerdict, stateShown, mountVerdict, storesBefore, mountStoresOn, mountShownOn, mountOn}
+use Rattle.volume.specs.declared.looking.Survey.{Survey}
+use Rattle.volume.specs.declared.mount_rooms.Plan.{Plan}
+use Rattle.volume.specs.declared.roles.LogPlaces.{LogPlaces}
+use Rattle.volume.specs.meaning.Rules.{showing}
+use Rattle.volume.specs.meaning.Emptying.{byLook}
+use Rattle.volume.specs.meaning.Refusals.{firstRefusal, mountRows, lookRows, tablesFit, twoLost, kindLacks, badLabels, badLogs, mountFull}
+use Rattle.volume.specs.meaning.Answers.{presentIn, lostDriveIn}
+use Rattle.volume.specs.meaning.CallContracts.{isSet, verdictNumber, lengthsOf, badIn, Result, storingOn, rolesOf, seenIn, stateShown, lookVerdict, mountVerdict, mountStoresOn, mountShownOn, mountOn}
 use Rattle.volume.specs.laws.CallContracts.{storing-unfinished, storing-finished}
+use Rattle.volume.specs.laws.RulesUnread.{showing-alike}
 use Rattle.volume.specs.looking.Knowing.{readDevice}
-use Rattle.volume.specs.checks.ZoneChecks.{unusedOn, unused-is}
-use Rattle.volume.specs.looking.DrivesLost.{lost-drive-is}
-use Rattle.volume.specs.looking.Looking.{look-passed, shapeNumber, lookOf, Lookable, present-read, lost-drive-read, shown-read}
-use Rattle.volume.specs.declared.mount_logs.HeaderKind.the-variants.{Label, Reset, Seal}
-use Rattle.volume.specs.mounting.MountHeaders.{headersBy}
-use Rattle.volume.specs.mounting.MountSteps.{zoneResetsBy, countersBy, tornRowsBy, fillsBy, stepsOn, StepsMade}
-use Rattle.volume.specs.mounting.LookAgrees.{labels-told, reset-entries-told, zone-resets-told, counters-told, seals-told, labels-same, counters-same, seals-same, seen-same}
-use Rattle.volume.specs.mounting.MountValues.{shownAt}
-use Rattle.volume.specs.mounting.MountStart.{shownHere, look-tells, shown-at}
-use Rattle.volume.specs.mounting.RestoreAgrees.{fill-told, entries-told, torn-told, torn-same, fill-same, opening-sectors, mount-look-is}
-use Rattle.tables.specs.laws.Counted.{run-covered, run-both, joined}
-use Rattle.tables.specs.laws.PointerOrder.{run-most}
+use Rattle.volume.specs.looking.Looking.{Lookable, lookable-zone, shapeNumber, look-shape, shown-read}
+use Rattle.volume.specs.looking.SeenByRoles.{Seen, seen-geometry, seen-read, seen-readable}
+use Rattle.volume.specs.looking.Surveying.{Surveyed, state-alike, survey-present, survey-lost, survey-refusal}
+use Rattle.volume.specs.mounting.MountRooms.{lostAmong, Planned}
+use Rattle.volume.specs.mounting.MountPlan.{Planning}
 
 -- ---- the refusal: a look's, or 14
-unfoldable pub mountFullOn : Geometry → (ℕ → Bool) → List ℕ → Bool
-mountFullOn g present ws = unusedOn g present ws generalZone (g .zones + 2) || unusedOn g present ws parityZone (reserve g)
-
-full-is : (g : Geometry) (present : ℕ → Bool) (t : Tables) → mountFull g present (deviceOf g t) ≡ mountFullOn g present (t .written)
-unfolding mountFullOn
-full-is g present t = ap₂ (λ (a b : Bool). a || b) (unused-is g present t generalZone (g .zones + 2) (omega arith)) (unused-is g present t parityZone (reserve g) (omega arith))
-
 after-six : (a b c d e f h : Bool) → verdictNumber (firstRefusal ((1, a) ∷ (2, b) ∷ (3, c) ∷ (4, d) ∷ (5, e) ∷ (6, f) ∷ (14, h) ∷ []))
     ≡ pick (eqb (verdictNumber (firstRefusal ((1, a) ∷ (2, b) ∷ (3, c) ∷ (4, d) ∷ (5, e) ∷ (6, f) ∷ []))) 0) (pick h 14 0) (verdictNumber (firstRefusal ((1, a) ∷ (2, b) ∷ (3, c) ∷ (4, d) ∷ (5, e) ∷ (6, f) ∷ [])))
 after-six true b c d e f h = refl
@@ -63,182 +49,122 @@ after-six false false false false false true h = refl
 after-six false false false false false false true = refl
 after-six false false false false false false false = refl
 
-module _ (g : Geometry) (named : List Bool) (xs ws ds : List ℕ) where
-  mount-number : verdictNumber (mountVerdict g named (tablesOf xs ws ds)) ≡ pick (eqb (verdictNumber (lookVerdict g named (tablesOf xs ws ds))) 0) (pick (mountFull g (isPresent g (isSet named) (deviceOf g (tablesOf xs ws ds))) (deviceOf g (tablesOf xs ws ds))) 14 0) (verdictNumber (lookVerdict g named (tablesOf xs ws ds)))
-  unfolding mountVerdict lookVerdict mountRows lookRows
-  mount-number = after-six (not (isValid g)) (not (lengthsFit g (length xs) (length ws) (length ds))) (pointersBad g named ws ds) (twoLost g (isSet named) (deviceOf g (tablesOf xs ws ds))) (badLabels g (isPresent g (isSet named) (deviceOf g (tablesOf xs ws ds))) (deviceOf g (tablesOf xs ws ds))) (badLogs g (isPresent g (isSet named) (deviceOf g (tablesOf xs ws ds))) (deviceOf g (tablesOf xs ws ds))) (mountFull g (isPresent g (isSet named) (deviceOf g (tablesOf xs ws ds))) (deviceOf g (tablesOf xs ws ds)))
+-- row 14 (a: the drives that are here; x: the one that is not)
+abbrev fullOn : Geometry → (ℕ → Bool) → ℕ → Tables → Bool
+fullOn g a x t = mountFull g a (rolesOf g t) (byLook (showing g a x (seenIn g t))) (seenIn g t)
 
-  pub refused-by-look : (n : ℕ) → n ≡ verdictNumber (lookVerdict g named (tablesOf xs ws ds)) → n ≢ 0 → n ≡ verdictNumber (mountVerdict g named (tablesOf xs ws ds))
+module _ (g : Geometry) (named : List Bool) (t : Tables) where
+  mount-number : verdictNumber (mountVerdict g named t)
+      ≡ pick (eqb (verdictNumber (lookVerdict g named t)) 0) (pick (fullOn g (presentIn g (isSet named) (deviceOf g t)) (lostDriveIn g (isSet named) (deviceOf g t)) t) 14 0) (verdictNumber (lookVerdict g named t))
+  unfolding mountVerdict lookVerdict mountRows lookRows
+  mount-number =
+      let w = seenIn g t in
+      let p = presentIn g (isSet named) (deviceOf g t) in
+      after-six (not (isValid g)) (not (tablesFit g (lengthsOf t))) (badIn g named t) (twoLost g (isSet named) w) (kindLacks g p (rolesOf g t) || badLabels g p w) (badLogs g p w)
+      (fullOn g p (lostDriveIn g (isSet named) (deviceOf g t)) t)
+
+  refused-by-look : (n : ℕ) → n ≡ verdictNumber (lookVerdict g named t) → n ≢ 0 → n ≡ verdictNumber (mountVerdict g named t)
   refused-by-look n e h = sym (mount-number ∙ rw (← e, ne-eqb n 0 h) refl)
 
-  pub refused-if-full : (here : List Bool) → isSet here ≡ isPresent g (isSet named) (readDevice g xs ws) → verdictNumber (lookVerdict g named (tablesOf xs ws ds)) ≡ 0 → (b : Bool) → b ≡ mountFullOn g (isSet here) ws
-      → pick b 14 0 ≡ verdictNumber (mountVerdict g named (tablesOf xs ws ds))
-  refused-if-full here e z b q = sym (mount-number ∙ rw (eq-eqb (verdictNumber (lookVerdict g named (tablesOf xs ws ds))) 0 z, full-is g (isPresent g (isSet named) (deviceOf g (tablesOf xs ws ds))) (tablesOf xs ws ds), present-read g xs ws ds (isSet named), ← e, ← q) refl)
+  by-room : verdictNumber (lookVerdict g named t) ≡ 0 → (a : ℕ → Bool) (x : ℕ) → a ≡ presentIn g (isSet named) (deviceOf g t) → x ≡ lostDriveIn g (isSet named) (deviceOf g t)
+      → verdictNumber (mountVerdict g named t) ≡ pick (fullOn g a x t) 14 0
+  by-room z a x here lost =
+      mount-number ∙ rw (eq-eqb (verdictNumber (lookVerdict g named t)) 0 z) refl
+      ∙ ap₂ (λ (p : ℕ → Bool) (y : ℕ). pick (fullOn g p y t) 14 0) (sym here) (sym lost)
 
-  -- what a look does not refuse has the right shape
-  pub passed-shape : verdictNumber (lookVerdict g named (tablesOf xs ws ds)) ≡ 0 → shapeNumber g named (length xs) ws ds ≡ 0
-  passed-shape h = look-passed g named (record { lost = 0; zones = [] }) xs ws ds h
+-- ---- a mount that no refusal stopped
+abbrev pub mountedOn : Geometry → (ℕ → Bool) → ℕ → State → ℕ → Tables → Result
+mountedOn g a x old count t = storingOn g 0 (mountStoresOn g a x t) (mountShownOn g a x t) old count t
 
-  -- the durable pointers too are as many as the geometry gives
-  pub passed-durable : shapeNumber g named (length xs) ws ds ≡ 0 → length ds ≡ cells g
-  unfolding shapeNumber
-  passed-durable h = lengths-are g (length xs) (length ws) (length ds) (fit (isValid g) (lengthsFit g (length xs) (length ws) (length ds)) (pointersBad g named ws ds) h) .2
-    where
-      fit : (a b c : Bool) → verdictNumber (firstRefusal ((1, not a) ∷ (2, not b) ∷ (3, c) ∷ [])) ≡ 0 → b ≡ true
-      fit false b c e = absurd (omega arith)
-      fit true true c e = refl
-      fit true false c e = absurd (omega arith)
+-- the state that the drives that are here show in the tables, whatever is durable of them
+pub record ShownNow (g : Geometry) (here : List Bool) (xs ws : List ℕ) (s : State) : Type 0 where
+  pub shown : (ds : List ℕ) → s ≡ stateShown g (showing g (isSet here) (lostAmong g here) (seenIn g (tablesOf xs ws ds)))
 
-  -- what is not refused has passed the look's refusals
-  pub passed-look : verdictNumber (mountVerdict g named (tablesOf xs ws ds)) ≡ 0 → verdictNumber (lookVerdict g named (tablesOf xs ws ds)) ≡ 0
-  passed-look h = go (ℕ-discrete (verdictNumber (lookVerdict g named (tablesOf xs ws ds))) 0)
-    where
-      go : Dec (verdictNumber (lookVerdict g named (tablesOf xs ws ds)) ≡ 0) → verdictNumber (lookVerdict g named (tablesOf xs ws ds)) ≡ 0
-      go (yes e) = e
-      go (no n) = refused-by-look (verdictNumber (lookVerdict g named (tablesOf xs ws ds))) refl n ∙ h
+module _ (g : Geometry) (a : ℕ → Bool) (x : ℕ) (old : State) (count : ℕ) (t : Tables) (rest : ℕ) (u : Tables) (m : Made g (suc count) rest (mountStoresOn g a x t) t u) where
+  pub mounted-unfinished : rest ≡ 0 → (_≡_ {A = Outcome} (record { answer = Unfinished; state = old }) (mountedOn g a x old count t .outcome)) × (u ≡ mountedOn g a x old count t .tables)
+  mounted-unfinished z = let (p, q) = storing-unfinished g 0 (mountStoresOn g a x t) (mountShownOn g a x t) old count t rest u refl m z in (sym p, sym q)
 
--- ---- the steps as the code makes them: by its look k, read below the pointers ps
-abbrev pub stepList : Geometry → List Bool → Look → List (Device → List Store)
-stepList g here k = headersBy g Label k ∷ headersBy g Reset k ∷ zoneResetsBy g k ∷ countersBy g here k ∷ headersBy g Seal k ∷ tornRowsBy g here k ∷ fillsBy g here k ∷ []
+  shown-after : rest ≢ 0 → mountShownOn g a x t ≡ stateShown g (showing g a x (seenIn g u))
+  unfolding mountShownOn
+  shown-after h =
+      let ss = mountStoresOn g a x t in
+      let l : length (mountStoresOn g a x t) ≤ suc count - 1 = omega (arith, m .rest-is, h) in
+      let q : runStores g (length ss) ss t ≡ u = sym (m .tables-are ∙ run-covered g (suc count - 1) ss t l) in
+      ap (λ (v : Tables). stateShown g (showing g a x (seenIn g v))) q
 
-abbrev pub stepsBy : Geometry → List Bool → Look → List ℕ → List ℕ → List (List Store)
-stepsBy g here k xs ps = stepsOn (stepList g here k) (readDevice g xs ps)
+  pub mounted-finished : rest ≢ 0 → (s : State) → s ≡ stateShown g (showing g a x (seenIn g u))
+      → (_≡_ {A = Outcome} (record { answer = Finished; state = s }) (mountedOn g a x old count t .outcome)) × (u ≡ mountedOn g a x old count t .tables)
+  mounted-finished h s es =
+      let (p, q) = storing-finished g 0 (mountStoresOn g a x t) (mountShownOn g a x t) old count t rest u refl m h in
+      (ap (λ (y : State). record { answer = Finished; state = y }) (es ∙ sym (shown-after h)) ∙ sym p, sym q)
 
-abbrev pub stepStores : Geometry → List Bool → Look → List ℕ → List ℕ → List Store
-stepStores g here k xs ps = concat (withFlushes g (isSet here) (stepsBy g here k xs ps))
-
--- step 8 by the tables u that the others have left
-abbrev pub lastStepStores : Geometry → List Bool → Look → List ℕ → List ℕ → Tables → List Store
-lastStepStores g here k xs ps u = concat (withFlush g (isSet here) (entryStep g (shownAt g here k xs ps) (deviceOf g u)))
-
--- steps 1 to 8 on the tables t, xs the bytes of the look
-unfoldable pub restoreStores : Geometry → List Bool → Look → List ℕ → List ℕ → Tables → List Store
-restoreStores g here k xs ps t = stepStores g here k xs ps ++ lastStepStores g here k xs ps (runStores g (length (stepStores g here k xs ps)) (stepStores g here k xs ps) t)
-
--- they are made by making the steps in a row and the last one by what they have left
-pub restore-made : (g : Geometry) (here : List Bool) (k : Look) (ps : List ℕ) (budget mid rest : ℕ) (t u v : Tables) → StepsMade g here ps budget mid (stepList g here k) t u → Made g mid rest (lastStepStores g here k (u .sectors) ps u) u v
-    → Made g budget rest (restoreStores g here k (t .sectors) ps t) t v
-unfolding restoreStores
-restore-made g here k ps budget mid rest t u v a b = joined g budget mid rest (stepStores g here k (t .sectors) ps) (lastStepStores g here k (t .sectors) ps) t u v (a .made) (rw (a .same-device) at b)
-
--- ---- they are the rules'
-module _ (g : Geometry) (ok : Valid g) (here : List Bool) (xs ws ds : List ℕ) where
-  abbrev pub lostHere : ℕ
-  lostHere = findBelow (λ (d : ℕ). not (isSet here d)) (g .drives)
-
-  abbrev pub opened : Device
-  opened = afterOpening g (isSet here) (deviceOf g (tablesOf xs ws ds))
-
-  same-opened : (d z : ℕ) → readDevice g xs ws d z .sectors ≡ opened d z .sectors
-  same-opened d z = seen-same g xs ws ds d z ∙ sym (opening-sectors g (isSet here) (deviceOf g (tablesOf xs ws ds)) d z)
-
-  look-is : mountLook g (isSet here) lostHere (deviceOf g (tablesOf xs ws ds)) ≡ shownHere g ok here xs ws
-  look-is = mount-look-is g (isSet here) lostHere (deviceOf g (tablesOf xs ws ds)) (readDevice g xs ws) (λ d z. sym (seen-same g xs ws ds d z))
-
-  told-same : (z : ℕ) → z < g .zones → shownAt g here (lookOf g (shownHere g ok here xs ws)) xs ws .zone z ≡ shownHere g ok here xs ws .zone z
-  told-same z h = shown-at g ok here xs ws z h
-
-  steps-here : stepsBy g here (lookOf g (shownHere g ok here xs ws)) xs ws ≡ stepsBeforeEntries g (isSet here) (shownHere g ok here xs ws .lost) (shownHere g ok here xs ws) opened
-  steps-here =
-      let s = shownHere g ok here xs ws in
-      let k = lookOf g (shownHere g ok here xs ws) in
-      let v = readDevice g xs ws in
-      let t = look-tells g (shownHere g ok here xs ws) in
-      rw (
-        labels-told g k s t (k .lost) v,
-        labels-same g v opened same-opened (k .lost) s,
-        reset-entries-told g k s t,
-        zone-resets-told g k s t,
-        counters-told g k s t (isSet here) v,
-        counters-same g v opened same-opened (isSet here) s,
-        seals-told g k s t v,
-        seals-same g v opened same-opened s,
-        torn-told g (shownAt g here k xs ws) s told-same v,
-        torn-same g v opened same-opened s,
-        fill-told g (shownAt g here k xs ws) s told-same v,
-        fill-same g v opened same-opened s,
-      ) refl
-
-  lost-shown : shownHere g ok here xs ws .lost ≡ lostHere
-  unfolding showing
-  lost-shown = refl
-
-  pub steps-are : stepsBy g here (lookOf g (shownHere g ok here xs ws)) xs ws ≡ stepsBeforeEntries g (isSet here) lostHere (mountLook g (isSet here) lostHere (deviceOf g (tablesOf xs ws ds))) opened
-  steps-are = steps-here ∙ ap₂ (λ (x : ℕ) (s : Shown). stepsBeforeEntries g (isSet here) x s opened) lost-shown (sym look-is)
-
-  -- the first flush, and then they
-  before-is : storesBefore g (isSet here) lostHere (tablesOf xs ws ds) ≡ onPresent (isSet here) (flushAll (g .drives)) ++ stepStores g here (lookOf g (shownHere g ok here xs ws)) xs ws
-  unfolding storesBefore phasesBeforeEntries
-  before-is = ap (λ (l : List (List Store)). onPresent (isSet here) (flushAll (g .drives)) ++ concat (withFlushes g (isSet here) l)) (sym steps-are)
-
-  pub entries-are : (u : Device) → entryStep g (shownAt g here (lookOf g (shownHere g ok here xs ws)) xs ws) u ≡ entryStep g (mountLook g (isSet here) lostHere (deviceOf g (tablesOf xs ws ds))) u
-  entries-are u = entries-told g (shownAt g here (lookOf g (shownHere g ok here xs ws)) xs ws) (shownHere g ok here xs ws) told-same u ∙ ap (λ (s : Shown). entryStep g s u) (sym look-is)
-
-  stores-are : onPresent (isSet here) (flushAll (g .drives)) ++ restoreStores g here (lookOf g (shownHere g ok here xs ws)) xs ws (runStores g (length (onPresent (isSet here) (flushAll (g .drives)))) (onPresent (isSet here) (flushAll (g .drives))) (tablesOf xs ws ds))
-      ≡ mountStoresOn g (isSet here) lostHere (tablesOf xs ws ds)
-  unfolding restoreStores mountStoresOn
-  stores-are =
-      let f = onPresent (isSet here) (flushAll (g .drives)) in
-      let p = stepStores g here (lookOf g (shownHere g ok here xs ws)) xs ws in
-      let t = tablesOf xs ws ds in
-      sym (append-assoc f p (lastStepStores g here (lookOf g (shownHere g ok here xs ws)) xs ws (runStores g (length p) p (runStores g (length f) f t))))
-      ∙ ap (λ (u : Tables). f ++ p ++ lastStepStores g here (lookOf g (shownHere g ok here xs ws)) xs ws u) (run-both g f p t)
-      ∙ ap (λ (ss : List Store). f ++ p ++ concat (withFlush g (isSet here) ss)) (entries-are (deviceOf g (runStores g (length (f ++ p)) (f ++ p) t)))
-      ∙ ap (λ (b : List Store). b ++ concat (withFlush g (isSet here) (entryStep g (mountLook g (isSet here) lostHere (deviceOf g t)) (deviceOf g (runStores g (length b) b t))))) (sym before-is)
-
-  -- ---- a mount: the flush, then the rest by the look
-  pub mount-made : (budget mid rest : ℕ) (ds′ : List ℕ) (u : Tables) → Made g budget mid (onPresent (isSet here) (flushAll (g .drives))) (tablesOf xs ws ds) (tablesOf xs ws ds′)
-      → Made g mid rest (restoreStores g here (lookOf g (shownHere g ok here xs ws)) xs ws (tablesOf xs ws ds′)) (tablesOf xs ws ds′) u → Made g budget rest (mountStoresOn g (isSet here) lostHere (tablesOf xs ws ds)) (tablesOf xs ws ds) u
-  mount-made budget mid rest ds′ u a b =
-      subst (λ (ss : List Store). Made g budget rest ss (tablesOf xs ws ds) u) stores-are
-      (joined g budget mid rest (onPresent (isSet here) (flushAll (g .drives))) (λ v. restoreStores g here (lookOf g (shownHere g ok here xs ws)) xs ws v) (tablesOf xs ws ds) (tablesOf xs ws ds′) u a b)
-
--- ---- the pointers after any stores are within their zones
-pub lookable-after : (g : Geometry) (here : List Bool) (budget rest : ℕ) (ss : List Store) (xs ws ds xs′ ws′ ds′ : List ℕ) → Lookable g here xs ws → length xs′ ≡ totalBytes g → length ws′ ≡ cells g
-    → Made g budget rest ss (tablesOf xs ws ds) (tablesOf xs′ ws′ ds′) → Lookable g here xs′ ws′
-lookable-after g here budget rest ss xs ws ds xs′ ws′ ds′ r a b m = record {
-  sectors-long = a;
-  written-long = b;
-  pointers = λ d y hd p hy. rw (ap (λ (t : Tables). t .written) (m .tables-are)) (run-most g (budget - 1) ss (tablesOf xs ws ds) (cell g d y) (r .pointers d y hd p hy));
+-- the tables that its stores leave can be looked at
+pub lookable-after : (g : Geometry) (p : Plan) (ps : List ℕ) (budget rest : ℕ) (ss : List Store) (t : Tables) (xs ws ds : List ℕ) → Planned g t p ps → length xs ≡ length (t .sectors) → length ws ≡ length (t .written)
+    → Made g budget rest ss t (tablesOf xs ws ds) → Lookable g (p .here) xs ws
+lookable-after g p ps budget rest ss t xs ws ds k a b m = record {
+  sectors-long = a ∙ k .sized .sectors-long;
+  written-long = b ∙ k .sized .written-long;
+  pointers = λ d y hd h hy. rw (ap (λ (u : Tables). u .written) (m .tables-are)) (run-most g (budget - 1) ss t (cell g d y) (k .in-zones d y hd h hy));
 }
 
--- ---- the outcome
-module _ (g : Geometry) (named : List Bool) (old : State) (count : ℕ) (xs ws ds : List ℕ) where
-  pub mount-refused : (n : ℕ) → n ≡ verdictNumber (mountVerdict g named (tablesOf xs ws ds)) → n ≢ 0
-      → (_≡_ {A = Outcome} (record { answer = Refused n; state = old }) (mountOn g named old count (tablesOf xs ws ds) .outcome)) × (tablesOf xs ws ds ≡ mountOn g named old count (tablesOf xs ws ds) .tables)
+-- ---- what they show, their logs found anew
+module _ (g : Geometry) (xs ws : List ℕ) (p : LogPlaces) (ps : List ℕ) (s : Seen g xs ws p ps) (here : List Bool) where
+  pub seen-lookable : Valid g → Lookable g here xs ws → Lookable (p .geometry) here xs ps
+  seen-lookable ok k =
+      let r = seen-readable g xs ws p ps s here 0 (lookable-zone g here xs ws 0 k (ok .zones-least)) in
+      record { sectors-long = r .sectors-long; written-long = r .written-long; pointers = r .pointers }
+
+  pub seen-shown : (q : State) → q ≡ stateShown (p .geometry) (showing (p .geometry) (isSet here) (lostAmong (p .geometry) here) (readDevice (p .geometry) xs ps)) → ShownNow g here xs ws q
+  seen-shown q e = record {
+    shown = λ ds.
+        let h = p .geometry in
+        let same : lostAmong (p .geometry) here ≡ lostAmong g here = ap (λ (k : Geometry). lostAmong k here) (seen-geometry g xs ws p ps s) in
+        let w = seenIn g (tablesOf xs ws ds) in
+        let read : showing g (isSet here) (lostAmong h here) w ≡ showing h (isSet here) (lostAmong h here) (readDevice h xs ps) =
+        seen-read g xs ws p ps s (λ (k : Geometry) (v : Device). showing k (isSet here) (lostAmong h here) v) (λ n v. showing-alike g n (isSet here) (lostAmong h here) v) ds (shown-read h xs ps ds (isSet here) (lostAmong h here)) in
+        e ∙ ap (stateShown h) (sym read) ∙ state-alike g h (seen-geometry g xs ws p ps s) (showing g (isSet here) (lostAmong h here) w) ∙ ap (λ (x : ℕ). stateShown g (showing g (isSet here) x w)) same;
+  }
+
+-- ---- THE CALL
+module _ (g : Geometry) (named : List Bool) (old : State) (count : ℕ) (t : Tables) where
+  mount-refused : (n : ℕ) → n ≡ verdictNumber (mountVerdict g named t) → n ≢ 0
+      → (_≡_ {A = Outcome} (record { answer = Refused n; state = old }) (mountOn g named old count t .outcome)) × (t ≡ mountOn g named old count t .tables)
   unfolding mountOn
   mount-refused n e h = rw (← e, ne-eqb n 0 h) (refl, refl)
 
-  module _ (here : List Bool) (e : isSet here ≡ isPresent g (isSet named) (readDevice g xs ws)) (passed : verdictNumber (mountVerdict g named (tablesOf xs ws ds)) ≡ 0) where
-    abbrev lost : ℕ
-    lost = findBelow (λ (d : ℕ). not (isSet here d)) (g .drives)
+  -- refusals 1 to 3
+  pub refused-shape : (n : ℕ) → n ≡ shapeNumber g named (length (t .sectors)) (t .written) (t .durable) → n ≢ 0
+      → (_≡_ {A = Outcome} (record { answer = Refused n; state = old }) (mountOn g named old count t .outcome)) × (t ≡ mountOn g named old count t .tables)
+  refused-shape n e h = mount-refused n (refused-by-look g named t n (e ∙ look-shape g named (t .sectors) (t .written) (t .durable) (λ z. h (e ∙ z))) h) h
 
-    -- by the drives that are here
-    on-here : mountOn g named old count (tablesOf xs ws ds) ≡ storingOn g 0 (mountStoresOn g (isSet here) lost (tablesOf xs ws ds)) (mountShownOn g (isSet here) lost (tablesOf xs ws ds)) old count (tablesOf xs ws ds)
-    unfolding mountOn
-    on-here =
-        ap₂ (λ (p : ℕ → Bool) (x : ℕ). storingOn g (verdictNumber (mountVerdict g named (tablesOf xs ws ds))) (mountStoresOn g p x (tablesOf xs ws ds)) (mountShownOn g p x (tablesOf xs ws ds)) old count (tablesOf xs ws ds))
-        (present-read g xs ws ds (isSet named) ∙ sym e) (lost-drive-read g xs ws ds (isSet named) ∙ sym (lost-drive-is g named here (readDevice g xs ws) e))
-        ∙ ap (λ (n : ℕ). storingOn g n (mountStoresOn g (isSet here) lost (tablesOf xs ws ds)) (mountShownOn g (isSet here) lost (tablesOf xs ws ds)) old count (tablesOf xs ws ds)) passed
+  module _ (v : Survey) (ps : List ℕ) (shape : shapeNumber g named (length (t .sectors)) (t .written) (t .durable) ≡ 0) (found : Surveyed g named (t .sectors) (t .written) v ps) where
+    looked : v .refusal ≡ verdictNumber (lookVerdict g named t)
+    looked = survey-refusal g named (t .sectors) (t .written) v ps found (t .durable) shape
 
-    pub mount-unfinished : (rest : ℕ) (u : Tables) → Made g (suc count) rest (mountStoresOn g (isSet here) lost (tablesOf xs ws ds)) (tablesOf xs ws ds) u → rest ≡ 0
-        → (_≡_ {A = Outcome} (record { answer = Unfinished; state = old }) (mountOn g named old count (tablesOf xs ws ds) .outcome)) × (u ≡ mountOn g named old count (tablesOf xs ws ds) .tables)
-    mount-unfinished rest u m z =
-        let (p, q) = storing-unfinished g 0 (mountStoresOn g (isSet here) lost (tablesOf xs ws ds)) (mountShownOn g (isSet here) lost (tablesOf xs ws ds)) old count (tablesOf xs ws ds) rest u refl m z in
-        (sym (ap (λ (r : Result). r .outcome) on-here ∙ p), sym (ap (λ (r : Result). r .tables) on-here ∙ q))
+    -- 4 to 6
+    pub refused-logs : v .refusal ≢ 0 → (_≡_ {A = Outcome} (record { answer = Refused (v .refusal); state = old }) (mountOn g named old count t .outcome)) × (t ≡ mountOn g named old count t .tables)
+    refused-logs h = mount-refused (v .refusal) (refused-by-look g named t (v .refusal) looked h) h
 
-    shown-after : (rest : ℕ) (xs′ ws′ ds′ : List ℕ) → Made g (suc count) rest (mountStoresOn g (isSet here) lost (tablesOf xs ws ds)) (tablesOf xs ws ds) (tablesOf xs′ ws′ ds′) → rest ≢ 0
-        → mountShownOn g (isSet here) lost (tablesOf xs ws ds) ≡ stateShown g (showing g (isSet here) lost (readDevice g xs′ ws′))
-    unfolding mountShownOn
-    shown-after rest xs′ ws′ ds′ m h =
-        let ss = mountStoresOn g (isSet here) lost (tablesOf xs ws ds) in
-        let l : length (mountStoresOn g (isSet here) lost (tablesOf xs ws ds)) ≤ suc count - 1 = omega (arith, m .rest-is, h) in
-        let q : runStores g (length ss) ss (tablesOf xs ws ds) ≡ tablesOf xs′ ws′ ds′ = sym (m .tables-are ∙ run-covered g (suc count - 1) ss (tablesOf xs ws ds) l) in
-        ap (stateShown g) (ap (λ (t : Tables). showing g (isSet here) lost (deviceOf g t)) q ∙ shown-read g xs′ ws′ ds′ (isSet here) lost)
+    module _ (none : v .refusal ≡ 0) (p : Plan) (k : Planning g t v p ps) where
+      here-is : isSet (p .here) ≡ presentIn g (isSet named) (deviceOf g t)
+      here-is = ap isSet (k .here-is) ∙ survey-present g named (t .sectors) (t .written) v ps found (t .durable)
 
-    pub mount-finished : (rest : ℕ) (xs′ ws′ ds′ : List ℕ) → Made g (suc count) rest (mountStoresOn g (isSet here) lost (tablesOf xs ws ds)) (tablesOf xs ws ds) (tablesOf xs′ ws′ ds′) → rest ≢ 0
-        → (s : State) → s ≡ stateShown g (showing g (isSet here) lost (readDevice g xs′ ws′))
-        → (_≡_ {A = Outcome} (record { answer = Finished; state = s }) (mountOn g named old count (tablesOf xs ws ds) .outcome)) × (tablesOf xs′ ws′ ds′ ≡ mountOn g named old count (tablesOf xs ws ds) .tables)
-    mount-finished rest xs′ ws′ ds′ m h s es =
-        let (p, q) = storing-finished g 0 (mountStoresOn g (isSet here) lost (tablesOf xs ws ds)) (mountShownOn g (isSet here) lost (tablesOf xs ws ds)) old count (tablesOf xs ws ds) rest (tablesOf xs′ ws′ ds′) refl m h in
-        (ap (λ (x : State). record { answer = Finished; state = x }) (es ∙ sym (shown-after rest xs′ ws′ ds′ m h)) ∙ sym (ap (λ (r : Result). r .outcome) on-here ∙ p), sym (ap (λ (r : Result). r .tables) on-here ∙ q))
+      lost-is : lostAmong g (p .here) ≡ lostDriveIn g (isSet named) (deviceOf g t)
+      lost-is =
+          ap (lostAmong g) (k .here-is) ∙ sym (ap (λ (q : Geometry). lostAmong q (v .here)) (seen-geometry g (t .sectors) (t .written) (v .places) ps (found .seen)))
+          ∙ survey-lost g named (t .sectors) (t .written) v ps found (t .durable)
+
+      number-is : verdictNumber (mountVerdict g named t) ≡ pick (p .general .full || p .parity .full) 14 0
+      number-is = by-room g named t (sym looked ∙ none) (isSet (p .here)) (lostAmong g (p .here)) here-is lost-is ∙ ap (λ (b : Bool). pick b 14 0) (sym (k .full-is))
+
+      -- 14
+      pub refused-full : p .general .full || p .parity .full ≡ true → (_≡_ {A = Outcome} (record { answer = Refused 14; state = old }) (mountOn g named old count t .outcome)) × (t ≡ mountOn g named old count t .tables)
+      refused-full e = mount-refused 14 (sym (number-is ∙ ap (λ (b : Bool). pick b 14 0) e)) (λ z. omega (arith, z))
+
+      -- none
+      pub mount-goes-on : p .general .full || p .parity .full ≡ false → mountedOn g (isSet (p .here)) (lostAmong g (p .here)) old count t ≡ mountOn g named old count t
+      unfolding mountOn
+      mount-goes-on e =
+          ap₂ (λ (q : ℕ → Bool) (y : ℕ). mountedOn g q y old count t) here-is lost-is
+          ∙ sym (ap (λ (n : ℕ). storingOn g n (mountStoresOn g (presentIn g (isSet named) (deviceOf g t)) (lostDriveIn g (isSet named) (deviceOf g t)) t) (mountShownOn g (presentIn g (isSet named) (deviceOf g t)) (lostDriveIn g (isSet named) (deviceOf g t)) t) old count t)
+          (number-is ∙ ap (λ (b : Bool). pick b 14 0) e))

@@ -13,7 +13,7 @@ use Rattle.tables.specs.meaning.Device.{Device, ZoneView, Store, flush, applyAl
 use Rattle.tables.specs.laws.Device.{apply-all-append}
 use Rattle.tables.specs.meaning.Phases.{onPresent, flushAll}
 use Rattle.tables.specs.laws.Phases.{on-present-append}
-use Rattle.logs.specs.meaning.Entry.{parityZone, label, counters, zoneReset, partialParity, seal}
+use Rattle.logs.specs.meaning.Entry.{parityZone, label, counters, zoneReset, partialParity, seal, closing}
 use Rattle.logs.specs.laws.Entry.{decode-legal}
 use Rattle.logs.specs.code.Judge.{partial-small}
 use Rattle.logs.specs.meaning.Walk.{Ending, atPointer, noEntry, torn, walkLog}
@@ -22,8 +22,8 @@ use Rattle.volume.specs.meaning.Content.{contentAt}
 use Rattle.volume.specs.meaning.Calls.{appendAll}
 use Rattle.volume.specs.meaning.Rules.{Shown, ZoneShown, parityEnding, showing}
 use Rattle.volume.specs.looking.Looking.{sectorsOnly, shown-sectors}
-use Rattle.volume.specs.meaning.Mount.{rowFor, missingRows, tornRowStep, fillStep, entryStep, afterOpening, mountLook}
-use Rattle.volume.specs.mounting.LookAgrees.{each-below-cong}
+use Rattle.volume.specs.meaning.Mount.{rowFor, missingRows, tornRowStep, fillStep, entryStep, afterOpening}
+use Rattle.volume.specs.laws.EachBelow.{each-below-cong}
 use Rattle.tables.specs.meaning.Geometry.{dataZone}
 
 -- ---- what is shown of the volume's zones decides them
@@ -46,6 +46,7 @@ module _ (g : Geometry) (s t : Shown) (same : (z : ℕ) → z < g .zones → s .
   rows-told d ss (torn (partialParity z i f n) rs) x e =
       ap (λ (q : ZoneShown). tabulateFrom (rowFor g q i f n) (length rs) (min f (g .unit) - length rs)) (same z (partial-small g d true z i f n (decode-legal g d true (getD ss x []) (partialParity z i f n) (e .1) .1) .0))
   rows-told d ss (torn (seal z p n) rs) x e = refl
+  rows-told d ss (torn (closing kind gen) rs) x e = refl
 
   pub torn-told : (w : Device) → tornRowStep g s w ≡ tornRowStep g t w
   unfolding tornRowStep parityEnding
@@ -86,7 +87,3 @@ flush-sectors a (suc n) v d z =
 pub opening-sectors : (g : Geometry) (a : ℕ → Bool) (v : Device) (d z : ℕ) → afterOpening g a v d z .sectors ≡ v d z .sectors
 unfolding afterOpening
 opening-sectors g a v d z = flush-sectors a (g .drives) v d z
-
-pub mount-look-is : (g : Geometry) (a : ℕ → Bool) (x : ℕ) (v w : Device) → ((d z : ℕ) → v d z .sectors ≡ w d z .sectors) → mountLook g a x v ≡ showing g a x w
-unfolding mountLook
-mount-look-is g a x v w e = shown-same g (afterOpening g a v) w (λ d z. opening-sectors g a v d z ∙ e d z) a x

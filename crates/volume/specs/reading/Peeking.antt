@@ -1,5 +1,5 @@
 -- Peek on the tables, and the laws by which its refusal is proved.
-use mathlib.Core.Path.{_≡_, refl, sym, ap, ap₂, _∙_}
+use mathlib.Core.Path.{_≡_, refl, sym, ap, _∙_}
 use mathlib.Core.Logic.{_≢_}
 use mathlib.Core.Bool.{Bool, true, false, _&&_, not}
 use Prim.Native.Nat.{ℕ, _+_, _*_, _≤_, _<_}
@@ -15,18 +15,19 @@ use Rattle.tables.specs.meaning.GeometryTest.{isValid}
 use Rattle.tables.specs.meaning.Placement.{driveOf, sectorOf}
 use Rattle.tables.specs.laws.Placement.{drive-below}
 use Rattle.tables.specs.meaning.Device.{Device}
-use Rattle.tables.specs.meaning.Tables.{lengthsFit, bufferFits, pointersBad, Tables, tablesOf, deviceOf}
+use Rattle.tables.specs.meaning.Tables.{lengthsFit, bufferFits, pointersBad, Tables, tablesOf}
 use Rattle.volume.specs.declared.Condition.{Condition}
 use Rattle.volume.specs.declared.State.{State}
 use Rattle.volume.specs.meaning.State.{StateView, callPresent, pointerIn}
-use Rattle.volume.specs.meaning.Rules.{View, heldAt}
+use Rattle.volume.specs.meaning.Rules.{viewOf, zoneView}
 use Rattle.volume.specs.meaning.Refusals.{firstRefusal, stateWithin, twoAbsent, stale, noZone, unwritten, notHeld, zoneOf, offsetOf, peekRows}
 use Rattle.volume.specs.meaning.Answers.{placeOf}
-use Rattle.volume.specs.meaning.CallContracts.{viewState, recordAt, isSet, verdictNumber, peekNumber, partAt, peekOn, byteOf, peekFrom, past}
+use Rattle.volume.specs.meaning.CallContracts.{viewState, recordAt, isSet, verdictNumber, seenIn, peekNumber, partAt, peekOn, byteOf, peekFrom, past}
 use Rattle.volume.specs.checks.CheckLaws.{presentList, present-is, absent-two, openingNumber, Opened, opened, after-four}
 use Rattle.volume.specs.checks.ZoneChecks.{staleOn}
 use Rattle.volume.specs.looking.Knowing.{readDevice, Readable, ownHeld}
-use Rattle.volume.specs.looking.KnowingLaws.{view-durable, held-is}
+use Rattle.volume.specs.looking.KnowingLaws.{held-is}
+use Rattle.volume.specs.looking.SeenByRoles.{data-seen}
 use Rattle.volume.specs.reading.Reading.{zoneRows, zoneNumber, after-two, after-zone, three, opened-readable, zone-on-in, second-is, second-in, second-out}
 
 -- ---- the rows after those of its zone
@@ -52,10 +53,12 @@ place-number-is g here xs ws z s offset ok r =
     go false true = refl
     go false false = refl
 
-place-durable : (g : Geometry) (present : ℕ → Bool) (xs ws ds : List ℕ) (s : StateView) (z offset : ℕ) → placeNumber g present (deviceOf g (tablesOf xs ws ds)) s z offset ≡ placeNumber g present (readDevice g xs ws) s z offset
-unfolding placeNumber notHeld
-place-durable g present xs ws ds s z offset =
-    ap (λ (v : View). verdictNumber (firstRefusal ((13, unwritten s z offset 1) ∷ (15, not (heldAt v (driveOf (g .drives) (g .unit) z offset) (sectorOf (g .drives) (g .unit) offset))) ∷ []))) (view-durable g present xs ws ds z (s .generation z))
+-- the device by its roles has the same data zones
+place-seen : (g : Geometry) (present : ℕ → Bool) (xs ws ds : List ℕ) (s : StateView) (z offset : ℕ) → placeNumber g present (seenIn g (tablesOf xs ws ds)) s z offset ≡ placeNumber g present (readDevice g xs ws) s z offset
+unfolding placeNumber notHeld zoneView viewOf
+place-seen g present xs ws ds s z offset =
+    let d = driveOf (g .drives) (g .unit) z offset in
+    ap (λ (ss : List (List ℕ)). verdictNumber (firstRefusal ((13, unwritten s z offset 1) ∷ (15, not (present d && ltb (sectorOf (g .drives) (g .unit) offset) (length ss))) ∷ []))) (data-seen g xs ws ds d z)
 
 and-true : (a : Bool) → a && true ≡ a
 and-true true = refl
@@ -70,18 +73,18 @@ module _ (g : Geometry) (named : List Bool) (s : State) (a : ℕ) (xs ws ds : Li
   first = openingNumber g named s 0 0 (length xs) ws ds
 
   abbrev second : ℕ
-  second = zoneNumber g (callPresent g (isSet named) (viewState s)) (deviceOf g (tablesOf xs ws ds)) (viewState s) (zoneOf g a)
+  second = zoneNumber g (callPresent g (isSet named) (viewState s)) (seenIn g (tablesOf xs ws ds)) (viewState s) (zoneOf g a)
 
   abbrev third : ℕ
-  third = placeNumber g (callPresent g (isSet named) (viewState s)) (deviceOf g (tablesOf xs ws ds)) (viewState s) (zoneOf g a) (offsetOf g a)
+  third = placeNumber g (callPresent g (isSet named) (viewState s)) (seenIn g (tablesOf xs ws ds)) (viewState s) (zoneOf g a) (offsetOf g a)
 
   pub peek-number-is : peekNumber g named s a (tablesOf xs ws ds) ≡ pick (eqb first 0) (pick (eqb second 0) third second) first
   unfolding peekNumber peekRows openingNumber zoneNumber placeNumber
   peek-number-is =
       rw (absent-two g named s, no-buffer g, and-true (lengthsFit g (length xs) (length ws) (length ds))) (after-four (not (isValid g && stateWithin g (viewState s))) (not (lengthsFit g (length xs) (length ws) (length ds))) (pointersBad g named ws ds) (twoAbsent g (isSet named) (viewState s))
-      (zoneRows g (callPresent g (isSet named) (viewState s)) (deviceOf g (tablesOf xs ws ds)) (viewState s) (zoneOf g a) ++ placeRows g (callPresent g (isSet named) (viewState s)) (deviceOf g (tablesOf xs ws ds)) (viewState s) (zoneOf g a) (offsetOf g a))
+      (zoneRows g (callPresent g (isSet named) (viewState s)) (seenIn g (tablesOf xs ws ds)) (viewState s) (zoneOf g a) ++ placeRows g (callPresent g (isSet named) (viewState s)) (seenIn g (tablesOf xs ws ds)) (viewState s) (zoneOf g a) (offsetOf g a))
       ∙ ap (λ (n : ℕ). pick (eqb (verdictNumber (firstRefusal ((1, not (isValid g && stateWithin g (viewState s))) ∷ (2, not (lengthsFit g (length xs) (length ws) (length ds))) ∷ (3, pointersBad g named ws ds) ∷ (4, twoAbsent g (isSet named) (viewState s)) ∷ []))) 0) n (verdictNumber (firstRefusal ((1, not (isValid g && stateWithin g (viewState s))) ∷ (2, not (lengthsFit g (length xs) (length ws) (length ds))) ∷ (3, pointersBad g named ws ds) ∷ (4, twoAbsent g (isSet named) (viewState s)) ∷ []))))
-      (after-two (stale g (callPresent g (isSet named) (viewState s)) (deviceOf g (tablesOf xs ws ds)) (viewState s) (zoneOf g a)) (noZone g (zoneOf g a)) (placeRows g (callPresent g (isSet named) (viewState s)) (deviceOf g (tablesOf xs ws ds)) (viewState s) (zoneOf g a) (offsetOf g a))))
+      (after-two (stale g (callPresent g (isSet named) (viewState s)) (seenIn g (tablesOf xs ws ds)) (viewState s) (zoneOf g a)) (noZone g (zoneOf g a)) (placeRows g (callPresent g (isSet named) (viewState s)) (seenIn g (tablesOf xs ws ds)) (viewState s) (zoneOf g a) (offsetOf g a))))
 
   -- the number, case by case
   pub peek-first : first ≢ 0 → first ≡ peekNumber g named s a (tablesOf xs ws ds)
@@ -91,7 +94,7 @@ module _ (g : Geometry) (named : List Bool) (s : State) (a : ℕ) (xs ws ds : Li
   third-is o h =
       place-number-is g (presentList g named (s .lost)) xs ws (zoneOf g a) s (offsetOf g a) (o .valid) (opened-readable g named s 0 0 xs ws ds (zoneOf g a) o h)
       ∙ ap (λ (p : ℕ → Bool). placeNumber g p (readDevice g xs ws) (viewState s) (zoneOf g a) (offsetOf g a)) (present-is g named s)
-      ∙ sym (place-durable g (callPresent g (isSet named) (viewState s)) xs ws ds (viewState s) (zoneOf g a) (offsetOf g a))
+      ∙ sym (place-seen g (callPresent g (isSet named) (viewState s)) xs ws ds (viewState s) (zoneOf g a) (offsetOf g a))
 
   pub peek-8 : first ≡ 0 → g .zones ≤ zoneOf g a → 8 ≡ peekNumber g named s a (tablesOf xs ws ds)
   peek-8 e h = let q = second-out g named s a 0 0 xs ws ds (opened g named s 0 0 (length xs) ws ds e) h in sym (peek-number-is ∙ rw (eq-eqb first 0 e, q) refl)

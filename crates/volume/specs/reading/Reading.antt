@@ -1,7 +1,7 @@
 -- Read and peek on the tables, and the laws by which their loops and refusals are proved.
 use mathlib.Core.Path.{_≡_, refl, sym, ap, ap₂, _∙_}
 use mathlib.Core.Logic.{_≢_}
-use mathlib.Core.Bool.{Bool, true, false, _&&_, _||_, not}
+use mathlib.Core.Bool.{Bool, true, false, _&&_, not}
 use Prim.Native.Nat.{ℕ, suc, _+_, _-_, _*_, _≤_, _<_}
 use native.Mathlib.Nat.{mul-le-mul, mul-le-mul-right, suc-mul}
 use native.Mathlib.Numerals.{add-one}
@@ -10,12 +10,12 @@ use native.Mathlib.Omega.{arith}
 use mathlib.Core.List.{List, [], _∷_, _++_, append-assoc, append-nil}
 use lib.ListN.{length, getD, take, drop, length-append, length-drop}
 use lib.Seq.{take-at, take-all, length-take-le}
-use lib.Dec.{ltb, leb, eqb}
-use borrow.Author.Tests.{lt-ltb, le-ltb, ltb-true, ltb-false, leb-true, eqb-true, eq-eqb, ne-eqb}
+use lib.Dec.{ltb, eqb}
+use borrow.Author.Tests.{lt-ltb, le-ltb, ltb-true, ltb-false, eqb-true, eq-eqb, ne-eqb}
 use Rattle.tables.specs.declared.Geometry.{Geometry}
 use Rattle.tables.specs.meaning.Basics.{pick}
 use Rattle.tables.specs.laws.Basics.{and-split, or-none}
-use Rattle.tables.specs.meaning.Below.{anyBelow, allBelow, tabulateFrom}
+use Rattle.tables.specs.meaning.Below.{anyBelow, tabulateFrom}
 use Rattle.tables.specs.laws.Below.{all-below-all, any-below-cong, tabulate-from-add, tabulate-from-cong}
 use Rattle.tables.specs.meaning.Lists.{concat}
 use Rattle.tables.specs.laws.Lists.{concat-append}
@@ -23,21 +23,27 @@ use Rattle.tables.specs.meaning.Geometry.{Valid, zoneSectors, dataZone}
 use Rattle.tables.specs.laws.Sizes.{zone-small}
 use Rattle.tables.specs.meaning.Placement.{needed}
 use Rattle.tables.specs.meaning.Device.{Device}
-use Rattle.tables.specs.meaning.Tables.{lengthsFit, bufferFits, pointersBad, Tables, tablesOf, deviceOf, cell}
+use Rattle.tables.specs.meaning.Tables.{lengthsFit, bufferFits, pointersBad, Tables, tablesOf, cell}
 use Rattle.volume.specs.declared.Condition.{Condition}
 use Rattle.volume.specs.declared.State.{State}
+use Rattle.volume.specs.declared.Zone.{Zone}
+use Rattle.volume.specs.declared.roles.LogPlaces.{LogPlaces}
 use Rattle.volume.specs.declared.Answer.the-variants.{Finished, Refused}
 use Rattle.volume.specs.meaning.State.{pointerIn, StateView, callPresent}
 use Rattle.volume.specs.meaning.Rules.{View, valueOf, known, valueAt}
+use Rattle.volume.specs.meaning.Roles.{byRoles}
 use Rattle.volume.specs.checks.ZoneChecks.{staleOn, Reached, reached}
 use Rattle.volume.specs.meaning.Refusals.{stateWithin, twoAbsent, firstRefusal, staleIn, stale, noZone, badRun, goneIn, zoneOf, offsetOf, readRows}
-use Rattle.tables.specs.meaning.Drives.{noDrive}
 use Rattle.tables.specs.meaning.GeometryTest.{isValid}
 use Rattle.tables.specs.laws.TablesFrame.{lengths-are, pointers-good}
 use Rattle.volume.specs.checks.CheckLaws.{presentList, present-is, absent-two, openingNumber, Opened, opened, after-four}
-use Rattle.volume.specs.meaning.CallContracts.{recordAt, viewState, isSet, verdictNumber, readNumber, valuesOn, readOn}
+use Rattle.volume.specs.meaning.CallContracts.{recordAt, viewState, isSet, verdictNumber, seenIn, readNumber, valuesOn, readOn}
 use Rattle.volume.specs.looking.Knowing.{readDevice, Readable, ownHeld, allHeld, ownSector}
-use Rattle.volume.specs.looking.KnowingLaws.{sectors-alike, view-durable, written-is}
+use Rattle.volume.specs.laws.RulesUnread.{value-alike}
+use Rattle.volume.specs.laws.CallsUnread.{gone-in-alike}
+use Rattle.volume.specs.looking.DriveLogs.{Sized}
+use Rattle.volume.specs.looking.SeenByRoles.{Seen, seen-rule, data-seen, view-seen}
+use Rattle.volume.specs.looking.KnowingLaws.{written-is}
 use Rattle.volume.specs.looking.KnowingValues.{value-held}
 
 -- ---- the rows after the opening: of a zone, and of count sectors from offset in it
@@ -58,9 +64,31 @@ runNumber g present v c n z offset count = verdictNumber (firstRefusal (runRows 
 unfoldable pub zoneNumberOn : Geometry → List Bool → List ℕ → State → ℕ → ℕ
 zoneNumberOn g here ws s z = pick (ltb z (g .zones)) (pick (staleOn g (isSet here) ws (recordAt s z .condition) z) 7 0) 8
 
--- refusals 7, 9, 13 and 15 of a zone that there is
-unfoldable pub lateNumber : Geometry → List Bool → List ℕ → List ℕ → Condition → ℕ → ℕ → ℕ → ℕ → ℕ
-lateNumber g here xs ws c n z offset count = pick (staleOn g (isSet here) ws c z) 7 (runNumber g (isSet here) (readDevice g xs ws) c n z offset count)
+-- refusals 9 and 13
+abbrev earlyNumber : Bool → Bool → ℕ
+earlyNumber bad past = verdictNumber (firstRefusal ((9, bad) ∷ (13, past) ∷ []))
+
+-- refusals 7, 9 and 13 of a zone that there is
+unfoldable pub lateNumber : Geometry → List Bool → List ℕ → Condition → ℕ → ℕ → ℕ → ℕ
+lateNumber g here ws c z offset count = pick (staleOn g (isSet here) ws c z) 7 (earlyNumber (badRun g offset count) (ltb (pointerIn c) (offset + count)))
+
+-- the device by its roles, without durable pointers
+abbrev pub readByRoles : Geometry → List ℕ → List ℕ → Device
+readByRoles g xs ws = byRoles g (readDevice g xs ws)
+
+-- what reading a run relies on, once refusals 1 to 4, 7 to 9 and 13 have passed
+pub record RunReady (zone : Zone) (xs ws : List ℕ) (pointer offset count : ℕ) (out : List ℕ) : Type 0 where
+  pub readable : Readable (zone .geometry) (zone .here) xs ws (zone .number)
+  pub first : zone .geometry .logs ≡ 0
+  pub run-in : offset + count ≤ zoneSectors (zone .geometry)
+  pub buffer : length out ≡ count * zone .geometry .sector
+  pub reaches : Reached (zone .geometry) (zone .here) ws (zone .number) pointer
+  pub below : offset + count ≤ pointer
+
+-- refusal 15, and what it leaves in the buffer: else the values
+pub record RunRead (zone : Zone) (xs ws : List ℕ) (offset count : ℕ) (out : List ℕ) (gone : Bool) (left : List ℕ) : Type 0 where
+  pub gone-is : gone ≡ goneIn (zone .geometry) (isSet (zone .here)) (readByRoles (zone .geometry) xs ws) (zone .number) (zone .generation) offset count
+  pub left-is : left ≡ pick gone out (valuesOn (zone .geometry) (isSet (zone .here)) (readByRoles (zone .geometry) xs ws) (zone .number) (zone .generation) offset count)
 
 -- ---- a buffer filled sector after sector
 pub run-small : (g : Geometry) (offset count i : ℕ) → Valid g → offset + count ≤ zoneSectors g → i < count → (i * g .sector + g .sector ≤ count * g .sector) × (count * g .sector ≤ 1879048192)
@@ -136,23 +164,31 @@ pub buffer-long : (g : Geometry) (count bytes : ℕ) → bufferFits g count byte
 unfolding bufferFits
 buffer-long g count bytes h = eqb-true bytes (count * g .sector) h
 
--- ---- no durable pointer is looked at
-stale-durable : (g : Geometry) (present : ℕ → Bool) (xs ws ds : List ℕ) (s : StateView) (z : ℕ) → stale g present (deviceOf g (tablesOf xs ws ds)) s z ≡ stale g present (readDevice g xs ws) s z
+-- ---- the device by its roles: the same data zones, and no durable pointer is looked at
+stale-data : (g : Geometry) (present : ℕ → Bool) (v w : Device) (s : StateView) (z : ℕ) → ((d : ℕ) → v d (dataZone z) .sectors ≡ w d (dataZone z) .sectors) → stale g present v s z ≡ stale g present w s z
 unfolding stale
-stale-durable g present xs ws ds s z i = ltb z (g .zones) && anyBelow (λ d. present d && staleIn (s .condition z) (length (sectors-alike g xs ws ds d (dataZone z) i)) (needed (g .drives) (g .unit) z (pointerIn (s .condition z)) d)) (g .drives)
+stale-data g present v w s z same i = ltb z (g .zones) && anyBelow (λ d. present d && staleIn (s .condition z) (length (same d i)) (needed (g .drives) (g .unit) z (pointerIn (s .condition z)) d)) (g .drives)
 
-pub zone-durable : (g : Geometry) (present : ℕ → Bool) (xs ws ds : List ℕ) (s : StateView) (z : ℕ) → zoneNumber g present (deviceOf g (tablesOf xs ws ds)) s z ≡ zoneNumber g present (readDevice g xs ws) s z
+zone-seen : (g : Geometry) (present : ℕ → Bool) (xs ws ds : List ℕ) (s : StateView) (z : ℕ) → zoneNumber g present (seenIn g (tablesOf xs ws ds)) s z ≡ zoneNumber g present (readDevice g xs ws) s z
 unfolding zoneNumber
-zone-durable g present xs ws ds s z = ap (λ (b : Bool). verdictNumber (firstRefusal ((7, b) ∷ (8, noZone g z) ∷ []))) (stale-durable g present xs ws ds s z)
+zone-seen g present xs ws ds s z = ap (λ (b : Bool). verdictNumber (firstRefusal ((7, b) ∷ (8, noZone g z) ∷ []))) (stale-data g present (seenIn g (tablesOf xs ws ds)) (readDevice g xs ws) s z (λ d. data-seen g xs ws ds d z))
 
-pub run-durable : (g : Geometry) (present : ℕ → Bool) (xs ws ds : List ℕ) (c : Condition) (n z offset count : ℕ) → runNumber g present (deviceOf g (tablesOf xs ws ds)) c n z offset count ≡ runNumber g present (readDevice g xs ws) c n z offset count
-unfolding runNumber goneIn
-run-durable g present xs ws ds c n z offset count =
-    ap (λ (v : View). verdictNumber (firstRefusal ((9, badRun g offset count) ∷ (13, ltb (pointerIn c) (offset + count)) ∷ (15, anyBelow (λ i. not (known (g .drives) (g .unit) z v (offset + i))) count) ∷ []))) (view-durable g present xs ws ds z n)
+gone-seen : (g : Geometry) → g .logs ≡ 0 → (present : ℕ → Bool) (xs ws ds : List ℕ) → Sized g xs ws → (z n offset count : ℕ) → goneIn g present (seenIn g (tablesOf xs ws ds)) z n offset count ≡ goneIn g present (readByRoles g xs ws) z n offset count
+unfolding goneIn
+gone-seen g first present xs ws ds sized z n offset count = ap (λ (v : View). anyBelow (λ i. not (known (g .drives) (g .unit) z v (offset + i))) count) (view-seen g first xs ws ds sized present z n)
 
-pub values-durable : (g : Geometry) (present : ℕ → Bool) (xs ws ds : List ℕ) (z n offset count : ℕ) → valuesOn g present (deviceOf g (tablesOf xs ws ds)) z n offset count ≡ valuesOn g present (readDevice g xs ws) z n offset count
+pub values-seen : (g : Geometry) → g .logs ≡ 0 → (present : ℕ → Bool) (xs ws ds : List ℕ) → Sized g xs ws → (z n offset count : ℕ) → valuesOn g present (seenIn g (tablesOf xs ws ds)) z n offset count ≡ valuesOn g present (readByRoles g xs ws) z n offset count
 unfolding valuesOn valueAt
-values-durable g present xs ws ds z n offset count = ap (λ (v : View). concat (tabulateFrom (valueOf (g .drives) (g .unit) z v) offset count)) (view-durable g present xs ws ds z n)
+values-seen g first present xs ws ds sized z n offset count = ap (λ (v : View). concat (tabulateFrom (valueOf (g .drives) (g .unit) z v) offset count)) (view-seen g first xs ws ds sized present z n)
+
+-- as the code sees the device by its roles
+module _ (g : Geometry) (xs ws : List ℕ) (p : LogPlaces) (ps : List ℕ) (s : Seen g xs ws p ps) (present : ℕ → Bool) (z n offset count : ℕ) where
+  pub gone-placed : goneIn (p .geometry) present (readDevice (p .geometry) xs ps) z n offset count ≡ goneIn g present (readByRoles g xs ws) z n offset count
+  gone-placed = seen-rule g xs ws p ps s (λ (k : Geometry) (v : Device). goneIn k present v z n offset count) (λ m v. gone-in-alike g m present v z n offset count) []
+
+  pub values-placed : valuesOn (p .geometry) present (readDevice (p .geometry) xs ps) z n offset count ≡ valuesOn g present (readByRoles g xs ws) z n offset count
+  unfolding valuesOn
+  values-placed = seen-rule g xs ws p ps s (λ (k : Geometry) (v : Device). valuesOn k present v z n offset count) (λ m v. ap (λ (f : ℕ → List ℕ). concat (tabulateFrom f offset count)) (value-alike g m present v z n)) []
 
 -- ---- the rows of a read: the opening's, its zone's, its run's
 pub after-two : (a b : Bool) (rest : List (ℕ × Bool)) → verdictNumber (firstRefusal ((7, a) ∷ (8, b) ∷ rest))
@@ -174,11 +210,19 @@ three a b c h = go (ℕ-discrete a 0) (ℕ-discrete b 0)
     go (yes p) (no q) = absurd (q (rw (eq-eqb a 0 p, ne-eqb b 0 q) at h))
     go (no p) q = absurd (p (rw (ne-eqb a 0 p) at h))
 
-run-none : (a b c : Bool) → verdictNumber (firstRefusal ((9, a) ∷ (13, b) ∷ (15, c) ∷ [])) ≡ 0 → (a ≡ false) × (b ≡ false) × (c ≡ false)
-run-none false false false h = (refl, refl, refl)
-run-none false false true h = absurd (omega arith)
-run-none false true c h = absurd (omega arith)
-run-none true b c h = absurd (omega arith)
+-- stale, then the run's rows: the numbers that need no log, then 15
+late-then : (s a b c : Bool) → pick (eqb (pick s 7 0) 0) (verdictNumber (firstRefusal ((9, a) ∷ (13, b) ∷ (15, c) ∷ []))) (pick s 7 0) ≡ pick (eqb (pick s 7 (earlyNumber a b)) 0) (pick c 15 0) (pick s 7 (earlyNumber a b))
+late-then true a b c = refl
+late-then false true b c = refl
+late-then false false true c = refl
+late-then false false false true = refl
+late-then false false false false = refl
+
+late-none : (s a b : Bool) → pick s 7 (earlyNumber a b) ≡ 0 → (s ≡ false) × (a ≡ false) × (b ≡ false)
+late-none false false false h = (refl, refl, refl)
+late-none false false true h = absurd (omega arith)
+late-none false true b h = absurd (omega arith)
+late-none true a b h = absurd (omega arith)
 
 pub zone-on-in : (g : Geometry) (here : List Bool) (ws : List ℕ) (s : State) (z : ℕ) → zoneNumberOn g here ws s z ≡ 0 → z < g .zones
 unfolding zoneNumberOn
@@ -188,31 +232,23 @@ zone-on-in g here ws s z h = go (ltb z (g .zones)) refl h
     go true e k = ltb-true z (g .zones) e
     go false e k = absurd (omega (arith, k))
 
-pub zone-on-fresh : (g : Geometry) (here : List Bool) (ws : List ℕ) (s : State) (z : ℕ) → zoneNumberOn g here ws s z ≡ 0 → staleOn g (isSet here) ws (recordAt s z .condition) z ≡ false
-unfolding zoneNumberOn
-zone-on-fresh g here ws s z h = go (staleOn g (isSet here) ws (recordAt s z .condition) z) (rw (lt-ltb z (g .zones) (zone-on-in g here ws s z h)) at h)
-  where
-    go : (b : Bool) → _≡_ {A = ℕ} (pick b 7 0) 0 → b ≡ false
-    go true k = absurd (omega (arith, k))
-    go false k = refl
-
 module _ (g : Geometry) (named : List Bool) (s : State) (a count bytes : ℕ) (xs ws ds : List ℕ) where
   abbrev first : ℕ
   first = openingNumber g named s count bytes (length xs) ws ds
 
   abbrev second : ℕ
-  second = zoneNumber g (callPresent g (isSet named) (viewState s)) (deviceOf g (tablesOf xs ws ds)) (viewState s) (zoneOf g a)
+  second = zoneNumber g (callPresent g (isSet named) (viewState s)) (seenIn g (tablesOf xs ws ds)) (viewState s) (zoneOf g a)
 
   abbrev third : ℕ
-  third = runNumber g (callPresent g (isSet named) (viewState s)) (deviceOf g (tablesOf xs ws ds)) (recordAt s (zoneOf g a) .condition) (recordAt s (zoneOf g a) .generation) (zoneOf g a) (offsetOf g a) count
+  third = runNumber g (callPresent g (isSet named) (viewState s)) (seenIn g (tablesOf xs ws ds)) (recordAt s (zoneOf g a) .condition) (recordAt s (zoneOf g a) .generation) (zoneOf g a) (offsetOf g a) count
 
   pub read-number-is : readNumber g named s a count bytes (tablesOf xs ws ds) ≡ pick (eqb first 0) (pick (eqb second 0) third second) first
   unfolding readNumber readRows openingNumber zoneNumber runNumber
   read-number-is =
       rw (absent-two g named s) (after-four (not (isValid g && stateWithin g (viewState s))) (not (lengthsFit g (length xs) (length ws) (length ds) && bufferFits g count bytes)) (pointersBad g named ws ds) (twoAbsent g (isSet named) (viewState s))
-      (zoneRows g (callPresent g (isSet named) (viewState s)) (deviceOf g (tablesOf xs ws ds)) (viewState s) (zoneOf g a) ++ runRows g (callPresent g (isSet named) (viewState s)) (deviceOf g (tablesOf xs ws ds)) (recordAt s (zoneOf g a) .condition) (recordAt s (zoneOf g a) .generation) (zoneOf g a) (offsetOf g a) count)
+      (zoneRows g (callPresent g (isSet named) (viewState s)) (seenIn g (tablesOf xs ws ds)) (viewState s) (zoneOf g a) ++ runRows g (callPresent g (isSet named) (viewState s)) (seenIn g (tablesOf xs ws ds)) (recordAt s (zoneOf g a) .condition) (recordAt s (zoneOf g a) .generation) (zoneOf g a) (offsetOf g a) count)
       ∙ ap (λ (n : ℕ). pick (eqb (verdictNumber (firstRefusal ((1, not (isValid g && stateWithin g (viewState s))) ∷ (2, not (lengthsFit g (length xs) (length ws) (length ds) && bufferFits g count bytes)) ∷ (3, pointersBad g named ws ds) ∷ (4, twoAbsent g (isSet named) (viewState s)) ∷ []))) 0) n (verdictNumber (firstRefusal ((1, not (isValid g && stateWithin g (viewState s))) ∷ (2, not (lengthsFit g (length xs) (length ws) (length ds) && bufferFits g count bytes)) ∷ (3, pointersBad g named ws ds) ∷ (4, twoAbsent g (isSet named) (viewState s)) ∷ []))))
-      (after-two (stale g (callPresent g (isSet named) (viewState s)) (deviceOf g (tablesOf xs ws ds)) (viewState s) (zoneOf g a)) (noZone g (zoneOf g a)) (runRows g (callPresent g (isSet named) (viewState s)) (deviceOf g (tablesOf xs ws ds)) (recordAt s (zoneOf g a) .condition) (recordAt s (zoneOf g a) .generation) (zoneOf g a) (offsetOf g a) count)))
+      (after-two (stale g (callPresent g (isSet named) (viewState s)) (seenIn g (tablesOf xs ws ds)) (viewState s) (zoneOf g a)) (noZone g (zoneOf g a)) (runRows g (callPresent g (isSet named) (viewState s)) (seenIn g (tablesOf xs ws ds)) (recordAt s (zoneOf g a) .condition) (recordAt s (zoneOf g a) .generation) (zoneOf g a) (offsetOf g a) count)))
 
   -- the number, case by case
   pub read-first : first ≢ 0 → first ≡ readNumber g named s a count bytes (tablesOf xs ws ds)
@@ -223,17 +259,24 @@ module _ (g : Geometry) (named : List Bool) (s : State) (a count bytes : ℕ) (x
   unfolding zoneNumber zoneNumberOn stale
   second-is o = go (decLt (zoneOf g a) (g .zones))
     where
-      go : Dec (zoneOf g a < g .zones) → zoneNumberOn g (presentList g named (s .lost)) ws s (zoneOf g a) ≡ zoneNumber g (callPresent g (isSet named) (viewState s)) (deviceOf g (tablesOf xs ws ds)) (viewState s) (zoneOf g a)
+      go : Dec (zoneOf g a < g .zones) → zoneNumberOn g (presentList g named (s .lost)) ws s (zoneOf g a) ≡ zoneNumber g (callPresent g (isSet named) (viewState s)) (seenIn g (tablesOf xs ws ds)) (viewState s) (zoneOf g a)
       go (yes h) =
           sym (zone-number-is g (presentList g named (s .lost)) xs ws (zoneOf g a) (opened-readable g named s count bytes xs ws ds (zoneOf g a) o h) s)
           ∙ ap (λ (p : ℕ → Bool). zoneNumber g p (readDevice g xs ws) (viewState s) (zoneOf g a)) (present-is g named s)
-          ∙ sym (zone-durable g (callPresent g (isSet named) (viewState s)) xs ws ds (viewState s) (zoneOf g a))
+          ∙ sym (zone-seen g (callPresent g (isSet named) (viewState s)) xs ws ds (viewState s) (zoneOf g a))
       go (no h) = rw (le-ltb (zoneOf g a) (g .zones) (omega arith)) refl
 
-  pub third-is : runNumber g (isSet (presentList g named (s .lost))) (readDevice g xs ws) (recordAt s (zoneOf g a) .condition) (recordAt s (zoneOf g a) .generation) (zoneOf g a) (offsetOf g a) count ≡ third
-  third-is =
-      ap (λ (p : ℕ → Bool). runNumber g p (readDevice g xs ws) (recordAt s (zoneOf g a) .condition) (recordAt s (zoneOf g a) .generation) (zoneOf g a) (offsetOf g a) count) (present-is g named s)
-      ∙ sym (run-durable g (callPresent g (isSet named) (viewState s)) xs ws ds (recordAt s (zoneOf g a) .condition) (recordAt s (zoneOf g a) .generation) (zoneOf g a) (offsetOf g a) count)
+  -- whether some sector is not known, as the code finds it
+  abbrev gone : Bool
+  gone = goneIn g (isSet (presentList g named (s .lost))) (readByRoles g xs ws) (zoneOf g a) (recordAt s (zoneOf g a) .generation) (offsetOf g a) count
+
+  opened-sized : Opened g named s count bytes (length xs) ws ds → Sized g xs ws
+  opened-sized o = let l = lengths-are g (length xs) (length ws) (length ds) (o .lengths) in record { sectors-long = l .0; written-long = l .1 }
+
+  gone-is : Opened g named s count bytes (length xs) ws ds → gone ≡ goneIn g (callPresent g (isSet named) (viewState s)) (seenIn g (tablesOf xs ws ds)) (zoneOf g a) (recordAt s (zoneOf g a) .generation) (offsetOf g a) count
+  gone-is o =
+      ap (λ (p : ℕ → Bool). goneIn g p (readByRoles g xs ws) (zoneOf g a) (recordAt s (zoneOf g a) .generation) (offsetOf g a) count) (present-is g named s)
+      ∙ sym (gone-seen g (o .logs-first) (callPresent g (isSet named) (viewState s)) xs ws ds (opened-sized o) (zoneOf g a) (recordAt s (zoneOf g a) .generation) (offsetOf g a) count)
 
   -- of a zone that there is, and of none
   pub second-in : Opened g named s count bytes (length xs) ws ds → zoneOf g a < g .zones → second ≡ pick (staleOn g (isSet (presentList g named (s .lost))) ws (recordAt s (zoneOf g a) .condition) (zoneOf g a)) 7 0
@@ -247,37 +290,46 @@ module _ (g : Geometry) (named : List Bool) (s : State) (a count bytes : ℕ) (x
   pub read-8 : first ≡ 0 → g .zones ≤ zoneOf g a → 8 ≡ readNumber g named s a count bytes (tablesOf xs ws ds)
   read-8 e h = let q = second-out (opened g named s count bytes (length xs) ws ds e) h in sym (read-number-is ∙ rw (eq-eqb first 0 e, q) refl)
 
-  pub read-late : first ≡ 0 → zoneOf g a < g .zones
-      → lateNumber g (presentList g named (s .lost)) xs ws (recordAt s (zoneOf g a) .condition) (recordAt s (zoneOf g a) .generation) (zoneOf g a) (offsetOf g a) count ≡ readNumber g named s a count bytes (tablesOf xs ws ds)
-  unfolding lateNumber
-  read-late e h =
-      let b = staleOn g (isSet (presentList g named (s .lost))) ws (recordAt s (zoneOf g a) .condition) (zoneOf g a) in
-      ap (λ (n : ℕ). pick b 7 n) third-is ∙ after-zone b second third (second-in (opened g named s count bytes (length xs) ws ds e) h)
-      ∙ sym (read-number-is ∙ ap (λ (c : Bool). pick c (pick (eqb second 0) third second) first) (eq-eqb first 0 e))
+  -- the numbers that need no log, as the code finds them
+  abbrev late : ℕ
+  late = lateNumber g (presentList g named (s .lost)) ws (recordAt s (zoneOf g a) .condition) (zoneOf g a) (offsetOf g a) count
 
-  -- what an accepted read may rely on
+  late-is : first ≡ 0 → zoneOf g a < g .zones → readNumber g named s a count bytes (tablesOf xs ws ds) ≡ pick (eqb late 0) (pick gone 15 0) late
+  unfolding lateNumber runNumber
+  late-is e h =
+      let o = opened g named s count bytes (length xs) ws ds e in
+      let b = staleOn g (isSet (presentList g named (s .lost))) ws (recordAt s (zoneOf g a) .condition) (zoneOf g a) in
+      let bad = badRun g (offsetOf g a) count in
+      let past = ltb (pointerIn (recordAt s (zoneOf g a) .condition)) (offsetOf g a + count) in
+      read-number-is ∙ ap (λ (c : Bool). pick c (pick (eqb second 0) third second) first) (eq-eqb first 0 e)
+      ∙ ap (λ (n : ℕ). pick (eqb n 0) third n) (second-in o h)
+      ∙ ap (λ (c : Bool). pick (eqb (pick b 7 0) 0) (verdictNumber (firstRefusal ((9, bad) ∷ (13, past) ∷ (15, c) ∷ []))) (pick b 7 0)) (sym (gone-is o)) ∙ late-then b bad past gone
+
+  pub read-late : first ≡ 0 → zoneOf g a < g .zones → late ≢ 0 → late ≡ readNumber g named s a count bytes (tablesOf xs ws ds)
+  read-late e h n = sym (late-is e h ∙ ap (λ (c : Bool). pick c (pick gone 15 0) late) (ne-eqb late 0 n))
+
+  pub read-last : first ≡ 0 → zoneOf g a < g .zones → late ≡ 0 → pick gone 15 0 ≡ readNumber g named s a count bytes (tablesOf xs ws ds)
+  read-last e h n = sym (late-is e h ∙ ap (λ (c : Bool). pick c (pick gone 15 0) late) (eq-eqb late 0 n))
+
+  -- what passing them gives
   pub record ReadFits : Type 0 where
     pub passed : Opened g named s count bytes (length xs) ws ds
-    pub zone-in : zoneOf g a < g .zones
+    pub sized : Sized g xs ws
     pub run-in : offsetOf g a + count ≤ zoneSectors g
-    pub reached-here : Reached g (presentList g named (s .lost)) ws (zoneOf g a) (pointerIn (recordAt s (zoneOf g a) .condition))
-    pub run-written : offsetOf g a + count ≤ pointerIn (recordAt s (zoneOf g a) .condition)
-    pub none-gone : goneIn g (isSet (presentList g named (s .lost))) (readDevice g xs ws) (zoneOf g a) (recordAt s (zoneOf g a) .generation) (offsetOf g a) count ≡ false
+    pub reaches : Reached g (presentList g named (s .lost)) ws (zoneOf g a) (pointerIn (recordAt s (zoneOf g a) .condition))
+    pub below : offsetOf g a + count ≤ pointerIn (recordAt s (zoneOf g a) .condition)
 
-  pub read-accepted : readNumber g named s a count bytes (tablesOf xs ws ds) ≡ 0 → ReadFits
-  unfolding runNumber
-  read-accepted h =
-      let (p, q, t) = three first second third (sym read-number-is ∙ h) in
-      let o = opened g named s count bytes (length xs) ws ds p in
-      let z = zone-on-in g (presentList g named (s .lost)) ws s (zoneOf g a) (second-is o ∙ q) in
-      let (u, v, w) = run-none (badRun g (offsetOf g a) count) (ltb (pointerIn (recordAt s (zoneOf g a) .condition)) (offsetOf g a + count)) (goneIn g (isSet (presentList g named (s .lost))) (readDevice g xs ws) (zoneOf g a) (recordAt s (zoneOf g a) .generation) (offsetOf g a) count) (third-is ∙ t) in
+  pub read-fits : first ≡ 0 → late ≡ 0 → ReadFits
+  unfolding lateNumber
+  read-fits e n =
+      let o = opened g named s count bytes (length xs) ws ds e in
+      let (fresh, run, past) = late-none (staleOn g (isSet (presentList g named (s .lost))) ws (recordAt s (zoneOf g a) .condition) (zoneOf g a)) (badRun g (offsetOf g a) count) (ltb (pointerIn (recordAt s (zoneOf g a) .condition)) (offsetOf g a + count)) n in
       record {
         passed = o;
-        zone-in = z;
-        run-in = ltb-false (zoneSectors g) (offsetOf g a + count) (or-none (eqb count 0) (ltb (zoneSectors g) (offsetOf g a + count)) u .1);
-        reached-here = reached g (presentList g named (s .lost)) ws (recordAt s (zoneOf g a) .condition) (zoneOf g a) (o .drives) (zone-on-fresh g (presentList g named (s .lost)) ws s (zoneOf g a) (second-is o ∙ q));
-        run-written = ltb-false (pointerIn (recordAt s (zoneOf g a) .condition)) (offsetOf g a + count) v;
-        none-gone = w;
+        sized = opened-sized o;
+        run-in = ltb-false (zoneSectors g) (offsetOf g a + count) (or-none (eqb count 0) (ltb (zoneSectors g) (offsetOf g a + count)) run .1);
+        reaches = reached g (presentList g named (s .lost)) ws (recordAt s (zoneOf g a) .condition) (zoneOf g a) (o .drives) fresh;
+        below = ltb-false (pointerIn (recordAt s (zoneOf g a) .condition)) (offsetOf g a + count) past;
       }
 
 -- ---- how a read ends
@@ -287,6 +339,6 @@ module _ (g : Geometry) (named : List Bool) (s : State) (a count : ℕ) (out : L
   read-refused h = rw (ne-eqb (readNumber g named s a count (length out) t) 0 h) (refl, refl)
 
   pub read-done : readNumber g named s a count (length out) t ≡ 0 → (readOn g named s a count out t .answer ≡ Finished)
-      × (readOn g named s a count out t .buffer ≡ valuesOn g (callPresent g (isSet named) (viewState s)) (deviceOf g t) (zoneOf g a) (recordAt s (zoneOf g a) .generation) (offsetOf g a) count)
+      × (readOn g named s a count out t .buffer ≡ valuesOn g (callPresent g (isSet named) (viewState s)) (seenIn g t) (zoneOf g a) (recordAt s (zoneOf g a) .generation) (offsetOf g a) count)
   unfolding readOn
   read-done h = rw (eq-eqb (readNumber g named s a count (length out) t) 0 h) (refl, refl)

@@ -1,33 +1,39 @@
 -- Why a read needs no log but for the pointer's own stripe. A run that has passed refusals 4, 7 and 13 lies below the pointer of a zone whose
 -- present drives have what that pointer needs. With all drives present each of its sectors is held. With one absent a sector of a stripe that is
 -- complete below the pointer is held, or the parity of its row is in place with all other data: whatever the seals say.
-use mathlib.Core.Path.{_≡_, refl, sym, ap, _∙_}
+use mathlib.Core.Path.{_≡_, refl, sym, ap, ap₂, _∙_, fun-ext}
 use mathlib.Core.Logic.{_≢_}
 use mathlib.Core.Bool.{Bool, true, false, _||_, not, true≢false}
 use Prim.Native.Nat.{ℕ, _+_, _-_, _*_, _≤_, _<_}
 use native.Mathlib.Omega.{arith}
-use mathlib.Core.List.{List}
-use lib.ListN.{getD}
+use mathlib.Core.List.{List, []}
+use lib.ListN.{length, getD}
 use lib.Dec.{ltb, leb, eqb}
-use borrow.Author.Tests.{lt-ltb, ltb-false, le-leb, eqb-false}
+use borrow.Author.Tests.{lt-ltb, le-ltb, ltb-false, le-leb, eqb-false}
 use Rattle.tables.specs.declared.Geometry.{Geometry}
 use Rattle.tables.specs.meaning.Basics.{pick}
 use Rattle.tables.specs.laws.Basics.{and-join, or-left, or-right}
 use Rattle.tables.specs.meaning.Below.{allBelow, countBelow}
-use Rattle.tables.specs.laws.Below.{all-all-below, none-any-below, some-count-below, two-count-below}
+use Rattle.tables.specs.laws.Below.{all-all-below, none-any-below, some-count-below, two-count-below, tabulate-from-cong}
+use Rattle.tables.specs.meaning.Lists.{concat}
+use Rattle.tables.specs.meaning.Xor.{xorBytes}
+use Rattle.tables.specs.meaning.Device.{Device}
 use Rattle.tables.specs.meaning.Geometry.{Valid, stripeSectors, zoneSectors, dataZone}
 use Rattle.tables.specs.meaning.Placement.{needed, driveOf, sectorOf, stripeOf, unitIndex, rowIndex}
 use Rattle.tables.specs.laws.Placement.{unit-injective, unit-index-below, row-index-below, drive-below, drive-not-parity, address-drive, address-sector, needed-iff, needed-parity, complete-lt, stripe-lt, sector-sum, drive-of-unit}
 use Rattle.tables.specs.meaning.Tables.{cell}
+use Rattle.volume.specs.declared.Zone.{Zone}
 use Rattle.volume.specs.declared.knowing.Source.{Source}
 use Rattle.volume.specs.declared.knowing.Source.the-variants.{Unknown, Held, Row, Entry}
-use Rattle.volume.specs.meaning.Rules.{parityOf, rowDrive, rowAddress, known, zoneView, sealLimit}
+use Rattle.volume.specs.meaning.Rules.{ParityEntry, View, isFound, parityOf, rowDrive, rowAddress, heldAt, byParity, entryFor, known, othersXor, fromEntry, valueOf, parityEntries, sealLimit, servingEntries, viewOf, zoneView, valueAt}
 use Rattle.volume.specs.meaning.Refusals.{goneIn}
-use Rattle.volume.specs.meaning.CallContracts.{isSet}
+use Rattle.volume.specs.meaning.CallContracts.{isSet, valuesOn}
 use Rattle.volume.specs.checks.ZoneChecks.{Reached, needsLog, second-fails}
 use Rattle.volume.specs.looking.Knowing.{readDevice, Readable, ownHeld, allHeld, heldOn, rowHeld, stripeEnd, reachOf, rowComplete, servingPlace, sourceOf, hasSource}
-use Rattle.volume.specs.looking.KnowingLaws.{least-failing, parity-in, row-drive-in}
+use Rattle.volume.specs.looking.KnowingLaws.{held-is, by-parity-is, least-failing, parity-in, row-drive-in}
 use Rattle.volume.specs.looking.KnowingEntries.{known-is}
+use Rattle.volume.specs.looking.SeenByRoles.{data-seen}
+use Rattle.volume.specs.reading.Reading.{readByRoles, RunReady, RunRead}
 
 -- a limit serves a run: it finds each sector by the way that the zone's least current seal finds
 pub record LimitServes (g : Geometry) (here : List Bool) (xs ws : List ℕ) (z generation limit offset count : ℕ) : Type 0 where
@@ -137,6 +143,43 @@ direct-has-source g here xs ws z generation a limit h =
     go false true k v = refl
     go false false k v = absurd (true≢false (sym k))
 
+-- ---- such a sector is known, and its value the same, on every device with these data zones: no log has a say
+module _ (D U z a : ℕ) (present : ℕ → Bool) where
+  -- a view of data zones and entries
+  abbrev viewWith : (ℕ → List (List ℕ)) → (ℕ → List ParityEntry) → View
+  viewWith zones logs = record { present = present; written = λ d. length (zones d); sectorAt = λ d x. getD (zones d) x []; entries = logs }
+
+  abbrev direct : View → Bool
+  direct v = heldAt v (driveOf D U z a) (sectorOf D U a) || byParity D U z v a
+
+  any-entries : (zones : ℕ → List (List ℕ)) (logs others : ℕ → List ParityEntry) → direct (viewWith zones logs) ≡ true
+      → (known D U z (viewWith zones others) a ≡ true) × (valueOf D U z (viewWith zones logs) a ≡ valueOf D U z (viewWith zones others) a)
+  any-entries zones logs others h = go (heldAt (viewWith zones logs) (driveOf D U z a) (sectorOf D U a)) (byParity D U z (viewWith zones logs) a) h
+    where
+      go : (b c : Bool) → b || c ≡ true
+          → (b || (c || isFound (entryFor D U z (viewWith zones others) a)) ≡ true)
+          × (pick b (getD (zones (driveOf D U z a)) (sectorOf D U a) []) (pick c (xorBytes (othersXor D U z (viewWith zones logs) a) (getD (zones (parityOf D U z a)) (sectorOf D U a) [])) (fromEntry D U z (viewWith zones logs) a (entryFor D U z (viewWith zones logs) a)))
+          ≡ pick b (getD (zones (driveOf D U z a)) (sectorOf D U a) []) (pick c (xorBytes (othersXor D U z (viewWith zones logs) a) (getD (zones (parityOf D U z a)) (sectorOf D U a) [])) (fromEntry D U z (viewWith zones others) a (entryFor D U z (viewWith zones others) a))))
+      go true c k = (refl, refl)
+      go false true k = (refl, refl)
+      go false false k = absurd (true≢false (sym k))
+
+  same-data : (zones zones′ : ℕ → List (List ℕ)) (logs others : ℕ → List ParityEntry) → zones ≡ zones′ → direct (viewWith zones logs) ≡ true
+      → (known D U z (viewWith zones′ others) a ≡ true) × (valueOf D U z (viewWith zones logs) a ≡ valueOf D U z (viewWith zones′ others) a)
+  same-data zones zones′ logs others e h =
+      let (p, q) = any-entries zones′ logs others (ap (λ (y : ℕ → List (List ℕ)). direct (viewWith y logs)) (sym e) ∙ h) in
+      (p, ap (λ (y : ℕ → List (List ℕ)). valueOf D U z (viewWith y logs) a) e ∙ q)
+
+module _ (g : Geometry) (ok : Valid g) (here : List Bool) (xs ws : List ℕ) (z : ℕ) (readable : Readable g here xs ws z) (w : Device) (same : (d : ℕ) → w d (dataZone z) .sectors ≡ readDevice g xs ws d (dataZone z) .sectors) where
+  pub direct-same : (n a : ℕ) → directly g here ws z a ≡ true
+      → (known (g .drives) (g .unit) z (zoneView g (isSet here) w z n) a ≡ true) × (valueAt g (isSet here) (readDevice g xs ws) z n a ≡ valueAt g (isSet here) w z n a)
+  unfolding zoneView viewOf valueAt
+  direct-same n a h =
+      let v = readDevice g xs ws in
+      same-data (g .drives) (g .unit) z a (isSet here) (λ d. v d (dataZone z) .sectors) (λ d. w d (dataZone z) .sectors)
+      (λ d. servingEntries g z n (sealLimit g (isSet here) v z n) (parityEntries g v d)) (λ d. servingEntries g z n (sealLimit g (isSet here) w z n) (parityEntries g w d)) (fun-ext λ d. sym (same d))
+      (ap₂ (λ (b c : Bool). b || c) (held-is g here xs ws z readable n (driveOf (g .drives) (g .unit) z a) (sectorOf (g .drives) (g .unit) a) (drive-below (g .drives) (g .unit) z (omega (arith, ok .drives-least)) (ok .unit-least) a)) (by-parity-is g here xs ws z readable ok n a) ∙ h)
+
 module _ (g : Geometry) (ok : Valid g) (here : List Bool) (xs ws : List ℕ) (z n : ℕ) (readable : Readable g here xs ws z) (r : Reached g here ws z n) (generation offset count : ℕ) (below : offset + count ≤ n) where
   pub none-gone : offset + count ≤ zoneSectors g → needsLog g here n (offset + count) ≡ false → goneIn g (isSet here) (readDevice g xs ws) z generation offset count ≡ false
   unfolding goneIn
@@ -151,3 +194,32 @@ module _ (g : Geometry) (ok : Valid g) (here : List Bool) (xs ws : List ℕ) (z 
       go : (b : Bool) → needsLog g here n (offset + count) ≡ b → LimitServes g here xs ws z generation (pick b (sealLimit g (isSet here) (readDevice g xs ws) z generation) 0) offset count
       go true e = record { same-source = λ i l. refl }
       go false e = record { same-source = λ i l. direct-way g here xs ws z generation (offset + i) 0 (sealLimit g (isSet here) (readDevice g xs ws) z generation) (known-directly g ok here ws z n r (offset + count) (offset + i) below e (omega (arith, l))) }
+
+  -- by every device with these data zones
+  module _ (w : Device) (same : (d : ℕ) → w d (dataZone z) .sectors ≡ readDevice g xs ws d (dataZone z) .sectors) (none : needsLog g here n (offset + count) ≡ false) where
+    pub direct-none-gone : goneIn g (isSet here) w z generation offset count ≡ false
+    unfolding goneIn
+    direct-none-gone = none-any-below (λ i. not (known (g .drives) (g .unit) z (zoneView g (isSet here) w z generation) (offset + i))) count
+        (λ i l. ap not (direct-same g ok here xs ws z readable w same generation (offset + i) (known-directly g ok here ws z n r (offset + count) (offset + i) below none (omega (arith, l))) .0))
+
+    pub direct-values : valuesOn g (isSet here) (readDevice g xs ws) z generation offset count ≡ valuesOn g (isSet here) w z generation offset count
+    unfolding valuesOn
+    direct-values = ap concat (tabulate-from-cong (valueAt g (isSet here) (readDevice g xs ws) z generation) (valueAt g (isSet here) w z generation) offset offset count
+        (λ i l. direct-same g ok here xs ws z readable w same generation (offset + i) (known-directly g ok here ws z n r (offset + count) (offset + i) below none (omega (arith, l))) .1))
+
+-- no drive absent: no log is needed
+pub none-needed : (g : Geometry) (here : List Bool) (n end : ℕ) → countBelow (λ d. not (isSet here d)) (g .drives) ≡ 0 → needsLog g here n end ≡ false
+unfolding needsLog
+none-needed g here n end e = rw (le-ltb 0 (countBelow (λ d. not (isSet here d)) (g .drives)) (omega (arith, e))) refl
+
+-- A READ WITHOUT LOGS is the read by roles
+pub read-directly : (zone : Zone) → Valid (zone .geometry) → (xs ws : List ℕ) (pointer offset count : ℕ) (out left : List ℕ) → RunReady zone xs ws pointer offset count out
+    → needsLog (zone .geometry) (zone .here) pointer (offset + count) ≡ false → left ≡ valuesOn (zone .geometry) (isSet (zone .here)) (readDevice (zone .geometry) xs ws) (zone .number) (zone .generation) offset count
+    → RunRead zone xs ws offset count out false left
+read-directly zone ok xs ws pointer offset count out left r none e =
+    let g = zone .geometry in
+    let same : (d : ℕ) → readByRoles g xs ws d (dataZone (zone .number)) .sectors ≡ readDevice g xs ws d (dataZone (zone .number)) .sectors = λ d. data-seen g xs ws [] d (zone .number) in
+    record {
+      gone-is = sym (direct-none-gone g ok (zone .here) xs ws (zone .number) pointer (r .readable) (r .reaches) (zone .generation) offset count (r .below) (readByRoles g xs ws) same none);
+      left-is = e ∙ direct-values g ok (zone .here) xs ws (zone .number) pointer (r .readable) (r .reaches) (zone .generation) offset count (r .below) (readByRoles g xs ws) same none;
+    }

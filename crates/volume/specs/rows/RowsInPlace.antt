@@ -1,6 +1,6 @@
 -- Rows of parity built in the lent sectors where they will lie, from the content of a zone: sectors that are known below the pointers of an earlier
 -- moment, and sectors of a buffer. A place at or past those pointers is free: what is laid there changes no sector that is read.
-use mathlib.Core.Path.{_≡_, refl, sym, ap, _∙_}
+use mathlib.Core.Path.{_≡_, refl, sym, ap, ap₂, _∙_}
 use mathlib.Core.Bool.{Bool, true, false}
 use Prim.Native.Nat.{ℕ, zero, suc, _+_, _-_, _*_, _≤_, _<_}
 use native.Mathlib.Nat.{le-refl}
@@ -20,9 +20,9 @@ use Rattle.tables.specs.meaning.Geometry.{Valid, physicalZones, cells, totalByt
 use Rattle.tables.specs.meaning.Device.{Device, Store}
 use Rattle.tables.specs.meaning.Placement.{driveOf, sectorOf, address}
 use Rattle.tables.specs.laws.Placement.{address-sum}
-use Rattle.tables.specs.meaning.Tables.{tablesOf, cell, byteAt, sectorNo}
+use Rattle.tables.specs.meaning.Tables.{cell, byteAt, sectorNo}
 use Rattle.tables.specs.laws.Made.{MadeAppends}
-use Rattle.tables.specs.laws.Tables.{sector-in}
+use Rattle.tables.specs.laws.Tables.{cell-in}
 use Rattle.volume.specs.declared.rows.Extent.{Extent}
 use Rattle.volume.specs.declared.rows.Target.{Target}
 use Rattle.volume.specs.meaning.Content.{rowXorBelow}
@@ -32,7 +32,8 @@ use Rattle.volume.specs.meaning.Rules.{known, zoneView, sealLimit, value
 use Rattle.volume.specs.meaning.CallContracts.{isSet}
 use Rattle.volume.specs.looking.Knowing.{Readable, readDevice, ownHeld}
 use Rattle.volume.specs.looking.KnowingValues.{sector-within}
-use Rattle.volume.specs.rows.KeptBelow.{StoresIn, Behind, made-keeps, kept-device, place-apart, laid-past}
+use Rattle.volume.specs.rows.SameShape.{SameShape, shape-zones, shape-cells}
+use Rattle.volume.specs.rows.KeptBelow.{StoresIn, Behind, kept-device, place-apart, place-fits, laid-past, stored-keeps}
 
 -- ---- the content
 unfoldable pub contentOf : Extent → Device → List ℕ → ℕ → List ℕ
@@ -94,21 +95,19 @@ stripe-kept k xs ps buffer s m xs′ l e = record { member = λ a h. member-kept
 
 -- ---- a free place: a whole sector, at or past the pointers
 pub record FreePlace (g : Geometry) (ps : List ℕ) (to : ℕ) : Type 0 where
-  pub drive : ℕ
-  pub zone : ℕ
+  pub zone : ℕ  -- its cell in the tables of pointers
   pub sector : ℕ
-  pub drive-in : drive < g .drives
-  pub zone-in : zone < physicalZones g
+  pub zone-in : zone < cells g
   pub sector-in : sector < g .capacity
-  pub past : getD ps (cell g drive zone) 0 ≤ sector
-  pub place : to ≡ byteAt g drive zone sector
+  pub past : getD ps zone 0 ≤ sector
+  pub place : to ≡ (zone * g .capacity + sector) * g .sector
 
 module _ (g : Geometry) (ps : List ℕ) (to : ℕ) (f : FreePlace g ps to) where
   pub free-fits : (xs : List ℕ) → length xs ≡ totalBytes g → to + g .sector ≤ length xs
-  free-fits xs l = rw (l, f .place) (sector-in g (f .drive) (f .zone) (f .sector) (f .drive-in) (f .zone-in) (f .sector-in))
+  free-fits xs l = rw (l, f .place) (place-fits g ps (f .zone) (f .sector) (f .sector-in) (f .past) (f .zone-in))
 
   pub free-kept : (xs s : List ℕ) → length xs ≡ totalBytes g → length s ≡ g .sector → readDevice g (overlay xs to s) ps ≡ readDevice g xs ps
-  free-kept xs s l h = kept-device g ps xs (overlay xs to s) [] (rw (f .place) (laid-past g ps xs (f .drive) (f .zone) (f .sector) (f .drive-in) (f .zone-in) (f .sector-in) (f .past) s h l))
+  free-kept xs s l h = kept-device g ps xs (overlay xs to s) [] (rw (f .place) (laid-past g ps (f .zone) (f .sector) (f .sector-in) (f .past) (f .zone-in) xs s h l))
 
   -- a sector that is held lies elsewhere
   pub free-apart : Valid g → (here : List Bool) (z a : ℕ) → a < zoneSectors g → ownHeld g here ps z a ≡ true → Apart to (byteAt g (driveOf (g .drives) (g .unit) z a) (dataZone z) (sectorOf (g .drives) (g .unit) a)) (g .sector)
@@ -116,8 +115,8 @@ module _ (g : Geometry) (ps : List ℕ) (to : ℕ) (f : FreePlace g ps to) where
       let d = driveOf (g .drives) (g .unit) z a in
       let x = sectorOf (g .drives) (g .unit) a in
       let (p, l) = and-split (isSet here d) (ltb x (getD ps (cell g d (dataZone z)) 0)) q in
-      let ne = place-apart g ps [] (f .drive) (f .zone) (f .sector) (f .drive-in) (f .zone-in) (f .sector-in) (f .past) d (dataZone z) x (ltb-true x (getD ps (cell g d (dataZone z)) 0) l) (sector-within g a ok h) in
-      rw (f .place) (sectors-apart (g .sector) (cell g (f .drive) (f .zone) * g .capacity + f .sector) (cell g d (dataZone z) * g .capacity + x) (λ e. ne (sym e)))
+      let ne = place-apart g ps (f .zone) (f .sector) (f .sector-in) (f .past) (cell g d (dataZone z)) x (ltb-true x (getD ps (cell g d (dataZone z)) 0) l) (sector-within g a ok h) in
+      rw (f .place) (sectors-apart (g .sector) (f .zone * g .capacity + f .sector) (cell g d (dataZone z) * g .capacity + x) (λ e. ne (sym e)))
 
 -- ---- the row, member by member
 -- the bytes xs with a sector added to the row at `to`, or laid there if it is the row's first
@@ -199,28 +198,40 @@ built-all xs to f zero h = absurd (omega arith)
 built-all xs to f (suc n) h = refl
 
 -- ---- appended
--- what appending rows of stripe s relies on; where the drive is absent nothing is read
+-- what appending rows of stripe s relies on; where the drive is absent nothing is read. What is appended goes by `to`, past the pointers.
 pub record RowsReady (k : Extent) (t : Target) (xs ws ps buffer : List ℕ) (s : ℕ) : Type 0 where
+  pub shape : SameShape (k .geometry) (k .to)
   pub drive-in : t .drive < k .geometry .drives
   pub zone-in : t .zone < physicalZones (k .geometry)
   pub sectors-long : length xs ≡ totalBytes (k .geometry)
   pub written-long : length ws ≡ cells (k .geometry)
-  pub behind : Behind (k .geometry) (λ y. eqb y (t .zone)) ps ws
+  pub behind : Behind (k .to) (λ y. eqb y (t .zone)) ps ws
   pub stripe-known : t .present ≡ true → StripeKnown k xs ps buffer s
 
 module _ (k : Extent) (t : Target) (xs ws ps buffer : List ℕ) (s : ℕ) (ready : RowsReady k t xs ws ps buffer s) where
+  -- the place where they go
+  pub target-drive : t .drive < k .to .drives
+  target-drive = rw (ready .shape .drives-same) (ready .drive-in)
+
+  pub target-zone : t .zone < physicalZones (k .to)
+  target-zone = rw (shape-zones (k .geometry) (k .to) (ready .shape)) (ready .zone-in)
+
+  pub target-cells : length ws ≡ cells (k .to)
+  target-cells = ready .written-long ∙ sym (shape-cells (k .geometry) (k .to) (ready .shape))
+
   -- the next sector of the zone is free
-  pub next-free : getD ws (cell (k .geometry) (t .drive) (t .zone)) 0 < k .geometry .capacity → FreePlace (k .geometry) ps (byteAt (k .geometry) (t .drive) (t .zone) (getD ws (cell (k .geometry) (t .drive) (t .zone)) 0))
-  next-free h = record {
-    drive = t .drive;
-    zone = t .zone;
-    sector = getD ws (cell (k .geometry) (t .drive) (t .zone)) 0;
-    drive-in = ready .drive-in;
-    zone-in = ready .zone-in;
-    sector-in = h;
-    past = ready .behind .least (t .drive) (t .zone) (ready .drive-in) (ready .zone-in) (eqb-same (t .zone));
-    place = refl;
-  }
+  pub next-free : getD ws (cell (k .to) (t .drive) (t .zone)) 0 < k .to .capacity → FreePlace (k .geometry) ps (byteAt (k .to) (t .drive) (t .zone) (getD ws (cell (k .to) (t .drive) (t .zone)) 0))
+  next-free h =
+      let c = cell (k .to) (t .drive) (t .zone) in
+      let n = getD ws c 0 in
+      record {
+        zone = c;
+        sector = n;
+        zone-in = rw (← shape-cells (k .geometry) (k .to) (ready .shape)) (cell-in (k .to) (t .drive) (t .zone) target-drive target-zone);
+        sector-in = omega (arith, h, ready .shape .capacity-same);
+        past = ready .behind .least (t .drive) (t .zone) target-drive target-zone (eqb-same (t .zone));
+        place = ap₂ (λ (x y : ℕ). (c * x + n) * y) (ready .shape .capacity-same) (ready .shape .sector-same);
+      }
 
   -- a row is one sector long
   pub ready-long : Valid (k .geometry) → (r : ℕ) → r < k .geometry .unit → s * stripeSectors (k .geometry) + r < k .end → t .present ≡ true
@@ -230,18 +241,18 @@ module _ (k : Extent) (t : Target) (xs ws ps buffer : List ℕ) (s : ℕ) (ready
       (λ j hj l. member-long k xs ps buffer (address (k .geometry .drives) (k .geometry .unit) s j r) (ready .stripe-known p .member (address (k .geometry .drives) (k .geometry .unit) s j r) (omega (arith, address-sum (k .geometry .drives) (k .geometry .unit) s j r))) ok l)
 
   -- appends to that zone leave it so, and the content as it was
-  pub ready-kept : (budget rest : ℕ) (ss : List Store) (xs′ ws′ : List ℕ) → StoresIn (k .geometry) (λ y. eqb y (t .zone)) ss → MadeAppends (k .geometry) budget rest ss xs ws xs′ ws′
+  pub ready-kept : (budget rest : ℕ) (ss : List Store) (xs′ ws′ : List ℕ) → StoresIn (k .geometry) (λ y. eqb y (t .zone)) ss → MadeAppends (k .to) budget rest ss xs ws xs′ ws′
       → RowsReady k t xs′ ws′ ps buffer s × (readDevice (k .geometry) xs′ ps ≡ readDevice (k .geometry) xs ps)
   ready-kept budget rest ss xs′ ws′ p q =
-      let h = made-keeps (k .geometry) (λ y. eqb y (t .zone)) budget rest ss ps (tablesOf xs ws ws) (tablesOf xs′ ws′ ws) p (record { sectors-long = ready .sectors-long; written-long = ready .written-long; durable-long = ready .written-long }) (ready .behind) (q .made ws) in
-      let e = kept-device (k .geometry) ps xs xs′ [] (h .bytes) in (
+      let h = stored-keeps (k .geometry) (k .to) (λ y. eqb y (t .zone)) budget rest ss ps xs ws xs′ ws′ (ready .shape) p (ready .sectors-long) (ready .written-long) (ready .behind) q in (
         record {
+          shape = ready .shape;
           drive-in = ready .drive-in;
           zone-in = ready .zone-in;
-          sectors-long = h .sized .sectors-long;
-          written-long = h .sized .written-long;
+          sectors-long = h .sectors-long;
+          written-long = h .written-long;
           behind = h .behind;
-          stripe-known = λ c. stripe-kept k xs ps buffer s (ready .stripe-known c) xs′ (h .sized .sectors-long) e;
+          stripe-known = λ c. stripe-kept k xs ps buffer s (ready .stripe-known c) xs′ (h .sectors-long) (h .device);
         },
-        e,
+        h .device,
       )

@@ -1,11 +1,11 @@
 -- A reset on the tables: its refusals as numbers, its five phases as the code makes them, and the state that it hands on.
 use mathlib.Core.Path.{_≡_, refl, sym, ap, ap₂, _∙_, fun-ext}
 use mathlib.Core.Logic.{_≢_}
-use mathlib.Core.Bool.{Bool, true, false, _&&_, not}
+use mathlib.Core.Bool.{Bool, true, false, _&&_, _||_, not}
 use Prim.Native.Nat.{ℕ, zero, suc, _+_, _-_, _≤_, _<_}
 use native.Mathlib.Decide.{ℕ-discrete, decLt}
 use native.Mathlib.Omega.{arith}
-use mathlib.Core.List.{List, [], _∷_}
+use mathlib.Core.List.{List, [], _∷_, _++_}
 use lib.ListN.{length, getD, set, take}
 use lib.Seq.{getD-set-other}
 use lib.Dec.{ltb, leb, eqb}
@@ -14,12 +14,13 @@ use Rattle.tables.specs.declared.Geometry.{Geometry}
 use Rattle.tables.specs.meaning.Basics.{pick}
 use Rattle.tables.specs.laws.Basics.{or-none}
 use Rattle.tables.specs.meaning.Below.{eachBelow, tabulate}
-use Rattle.tables.specs.laws.Below.{length-tabulate}
-use Rattle.tables.specs.meaning.Device.{Store, reset}
+use Rattle.tables.specs.laws.Below.{length-tabulate, any-below-cong}
+use Rattle.tables.specs.meaning.Device.{ZoneView, Device, Store, reset}
 use Rattle.tables.specs.meaning.GeometryTest.{isValid}
-use Rattle.tables.specs.meaning.Geometry.{physicalZones, dataZone}
+use Rattle.tables.specs.meaning.Geometry.{dataZone}
+use Rattle.tables.specs.meaning.Placement.{needed}
 use Rattle.tables.specs.meaning.Phases.{onPresent}
-use Rattle.tables.specs.meaning.Tables.{tablesOf, deviceOf, lengthsFit, pointersBad}
+use Rattle.tables.specs.meaning.Tables.{Tables, tablesOf, deviceOf, lengthsFit, pointersBad}
 use Rattle.tables.specs.laws.Made.{Made, MadeAppends, MadePointers}
 use Rattle.tables.specs.laws.Counted.{made-nil, made-append}
 use Rattle.logs.specs.meaning.Entry.{generalZone, wornGeneration, counters, zoneReset}
@@ -27,14 +28,17 @@ use Rattle.volume.specs.declared.Condition.{Condition}
 use Rattle.volume.specs.declared.Condition.the-variants.{Empty, Worn}
 use Rattle.volume.specs.declared.ZoneRecord.{ZoneRecord}
 use Rattle.volume.specs.declared.State.{State}
-use Rattle.volume.specs.meaning.State.{callPresent, isWorn}
-use Rattle.volume.specs.meaning.Refusals.{stateWithin, twoAbsent, firstRefusal, flushRows, resetRows, stale, unusedBelow, noZone, wornFor}
+use Rattle.volume.specs.meaning.State.{pointerIn, isWorn, StateView, callPresent}
+use Rattle.volume.specs.meaning.Roles.{byRoles}
+use Rattle.volume.specs.meaning.Emptying.{byState}
+use Rattle.volume.specs.meaning.Refusals.{stateWithin, twoAbsent, firstRefusal, flushRows, resetRows, staleIn, stale, resetFull, noZone, wornFor}
 use Rattle.volume.specs.meaning.Calls.{flushStores, generationsFrom, appendGeneral, logsReset, raisedAt, resetStores, resetState}
-use Rattle.volume.specs.meaning.CallContracts.{recordAt, blankRecord, viewState, isSet, verdictNumber, flushVerdict, resetVerdict, resetRecord, withReset}
-use Rattle.volume.specs.checks.CheckLaws.{presentList, present-is, openingNumber, Opened, opened, after-four}
+use Rattle.volume.specs.meaning.CallContracts.{recordAt, blankRecord, viewState, isSet, verdictNumber, rolesOf, seenIn, flushVerdict, resetVerdict, resetRecord, withReset}
+use Rattle.volume.specs.checks.CheckLaws.{presentList, present-is, openingNumber, opened, after-four}
 use Rattle.volume.specs.storing.Flushing.{flush-refusal}
 use Rattle.volume.specs.checks.StoreLoops.{first-generations}
-use Rattle.volume.specs.checks.ZoneChecks.{staleOn, unusedOn, unused-is, stale-on-tables}
+use Rattle.volume.specs.checks.ZoneChecks.{staleOn, stale-on-tables}
+use Rattle.volume.specs.looking.HiddenLogs.{by-roles-data}
 
 -- it is the state of the rules
 record-set : (s : State) (z : ℕ) (r : ZoneRecord) (y : ℕ) → z < length (s .zones) → getD (set (s .zones) z r) y blankRecord ≡ pick (eqb y z) r (recordAt s y)
@@ -64,126 +68,140 @@ reset-views s z x h =
     condition-of false r = refl
 
 -- ==== refusals
--- those after the first four
-abbrev pub resetRest : Geometry → (ℕ → Bool) → State → ℕ → List ℕ → List (ℕ × Bool)
-resetRest g present s z ws =
-    (7, ltb z (g .zones) && staleOn g present ws (recordAt s z .condition) z)
-    ∷ (8, noZone g z)
-    ∷ (12, wornFor (viewState s) z)
-    ∷ (14, unusedOn g present ws generalZone (g .zones + 4))
-    ∷ []
+-- those of a zone that there is, by its record, before the logs are asked for their room
+unfoldable pub resetLateNumber : Geometry → (ℕ → Bool) → ZoneRecord → ℕ → List ℕ → ℕ
+resetLateNumber g present r z ws = verdictNumber (firstRefusal ((7, staleOn g present ws (r .condition) z) ∷ (12, isWorn (r .condition) || leb wornGeneration (r .generation)) ∷ []))
 
-unfoldable pub resetRestNumber : Geometry → (ℕ → Bool) → State → ℕ → List ℕ → ℕ
-resetRestNumber g present s z ws = verdictNumber (firstRefusal (resetRest g present s z ws))
+module _ (g : Geometry) (present : ℕ → Bool) (r : ZoneRecord) (z : ℕ) (ws : List ℕ) where
+  pub reset-7 : staleOn g present ws (r .condition) z ≡ true → 7 ≡ resetLateNumber g present r z ws
+  unfolding resetLateNumber
+  reset-7 a = rw a refl
 
-module _ (g : Geometry) (present : ℕ → Bool) (s : State) (z : ℕ) (ws : List ℕ) where
-  pub reset-8 : g .zones ≤ z → 8 ≡ resetRestNumber g present s z ws
-  unfolding resetRestNumber
-  reset-8 h = rw (le-ltb z (g .zones) h) refl
+  pub reset-12 : staleOn g present ws (r .condition) z ≡ false → isWorn (r .condition) || leb wornGeneration (r .generation) ≡ true → 12 ≡ resetLateNumber g present r z ws
+  unfolding resetLateNumber
+  reset-12 a b = rw (a, b) refl
 
-  pub reset-7 : z < g .zones → staleOn g present ws (recordAt s z .condition) z ≡ true → 7 ≡ resetRestNumber g present s z ws
-  unfolding resetRestNumber
-  reset-7 h a = rw (lt-ltb z (g .zones) h, a) refl
+  pub reset-0 : staleOn g present ws (r .condition) z ≡ false → isWorn (r .condition) || leb wornGeneration (r .generation) ≡ false → 0 ≡ resetLateNumber g present r z ws
+  unfolding resetLateNumber
+  reset-0 a b = rw (a, b) refl
 
-  pub reset-12 : z < g .zones → staleOn g present ws (recordAt s z .condition) z ≡ false → wornFor (viewState s) z ≡ true → 12 ≡ resetRestNumber g present s z ws
-  unfolding resetRestNumber
-  reset-12 h a b = rw (lt-ltb z (g .zones) h, a, b) refl
+-- those after the first four (full: refusal 14)
+abbrev pub resetRest : Geometry → (ℕ → Bool) → State → ℕ → Bool → List ℕ → List (ℕ × Bool)
+resetRest g present s z full ws = (7, ltb z (g .zones) && staleOn g present ws (recordAt s z .condition) z) ∷ (8, noZone g z) ∷ (12, wornFor (viewState s) z) ∷ (14, full) ∷ []
 
-  pub reset-14 : z < g .zones → staleOn g present ws (recordAt s z .condition) z ≡ false → wornFor (viewState s) z ≡ false → unusedOn g present ws generalZone (g .zones + 4) ≡ true
-      → 14 ≡ resetRestNumber g present s z ws
-  unfolding resetRestNumber
-  reset-14 h a b c = rw (lt-ltb z (g .zones) h, a, b, c) refl
+unfoldable pub resetRestNumber : Geometry → (ℕ → Bool) → State → ℕ → Bool → List ℕ → ℕ
+resetRestNumber g present s z full ws = verdictNumber (firstRefusal (resetRest g present s z full ws))
 
-  pub reset-0 : z < g .zones → staleOn g present ws (recordAt s z .condition) z ≡ false → wornFor (viewState s) z ≡ false → unusedOn g present ws generalZone (g .zones + 4) ≡ false
-      → 0 ≡ resetRestNumber g present s z ws
-  unfolding resetRestNumber
-  reset-0 h a b c = rw (lt-ltb z (g .zones) h, a, b, c) refl
+rest-8 : (g : Geometry) (present : ℕ → Bool) (s : State) (z : ℕ) (full : Bool) (ws : List ℕ) → g .zones ≤ z → 8 ≡ resetRestNumber g present s z full ws
+unfolding resetRestNumber
+rest-8 g present s z full ws h = rw (le-ltb z (g .zones) h) refl
+
+rest-in : (g : Geometry) (present : ℕ → Bool) (s : State) (z : ℕ) (full : Bool) (ws : List ℕ) → z < g .zones
+    → pick (eqb (resetLateNumber g present (recordAt s z) z ws) 0) (pick full 14 0) (resetLateNumber g present (recordAt s z) z ws) ≡ resetRestNumber g present s z full ws
+unfolding resetRestNumber resetLateNumber
+rest-in g present s z full ws h = rw (lt-ltb z (g .zones) h) (go (staleOn g present ws (recordAt s z .condition) z) (wornFor (viewState s) z) full)
+  where
+    go : (a b c : Bool) → pick (eqb (verdictNumber (firstRefusal ((7, a) ∷ (12, b) ∷ []))) 0) (pick c 14 0) (verdictNumber (firstRefusal ((7, a) ∷ (12, b) ∷ []))) ≡ verdictNumber (firstRefusal ((7, a) ∷ (8, false) ∷ (12, b) ∷ (14, c) ∷ []))
+    go true b c = refl
+    go false true c = refl
+    go false false true = refl
+    go false false false = refl
 
 -- all of them
-unfoldable pub resetNumber : Geometry → List Bool → State → ℕ → ℕ → List ℕ → List ℕ → ℕ
-resetNumber g named s z sectors ws ds =
-    pick (eqb (openingNumber g named s 0 0 sectors ws ds) 0) (resetRestNumber g (isSet (presentList g named (s .lost))) s z ws) (openingNumber g named s 0 0 sectors ws ds)
+unfoldable pub resetNumber : Geometry → List Bool → State → ℕ → Bool → ℕ → List ℕ → List ℕ → ℕ
+resetNumber g named s z full sectors ws ds =
+    pick (eqb (openingNumber g named s 0 0 sectors ws ds) 0) (resetRestNumber g (isSet (presentList g named (s .lost))) s z full ws) (openingNumber g named s 0 0 sectors ws ds)
 
-pub reset-early : (g : Geometry) (named : List Bool) (s : State) (z sectors : ℕ) (ws ds : List ℕ) → openingNumber g named s 0 0 sectors ws ds ≢ 0
-    → openingNumber g named s 0 0 sectors ws ds ≡ resetNumber g named s z sectors ws ds
-unfolding resetNumber
-reset-early g named s z sectors ws ds h = rw (ne-eqb (openingNumber g named s 0 0 sectors ws ds) 0 h) refl
+module _ (g : Geometry) (named : List Bool) (s : State) (z : ℕ) (full : Bool) (sectors : ℕ) (ws ds : List ℕ) where
+  abbrev opening : ℕ
+  opening = openingNumber g named s 0 0 sectors ws ds
 
-pub reset-late : (g : Geometry) (named : List Bool) (s : State) (z sectors : ℕ) (ws ds : List ℕ) → openingNumber g named s 0 0 sectors ws ds ≡ 0
-    → resetRestNumber g (isSet (presentList g named (s .lost))) s z ws ≡ resetNumber g named s z sectors ws ds
-unfolding resetNumber
-reset-late g named s z sectors ws ds h = rw (eq-eqb (openingNumber g named s 0 0 sectors ws ds) 0 h) refl
+  abbrev late : ℕ
+  late = resetLateNumber g (isSet (presentList g named (s .lost))) (recordAt s z) z ws
 
--- it is the number of the rules
-stale-row : (g : Geometry) (named : List Bool) (s : State) (xs ws ds : List ℕ) (z : ℕ) → pointersBad g named ws ds ≡ false
-    → ltb z (g .zones) && staleOn g (callPresent g (isSet named) (viewState s)) ws (recordAt s z .condition) z ≡ stale g (callPresent g (isSet named) (viewState s)) (deviceOf g (tablesOf xs ws ds)) (viewState s) z
+  pub reset-early : opening ≢ 0 → opening ≡ resetNumber g named s z full sectors ws ds
+  unfolding resetNumber
+  reset-early h = rw (ne-eqb opening 0 h) refl
+
+  reset-after : opening ≡ 0 → resetRestNumber g (isSet (presentList g named (s .lost))) s z full ws ≡ resetNumber g named s z full sectors ws ds
+  unfolding resetNumber
+  reset-after h = rw (eq-eqb opening 0 h) refl
+
+  -- of a zone that there is not, and of one that there is
+  pub reset-8 : opening ≡ 0 → g .zones ≤ z → 8 ≡ resetNumber g named s z full sectors ws ds
+  reset-8 e h = rest-8 g (isSet (presentList g named (s .lost))) s z full ws h ∙ reset-after e
+
+  pub reset-in : opening ≡ 0 → z < g .zones → late ≢ 0 → late ≡ resetNumber g named s z full sectors ws ds
+  reset-in e h n = sym (ap (λ (b : Bool). pick b (pick full 14 0) late) (ne-eqb late 0 n)) ∙ rest-in g (isSet (presentList g named (s .lost))) s z full ws h ∙ reset-after e
+
+  pub reset-room : opening ≡ 0 → z < g .zones → late ≡ 0 → pick full 14 0 ≡ resetNumber g named s z full sectors ws ds
+  reset-room e h n = sym (ap (λ (b : Bool). pick b (pick full 14 0) late) (eq-eqb late 0 n)) ∙ rest-in g (isSet (presentList g named (s .lost))) s z full ws h ∙ reset-after e
+
+-- ---- it is the number of the rules
+-- refusal 7 looks at data zones alone, which have no other role
+pub stale-seen : (g : Geometry) (present : ℕ → Bool) (v : Device) (state : StateView) (z : ℕ) → stale g present (byRoles g v) state z ≡ stale g present v state z
 unfolding stale
-stale-row g named s xs ws ds z h = go (decLt z (g .zones))
+stale-seen g present v state z = ap (λ (b : Bool). ltb z (g .zones) && b) (any-below-cong
+    (λ d. present d && staleIn (state .condition z) (length (byRoles g v d (dataZone z) .sectors)) (needed (g .drives) (g .unit) z (pointerIn (state .condition z)) d))
+    (λ d. present d && staleIn (state .condition z) (length (v d (dataZone z) .sectors)) (needed (g .drives) (g .unit) z (pointerIn (state .condition z)) d)) (g .drives)
+    (λ d h. ap (λ (x : ZoneView). present d && staleIn (state .condition z) (length (x .sectors)) (needed (g .drives) (g .unit) z (pointerIn (state .condition z)) d)) (by-roles-data g v d z)))
+
+stale-row : (g : Geometry) (named : List Bool) (s : State) (xs ws ds : List ℕ) (z : ℕ) → pointersBad g named ws ds ≡ false
+    → ltb z (g .zones) && staleOn g (callPresent g (isSet named) (viewState s)) ws (recordAt s z .condition) z ≡ stale g (callPresent g (isSet named) (viewState s)) (seenIn g (tablesOf xs ws ds)) (viewState s) z
+stale-row g named s xs ws ds z h = go (decLt z (g .zones)) ∙ sym (stale-seen g (callPresent g (isSet named) (viewState s)) (deviceOf g (tablesOf xs ws ds)) (viewState s) z)
   where
     go : Dec (z < g .zones) → ltb z (g .zones) && staleOn g (callPresent g (isSet named) (viewState s)) ws (recordAt s z .condition) z ≡ stale g (callPresent g (isSet named) (viewState s)) (deviceOf g (tablesOf xs ws ds)) (viewState s) z
     go (yes l) = ap (λ (b : Bool). b && staleOn g (callPresent g (isSet named) (viewState s)) ws (recordAt s z .condition) z) (lt-ltb z (g .zones) l) ∙ sym (stale-on-tables g named s xs ws ds z h l)
-    go (no l) = rw (le-ltb z (g .zones) (omega arith)) refl
+    go (no l) = unfold stale in rw (le-ltb z (g .zones) (omega arith)) refl
+
+-- refusal 14 of the rules
+abbrev pub resetFullIn : Geometry → List Bool → State → Tables → Bool
+resetFullIn g named s t =
+    resetFull g (callPresent g (isSet named) (viewState s)) (rolesOf g t) (byState g (callPresent g (isSet named) (viewState s)) (seenIn g t) (viewState s)) (seenIn g t)
+
+abbrev ruleRows : Geometry → List Bool → State → ℕ → Tables → List (ℕ × Bool)
+ruleRows g named s z t = (7, stale g (callPresent g (isSet named) (viewState s)) (seenIn g t) (viewState s) z) ∷ (8, noZone g z) ∷ (12, wornFor (viewState s) z) ∷ (14, resetFullIn g named s t) ∷ []
 
 rest-is : (g : Geometry) (named : List Bool) (s : State) (z : ℕ) (xs ws ds : List ℕ) → pointersBad g named ws ds ≡ false
-    → resetRestNumber g (isSet (presentList g named (s .lost))) s z ws
-    ≡ verdictNumber (firstRefusal ((7, stale g (callPresent g (isSet named) (viewState s)) (deviceOf g (tablesOf xs ws ds)) (viewState s) z) ∷ (8, noZone g z) ∷ (12, wornFor (viewState s) z)
-    ∷ (14, unusedBelow g (callPresent g (isSet named) (viewState s)) (deviceOf g (tablesOf xs ws ds)) generalZone (g .zones + 4)) ∷ []))
+    → resetRestNumber g (isSet (presentList g named (s .lost))) s z (resetFullIn g named s (tablesOf xs ws ds)) ws ≡ verdictNumber (firstRefusal (ruleRows g named s z (tablesOf xs ws ds)))
 unfolding resetRestNumber
-rest-is g named s z xs ws ds h =
-    let hl : generalZone < physicalZones g = omega arith in
-    rw (present-is g named s, stale-row g named s xs ws ds z h, unused-is g (callPresent g (isSet named) (viewState s)) (tablesOf xs ws ds) generalZone (g .zones + 4) hl) refl
+rest-is g named s z xs ws ds h = rw (present-is g named s, stale-row g named s xs ws ds z h) refl
 
 -- the rules' rows: those of a flush, then its own
 reset-split : (g : Geometry) (named : List Bool) (s : State) (z : ℕ) (xs ws ds : List ℕ) → verdictNumber (resetVerdict g named s z (tablesOf xs ws ds))
-    ≡ pick (eqb (verdictNumber (flushVerdict g named s (tablesOf xs ws ds))) 0) (verdictNumber (firstRefusal ((7, stale g (callPresent g (isSet named) (viewState s)) (deviceOf g (tablesOf xs ws ds)) (viewState s) z) ∷ (8, noZone g z) ∷ (12, wornFor (viewState s) z)
-    ∷ (14, unusedBelow g (callPresent g (isSet named) (viewState s)) (deviceOf g (tablesOf xs ws ds)) generalZone (g .zones + 4)) ∷ []))) (verdictNumber (flushVerdict g named s (tablesOf xs ws ds)))
+    ≡ pick (eqb (verdictNumber (flushVerdict g named s (tablesOf xs ws ds))) 0) (verdictNumber (firstRefusal (ruleRows g named s z (tablesOf xs ws ds)))) (verdictNumber (flushVerdict g named s (tablesOf xs ws ds)))
 unfolding resetVerdict resetRows flushVerdict flushRows
 reset-split g named s z xs ws ds =
-    after-four (not (isValid g && stateWithin g (viewState s))) (not (lengthsFit g (length xs) (length ws) (length ds))) (pointersBad g named ws ds) (twoAbsent g (isSet named) (viewState s))
-    ((7, stale g (callPresent g (isSet named) (viewState s)) (deviceOf g (tablesOf xs ws ds)) (viewState s) z) ∷ (8, noZone g z) ∷ (12, wornFor (viewState s) z)
-    ∷ (14, unusedBelow g (callPresent g (isSet named) (viewState s)) (deviceOf g (tablesOf xs ws ds)) generalZone (g .zones + 4)) ∷ [])
+    after-four (not (isValid g && stateWithin g (viewState s))) (not (lengthsFit g (length xs) (length ws) (length ds))) (pointersBad g named ws ds) (twoAbsent g (isSet named) (viewState s)) (ruleRows g named s z (tablesOf xs ws ds))
 
-pub reset-refusal : (g : Geometry) (named : List Bool) (s : State) (z : ℕ) (xs ws ds : List ℕ) → resetNumber g named s z (length xs) ws ds ≡ verdictNumber (resetVerdict g named s z (tablesOf xs ws ds))
+pub reset-refusal : (g : Geometry) (named : List Bool) (s : State) (z : ℕ) (xs ws ds : List ℕ) → resetNumber g named s z (resetFullIn g named s (tablesOf xs ws ds)) (length xs) ws ds ≡ verdictNumber (resetVerdict g named s z (tablesOf xs ws ds))
 reset-refusal g named s z xs ws ds = go (ℕ-discrete (openingNumber g named s 0 0 (length xs) ws ds) 0)
   where
+    full : Bool
+    full = resetFullIn g named s (tablesOf xs ws ds)
+
     first : openingNumber g named s 0 0 (length xs) ws ds ≡ verdictNumber (flushVerdict g named s (tablesOf xs ws ds))
     first = flush-refusal g named s xs ws ds
 
-    go : Dec (openingNumber g named s 0 0 (length xs) ws ds ≡ 0) → resetNumber g named s z (length xs) ws ds ≡ verdictNumber (resetVerdict g named s z (tablesOf xs ws ds))
+    go : Dec (openingNumber g named s 0 0 (length xs) ws ds ≡ 0) → resetNumber g named s z (resetFullIn g named s (tablesOf xs ws ds)) (length xs) ws ds ≡ verdictNumber (resetVerdict g named s z (tablesOf xs ws ds))
     go (yes e) =
         let o = opened g named s 0 0 (length xs) ws ds e in
         let f : verdictNumber (flushVerdict g named s (tablesOf xs ws ds)) ≡ 0 = sym first ∙ e in
-        sym (reset-late g named s z (length xs) ws ds e) ∙ rest-is g named s z xs ws ds (o .pointers) ∙ rw (reset-split g named s z xs ws ds, eq-eqb (verdictNumber (flushVerdict g named s (tablesOf xs ws ds))) 0 f) refl
+        sym (reset-after g named s z full (length xs) ws ds e) ∙ rest-is g named s z xs ws ds (o .pointers) ∙ rw (reset-split g named s z xs ws ds, eq-eqb (verdictNumber (flushVerdict g named s (tablesOf xs ws ds))) 0 f) refl
     go (no e) =
         let f : verdictNumber (flushVerdict g named s (tablesOf xs ws ds)) ≢ 0 = rw first at e in
-        sym (reset-early g named s z (length xs) ws ds e) ∙ first ∙ rw (reset-split g named s z xs ws ds, ne-eqb (verdictNumber (flushVerdict g named s (tablesOf xs ws ds))) 0 f) refl
+        sym (reset-early g named s z full (length xs) ws ds e) ∙ first ∙ rw (reset-split g named s z xs ws ds, ne-eqb (verdictNumber (flushVerdict g named s (tablesOf xs ws ds))) 0 f) refl
 
--- what an accepted reset has
-pub record ResetAccepted (g : Geometry) (named : List Bool) (s : State) (z sectors : ℕ) (ws ds : List ℕ) : Type 0 where
-  pub first : Opened g named s 0 0 sectors ws ds
-  pub zone : z < g .zones
-  pub fresh : recordAt s z .generation < wornGeneration
-
-rest-accepted : (g : Geometry) (present : ℕ → Bool) (s : State) (z : ℕ) (ws : List ℕ) → resetRestNumber g present s z ws ≡ 0 → (z < g .zones) × (recordAt s z .generation < wornGeneration)
-unfolding resetRestNumber
-rest-accepted g present s z ws h =
-    let (a, b) = four (ltb z (g .zones) && staleOn g present ws (recordAt s z .condition) z) (ltb z (g .zones)) (wornFor (viewState s) z) (unusedOn g present ws generalZone (g .zones + 4)) h in
-    (ltb-true z (g .zones) a, omega (arith, leb-false wornGeneration (recordAt s z .generation) (or-none (isWorn (recordAt s z .condition)) (leb wornGeneration (recordAt s z .generation)) b .1)))
+-- the zone of a reset that passes 7 and 12 is not worn
+pub late-fresh : (g : Geometry) (present : ℕ → Bool) (r : ZoneRecord) (z : ℕ) (ws : List ℕ) → resetLateNumber g present r z ws ≡ 0 → r .generation < wornGeneration
+unfolding resetLateNumber
+late-fresh g present r z ws h =
+    omega (arith, leb-false wornGeneration (r .generation) (or-none (isWorn (r .condition)) (leb wornGeneration (r .generation)) (two (staleOn g present ws (r .condition) z) (isWorn (r .condition) || leb wornGeneration (r .generation)) h) .1))
   where
-    four : (a b c d : Bool) → verdictNumber (firstRefusal ((7, a) ∷ (8, not b) ∷ (12, c) ∷ (14, d) ∷ [])) ≡ 0 → (b ≡ true) × (c ≡ false)
-    four true b c d q = absurd (omega arith)
-    four false false c d q = absurd (omega arith)
-    four false true true d q = absurd (omega arith)
-    four false true false d q = (refl, refl)
-
-pub reset-accepted : (g : Geometry) (named : List Bool) (s : State) (z sectors : ℕ) (ws ds : List ℕ) → resetNumber g named s z sectors ws ds ≡ 0 → ResetAccepted g named s z sectors ws ds
-reset-accepted g named s z sectors ws ds h = go (ℕ-discrete (openingNumber g named s 0 0 sectors ws ds) 0)
-  where
-    go : Dec (openingNumber g named s 0 0 sectors ws ds ≡ 0) → ResetAccepted g named s z sectors ws ds
-    go (yes e) =
-        let (a, b) = rest-accepted g (isSet (presentList g named (s .lost))) s z ws (reset-late g named s z sectors ws ds e ∙ h) in
-        record { first = opened g named s 0 0 sectors ws ds e; zone = a; fresh = b }
-    go (no e) = absurd (e (reset-early g named s z sectors ws ds e ∙ h))
+    two : (a b : Bool) → verdictNumber (firstRefusal ((7, a) ∷ (12, b) ∷ [])) ≡ 0 → b ≡ false
+    two true b q = absurd (omega arith)
+    two false true q = absurd (omega arith)
+    two false false q = refl
 
 -- ==== stores
 -- a drive's entry of the first phase, its reset, its counters
@@ -208,19 +226,27 @@ pub raised-first : (s : State) (z k : ℕ) → k ≤ 16 → take k (raisedList s
 unfolding raisedList
 raised-first s z k h = first-generations (raisedAt (viewState s) z) 16 k h
 
--- the five phases, one after the other
-pub reset-made : (g : Geometry) (present : ℕ → Bool) (s : State) (z b₀ b₁ b₂ b₃ b₄ b₅ : ℕ) (ns xs ws ds xs₁ ws₁ ds₁ ws₂ ds₂ xs₂ ws₃ ds₃ : List ℕ)
-    → MadeAppends g b₀ b₁ (onPresent present (eachBelow (resetEntry g z (recordAt s z .generation)) (g .drives))) xs ws xs₁ ws₁
+-- the five phases, of generation n, with the generations that the counters give
+unfoldable pub resetWith : Geometry → (ℕ → Bool) → ℕ → ℕ → List ℕ → List Store
+resetWith g present z n ns =
+    onPresent present (eachBelow (resetEntry g z n) (g .drives)) ++ (flushStores g present ++ (onPresent present (eachBelow (zoneResetAt z) (g .drives)) ++ (onPresent present (eachBelow (countersAt g ns) (g .drives)) ++ (flushStores g present ++ []))))
+
+pub reset-with : (g : Geometry) (present : ℕ → Bool) (s : State) (z : ℕ) → g .zones ≤ 16 → resetWith g present z (recordAt s z .generation) (take (g .zones) (raisedList s z)) ≡ resetStores g present (viewState s) z
+unfolding resetWith resetStores flushStores
+reset-with g present s z h = rw (raised-first s z (g .zones) h) refl
+
+-- one after the other
+pub reset-made : (g : Geometry) (present : ℕ → Bool) (z n b₀ b₁ b₂ b₃ b₄ b₅ : ℕ) (ns xs ws ds xs₁ ws₁ ds₁ ws₂ ds₂ xs₂ ws₃ ds₃ : List ℕ)
+    → MadeAppends g b₀ b₁ (onPresent present (eachBelow (resetEntry g z n) (g .drives))) xs ws xs₁ ws₁
     → MadePointers g b₁ b₂ (flushStores g present) ws₁ ds ws₁ ds₁
     → MadePointers g b₂ b₃ (onPresent present (eachBelow (zoneResetAt z) (g .drives))) ws₁ ds₁ ws₂ ds₂
-    → ns ≡ generationsFrom (raisedAt (viewState s) z) zero (g .zones) → MadeAppends g b₃ b₄ (onPresent present (eachBelow (countersAt g ns) (g .drives))) xs₁ ws₂ xs₂ ws₃
+    → MadeAppends g b₃ b₄ (onPresent present (eachBelow (countersAt g ns) (g .drives))) xs₁ ws₂ xs₂ ws₃
     → MadePointers g b₄ b₅ (flushStores g present) ws₃ ds₂ ws₃ ds₃
-    → Made g b₀ b₅ (resetStores g present (viewState s) z) (tablesOf xs ws ds) (tablesOf xs₂ ws₃ ds₃)
-unfolding resetStores flushStores
-reset-made g present s z b₀ b₁ b₂ b₃ b₄ b₅ ns xs ws ds xs₁ ws₁ ds₁ ws₂ ds₂ xs₂ ws₃ ds₃ logged flushed cleared q counted last =
-    let counted′ = rw q at counted in
+    → Made g b₀ b₅ (resetWith g present z n ns) (tablesOf xs ws ds) (tablesOf xs₂ ws₃ ds₃)
+unfolding resetWith
+reset-made g present z n b₀ b₁ b₂ b₃ b₄ b₅ ns xs ws ds xs₁ ws₁ ds₁ ws₂ ds₂ xs₂ ws₃ ds₃ logged flushed cleared counted last =
     made-append g b₀ b₁ b₅ _ _ (tablesOf xs ws ds) (tablesOf xs₁ ws₁ ds) (tablesOf xs₂ ws₃ ds₃) (logged .made ds) (
     made-append g b₁ b₂ b₅ _ _ (tablesOf xs₁ ws₁ ds) (tablesOf xs₁ ws₁ ds₁) (tablesOf xs₂ ws₃ ds₃) (flushed .made xs₁) (
     made-append g b₂ b₃ b₅ _ _ (tablesOf xs₁ ws₁ ds₁) (tablesOf xs₁ ws₂ ds₂) (tablesOf xs₂ ws₃ ds₃) (cleared .made xs₁) (
-    made-append g b₃ b₄ b₅ _ _ (tablesOf xs₁ ws₂ ds₂) (tablesOf xs₂ ws₃ ds₂) (tablesOf xs₂ ws₃ ds₃) (counted′ .made ds₂) (
+    made-append g b₃ b₄ b₅ _ _ (tablesOf xs₁ ws₂ ds₂) (tablesOf xs₂ ws₃ ds₂) (tablesOf xs₂ ws₃ ds₃) (counted .made ds₂) (
     made-append g b₄ b₅ b₅ _ [] (tablesOf xs₂ ws₃ ds₂) (tablesOf xs₂ ws₃ ds₃) (tablesOf xs₂ ws₃ ds₃) (last .made xs₂) (made-nil g b₅ (tablesOf xs₂ ws₃ ds₃))))))

@@ -11,7 +11,7 @@ use mathlib.Core.List.{List, [], _∷_, _++_, append-assoc, append-nil}
 use lib.ListN.{length, take, drop, drop-of-length-le, List·getD-eq-default}
 use lib.Seq.{take-nil}
 use lib.Dec.{ltb}
-use borrow.Author.Tests.{lt-ltb, le-ltb, eq-eqb, ne-eqb}
+use borrow.Author.Tests.{lt-ltb, le-ltb, eq-eqb, ne-eqb, eqb-true}
 use Rattle.tables.specs.declared.Geometry.{Geometry}
 use Rattle.tables.specs.meaning.Basics.{pick}
 use Rattle.tables.specs.meaning.Below.{tabulateFrom}
@@ -24,7 +24,7 @@ use Rattle.tables.specs.meaning.Geometry.{Valid, physicalZones, cells, totalByt
 use Rattle.tables.specs.meaning.Placement.{stripeOf, driveOf, parityDrive}
 use Rattle.tables.specs.laws.Sizes.{unit-in-stripe}
 use Rattle.tables.specs.laws.Placement.{stripe-pos, stripe-below, stripe-above, drive-below, parity-drive-below}
-use Rattle.tables.specs.meaning.Tables.{tablesOf, sectorNo}
+use Rattle.tables.specs.meaning.Tables.{sectorNo}
 use Rattle.tables.specs.laws.Made.{MadeAppends, storeIf}
 use Rattle.logs.specs.meaning.Entry.{parityZone, encode}
 use Rattle.volume.specs.declared.rows.Extent.{Extent}
@@ -37,7 +37,8 @@ use Rattle.volume.specs.meaning.Answers.{sectorsIn}
 use Rattle.volume.specs.meaning.CallContracts.{isSet}
 use Rattle.volume.specs.looking.Knowing.{Readable, readDevice, ownHeld, allHeld}
 use Rattle.volume.specs.looking.KnowingLaws.{known-in}
-use Rattle.volume.specs.rows.KeptBelow.{StoresIn, Behind, stores-in-append, made-keeps, kept-device}
+use Rattle.volume.specs.rows.SameShape.{notSpare, data-not-spare, SameShape, shape-refl}
+use Rattle.volume.specs.rows.KeptBelow.{StoresIn, Behind, stores-in-append, stored-keeps}
 use Rattle.volume.specs.rows.RowStores.{rowsIf, rows-whole, rows-cong, rows-in, store-if-in, present-all, present-one}
 use Rattle.volume.specs.rows.RowsInPlace.{contentOf, content-new, StripeKnown, stripe-kept, RowsReady, ready-long}
 
@@ -45,9 +46,9 @@ use Rattle.volume.specs.rows.RowsInPlace.{contentOf, content-new, Stripe
 unfoldable pub runContent : Geometry → (ℕ → Bool) → Device → ℕ → ℕ → ℕ → List (List ℕ) → ℕ → List ℕ
 runContent g present v z generation n ss a = pick (ltb a n) (valueAt g present v z generation a) (at ss (a - n))
 
--- the zone, from pointer n on, with what a write of `count` sectors is handed
-abbrev pub extentOf : Geometry → List Bool → ℕ → ℕ → ℕ → ℕ → ℕ → Extent
-extentOf g here z generation limit n count = record { geometry = g; here = here; zone = z; generation = generation; limit = limit; below = n; end = n + count }
+-- the zone, from pointer n on, with what a write of `count` sectors is handed; `to`: where the logs lie for what it stores
+abbrev pub extentOf : Geometry → Geometry → List Bool → ℕ → ℕ → ℕ → ℕ → ℕ → Extent
+extentOf g to here z generation limit n count = record { geometry = g; to = to; here = here; zone = z; generation = generation; limit = limit; below = n; end = n + count }
 
 -- sector i of a buffer of `count` sectors
 buffer-sector : (g : Geometry) (count i : ℕ) (buffer : List ℕ) → length buffer ≡ count * g .sector → sectorNo (g .sector) buffer i ≡ at (sectorsIn g count buffer) i
@@ -61,10 +62,10 @@ buffer-sector g count i buffer l = go (decLt i count)
         rw (drop-of-length-le buffer {i = i * g .sector} (omega arith), take-nil)
         (sym (List·getD-eq-default (tabulateFrom (λ j. take (g .sector) (drop (j * g .sector) buffer)) zero count) [] {n = i} (rw (length-tabulate-from (λ j. take (g .sector) (drop (j * g .sector) buffer)) zero count) (omega arith))))
 
-pub content-is : (g : Geometry) (here : List Bool) (v : Device) (z generation limit n count : ℕ) (buffer : List ℕ) → length buffer ≡ count * g .sector
-    → contentOf (extentOf g here z generation limit n count) v buffer ≡ runContent g (isSet here) v z generation n (sectorsIn g count buffer)
+pub content-is : (g to : Geometry) (here : List Bool) (v : Device) (z generation limit n count : ℕ) (buffer : List ℕ) → length buffer ≡ count * g .sector
+    → contentOf (extentOf g to here z generation limit n count) v buffer ≡ runContent g (isSet here) v z generation n (sectorsIn g count buffer)
 unfolding contentOf runContent
-content-is g here v z generation limit n count buffer l = fun-ext λ a. ap (pick (ltb a n) (valueAt g (isSet here) v z generation a)) (buffer-sector g count (a - n) buffer l)
+content-is g to here v z generation limit n count buffer l = fun-ext λ a. ap (pick (ltb a n) (valueAt g (isSet here) v z generation a)) (buffer-sector g count (a - n) buffer l)
 
 -- ---- the stores of a run, by its last address
 pub data-snoc : (D U z : ℕ) (S : ℕ → List ℕ) (a k : ℕ) → dataStores D U z S a (suc k) ≡ dataStores D U z S a k ++ sectorStores D U z S (a + k)
@@ -132,27 +133,38 @@ module _ (g : Geometry) (ok : Valid g) (present : ℕ → Bool) (z : ℕ) (S : �
       on-present-append present (dataStores (g .drives) (g .unit) z S n (end - n)) (pick (insideStripe g (n + (end - n))) (entryStores g z generation S (n + (end - n))) [])
       ∙ ap (λ (m : ℕ). onPresent present (dataStores (g .drives) (g .unit) z S n (end - n)) ++ onPresent present (pick (insideStripe g m) (entryStores g z generation S m) [])) e
 
--- ---- what a write's refusals have found out
-pub record WriteReady (g : Geometry) (here : List Bool) (xs ws : List ℕ) (z generation n count : ℕ) (buffer : List ℕ) : Type 0 where
-  pub readable : Readable g here xs ws z
+-- ---- what a write's refusals have found out; ps are the pointers of its start
+pub record WriteReady (g : Geometry) (here : List Bool) (xs ps : List ℕ) (z generation n count : ℕ) (buffer : List ℕ) : Type 0 where
+  pub readable : Readable g here xs ps z
   pub inside : n + count ≤ zoneSectors g
   pub buffer-long : length buffer ≡ count * g .sector
-  pub earlier-known : goneBefore g (isSet here) (readDevice g xs ws) z generation n ≡ false
+  pub earlier-known : goneBefore g (isSet here) (readDevice g xs ps) z generation n ≡ false
 
--- ---- what its functions rely on while they store: ps are the pointers of its start
+-- where its stores go, by `to`: at or past those pointers, but for the spare zones, to which it stores nothing
+pub record StoresPast (g to : Geometry) (ps ws : List ℕ) : Type 0 where
+  pub shape : SameShape g to
+  pub written-long : length ws ≡ cells g
+  pub behind : Behind to notSpare ps ws
+
+-- where no log was emptied
+pub past-start : (g : Geometry) (ws : List ℕ) → length ws ≡ cells g → StoresPast g g ws ws
+past-start g ws l = record { shape = shape-refl g; written-long = l; behind = record { least = λ d y hd hy hb. omega arith } }
+
+-- ---- what its functions rely on while they store
 pub record Writing (k : Extent) (xs ws ps buffer : List ℕ) : Type 0 where
+  pub shape : SameShape (k .geometry) (k .to)
   pub zone-in : k .zone < k .geometry .zones
   pub sectors-long : length xs ≡ totalBytes (k .geometry)
   pub written-long : length ws ≡ cells (k .geometry)
   pub below-most : k .below ≤ k .end
   pub end-most : k .end ≤ zoneSectors (k .geometry)
   pub buffer-long : length buffer ≡ (k .end - k .below) * k .geometry .sector
-  pub behind : Behind (k .geometry) (λ y. true) ps ws
+  pub behind : Behind (k .to) notSpare ps ws
   pub stripe-known : (s : ℕ) → stripeOf (k .geometry .drives) (k .geometry .unit) (k .below) ≤ s → isSet (k .here) (parityDrive (k .geometry .drives) (k .zone) s) ≡ true → StripeKnown k xs ps buffer s
 
 -- its beginning. Below the pointer only the earlier sectors of the pointer's stripe are read, and only where that stripe's parity drive is present.
-module _ (g : Geometry) (ok : Valid g) (here : List Bool) (xs ws : List ℕ) (z generation n count : ℕ) (buffer : List ℕ) (r : WriteReady g here xs ws z generation n count buffer) (limit : ℕ)
-    (limit-is : limit ≡ pick (allHeld g here ws z (stripeOf (g .drives) (g .unit) n * stripeSectors g) (fillOf g n)) 0 (sealLimit g (isSet here) (readDevice g xs ws) z generation)) where
+module _ (g to : Geometry) (ok : Valid g) (here : List Bool) (xs ps ws : List ℕ) (z generation n count : ℕ) (buffer : List ℕ) (r : WriteReady g here xs ps z generation n count buffer) (past : StoresPast g to ps ws) (limit : ℕ)
+    (limit-is : limit ≡ pick (allHeld g here ps z (stripeOf (g .drives) (g .unit) n * stripeSectors g) (fillOf g n)) 0 (sealLimit g (isSet here) (readDevice g xs ps) z generation)) where
   abbrev first : ℕ
   first = stripeOf (g .drives) (g .unit) n
 
@@ -172,31 +184,32 @@ module _ (g : Geometry) (ok : Valid g) (here : List Bool) (xs ws : List ℕ) (z 
   inside-first : (a : ℕ) → first * stripeSectors g ≤ a → a < n → (first * stripeSectors g + (a - first * stripeSectors g) ≡ a) × (a - first * stripeSectors g < fillOf g n)
   inside-first a l q = (omega arith, omega arith)
 
-  earlier : isSet here (parityDriveAt g z n) ≡ true → (a : ℕ) → first * stripeSectors g ≤ a → a < n → known (g .drives) (g .unit) z (zoneView g (isSet here) (readDevice g xs ws) z generation) a ≡ true
+  earlier : isSet here (parityDriveAt g z n) ≡ true → (a : ℕ) → first * stripeSectors g ≤ a → a < n → known (g .drives) (g .unit) z (zoneView g (isSet here) (readDevice g xs ps) z generation) a ≡ true
   unfolding goneBefore
   earlier p a l q =
       let (e, m) = inside-first a l q in
-      let gone : goneIn g (isSet here) (readDevice g xs ws) z generation (first * stripeSectors g) (fillOf g n) ≡ false = rw p at (r .earlier-known) in
-      subst (λ (x : ℕ). known (g .drives) (g .unit) z (zoneView g (isSet here) (readDevice g xs ws) z generation) x ≡ true) e (known-in g (isSet here) (readDevice g xs ws) z generation (first * stripeSectors g) (fillOf g n) (a - first * stripeSectors g) gone m)
+      let gone : goneIn g (isSet here) (readDevice g xs ps) z generation (first * stripeSectors g) (fillOf g n) ≡ false = rw p at (r .earlier-known) in
+      subst (λ (x : ℕ). known (g .drives) (g .unit) z (zoneView g (isSet here) (readDevice g xs ps) z generation) x ≡ true) e (known-in g (isSet here) (readDevice g xs ps) z generation (first * stripeSectors g) (fillOf g n) (a - first * stripeSectors g) gone m)
 
-  limited : (a : ℕ) → first * stripeSectors g ≤ a → a < n → ownHeld g here ws z a ≡ false → limit ≡ sealLimit g (isSet here) (readDevice g xs ws) z generation
-  limited a l q h = go (allHeld g here ws z (first * stripeSectors g) (fillOf g n)) refl
+  limited : (a : ℕ) → first * stripeSectors g ≤ a → a < n → ownHeld g here ps z a ≡ false → limit ≡ sealLimit g (isSet here) (readDevice g xs ps) z generation
+  limited a l q h = go (allHeld g here ps z (first * stripeSectors g) (fillOf g n)) refl
     where
-      go : (b : Bool) → allHeld g here ws z (first * stripeSectors g) (fillOf g n) ≡ b → limit ≡ sealLimit g (isSet here) (readDevice g xs ws) z generation
+      go : (b : Bool) → allHeld g here ps z (first * stripeSectors g) (fillOf g n) ≡ b → limit ≡ sealLimit g (isSet here) (readDevice g xs ps) z generation
       go true e =
           let (i, m) = inside-first a l q in
-          absurd (true≢false (sym (subst (λ (x : ℕ). ownHeld g here ws z x ≡ true) i (all-below-all (λ i. ownHeld g here ws z (first * stripeSectors g + i)) (fillOf g n) (a - first * stripeSectors g) e m)) ∙ h))
+          absurd (true≢false (sym (subst (λ (x : ℕ). ownHeld g here ps z x ≡ true) i (all-below-all (λ i. ownHeld g here ps z (first * stripeSectors g + i)) (fillOf g n) (a - first * stripeSectors g) e m)) ∙ h))
       go false e = limit-is ∙ rw e refl
 
-  pub writing-begins : Writing (extentOf g here z generation limit n count) xs ws ws buffer
+  pub writing-begins : Writing (extentOf g to here z generation limit n count) xs ws ps buffer
   writing-begins = record {
+    shape = past .shape;
     zone-in = r .readable .zone-in;
     sectors-long = r .readable .sectors-long;
-    written-long = r .readable .written-long;
+    written-long = past .written-long;
     below-most = omega arith;
     end-most = r .inside;
     buffer-long = let e : n + count - n ≡ count = omega arith in rw e (r .buffer-long);
-    behind = record { least = λ d y hd hy hb. omega arith };
+    behind = past .behind;
     stripe-known = λ s h p. record {
       member = λ a l. record {
         readable = r .readable;
@@ -219,33 +232,34 @@ module _ (k : Extent) (ok : Valid (k .geometry)) (xs ws ps buffer : List ℕ) (w
   abbrev S : ℕ → List ℕ
   S = contentOf k (readDevice (k .geometry) xs ps) buffer
 
-  pub writing-kept : (budget rest : ℕ) (ss : List Store) (xs′ ws′ : List ℕ) → StoresIn (k .geometry) (λ y. true) ss → MadeAppends (k .geometry) budget rest ss xs ws xs′ ws′
+  pub writing-kept : (budget rest : ℕ) (ss : List Store) (xs′ ws′ : List ℕ) → StoresIn (k .geometry) notSpare ss → MadeAppends (k .to) budget rest ss xs ws xs′ ws′
       → Writing k xs′ ws′ ps buffer × (readDevice (k .geometry) xs′ ps ≡ readDevice (k .geometry) xs ps)
   writing-kept budget rest ss xs′ ws′ p q =
-      let h = made-keeps g (λ y. true) budget rest ss ps (tablesOf xs ws ws) (tablesOf xs′ ws′ ws) p (record { sectors-long = w .sectors-long; written-long = w .written-long; durable-long = w .written-long }) (w .behind) (q .made ws) in
-      let e = kept-device g ps xs xs′ [] (h .bytes) in (
+      let h = stored-keeps g (k .to) notSpare budget rest ss ps xs ws xs′ ws′ (w .shape) p (w .sectors-long) (w .written-long) (w .behind) q in (
         record {
+          shape = w .shape;
           zone-in = w .zone-in;
-          sectors-long = h .sized .sectors-long;
-          written-long = h .sized .written-long;
+          sectors-long = h .sectors-long;
+          written-long = h .written-long;
           below-most = w .below-most;
           end-most = w .end-most;
           buffer-long = w .buffer-long;
           behind = h .behind;
-          stripe-known = λ s l c. stripe-kept k xs ps buffer s (w .stripe-known s l c) xs′ (h .sized .sectors-long) e;
+          stripe-known = λ s l c. stripe-kept k xs ps buffer s (w .stripe-known s l c) xs′ (h .sectors-long) (h .device);
         },
-        e,
+        h .device,
       )
 
-  -- rows of a stripe that the write reaches can be appended to a zone of its parity drive
-  pub writing-rows : (s y : ℕ) → stripeOf (k .geometry .drives) (k .geometry .unit) (k .below) ≤ s → y < physicalZones (k .geometry) → parityDrive (k .geometry .drives) (k .zone) s < k .geometry .drives
+  -- rows of a stripe that the write reaches can be appended to a zone of its parity drive that is no spare
+  pub writing-rows : (s y : ℕ) → stripeOf (k .geometry .drives) (k .geometry .unit) (k .below) ≤ s → y < physicalZones (k .geometry) → notSpare y ≡ true → parityDrive (k .geometry .drives) (k .zone) s < k .geometry .drives
       → RowsReady k (record { drive = parityDrive (k .geometry .drives) (k .zone) s; zone = y; present = isSet (k .here) (parityDrive (k .geometry .drives) (k .zone) s) }) xs ws ps buffer s
-  writing-rows s y h hy hp = record {
+  writing-rows s y h hy log hp = record {
+    shape = w .shape;
     drive-in = hp;
     zone-in = hy;
     sectors-long = w .sectors-long;
     written-long = w .written-long;
-    behind = record { least = λ d x hd hx e. w .behind .least d x hd hx refl };
+    behind = record { least = λ d x hd hx e. w .behind .least d x hd hx (rw (eqb-true x y e) log) };
     stripe-known = λ p. w .stripe-known s h p;
   }
 
@@ -268,11 +282,11 @@ module _ (k : Extent) (ok : Valid (k .geometry)) (xs ws ps buffer : List ℕ) (w
       go (no h) = omega arith
 
   -- what an address stores, and a run of them, are appends of whole sectors
-  pub new-in : (a : ℕ) → k .below ≤ a → a < k .end → (here : Bool) → StoresIn (k .geometry) (λ y. true) (storeIf here (append (driveOf (k .geometry .drives) (k .geometry .unit) (k .zone) a) (dataZone (k .zone)) (S a)))
+  pub new-in : (a : ℕ) → k .below ≤ a → a < k .end → (here : Bool) → StoresIn (k .geometry) notSpare (storeIf here (append (driveOf (k .geometry .drives) (k .geometry .unit) (k .zone) a) (dataZone (k .zone)) (S a)))
   new-in a l h here =
-      store-if-in g (λ y. true) here (driveOf (g .drives) (g .unit) (k .zone) a) (dataZone (k .zone)) (S a) (drive-below (g .drives) (g .unit) (k .zone) (omega (arith, ok .drives-least)) (ok .unit-least) a) (omega (arith, w .zone-in)) refl (λ _. new-long a l h)
+      store-if-in g notSpare here (driveOf (g .drives) (g .unit) (k .zone) a) (dataZone (k .zone)) (S a) (drive-below (g .drives) (g .unit) (k .zone) (omega (arith, ok .drives-least)) (ok .unit-least) a) (omega (arith, w .zone-in)) (data-not-spare (k .zone)) (λ _. new-long a l h)
 
-  address-in : (a : ℕ) → k .below ≤ a → a < k .end → StoresIn (k .geometry) (λ y. true) (onPresent present (sectorStores (g .drives) (g .unit) (k .zone) S a))
+  address-in : (a : ℕ) → k .below ≤ a → a < k .end → StoresIn (k .geometry) notSpare (onPresent present (sectorStores (g .drives) (g .unit) (k .zone) S a))
   address-in a l h = go (ℕ-discrete (suc (a % stripeSectors g)) (stripeSectors g))
     where
       d : ℕ
@@ -291,23 +305,23 @@ module _ (k : Extent) (ok : Valid (k .geometry)) (xs ws ps buffer : List ℕ) (w
       below = parity-drive-below (g .drives) (g .unit) (k .zone) two (ok .unit-least) s
 
       ready : RowsReady k (record { drive = p; zone = dataZone (k .zone); present = present p }) xs ws ps buffer s
-      ready = writing-rows s (dataZone (k .zone)) (stripe-reached a l) (omega (arith, w .zone-in)) below
+      ready = writing-rows s (dataZone (k .zone)) (stripe-reached a l) (omega (arith, w .zone-in)) (data-not-spare (k .zone)) below
 
-      rows : suc (a % stripeSectors g) ≡ stripeSectors g → StoresIn g (λ y. true) (rowsIf (present p) p (dataZone (k .zone)) (rowXorBelow (g .drives) (g .unit) S s (k .end)) 0 (g .unit))
+      rows : suc (a % stripeSectors g) ≡ stripeSectors g → StoresIn g notSpare (rowsIf (present p) p (dataZone (k .zone)) (rowXorBelow (g .drives) (g .unit) S s (k .end)) 0 (g .unit))
       rows e =
-          rows-in g (λ y. true) (present p) p (dataZone (k .zone)) (rowXorBelow (g .drives) (g .unit) S s (k .end)) 0 (g .unit) below (omega (arith, w .zone-in)) refl
+          rows-in g notSpare (present p) p (dataZone (k .zone)) (rowXorBelow (g .drives) (g .unit) S s (k .end)) 0 (g .unit) below (omega (arith, w .zone-in)) (data-not-spare (k .zone))
           (λ q r hr. ready-long k (record { drive = p; zone = dataZone (k .zone); present = present p }) xs ws ps buffer s ready ok r hr (last-row e r hr) q)
         where
           last-row : suc (a % stripeSectors g) ≡ stripeSectors g → (r : ℕ) → r < g .unit → s * stripeSectors g + r < k .end
           last-row e r hr = omega (arith, stripe-last g a e, unit-in-stripe g ok)
 
-      go : Dec (suc (a % stripeSectors g) ≡ stripeSectors g) → StoresIn g (λ y. true) (onPresent present (sectorStores (g .drives) (g .unit) (k .zone) S a))
-      go (yes e) = rw (sector-last g ok present (k .zone) S a (k .end) e h) (stores-in-append g (λ y. true) (storeIf (present d) (append d (dataZone (k .zone)) (S a))) (rowsIf (present p) p (dataZone (k .zone)) (rowXorBelow (g .drives) (g .unit) S s (k .end)) 0 (g .unit)) (new-in a l h (present d)) (rows e))
+      go : Dec (suc (a % stripeSectors g) ≡ stripeSectors g) → StoresIn g notSpare (onPresent present (sectorStores (g .drives) (g .unit) (k .zone) S a))
+      go (yes e) = rw (sector-last g ok present (k .zone) S a (k .end) e h) (stores-in-append g notSpare (storeIf (present d) (append d (dataZone (k .zone)) (S a))) (rowsIf (present p) p (dataZone (k .zone)) (rowXorBelow (g .drives) (g .unit) S s (k .end)) 0 (g .unit)) (new-in a l h (present d)) (rows e))
       go (no ne) = rw (sector-inside g ok present (k .zone) S a (omega (arith, ne, mod-lt a (stripe-pos (g .drives) (g .unit) 0 two (ok .unit-least))))) (new-in a l h (present d))
 
-  pub run-in : (j : ℕ) → j ≤ k .end - k .below → StoresIn (k .geometry) (λ y. true) (onPresent (isSet (k .here)) (dataStores (k .geometry .drives) (k .geometry .unit) (k .zone) (contentOf k (readDevice (k .geometry) xs ps) buffer) (k .below) j))
+  pub run-in : (j : ℕ) → j ≤ k .end - k .below → StoresIn (k .geometry) notSpare (onPresent (isSet (k .here)) (dataStores (k .geometry .drives) (k .geometry .unit) (k .zone) (contentOf k (readDevice (k .geometry) xs ps) buffer) (k .below) j))
   run-in zero h = tt
   run-in (suc j) h =
       let e : onPresent present (dataStores (g .drives) (g .unit) (k .zone) S (k .below) (suc j)) ≡ onPresent present (dataStores (g .drives) (g .unit) (k .zone) S (k .below) j) ++ onPresent present (sectorStores (g .drives) (g .unit) (k .zone) S (k .below + j)) =
       ap (onPresent present) (data-snoc (g .drives) (g .unit) (k .zone) S (k .below) j) ∙ on-present-append present (dataStores (g .drives) (g .unit) (k .zone) S (k .below) j) (sectorStores (g .drives) (g .unit) (k .zone) S (k .below + j)) in
-      subst (StoresIn g (λ y. true)) (sym e) (stores-in-append g (λ y. true) (onPresent present (dataStores (g .drives) (g .unit) (k .zone) S (k .below) j)) (onPresent present (sectorStores (g .drives) (g .unit) (k .zone) S (k .below + j))) (run-in j (omega arith)) (address-in (k .below + j) (omega arith) (omega arith)))
+      subst (StoresIn g notSpare) (sym e) (stores-in-append g notSpare (onPresent present (dataStores (g .drives) (g .unit) (k .zone) S (k .below) j)) (onPresent present (sectorStores (g .drives) (g .unit) (k .zone) S (k .below + j))) (run-in j (omega arith)) (address-in (k .below + j) (omega arith) (omega arith)))

@@ -2,95 +2,28 @@
 -- number, the state's bytes; lengths stay.
 use mathlib.Core.Path.{_≡_, refl, sym, ap, ap₂, _∙_, subst}
 use mathlib.Core.Bool.{Bool, true, false}
-use Prim.Native.Nat.{ℕ, zero, suc, _+_, _*_, _%_}
+use Prim.Native.Nat.{ℕ, zero, suc, _+_, _*_}
 use mathlib.Core.List.{List, [], _∷_, _++_}
 use lib.ListN.{length}
 use lib.Dec.{eqb}
 use Rattle.tables.specs.declared.Geometry.{Geometry}
 use Rattle.tables.specs.meaning.Basics.{pick}
-use Rattle.tables.specs.meaning.Below.{tabulateFrom}
-use Rattle.tables.specs.meaning.Geometry.{Valid, cells, dataZone}
-use Rattle.tables.specs.meaning.Placement.{stripeLength, stripeOf, parityDrive}
-use Rattle.tables.specs.meaning.Device.{Device, Store, append, reset, flush}
+use Rattle.tables.specs.meaning.Geometry.{Valid, cells}
+use Rattle.tables.specs.meaning.Device.{Store, append, reset, flush}
 use Rattle.tables.specs.meaning.Phases.{onPresent, flushAll}
-use Rattle.tables.specs.meaning.Tables.{Tables, tablesOf, deviceOf, hasRoom, sectorsAfterAppend, writtenAfterAppend, makeStore, runStores}
-use Rattle.logs.specs.meaning.Entry.{parityZone}
-use Rattle.logs.specs.meaning.Walk.{sectorsOf}
+use Rattle.tables.specs.meaning.Tables.{Tables, tablesOf, deviceOf, makeStore, runStores}
 use Rattle.volume.specs.declared.State.{State}
-use Rattle.volume.specs.meaning.Content.{rowXor, insideStripe, parityDriveAt, entryAt}
-use Rattle.volume.specs.meaning.State.{StateView, callPresent, pointerIn}
-use Rattle.volume.specs.meaning.Rules.{isPresent, lostDrive}
+use Rattle.volume.specs.meaning.State.{callPresent}
 use Rattle.volume.specs.meaning.Refusals.{zoneOf}
-use Rattle.volume.specs.meaning.Answers.{lostIn, leftOut, namedDrives, sectorsIn}
-use Rattle.volume.specs.meaning.Calls.{appendAll, parityStores, sectorStores, dataStores, entryStores, zoneContent, writeWith, writeStores, flushStores, resetStores, formatStores}
-use Rattle.volume.specs.meaning.CallContracts.{viewState, isSet, answerNumber, verdictNumber, Result, storingOn, flushVerdict, withLost, flushOn, resetVerdict, withReset, resetOn, writeVerdict, writtenState, pointerOf, writeOn, formatVerdict, freshState, formatOn, mountVerdict, mountStoresOn, mountShownOn, mountOn}
+use Rattle.volume.specs.meaning.Answers.{lostIn, leftOut, namedDrives, sectorsIn, presentIn, lostDriveIn}
+use Rattle.volume.specs.meaning.Calls.{flushStores, formatStores}
+use Rattle.volume.specs.meaning.Emptying.{writeAll, resetAll}
+use Rattle.volume.specs.meaning.CallContracts.{viewState, isSet, answerNumber, verdictNumber, rolesOf, seenIn, Result, storingOn, flushVerdict, withLost, flushOn, resetVerdict, withReset, resetOn, writeVerdict, writtenState, pointerOf, writeOn, formatVerdict, freshState, formatOn, mountVerdict, mountStoresOn, mountShownOn, mountOn}
 use Rattle.volume.specs.laws.ByteLists.{Bytes}
 use Rattle.zrv.specs.meaning.Bytes.{tableFrom, tableTo}
-use Rattle.zrv.specs.meaning.EdgeCalls.{namedOf, inputNumber, sizesNumber, stateAfter, Ranges, tablesIn, stateIn, unreadState, Answered, storedAll, storedAppends, storedFlushes, unlessRefused, formatOfBytes, formatEdge, mountOfBytes, mountEdge, writeOfBytes, writeEdge, flushOfBytes, flushEdge, resetOfBytes, resetEdge}
+use Rattle.zrv.specs.meaning.EdgeCalls.{namedOf, inputNumber, sizesNumber, stateAfter, Ranges, tablesIn, stateIn, unreadState, Answered, storedAll, storedFlushes, unlessRefused, formatOfBytes, formatEdge, mountOfBytes, mountEdge, writeOfBytes, writeEdge, flushOfBytes, flushEdge, resetOfBytes, resetEdge}
 use Rattle.zrv.specs.laws.EdgeCalls.{Sized, input-passed, sizes-passed, made}
 use Rattle.zrv.specs.laws.TablesRoundTrip.{InWords, ranges-in-words, words-read-back, run-words, table-bytes, table-bytes-long}
-
--- ---- a write only appends, and appends leave `durable`
-abbrev Appends : List Store → Type 0
-Appends [] = Unit {0}
-Appends (append d z s ∷ xs) = Appends xs
-Appends (reset d z ∷ xs) = ⊥
-Appends (flush d ∷ xs) = ⊥
-
-appends-append : (xs ys : List Store) → Appends xs → Appends ys → Appends (xs ++ ys)
-appends-append [] ys p q = q
-appends-append (append d z s ∷ xs) ys p q = appends-append xs ys p q
-appends-append (reset d z ∷ xs) ys p q = p
-appends-append (flush d ∷ xs) ys p q = p
-
-appends-pick : (b : Bool) (xs : List Store) → Appends xs → Appends (pick b xs [])
-appends-pick true xs p = p
-appends-pick false xs p = tt
-
-appends-all : (d y : ℕ) (ss : List (List ℕ)) → Appends (appendAll d y ss)
-appends-all d y [] = tt
-appends-all d y (s ∷ ss) = appends-all d y ss
-
-appends-present : (present : ℕ → Bool) (xs : List Store) → Appends xs → Appends (onPresent present xs)
-appends-present present [] p = tt
-appends-present present (append d z s ∷ xs) p = go (present d) (appends-present present xs p)
-  where
-    go : (b : Bool) → Appends (onPresent present xs) → Appends (pick b (append d z s ∷ onPresent present xs) (onPresent present xs))
-    go true q = q
-    go false q = q
-appends-present present (reset d z ∷ xs) p = absurd p
-appends-present present (flush d ∷ xs) p = absurd p
-
-appends-data : (D U z : ℕ) (S : ℕ → List ℕ) (a k : ℕ) → Appends (dataStores D U z S a k)
-appends-data D U z S a zero = tt
-appends-data D U z S a (suc k) =
-    let s = stripeOf D U a in
-    let parity = appends-all (parityDrive D z s) (dataZone z) (tabulateFrom (rowXor D U S s) zero U) in
-    let own = appends-pick (eqb (suc (a % stripeLength D U)) (stripeLength D U)) (parityStores D U z S s) parity in
-    appends-append (sectorStores D U z S a) (dataStores D U z S (suc a) k) own (appends-data D U z S (suc a) k)
-
-write-appends : (g : Geometry) (present : ℕ → Bool) (v : Device) (state : StateView) (z : ℕ) (ss : List (List ℕ)) → Appends (writeStores g present v state z ss)
-unfolding writeStores writeWith
-write-appends g present v state z ss =
-    let S = zoneContent g present v state z ss in
-    let n = pointerIn (state .condition z) in
-    let sectors = dataStores (g .drives) (g .unit) z S n (length ss) in
-    let entry = entryStores g z (state .generation z) S (n + length ss) in
-    let inside = insideStripe g (n + length ss) in
-    let d = parityDriveAt g z (n + length ss) in
-    let entered = appends-pick inside entry (appends-all d parityZone (sectorsOf g d true (entryAt g z (state .generation z) S (n + length ss)))) in
-    appends-present present (sectors ++ pick inside entry []) (appends-append sectors (pick inside entry []) (appends-data (g .drives) (g .unit) z S n (length ss)) entered)
-
-run-appends : (g : Geometry) (k : ℕ) (xs : List Store) (t : Tables) → Appends xs → runStores g k xs t .durable ≡ t .durable
-run-appends g k [] t p = refl
-run-appends g zero (x ∷ xs) t p = refl
-run-appends g (suc k) (append d z s ∷ xs) t p = run-appends g k xs (makeStore g (append d z s) t) p ∙ go (hasRoom g d z (t .written))
-  where
-    go : (b : Bool) → pick b (record { sectors = sectorsAfterAppend g d z s (t .sectors) (t .written); written = writtenAfterAppend g d z (t .written); durable = t .durable }) t .durable ≡ t .durable
-    go true = refl
-    go false = refl
-run-appends g (suc k) (reset d z ∷ xs) t p = absurd p
-run-appends g (suc k) (flush d ∷ xs) t p = absurd p
 
 -- ---- a flush only flushes, and flushes leave `sectors` and `written`
 abbrev Flushes : List Store → Type 0
@@ -155,8 +88,8 @@ module _ (g : Geometry) (t : Tables) (named : List Bool) (count : ℕ) where
   unfoldable pub mount-stored : (old : State) → Stored g t (mountOn g named old count t)
   unfolding mountOn
   mount-stored old =
-      let present = isPresent g (isSet named) (deviceOf g t) in
-      let x = lostDrive g (isSet named) (deviceOf g t) in
+      let present = presentIn g (isSet named) (deviceOf g t) in
+      let x = lostDriveIn g (isSet named) (deviceOf g t) in
       record { number = verdictNumber (mountVerdict g named t); stores = mountStoresOn g present x t; new = mountShownOn g present x t; old = old; count = count; is = refl }
 
   module _ (s : State) where
@@ -172,13 +105,13 @@ module _ (g : Geometry) (t : Tables) (named : List Bool) (count : ℕ) where
 
     unfoldable pub reset-stored : (z : ℕ) → Stored g t (resetOn g named s z count t)
     unfolding resetOn
-    reset-stored z = record { number = verdictNumber (resetVerdict g named s z t); stores = resetStores g here (viewState s) z; new = withReset s z lost; old = s; count = count; is = refl }
+    reset-stored z = record { number = verdictNumber (resetVerdict g named s z t); stores = resetAll g here (rolesOf g t) (seenIn g t) (viewState s) z; new = withReset s z lost; old = s; count = count; is = refl }
 
     unfoldable pub write-stored : (a k : ℕ) (buffer : List ℕ) → Stored g t (writeOn g named s a k buffer count t)
     unfolding writeOn
     write-stored a k buffer = record {
       number = verdictNumber (writeVerdict g named s a k (length buffer) t);
-      stores = writeStores g here (deviceOf g t) (viewState s) (zoneOf g a) (sectorsIn g k buffer);
+      stores = writeAll g here (rolesOf g t) (seenIn g t) (viewState s) (zoneOf g a) (sectorsIn g k buffer);
       new = writtenState s lost (zoneOf g a) (pointerOf s (zoneOf g a) + k);
       old = s;
       count = count;
@@ -196,9 +129,6 @@ module _ (g : Geometry) (t : Tables) (r : Result) (q : Stored g t r) where
 
   stored-words : Valid g → InWords g t → InWords g (r .tables)
   stored-words ok w = by-stores (InWords g) w (run-words g ok (q .count) (q .stores) t w)
-
-  stored-appends : Appends (q .stores) → r .tables .durable ≡ t .durable
-  stored-appends p = by-stores (λ (u : Tables). u .durable ≡ t .durable) refl (run-appends g (q .count) (q .stores) t p)
 
   stored-flushes : Flushes (q .stores) → (r .tables .sectors ≡ t .sectors) × (r .tables .written ≡ t .written)
   stored-flushes p = by-stores (λ (u : Tables). (u .sectors ≡ t .sectors) × (u .written ≡ t .written)) (refl, refl) (run-flushes g (q .count) (q .stores) t p)
@@ -236,18 +166,6 @@ module _ (g : Geometry) (m : Ranges) (a : Bytes (m .written)) (b : Bytes (m .dur
     durable-bytes = table-bytes (r .tables .durable);
     written-long = written-same;
     durable-long = durable-same;
-  }
-
-  appends-left : r .tables .durable ≡ tablesIn g m .durable → Leaves g m (storedAppends g r m) r
-  unfolding storedAppends
-  appends-left e = record {
-    code-is = refl;
-    tables-are = ap₂ (λ (ws ds : List ℕ). tablesOf (r .tables .sectors) ws ds) written-back (sym e);
-    state-is = refl;
-    written-bytes = table-bytes (r .tables .written);
-    durable-bytes = b;
-    written-long = written-same;
-    durable-long = refl;
   }
 
   flushes-left : (r .tables .sectors ≡ m .sectors) × (r .tables .written ≡ tablesIn g m .written) → Leaves g m (storedFlushes g r m) r
@@ -290,14 +208,9 @@ module _ (g : Geometry) (mask : ℕ) (m : Ranges) (a : Bytes (m .written)) (b : 
     words r q = stored-words g (tablesIn g m) r q (taken .valid) (ranges-in-words g m a b)
 
     pub write-leaves : (at k count : ℕ) (bytes : List ℕ) → Leaves g m (writeEdge g mask at k count bytes m) (writeOfBytes g mask at k count bytes m)
-    unfolding write-stored
     write-leaves at k count bytes =
-        let t = tablesIn g m in
-        let s = stateIn g m in
         let r = writeOfBytes g mask at k count bytes m in
-        let q = write-stored g t (namedOf mask) count s at k bytes in
-        let p = write-appends g (callPresent g (isSet (namedOf mask)) (viewState s)) (deviceOf g t) (viewState s) (zoneOf g at) (sectorsIn g k bytes) in
-        leaves (storedAppends g r m) r (appends-left g m a b taken r (words r q) (stored-appends g t r q p))
+        leaves (storedAll g r m) r (all-left g m a b taken r (words r (write-stored g (tablesIn g m) (namedOf mask) count (stateIn g m) at k bytes)))
 
     pub flush-leaves : (count : ℕ) → Leaves g m (flushEdge g mask count m) (flushOfBytes g mask count m)
     unfolding flush-stored

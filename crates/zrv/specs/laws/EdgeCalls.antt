@@ -14,7 +14,7 @@ use Rattle.tables.specs.meaning.Basics.{pick}
 use Rattle.tables.specs.laws.Basics.{and-split}
 use Rattle.tables.specs.meaning.Geometry.{Valid, cells}
 use Rattle.tables.specs.meaning.GeometryTest.{isValid}
-use Rattle.tables.specs.laws.GeometryTest.{valid-if-test}
+use Rattle.tables.specs.laws.GeometryTest.{valid-if-test, first-if-test}
 use Rattle.tables.specs.meaning.Tables.{Tables, tablesOf}
 use Rattle.volume.specs.declared.Answer.{Answer}
 use Rattle.volume.specs.declared.Outcome.{Outcome}
@@ -23,12 +23,13 @@ use Rattle.volume.specs.meaning.CallContracts.{answerNumber, Result, ReadResult
 use Rattle.volume.specs.reading.Peeking.{peek-done}
 use Rattle.tables.specs.meaning.LittleEndian.{bytesLE}
 use Rattle.zrv.specs.meaning.Bytes.{tableTo, stateTo}
-use Rattle.zrv.specs.meaning.EdgeCalls.{sizesFit, stateBad, inputNumber, sizesNumber, stateAfter, Ranges, ranges, Answered, answered, unlessRefused, handedBack, storedAll, storedAppends, storedFlushes, readAnswer, offsetAt, placeAnswer, placeSized}
+use Rattle.zrv.specs.meaning.EdgeCalls.{sizesFit, stateBad, inputNumber, sizesNumber, stateAfter, Ranges, ranges, Answered, answered, unlessRefused, handedBack, storedAll, storedFlushes, readAnswer, offsetAt, placeAnswer, placeSized}
 
 -- ---- the input
 -- what passing its test gives
 pub record Sized (g : Geometry) (n w d : ℕ) : Type 0 where
   pub valid : Valid g
+  pub logs-first : g .logs ≡ 0
   pub state-long : n ≡ 264
   pub written-long : w ≡ cells g * 4
   pub durable-long : d ≡ cells g * 4
@@ -38,7 +39,7 @@ unfolding sizesFit
 sized g n w d v h =
     let (a, q) = and-split (eqb n 264) (eqb w (cells g * 4) && eqb d (cells g * 4)) h in
     let (b, e) = and-split (eqb w (cells g * 4)) (eqb d (cells g * 4)) q in
-    record { valid = valid-if-test g v; state-long = eqb-true n 264 a; written-long = eqb-true w (cells g * 4) b; durable-long = eqb-true d (cells g * 4) e }
+    record { valid = valid-if-test g v; logs-first = first-if-test g v; state-long = eqb-true n 264 a; written-long = eqb-true w (cells g * 4) b; durable-long = eqb-true d (cells g * 4) e }
 
 pub input-passed : (g : Geometry) (st : List ℕ) (w d : ℕ) → inputNumber g st w d ≡ 0 → Sized g (length st) w d
 unfolding inputNumber
@@ -118,10 +119,6 @@ module _ (g : Geometry) (m : Ranges) (r : Result) {o : Outcome} {ys ws ds : List
   pub all-stored : {wb db : List ℕ} → wb ≡ tableTo ws → db ≡ tableTo ds → answered n (ranges ys wb db st) ≡ storedAll g r m
   unfolding storedAll
   all-stored a b = cc (code-is, state-is, sectors-are, written-are a, durable-are b)
-
-  pub appends-stored : {wb : List ℕ} → wb ≡ tableTo ws → answered n (ranges ys wb (m .durable) st) ≡ storedAppends g r m
-  unfolding storedAppends
-  appends-stored a = cc (code-is, state-is, sectors-are, written-are a)
 
   pub flushes-stored : {db : List ℕ} → db ≡ tableTo ds → answered n (ranges (m .sectors) (m .written) db st) ≡ storedFlushes g r m
   unfolding storedFlushes

@@ -12,14 +12,14 @@ use borrow.Author.Tests.{ne-eqb}
 use Rattle.tables.specs.declared.Geometry.{Geometry}
 use Rattle.tables.specs.meaning.Basics.{pick}
 use Rattle.tables.specs.meaning.Geometry.{cells}
-use Rattle.tables.specs.meaning.Tables.{Tables, deviceOf, runStores}
+use Rattle.tables.specs.meaning.Tables.{Tables, runStores}
 use Rattle.volume.specs.declared.Answer.the-variants.{Finished, Unfinished, Refused}
 use Rattle.volume.specs.declared.Outcome.{Outcome}
 use Rattle.volume.specs.meaning.State.{callPresent}
 use Rattle.volume.specs.meaning.Refusals.{zoneOf, offsetOf}
-use Rattle.volume.specs.meaning.CallContracts.{recordAt, viewState, isSet, answerNumber, Result, readNumber, valuesOn, readOn, peekNumber}
+use Rattle.volume.specs.meaning.CallContracts.{recordAt, viewState, isSet, answerNumber, seenIn, Result, readNumber, valuesOn, readOn, peekNumber}
 use Rattle.volume.specs.laws.ByteLists.{Bytes}
-use Rattle.zrv.specs.meaning.EdgeCalls.{namedOf, inputNumber, sizesNumber, Ranges, tablesIn, stateIn, unreadState, Answered, answered, unlessRefused, handedBack, storedAll, storedAppends, storedFlushes, formatOfBytes, formatEdge, lookOfBytes, lookEdge, mountOfBytes, mountEdge, writeOfBytes, writeEdge, flushOfBytes, flushEdge, resetOfBytes, resetEdge, readAnswer, readEdge, placeAnswer, placeSized, peekEdge}
+use Rattle.zrv.specs.meaning.EdgeCalls.{namedOf, inputNumber, sizesNumber, Ranges, tablesIn, stateIn, unreadState, Answered, answered, unlessRefused, handedBack, storedAll, storedFlushes, formatOfBytes, formatEdge, lookOfBytes, lookEdge, mountOfBytes, mountEdge, writeOfBytes, writeEdge, flushOfBytes, flushEdge, resetOfBytes, resetEdge, readAnswer, readEdge, placeAnswer, placeSized, peekEdge}
 use Rattle.zrv.specs.laws.EdgeCalls.{Sized, input-passed, sizes-passed, refused, made, state-kept}
 use Rattle.zrv.specs.laws.RoundTrips.{bytes-table-bytes}
 use Rattle.zrv.specs.laws.CallsLeave.{Stored, format-stored, mount-stored, flush-stored, reset-stored, write-stored}
@@ -40,15 +40,11 @@ stored-refused g t r q h = ap (λ (u : Result). u .tables) (q .is) ∙ go (eqb (
     go true false k = absurd (k .0 refl)
     go false c k = refl
 
--- ---- the four forms of EdgeCalls
+-- ---- the three forms of EdgeCalls
 module _ (g : Geometry) (m : Ranges) (r : Result) (q : r .tables ≡ tablesIn g m) (n : answerNumber (r .outcome .answer) ≢ 0) where
   refused-all : Bytes (m .written) → Bytes (m .durable) → length (m .written) ≡ cells g * 4 → length (m .durable) ≡ cells g * 4 → storedAll g r m ≡ answered (answerNumber (r .outcome .answer)) m
   unfolding storedAll
   refused-all a b c d = rw (q, bytes-table-bytes (cells g) (m .written) a c, bytes-table-bytes (cells g) (m .durable) b d, sym (state-kept g (r .outcome) (m .state) n)) refl
-
-  refused-appends : Bytes (m .written) → length (m .written) ≡ cells g * 4 → storedAppends g r m ≡ answered (answerNumber (r .outcome .answer)) m
-  unfolding storedAppends
-  refused-appends a c = rw (q, bytes-table-bytes (cells g) (m .written) a c, sym (state-kept g (r .outcome) (m .state) n)) refl
 
   refused-flushes : Bytes (m .durable) → length (m .durable) ≡ cells g * 4 → storedFlushes g r m ≡ answered (answerNumber (r .outcome .answer)) m
   unfolding storedFlushes
@@ -100,13 +96,10 @@ module _ (g : Geometry) (mask : ℕ) (m : Ranges) where
         let r = resetOfBytes g mask z count m in
         unless-kept (inputNumber g (m .state) w d) (storedAll g r m) m (λ n. all-kept r (reset-stored g t (namedOf mask) count (stateIn g m) z) (input-passed g (m .state) w d n))
 
-  pub write-refused : Bytes (m .written) → (at k count : ℕ) (bytes : List ℕ) → IsRefusal (writeEdge g mask at k count bytes m .code) → writeEdge g mask at k count bytes m .left ≡ m
-  write-refused a at k count bytes =
-      let r = writeOfBytes g mask at k count bytes m in
-      unless-kept (inputNumber g (m .state) w d) (storedAppends g r m) m (λ n. kept r (write-stored g t (namedOf mask) count (stateIn g m) at k bytes) (input-passed g (m .state) w d n))
-    where
-      kept : (r : Result) → Stored g t r → Sized g (length (m .state)) w d → storedAppends g r m .code ≢ 0 → storedAppends g r m .code ≢ 255 → storedAppends g r m .left ≡ m
-      kept r q s p u = unfold storedAppends in ap (λ (x : Answered Ranges). x .left) (refused-appends g m r (stored-refused g t r q (p, u)) p a (s .written-long))
+    pub write-refused : (at k count : ℕ) (bytes : List ℕ) → IsRefusal (writeEdge g mask at k count bytes m .code) → writeEdge g mask at k count bytes m .left ≡ m
+    write-refused at k count bytes =
+        let r = writeOfBytes g mask at k count bytes m in
+        unless-kept (inputNumber g (m .state) w d) (storedAll g r m) m (λ n. all-kept r (write-stored g t (namedOf mask) count (stateIn g m) at k bytes) (input-passed g (m .state) w d n))
 
   pub flush-refused : Bytes (m .durable) → (count : ℕ) → IsRefusal (flushEdge g mask count m .code) → flushEdge g mask count m .left ≡ m
   flush-refused b count =
@@ -127,7 +120,7 @@ module _ (g : Geometry) (mask : ℕ) (m : Ranges) where
       v = readNumber g (namedOf mask) (stateIn g m) at k (length out) t
 
       value : List ℕ
-      value = valuesOn g (callPresent g (isSet (namedOf mask)) (viewState (stateIn g m))) (deviceOf g t) (zoneOf g at) (recordAt (stateIn g m) (zoneOf g at) .generation) (offsetOf g at) k
+      value = valuesOn g (callPresent g (isSet (namedOf mask)) (viewState (stateIn g m))) (seenIn g t) (zoneOf g at) (recordAt (stateIn g m) (zoneOf g at) .generation) (offsetOf g at) k
 
       go : (value : List ℕ) (c : Bool) → answerNumber (pick c Finished (Refused v)) ≢ 0 → pick c value out ≡ out
       go value true p = absurd (p refl)

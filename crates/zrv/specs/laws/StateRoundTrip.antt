@@ -10,10 +10,10 @@ use mathlib.Core.List.{List}
 use lib.ListN.{length, getD, set, length-set}
 use lib.Seq.{getD-set-same, getD-set-other}
 use lib.Dec.{ltb, leb, eqb}
-use borrow.Author.Tests.{lt-ltb, ltb-true, le-leb, eq-eqb, eqb-true, eqb-false}
+use borrow.Author.Tests.{lt-ltb, ltb-true, le-leb, leb-false, eq-eqb, eqb-true, eqb-false}
 use Rattle.tables.specs.declared.Geometry.{Geometry}
 use Rattle.tables.specs.meaning.Basics.{pick}
-use Rattle.tables.specs.laws.Basics.{and-split, and-join, or-cases, or-left, or-right, not-not}
+use Rattle.tables.specs.laws.Basics.{and-split, and-join, or-cases, or-none, or-left, or-right, not-not}
 use Rattle.tables.specs.meaning.Below.{allBelow}
 use Rattle.tables.specs.laws.Below.{all-all-below}
 use Rattle.tables.specs.meaning.Drives.{findBelow, noDrive}
@@ -30,20 +30,22 @@ use Rattle.volume.specs.declared.ZoneRecord.{ZoneRecord}
 use Rattle.volume.specs.declared.State.{State}
 use Rattle.volume.specs.declared.Answer.the-variants.{Finished, Unfinished, Refused}
 use Rattle.volume.specs.declared.Outcome.{Outcome}
-use Rattle.volume.specs.meaning.State.{pointerIn, callPresent}
-use Rattle.volume.specs.meaning.Rules.{isLost, conditionOf, generationOf, pointerAt, cleanAt, sealSeen, zoneAt, zoneShown, showing, isPresent, lostDrive}
-use Rattle.volume.specs.meaning.Refusals.{stateWithin, zoneOf}
-use Rattle.volume.specs.meaning.Calls.{flushStores, resetStores, writeStores, formatStores}
-use Rattle.volume.specs.meaning.Answers.{lostIn, leftOut, namedDrives, sectorsIn}
-use Rattle.volume.specs.meaning.CallContracts.{blankRecord, freshRecord, recordAt, viewState, isSet, answerNumber, verdictNumber, storingOn, zoneLookOf, flushVerdict, withLost, flushOn, resetVerdict, resetRecord, withReset, resetOn, formatVerdict, freshState, formatOn, recordFrom, stateShown, lookVerdict, lookOn, writeVerdict, writtenState, pointerOf, writeOn, mountVerdict, mountStoresOn, mountShownOn, mountOn}
+use Rattle.volume.specs.meaning.State.{pointerIn, isWorn, callPresent}
+use Rattle.volume.specs.meaning.Rules.{isLost, conditionOf, generationOf, pointerAt, cleanAt, sealSeen, zoneAt, zoneShown, showing}
+use Rattle.volume.specs.meaning.Refusals.{accept, stateWithin, zoneOf, resetRows}
+use Rattle.volume.specs.meaning.Calls.{flushStores, formatStores}
+use Rattle.volume.specs.meaning.Emptying.{writeAll, resetAll}
+use Rattle.volume.specs.meaning.Answers.{lostIn, leftOut, namedDrives, sectorsIn, presentIn, lostDriveIn}
+use Rattle.volume.specs.meaning.CallContracts.{blankRecord, freshRecord, recordAt, viewState, isSet, answerNumber, verdictNumber, lengthsOf, badIn, rolesOf, seenIn, storingOn}
+use Rattle.volume.specs.meaning.CallContracts.{zoneLookOf, flushVerdict, withLost, flushOn, resetVerdict, resetRecord, withReset, resetOn, formatVerdict, freshState, formatOn, recordFrom, stateShown, lookVerdict, lookOn, writeVerdict, writtenState, pointerOf, writeOn, mountVerdict, mountStoresOn, mountShownOn, mountOn}
 use Rattle.volume.specs.looking.DrivesLost.{fill-long, fill-at, fill-past}
 use Rattle.volume.specs.checks.ZoneChecks.{pointer-within}
-use Rattle.volume.specs.storing.Resetting.{reset-refusal, reset-accepted}
-use Rattle.volume.specs.writing.Writing.{writeNumber, write-accepted}
+use Rattle.volume.specs.laws.Refusals.{accepted-row}
+use Rattle.volume.specs.laws.PassedRows.{reset-number-accepts, reset-passed, write-number-accepts, write-passed}
 use Rattle.volume.specs.laws.GenerationRange.{generation-range}
 use Rattle.volume.specs.mounting.MountStart.{worn-top, pointer-within as pointer-at-within}
 use Rattle.zrv.specs.meaning.Bytes.{stateFrom, stateTo, stateWellFormed}
-use Rattle.zrv.specs.meaning.EdgeCalls.{namedOf, sizesFit, stateBad, inputNumber, sizesNumber, Ranges, tablesIn, stateIn, unreadState, stateAfter, Answered, unlessRefused, handedBack, storedAll, storedAppends, storedFlushes, flushOfBytes, flushEdge, lookOfBytes, lookEdge, mountOfBytes, mountEdge, formatOfBytes, formatEdge, resetOfBytes, resetEdge, writeOfBytes, writeEdge}
+use Rattle.zrv.specs.meaning.EdgeCalls.{namedOf, sizesFit, stateBad, inputNumber, sizesNumber, Ranges, tablesIn, stateIn, unreadState, stateAfter, Answered, unlessRefused, handedBack, storedAll, storedFlushes, flushOfBytes, flushEdge, lookOfBytes, lookEdge, mountOfBytes, mountEdge, formatOfBytes, formatEdge, resetOfBytes, resetEdge, writeOfBytes, writeEdge}
 use Rattle.zrv.specs.laws.EdgeCalls.{Sized, input-passed, sizes-passed, refused, made, state-new}
 use Rattle.zrv.specs.laws.RoundTrips.{StateRange, state-bytes-state, length-state-to, state-well-formed, read-generation}
 
@@ -96,7 +98,7 @@ unfolding inputNumber stateBad sizesFit
 bounded-taken g s n w d q b =
     let r = bounded-range g s (q .valid) b in
     rw (
-      test-if-valid g (q .valid),
+      test-if-valid g (q .valid) (q .logs-first),
       length-state-to (g .zones) s (q .valid .zones-most),
       state-well-formed (g .zones) s r,
       state-bytes-state (g .zones) s r,
@@ -244,6 +246,13 @@ shown-bounded g present lost v ok = record {
         pointer-shown n q (zoneSectors g) (cleanAt g present v z n q) (sealSeen g present v z n) (pointer-at-within g present v z n)
 
 -- ==== the calls on tables: what each hands on when it is finished
+-- refusal 12: the zone of an accepted reset has a generation left
+reset-fresh : (g : Geometry) (named : List Bool) (s : State) (z : ℕ) (t : Tables) → resetVerdict g named s z t ≡ accept → recordAt s z .generation < wornGeneration
+unfolding resetVerdict resetRows
+reset-fresh g named s z t e =
+    let row = accepted-row (resetRows g (lengthsOf t) (badIn g named t) (isSet named) (viewState s) z (rolesOf g t) (seenIn g t)) e 12 in
+    omega (arith, leb-false wornGeneration (recordAt s z .generation) (or-none (isWorn (recordAt s z .condition)) (leb wornGeneration (recordAt s z .generation)) row .1))
+
 module _ (g : Geometry) (named : List Bool) (s : State) (b : Bounded g s) (count : ℕ) where
   flush-bounded : (t : Tables) → answerNumber (flushOn g named s count t .outcome .answer) ≡ 0 → Bounded g (flushOn g named s count t .outcome .state)
   unfolding flushOn
@@ -254,25 +263,25 @@ module _ (g : Geometry) (named : List Bool) (s : State) (b : Bounded g s) (count
   reset-bounded : (z : ℕ) (t : Tables) → Valid g → answerNumber (resetOn g named s z count t .outcome .answer) ≡ 0 → Bounded g (resetOn g named s z count t .outcome .state)
   unfolding resetOn
   reset-bounded z t ok =
-      finished-new (Bounded g) g (verdictNumber (resetVerdict g named s z t)) (resetStores g (callPresent g (isSet named) (viewState s)) (viewState s) z) (withReset s z (lostIn g (isSet named) (viewState s))) s count t
+      finished-new (Bounded g) g (verdictNumber (resetVerdict g named s z t)) (resetAll g (callPresent g (isSet named) (viewState s)) (rolesOf g t) (seenIn g t) (viewState s) z) (withReset s z (lostIn g (isSet named) (viewState s))) s count t
       (λ v.
-      let a = reset-accepted g named s z (length (t .sectors)) (t .written) (t .durable) (reset-refusal g named s z (t .sectors) (t .written) (t .durable) ∙ v) in
-      zone-bounded g s (lostIn g (isSet named) (viewState s)) z (resetRecord (recordAt s z)) ok b (lost-found g named s) (a .zone) (omega (arith, a .fresh, worn-top)) (pointer (eqb (suc (recordAt s z .generation)) wornGeneration)))
+      let a = reset-number-accepts g named t s z v in
+      zone-bounded g s (lostIn g (isSet named) (viewState s)) z (resetRecord (recordAt s z)) ok b (lost-found g named s) (reset-passed g named s z t a .zone) (omega (arith, reset-fresh g named s z t a, worn-top))
+      (pointer (eqb (suc (recordAt s z .generation)) wornGeneration)))
     where
       pointer : (c : Bool) → pointerIn (pick c (Worn zero) Empty) ≤ zoneSectors g
       pointer true = zero-le
       pointer false = zero-le
 
   write-bounded : (a k : ℕ) (buffer : List ℕ) (t : Tables) → Valid g → answerNumber (writeOn g named s a k buffer count t .outcome .answer) ≡ 0 → Bounded g (writeOn g named s a k buffer count t .outcome .state)
-  unfolding writeOn writeNumber
+  unfolding writeOn
   write-bounded a k buffer t ok =
-      finished-new (Bounded g) g (verdictNumber (writeVerdict g named s a k (length buffer) t)) (writeStores g (callPresent g (isSet named) (viewState s)) (deviceOf g t) (viewState s) (zoneOf g a) (sectorsIn g k buffer))
+      finished-new (Bounded g) g (verdictNumber (writeVerdict g named s a k (length buffer) t)) (writeAll g (callPresent g (isSet named) (viewState s)) (rolesOf g t) (seenIn g t) (viewState s) (zoneOf g a) (sectorsIn g k buffer))
       (writtenState s (lostIn g (isSet named) (viewState s)) (zoneOf g a) (pointerOf s (zoneOf g a) + k)) s count t
       (λ v.
-      let w = write-accepted g named s a k (length buffer) (t .sectors) (t .written) (t .durable) v in
-      let f = w .fits in
+      let w = write-passed g named s a k (length buffer) t (write-number-accepts g named t s a k (length buffer) v) in
       zone-bounded g s (lostIn g (isSet named) (viewState s)) (zoneOf g a) (record { generation = recordAt s (zoneOf g a) .generation; condition = Open (pointerOf s (zoneOf g a) + k) }) ok b (lost-found g named s) (w .zone)
-      (b .generations (zoneOf g a) (w .zone)) (omega (arith, f .inside, f .pointer)))
+      (b .generations (zoneOf g a) (w .zone)) (w .inside))
 
 module _ (g : Geometry) (ok : Valid g) (named : List Bool) (old : State) where
   look-bounded : (t : Tables) → answerNumber (lookOn g named old t .answer) ≡ 0 → Bounded g (lookOn g named old t .state)
@@ -284,20 +293,21 @@ module _ (g : Geometry) (ok : Valid g) (named : List Bool) (old : State) where
 
       ended : Bool → Outcome
       ended c =
-          pick c (record { answer = Finished; state = stateShown g (showing g (isPresent g (isSet named) (deviceOf g t)) (lostDrive g (isSet named) (deviceOf g t)) (deviceOf g t)) })
+          pick c (record { answer = Finished; state = stateShown g (showing g (presentIn g (isSet named) (deviceOf g t)) (lostDriveIn g (isSet named) (deviceOf g t)) (seenIn g t)) })
           (record { answer = Refused n; state = old })
 
       go : (c : Bool) → eqb n 0 ≡ c → answerNumber (ended c .answer) ≡ 0 → Bounded g (ended c .state)
-      go true e h = shown-bounded g (isPresent g (isSet named) (deviceOf g t)) (isLost g (isSet named) (deviceOf g t)) (deviceOf g t) ok
+      go true e h = shown-bounded g (presentIn g (isSet named) (deviceOf g t)) (isLost g (isSet named) (seenIn g t)) (seenIn g t) ok
       go false e h = absurd (eqb-false n 0 e h)
 
   mount-bounded : (count : ℕ) (t : Tables) → answerNumber (mountOn g named old count t .outcome .answer) ≡ 0 → Bounded g (mountOn g named old count t .outcome .state)
   unfolding mountOn mountShownOn
   mount-bounded count t =
-      let present = isPresent g (isSet named) (deviceOf g t) in
-      let ss = mountStoresOn g present (lostDrive g (isSet named) (deviceOf g t)) t in
-      finished-new (Bounded g) g (verdictNumber (mountVerdict g named t)) ss (mountShownOn g present (lostDrive g (isSet named) (deviceOf g t)) t) old count t
-      (λ v. shown-bounded g present (isLost g (isSet named) (deviceOf g t)) (deviceOf g (runStores g (length ss) ss t)) ok)
+      let present = presentIn g (isSet named) (deviceOf g t) in
+      let x = lostDriveIn g (isSet named) (deviceOf g t) in
+      let ss = mountStoresOn g present x t in
+      finished-new (Bounded g) g (verdictNumber (mountVerdict g named t)) ss (mountShownOn g present x t) old count t
+      (λ v. shown-bounded g present (isLost g (isSet named) (seenIn g t)) (seenIn g (runStores g (length ss) ss t)) ok)
 
 fresh-bounded : (g : Geometry) (named : List Bool) → Valid g → Bounded g (freshState g (leftOut g (isSet named)))
 unfolding leftOut freshState
@@ -354,10 +364,10 @@ module _ (g : Geometry) (mask : ℕ) (m : Ranges) where
       after-reading g m (storedAll g r m) (r .outcome) refl refl (λ b ok. reset-bounded g (namedOf mask) (stateIn g m) b count z (tablesIn g m) ok)
 
   pub write-hands-on : (a k count : ℕ) (bytes : List ℕ) → HandedOn g m (writeEdge g mask a k count bytes m) (writeOfBytes g mask a k count bytes m .outcome .state)
-  unfolding storedAppends
+  unfolding storedAll
   write-hands-on a k count bytes =
       let r = writeOfBytes g mask a k count bytes m in
-      after-reading g m (storedAppends g r m) (r .outcome) refl refl (λ b ok. write-bounded g (namedOf mask) (stateIn g m) b count a k bytes (tablesIn g m) ok)
+      after-reading g m (storedAll g r m) (r .outcome) refl refl (λ b ok. write-bounded g (namedOf mask) (stateIn g m) b count a k bytes (tablesIn g m) ok)
 
   pub look-hands-on : HandedOn g m (lookEdge g mask m) (lookOfBytes g mask m .state)
   look-hands-on =

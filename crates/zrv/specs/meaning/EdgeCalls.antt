@@ -108,10 +108,6 @@ handedBack g o m = answered (answerNumber (o .answer)) (ranges (m .sectors) (m .
 unfoldable pub storedAll : Geometry → Result → Ranges → Answered Ranges
 storedAll g r m = handedBack g (r .outcome) (ranges (r .tables .sectors) (tableTo (r .tables .written)) (tableTo (r .tables .durable)) (m .state))
 
--- a call that appends alone: `durable` stays
-unfoldable pub storedAppends : Geometry → Result → Ranges → Answered Ranges
-storedAppends g r m = handedBack g (r .outcome) (ranges (r .tables .sectors) (tableTo (r .tables .written)) (m .durable) (m .state))
-
 -- a call that flushes alone: only `durable` changes
 unfoldable pub storedFlushes : Geometry → Result → Ranges → Answered Ranges
 storedFlushes g r m = handedBack g (r .outcome) (ranges (m .sectors) (m .written) (tableTo (r .tables .durable)) (m .state))
@@ -140,7 +136,7 @@ abbrev pub writeOfBytes : Geometry → ℕ → ℕ → ℕ → ℕ → List ℕ 
 writeOfBytes g mask a k count bytes m = writeOn g (namedOf mask) (stateIn g m) a k bytes count (tablesIn g m)
 
 abbrev pub writeEdge : Geometry → ℕ → ℕ → ℕ → ℕ → List ℕ → Ranges → Answered Ranges
-writeEdge g mask a k count bytes m = readingState g m (storedAppends g (writeOfBytes g mask a k count bytes m) m) m
+writeEdge g mask a k count bytes m = readingState g m (storedAll g (writeOfBytes g mask a k count bytes m) m) m
 
 abbrev pub flushOfBytes : Geometry → ℕ → ℕ → Ranges → Result
 flushOfBytes g mask count m = flushOn g (namedOf mask) (stateIn g m) count (tablesIn g m)

@@ -19,7 +19,7 @@ use Rattle.volume.specs.declared.Outcome.{Outcome}
 use Rattle.volume.specs.declared.Answer.the-variants.{Finished, Unfinished, Refused}
 use Rattle.volume.specs.meaning.Answers.{CallResult}
 use Rattle.volume.specs.meaning.Refusals.{refuse, firstRefusal, formatRows, mountRows, writeRows, flushRows, resetRows, readRows}
-use Rattle.volume.specs.meaning.CallContracts.{viewState, isSet, answerNumber, verdictNumber, lengthsOf, badIn, Result, storingOn, flushVerdict, flushOn, resetVerdict, resetOn, writeVerdict, writeOn, formatVerdict, formatOn, mountVerdict, mountOn, readNumber}
+use Rattle.volume.specs.meaning.CallContracts.{viewState, isSet, answerNumber, verdictNumber, lengthsOf, badIn, rolesOf, seenIn, Result, storingOn, flushVerdict, flushOn, resetVerdict, resetOn, writeVerdict, writeOn, formatVerdict, formatOn, mountVerdict, mountOn, readNumber}
 use Rattle.volume.specs.laws.ByteLists.{Bytes}
 use Rattle.promise.specs.meaning.Claim.{mounts, writes, flushes, resets, formats}
 use Rattle.promise.specs.meaning.OnTables.{resultOn, callResult}
@@ -50,7 +50,7 @@ module _ (g : Geometry) (named : List Bool) (t : Tables) where
 
   mount-small : verdictNumber (mountVerdict g named t) < 16
   unfolding mountVerdict mountRows
-  mount-small = verdict-small (mountRows g (lengthsOf t) (badIn g named t) (isSet named) (deviceOf g t)) refl
+  mount-small = verdict-small (mountRows g (lengthsOf t) (badIn g named t) (isSet named) (rolesOf g t) (seenIn g t)) refl
 
   module _ (s : State) where
     flush-small : verdictNumber (flushVerdict g named s t) < 16
@@ -59,15 +59,15 @@ module _ (g : Geometry) (named : List Bool) (t : Tables) where
 
     reset-small : (z : ℕ) → verdictNumber (resetVerdict g named s z t) < 16
     unfolding resetVerdict resetRows
-    reset-small z = verdict-small (resetRows g (lengthsOf t) (badIn g named t) (isSet named) (viewState s) z (deviceOf g t)) refl
+    reset-small z = verdict-small (resetRows g (lengthsOf t) (badIn g named t) (isSet named) (viewState s) z (rolesOf g t) (seenIn g t)) refl
 
     write-small : (a k bytes : ℕ) → verdictNumber (writeVerdict g named s a k bytes t) < 16
     unfolding writeVerdict writeRows
-    write-small a k bytes = verdict-small (writeRows g (lengthsOf t) (badIn g named t) (isSet named) (viewState s) a k bytes (deviceOf g t)) refl
+    write-small a k bytes = verdict-small (writeRows g (lengthsOf t) (badIn g named t) (isSet named) (viewState s) a k bytes (rolesOf g t) (seenIn g t)) refl
 
     pub read-small : (a k bytes : ℕ) → readNumber g named s a k bytes t < 16
     unfolding readNumber readRows
-    read-small a k bytes = verdict-small (readRows g (lengthsOf t) (badIn g named t) (isSet named) (viewState s) a k bytes (deviceOf g t)) refl
+    read-small a k bytes = verdict-small (readRows g (lengthsOf t) (badIn g named t) (isSet named) (viewState s) a k bytes (seenIn g t)) refl
 
 -- so its number tells an answer
 pub refused-known : (n : ℕ) → n < 16 → eqb n 0 ≡ false → answerOf n ≡ Refused n

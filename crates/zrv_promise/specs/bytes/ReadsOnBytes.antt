@@ -23,9 +23,10 @@ use Rattle.tables.specs.laws.LittleEndian.{number-bytes-le}
 use Rattle.volume.specs.declared.State.{State}
 use Rattle.volume.specs.declared.Answer.the-variants.{Finished, Refused}
 use Rattle.volume.specs.declared.Outcome.{Outcome}
-use Rattle.volume.specs.meaning.Rules.{Shown, showing, isPresent, lostDrive}
+use Rattle.volume.specs.meaning.Rules.{Shown, showing}
+use Rattle.volume.specs.meaning.Answers.{presentIn, lostDriveIn}
 use Rattle.volume.specs.meaning.Refusals.{zoneOf, offsetOf}
-use Rattle.volume.specs.meaning.CallContracts.{recordAt, viewState, isSet, answerNumber, verdictNumber, stateShown, lookVerdict, lookOn, ReadResult, readNumber, readOn, peekNumber, peekFrom, peekOn}
+use Rattle.volume.specs.meaning.CallContracts.{recordAt, viewState, isSet, answerNumber, verdictNumber, seenIn, stateShown, lookVerdict, lookOn, ReadResult, readNumber, readOn, peekNumber, peekFrom, peekOn}
 use Rattle.volume.specs.meaning.Report.{ReportResult, filledNumber}
 use Rattle.volume.specs.laws.Report.{filled-most}
 use Rattle.volume.specs.looking.KnowingValues.{sector-within}
@@ -40,7 +41,7 @@ use Rattle.zrv_promise.specs.bytes.CallsOnBytes.{read-small, refused-kno
 -- ranges of the right sizes pass where the state is not read
 pub sizes-pass : (g : Geometry) (n w d : ℕ) → Sized g n w d → sizesNumber g n w d ≡ 0
 unfolding sizesNumber sizesFit
-sizes-pass g n w d s = rw (test-if-valid g (s .valid), eq-eqb n 264 (s .state-long), eq-eqb w (cells g * 4) (s .written-long), eq-eqb d (cells g * 4) (s .durable-long)) refl
+sizes-pass g n w d s = rw (test-if-valid g (s .valid) (s .logs-first), eq-eqb n 264 (s .state-long), eq-eqb w (cells g * 4) (s .written-long), eq-eqb d (cells g * 4) (s .durable-long)) refl
 
 -- ---- look: it is not refused for another state
 pub look-other : (g : Geometry) (named : List Bool) (a b x : State) (t : Tables) → lookOn g named a t ≡ record { answer = Finished; state = x } → lookOn g named b t ≡ record { answer = Finished; state = x }
@@ -52,7 +53,7 @@ look-other g named a b x t = go (eqb v 0)
 
     ended : Bool → State → Outcome
     ended c old =
-        pick c (record { answer = Finished; state = stateShown g (showing g (isPresent g (isSet named) (deviceOf g t)) (lostDrive g (isSet named) (deviceOf g t)) (deviceOf g t)) })
+        pick c (record { answer = Finished; state = stateShown g (showing g (presentIn g (isSet named) (deviceOf g t)) (lostDriveIn g (isSet named) (deviceOf g t)) (seenIn g t)) })
         (record { answer = Refused v; state = old })
 
     go : (c : Bool) → ended c a ≡ record { answer = Finished; state = x } → ended c b ≡ record { answer = Finished; state = x }

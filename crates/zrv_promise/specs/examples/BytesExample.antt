@@ -12,7 +12,7 @@ use Rattle.tables.specs.meaning.Below.{tabulate}
 use Rattle.tables.specs.laws.Below.{tabulate-cong}
 use Rattle.tables.specs.meaning.Geometry.{Valid, cells, totalBytes}
 use Rattle.tables.specs.meaning.GeometryTest.{isValid}
-use Rattle.tables.specs.laws.GeometryTest.{valid-if-test}
+use Rattle.tables.specs.laws.GeometryTest.{valid-if-test, first-if-test}
 use Rattle.tables.specs.meaning.Tables.{Tables, tablesOf}
 use Rattle.tables.specs.laws.PointerOrder.{cut-to-durable, loss-none}
 use Rattle.tables.specs.meaning.LittleEndian.{numberLE, readLE}
@@ -77,7 +77,7 @@ module _ (g : Geometry) (wb : isValid g ≡ true) where
   count = length (formatStores g (namedDrives g (isSet every)) (leftOut g (isSet every)) 7)
 
   fits : Sized g (length noState) (length (zeros .written)) (length (zeros .durable))
-  fits = record { valid = ok; state-long = length-replicate {A = ℕ} 264 0; written-long = length-replicate {A = ℕ} (cells g * 4) 0; durable-long = length-replicate {A = ℕ} (cells g * 4) 0 }
+  fits = record { valid = ok; logs-first = first-if-test g wb; state-long = length-replicate {A = ℕ} 264 0; written-long = length-replicate {A = ℕ} (cells g * 4) 0; durable-long = length-replicate {A = ℕ} (cells g * 4) 0 }
 
   tables-zeros : tablesIn g (rangesOf zeros noState) ≡ tablesOf (replicate (totalBytes g) 0) (replicate (cells g) 0) (replicate (cells g) 0)
   tables-zeros = ap₂ (λ (ws ds : List ℕ). tablesOf (replicate (totalBytes g) 0) ws ds) (table-zeros (cells g) (cells g * 4)) (table-zeros (cells g) (cells g * 4))

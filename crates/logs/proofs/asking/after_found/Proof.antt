@@ -40,9 +40,12 @@ returns-5 c = let a = c .before .before .before .before .before .args in c .afte
 returns-6 : tie.Need-returns-6
 returns-6 c = let a = c .before .before .before .before .before .args in c .after-seal .ensures ∙ sym (ap (λ (f : Found). after (a .g) (a .query) (a .place) f (a .x)) (c .before .before .f4 .given .1))
 
+returns-7 : tie.Need-returns-7
+returns-7 c = let a = c .before .before .before .args in sym (ap (λ (f : Found). after (a .g) (a .query) (a .place) f (a .x)) (c .enum-told3 .given .1))
+
 pub after-found-spec : {M : Type 1} → statement M
 after-found-spec =
     tie.close
     (tie.spec (λ c κs. search needs) (λ c. search needs) (λ c. search needs) (λ c κs. search needs) (λ c. search needs) (λ c κs. search needs)
     (λ c. search needs) (λ c κs. search needs) (λ c. search needs) mul-after-partial add-after-partial (λ c κs. search needs) (λ c. search needs)
-    (λ c κs. search needs) returns returns-2 returns-3 returns-4 returns-5 returns-6)
+    (λ c κs. search needs) (λ c. search needs) returns returns-2 returns-3 returns-4 returns-5 returns-6 returns-7)

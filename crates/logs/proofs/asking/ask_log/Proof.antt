@@ -1,11 +1,11 @@
 use Rattle.logs.specs.code.WalkCode.{logSectors, leftAt}
 use Rattle.logs.specs.meaning.Walk.{walkLog}
 use Rattle.logs.specs.code.Query.{headsOf, answer}
-use Rattle.logs.specs.code.QueryLaws.{answerAt, answer-left, answer-whole, whole-climbs, whole-small}
+use Rattle.logs.specs.code.QueryLaws.{answerAt, answer-left, answer-whole, whole-small}
 use Rattle.tables.specs.laws.Below.{length-tabulate}
 use lib.ListN.{length}
 use mathlib.Core.List.{List}
-use Rattle.logs.specs.code.Steps.{stepOf}
+use Rattle.logs.specs.code.Steps.{stepOf, step-climbs}
 use Rattle.logs.specs.declared.Step.the-variants.{Whole}
 use mathlib.Core.Path.{_≡_, _∙_, refl, sym}
 use Prim.Native.Nat.{ℕ, _-_, _≤_, _<_}
@@ -42,7 +42,7 @@ climbs : (k : tie.After-known-told Inv-walk μ-walk) → (k .before .before .bef
 climbs k =
     let w = k .before .before .before .before in
     let a = w .before .before .args in
-    let (u, v) = whole-climbs (a .g) (a .log .drive) (a .parity) (sectorsOf w) (a .query) (w .walk .p) (w .walk .x) (low w) (k .before .step .given .0 .0) (k .before .step .given .0 .1 .0) (whole k) in
+    let (u, v) = step-climbs (a .g) (a .log .drive) (a .parity) (sectorsOf w) (w .walk .p) (low w) (k .before .step .given .0 .0) (k .before .step .given .0 .1 .0) (whole k) in
     (u, rw length-tabulate at v)
 
 after-found-requires : tie.Need-after-found-requires Inv-walk μ-walk

@@ -19,12 +19,18 @@ judge-seal-requires : tie.Need-judge-seal-requires
 unfolding kindOf
 judge-seal-requires c κs = let s = c .before .before .before .before .before .before in (s .pre .0, (s .pre .1, c .if4 .taken))
 
+judge-closing-requires : tie.Need-judge-closing-requires
+unfolding kindOf
+judge-closing-requires c κs = let s = c .before .before .before .before .before .before .before in (s .pre .0, (s .pre .1, c .if5 .taken))
+
 judge-label-requires : tie.Need-judge-label-requires
 unfolding kindOf
-judge-label-requires c κs = let s = c .before .before .before .before .before .before in (s .pre .0, (s .pre .1, (c .before .before .before .if1 .left, c .before .before .if2 .left, c .before .if3 .left, c .if4 .left)))
+judge-label-requires c κs =
+    let s = c .before .before .before .before .before .before .before in
+    (s .pre .0, (s .pre .1, (c .before .before .before .before .if1 .left, c .before .before .before .if2 .left, c .before .before .if3 .left, c .before .if4 .left, c .if5 .left)))
 
 pub judge-spec : {M : Type 1} → statement M
 judge-spec =
     tie.close
     (tie.spec (λ c. search needs) judge-counters-requires (λ c. search needs) judge-reset-requires (λ c. search needs) judge-partial-requires
-    (λ c. search needs) judge-seal-requires (λ c. search needs) judge-label-requires (λ c. search needs))
+    (λ c. search needs) judge-seal-requires (λ c. search needs) judge-closing-requires (λ c. search needs) judge-label-requires (λ c. search needs))

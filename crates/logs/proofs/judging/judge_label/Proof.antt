@@ -24,7 +24,7 @@ read-is : (p : tie.After-zeros-from) → readFields (start p .args .g) (now (sta
 read-is p =
     let s = start p in
     let k = s .pre .1 .1 in
-    fields-label (s .args .g) (now (s .args .s)) (k .0) (k .1) (k .2) (k .3) ∙ cc (p .before .before .before .before .before .before .before .byte-value .ensures .0, p .before .before .before .before .before .before .read-u64 .ensures)
+    fields-label (s .args .g) (now (s .args .s)) (k .0) (k .1) (k .2) (k .3) (k .4) ∙ cc (p .before .before .before .before .before .before .before .byte-value .ensures .0, p .before .before .before .before .before .before .read-u64 .ensures)
 
 -- its bytes are compared in six parts
 ok-is : (p : tie.After-zeros-from) → p .before .before .before .before .before .is-frame .result && (p .before .before .before .before .names-label .result && (p .before .before .before .same-u32 .result && (p .before .before .same-u322 .result && (p .before .same-u64 .result && p .zeros-from .result))))

@@ -7,19 +7,25 @@ use Rattle.replaying.proofs.performing.call_with_state.Statement.{state
 use Rattle.replaying.proofs.performing.call_with_state.Tie as tie
 
 same-length : tie.Need-same-length
-same-length c = c .before .before .before .before .before .before .write .kept .0
+same-length c = c .before .before .before .before .before .before .before .before .write .kept .0
 
 same-length-2 : tie.Need-same-length-2
-same-length-2 c = c .before .before .before .before .before .before .write .kept .1 .0
+same-length-2 c = c .before .before .before .before .before .before .before .before .write .kept .1 .0
 
 same-length-3 : tie.Need-same-length-3
-same-length-3 c = refl
+same-length-3 c = c .before .before .before .before .before .before .before .before .write .kept .1 .1 .0
 
 same-length-4 : tie.Need-same-length-4
-same-length-4 c = c .before .before .before .before .before .before .write .kept .1 .1 .1 .0
+same-length-4 c = c .before .before .before .before .before .before .before .before .write .kept .1 .1 .1 .0
 
 returns : tie.Need-returns
-returns c = let a = c .before .before .before .before .before .before .before .before .before .before .before .before .before .before .before .before .args in let q = state-write (a .h) (a .c) (a .buffer .now) (tablesOf (a .sectors .now) (a .written .now) (a .durable .now)) (eq-eqb _ 119 (c .before .before .before .before .before .before .before .before .before .before .before .if1 .taken)) in (c .before .before .before .before .before .before .write .ensures .0 ∙ sym (ap (λ (x : Done). x .reply) q), c .before .before .before .before .before .before .write .ensures .1 ∙ sym (ap (λ (x : Done). x .tables) q), c .before .before .before .before .before .before .write .ensures .2 ∙ sym (ap (λ (x : Done). x .buffer) q))
+returns c =
+    let called = c .before .before .before .before .before .before .before .before in
+    let tested = called .before .before .before .before .before in
+    let a = tested .before .before .before .before .before .args in
+    let q = state-write (a .h) (a .c) (a .buffer .now) (tablesOf (a .sectors .now) (a .written .now) (a .durable .now)) (eq-eqb _ 119 (tested .if1 .taken)) in
+    let w = called .write .ensures in
+    (w .0 ∙ sym (ap (λ (x : Done). x .reply) q), w .1 ∙ sym (ap (λ (x : Done). x .tables) q), w .2 ∙ sym (ap (λ (x : Done). x .buffer) q))
 
 same-length-5 : tie.Need-same-length-5
 same-length-5 c = refl

@@ -1,47 +1,120 @@
-use mathlib.Core.Path.{_≡_, sym, _∙_}
-use mathlib.Core.Bool.{false}
-use Prim.Native.Nat.{_-_}
+use mathlib.Core.Path.{_≡_, sym, ap, subst, _∙_}
+use mathlib.Core.Logic.{_≢_}
+use mathlib.Core.Bool.{not}
+use mathlib.Core.List.{List, _++_}
+use Prim.Native.Nat.{ℕ, _≤_}
 use native.Mathlib.Omega.{arith}
-use lib.ListN.{length}
+use lib.ListN.{length, take, drop, replicate}
+use lib.Seq.{length-take-le, take-at}
 use denote.Ref.{now}
-use Rattle.tables.specs.meaning.Geometry.{Valid, cells, totalBytes}
-use Rattle.tables.specs.meaning.Tables.{tablesOf, pointersBad}
-use Rattle.volume.specs.meaning.CallContracts.{verdictNumber, lookVerdict}
-use Rattle.volume.specs.looking.Looking.{shapeNumber, shaped, look-passed, look-refused, look-finished, lookable}
+use Rattle.tables.specs.meaning.Geometry.{Valid, cells}
+use Rattle.tables.specs.laws.Sizes.{cells-small}
+use Rattle.tables.specs.meaning.Drives.{findBelow}
+use Rattle.volume.specs.meaning.Rules.{showing}
+use Rattle.volume.specs.meaning.CallContracts.{isSet}
+use Rattle.volume.specs.checks.Logging.{front-fits, front-long}
+use Rattle.volume.specs.looking.Knowing.{readDevice}
+use Rattle.volume.specs.looking.SeenByRoles.{seen-valid, seen-long}
+use Rattle.volume.specs.looking.Looking.{Lookable, lookOf, shapeNumber, shaped, shaped-first, look-shape, look-refused}
+use Rattle.volume.specs.looking.Surveying.{survey-refusal, survey-lookable, survey-finished}
 use borrow.Author.Needs.{needs}
 use Rattle.volume.proofs.looking.look.Statement.{statement}
 use Rattle.volume.proofs.looking.look.Tie as tie
 
-accepted : (c : tie.Else1) → verdictNumber (lookVerdict (c .before .before .before .before .before .args .g) (c .before .before .before .before .before .args .named) (tablesOf (now (c .before .before .before .before .before .args .sectors)) (now (c .before .before .before .before .before .args .written)) (now (c .before .before .before .before .before .args .durable)))) ≡ 0
-accepted c = let h : c .before .look-refusal .result ≡ 0 = omega arith in sym (c .before .look-refusal .ensures) ∙ h
-
-passed : (c : tie.Else1) → shapeNumber (c .before .before .before .before .before .args .g) (c .before .before .before .before .before .args .named) (length (now (c .before .before .before .before .before .args .sectors))) (now (c .before .before .before .before .before .args .written)) (now (c .before .before .before .before .before .args .durable)) ≡ 0
-passed c = let a = c .before .before .before .before .before .args in look-passed (a .g) (a .named) (a .old) (now (a .sectors)) (now (a .written)) (now (a .durable)) (accepted c)
-
-shape : (c : tie.Else1) → Valid (c .before .before .before .before .before .args .g) × (length (now (c .before .before .before .before .before .args .sectors)) ≡ totalBytes (c .before .before .before .before .before .args .g)) × (length (now (c .before .before .before .before .before .args .written)) ≡ cells (c .before .before .before .before .before .args .g)) × (pointersBad (c .before .before .before .before .before .args .g) (c .before .before .before .before .before .args .named) (now (c .before .before .before .before .before .args .written)) (now (c .before .before .before .before .before .args .durable)) ≡ false)
-shape c = let a = c .before .before .before .before .before .args in shaped (a .g) (a .named) (length (now (a .sectors))) (now (a .written)) (now (a .durable)) (passed c)
-
+-- ---- refusals 1 to 3
 returns : tie.Need-returns
-returns c = let a = c .before .before .before .before .before .args in look-refused (a .g) (a .named) (a .old) (now (a .sectors)) (now (a .written)) (now (a .durable)) (c .before .look-refusal .result) (c .before .look-refusal .ensures) (c .if1 .taken)
+returns c =
+    let a = c .before .before .before .before .before .before .args in
+    let r = c .before .before .shape-refusal in
+    let h : r .result ≢ 0 = c .before .if1 .taken in
+    c .refused .ensures
+    ∙ look-refused (a .g) (a .named) (a .old) (now (a .sectors)) (now (a .written)) (now (a .durable)) (r .result)
+    (r .ensures ∙ look-shape (a .g) (a .named) (now (a .sectors)) (now (a .written)) (now (a .durable)) (rw (r .ensures) at h)) h
 
-look-present-requires : tie.Need-look-present-requires
-look-present-requires c κs = (shape c .0, record { sectors-long = shape c .1; written-long = shape c .2 })
+abbrev to-start : tie.Else1 → tie.Start
+to-start c = c .before .before .before .before .before
 
-look-all-requires : tie.Need-look-all-requires
-look-all-requires c κs = let a = c .before .before .before .before .before .before .args in (shape (c .before) .0, lookable (a .g) (a .named) (c .look-present .result) (now (a .sectors)) (now (a .written)) (now (a .durable)) (passed (c .before)) (c .look-present .ensures))
+passed : (c : tie.Else1) → let a = to-start c .args in shapeNumber (a .g) (a .named) (length (now (a .sectors))) (now (a .written)) (now (a .durable)) ≡ 0
+passed c = let h : c .before .shape-refusal .result ≡ 0 = omega arith in sym (c .before .shape-refusal .ensures) ∙ h
 
-records-of-requires : tie.Need-records-of-requires
-records-of-requires c κs = shape (c .before .before .before) .0
+valid : (c : tie.Else1) → Valid (to-start c .args .g)
+valid c = let a = to-start c .args in shaped (a .g) (a .named) (length (now (a .sectors))) (now (a .written)) (now (a .durable)) (passed c) .0
 
+written-long : (c : tie.Else1) → length (now (to-start c .args .written)) ≡ cells (to-start c .args .g)
+written-long c = let a = to-start c .args in shaped (a .g) (a .named) (length (now (a .sectors))) (now (a .written)) (now (a .durable)) (passed c) .2
+
+-- ---- the survey, with an array for the pointers
+few : (c : tie.Else1) → length (now (to-start c .args .written)) ≤ 152
+few c = omega (arith, written-long c, cells-small (to-start c .args .g) (valid c))
+
+front-of : (c : tie.Else1) → length (take (length (now (to-start c .args .written))) (replicate {A = ℕ} 152 0)) ≡ length (now (to-start c .args .written))
+front-of c = length-take-le (length (now (to-start c .args .written))) (replicate 152 0) (few c)
+
+survey-drives-requires : tie.Need-survey-drives-requires
+survey-drives-requires c κs =
+    let a = to-start (c .before) .args in
+    let (ok, x, y, z) = shaped (a .g) (a .named) (length (now (a .sectors))) (now (a .written)) (now (a .durable)) (passed (c .before)) in
+    (ok, (record { sectors-long = x; written-long = y }, front-of (c .before) ∙ y, shaped-first (a .g) (a .named) (length (now (a .sectors))) (now (a .written)) (now (a .durable)) (passed (c .before))))
+
+abbrev shape-of : tie.After-survey-drives → tie.Else1
+shape-of f = f .before .before
+
+-- the pointers that it leaves
+abbrev pointers-of : tie.After-survey-drives → List ℕ
+pointers-of f = f .survey-drives .last .1 .1 .0
+
+pointers-long : (f : tie.After-survey-drives) → length (pointers-of f) ≡ length (now (to-start (shape-of f) .args .written))
+pointers-long f = let a = to-start (shape-of f) .args in seen-long (a .g) (now (a .sectors)) (now (a .written)) (f .survey-drives .result .places) (pointers-of f) (f .survey-drives .ensures .seen) ∙ sym (written-long (shape-of f))
+
+-- the rest of the array
+abbrev past : tie.After-survey-drives → List ℕ
+past f = drop (length (now (to-start (shape-of f) .args .written))) (replicate 152 0)
+
+lent : (f : tie.After-survey-drives) → take (length (now (to-start (shape-of f) .args .written))) (pointers-of f ++ past f) ≡ pointers-of f
+lent f = take-at (pointers-of f) (past f) (length (now (to-start (shape-of f) .args .written))) (pointers-long f)
+
+placed-valid : (f : tie.After-survey-drives) → Valid (f .survey-drives .result .places .geometry)
+placed-valid f = let a = to-start (shape-of f) .args in seen-valid (a .g) (now (a .sectors)) (now (a .written)) (f .survey-drives .result .places) (pointers-of f) (f .survey-drives .ensures .seen) (valid (shape-of f))
+
+-- ---- refusals 4 to 6
 returns-2 : tie.Need-returns-2
 returns-2 c =
-    let a = c .before .before .before .before .before .before .before .before .before .args in
+    let f = c .before .before .before in
+    let a = to-start (shape-of f) .args in
+    c .refused2 .ensures
+    ∙ look-refused (a .g) (a .named) (a .old) (now (a .sectors)) (now (a .written)) (now (a .durable)) (f .survey-drives .result .refusal)
+    (survey-refusal (a .g) (a .named) (now (a .sectors)) (now (a .written)) (f .survey-drives .result) (pointers-of f) (f .survey-drives .ensures) (now (a .durable)) (passed (shape-of f))) (c .before .if2 .taken)
+
+accepted : (c : tie.Else2) → c .before .before .survey-drives .result .refusal ≡ 0
+accepted c = omega arith
+
+-- ---- what is shown
+array-share-prefix-pointers : tie.Need-array-share-prefix-pointers
+array-share-prefix-pointers c = let f = c .before .before .before .before .before in front-fits (length (now (to-start (shape-of f) .args .written))) (pointers-of f) (past f) (pointers-long f)
+
+slice-aggregate-look-all : tie.Need-slice-aggregate-look-all
+slice-aggregate-look-all c = let f = c .before .before .before .before .before .before in front-long (length (now (to-start (shape-of f) .args .written))) (pointers-of f) (past f) (pointers-long f)
+
+look-all-requires : tie.Need-look-all-requires
+look-all-requires c κs =
+    let f = c .before .before .before .before .before .before in
+    let a = to-start (shape-of f) .args in
+    let v = f .survey-drives .result in
+    (placed-valid f, subst (λ (ps : List ℕ). Lookable (v .places .geometry) (v .here) (now (a .sectors)) ps) (sym (lent f)) (survey-lookable (a .g) (a .named) (now (a .sectors)) (now (a .written)) v (pointers-of f) (f .survey-drives .ensures) (now (a .durable)) (passed (shape-of f))))
+
+returns-3 : tie.Need-returns-3
+returns-3 c =
+    let f = c .before .before .before .before .before .before .before .before .before in
+    let a = to-start (shape-of f) .args in
+    let v = f .survey-drives .result in
+    let h = v .places .geometry in
     let k = c .before .before .look-all in
-    let p = c .before .before .before .look-present in
-    let q = look-finished (a .g) (a .named) (a .old) (now (a .sectors)) (now (a .written)) (now (a .durable)) (accepted (c .before .before .before .before)) (p .result) (p .ensures) (k .result) (k .ensures) in
+    let e = k .ensures ∙ ap (λ (ps : List ℕ). lookOf h (showing h (isSet (v .here)) (findBelow (λ (d : ℕ). not (isSet (v .here) d)) (h .drives)) (readDevice h (now (a .sectors)) ps))) (lent f) in
+    let q = survey-finished (a .g) (a .named) (now (a .sectors)) (now (a .written)) v (pointers-of f) (f .survey-drives .ensures) (now (a .durable)) (a .old) (passed (shape-of f)) (accepted (c .before .before .before .before .before .before .before)) (k .result) e in
     rw (c .records-of .ensures) q
 
 pub look-spec : {M : Type 1} → statement M
 look-spec =
     tie.close
-    (tie.spec (λ c κs. search needs) returns look-present-requires look-all-requires records-of-requires returns-2)
+    (tie.spec (λ c κs. search needs) (λ c κs. search needs) returns few (λ c. sym (front-of (c .before))) survey-drives-requires (λ c κs. search needs) returns-2 array-share-prefix-pointers
+    slice-aggregate-look-all look-all-requires (λ c κs. placed-valid (c .before .before .before .before .before .before .before .before)) returns-3)

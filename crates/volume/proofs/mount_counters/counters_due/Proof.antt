@@ -6,7 +6,7 @@ use Rattle.volume.proofs.mount_counters.counters_due.Tie as tie
 
 returns : tie.Need-returns
 unfolding countersDue
-returns c = rw (c .before .any-empty .ensures, c .counters-differ .ensures) refl
+returns c = rw (c .any-empty .ensures) refl
 
 pub counters-due-spec : {M : Type 1} → statement M
-counters-due-spec = tie.close (tie.spec (λ c κs. search needs) (λ c κs. search needs) returns)
+counters-due-spec = tie.close (tie.spec (λ c κs. search needs) returns)

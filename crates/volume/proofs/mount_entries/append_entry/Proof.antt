@@ -1,10 +1,11 @@
 use Prim.Native.Nat.{ℕ, _+_, _-_, _*_, _/_, _≤_}
-use mathlib.Core.Path.{_≡_, sym, subst}
+use mathlib.Core.Path.{_≡_, refl, sym, subst}
+use mathlib.Core.Bool.{true}
 use mathlib.Core.List.{List, [], _∷_}
 use native.Mathlib.Nat.{div-add-mod'}
 use native.Mathlib.Omega.{arith}
 use denote.Ref.{now}
-use Rattle.tables.specs.meaning.Geometry.{stripeSectors}
+use Rattle.tables.specs.meaning.Geometry.{stripeSectors, zoneSectors}
 use Rattle.tables.specs.meaning.Placement.{stripeOf}
 use Rattle.tables.specs.meaning.Device.{Store, append}
 use Rattle.tables.specs.laws.Made.{MadeAppends}
@@ -14,10 +15,12 @@ use Rattle.logs.specs.meaning.Entry.{parityZone, encode}
 use Rattle.volume.specs.meaning.Content.{fillOf, entryHeader}
 use Rattle.volume.specs.laws.CallContracts.{appends-append}
 use Rattle.volume.specs.looking.Knowing.{readDevice}
-use Rattle.volume.specs.mounting.MountLook.{zoneLook, stays, log-stays}
+use Rattle.volume.specs.checks.Logging.{appended-as}
+use Rattle.volume.specs.rows.SameShape.{encode-same, partial-placed}
+use Rattle.volume.specs.mounting.MountLook.{zoneLook}
 use Rattle.volume.specs.mounting.MountRows.{valuesOf}
-use Rattle.volume.specs.mounting.MountRestoring.{Filling, filled}
-use Rattle.volume.specs.mounting.MountLastEntries.{entryRows, entry-parts, header-in}
+use Rattle.volume.specs.mounting.MountReady.{Appending, appending-kept}
+use Rattle.volume.specs.mounting.MountLastEntries.{onParity, entryRows, entry-parts, header-in}
 use borrow.Author.Needs.{needs}
 use Rattle.volume.proofs.mount_entries.append_entry.Statement.{statement}
 use Rattle.volume.proofs.mount_entries.append_entry.Tie as tie
@@ -29,7 +32,7 @@ begins c =
     let s = c .before .before .before .before .before .before .before .before in
     let a = s .args in
     let p = zoneLook (a .basis .look) (a .z) .pointer in
-    (omega (arith, div-add-mod' p (c .stripe-sectors .result)), omega (arith, s .pre .1 .3 .logging .within .pointer-most (a .z) (s .pre .1 .1), zone-small (a .basis .geometry) (s .pre .0) .1))
+    (omega (arith, div-add-mod' p (c .stripe-sectors .result)), omega (arith, s .pre .1 .3 .within .pointer-most (a .z) (s .pre .1 .1), zone-small (a .basis .geometry) (s .pre .0) .1))
 
 mul-fill : tie.Need-mul-fill
 mul-fill c = let e = begins c in omega (arith, e .0, e .1)
@@ -41,8 +44,13 @@ append-partial-requires : tie.Need-append-partial-requires
 append-partial-requires c κs =
     let s = c .before .before .before .before .before .before .before .before .before .before in
     let a = s .args in
-    let l = s .pre .1 .3 .logging in
-    (s .pre .0, (s .pre .1 .0, s .pre .1 .1, rw (c .before .before .stripe-sectors .ensures .0) (omega (arith, div-add-mod' (zoneLook (a .basis .look) (a .z) .pointer) (stripeSectors (a .basis .geometry)), l .within .pointer-most (a .z) (s .pre .1 .1))), l .sectors-long, l .written-long))
+    let l = s .pre .1 .3 in
+    let g = a .basis .geometry in
+    let p = zoneLook (a .basis .look) (a .z) .pointer in
+    let k = c .before .before .stripe-sectors in
+    let inside : p / k .result * stripeSectors g + (p - p / k .result * k .result) ≤ zoneSectors g =
+    subst (λ (n : ℕ). p / n * stripeSectors g + (p - p / n * n) ≤ zoneSectors g) (sym (k .ensures .0)) (omega (arith, div-add-mod' p (stripeSectors g), l .within .pointer-most (a .z) (s .pre .1 .1))) in
+    partial-placed g (a .to) (l .shape) (now (a .sectors)) (now (a .written)) (a .drive) (a .z) (p / k .result) (p - p / k .result * k .result) (s .pre .0) (s .pre .1 .0) (s .pre .1 .1) inside (l .sectors-long) (l .written-long)
 
 -- the zone's values
 abbrev values : tie.Start → ℕ → List ℕ
@@ -55,25 +63,29 @@ header s = let a = s .args in append (a .drive) parityZone (encode (a .basis .ge
 abbrev to-start : tie.After-append-partial → tie.Start
 to-start c = c .before .before .before .before .before .before .before .before .before .before .before
 
-headed : (c : tie.After-append-partial) → let a = to-start c .args in let f = c .append-partial in MadeAppends (a .basis .geometry) (a .budget) (f .result) (header (to-start c)) (now (a .sectors)) (now (a .written)) (f .last .0) (f .last .1 .0)
+headed : (c : tie.After-append-partial) → let a = to-start c .args in let f = c .append-partial in MadeAppends (a .to) (a .budget) (f .result) (header (to-start c)) (now (a .sectors)) (now (a .written)) (f .last .0) (f .last .1 .0)
 headed c =
     let n = c .before .before .before .stripe-sectors in
-    let a = to-start c .args in
+    let s = to-start c in
+    let a = s .args in
     let g = a .basis .geometry in
+    let f = c .append-partial in
     let p = zoneLook (a .basis .look) (a .z) .pointer in
-    rw (stripe-begin (g .drives) (g .unit) p (n .result) (n .ensures .0), stripe-quotient (g .drives) (g .unit) p (n .result) (n .ensures .0)) at (c .append-partial .ensures)
+    let h = entryHeader g (a .z) (zoneLook (a .basis .look) (a .z) .generation) p in
+    appended-as (a .to) (a .budget) (f .result) true (a .drive) parityZone (encode (a .to) (a .drive) h) (encode g (a .drive) h) (now (a .sectors)) (now (a .written)) (f .last .0) (f .last .1 .0) (encode-same g (a .to) (s .pre .1 .3 .shape) (a .drive) h)
+    (rw (stripe-begin (g .drives) (g .unit) p (n .result) (n .ensures .0), stripe-quotient (g .drives) (g .unit) p (n .result) (n .ensures .0)) at (f .ensures))
 
 -- what it has left alone
 kept : (c : tie.After-append-partial) → let a = to-start c .args in let b = a .basis in let f = c .append-partial in
-    Filling (b .geometry) (b .here) (b .look) (now (a .pointers)) (f .last .0) (f .last .1 .0) × (readDevice (b .geometry) (f .last .0) (now (a .pointers)) ≡ readDevice (b .geometry) (now (a .sectors)) (now (a .pointers)))
+    Appending (b .geometry) (a .to) (b .here) (b .look) parityZone (now (a .pointers)) (f .last .0) (f .last .1 .0) × (readDevice (b .geometry) (f .last .0) (now (a .pointers)) ≡ readDevice (b .geometry) (now (a .sectors)) (now (a .pointers)))
 kept c =
     let s = to-start c in
     let a = s .args in
     let b = a .basis in
     let f = c .append-partial in
     let p = zoneLook (b .look) (a .z) .pointer in
-    filled (b .geometry) (b .here) (b .look) (a .budget) (f .result) (header s) (now (a .pointers)) (now (a .sectors)) (now (a .written)) (f .last .0) (f .last .1 .0) (s .pre .1 .3)
-    (header-in (b .geometry) (stays (b .look)) (a .drive) (a .z) (stripeOf (b .geometry .drives) (b .geometry .unit) p) (fillOf (b .geometry) p) (zoneLook (b .look) (a .z) .generation) (s .pre .0) (s .pre .1 .0) (log-stays (b .look) parityZone (omega arith))) (headed c)
+    appending-kept (b .geometry) (a .to) (b .here) (b .look) parityZone (a .budget) (f .result) (header s) (now (a .pointers)) (now (a .sectors)) (now (a .written)) (f .last .0) (f .last .1 .0) (s .pre .1 .3)
+    (header-in (b .geometry) onParity (a .drive) (a .z) (stripeOf (b .geometry .drives) (b .geometry .unit) p) (fillOf (b .geometry) p) (zoneLook (b .look) (a .z) .generation) (s .pre .0) (s .pre .1 .0) refl) (headed c)
 
 append-entry-rows-requires : tie.Need-append-entry-rows-requires
 append-entry-rows-requires c κs =
@@ -84,7 +96,7 @@ append-entry-rows-requires c κs =
 
 -- the rows, as they are meant
 rows : (c : tie.After-append-entry-rows) → let s = c .before .before .before .before .before .before .before .before .before .before .before .before .before .before .before .before .before .before in let a = s .args in let b = a .basis in let f = c .before .before .before .before .before .before .before .append-partial in let r = c .append-entry-rows in
-    MadeAppends (b .geometry) (f .result) (r .result) (entryRows (b .geometry) (values s) (a .drive) (zoneLook (b .look) (a .z) .pointer)) (f .last .0) (f .last .1 .0) (r .last .0) (r .last .1 .0)
+    MadeAppends (a .to) (f .result) (r .result) (entryRows (b .geometry) (values s) (a .drive) (zoneLook (b .look) (a .z) .pointer)) (f .last .0) (f .last .1 .0) (r .last .0) (r .last .1 .0)
 rows c =
     let s = c .before .before .before .before .before .before .before .before .before .before .before .before .before .before .before .before .before .before in
     let a = s .args in
@@ -108,8 +120,8 @@ returns c =
     let f = at .append-partial in
     let r = c .before .before .before .before .append-entry-rows in
     let p = zoneLook (b .look) (a .z) .pointer in
-    subst (λ (stores : List Store). MadeAppends (b .geometry) (a .budget) (r .result) stores (now (a .sectors)) (now (a .written)) (r .last .0) (r .last .1 .0)) (sym (entry-parts (b .geometry) (a .drive) (a .z) (zoneLook (b .look) (a .z) .generation) (values s) p))
-    (appends-append (b .geometry) (a .budget) (f .result) (r .result) (header s) (entryRows (b .geometry) (values s) (a .drive) p) (now (a .sectors)) (now (a .written)) (f .last .0) (f .last .1 .0) (r .last .0) (r .last .1 .0) (headed at) (rows (c .before .before .before .before)))
+    subst (λ (stores : List Store). MadeAppends (a .to) (a .budget) (r .result) stores (now (a .sectors)) (now (a .written)) (r .last .0) (r .last .1 .0)) (sym (entry-parts (b .geometry) (a .drive) (a .z) (zoneLook (b .look) (a .z) .generation) (values s) p))
+    (appends-append (a .to) (a .budget) (f .result) (r .result) (header s) (entryRows (b .geometry) (values s) (a .drive) p) (now (a .sectors)) (now (a .written)) (f .last .0) (f .last .1 .0) (r .last .0) (r .last .1 .0) (headed at) (rows (c .before .before .before .before)))
 
 pub append-entry-spec : {M : Type 1} → statement M
 append-entry-spec =

@@ -14,7 +14,7 @@ use Rattle.volume.specs.meaning.Content.{rowXorBelow}
 use Rattle.volume.specs.looking.Knowing.{readDevice}
 use Rattle.volume.specs.rows.RowStores.{rowsIf}
 use Rattle.volume.specs.rows.RowsInPlace.{contentOf, RowsReady}
-use Rattle.volume.specs.mounting.MountLook.{zoneLook, log-stays}
+use Rattle.volume.specs.mounting.MountLook.{zoneLook}
 use Rattle.volume.specs.mounting.MountRows.{valuesOf}
 use Rattle.volume.specs.mounting.MountReady.{knownExtent, ZoneReady, zone-ready, rows-known}
 use borrow.Author.Needs.{needs}
@@ -27,7 +27,7 @@ end-below : (c : tie.After-stripe-sectors) → let s = c .before .before .before
 end-below c =
     let s = c .before .before .before .before .before in
     let z = s .args .entry .zone in
-    (rw (c .stripe-sectors .ensures .0) (s .pre .1 .2), omega (arith, s .pre .1 .4 .logging .within .pointer-most z (s .pre .1 .1), zone-small (s .args .basis .geometry) (s .pre .0) .1))
+    (rw (c .stripe-sectors .ensures .0) (s .pre .1 .2), omega (arith, s .pre .1 .4 .within .pointer-most z (s .pre .1 .1), zone-small (s .args .basis .geometry) (s .pre .0) .1))
 
 mul-end : tie.Need-mul-end
 mul-end c = let e = end-below c in omega (arith, e .0, e .1)
@@ -42,7 +42,7 @@ known-below-requires c κs = let s = c .before .before .before .before .before .
 abbrev extent : tie.After-stripe-sectors → Extent
 extent c =
     let a = c .before .before .before .before .before .args in
-    knownExtent (a .basis .geometry) (a .basis .here) (a .basis .look) (now (a .sectors)) (now (a .pointers)) (a .entry .zone) (a .entry .stripe * c .stripe-sectors .result + a .entry .fill)
+    knownExtent (a .basis .geometry) (a .to) (a .basis .here) (a .basis .look) (now (a .sectors)) (now (a .pointers)) (a .entry .zone) (a .entry .stripe * c .stripe-sectors .result + a .entry .fill)
 
 abbrev target : tie.After-stripe-sectors → Target
 target c = record { drive = c .before .before .before .before .before .args .entry .drive; zone = parityZone; present = true }
@@ -53,7 +53,7 @@ ready c =
     let a = s .args in
     let b = a .basis in
     let e = a .entry in
-    zone-ready (b .geometry) (b .here) (b .look) (now (a .pointers)) (now (a .sectors)) (now (a .written)) (s .pre .1 .4) (e .zone) (e .stripe * c .stripe-sectors .result + e .fill) (e .drive) parityZone (s .pre .1 .1) (end-below c .0) (s .pre .1 .0) (omega arith) (log-stays (b .look) parityZone (omega arith))
+    zone-ready (b .geometry) (a .to) (b .here) (b .look) parityZone (now (a .pointers)) (now (a .sectors)) (now (a .written)) (s .pre .1 .4) (e .zone) (e .stripe * c .stripe-sectors .result + e .fill) (e .drive) (s .pre .1 .1) (end-below c .0) (s .pre .1 .0) (omega arith)
 
 append-rows-requires : tie.Need-append-rows-requires
 append-rows-requires c κs =
@@ -77,8 +77,8 @@ returns c =
     let ps = now (a .pointers) in
     let f = c .before .before .before .before .append-rows in
     let S = valuesOf (b .geometry) (b .here) xs ps (e .zone) (zoneLook (b .look) (e .zone) .generation) in
-    let made = subst (λ (k : Extent). MadeAppends (k .geometry) (a .budget) (f .result) (rowsIf true (e .drive) parityZone (rowXorBelow (k .geometry .drives) (k .geometry .unit) (contentOf k (readDevice (k .geometry) (now (a .sectors)) (now (a .pointers))) []) (e .stripe) (k .end)) (e .from) (c .before .before .before .before .before .before .before .before .min .result)) (now (a .sectors)) (now (a .written)) (f .last .0) (f .last .1 .0)) (c .before .before .before .before .before .before .before .before .before .known-below .ensures) (f .ensures) in
-    subst (λ (k : ℕ). MadeAppends g (a .budget) (f .result) (rowsIf true (e .drive) parityZone (rowXorBelow (g .drives) (g .unit) S (e .stripe) (e .stripe * k + e .fill)) (e .from) (min (e .fill) (g .unit))) xs ws (f .last .0) (f .last .1 .0)) (at .stripe-sectors .ensures .0)
+    let made = subst (λ (k : Extent). MadeAppends (k .to) (a .budget) (f .result) (rowsIf true (e .drive) parityZone (rowXorBelow (k .geometry .drives) (k .geometry .unit) (contentOf k (readDevice (k .geometry) (now (a .sectors)) (now (a .pointers))) []) (e .stripe) (k .end)) (e .from) (c .before .before .before .before .before .before .before .before .min .result)) (now (a .sectors)) (now (a .written)) (f .last .0) (f .last .1 .0)) (c .before .before .before .before .before .before .before .before .before .known-below .ensures) (f .ensures) in
+    subst (λ (k : ℕ). MadeAppends (a .to) (a .budget) (f .result) (rowsIf true (e .drive) parityZone (rowXorBelow (g .drives) (g .unit) S (e .stripe) (e .stripe * k + e .fill)) (e .from) (min (e .fill) (g .unit))) xs ws (f .last .0) (f .last .1 .0)) (at .stripe-sectors .ensures .0)
     (rw (c .before .before .before .before .before .before .before .before .min .ensures, rows-known (extent at) xs ps (e .stripe) (ready at .no-buffer)) at made)
 
 pub append-entry-rows-spec : {M : Type 1} → statement M

@@ -15,34 +15,33 @@ use Rattle.volume.specs.mounting.MountTables.{appends-more}
 use Rattle.volume.specs.mounting.MountValues.{shownAt}
 use Rattle.volume.specs.rows.KeptBelow.{on-present-in}
 use Rattle.volume.specs.meaning.Rules.{parityEntries}
-use Rattle.volume.specs.mounting.MountLook.{stays}
-use Rattle.volume.specs.mounting.MountLastEntries.{Entering, zoneEntryStores, entered, drive-entries-in}
+use Rattle.volume.specs.mounting.MountLastEntries.{Entering, onParity, zoneEntryStores, entered, drive-entries-in}
 use Rattle.volume.proofs.mount_entries.log_drive.Statement.{statement}
 use Rattle.volume.proofs.mount_entries.log_drive.Tie as tie
 
 abbrev Inv-loop : tie.InvT-loop
-Inv-loop sectors₀ written₀ pointers starts basis drive budget n rest₀ z₀ sectors written rest z =
+Inv-loop sectors₀ written₀ pointers starts basis to drive budget n rest₀ z₀ sectors written rest z =
     (z ≤ n) × (length sectors ≡ length sectors₀) × (length written ≡ length written₀)
-    × MadeAppends (basis .geometry) budget rest (onPresent (isSet (basis .here)) (eachBelow (zoneEntryStores (basis .geometry) (basis .look) (shownAt (basis .geometry) (basis .here) (basis .look) sectors₀ pointers) (parityEntries (basis .geometry) (readDevice (basis .geometry) sectors₀ starts) drive) drive) z)) sectors₀ written₀ sectors written
+    × MadeAppends to budget rest (onPresent (isSet (basis .here)) (eachBelow (zoneEntryStores (basis .geometry) (basis .look) (shownAt (basis .geometry) (basis .here) (basis .look) sectors₀ pointers) (parityEntries to (readDevice to sectors₀ starts) drive) drive) z)) sectors₀ written₀ sectors written
 
 abbrev μ-loop : tie.MeasureT-loop
-μ-loop sectors₀ written₀ pointers starts basis drive budget n rest₀ z₀ sectors written rest z = n - z
+μ-loop sectors₀ written₀ pointers starts basis to drive budget n rest₀ z₀ sectors written rest z = n - z
 
 abbrev to-start : tie.At-loop Inv-loop μ-loop → tie.Start Inv-loop μ-loop
 to-start c = c .before .before .before .before .before .before
 
 -- the stores of each zone
 abbrev row : tie.Start Inv-loop μ-loop → ℕ → List Store
-row s = let a = s .args in zoneEntryStores (a .basis .geometry) (a .basis .look) (shownAt (a .basis .geometry) (a .basis .here) (a .basis .look) (a .sectors .now) (a .pointers .now)) (parityEntries (a .basis .geometry) (readDevice (a .basis .geometry) (a .sectors .now) (a .starts .now)) (a .drive)) (a .drive)
+row s = let a = s .args in zoneEntryStores (a .basis .geometry) (a .basis .look) (shownAt (a .basis .geometry) (a .basis .here) (a .basis .look) (a .sectors .now) (a .pointers .now)) (parityEntries (a .to) (readDevice (a .to) (a .sectors .now) (a .starts .now)) (a .drive)) (a .drive)
 
 -- what those so far have left alone
 kept : (c : tie.At-loop Inv-loop μ-loop) → let a = to-start c .args in
-    Entering (a .basis .geometry) (a .basis .here) (a .basis .look) (a .pointers .now) (a .starts .now) (c .loop .sectors) (c .loop .written) × (readDevice (a .basis .geometry) (c .loop .sectors) (a .pointers .now) ≡ readDevice (a .basis .geometry) (a .sectors .now) (a .pointers .now)) × (readDevice (a .basis .geometry) (c .loop .sectors) (a .starts .now) ≡ readDevice (a .basis .geometry) (a .sectors .now) (a .starts .now))
+    Entering (a .basis .geometry) (a .to) (a .basis .here) (a .basis .look) (a .pointers .now) (a .starts .now) (c .loop .sectors) (c .loop .written) × (readDevice (a .basis .geometry) (c .loop .sectors) (a .pointers .now) ≡ readDevice (a .basis .geometry) (a .sectors .now) (a .pointers .now)) × (readDevice (a .to) (c .loop .sectors) (a .starts .now) ≡ readDevice (a .to) (a .sectors .now) (a .starts .now))
 kept c =
     let s = to-start c in
     let a = s .args in
     let l = c .loop in
-    entered (a .basis .geometry) (a .basis .here) (a .basis .look) (a .budget) (l .rest) (onPresent (isSet (a .basis .here)) (eachBelow (row s) (l .z))) (a .pointers .now) (a .starts .now) (a .sectors .now) (a .written .now) (l .sectors) (l .written) (s .pre .1 .1) (on-present-in (a .basis .geometry) (stays (a .basis .look)) (isSet (a .basis .here)) (eachBelow (row s) (l .z)) (drive-entries-in (a .basis .geometry) (a .basis .here) (a .basis .look) (a .pointers .now) (a .sectors .now) (a .written .now) (s .pre .0) (s .pre .1 .1 .fills) (parityEntries (a .basis .geometry) (readDevice (a .basis .geometry) (a .sectors .now) (a .starts .now)) (a .drive)) (a .drive) (l .z) (s .pre .1 .0) (l .inv .0))) (l .inv .3)
+    entered (a .basis .geometry) (a .to) (a .basis .here) (a .basis .look) (a .budget) (l .rest) (onPresent (isSet (a .basis .here)) (eachBelow (row s) (l .z))) (a .pointers .now) (a .starts .now) (a .sectors .now) (a .written .now) (l .sectors) (l .written) (s .pre .1 .1) (on-present-in (a .basis .geometry) onParity (isSet (a .basis .here)) (eachBelow (row s) (l .z)) (drive-entries-in (a .basis .geometry) (a .basis .here) (a .basis .look) (a .pointers .now) (a .sectors .now) (s .pre .0) (s .pre .1 .1 .appends .known-below) (parityEntries (a .to) (readDevice (a .to) (a .sectors .now) (a .starts .now)) (a .drive)) (a .drive) (l .z) (s .pre .1 .0) (l .inv .0))) (l .inv .3)
 
 log-entry-requires : tie.Need-log-entry-requires Inv-loop μ-loop
 log-entry-requires c κs =
@@ -67,7 +66,7 @@ loop-again c =
       omega (arith, at-loop-test .loop-test .taken),
       f .kept .0 ∙ l .inv .1,
       f .kept .1 .0 ∙ l .inv .2,
-      rw add-one (appends-more (a .basis .geometry) (isSet (a .basis .here)) (a .budget) (l .rest) (f .result) (row s) (l .z) (a .sectors .now) (a .written .now) (l .sectors) (l .written) (f .last .0) (f .last .1 .0) (l .inv .3) (rw (kept at-loop .1, kept at-loop .2) at (f .ensures))),
+      rw add-one (appends-more (a .to) (isSet (a .basis .here)) (a .budget) (l .rest) (f .result) (row s) (l .z) (a .sectors .now) (a .written .now) (l .sectors) (l .written) (f .last .0) (f .last .1 .0) (l .inv .3) (rw (kept at-loop .1, kept at-loop .2) at (f .ensures))),
     )
 
 returns : tie.Need-returns Inv-loop μ-loop

@@ -15,34 +15,33 @@ use Rattle.volume.specs.mounting.MountTables.{appends-more}
 use Rattle.volume.specs.mounting.MountValues.{shownAt}
 use Rattle.volume.specs.rows.KeptBelow.{on-present-in}
 use Rattle.volume.specs.meaning.Rules.{parityEntries}
-use Rattle.volume.specs.mounting.MountLook.{stays}
-use Rattle.volume.specs.mounting.MountLastEntries.{Entering, zoneEntryStores, entered, entries-below-in}
+use Rattle.volume.specs.mounting.MountLastEntries.{Entering, onParity, zoneEntryStores, entered, entries-below-in}
 use Rattle.volume.proofs.mount_entries.log_entries.Statement.{statement}
 use Rattle.volume.proofs.mount_entries.log_entries.Tie as tie
 
 abbrev Inv-loop : tie.InvT-loop
-Inv-loop sectors₀ written₀ pointers starts basis budget m rest₀ d₀ sectors written rest d =
+Inv-loop sectors₀ written₀ pointers starts basis to budget m rest₀ d₀ sectors written rest d =
     (d ≤ m) × (length sectors ≡ length sectors₀) × (length written ≡ length written₀)
-    × MadeAppends (basis .geometry) budget rest (onPresent (isSet (basis .here)) (eachBelow (λ (e : ℕ). eachBelow (zoneEntryStores (basis .geometry) (basis .look) (shownAt (basis .geometry) (basis .here) (basis .look) sectors₀ pointers) (parityEntries (basis .geometry) (readDevice (basis .geometry) sectors₀ starts) e) e) (basis .geometry .zones)) d)) sectors₀ written₀ sectors written
+    × MadeAppends to budget rest (onPresent (isSet (basis .here)) (eachBelow (λ (e : ℕ). eachBelow (zoneEntryStores (basis .geometry) (basis .look) (shownAt (basis .geometry) (basis .here) (basis .look) sectors₀ pointers) (parityEntries to (readDevice to sectors₀ starts) e) e) (basis .geometry .zones)) d)) sectors₀ written₀ sectors written
 
 abbrev μ-loop : tie.MeasureT-loop
-μ-loop sectors₀ written₀ pointers starts basis budget m rest₀ d₀ sectors written rest d = m - d
+μ-loop sectors₀ written₀ pointers starts basis to budget m rest₀ d₀ sectors written rest d = m - d
 
 abbrev to-start : tie.At-loop Inv-loop μ-loop → tie.Start Inv-loop μ-loop
 to-start c = c .before .before .before .before .before .before
 
 -- the stores of each drive
 abbrev row : tie.Start Inv-loop μ-loop → ℕ → List Store
-row s = let a = s .args in λ (e : ℕ). eachBelow (zoneEntryStores (a .basis .geometry) (a .basis .look) (shownAt (a .basis .geometry) (a .basis .here) (a .basis .look) (a .sectors .now) (a .pointers .now)) (parityEntries (a .basis .geometry) (readDevice (a .basis .geometry) (a .sectors .now) (a .starts .now)) e) e) (a .basis .geometry .zones)
+row s = let a = s .args in λ (e : ℕ). eachBelow (zoneEntryStores (a .basis .geometry) (a .basis .look) (shownAt (a .basis .geometry) (a .basis .here) (a .basis .look) (a .sectors .now) (a .pointers .now)) (parityEntries (a .to) (readDevice (a .to) (a .sectors .now) (a .starts .now)) e) e) (a .basis .geometry .zones)
 
 -- what those so far have left alone
 kept : (c : tie.At-loop Inv-loop μ-loop) → let a = to-start c .args in
-    Entering (a .basis .geometry) (a .basis .here) (a .basis .look) (a .pointers .now) (a .starts .now) (c .loop .sectors) (c .loop .written) × (readDevice (a .basis .geometry) (c .loop .sectors) (a .pointers .now) ≡ readDevice (a .basis .geometry) (a .sectors .now) (a .pointers .now)) × (readDevice (a .basis .geometry) (c .loop .sectors) (a .starts .now) ≡ readDevice (a .basis .geometry) (a .sectors .now) (a .starts .now))
+    Entering (a .basis .geometry) (a .to) (a .basis .here) (a .basis .look) (a .pointers .now) (a .starts .now) (c .loop .sectors) (c .loop .written) × (readDevice (a .basis .geometry) (c .loop .sectors) (a .pointers .now) ≡ readDevice (a .basis .geometry) (a .sectors .now) (a .pointers .now)) × (readDevice (a .to) (c .loop .sectors) (a .starts .now) ≡ readDevice (a .to) (a .sectors .now) (a .starts .now))
 kept c =
     let s = to-start c in
     let a = s .args in
     let l = c .loop in
-    entered (a .basis .geometry) (a .basis .here) (a .basis .look) (a .budget) (l .rest) (onPresent (isSet (a .basis .here)) (eachBelow (row s) (l .d))) (a .pointers .now) (a .starts .now) (a .sectors .now) (a .written .now) (l .sectors) (l .written) (s .pre .1) (on-present-in (a .basis .geometry) (stays (a .basis .look)) (isSet (a .basis .here)) (eachBelow (row s) (l .d)) (entries-below-in (a .basis .geometry) (a .basis .here) (a .basis .look) (a .pointers .now) (a .sectors .now) (a .written .now) (s .pre .0) (s .pre .1 .fills) (parityEntries (a .basis .geometry) (readDevice (a .basis .geometry) (a .sectors .now) (a .starts .now))) (l .d) (l .inv .0))) (l .inv .3)
+    entered (a .basis .geometry) (a .to) (a .basis .here) (a .basis .look) (a .budget) (l .rest) (onPresent (isSet (a .basis .here)) (eachBelow (row s) (l .d))) (a .pointers .now) (a .starts .now) (a .sectors .now) (a .written .now) (l .sectors) (l .written) (s .pre .1) (on-present-in (a .basis .geometry) onParity (isSet (a .basis .here)) (eachBelow (row s) (l .d)) (entries-below-in (a .basis .geometry) (a .basis .here) (a .basis .look) (a .pointers .now) (a .sectors .now) (s .pre .0) (s .pre .1 .appends .known-below) (parityEntries (a .to) (readDevice (a .to) (a .sectors .now) (a .starts .now))) (l .d) (l .inv .0))) (l .inv .3)
 
 log-drive-requires : tie.Need-log-drive-requires Inv-loop μ-loop
 log-drive-requires c κs =
@@ -67,7 +66,7 @@ loop-again c =
       omega (arith, at-loop-test .loop-test .taken),
       f .kept .0 ∙ l .inv .1,
       f .kept .1 .0 ∙ l .inv .2,
-      rw add-one (appends-more (a .basis .geometry) (isSet (a .basis .here)) (a .budget) (l .rest) (f .result) (row s) (l .d) (a .sectors .now) (a .written .now) (l .sectors) (l .written) (f .last .0) (f .last .1 .0) (l .inv .3) (rw (kept at-loop .1, kept at-loop .2) at (f .ensures))),
+      rw add-one (appends-more (a .to) (isSet (a .basis .here)) (a .budget) (l .rest) (f .result) (row s) (l .d) (a .sectors .now) (a .written .now) (l .sectors) (l .written) (f .last .0) (f .last .1 .0) (l .inv .3) (rw (kept at-loop .1, kept at-loop .2) at (f .ensures))),
     )
 
 returns : tie.Need-returns Inv-loop μ-loop

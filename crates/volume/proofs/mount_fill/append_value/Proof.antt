@@ -6,6 +6,7 @@ use lib.ListN.{length, take, drop, replicate}
 use lib.Seq.{length-take-le}
 use denote.Ref.{now}
 use Rattle.volume.specs.checks.Logging.{front-fits, front-is, front-long, appended-as}
+use Rattle.volume.specs.rows.SameShape.{append-placed}
 use Rattle.volume.specs.mounting.MountReady.{valuesIn}
 use borrow.Author.Needs.{needs}
 use Rattle.volume.proofs.mount_fill.append_value.Statement.{statement}
@@ -16,16 +17,16 @@ abbrev value : tie.Start → List ℕ
 value s = let a = s .args in valuesIn (a .known) (now (a .sectors)) (now (a .pointers)) (a .a)
 
 slice-aggregate-sector-value : tie.Need-slice-aggregate-sector-value
-slice-aggregate-sector-value c = let s = c .before .before .before .before .before .before .before in sym (length-take-le (s .args .known .geometry .sector) _ (s .pre .0 .sector-most))
+slice-aggregate-sector-value c = let s = c .before .before .before .before .before .before .before .before in sym (length-take-le (s .args .known .geometry .sector) _ (s .pre .0 .sector-most))
 
 sector-value-requires : tie.Need-sector-value-requires
 sector-value-requires c κs =
-    let s = c .before .before .before .before .before .before .before in
+    let s = c .before .before .before .before .before .before .before .before in
     let k = s .pre .1 .0 .known-below in
     (s .pre .0, (k .readable, omega (arith, s .pre .1 .1, k .end-most), k .limit-is, k .all-known (s .args .a) (s .pre .1 .1), length-take-le (s .args .known .geometry .sector) _ (s .pre .0 .sector-most)))
 
 abbrev to-start : tie.After-sector-value → tie.Start
-to-start c = c .before .before .before .before .before .before .before .before
+to-start c = c .before .before .before .before .before .before .before .before .before
 
 -- it is one sector long
 long : (c : tie.After-sector-value) → length (c .sector-value .last .1 .1 .1 .1 .1 .1 .1 .1 .0) ≡ to-start c .args .known .geometry .sector
@@ -48,8 +49,9 @@ append-counted-requires : tie.Need-append-counted-requires
 append-counted-requires c κs =
     let w = c .before .before .before .before in
     let s = to-start w in
+    let a = s .args in
     let r = s .pre .1 .0 .rows 0 in
-    (s .pre .0, ((r .drive-in, r .zone-in), (r .sectors-long, r .written-long, sym (whole w))))
+    append-placed (a .known .geometry) (a .known .to) (r .shape) (now (a .sectors)) (now (a .written)) (take (a .known .geometry .sector) (w .sector-value .last .1 .1 .1 .1 .1 .1 .1 .1 .0 ++ rest s)) (a .target .drive) (a .target .zone) (s .pre .0) (r .drive-in) (r .zone-in) (r .sectors-long) (r .written-long) (sym (whole w))
 
 returns : tie.Need-returns
 returns c =
@@ -59,7 +61,7 @@ returns c =
     let a = s .args in
     let n = a .known .geometry .sector in
     let v = w .sector-value in
-    appended-as (a .known .geometry) (a .budget) (f .result) (a .target .present) (a .target .drive) (a .target .zone) (take n (v .last .1 .1 .1 .1 .1 .1 .1 .1 .0 ++ rest s)) (value s) (now (a .sectors)) (now (a .written)) (f .last .0) (f .last .1 .0) (front-is n (v .last .1 .1 .1 .1 .1 .1 .1 .1 .0) (rest s) (value s) (long w) (v .ensures)) (f .ensures)
+    appended-as (a .known .to) (a .budget) (f .result) (a .target .present) (a .target .drive) (a .target .zone) (take n (v .last .1 .1 .1 .1 .1 .1 .1 .1 .0 ++ rest s)) (value s) (now (a .sectors)) (now (a .written)) (f .last .0) (f .last .1 .0) (front-is n (v .last .1 .1 .1 .1 .1 .1 .1 .1 .0) (rest s) (value s) (long w) (v .ensures)) (f .ensures)
 
 pub append-value-spec : {M : Type 1} → statement M
 append-value-spec =

@@ -69,7 +69,7 @@ returns c =
     let i = a .x / g .unit in
     let r = a .x % g .unit in
     let e = own (c .before .before .before .before .before .before .before .before) in
-    appended-as (a .known .geometry) (a .budget) (f .result) (a .target .present) (a .target .drive) (a .target .zone) (rowXorBelow (g .drives) (g .unit) (contentOf k (readDevice g (now (a .sectors)) (now (a .pointers))) []) i (k .end) r) (sector s) (now (a .sectors)) (now (a .written)) (f .last .0) (f .last .1 .0)
+    appended-as (a .known .to) (a .budget) (f .result) (a .target .present) (a .target .drive) (a .target .zone) (rowXorBelow (g .drives) (g .unit) (contentOf k (readDevice g (now (a .sectors)) (now (a .pointers))) []) i (k .end) r) (sector s) (now (a .sectors)) (now (a .written)) (f .last .0) (f .last .1 .0)
     (row-of-known k (readDevice g (now (a .sectors)) (now (a .pointers))) [] i r (s .pre .1 .0 .no-buffer) ∙ row-all (g .drives) (g .unit) (k .zone) (two s) (s .pre .0 .unit-least) (values s) (k .end) i r (complete s e) (mod-lt (a .x) (s .pre .0 .unit-least))
     ∙ sym (content-parity (g .drives) (g .unit) (k .zone) (two s) (s .pre .0 .unit-least) (values s) (a .target .drive) (a .x) e)) (f .ensures)
 
@@ -94,7 +94,7 @@ returns-2 c =
     let g = a .known .geometry in
     let f = c .before .before .before .before .append-value in
     let at = c .before .before .before .before .before .before .before .address-at in
-    appended-as (a .known .geometry) (a .budget) (f .result) (a .target .present) (a .target .drive) (a .target .zone) (values s (at .result)) (sector s) (now (a .sectors)) (now (a .written)) (f .last .0) (f .last .1 .0)
+    appended-as (a .known .to) (a .budget) (f .result) (a .target .present) (a .target .drive) (a .target .zone) (values s (at .result)) (sector s) (now (a .sectors)) (now (a .written)) (f .last .0) (f .last .1 .0)
     (ap (values s) (at .ensures .0) ∙ sym (content-data (g .drives) (g .unit) (a .known .zone) (two s) (s .pre .0 .unit-least) (values s) (a .target .drive) (a .x) (other (c .before .before .before .before .before .before .before .before)))) (f .ensures)
 
 pub fill-sector-spec : {M : Type 1} → statement M

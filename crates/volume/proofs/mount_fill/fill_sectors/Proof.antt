@@ -26,7 +26,7 @@ sectorOn known xs ps drive = contentAt (known .geometry .drives) (known .geometr
 abbrev Inv-loop : tie.InvT-loop
 Inv-loop sectors₀ written₀ pointers known target from to budget rest₀ x₀ sectors written rest x =
     (from ≤ x) × (x ≤ to) × (length sectors ≡ length sectors₀) × (length written ≡ length written₀)
-    × MadeAppends (known .geometry) budget rest (rowsIf (target .present) (target .drive) (target .zone) (sectorOn known sectors₀ pointers (target .drive)) from x) sectors₀ written₀ sectors written
+    × MadeAppends (known .to) budget rest (rowsIf (target .present) (target .drive) (target .zone) (sectorOn known sectors₀ pointers (target .drive)) from x) sectors₀ written₀ sectors written
 
 abbrev μ-loop : tie.MeasureT-loop
 μ-loop sectors₀ written₀ pointers known target from to budget rest₀ x₀ sectors written rest x = to - x
@@ -36,7 +36,7 @@ loop-holds c =
     let s = c .before .before .before in
     let a = s .args in
     let t = a .target in
-    (omega arith, s .pre .1 .1, refl, refl, rw (rows-none (t .present) (t .drive) (t .zone) (sectorOn (a .known) (a .sectors .now) (a .pointers .now) (t .drive)) (a .from)) (appends-nil (a .known .geometry) (a .budget) (a .sectors .now) (a .written .now)))
+    (omega arith, s .pre .1 .1, refl, refl, rw (rows-none (t .present) (t .drive) (t .zone) (sectorOn (a .known) (a .sectors .now) (a .pointers .now) (t .drive)) (a .from)) (appends-nil (a .known .to) (a .budget) (a .sectors .now) (a .written .now)))
 
 abbrev to-start : tie.At-loop Inv-loop μ-loop → tie.Start Inv-loop μ-loop
 to-start c = c .before .before .before .before
@@ -88,7 +88,7 @@ loop-again c =
       f .kept .0 ∙ l .inv .2,
       f .kept .1 .0 ∙ l .inv .3,
       rw (add-one, rows-more (t .present) (t .drive) (t .zone) F (a .from) (l .x) (l .inv .0))
-          (appends-append (a .known .geometry) (a .budget) (l .rest) (f .result) (rowsIf (t .present) (t .drive) (t .zone) F (a .from) (l .x)) (storeIf (t .present) (append (t .drive) (t .zone) (F (l .x)))) (a .sectors .now) (a .written .now) (l .sectors) (l .written) (f .last .0) (f .last .1 .0) (l .inv .4) (rw (kept at-loop .1) at (f .ensures))),
+          (appends-append (a .known .to) (a .budget) (l .rest) (f .result) (rowsIf (t .present) (t .drive) (t .zone) F (a .from) (l .x)) (storeIf (t .present) (append (t .drive) (t .zone) (F (l .x)))) (a .sectors .now) (a .written .now) (l .sectors) (l .written) (f .last .0) (f .last .1 .0) (l .inv .4) (rw (kept at-loop .1) at (f .ensures))),
     )
 
 returns : tie.Need-returns Inv-loop μ-loop

@@ -23,7 +23,7 @@ use Rattle.volume.specs.looking.Knowing.{readDevice}
 use Rattle.volume.specs.rows.RowStores.{rowsIf}
 use Rattle.volume.specs.mounting.MountLook.{zoneLook}
 use Rattle.volume.specs.mounting.MountValues.{shownAt}
-use Rattle.volume.specs.mounting.MountReady.{valuesIn, ZoneReady, zone-ready}
+use Rattle.volume.specs.mounting.MountReady.{valuesIn, ZoneReady, filling-appends, zone-ready}
 use Rattle.volume.specs.mounting.MountFillOn.{fill-absent, fill-idle, fill-made, filled-stays}
 use borrow.Author.Needs.{needs}
 use Rattle.volume.proofs.mount_fill.fill_zone.Statement.{statement}
@@ -79,8 +79,10 @@ fill-sectors-requires c κs =
     subst (λ (k : Extent). Valid (k .geometry) × (ZoneReady k t (now (a .sectors)) (now (a .written)) (now (a .pointers)) × (from ≤ to .result) × (to .result ≤ needed (k .geometry .drives) (k .geometry .unit) (k .zone) (k .end) (a .drive)))) (sym (c .before .before .known-below .ensures)) (
       s .pre .0,
       (
-        zone-ready (b .geometry) (b .here) (b .look) (now (a .pointers)) (now (a .sectors)) (now (a .written)) (s .pre .1 .2) (a .z) p (a .drive) (dataZone (a .z)) (s .pre .1 .1) (le-refl p) (s .pre .1 .0) (omega (arith, s .pre .1 .1))
-            (filled-stays (b .geometry) (b .here) (b .look) (now (a .pointers)) (now (a .sectors)) (now (a .written)) (s .pre .0) (s .pre .1 .2) (a .drive) (a .z) from (s .pre .1 .1) e),
+        zone-ready (b .geometry) (b .geometry) (b .here) (b .look) (dataZone (a .z)) (now (a .pointers)) (now (a .sectors)) (now (a .written))
+            (filling-appends (b .geometry) (b .here) (b .look) (dataZone (a .z)) (now (a .pointers)) (now (a .sectors)) (now (a .written))
+            (filled-stays (b .geometry) (b .here) (b .look) (now (a .pointers)) (now (a .sectors)) (now (a .written)) (s .pre .0) (s .pre .1 .2) (a .drive) (a .z) from (s .pre .1 .1) e) (s .pre .1 .2))
+            (a .z) p (a .drive) (s .pre .1 .1) (le-refl p) (s .pre .1 .0) (omega (arith, s .pre .1 .1)),
         omega (arith, h),
         omega (arith, to .ensures .0),
       ),
@@ -96,11 +98,11 @@ returns-3 c =
     let f = c .before .before .before .before .fill-sectors in
     let present : isSet (b .here) (a .drive) ≡ true = not-false (isSet (b .here) (a .drive)) (c .before .before .before .before .before .before .before .before .before .before .before .before .before .before .if1 .left) in
     rw (fill-made (b .geometry) (isSet (b .here)) (shown s) (device s) (a .drive) (a .z) (at-sectors-then .sectors-then .result) (at-sectors-needed .sectors-needed .result) present (there at-sectors-then) (at-sectors-needed .sectors-needed .ensures .0))
-    (subst (λ (k : Extent). MadeAppends (k .geometry) (a .budget) (f .result) (rowsIf true (a .drive) (dataZone (a .z)) (contentAt (k .geometry .drives) (k .geometry .unit) (k .zone) (valuesIn k (now (a .sectors)) (now (a .pointers))) (a .drive)) (at-sectors-then .sectors-then .result) (at-sectors-needed .sectors-needed .result)) (now (a .sectors)) (now (a .written)) (f .last .0) (f .last .1 .0))
+    (subst (λ (k : Extent). MadeAppends (k .to) (a .budget) (f .result) (rowsIf true (a .drive) (dataZone (a .z)) (contentAt (k .geometry .drives) (k .geometry .unit) (k .zone) (valuesIn k (now (a .sectors)) (now (a .pointers))) (a .drive)) (at-sectors-then .sectors-then .result) (at-sectors-needed .sectors-needed .result)) (now (a .sectors)) (now (a .written)) (f .last .0) (f .last .1 .0))
     (c .before .before .before .before .before .before .before .known-below .ensures) (f .ensures))
 
 pub fill-zone-spec : {M : Type 1} → statement M
 fill-zone-spec =
     tie.close
     (tie.spec (λ c. search needs) returns (λ c. search needs) (λ c. search needs) (λ c. search needs) (λ c κs. search needs) sectors-needed-requires
-    returns-2 known-below-requires (λ c. search needs) fill-sectors-requires (λ c. search needs) (λ c. search needs) returns-3)
+    returns-2 known-below-requires (λ c. let s = c .before .before .before .before .before .before .before .before .before .before .before .before .before .before in omega (arith, s .pre .1 .1, s .pre .0 .zones-most)) fill-sectors-requires (λ c. search needs) (λ c. search needs) returns-3)

@@ -31,8 +31,11 @@ returns-5 c = rw (c .before .before .before .before .before .before .before .bef
 returns-6 : tie.Need-returns-6
 returns-6 c = let a = c .before .before .before .before .before .args in rw (c .enum-told5 .given .1) (appends-nil (a .basis .geometry) (a .budget) (now (a .sectors)) (now (a .written)))
 
+returns-7 : tie.Need-returns-7
+returns-7 c = let a = c .before .before .before .before .before .args in rw (c .enum-told6 .given .1) (appends-nil (a .basis .geometry) (a .budget) (now (a .sectors)) (now (a .written)))
+
 pub complete-entry-spec : {M : Type 1} → statement M
 complete-entry-spec =
     tie.close
     (tie.spec (λ c. search needs) (λ c. search needs) (λ c. search needs) (λ c. search needs) (λ c. search needs) complete-rows-requires
-    (λ c. search needs) returns returns-2 returns-3 returns-4 (λ c. search needs) (λ c. search needs) returns-5 returns-6)
+    (λ c. search needs) (λ c. search needs) returns returns-2 returns-3 returns-4 (λ c. search needs) (λ c. search needs) returns-5 returns-6 returns-7)

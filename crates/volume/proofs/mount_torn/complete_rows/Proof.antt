@@ -9,7 +9,10 @@ use Rattle.tables.specs.laws.Basics.{and-split}
 use Rattle.tables.specs.laws.Sizes.{zone-small}
 use Rattle.tables.specs.meaning.Geometry.{stripeSectors}
 use Rattle.volume.specs.meaning.Rules.{ZoneShown}
+use Rattle.logs.specs.meaning.Entry.{parityZone}
+use Rattle.volume.specs.mounting.MountLook.{log-stays}
 use Rattle.volume.specs.mounting.MountValues.{shownAt}
+use Rattle.volume.specs.mounting.MountReady.{Appending, filling-appends}
 use Rattle.volume.specs.mounting.MountTornLogs.{rows-current, rows-stale}
 use borrow.Author.Needs.{needs}
 use Rattle.volume.proofs.mount_torn.complete_rows.Statement.{statement}
@@ -35,12 +38,16 @@ current c = rw (c .before .stripe-sectors .ensures .0) at (c .if1 .taken)
 stale : (c : tie.Else1) → let s = c .before .before .before .before .before .before .before .before .before in let e = s .args .entry in eqb (s .args .n) (shown s .generation) && leb (e .stripe * stripeSectors (s .args .basis .geometry) + e .fill) (shown s .pointer) ≡ false
 stale c = rw (c .before .stripe-sectors .ensures .0) at (c .if1 .left)
 
+-- the rows go to the parity log
+appends : (s : tie.Start) → let a = s .args in Appending (a .basis .geometry) (a .basis .geometry) (a .basis .here) (a .basis .look) parityZone (now (a .pointers)) (now (a .sectors)) (now (a .written))
+appends s = let a = s .args in let b = a .basis in filling-appends (b .geometry) (b .here) (b .look) parityZone (now (a .pointers)) (now (a .sectors)) (now (a .written)) (log-stays (b .look) parityZone (omega arith)) (s .pre .1 .4)
+
 append-entry-rows-requires : tie.Need-append-entry-rows-requires
 append-entry-rows-requires c κs =
     let s = c .before .before .before .before .before .before .before .before .before .before .before in
     let e = s .args .entry in
     let end = e .stripe * stripeSectors (s .args .basis .geometry) + e .fill in
-    (s .pre .0, (s .pre .1 .0, s .pre .1 .1, leb-true end (shown s .pointer) (and-split (eqb (s .args .n) (shown s .generation)) (leb end (shown s .pointer)) (current (c .before .before)) .1), s .pre .1 .3, s .pre .1 .4))
+    (s .pre .0, (s .pre .1 .0, s .pre .1 .1, leb-true end (shown s .pointer) (and-split (eqb (s .args .n) (shown s .generation)) (leb end (shown s .pointer)) (current (c .before .before)) .1), s .pre .1 .3, appends s))
 
 returns : tie.Need-returns
 returns c =

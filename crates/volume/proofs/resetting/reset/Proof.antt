@@ -1,24 +1,31 @@
-use Prim.Native.Nat.{ℕ, suc}
-use mathlib.Core.Path.{_≡_, refl, sym, _∙_}
-use mathlib.Core.Logic.{_≢_}
+use Prim.Native.Nat.{ℕ, suc, _+_, _≤_, _<_}
+use mathlib.Core.Path.{_≡_, refl, sym, ap, _∙_}
+use mathlib.Core.Bool.{Bool, not}
 use mathlib.Core.List.{List}
 use native.Mathlib.Omega.{arith}
 use native.Mathlib.Numerals.{add-one}
-use lib.ListN.{length}
+use lib.ListN.{length, take}
+use lib.Dec.{eqb}
 use denote.Ref.{now}
+use borrow.Author.Needs.{needs}
+use Rattle.tables.specs.meaning.Basics.{pick}
 use Rattle.tables.specs.meaning.Device.{Store}
+use Rattle.tables.specs.meaning.Drives.{findBelow}
 use Rattle.tables.specs.meaning.Tables.{Tables, tablesOf}
 use Rattle.tables.specs.laws.Made.{Made}
 use Rattle.tables.specs.laws.TablesFrame.{lengths-are}
 use Rattle.volume.specs.declared.State.{State}
+use Rattle.volume.specs.declared.Outcome.{Outcome}
+use Rattle.volume.specs.declared.Answer.the-variants.{Finished, Unfinished, Refused}
 use Rattle.volume.specs.meaning.State.{callPresent}
-use Rattle.volume.specs.meaning.Calls.{resetStores}
+use Rattle.volume.specs.meaning.Emptying.{resetAll}
 use Rattle.volume.specs.meaning.Answers.{lostIn}
-use Rattle.volume.specs.meaning.CallContracts.{isSet, viewState, verdictNumber, resetOn, resetVerdict, withReset}
-use Rattle.volume.specs.laws.CallContracts.{storing-refused, storing-unfinished, storing-finished}
-use Rattle.volume.specs.checks.CheckLaws.{present-is, left-out-is}
-use Rattle.volume.specs.storing.Resetting.{reset-refusal, ResetAccepted, reset-accepted}
-use borrow.Author.Needs.{needs}
+use Rattle.volume.specs.meaning.CallContracts.{recordAt, isSet, viewState, verdictNumber, rolesOf, seenIn, Result, resetOn, resetVerdict, withReset}
+use Rattle.volume.specs.laws.CallContracts.{storing-refused}
+use Rattle.volume.specs.checks.CheckLaws.{presentList, present-is, left-out-is, Opened, opened, openingNumber, opening-is, tested}
+use Rattle.volume.specs.checks.ZoneChecks.{pointer-within}
+use Rattle.volume.specs.storing.Resetting.{resetLateNumber, resetFullIn, reset-early, reset-8, reset-in, reset-room, reset-refusal, late-fresh, resetNumber}
+use Rattle.volume.specs.storing.ResetZone.{zoneNow, resetZoneOn, reset-zone-on}
 use Rattle.volume.proofs.resetting.reset.Statement.{statement}
 use Rattle.volume.proofs.resetting.reset.Tie as tie
 
@@ -26,85 +33,141 @@ use Rattle.volume.proofs.resetting.reset.Tie as tie
 abbrev given : tie.Start → Tables
 given s = tablesOf (now (s .args .sectors)) (now (s .args .written)) (now (s .args .durable))
 
-abbrev refusal : tie.Start → ℕ
-refusal s = verdictNumber (resetVerdict (s .args .g) (s .args .named) (s .args .state) (s .args .zone) (given s))
+abbrev number : tie.Start → ℕ
+number s = verdictNumber (resetVerdict (s .args .g) (s .args .named) (s .args .t6) (s .args .zone) (given s))
 
 abbrev stores : tie.Start → List Store
-stores s = resetStores (s .args .g) (callPresent (s .args .g) (isSet (s .args .named)) (viewState (s .args .state))) (viewState (s .args .state)) (s .args .zone)
+stores s = resetAll (s .args .g) (callPresent (s .args .g) (isSet (s .args .named)) (viewState (s .args .t6))) (rolesOf (s .args .g) (given s)) (seenIn (s .args .g) (given s)) (viewState (s .args .t6)) (s .args .zone)
 
 abbrev next : tie.Start → State
-next s = withReset (s .args .state) (s .args .zone) (lostIn (s .args .g) (isSet (s .args .named)) (viewState (s .args .state)))
+next s = withReset (s .args .t6) (s .args .zone) (lostIn (s .args .g) (isSet (s .args .named)) (viewState (s .args .t6)))
 
-number : (c : tie.After-reset-refusal) → c .reset-refusal .result ≡ refusal (c .before .before .before .before .before .before)
-number c = let a = c .before .before .before .before .before .before .args in c .reset-refusal .ensures ∙ reset-refusal (a .g) (a .named) (a .state) (a .zone) (now (a .sectors)) (now (a .written)) (now (a .durable))
+abbrev opening : tie.Start → ℕ
+opening s = let a = s .args in openingNumber (a .g) (a .named) (a .t6) 0 0 (length (now (a .sectors))) (now (a .written)) (now (a .durable))
 
-passed : (c : tie.Else1) → c .before .reset-refusal .result ≡ 0
-passed c = omega arith
+-- refusals 1 to 4
+abbrev to-start : tie.After-opening → tie.Start
+to-start c = c .before .before .before .before .before .before .before
 
-accepted : (c : tie.Else1) → ResetAccepted (c .before .before .before .before .before .before .before .args .g) (c .before .before .before .before .before .before .before .args .named) (c .before .before .before .before .before .before .before .args .state) (c .before .before .before .before .before .before .before .args .zone) (length (now (c .before .before .before .before .before .before .before .args .sectors))) (now (c .before .before .before .before .before .before .before .args .written)) (now (c .before .before .before .before .before .before .before .args .durable))
-accepted c = let a = c .before .before .before .before .before .before .before .args in reset-accepted (a .g) (a .named) (a .state) (a .zone) (length (now (a .sectors))) (now (a .written)) (now (a .durable)) (sym (c .before .reset-refusal .ensures) ∙ passed c)
+opened-as : (c : tie.After-opening) → c .opening .result ≡ opening (to-start c)
+opened-as c = let a = to-start c .args in c .opening .ensures ∙ opening-is (a .g) (a .named) (a .t6) (c .before .before .before .input-within .result) 0 0 (length (now (a .sectors))) (now (a .written)) (now (a .durable)) (c .before .before .before .input-within .ensures)
+
+opening-passed : (c : tie.Else1) → opening (to-start (c .before)) ≡ 0
+opening-passed c = let e : c .before .opening .result ≡ 0 = omega arith in sym (opened-as (c .before)) ∙ e
+
+open-is : (c : tie.Else1) → let a = to-start (c .before) .args in Opened (a .g) (a .named) (a .t6) 0 0 (length (now (a .sectors))) (now (a .written)) (now (a .durable))
+open-is c = let a = to-start (c .before) .args in opened (a .g) (a .named) (a .t6) 0 0 (length (now (a .sectors))) (now (a .written)) (now (a .durable)) (opening-passed c)
+
+abbrev full : tie.Start → Bool
+full s = resetFullIn (s .args .g) (s .args .named) (s .args .t6) (given s)
+
+refusal : (s : tie.Start) → let a = s .args in resetNumber (a .g) (a .named) (a .t6) (a .zone) (full s) (length (now (a .sectors))) (now (a .written)) (now (a .durable)) ≡ number s
+refusal s = let a = s .args in reset-refusal (a .g) (a .named) (a .t6) (a .zone) (now (a .sectors)) (now (a .written)) (now (a .durable))
 
 returns : tie.Need-returns
 unfolding resetOn
 returns c =
-    let s = c .before .before .before .before .before .before .before in
+    let o = c .before .before in
+    let s = to-start o in
     let a = s .args in
-    let e = number (c .before) in
-    let h : c .before .reset-refusal .result ≢ 0 = c .if1 .taken in
-    let (p, q) = storing-refused (a .g) (refusal s) (stores s) (next s) (a .state) (a .count) (given s) (rw (← e) h) in
-    (sym (p ∙ rw (← e) refl), sym q)
+    let e : o .opening .result ≡ number s = opened-as o ∙ reset-early (a .g) (a .named) (a .t6) (a .zone) (full s) (length (now (a .sectors))) (now (a .written)) (now (a .durable)) (λ k. c .before .if1 .taken (opened-as o ∙ k)) ∙ refusal s in
+    let (p, q) = storing-refused (a .g) (number s) (stores s) (next s) (a .t6) (a .count) (given s) (λ k. c .before .if1 .taken (e ∙ k)) in
+    let refused : ℕ → Outcome = λ k. record { answer = Refused k; state = a .t6 } in
+    (c .refused .ensures ∙ ap refused e ∙ sym p, sym q)
 
-reset-stores-requires : tie.Need-reset-stores-requires
-reset-stores-requires c κs =
-    let a = c .before .before .before .before .before .before .before .before .before .before .before .args in
-    let o = accepted (c .before .before .before .before) in
-    let l = lengths-are (a .g) (length (now (a .sectors))) (length (now (a .written))) (length (now (a .durable))) (o .first .lengths) in
-    (o .first .valid, (o .zone, o .fresh, l .0, l .1, l .2))
-
--- what was made, as the call's stores
-abbrev left : tie.After-reset-stores → Tables
-left c = tablesOf (c .reset-stores .last .0) (c .reset-stores .last .1 .0) (c .reset-stores .last .1 .1 .0)
-
-made : (c : tie.After-reset-stores) → Made (c .before .before .before .before .before .before .before .before .before .before .before .before .args .g) (suc (c .before .before .before .before .before .before .before .before .before .before .before .before .args .count)) (c .reset-stores .result) (stores (c .before .before .before .before .before .before .before .before .before .before .before .before)) (given (c .before .before .before .before .before .before .before .before .before .before .before .before)) (left c)
-made c =
-    let a = c .before .before .before .before .before .before .before .before .before .before .before .before .args in
-    rw (c .before .before .before .before .present-drives .ensures, present-is (a .g) (a .named) (a .state), add-one) at (c .reset-stores .ensures)
-
+-- the zone
 returns-2 : tie.Need-returns-2
 unfolding resetOn
 returns-2 c =
-    let at-reset-stores = c .before .before .before .before .before .before .before in
-    let at-start = at-reset-stores .before .before .before .before .before in
-    let at-start-2 = at-start .before in
-    let s = at-start-2 .before .before .before .before .before .before in
+    let e = c .before .before in
+    let s = to-start (e .before) in
     let a = s .args in
-    let e = sym (number (at-start-2)) ∙ passed (at-start) in
-    let (p, q) = storing-unfinished (a .g) (refusal s) (stores s) (next s) (a .state) (a .count) (given s) (at-reset-stores .reset-stores .result) (left (at-reset-stores)) e (made (at-reset-stores)) (c .if2 .taken) in
-    (sym p, sym q)
+    let n : 8 ≡ number s = reset-8 (a .g) (a .named) (a .t6) (a .zone) (full s) (length (now (a .sectors))) (now (a .written)) (now (a .durable)) (opening-passed e) (c .before .if2 .taken) ∙ refusal s in
+    let (p, q) = storing-refused (a .g) (number s) (stores s) (next s) (a .t6) (a .count) (given s) (λ k. let z : _≡_ {A = ℕ} 8 0 = n ∙ k in absurd (omega (arith, z))) in
+    let refused : ℕ → Outcome = λ k. record { answer = Refused k; state = a .t6 } in
+    (c .refused2 .ensures ∙ ap refused n ∙ sym p, sym q)
 
-left-out-requires : tie.Need-left-out-requires
-left-out-requires c κs = accepted (c .before .before .before .before .before .before .before .before .before .before .before .before) .first .valid
+abbrev from-zone : tie.Else2 → tie.Start
+from-zone c = to-start (c .before .before)
 
-reset-state-requires : tie.Need-reset-state-requires
-reset-state-requires c κs = let o = accepted (c .before .before .before .before .before .before .before .before .before .before .before .before .before) in (omega (arith, o .zone, o .first .valid .zones-most), o .fresh)
+zone-in : (c : tie.Else2) → let a = from-zone c .args in a .zone < a .g .zones
+zone-in c = omega (arith, c .if2 .left)
+
+zone-small : (c : tie.Else2) → from-zone c .args .zone < 16
+zone-small c = omega (arith, zone-in c, open-is (c .before) .valid .zones-most)
+
+-- refusals 7 and 12
+zone-refusal-requires : tie.Need-zone-refusal-requires
+zone-refusal-requires c κs =
+    let f = c .before .before .before in
+    let a = from-zone f .args in
+    let o = open-is (f .before) in
+    let l = lengths-are (a .g) (length (now (a .sectors))) (length (now (a .written))) (length (now (a .durable))) (o .lengths) in
+    (o .valid, (l .1, zone-in f, pointer-within (a .g) (a .t6) (a .zone) (o .within) (zone-in f)))
+
+abbrev late : tie.Start → ℕ
+late s = let a = s .args in resetLateNumber (a .g) (isSet (presentList (a .g) (a .named) (a .t6 .lost))) (recordAt (a .t6) (a .zone)) (a .zone) (now (a .written))
+
+late-is : (c : tie.After-zone-refusal) → c .zone-refusal .result ≡ late (from-zone (c .before .before .before .before))
+late-is c =
+    let a = from-zone (c .before .before .before .before) .args in
+    c .zone-refusal .ensures ∙ ap (λ (h : List Bool). resetLateNumber (a .g) (isSet h) (recordAt (a .t6) (a .zone)) (a .zone) (now (a .written))) (c .before .before .present-drives .ensures)
 
 returns-3 : tie.Need-returns-3
 unfolding resetOn
 returns-3 c =
-    let at-reset-stores = c .before .before .before .before .before .before .before .before .before in
-    let at-present-drives = at-reset-stores .before .before .before .before in
-    let at-start = at-present-drives .before in
-    let at-start-2 = at-start .before in
-    let s = at-start-2 .before .before .before .before .before .before in
+    let r = c .before .before in
+    let f = r .before .before .before .before in
+    let s = from-zone f in
     let a = s .args in
-    let e = sym (number (at-start-2)) ∙ passed (at-start) in
-    let x : c .before .left-out .result ≡ lostIn (a .g) (isSet (a .named)) (viewState (a .state)) = c .before .left-out .ensures ∙ rw (at-present-drives .present-drives .ensures) (left-out-is (a .g) (a .named) (a .state)) in
-    let (p, q) = storing-finished (a .g) (refusal s) (stores s) (next s) (a .state) (a .count) (given s) (at-reset-stores .reset-stores .result) (left (at-reset-stores)) e (made (at-reset-stores)) (c .before .before .if2 .left) in
-    (rw (c .reset-state .ensures, x) (sym p), sym q)
+    let e = late-is r ∙ reset-in (a .g) (a .named) (a .t6) (a .zone) (full s) (length (now (a .sectors))) (now (a .written)) (now (a .durable)) (opening-passed (f .before)) (zone-in f) (λ k. c .before .if3 .taken (late-is r ∙ k)) ∙ refusal s in
+    let (p, q) = storing-refused (a .g) (number s) (stores s) (next s) (a .t6) (a .count) (given s) (λ k. c .before .if3 .taken (e ∙ k)) in
+    let refused : ℕ → Outcome = λ k. record { answer = Refused k; state = a .t6 } in
+    (c .refused3 .ensures ∙ ap refused e ∙ sym p, sym q)
+
+abbrev from-late : tie.Else3 → tie.Start
+from-late c = from-zone (c .before .before .before .before .before)
+
+passed : (c : tie.Else3) → late (from-late c) ≡ 0
+passed c = let e : c .before .zone-refusal .result ≡ 0 = omega arith in sym (late-is (c .before)) ∙ e
+
+reset-zone-requires : tie.Need-reset-zone-requires
+reset-zone-requires c κs =
+    let e = c .before .before .before in
+    let f = e .before .before .before .before .before in
+    let a = from-late e .args in
+    let o = open-is (f .before) in
+    let l = lengths-are (a .g) (length (now (a .sectors))) (length (now (a .written))) (length (now (a .durable))) (o .lengths) in (
+      o .valid,
+      (
+        record { sectors-long = l .0; written-long = l .1 },
+        o .logs-first,
+        record {
+          durable-long = l .2;
+          zone-in = zone-in f;
+          generation-is = refl;
+          fresh = late-fresh (a .g) (isSet (presentList (a .g) (a .named) (a .t6 .lost))) (recordAt (a .t6) (a .zone)) (a .zone) (now (a .written)) (passed e);
+        },
+      ),
+    )
+
+returns-4 : tie.Need-returns-4
+returns-4 c =
+    let e = c .before .before .before .before .before .before .before .before .before .before in
+    let h = e .before .before .before .before .before in
+    let s = from-late e in
+    let a = s .args in
+    let f = c .before .before .before .before .before .before .reset-zone in
+    let here = e .before .before .before .present-drives in
+    let on : resetZoneOn (zoneNow (a .g) (here .result) (a .t6) (a .zone)) (a .t6) (a .count) (given s) ≡ resetOn (a .g) (a .named) (a .t6) (a .zone) (a .count) (given s) =
+    ap (λ (l : List Bool). resetZoneOn (zoneNow (a .g) l (a .t6) (a .zone)) (a .t6) (a .count) (given s)) (here .ensures)
+    ∙ reset-zone-on (a .g) (a .named) (a .t6) (a .zone) (a .count) (now (a .sectors)) (now (a .written)) (now (a .durable)) (opening-passed (h .before)) (zone-in h) (passed e) in
+    (f .ensures .0 ∙ ap (λ (r : Result). r .outcome) on, f .ensures .1 ∙ ap (λ (r : Result). r .tables) on)
 
 pub reset-spec : {M : Type 1} → statement M
 reset-spec =
     tie.close
-    (tie.spec (λ c κs. search needs) (λ c. search needs) (λ c. search needs) returns (λ c κs. accepted c .first .valid) (λ c. search needs)
-    reset-stores-requires (λ c. search needs) (λ c. search needs) (λ c. search needs) returns-2 left-out-requires reset-state-requires
-    (λ c. search needs) (λ c. search needs) (λ c. search needs) returns-3)
+    (tie.spec (λ c κs. search needs) (λ c κs. tested _ (c .before .before .before .before .before .before .args .t6) _ (c .before .before .input-within .ensures)) (λ c κs. search needs) (λ c. search needs)
+    (λ c. search needs) returns (λ c κs. search needs) (λ c. search needs) (λ c. search needs) returns-2 (λ c. let h = zone-small c in omega arith) zone-small
+    (λ c κs. open-is (c .before .before) .valid) zone-refusal-requires (λ c κs. search needs) (λ c. search needs) (λ c. search needs) returns-3
+    reset-zone-requires (λ c. search needs) (λ c. search needs) (λ c. search needs) returns-4)

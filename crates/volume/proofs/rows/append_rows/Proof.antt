@@ -24,7 +24,7 @@ rowAt known xs ps buffer s = rowXorBelow (known .geometry .drives) (known .geome
 abbrev Inv-loop : tie.InvT-loop
 Inv-loop sectors₀ written₀ pointers buffer known target s from m budget rest₀ r₀ sectors written rest r =
     (from ≤ r) × (r ≤ m) × (length sectors ≡ length sectors₀) × (length written ≡ length written₀)
-    × MadeAppends (known .geometry) budget rest (rowsIf (target .present) (target .drive) (target .zone) (rowAt known sectors₀ pointers buffer s) from r) sectors₀ written₀ sectors written
+    × MadeAppends (known .to) budget rest (rowsIf (target .present) (target .drive) (target .zone) (rowAt known sectors₀ pointers buffer s) from r) sectors₀ written₀ sectors written
 
 abbrev μ-loop : tie.MeasureT-loop
 μ-loop sectors₀ written₀ pointers buffer known target s from m budget rest₀ r₀ sectors written rest r = m - r
@@ -34,7 +34,7 @@ loop-holds c =
     let s = c .before .before .before .before in
     let a = s .args in
     let t = a .target in
-    (omega arith, s .pre .1 .1, refl, refl, rw (rows-none (t .present) (t .drive) (t .zone) (rowAt (a .known) (a .sectors .now) (a .pointers .now) (a .buffer .now) (a .s)) (a .from)) (appends-nil (a .known .geometry) (a .budget) (a .sectors .now) (a .written .now)))
+    (omega arith, s .pre .1 .1, refl, refl, rw (rows-none (t .present) (t .drive) (t .zone) (rowAt (a .known) (a .sectors .now) (a .pointers .now) (a .buffer .now) (a .s)) (a .from)) (appends-nil (a .known .to) (a .budget) (a .sectors .now) (a .written .now)))
 
 -- what the rows so far have left alone
 abbrev to-start : tie.At-loop Inv-loop μ-loop → tie.Start Inv-loop μ-loop
@@ -74,7 +74,7 @@ loop-again c =
       f .kept .0 ∙ l .inv .2,
       f .kept .1 .0 ∙ l .inv .3,
       rw (add-one, rows-more (t .present) (t .drive) (t .zone) F (a .from) (l .r) (l .inv .0))
-          (appends-append (a .known .geometry) (a .budget) (l .rest) (f .result) (rowsIf (t .present) (t .drive) (t .zone) F (a .from) (l .r)) (storeIf (t .present) (append (t .drive) (t .zone) (F (l .r)))) (a .sectors .now) (a .written .now) (l .sectors) (l .written) (f .last .0) (f .last .1 .0) (l .inv .4) (rw (kept at-loop .1) at (f .ensures))),
+          (appends-append (a .known .to) (a .budget) (l .rest) (f .result) (rowsIf (t .present) (t .drive) (t .zone) F (a .from) (l .r)) (storeIf (t .present) (append (t .drive) (t .zone) (F (l .r)))) (a .sectors .now) (a .written .now) (l .sectors) (l .written) (f .last .0) (f .last .1 .0) (l .inv .4) (rw (kept at-loop .1) at (f .ensures))),
     )
 
 returns : tie.Need-returns Inv-loop μ-loop

@@ -22,13 +22,13 @@ start-most : (c : tie.After-stripe-sectors) → let a = c .before .before .befor
 start-most c = omega (arith, div-add-mod' (c .before .before .before .before .before .args .n) (c .stripe-sectors .result))
 
 -- the answer about what is held
-held-is : (c : tie.After-all-held) → let a = c .before .before .before .before .before .before .args in c .all-held .result ≡ allHeld (a .zone .geometry) (a .zone .here) (now (a .written)) (a .zone .number) (stripeOf (a .zone .geometry .drives) (a .zone .geometry .unit) (a .n) * stripeSectors (a .zone .geometry)) (fillOf (a .zone .geometry) (a .n))
+held-is : (c : tie.After-all-held) → let a = c .before .before .before .before .before .before .args in c .all-held .result ≡ allHeld (a .zone .geometry) (a .zone .here) (now (a .pointers)) (a .zone .number) (stripeOf (a .zone .geometry .drives) (a .zone .geometry .unit) (a .n) * stripeSectors (a .zone .geometry)) (fillOf (a .zone .geometry) (a .n))
 held-is c =
     let a = c .before .before .before .before .before .before .args in
-    c .all-held .ensures ∙ ap (λ (start : ℕ). allHeld (a .zone .geometry) (a .zone .here) (now (a .written)) (a .zone .number) start (a .n - start)) (stripe-begin (a .zone .geometry .drives) (a .zone .geometry .unit) (a .n) (c .before .stripe-sectors .result) (c .before .stripe-sectors .ensures .0))
+    c .all-held .ensures ∙ ap (λ (start : ℕ). allHeld (a .zone .geometry) (a .zone .here) (now (a .pointers)) (a .zone .number) start (a .n - start)) (stripe-begin (a .zone .geometry .drives) (a .zone .geometry .unit) (a .n) (c .before .stripe-sectors .result) (c .before .stripe-sectors .ensures .0))
 
 abbrev limit : tie.Start → Bool → ℕ
-limit s b = let a = s .args in pick b 0 (sealLimit (a .zone .geometry) (isSet (a .zone .here)) (readDevice (a .zone .geometry) (now (a .sectors)) (now (a .written))) (a .zone .number) (a .zone .generation))
+limit s b = let a = s .args in pick b 0 (sealLimit (a .zone .geometry) (isSet (a .zone .here)) (readDevice (a .zone .geometry) (now (a .sectors)) (now (a .pointers))) (a .zone .number) (a .zone .generation))
 
 returns : tie.Need-returns
 returns c = let h = c .before in ap (limit (h .before .before .before .before .before .before)) (sym (c .if1 .taken) ∙ held-is h)

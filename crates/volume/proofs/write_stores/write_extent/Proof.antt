@@ -46,7 +46,7 @@ returns c =
     let g = k .geometry in
     let x = f .write-run in
     rw (write-parts g (s .pre .0) (isSet (k .here)) (k .zone) (content s) (k .generation) (k .below) (k .end) (s .pre .1 .below-most))
-    (appends-append g (a .budget) (x .result) (r .result) (onPresent (isSet (k .here)) (dataStores (g .drives) (g .unit) (k .zone) (content s) (k .below) (k .end - k .below))) (onPresent (isSet (k .here)) (pick (insideStripe g (k .end)) (entryStores g (k .zone) (k .generation) (content s) (k .end)) []))
+    (appends-append (k .to) (a .budget) (x .result) (r .result) (onPresent (isSet (k .here)) (dataStores (g .drives) (g .unit) (k .zone) (content s) (k .below) (k .end - k .below))) (onPresent (isSet (k .here)) (pick (insideStripe g (k .end)) (entryStores g (k .zone) (k .generation) (content s) (k .end)) []))
     (now (a .sectors)) (now (a .written)) (x .last .0) (x .last .1 .0) (r .last .0) (r .last .1 .0) (x .ensures) (rw (kept f .1) at (r .ensures)))
 
 pub write-extent-spec : {M : Type 1} → statement M

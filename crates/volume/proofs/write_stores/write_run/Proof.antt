@@ -24,7 +24,7 @@ content known xs ps buffer = contentOf known (readDevice (known .geometry) xs ps
 abbrev Inv-loop : tie.InvT-loop
 Inv-loop sectors₀ written₀ pointers buffer known budget end rest₀ a₀ sectors written rest a =
     (known .below ≤ a) × (a ≤ known .end) × (length sectors ≡ length sectors₀) × (length written ≡ length written₀)
-    × MadeAppends (known .geometry) budget rest (onPresent (isSet (known .here)) (dataStores (known .geometry .drives) (known .geometry .unit) (known .zone) (content known sectors₀ pointers buffer) (known .below) (a - known .below))) sectors₀ written₀ sectors written
+    × MadeAppends (known .to) budget rest (onPresent (isSet (known .here)) (dataStores (known .geometry .drives) (known .geometry .unit) (known .zone) (content known sectors₀ pointers buffer) (known .below) (a - known .below))) sectors₀ written₀ sectors written
 
 abbrev μ-loop : tie.MeasureT-loop
 μ-loop sectors₀ written₀ pointers buffer known budget end rest₀ a₀ sectors written rest a = known .end - a
@@ -34,7 +34,7 @@ loop-holds c =
     let s = c .before .before .before .before in
     let a = s .args in
     let e : a .known .below - a .known .below ≡ 0 = omega arith in
-    (omega arith, s .pre .1 .below-most, refl, refl, rw e (appends-nil (a .known .geometry) (a .budget) (a .sectors .now) (a .written .now)))
+    (omega arith, s .pre .1 .below-most, refl, refl, rw e (appends-nil (a .known .to) (a .budget) (a .sectors .now) (a .written .now)))
 
 -- what the sectors so far have left alone
 abbrev to-start : tie.At-loop Inv-loop μ-loop → tie.Start Inv-loop μ-loop
@@ -74,7 +74,7 @@ loop-again c =
       f .kept .0 ∙ l .inv .2,
       f .kept .1 .0 ∙ l .inv .3,
       rw (add-one, data-more g (s .pre .0) (isSet (a .known .here)) (a .known .zone) S (a .known .below) (l .a) (l .inv .0))
-          (appends-append g (a .budget) (l .rest) (f .result) (onPresent (isSet (a .known .here)) (dataStores (g .drives) (g .unit) (a .known .zone) S (a .known .below) (l .a - a .known .below))) (onPresent (isSet (a .known .here)) (sectorStores (g .drives) (g .unit) (a .known .zone) S (l .a))) (a .sectors .now) (a .written .now) (l .sectors) (l .written) (f .last .0) (f .last .1 .0) (l .inv .4) (rw (kept at-loop .1) at (f .ensures))),
+          (appends-append (a .known .to) (a .budget) (l .rest) (f .result) (onPresent (isSet (a .known .here)) (dataStores (g .drives) (g .unit) (a .known .zone) S (a .known .below) (l .a - a .known .below))) (onPresent (isSet (a .known .here)) (sectorStores (g .drives) (g .unit) (a .known .zone) S (l .a))) (a .sectors .now) (a .written .now) (l .sectors) (l .written) (f .last .0) (f .last .1 .0) (l .inv .4) (rw (kept at-loop .1) at (f .ensures))),
     )
 
 returns : tie.Need-returns Inv-loop μ-loop

@@ -18,6 +18,7 @@ use Rattle.volume.specs.meaning.CallContracts.{isSet}
 use Rattle.volume.specs.meaning.Content.{rowXorBelow}
 use Rattle.volume.specs.laws.CallContracts.{appends-append}
 use Rattle.volume.specs.looking.Knowing.{readDevice}
+use Rattle.volume.specs.rows.SameShape.{data-not-spare, append-placed}
 use Rattle.volume.specs.rows.RowStores.{rowsIf}
 use Rattle.volume.specs.rows.RowsInPlace.{contentOf, content-new, RowsReady}
 use Rattle.volume.specs.writing.WriteStores.{Writing, sector-inside, sector-last, writing-kept, writing-rows, buffer-fits, stripe-reached, new-in}
@@ -44,20 +45,20 @@ fits s = let a = s .args in buffer-fits (a .known) (s .pre .0) (now (a .sectors)
 
 append-counted-requires : tie.Need-append-counted-requires
 append-counted-requires c κs =
-    let s = c .before .before .before .before .before .before .before .before .before .before in
+    let s = c .before .before .before .before .before .before .before .before .before .before .before in
     let a = s .args in
     let w = s .pre .1 .0 in
     let from = (a .a - a .known .below) * a .known .geometry .sector in
     let b = a .known .geometry .sector in
     let e : from + b - from ≡ b = omega arith in
-    (s .pre .0, ((c .before .before .before .drive-of .ensures .1, omega (arith, w .zone-in)), (w .sectors-long, w .written-long, rw e (part-long (now (a .buffer)) from b (fits s)))))
+    append-placed (a .known .geometry) (a .known .to) (w .shape) (now (a .sectors)) (now (a .written)) (take (from + b - from) (drop from (now (a .buffer)))) (c .before .before .before .drive-of .result) (dataZone (a .known .zone)) (s .pre .0) (c .before .before .before .drive-of .ensures .1) (omega (arith, w .zone-in)) (w .sectors-long) (w .written-long) (rw e (part-long (now (a .buffer)) from b (fits s)))
 
 -- the sector as it is stored
 abbrev to-start : tie.After-append-counted → tie.Start
-to-start c = c .before .before .before .before .before .before .before .before .before .before .before
+to-start c = c .before .before .before .before .before .before .before .before .before .before .before .before
 
 stored : (c : tie.After-append-counted) → let a = to-start c .args in
-    MadeAppends (a .known .geometry) (a .budget) (c .append-counted .result) (storeIf (isSet (a .known .here) (drive (to-start c))) (append (drive (to-start c)) (dataZone (a .known .zone)) (content (to-start c) (a .a)))) (now (a .sectors)) (now (a .written)) (c .append-counted .last .0) (c .append-counted .last .1 .0)
+    MadeAppends (a .known .to) (a .budget) (c .append-counted .result) (storeIf (isSet (a .known .here) (drive (to-start c))) (append (drive (to-start c)) (dataZone (a .known .zone)) (content (to-start c) (a .a)))) (now (a .sectors)) (now (a .written)) (c .append-counted .last .0) (c .append-counted .last .1 .0)
 stored c =
     let s = to-start c in
     let a = s .args in
@@ -67,13 +68,13 @@ stored c =
     let e : from + g .sector - from ≡ g .sector = omega arith in
     let q : take (from + g .sector - from) (drop from (now (a .buffer))) ≡ content s (a .a) =
     ap (λ (n : ℕ). take n (drop from (now (a .buffer)))) e ∙ sym (content-new (a .known) (readDevice g (now (a .sectors)) (now (a .pointers))) (now (a .buffer)) (a .a) (s .pre .1 .1)) in
-    appended-as g (a .budget) (f .result) (isSet (a .known .here) (drive s)) (drive s) (dataZone (a .known .zone)) (take (from + g .sector - from) (drop from (now (a .buffer)))) (content s (a .a)) (now (a .sectors)) (now (a .written)) (f .last .0) (f .last .1 .0) q
-    (subst (λ (d : ℕ). MadeAppends g (a .budget) (f .result) (storeIf (isSet (a .known .here) d) (append d (dataZone (a .known .zone)) (take (from + g .sector - from) (drop from (now (a .buffer)))))) (now (a .sectors)) (now (a .written)) (f .last .0) (f .last .1 .0)) (c .before .before .before .before .drive-of .ensures .0) (f .ensures))
+    appended-as (a .known .to) (a .budget) (f .result) (isSet (a .known .here) (drive s)) (drive s) (dataZone (a .known .zone)) (take (from + g .sector - from) (drop from (now (a .buffer)))) (content s (a .a)) (now (a .sectors)) (now (a .written)) (f .last .0) (f .last .1 .0) q
+    (subst (λ (d : ℕ). MadeAppends (a .known .to) (a .budget) (f .result) (storeIf (isSet (a .known .here) d) (append d (dataZone (a .known .zone)) (take (from + g .sector - from) (drop from (now (a .buffer)))))) (now (a .sectors)) (now (a .written)) (f .last .0) (f .last .1 .0)) (c .before .before .before .before .drive-of .ensures .0) (f .ensures))
 
 add-if1 : tie.Need-add-if1
 add-if1 c =
     let k = c .stripe-sectors in
-    omega (arith, mod-lt (c .before .before .before .before .before .before .before .before .before .before .before .before .before .before .before .before .args .a) (k .ensures .1), k .ensures .2)
+    omega (arith, mod-lt (c .before .before .before .before .before .before .before .before .before .before .before .before .before .before .before .before .before .args .a) (k .ensures .1), k .ensures .2)
 
 returns : tie.Need-returns
 returns c =
@@ -86,7 +87,7 @@ returns c =
 
 parity-drive-requires : tie.Need-parity-drive-requires
 parity-drive-requires c κs =
-    let s = c .before .before .before .before .before .before .before .before .before .before .before .before .before .before .before .before .before in
+    let s = c .before .before .before .before .before .before .before .before .before .before .before .before .before .before .before .before .before .before in
     let g = s .args .known .geometry in
     let w = s .pre .1 .0 in
     let k = c .before .stripe-sectors in
@@ -104,18 +105,18 @@ kept c =
     (new-in (a .known) (s .pre .0) (now (a .sectors)) (now (a .written)) (now (a .pointers)) (now (a .buffer)) (s .pre .1 .0) (a .a) (s .pre .1 .1) (s .pre .1 .2) (isSet (a .known .here) (drive s))) (stored c)
 
 -- the stripe and its parity drive, as they are computed
-stripe-is : (c : tie.Else1) → c .before .before .before .before .before .before .before .before .before .before .before .before .before .before .before .before .before .args .a / c .before .stripe-sectors .result ≡ stripe (c .before .before .before .before .before .before .before .before .before .before .before .before .before .before .before .before .before)
+stripe-is : (c : tie.Else1) → c .before .before .before .before .before .before .before .before .before .before .before .before .before .before .before .before .before .before .args .a / c .before .stripe-sectors .result ≡ stripe (c .before .before .before .before .before .before .before .before .before .before .before .before .before .before .before .before .before .before)
 stripe-is c =
-    let a = c .before .before .before .before .before .before .before .before .before .before .before .before .before .before .before .before .before .args in
+    let a = c .before .before .before .before .before .before .before .before .before .before .before .before .before .before .before .before .before .before .args in
     stripe-quotient (a .known .geometry .drives) (a .known .geometry .unit) (a .a) (c .before .stripe-sectors .result) (c .before .stripe-sectors .ensures .0)
 
-parity-is : (c : tie.After-parity-drive) → c .parity-drive .result ≡ parity (c .before .before .before .before .before .before .before .before .before .before .before .before .before .before .before .before .before .before)
-parity-is c = let s = c .before .before .before .before .before .before .before .before .before .before .before .before .before .before .before .before .before .before in c .parity-drive .ensures .0 ∙ ap (parityDrive (s .args .known .geometry .drives) (s .args .known .zone)) (stripe-is (c .before))
+parity-is : (c : tie.After-parity-drive) → c .parity-drive .result ≡ parity (c .before .before .before .before .before .before .before .before .before .before .before .before .before .before .before .before .before .before .before)
+parity-is c = let s = c .before .before .before .before .before .before .before .before .before .before .before .before .before .before .before .before .before .before .before in c .parity-drive .ensures .0 ∙ ap (parityDrive (s .args .known .geometry .drives) (s .args .known .zone)) (stripe-is (c .before))
 
 -- the address is its stripe's last
-last : (c : tie.Else1) → let s = c .before .before .before .before .before .before .before .before .before .before .before .before .before .before .before .before .before in suc (s .args .a % stripeSectors (s .args .known .geometry)) ≡ stripeSectors (s .args .known .geometry)
+last : (c : tie.Else1) → let s = c .before .before .before .before .before .before .before .before .before .before .before .before .before .before .before .before .before .before in suc (s .args .a % stripeSectors (s .args .known .geometry)) ≡ stripeSectors (s .args .known .geometry)
 last c =
-    let s = c .before .before .before .before .before .before .before .before .before .before .before .before .before .before .before .before .before in
+    let s = c .before .before .before .before .before .before .before .before .before .before .before .before .before .before .before .before .before .before in
     let k = c .before .stripe-sectors in
     let m : s .args .a % k .result < k .result = mod-lt (s .args .a) (k .ensures .1) in
     let e : suc (s .args .a % k .result) ≡ k .result = omega (arith, c .if1 .left) in
@@ -133,7 +134,7 @@ append-rows-requires c κs =
     let ws = f .append-counted .last .1 .0 in
     let n = d .before .stripe-sectors .result in
     let below = parity-drive-below (g .drives) (g .unit) (a .known .zone) (omega (arith, s .pre .0 .drives-least)) (s .pre .0 .unit-least) (stripe s) in
-    let ready = writing-rows (a .known) (s .pre .0) xs ws (now (a .pointers)) (now (a .buffer)) (kept f .0) (stripe s) (dataZone (a .known .zone)) (stripe-reached (a .known) (s .pre .0) (now (a .sectors)) (now (a .written)) (now (a .pointers)) (now (a .buffer)) (s .pre .1 .0) (a .a) (s .pre .1 .1)) (omega (arith, s .pre .1 .0 .zone-in)) below in (
+    let ready = writing-rows (a .known) (s .pre .0) xs ws (now (a .pointers)) (now (a .buffer)) (kept f .0) (stripe s) (dataZone (a .known .zone)) (stripe-reached (a .known) (s .pre .0) (now (a .sectors)) (now (a .written)) (now (a .pointers)) (now (a .buffer)) (s .pre .1 .0) (a .a) (s .pre .1 .1)) (omega (arith, s .pre .1 .0 .zone-in)) (data-not-spare (a .known .zone)) below in (
       s .pre .0,
       (
         subst (λ (x : ℕ). RowsReady (a .known) (record { drive = x; zone = dataZone (a .known .zone); present = isSet (a .known .here) x }) xs ws (now (a .pointers)) (now (a .buffer)) (a .a / n)) (sym (parity-is p))
@@ -158,17 +159,17 @@ returns-2 c =
     let g = a .known .geometry in
     let z = dataZone (a .known .zone) in
     let x = f .append-counted in
-    let rows : ℕ → ℕ → Device → Type 0 = λ q t v. MadeAppends g (x .result) (r .result) (rowsIf (isSet (a .known .here) q) q z (rowXorBelow (g .drives) (g .unit) (contentOf (a .known) v (now (a .buffer))) t (a .known .end)) 0 (g .unit)) (x .last .0) (x .last .1 .0) (r .last .0) (r .last .1 .0) in
+    let rows : ℕ → ℕ → Device → Type 0 = λ q t v. MadeAppends (a .known .to) (x .result) (r .result) (rowsIf (isSet (a .known .here) q) q z (rowXorBelow (g .drives) (g .unit) (contentOf (a .known) v (now (a .buffer))) t (a .known .end)) 0 (g .unit)) (x .last .0) (x .last .1 .0) (r .last .0) (r .last .1 .0) in
     let made : rows (parity s) (stripe s) (readDevice g (now (a .sectors)) (now (a .pointers))) =
     subst (λ (v : Device). rows (parity s) (stripe s) v) (kept f .1) (subst (λ (t : ℕ). rows (parity s) t (readDevice g (x .last .0) (now (a .pointers)))) (stripe-is d) (subst (λ (q : ℕ). rows q (a .a / d .before .stripe-sectors .result) (readDevice g (x .last .0) (now (a .pointers)))) (parity-is p) (r .ensures))) in
     rw (sector-last g (s .pre .0) (isSet (a .known .here)) (a .known .zone) (content s) (a .a) (a .known .end) (last d) (s .pre .1 .2))
-    (appends-append g (a .budget) (x .result) (r .result) (storeIf (isSet (a .known .here) (drive s)) (append (drive s) z (content s (a .a)))) (rowsIf (isSet (a .known .here) (parity s)) (parity s) z (rowXorBelow (g .drives) (g .unit) (content s) (stripe s) (a .known .end)) 0 (g .unit))
+    (appends-append (a .known .to) (a .budget) (x .result) (r .result) (storeIf (isSet (a .known .here) (drive s)) (append (drive s) z (content s (a .a)))) (rowsIf (isSet (a .known .here) (parity s)) (parity s) z (rowXorBelow (g .drives) (g .unit) (content s) (stripe s) (a .known .end)) 0 (g .unit))
     (now (a .sectors)) (now (a .written)) (x .last .0) (x .last .1 .0) (r .last .0) (r .last .1 .0) (stored f) made)
 
 pub write-sector-spec : {M : Type 1} → statement M
 write-sector-spec =
     tie.close
-    (tie.spec (λ c. search needs) (λ c κs. search needs) (λ c. search needs) (λ c. omega (arith, fits (c .before .before .before .before .before .before .before))) (λ c. omega (arith, fits (c .before .before .before .before .before .before .before)))
-    (λ c. search needs) (λ c. search needs) (λ c. search needs) (λ c. fits (c .before .before .before .before .before .before .before .before .before)) append-counted-requires (λ c κs. search needs) (λ c. search needs) add-if1
+    (tie.spec (λ c. search needs) (λ c κs. search needs) (λ c. search needs) (λ c. omega (arith, fits (c .before .before .before .before .before .before .before .before))) (λ c. omega (arith, fits (c .before .before .before .before .before .before .before .before)))
+    (λ c. search needs) (λ c. search needs) (λ c. search needs) (λ c. fits (c .before .before .before .before .before .before .before .before .before .before)) append-counted-requires (λ c κs. search needs) (λ c. search needs) add-if1
     (λ c. search needs) (λ c. search needs) returns (λ c. search needs) parity-drive-requires (λ c. search needs) (λ c. search needs) append-rows-requires
     (λ c. search needs) (λ c. search needs) returns-2)

@@ -1,0 +1,45 @@
+-- WHAT IS PROMISED OF GEOMETRIES WHOSE LOGS LEAVE ROOM, beyond the claim (Claim.antt): no drive fills up any more. Where the zones are so long that a log made anew always
+-- has the room that a call asks for (volume's laws/RoomAfter says how long), no mount is refused, and no reset and no write by 14, log full, at any point of any
+-- history, as long as no log of a drive that is not lost has the last generation.
+use mathlib.Core.Path.{_≡_}
+use mathlib.Core.Logic.{_≢_}
+use mathlib.Core.Bool.{Bool, true}
+use Prim.Native.Nat.{ℕ, _^_, _≤_, _<_}
+use mathlib.Core.List.{List}
+use Rattle.tables.specs.declared.Geometry.{Geometry}
+use Rattle.tables.specs.laws.Drives.{presentBut}
+use Rattle.tables.specs.meaning.Device.{Device}
+use Rattle.tables.specs.meaning.Tables.{deviceOf}
+use Rattle.logs.specs.meaning.Entry.{wornGeneration}
+use Rattle.volume.specs.declared.Answer.the-variants.{Finished, Refused}
+use Rattle.volume.specs.meaning.Roles.{roles, claimOfKind}
+use Rattle.volume.specs.meaning.Refusals.{TableLengths}
+use Rattle.volume.specs.laws.RoomAfter.{RoomyGeneral, RoomyParity}
+use Rattle.promise.specs.meaning.Claim.{Volume, mounts, writes, resets, formats, System, NamesAll, Event, Dutiful, start, ready}
+use Rattle.promise.specs.meaning.OnDevice.{onDevice}
+use Rattle.promise.specs.meaning.OnTables.{onTables}
+use Rattle.promise.specs.meaning.Emptied.{AtEveryPoint}
+
+-- no log of a drive but x has the last generation (a log's claim is its generation plus 1)
+abbrev pub BeforeLast : Geometry → ℕ → Device → Type 0
+BeforeLast g x v = (par : Bool) (d : ℕ) → presentBut g x d ≡ true → claimOfKind par (roles g v d) ≤ wornGeneration
+
+-- ---- at a point of a history
+pub record NeverFull (g : Geometry) (vol : Volume) (s : System vol) : Type 0 where
+  pub mount-accepted : (named : vol .Names) → NamesAll g vol s named → (stop n : ℕ) → vol .call mounts named (s .state) stop (s .memory) .answer ≢ Refused n
+  pub reset-not-full : (named : vol .Names) → NamesAll g vol s named → s .mode ≡ ready → (z stop : ℕ) → vol .call (resets z) named (s .state) stop (s .memory) .answer ≢ Refused 14
+  pub write-not-full : (named : vol .Names) → NamesAll g vol s named → s .mode ≡ ready → (a count : ℕ) (buffer : List ℕ) (stop : ℕ) → vol .call (writes a count buffer) named (s .state) stop (s .memory) .answer ≢ Refused 14
+
+-- of the histories of which the promise is claimed (seen: the device that a memory stands for)
+abbrev pub NeverFills : (g : Geometry) (vol : Volume) → (vol .Memory → Device) → Type 0
+NeverFills g vol seen = RoomyGeneral g → RoomyParity g → (named : vol .Names) (array : ℕ) (old : vol .State) (stop : ℕ) (m : vol .Memory) → array < 256 ^ 8
+    → let r = vol .call (formats array) named old stop m in
+    r .answer ≡ Finished → (es : List (Event vol)) → Dutiful g vol (start g vol named r) es
+    → AtEveryPoint g vol (λ s. BeforeLast g (s .lost) (seen (s .memory)) → NeverFull g vol s) (start g vol named r) es
+
+-- THE CLAIMS, of the rules' calls and of the code's
+abbrev pub RoomyClaim : Type 0
+RoomyClaim = (g : Geometry) (t : TableLengths) → NeverFills g (onDevice g t) (λ v. v)
+
+abbrev pub RoomyTablesClaim : Type 0
+RoomyTablesClaim = (g : Geometry) → NeverFills g (onTables g) (deviceOf g)

@@ -1,0 +1,11 @@
+pub mod ClaimsOfLogs
+pub mod FormatRoles
+pub mod Kept
+pub mod MountReads
+pub mod Ordinary
+pub mod OrdinaryCalls
+pub mod ReadsSectors
+pub mod Roled
+pub mod RoledCalls
+pub mod SamePlaces
+pub mod Spares

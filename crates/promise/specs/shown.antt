@@ -1,0 +1,7 @@
+pub mod BehindFlush
+pub mod BehindLooks
+pub mod EmptyingLooks
+pub mod EveryPoint
+pub mod MountLooks
+pub mod MountParityLooks
+pub mod RoomyCalls

@@ -1,0 +1,162 @@
+-- NO DRIVE FILLS UP in a geometry whose logs always have room after copying (volume's RoomAfter), as long as no log of a present drive has the last generation: no mount
+-- is refused, and no reset and no write by 14, at any point of any history (meaning/Roomy.antt). A reset and a write find the spares blank (BlankAtRest).
+use mathlib.Core.Path.{_≡_, refl, sym, ap, _∙_}
+use mathlib.Core.Logic.{_≢_, _⊎_}
+use mathlib.Core.Bool.{Bool, true, false, _&&_, _||_, not, true≢false}
+use Prim.Native.Nat.{ℕ, _+_, _^_, _≤_, _<_}
+use native.Mathlib.Omega.{arith}
+use mathlib.Core.List.{List, []}
+use lib.ListN.{length, take}
+use lib.Dec.{ltb, eqb}
+use borrow.Author.Tests.{le-ltb}
+use Rattle.tables.specs.declared.Geometry.{Geometry}
+use Rattle.tables.specs.meaning.Basics.{pick}
+use Rattle.tables.specs.meaning.Geometry.{Valid}
+use Rattle.tables.specs.meaning.GeometryTest.{isValid}
+use Rattle.tables.specs.laws.GeometryTest.{valid-if-test}
+use Rattle.tables.specs.laws.Below.{none-any-below, any-below-false}
+use Rattle.tables.specs.laws.Drives.{presentBut}
+use Rattle.tables.specs.meaning.Device.{Device, Store, applyAll}
+use Rattle.logs.specs.meaning.Entry.{spareZone, wornGeneration}
+use Rattle.logs.specs.laws.Entry.{worn-is}
+use Rattle.tables.specs.meaning.Drives.{noDrive}
+use Rattle.volume.specs.meaning.Calls.{formatStores}
+use Rattle.volume.specs.laws.Firm.{firm-roles}
+use Rattle.promise.specs.roles.FormatRoles.{format-standing}
+use Rattle.volume.specs.declared.Answer.the-variants.{Finished, Unfinished, Refused}
+use Rattle.volume.specs.meaning.State.{StateView, pointerIn}
+use Rattle.volume.specs.meaning.Content.{insideStripe, parityDriveAt}
+use Rattle.volume.specs.meaning.Rules.{isPresent, lostDrive, showing}
+use Rattle.volume.specs.meaning.Roles.{Roles, roles, byRoles, claimOfKind, lacksKind}
+use Rattle.volume.specs.meaning.Emptying.{InForce, byLook, byState, spareWritten, reserve, mountGeneralLimit, resetLimit, emptiedFor, emptiedForWrite}
+use Rattle.volume.specs.meaning.Refusals.{Verdict, accept, TableLengths, firstRefusal, tablesFit, badPointers, kindLacks, badLabels, badLogs, twoLost, zoneOf, mountFull, resetFull, writeFull, mountRows, resetRows, writeRows}
+use Rattle.volume.specs.meaning.Answers.{CallResult, storing, mountCall, resetCall, writeCall}
+use Rattle.volume.specs.laws.Refusals.{passed, conditionOfRow, refusalOrder}
+use Rattle.volume.specs.laws.LeastRefusal.{first-least}
+use Rattle.volume.specs.laws.RoomAfter.{RoomyGeneral, RoomyParity, cannotEmpty, mount-full-is, reset-full-is, write-full-is}
+use Rattle.promise.specs.meaning.Claim.{System, NamesAll, mounts, writes, resets, ready, allBut}
+use Rattle.promise.specs.meaning.OnDevice.{onDevice}
+use Rattle.promise.specs.meaning.Roomy.{BeforeLast, NeverFull, RoomyClaim}
+use Rattle.promise.specs.device.Looks.{LookFine}
+use Rattle.promise.specs.device.AcceptedCalls.{two-same, pointers-same, storing-refused}
+use Rattle.promise.specs.device.ClaimEvents.{fine, drives-of-call, drives-of-look}
+use Rattle.promise.specs.shown.EveryPoint.{Known, at-every-point}
+
+and-false : (b : Bool) → b && false ≡ false
+and-false true = refl
+and-false false = refl
+
+not-refused : (v : Verdict) (xs : List Store) (new old : StateView) (stop : ℕ) (m : Device) (n : ℕ) → v ≡ accept → storing v xs new old stop m .answer ≢ Refused n
+not-refused v xs new old stop m n p = rw p (λ e. go (ltb stop (length xs)) e)
+  where
+    go : (b : Bool) → pick {A = CallResult Device StateView} b (record { answer = Unfinished; memory = applyAll (take stop xs) m; state = old }) (record { answer = Finished; memory = applyAll xs m; state = new }) .answer ≡ Refused n → ⊥
+    go true e = let z : _≡_ {A = ℕ} 0 1 = cc in omega arith
+    go false e = let z : _≡_ {A = ℕ} 0 1 = cc in omega arith
+
+or-false : (a b : Bool) → a ≡ false → b ≡ false → a || b ≡ false
+or-false a b p q = rw (p, q) refl
+
+module _ (g : Geometry) (present : ℕ → Bool) (r : ℕ → Roles) (f : InForce) (w : Device) (kinds : kindLacks g present r ≡ false) (young : (par : Bool) (d : ℕ) → present d ≡ true → claimOfKind par (r d) ≤ wornGeneration) where
+  can-empty : (par : Bool) (d : ℕ) → d < g .drives → present d ≡ true → cannotEmpty par r d ≡ false
+  unfolding kindLacks
+  can-empty par d hd a =
+      let k : present d && lacksKind (r d) ≡ false = any-below-false (λ e. present e && lacksKind (r e)) (g .drives) d kinds hd in
+      let q : lacksKind (r d) ≡ false = rw a at k in
+      rw (q, le-ltb wornGeneration (claimOfKind par (r d)) (young par d a)) refl
+
+  mount-not-full : RoomyGeneral g → RoomyParity g → mountFull g present r f w ≡ false
+  unfolding emptiedFor
+  mount-not-full general parity = mount-full-is g present r f w general parity ∙ none-any-below _ (g .drives) (λ d hd. go d hd (present d) refl)
+    where
+      go : (d : ℕ) → d < g .drives → (b : Bool) → present d ≡ b → emptiedFor g present false r w (mountGeneralLimit g) d && cannotEmpty false r d || (emptiedFor g present true r w (reserve g) d && cannotEmpty true r d) ≡ false
+      go d hd true a = rw (can-empty false d hd a, can-empty true d hd a, and-false (emptiedFor g present false r w (mountGeneralLimit g) d), and-false (emptiedFor g present true r w (reserve g) d)) refl
+      go d hd false a = rw a refl
+
+  -- outside a mount, with blank spares
+  module _ (blank : (d : ℕ) → present d ≡ true → w d spareZone .sectors ≡ []) where
+    none-written : (d : ℕ) → present d ≡ true → spareWritten w d ≡ false
+    none-written d a = rw (blank d a) refl
+
+    -- of a drive that is asked for room (b: whether its log lacks it)
+    not-stuck : (par : Bool) (d : ℕ) → d < g .drives → present d ≡ true → (b : Bool) → b && (cannotEmpty par r d || spareWritten w d) ≡ false
+    not-stuck par d hd a b = rw (or-false (cannotEmpty par r d) (spareWritten w d) (can-empty par d hd a) (none-written d a)) (and-false b)
+
+    reset-not-full : RoomyGeneral g → resetFull g present r f w ≡ false
+    unfolding emptiedFor
+    reset-not-full general = reset-full-is g present r f w general ∙ none-any-below _ (g .drives) (λ d hd. go d hd (present d) refl)
+      where
+        go : (d : ℕ) → d < g .drives → (b : Bool) → present d ≡ b → emptiedFor g present false r w (resetLimit g) d && (cannotEmpty false r d || spareWritten w d) ≡ false
+        go d hd true a = not-stuck false d hd a (emptiedFor g present false r w (resetLimit g) d)
+        go d hd false a = rw a refl
+
+    write-not-full : RoomyParity g → (z end : ℕ) → writeFull g present r f w z end ≡ false
+    unfolding emptiedForWrite emptiedFor
+    write-not-full parity z end = write-full-is g present r f w parity z end ∙ none-any-below _ (g .drives) (λ d hd. go d hd (present d) refl)
+      where
+        go : (d : ℕ) → d < g .drives → (b : Bool) → present d ≡ b → emptiedForWrite g present r w z end d && (cannotEmpty true r d || spareWritten w d) ≡ false
+        go d hd true a = not-stuck true d hd a (emptiedForWrite g present r w z end d)
+        go d hd false a = rw (a, and-false (insideStripe g end && eqb d (parityDriveAt g z end))) refl
+
+-- ---- at a point of a history
+module _ (g : Geometry) (t : TableLengths) (wb : isValid g ≡ true) (lf : tablesFit g t ≡ true) (s : System (onDevice g t)) (k : Known g t s) (young : BeforeLast g (s .lost) (s .memory)) (named : ℕ → Bool) (names : NamesAll g (onDevice g t) s named) where
+  ok : Valid g
+  ok = valid-if-test g wb
+
+  abbrev here : ℕ → Bool
+  here = presentBut g (s .lost)
+
+  abbrev u : Device
+  u = byRoles g (s .memory)
+
+  looked : LookFine g (s .lost) (s .memory) (s .ledger)
+  looked = fine g ok t s (k .ok)
+
+  mount-law : RoomyGeneral g → RoomyParity g → (stop n : ℕ) → onDevice g t .call mounts named (s .state) stop (s .memory) .answer ≢ Refused n
+  unfolding mountRows
+  mount-law general parity stop n =
+      let v = s .memory in
+      let seen = drives-of-look g ok t s (k .ok) named names in
+      let f = byLook (showing g (isPresent g named u) (lostDrive g named u) u) in
+      let r3 : badPointers g named v ≡ false = pointers-same g named (allBut (s .lost)) (names .drives) v ∙ looked .pointers in
+      let r4 : twoLost g named u ≡ false = two-same g named (allBut (s .lost)) (names .drives) u ∙ looked .few-lost in
+      let r5 : kindLacks g (isPresent g named u) (roles g v) || badLabels g (isPresent g named u) u ≡ false = rw (seen, looked .kinds, looked .labels) refl in
+      let r6 : badLogs g (isPresent g named u) u ≡ false = rw seen (looked .logs) in
+      let r14 : mountFull g (isPresent g named u) (roles g v) f u ≡ false = rw seen (mount-not-full g here (roles g v) (byLook (showing g here (lostDrive g named u) u)) u (looked .kinds) young general parity) in
+      let c = mountCall g t named v in
+      not-refused (firstRefusal (c .refusals)) (c .stores) (c .state) (s .state) stop v n (passed (c .refusals) (ap not wb, (ap not lf, (r3, (r4, (r5, (r6, (r14, tt))))))))
+
+  reset-law : RoomyGeneral g → s .mode ≡ ready → (z stop : ℕ) → onDevice g t .call (resets z) named (s .state) stop (s .memory) .answer ≢ Refused 14
+  unfolding resetRows
+  reset-law general m z stop e =
+      let c = resetCall g t named (s .state) z (s .memory) in
+      let r14 : conditionOfRow 14 (c .refusals) ≡ false = rw (drives-of-call g ok t s (k .ok) named names m) (reset-not-full g here (roles g (s .memory)) (byState g here u (s .state)) u (looked .kinds) young (k .blank m) general) in
+      true≢false (sym (first-least refusalOrder (c .refusals) 14 refl refl (storing-refused (firstRefusal (c .refusals)) (c .stores) (c .state) (s .state) stop (s .memory) 14 e) .applies) ∙ r14)
+
+  write-law : RoomyParity g → s .mode ≡ ready → (a count : ℕ) (buffer : List ℕ) (stop : ℕ) → onDevice g t .call (writes a count buffer) named (s .state) stop (s .memory) .answer ≢ Refused 14
+  unfolding writeRows
+  write-law parity m a count buffer stop e =
+      let c = writeCall g t named (s .state) a count buffer (s .memory) in
+      let r14 : conditionOfRow 14 (c .refusals) ≡ false = rw (drives-of-call g ok t s (k .ok) named names m)
+      (write-not-full g here (roles g (s .memory)) (byState g here u (s .state)) u (looked .kinds) young (k .blank m) parity (zoneOf g a) (pointerIn (s .state .condition (zoneOf g a)) + count)) in
+      true≢false (sym (first-least refusalOrder (c .refusals) 14 refl refl (storing-refused (firstRefusal (c .refusals)) (c .stores) (c .state) (s .state) stop (s .memory) 14 e) .applies) ∙ r14)
+
+pub never-full : (g : Geometry) (t : TableLengths) → RoomyGeneral g → RoomyParity g → isValid g ≡ true → tablesFit g t ≡ true → (s : System (onDevice g t)) → Known g t s → BeforeLast g (s .lost) (s .memory) → NeverFull g (onDevice g t) s
+never-full g t general parity wb lf s k young = record {
+  mount-accepted = λ named names. mount-law g t wb lf s k young named names general parity;
+  reset-not-full = λ named names. reset-law g t wb lf s k young named names general;
+  write-not-full = λ named names. write-law g t wb lf s k young named names parity;
+}
+
+-- THE THEOREM
+pub roomy-never-full : RoomyClaim
+roomy-never-full g t general parity = at-every-point g t (λ s. BeforeLast g (s .lost) (s .memory) → NeverFull g (onDevice g t) s) (never-full g t general parity)
+
+-- its hypothesis holds at the start of every history: a format leaves all logs with generation 0
+pub format-before-last : (g : Geometry) → Valid g → (x a : ℕ) (v : Device) → (x ≡ noDrive) ⊎ (x < g .drives) → a < 256 ^ 8 → BeforeLast g x (applyAll (formatStores g (presentBut g x) x a) v)
+format-before-last g ok x a v lost ha par d h =
+    let s = format-standing g ok x a v lost ha in
+    rw (firm-roles g (applyAll (formatStores g (presentBut g x) x a) v) d (s .roles d) (s .firm d h)) (go par (s .roles d) (s .general-claim d h .0) (s .parity-claim d h .0))
+  where
+    go : (b : Bool) (r : Roles) → r .generalClaim ≡ 1 → r .parityClaim ≡ 1 → pick b (r .parityClaim) (r .generalClaim) ≤ wornGeneration
+    go true r p q = omega (arith, q, worn-is)
+    go false r p q = omega (arith, p, worn-is)

@@ -1,0 +1,17 @@
+pub mod Carried
+pub mod CopiesKnown
+pub mod Elsewhere
+pub mod EmptiedKeeps
+pub mod EmptyingStores
+pub mod Emptyings
+pub mod FoundEntries
+pub mod GeneralCopies
+pub mod MadeEntries
+pub mod Moving
+pub mod ParityCopies
+pub mod ParityEmptyings
+pub mod ParityReady
+pub mod ParityTurns
+pub mod RoomMoves
+pub mod SameCopies
+pub mod Shape

@@ -1,0 +1,132 @@
+-- A look by what its survey found (src/looking.rt): the geometry h that places the logs, the drives present, the pointers ps. By them its refusals, and
+-- what it shows, are those of the device by its roles. A mount begins so too.
+use mathlib.Core.Path.{_≡_, sym, ap, ap₂, subst, _∙_}
+use mathlib.Core.Bool.{Bool, true, _||_, not}
+use Prim.Native.Nat.{ℕ, _≤_, _<_}
+use native.Mathlib.Omega.{arith}
+use mathlib.Core.List.{List, [], _∷_}
+use lib.ListN.{length, getD}
+use lib.Dec.{ltb}
+use borrow.Author.Tests.{eq-eqb}
+use Rattle.tables.specs.declared.Geometry.{Geometry}
+use Rattle.tables.specs.meaning.Below.{countBelow}
+use Rattle.tables.specs.meaning.Drives.{findBelow}
+use Rattle.tables.specs.meaning.Geometry.{physicalZones}
+use Rattle.tables.specs.meaning.Device.{Device}
+use Rattle.tables.specs.meaning.Tables.{tablesOf, deviceOf, cell}
+use Rattle.tables.specs.laws.TablesFrame.{pointers-good}
+use Rattle.volume.specs.declared.State.{State}
+use Rattle.volume.specs.declared.Look.{Look}
+use Rattle.volume.specs.declared.Outcome.{Outcome}
+use Rattle.volume.specs.declared.Answer.the-variants.{Finished}
+use Rattle.volume.specs.declared.looking.Survey.{Survey}
+use Rattle.volume.specs.meaning.Rules.{Shown, showing, isPresent, lostDrive}
+use Rattle.volume.specs.meaning.Refusals.{firstRefusal, twoLost, kindLacks, badLabels, badLogs}
+use Rattle.volume.specs.meaning.Answers.{presentIn, lostDriveIn}
+use Rattle.volume.specs.meaning.Roles.{Roles, roles}
+use Rattle.volume.specs.meaning.CallContracts.{isSet, verdictNumber, rolesOf, seenIn, stateShown, lookVerdict, lookOn}
+use Rattle.volume.specs.laws.LogPlaces.{withLogs}
+use Rattle.volume.specs.laws.RulesUnread.{is-present-alike, lost-drive-alike, showing-alike}
+use Rattle.volume.specs.laws.CallsUnread.{two-lost-alike, bad-labels-alike, bad-logs-alike}
+use Rattle.volume.specs.looking.DrivesLost.{two-lost-is, lost-drive-is}
+use Rattle.volume.specs.looking.HiddenLogs.{roles-durable}
+use Rattle.volume.specs.looking.Knowing.{readDevice}
+use Rattle.volume.specs.looking.SeenByRoles.{Seen, kindLacksOn, seen-geometry, seen-sized, seen-read, seen-good, seen-lacks}
+use Rattle.volume.specs.looking.Looking.{shapeNumber, shaped, logNumber, lookOf, recordsOf, state-of-look, present-read, lost-drive-read, two-lost-read, labels-read, logs-read, shown-read, look-late, present-named, Lookable}
+
+pub record Surveyed (g : Geometry) (named : List Bool) (xs ws : List ℕ) (v : Survey) (ps : List ℕ) : Type 0 where
+  pub seen : Seen g xs ws (v .places) ps
+  pub present : isSet (v .here) ≡ isPresent (v .places .geometry) (isSet named) (readDevice (v .places .geometry) xs ps)
+  pub refused : v .refusal ≡ logNumber (v .places) (v .here) (readDevice (v .places .geometry) xs ps)
+
+-- the state shown does not tell where the logs lie
+pub state-alike : (g h : Geometry) → h ≡ withLogs g (h .logs) → (k : Shown) → stateShown h k ≡ stateShown g k
+unfolding stateShown
+state-alike g h e k = ap (λ (q : Geometry). stateShown q k) e
+
+-- rows 4 to 6 by what each asks
+abbrev rowsBy : Bool → Bool → Bool → Bool → ℕ
+rowsBy two kind labels logs = verdictNumber (firstRefusal ((4, two) ∷ (5, kind || labels) ∷ (6, logs) ∷ []))
+
+module _ (g : Geometry) (named : List Bool) (xs ws : List ℕ) (v : Survey) (ps : List ℕ) (s : Surveyed g named xs ws v ps) (ds : List ℕ) where
+  -- ---- the rules, by the survey (h: the geometry; u: the tables by it)
+  abbrev h : Geometry
+  h = v .places .geometry
+
+  abbrev u : Device
+  u = readDevice (v .places .geometry) xs ps
+
+  -- the device by its roles
+  abbrev w : Device
+  w = seenIn g (tablesOf xs ws ds)
+
+  pub survey-present : isSet (v .here) ≡ presentIn g (isSet named) (deviceOf g (tablesOf xs ws ds))
+  survey-present = s .present ∙ sym (seen-read g xs ws (v .places) ps (s .seen) (λ (k : Geometry) (x : Device). isPresent k (isSet named) x) (λ n x. is-present-alike g n (isSet named) x) ds (present-read h xs ps ds (isSet named)))
+
+  pub survey-lost : findBelow (λ d. not (isSet (v .here) d)) (h .drives) ≡ lostDriveIn g (isSet named) (deviceOf g (tablesOf xs ws ds))
+  survey-lost =
+      lost-drive-is h named (v .here) u (s .present)
+      ∙ sym (seen-read g xs ws (v .places) ps (s .seen) (λ (k : Geometry) (x : Device). lostDrive k (isSet named) x) (λ n x. lost-drive-alike g n (isSet named) x) ds (lost-drive-read h xs ps ds (isSet named)))
+
+  -- what a rule of the present drives says
+  by-present : {A : Type 0} (rule : Geometry → (ℕ → Bool) → Device → A) → ((n : ℕ) (x : Device) → rule (withLogs g n) (isSet (v .here)) x ≡ rule g (isSet (v .here)) x)
+      → rule h (isSet (v .here)) (deviceOf h (tablesOf xs ps ds)) ≡ rule h (isSet (v .here)) u
+      → rule h (isSet (v .here)) u ≡ rule g (isPresent g (isSet named) w) w
+  by-present rule alike durable =
+      sym (seen-read g xs ws (v .places) ps (s .seen) (λ (k : Geometry) (x : Device). rule k (isSet (v .here)) x) alike ds durable)
+      ∙ ap (λ (q : ℕ → Bool). rule g q w) survey-present
+
+  two-is : ltb 1 (countBelow (λ d. not (isSet (v .here) d)) (h .drives)) ≡ twoLost g (isSet named) w
+  two-is =
+      two-lost-is h named (v .here) u (s .present)
+      ∙ sym (seen-read g xs ws (v .places) ps (s .seen) (λ (k : Geometry) (x : Device). twoLost k (isSet named) x) (λ n x. two-lost-alike g n (isSet named) x) ds (two-lost-read h xs ps ds (isSet named)))
+
+  kind-is : kindLacksOn (v .places) (v .here) ≡ kindLacks g (isPresent g (isSet named) w) (rolesOf g (tablesOf xs ws ds))
+  kind-is =
+      seen-lacks g xs ws (v .places) ps (s .seen) (v .here)
+      ∙ ap₂ (λ (q : ℕ → Bool) (r : ℕ → Roles). kindLacks g q r) survey-present (sym (roles-durable g xs ws ds))
+
+  labels-are : badLabels h (isSet (v .here)) u ≡ badLabels g (isPresent g (isSet named) w) w
+  labels-are = by-present badLabels (λ n x. bad-labels-alike g n (isSet (v .here)) x) (labels-read h xs ps ds (isSet (v .here)))
+
+  logs-are : badLogs h (isSet (v .here)) u ≡ badLogs g (isPresent g (isSet named) w) w
+  logs-are = by-present badLogs (λ n x. bad-logs-alike g n (isSet (v .here)) x) (logs-read h xs ps ds (isSet (v .here)))
+
+  -- ---- THE REFUSAL is the look's, in tables of the right shape
+  pub survey-refusal : shapeNumber g named (length xs) ws ds ≡ 0 → v .refusal ≡ verdictNumber (lookVerdict g named (tablesOf xs ws ds))
+  unfolding logNumber
+  survey-refusal e = s .refused ∙ (λ i. rowsBy (two-is i) (kind-is i) (labels-are i) (logs-are i)) ∙ sym (look-late g named xs ws ds e)
+
+  -- what the deed needs
+  pub survey-lookable : shapeNumber g named (length xs) ws ds ≡ 0 → Lookable h (v .here) xs ps
+  survey-lookable e =
+      let (ok, a, b, c) = shaped g named (length xs) ws ds e in
+      let good : (d y : ℕ) → d < g .drives → isSet (v .here) d ≡ true → y < physicalZones g → getD ws (cell g d y) 0 ≤ g .capacity =
+      λ d y hd p hy. pointers-good g named ws ds d y c hd (present-named h (isSet named) u d (ap (λ (q : ℕ → Bool). q d) (sym (s .present)) ∙ p)) hy .0 in
+      let same = seen-geometry g xs ws (v .places) ps (s .seen) in
+      let drives-are : h .drives ≡ g .drives = ap (λ (k : Geometry). k .drives) same in
+      let zones-are : h .zones ≡ g .zones = ap (λ (k : Geometry). k .zones) same in
+      let capacity-is : h .capacity ≡ g .capacity = ap (λ (k : Geometry). k .capacity) same in
+      record {
+        sectors-long = seen-sized g xs ws (v .places) ps (s .seen) .sectors-long;
+        written-long = seen-sized g xs ws (v .places) ps (s .seen) .written-long;
+        pointers = λ d y hd p hy. subst (λ (n : ℕ). getD ps (cell h d y) 0 ≤ n) (sym capacity-is) (seen-good g xs ws (v .places) ps (s .seen) (v .here) good d y (omega (arith, hd, drives-are)) p (omega (arith, hy, zones-are)));
+      }
+
+  -- ---- WHAT IS SHOWN
+  pub survey-shown : showing h (isSet (v .here)) (findBelow (λ d. not (isSet (v .here) d)) (h .drives)) u ≡ showing g (presentIn g (isSet named) (deviceOf g (tablesOf xs ws ds))) (lostDriveIn g (isSet named) (deviceOf g (tablesOf xs ws ds))) w
+  survey-shown =
+      by-present (λ (k : Geometry) (q : ℕ → Bool) (x : Device). showing k q (findBelow (λ d. not (isSet (v .here) d)) (h .drives)) x) (λ n x. showing-alike g n (isSet (v .here)) (findBelow (λ d. not (isSet (v .here) d)) (h .drives)) x) (shown-read h xs ps ds (isSet (v .here)) (findBelow (λ d. not (isSet (v .here) d)) (h .drives)))
+      ∙ ap (λ (x : ℕ). showing g (isPresent g (isSet named) w) x w) survey-lost
+
+  -- the outcome (k: what the drives show)
+  pub survey-finished : (old : State) → shapeNumber g named (length xs) ws ds ≡ 0 → v .refusal ≡ 0
+      → (k : Look) → k ≡ lookOf h (showing h (isSet (v .here)) (findBelow (λ d. not (isSet (v .here) d)) (h .drives)) u)
+      → _≡_ {A = Outcome} (record { answer = Finished; state = record { lost = k .lost; zones = recordsOf h (k .zones) } }) (lookOn g named old (tablesOf xs ws ds))
+  unfolding lookOn
+  survey-finished old shape passed k q =
+      let shown = showing g (presentIn g (isSet named) (deviceOf g (tablesOf xs ws ds))) (lostDriveIn g (isSet named) (deviceOf g (tablesOf xs ws ds))) w in
+      let a : _≡_ {A = State} (record { lost = k .lost; zones = recordsOf h (k .zones) }) (stateShown g shown) =
+      ap (λ (l : Look). record { lost = l .lost; zones = recordsOf h (l .zones) }) q
+      ∙ state-of-look h (showing h (isSet (v .here)) (findBelow (λ d. not (isSet (v .here) d)) (h .drives)) u) ∙ ap (stateShown h) survey-shown ∙ state-alike g h (seen-geometry g xs ws (v .places) ps (s .seen)) shown in
+      rw (eq-eqb (verdictNumber (lookVerdict g named (tablesOf xs ws ds))) 0 (sym (survey-refusal shape) ∙ passed)) (ap (λ (x : State). record { answer = Finished; state = x }) a)

@@ -1,0 +1,264 @@
+-- Step 11 of a mount, after step 10: what it relies on, and that its stores are those of the rules; and with both the whole mount.
+use mathlib.Core.Path.{_≡_, refl, sym, ap, _∙_, fun-ext, subst}
+use mathlib.Core.Bool.{Bool, true, false, _&&_, not}
+use Prim.Native.Nat.{ℕ, zero, suc, _<_}
+use native.Mathlib.Omega.{arith}
+use mathlib.Core.List.{List, [], _∷_}
+use lib.ListN.{length}
+use lib.Dec.{eqb}
+use Rattle.tables.specs.declared.Geometry.{Geometry}
+use Rattle.tables.specs.meaning.Basics.{pick}
+use Rattle.tables.specs.meaning.Below.{eachBelow}
+use Rattle.tables.specs.meaning.Lists.{anyOf, concat, isNil}
+use Rattle.tables.specs.meaning.Geometry.{Valid, cells}
+use Rattle.tables.specs.meaning.Device.{Device, Store}
+use Rattle.tables.specs.meaning.Phases.{flushAll, onPresent}
+use Rattle.tables.specs.meaning.Through.{through}
+use Rattle.tables.specs.meaning.Tables.{Tables, deviceOf, cell}
+use Rattle.tables.specs.laws.Made.{Made}
+use Rattle.logs.specs.meaning.Entry.{parityZone, Entry}
+use Rattle.logs.specs.meaning.Heads.{endsAt}
+use Rattle.logs.specs.meaning.Walk.{sectorsOf}
+use Rattle.volume.specs.declared.Look.{Look}
+use Rattle.volume.specs.declared.roles.LogPlaces.{LogPlaces}
+use Rattle.volume.specs.declared.emptyings.Emptyings.{Emptyings}
+use Rattle.volume.specs.declared.mount_rooms.Plan.{Plan}
+use Rattle.volume.specs.meaning.Content.{insideStripe, parityDriveAt, entryAt}
+use Rattle.volume.specs.meaning.Calls.{appendAll}
+use Rattle.volume.specs.meaning.CallContracts.{isSet, seenIn, storesBefore, storesToParityLogs, mountStoresOn}
+use Rattle.volume.specs.meaning.Rules.{Shown, showing, parityEntries}
+use Rattle.volume.specs.meaning.Roles.{placedBy}
+use Rattle.volume.specs.meaning.Mount.{withFlush, entryStep, phasesOfEntries}
+use Rattle.volume.specs.laws.LogPlaces.{withLogs, withRoles, logsOf, valid-with-logs, OnDrives}
+use Rattle.volume.specs.laws.RulesUnread.{entries-alike}
+use Rattle.volume.specs.laws.CallsUnread.{entry-step-alike}
+use Rattle.volume.specs.laws.MountDepends.{entry-depends}
+use Rattle.volume.specs.laws.CarriedSteps.{concat-carried}
+use Rattle.volume.specs.looking.Knowing.{readDevice}
+use Rattle.volume.specs.looking.HiddenLogs.{hiddenLogs, hidden-all-long}
+use Rattle.volume.specs.emptying.Carried.{on-drives-append, made-by-roles}
+use Rattle.volume.specs.emptying.RoomMoves.{hidden-least}
+use Rattle.volume.specs.emptying.ParityTurns.{ParitiesReady}
+use Rattle.volume.specs.mounting.MountLook.{shownWith}
+use Rattle.volume.specs.mounting.MountValues.{shownAt, shownIn}
+use Rattle.volume.specs.mounting.MountRestoring.{below-kept}
+use Rattle.volume.specs.mounting.MountLastEntries.{Entering, entryDue, entryStoresBelow}
+use Rattle.volume.specs.mounting.RestoreAgrees.{entries-told}
+use Rattle.volume.specs.mounting.MountRooms.{lostAmong, generationsIn, pointersIn, placesAfter, Planned}
+use Rattle.volume.specs.mounting.MountBetween.{middlePlaces, Between, Before}
+use Rattle.volume.specs.mounting.MountOpened.{made-spent}
+use Rattle.volume.specs.mounting.MountJoined.{with-flush-on, entry-phases, parity-joined, mount-joined}
+use Rattle.volume.specs.mounting.MountEnds.{endPlaces, parityEmptyings, ParityStepMade, EndsReady, EndsMade}
+use Rattle.volume.specs.mounting.PlannedPlaces.{middleOf, middle-geometry, places-valid, middle-valid, middle-cells}
+use Rattle.volume.specs.mounting.ParityLogsMade.{role-read, endOf, end-proper, end-kinds, end-is, to-is, startsOf, parities-ready, parity-step-made}
+
+-- ---- the step's stores are on the drives of the geometry
+module _ (g : Geometry) where
+  each-on : (f : ℕ → List Store) (n : ℕ) → ((k : ℕ) → k < n → OnDrives g (f k)) → OnDrives g (eachBelow f n)
+  each-on f zero h = tt
+  each-on f (suc n) h = on-drives-append g (eachBelow f n) (f n) (each-on f n (λ k l. h k (omega arith))) (h n (omega arith))
+
+  appends-on : (d y : ℕ) (ss : List (List ℕ)) → d < g .drives → OnDrives g (appendAll d y ss)
+  appends-on d y [] h = tt
+  appends-on d y (s ∷ ss) h = (h, appends-on d y ss h)
+
+  pick-on : (b : Bool) (xs : List Store) → OnDrives g xs → OnDrives g (pick b xs [])
+  pick-on true xs h = h
+  pick-on false xs h = tt
+
+  entries-on : (s : Shown) (u : Device) → OnDrives g (entryStep g s u)
+  unfolding entryStep
+  entries-on s u = each-on _ (g .drives) (λ d hd. each-on _ (g .zones) (λ z hz.
+      let rows = sectorsOf g d true (entryAt g z (s .zone z .generation) (s .zone z .value) (s .zone z .pointer)) in
+      pick-on (insideStripe g (s .zone z .pointer) && (eqb d (parityDriveAt g z (s .zone z .pointer)) && not (anyOf (λ (e : Entry). endsAt g z (s .zone z .generation) (s .zone z .pointer) (e .head)) (parityEntries g u d))))
+      (appendAll d parityZone rows) (appends-on d parityZone rows hd)))
+
+-- ---- as the code makes them they are the step of the rules (v: the device as read where the logs lie by then)
+entries-by : (g : Geometry) (l m : ℕ) (k : Look) (value : ℕ → ℕ → List ℕ) (v : Device)
+    → entryStoresBelow (withLogs g l) k (shownWith k value) (parityEntries (withLogs g m) v) (g .drives) ≡ entryStep g (shownWith k value) v
+unfolding entryStep entryDue
+entries-by g l m k value v =
+    ap (λ (es : ℕ → List Entry). entryStoresBelow (withLogs g l) k (shownWith k value) es (g .drives)) (fun-ext λ d. entries-alike g m v d ∙ sym (entries-alike g l v d))
+    ∙ entry-step-alike g l (shownWith k value) v
+
+-- what the code's step has made, with the logs at the places m before step 10 and at e after it (ss: the pointers by which the entries are asked for)
+abbrev EntriesBy : Plan → List ℕ → ℕ → ℕ → Tables → Tables → LogPlaces → LogPlaces → List ℕ → Type 0
+EntriesBy p ps budget rest t u m e ss =
+    let shown = shownAt (m .geometry) (p .here) (p .look) (t .sectors) ps in
+    let entries = parityEntries (e .geometry) (readDevice (e .geometry) (t .sectors) ss) in
+    Made (e .geometry) budget rest (concat (withFlush (m .geometry) (isSet (p .here)) (entryStoresBelow (m .geometry) (p .look) shown entries (m .geometry .drives)))) t u
+
+module _ (g : Geometry) (t : Tables) (p : Plan) (start : List ℕ) (k : Planned g t p start) (ok : Valid g) (ps : List ℕ) (u : Tables) (b : Between g t p ps u)
+    (ss : List ℕ) (mid rest : ℕ) (v : Tables) (s : ParityStepMade (parityEmptyings p) (p .look) ps ss mid rest u v) where
+  abbrev a : ℕ → Bool
+  a = isSet (p .here)
+
+  abbrev h1 : Geometry
+  h1 = middlePlaces p .geometry
+
+  abbrev h2 : Geometry
+  h2 = endPlaces p .geometry
+
+  -- the pointers of the moment
+  abbrev endStarts : List ℕ
+  endStarts = hiddenLogs (endPlaces p) (v .written) (endPlaces p .geometry .drives)
+
+  -- WHAT STEP 11 RELIES ON
+  entering-after : Entering (middlePlaces p .geometry) (endPlaces p .geometry) (p .here) (p .look) ps endStarts (v .sectors) (v .written)
+  entering-after = record {
+    appends = record {
+      shape = record { drives-same = refl; sector-same = refl; unit-same = refl; zones-same = refl; capacity-same = refl };
+      sectors-long = s .sized .sectors-long;
+      written-long = s .sized .written-long;
+      within = b .restoring .logging .within;
+      behind = s .logs-behind;
+      known-below = λ z l. below-kept h1 (p .here) (p .look) ps (u .sectors) (v .sectors) z (s .sized .sectors-long) (s .device) (b .restoring .known-below z l);
+    };
+    starts-long = hidden-all-long (endPlaces p) (v .written) (h2 .drives) ∙ s .sized .written-long;
+    starts-behind = record { least = λ d y hd hy q. hidden-least (endPlaces p) (v .written) (h2 .drives) (cell h2 d y) };
+  }
+
+  -- ---- its stores
+  abbrev shown : Shown
+  shown = showing g a (lostAmong g (p .here)) (seenIn g t)
+
+  -- the look with its values, as they are read by then
+  abbrev look : Shown
+  look = shownAt h1 (p .here) (p .look) (v .sectors) ps
+
+  look-is : (z : ℕ) → z < g .zones → look .zone z ≡ shown .zone z
+  look-is z hz = ap (λ (w : Device). shownIn h1 (p .here) (p .look) w .zone z) (s .device) ∙ b .shown z hz
+
+  -- the device by the roles of the moment, as the code reads it and as the rules do
+  abbrev read : Device
+  read = readDevice h2 (v .sectors) endStarts
+
+  abbrev last : Device
+  last = through (placedBy (endOf g t p start k)) (deviceOf g v)
+
+  same-on : (d : ℕ) → a d ≡ true → (y : ℕ) → read d y .sectors ≡ last d y .sectors
+  same-on d h y =
+      let q = endOf g t p start k in
+      let long : length (v .written) ≡ cells g = s .sized .written-long ∙ ap cells (middle-geometry g t p start k) in
+      subst (λ (x : LogPlaces). readDevice (x .geometry) (v .sectors) (hiddenLogs x (v .written) (x .geometry .drives)) d y .sectors ≡ last d y .sectors) (sym (end-is g t p start k))
+      (role-read g (k .first) q (end-proper g t p start k) v long d y (end-kinds g t p start k d h))
+
+  abbrev codeStores : Geometry → Geometry → List Store
+  codeStores h to = entryStoresBelow h (p .look) look (parityEntries to read) (h .drives)
+
+  stores-are : onPresent a (codeStores h1 h2) ≡ onPresent a (entryStep g shown last)
+  stores-are =
+      let m = middleOf g t p start k in
+      let q = endOf g t p start k in
+      ap (λ (h : Geometry). onPresent a (codeStores h h2)) (middle-geometry g t p start k) ∙ ap (λ (h : Geometry). onPresent a (codeStores (withRoles g m) h)) (to-is g t p start k)
+      ∙ ap (onPresent a) (entries-by g (logsOf m (g .drives)) (logsOf q (g .drives)) (p .look) (λ z. look .zone z .value) read ∙ entries-told g look shown look-is read)
+      ∙ entry-depends g a read last same-on shown
+
+  -- STEP 11 IS MADE
+  entries-made : (end : ℕ) (w : Tables) → EntriesBy p ps rest end v w (middlePlaces p) (endPlaces p) endStarts
+      → Made g rest end (concat (phasesOfEntries g (isSet (p .here)) (lostAmong g (p .here)) (deviceOf g t) (deviceOf g v))) v w
+  entries-made end w m =
+      let q = endOf g t p start k in
+      let step = entryStep g shown last in
+      let flushed : ℕ → List Store → List (List Store) = λ n l. l ∷ pick (isNil l) [] (onPresent a (flushAll n)) ∷ [] in
+      let same : withFlush h1 a (codeStores h1 h2) ≡ withFlush g a step = ap (λ (h : Geometry). flushed (h .drives) (onPresent a (codeStores h1 h2))) (middle-geometry g t p start k) ∙ ap (flushed (g .drives)) stores-are in
+      let one : Made (withRoles g q) rest end (concat (withFlush g a step)) v w = subst (λ (h : Geometry). Made h rest end (concat (withFlush g a step)) v w) (to-is g t p start k) (subst (λ (l : List (List Store)). Made h2 rest end (concat l) v w) same m) in
+      let phases = entry-phases g a (lostAmong g (p .here)) t (isSet (p .general .emptied)) (isSet (p .parity .emptied)) (k .general .emptied-are) (k .parity .emptied-are) (deviceOf g v) in
+      subst (λ (l : List Store). Made g rest end l v w) (sym (ap concat phases ∙ concat-carried (placedBy q) (withFlush g a step)))
+      (made-by-roles g (k .first) q (end-proper g t p start k) rest end (concat (withFlush g a step)) v w (with-flush-on g a step (entries-on g shown last)) one)
+
+-- ---- THE WHOLE MOUNT
+module _ (g : Geometry) (t : Tables) (p : Plan) (start : List ℕ) (k : Planned g t p start) (ok : Valid g) (ps : List ℕ) (u : Tables) (b : Between g t p ps u) (budget mid : ℕ) (before : Before g t p budget mid ps u) where
+  abbrev x : ℕ
+  x = lostAmong g (p .here)
+
+  -- up to step 10
+  up-to : (rest : ℕ) (v : Tables) → ParityStepMade (parityEmptyings p) (p .look) ps (startsOf g t p start k ok ps u b) mid rest u v → Made g budget rest (storesToParityLogs g (isSet (p .here)) x t) t v
+  up-to rest v s = parity-joined g (isSet (p .here)) x t budget mid rest u v (before .made) (parity-step-made g t p start k ok ps u b mid rest v s)
+
+  -- where the budget ends there
+  whole-stopped : (v : Tables) → ParityStepMade (parityEmptyings p) (p .look) ps (startsOf g t p start k ok ps u b) mid 0 u v → Made g budget 0 (mountStoresOn g (isSet (p .here)) (lostAmong g (p .here)) t) t v
+  whole-stopped v s = mount-joined g (isSet (p .here)) x t budget 0 0 v v (up-to 0 v s) (made-spent g _ v)
+
+  whole-made : (rest end : ℕ) (v w : Tables) → ParityStepMade (parityEmptyings p) (p .look) ps (startsOf g t p start k ok ps u b) mid rest u v
+      → Made g rest end (concat (phasesOfEntries g (isSet (p .here)) (lostAmong g (p .here)) (deviceOf g t) (deviceOf g v))) v w → Made g budget end (mountStoresOn g (isSet (p .here)) (lostAmong g (p .here)) t) t w
+  whole-made rest end v w s m = mount-joined g (isSet (p .here)) x t budget rest end v w (up-to rest v s) m
+
+-- where the budget ends before step 10
+pub before-stopped : (g : Geometry) (a : ℕ → Bool) (x : ℕ) (t : Tables) (budget : ℕ) (u : Tables) → Made g budget 0 (storesBefore g a x t) t u → Made g budget 0 (mountStoresOn g a x t) t u
+before-stopped g a x t budget u m = mount-joined g a x t budget 0 0 u u (parity-joined g a x t budget 0 0 u u m (made-spent g _ u)) (made-spent g _ u)
+
+-- ---- AS THE CODE HAS IT: places m and e of the logs before and after step 10, pointers ss of the moment before it
+abbrev emptyingsAt : Plan → LogPlaces → LogPlaces → Emptyings
+emptyingsAt p m e = record { from = m .geometry; to = e .geometry; here = p .here; emptied = p .parity .emptied; generations = p .parity .generations }
+
+pub record CodePlaces (p : Plan) (ws : List ℕ) (m e : LogPlaces) (ss : List ℕ) : Type 0 where
+  pub middle : m ≡ middlePlaces p
+  pub end : e ≡ placesAfter m true (p .parity .emptied)
+  pub starts : ss ≡ hiddenLogs m ws (m .geometry .drives)
+
+module _ (p : Plan) (ws : List ℕ) (m e : LogPlaces) (ss : List ℕ) (c : CodePlaces p ws m e ss) where
+  end-of : e ≡ endPlaces p
+  end-of = c .end ∙ ap (λ (x : LogPlaces). placesAfter x true (p .parity .emptied)) (c .middle)
+
+  starts-of : ss ≡ hiddenLogs (middlePlaces p) ws (middlePlaces p .geometry .drives)
+  starts-of = c .starts ∙ ap (λ (x : LogPlaces). hiddenLogs x ws (x .geometry .drives)) (c .middle)
+
+  -- what holds of the plan's places holds of the code's, and the other way round
+  to-code : (P : LogPlaces → LogPlaces → List ℕ → Type 0) → P (middlePlaces p) (endPlaces p) (hiddenLogs (middlePlaces p) ws (middlePlaces p .geometry .drives)) → P m e ss
+  to-code P h = subst (λ (x : LogPlaces). P x e ss) (sym (c .middle)) (subst (λ (x : LogPlaces). P (middlePlaces p) x ss) (sym end-of) (subst (P (middlePlaces p) (endPlaces p)) (sym starts-of) h))
+
+  from-code : (P : LogPlaces → LogPlaces → List ℕ → Type 0) → P m e ss → P (middlePlaces p) (endPlaces p) (hiddenLogs (middlePlaces p) ws (middlePlaces p .geometry .drives))
+  from-code P h = subst (P (middlePlaces p) (endPlaces p)) starts-of (subst (λ (x : LogPlaces). P (middlePlaces p) x ss) end-of (subst (λ (x : LogPlaces). P x e ss) (c .middle) h))
+
+module _ (g : Geometry) (ok : Valid g) (p : Plan) (ps : List ℕ) (u : Tables) (r : EndsReady g p ps u) where
+  pub valid-places : Valid (p .places .geometry)
+  valid-places = places-valid g ok (r .met) p (r .start) (r .planned)
+
+  valid-middle : Valid (middlePlaces p .geometry)
+  valid-middle = middle-valid g ok (r .met) p (r .start) (r .planned)
+
+  cells-are : cells (middlePlaces p .geometry) ≡ cells g
+  cells-are = middle-cells g ok (r .met) p (r .start) (r .planned)
+
+  -- what the copies of the written pointers rely on (zs: their scratch)
+  pub hiding-at : (m : LogPlaces) (zs : List ℕ) → m ≡ middlePlaces p → length zs ≡ cells g → Valid (m .geometry) × ((length (u .written) ≡ cells (m .geometry)) × (length zs ≡ cells (m .geometry)))
+  hiding-at m zs q l =
+      subst (λ (x : LogPlaces). Valid (x .geometry) × ((length (u .written) ≡ cells (x .geometry)) × (length zs ≡ cells (x .geometry)))) (sym q) (valid-middle, (r .between .restoring .logging .written-long, l ∙ sym cells-are))
+
+  module _ (m e : LogPlaces) (ss : List ℕ) (c : CodePlaces p (u .written) m e ss) where
+    abbrev asked : LogPlaces → LogPlaces → List ℕ → Type 0
+    asked x y zs = Valid (x .geometry) × ParitiesReady (emptyingsAt p x y) (generationsIn (p .look)) (pointersIn (p .look)) ps zs (u .sectors) (u .written) (u .durable)
+
+    -- STEP 10
+    pub ready-at : asked m e ss
+    ready-at = to-code p (u .written) m e ss c asked (valid-middle, parities-ready g (r .met) p (r .start) (r .planned) ok ps u (r .between))
+
+    module _ (mid rest : ℕ) (v : Tables) (s : ParityStepMade (emptyingsAt p m e) (p .look) ps ss mid rest u v) where
+      step-at : ParityStepMade (parityEmptyings p) (p .look) ps (hiddenLogs (middlePlaces p) (u .written) (middlePlaces p .geometry .drives)) mid rest u v
+      step-at = from-code p (u .written) m e ss c (λ x y zs. ParityStepMade (emptyingsAt p x y) (p .look) ps zs mid rest u v) s
+
+      pub hiding-end : (zs : List ℕ) → length zs ≡ cells g → Valid (e .geometry) × ((length (v .written) ≡ cells (e .geometry)) × (length zs ≡ cells (e .geometry)))
+      hiding-end zs l =
+          let h = middlePlaces p .geometry in
+          subst (λ (x : LogPlaces). Valid (x .geometry) × ((length (v .written) ≡ cells (x .geometry)) × (length zs ≡ cells (x .geometry)))) (sym (end-of p (u .written) m e ss c))
+          (valid-with-logs h (endPlaces p .geometry .logs) valid-middle, (step-at .sized .written-long, l ∙ sym cells-are))
+
+      -- where the budget ends with it
+      pub ends-stopped : rest ≡ 0 → EndsMade g p ps mid 0 u v
+      ends-stopped z = record { whole = λ t start budget k before b. whole-stopped g t p start k ok ps u b budget mid before v (subst (λ (n : ℕ). ParityStepMade (parityEmptyings p) (p .look) ps (startsOf g t p start k ok ps u b) mid n u v) z step-at) }
+
+      -- STEP 11 (zs: the pointers of the moment before it)
+      module _ (zs : List ℕ) (q : zs ≡ hiddenLogs e (v .written) (e .geometry .drives)) where
+        abbrev entering : LogPlaces → LogPlaces → List ℕ → Type 0
+        entering x y us = Valid (x .geometry) × (Entering (x .geometry) (y .geometry) (p .here) (p .look) ps (hiddenLogs y (v .written) (y .geometry .drives)) (v .sectors) (v .written) × (length (v .durable) ≡ cells (x .geometry)))
+
+        pub entering-at : Valid (m .geometry) × (Entering (m .geometry) (e .geometry) (p .here) (p .look) ps zs (v .sectors) (v .written) × (length (v .durable) ≡ cells (m .geometry)))
+        entering-at =
+            subst (λ (us : List ℕ). Valid (m .geometry) × (Entering (m .geometry) (e .geometry) (p .here) (p .look) ps us (v .sectors) (v .written) × (length (v .durable) ≡ cells (m .geometry)))) (sym q)
+            (to-code p (u .written) m e ss c entering (valid-middle, (entering-after g (r .met) p (r .start) (r .planned) ok ps u (r .between) _ mid rest v step-at, step-at .sized .durable-long)))
+
+        pub ends-made : (end : ℕ) (w : Tables) → EntriesBy p ps rest end v w m e zs → EndsMade g p ps mid end u w
+        ends-made end w n =
+            let n′ = from-code p (u .written) m e ss c (λ x y us. EntriesBy p ps rest end v w x y (hiddenLogs y (v .written) (y .geometry .drives))) (subst (EntriesBy p ps rest end v w m e) q n) in
+            record { whole = λ t start budget k before b. whole-made g t p start k ok ps u b budget mid before rest end v w step-at (entries-made g t p start k ok ps u b _ mid rest v step-at end w n′) }

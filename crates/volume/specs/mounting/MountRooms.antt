@@ -1,0 +1,89 @@
+-- The room of the logs in a mount (src/mount_rooms.rt): what its steps 1, 2 and 10 go by.
+use mathlib.Core.Path.{_≡_, refl}
+use mathlib.Core.Bool.{Bool, true, false, not}
+use Prim.Native.Nat.{ℕ, _-_, _<_, _≤_}
+use mathlib.Core.List.{List, [], _∷_, _++_}
+use lib.ListN.{length, getD, replicate}
+use lib.Dec.{ltb}
+use Rattle.tables.specs.declared.Geometry.{Geometry}
+use Rattle.tables.specs.meaning.Basics.{pick}
+use Rattle.tables.specs.meaning.Below.{eachBelow, tabulate}
+use Rattle.tables.specs.meaning.Drives.{findBelow}
+use Rattle.tables.specs.meaning.Geometry.{physicalZones}
+use Rattle.tables.specs.meaning.Device.{Device, Store, reset}
+use Rattle.tables.specs.meaning.Tables.{Tables, cell}
+use Rattle.tables.specs.laws.Made.{WellSized}
+use Rattle.logs.specs.meaning.Entry.{spareZone}
+use Rattle.volume.specs.declared.Look.{Look}
+use Rattle.volume.specs.declared.roles.LogPlaces.{LogPlaces}
+use Rattle.volume.specs.declared.log_room.LogRoom.{LogRoom}
+use Rattle.volume.specs.declared.mount_rooms.Plan.{Plan}
+use Rattle.volume.specs.meaning.CallContracts.{isSet, rolesOf, seenIn}
+use Rattle.volume.specs.meaning.Rules.{showing, generalHeads}
+use Rattle.volume.specs.meaning.Refusals.{badLabels}
+use Rattle.volume.specs.meaning.Roles.{Roles, claimOfKind, lacksKind}
+use Rattle.volume.specs.meaning.Emptying.{byLook, reserve, mountGeneralLimit, emptiedFor, staysFull, newGeneralSize, newParitySize}
+use Rattle.volume.specs.meaning.Mount.{spareStep, countersDiffer}
+use Rattle.volume.specs.laws.LogPlaces.{withLogs}
+use Rattle.volume.specs.looking.DriveLogs.{zonePointer}
+use Rattle.volume.specs.looking.DrivesLost.{fill-at}
+use Rattle.volume.specs.looking.HiddenLogs.{placesOf, hiddenLogs}
+use Rattle.volume.specs.looking.MovedLogs.{movedLogs}
+use Rattle.volume.specs.looking.Looking.{lookOf}
+use Rattle.volume.specs.laws.EachBelow.{each-below-cong}
+use Rattle.volume.specs.mounting.MountLook.{zoneLook}
+
+-- the reset of drive d's spare, if it has sectors below the pointers ps
+abbrev pub spareReset : Geometry → List ℕ → ℕ → List Store
+spareReset g ps d = pick (ltb 0 (zonePointer g ps d spareZone)) (reset d spareZone ∷ []) []
+
+-- STEP 1 as the code makes it
+pub spare-resets : (g : Geometry) (ps : List ℕ) (w : Device) → ((d : ℕ) → d < g .drives → zonePointer g ps d spareZone ≡ length (w d spareZone .sectors)) → eachBelow (spareReset g ps) (g .drives) ≡ spareStep g w
+unfolding spareStep
+spare-resets g ps w e = each-below-cong _ _ (g .drives) (λ d h. rw (e d h) refl)
+
+-- ---- generations and pointers of a look, as arrays
+abbrev pub generationsIn : Look → List ℕ
+generationsIn k = tabulate (λ z. zoneLook k z .generation) 16 ++ replicate (16 - 16) 0
+
+abbrev pub pointersIn : Look → List ℕ
+pointersIn k = tabulate (λ z. zoneLook k z .pointer) 16 ++ replicate (16 - 16) 0
+
+pub generation-in : (k : Look) (z : ℕ) → z < 16 → getD (generationsIn k) z 0 ≡ zoneLook k z .generation
+generation-in k z h = fill-at (λ y. zoneLook k y .generation) 0 0 16 (16 - 16) z h
+
+pub pointer-in : (k : Look) (z : ℕ) → z < 16 → getD (pointersIn k) z 0 ≡ zoneLook k z .pointer
+pointer-in k z h = fill-at (λ y. zoneLook k y .pointer) 0 0 16 (16 - 16) z h
+
+-- ---- the places of the logs after those of a kind were emptied
+abbrev pub placesAfter : LogPlaces → Bool → List Bool → LogPlaces
+placesAfter p par emptied = record {
+  geometry = withLogs (p .geometry) (movedLogs (p .geometry) par (isSet emptied) (p .geometry .drives));
+  «no_general» = p .«no_general»;
+  «no_parity» = p .«no_parity»;
+}
+
+-- the drive that is not here
+abbrev pub lostAmong : Geometry → List Bool → ℕ
+lostAmong g here = findBelow (λ (d : ℕ). not (isSet here d)) (g .drives)
+
+-- ---- the room of the logs of a kind: which are emptied, the generations of the new ones, and that they get room (size: of the new logs)
+pub record Rooms (g : Geometry) (present : ℕ → Bool) (par : Bool) (limit : ℕ) (size : ℕ → ℕ) (r : ℕ → Roles) (w : Device) (x : LogRoom) : Type 0 where
+  pub emptied-are : isSet (x .emptied) ≡ emptiedFor g present par r w limit
+  pub generations-are : (d : ℕ) → isSet (x .emptied) d ≡ true → getD (x .generations) d 0 ≡ claimOfKind par (r d)
+  pub roomy : (d : ℕ) → isSet (x .emptied) d ≡ true → staysFull g par r limit (size d) d ≡ false
+
+-- ---- WHAT A MOUNT BEGINS WITH: tables t that no refusal stopped, what was found in them, and their written pointers without those of logs that lack
+pub record Planned (g : Geometry) (t : Tables) (p : Plan) (ps : List ℕ) : Type 0 where
+  pub first : g .logs ≡ 0
+  pub sized : WellSized g t
+  pub places : p .places ≡ placesOf g (rolesOf g t)
+  pub hidden : ps ≡ hiddenLogs (p .places) (t .written) (p .places .geometry .drives)
+  pub here-in : (d : ℕ) → isSet (p .here) d ≡ true → d < g .drives
+  pub in-zones : (d y : ℕ) → d < g .drives → isSet (p .here) d ≡ true → y < physicalZones g → getD (t .written) (cell g d y) 0 ≤ g .capacity
+  pub kinds : (d : ℕ) → isSet (p .here) d ≡ true → lacksKind (rolesOf g t d) ≡ false
+  pub labelled : badLabels g (isSet (p .here)) (seenIn g t) ≡ false
+  pub look : p .look ≡ lookOf g (showing g (isSet (p .here)) (lostAmong g (p .here)) (seenIn g t))
+  pub differ : p .differ ≡ countersDiffer g (isSet (p .here)) (seenIn g t)
+  pub general : Rooms g (isSet (p .here)) false (mountGeneralLimit g) (λ d. newGeneralSize g (byLook (showing g (isSet (p .here)) (lostAmong g (p .here)) (seenIn g t))) (generalHeads g (seenIn g t) d)) (rolesOf g t) (seenIn g t) (p .general)
+  pub parity : Rooms g (isSet (p .here)) true (reserve g) (λ d. newParitySize g (byLook (showing g (isSet (p .here)) (lostAmong g (p .here)) (seenIn g t))) d) (rolesOf g t) (seenIn g t) (p .parity)

@@ -1,0 +1,68 @@
+// Refusal 15 where a parity log is emptied: "an entry that has to be made needs the sectors of its stripe below the pointer".
+use super::Zone;
+use tables::Geometry;
+ghost use mathlib.Core.Path.{_≡_};
+ghost use Prim.Native.Nat.{_≤_, _<_};
+ghost use Rattle.tables.specs.meaning.Geometry.{Valid, zoneSectors};
+ghost use Rattle.volume.specs.meaning.Emptying.{goneForCopies};
+ghost use Rattle.volume.specs.meaning.CallContracts.{isSet};
+ghost use Rattle.volume.specs.looking.Knowing.{Readable, readDevice};
+ghost use Rattle.volume.specs.emptying.CopiesKnown.{goneAt, inForceOf, CopiesReady};
+
+// Whether a zone's entry has to be made for a drive's new log, and a sector that it is made of is not known.
+fn zone_gone(sectors: &[u8], pointers: &[u32], zone: Zone, drive: usize, pointer: usize) -> bool
+    requires { ⌜ Valid (zone .geometry) ⌝ }
+    requires { ⌜ Readable (zone .geometry) (zone .here) (now sectors) (now pointers) (zone .number) × (drive < zone .geometry .drives) × (pointer ≤ zoneSectors (zone .geometry)) ⌝ }
+    ensures { λ r. ⌜ r ≡ goneAt (zone .geometry) (isSet (zone .here)) (readDevice (zone .geometry) (now (sectors .entry)) (now (pointers .entry))) drive (zone .number) (zone .generation) pointer ⌝ }
+{
+    let g = zone.geometry;
+    let here = zone.here;
+    let z = zone.number;
+    let generation = zone.generation;
+    let copied = super::emptying_parity::is_copied(g, drive, z, pointer);
+    if !copied {
+        return false;
+    }
+    let log = super::drive_logs::log_in(pointers, g, drive, logs::PARITY_LOG);
+    let found = logs::folds::has_partial_at(sectors, g, log, z, generation, pointer);
+    if found {
+        return false;
+    }
+    let k = tables::bounds::stripe_sectors(g);
+    let start = pointer / k * k;
+    let limit = super::knowing::seal_limit(sectors, pointers, g, here, z, generation);
+    super::reading::some_gone(sectors, pointers, zone, limit, start, pointer - start)
+}
+
+// That of all zones, by their generations and pointers in force.
+pub fn copies_gone(
+    sectors: &[u8],
+    pointers: &[u32],
+    g: Geometry,
+    here: [bool; 8],
+    drive: usize,
+    generations: &[u64],
+    points: &[usize],
+) -> bool
+    requires { ⌜ Valid g ⌝ }
+    requires { ⌜ CopiesReady g here (now sectors) (now pointers) (now generations) (now points) × (drive < g .drives) ⌝ }
+    ensures { λ r. ⌜ r ≡ goneForCopies g (isSet here) (inForceOf g (isSet here) (readDevice g (now (sectors .entry)) (now (pointers .entry))) (now (generations .entry)) (now (points .entry))) (readDevice g (now (sectors .entry)) (now (pointers .entry))) drive ⌝ }
+{
+    let n = g.zones;
+    let mut gone = false;
+    let mut z = 0;
+    while z < n {
+        let generation = generations[z];
+        let zone = Zone {
+            geometry: g,
+            here,
+            number: z,
+            generation,
+        };
+        let pointer = points[z];
+        let one = zone_gone(sectors, pointers, zone, drive, pointer);
+        gone = gone | one;
+        z += 1;
+    }
+    gone
+}

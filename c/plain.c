@@ -137,7 +137,8 @@ static bool empty_general_logs(struct storing *storing) {
     return true;
 }
 
-/* The stores of a reset, after which the state is `after`. */
+/* The stores of a reset, after which the state is `after`. Drives may cache a zone reset until they are flushed: counters that end the generation come only when
+ * no zone can come back. */
 static bool reset_everywhere(struct storing *storing, uint32_t zone, const struct volume_state *after) {
     struct volume *v = storing->v;
     struct geometry g = v->geometry;
@@ -146,7 +147,7 @@ static bool reset_everywhere(struct storing *storing, uint32_t zone, const struc
     reset_header(sector, g, zone, v->state.zone[zone].generation);
     if (!append_to_general(storing, parity < unit ? parity : unit, sector) || !append_to_general(storing, parity < unit ? unit : parity, sector))
         return false;
-    if (!flush_all(storing) || !reset_on_all(storing, ZRV_LOG_ZONES + zone))
+    if (!flush_all(storing) || !reset_on_all(storing, ZRV_LOG_ZONES + zone) || !flush_all(storing))
         return false;
     counters_header(sector, g, after);
     for (uint32_t d = 0; d < g.drives; d++)
@@ -198,7 +199,7 @@ uint32_t plain_format(struct volume *v, uint32_t named, uint64_t array, uint32_t
     struct volume_state fresh = {.lost = storing.absent};
     for (uint32_t z = 0; z < v->geometry.zones; z++)
         fresh.zone[z].generation = 1;
-    if (!reset_all(&storing) || !append_labels(&storing, &fresh, array) || !flush_all(&storing))
+    if (!reset_all(&storing) || !flush_all(&storing) || !append_labels(&storing, &fresh, array) || !flush_all(&storing))
         return ZRV_UNFINISHED;
     v->state = fresh;
     return ZRV_FINISHED;

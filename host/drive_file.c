@@ -9,7 +9,7 @@
 
 #define MAGIC "zrvdrive"
 
-enum { INDEX = HEAD_OWN, ARRAY = 40, SAVE = 48, CHECKSUM = 56, HEAD_BYTES = 64 };
+enum { INDEX = HEAD_OWN, HAS_OLD = 36, ARRAY = 40, SAVE = 48, CHECKSUM = 56, HEAD_BYTES = 64 };
 
 static size_t row_bytes(struct geometry g) { return physical_zones(g) * sizeof(uint32_t); }
 
@@ -17,10 +17,14 @@ uint64_t drive_file_sectors(struct geometry g) { return HEAD_BYTES + 2 * row_byt
 
 uint64_t drive_file_length(struct geometry g) { return drive_file_sectors(g) + (uint64_t)physical_zones(g) * g.zone_sectors * g.sector_bytes; }
 
+/* With the pointers from before resets, where there are any. */
+static uint64_t whole_length(struct geometry g, bool has_old) { return drive_file_length(g) + (has_old ? 2 * row_bytes(g) : 0); }
+
 /* The bytes of a physical zone that are kept. A pointer past the zone's end is the volume's to refuse. */
 static size_t kept_bytes(const struct shelf *shelf, uint32_t drive, uint32_t zone) {
     struct geometry g = shelf->geometry;
-    uint32_t written = get32(shelf->written.bytes + 4 * cell(g, drive, zone));
+    uint32_t written = get32(shelf->written.bytes + 4 * cell(g, drive, zone)), old = get32(shelf->old_written.bytes + 4 * cell(g, drive, zone));
+    written = written < old ? old : written;
     return (size_t)(written < g.zone_sectors ? written : g.zone_sectors) * g.sector_bytes;
 }
 
@@ -31,7 +35,18 @@ static uint64_t head_checksum(const uint8_t *head, const struct shelf *shelf, ui
     size_t row = row_bytes(shelf->geometry);
     uint64_t sum = checksum(CHECKSUM_START, head, CHECKSUM);
     sum = checksum(sum, shelf->written.bytes + drive * row, row);
-    return checksum(sum, shelf->durable.bytes + drive * row, row);
+    sum = checksum(sum, shelf->durable.bytes + drive * row, row);
+    if (get32(head + HAS_OLD) == 0)
+        return sum;
+    sum = checksum(sum, shelf->old_written.bytes + drive * row, row);
+    return checksum(sum, shelf->old_durable.bytes + drive * row, row);
+}
+
+static bool has_old(const struct shelf *shelf, uint32_t drive) {
+    for (uint32_t zone = 0; zone < physical_zones(shelf->geometry); zone++)
+        if (get32(shelf->old_written.bytes + 4 * cell(shelf->geometry, drive, zone)) != 0)
+            return true;
+    return false;
 }
 
 bool read_drive_tag(const struct file_place *place, struct drive_tag *tag) {
@@ -59,9 +74,10 @@ static bool fits_shelf(const uint8_t *head, uint64_t length, const struct file_p
                     place->name, own.drives, own.sector_bytes, own.unit, own.zones, own.zone_sectors);
     if (get32(head + INDEX) != drive)
         return fail(message, "%s/%s: this is drive %u, not drive %u", place->folder, place->name, get32(head + INDEX), drive);
-    if (length != drive_file_length(g))
-        return fail(message, "%s/%s: %s: %llu bytes, a drive of this shelf has %llu", place->folder, place->name,
-                    length < drive_file_length(g) ? "short" : "long", (unsigned long long)length, (unsigned long long)drive_file_length(g));
+    uint64_t whole = whole_length(g, get32(head + HAS_OLD) != 0);
+    if (length != whole)
+        return fail(message, "%s/%s: %s: %llu bytes, a drive of this shelf has %llu", place->folder, place->name, length < whole ? "short" : "long",
+                    (unsigned long long)length, (unsigned long long)whole);
     return true;
 }
 
@@ -76,6 +92,15 @@ static bool read_sectors(FILE *file, struct shelf *shelf, uint32_t drive, struct
     return true;
 }
 
+/* A drive's part of two tables that stand one after the other. */
+static bool read_rows(FILE *file, off_t offset, struct range first, struct range second, size_t row, uint32_t drive) {
+    return fseeko(file, offset, SEEK_SET) == 0 && fread(first.bytes + drive * row, 1, row, file) == row && fread(second.bytes + drive * row, 1, row, file) == row;
+}
+
+static bool write_rows(FILE *file, off_t offset, struct range first, struct range second, size_t row, uint32_t drive) {
+    return fseeko(file, offset, SEEK_SET) == 0 && fwrite(first.bytes + drive * row, 1, row, file) == row && fwrite(second.bytes + drive * row, 1, row, file) == row;
+}
+
 bool read_drive(FILE *file, uint64_t length, const struct file_place *place, struct shelf *shelf, uint32_t drive, struct drive_tag *tag,
                 struct progress *progress, struct message *message) {
     uint8_t head[HEAD_BYTES];
@@ -84,7 +109,10 @@ bool read_drive(FILE *file, uint64_t length, const struct file_place *place, str
         return fail(message, "%s/%s: short: %llu bytes, not even a head", place->folder, place->name, (unsigned long long)length);
     if (!head_fits(head, MAGIC, place, message) || !fits_shelf(head, length, place, shelf->geometry, drive, message))
         return false;
-    if (fread(shelf->written.bytes + drive * row, 1, row, file) != row || fread(shelf->durable.bytes + drive * row, 1, row, file) != row)
+    off_t end = (off_t)drive_file_length(shelf->geometry);
+    if (!read_rows(file, HEAD_BYTES, shelf->written, shelf->durable, row, drive))
+        return fail_by_errno(message, place);
+    if (get32(head + HAS_OLD) != 0 && !read_rows(file, end, shelf->old_written, shelf->old_durable, row, drive))
         return fail_by_errno(message, place);
     if (head_checksum(head, shelf, drive) != get64(head + CHECKSUM))
         return fail(message, "%s/%s: damaged: the checksum of its head and pointers does not match", place->folder, place->name);
@@ -109,13 +137,16 @@ bool write_drive(const struct file_place *place, const struct shelf *shelf, uint
     size_t row = row_bytes(shelf->geometry);
     put_head(head, MAGIC, shelf->geometry);
     put32(head + INDEX, drive);
+    put32(head + HAS_OLD, has_old(shelf, drive));
     put64(head + ARRAY, tag.array);
     put64(head + SAVE, tag.save);
     put64(head + CHECKSUM, head_checksum(head, shelf, drive));
     FILE *file = create_file(place);
     if (file == NULL)
         return fail_by_errno(message, place);
-    bool good = fwrite(head, 1, HEAD_BYTES, file) == HEAD_BYTES && fwrite(shelf->written.bytes + drive * row, 1, row, file) == row &&
-                fwrite(shelf->durable.bytes + drive * row, 1, row, file) == row && write_sectors(file, shelf, drive, progress);
+    bool good = fwrite(head, 1, HEAD_BYTES, file) == HEAD_BYTES && write_rows(file, HEAD_BYTES, shelf->written, shelf->durable, row, drive) &&
+                write_sectors(file, shelf, drive, progress);
+    if (good && has_old(shelf, drive))
+        good = write_rows(file, (off_t)drive_file_length(shelf->geometry), shelf->old_written, shelf->old_durable, row, drive);
     return (finish_file(file) && good) || fail_by_errno(message, place);
 }

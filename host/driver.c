@@ -4,6 +4,7 @@
 #include <string.h>
 
 #include "bytes.h"
+#include "cached_resets.h"
 
 bool open_driver(struct driver *driver, const char *folder, struct message *message) {
     return open_folder(&driver->drives, folder, message) && load_drives(&driver->drives, message);
@@ -72,21 +73,53 @@ uint32_t driver_call(struct driver *driver, struct call call, struct message *me
     call.range[WRITTEN] = drives->shelf.written;
     call.range[DURABLE] = drives->shelf.durable;
     call.range[STATE] = (struct range){driver->shown, ZRV_STATE_BYTES};
+    if (!is_storing(call.kind))
+        return make_call(&call);
+    struct shelf before = shelf_before(&drives->shelf, &call);
     answer = make_call(&call);
-    if (is_storing(call.kind) && answer == ZRV_FINISHED)
+    if (answer == ZRV_FINISHED || answer == ZRV_UNFINISHED)
+        note_resets(&drives->shelf, &before, &call, answer, drives->record.state);
+    free_shelf(&before);
+    if (answer == ZRV_FINISHED)
         take_finished(driver);
     if (answer == ZRV_UNFINISHED)
         take_unfinished(driver);
     return answer;
 }
 
+/* The cell of a zone that a power cut is given; false, with a message, where a present drive has none such. */
+static bool find_cell(const struct driver *driver, uint32_t drive, uint32_t zone, size_t *at, struct message *message) {
+    struct geometry g = driver->drives.record.geometry;
+    if (drive >= g.drives || (driver->drives.present >> drive & 1) == 0 || zone >= physical_zones(g))
+        return fail(message, "there is no drive %u with a zone %u here", drive, zone);
+    *at = cell(g, drive, zone);
+    return true;
+}
+
+bool undo_resets(struct driver *driver, const struct power_loss *loss, size_t *undone, struct message *message) {
+    struct shelf *shelf = &driver->drives.shelf;
+    size_t at = 0;
+    for (size_t i = 0; i < loss->undone_count; i++) {
+        const struct kept_zone *zone = &loss->undone[i];
+        if (!find_cell(driver, zone->drive, zone->zone, &at, message))
+            return false;
+        if (!reset_is_cached(shelf, at))
+            return fail(message, "zone %u of drive %u has no reset in the drive's cache", zone->zone, zone->drive);
+        undo_reset(shelf, at);
+    }
+    for (at = 0; loss->undoes_all && at < shelf_cells(shelf->geometry); at++)
+        if (reset_is_cached(shelf, at))
+            undo_reset(shelf, at);
+    *undone = loss->undoes_all ? cached_resets(shelf) : loss->undone_count;
+    return true;
+}
+
 static bool can_keep(const struct driver *driver, const struct kept_zone *kept, struct message *message) {
-    const struct drives *drives = &driver->drives;
-    struct geometry g = drives->record.geometry;
-    if (kept->drive >= g.drives || (drives->present >> kept->drive & 1) == 0 || kept->zone >= physical_zones(g))
-        return fail(message, "there is no drive %u with a zone %u here", kept->drive, kept->zone);
-    size_t at = 4 * cell(g, kept->drive, kept->zone);
-    uint32_t durable = get32(drives->shelf.durable.bytes + at), written = get32(drives->shelf.written.bytes + at);
+    const struct shelf *shelf = &driver->drives.shelf;
+    size_t at = 0;
+    if (!find_cell(driver, kept->drive, kept->zone, &at, message))
+        return false;
+    uint32_t durable = get32(shelf->durable.bytes + 4 * at), written = get32(shelf->written.bytes + 4 * at);
     if (kept->sectors < durable || kept->sectors > written)
         return fail(message, "zone %u of drive %u can keep %u to %u sectors, not %u", kept->zone, kept->drive, durable, written, kept->sectors);
     return true;
@@ -104,6 +137,7 @@ bool lose_power(struct driver *driver, const struct power_loss *loss, struct mes
             keep_sectors(shelf, at, get32((loss->keeps == KEEP_ALL ? shelf->written.bytes : shelf->durable.bytes) + 4 * at));
     for (size_t i = 0; i < loss->given_count; i++)
         keep_sectors(shelf, cell(shelf->geometry, loss->given[i].drive, loss->given[i].zone), loss->given[i].sectors);
+    forget_resets(shelf);
     driver->drives.record.phase = PHASE_MOUNT_DUE;
     return true;
 }

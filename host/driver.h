@@ -27,7 +27,8 @@ struct kept_zone {
     uint32_t drive, zone, sectors;
 };
 
-/* What the write caches keep of a power cut: nothing, everything, as much as a seed says; and beside that the zones given. */
+/* What the write caches keep of a power cut: nothing, everything, as much as a seed says; and beside that the zones given. Drives whose zone resets last at once,
+ * and drives that cache them: of the resets in the caches none is undone, or all, or those of the zones given. */
 enum cache_keeps { KEEP_NONE, KEEP_ALL, KEEP_RANDOM };
 
 struct power_loss {
@@ -35,9 +36,15 @@ struct power_loss {
     uint64_t seed;
     const struct kept_zone *given;
     size_t given_count;
+    bool undoes_all;
+    const struct kept_zone *undone; /* drives and zones alone */
+    size_t undone_count;
 };
 
-/* False, with a message and nothing changed, where a given zone cannot keep what is given. */
+/* The first half of a cut: zones are as they were before a reset that is only in their drive's cache. How many; false, with a message, where a given zone has none. */
+bool undo_resets(struct driver *driver, const struct power_loss *loss, size_t *undone, struct message *message);
+
+/* The second half. False, with a message and nothing changed, where a given zone cannot keep what is given. */
 bool lose_power(struct driver *driver, const struct power_loss *loss, struct message *message);
 
 /* Whether an unfinished call was the last, with a message. */

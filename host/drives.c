@@ -133,12 +133,14 @@ bool open_folder(struct drives *drives, const char *folder, struct message *mess
 static void remember_pointers(struct drives *drives) {
     memcpy(drives->written_before.bytes, drives->shelf.written.bytes, drives->shelf.written.length);
     memcpy(drives->durable_before.bytes, drives->shelf.durable.bytes, drives->shelf.durable.length);
+    memcpy(drives->old_before.bytes, drives->shelf.old_written.bytes, drives->shelf.old_written.length);
 }
 
 static void new_memory(struct drives *drives) {
     drives->shelf = new_shelf(drives->record.geometry);
     drives->written_before = new_range(drives->shelf.written.length);
     drives->durable_before = new_range(drives->shelf.durable.length);
+    drives->old_before = new_range(drives->shelf.old_written.length);
 }
 
 /* Whether a given-up drive's file is in the folder. */
@@ -195,7 +197,8 @@ bool new_drives(struct drives *drives, const char *folder, struct geometry geome
 static bool has_changed(const struct drives *drives, uint32_t drive) {
     size_t row = physical_zones(drives->record.geometry) * sizeof(uint32_t), at = drive * row;
     return memcmp(drives->shelf.written.bytes + at, drives->written_before.bytes + at, row) != 0 ||
-           memcmp(drives->shelf.durable.bytes + at, drives->durable_before.bytes + at, row) != 0;
+           memcmp(drives->shelf.durable.bytes + at, drives->durable_before.bytes + at, row) != 0 ||
+           memcmp(drives->shelf.old_written.bytes + at, drives->old_before.bytes + at, row) != 0;
 }
 
 static bool write_new_file(struct drives *drives, uint32_t drive, struct progress *progress, struct message *message) {
@@ -230,6 +233,7 @@ void close_drives(struct drives *drives) {
     free_shelf(&drives->shelf);
     free(drives->written_before.bytes);
     free(drives->durable_before.bytes);
+    free(drives->old_before.bytes);
     if (drives->directory >= 0)
         close(drives->directory);
 }

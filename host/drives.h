@@ -2,10 +2,12 @@
  *
  * drive-N.zrv, drive N; numbers little-endian:
  *   bytes 0 to 7 "zrvdrive", 8 the version (4 bytes, 1), 12 the geometry (4 bytes each: drives, sector bytes, unit, zones, zone sectors),
- *   32 the drive's index (4), 36 zero (4), 40 the array number (8), 48 the save that wrote this file (8),
- *   56 a checksum of bytes 0 to 55 and of the pointers (8);
+ *   32 the drive's index (4), 36 whether zone resets are in its cache (4, 1 or 0), 40 the array number (8), 48 the save that wrote this file (8),
+ *   56 a checksum of bytes 0 to 55 and of all pointers (8);
  *   64 the written pointers of its physical zones (4 each), then the durable ones: what lies between the two is its write cache;
- *   then its sectors, zone by zone. Only those below the written pointer are kept; the others read as zeros.
+ *   then its sectors, zone by zone. Only those below the written pointer are kept; the others read as zeros;
+ *   where zone resets are in its cache, at the end the written and durable pointers of each zone before its reset (0: none is), and the sectors below them
+ *   are kept too.
  * The sectors have no checksum of the host's: what they hold is the volume's to judge.
  *
  * state.zrv, the host's: bytes 0 to 7 "zrvstate", version and geometry as above, 32 the phase (4), 36 the drives given up by bit (4), 40 the array number (8),
@@ -40,7 +42,7 @@ struct drives {
     uint32_t present; /* drives, by bit, whose file is there and that are not given up */
     uint32_t returned; /* those that are given up and whose file is there all the same */
     uint32_t strange; /* of the present ones those whose file is not the one that the last save left */
-    struct range written_before, durable_before; /* as in the files */
+    struct range written_before, durable_before, old_before; /* as in the files */
 };
 
 /* Opens a folder and reads the host's record. After either answer close_drives is due. */

@@ -29,6 +29,8 @@ struct shelf new_shelf(struct geometry geometry) {
         .sectors = new_range(cells * geometry.zone_sectors * geometry.sector_bytes),
         .written = new_range(cells * sizeof(uint32_t)),
         .durable = new_range(cells * sizeof(uint32_t)),
+        .old_written = new_range(cells * sizeof(uint32_t)),
+        .old_durable = new_range(cells * sizeof(uint32_t)),
     };
     return shelf;
 }
@@ -50,6 +52,8 @@ void free_shelf(struct shelf *shelf) {
     free(shelf->sectors.bytes);
     free(shelf->written.bytes);
     free(shelf->durable.bytes);
+    free(shelf->old_written.bytes);
+    free(shelf->old_durable.bytes);
 }
 
 void keep_sectors(struct shelf *shelf, size_t cell, uint32_t kept) {

@@ -8,6 +8,7 @@
 struct shelf {
     struct geometry geometry;
     struct range sectors, written, durable;
+    struct range old_written, old_durable; /* the drives' own: of a zone whose reset they have only in their cache the pointers before it; written 0: of none */
 };
 
 /* All zero. Each leaves the program where there is no memory. */

@@ -208,6 +208,7 @@ class Call:
         for d in self.present:
             for y in range(g.Z):
                 yield Store("reset", d, y)
+        yield from self.on_all("flush")
         for d in self.present:
             yield Store("append", d, GENERAL_LOG, label(g, d, self.lost, array))
             yield Store("append", d, GENERAL_LOG, counters(g, [1] * g.L))
@@ -269,6 +270,7 @@ class Call:
             yield from self.to_log(d, GENERAL_LOG, reset_entry(g, z, record.generation))
         yield from self.on_all("flush")
         yield from self.on_all("reset", FIRST_DATA_ZONE + z)
+        yield from self.on_all("flush")
         raised = record.generation + 1
         after = self.state.with_zone(self.lost, z, ZoneRecord(raised, Condition.WORN if raised == LAST_GENERATION else Condition.EMPTY, 0))
         for d in self.present:

@@ -43,8 +43,14 @@ class Volume(Host):
         answer, state = self.ask("look", named)
         return "refusal %d" % answer if answer else in_words(state.zones[z])
 
-    def keep(self, zones, choose=max):
-        """A power cut: of the zones given so many sectors are kept; of every other one what `choose` makes of (durable, written)."""
+    def keep(self, zones, choose=max, recall=lambda views: None):
+        """A power cut: of the zones given so many sectors are kept; of every other one what `choose` makes of (durable, written). Before that, of each
+        zone that was reset since its drive's flush, the view comes back that `recall` picks of those remembered, oldest first, if it picks one."""
+        for i, views in self.memory.remembered.items():
+            view = recall(views)
+            if view:
+                self.memory.bring_back(i, view)
+        self.memory.remembered.clear()
         for i, pair in enumerate(zip(self.memory.durable, self.memory.written)):
             self.memory.written[i] = self.memory.durable[i] = zones.get(divmod(i, V.Z), choose(pair))
 

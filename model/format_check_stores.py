@@ -7,6 +7,7 @@ from format_cases import (ALL_DRIVES, SPARE, V, before_emptied_general_log, befo
                           in_words, kept, without)
 from format_numbers import CLOSING, COUNTERS, FIRST_DATA_ZONE, GENERAL_LOG, LABEL, PARITY_LOG, PARTIAL_PARITY, RESET, Condition
 from format_page import written_out
+from format_volume import counters
 
 DRAWN_CUTS = 6
 
@@ -114,28 +115,54 @@ def check_stores_with_a_loss(page):
 def check_reset(page):
     volume = formatted()
     volume.store("reset", ALL_DRIVES, 0)
-    (type_3, flush, reset, raised, last) = volume.runs()
+    (type_3, flush, reset, lasting, raised, last) = volume.runs()
     page.phrase("V, zone 0, {} stores: {}, {} type 3 on drives {} and {} {} to {} flush of {}, {}, {}, {}",
                 len(volume.stores), *type_3.span, *type_3.drives, *flush.span, *flush.drives)
-    page.phrase("{} to {} reset of zone {} on {}, {}, {}, {}", *reset.span, reset.stores[0].zone, *reset.drives)
+    page.phrase("{} to {} reset of zone {} on {}, {}, {}, {} {} to {} flush of {}, {}, {}, {}",
+                *reset.span, reset.stores[0].zone, *reset.drives, *lasting.span, *lasting.drives)
     page.phrase("{} to {} counters {} and {} on {}, {}, {}, {} {} to {} flush of {}, {}, {}, {}",
                 *raised.span, *volume.entry(raised.stores[0]).generations, *raised.drives, *last.span, *last.drives)
     page.phrase("Reset of V's zone 0 ({} at {}, flushed), then a cut, after stores", *five_written().shown().split(" at "))
     (position, counts), *rows = page.table("| Reset of V's zone 0 (")
     page.compare(position, counts[-1].split()[-1], str(len(volume.stores)))
-    for (position, cells), choose in zip(rows, (max, min)):
-        for count, stands in zip(counts[1:], cells[1:]):
+    for (position, cells), cut in zip(rows, ((max, none), (min, none), (max, oldest)), strict=True):
+        for count, stands in zip(counts[1:], cells[1:], strict=True):
             first, final = re.search(r"(\d+)(?:(?:,| to) (\d+))?$", count).groups()
-            gives = (after_reset(stores, choose) for stores in range(int(first), int(final or first) + 1))
+            gives = (after_reset(stores, *cut) for stores in range(int(first), int(final or first) + 1))
             page.compare(position, stands.replace("generation ", ""), either(gives))
+    page.phrase("Without the flush {} to {}, a cut behind the counters could", *lasting.span)
+    page.phrase("zone 3 of every drive back: the look would show zone 0 {} at {}, generation {}.", *counters_before_flush())
 
 
-def after_reset(count, choose):
-    """What a look shows of zone 0 after a reset of so many stores and a cut."""
+def none(views):
+    return None
+
+
+def oldest(views):
+    return views[0]
+
+
+def stopped_reset(count):
     volume = five_written()
     volume.store("flush", ALL_DRIVES)
     volume.store("reset", ALL_DRIVES, 0, count=count)
-    volume.keep({}, choose)
+    return volume
+
+
+def counters_before_flush():
+    """A wrong reset: counters raised while the zone resets are still in the caches, and what a look may show then."""
+    volume = stopped_reset(10)
+    for d in range(V.D):
+        volume.drives.append(d, GENERAL_LOG, counters(V, [2, 1]))
+    volume.keep({}, max, oldest)
+    record = volume.ask("look", ALL_DRIVES)[1].zones[0]
+    return *in_words(record).split(" at "), record.generation
+
+
+def after_reset(count, choose, recall):
+    """What a look shows of zone 0 after a reset of so many stores and a cut."""
+    volume = stopped_reset(count)
+    volume.keep({}, choose, recall)
     record = volume.ask("look", ALL_DRIVES)[1].zones[0]
     return "empty, %d" % record.generation if record.condition == Condition.EMPTY else in_words(record)
 
@@ -203,13 +230,15 @@ def step_words(volume, step):
 
 
 def stopped_mounts(stores):
-    """What a look shows after the worked mount stopped anywhere, and a cut: the first zone, the second one and its pointer."""
+    """What a look shows after the worked mount stopped anywhere, and a cut, with zones brought back that were reset: the first zone, the second one and
+    its pointer."""
     seen, draw = set(), Random(1)
     for count in range(stores + 1):
-        for choose in [max, min] + [lambda pair: draw.randint(*pair)] * DRAWN_CUTS:
+        drawn = (lambda pair: draw.randint(*pair)), (lambda views: draw.choice([None, *views]))
+        for cut in [(max, none), (min, none), (max, oldest)] + [drawn] * DRAWN_CUTS:
             volume = before_mount()
             volume.store("mount", without(2), count=count)
-            volume.keep({}, choose)
+            volume.keep({}, *cut)
             seen.add((volume.shown(0, without(2)), volume.shown(1, without(2))))
     zone_0, zone_1 = (either(zones) for zones in zip(*seen))
     return zone_0, *zone_1.split(" at ", 1)

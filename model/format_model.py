@@ -119,7 +119,9 @@ class Replay:
         self.short = (sectors, written, durable, buffer)
 
     def command_c(self, seed):
+        """A cut of drives whose resets last at once: nothing comes back."""
         memory = self.host.memory
+        memory.remembered.clear()
         for i, x in zip(range(len(memory.written)), numbers(seed)):
             spread = max(0, memory.written[i] - memory.durable[i])
             memory.written[i] = memory.durable[i] = memory.durable[i] + x // 65536 % (spread + 1)

@@ -10,6 +10,7 @@ from format_numbers import (CLOSING, COUNTERS, FIRST_DATA_ZONE, GENERAL_LOG, LAB
 
 Place = namedtuple("Place", "drive sector parity_drive stripe unit row")
 Store = namedtuple("Store", "kind drive zone data sector", defaults=(None,) * 3)     # kind: append, reset or flush
+View = namedtuple("View", "sectors written durable")                                  # a zone as it was just before a reset
 Walk = namedtuple("Walk", "whole torn broken_at", defaults=((), None, None))
 Role = namedtuple("Role", "log generation")
 ZoneRecord = namedtuple("ZoneRecord", "generation condition pointer")
@@ -85,12 +86,30 @@ class Geometry:
 
 
 class Memory:
-    """Section 2: the three ranges that stand for the drives, laid out by the geometry that they were made for."""
+    """Section 2: the three ranges that stand for the drives, laid out by the geometry that they were made for; and what was reset and may come back.
+    Zones are numbered as their pointers are."""
 
     def __init__(self, geometry):
         sectors, written, durable = geometry.lengths()
         self.geometry = geometry
         self.sectors, self.written, self.durable = bytearray(sectors), [0] * written, [0] * durable
+        self.remembered = {}
+
+    def part(self, i):
+        """The bytes of a zone."""
+        size = self.geometry.C * self.geometry.B
+        return slice(i * size, (i + 1) * size)
+
+    def remember(self, i):
+        """Before a reset: until the drive's next flush a cut may leave the zone as it could now."""
+        self.remembered.setdefault(i, []).append(View(bytes(self.sectors[self.part(i)]), self.written[i], self.durable[i]))
+
+    def forget(self, zones):
+        for i in zones:
+            self.remembered.pop(i, None)
+
+    def bring_back(self, i, view):
+        self.sectors[self.part(i)], self.written[i], self.durable[i] = view
 
 
 class Drives:
@@ -117,11 +136,13 @@ class Drives:
 
     def reset(self, d, y):
         i = d * self.geometry.Z + y
+        self.memory.remember(i)
         self.memory.written[i] = self.memory.durable[i] = 0
 
     def flush(self, d):
-        zones = slice(d * self.geometry.Z, (d + 1) * self.geometry.Z)
-        self.memory.durable[zones] = self.memory.written[zones]
+        first, end = d * self.geometry.Z, (d + 1) * self.geometry.Z
+        self.memory.durable[first:end] = self.memory.written[first:end]
+        self.memory.forget(range(first, end))
 
     def make(self, store):
         if store.kind == "append":

@@ -167,11 +167,23 @@ static const char *read_kept_zone(const char *text, struct kept_zone *kept) {
     return text;
 }
 
-/* Reads a list of them, which is the caller's to free; its length, or 0 where the text has another form. */
-static size_t parse_kept_zones(const char *text, struct kept_zone **list) {
+/* The same for "DRIVE:ZONE". */
+static const char *read_zone(const char *text, struct kept_zone *named) {
+    uint64_t drive, zone;
+    text = read_number(text, 0, UINT32_MAX, &drive);
+    if (text == NULL || *text != ':')
+        return NULL;
+    text = read_number(text + 1, 0, UINT32_MAX, &zone);
+    if (text != NULL)
+        *named = (struct kept_zone){.drive = (uint32_t)drive, .zone = (uint32_t)zone};
+    return text;
+}
+
+/* Reads a list of either, which is the caller's to free; its length, or 0 where the text has another form. */
+static size_t parse_zones(const char *text, const char *read_one(const char *, struct kept_zone *), struct kept_zone **list) {
     *list = calloc(strlen(text) + 1, sizeof **list);
     for (size_t count = 0; *list != NULL; count++) {
-        const char *end = read_kept_zone(text, &(*list)[count]);
+        const char *end = read_one(text, &(*list)[count]);
         if (end == NULL || (*end != ',' && *end != '\0'))
             return 0;
         if (*end == '\0')
@@ -191,7 +203,7 @@ static bool parse_power_loss(const struct command_option *keep, const struct com
             loss->keeps = (enum cache_keeps)i;
             is_word = true;
         }
-    if (!is_word && (loss->given_count = parse_kept_zones(keep->text, list)) == 0)
+    if (!is_word && (loss->given_count = parse_zones(keep->text, read_kept_zone, list)) == 0)
         return fail(message, "--keep: \"%s\" is not none, all, random or DRIVE:ZONE=SECTORS,..", keep->text);
     loss->given = *list;
     if (seed->given != (loss->keeps == KEEP_RANDOM))
@@ -199,33 +211,51 @@ static bool parse_power_loss(const struct command_option *keep, const struct com
     return true;
 }
 
+static bool parse_undone(const struct command_option *undo, struct power_loss *loss, struct kept_zone **list, struct message *message) {
+    if (!undo->given)
+        return true;
+    loss->undoes_all = strcmp(undo->text, "all") == 0;
+    if (!loss->undoes_all && (loss->undone_count = parse_zones(undo->text, read_zone, list)) == 0)
+        return fail(message, "--undo: \"%s\" is not all or DRIVE:ZONE,..", undo->text);
+    loss->undone = *list;
+    return true;
+}
+
 static int lose_power_and_save(struct driver *driver, const struct power_loss *loss) {
     struct message message;
+    size_t undone;
     if (strange_drive(driver, &message) != ZRV_FINISHED)
         return file_error(&message);
+    if (!undo_resets(driver, loss, &undone, &message))
+        return usage_error("cut", "--undo: %s", message.text);
     const struct shelf *shelf = &driver->drives.shelf;
     uint64_t durable = table_sum(shelf->durable), cached = table_sum(shelf->written) - durable;
     if (!lose_power(driver, loss, &message))
         return usage_error("cut", "--keep: %s", message.text);
     if (!save_drives(&driver->drives, false, &message))
         return file_error(&message);
-    printf("power cut: the caches kept %llu of %llu sector%s; mount next\n", (unsigned long long)(table_sum(shelf->written) - durable),
+    printf("power cut: ");
+    if (undone > 0)
+        printf("%zu zone reset%s undone, ", undone, plural(undone));
+    printf("the caches kept %llu of %llu sector%s; mount next\n", (unsigned long long)(table_sum(shelf->written) - durable),
            (unsigned long long)cached, plural(cached));
     return EXIT_DONE;
 }
 
 int cut_main(int argc, char **argv) {
-    struct command_option option[] = {{.name = "keep", .kind = OPTION_TEXT}, {.name = "seed", .kind = OPTION_NUMBER, .most = UINT64_MAX}};
-    struct kept_zone *list = NULL;
+    struct command_option option[] = {
+        {.name = "keep", .kind = OPTION_TEXT}, {.name = "seed", .kind = OPTION_NUMBER, .most = UINT64_MAX}, {.name = "undo", .kind = OPTION_TEXT}};
+    struct kept_zone *list = NULL, *undone = NULL;
     struct power_loss loss;
     struct driver driver;
     struct message message;
     int code = begin_command(argc, argv, option, COUNT(option), &driver);
-    if (code == EXIT_DONE && !parse_power_loss(&option[0], &option[1], &loss, &list, &message))
+    if (code == EXIT_DONE && (!parse_power_loss(&option[0], &option[1], &loss, &list, &message) || !parse_undone(&option[2], &loss, &undone, &message)))
         code = usage_error(argv[0], "%s", message.text);
     if (code == EXIT_DONE)
         code = lose_power_and_save(&driver, &loss);
     free(list);
+    free(undone);
     close_drives(&driver.drives);
     return code;
 }

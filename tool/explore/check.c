@@ -95,6 +95,7 @@ bool mount_fits(struct explorer *explorer, struct world *world) {
     if (answer != ZRV_FINISHED)
         return misfit(explorer, world, (struct verdict){.trouble = MOUNT_REFUSED, .answer = answer});
     explorer->counts.mounts++;
+    forget_old_zones(world);
     if (!zones_fit(explorer, world, world->state, true))
         return false;
     tell_oracle(world, world->state);

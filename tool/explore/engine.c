@@ -4,9 +4,12 @@
  * come back, or all but one. Then a look. Then the mount, to its end, and the calls that follow it, if any. And from the same look on, the mount once more
  * for each count of its stores: stopped there, power goes again, the caches keep something, a look, a second mount to its end.
  *
+ * Where drives cache zone resets, a drive and zone may also keep what it had before a reset since the drive's last flush. Which store is a flush is told by trying
+ * the call first, store by store (stores.h).
+ *
  * Two kinds of history are left out because another one has the same bytes. A mount stopped after a flush has the sectors and written pointers from before
- * that flush, and what can be kept then could be kept before. And a drive that is lost is neither read nor changed: whatever its cache kept, the mount makes
- * the same stores on the others, so it is stopped after them for one such content; its look and its whole mount are made for each. */
+ * that flush, and what can be kept then, old zones included, could be kept before. And a drive that is lost is neither read nor changed: whatever its cache
+ * kept, the mount makes the same stores on the others, so it is stopped after them for one such content; its look and its whole mount are made for each. */
 #include "explore/engine.h"
 
 #include <stdlib.h>
@@ -29,7 +32,41 @@ static void *grown(void *memory, size_t bytes) {
     return larger;
 }
 
+/* How many contents of the caches power can leave. */
+static uint64_t contents_of(const struct world *world) { return new_caches(&world->shelf, &world->old, 0, 0).contents; }
+
 static uint64_t saturated_sum(uint64_t a, uint64_t b) { return a > UINT64_MAX - b ? UINT64_MAX : a + b; }
+
+/* ---- what drives that cache resets remember */
+
+/* The stores that a request makes on a world, or a mount where there is none; an empty list where it is refused. */
+static void list_stores(struct explorer *explorer, struct store_list *list, const struct world *base, const struct request *request) {
+    list->length = 0;
+    if (!explorer->options->cached_resets)
+        return;
+    copy_world(&explorer->tried[0], base);
+    for (uint32_t count = 1, answer = ZRV_UNFINISHED; answer == ZRV_UNFINISHED; count++) {
+        struct world *before = &explorer->tried[(count + 1) % 2], *after = &explorer->tried[count % 2];
+        copy_world(after, base);
+        answer = request == NULL ? mount_world(after, count, BREAK_NOTHING) : send_request(after, request, count, BREAK_NOTHING);
+        if (answer == ZRV_UNFINISHED || answer == ZRV_FINISHED)
+            note_store(list, &before->shelf, &after->shelf);
+    }
+    settle_stores(list, base->shelf.geometry.drives, base->named);
+}
+
+/* What the drives remember after so many stores of a list; `last` is the world one store before, and becomes this one. */
+static void remember(struct explorer *explorer, const struct store_list *list, uint32_t stores, struct world *world, struct world *last) {
+    enum breakage breakage = explorer->options->breakage;
+    if (!explorer->options->cached_resets)
+        return;
+    struct store store = stores == 0 ? (struct store){.kind = STORE_UNSEEN} : list->store[stores - 1];
+    if (store.kind == STORE_FLUSH && (breakage == BREAK_FLUSH || breakage == BREAK_RESET))
+        store.kind = STORE_UNSEEN;
+    if (stores > 0)
+        remember_in_world(world, last, &store, &explorer->old_zones);
+    copy_world(last, world);
+}
 
 /* ---- calls, stopped after every store */
 
@@ -37,6 +74,7 @@ static uint64_t saturated_sum(uint64_t a, uint64_t b) { return a > UINT64_MAX - 
 static void send_one(struct explorer *explorer, struct level *level, const struct request *request, moment_step *step) {
     struct outcome *outcome = &level->outcome[level->sent++];
     uint32_t pointer = pointer_in_state(level->base.state, request->zone);
+    list_stores(explorer, &level->list, &level->base, request);
     for (level->stores = 0;; level->stores++) {
         copy_world(&level->moment, &level->base);
         uint32_t answer = send_request(&level->moment, request, level->stores, explorer->options->breakage);
@@ -44,6 +82,7 @@ static void send_one(struct explorer *explorer, struct level *level, const struc
         push_event(explorer, (struct event){.kind = EVENT_CALL, .request = request, .pointer = pointer, .stores = level->stores, .answer = answer});
         if (answer != ZRV_UNFINISHED && answer != ZRV_FINISHED)
             return;
+        remember(explorer, &level->list, level->stores, &level->moment, &level->last);
         step(explorer, level);
         if (answer == ZRV_FINISHED) {
             copy_world(&level->base, &level->moment);
@@ -155,7 +194,7 @@ static uint64_t take_share(struct explorer *explorer) {
 
 static void second_loss(struct explorer *explorer, const struct world *world) {
     uint64_t limit = take_share(explorer);
-    struct caches caches = new_caches(&world->shelf, limit, explorer->draw);
+    struct caches caches = new_caches(&world->shelf, &world->old, limit, explorer->draw);
     explorer->counts.drawn += limit > 0 && caches_are_drawn(&caches);
     explorer->counts.left_out += limit == 0;
     push_event(explorer, (struct event){.kind = EVENT_POWER, .caches = &caches, .shelf = &world->shelf});
@@ -177,13 +216,17 @@ static struct stop *stop_at(struct explorer *explorer, size_t at) {
 
 /* A stop whose written pointers are those of the one before adds nothing (above). */
 static void gather_stops(struct explorer *explorer) {
+    struct world *before = &explorer->tried[0];
     explorer->stops = 0;
+    list_stores(explorer, &explorer->mount, &explorer->returned, NULL);
+    remember(explorer, &explorer->mount, 0, &explorer->returned, before);
     for (uint32_t count = 1;; count++) {
         struct stop *stop = stop_at(explorer, explorer->stops);
         copy_world(&stop->world, &explorer->returned);
         stop->stores = count;
         if (mount_world(&stop->world, count, explorer->options->breakage) != ZRV_UNFINISHED)
             return;
+        remember(explorer, &explorer->mount, count, &stop->world, before);
         const struct world *last = explorer->stops == 0 ? &explorer->returned : &explorer->stop[explorer->stops - 1].world;
         if (memcmp(stop->world.shelf.written.bytes, last->shelf.written.bytes, last->shelf.written.length) != 0)
             explorer->stops++;
@@ -194,7 +237,7 @@ static void stop_mount(struct explorer *explorer) {
     uint64_t contents = 0;
     gather_stops(explorer);
     for (size_t i = 0; i < explorer->stops; i++)
-        contents = saturated_sum(contents, new_caches(&explorer->stop[i].world.shelf, 0, 0).contents);
+        contents = saturated_sum(contents, contents_of(&explorer->stop[i].world));
     open_share(explorer, &explorer->returned, explorer->stops, contents);
     explorer->counts.stopped_mounts += explorer->stops;
     for (size_t i = 0; i < explorer->stops; i++) {
@@ -208,7 +251,7 @@ static void stop_mount(struct explorer *explorer) {
 
 static void tally_moment(struct explorer *explorer, struct level *level) {
     explorer->tally.moments++;
-    explorer->tally.contents = saturated_sum(explorer->tally.contents, new_caches(&level->moment.shelf, 0, 0).contents);
+    explorer->tally.contents = saturated_sum(explorer->tally.contents, contents_of(&level->moment));
 }
 
 static void later_loss(struct explorer *explorer, struct level *level) { second_loss(explorer, &level->moment); }
@@ -272,6 +315,7 @@ static void first_return(struct explorer *explorer, const struct caches *caches,
     struct world *returned = &explorer->returned;
     uint8_t shown[ZRV_STATE_BYTES];
     size_t events = explorer->trail.length;
+    const struct old_zone *made = explorer->old_zones;
     bool gone = drive != ZRV_NO_DRIVE;
     copy_world(returned, &explorer->first.moment);
     world_loses_power(returned, caches, explorer->options->breakage == BREAK_SECTOR ? &explorer->formatted.shelf : NULL);
@@ -288,11 +332,13 @@ static void first_return(struct explorer *explorer, const struct caches *caches,
         go_on(explorer, shown, gone, !gone || caches_are_drawn(caches) || keeps_only_durable(caches, drive));
     explorer->returns_left--;
     explorer->trail.length = events;
+    empty_pool(&explorer->old_zones, made);
 }
 
 static void first_loss(struct explorer *explorer, struct level *level) {
     uint64_t limit = explorer->moments[explorer->moment_at].limit;
-    struct caches caches = new_caches(&level->moment.shelf, limit, explorer->options->seed + (uint32_t)explorer->moment_at);
+    const struct world *world = &level->moment;
+    struct caches caches = new_caches(&world->shelf, &world->old, limit, explorer->options->seed + (uint32_t)explorer->moment_at);
     push_event(explorer, (struct event){.kind = EVENT_POWER, .caches = &caches, .shelf = &level->moment.shelf});
     while (next_caches(&caches)) {
         first_return(explorer, &caches, ZRV_NO_DRIVE);
@@ -324,7 +370,7 @@ static void plan_moment(struct explorer *explorer, struct level *level) {
     size_t pointers = zone_addresses(g) + 1;
     explorer->moments = grown(explorer->moments, (explorer->moments_length + 1) * sizeof *explorer->moments);
     struct moment *moment = &explorer->moments[explorer->moments_length++];
-    *moment = (struct moment){.sent = level->sent, .stores = level->stores, .contents = new_caches(&level->moment.shelf, 0, 0).contents};
+    *moment = (struct moment){.sent = level->sent, .stores = level->stores, .contents = contents_of(&level->moment)};
     for (uint32_t z = 0; z < g.zones; z++) {
         moment->zone[z].length = level->moment.oracle.zone[z].length;
         moment->zone[z].flushed = level->moment.oracle.zone[z].flushed;
@@ -341,8 +387,9 @@ uint32_t prepare_explorer(struct explorer *explorer, const struct options *optio
     *explorer = (struct explorer){
         .options = options,
         .formatted = new_world(g),
-        .first = {.base = new_world(g), .moment = new_world(g)},
-        .later = {.base = new_world(g), .moment = new_world(g)},
+        .first = {.base = new_world(g), .moment = new_world(g), .last = new_world(g)},
+        .later = {.base = new_world(g), .moment = new_world(g), .last = new_world(g)},
+        .tried = {new_world(g), new_world(g)},
         .returned = new_world(g),
         .mounted = new_world(g),
         .again = new_world(g),
@@ -384,8 +431,9 @@ void explore(struct explorer *explorer) {
 }
 
 void free_explorer(struct explorer *explorer) {
-    struct world *worlds[] = {&explorer->formatted, &explorer->first.base, &explorer->first.moment, &explorer->later.base, &explorer->later.moment,
-                              &explorer->returned,  &explorer->mounted,    &explorer->again};
+    struct world *worlds[] = {&explorer->formatted, &explorer->first.base, &explorer->first.moment, &explorer->first.last, &explorer->later.base,
+                              &explorer->later.moment, &explorer->later.last, &explorer->returned, &explorer->mounted, &explorer->again,
+                              &explorer->tried[0], &explorer->tried[1]};
     for (size_t i = 0; i < sizeof worlds / sizeof *worlds; i++)
         free_world(worlds[i]);
     for (size_t i = 0; i < explorer->stop_room; i++)
@@ -394,6 +442,10 @@ void free_explorer(struct explorer *explorer) {
         for (uint32_t z = 0; z < explorer->options->geometry.zones; z++)
             free(explorer->moments[i].zone[z].shown);
     }
+    empty_pool(&explorer->old_zones, NULL);
+    free(explorer->first.list.store);
+    free(explorer->later.list.store);
+    free(explorer->mount.store);
     free(explorer->stop);
     free(explorer->moments);
     free(explorer->answer);

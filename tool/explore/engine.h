@@ -11,9 +11,10 @@ struct outcome {
     uint32_t emptied; /* logs */
 };
 
-/* Calls under way: the world before the call at hand, and as it is after some of its stores. */
+/* Calls under way: the world before the call at hand, as it is after some of its stores, and as it was one store before. */
 struct level {
-    struct world base, moment;
+    struct world base, moment, last;
+    struct store_list list; /* the stores of the call at hand; not told where drives cache no resets */
     struct outcome outcome[MOST_REQUESTS];
     size_t sent;     /* requests, the one at hand included */
     uint32_t stores; /* made by the one at hand */
@@ -50,6 +51,9 @@ struct explorer {
     struct trail trail;
     struct level first, later; /* the calls; those that follow a mount */
     struct world formatted, returned, mounted, again;
+    struct world tried[2];      /* a call tried for its stores: with one less, and with one more */
+    struct store_list mount;    /* the stores of the mount at hand */
+    struct old_zone *old_zones; /* what the drives of any world remember */
     struct stop {
         struct world world;
         uint32_t stores;

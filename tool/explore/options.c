@@ -12,6 +12,8 @@
 /* A shelf larger than this is not for going through state by state. */
 #define MOST_SHELF_BYTES ((size_t)64 * 1024 * 1024)
 #define DEFAULT_BUDGET 2000000
+/* Calls to begin with where drives cache resets: the zone that is reset has something to come back, and sectors are written over it. */
+#define CACHED_CALLS "w3,f,r0,w2"
 #define MOST_BUDGET UINT64_C(1000000000000)
 
 static const struct {
@@ -24,6 +26,7 @@ static const struct {
     [BREAK_LOST_AGAIN] = {"lost-again", "w3,f", "r0,w4", "a drive is lost, calls go on without it, no mount records it, and after power went it is named again"},
     [BREAK_KEPT_OUT] = {"kept-out", "w3,f", "w4", "a lost drive is named again after the mount recorded its loss and writes went on"},
     [BREAK_MOUNT] = {"mount", "w3", "w4", "a mount is left out: a look is taken for it, and writes go on"},
+    [BREAK_RESET] = {"reset", "w3,f,r0", "", "drives cache zone resets, and a flush does not make them last"},
 };
 
 static const char *const help =
@@ -38,6 +41,8 @@ static const char *const help =
     "                     follow (default w3,w4: the first ends inside a stripe, the second goes past that stripe's end). To empty logs: --drives 3\n"
     "                     --unit 1 --zone-sectors 8 with --calls w1,r0,w1,r0,w1 or --calls m,m,m,m,m\n"
     "  --then LIST        calls sent after the first mount, at every store of which power goes once more (default none)\n"
+    "  --cached-resets    drives cache a zone reset until they are flushed: when power goes, each zone that was reset since its drive's last flush\n"
+    "                     stays reset or is as it could have been left just before, also where it was written since (calls w3,f,r0,w2)\n"
     "  --lose-later       where all drives came back, any one may be lost when power goes for the second time\n"
     "  --drives N         3 to 8 (4)\n"
     "  --sector-bytes N   bytes of a sector, 64 to 4096 by doubling (64)\n"
@@ -60,6 +65,8 @@ static const char *const help =
     "                     the others keep it out, so this fits; it would fail if one of its old sectors were shown.\n"
     "      mount          a look is taken for the mount and writes go on (calls w3, then w4). Fails where a journal entry from before power went\n"
     "                     gives other bytes than were written, or breaks the log.\n"
+    "      reset          drives cache zone resets, and a flush does not make them last (calls w3,f,r0). Fails where sectors from before a finished\n"
+    "                     reset are shown.\n"
     "\n"
     "Exit status: 0 every look fitted, 1 one did not, 2 bad usage, 3 a file could not be written or memory ran out.\n";
 
@@ -124,7 +131,7 @@ static enum parsed parse_breakage(const char *word, enum breakage *breakage) {
             return PARSED;
         }
     }
-    return complain("'%s' is no duty to break; duties are flush, sector, second-drive, lost-again, kept-out and mount", word);
+    return complain("'%s' is no duty to break; duties are flush, sector, second-drive, lost-again, kept-out, mount and reset", word);
 }
 
 /* Where an option's value goes: the one pointer that is not NULL. */
@@ -137,7 +144,7 @@ struct destination {
     uint64_t least, most; /* of a number */
 };
 
-enum { DRIVES, SECTOR_BYTES, UNIT, ZONES, ZONE_SECTORS, BUDGET, SEED, CALLS, THEN, PICTURE, BREAK, LOSE_LATER, QUIET, HELP, OPTIONS };
+enum { DRIVES, SECTOR_BYTES, UNIT, ZONES, ZONE_SECTORS, BUDGET, SEED, CALLS, THEN, PICTURE, BREAK, CACHED_RESETS, LOSE_LATER, QUIET, HELP, OPTIONS };
 
 static const struct option names[OPTIONS + 1] = {
     WORD_WITH_VALUE("drives", DRIVES),
@@ -151,6 +158,7 @@ static const struct option names[OPTIONS + 1] = {
     WORD_WITH_VALUE("then", THEN),
     WORD_WITH_VALUE("picture", PICTURE),
     WORD_WITH_VALUE("break", BREAK),
+    WORD_FLAG("cached-resets", CACHED_RESETS),
     WORD_FLAG("lose-later", LOSE_LATER),
     WORD_FLAG("quiet", QUIET),
     WORD_FLAG("help", HELP),
@@ -169,6 +177,7 @@ static struct destination destination_of(int option, struct options *options) {
         [THEN] = {.text = &options->later_text},
         [PICTURE] = {.text = &options->picture},
         [BREAK] = {.breakage = &options->breakage},
+        [CACHED_RESETS] = {.flag = &options->cached_resets},
         [LOSE_LATER] = {.flag = &options->loses_later},
         [QUIET] = {.flag = &options->quiet},
     };
@@ -231,10 +240,11 @@ enum parsed parse_explore_options(int argc, char **argv, struct options *options
                               "least zones x (1 + unit) + 2 x unit + 1 and zones + 6");
     if (ZRV_SECTORS_BYTES(g.drives, g.sector_bytes, g.zones, g.zone_sectors) > MOST_SHELF_BYTES)
         return complain("%s", "a shelf of more than 64 MiB is too large to go through");
+    options->cached_resets = options->cached_resets || options->breakage == BREAK_RESET;
     if (options->breakage == BREAK_LOST_AGAIN && options->picture != NULL)
         return complain("%s", "--picture shows the first loss of power; --break lost-again has none before its calls");
     if (options->calls_text == NULL)
-        options->calls_text = breakages[options->breakage].calls;
+        options->calls_text = options->cached_resets && options->breakage == BREAK_NOTHING ? CACHED_CALLS : breakages[options->breakage].calls;
     if (options->later_text == NULL)
         options->later_text = breakages[options->breakage].later;
     if (parse_requests(options->calls_text, g, 1, &options->calls) != PARSED)

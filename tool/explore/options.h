@@ -9,7 +9,7 @@
 enum { MOST_REQUESTS = 32 };
 
 /* The duties of drives and host that can be broken on purpose. */
-enum breakage { BREAK_NOTHING, BREAK_FLUSH, BREAK_SECTOR, BREAK_SECOND_DRIVE, BREAK_LOST_AGAIN, BREAK_KEPT_OUT, BREAK_MOUNT, BREAKAGES };
+enum breakage { BREAK_NOTHING, BREAK_FLUSH, BREAK_SECTOR, BREAK_SECOND_DRIVE, BREAK_LOST_AGAIN, BREAK_KEPT_OUT, BREAK_MOUNT, BREAK_RESET, BREAKAGES };
 
 /* A call to be sent: a write at its zone's pointer, a flush, a mount, or a reset of a zone. */
 struct request {
@@ -31,7 +31,8 @@ struct options {
     enum breakage breakage;
     uint64_t budget;
     uint32_t seed;
-    bool loses_later; /* a drive may be lost with the second loss of power too */
+    bool loses_later;   /* a drive may be lost with the second loss of power too */
+    bool cached_resets; /* drives cache a zone reset until they are flushed */
     bool quiet;
     const char *picture; /* NULL: none */
 };

@@ -61,10 +61,12 @@ static void report_course(const struct explorer *explorer) {
     } else {
         printf("  power      goes at one of %zu moments: before the first call, and after 0, 1, 2 .. stores of each\n", explorer->moments_length);
         printf("  caches     each drive and zone keeps any pointer from durable to written\n");
+        if (options->cached_resets)
+            printf("  resets     are cached: each zone reset since its drive's last flush stays reset, or is as it could have been left just before\n");
         printf("  drives     all come back, or all but any one\n");
         printf("  then       a look%s\n", breakage == BREAK_MOUNT ? "" : ", and a mount");
     }
-    if (breakage == BREAK_NOTHING || breakage == BREAK_FLUSH || breakage == BREAK_SECTOR)
+    if (breakage == BREAK_NOTHING || breakage == BREAK_FLUSH || breakage == BREAK_SECTOR || breakage == BREAK_RESET)
         printf("  once more  that mount is stopped after each of its stores, power goes, the caches keep anything; a look and a second mount\n");
     if (options->loses_later)
         printf("             where all drives came back the first time, all do again, or all but any one\n");

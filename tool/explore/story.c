@@ -41,19 +41,30 @@ static void tell_place(FILE *out, const struct shelf *shelf, uint32_t drive, uin
         fputs(zone == find_log(&zones, PARITY_LOG) ? "parity log" : "spare zone", out);
 }
 
+/* What a cell keeps, of what it held before a reset where that comes back. */
+static void tell_kept(FILE *out, const struct caches *caches, size_t cell) {
+    const struct old_zone *back = caches->back.cell[cell];
+    uint32_t written = back == NULL ? caches->written[cell] : back->written, durable = back == NULL ? caches->durable[cell] : back->durable;
+    if (back == NULL && written == 0) {
+        fputs(" stays reset", out);
+        return;
+    }
+    fprintf(out, "%s keeps %u of %u", back == NULL ? "" : " is not reset and", caches->kept[cell], written);
+    if (durable > 0)
+        fprintf(out, " (%u durable)", durable);
+}
+
 /* Of each drive that had something at stake, where, and how much of it was kept. */
 static void tell_power(FILE *out, const struct caches *caches, const struct shelf *shelf) {
     fputs("power goes", out);
     const char *separator = ": ";
     for (size_t cell = 0; cell < caches->cells; cell++) {
-        if (caches->durable[cell] == caches->written[cell])
+        if (caches->choices[cell] == 1)
             continue;
         uint32_t drive = (uint32_t)(cell / caches->cells_of_drive);
         fprintf(out, "%sdrive %u ", separator, drive);
         tell_place(out, shelf, drive, (uint32_t)(cell % caches->cells_of_drive));
-        fprintf(out, " keeps %u of %u", caches->kept[cell], caches->written[cell]);
-        if (caches->durable[cell] > 0)
-            fprintf(out, " (%u durable)", caches->durable[cell]);
+        tell_kept(out, caches, cell);
         separator = "; ";
     }
     fputs(separator[0] == ':' ? ", everything was durable\n" : "\n", out);

@@ -30,6 +30,7 @@ void copy_world(struct world *to, const struct world *from) {
     memcpy(to->shelf.durable.bytes, from->shelf.durable.bytes, from->shelf.durable.length);
     memcpy(to->state, from->state, sizeof to->state);
     to->named = from->named;
+    to->old = from->old;
     copy_oracle(&to->oracle, &from->oracle);
 }
 
@@ -132,15 +133,33 @@ uint32_t send_request(struct world *world, const struct request *request, uint32
     return answer;
 }
 
+void remember_in_world(struct world *world, const struct world *before, const struct store *store, struct old_zone **pool) {
+    world->old = before->old;
+    remember_store(&world->old, &before->shelf, store, pool);
+}
+
+void forget_old_zones(struct world *world) { memset(&world->old, 0, sizeof world->old); }
+
+/* A zone's sectors from before its reset; they may be more than it has had since. */
+static void bring_back(struct world *world, size_t cell, const struct old_zone *old) {
+    size_t sector = world->shelf.geometry.sector_bytes;
+    memcpy(world->shelf.sectors.bytes + cell * world->shelf.geometry.zone_sectors * sector, old->bytes, old->written * sector);
+    world->touched[cell] = old->written > world->touched[cell] ? old->written : world->touched[cell];
+}
+
 void world_loses_power(struct world *world, const struct caches *caches, const struct shelf *torn_from) {
     size_t sector = world->shelf.geometry.sector_bytes, cell_sectors = world->shelf.geometry.zone_sectors;
     for (size_t cell = 0; cell < caches->cells; cell++) {
-        uint32_t kept = caches->kept[cell];
+        const struct old_zone *back = caches->back.cell[cell];
+        uint32_t kept = caches->kept[cell], durable = back == NULL ? caches->durable[cell] : back->durable;
+        if (back != NULL)
+            bring_back(world, cell, back);
         put32(world->shelf.written.bytes + 4 * cell, kept);
         put32(world->shelf.durable.bytes + 4 * cell, kept);
-        if (torn_from != NULL && kept > caches->durable[cell]) {
+        if (torn_from != NULL && kept > durable) {
             size_t second_half = (cell * cell_sectors + kept - 1) * sector + sector / 2;
             memcpy(world->shelf.sectors.bytes + second_half, torn_from->sectors.bytes + second_half, sector / 2);
         }
     }
+    forget_old_zones(world);
 }

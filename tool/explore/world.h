@@ -10,6 +10,7 @@
 struct world {
     struct shelf shelf;
     uint32_t touched[MOST_CELLS]; /* the sectors of each drive and zone that may differ from zero */
+    struct old_zones old;         /* what the drives remember of zones that were reset */
     uint8_t state[ZRV_STATE_BYTES];
     uint32_t named;
     struct oracle oracle;
@@ -30,6 +31,11 @@ uint32_t send_request(struct world *world, const struct request *request, uint32
 
 /* How many logs a call emptied. */
 uint32_t logs_emptied(const struct world *before, const struct world *after);
+
+/* The world after one more store of a call, whose world before that store is given: what the drives remember then. */
+void remember_in_world(struct world *world, const struct world *before, const struct store *store, struct old_zone **pool);
+/* The drives are all flushed: they remember nothing. */
+void forget_old_zones(struct world *world);
 
 /* Power goes: a cut. Each drive and zone keeps what the caches say. torn_from: where not NULL, the last sector that a cache keeps past its durable
  * pointer has its second half from there. */

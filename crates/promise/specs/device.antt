@@ -1,6 +1,14 @@
 pub mod AcceptedCalls
 pub mod AtRestAnswers
 pub mod BlankAtRest
+pub mod CachedClaim
+pub mod CachedEvents
+pub mod CachedModes
+pub mod CachedOwed
+pub mod CachedOwn
+pub mod CachedPromise
+pub mod CachedReset
+pub mod CachedWrite
 pub mod CallsOwed
 pub mod CallsProved
 pub mod ClaimEvents
@@ -9,6 +17,7 @@ pub mod Looks
 pub mod Marks
 pub mod Modes
 pub mod MountCall
+pub mod OlderDrives
 pub mod PlainCalls
 pub mod ResetCall
 pub mod WriteCall

@@ -13,6 +13,8 @@ pub mod EmptyingCuts
 pub mod EmptyingKeeps
 pub mod EmptyingStops
 pub mod Emptyings
+pub mod EmptyingsBack
+pub mod EmptyingsDelayed
 pub mod EmptyingsLeave
 pub mod FilledCopied
 pub mod FilledShows
@@ -27,6 +29,7 @@ pub mod MountFilled
 pub mod MountLogs
 pub mod MountTail
 pub mod MountWhole
+pub mod OnPresent
 pub mod ParityAtRest
 pub mod ParityCuts
 pub mod ParityEmptyings

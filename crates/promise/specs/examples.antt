@@ -1,4 +1,6 @@
 pub mod AnswerCases
+pub mod CachedExample
+pub mod CachedTablesHistory
 pub mod Cases
 pub mod ClaimExample
 pub mod Example

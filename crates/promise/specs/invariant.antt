@@ -1,4 +1,5 @@
 pub mod CrashKeeps
+pub mod Delayed
 pub mod EmptiedZone
 pub mod HoldsLess
 pub mod HoldsMore

@@ -1,6 +1,9 @@
+pub mod Caches
+pub mod CachesOnTables
 pub mod Claim
 pub mod Emptied
 pub mod Ledger
 pub mod OnDevice
 pub mod OnTables
+pub mod ResetLasts
 pub mod Roomy

@@ -8,7 +8,6 @@ pub mod MountFilled
 pub mod MountGeneralLogs
 pub mod MountLabels
 pub mod MountLiveZones
-pub mod MountOpening
 pub mod MountParityEntries
 pub mod MountParityLogs
 pub mod MountPlan

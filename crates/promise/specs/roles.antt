@@ -4,6 +4,7 @@ pub mod Kept
 pub mod MountReads
 pub mod Ordinary
 pub mod OrdinaryCalls
+pub mod OrdinaryDelayed
 pub mod ReadsSectors
 pub mod Roled
 pub mod RoledCalls

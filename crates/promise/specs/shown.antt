@@ -1,7 +1,9 @@
+pub mod BehindDelayed
 pub mod BehindFlush
 pub mod BehindLooks
 pub mod EmptyingLooks
 pub mod EveryPoint
 pub mod MountLooks
 pub mod MountParityLooks
+pub mod ResetLasts
 pub mod RoomyCalls

@@ -1,3 +1,5 @@
+pub mod CachedTables
+pub mod CachedTablesClaim
 pub mod CallRefines
 pub mod CallVerdicts
 pub mod MountRefines

@@ -1,6 +1,7 @@
 pub mod AppendCounts
 pub mod Basics
 pub mod Below
+pub mod Cached
 pub mod Counted
 pub mod Device
 pub mod Drives

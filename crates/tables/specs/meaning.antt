@@ -1,5 +1,6 @@
 pub mod Basics
 pub mod Below
+pub mod Cached
 pub mod Device
 pub mod Drives
 pub mod Geometry

@@ -1,4 +1,4 @@
-// Format: reset every zone; label, then counters (all 1), drive by drive; flush all.
+// Format: reset every zone; flush all, so that no cut brings an old log back over the new; label, then counters (all 1), drive by drive; flush all.
 use super::Answer;
 use super::Condition;
 use super::Outcome;
@@ -112,7 +112,7 @@ fn label_drive(
     super::logging::append_counters(sectors, written, g, here, drive, &ones, rest)
 }
 
-// The second phase: the same of every drive that is here.
+// The third phase: the same of every drive that is here.
 fn label_drives(
     sectors: &mut [u8],
     written: &mut [u32],
@@ -137,7 +137,7 @@ fn label_drives(
     rest
 }
 
-// The three phases.
+// The four phases.
 fn format_stores(
     sectors: &mut [u8],
     written: &mut [u32],
@@ -153,7 +153,8 @@ fn format_stores(
     ensures { λ r. ⌜ Made g budget r (formatStores g (isSet here) lost array) (tablesOf (now (sectors .entry)) (now (written .entry)) (now (durable .entry))) (tablesOf (now (sectors .exit)) (now (written .exit)) (now (durable .exit))) ⌝ }
 {
     let cleared = reset_drives(written, durable, g, here, budget);
-    let labelled = label_drives(sectors, written, g, here, lost, array, cleared);
+    let settled = super::flushing::flush_all(written, durable, g, here, cleared);
+    let labelled = label_drives(sectors, written, g, here, lost, array, settled);
     super::flushing::flush_all(written, durable, g, here, labelled)
 }
 

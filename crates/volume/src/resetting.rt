@@ -1,4 +1,5 @@
-// Reset: type 3 on the zone's two drives; flush all; reset the zone on all; counters raised, on all; flush all.
+// Reset: type 3 on the zone's two drives; flush all; reset the zone on all; flush all, so that no cut brings the old sectors back behind the raised counters;
+// counters raised, on all; flush all.
 use super::Answer;
 use super::Condition;
 use super::Outcome;
@@ -111,7 +112,7 @@ fn reset_zones(
     rest
 }
 
-// The fourth phase, and a step of a mount: the counters on every drive that is here.
+// The fifth phase, and a step of a mount: the counters on every drive that is here.
 pub fn log_counters(
     sectors: &mut [u8],
     written: &mut [u32],
@@ -169,7 +170,7 @@ fn raised_generations(state: State, z: usize) -> [u64; 16]
     out
 }
 
-// The five phases, with the generations that the counters give afterwards.
+// The six phases, with the generations that the counters give afterwards.
 fn reset_stores(
     sectors: &mut [u8],
     written: &mut [u32],
@@ -189,7 +190,8 @@ fn reset_stores(
     let logged = log_resets(sectors, written, g, here, z, generation, budget);
     let flushed = super::flushing::flush_all(written, durable, g, here, logged);
     let cleared = reset_zones(written, durable, g, here, z, flushed);
-    let counted = log_counters(sectors, written, g, here, generations, cleared);
+    let settled = super::flushing::flush_all(written, durable, g, here, cleared);
+    let counted = log_counters(sectors, written, g, here, generations, settled);
     super::flushing::flush_all(written, durable, g, here, counted)
 }
 

@@ -1,1 +1,2 @@
+pub mod CachesOnBytes
 pub mod OnBytes

@@ -76,8 +76,8 @@ module _ (g : Geometry) (ok : Valid g) (x a : ℕ) (v : Device) (lost : (x ≡ n
   after = applyAll (concat phases) v
 
   module _ (d : ℕ) (h : Here g x d) where
-    three : (y : ℕ) (o p : List LocalStore) → localStores d y (eachBelow wipes (g .drives)) ≡ o → localStores d y (eachBelow begins (g .drives)) ≡ p → localPhases d y phases ≡ o ∷ p ∷ (flushHere ∷ []) ∷ []
-    three y o p e f =
+    four : (y : ℕ) (o p : List LocalStore) → localStores d y (eachBelow wipes (g .drives)) ≡ o → localStores d y (eachBelow begins (g .drives)) ≡ p → localPhases d y phases ≡ o ∷ (flushHere ∷ []) ∷ p ∷ (flushHere ∷ []) ∷ []
+    four y o p e f =
         rw (
           on-present-local (presentBut g x) d y (eachBelow wipes (g .drives)) h,
           on-present-local (presentBut g x) d y (eachBelow begins (g .drives)) h,
@@ -106,11 +106,11 @@ module _ (g : Geometry) (ok : Valid g) (x a : ℕ) (v : Device) (lost : (x ≡ n
 
     log-is : after d generalZone ≡ record { sectors = map (encode g d) heads; durable = 2 }
     unfolding after
-    log-is = local-is d generalZone (concat phases) v ∙ ap (λ (os : List LocalStore). applyAllHere os (v d generalZone)) (local-whole d generalZone phases ∙ ap concat (three generalZone (resetHere ∷ []) (appendHere (encode g d (label x a)) ∷ appendHere (encode g d (counters ones)) ∷ []) (wiped generalZone (omega arith)) begun))
+    log-is = local-is d generalZone (concat phases) v ∙ ap (λ (os : List LocalStore). applyAllHere os (v d generalZone)) (local-whole d generalZone phases ∙ ap concat (four generalZone (resetHere ∷ []) (appendHere (encode g d (label x a)) ∷ appendHere (encode g d (counters ones)) ∷ []) (wiped generalZone (omega arith)) begun))
 
     place-is : (y : ℕ) → y < physicalZones g → y ≢ generalZone → after d y ≡ blankZone
     unfolding after
-    place-is y b n = local-is d y (concat phases) v ∙ ap (λ (os : List LocalStore). applyAllHere os (v d y)) (local-whole d y phases ∙ ap concat (three y (resetHere ∷ []) [] (wiped y b) (begun-other y n)))
+    place-is y b n = local-is d y (concat phases) v ∙ ap (λ (os : List LocalStore). applyAllHere os (v d y)) (local-whole d y phases ∙ ap concat (four y (resetHere ∷ []) [] (wiped y b) (begun-other y n)))
 
     -- a format stopped anywhere leaves no place longer than C
     pub format-room : (n y : ℕ) → y < physicalZones g → length (v d y .sectors) ≤ g .capacity → length (applyAll (take n (concat phases)) v d y .sectors) ≤ g .capacity
@@ -118,11 +118,11 @@ module _ (g : Geometry) (ok : Valid g) (x a : ℕ) (v : Device) (lost : (x ≡ n
       where
         whole : Dec (y ≡ generalZone) → (os : List LocalStore) × (localStores d y (concat phases) ≡ resetHere ∷ os) × (appendsIn os ≤ 2)
         whole (yes e) = (
-          appendHere (encode g d (label x a)) ∷ appendHere (encode g d (counters ones)) ∷ flushHere ∷ [],
-          local-whole d y phases ∙ ap concat (three y (resetHere ∷ []) (appendHere (encode g d (label x a)) ∷ appendHere (encode g d (counters ones)) ∷ []) (wiped y b) (rw e begun)),
+          flushHere ∷ appendHere (encode g d (label x a)) ∷ appendHere (encode g d (counters ones)) ∷ flushHere ∷ [],
+          local-whole d y phases ∙ ap concat (four y (resetHere ∷ []) (appendHere (encode g d (label x a)) ∷ appendHere (encode g d (counters ones)) ∷ []) (wiped y b) (rw e begun)),
           le-refl 2,
         )
-        whole (no e) = (flushHere ∷ [], local-whole d y phases ∙ ap concat (three y (resetHere ∷ []) [] (wiped y b) (begun-other y e)), zero-le)
+        whole (no e) = (flushHere ∷ flushHere ∷ [], local-whole d y phases ∙ ap concat (four y (resetHere ∷ []) [] (wiped y b) (begun-other y e)), zero-le)
 
         short : (all : List LocalStore) → (os : List LocalStore) × (all ≡ resetHere ∷ os) × (appendsIn os ≤ 2) → (os : List LocalStore) → Prefix os all → length (applyAllHere os (v d y) .sectors) ≤ g .capacity
         short all q [] p = k

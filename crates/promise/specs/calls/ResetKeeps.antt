@@ -1,36 +1,37 @@
--- A reset of a zone, stopped anywhere or finished. Each place sees a prefix of the five phases (reset entries, flush, resets, counters,
--- flush), so a stop is a part of one of the devices of ResetStages.antt; a finished reset leaves the zone empty and all at rest.
+-- A reset of a zone, stopped anywhere or finished. Each place sees a prefix of the six phases (reset entries, flush, resets, flush, counters,
+-- flush), so a stop is a part of one of the devices of ResetStages.antt, also where the zone comes back on drives that cache resets: its reset
+-- entries last then, and the counters are not raised. A finished reset leaves the zone empty and all at rest.
 use mathlib.Core.Path.{_≡_, refl, sym, ap, _∙_}
 use mathlib.Core.Logic.{_≢_, _⊎_, inl, inr}
-use mathlib.Core.Bool.{Bool, true, false, _&&_}
+use mathlib.Core.Bool.{true}
 use Prim.Native.Nat.{ℕ, zero, suc, _+_, _≤_, _<_, zero-le}
 use native.Mathlib.Nat.{le-refl}
 use native.Mathlib.Omega.{arith}
 use native.Mathlib.Decide.{ℕ-discrete}
-use mathlib.Core.List.{List, [], _∷_, _++_, map, append-assoc, List·Memᴰ}
+use mathlib.Core.List.{List, [], _∷_, _++_, map, append-assoc, List·Memᴰ, List·Memᴰ·head, List·Memᴰ·tail}
 use lib.ListN.{length, getD, take, length-append}
 use lib.Seq.{take-all}
 use lib.Dec.{eqb}
 use borrow.Author.Tests.{eq-eqb, ne-eqb}
 use Rattle.tables.specs.meaning.Basics.{pick}
-use Rattle.tables.specs.meaning.Below.{eachBelow}
 use Rattle.tables.specs.meaning.Device.{ZoneView, Device, Store, reset, blankZone, flushed, applyAll}
-use Rattle.tables.specs.laws.Local.{LocalStore, appendHere, resetHere, flushHere, applyAllHere, localStores, local-is, FrontOf, no-reset-appends, front-part, appends-here}
-use Rattle.tables.specs.laws.Lists.{Prefix, prefix-refl, prefix-trans, prefix-append, prefix-nil, prefix-under, prefix-one, map-append, length-map}
+use Rattle.tables.specs.laws.Local.{LocalStore, appendHere, resetHere, flushHere, applyAllHere, localStores, local-is, NoReset, FrontOf, no-reset-appends, front-part, appends-here}
+use Rattle.tables.specs.laws.Lists.{Prefix, prefix-refl, prefix-trans, prefix-append, prefix-nil, prefix-under, prefix-one, mem-nil, map-append, length-map}
 use Rattle.tables.specs.meaning.Lists.{concat}
-use Rattle.tables.specs.laws.Phases.{on-present-local, localPhases, local-whole, each-below-own, each-below-unseen, flush-all-local, Stop, stop-at, SeenPart, stop-seen, seen-prefix, seen-next}
-use Rattle.tables.specs.meaning.Phases.{eachOnPresent, flushAll}
+use Rattle.tables.specs.laws.Phases.{localPhases, local-whole, Stop, stop-at, SeenPart, stop-seen, seen-prefix, seen-next}
+use Rattle.tables.specs.meaning.Cached.{uncached}
 use Rattle.tables.specs.declared.Geometry.{Geometry}
 use Rattle.tables.specs.meaning.Geometry.{Valid, physicalZones, dataZone}
-use Rattle.logs.specs.meaning.Entry.{generalZone, wornGeneration, Header, counters, zoneReset, encode}
-use Rattle.tables.specs.laws.Drives.{presentBut, present-below}
+use Rattle.logs.specs.meaning.Entry.{generalZone, wornGeneration, Header, counters, encode}
+use Rattle.tables.specs.laws.Drives.{presentBut}
 use Rattle.logs.specs.meaning.Heads.{lastCounters, generationIn}
 use Rattle.volume.specs.declared.Condition.the-variants.{Empty, Worn}
 use Rattle.volume.specs.meaning.State.{StateView, setAt}
-use Rattle.promise.specs.invariant.Obligations.{ResetOk, ResetKeeps, ResetRests}
-use Rattle.volume.specs.meaning.Calls.{generationsFrom, raisedAt, logsReset, appendGeneral, resetPhases, resetStores, resetState}
+use Rattle.promise.specs.invariant.Obligations.{Invs, Rests, ResetOk, ResetKeeps, ResetRests}
+use Rattle.volume.specs.meaning.Calls.{generationsFrom, raisedAt, logsReset, resetStores, resetState}
 use Rattle.promise.specs.meaning.Ledger.{Ledger, afterStoppedReset, afterReset}
-use Rattle.promise.specs.invariant.Invariant.{Ghost, Here, Entries, Inv, Rest, RestZone}
+use Rattle.promise.specs.invariant.Invariant.{Ghost, Here, Entries, Inv, Rest, RestZone, LogGenerations}
+use Rattle.promise.specs.invariant.Delayed.{Delayed, delayed-none, BackHere, back-here, still-here, no-reset-part}
 use Rattle.promise.specs.invariant.StoppedCall.{Part, Parts, inv-part}
 use Rattle.promise.specs.invariant.UntouchedZone.{Untouched, untouched-rest}
 use Rattle.logs.specs.laws.HeadLaws.{zone-gen-map, last-counters-append}
@@ -39,9 +40,30 @@ use Rattle.promise.specs.invariant.EmptiedZone.{MadeEmpty, made-empty-re
 use Rattle.promise.specs.calls.ResetDevices.{After, grown, after-logs, generation-after, more-after}
 use Rattle.volume.specs.laws.Counters.{generations-at}
 use Rattle.promise.specs.calls.ResetStages as stages
+use Rattle.promise.specs.calls.ResetSees as sees
 
 pub front-is-part : (a b : ZoneView) → FrontOf (a .sectors) (a .durable) b → Part a b
 front-is-part a b k = record { front = k .pre; least = k .dur; most = k .wf }
+
+-- the zone's place while it is reset, and until that is flushed: as it was, its reset entries lasting, or blank (a: the place before; t: what it saw behind the
+-- first flush)
+place-resetting : (a b : ZoneView) (t : List LocalStore) → BackHere (flushHere ∷ t) a [] b → (t ≡ []) ⊎ ((t ≡ resetHere ∷ []) ⊎ (t ≡ resetHere ∷ flushHere ∷ [])) → Part (record { sectors = a .sectors; durable = zero }) b
+place-resetting a b t k (inl e) = go (rw e at k)
+  where
+    go : BackHere (flushHere ∷ []) a [] b → Part (record { sectors = a .sectors; durable = zero }) b
+    go (inl q) = rw q (record { front = prefix-refl (a .sectors); least = zero-le; most = le-refl (length (a .sectors)) })
+    go (inr m) = mem-nil b m
+place-resetting a b t k (inr (inl e)) = go (rw e at k)
+  where
+    go : BackHere (flushHere ∷ resetHere ∷ []) a [] b → Part (record { sectors = a .sectors; durable = zero }) b
+    go (inl q) = rw q (record { front = prefix-nil (a .sectors); least = zero-le; most = zero-le })
+    go (inr (List·Memᴰ·head q)) = rw q (record { front = prefix-refl (a .sectors); least = zero-le; most = le-refl (length (a .sectors)) })
+    go (inr (List·Memᴰ·tail m)) = mem-nil b m
+place-resetting a b t k (inr (inr e)) = go (rw e at k)
+  where
+    go : BackHere (flushHere ∷ resetHere ∷ flushHere ∷ []) a [] b → Part (record { sectors = a .sectors; durable = zero }) b
+    go (inl q) = rw q (record { front = prefix-nil (a .sectors); least = zero-le; most = zero-le })
+    go (inr m) = mem-nil b m
 
 module _ (g : Geometry) (ok : Valid g) (x : ℕ) (v : Device) (state : StateView) (l : Ledger) (γ : Ghost) (r : Rest g x v state l γ) (z : ℕ) (rk : ResetOk g (presentBut g x) v state z) where
   -- ---- from ResetStages.antt
@@ -71,9 +93,6 @@ module _ (g : Geometry) (ok : Valid g) (x : ℕ) (v : Device) (state : StateView
 
   abbrev countingDevice : Device
   countingDevice = stages.countingDevice g ok x v state l γ r z rk
-
-  general≢ : generalZone ≢ dataZone z
-  general≢ = stages.general≢ g ok x v state l γ r z rk
 
   at-zone : (d : ℕ) → (resettingDevice d (dataZone z) ≡ record { sectors = v d (dataZone z) .sectors; durable = zero }) × (countingDevice d (dataZone z) ≡ blankZone) × (loggingDevice d (dataZone z) ≡ v d (dataZone z))
   at-zone = stages.at-zone g ok x v state l γ r z rk
@@ -114,103 +133,38 @@ module _ (g : Geometry) (ok : Valid g) (x : ℕ) (v : Device) (state : StateView
   counting-inv : Inv g x countingDevice (afterStoppedReset l z) countingGhost
   counting-inv = stages.counting-inv g ok x v state l γ r z rk
 
-  -- ---- what each place sees of the phases
-  abbrev phase0 : ℕ → List Store
-  phase0 k = pick (logsReset g z k) (appendGeneral g (zoneReset z (state .generation z)) k) []
-
-  abbrev phase2 : ℕ → List Store
-  phase2 k = reset k (dataZone z) ∷ []
-
-  abbrev phase3 : ℕ → List Store
-  phase3 k = appendGeneral g raisedCounters k
-
+  -- ---- from ResetSees.antt
   abbrev phases : List (List Store)
-  phases = eachOnPresent (presentBut g x) (resetPhases g state z)
-
-  log-zone : (d k y : ℕ) (h : Header) → y ≢ generalZone → localStores d y (appendGeneral g h k) ≡ []
-  log-zone d k y h n = go (eqb d k)
-    where
-      go : (b : Bool) → pick (b && eqb y generalZone) (appendHere (encode g k h) ∷ []) [] ++ [] ≡ []
-      go true = rw (ne-eqb y generalZone n) refl
-      go false = refl
-
-  log-drive : (d k y : ℕ) (h : Header) → d ≢ k → localStores d y (appendGeneral g h k) ≡ []
-  log-drive d k y h n = rw (ne-eqb d k n) refl
-
-  log-own : (d : ℕ) (h : Header) → localStores d generalZone (appendGeneral g h d) ≡ appendHere (encode g d h) ∷ []
-  log-own d h = rw (eq-eqb d d refl) refl
-
-  picked : (d y k : ℕ) → localStores d y (appendGeneral g (zoneReset z (state .generation z)) k) ≡ [] → localStores d y (phase0 k) ≡ []
-  picked d y k e = go (logsReset g z k)
-    where
-      go : (b : Bool) → localStores d y (pick b (appendGeneral g (zoneReset z (state .generation z)) k) []) ≡ []
-      go true = e
-      go false = refl
-
-  picked-own : (d : ℕ) → localStores d generalZone (phase0 d) ≡ map appendHere (bytes d (resetEntries d))
-  picked-own d = go (logsReset g z d)
-    where
-      go : (b : Bool) → localStores d generalZone (pick b (appendGeneral g (zoneReset z (state .generation z)) d) []) ≡ map appendHere (bytes d (pick b (resetEntry ∷ []) []))
-      go true = log-own d (zoneReset z (state .generation z)) ∙ rw (here .generation-is) refl
-      go false = refl
-
-  reset-zone : (d k y : ℕ) → y ≢ dataZone z → localStores d y (phase2 k) ≡ []
-  reset-zone d k y n = go (eqb d k)
-    where
-      go : (b : Bool) → pick (b && eqb y (dataZone z)) (resetHere ∷ []) [] ++ [] ≡ []
-      go true = rw (ne-eqb y (dataZone z) n) refl
-      go false = refl
+  phases = sees.phases g ok x v state l γ r z rk
 
   abbrev tableLog : ℕ → List (List LocalStore)
-  tableLog d = map appendHere (bytes d (resetEntries d)) ∷ (flushHere ∷ []) ∷ [] ∷ (appendHere (encode g d raisedCounters) ∷ []) ∷ (flushHere ∷ []) ∷ []
+  tableLog = sees.tableLog g ok x v state l γ r z rk
 
   abbrev tableZone : List (List LocalStore)
-  tableZone = [] ∷ (flushHere ∷ []) ∷ (resetHere ∷ []) ∷ [] ∷ (flushHere ∷ []) ∷ []
+  tableZone = sees.tableZone g ok x v state l γ r z rk
 
   abbrev tableOther : List (List LocalStore)
-  tableOther = [] ∷ (flushHere ∷ []) ∷ [] ∷ [] ∷ (flushHere ∷ []) ∷ []
+  tableOther = sees.tableOther g ok x v state l γ r z rk
 
-  module _ (d : ℕ) (a : Here g x d) where
-    five : (y : ℕ) (o p q : List LocalStore) → localStores d y (eachBelow phase0 (g .drives)) ≡ o → localStores d y (eachBelow phase2 (g .drives)) ≡ p → localStores d y (eachBelow phase3 (g .drives)) ≡ q
-        → localPhases d y phases ≡ o ∷ (flushHere ∷ []) ∷ p ∷ q ∷ (flushHere ∷ []) ∷ []
-    five y o p q e f h =
-        rw (
-          on-present-local (presentBut g x) d y (eachBelow phase0 (g .drives)) a,
-          on-present-local (presentBut g x) d y (flushAll (g .drives)) a,
-          on-present-local (presentBut g x) d y (eachBelow phase2 (g .drives)) a,
-          on-present-local (presentBut g x) d y (eachBelow phase3 (g .drives)) a,
-          flush-all-local d y (g .drives) (present-below g x d a),
-          e,
-          f,
-          h,
-        )
-        refl
+  log-saw : (d : ℕ) → Here g x d → localPhases d generalZone phases ≡ tableLog d
+  log-saw = sees.log-saw g ok x v state l γ r z rk
 
-    log-saw : localPhases d generalZone phases ≡ tableLog d
-    log-saw = five generalZone (map appendHere (bytes d (resetEntries d))) [] (appendHere (encode g d raisedCounters) ∷ [])
-        (each-below-own phase0 d generalZone (λ k n. picked d generalZone k (log-drive d k generalZone (zoneReset z (state .generation z)) n)) (g .drives) (present-below g x d a) ∙ picked-own d)
-        (each-below-unseen phase2 d generalZone (λ k. reset-zone d k generalZone general≢) (g .drives))
-        (each-below-own phase3 d generalZone (λ k n. log-drive d k generalZone raisedCounters n) (g .drives) (present-below g x d a) ∙ log-own d raisedCounters)
+  zone-saw : (d : ℕ) → Here g x d → localPhases d (dataZone z) phases ≡ tableZone
+  zone-saw = sees.zone-saw g ok x v state l γ r z rk
 
-    zone-saw : localPhases d (dataZone z) phases ≡ tableZone
-    zone-saw = five (dataZone z) [] (resetHere ∷ []) []
-        (each-below-unseen phase0 d (dataZone z) (λ k. picked d (dataZone z) k (log-zone d k (dataZone z) (zoneReset z (state .generation z)) (λ e. omega arith))) (g .drives))
-        (each-below-own phase2 d (dataZone z) (λ k n. rw (ne-eqb d k n) refl) (g .drives) (present-below g x d a) ∙ rw (eq-eqb d d refl, eq-eqb (dataZone z) (dataZone z) refl) refl)
-        (each-below-unseen phase3 d (dataZone z) (λ k. log-zone d k (dataZone z) raisedCounters (λ e. omega arith)) (g .drives))
+  other-saw : (d : ℕ) → Here g x d → (y : ℕ) → y ≢ generalZone → y ≢ dataZone z → localPhases d y phases ≡ tableOther
+  other-saw = sees.other-saw g ok x v state l γ r z rk
 
-    other-saw : (y : ℕ) → y ≢ generalZone → y ≢ dataZone z → localPhases d y phases ≡ tableOther
-    other-saw y n m = five y [] [] []
-        (each-below-unseen phase0 d y (λ k. picked d y k (log-zone d k y (zoneReset z (state .generation z)) n)) (g .drives))
-        (each-below-unseen phase2 d y (λ k. reset-zone d k y m) (g .drives))
-        (each-below-unseen phase3 d y (λ k. log-zone d k y raisedCounters n) (g .drives))
-
-  -- ---- a stop
-  module _ (n : ℕ) where
+  -- ---- a stop (w: what is there then, the zone's places put back or not)
+  module _ (n : ℕ) (w : Device) (back : Delayed g x v (take n (concat phases)) w) where
     abbrev some : List Store
     some = take n (concat phases)
 
     stop : Stop phases some
     stop = stop-at phases n
+
+    saw : (d y : ℕ) → BackHere (localStores d y some) (v d y) [] (w d y)
+    saw d y = back-here g x (uncached v) some w back d y
 
     sawLog : (d : ℕ) → Here g x d → SeenPart (tableLog d) (stop .phase) (localStores d generalZone some)
     sawLog d a = rw (log-saw d a) at (stop-seen d generalZone phases some stop)
@@ -219,16 +173,19 @@ module _ (g : Geometry) (ok : Valid g) (x : ℕ) (v : Device) (state : StateView
     sawZone d a = rw (zone-saw d a) at (stop-seen d (dataZone z) phases some stop)
 
     -- places that the reset only flushes
-    otherPart : (d y : ℕ) → Here g x d → y < physicalZones g → y ≢ generalZone → y ≢ dataZone z → Part (v d y) (applyAll some v d y)
+    otherPart : (d y : ℕ) → Here g x d → y < physicalZones g → y ≢ generalZone → y ≢ dataZone z → Part (v d y) (w d y)
     otherPart d y a h p q =
         let s : SeenPart tableOther (stop .phase) (localStores d y some) = rw (other-saw d a y p q) at (stop-seen d y phases some stop) in
-        rw (local-is d y some v) (front-is-part (v d y) (applyAllHere (localStores d y some) (v d y)) (front-part (v d y .sectors) (v d y .durable) (v d y) (localStores d y some) (flushHere ∷ flushHere ∷ []) (r .logs .lasting d y a h) (le-refl (v d y .durable)) tt (seen-prefix tableOther (stop .phase) (localStores d y some) s) (prefix-refl (v d y .sectors))))
+        let f : Prefix (localStores d y some) (flushHere ∷ flushHere ∷ flushHere ∷ []) = seen-prefix tableOther (stop .phase) (localStores d y some) s in
+        let e : w d y ≡ applyAllHere (localStores d y some) (v d y) = still-here (localStores d y some) (v d y) (w d y) (no-reset-part (localStores d y some) (flushHere ∷ flushHere ∷ flushHere ∷ []) f tt) (saw d y) in
+        rw e (front-is-part (v d y) (applyAllHere (localStores d y some) (v d y))
+        (front-part (v d y .sectors) (v d y .durable) (v d y) (localStores d y some) (flushHere ∷ flushHere ∷ flushHere ∷ []) (r .logs .lasting d y a h) (le-refl (v d y .durable)) tt f (prefix-refl (v d y .sectors))))
 
-    parts : (w : Device) → ((d : ℕ) → Here g x d → Part (w d generalZone) (applyAll some v d generalZone)) → ((d : ℕ) → Here g x d → Part (w d (dataZone z)) (applyAll some v d (dataZone z)))
-        → ((d y : ℕ) → y ≢ generalZone → y ≢ dataZone z → w d y ≡ v d y) → Parts g x w (applyAll some v)
-    parts w pl pz po d y a h = go (ℕ-discrete y generalZone) (ℕ-discrete y (dataZone z))
+    parts : (b : Device) → ((d : ℕ) → Here g x d → Part (b d generalZone) (w d generalZone)) → ((d : ℕ) → Here g x d → Part (b d (dataZone z)) (w d (dataZone z)))
+        → ((d y : ℕ) → y ≢ generalZone → y ≢ dataZone z → b d y ≡ v d y) → Parts g x b w
+    parts b pl pz po d y a h = go (ℕ-discrete y generalZone) (ℕ-discrete y (dataZone z))
       where
-        go : Dec (y ≡ generalZone) → Dec (y ≡ dataZone z) → Part (w d y) (applyAll some v d y)
+        go : Dec (y ≡ generalZone) → Dec (y ≡ dataZone z) → Part (b d y) (w d y)
         go (yes e) q = rw e (pl d a)
         go (no e) (yes q) = rw q (pz d a)
         go (no e) (no q) = rw (po d y e q) (otherPart d y a h e q)
@@ -238,6 +195,16 @@ module _ (g : Geometry) (ok : Valid g) (x : ℕ) (v : Device) (state : StateView
 
     lastingZ : (d : ℕ) → Here g x d → v d (dataZone z) .durable ≤ length (v d (dataZone z) .sectors)
     lastingZ d a = r .logs .lasting d (dataZone z) a (omega (arith, rk .zone-ok))
+
+    -- the log is never reset
+    log-now : (d : ℕ) → Here g x d → w d generalZone ≡ applyAllHere (localStores d generalZone some) (v d generalZone)
+    log-now d a =
+        let all = concat (tableLog d) in
+        let none : NoReset all = no-reset-appends (bytes d (resetEntries d)) (flushHere ∷ flushHere ∷ appendHere (encode g d raisedCounters) ∷ flushHere ∷ []) tt in
+        still-here (localStores d generalZone some) (v d generalZone) (w d generalZone) (no-reset-part (localStores d generalZone some) all (seen-prefix (tableLog d) (stop .phase) (localStores d generalZone some) (sawLog d a)) none) (saw d generalZone)
+
+    abbrev laterLog : ℕ → List (List LocalStore)
+    laterLog d = [] ∷ (flushHere ∷ []) ∷ (appendHere (encode g d raisedCounters) ∷ []) ∷ (flushHere ∷ []) ∷ []
 
     logging-log : (d : ℕ) → Here g x d → (i : ℕ) (os : List LocalStore) → i < 2 → SeenPart (tableLog d) i os → Part (loggingDevice d generalZone) (applyAllHere os (v d generalZone))
     logging-log d a i os h s =
@@ -250,62 +217,83 @@ module _ (g : Geometry) (ok : Valid g) (x : ℕ) (v : Device) (state : StateView
         few : (i : ℕ) → i < 2 → SeenPart (tableLog d) i os → Prefix os (map appendHere (bytes d (resetEntries d)) ++ (flushHere ∷ []))
         few zero h s = rw (s .is) (prefix-trans (s .pre) (prefix-append (map appendHere (bytes d (resetEntries d))) (flushHere ∷ [])))
         few (suc zero) h s =
-            let (t, e, u) = seen-next (map appendHere (bytes d (resetEntries d))) ((flushHere ∷ []) ∷ [] ∷ (appendHere (encode g d raisedCounters) ∷ []) ∷ (flushHere ∷ []) ∷ []) zero os s in
+            let (t, e, u) = seen-next (map appendHere (bytes d (resetEntries d))) ((flushHere ∷ []) ∷ laterLog d) zero os s in
             rw e (prefix-under (map appendHere (bytes d (resetEntries d))) (rw (u .is) (u .pre)))
         few (suc (suc j)) h s = absurd (omega arith)
 
     -- the first two phases are over
     past : (d : ℕ) → Here g x d → (j : ℕ) (os : List LocalStore) → SeenPart (tableLog d) (suc (suc j)) os
-        → (t : List LocalStore) × (applyAllHere os (v d generalZone) ≡ applyAllHere t (flushed (record { sectors = v d generalZone .sectors ++ bytes d (resetEntries d); durable = v d generalZone .durable }))) × SeenPart ([] ∷ (appendHere (encode g d raisedCounters) ∷ []) ∷ (flushHere ∷ []) ∷ []) j t
+        → (t : List LocalStore) × (applyAllHere os (v d generalZone) ≡ applyAllHere t (flushed (record { sectors = v d generalZone .sectors ++ bytes d (resetEntries d); durable = v d generalZone .durable }))) × SeenPart (laterLog d) j t
     past d a j os s =
-        let (t, e, u) = seen-next (map appendHere (bytes d (resetEntries d))) ((flushHere ∷ []) ∷ [] ∷ (appendHere (encode g d raisedCounters) ∷ []) ∷ (flushHere ∷ []) ∷ []) (suc j) os s in
-        let (t2, e2, u2) = seen-next (flushHere ∷ []) ([] ∷ (appendHere (encode g d raisedCounters) ∷ []) ∷ (flushHere ∷ []) ∷ []) j t u in
+        let (t, e, u) = seen-next (map appendHere (bytes d (resetEntries d))) ((flushHere ∷ []) ∷ laterLog d) (suc j) os s in
+        let (t2, e2, u2) = seen-next (flushHere ∷ []) (laterLog d) j t u in
         let q : os ≡ map appendHere (bytes d (resetEntries d)) ++ (flushHere ∷ t2) = e ∙ ap (λ (b : List LocalStore). map appendHere (bytes d (resetEntries d)) ++ b) e2 in
         (t2, ap (λ (b : List LocalStore). applyAllHere b (v d generalZone)) q ∙ appends-here (bytes d (resetEntries d)) (flushHere ∷ t2) (v d generalZone), u2)
 
-    resetting-log : (d : ℕ) → Here g x d → (os : List LocalStore) → SeenPart (tableLog d) 2 os → Part (resettingDevice d generalZone) (applyAllHere os (v d generalZone))
-    resetting-log d a os s =
+    resetting-log : (d : ℕ) → Here g x d → (j : ℕ) (os : List LocalStore) → j < 2 → SeenPart (tableLog d) (suc (suc j)) os → Part (resettingDevice d generalZone) (applyAllHere os (v d generalZone))
+    resetting-log d a j os h s =
         let c : ZoneView = record { sectors = v d generalZone .sectors ++ bytes d (resetEntries d); durable = v d generalZone .durable } in
-        let (t, e, u) = past d a zero os s in
-        rw e (front-is-part (resettingDevice d generalZone) (applyAllHere t (flushed c)) (front-part (c .sectors) (length (c .sectors)) (flushed c) t [] (le-refl (length (c .sectors))) (le-refl (length (c .sectors))) tt (rw (u .is) (u .pre)) (prefix-refl (c .sectors))))
+        let (t, e, u) = past d a j os s in
+        rw e (front-is-part (resettingDevice d generalZone) (applyAllHere t (flushed c))
+        (front-part (c .sectors) (length (c .sectors)) (flushed c) t (flushHere ∷ []) (le-refl (length (c .sectors))) (le-refl (length (c .sectors))) tt (few j h t u) (prefix-refl (c .sectors))))
+      where
+        few : (j : ℕ) → j < 2 → (t : List LocalStore) → SeenPart (laterLog d) j t → Prefix t (flushHere ∷ [])
+        few zero h t u = rw (u .is) (prefix-trans (u .pre) (prefix-nil (flushHere ∷ [])))
+        few (suc zero) h t u = rw (u .is) (u .pre)
+        few (suc (suc i)) h t u = absurd (omega arith)
 
-    counting-log : (d : ℕ) → Here g x d → (j : ℕ) (os : List LocalStore) → SeenPart (tableLog d) (suc (suc (suc j))) os → Part (countingDevice d generalZone) (applyAllHere os (v d generalZone))
+    counting-log : (d : ℕ) → Here g x d → (j : ℕ) (os : List LocalStore) → SeenPart (tableLog d) (suc (suc (suc (suc j)))) os → Part (countingDevice d generalZone) (applyAllHere os (v d generalZone))
     counting-log d a j os s =
         let c : ZoneView = record { sectors = v d generalZone .sectors ++ bytes d (resetEntries d); durable = v d generalZone .durable } in
-        let (t, e, u) = past d a (suc j) os s in
-        let (t2, e2, u2) = seen-next [] ((appendHere (encode g d raisedCounters) ∷ []) ∷ (flushHere ∷ []) ∷ []) j t u in
-        let p : Prefix t2 (appendHere (encode g d raisedCounters) ∷ flushHere ∷ []) = seen-prefix ((appendHere (encode g d raisedCounters) ∷ []) ∷ (flushHere ∷ []) ∷ []) j t2 u2 in
+        let (t, e, u) = past d a (suc (suc j)) os s in
+        let (t2, e2, u2) = seen-next [] ((flushHere ∷ []) ∷ (appendHere (encode g d raisedCounters) ∷ []) ∷ (flushHere ∷ []) ∷ []) (suc j) t u in
+        let (t3, e3, u3) = seen-next (flushHere ∷ []) ((appendHere (encode g d raisedCounters) ∷ []) ∷ (flushHere ∷ []) ∷ []) j t2 u2 in
+        let p : Prefix t3 (appendHere (encode g d raisedCounters) ∷ flushHere ∷ []) = seen-prefix ((appendHere (encode g d raisedCounters) ∷ []) ∷ (flushHere ∷ []) ∷ []) j t3 u3 in
         let q : (v d generalZone .sectors ++ bytes d (resetEntries d)) ++ (encode g d raisedCounters ∷ []) ≡ v d generalZone .sectors ++ bytes d (bothEntries d) =
         append-assoc (v d generalZone .sectors) (bytes d (resetEntries d)) (encode g d raisedCounters ∷ []) ∙ ap (λ (b : List (List ℕ)). v d generalZone .sectors ++ b) (sym (map-append (encode g d) (resetEntries d) (raisedCounters ∷ []))) in
         let all = v d generalZone .sectors ++ bytes d (bothEntries d) in
         let lasts = le-refl (length (c .sectors)) in
-        rw (e, e2) (front-is-part (countingDevice d generalZone) (applyAllHere t2 (flushed c))
-        (front-part all (length (c .sectors)) (flushed c) t2 (appendHere (encode g d raisedCounters) ∷ flushHere ∷ []) lasts lasts tt p (rw q (prefix-refl all))))
+        rw (e, e2, e3) (front-is-part (countingDevice d generalZone) (applyAllHere t3 (flushed c))
+        (front-part all (length (c .sectors)) (flushed c) t3 (appendHere (encode g d raisedCounters) ∷ flushHere ∷ []) lasts lasts tt p (rw q (prefix-refl all))))
 
-    logging-zone : (d : ℕ) → Here g x d → (i : ℕ) (os : List LocalStore) → i < 2 → SeenPart tableZone i os → Part (loggingDevice d (dataZone z)) (applyAllHere os (v d (dataZone z)))
-    logging-zone d a i os h s = rw (at-zone d .2) (front-is-part (v d (dataZone z)) (applyAllHere os (v d (dataZone z))) (front-part (v d (dataZone z) .sectors) (v d (dataZone z) .durable) (v d (dataZone z)) os (flushHere ∷ []) (lastingZ d a) (le-refl (v d (dataZone z) .durable)) tt (few i h s) (prefix-refl (v d (dataZone z) .sectors))))
+    logging-zone : (d : ℕ) → Here g x d → (i : ℕ) (os : List LocalStore) (b : ZoneView) → i < 2 → SeenPart tableZone i os → BackHere os (v d (dataZone z)) [] b → Part (loggingDevice d (dataZone z)) b
+    logging-zone d a i os b h s k =
+        let f = few i h s in
+        let e : b ≡ applyAllHere os (v d (dataZone z)) = still-here os (v d (dataZone z)) b (no-reset-part os (flushHere ∷ []) f tt) k in
+        rw (at-zone d .2, e) (front-is-part (v d (dataZone z)) (applyAllHere os (v d (dataZone z)))
+        (front-part (v d (dataZone z) .sectors) (v d (dataZone z) .durable) (v d (dataZone z)) os (flushHere ∷ []) (lastingZ d a) (le-refl (v d (dataZone z) .durable)) tt f (prefix-refl (v d (dataZone z) .sectors))))
       where
         few : (i : ℕ) → i < 2 → SeenPart tableZone i os → Prefix os (flushHere ∷ [])
         few zero h s = rw (s .is) (prefix-trans (s .pre) (prefix-append [] (flushHere ∷ [])))
         few (suc zero) h s = rw (s .is) (s .pre)
         few (suc (suc j)) h s = absurd (omega arith)
 
-    resetting-zone : (d : ℕ) → Here g x d → (os : List LocalStore) → SeenPart tableZone 2 os → Part (resettingDevice d (dataZone z)) (applyAllHere os (v d (dataZone z)))
-    resetting-zone d a os s = rw (at-zone d .0, s .is) (go (s .part) (prefix-one resetHere (s .part) (s .pre)))
+    -- not yet reset; reset, and perhaps put back; reset and flushed
+    resetting-zone : (d : ℕ) → Here g x d → (j : ℕ) (os : List LocalStore) (b : ZoneView) → j < 2 → SeenPart tableZone (suc (suc j)) os → BackHere os (v d (dataZone z)) [] b → Part (resettingDevice d (dataZone z)) b
+    resetting-zone d a zero os b h s k = rw (at-zone d .0) (place-resetting (v d (dataZone z)) b (s .part) (rw (s .is) at k) (first (prefix-one resetHere (s .part) (s .pre))))
       where
-        go : (t : List LocalStore) → (t ≡ []) ⊎ (t ≡ resetHere ∷ []) → Part (record { sectors = v d (dataZone z) .sectors; durable = zero }) (applyAllHere t (flushed (v d (dataZone z))))
-        go t (inl e) = rw e (record { front = prefix-refl (v d (dataZone z) .sectors); least = zero-le; most = le-refl (length (v d (dataZone z) .sectors)) })
-        go t (inr e) = rw e (record { front = prefix-nil (v d (dataZone z) .sectors); least = zero-le; most = zero-le })
+        first : (s .part ≡ []) ⊎ (s .part ≡ resetHere ∷ []) → (s .part ≡ []) ⊎ ((s .part ≡ resetHere ∷ []) ⊎ (s .part ≡ resetHere ∷ flushHere ∷ []))
+        first (inl e) = inl e
+        first (inr e) = inr (inl e)
+    resetting-zone d a (suc zero) os b h s k = rw (at-zone d .0) (place-resetting (v d (dataZone z)) b (resetHere ∷ s .part) (rw (s .is) at k) (first (prefix-one flushHere (s .part) (s .pre))))
+      where
+        first : (s .part ≡ []) ⊎ (s .part ≡ flushHere ∷ []) → (resetHere ∷ s .part ≡ []) ⊎ ((resetHere ∷ s .part ≡ resetHere ∷ []) ⊎ (resetHere ∷ s .part ≡ resetHere ∷ flushHere ∷ []))
+        first (inl e) = inr (inl (ap (λ (t : List LocalStore). resetHere ∷ t) e))
+        first (inr e) = inr (inr (ap (λ (t : List LocalStore). resetHere ∷ t) e))
+    resetting-zone d a (suc (suc j)) os b h s k = absurd (omega arith)
 
-    counting-zone : (d : ℕ) → Here g x d → (j : ℕ) (os : List LocalStore) → SeenPart tableZone (suc (suc (suc j))) os → Part (countingDevice d (dataZone z)) (applyAllHere os (v d (dataZone z)))
-    counting-zone d a j os s =
-        let (t, e, u) = seen-next [] ((flushHere ∷ []) ∷ (resetHere ∷ []) ∷ [] ∷ (flushHere ∷ []) ∷ []) (suc (suc j)) os s in
-        let (t2, e2, u2) = seen-next (flushHere ∷ []) ((resetHere ∷ []) ∷ [] ∷ (flushHere ∷ []) ∷ []) (suc j) t u in
-        let (t3, e3, u3) = seen-next (resetHere ∷ []) ([] ∷ (flushHere ∷ []) ∷ []) j t2 u2 in
-        let p : Prefix t3 (flushHere ∷ []) = seen-prefix ([] ∷ (flushHere ∷ []) ∷ []) j t3 u3 in
-        rw (at-zone d .1, e, e2, e3) (front-is-part blankZone (applyAllHere t3 blankZone) (front-part [] zero blankZone t3 (flushHere ∷ []) zero-le zero-le tt p (prefix-refl [])))
+    counting-zone : (d : ℕ) → Here g x d → (j : ℕ) (os : List LocalStore) (b : ZoneView) → SeenPart tableZone (suc (suc (suc (suc j)))) os → BackHere os (v d (dataZone z)) [] b → Part (countingDevice d (dataZone z)) b
+    counting-zone d a j os b s k =
+        let (t, e, u) = seen-next [] ((flushHere ∷ []) ∷ (resetHere ∷ []) ∷ (flushHere ∷ []) ∷ [] ∷ (flushHere ∷ []) ∷ []) (suc (suc (suc j))) os s in
+        let (t2, e2, u2) = seen-next (flushHere ∷ []) ((resetHere ∷ []) ∷ (flushHere ∷ []) ∷ [] ∷ (flushHere ∷ []) ∷ []) (suc (suc j)) t u in
+        let (t3, e3, u3) = seen-next (resetHere ∷ []) ((flushHere ∷ []) ∷ [] ∷ (flushHere ∷ []) ∷ []) (suc j) t2 u2 in
+        let (t4, e4, u4) = seen-next (flushHere ∷ []) ([] ∷ (flushHere ∷ []) ∷ []) j t3 u3 in
+        let p : Prefix t4 (flushHere ∷ []) = seen-prefix ([] ∷ (flushHere ∷ []) ∷ []) j t4 u4 in
+        let q : os ≡ flushHere ∷ resetHere ∷ flushHere ∷ t4 = e ∙ e2 ∙ ap (λ (l : List LocalStore). flushHere ∷ l) (e3 ∙ ap (λ (l : List LocalStore). resetHere ∷ l) e4) in
+        let i : b ≡ applyAllHere t4 blankZone = still-here t4 blankZone b (no-reset-part t4 (flushHere ∷ []) p tt) (rw q at k) in
+        rw (at-zone d .1, i) (front-is-part blankZone (applyAllHere t4 blankZone) (front-part [] zero blankZone t4 (flushHere ∷ []) zero-le zero-le tt p (prefix-refl [])))
 
-    stopped : (δ : Ghost) × Inv g x (applyAll some v) (afterStoppedReset l z) δ × (δ .closed ≡ γ .closed)
+    stopped : (δ : Ghost) × Inv g x w (afterStoppedReset l z) δ × (δ .closed ≡ γ .closed)
     stopped = go (stop .phase) refl
       where
         at-log : (d i : ℕ) → Here g x d → stop .phase ≡ i → SeenPart (tableLog d) i (localStores d generalZone some)
@@ -314,22 +302,26 @@ module _ (g : Geometry) (ok : Valid g) (x : ℕ) (v : Device) (state : StateView
         at-data : (d i : ℕ) → Here g x d → stop .phase ≡ i → SeenPart tableZone i (localStores d (dataZone z) some)
         at-data d i a e = rw e at (sawZone d a)
 
-        early : (i : ℕ) → i < 2 → stop .phase ≡ i → (δ : Ghost) × Inv g x (applyAll some v) (afterStoppedReset l z) δ × (δ .closed ≡ γ .closed)
-        early i h e = inv-part g x loggingDevice (applyAll some v) (afterStoppedReset l z) loggingGhost logging-inv (parts loggingDevice
-            (λ d a. rw (local-is d generalZone some v) (logging-log d a i (localStores d generalZone some) h (at-log d i a e)))
-            (λ d a. rw (local-is d (dataZone z) some v) (logging-zone d a i (localStores d (dataZone z) some) h (at-data d i a e)))
+        early : (i : ℕ) → i < 2 → stop .phase ≡ i → (δ : Ghost) × Inv g x w (afterStoppedReset l z) δ × (δ .closed ≡ γ .closed)
+        early i h e = inv-part g x loggingDevice w (afterStoppedReset l z) loggingGhost logging-inv (parts loggingDevice
+            (λ d a. rw (log-now d a) (logging-log d a i (localStores d generalZone some) h (at-log d i a e)))
+            (λ d a. logging-zone d a i (localStores d (dataZone z) some) (w d (dataZone z)) h (at-data d i a e) (saw d (dataZone z)))
             (λ d y p q. at-other d y p q .2))
 
-        go : (i : ℕ) → stop .phase ≡ i → (δ : Ghost) × Inv g x (applyAll some v) (afterStoppedReset l z) δ × (δ .closed ≡ γ .closed)
+        middle : (j : ℕ) → j < 2 → stop .phase ≡ suc (suc j) → (δ : Ghost) × Inv g x w (afterStoppedReset l z) δ × (δ .closed ≡ γ .closed)
+        middle j h e = inv-part g x resettingDevice w (afterStoppedReset l z) loggingGhost resetting-inv (parts resettingDevice
+            (λ d a. rw (log-now d a) (resetting-log d a j (localStores d generalZone some) h (at-log d (suc (suc j)) a e)))
+            (λ d a. resetting-zone d a j (localStores d (dataZone z) some) (w d (dataZone z)) h (at-data d (suc (suc j)) a e) (saw d (dataZone z)))
+            (λ d y p q. at-other d y p q .0))
+
+        go : (i : ℕ) → stop .phase ≡ i → (δ : Ghost) × Inv g x w (afterStoppedReset l z) δ × (δ .closed ≡ γ .closed)
         go zero e = early zero (omega arith) e
         go (suc zero) e = early 1 (omega arith) e
-        go (suc (suc zero)) e = inv-part g x resettingDevice (applyAll some v) (afterStoppedReset l z) loggingGhost resetting-inv (parts resettingDevice
-            (λ d a. rw (local-is d generalZone some v) (resetting-log d a (localStores d generalZone some) (at-log d 2 a e)))
-            (λ d a. rw (local-is d (dataZone z) some v) (resetting-zone d a (localStores d (dataZone z) some) (at-data d 2 a e)))
-            (λ d y p q. at-other d y p q .0))
-        go (suc (suc (suc j))) e = inv-part g x countingDevice (applyAll some v) (afterStoppedReset l z) countingGhost counting-inv (parts countingDevice
-            (λ d a. rw (local-is d generalZone some v) (counting-log d a j (localStores d generalZone some) (at-log d (suc (suc (suc j))) a e)))
-            (λ d a. rw (local-is d (dataZone z) some v) (counting-zone d a j (localStores d (dataZone z) some) (at-data d (suc (suc (suc j))) a e)))
+        go (suc (suc zero)) e = middle zero (omega arith) e
+        go (suc (suc (suc zero))) e = middle 1 (omega arith) e
+        go (suc (suc (suc (suc j)))) e = inv-part g x countingDevice w (afterStoppedReset l z) countingGhost counting-inv (parts countingDevice
+            (λ d a. rw (log-now d a) (counting-log d a j (localStores d generalZone some) (at-log d (suc (suc (suc (suc j)))) a e)))
+            (λ d a. counting-zone d a j (localStores d (dataZone z) some) (w d (dataZone z)) (at-data d (suc (suc (suc (suc j)))) a e) (saw d (dataZone z)))
             (λ d y p q. at-other d y p q .1))
 
   -- ---- a finished reset
@@ -342,7 +334,7 @@ module _ (g : Geometry) (ok : Valid g) (x : ℕ) (v : Device) (state : StateView
       let q : (v d generalZone .sectors ++ bytes d (resetEntries d)) ++ (encode g d raisedCounters ∷ []) ≡ v d generalZone .sectors ++ bytes d (bothEntries d) =
       append-assoc (v d generalZone .sectors) (bytes d (resetEntries d)) (encode g d raisedCounters ∷ []) ∙ ap (λ (b : List (List ℕ)). v d generalZone .sectors ++ b) (sym (map-append (encode g d) (resetEntries d) (raisedCounters ∷ []))) in
       local-is d generalZone (concat phases) v ∙ ap (λ (os : List LocalStore). applyAllHere os (v d generalZone)) (local-whole d generalZone phases ∙ ap concat (log-saw d a))
-      ∙ appends-here (bytes d (resetEntries d)) (flushHere ∷ appendHere (encode g d raisedCounters) ∷ flushHere ∷ []) (v d generalZone)
+      ∙ appends-here (bytes d (resetEntries d)) (flushHere ∷ flushHere ∷ appendHere (encode g d raisedCounters) ∷ flushHere ∷ []) (v d generalZone)
       ∙ (λ i. record { sectors = q i; durable = length (q i) })
 
   done-zone : (d : ℕ) → Here g x d → doneDevice d (dataZone z) ≡ blankZone
@@ -459,7 +451,14 @@ module _ (g : Geometry) (ok : Valid g) (x : ℕ) (v : Device) (state : StateView
 
 pub reset-keeps : (g : Geometry) → Valid g → ResetKeeps g
 unfolding resetStores
-reset-keeps g ok c x v state l z n (γ, r, e) w = let (δ, j, p) = stopped g ok x v state l γ r z w n in (δ, j, p ∙ e)
+reset-keeps g ok c x v state l z n (γ, r, e) w = let xs = take n (resetStores g (presentBut g x) state z) in
+    let (δ, j, p) = stopped g ok x v state l γ r z w n (applyAll xs v) (delayed-none g x v xs) in (δ, j, p ∙ e)
+
+-- and with the zone's places put back
+pub reset-keeps-delayed : (g : Geometry) → Valid g → (c : LogGenerations) (x : ℕ) (v : Device) (state : StateView) (l : Ledger) (z n : ℕ) → Rests c g x v state l → ResetOk g (presentBut g x) v state z
+    → (u : Device) → Delayed g x v (take n (resetStores g (presentBut g x) state z)) u → Invs c g x u (afterStoppedReset l z)
+unfolding resetStores
+reset-keeps-delayed g ok c x v state l z n (γ, r, e) w u k = let (δ, j, p) = stopped g ok x v state l γ r z w n u k in (δ, j, p ∙ e)
 
 pub reset-rests : (g : Geometry) → Valid g → ResetRests g
 unfolding resetStores

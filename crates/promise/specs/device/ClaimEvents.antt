@@ -120,7 +120,7 @@ module _ (g : Geometry) (ok : Valid g) (t : TableLengths) where
       pub lost-of-look : lostDriveIn g named (s .memory) ≡ s .lost
       lost-of-look = found-same g named (allBut (s .lost)) (names .drives) (byRoles g (s .memory)) ∙ fine .lost
 
-      lost-of-call : s .mode ≡ ready → lostIn g named (s .state) ≡ s .lost
+      pub lost-of-call : s .mode ≡ ready → lostIn g named (s .state) ≡ s .lost
       lost-of-call m = let (k, c, a, (st, (γ, r, same))) = rests-of g t s o m in lost-in g ok (s .lost) (byRoles g (s .memory)) γ (r .logs) named (s .state) (drives-of-call m)
 
       pub mount-allowed : firstRefusal (mountRows g t (badPointers g named (s .memory)) named (roles g (s .memory)) (byRoles g (s .memory))) ≡ accept

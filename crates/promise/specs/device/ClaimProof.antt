@@ -1,6 +1,6 @@
--- The claim holds. Under what the events keep (ClaimEvents.antt) no look is refused and each fits, so does each finished mount, a look's state is what
+-- What is promised holds at a point of a history: under what the events keep (ClaimEvents.antt) no look is refused and each fits, so does each finished mount, a look's state is what
 -- the host holds, reads and peeks give the content, and calls are refused for a cause alone; so at every point of a history.
-use Rattle.volume.specs.meaning.Refusals.{Verdict, goneIn, notHeld, badPointers, twoLost, kindLacks, badLabels, badLogs, refuse, accept, TableLengths, zoneOf, offsetOf, stateWithin, tablesFit, wornFor, goneBefore, goneForEntry, twoAbsent, stale, formatRows, lookRows, mountRows, writeRows, flushRows, resetRows, readRows, peekRows, firstRefusal}
+use Rattle.volume.specs.meaning.Refusals.{Verdict, goneIn, notHeld, badPointers, twoLost, kindLacks, badLabels, badLogs, refuse, accept, TableLengths, zoneOf, offsetOf, stateWithin, tablesFit, wornFor, goneBefore, goneForEntry, twoAbsent, stale, lookRows, mountRows, writeRows, flushRows, resetRows, readRows, peekRows, firstRefusal}
 use mathlib.Core.Logic.{_≢_, inl, inr}
 use mathlib.Core.Bool.{_||_, Bool, true, false, _&&_, not}
 use Rattle.promise.specs.device.AcceptedCalls.{Applies, refused-applies, storing-finished, storing-refused, two-same, pointers-same}
@@ -30,34 +30,29 @@ use Rattle.volume.specs.meaning.Content.{at}
 use Rattle.volume.specs.meaning.Rules.{isPresent, showing, valueAt}
 use Rattle.volume.specs.meaning.Roles.{roles, byRoles}
 use Rattle.volume.specs.meaning.Emptying.{byState}
-use Rattle.volume.specs.meaning.Calls.{formatStores, formatState}
 use Rattle.volume.specs.meaning.Mount.{mountStores, mountShows, mountState}
-use Rattle.promise.specs.meaning.Ledger.{freshLedger, Fits}
+use Rattle.promise.specs.meaning.Ledger.{Fits}
 use Rattle.promise.specs.invariant.Invariant.{Ghost, Rest}
-use Rattle.promise.specs.invariant.Obligations.{neverEmptied}
 use Rattle.promise.specs.look.LookFits.{rest-known}
 use Rattle.tables.specs.meaning.Tables.{bufferFits}
-use Rattle.volume.specs.meaning.Answers.{CallResult, StoringCall, giving, storing, Place, leftOut, namedDrives, lookCall, placeOf, presentIn, lostDriveIn}
+use Rattle.volume.specs.meaning.Answers.{CallResult, StoringCall, giving, Place, lookCall, placeOf, presentIn, lostDriveIn}
 use Rattle.volume.specs.meaning.CallContracts.{byteOf}
 use Rattle.volume.specs.declared.Answer.the-variants.{Finished, Refused}
 use Rattle.volume.specs.declared.ZoneDescriptor.{ZoneDescriptor}
 use Rattle.volume.specs.meaning.Report.{reportOn}
 use Rattle.volume.specs.laws.Report.{report-finished, report-same}
-use Rattle.promise.specs.meaning.Claim.{mounts, writes, flushes, resets, start, ready, System, NamesAll, MayMount, allBut, contentBytes, SameZones, ResetRefusal, noSuchZone, wornOut, generalLogFull, WriteRefusal, bufferLength, noSuchAddress, noSectors, pastTheEnd, notAtPointer, sealedZone, wornZone, parityLogFull, Promise}
-use Rattle.promise.specs.meaning.OnDevice.{callOf, lookResult, readResult, peekResult, reportShown, shownBy, onDevice, DeviceClaim}
+use Rattle.promise.specs.meaning.Claim.{mounts, writes, flushes, resets, ready, System, NamesAll, MayMount, allBut, contentBytes, SameZones, ResetRefusal, noSuchZone, wornOut, generalLogFull, WriteRefusal, bufferLength, noSuchAddress, noSectors, pastTheEnd, notAtPointer, sealedZone, wornZone, parityLogFull, Promise}
+use Rattle.promise.specs.meaning.OnDevice.{callOf, lookResult, readResult, peekResult, reportShown, shownBy, onDevice}
 use Rattle.promise.specs.look.LookRest.{generation-held, condition-held}
-use Rattle.promise.specs.device.AtRestAnswers.{absent-fine, state-fine, stale-fine, gone-fine, before-fine, entry-fine, worn-last, rest-held, rest-sector, left-out, drives-named}
+use Rattle.promise.specs.device.AtRestAnswers.{absent-fine, state-fine, stale-fine, gone-fine, before-fine, entry-fine, worn-last, rest-held, rest-sector}
 use lib.Seq.{take-length}
 use Rattle.tables.specs.meaning.GeometryTest.{isValid}
-use Rattle.tables.specs.laws.GeometryTest.{valid-if-test}
-use Rattle.promise.specs.invariant.Throughout.{throughout}
 use Rattle.promise.specs.roles.ReadsSectors.{data-seen}
-use Rattle.promise.specs.roles.RoledCalls.{RoledRests, roled-format}
 use Rattle.promise.specs.device.Marks.{withMarks}
-use Rattle.promise.specs.device.Modes.{Halted, own-rests}
+use Rattle.promise.specs.device.Modes.{Halted}
 use Rattle.promise.specs.device.Looks.{LookFine, halted-look}
 use Rattle.promise.specs.device.CallsProved.{calls-owed}
-use Rattle.promise.specs.device.ClaimEvents.{Ok, rests-of, invs-of, fine, drives-of-call, drives-of-look, lost-of-look, mount-allowed, event-keeps}
+use Rattle.promise.specs.device.ClaimEvents.{Ok, rests-of, invs-of, fine, drives-of-call, drives-of-look, lost-of-look, mount-allowed}
 
 -- ---- what is promised of a system that is so (wb, lf: the format was accepted)
 module _ (g : Geometry) (ok : Valid g) (t : TableLengths) (wb : isValid g ≡ true) (lf : tablesFit g t ≡ true) (s : System (onDevice g t)) (o : Ok g t s) where
@@ -326,18 +321,3 @@ module _ (g : Geometry) (ok : Valid g) (t : TableLengths) (wb : isValid g ≡ tr
     peek-accepted = peek-accepted;
     report-gives = report-claim;
   }
-
--- THE THEOREM
-pub device-keeps-the-promise : DeviceClaim
-unfolding formatRows
-device-keeps-the-promise g t named array old stop v h e es d =
-    let x = leftOut g named in
-    let rows = formatRows g t (badPointers g named v) named v in
-    let stores = formatStores g (namedDrives g named) x array in
-    let (p, q) = storing-finished (firstRefusal rows) stores (formatState x) old stop v e in
-    let wb = not-not (isValid g) (accepted-row rows p 1) in
-    let ok = valid-if-test g wb in
-    let n : namedDrives g named ≡ presentBut g x = drives-named g ok named (accepted-row rows p 4) in
-    let o : RoledRests neverEmptied g x (applyAll stores v) (formatState x) freshLedger = rw n (roled-format g ok x array v (left-out g named) h) in
-    throughout g (onDevice g t) (Ok g t) (kept g ok t wb (not-not (tablesFit g t) (accepted-row rows p 2))) (event-keeps g ok t) (start g (onDevice g t) named (storing (firstRefusal rows) stores (formatState x) old stop v))
-    (rw (p, q) (own-rests neverEmptied g x (applyAll stores v) (formatState x) freshLedger o)) es d

@@ -37,14 +37,14 @@ module _ (g : Geometry) (ok : Valid g) (x : ℕ) (v : Device) (state : StateView
   abbrev here : ℕ → Bool
   here = presentBut g x
 
-  emptied : ℕ → Bool
+  pub emptied : ℕ → Bool
   emptied = emptiedFor g (presentBut g x) false (roles g v) (byRoles g v) (resetLimit g)
 
   emptied-here : (d : ℕ) → emptied d ≡ true → Here g x d
   unfolding emptied emptiedFor
   emptied-here d e = and-split (here d) (lacksRoom g false (roles g v) (byRoles g v) (resetLimit g) d) e .0
 
-  reset-empties : (u : Device) → SameSectors v u → (rr : RoledRests c g x u state (withMarks l m)) → ResetEmpties g ok x c u state (withMarks l m) rr emptied z
+  pub reset-empties : (u : Device) → SameSectors v u → (rr : RoledRests c g x u state (withMarks l m)) → ResetEmpties g ok x c u state (withMarks l m) rr emptied z
   unfolding emptied newGeneralSize generalCopies driveByRoles
   reset-empties u same rr = record {
     zone-ok = ra .zone-ok;
@@ -70,7 +70,7 @@ module _ (g : Geometry) (ok : Valid g) (x : ℕ) (v : Device) (state : StateView
       go d a true e = rw (e, ← heads-at d) (ra .logs .emptiable d e .room)
       go d a false e = rw (e, ← by-roles-same g v u same d generalZone) (ra .logs .roomy d a e)
 
-  stores-are : (u : Device) → SameSectors v u → resetAll g here (roles g v) (byRoles g v) state z
+  pub stores-are : (u : Device) → SameSectors v u → resetAll g here (roles g v) (byRoles g v) state z
       ≡ emptyGeneral g here (roles g u) (byState g here (byRoles g u) state) emptied (byRoles g u) ++ map (carry (placedBy (rolesAfter false emptied (roles g u)))) (resetStores g here state z)
   unfolding resetAll emptied
   stores-are u same = rw (← roles-same g v u same) (ap (λ (xs : List Store). xs ++ map (carry (placedBy (rolesAfter false emptied (roles g v)))) (resetStores g here state z))

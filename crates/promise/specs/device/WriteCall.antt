@@ -41,7 +41,7 @@ module _ (g : Geometry) (ok : Valid g) (x : ℕ) (v : Device) (state : StateView
   abbrev end : ℕ
   end = endOf state z ss
 
-  emptied : ℕ → Bool
+  pub emptied : ℕ → Bool
   emptied = emptiedForWrite g (presentBut g x) (roles g v) (byRoles g v) z (endOf state z ss)
 
   emptied-here : (d : ℕ) → emptied d ≡ true → Here g x d
@@ -51,7 +51,7 @@ module _ (g : Geometry) (ok : Valid g) (x : ℕ) (v : Device) (state : StateView
       and-split (here d) (lacksRoom g true (roles g v) (byRoles g v) (writeLimit g end) d) q .0
 
   -- of any device with the same sectors
-  write-empties : (u : Device) → SameSectors v u → (rr : RoledRests c g x u state (withMarks l m)) → WriteEmpties g ok x c u state (withMarks l m) rr emptied z ss
+  pub write-empties : (u : Device) → SameSectors v u → (rr : RoledRests c g x u state (withMarks l m)) → WriteEmpties g ok x c u state (withMarks l m) rr emptied z ss
   unfolding emptied newParitySize driveByRoles
   write-empties u same rr = record {
     fits = record { zone-ok = wa .zone-ok; writable = wa .writable; run = wa .run; sizes = wa .sizes };
@@ -75,7 +75,7 @@ module _ (g : Geometry) (ok : Valid g) (x : ℕ) (v : Device) (state : StateView
       go p q true e i a = rw e (wa .logs .emptiable p e .room)
       go p q false e i a = rw (e, ← by-roles-same g v u same p parityZone) (wa .logs .roomy p (rw (i, a, eq-eqb p (parityDriveAt g z end) q) refl) e)
 
-  stores-are : (u : Device) → SameSectors v u → writeAll g here (roles g v) (byRoles g v) state z ss
+  pub stores-are : (u : Device) → SameSectors v u → writeAll g here (roles g v) (byRoles g v) state z ss
       ≡ emptyParity g here (roles g u) (byState g here (byRoles g u) state) emptied (byRoles g u) ++ map (carry (placedBy (rolesAfter true emptied (roles g u)))) (writeStores g here (byRoles g u) state z ss)
   unfolding writeAll emptied
   stores-are u same = rw (← roles-same g v u same) (ap₂ (λ (xs ys : List Store). xs ++ map (carry (placedBy (rolesAfter true emptied (roles g v)))) ys)

@@ -25,10 +25,12 @@ use Rattle.volume.specs.laws.Firm.{Firm, firm-roles, firm-seen, firm-same, plac
 use Rattle.promise.specs.meaning.Ledger.{Ledger}
 use Rattle.promise.specs.device.Marks.{withMarks, MarksAbove}
 use Rattle.promise.specs.invariant.Invariant.{Ghost, Here, LogsOk, LogGenerations, Inv}
+use Rattle.promise.specs.invariant.Delayed.{Delayed, delayed-none}
 use Rattle.promise.specs.invariant.HoldsLess.{less-live, less-dying}
 use Rattle.promise.specs.mount.MountRuns.{Runs, AllDurable}
 use Rattle.promise.specs.mount.MountFilled.{Filled, filled-inv, filled-on, withParity}
 use Rattle.promise.specs.roles.Ordinary.{Ordinary, ordinary-part, carriedTo, ordinary-firm, ordinary-seen}
+use Rattle.promise.specs.roles.OrdinaryDelayed.{seenBack, seen-back-delayed, ordinary-delayed, ordinary-forgets}
 use Rattle.promise.specs.roles.Roled.{Standing, ordinary-invs, standing-cut}
 use Rattle.promise.specs.roles.RoledCalls.{RoledInvs}
 use Rattle.promise.specs.roles.Spares.{SameButSpares, spare-logs, spare-less}
@@ -37,7 +39,7 @@ use Rattle.promise.specs.emptying.Marked.{KeptBy}
 use Rattle.promise.specs.emptying.CutRuns.{CutRuns}
 
 abbrev pub Part : Geometry → ℕ → Ledger → Device → List Store → (Device → Type 0) → Type 0
-Part g x l v xs Q = CutRuns x v xs (λ w. KeptBy g x w l) Q
+Part g x l v xs Q = CutRuns g x v xs (λ w. KeptBy g x w l) Q
 
 -- ---- marks
 pub kept-as-is : (g : Geometry) (x : ℕ) (w : Device) (l : Ledger) (c : LogGenerations) → RoledInvs c g x w l → KeptBy g x w l
@@ -47,7 +49,7 @@ pub kept-less : (g : Geometry) (x : ℕ) (w : Device) (l : Ledger) (m : ℕ → 
 kept-less g x w l m a k = record { generations = k .generations; marks = k .marks; above = λ z. le-trans (a z) (k .above z); holds = k .holds }
 
 pub part-less : (g : Geometry) (x : ℕ) (l : Ledger) (m : ℕ → ℕ) (v : Device) (xs : List Store) (Q : Device → Type 0) → MarksAbove l m → Part g x (withMarks l m) v xs Q → Part g x l v xs Q
-part-less g x l m v xs Q a p = record { stopped = λ n w k. kept-less g x w l m a (p .stopped n w k); after = p .after }
+part-less g x l m v xs Q a p = record { stopped = λ n u w h k. kept-less g x w l m a (p .stopped n u w h k); forgets = p .forgets; after = p .after }
 
 -- ---- A PART OF ORDINARY STORES
 pub record Carried (g : Geometry) (x : ℕ) (v : Device) (c : LogGenerations) (xs : List Store) (Q : Device → Type 0) (u : Device) : Type 0 where
@@ -58,15 +60,17 @@ pub record Carried (g : Geometry) (x : ℕ) (v : Device) (c : LogGenerations) (x
 
 pub ordinary-run : (g : Geometry) (x : ℕ) (c : LogGenerations) (l : Ledger) (v : Device) → Standing g x v c → (xs : List Store) → Ordinary g x xs → (Q : Device → Type 0) → Runs c g x l (byRoles g v) xs Q
     → Part g x l v (map (carry (places g v)) xs) (Carried g x v c xs Q)
-ordinary-run g x c l v s xs o Q r = record { stopped = stop; after = record { standing = standing; roles-are = are; reached = r .after; seen = λ e y a. ordinary-seen g x v (s .roles) (s .firm) xs o c (s .general-claim) (s .parity-claim) (last .0) (last .1 .logs) (last .2) e a y } }
+ordinary-run g x c l v s xs o Q r = record { stopped = stop; forgets = ordinary-forgets g x v c s xs (r .forgets); after = record { standing = standing; roles-are = are; reached = r .after; seen = λ e y a. ordinary-seen g x v (s .roles) (s .firm) xs o c (s .general-claim) (s .parity-claim) (last .0) (last .1 .logs) (last .2) e a y } }
   where
-    stop : (n : ℕ) (w : Device) → Cut x (applyAll (take n (map (carry (places g v)) xs)) v) w → KeptBy g x w l
-    stop n w k =
-        let (t, i) = ordinary-invs g x v c s (take n xs) (ordinary-part g x n xs o) l (r .during n) in
-        kept-as-is g x w l c (standing-cut g x (carriedTo g v (take n xs)) w c l t i (subst (λ (ys : List Store). Cut x (applyAll ys v) w) (take-map (carry (places g v)) n xs) k))
+    stop : (n : ℕ) (u w : Device) → Delayed g x v (take n (map (carry (places g v)) xs)) u → Cut x u w → KeptBy g x w l
+    stop n u w k cut =
+        let p = ordinary-part g x n xs o in
+        let k1 = subst (λ (ys : List Store). Delayed g x v ys u) (take-map (carry (places g v)) n xs) k in
+        let (t, i) = ordinary-delayed g x v c s (take n xs) p u k1 l (r .during n (seenBack g x v c s (take n xs) p u k1) (seen-back-delayed g x v c s (take n xs) p u k1)) in
+        kept-as-is g x w l c (standing-cut g x u w c l t i cut)
 
     last : (δ : Ghost) × Inv g x (applyAll xs (byRoles g v)) l δ × (δ .closed ≡ c)
-    last = subst (λ (ys : List Store). (δ : Ghost) × Inv g x (applyAll ys (byRoles g v)) l δ × (δ .closed ≡ c)) (take-length xs) (r .during (length xs))
+    last = subst (λ (ys : List Store). (δ : Ghost) × Inv g x (applyAll ys (byRoles g v)) l δ × (δ .closed ≡ c)) (take-length xs) (r .during (length xs) (applyAll (take (length xs) xs) (byRoles g v)) (delayed-none g x (byRoles g v) (take (length xs) xs)))
 
     firm : (e : ℕ) → Here g x e → Firm g (carriedTo g v xs) e (s .roles e)
     firm e a = ordinary-firm g x v (s .roles) (s .firm) xs o c (s .general-claim) (s .parity-claim) (last .0) (last .1 .logs) (last .2) e a

@@ -163,6 +163,16 @@ module _ (g : Geometry) (x : ℕ) (v : Device) (solid : Solid g x v) (d : ℕ) (
       let s : localStores d old ((A ++ B) ++ C) ≡ flushHere ∷ (resetHere ∷ []) = local-append d old (A ++ B) C ∙ rw (sees-AB d old hd (inr apart), eq-eqb d d refl, eq-eqb old old refl) refl in
       local-is d old ((A ++ B) ++ C) v ∙ ap (λ (os : List LocalStore). applyAllHere os (v d old)) s
 
+  -- before the last of them
+  pub early-other : (e y : ℕ) → Here g x e → (e ≢ d) ⊎ (y ≢ spare) → applyAll (A ++ B) v e y ≡ v e y
+  early-other e y a n = local-is e y (A ++ B) v ∙ ap (λ (os : List LocalStore). applyAllHere os (v e y)) (sees-AB e y a n) ∙ solid-flushed (v e y) (solid e y a)
+
+  pub early-spare : applyAll (A ++ B) v d spare ≡ record { sectors = ss; durable = length ss }
+  early-spare =
+      let a : applyAllHere (map appendHere ss ++ (flushHere ∷ [])) (v d spare) ≡ flushed (record { sectors = v d spare .sectors ++ ss; durable = v d spare .durable }) = appends-here ss (flushHere ∷ []) (v d spare) in
+      let b : flushed (record { sectors = v d spare .sectors ++ ss; durable = v d spare .durable }) ≡ record { sectors = ss; durable = length ss } = rw blank refl in
+      local-is d spare (A ++ B) v ∙ ap (λ (os : List LocalStore). applyAllHere os (v d spare)) own-AB ∙ a ∙ b
+
   -- FINISHED: all is durable again
   pub emptying-solid : Solid g x (applyAll (afterFirstFlush g x d old spare ss) v)
   emptying-solid e y a = go (ℕ-discrete e d) (ℕ-discrete y spare) (ℕ-discrete y old)

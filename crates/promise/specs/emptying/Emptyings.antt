@@ -61,31 +61,31 @@ module _ (g : Geometry) (x : ℕ) (par : Bool) (v : Device) (ss : ℕ → List (
     (same : (u w : Device) → Solid g x u → Held u → ((e y : ℕ) → Here g x e → w e y ≡ u e y) → Left w)
     (one-of : (d : ℕ) → d < g .drives → emptied d ≡ true → Here g x d × ((u : Device) → Solid g x u → Held u → SameSectors v u d → OneDrive g x par v Held Left d u (ss d) (restOf g x par v ss d))) where
   -- the stores of one drive
-  abbrev one : ℕ → List Store
+  abbrev pub one : ℕ → List Store
   one d = pick (emptied d) (emptyingStores g (presentBut g x) d (zoneOfKind par (roles g v d)) (roles g v d .spare) (ss d)) []
 
-  abbrev Below : ℕ → Device → Type 0
+  abbrev pub Below : ℕ → Device → Type 0
   Below m u = Progress g x par v ss emptied Held m u
 
   -- ---- one drive: it is to be emptied
   module _ (m : ℕ) (hm : m < g .drives) (b : emptied m ≡ true) (u : Device) (p : Below m u) where
-    here : Here g x m
+    pub here : Here g x m
     here = one-of m hm b .0
 
-    abbrev u1 : Device
+    abbrev pub u1 : Device
     u1 = flushedAll g x u
 
-    begun : Held u1
+    pub begun : Held u1
     begun = go (p .mode)
       where
         go : Mode g x v Held u → Held u1
         go (inl q) = rw q first
         go (inr (s, h)) = more u s h
 
-    drive : OneDrive g x par v Held Left m u1 (ss m) (restOf g x par v ss m)
+    pub drive : OneDrive g x par v Held Left m u1 (ss m) (restOf g x par v ss m)
     drive = one-of m hm b .1 u1 (flush-solid g x u) begun (λ y. flush-sectors g x u m y here ∙ p .left m here (inl (le-refl m)) y)
 
-    one-is : one m ≡ emptyingStores g (presentBut g x) m (zoneOfKind par (roles g v m)) (roles g v m .spare) (ss m)
+    pub one-is : one m ≡ emptyingStores g (presentBut g x) m (zoneOfKind par (roles g v m)) (roles g v m .spare) (ss m)
     one-is = rw b refl
 
     -- stopped and cut
@@ -162,7 +162,7 @@ module _ (g : Geometry) (x : ℕ) (par : Bool) (v : Device) (ss : ℕ → List (
       kept e a (inr h) = p .left e a (inr h)
 
   -- ---- the drives below m
-  below : (m : ℕ) → m ≤ g .drives → Below m (applyAll (eachBelow one m) v)
+  pub below : (m : ℕ) → m ≤ g .drives → Below m (applyAll (eachBelow one m) v)
   below zero h = record { mode = inl refl; done = λ e a k. absurd (not-suc-le-zero k); logs = λ e a k. absurd (not-suc-le-zero k); kept = λ e y a n k. refl; left = λ e a k y. refl }
   below (suc m) h = subst (λ (a : Device). Below (suc m) a) (sym (apply-all-append (eachBelow one m) (one m) v)) (go (emptied m) refl (below m (omega (arith, h))))
     where

@@ -6,7 +6,7 @@ use mathlib.Core.Logic.{_≢_, _⊎_, inl, inr}
 use mathlib.Core.Bool.{Bool, false}
 use Prim.Native.Nat.{ℕ, zero, _+_, _≤_, _<_}
 use native.Mathlib.Omega.{arith}
-use mathlib.Core.List.{List, [], _∷_, map, List·Memᴰ}
+use mathlib.Core.List.{List, [], _∷_, _++_, map, List·Memᴰ}
 use lib.ListN.{length, take, length-take, length-append}
 use lib.Seq.{take-append-le}
 use lib.Dec.{eqb}
@@ -19,7 +19,7 @@ use Rattle.tables.specs.meaning.Geometry.{Valid}
 use Rattle.logs.specs.meaning.Entry.{generalZone, spareZone, wornGeneration, Header, closing, encode}
 use Rattle.logs.specs.meaning.Copies.{copiedGeneral}
 use Rattle.logs.specs.laws.Copies.{Copied, copied-open}
-use Rattle.volume.specs.meaning.Calls.{generationsFrom}
+use Rattle.volume.specs.meaning.Calls.{appendAll, generationsFrom, flushStores}
 use Rattle.volume.specs.meaning.State.{StateView}
 use Rattle.volume.specs.meaning.Rules.{generalHeads}
 use Rattle.volume.specs.meaning.Roles.{claim, Roles, roles, byRoles, emptiedRoles, rolesAfter}
@@ -31,7 +31,7 @@ use Rattle.promise.specs.look.LookReads.{general-heads}
 use Rattle.promise.specs.roles.Roled.{Standing}
 use Rattle.promise.specs.roles.RoledCalls.{RoledInvs, RoledRests}
 use Rattle.promise.specs.emptying.AskedSame.{NamedBut, ShowsSame}
-use Rattle.promise.specs.emptying.EmptyingStops.{LeftBy, part, all, Solid, afterFirstFlush, emptying-left, emptying-solid, whole-other, whole-spare, whole-old}
+use Rattle.promise.specs.emptying.EmptyingStops.{LeftBy, part, all, Solid, afterFirstFlush, emptying-left, emptying-solid, whole-other, whole-spare, whole-old, early-other, early-spare}
 use Rattle.promise.specs.emptying.CanEmpty.{CanEmptyLog}
 use Rattle.promise.specs.emptying.Forced.{Forced, forced-force, force-forced, forced-small}
 use Rattle.promise.specs.emptying.EmptiedGeneral.{generalLog, newGeneration, emptiedGhost, Copyable, copy-of, copy-reads, emptied-logs}
@@ -198,6 +198,40 @@ module _ (g : Geometry) (ok : Valid g) (x : ℕ) (v : Device) (γ : Ghost) (s : 
   general-finished-roles e a =
       firm-roles g after e (rolesAfter false (λ j. eqb j d) (s .roles) e) (swapped-firm g ok x v γ s (i .logs) d gens copyable after done e a)
       ∙ ap (λ (q : Roles). pick (eqb e d) (emptiedRoles false q) q) (sym (roles-is e a))
+
+  -- BEFORE ITS LAST STORE, the reset of the old zone: the same
+  abbrev pub unreset : Device
+  unreset = applyAll (appendAll d (roles g v d .spare) (newGeneralOf g f v d) ++ flushStores g (presentBut g x)) v
+
+  undone : Swapped g x d (s .roles d) copy v unreset
+  undone =
+      let p = s .roles d .general in
+      let q = s .roles d .spare in
+      rw (sectors-are, roles-is d hd) (record {
+        others = λ e y a o. early-other g x v solid d hd p q apart blank ss e y a (spared e y o);
+        log = early-spare g x v solid d hd p q apart blank ss ∙ (λ j. record { sectors = ss; durable = length-map (encode g d) copy j });
+        old = inl (early-other g x v solid d hd p q apart blank ss d p hd (inr apart));
+      })
+    where
+      spared : (e y : ℕ) → (e ≢ d) ⊎ ((y ≢ s .roles d .spare) × (y ≢ s .roles d .general)) → (e ≢ d) ⊎ (y ≢ s .roles d .spare)
+      spared e y (inl h) = inl h
+      spared e y (inr h) = inr (h .0)
+
+  pub general-before-rests : (state : StateView) → Rest g x (byRoles g v) state l γ → RoledRests (newGeneration (γ .closed) d (roles g v d .generalClaim)) g x unreset state l
+  general-before-rests state q = subst (λ (j : ℕ). RoledRests (newGeneration (γ .closed) d j) g x unreset state l) claim-is (swapped-standing g ok x v γ s (i .logs) d gens copyable unreset undone, swapped-rests g ok x v γ s (i .logs) d gens copyable unreset undone state l q)
+
+  pub general-before-roles : (e : ℕ) → Here g x e → roles g unreset e ≡ rolesAfter false (λ j. eqb j d) (roles g v) e
+  general-before-roles e a =
+      firm-roles g unreset e (rolesAfter false (λ j. eqb j d) (s .roles) e) (swapped-firm g ok x v γ s (i .logs) d gens copyable unreset undone e a)
+      ∙ ap (λ (q : Roles). pick (eqb e d) (emptiedRoles false q) q) (sym (roles-is e a))
+
+  pub general-before-forced : Forced g x (byRoles g unreset) gens
+  general-before-forced =
+      let to = swapped-to g ok x v γ s (i .logs) d gens copyable unreset undone in
+      force-forced g ok x (byRoles g unreset) (emptiedGhost γ d copy (s .roles d .generalClaim)) (emptied-logs g ok x d (byRoles g v) (byRoles g unreset) γ (i .logs) gens (s .roles d .generalClaim) copyable to) gens (swapped-force g ok x v γ s (i .logs) d gens copyable unreset undone)
+
+  pub general-before-shows : (y : ℕ) → NamedBut g x y → (z : ℕ) → z < g .zones → ShowsSame g (presentBut g y) (byRoles g v) (byRoles g unreset) z
+  general-before-shows = left-shows unreset (inr undone)
 
   -- the device by them: drive d's general log is the new one, nothing else changed but its spare
   pub general-finished-log : byRoles g after d generalZone .sectors ≡ newGeneralOf g f v d

@@ -2,14 +2,15 @@
 -- that of the call's start, perhaps flushed on some drives (inFirstFlush), or the invariant holds by old or new roles and every look shows what one at
 -- the first flush's end does (beyondFlush; reading 15). Finished: the invariant holds by the new roles; and all is at rest, if it was.
 use mathlib.Core.Path.{_≡_, refl, sym, ap, ap₂, _∙_, subst}
-use mathlib.Core.Logic.{_≢_, inl, inr}
+use mathlib.Core.Logic.{_≢_, _⊎_, inl, inr}
 use mathlib.Core.Bool.{Bool, true, false}
 use Prim.Native.Nat.{ℕ, _<_}
 use native.Mathlib.Nat.{le-refl}
-use mathlib.Core.List.{List, map}
+use mathlib.Core.List.{List, [], _++_, map}
 use lib.ListN.{take}
 use borrow.Author.Tests.{eq-eqb}
-use Rattle.tables.specs.meaning.Device.{Device, Store, applyAll, Cut}
+use Rattle.tables.specs.meaning.Device.{ZoneView, Device, Store, applyAll, Cut}
+use Rattle.tables.specs.meaning.Cached.{applyAllCaching}
 use Rattle.tables.specs.laws.Drives.{presentBut, present-below}
 use Rattle.tables.specs.declared.Geometry.{Geometry}
 use Rattle.tables.specs.meaning.Geometry.{Valid}
@@ -17,11 +18,12 @@ use Rattle.logs.specs.meaning.Entry.{generalZone, spareZone, Header, Entry}
 use Rattle.logs.specs.meaning.Walk.{walkLog}
 use Rattle.volume.specs.meaning.State.{StateView}
 use Rattle.volume.specs.meaning.Rules.{generalHeads}
-use Rattle.volume.specs.meaning.Calls.{flushStores}
+use Rattle.volume.specs.meaning.Calls.{appendAll, flushStores}
 use Rattle.volume.specs.meaning.Roles.{Roles, roles, byRoles, emptiedRoles, rolesAfter}
 use Rattle.volume.specs.meaning.Emptying.{InForce, newGeneral, emptyings, emptyGeneral}
 use Rattle.promise.specs.meaning.Ledger.{Ledger, afterFlush}
 use Rattle.promise.specs.invariant.Invariant.{Ghost, Here, LogGenerations, Inv, rest-inv}
+use Rattle.promise.specs.invariant.Delayed.{PutBack}
 use Rattle.promise.specs.roles.Roled.{Standing}
 use Rattle.promise.specs.roles.RoledCalls.{RoledInvs, RoledRests}
 use Rattle.promise.specs.emptying.AskedSame.{NamedBut, ShowsSame, shows-trans}
@@ -33,7 +35,9 @@ use Rattle.promise.specs.emptying.Forced.{Forced}
 use Rattle.promise.specs.emptying.EmptiedGeneral.{newGeneration}
 use Rattle.promise.specs.emptying.CanEmpty.{CanEmptyLog}
 use Rattle.promise.specs.emptying.GeneralEmptying.{newGeneralOf, generalSizeOf, generalRest, general-stopped, general-stopped-shows, general-finished, general-finished-rests, general-finished-roles, general-finished-log, general-finished-kept, general-finished-solid, general-finished-other, general-finished-forced, general-finished-shows}
+use Rattle.promise.specs.emptying.GeneralEmptying.{unreset, general-before-rests, general-before-roles, general-before-forced, general-before-shows}
 use Rattle.promise.specs.emptying.Emptyings.{SameSectors, restOf, OneDrive, Mode, Progress, emptyings-stopped, emptyings-done}
+use Rattle.promise.specs.emptying.EmptyingsBack.{Finished, emptyings-back}
 
 -- a look of every set of drives that may be named shows the same
 abbrev pub LooksSame : Geometry → ℕ → Device → Device → Type 0
@@ -182,7 +186,35 @@ module _ (g : Geometry) (ok : Valid g) (x : ℕ) (c : LogGenerations) (v : Devic
       others = general-finished-other g ok x u γ s m i solid d hd f force can-now;
     })
 
+    -- before its last store
+    abbrev unreset-now : Device
+    unreset-now = unreset g ok x u γ s m i solid d hd f force can-now
+
+    unreset-is : unreset-now ≡ applyAll (appendAll d (roles g v d .spare) (newGeneralOf g f v d) ++ flushStores g (presentBut g x)) u
+    unreset-is = ap₂ (λ (q : Roles) (ss : List (List ℕ)). applyAll (appendAll d (q .spare) ss ++ flushStores g (presentBut g x)) u) (roles-same g v u d h) (new-same g ok x v u f d h)
+
+    before-then : (Q : LogGenerations → Device → Type 0) → Q (newGeneration (γ .closed) d (roles g u d .generalClaim)) unreset-now → Then Q unreset-now
+    before-then Q q = record {
+      generations = newGeneration (γ .closed) d (roles g u d .generalClaim);
+      holds = q;
+      force = general-before-forced g ok x u γ s m i solid d hd f force can-now;
+      looks = looks-trans g x v1 u unreset-now looks (general-before-shows g ok x u γ s m i solid d hd f force can-now);
+    }
+
+    before-roles : roles g unreset-now d ≡ emptiedRoles false (roles g v d)
+    before-roles = general-before-roles g ok x u γ s m i solid d hd f force can-now d hd ∙ rw (eq-eqb d d refl) (ap (emptiedRoles false) (roles-same g v u d h))
+
   module _ (d : ℕ) (hd : Here g x d) (cd : CanEmptyLog g false v d (generalSizeOf g f v d)) (u : Device) (solid : Solid g x u) (h : SameSectors v u d) where
+    drive-before : (state : StateView) → Then (AtRest state) u → let w = applyAll (appendAll d (roles g v d .spare) (newGeneralOf g f v d) ++ flushStores g (presentBut g x)) u in Then (AtRest state) w × (roles g w d ≡ emptiedRoles false (roles g v d))
+    drive-before state b =
+        let (s, (γ, r, q)) = b .holds in
+        let t : Standing g x u (γ .closed) = subst (λ (e : LogGenerations). Standing g x u e) (sym q) s in
+        let i = rest-inv g x (byRoles g u) state (afterFlush l) γ r in
+        subst (λ (w : Device). Then (AtRest state) w × (roles g w d ≡ emptiedRoles false (roles g v d))) (unreset-is d hd cd u solid h (afterFlush l) γ t i (b .force) (b .looks)) (
+          before-then d hd cd u solid h (afterFlush l) γ t i (b .force) (b .looks) (AtRest state) (general-before-rests g ok x u γ t (afterFlush l) i solid d hd f (b .force) (can-same g ok x v u f d h cd) state r),
+          before-roles d hd cd u solid h (afterFlush l) γ t i (b .force) (b .looks),
+        )
+
     drive-inside : Then Inside u → OneDrive g x false v (Then Inside) (GeneralLeft g x c v l) d u (newGeneralOf g f v d) (restOf g x false v (newGeneralOf g f v) d)
     drive-inside b =
         let (s, (γ, i, q)) = b .holds in
@@ -252,17 +284,33 @@ module _ (g : Geometry) (ok : Valid g) (x : ℕ) (c : LogGenerations) (v : Devic
       (emptyings-done g x false v (newGeneralOf g f v) emptied (Then Inside) (GeneralLeft g x c v l) (first Inside invs1) (λ u s b. more Inside (λ e t q. flushed-invs g ok e x t l q) u b) in-first unchanged
       (λ d hd b. let (a, k) = can d hd b in (a, λ u s h q. drive-inside d a k u s q h))))
 
+  -- the marks of the flushes
+  marked : (state : StateView) → RoledRests c g x v state l → (e : LogGenerations) (u : Device) → RoledRests e g x u state (afterFlush l) → RestsBy g x u state l
+  marked state rr e u (s, r) = record {
+    generations = e;
+    marks = flushMarks l;
+    above = flush-above l;
+    holds = (s, marked-rests g x (byRoles g u) (afterFlush l) (flushMarks l) (λ z hz. flush-marks l z (rr .1 .1 .zones z hz .live .committed-most)) e state r);
+  }
+
   -- AND ALL IS AT REST, if it was, with marks at or above the ledger's
   pub general-emptyings-rest : (state : StateView) → RoledRests c g x v state l → EmptiedAll g x v f emptied (λ u. RestsBy g x u state l) after-all
-  general-emptyings-rest state rr = finished (AtRest state) (λ u. RestsBy g x u state l) (record { generations = c; marks = l .committed; above = λ z. le-refl (l .committed z); holds = rr }) marked
+  general-emptyings-rest state rr = finished (AtRest state) (λ u. RestsBy g x u state l) (record { generations = c; marks = l .committed; above = λ z. le-refl (l .committed z); holds = rr }) (marked state rr)
       (subst (λ (xs : List Store). Progress g x false v (newGeneralOf g f v) emptied (Then (AtRest state)) (g .drives) (applyAll xs v)) (sym stores-are)
       (emptyings-done g x false v (newGeneralOf g f v) emptied (Then (AtRest state)) (λ w. Unit {0}) (first (AtRest state) (flushed-rests g ok c x v state l rr)) (λ u s b. more (AtRest state) (λ e t q. flushed-rests g ok e x t state (afterFlush l) q) u b) (λ n w k. tt) (λ u w s b h. tt)
       (λ d hd b. let (a, k) = can d hd b in (a, λ u s h q. drive-at-rest d a k u s q state h))))
+
+  -- AND ON DRIVES THAT CACHE RESETS, whatever they bring back (was: what they remember at the start)
+  pub record BackAtRest (state : StateView) (was : ℕ → ℕ → List ZoneView) : Type 0 where
+    pub rests : (t : Device) → PutBack g x (applyAllCaching stores (record { now = v; was = was })) t → RestsBy g x t state l
+    pub roles-are : (t : Device) → PutBack g x (applyAllCaching stores (record { now = v; was = was })) t → (e : ℕ) → Here g x e → roles g t e ≡ roles g (applyAll stores v) e
+    pub spares : (d y : ℕ) → Here g x d → (applyAllCaching stores (record { now = v; was = was }) .was d y ≡ []) ⊎ (y ≡ roles g (applyAll stores v) d .spare)
+
+  pub general-emptyings-back : (state : StateView) → RoledRests c g x v state l → (was : ℕ → ℕ → List ZoneView) → (stores ≡ []) ⊎ BackAtRest state was
+  unfolding emptyGeneral
+  general-emptyings-back state rr was = go (emptyings-back g x false v (newGeneralOf g f v) emptied (Then (AtRest state)) (λ w. Unit {0}) (first (AtRest state) (flushed-rests g ok c x v state l rr)) (λ u s b. more (AtRest state) (λ e t q. flushed-rests g ok e x t state (afterFlush l) q) u b) (λ n w k. tt) (λ u w s b h. tt)
+      (λ d hd b. let (a, k) = can d hd b in (a, λ u s h q. drive-at-rest d a k u s q state h)) (λ d hd b u s h q. let (a, k) = can d hd b in drive-before d a k u s q state h) was)
     where
-      marked : (e : LogGenerations) (u : Device) → RoledRests e g x u state (afterFlush l) → RestsBy g x u state l
-      marked e u (s, r) = record {
-        generations = e;
-        marks = flushMarks l;
-        above = flush-above l;
-        holds = (s, marked-rests g x (byRoles g u) (afterFlush l) (flushMarks l) (λ z hz. flush-marks l z (rr .1 .1 .zones z hz .live .committed-most)) e state r);
-      }
+      go : (stores ≡ []) ⊎ Finished g x v was (Then (AtRest state)) stores → (stores ≡ []) ⊎ BackAtRest state was
+      go (inl q) = inl q
+      go (inr n) = inr (record { rests = λ t k. let b = n .back t k .held in marked state rr (b .generations) t (b .holds); roles-are = λ t k. n .back t k .roles-are; spares = n .spares })

@@ -62,7 +62,7 @@ flag-invs g c x v l z (γ, i, q) = (γ, record { logs = i .logs; zones = λ y hy
 
 module _ (g : Geometry) (ok : Valid g) (x : ℕ) (c : LogGenerations) (v : Device) (state : StateView) (l : Ledger) (rr : RoledRests c g x v state l) (emptied : ℕ → Bool) (z : ℕ) where
   -- the copies go by the state
-  abbrev atState : InForce
+  abbrev pub atState : InForce
   atState = byState g (presentBut g x) (byRoles g v) state
 
   -- an accepted reset: the logs can be emptied, and then there is room for its entries
@@ -78,23 +78,23 @@ module _ (g : Geometry) (ok : Valid g) (x : ℕ) (c : LogGenerations) (v : Devic
   abbrev pub resetCarried : List Store
   resetCarried = map (carry (placedBy (rolesAfter false emptied (roles g v)))) (resetStores g (presentBut g x) state z)
 
-  invs : RoledInvs c g x v l
+  pub invs : RoledInvs c g x v l
   invs = let (s, (γ, r, q)) = rr in (s, (γ, rest-inv g x (byRoles g v) state l γ r, q))
 
-  forced : Forced g x (byRoles g v) (state .generation)
+  pub forced : Forced g x (byRoles g v) (state .generation)
   forced = let (s, (γ, r, q)) = rr in rest-forced g ok x (byRoles g v) state l γ r
 
   module _ (re : ResetEmpties) where
-    abbrev u : Device
+    abbrev pub u : Device
     u = applyAll resetEmptying v
 
-    done : EmptiedAll g x v atState emptied (λ w. RestsBy g x w state l) u
+    pub done : EmptiedAll g x v atState emptied (λ w. RestsBy g x w state l) u
     done = general-emptyings-rest g ok x c v l invs atState forced emptied (re .can) state rr
 
     then : RestsBy g x u state l
     then = done .holds
 
-    carried-are : resetCarried ≡ map (carry (placedBy (roles g u))) (resetStores g (presentBut g x) state z)
+    pub carried-are : resetCarried ≡ map (carry (placedBy (roles g u))) (resetStores g (presentBut g x) state z)
     carried-are = carry-all-same (presentBut g x) (placedBy (rolesAfter false emptied (roles g v))) (placedBy (roles g u)) (λ e a. ap zoneOfRole (sym (done .roles-are e a))) (resetStores g (presentBut g x) state z) (reset-ordinary g x state z .on)
 
     log-length : (d : ℕ) → Here g x d → length (byRoles g u d generalZone .sectors) ≡ pick (emptied d) (generalSizeOf g atState v d) (length (byRoles g v d generalZone .sectors))
@@ -104,7 +104,7 @@ module _ (g : Geometry) (ok : Valid g) (x : ℕ) (c : LogGenerations) (v : Devic
         go true b = rw b (ap length (done .logs d a b) ∙ new-general-long g atState (roles g v d) d (generalHeads g (byRoles g v) d))
         go false b = rw b (ap length (sectors-seen g v u d (done .left d a b) generalZone))
 
-    reset-ok : ResetOk g (presentBut g x) (byRoles g u) state z
+    pub reset-ok : ResetOk g (presentBut g x) (byRoles g u) state z
     reset-ok = record { zone-ok = re .zone-ok; not-worn = re .not-worn; room = λ d a. rw (log-length d a) (re .room d a) }
 
     abbrev m : Ledger

@@ -1,14 +1,13 @@
 -- The list of the stores of emptied general logs (emptyGeneral): it is on present drives alone, and goes by the roles and logs of the drives that are emptied.
-use mathlib.Core.Path.{_≡_, refl, sym, ap, ap₂, _∙_}
+use mathlib.Core.Path.{_≡_, refl, ap₂}
 use mathlib.Core.Bool.{Bool, true, false}
 use Prim.Native.Nat.{ℕ, zero, suc, _<_}
 use native.Mathlib.Omega.{arith}
 use mathlib.Core.List.{List, [], _∷_, _++_}
 use Rattle.tables.specs.meaning.Basics.{pick}
 use Rattle.tables.specs.meaning.Below.{eachBelow}
-use Rattle.tables.specs.meaning.Device.{Device, Store, reset, applyAll}
+use Rattle.tables.specs.meaning.Device.{Device, Store, reset}
 use Rattle.tables.specs.meaning.Phases.{onPresent, flushAll}
-use Rattle.tables.specs.laws.Phases.{absent-frame}
 use Rattle.tables.specs.laws.StoresFit.{AllOn, on-present-on, on-append}
 use Rattle.tables.specs.declared.Geometry.{Geometry}
 use Rattle.logs.specs.meaning.Entry.{Header}
@@ -16,15 +15,6 @@ use Rattle.volume.specs.meaning.Rules.{generalHeads}
 use Rattle.volume.specs.meaning.Calls.{appendAll}
 use Rattle.volume.specs.meaning.Roles.{Roles}
 use Rattle.volume.specs.meaning.Emptying.{InForce, newGeneral, emptyingStores, emptyings, emptyGeneral}
-
--- ---- stores on present drives
-pub on-present-all : (a : ℕ → Bool) (xs : List Store) → AllOn a xs → onPresent a xs ≡ xs
-on-present-all a [] o = refl
-on-present-all a (s ∷ xs) o = rw (o .0) (ap (λ (t : List Store). s ∷ t) (on-present-all a xs (o .1)))
-
--- they leave the other drives as they are
-pub on-frame : (a : ℕ → Bool) (xs : List Store) (v : Device) (e y : ℕ) → AllOn a xs → a e ≡ false → applyAll xs v e y ≡ v e y
-on-frame a xs v e y o h = ap (λ (zs : List Store). applyAll zs v e y) (sym (on-present-all a xs o)) ∙ absent-frame a xs v e y h
 
 on-appends : (a : ℕ → Bool) (d y : ℕ) (ss : List (List ℕ)) → a d ≡ true → AllOn a (appendAll d y ss)
 on-appends a d y [] h = tt

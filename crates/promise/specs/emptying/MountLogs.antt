@@ -7,11 +7,13 @@ use mathlib.Core.Bool.{Bool, true, false}
 use Prim.Native.Nat.{ℕ, _≤_, _<_}
 use native.Mathlib.Omega.{arith}
 use mathlib.Core.List.{List, [], _++_, append-nil, map}
-use lib.ListN.{length}
-use lib.Seq.{take-nil}
+use lib.ListN.{length, take}
+use lib.Seq.{take-length}
 use Rattle.tables.specs.meaning.Basics.{pick}
 use Rattle.tables.specs.meaning.Lists.{concat, isNil}
 use Rattle.tables.specs.meaning.Device.{ZoneView, Device, Store, applyAll, Cut}
+use Rattle.tables.specs.laws.Device.{apply-all-append}
+use Rattle.tables.specs.meaning.Cached.{uncached, applyAllCaching}
 use Rattle.tables.specs.meaning.Phases.{onPresent, flushAll}
 use Rattle.tables.specs.laws.StoresFit.{AllOn, on-present-on, on-append}
 use Rattle.tables.specs.meaning.Through.{carry}
@@ -26,6 +28,7 @@ use Rattle.volume.specs.meaning.Mount.{withFlush}
 use Rattle.volume.specs.meaning.Emptying.{InForce, newGeneral, emptyGeneral}
 use Rattle.promise.specs.meaning.Ledger.{Ledger}
 use Rattle.promise.specs.invariant.Invariant.{Here, LogGenerations}
+use Rattle.promise.specs.invariant.Delayed.{PutBack, Delayed}
 use Rattle.promise.specs.roles.RoledCalls.{RoledInvs}
 use Rattle.promise.specs.roles.Roled.{standing-cut}
 use Rattle.promise.specs.emptying.CanEmpty.{CanEmptyLog}
@@ -35,9 +38,11 @@ use Rattle.promise.specs.emptying.Forced.{Forced}
 use Rattle.promise.specs.emptying.Emptyings.{SameSectors}
 use Rattle.promise.specs.emptying.GeneralEmptying.{newGeneralOf, generalSizeOf, new-general-long}
 use Rattle.promise.specs.emptying.GeneralEmptyings.{LooksSame, looks-trans, looks-same, forced-same, EmptiedAll, left-invs, general-emptyings-stopped, general-emptyings-finished}
-use Rattle.promise.specs.emptying.CutRuns.{CutRuns, cut-runs-then}
-use Rattle.promise.specs.emptying.GeneralStores.{on-present-all, on-frame, general-on, general-same}
-use Rattle.promise.specs.emptying.SparesReset.{spareResets, carriedResets, blanked-roles, blanked-seen, blanked-invs, spares-cut, spares-done, spares-blank}
+use Rattle.promise.specs.emptying.CutRuns.{CutRuns, cut-runs-then, flushed-run}
+use Rattle.promise.specs.emptying.EmptyingsDelayed.{flushedFrom, flushed-from-back, flushed-from-is, flush-part-is, flush-forgets-all, delayed-stopped, delayed-flushed}
+use Rattle.promise.specs.emptying.OnPresent.{on-present-all, on-frame}
+use Rattle.promise.specs.emptying.GeneralStores.{general-on, general-same}
+use Rattle.promise.specs.emptying.SparesReset.{spareResets, carriedResets, blanked-roles, blanked-seen, blanked-invs, spares-part, spares-done, spares-blank}
 
 -- a step on the present drives, and the flush if it stored
 abbrev pub flushedStep : Geometry → (ℕ → Bool) → List Store → List Store
@@ -74,13 +79,13 @@ module _ (g : Geometry) (ok : Valid g) (x : ℕ) (c : LogGenerations) (l : Ledge
   abbrev Steady : Device → Type 0
   Steady u = RoledInvs c g x u l × ((e : ℕ) → Here g x e → SameSectors v u e)
 
-  flush-if : CutRuns x v flushIf (λ w. (e : LogGenerations) × RoledInvs e g x w l) Steady
+  flush-if : Steady (applyAll flushIf v)
   unfolding flushStores
   flush-if = go nothing
     where
-      go : (b : Bool) → CutRuns x v (pick b [] (onPresent (presentBut g x) (flushAll (g .drives))) ++ []) (λ w. (e : LogGenerations) × RoledInvs e g x w l) Steady
-      go true = record { stopped = λ k w cut. (c, standing-cut g x v w c l (ri .0) (ri .1) (subst (λ (xs : List Store). Cut x (applyAll xs v) w) (take-nil k) cut)); after = (ri, λ e a y. refl) }
-      go false = rw (append-nil (onPresent (presentBut g x) (flushAll (g .drives)))) (record { stopped = λ k w cut. (c, flushed-cut g ok c x v l k w ri cut); after = (flushed-invs g ok c x v l ri, λ e a y. flush-sectors g x v e y a) })
+      go : (b : Bool) → Steady (applyAll (pick b [] (onPresent (presentBut g x) (flushAll (g .drives))) ++ []) v)
+      go true = (ri, λ e a y. refl)
+      go false = rw (append-nil (onPresent (presentBut g x) (flushAll (g .drives)))) (flushed-invs g ok c x v l ri, λ e a y. flush-sectors g x v e y a)
 
 -- ==== the beginning of a mount (v: the device at its start; f, emptied: by the look at the first flush's end)
 -- between its two steps (v1: the device at that flush's end)
@@ -124,19 +129,27 @@ module _ (g : Geometry) (ok : Valid g) (x : ℕ) (c : LogGenerations) (l : Ledge
   abbrev resets : List Store
   resets = carriedResets g (presentBut g x) (roles g v1) (byRoles g v1)
 
-  spares-run : CutRuns x v1 resets Left (λ u. SparesReady g x c l v1 u)
-  spares-run =
+  spares-ready : SparesReady g x c l v1 (applyAll resets v1)
+  spares-ready =
       let b = spares-done g x c v1 l ri in
       let u = applyAll resets v1 in
       record {
-        stopped = λ k w cut. (c, spares-cut g x c v1 l ri k w cut);
-        after = record {
-          invs = blanked-invs g x c v1 u (ri .0) b l (ri .1);
-          roles-are = blanked-roles g x c v1 u (ri .0) b;
-          seen = λ e y a n. ap (λ (z : ZoneView). z .sectors) (blanked-seen g x c v1 u (ri .0) b e y a n);
-          blank = spares-blank g x c v1 l ri;
-        };
+        invs = blanked-invs g x c v1 u (ri .0) b l (ri .1);
+        roles-are = blanked-roles g x c v1 u (ri .0) b;
+        seen = λ e y a n. ap (λ (z : ZoneView). z .sectors) (blanked-seen g x c v1 u (ri .0) b e y a n);
+        blank = spares-blank g x c v1 l ri;
       }
+
+  -- a stop among them, spares put back or not, and in the flush behind them
+  spares-early : (k : ℕ) (u w : Device) → Delayed g x v1 (take k resets) u → Cut x u w → Left w
+  spares-early k u w h cut = let (s, i) = spares-part g x c v1 l ri k u h in (c, standing-cut g x u w c l s i cut)
+
+  spares-late : (n : ℕ) (u w : Device) → PutBack g x (applyAllCaching (take n (flushStores g (presentBut g x))) (applyAllCaching resets (uncached v1))) u → Cut x u w → Left w
+  spares-late n u w h cut =
+      let cc = applyAllCaching resets (uncached v1) in
+      let t = flushedFrom g x cc n u h in
+      let k : Delayed g x v1 (take (length resets) resets) t = subst (λ (xs : List Store). Delayed g x v1 xs t) (sym (take-length resets)) (flushed-from-back g x cc n u h) in
+      (c, flushed-cut g ok c x t l n w (spares-part g x c v1 l ri (length resets) t k) (subst (λ (a : Device). Cut x a w) (flushed-from-is g x cc n u h) cut))
 
   -- nothing of this changes while sectors stay
   ready-still : (u t : Device) → SparesReady g x c l v1 u → RoledInvs c g x t l → ((e : ℕ) → Here g x e → SameSectors u t e) → SparesReady g x c l v1 t
@@ -147,10 +160,12 @@ module _ (g : Geometry) (ok : Valid g) (x : ℕ) (c : LogGenerations) (l : Ledge
     blank = λ e a. h e a (roles g v1 e .spare) ∙ b .blank e a;
   }
 
-  spares-step : CutRuns x v1 (spareStepOf g x v1) Left (λ u. SparesReady g x c l v1 u)
-  spares-step = cut-runs-then x v1 resets (pick (isNil resets) [] (onPresent (presentBut g x) (flushAll (g .drives))) ++ []) Left (λ u. SparesReady g x c l v1 u) (λ u. SparesReady g x c l v1 u) spares-run
-      (λ b. let r = flush-if g ok x c l (applyAll resets v1) (b .invs) (isNil resets) in
-      record { stopped = r .stopped; after = ready-still (applyAll resets v1) _ b (r .after .0) (r .after .1) })
+  spares-step : CutRuns g x v1 (spareStepOf g x v1) Left (λ u. SparesReady g x c l v1 u)
+  unfolding flushStores
+  spares-step =
+      let ys = pick (isNil resets) [] (onPresent (presentBut g x) (flushAll (g .drives))) ++ [] in
+      let r = flush-if g ok x c l (applyAll resets v1) (spares-ready .invs) (isNil resets) in
+      flushed-run g x v1 resets Left (λ u. SparesReady g x c l v1 u) spares-early spares-late (rw (apply-all-append resets ys v1) (ready-still (applyAll resets v1) (applyAll ys (applyAll resets v1)) spares-ready (r .0) (r .1)))
 
   -- ---- the general logs (u: the device then)
   module _ (u : Device) (b : SparesReady g x c l v1 u) where
@@ -203,32 +218,46 @@ module _ (g : Geometry) (ok : Valid g) (x : ℕ) (c : LogGenerations) (l : Ledge
       looks = looks-trans g x v1 t w (k .looks) (looks-same g ok x t w h);
     }
 
-    general-run : CutRuns x u (onPresent (presentBut g x) stores) Left (λ t. LogsReady g x l f emptied v1 t)
-    general-run = subst (λ (xs : List Store). CutRuns x u xs Left (λ t. LogsReady g x l f emptied v1 t)) (sym stores-are) (record {
-      stopped = λ k w cut. left-invs g x c u l w (general-emptyings-stopped g ok x c u l (b .invs) f forced-then emptied can-then k w cut);
-      after = logs-ready (applyAll (emptyGeneral g (presentBut g x) (roles g u) f emptied (byRoles g u)) u) (general-emptyings-finished g ok x c u l (b .invs) f forced-then emptied can-then);
-    })
+    abbrev emptyings-then : List Store
+    emptyings-then = emptyGeneral g (presentBut g x) (roles g u) f emptied (byRoles g u)
 
-    general-step : CutRuns x u (generalStepOf g x f emptied v1) Left (λ t. LogsReady g x l f emptied v1 t)
+    logs-there : LogsReady g x l f emptied v1 (applyAll emptyings-then u)
+    logs-there = logs-ready (applyAll emptyings-then u) (general-emptyings-finished g ok x c u l (b .invs) f forced-then emptied can-then)
+
+    general-first : (n : ℕ) (w : Device) → Cut x (applyAll (take n (flushStores g (presentBut g x))) u) w → Left w
+    general-first n w cut = (c, flushed-cut g ok c x u l n w (b .invs) cut)
+
+    general-left : (k : ℕ) (w : Device) → Cut x (applyAll (take k emptyings-then) u) w → Left w
+    general-left k w cut = left-invs g x c u l w (general-emptyings-stopped g ok x c u l (b .invs) f forced-then emptied can-then k w cut)
+
+    general-step : CutRuns g x u (generalStepOf g x f emptied v1) Left (λ t. LogsReady g x l f emptied v1 t)
+    unfolding flushStores emptyGeneral
     general-step =
-        let xs = onPresent (presentBut g x) stores in
-        cut-runs-then x u xs (pick (isNil xs) [] (onPresent (presentBut g x) (flushAll (g .drives))) ++ []) Left (λ t. LogsReady g x l f emptied v1 t) (λ t. LogsReady g x l f emptied v1 t) general-run
-        (λ k. let r = flush-if g ok x (k .holds .0) l (applyAll xs u) (k .holds .1) (isNil xs) in
-        record { stopped = r .stopped; after = logs-still (applyAll xs u) _ k (k .holds .0, r .after .0) (r .after .1) })
+        let xs = emptyings-then in
+        let ys = pick (isNil xs) [] (onPresent (presentBut g x) (flushAll (g .drives))) ++ [] in
+        let r = flush-if g ok x (logs-there .holds .0) l (applyAll xs u) (logs-there .holds .1) (isNil xs) in
+        let early = delayed-stopped g x false (roles g u) emptied (newGeneralOf g f u) u Left general-first general-left in
+        let late = delayed-flushed g x false (roles g u) emptied (newGeneralOf g f u) u Left general-first general-left in
+        subst (λ (zs : List Store). CutRuns g x u (zs ++ (pick (isNil zs) [] (onPresent (presentBut g x) (flushAll (g .drives))) ++ [])) Left (λ t. LogsReady g x l f emptied v1 t)) (sym stores-are)
+        (flushed-run g x u xs Left (λ t. LogsReady g x l f emptied v1 t) early late (rw (apply-all-append xs ys u) (logs-still (applyAll xs u) (applyAll ys (applyAll xs u)) logs-there (logs-there .holds .0, r .0) (r .1))))
 
   -- from the first flush's end
-  pub logs-run : CutRuns x v1 (logSteps g x f emptied v1) Left (λ t. LogsReady g x l f emptied v1 t)
-  logs-run = cut-runs-then x v1 (spareStepOf g x v1) (generalStepOf g x f emptied v1) Left
+  pub logs-run : CutRuns g x v1 (logSteps g x f emptied v1) Left (λ t. LogsReady g x l f emptied v1 t)
+  logs-run = cut-runs-then g x v1 (spareStepOf g x v1) (generalStepOf g x f emptied v1) Left
       (λ u. SparesReady g x c l v1 u) (λ t. LogsReady g x l f emptied v1 t) spares-step (λ b. general-step _ b)
 
 -- THE BEGINNING OF A MOUNT
 pub mount-logs : (g : Geometry) (ok : Valid g) (x : ℕ) (c : LogGenerations) (l : Ledger) (v : Device) (ri : RoledInvs c g x v l) → let v1 = flushedAll g x v in
     (f : InForce) → Forced g x (byRoles g v1) (f .generation) → (emptied : ℕ → Bool) → ((d : ℕ) → d < g .drives → emptied d ≡ true → CanEmptyGeneral g x f v1 d)
-    → CutRuns x v (flushStores g (presentBut g x) ++ logSteps g x f emptied v1) (λ w. (e : LogGenerations) × RoledInvs e g x w l) (λ t. LogsReady g x l f emptied v1 t)
+    → CutRuns g x v (flushStores g (presentBut g x) ++ logSteps g x f emptied v1) (λ w. (e : LogGenerations) × RoledInvs e g x w l) (λ t. LogsReady g x l f emptied v1 t)
 mount-logs g ok x c l v ri f forced emptied can =
     let v1 = flushedAll g x v in
-    cut-runs-then x v (flushStores g (presentBut g x)) (logSteps g x f emptied v1) (λ w. (e : LogGenerations) × RoledInvs e g x w l) (λ u. RoledInvs c g x u l) (λ t. LogsReady g x l f emptied v1 t)
-    (record { stopped = λ k w cut. (c, flushed-cut g ok c x v l k w ri cut); after = flushed-invs g ok c x v l ri }) (λ i. logs-run g ok x c l v1 i f forced emptied can)
+    cut-runs-then g x v (flushStores g (presentBut g x)) (logSteps g x f emptied v1) (λ w. (e : LogGenerations) × RoledInvs e g x w l) (λ u. RoledInvs c g x u l) (λ t. LogsReady g x l f emptied v1 t)
+    (record {
+      stopped = λ k u w h cut. (c, flushed-cut g ok c x v l k w ri (subst (λ (a : Device). Cut x a w) (flush-part-is g x v k u h) cut));
+      forgets = flush-forgets-all g x v;
+      after = flushed-invs g ok c x v l ri;
+    }) (λ i. logs-run g ok x c l v1 i f forced emptied can)
 
 -- ---- of every drive, absent ones too: only the emptied general logs changed, and spares
 module _ (g : Geometry) (x : ℕ) (l : Ledger) (f : InForce) (emptied : ℕ → Bool) (v1 : Device) (k : LogsReady g x l f emptied v1 (applyAll (logSteps g x f emptied v1) v1)) where

@@ -6,10 +6,11 @@ use Prim.Native.Nat.{ℕ, _+_, _*_, _≤_, _<_}
 use native.Mathlib.Omega.{arith}
 use mathlib.Core.List.{List, [], _++_, append-nil, map}
 use lib.ListN.{length, take}
-use lib.Seq.{take-nil}
+use lib.Seq.{take-nil, take-length}
 use Rattle.tables.specs.meaning.Basics.{pick}
 use Rattle.tables.specs.meaning.Lists.{concat, isNil}
 use Rattle.tables.specs.meaning.Device.{ZoneView, Device, Store, applyAll, Cut}
+use Rattle.tables.specs.laws.Device.{apply-all-append}
 use Rattle.tables.specs.meaning.Phases.{onPresent}
 use Rattle.tables.specs.meaning.Through.{through, carry}
 use Rattle.tables.specs.laws.Drives.{presentBut}
@@ -40,14 +41,15 @@ use Rattle.promise.specs.roles.Roled.{Standing}
 use Rattle.promise.specs.roles.RoledCalls.{RoledRests}
 use Rattle.promise.specs.emptying.Marked.{KeptBy}
 use Rattle.promise.specs.emptying.BlankSpares.{BlankSpares, blank-same, blank-emptied}
-use Rattle.promise.specs.emptying.CutRuns.{cut-runs-then}
+use Rattle.promise.specs.emptying.CutRuns.{cut-runs-then, flushed-run}
+use Rattle.promise.specs.emptying.EmptyingsDelayed.{delayed-stopped, delayed-flushed}
 use Rattle.promise.specs.emptying.EmptyingStops.{Solid, solid-flushed}
-use Rattle.promise.specs.emptying.FlushedRests.{roles-same, seen-same, still-flushed, same-invs}
-use Rattle.promise.specs.emptying.GeneralStores.{on-present-all}
+use Rattle.promise.specs.emptying.FlushedRests.{roles-same, seen-same}
+use Rattle.promise.specs.emptying.OnPresent.{on-present-all}
 use Rattle.promise.specs.emptying.DriveStores.{on-step, on-steps, with-flush-same, emptyings-on, emptyings-same, entries-present}
-use Rattle.promise.specs.emptying.CallParts.{Part, part-less, Carried, ordinary-run, carried-alike, concat-carried, solid-seen, filled-same, asItIs, FilledAt, filled-solid, filled-at-same, filled-roled}
+use Rattle.promise.specs.emptying.CallParts.{Part, part-less, Carried, ordinary-run, carried-alike, concat-carried, solid-seen, filled-same, asItIs, FilledAt, filled-solid, filled-at-same}
 use Rattle.promise.specs.emptying.ParityRests.{newSectors}
-use Rattle.promise.specs.emptying.ParityInMount.{EmptiedInMount, FilledSome, parity-logs-part}
+use Rattle.promise.specs.emptying.ParityInMount.{EmptiedInMount, FilledSome, parity-logs-first, parity-logs-stopped, parity-logs-finished}
 
 -- ---- STEPS 3 TO 9, carried by the roles of w
 pub record Stepped (g : Geometry) (x : ℕ) (c : LogGenerations) (l : Ledger) (k : Shown) (w u : Device) : Type 0 where
@@ -60,7 +62,7 @@ pub steps-part : (g : Geometry) → Valid g → (x : ℕ) (c : LogGenerations) (
     → (k : Shown) → k ≡ showing g (presentBut g x) x (byRoles g w) → (differ : Bool) → (differ ≡ false → CountsSame g x (byRoles g w))
     → (steps : List (List Store)) → steps ≡ stepsBy g x differ k (byRoles g w) → KeepsOff (concat (withFlushes g (presentBut g x) steps))
     → Part g x l w (map (carry (places g w)) (concat (withFlushes g (presentBut g x) steps))) (Stepped g x c l k w)
-steps-part g ok x c l w st i solid room k look differ same steps is off = record { stopped = p .stopped; after = to (applyAll (map (carry (places g w)) (concat (withFlushes g (presentBut g x) steps))) w) (p .after) }
+steps-part g ok x c l w st i solid room k look differ same steps is off = record { stopped = p .stopped; forgets = p .forgets; after = to (applyAll (map (carry (places g w)) (concat (withFlushes g (presentBut g x) steps))) w) (p .after) }
   where
     r : Runs c g x l (byRoles g w) (concat (withFlushes g (presentBut g x) steps)) (AfterSteps g x (byRoles g w) l k c)
     r = subst (λ (t : List (List Store)). Runs c g x l (byRoles g w) (concat (withFlushes g (presentBut g x) t)) (AfterSteps g x (byRoles g w) l k c)) (sym is) (steps-run g ok c x l (byRoles g w) i (solid-seen g x c w st solid) room k look differ same)
@@ -91,7 +93,7 @@ pub record AtRest (g : Geometry) (x : ℕ) (w : Device) : Type 0 where
 
 pub entries-part : (g : Geometry) → Valid g → (x : ℕ) (c : LogGenerations) (l : Ledger) (k : Shown) (u : Device) → FilledAt g x u c l k → EntryRoom g x (byRoles g u) → BlankSpares g x u
     → Part g x l u (map (carry (places g u)) (concat (withFlush g (presentBut g x) (entryStep g k (byRoles g u))))) (AtRest g x)
-entries-part g ok x c l k u fa room blank = record { stopped = p .stopped; after = to (applyAll (map (carry (places g u)) (concat (withFlush g (presentBut g x) (entryStep g k (byRoles g u))))) u) (p .after) }
+entries-part g ok x c l k u fa room blank = record { stopped = p .stopped; forgets = p .forgets; after = to (applyAll (map (carry (places g u)) (concat (withFlush g (presentBut g x) (entryStep g k (byRoles g u))))) u) (p .after) }
   where
     r : Runs c g x l (byRoles g u) (concat (withFlush g (presentBut g x) (entryStep g k (byRoles g u)))) (AfterEntries g x l k c)
     r = subst (λ (e : LogGenerations). Runs e g x l (byRoles g u) (concat (withFlush g (presentBut g x) (entryStep g k (byRoles g u)))) (AfterEntries g x l k e)) (fa .closed-is) (entries-run g ok x (byRoles g u) (fa .ghosts) l k (fa .filled) room)
@@ -132,18 +134,11 @@ logs-done-same g x l k emptied v u w d h =
       blank = blank-same g x u w (λ e y a. s e a y) (d .blank);
     }
 
-flush-part : (g : Geometry) (x : ℕ) (l : Ledger) (k : Shown) (emptied : ℕ → Bool) (v u : Device) (b : Bool) → LogsDone g x l k emptied v u → Part g x l u (pick b [] (flushStores g (presentBut g x)) ++ []) (LogsDone g x l k emptied v)
-flush-part g x l k emptied v u b d = record { stopped = λ n w cut. kept w (stop b n w cut); after = logs-done-same g x l k emptied v u (applyAll (pick b [] (flushStores g (presentBut g x)) ++ []) u) d (whole b) }
+flush-done : (g : Geometry) (x : ℕ) (l : Ledger) (k : Shown) (emptied : ℕ → Bool) (v u : Device) (b : Bool) → LogsDone g x l k emptied v u → LogsDone g x l k emptied v (applyAll (pick b [] (flushStores g (presentBut g x)) ++ []) u)
+flush-done g x l k emptied v u b d = logs-done-same g x l k emptied v u (applyAll (pick b [] (flushStores g (presentBut g x)) ++ []) u) d (whole b)
   where
     solid : Solid g x u
     solid = filled-solid g x u (d .some .generations) (withMarks l (d .some .marks)) k (d .some .at)
-
-    kept : (w : Device) → ((e y : ℕ) → Here g x e → w e y ≡ u e y) → KeptBy g x w l
-    kept w h = let q = d .some in record { generations = q .generations; marks = q .marks; above = q .above; holds = same-invs g (q .generations) x u w (q .at .standing) h (withMarks l (q .marks)) (filled-roled g x u (q .generations) (withMarks l (q .marks)) k (q .at) .1) }
-
-    stop : (b : Bool) (n : ℕ) (w : Device) → Cut x (applyAll (take n (pick b [] (flushStores g (presentBut g x)) ++ [])) u) w → (e y : ℕ) → Here g x e → w e y ≡ u e y
-    stop true n w cut = still-flushed g x u solid 0 w (subst (λ (t : List Store). Cut x (applyAll t u) w) (take-nil n) cut)
-    stop false n w cut = still-flushed g x u solid n w (subst (λ (t : List Store). Cut x (applyAll (take n t) u) w) (append-nil (flushStores g (presentBut g x))) cut)
 
     whole : (b : Bool) (e y : ℕ) → Here g x e → applyAll (pick b [] (flushStores g (presentBut g x)) ++ []) u e y ≡ u e y
     whole true e y a = refl
@@ -155,12 +150,18 @@ pub parity-step : (g : Geometry) → Valid g → (x : ℕ) (c : LogGenerations) 
 unfolding flushStores emptyParity
 parity-step g ok x c l k v fa emptied here known old blank =
     let xs = emptyParity g (presentBut g x) (roles g v) (byLook k) emptied (byRoles g v) in
+    let ys = pick (isNil xs) [] (flushStores g (presentBut g x)) ++ [] in
     let e : onPresent (presentBut g x) xs ≡ xs = on-present-all (presentBut g x) xs (emptyings-on g (presentBut g x) true (roles g v) emptied (newSectors g (byLook k) v) here) in
     let D = LogsDone g x l k emptied v in
-    let p1 = parity-logs-part g ok x v c l k fa emptied known in
-    let p2 : Part g x l v xs D = record { stopped = p1 .stopped; after = record { some = p1 .after .some; roles-are = p1 .after .roles-are; room = p1 .after .room old; blank = blank-emptied g x true emptied (newSectors g (byLook k) v) v (p1 .after .roles-are) blank } } in
-    let p3 : Part g x l v (xs ++ (pick (isNil xs) [] (flushStores g (presentBut g x)) ++ [])) D = cut-runs-then x v xs (pick (isNil xs) [] (flushStores g (presentBut g x)) ++ []) (λ w. KeptBy g x w l) D D p2 (λ d. flush-part g x l k emptied v (applyAll xs v) (isNil xs) d) in
-    subst (λ (t : List Store). Part g x l v (t ++ (pick (isNil t) [] (flushStores g (presentBut g x)) ++ [])) D) (sym e) p3
+    let Left : Device → Type 0 = λ w. KeptBy g x w l in
+    let a = parity-logs-finished g ok x v c l k fa emptied known in
+    let first = parity-logs-first g ok x v c l k fa emptied known in
+    let stopped = parity-logs-stopped g ok x v c l k fa emptied known in
+    let early = delayed-stopped g x true (roles g v) emptied (newSectors g (byLook k) v) v Left first stopped in
+    let late = delayed-flushed g x true (roles g v) emptied (newSectors g (byLook k) v) v Left first stopped in
+    let d : D (applyAll xs v) = record { some = a .some; roles-are = a .roles-are; room = a .room old; blank = blank-emptied g x true emptied (newSectors g (byLook k) v) v (a .roles-are) blank } in
+    let p : Part g x l v (xs ++ (pick (isNil xs) [] (flushStores g (presentBut g x)) ++ [])) D = flushed-run g x v xs Left D early late (rw (apply-all-append xs ys v) (flush-done g x l k emptied v (applyAll xs v) (isNil xs) d)) in
+    subst (λ (t : List Store). Part g x l v (t ++ (pick (isNil t) [] (flushStores g (presentBut g x)) ++ [])) D) (sym e) p
 
 -- ==== THE MOUNT FROM STEP 3 ON
 -- what it has reached after its step 2
@@ -301,4 +302,4 @@ module _ (g : Geometry) (ok : Valid g) (x : ℕ) (l : Ledger) (v v2 : Device) (r
       let u = applyAll X v2 in
       let Y = concat (phasesOfParityLogs g present x v u) in
       let Z = concat (phasesOfEntries g present x v (applyAll Y u)) in
-      cut-runs-then x v2 X (Y ++ Z) (λ w. KeptBy g x w l) (Stepped g x c l k v2) (AtRest g x) first-part (λ s. cut-runs-then x u Y Z (λ w. KeptBy g x w l) (LogsDone g x l k emptied u) (AtRest g x) (second-part u s) (λ d. third-part u s (applyAll Y u) d))
+      cut-runs-then g x v2 X (Y ++ Z) (λ w. KeptBy g x w l) (Stepped g x c l k v2) (AtRest g x) first-part (λ s. cut-runs-then g x u Y Z (λ w. KeptBy g x w l) (LogsDone g x l k emptied u) (AtRest g x) (second-part u s) (λ d. third-part u s (applyAll Y u) d))

@@ -35,6 +35,7 @@ use Rattle.promise.specs.meaning.Ledger.{Ledger, afterMount}
 use Rattle.promise.specs.device.Marks.{withMarks, MarksAbove}
 use Rattle.promise.specs.invariant.Invariant.{Here, LogGenerations}
 use Rattle.promise.specs.invariant.RoomAsked.{MountAccepted}
+use Rattle.promise.specs.invariant.Delayed.{Delayed, Forgets}
 use Rattle.promise.specs.look.LookReads.{begins}
 use Rattle.promise.specs.mount.MountSteps.{stepsBy}
 use Rattle.promise.specs.mount.MountCounters.{CountsSame}
@@ -43,15 +44,16 @@ use Rattle.promise.specs.roles.MountReads.{mount-accepted-same}
 use Rattle.promise.specs.emptying.Marked.{KeptBy}
 use Rattle.promise.specs.emptying.CanEmpty.{spare-seen}
 use Rattle.promise.specs.emptying.BlankSpares.{BlankSpares}
-use Rattle.promise.specs.emptying.CutRuns.{cut-runs-then}
 use Rattle.promise.specs.emptying.EmptyingStops.{Solid}
 use Rattle.promise.specs.emptying.FlushedRests.{flushedAll, flush-sectors, flush-solid, flushed-invs}
 use Rattle.promise.specs.emptying.Forced.{Forced}
 use Rattle.promise.specs.emptying.GeneralEmptying.{newGeneralOf}
-use Rattle.promise.specs.emptying.GeneralStores.{on-present-all, general-on}
+use Rattle.promise.specs.emptying.OnPresent.{on-present-all}
+use Rattle.promise.specs.emptying.GeneralStores.{general-on}
 use Rattle.promise.specs.emptying.SparesReset.{carriedResets, spares-done, spares-blank}
 use Rattle.promise.specs.emptying.EmptyingsLeave.{Leaves, emptyings-leave}
 use Rattle.promise.specs.emptying.MountLogs.{spareStepOf, generalStepOf, logSteps, logs-absent, LogsReady, ready-long, CanEmptyGeneral, mount-logs}
+use Rattle.promise.specs.emptying.CutRuns.{cut-runs-then}
 use Rattle.promise.specs.emptying.CallParts.{Part, kept-as-is}
 use Rattle.promise.specs.emptying.MountTail.{AtRest, MountReady, tail-part}
 
@@ -279,7 +281,7 @@ module _ (g : Geometry) (ok : Valid g) (x : ℕ) (c : LogGenerations) (l : Ledge
   begin-part : Part g x l v begun (LogsReady g x l (byLook K) lacking opened)
   begin-part =
       let p = mount-logs g ok x c l v ri (byLook K) (forced g ok x c l opened ri1 opened-solid ma) lacking (can g ok x c l opened ri1 opened-solid ma) in
-      record { stopped = λ n w cut. let (e, h) = p .stopped n w cut in kept-as-is g x w l e h; after = p .after }
+      record { stopped = λ n u w d cut. let (e, h) = p .stopped n u w d cut in kept-as-is g x w l e h; forgets = p .forgets; after = p .after }
 
   -- the rest, from w
   abbrev pub stepPhases : List (List Store)
@@ -322,7 +324,7 @@ module _ (g : Geometry) (ok : Valid g) (x : ℕ) (c : LogGenerations) (l : Ledge
 
   -- STOPPED ANYWHERE AND CUT the invariant holds by the roles, with marks at or above the ledger's; FINISHED all is at rest, as a look shows it
   pub mount-part : Part g x l v (mountStores g (presentBut g x) x v) (AtRest g x)
-  mount-part = subst (λ (xs : List Store). Part g x l v xs (AtRest g x)) (sym stores-are) (cut-runs-then x v begun (fromStep3 (applyAll begun v)) (λ w. KeptBy g x w l) (LogsReady g x l (byLook K) lacking opened) (AtRest g x) begin-part rest-part)
+  mount-part = subst (λ (xs : List Store). Part g x l v xs (AtRest g x)) (sym stores-are) (cut-runs-then g x v begun (fromStep3 (applyAll begun v)) (λ w. KeptBy g x w l) (LogsReady g x l (byLook K) lacking opened) (AtRest g x) begin-part rest-part)
 
 -- the same, accepted by what the device was before the first flush, which leaves all sectors
 opened-sectors : (g : Geometry) (x : ℕ) (v : Device) (d y : ℕ) → v d y .sectors ≡ flushedAll g x v d y .sectors
@@ -336,10 +338,10 @@ opened-sectors g x v d y = sym (go (presentBut g x d) refl)
 pub mount-cuts : (g : Geometry) → Valid g → (x : ℕ) (v : Device) (l : Ledger) (c : LogGenerations) → RoledInvs c g x v l
     → MountAccepted g (presentBut g x) (roles g v) (byRoles g v) (byLook (showing g (presentBut g x) x (byRoles g v)))
     → let xs = mountStores g (presentBut g x) x v in let k = showing g (presentBut g x) x (byRoles g (applyAll xs v)) in
-    ((n : ℕ) (w : Device) → Cut x (applyAll (take n xs) v) w → (e : LogGenerations) × (m : ℕ → ℕ) × MarksAbove l m × RoledInvs e g x w (withMarks l m)) × ((e : LogGenerations) × RoledRests e g x (applyAll xs v) (mountState k) (afterMount k))
+    ((n : ℕ) (u w : Device) → Delayed g x v (take n xs) u → Cut x u w → (e : LogGenerations) × (m : ℕ → ℕ) × MarksAbove l m × RoledInvs e g x w (withMarks l m)) × Forgets g x v xs × ((e : LogGenerations) × RoledRests e g x (applyAll xs v) (mountState k) (afterMount k))
 mount-cuts g ok x v l c ri ma =
     let p = mount-part g ok x c l v ri (mount-accepted-same g (presentBut g x) x v (flushedAll g x v) (opened-sectors g x v) ma) in
-    ((λ n w cut. let h = p .stopped n w cut in (h .generations, h .marks, h .above, h .holds)), (p .after .generations, p .after .rests))
+    ((λ n u w d cut. let h = p .stopped n u w d cut in (h .generations, h .marks, h .above, h .holds)), p .forgets, (p .after .generations, p .after .rests))
 
 -- and leaves blank spares
 pub mount-blank : (g : Geometry) → Valid g → (x : ℕ) (v : Device) (l : Ledger) (c : LogGenerations) → RoledInvs c g x v l

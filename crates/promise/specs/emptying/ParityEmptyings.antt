@@ -4,10 +4,11 @@
 use mathlib.Core.Path.{_≡_, refl, sym, ap, ap₂, _∙_, subst}
 use mathlib.Core.Bool.{Bool, true}
 use Prim.Native.Nat.{ℕ, _<_}
-use mathlib.Core.List.{List}
+use mathlib.Core.Logic.{_⊎_}
+use mathlib.Core.List.{List, [], _++_}
 use lib.ListN.{length, take}
 use borrow.Author.Tests.{eq-eqb}
-use Rattle.tables.specs.meaning.Device.{Device, Store, applyAll, Cut}
+use Rattle.tables.specs.meaning.Device.{ZoneView, Device, Store, applyAll, Cut}
 use Rattle.tables.specs.laws.Drives.{presentBut}
 use Rattle.tables.specs.declared.Geometry.{Geometry}
 use Rattle.tables.specs.meaning.Geometry.{Valid}
@@ -15,7 +16,7 @@ use Rattle.logs.specs.meaning.Entry.{parityZone, Entry}
 use Rattle.logs.specs.meaning.Walk.{walkLog}
 use Rattle.volume.specs.meaning.State.{StateView}
 use Rattle.volume.specs.meaning.Rules.{parityEntries}
-use Rattle.volume.specs.meaning.Calls.{flushStores}
+use Rattle.volume.specs.meaning.Calls.{appendAll, flushStores}
 use Rattle.volume.specs.meaning.Roles.{Roles, roles, byRoles, emptiedRoles}
 use Rattle.volume.specs.meaning.Emptying.{InForce, newParity, newParitySize, emptyings, emptyParity}
 use Rattle.promise.specs.meaning.Ledger.{Ledger, afterFlush}
@@ -24,10 +25,11 @@ use Rattle.promise.specs.roles.RoledCalls.{RoledRests}
 use Rattle.promise.specs.emptying.AskedSame.{NamedBut, ShowsSame}
 use Rattle.promise.specs.emptying.EmptyingStops.{Solid, afterFirstFlush}
 use Rattle.promise.specs.emptying.Emptyings.{SameSectors, restOf, OneDrive, Progress, emptyings-stopped, emptyings-done}
+use Rattle.promise.specs.emptying.EmptyingsBack.{Finished, emptyings-back}
 use Rattle.promise.specs.emptying.FlushedRests.{roles-same, sectors-seen, flushedAll, flushed-rests, same-rests}
 use Rattle.promise.specs.emptying.ParityAtRest.{ByState}
 use Rattle.promise.specs.emptying.RestShows.{rests-show-same}
-use Rattle.promise.specs.emptying.ParityRests.{CanEmpty, newSectors, emptyingRest, parity-stopped, parity-finished, parity-finished-roles, parity-finished-solid, parity-finished-log, parity-finished-kept, parity-finished-other}
+use Rattle.promise.specs.emptying.ParityRests.{CanEmpty, newSectors, emptyingRest, parity-stopped, parity-finished, parity-finished-roles, parity-finished-solid, parity-finished-log, parity-finished-kept, parity-finished-other, parity-before, parity-before-roles}
 
 -- the log, and so what is copied of it, goes by the sectors
 pub entries-same : (g : Geometry) (v w : Device) (d : ℕ) → w d parityZone .sectors ≡ v d parityZone .sectors → parityEntries g w d ≡ parityEntries g v d
@@ -76,6 +78,17 @@ module _ (g : Geometry) (ok : Valid g) (x : ℕ) (c : LogGenerations) (v : Devic
           others = parity-finished-other g ok x e u state m r committed solid d hd f by can-now;
         })
 
+    -- before its last store
+    drive-before : let w = applyAll (appendAll d (roles g v d .spare) (newSectors g f v d) ++ flushStores g (presentBut g x)) u in Resting w × (roles g w d ≡ emptiedRoles true (roles g v d))
+    drive-before =
+        let (e, r) = held in
+        let m = afterFlush l in
+        let is = ap₂ (λ (q : Roles) (ss : List (List ℕ)). applyAll (appendAll d (q .spare) ss ++ flushStores g (presentBut g x)) u) same-roles same-new in
+        subst (λ (w : Device). Resting w × (roles g w d ≡ emptiedRoles true (roles g v d))) is (
+          (_, parity-before g ok x e u state m r committed solid d hd f by can-now),
+          parity-before-roles g ok x e u state m r committed solid d hd f by can-now d hd ∙ rw (eq-eqb d d refl) (ap (emptiedRoles true) same-roles),
+        )
+
   -- ---- all of them
   abbrev stores-all : List Store
   stores-all = emptyParity g (presentBut g x) (roles g v) f emptied (byRoles g v)
@@ -105,6 +118,11 @@ module _ (g : Geometry) (ok : Valid g) (x : ℕ) (c : LogGenerations) (v : Devic
   pub parity-emptyings-done : Progress g x true v (newSectors g f v) emptied Resting (g .drives) (applyAll stores-all v)
   parity-emptyings-done = subst (λ (xs : List Store). Progress g x true v (newSectors g f v) emptied Resting (g .drives) (applyAll xs v)) (sym all-are)
       (emptyings-done g x true v (newSectors g f v) emptied Resting ParityStopped first more (λ n w k. inFirstFlush n k) unchanged drives)
+
+  -- AND ON DRIVES THAT CACHE RESETS, whatever they bring back (was: what they remember at the start)
+  pub parity-emptyings-back : (was : ℕ → ℕ → List ZoneView) → (stores-all ≡ []) ⊎ Finished g x v was (λ w. (e : LogGenerations) × RoledRests e g x w state (afterFlush l)) stores-all
+  unfolding emptyParity
+  parity-emptyings-back was = emptyings-back g x true v (newSectors g f v) emptied Resting ParityStopped first more (λ n w k. inFirstFlush n k) unchanged drives (λ d hd b u s q h. let (a, k) = can d hd b in drive-before d a k u s q h) was
 
   -- READING 15: at rest with every content committed a look shows what it showed at the first flush's end, whichever drives are named
   pub at-rest-shows : (e : LogGenerations) (w : Device) → RoledRests e g x w state (afterFlush l) → (y : ℕ) → NamedBut g x y → (z : ℕ) → z < g .zones → ShowsSame g (presentBut g y) (byRoles g (flushedAll g x v)) (byRoles g w) z

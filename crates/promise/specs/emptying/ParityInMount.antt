@@ -127,7 +127,7 @@ module _ (g : Geometry) (ok : Valid g) (x : ℕ) (u : Device) (c : LogGeneration
       let p = st .roles d .parity in
       let q = st .roles d .spare in
       rw stores-are (parity-done g ok x c u st δ (fi .logs) (fa .closed-is) d hd (MadeFor g ok x d hd (byRoles g u) l δ k fd) (parityCopies g (byLook k) d es) (filled-copies g ok x d hd (byRoles g u) l δ k fd) n-lt
-      (filled-copy g ok x d hd (byRoles g u) l δ k fd n (can .room)) (applyAll stores u) solid (whole-other g x u solid d hd p q apart blank s) (whole-spare g x u solid d hd p q apart blank s) (whole-old g x u solid d hd p q apart blank s))
+      (filled-copy g ok x d hd (byRoles g u) l δ k fd n (can .room)) (applyAll stores u) solid (whole-other g x u solid d hd p q apart blank s) (whole-spare g x u solid d hd p q apart blank s) (inr (whole-old g x u solid d hd p q apart blank s)))
 
   pub mount-parity-solid : Solid g x (applyAll (emptyingRest g x (byLook k) u d) u)
   mount-parity-solid = rw stores-are (emptying-solid g x u solid d hd (st .roles d .parity) (st .roles d .spare) apart blank (sectorsOfAll g d true copy))
@@ -294,8 +294,11 @@ module _ (g : Geometry) (ok : Valid g) (x : ℕ) (v : Device) (c : LogGeneration
           rw (progress .logs e a hd b) (let t = mount-parity-size g ok x v c l k fa e (kn .here) (kn .can) in omega (arith, t, kn .room))
 
   -- STEP 10
-  pub parity-logs-part : Part g x l v (emptyParity g (presentBut g x) (roles g v) (byLook k) emptied (byRoles g v)) AfterParityLogs
-  parity-logs-part = record {
-    stopped = λ n w cut. emptyings-stopped g x true v (newSectors g (byLook k) v) emptied Held Left first more in-first same one-of n w (subst (λ (xs : List Store). Cut x (applyAll (take n xs) v) w) stores-all cut);
-    after = finished;
-  }
+  pub parity-logs-stopped : (n : ℕ) (w : Device) → Cut x (applyAll (take n (emptyings g (presentBut g x) true (roles g v) emptied (newSectors g (byLook k) v))) v) w → KeptBy g x w l
+  parity-logs-stopped = emptyings-stopped g x true v (newSectors g (byLook k) v) emptied Held Left first more in-first same one-of
+
+  pub parity-logs-first : (n : ℕ) (w : Device) → Cut x (applyAll (take n (flushStores g (presentBut g x))) v) w → KeptBy g x w l
+  parity-logs-first = in-first
+
+  pub parity-logs-finished : AfterParityLogs (applyAll (emptyParity g (presentBut g x) (roles g v) (byLook k) emptied (byRoles g v)) v)
+  parity-logs-finished = finished

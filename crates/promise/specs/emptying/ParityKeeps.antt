@@ -245,6 +245,6 @@ module _ (g : Geometry) (ok : Valid g) (x : ℕ) (c : LogGenerations) (v : Devic
     parity-left solid (part others m lt is lasts) = inl (by-old others m lt is lasts)
     parity-left solid (all others log old) = inr (by-copy solid others log old)
 
-    -- nothing was stopped
-    pub parity-done : Solid g x v → ((e y : ℕ) → Here g x e → (e ≢ d) ⊎ ((y ≢ r d .spare) × (y ≢ r d .parity)) → w e y ≡ v e y) → w d (r d .spare) ≡ laidLog g d copy → w d (r d .parity) ≡ blankZone → ByCopy g x c v w d copy n
-    parity-done solid others log gone = by-copy solid others log (inr gone)
+    -- nothing was stopped, or no more than the reset of the old zone lacks
+    pub parity-done : Solid g x v → ((e y : ℕ) → Here g x e → (e ≢ d) ⊎ ((y ≢ r d .spare) × (y ≢ r d .parity)) → w e y ≡ v e y) → w d (r d .spare) ≡ laidLog g d copy → (w d (r d .parity) ≡ v d (r d .parity)) ⊎ (w d (r d .parity) ≡ blankZone) → ByCopy g x c v w d copy n
+    parity-done solid others log old = by-copy solid others log old

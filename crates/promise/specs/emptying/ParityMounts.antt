@@ -172,7 +172,7 @@ module _ (g : Geometry) (ok : Valid g) (x : ℕ) (c : LogGenerations) (v : Devic
       let p = st .roles d .parity in
       let q = st .roles d .spare in
       rw stores-are (parity-done g ok x c v st δ (fd .logs) closings d hd (MadeFor g ok x d hd (byRoles g v) l δ k fd) (parityCopies g f d es) (filled-copies g ok x d hd (byRoles g v) l δ k fd) n-lt
-      (filled-copy g ok x d hd (byRoles g v) l δ k fd n (can .room)) (applyAll stores v) solid (whole-other g x v solid d hd p q apart blank s) (whole-spare g x v solid d hd p q apart blank s) (whole-old g x v solid d hd p q apart blank s))
+      (filled-copy g ok x d hd (byRoles g v) l δ k fd n (can .room)) (applyAll stores v) solid (whole-other g x v solid d hd p q apart blank s) (whole-spare g x v solid d hd p q apart blank s) (inr (whole-old g x v solid d hd p q apart blank s)))
 
   pub mount-one-filled : Filled g x (byRoles g after) (withMarks l (marksByCopy g k l d)) (parityGhost δ d copy n) k
   mount-one-filled = filled-still g ok x d hd (byRoles g v) l δ k fd n n-some n-lt (can .room) (byRoles g after) (mount-one-done .seen)

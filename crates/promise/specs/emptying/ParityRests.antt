@@ -6,7 +6,7 @@ use mathlib.Core.Logic.{_≢_, _⊎_, inl, inr}
 use mathlib.Core.Bool.{true}
 use Prim.Native.Nat.{ℕ, _^_, _<_}
 use native.Mathlib.Omega.{arith}
-use mathlib.Core.List.{List, []}
+use mathlib.Core.List.{List, [], _++_}
 use lib.ListN.{length, take}
 use lib.Dec.{eqb}
 use Rattle.tables.specs.meaning.Device.{ZoneView, Device, Store, applyAll, Cut}
@@ -18,6 +18,7 @@ use Rattle.logs.specs.laws.HeadLaws.{generation-small}
 use Rattle.logs.specs.laws.Walk.{sectorsOfAll}
 use Rattle.volume.specs.meaning.State.{StateView}
 use Rattle.volume.specs.meaning.Rules.{parityEntries}
+use Rattle.volume.specs.meaning.Calls.{appendAll, flushStores}
 use Rattle.volume.specs.meaning.Roles.{Roles, roles, byRoles, rolesAfter}
 use Rattle.volume.specs.meaning.Emptying.{InForce, parityCopies, newParity, newParitySize}
 use Rattle.volume.specs.laws.Firm.{firm-roles, proper-apart}
@@ -30,7 +31,7 @@ use Rattle.promise.specs.roles.Spares.{spare-rest}
 use Rattle.promise.specs.emptying.CanEmpty.{CanEmptyLog}
 use Rattle.promise.specs.emptying.AskedSame.{NamedBut, ShowsSame}
 use Rattle.promise.specs.emptying.CopiedParity.{newLog, new-log-sectors}
-use Rattle.promise.specs.emptying.EmptyingStops.{Solid, afterFirstFlush, emptying-left, emptying-solid, whole-other, whole-spare, whole-old}
+use Rattle.promise.specs.emptying.EmptyingStops.{Solid, afterFirstFlush, emptying-left, emptying-solid, whole-other, whole-spare, whole-old, early-other, early-spare}
 use Rattle.promise.specs.emptying.ParityLogs.{parityGhost, parityClosed}
 use Rattle.promise.specs.emptying.EmptiedParity.{NoneMade, parity-emptied-rest}
 use Rattle.promise.specs.emptying.ParityKeeps.{ByOld, ByCopy, parity-left, parity-done}
@@ -140,13 +141,36 @@ module _ (g : Geometry) (ok : Valid g) (x : ℕ) (c : LogGenerations) (v : Devic
       let p = st .roles d .parity in
       let q = st .roles d .spare in
       rw stores-are (parity-done g ok x c v st γ (rest .logs) closings d hd NoneMade (parityCopies g f d es) (λ e m. copies-old g ok x d hd (byRoles g v) state l γ rest f by e m .1) n-lt
-      (rest-copy g ok x d hd (byRoles g v) state l γ rest f by n (can .room)) (applyAll stores v) solid (whole-other g x v solid d hd p q apart blank s) (whole-spare g x v solid d hd p q apart blank s) (whole-old g x v solid d hd p q apart blank s))
+      (rest-copy g ok x d hd (byRoles g v) state l γ rest f by n (can .room)) (applyAll stores v) solid (whole-other g x v solid d hd p q apart blank s) (whole-spare g x v solid d hd p q apart blank s) (inr (whole-old g x v solid d hd p q apart blank s)))
 
   pub parity-finished : RoledRests (parityClosed c d (roles g v d .parityClaim)) g x after state l
   parity-finished = subst (λ (i : ℕ). RoledRests (parityClosed c d i) g x after state l) (ap (λ (r : Roles). r .parityClaim) (sym roles-is)) (by-copy-rests after done)
 
   pub parity-finished-roles : (e : ℕ) → Here g x e → roles g after e ≡ rolesAfter true (λ i. eqb i d) (roles g v) e
   parity-finished-roles = done .roles-are
+
+  -- BEFORE ITS LAST STORE, the reset of the old zone: the same
+  abbrev pub unreset : Device
+  unreset = applyAll (appendAll d (roles g v d .spare) (newSectors g f v d) ++ flushStores g (presentBut g x)) v
+
+  undone : ByCopy g x c v unreset d copy n
+  undone =
+      let s = sectorsOfAll g d true copy in
+      let p = st .roles d .parity in
+      let q = st .roles d .spare in
+      rw (sectors-are, roles-is) (parity-done g ok x c v st γ (rest .logs) closings d hd NoneMade (parityCopies g f d es) (λ e m. copies-old g ok x d hd (byRoles g v) state l γ rest f by e m .1) n-lt
+      (rest-copy g ok x d hd (byRoles g v) state l γ rest f by n (can .room)) (applyAll (appendAll d q s ++ flushStores g (presentBut g x)) v) solid (λ e y a o. early-other g x v solid d hd p q apart blank s e y a (spared e y o))
+      (early-spare g x v solid d hd p q apart blank s) (inl (early-other g x v solid d hd p q apart blank s d p hd (inr apart))))
+    where
+      spared : (e y : ℕ) → (e ≢ d) ⊎ ((y ≢ st .roles d .spare) × (y ≢ st .roles d .parity)) → (e ≢ d) ⊎ (y ≢ st .roles d .spare)
+      spared e y (inl h) = inl h
+      spared e y (inr h) = inr (h .0)
+
+  pub parity-before : RoledRests (parityClosed c d (roles g v d .parityClaim)) g x unreset state l
+  parity-before = subst (λ (i : ℕ). RoledRests (parityClosed c d i) g x unreset state l) (ap (λ (r : Roles). r .parityClaim) (sym roles-is)) (by-copy-rests unreset undone)
+
+  pub parity-before-roles : (e : ℕ) → Here g x e → roles g unreset e ≡ rolesAfter true (λ i. eqb i d) (roles g v) e
+  parity-before-roles = undone .roles-are
 
   pub parity-finished-solid : Solid g x after
   parity-finished-solid = rw stores-are (emptying-solid g x v solid d hd (st .roles d .parity) (st .roles d .spare) apart blank (sectorsOfAll g d true copy))

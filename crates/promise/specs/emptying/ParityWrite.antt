@@ -86,7 +86,7 @@ module _ (g : Geometry) (ok : Valid g) (x : ℕ) (c : LogGenerations) (v : Devic
   abbrev pub atState : InForce
   atState = byState g (presentBut g x) (byRoles g v) state
 
-  by : ByState g atState state
+  pub by : ByState g atState state
   by = record { generations = λ y h. refl; pointers = λ y h. refl }
 
   abbrev endOf : ℕ
@@ -107,14 +107,14 @@ module _ (g : Geometry) (ok : Valid g) (x : ℕ) (c : LogGenerations) (v : Devic
   writeCarried = map (carry (placedBy (rolesAfter true emptied (roles g v)))) (writeStores g (presentBut g x) (byRoles g v) state z ss)
 
   module _ (we : WriteEmpties) where
-    abbrev u : Device
+    abbrev pub u : Device
     u = applyAll writeEmptying v
 
-    done : Progress g x true v (newSectors g atState v) emptied (λ w. (e : LogGenerations) × RoledRests e g x w state (afterFlush l)) (g .drives) u
+    pub done : Progress g x true v (newSectors g atState v) emptied (λ w. (e : LogGenerations) × RoledRests e g x w state (afterFlush l)) (g .drives) u
     done = parity-emptyings-done g ok x c v state l rr atState by emptied (we .can)
 
     -- ---- once the logs are emptied
-    marked : (e : LogGenerations) (w : Device) → RoledRests e g x w state (afterFlush l) → RestsBy g x w state l
+    pub marked : (e : LogGenerations) (w : Device) → RoledRests e g x w state (afterFlush l) → RestsBy g x w state l
     marked e w (s, r) = record {
       generations = e;
       marks = flushMarks l;
@@ -132,7 +132,7 @@ module _ (g : Geometry) (ok : Valid g) (x : ℕ) (c : LogGenerations) (v : Devic
     abbrev m : Ledger
     m = withMarks l (rests-then .marks)
 
-    stores-same : writeStores g (presentBut g x) (byRoles g v) state z ss ≡ writeStores g (presentBut g x) (byRoles g u) state z ss
+    pub stores-same : writeStores g (presentBut g x) (byRoles g v) state z ss ≡ writeStores g (presentBut g x) (byRoles g u) state z ss
     stores-same = write-stores-same g ok x c (rests-then .generations) (byRoles g v) (byRoles g u) state l m (rr .1) (rests-then .holds .1) (λ y. refl) z (we .fits .zone-ok) ss
 
     carried-are : writeCarried ≡ map (carry (placedBy (roles g u))) (writeStores g (presentBut g x) (byRoles g u) state z ss)
@@ -151,7 +151,7 @@ module _ (g : Geometry) (ok : Valid g) (x : ℕ) (c : LogGenerations) (v : Devic
         go true b = rw b (ap length (done .logs p a (present-below g x p a) b ∙ new-log-sectors g atState (roles g v p) p (parityEntries g (byRoles g v) p)) ∙ long b)
         go false b = rw b (ap length (sectors-seen g v u p (done .left p a (inr b)) parityZone))
 
-    write-ok : WriteOk g (presentBut g x) (byRoles g u) state z ss
+    pub write-ok : WriteOk g (presentBut g x) (byRoles g u) state z ss
     write-ok = record {
       zone-ok = we .fits .zone-ok;
       writable = we .fits .writable;

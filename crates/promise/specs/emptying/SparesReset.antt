@@ -2,7 +2,7 @@
 -- as they were, the invariant holds as before, and a look shows the same.
 use mathlib.Core.Path.{_≡_, refl, sym, ap, _∙_}
 use mathlib.Core.Logic.{_≢_, _⊎_, inl, inr}
-use mathlib.Core.Bool.{Bool, true, false}
+use mathlib.Core.Bool.{Bool, true, false, _&&_}
 use Prim.Native.Nat.{ℕ, zero, suc, _≤_, _<_, zero-le}
 use native.Mathlib.Nat.{le-refl, not-suc-le-zero}
 use native.Mathlib.Decide.{ℕ-discrete}
@@ -10,11 +10,15 @@ use native.Mathlib.Omega.{arith}
 use mathlib.Core.List.{List, [], _∷_, _++_, map, List·Memᴰ, List·Memᴰ·head, List·Memᴰ·tail}
 use lib.ListN.{length, take}
 use lib.Seq.{take-nil}
+use lib.Dec.{eqb}
+use borrow.Author.Tests.{eq-eqb, ne-eqb}
 use Rattle.tables.specs.meaning.Basics.{pick}
 use Rattle.tables.specs.meaning.Below.{eachBelow}
-use Rattle.tables.specs.laws.Lists.{mem-take, mem-left, mem-right, mem-append, mem-nil, map-append}
-use Rattle.tables.specs.meaning.Device.{ZoneView, Device, Store, reset, storeDrive, blankZone, putZone, apply, applyAll, Cut}
+use Rattle.tables.specs.laws.Lists.{Prefix, prefix-of-nil, mem-take, mem-left, mem-right, mem-append, mem-nil, map-append}
+use Rattle.tables.specs.meaning.Device.{ZoneView, Device, Store, reset, storeDrive, blankZone, putZone, apply, applyAll}
 use Rattle.tables.specs.laws.Device.{put-zone-same, put-zone-other-drive, put-zone-other-zone}
+use Rattle.tables.specs.laws.Local.{LocalStore, appendHere, resetHere, flushHere, applyAllHere, localStores}
+use Rattle.tables.specs.meaning.Cached.{uncached}
 use Rattle.tables.specs.meaning.Phases.{onPresent}
 use Rattle.tables.specs.meaning.Through.{carry}
 use Rattle.tables.specs.laws.Drives.{presentBut, present-below}
@@ -26,9 +30,10 @@ use Rattle.volume.specs.laws.Firm.{Firm, proper-apart, role-one-to-one, firm-ro
 use Rattle.promise.specs.meaning.Ledger.{Ledger}
 use Rattle.promise.specs.invariant.Invariant.{Here, LogGenerations}
 use Rattle.promise.specs.invariant.Obligations.{Invs}
+use Rattle.promise.specs.invariant.Delayed.{Delayed, back-here, back-part}
 use Rattle.promise.specs.invariant.HoldsLess.{withLogs}
 use Rattle.promise.specs.roles.Spares.{SameButSpares, spare-inv}
-use Rattle.promise.specs.roles.Roled.{Standing, standing-cut}
+use Rattle.promise.specs.roles.Roled.{Standing}
 use Rattle.promise.specs.roles.RoledCalls.{RoledInvs}
 use Rattle.promise.specs.emptying.CanEmpty.{spare-blank}
 
@@ -117,6 +122,63 @@ resets-spares r (s ∷ xs) v k e = let (d, q) = k .each s (List·Memᴰ·head re
     go d q (yes p) (inl h) = inr (h ∙ rw (q, p) (put-zone-same v d (r d .spare) blankZone))
     go d q (no p) (inl h) = inl (h ∙ rw q (put-zone-other-drive v d (r d .spare) blankZone e (r e .spare) p))
 
+-- what a place sees of them: a spare resets, any other nothing
+abbrev AllResets : List LocalStore → Type 0
+AllResets [] = Unit {0}
+AllResets (appendHere s ∷ os) = ⊥
+AllResets (resetHere ∷ os) = AllResets os
+AllResets (flushHere ∷ os) = ⊥
+
+resets-seen : (r : ℕ → Roles) (xs : List Store) → SpareResets r xs → (e y : ℕ) → AllResets (localStores e y xs)
+resets-seen r [] k e y = tt
+resets-seen r (s ∷ xs) k e y = let (d, q) = k .each s (List·Memᴰ·head refl) in rw q (go (eqb e d && eqb y (r d .spare)) (resets-seen r xs (resets-rest r s xs k) e y))
+  where
+    go : (b : Bool) → AllResets (localStores e y xs) → AllResets (pick b (resetHere ∷ []) [] ++ localStores e y xs)
+    go true n = n
+    go false n = n
+
+resets-unseen : (r : ℕ → Roles) (xs : List Store) → SpareResets r xs → (e y : ℕ) → y ≢ r e .spare → localStores e y xs ≡ []
+resets-unseen r [] k e y n = refl
+resets-unseen r (s ∷ xs) k e y n = let (d, q) = k .each s (List·Memᴰ·head refl) in rw q (one d (ℕ-discrete e d) (resets-unseen r xs (resets-rest r s xs k) e y n))
+  where
+    one : (d : ℕ) → Dec (e ≡ d) → localStores e y xs ≡ [] → pick (eqb e d && eqb y (r d .spare)) (resetHere ∷ []) [] ++ localStores e y xs ≡ []
+    one d (yes p) h = rw (ne-eqb y (r d .spare) (λ t. n (t ∙ ap (λ (i : ℕ). r i .spare) (sym p))), eq-eqb e d p) h
+    one d (no p) h = rw (ne-eqb e d p) h
+
+resets-leave : (os ps : List LocalStore) (a : ZoneView) → Prefix os ps → AllResets ps → (applyAllHere os a ≡ a) ⊎ (applyAllHere os a ≡ blankZone)
+resets-leave os ps a p n = go os a (front os (p .rest) (rw (p .is) n))
+  where
+    front : (os ps : List LocalStore) → AllResets (os ++ ps) → AllResets os
+    front [] ps n = tt
+    front (appendHere s ∷ os) ps n = n
+    front (resetHere ∷ os) ps n = front os ps n
+    front (flushHere ∷ os) ps n = n
+
+    blank : (os : List LocalStore) → AllResets os → applyAllHere os blankZone ≡ blankZone
+    blank [] n = refl
+    blank (appendHere s ∷ os) n = absurd n
+    blank (resetHere ∷ os) n = blank os n
+    blank (flushHere ∷ os) n = absurd n
+
+    go : (os : List LocalStore) (a : ZoneView) → AllResets os → (applyAllHere os a ≡ a) ⊎ (applyAllHere os a ≡ blankZone)
+    go [] a n = inl refl
+    go (appendHere s ∷ os) a n = absurd n
+    go (resetHere ∷ os) a n = inr (blank os n)
+    go (flushHere ∷ os) a n = absurd n
+
+-- put back or not, only spares changed, and each is as it was or blank
+pub resets-delayed : (g : Geometry) (x : ℕ) (r : ℕ → Roles) (xs : List Store) (v u : Device) → SpareResets r xs → Delayed g x v xs u → SparesBlanked g x r v u
+resets-delayed g x r xs v u k h = record { others = λ e y a n. unseen e y (part e y) (resets-unseen r xs k e y n); spares = λ e a. seen e (r e .spare) (part e (r e .spare)) }
+  where
+    part : (e y : ℕ) → (os : List LocalStore) × Prefix os (localStores e y xs) × (u e y ≡ applyAllHere os (v e y))
+    part e y = back-part (localStores e y xs) (v e y) (u e y) (back-here g x (uncached v) xs u h e y)
+
+    unseen : (e y : ℕ) → (os : List LocalStore) × Prefix os (localStores e y xs) × (u e y ≡ applyAllHere os (v e y)) → localStores e y xs ≡ [] → u e y ≡ v e y
+    unseen e y (os, p, q) n = q ∙ ap (λ (t : List LocalStore). applyAllHere t (v e y)) (prefix-of-nil os (localStores e y xs) p n)
+
+    seen : (e y : ℕ) → (os : List LocalStore) × Prefix os (localStores e y xs) × (u e y ≡ applyAllHere os (v e y)) → (u e y ≡ v e y) ⊎ (u e y ≡ blankZone)
+    seen e y (os, p, q) = rw q (resets-leave os (localStores e y xs) (v e y) p (resets-seen r xs k e y))
+
 -- one of them that is there leaves its spare blank
 pub resets-blank : (r : ℕ → Roles) (xs : List Store) (v : Device) → SpareResets r xs → (d : ℕ) → List·Memᴰ (reset d (r d .spare)) xs → applyAll xs v d (r d .spare) ≡ blankZone
 resets-blank r (s ∷ xs) v k d (List·Memᴰ·tail m) = resets-blank r xs (apply s v) (resets-rest r s xs k) d m
@@ -193,14 +255,9 @@ module _ (g : Geometry) (x : ℕ) (c : LogGenerations) (v : Device) (l : Ledger)
   abbrev xs : List Store
   xs = carriedResets g (presentBut g x) (roles g v) (byRoles g v)
 
-  part-blanked : (n : ℕ) → SparesBlanked g x (roles g v) v (applyAll (take n xs) v)
-  part-blanked n =
-      let k = resets-part (roles g v) n xs (carried-resets g (presentBut g x) (roles g v) (byRoles g v)) in
-      record { others = λ e y a t. resets-others (roles g v) (take n xs) v k e y t; spares = λ e a. resets-spares (roles g v) (take n xs) v k e }
-
-  -- STOPPED AND CUT
-  pub spares-cut : (n : ℕ) (w : Device) → Cut x (applyAll (take n xs) v) w → RoledInvs c g x w l
-  spares-cut n w cut = let (s, i) = blanked-invs g x c v (applyAll (take n xs) v) (ri .0) (part-blanked n) l (ri .1) in standing-cut g x (applyAll (take n xs) v) w c l s i cut
+  -- STOPPED, spares put back or not
+  pub spares-part : (n : ℕ) (u : Device) → Delayed g x v (take n xs) u → RoledInvs c g x u l
+  spares-part n u h = blanked-invs g x c v u (ri .0) (resets-delayed g x (roles g v) (take n xs) v u (resets-part (roles g v) n xs (carried-resets g (presentBut g x) (roles g v) (byRoles g v))) h) l (ri .1)
 
   -- FINISHED: only spares changed, and each present drive's is blank
   pub spares-done : SparesBlanked g x (roles g v) v (applyAll xs v)

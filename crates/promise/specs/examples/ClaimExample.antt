@@ -23,7 +23,7 @@ use borrow.Author.Tests.{ne-eqb}
 use Rattle.tables.specs.meaning.Basics.{pick}
 use Rattle.tables.specs.meaning.Drives.{noDrive}
 use Rattle.volume.specs.meaning.State.{StateView}
-use Rattle.promise.specs.device.ClaimProof.{device-keeps-the-promise}
+use Rattle.promise.specs.device.OlderDrives.{device-keeps-the-promise}
 use Rattle.promise.specs.examples.Opened.{deviceOpen}
 
 abbrev vol : Volume
@@ -263,10 +263,10 @@ answer-well-formed accept xs new old stop v h = go (ltb stop (length xs))
     go true = well-formed-apply-all (take stop xs) v h
     go false = well-formed-apply-all xs v h
 
-call-well-formed : (c : Call) (named : ℕ → Bool) (old : StateView) (stop : ℕ) (v : Device) → WellFormed v → WellFormed (vol .call c named old stop v .memory)
+pub call-well-formed : (c : Call) (named : ℕ → Bool) (old : StateView) (stop : ℕ) (v : Device) → WellFormed v → WellFormed (vol .call c named old stop v .memory)
 call-well-formed c named old stop v h = let k = callOf geo lengths c named old v in answer-well-formed (firstRefusal (k .refusals)) (k .stores) (k .state) old stop v h
 
-blank-well-formed : WellFormed blank
+pub blank-well-formed : WellFormed blank
 unfolding WellFormed
 blank-well-formed d y = le-refl 0
 

@@ -30,7 +30,8 @@ use Rattle.promise.specs.meaning.Claim.{allBut, mounts, System, Event, c
 use Rattle.promise.specs.meaning.OnTables.{callResult, onTables}
 use Rattle.volume.specs.meaning.CallContracts.{isSet, lengthsOf, formatVerdict, formatOn, badIn}
 use Rattle.promise.specs.tables.TablesEvents.{TablesOk}
-use Rattle.promise.specs.tables.TablesClaimProof.{FormatPassed, start-ok, tables-keep-the-promise}
+use Rattle.promise.specs.tables.TablesClaimProof.{FormatPassed, start-ok}
+use Rattle.promise.specs.tables.CachedTablesClaim.{tables-keep-the-promise}
 
 -- the drives named: all, and all but drive 1
 unfoldable pub every : List Bool

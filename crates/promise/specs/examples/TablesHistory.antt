@@ -18,7 +18,7 @@ use Rattle.tables.specs.laws.Lists.{length-overlay, overlay-below}
 use Rattle.tables.specs.laws.Basics.{not-true}
 use Rattle.tables.specs.laws.Made.{WellSized}
 use Rattle.tables.specs.laws.PointerOrder.{order-passed, cut-to-durable}
-use Rattle.promise.specs.tables.TablesClaimProof.{tables-keep-the-promise}
+use Rattle.promise.specs.tables.CachedTablesClaim.{tables-keep-the-promise}
 use Rattle.promise.specs.examples.Example.{noStop}
 use Rattle.promise.specs.examples.ClaimExample.{isMode, all, all-at, ready-is, may-mount, done}
 use mathlib.Core.Bool.{Bool, true, false, not}
@@ -33,27 +33,27 @@ use lib.Seq.{take-append-le, drop-append-le, length-take-le}
 use lib.Dec.{eqb, T, lit<}
 use Rattle.promise.specs.examples.Opened.{tablesOpen}
 
-abbrev small : Geometry
+abbrev pub small : Geometry
 small = geometryOf 3 64 1 1 9
 
 abbrev vol : Volume
 vol = onTables small
 
 -- 3 x 4 zones of 9 sectors
-abbrev zeros : Tables
+abbrev pub zeros : Tables
 zeros = record { sectors = replicate 6912 0; written = replicate 12 0; durable = replicate 12 0 }
 
-abbrev every : List Bool
+abbrev pub every : List Bool
 every = true ∷ true ∷ true ∷ []
 
 abbrev without2 : List Bool
 without2 = true ∷ true ∷ []
 
 -- n sectors of bytes b
-abbrev bytes : ℕ → ℕ → List ℕ
+abbrev pub bytes : ℕ → ℕ → List ℕ
 bytes n b = replicate (n * 64) b
 
-abbrev held : State
+abbrev pub held : State
 held = freshState small noDrive
 
 -- ---- the history, point by point
@@ -247,7 +247,7 @@ format-finishes : vol .call (formats 7) every held noStop zeros .answer ≡ Fini
 unfolding tablesOpen
 format-finishes = refl
 
-every-set : (d : ℕ) → d < 3 → isSet every d ≡ true
+pub every-set : (d : ℕ) → d < 3 → isSet every d ≡ true
 every-set zero h = refl
 every-set (suc zero) h = refl
 every-set (suc (suc zero)) h = refl

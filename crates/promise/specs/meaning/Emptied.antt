@@ -1,4 +1,4 @@
--- WHAT IS PROMISED OF EMPTYINGS, beyond the claim (Claim.antt): from an emptying's first flush on, wherever it is stopped and whatever a cut keeps, a look that names
+-- WHAT IS PROMISED OF EMPTYINGS, beyond the claim (Claim.antt): from an emptying's first flush on, wherever it is stopped and whatever a cut keeps or brings back, a look that names
 -- the drives that are not lost, or these but one, shows the same pointers and the same sectors as a look naming the same drives at that flush's end. So at
 -- no moment does an emptying depend on the one log that it replaces. The one exception: where a mount empties parity logs, a zone whose entry was made there may
 -- show more, up to the pointer of the mount's look.
@@ -15,7 +15,8 @@ use Rattle.tables.specs.meaning.Lists.{concat}
 use Rattle.tables.specs.meaning.Phases.{onPresent}
 use Rattle.tables.specs.meaning.Below.{anyBelow}
 use Rattle.tables.specs.meaning.Through.{through, carry}
-use Rattle.tables.specs.meaning.Device.{Device, Store, applyAll, Cut}
+use Rattle.tables.specs.meaning.Device.{Device, Store, applyAll}
+use Rattle.tables.specs.meaning.Cached.{uncached, applyAllCaching, CachingCut}
 use Rattle.volume.specs.meaning.State.{StateView, pointerIn}
 use Rattle.volume.specs.meaning.Rules.{Shown}
 use Rattle.volume.specs.meaning.Calls.{flushStores}
@@ -27,6 +28,7 @@ use Rattle.volume.specs.declared.Answer.the-variants.{Finished}
 use Rattle.volume.specs.meaning.Answers.{writeCall, resetCall, mountCall}
 use Rattle.promise.specs.meaning.Claim.{Volume, System, NamesAll, MayMount, Event, Dutiful, next, start, formats, allBut, ready}
 use Rattle.promise.specs.meaning.OnDevice.{shownBy, onDevice}
+use Rattle.promise.specs.meaning.Caches.{WithCaches, beneath, deviceCaches, onCachingDevice}
 
 -- ---- looks. The drives that may be named: all but the lost one (x); all but any one where none is lost
 abbrev pub MayNameBut : Geometry → ℕ → ℕ → Type 0
@@ -54,15 +56,15 @@ pub record AlikeUpTo (g : Geometry) (made : ℕ → Bool) (top : ℕ → ℕ) (k
 abbrev pub LooksAlikeUpTo : Geometry → ℕ → (ℕ → Bool) → (ℕ → ℕ) → Device → Device → Type 0
 LooksAlikeUpTo g x made top v w = (y : ℕ) → MayNameBut g x y → AlikeUpTo g made top (lookBut g y v) (lookBut g y w)
 
--- ---- stores that begin with a flush of the drives that are not lost: stopped behind it and cut
+-- ---- stores that begin with a flush of the drives that are not lost: stopped behind it and cut. (Behind it the caches remember nothing of before.)
 abbrev pub flushOf : Geometry → ℕ → List Store
 flushOf g x = flushStores g (presentBut g x)
 
 abbrev pub KeepsLooks : Geometry → ℕ → Device → List Store → Type 0
-KeepsLooks g x v xs = (n : ℕ) → length (flushOf g x) ≤ n → (w : Device) → Cut x (applyAll (take n xs) v) w → LooksAlike g x (applyAll (flushOf g x) v) w
+KeepsLooks g x v xs = (n : ℕ) → length (flushOf g x) ≤ n → (w : Device) → CachingCut x (applyAllCaching (take n xs) (uncached v)) w → LooksAlike g x (applyAll (flushOf g x) v) w
 
 abbrev pub KeepsLooksUpTo : Geometry → ℕ → (ℕ → Bool) → (ℕ → ℕ) → Device → List Store → Type 0
-KeepsLooksUpTo g x made top v xs = (n : ℕ) → length (flushOf g x) ≤ n → (w : Device) → Cut x (applyAll (take n xs) v) w → LooksAlikeUpTo g x made top (applyAll (flushOf g x) v) w
+KeepsLooksUpTo g x made top v xs = (n : ℕ) → length (flushOf g x) ≤ n → (w : Device) → CachingCut x (applyAllCaching (take n xs) (uncached v)) w → LooksAlikeUpTo g x made top (applyAll (flushOf g x) v) w
 
 -- ---- the emptyings with which a write and a reset begin (Emptying's writeAll, resetAll; x: the lost drive)
 abbrev pub emptyingsOfWrite : Geometry → ℕ → Device → StateView → ℕ → ℕ → List Store
@@ -125,7 +127,7 @@ AtEveryPoint g vol P s (e ∷ es) = P s × AtEveryPoint g vol P (next g vol s e)
 
 -- THE CLAIM, of the histories of which the promise is claimed
 abbrev pub EmptyingClaim : Type 0
-EmptyingClaim = (g : Geometry) (t : TableLengths) (named : ℕ → Bool) (array : ℕ) (old : StateView) (stop : ℕ) (v : Device) → array < 256 ^ 8
-    → let r = onDevice g t .call (formats array) named old stop v in
-    r .answer ≡ Finished → (es : List (Event (onDevice g t))) → Dutiful g (onDevice g t) (start g (onDevice g t) named r) es
-    → AtEveryPoint g (onDevice g t) (EmptyingsKeepLooks g t) (start g (onDevice g t) named r) es
+EmptyingClaim = (g : Geometry) (t : TableLengths) (named : ℕ → Bool) (array : ℕ) (old : StateView) (stop : ℕ) (m : WithCaches Device) → array < 256 ^ 8
+    → let vol = onCachingDevice g t in let r = vol .call (formats array) named old stop m in
+    r .answer ≡ Finished → (es : List (Event vol)) → Dutiful g vol (start g vol named r) es
+    → AtEveryPoint g vol (λ s. EmptyingsKeepLooks g t (beneath (onDevice g t) (deviceCaches g t) s)) (start g vol named r) es

@@ -16,8 +16,8 @@ use Rattle.volume.specs.meaning.Roles.{roles, claimOfKind}
 use Rattle.volume.specs.meaning.Refusals.{TableLengths}
 use Rattle.volume.specs.laws.RoomAfter.{RoomyGeneral, RoomyParity}
 use Rattle.promise.specs.meaning.Claim.{Volume, mounts, writes, resets, formats, System, NamesAll, Event, Dutiful, start, ready}
-use Rattle.promise.specs.meaning.OnDevice.{onDevice}
-use Rattle.promise.specs.meaning.OnTables.{onTables}
+use Rattle.promise.specs.meaning.Caches.{onCachingDevice}
+use Rattle.promise.specs.meaning.CachesOnTables.{onCachingTables}
 use Rattle.promise.specs.meaning.Emptied.{AtEveryPoint}
 
 -- no log of a drive but x has the last generation (a log's claim is its generation plus 1)
@@ -39,7 +39,7 @@ NeverFills g vol seen = RoomyGeneral g → RoomyParity g → (named : vol .Names
 
 -- THE CLAIMS, of the rules' calls and of the code's
 abbrev pub RoomyClaim : Type 0
-RoomyClaim = (g : Geometry) (t : TableLengths) → NeverFills g (onDevice g t) (λ v. v)
+RoomyClaim = (g : Geometry) (t : TableLengths) → NeverFills g (onCachingDevice g t) (λ m. m .memory)
 
 abbrev pub RoomyTablesClaim : Type 0
-RoomyTablesClaim = (g : Geometry) → NeverFills g (onTables g) (deviceOf g)
+RoomyTablesClaim = (g : Geometry) → NeverFills g (onCachingTables g) (λ m. deviceOf g (m .memory))

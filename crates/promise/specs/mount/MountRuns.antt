@@ -26,22 +26,31 @@ use Rattle.tables.specs.laws.Drives.{presentBut, present-below}
 use Rattle.promise.specs.meaning.Ledger.{Ledger}
 use Rattle.volume.specs.meaning.Mount.{withFlush}
 use Rattle.promise.specs.invariant.Obligations.{Invs}
+use Rattle.tables.specs.meaning.Cached.{uncached}
+use Rattle.tables.specs.laws.Cached.{rememberHere}
+use Rattle.promise.specs.invariant.Delayed.{Delayed, delayed-none, back-here, back-part, Forgets, forgets-append, delayed-append, flushed-forgets}
 
--- from v, after any part of the stores xs the invariant holds, and after all of them Q
+-- from v, after any part of the stores xs the invariant holds, views of before an unflushed reset put back or not, and after all of them Q; nothing is
+-- remembered then
 pub record Runs (c : LogGenerations) (g : Geometry) (x : ℕ) (l : Ledger) (v : Device) (xs : List Store) (Q : Device → Type 0) : Type 0 where
-  pub during : (n : ℕ) → Invs c g x (applyAll (take n xs) v) l
+  pub during : (n : ℕ) (u : Device) → Delayed g x v (take n xs) u → Invs c g x u l
+  pub forgets : Forgets g x v xs
   pub after : Q (applyAll xs v)
 
 pub runs-append : (c : LogGenerations) (g : Geometry) (x : ℕ) (l : Ledger) (v : Device) (xs ys : List Store) (Q R : Device → Type 0)
     → Runs c g x l v xs Q → ((u : Device) → Q u → Runs c g x l u ys R) → Runs c g x l v (xs ++ ys) R
-runs-append c g x l v xs ys Q R a b = record { during = λ n. part n (decLt n (length xs)); after = rw (apply-all-append xs ys v) (b (applyAll xs v) (a .after) .after) }
+runs-append c g x l v xs ys Q R a b = record {
+  during = λ n u k. part n u k (decLt n (length xs));
+  forgets = forgets-append g x v xs ys (a .forgets) (b (applyAll xs v) (a .after) .forgets);
+  after = rw (apply-all-append xs ys v) (b (applyAll xs v) (a .after) .after);
+}
   where
-    part : (n : ℕ) → Dec (n < length xs) → Invs c g x (applyAll (take n (xs ++ ys)) v) l
-    part n (yes h) = rw (take-append-le n xs ys (omega arith)) (a .during n)
-    part n (no h) =
+    part : (n : ℕ) (u : Device) → Delayed g x v (take n (xs ++ ys)) u → Dec (n < length xs) → Invs c g x u l
+    part n u k (yes h) = a .during n u (subst (λ (t : List Store). Delayed g x v t u) (take-append-le n xs ys (omega arith)) k)
+    part n u k (no h) =
         let m : n ≡ length xs + (n - length xs) = omega arith in
-        let e : take n (xs ++ ys) ≡ xs ++ take (n - length xs) ys = ap (λ (k : ℕ). take k (xs ++ ys)) m ∙ take-append-add xs ys (n - length xs) in
-        rw (e, apply-all-append xs (take (n - length xs) ys) v) (b (applyAll xs v) (a .after) .during (n - length xs))
+        let e : take n (xs ++ ys) ≡ xs ++ take (n - length xs) ys = ap (λ (i : ℕ). take i (xs ++ ys)) m ∙ take-append-add xs ys (n - length xs) in
+        b (applyAll xs v) (a .after) .during (n - length xs) u (delayed-append g x v xs (take (n - length xs) ys) u (a .forgets) (subst (λ (t : List Store). Delayed g x v t u) e k))
 
 -- phases joined
 pub runs-phases : (c : LogGenerations) (g : Geometry) (x : ℕ) (l : Ledger) (v : Device) (ps qs : List (List Store)) (Q R : Device → Type 0)
@@ -51,7 +60,7 @@ runs-phases c g x l v ps qs Q R a b = rw (concat-append ps qs) (runs-append c g 
 -- the same, the second list being made for the device that the first one leaves
 pub runs-then : (c : LogGenerations) (g : Geometry) (x : ℕ) (l : Ledger) (v : Device) (xs ys : List Store) (Q R : Device → Type 0)
     → Runs c g x l v xs Q → (Q (applyAll xs v) → Runs c g x l (applyAll xs v) ys R) → Runs c g x l v (xs ++ ys) R
-runs-then c g x l v xs ys Q R a b = runs-append c g x l v xs ys (λ u. (u ≡ applyAll xs v) × Q u) R (record { during = a .during; after = (refl, a .after) }) (λ u q. subst (λ t. Runs c g x l t ys R) (sym (q .0)) (b (a .after)))
+runs-then c g x l v xs ys Q R a b = runs-append c g x l v xs ys (λ u. (u ≡ applyAll xs v) × Q u) R (record { during = a .during; forgets = a .forgets; after = (refl, a .after) }) (λ u q. subst (λ t. Runs c g x l t ys R) (sym (q .0)) (b (a .after)))
 
 pub runs-phases-then : (c : LogGenerations) (g : Geometry) (x : ℕ) (l : Ledger) (v : Device) (ps qs : List (List Store)) (Q R : Device → Type 0)
     → Runs c g x l v (concat ps) Q → (Q (applyAll (concat ps) v) → Runs c g x l (applyAll (concat ps) v) (concat qs) R) → Runs c g x l v (concat (ps ++ qs)) R
@@ -89,8 +98,10 @@ module _ (g : Geometry) (x : ℕ) (xs : List Store) where
           inr (rw n refl, q)
       go false e = inl (local-append d y (onPresent (presentBut g x) xs) (onPresent (presentBut g x) (flushAll (g .drives)) ++ []) ∙ rw (on-present-local (presentBut g x) d y xs a, append-nil (onPresent (presentBut g x) (flushAll (g .drives))), on-present-local (presentBut g x) d y (flushAll (g .drives)) a, flush-all-local d y (g .drives) (present-below g x d a)) refl)
 
-  step-between : (u : Device) (n : ℕ) → Between g x u xs (applyAll (take n stepStores) u)
-  step-between u n d y a = (localStores d y (take n stepStores), go (step-local d y a), local-is d y (take n stepStores) u)
+  step-between : (u : Device) (n : ℕ) (w : Device) → Delayed g x u (take n stepStores) w → Between g x u xs w
+  step-between u n w k d y a =
+      let (os, p, e) = back-part (localStores d y (take n stepStores)) (u d y) (w d y) (back-here g x (uncached u) (take n stepStores) w k d y) in
+      (os, prefix-trans p (go (step-local d y a)), e)
     where
       go : ((localStores d y stepStores ≡ localStores d y xs ++ (flushHere ∷ [])) ⊎ ((localStores d y stepStores ≡ []) × (localStores d y xs ≡ []))) → Prefix (localStores d y (take n stepStores)) (localStores d y xs ++ (flushHere ∷ []))
       go (inl e) = rw (← e) (local-take d y n stepStores)
@@ -103,11 +114,19 @@ module _ (g : Geometry) (x : ℕ) (xs : List Store) where
       go (inl e) = ap (λ (o : List LocalStore). applyAllHere o (u d y)) e ∙ apply-here-append (localStores d y xs) (flushHere ∷ []) (u d y)
       go (inr e) = rw (e .0, e .1) (sym (flushed-durable (u d y) (s .lasts d y a)))
 
+  step-forgets : (u : Device) → Forgets g x u stepStores
+  step-forgets u = record { none = λ d y a. go d y (step-local d y a) }
+    where
+      go : (d y : ℕ) → ((localStores d y stepStores ≡ localStores d y xs ++ (flushHere ∷ [])) ⊎ ((localStores d y stepStores ≡ []) × (localStores d y xs ≡ []))) → rememberHere (localStores d y stepStores) (u d y) [] ≡ []
+      go d y (inl e) = ap (λ (os : List LocalStore). rememberHere os (u d y) []) e ∙ flushed-forgets (localStores d y xs) (u d y) []
+      go d y (inr e) = ap (λ (os : List LocalStore). rememberHere os (u d y) []) (e .0)
+
   -- A STEP WITH ITS FLUSH
   pub step-runs : (c : LogGenerations) (l : Ledger) (u : Device) (Q : Device → Type 0) → AllDurable g x u → ((w : Device) → Between g x u xs w → Invs c g x w l) → ((w : Device) → Between g x u xs w → Done g x u xs w → Q w) → Runs c g x l u stepStores Q
   step-runs c l u Q s p q = record {
-    during = λ n. p (applyAll (take n stepStores) u) (step-between u n);
-    after = q (applyAll stepStores u) (subst (λ (t : List Store). Between g x u xs (applyAll t u)) (take-length stepStores) (step-between u (length stepStores))) (step-done u s);
+    during = λ n w k. p w (step-between u n w k);
+    forgets = step-forgets u;
+    after = q (applyAll stepStores u) (step-between u (length stepStores) (applyAll stepStores u) (subst (λ (t : List Store). Delayed g x u t (applyAll stepStores u)) (sym (take-length stepStores)) (delayed-none g x u stepStores))) (step-done u s);
   }
 
 -- ---- a device whose logs were left alone

@@ -99,7 +99,7 @@ pub steps-run : (g : Geometry) → Valid g → (c : LogGenerations) (x : ℕ) (l
 steps-run g ok c x l w (γ, i, q) s room k e differ same =
     let t : Start g x w γ l k = rw e (start-of g ok x w γ l i s room) in
     let r = started-run g ok x w γ l k t differ same in
-    record { during = rw (← q) (r .during); after = to t _ (r .after) }
+    record { during = rw (← q) (r .during); forgets = r .forgets; after = to t _ (r .after) }
   where
     to : Start g x w γ l k → (u : Device) → AfterFill g x w γ l k (2 + (countReset g k + countSealed g k)) u → AfterSteps g x w l k c u
     to t u a =

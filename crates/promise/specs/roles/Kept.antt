@@ -37,7 +37,7 @@ abbrev pub Kept : Geometry → ℕ → Device → Device → Type 0
 Kept g x v w = (d y : ℕ) → Here g x d → y < physicalZones g → ZoneCut (v d y) (w d y)
 
 -- ---- stores keep a zone's durable sectors among its sectors
-here-lasting : (os : List LocalStore) (a : ZoneView) → a .durable ≤ length (a .sectors) → applyAllHere os a .durable ≤ length (applyAllHere os a .sectors)
+pub here-lasting : (os : List LocalStore) (a : ZoneView) → a .durable ≤ length (a .sectors) → applyAllHere os a .durable ≤ length (applyAllHere os a .sectors)
 here-lasting [] a h = h
 here-lasting (appendHere s ∷ os) a h = here-lasting os (appended s a) (rw length-append (omega arith))
 here-lasting (resetHere ∷ os) a h = here-lasting os blankZone zero-le

@@ -28,7 +28,7 @@ pub record Ordinary (g : Geometry) (x : ℕ) (xs : List Store) : Type 0 where
   pub on : AllOn (presentBut g x) xs
   pub off : KeepsOff xs
 
-on-take : (present : ℕ → Bool) (n : ℕ) (xs : List Store) → AllOn present xs → AllOn present (take n xs)
+pub on-take : (present : ℕ → Bool) (n : ℕ) (xs : List Store) → AllOn present xs → AllOn present (take n xs)
 on-take present zero xs p = tt
 on-take present (suc n) [] p = tt
 on-take present (suc n) (x ∷ xs) p = (p .0, on-take present n xs (p .1))

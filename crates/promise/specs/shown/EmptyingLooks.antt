@@ -20,17 +20,18 @@ use Rattle.tables.specs.laws.GeometryTest.{valid-if-test}
 use Rattle.tables.specs.laws.Drives.{presentBut}
 use Rattle.volume.specs.meaning.State.{StateView, pointerIn}
 use Rattle.volume.specs.meaning.Content.{insideStripe, parityDriveAt}
-use Rattle.volume.specs.meaning.Rules.{showing, zoneShown, zoneAt}
+use Rattle.volume.specs.meaning.Rules.{generalHeads, parityEntries, showing, zoneShown, zoneAt}
 use Rattle.volume.specs.meaning.Roles.{driveByRoles, roles, byRoles, placedBy}
 use Rattle.volume.specs.meaning.Calls.{flushStores}
-use Rattle.volume.specs.meaning.Emptying.{byState, byLook, lacksRoom, newParitySize, resetLimit, writeLimit, emptiedFor, emptiedForWrite, emptyParity, isMade}
-use Rattle.volume.specs.meaning.Mount.{spareStep, afterOpening, afterFill, mountLook, emptiedParity, middleRoles}
+use Rattle.volume.specs.meaning.Emptying.{byState, byLook, lacksRoom, newGeneral, newParity, newParitySize, resetLimit, writeLimit, emptiedFor, emptiedForWrite, emptyings, emptyGeneral, emptyParity, isMade}
+use Rattle.volume.specs.meaning.Mount.{spareStep, afterOpening, afterFill, mountView, mountLook, startRoles, emptiedGeneral, emptiedParity, middleRoles}
 use Rattle.volume.specs.meaning.Refusals.{TableLengths, zoneOf}
 use Rattle.volume.specs.meaning.Answers.{sectorsIn}
 use Rattle.promise.specs.meaning.Ledger.{Ledger, afterFlush}
 use Rattle.promise.specs.meaning.Claim.{System}
 use Rattle.promise.specs.meaning.OnDevice.{onDevice}
-use Rattle.promise.specs.meaning.Emptied.{MayNameBut, lookBut, ShowsAlike, AlikeUpTo, KeepsLooks, KeepsLooksUpTo, emptyingsOfWrite, emptyingsOfReset, afterSpareResets, emptyingsOfMount, entryMade, lookPointer, parityEmptyingsOfMount, EmptyingsKeepLooks, EmptyingClaim}
+use Rattle.promise.specs.meaning.Caches.{beneath, deviceCaches}
+use Rattle.promise.specs.meaning.Emptied.{MayNameBut, lookBut, ShowsAlike, AlikeUpTo, LooksAlike, LooksAlikeUpTo, flushOf, KeepsLooks, KeepsLooksUpTo, emptyingsOfWrite, emptyingsOfReset, afterSpareResets, emptyingsOfMount, filledView, entryMade, lookPointer, parityEmptyingsOfMount, EmptyingsKeepLooks, EmptyingClaim}
 use Rattle.promise.specs.invariant.Invariant.{Here, LogGenerations, rest-inv}
 use Rattle.promise.specs.invariant.RoomAsked.{WriteAccepted, ResetAccepted, MountAccepted}
 use Rattle.promise.specs.roles.RoledCalls.{RoledInvs, RoledRests}
@@ -54,7 +55,10 @@ use Rattle.promise.specs.device.Modes.{SomeInvs, loss-some-invs}
 use Rattle.promise.specs.device.Looks.{invs-look}
 use Rattle.promise.specs.device.AcceptedCalls.{write-accepted, reset-accepted}
 use Rattle.promise.specs.device.ClaimEvents.{Ok, rests-of, invs-of, drives-of-call, mount-allowed}
+use Rattle.promise.specs.emptying.DriveStores.{emptyings-on}
+use Rattle.promise.specs.emptying.OnPresent.{on-present-all}
 use Rattle.promise.specs.shown.EveryPoint.{at-every-point}
+use Rattle.promise.specs.shown.BehindDelayed.{Behind, behind-cached}
 use Rattle.promise.specs.shown.MountLooks.{u-invs, mount-behind}
 use Rattle.promise.specs.shown.BehindLooks.{parity-behind-rests, parity-behind-shows, general-behind}
 
@@ -111,14 +115,21 @@ module _ (g : Geometry) (ok : Valid g) (x : ℕ) (c : LogGenerations) (v : Devic
         record { room = let r = k .room in omega (arith, r); top = k .top; blank = wa .blank d e },
       )
 
-  pub write-keeps : emptyingsOfWrite g x v state z (length ss) ≢ [] → KeepsLooks g x v (emptyingsOfWrite g x v state z (length ss))
+  write-behind : emptyingsOfWrite g x v state z (length ss) ≢ [] → Behind g x v (emptyingsOfWrite g x v state z (length ss)) (LooksAlike g x (flushedAll g x v))
   unfolding emptied
-  write-keeps some n h w cut y by =
+  write-behind some n h w cut y by =
       let f = byState g (presentBut g x) (byRoles g v) state in
       let at : ByState g f state = record { generations = λ y h. refl; pointers = λ y h. refl } in
       let (e, r) = parity-behind-rests g ok x c v state l rr f at emptied write-can some n h w cut in
       alike g ok x y by (flushedAll g x v) w (afterFlush l) (afterFlush l) (rests-invs g x c (flushedAll g x v) state (afterFlush l) (flushed-rests g ok c x v state l rr)) (rests-invs g x e w state (afterFlush l) r)
       (parity-behind-shows g ok x c v state l rr f at emptied write-can e w r y by)
+
+  pub write-keeps : emptyingsOfWrite g x v state z (length ss) ≢ [] → KeepsLooks g x v (emptyingsOfWrite g x v state z (length ss))
+  unfolding emptied emptiedForWrite emptiedFor emptyParity
+  write-keeps some =
+      let f = byState g (presentBut g x) (byRoles g v) state in
+      behind-cached g x true (roles g v) emptied (λ d. newParity g f (roles g v d) d (parityEntries g (byRoles g v) d)) v
+      (λ d e. and-split (presentBut g x d) _ (and-split (insideStripe g end && eqb d (parityDriveAt g z end)) _ e .1) .0) (LooksAlike g x (flushedAll g x v)) (emptyingsOfWrite g x v state z (length ss)) refl (write-behind some)
 
 -- ---- a reset at rest
 module _ (g : Geometry) (ok : Valid g) (x : ℕ) (c : LogGenerations) (v : Device) (state : StateView) (l : Ledger) (rr : RoledRests c g x v state l) (z : ℕ)
@@ -137,13 +148,19 @@ module _ (g : Geometry) (ok : Valid g) (x : ℕ) (c : LogGenerations) (v : Devic
   reset-forced : Forced g x (byRoles g v) (state .generation)
   reset-forced = let (s, (γ, r, q)) = rr in rest-forced g ok x (byRoles g v) state l γ r
 
-  pub reset-keeps : emptyingsOfReset g x v state ≢ [] → KeepsLooks g x v (emptyingsOfReset g x v state)
+  reset-behind : emptyingsOfReset g x v state ≢ [] → Behind g x v (emptyingsOfReset g x v state) (LooksAlike g x (flushedAll g x v))
   unfolding emptiedToo
-  reset-keeps some n h w cut y by =
+  reset-behind some n h w cut y by =
       let f = byState g (presentBut g x) (byRoles g v) state in
       let (c0, i) = rests-invs g x c v state l rr in
       let (e, r, looks) = general-behind g ok x c0 v l i f reset-forced emptiedToo reset-can some n h w cut in
       alike g ok x y by (flushedAll g x v) w l l (c0, flushed-invs g ok c0 x v l i) (e, r) (looks y by)
+
+  pub reset-keeps : emptyingsOfReset g x v state ≢ [] → KeepsLooks g x v (emptyingsOfReset g x v state)
+  unfolding emptiedToo emptiedFor emptyGeneral
+  reset-keeps some =
+      let f = byState g (presentBut g x) (byRoles g v) state in
+      behind-cached g x false (roles g v) emptiedToo (λ d. newGeneral g f (roles g v d) d (generalHeads g (byRoles g v) d)) v (λ d e. and-split (presentBut g x d) _ e .0) (LooksAlike g x (flushedAll g x v)) (emptyingsOfReset g x v state) refl (reset-behind some)
 
 -- ---- a mount
 opened-sectors : (g : Geometry) (x : ℕ) (v : Device) (d y : ℕ) → v d y .sectors ≡ flushedAll g x v d y .sectors
@@ -165,27 +182,38 @@ module _ (g : Geometry) (ok : Valid g) (x : ℕ) (c : LogGenerations) (v : Devic
   ma1 : MountAccepted g (presentBut g x) (roles g v1) (byRoles g v1) (byLook (showing g (presentBut g x) x (byRoles g v1)))
   ma1 = mount-accepted-same g (presentBut g x) x v v1 (opened-sectors g x v) ma
 
-  pub mount-keeps : emptyingsOfMount g x v ≢ [] → KeepsLooks g x (afterSpareResets g x v) (emptyingsOfMount g x v)
+  mount-behind-looks : emptyingsOfMount g x v ≢ [] → Behind g x (afterSpareResets g x v) (emptyingsOfMount g x v) (LooksAlike g x (applyAll (flushOf g x) (afterSpareResets g x v)))
   unfolding mountLook afterOpening flushStores spareStep
-  mount-keeps some n h w cut y by =
+  mount-behind-looks some n h w cut y by =
       let u = applyAll (spareStepOf g x v1) v1 in
       let i = u-invs g ok x c l v1 ri1 ma1 in
       let (e, r, looks) = mount-behind g ok x c l v1 ri1 ma1 some n h w cut in
       alike g ok x y by (flushedAll g x u) w l l (c, flushed-invs g ok c x u l i) (e, r) (looks y by)
 
+  pub mount-keeps : emptyingsOfMount g x v ≢ [] → KeepsLooks g x (afterSpareResets g x v) (emptyingsOfMount g x v)
+  unfolding emptiedFor emptyGeneral
+  mount-keeps some =
+      let here = presentBut g x in
+      let r = startRoles g here x v in
+      let ss : ℕ → List (List ℕ) = λ d. newGeneral g (byLook (mountLook g here x v)) (r d) d (generalHeads g (mountView g here x v) d) in
+      let on : (d : ℕ) → emptiedGeneral g here x v d ≡ true → Here g x d = λ d e. and-split (here d) _ e .0 in
+      behind-cached g x false r (emptiedGeneral g here x v) ss (afterSpareResets g x v) on (LooksAlike g x (applyAll (flushOf g x) (afterSpareResets g x v))) (emptyingsOfMount g x v)
+      (on-present-all here (emptyings g here false r (emptiedGeneral g here x v) ss) (emptyings-on g here false r (emptiedGeneral g here x v) ss on)) (mount-behind-looks some)
+
   -- its parity logs (u: the device after its step 9, which a flush leaves as it is)
   abbrev u9 : Device
   u9 = filledDevice g ok x l v (reached g ok x c l v ri ma1) (ready-there g ok x c l v ri ma1)
 
-  abbrev KeepsFrom : Device → Type 0
-  KeepsFrom u =
+  abbrev BehindFrom : Device → Type 0
+  BehindFrom u =
       let here = presentBut g x in
       let f = byLook (mountLook g here x v) in
       let view = through (placedBy (middleRoles g here x v)) u in
-      KeepsLooksUpTo g x (λ z. anyBelow (λ d. emptiedParity g here x v d && isMade g f view d z) (g .drives)) (lookPointer g x v) u (onPresent here (emptyParity g here (middleRoles g here x v) f (emptiedParity g here x v) view))
+      Behind g x u (onPresent here (emptyParity g here (middleRoles g here x v) f (emptiedParity g here x v) view))
+      (LooksAlikeUpTo g x (λ z. anyBelow (λ d. emptiedParity g here x v d && isMade g f view d z) (g .drives)) (lookPointer g x v) (applyAll (flushOf g x) u))
 
-  pub mount-parity-keeps : KeepsLooksUpTo g x (entryMade g x v) (lookPointer g x v) (afterFill g (presentBut g x) x v) (parityEmptyingsOfMount g x v)
-  mount-parity-keeps = subst KeepsFrom (sym (fill-is g ok x c l v ri ma1)) go
+  mount-parity-behind : Behind g x (afterFill g (presentBut g x) x v) (parityEmptyingsOfMount g x v) (LooksAlikeUpTo g x (entryMade g x v) (lookPointer g x v) (applyAll (flushOf g x) (afterFill g (presentBut g x) x v)))
+  mount-parity-behind = subst BehindFrom (sym (fill-is g ok x c l v ri ma1)) go
     where
       r : MountReady g x l v (reached g ok x c l v ri ma1)
       r = ready-there g ok x c l v ri ma1
@@ -196,11 +224,22 @@ module _ (g : Geometry) (ok : Valid g) (x : ℕ) (c : LogGenerations) (v : Devic
       there : RoledInvs (r .generations) g x u9 l
       there = filled-roled g x u9 (r .generations) l (mountLook g (presentBut g x) x v) (stepped g ok x l v (reached g ok x c l v ri ma1) r .filled)
 
-      go : KeepsFrom u9
+      go : BehindFrom u9
       go n h w cut y by =
           let (kept, looks) = parity-behind g ok x l v (reached g ok x c l v ri ma1) r n w cut in
           alike-up-to g ok x y by (flushedAll g x u9) w l (withMarks l (kept .marks)) _ (lookPointer g x v) (r .generations, flushed-invs g ok (r .generations) x u9 l there) (kept .generations, kept .holds)
           (λ z hz. looks-before g (presentBut g y) (byRoles g (flushedAll g x u9)) (byRoles g u9) (byRoles g w) z (lookPointer g x v z) _ (flushed-same y by z hz) (looks y by z hz))
+
+  pub mount-parity-keeps : KeepsLooksUpTo g x (entryMade g x v) (lookPointer g x v) (afterFill g (presentBut g x) x v) (parityEmptyingsOfMount g x v)
+  unfolding emptiedFor emptyParity
+  mount-parity-keeps =
+      let here = presentBut g x in
+      let r = middleRoles g here x v in
+      let u = afterFill g here x v in
+      let ss : ℕ → List (List ℕ) = λ d. newParity g (byLook (mountLook g here x v)) (r d) d (parityEntries g (filledView g x v) d) in
+      let on : (d : ℕ) → emptiedParity g here x v d ≡ true → Here g x d = λ d e. and-split (here d) _ e .0 in
+      behind-cached g x true r (emptiedParity g here x v) ss u on (LooksAlikeUpTo g x (entryMade g x v) (lookPointer g x v) (applyAll (flushOf g x) u)) (parityEmptyingsOfMount g x v)
+      (on-present-all here (emptyings g here true r (emptiedParity g here x v) ss) (emptyings-on g here true r (emptiedParity g here x v) ss on)) mount-parity-behind
 
 -- ---- at a point of a history
 module _ (g : Geometry) (ok : Valid g) (t : TableLengths) (s : System (onDevice g t)) (o : Ok g t s) where
@@ -229,4 +268,4 @@ module _ (g : Geometry) (ok : Valid g) (t : TableLengths) (s : System (onDevice 
 
 -- THE THEOREM
 pub emptyings-keep-looks : EmptyingClaim
-emptyings-keep-looks g t = at-every-point g t (EmptyingsKeepLooks g t) (λ wb lf s k. emptyings-keep g (valid-if-test g wb) t s (k .ok))
+emptyings-keep-looks g t = at-every-point g t (λ s. EmptyingsKeepLooks g t (beneath (onDevice g t) (deviceCaches g t) s)) (λ wb lf s k. emptyings-keep g (valid-if-test g wb) t (beneath (onDevice g t) (deviceCaches g t) s) (k .ok))

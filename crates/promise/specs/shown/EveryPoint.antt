@@ -1,32 +1,32 @@
--- What follows at a point of a history from the invariant, and from the blank spares between finished calls, holds at every point of every history.
+-- What follows at a point of a history from the invariant, and from the blank spares between finished calls, holds at every point of every history, on drives that
+-- cache resets.
 use mathlib.Core.Path.{_≡_}
 use mathlib.Core.Bool.{Bool, true}
 use Prim.Native.Nat.{ℕ, _^_, _<_}
+use native.Mathlib.Omega.{arith}
 use mathlib.Core.List.{List, [], _∷_}
-use Rattle.tables.specs.laws.Basics.{not-not}
 use Rattle.tables.specs.meaning.Device.{Device, applyAll}
 use Rattle.tables.specs.declared.Geometry.{Geometry}
 use Rattle.tables.specs.meaning.Geometry.{Valid}
 use Rattle.tables.specs.meaning.GeometryTest.{isValid}
 use Rattle.tables.specs.laws.GeometryTest.{valid-if-test}
-use Rattle.tables.specs.laws.Drives.{presentBut}
 use Rattle.volume.specs.declared.Answer.the-variants.{Finished}
 use Rattle.volume.specs.meaning.State.{StateView}
 use Rattle.volume.specs.meaning.Calls.{formatStores, formatState}
 use Rattle.volume.specs.meaning.Refusals.{TableLengths, tablesFit, firstRefusal, formatRows, badPointers}
-use Rattle.volume.specs.meaning.Answers.{leftOut, namedDrives, storing}
+use Rattle.volume.specs.meaning.Answers.{leftOut, namedDrives}
 use Rattle.volume.specs.laws.Refusals.{accepted-row}
-use Rattle.promise.specs.meaning.Ledger.{freshLedger}
-use Rattle.promise.specs.meaning.Claim.{System, Event, Duty, Dutiful, next, start, formats}
+use Rattle.promise.specs.meaning.Claim.{System, Event, calls, looks, reads, peeks, reports, cuts, loses, Duty, Dutiful, next, start, formats}
 use Rattle.promise.specs.meaning.OnDevice.{onDevice}
+use Rattle.promise.specs.meaning.Caches.{WithCaches, beneath, deviceCaches, onCachingDevice}
 use Rattle.promise.specs.meaning.Emptied.{AtEveryPoint}
-use Rattle.promise.specs.invariant.Obligations.{neverEmptied}
-use Rattle.promise.specs.roles.RoledCalls.{RoledRests, roled-format}
 use Rattle.promise.specs.emptying.BlankSpares.{BlankSpares}
-use Rattle.promise.specs.device.Modes.{own-rests}
 use Rattle.promise.specs.device.AcceptedCalls.{storing-finished}
 use Rattle.promise.specs.device.AtRestAnswers.{left-out, drives-named}
-use Rattle.promise.specs.device.ClaimEvents.{Ok, event-keeps}
+use Rattle.promise.specs.device.ClaimEvents.{Ok}
+use Rattle.promise.specs.device.CachedPromise.{names-beneath}
+use Rattle.promise.specs.device.CachedEvents.{OkOn, ok-beneath, event-keeps-cached, caching-start}
+use Rattle.promise.specs.device.CachedClaim.{caches-owed}
 use Rattle.promise.specs.device.BlankAtRest.{BlankAtRest, format-blank, event-blank}
 
 -- what is known at a point
@@ -34,29 +34,54 @@ pub record Known (g : Geometry) (t : TableLengths) (s : System (onDevice g t)) :
   pub ok : Ok g t s
   pub blank : BlankAtRest g t s
 
-known-next : (g : Geometry) → Valid g → (t : TableLengths) (s : System (onDevice g t)) → Known g t s → (e : Event (onDevice g t)) → Duty g (onDevice g t) s e → Known g t (next g (onDevice g t) s e)
-known-next g ok t s k e d = record { ok = event-keeps g ok t s (k .ok) e d; blank = event-blank g ok t s (k .ok) (k .blank) e d }
+-- and on drives that cache resets
+record CachedKnown (g : Geometry) (t : TableLengths) (s : System (onCachingDevice g t)) : Type 0 where
+  ok : OkOn g t s
+  blank : BlankAtRest g t (beneath (onDevice g t) (deviceCaches g t) s)
 
-along : (g : Geometry) → Valid g → (t : TableLengths) (P : System (onDevice g t) → Type 0) → ((s : System (onDevice g t)) → Known g t s → P s)
-    → (s : System (onDevice g t)) → Known g t s → (es : List (Event (onDevice g t))) → Dutiful g (onDevice g t) s es → AtEveryPoint g (onDevice g t) P s es
-along g ok t P gives s k [] d = gives s k
-along g ok t P gives s k (e ∷ es) (d, ds) = (gives s k, along g ok t P gives (next g (onDevice g t) s e) (known-next g ok t s k e d) es ds)
+module _ (g : Geometry) (valid : Valid g) (t : TableLengths) (s : System (onCachingDevice g t)) (k : CachedKnown g t s) where
+  abbrev under : System (onDevice g t)
+  under = beneath (onDevice g t) (deviceCaches g t) s
 
--- after the format at the head
-pub at-every-point : (g : Geometry) (t : TableLengths) (P : System (onDevice g t) → Type 0) → (isValid g ≡ true → tablesFit g t ≡ true → (s : System (onDevice g t)) → Known g t s → P s)
-    → (named : ℕ → Bool) (array : ℕ) (old : StateView) (stop : ℕ) (v : Device) → array < 256 ^ 8 → let r = onDevice g t .call (formats array) named old stop v in
-    r .answer ≡ Finished → (es : List (Event (onDevice g t))) → Dutiful g (onDevice g t) (start g (onDevice g t) named r) es → AtEveryPoint g (onDevice g t) P (start g (onDevice g t) named r) es
+  known : Known g t under
+  known = record { ok = ok-beneath g t s (k .ok); blank = k .blank }
+
+  event-blank-on : (e : Event (onCachingDevice g t)) → Duty g (onCachingDevice g t) s e → BlankAtRest g t (beneath (onDevice g t) (deviceCaches g t) (next g (onCachingDevice g t) s e))
+  event-blank-on (calls c named stop) (n, m, q) = event-blank g valid t under (known .ok) (k .blank) (calls c named stop) (names-beneath g (onDevice g t) (deviceCaches g t) s named n, m, q)
+  event-blank-on (looks named taken) d = k .blank
+  event-blank-on (reads named a count out) d = k .blank
+  event-blank-on (peeks named a) d = k .blank
+  event-blank-on (reports list) d = k .blank
+  event-blank-on (cuts w) d = λ m. absurd (let z : _≡_ {A = ℕ} 0 1 = cc in omega arith)
+  event-blank-on (loses y w) (h, one, d) = event-blank g valid t under (known .ok) (k .blank) (loses y (w .memory)) (h, one, d .left)
+
+  known-next : (e : Event (onCachingDevice g t)) → Duty g (onCachingDevice g t) s e → CachedKnown g t (next g (onCachingDevice g t) s e)
+  known-next e d = record { ok = event-keeps-cached g valid t (caches-owed g valid) s (k .ok) e d; blank = event-blank-on e d }
+
+along : (g : Geometry) → Valid g → (t : TableLengths) (P : System (onCachingDevice g t) → Type 0) → ((s : System (onCachingDevice g t)) → CachedKnown g t s → P s)
+    → (s : System (onCachingDevice g t)) → CachedKnown g t s → (es : List (Event (onCachingDevice g t))) → Dutiful g (onCachingDevice g t) s es → AtEveryPoint g (onCachingDevice g t) P s es
+along g valid t P gives s k [] d = gives s k
+along g valid t P gives s k (e ∷ es) (d, ds) = (gives s k, along g valid t P gives (next g (onCachingDevice g t) s e) (known-next g valid t s k e d) es ds)
+
+-- the spares are blank after the format at the head
+start-blank : (g : Geometry) → Valid g → (t : TableLengths) (named : ℕ → Bool) (array : ℕ) (old : StateView) (stop : ℕ) (v : Device) → array < 256 ^ 8 → onDevice g t .call (formats array) named old stop v .answer ≡ Finished
+    → BlankSpares g (leftOut g named) (onDevice g t .call (formats array) named old stop v .memory)
 unfolding formatRows
-at-every-point g t P gives named array old stop v h e es d =
+start-blank g valid t named array old stop v h e =
     let x = leftOut g named in
     let rows = formatRows g t (badPointers g named v) named v in
     let stores = formatStores g (namedDrives g named) x array in
     let (p, q) = storing-finished (firstRefusal rows) stores (formatState x) old stop v e in
-    let wb = not-not (isValid g) (accepted-row rows p 1) in
-    let ok = valid-if-test g wb in
-    let n : namedDrives g named ≡ presentBut g x = drives-named g ok named (accepted-row rows p 4) in
-    let o : RoledRests neverEmptied g x (applyAll stores v) (formatState x) freshLedger = rw n (roled-format g ok x array v (left-out g named) h) in
-    let b : BlankSpares g x (applyAll stores v) = rw n (format-blank g ok x array v (left-out g named) h) in
-    let s = start g (onDevice g t) named (storing (firstRefusal rows) stores (formatState x) old stop v) in
-    let k : Known g t s = rw (p, q) (record { ok = own-rests neverEmptied g x (applyAll stores v) (formatState x) freshLedger o; blank = λ m. b }) in
-    along g ok t P (gives wb (not-not (tablesFit g t) (accepted-row rows p 2))) s k es d
+    let b : BlankSpares g x (applyAll stores v) = rw (drives-named g valid named (accepted-row rows p 4)) (format-blank g valid x array v (left-out g named) h) in
+    rw (p, q) b
+
+-- after the format at the head
+pub at-every-point : (g : Geometry) (t : TableLengths) (P : System (onCachingDevice g t) → Type 0)
+    → (isValid g ≡ true → tablesFit g t ≡ true → (s : System (onCachingDevice g t)) → Known g t (beneath (onDevice g t) (deviceCaches g t) s) → P s)
+    → (named : ℕ → Bool) (array : ℕ) (old : StateView) (stop : ℕ) (m : WithCaches Device) → array < 256 ^ 8 → let vol = onCachingDevice g t in let r = vol .call (formats array) named old stop m in
+    r .answer ≡ Finished → (es : List (Event vol)) → Dutiful g vol (start g vol named r) es → AtEveryPoint g vol P (start g vol named r) es
+at-every-point g t P gives named array old stop m h e es d =
+    let (wb, lf, o) = caching-start g t named array old stop m h e in
+    let valid = valid-if-test g wb in
+    along g valid t P (λ s k. gives wb lf s (known g valid t s k)) (start g (onCachingDevice g t) named (onCachingDevice g t .call (formats array) named old stop m))
+    (record { ok = o; blank = λ i. start-blank g valid t named array old stop (m .memory) h e }) es d

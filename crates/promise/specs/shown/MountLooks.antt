@@ -31,7 +31,8 @@ use Rattle.promise.specs.emptying.SparesReset.{carriedResets, blanked-ro
 use Rattle.promise.specs.emptying.Forced.{Forced}
 use Rattle.promise.specs.emptying.GeneralEmptying.{generalSizeOf}
 use Rattle.promise.specs.emptying.GeneralEmptyings.{LooksSame}
-use Rattle.promise.specs.emptying.GeneralStores.{on-present-all, general-on, general-same}
+use Rattle.promise.specs.emptying.OnPresent.{on-present-all}
+use Rattle.promise.specs.emptying.GeneralStores.{general-on, general-same}
 use Rattle.promise.specs.emptying.MountLogs.{spareStepOf}
 use Rattle.promise.specs.shown.BehindLooks.{general-behind}
 

@@ -26,7 +26,7 @@ use Rattle.promise.specs.invariant.Invariant.{Ghost, Here, LogGeneration
 use Rattle.promise.specs.mount.MountFilled.{Filled as FilledNow, OpenNow, SealedNow, ZoneNow, keptNow, wornNow, goneNow, WornNow, kept-at, kept-content}
 use Rattle.promise.specs.emptying.CanEmpty.{CanEmptyLog}
 use Rattle.promise.specs.emptying.CallParts.{FilledAt, filled-solid}
-use Rattle.promise.specs.emptying.GeneralStores.{on-present-all}
+use Rattle.promise.specs.emptying.OnPresent.{on-present-all}
 use Rattle.promise.specs.emptying.DriveStores.{emptyings-on}
 use Rattle.promise.specs.emptying.Marked.{KeptBy}
 use Rattle.promise.specs.emptying.AskedSame.{NamedBut}

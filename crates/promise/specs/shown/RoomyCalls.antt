@@ -34,12 +34,14 @@ use Rattle.volume.specs.meaning.Answers.{CallResult, storing, mountCall, resetC
 use Rattle.volume.specs.laws.Refusals.{passed, conditionOfRow, refusalOrder}
 use Rattle.volume.specs.laws.LeastRefusal.{first-least}
 use Rattle.volume.specs.laws.RoomAfter.{RoomyGeneral, RoomyParity, cannotEmpty, mount-full-is, reset-full-is, write-full-is}
-use Rattle.promise.specs.meaning.Claim.{System, NamesAll, mounts, writes, resets, ready, allBut}
+use Rattle.promise.specs.meaning.Claim.{Volume, System, NamesAll, mounts, writes, resets, ready, allBut}
 use Rattle.promise.specs.meaning.OnDevice.{onDevice}
+use Rattle.promise.specs.meaning.Caches.{Caches, withCaches, beneath, deviceCaches, onCachingDevice}
 use Rattle.promise.specs.meaning.Roomy.{BeforeLast, NeverFull, RoomyClaim}
 use Rattle.promise.specs.device.Looks.{LookFine}
 use Rattle.promise.specs.device.AcceptedCalls.{two-same, pointers-same, storing-refused}
 use Rattle.promise.specs.device.ClaimEvents.{fine, drives-of-call, drives-of-look}
+use Rattle.promise.specs.device.CachedPromise.{names-beneath}
 use Rattle.promise.specs.shown.EveryPoint.{Known, at-every-point}
 
 and-false : (b : Bool) → b && false ≡ false
@@ -147,9 +149,18 @@ never-full g t general parity wb lf s k young = record {
   write-not-full = λ named names. write-law g t wb lf s k young named names parity;
 }
 
+-- with caches: a call's answer does not go by what they remember
+pub never-full-beneath : (g : Geometry) (vol : Volume) (c : Caches vol) (s : System (withCaches vol c)) → NeverFull g vol (beneath vol c s) → NeverFull g (withCaches vol c) s
+never-full-beneath g vol c s p = record {
+  mount-accepted = λ named n. p .mount-accepted named (names-beneath g vol c s named n);
+  reset-not-full = λ named n. p .reset-not-full named (names-beneath g vol c s named n);
+  write-not-full = λ named n. p .write-not-full named (names-beneath g vol c s named n);
+}
+
 -- THE THEOREM
 pub roomy-never-full : RoomyClaim
-roomy-never-full g t general parity = at-every-point g t (λ s. BeforeLast g (s .lost) (s .memory) → NeverFull g (onDevice g t) s) (never-full g t general parity)
+roomy-never-full g t general parity = at-every-point g t (λ s. BeforeLast g (s .lost) (s .memory .memory) → NeverFull g (onCachingDevice g t) s)
+    (λ wb lf s k young. never-full-beneath g (onDevice g t) (deviceCaches g t) s (never-full g t general parity wb lf (beneath (onDevice g t) (deviceCaches g t) s) k young))
 
 -- its hypothesis holds at the start of every history: a format leaves all logs with generation 0
 pub format-before-last : (g : Geometry) → Valid g → (x a : ℕ) (v : Device) → (x ≡ noDrive) ⊎ (x < g .drives) → a < 256 ^ 8 → BeforeLast g x (applyAll (formatStores g (presentBut g x) x a) v)

@@ -1,28 +1,36 @@
 -- NO DRIVE FILLS UP, of the code's calls on the tables: what they leave is, seen as a device, what the rules' calls leave (call-agrees), and they answer the same.
 use mathlib.Core.Path.{_≡_, _∙_}
+use mathlib.Core.Logic.{_⊎_}
 use mathlib.Core.Bool.{Bool, true}
-use Prim.Native.Nat.{ℕ}
+use Prim.Native.Nat.{ℕ, _<_}
 use native.Mathlib.Omega.{arith}
 use mathlib.Core.List.{List, [], _∷_}
-use Rattle.tables.specs.meaning.Tables.{deviceOf}
+use Rattle.tables.specs.meaning.Tables.{Tables, TablesLoss, deviceOf}
+use Rattle.tables.specs.meaning.Drives.{noDrive}
 use Rattle.tables.specs.laws.TablesRefine.{loss-refines}
 use Rattle.tables.specs.laws.TablesFrame.{sized-lengths}
 use Rattle.tables.specs.declared.Geometry.{Geometry}
 use Rattle.tables.specs.meaning.Geometry.{Valid}
 use Rattle.tables.specs.meaning.GeometryTest.{isValid}
 use Rattle.tables.specs.laws.GeometryTest.{valid-if-test}
-use Rattle.volume.specs.meaning.CallContracts.{isSet, lengthsOf, formatOn}
+use Rattle.volume.specs.meaning.CallContracts.{isSet, lengthsOf}
 use Rattle.volume.specs.laws.RoomAfter.{RoomyGeneral, RoomyParity}
 use Rattle.promise.specs.meaning.Claim.{Call, mounts, writes, flushes, resets, formats, ready, System, Event, calls, looks, reads, peeks, reports, cuts, loses, next, Duty, Dutiful, start}
-use Rattle.promise.specs.meaning.OnTables.{callResult, onTables}
+use Rattle.promise.specs.meaning.OnTables.{onTables}
+use Rattle.promise.specs.meaning.Caches.{beneath}
+use Rattle.promise.specs.meaning.CachesOnTables.{tablesCaches, onCachingTables}
 use Rattle.promise.specs.meaning.Emptied.{AtEveryPoint}
 use Rattle.promise.specs.meaning.Roomy.{BeforeLast, NeverFull, RoomyTablesClaim}
 use Rattle.promise.specs.emptying.BlankSpares.{BlankSpares}
 use Rattle.promise.specs.device.BlankAtRest.{event-blank}
-use Rattle.promise.specs.shown.RoomyCalls.{never-full}
+use Rattle.promise.specs.shown.RoomyCalls.{never-full, never-full-beneath}
 use Rattle.promise.specs.tables.MountRefines.{mount-refines}
 use Rattle.promise.specs.tables.TablesEvents.{viewSystem, TablesOk, names-seen, Refines, call-agrees, write-refines, flush-refines, reset-refines, format-refines}
-use Rattle.promise.specs.tables.TablesClaimProof.{tables-event, tables-start, tables-start-blank}
+use Rattle.promise.specs.tables.TablesClaimProof.{tables-start-blank}
+use Rattle.promise.specs.device.CachedPromise.{names-beneath}
+use Rattle.promise.specs.device.CachedClaim.{caches-owed}
+use Rattle.promise.specs.tables.CachedTables.{TablesOkCached}
+use Rattle.promise.specs.tables.CachedTablesClaim.{tables-event-cached, tables-start-cached}
 
 -- ---- what is known at a point: the invariant, and blank spares between finished calls
 pub record TablesKnown (g : Geometry) (s : System (onTables g)) : Type 0 where
@@ -40,26 +48,14 @@ module _ (g : Geometry) (wb : isValid g ≡ true) (s : System (onTables g)) (k :
   refines (resets z) named stop (n, m, q) = reset-refines g ok s (k .ok) named n z stop
   refines (formats array) named stop (n, m, q) = format-refines g ok s (k .ok) named n array stop
 
-  abbrev BlankNext : Event (onTables g) → Type 0
-  BlankNext e = let u = next g (onTables g) s e in u .mode ≡ ready → BlankSpares g (u .lost) (deviceOf g (u .memory))
-
-  call-blank : (c : Call) (named : List Bool) (stop : ℕ) → Duty g (onTables g) s (calls c named stop) → BlankNext (calls c named stop)
+  call-blank : (c : Call) (named : List Bool) (stop : ℕ) → Duty g (onTables g) s (calls c named stop) → let u = next g (onTables g) s (calls c named stop) in u .mode ≡ ready → BlankSpares g (u .lost) (deviceOf g (u .memory))
   call-blank c named stop (n, m, q) =
       let a = call-agrees g ok s (k .ok) c named stop (refines c named stop (n, m, q)) in
       let b = event-blank g ok (lengthsOf (s .memory)) (viewSystem g s) (k .ok .holds) (k .blank) (calls c (isSet named) stop) (names-seen g s named n, m, rw (a .answer-same) q) in
       rw (a .answer-same, a .memory-same) at b
 
-  event-blank-on : (e : Event (onTables g)) → Duty g (onTables g) s e → BlankNext e
-  event-blank-on (calls c named stop) d = call-blank c named stop d
-  event-blank-on (looks named taken) d = k .blank
-  event-blank-on (reads named a count out) d = k .blank
-  event-blank-on (peeks named a) d = k .blank
-  event-blank-on (reports list) d = k .blank
-  event-blank-on (cuts u) d = λ m. absurd (let z : _≡_ {A = ℕ} 0 1 = cc in omega arith)
-  event-blank-on (loses y u) (h, one, lo) = event-blank g ok (lengthsOf (s .memory)) (viewSystem g s) (k .ok .holds) (k .blank) (loses y (deviceOf g u)) (h, one, loss-refines g y (s .memory) u lo)
-
-  known-next : (e : Event (onTables g)) → Duty g (onTables g) s e → TablesKnown g (next g (onTables g) s e)
-  known-next e d = record { ok = tables-event g ok wb s (k .ok) e d; blank = event-blank-on e d }
+  lost-blank : (y : ℕ) (u : Tables) → y < g .drives → (s .lost ≡ noDrive) ⊎ (s .lost ≡ y) → TablesLoss g y (s .memory) u → s .mode ≡ ready → BlankSpares g y (deviceOf g u)
+  lost-blank y u h one lo = event-blank g ok (lengthsOf (s .memory)) (viewSystem g s) (k .ok .holds) (k .blank) (loses y (deviceOf g u)) (h, one, loss-refines g y (s .memory) u lo)
 
   -- AT A POINT
   never-full-on : RoomyGeneral g → RoomyParity g → BeforeLast g (s .lost) (deviceOf g (s .memory)) → NeverFull g (onTables g) s
@@ -72,14 +68,40 @@ module _ (g : Geometry) (wb : isValid g ≡ true) (s : System (onTables g)) (k :
             (call-agrees g ok s (k .ok) (writes a count buffer) named stop (write-refines g ok s (k .ok) named n a count buffer stop) .answer-same ∙ e);
       }
 
-along : (g : Geometry) → isValid g ≡ true → (P : System (onTables g) → Type 0) → ((s : System (onTables g)) → TablesKnown g s → P s)
-    → (s : System (onTables g)) → TablesKnown g s → (es : List (Event (onTables g))) → Dutiful g (onTables g) s es → AtEveryPoint g (onTables g) P s es
+-- ---- on drives that cache resets
+record CachedTablesKnown (g : Geometry) (s : System (onCachingTables g)) : Type 0 where
+  ok : TablesOkCached g s
+  blank : s .mode ≡ ready → BlankSpares g (s .lost) (deviceOf g (s .memory .memory))
+
+module _ (g : Geometry) (wb : isValid g ≡ true) (s : System (onCachingTables g)) (k : CachedTablesKnown g s) where
+  abbrev under : System (onTables g)
+  under = beneath (onTables g) (tablesCaches g) s
+
+  known : TablesKnown g under
+  known = record { ok = k .ok .plain; blank = k .blank }
+
+  blank-next : (e : Event (onCachingTables g)) → Duty g (onCachingTables g) s e → let u = next g (onCachingTables g) s e in u .mode ≡ ready → BlankSpares g (u .lost) (deviceOf g (u .memory .memory))
+  blank-next (calls c named stop) (n, m, q) = call-blank g wb under known c named stop (names-beneath g (onTables g) (tablesCaches g) s named n, m, q)
+  blank-next (looks named taken) d = k .blank
+  blank-next (reads named a count out) d = k .blank
+  blank-next (peeks named a) d = k .blank
+  blank-next (reports list) d = k .blank
+  blank-next (cuts u) d = λ m. absurd (let z : _≡_ {A = ℕ} 0 1 = cc in omega arith)
+  blank-next (loses y u) (h, one, lo) = lost-blank g wb under known y (u .memory) h one (lo .left)
+
+  cached-next : (e : Event (onCachingTables g)) → Duty g (onCachingTables g) s e → CachedTablesKnown g (next g (onCachingTables g) s e)
+  cached-next e d = let valid = valid-if-test g wb in record { ok = tables-event-cached g valid wb (caches-owed g valid) s (k .ok) e d; blank = blank-next e d }
+
+along : (g : Geometry) → isValid g ≡ true → (P : System (onCachingTables g) → Type 0) → ((s : System (onCachingTables g)) → CachedTablesKnown g s → P s)
+    → (s : System (onCachingTables g)) → CachedTablesKnown g s → (es : List (Event (onCachingTables g))) → Dutiful g (onCachingTables g) s es → AtEveryPoint g (onCachingTables g) P s es
 along g wb P gives s k [] d = gives s k
-along g wb P gives s k (e ∷ es) (d, ds) = (gives s k, along g wb P gives (next g (onTables g) s e) (known-next g wb s k e d) es ds)
+along g wb P gives s k (e ∷ es) (d, ds) = (gives s k, along g wb P gives (next g (onCachingTables g) s e) (cached-next g wb s k e d) es ds)
 
 -- THE THEOREM
 pub tables-never-full : RoomyTablesClaim
-tables-never-full g general parity named array old stop t small e es d =
-    let (wb, o) = tables-start g named array old stop t small e in
-    let s = start g (onTables g) named (callResult (formatOn g named array old stop t)) in
-    along g wb (λ s. BeforeLast g (s .lost) (deviceOf g (s .memory)) → NeverFull g (onTables g) s) (λ s k. never-full-on g wb s k general parity) s (record { ok = o; blank = λ m. tables-start-blank g named array old stop t small e }) es d
+tables-never-full g general parity named array old stop m small e es d =
+    let (wb, o) = tables-start-cached g named array old stop m small e in
+    let s = start g (onCachingTables g) named (onCachingTables g .call (formats array) named old stop m) in
+    along g wb (λ s. BeforeLast g (s .lost) (deviceOf g (s .memory .memory)) → NeverFull g (onCachingTables g) s)
+    (λ s k young. never-full-beneath g (onTables g) (tablesCaches g) s (never-full-on g wb (under g wb s k) (known g wb s k) general parity young)) s
+    (record { ok = o; blank = λ i. tables-start-blank g named array old stop (m .memory) small e }) es d

@@ -1,4 +1,4 @@
--- The promise on the tables holds. At every point of a history the rules' promise holds of the device that the tables stand for (ClaimProof.antt);
+-- What is promised on the tables holds at a point of a history: the rules' promise holds of the device that the tables stand for (ClaimProof.antt);
 -- here it is carried to what the calls' contracts say.
 use mathlib.Core.Path.{_≡_, refl, sym, ap, _∙_}
 use mathlib.Core.Logic.{_≢_}
@@ -57,12 +57,11 @@ use Rattle.promise.specs.tables.CallRefines.{ok-agrees, answer-finished}
 use Rattle.promise.specs.tables.CallVerdicts.{numbered-accept, look-verdict, read-number, read-numbered, peek-number, peek-numbered}
 use Rattle.promise.specs.meaning.Claim.{mounts, writes, flushes, resets, formats, Call, System, Event, calls, looks, reads, peeks, reports, cuts, loses, next, NamesAll, Duty, SameZones, Promise, ready, start}
 use Rattle.promise.specs.meaning.OnDevice.{onDevice, lookResult, readResult, peekResult}
-use Rattle.promise.specs.meaning.OnTables.{callResult, resultOf, onTables, shownIn, TablesClaim}
+use Rattle.promise.specs.meaning.OnTables.{callResult, resultOf, onTables, shownIn}
 use Rattle.promise.specs.tables.MountRefines.{shown-records, shown-agrees, mount-refines, mount-claim, mount-refusal}
 use Rattle.promise.specs.tables.TablesEvents.{viewSystem, TablesOk, names-seen, pointers-fine, fresh-records, fresh-agrees, call-agrees, call-event, write-refines, flush-refines, reset-refines, format-refines, cut-event, loss-event}
 use Rattle.volume.specs.laws.CallStoresFit.{format-stores-fit}
 use Rattle.promise.specs.invariant.Obligations.{neverEmptied, Rests}
-use Rattle.promise.specs.invariant.Throughout.{throughout}
 use Rattle.promise.specs.invariant.Invariant.{LogGenerations}
 
 -- a list has nothing past its end
@@ -103,7 +102,7 @@ module _ (g : Geometry) (ok : Valid g) (wb : isValid g ≡ true) (s : System (on
   st = viewState (s .state)
 
   -- the rules' promise
-  promised : Promise g (onDevice g (lengthsOf t)) (viewSystem g s)
+  pub promised : Promise g (onDevice g (lengthsOf t)) (viewSystem g s)
   promised = kept g ok (lengthsOf t) wb (sized-lengths g t (o .sized)) (viewSystem g s) (o .holds)
 
   module _ (named : List Bool) (n : NamesAll g (onTables g) s named) where
@@ -114,7 +113,7 @@ module _ (g : Geometry) (ok : Valid g) (wb : isValid g ≡ true) (s : System (on
     names = names-seen g s named n
 
     -- the refusals are the rules'
-    look-is : lookOn g named (s .state) t ≡ record { answer = Finished; state = stateShown g (shownIn g named t t) }
+    pub look-is : lookOn g named (s .state) t ≡ record { answer = Finished; state = stateShown g (shownIn g named t t) }
     unfolding lookOn
     look-is =
         let p = look-accepted (firstRefusal (lookRows g (lengthsOf t) (badPointers g (isSet named) w) (isSet named) (roles g w) (byRoles g w))) (shownIn g named t t) st (mountState (shownIn g named t t)) w (promised .look-fits (isSet named) names .0) in
@@ -255,7 +254,7 @@ module _ (g : Geometry) (ok : Valid g) (wb : isValid g ≡ true) where
   tables-event s o (loses d u) (h, e, c) = loss-event g ok s o d h e u c
 
 -- ---- the format at the head
-format-numbered-on : (g : Geometry) (named : List Bool) (t : Tables) → Numbered (formatVerdict g named t)
+pub format-numbered-on : (g : Geometry) (named : List Bool) (t : Tables) → Numbered (formatVerdict g named t)
 unfolding formatVerdict formatRows
 format-numbered-on g named t = numbered (formatRows g (lengthsOf t) (badIn g named t) (isSet named) (deviceOf g t)) refl
 
@@ -266,7 +265,7 @@ pub record FormatPassed (g : Geometry) (named : List Bool) (t : Tables) : Type 0
   pub pointers-fit : pointersBad g named (t .written) (t .durable) ≡ false
   pub one-unnamed : twoUnnamed g (isSet named) ≡ false
 
-format-passed : (g : Geometry) (named : List Bool) (t : Tables) → formatVerdict g named t ≡ accept → FormatPassed g named t
+pub format-passed : (g : Geometry) (named : List Bool) (t : Tables) → formatVerdict g named t ≡ accept → FormatPassed g named t
 unfolding formatVerdict formatRows
 format-passed g named t e =
     let row = accepted-row (formatRows g (lengthsOf t) (badIn g named t) (isSet named) (deviceOf g t)) e in
@@ -340,10 +339,3 @@ tables-start-blank g named array old stop t small e =
     let ss = formatStores g (namedDrives g (isSet named)) x array in
     let (p, q) = answer-finished g (formatVerdict g named t) (format-numbered-on g named t) ss (freshState g x) old stop t e in
     rw p (start-blank g named array old stop t small p q)
-
--- THE THEOREM
-pub tables-keep-the-promise : TablesClaim
-tables-keep-the-promise g named array old stop t small e es d =
-    let (wb, o) = tables-start g named array old stop t small e in
-    let ok = valid-if-test g wb in
-    throughout g (onTables g) (TablesOk g) (tables-promise g ok wb) (tables-event g ok wb) (start g (onTables g) named (callResult (formatOn g named array old stop t))) o es d

@@ -85,9 +85,10 @@ reset-appends g state z d y =
       b,
       c,
       appends-flushes d y D,
-      appends-append d y (eachBelow entries D) (flushAll D ++ (eachBelow resets D ++ (eachBelow raised D ++ (flushAll D ++ [])))),
-      appends-append d y (flushAll D) (eachBelow resets D ++ (eachBelow raised D ++ (flushAll D ++ []))),
-      appends-append d y (eachBelow resets D) (eachBelow raised D ++ (flushAll D ++ [])),
+      appends-append d y (eachBelow entries D) (flushAll D ++ (eachBelow resets D ++ (flushAll D ++ (eachBelow raised D ++ (flushAll D ++ []))))),
+      appends-append d y (flushAll D) (eachBelow resets D ++ (flushAll D ++ (eachBelow raised D ++ (flushAll D ++ [])))),
+      appends-append d y (eachBelow resets D) (flushAll D ++ (eachBelow raised D ++ (flushAll D ++ []))),
+      appends-append d y (flushAll D) (eachBelow raised D ++ (flushAll D ++ [])),
       appends-append d y (eachBelow raised D) (flushAll D ++ []),
       appends-append d y (flushAll D) [],
     )

@@ -184,7 +184,7 @@ module _ (g : Geometry) (named : List Bool) (array : ℕ) (t : Tables) (e : form
   begins = eachBelow (λ d. appendGeneral g (label (leftOut g (isSet named)) array) d ++ appendGeneral g (counters (generationsFrom (λ z. 1) zero (g .zones))) d) (g .drives)
 
   abbrev rest : List Store
-  rest = begins ++ (flushAll (g .drives) ++ [])
+  rest = flushAll (g .drives) ++ (begins ++ (flushAll (g .drives) ++ []))
 
   after-resets : (d y : ℕ) → drivesOfFormat d ≡ true → y < physicalZones g → applyAll (onPresent drivesOfFormat resets) (deviceOf g t) d y ≡ blankZone
   after-resets d y hd hy = local-is d y (onPresent drivesOfFormat resets) (deviceOf g t) ∙ rw (on-present-local drivesOfFormat d y resets hd, resets-local g d y (named-below g (isSet named) d hd) hy) refl
@@ -196,7 +196,7 @@ module _ (g : Geometry) (named : List Bool) (array : ℕ) (t : Tables) (e : form
 
   rest-room : (d y : ℕ) → drivesOfFormat d ≡ true → y < physicalZones g → length (applyAll (onPresent drivesOfFormat resets) (deviceOf g t) d y .sectors) + appendsTo d y rest ≤ g .capacity
   rest-room d y hd hy = rw (after-resets d y hd hy) (
-      omega (arith, few (eqb y generalZone), format-appends g (leftOut g (isSet named)) array d y, appends-append d y begins (flushAll (g .drives) ++ []), appends-append d y (flushAll (g .drives)) [], appends-flushes d y (g .drives), format-passed g named t e .valid .general-fits))
+      omega (arith, few (eqb y generalZone), format-appends g (leftOut g (isSet named)) array d y, appends-append d y (flushAll (g .drives)) (begins ++ (flushAll (g .drives) ++ [])), appends-append d y begins (flushAll (g .drives) ++ []), appends-append d y (flushAll (g .drives)) [], appends-flushes d y (g .drives), format-passed g named t e .valid .general-fits))
     where
       few : (b : Bool) → pick b 1 0 ≤ 1
       few true = le-refl 1

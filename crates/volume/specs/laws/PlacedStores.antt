@@ -16,7 +16,7 @@ use Rattle.tables.specs.meaning.Geometry.{Valid, stripeSectors, physicalZones, 
 use Rattle.tables.specs.meaning.Placement.{stripeOf, stripeLength, parityDrive, address}
 use Rattle.tables.specs.laws.Placement.{drive-below, parity-drive-below, unit-row-lt, stripe-below, stripe-above, address-sum}
 use Rattle.tables.specs.meaning.Device.{Store, reset, storeDrive}
-use Rattle.tables.specs.meaning.Phases.{onPresent}
+use Rattle.tables.specs.meaning.Phases.{onPresent, flushAll}
 use Rattle.tables.specs.laws.Phases.{each-on-present}
 use Rattle.tables.specs.meaning.Lists.{concat}
 use Rattle.tables.specs.laws.Made.{Placed, AllPlaced}
@@ -157,8 +157,11 @@ module _ (g : Geometry) (ok : Valid g) where
   pub reset-placed : (present : ℕ → Bool) (state : StateView) (z : ℕ) → z < g .zones → AllPlaced g (resetStores g present state z)
   unfolding resetStores
   reset-placed present state z hz =
-      rw (each-on-present present (resetPhases g state z)) (placed-present g present (concat (resetPhases g state z)) (placed-concat g (resetPhases g state z) (entries, (placed-flushes g (g .drives) (le-refl (g .drives)), (resets, (raised, (placed-flushes g (g .drives) (le-refl (g .drives)), tt)))))))
+      rw (each-on-present present (resetPhases g state z)) (placed-present g present (concat (resetPhases g state z)) (placed-concat g (resetPhases g state z) (entries, (flushes, (resets, (flushes, (raised, (flushes, tt))))))))
     where
+      flushes : AllPlaced g (flushAll (g .drives))
+      flushes = placed-flushes g (g .drives) (le-refl (g .drives))
+
       entries : AllPlaced g (eachBelow (λ d. pick (logsReset g z d) (appendGeneral g (zoneReset z (state .generation z)) d) []) (g .drives))
       entries = placed-each g (λ d. pick (logsReset g z d) (appendGeneral g (zoneReset z (state .generation z)) d) []) (g .drives) (λ d hd. placed-pick g (logsReset g z d) (appendGeneral g (zoneReset z (state .generation z)) d) (placed-general g (zoneReset z (state .generation z)) d ok tt hd))
 
@@ -170,8 +173,11 @@ module _ (g : Geometry) (ok : Valid g) where
 
   pub format-placed : (present : ℕ → Bool) (x a : ℕ) → AllPlaced g (formatStores g present x a)
   unfolding formatStores
-  format-placed present x a = rw (each-on-present present (formatPhases g x a)) (placed-present g present (concat (formatPhases g x a)) (placed-concat g (formatPhases g x a) (resets, (begins, (placed-flushes g (g .drives) (le-refl (g .drives)), tt)))))
+  format-placed present x a = rw (each-on-present present (formatPhases g x a)) (placed-present g present (concat (formatPhases g x a)) (placed-concat g (formatPhases g x a) (resets, (flushes, (begins, (flushes, tt))))))
     where
+      flushes : AllPlaced g (flushAll (g .drives))
+      flushes = placed-flushes g (g .drives) (le-refl (g .drives))
+
       resets : AllPlaced g (eachBelow (λ d. eachBelow (λ y. reset d y ∷ []) (physicalZones g)) (g .drives))
       resets = placed-each g (λ d. eachBelow (λ y. reset d y ∷ []) (physicalZones g)) (g .drives) (λ d hd. placed-each g (λ y. reset d y ∷ []) (physicalZones g) (λ y hy. ((hd, hy), tt)))
 

@@ -175,8 +175,9 @@ reset-keeps-off g present state z = off-concat (eachOnPresent present (resetPhas
     (phases-cons _ _ (off-each _ (g .drives) (λ d. off-pick (logsReset g z d) _ (off-general g _ d)))
     (phases-cons _ _ (off-flushes (g .drives))
     (phases-cons _ _ (off-each _ (g .drives) (λ d. off-reset d z))
+    (phases-cons _ _ (off-flushes (g .drives))
     (phases-cons _ _ (off-each _ (g .drives) (λ d. off-general g _ d))
-    (phases-cons _ _ (off-flushes (g .drives)) phases-nil))))))
+    (phases-cons _ _ (off-flushes (g .drives)) phases-nil)))))))
 
 -- ---- a mount, step by step
 -- of each drive and zone, where a test holds
@@ -241,10 +242,12 @@ entries-keep-off g present k u = off-concat _ (off-with-flush g present _ (off-e
 pub format-clears : (g : Geometry) (present : ℕ → Bool) (x a : ℕ) (v : Device) (d : ℕ) → d < g .drives → present d ≡ true → applyAll (formatStores g present x a) v d spareZone .sectors ≡ []
 unfolding formatStores
 format-clears g present x a v d hd here =
-    let later = onPresent present (eachBelow begins (g .drives)) ++ (onPresent present (flushAll (g .drives)) ++ []) in
+    let flushes = onPresent present (flushAll (g .drives)) in
+    let later = flushes ++ (onPresent present (eachBelow begins (g .drives)) ++ (flushes ++ [])) in
+    let off = off-present present _ (off-flushes (g .drives)) in
     let w = applyAll (onPresent present (eachBelow wipes (g .drives))) v in
     ap (λ (u : Device). u d spareZone .sectors) (apply-all-append (onPresent present (eachBelow wipes (g .drives))) later v)
-    ∙ all-still later w d (off-append _ _ (off-present present _ (off-each begins (g .drives) (λ k. off-append _ _ (off-general g (label x a) k) (off-general g ones k)))) (off-append _ _ (off-present present _ (off-flushes (g .drives))) off-nil))
+    ∙ all-still later w d (off-append _ _ off (off-append _ _ (off-present present _ (off-each begins (g .drives) (λ k. off-append _ _ (off-general g (label x a) k) (off-general g ones k)))) (off-append _ _ off off-nil)))
     ∙ ap (λ (z : ZoneView). z .sectors) (local-is d spareZone (onPresent present (eachBelow wipes (g .drives))) v ∙ ap (λ (os : List LocalStore). applyAllHere os (v d spareZone)) (on-present-local present d spareZone (eachBelow wipes (g .drives)) here ∙ wiped))
   where
     ones : Header

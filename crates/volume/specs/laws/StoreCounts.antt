@@ -96,7 +96,7 @@ flush-ends g named s t =
     covered-ends g (verdictNumber (flushVerdict g named s t)) (flushStores g (callPresent g (isSet named) (viewState s))) (withLost s (lostIn g (isSet named) (viewState s))) s (2 ^ 32 - 1) t (λ e. omega (arith, flush-few g named s t (flush-number-accepts g named t s e)))
 
 -- ==== reset
-own-reset-few : (g : Geometry) (named : List Bool) (s : State) (z : ℕ) (t : Tables) → resetVerdict g named s z t ≡ accept → length (resetStores g (callPresent g (isSet named) (viewState s)) (viewState s) z) ≤ 40
+own-reset-few : (g : Geometry) (named : List Bool) (s : State) (z : ℕ) (t : Tables) → resetVerdict g named s z t ≡ accept → length (resetStores g (callPresent g (isSet named) (viewState s)) (viewState s) z) ≤ 48
 unfolding resetStores
 own-reset-few g named s z t e =
     let D = g .drives in
@@ -105,7 +105,7 @@ own-reset-few g named s z t e =
     let entries : ℕ → List Store = λ d. pick (logsReset g z d) (appendGeneral g (zoneReset z (viewState s .generation z)) d) [] in
     let resets : ℕ → List Store = λ d. reset d (dataZone z) ∷ [] in
     let raised : ℕ → List Store = λ d. appendGeneral g (counters (generationsFrom (raisedAt (viewState s) z) zero (g .zones))) d in
-    let after = eachBelow raised D ++ (flushAll D ++ []) in
+    let after = flushAll D ++ (eachBelow raised D ++ (flushAll D ++ [])) in
     rw (each-on-present present (resetPhases g (viewState s) z)) (
     omega (
       arith,
@@ -118,13 +118,14 @@ own-reset-few g named s z t e =
       length-append (eachBelow entries D) (flushAll D ++ (eachBelow resets D ++ after)),
       length-append (flushAll D) (eachBelow resets D ++ after),
       length-append (eachBelow resets D) after,
+      length-append (flushAll D) (eachBelow raised D ++ (flushAll D ++ [])),
       length-append (eachBelow raised D) (flushAll D ++ []),
       length-append {A = Store} (flushAll D) [],
     )
     )
 
 pub reset-few : (g : Geometry) (named : List Bool) (s : State) (z : ℕ) (t : Tables) → resetVerdict g named s z t ≡ accept
-    → length (resetAll g (callPresent g (isSet named) (viewState s)) (rolesOf g t) (seenIn g t) (viewState s) z) ≤ 524464
+    → length (resetAll g (callPresent g (isSet named) (viewState s)) (rolesOf g t) (seenIn g t) (viewState s) z) ≤ 524472
 unfolding resetAll emptyGeneral
 reset-few g named s z t e =
     let ok = reset-passed g named s z t e .opening .tables .valid in
@@ -148,7 +149,7 @@ reset-ends g named s z t =
     (λ e. omega (arith, reset-few g named s z t (reset-number-accepts g named t s z e)))
 
 -- ==== format
-pub format-few : (g : Geometry) (named : List Bool) (array : ℕ) (t : Tables) → formatVerdict g named t ≡ accept → length (formatStores g (namedDrives g (isSet named)) (leftOut g (isSet named)) array) ≤ 176
+pub format-few : (g : Geometry) (named : List Bool) (array : ℕ) (t : Tables) → formatVerdict g named t ≡ accept → length (formatStores g (namedDrives g (isSet named)) (leftOut g (isSet named)) array) ≤ 184
 unfolding formatStores
 format-few g named array t e =
     let D = g .drives in
@@ -165,7 +166,8 @@ format-few g named array t e =
       ok .drives-most,
       each-most resets D 8 19 (ok .drives-most) (λ d l. omega (arith, each-most (λ y. reset d y ∷ []) (physicalZones g) 19 1 (omega (arith, ok .zones-most)) (λ y h. le-refl 1))),
       each-most begins D 8 2 (ok .drives-most) (λ d l. le-refl 2),
-      length-append (eachBelow resets D) (eachBelow begins D ++ (flushAll D ++ [])),
+      length-append (eachBelow resets D) (flushAll D ++ (eachBelow begins D ++ (flushAll D ++ []))),
+      length-append (flushAll D) (eachBelow begins D ++ (flushAll D ++ [])),
       length-append (eachBelow begins D) (flushAll D ++ []),
       length-append {A = Store} (flushAll D) [],
     )

@@ -76,7 +76,7 @@ abbrev pub flushState : ℕ → StateView → StateView
 flushState x state = record { lost = x; generation = state .generation; condition = state .condition }
 
 -- ==== reset: "type 3 on the drives of the first unit and of parity of stripe 0; flush all; reset the zone on all; counters raised, on all;
--- flush all."
+-- flush all." And document 02: "Reset and format therefore flush all present drives at once after document 01's zone resets."
 abbrev pub logsReset : Geometry → ℕ → ℕ → Bool
 logsReset g z d = eqb d (firstDriveOf g z) || eqb d (parityDriveOf g z 0)
 
@@ -88,6 +88,7 @@ resetPhases g state z =
     eachBelow (λ d. pick (logsReset g z d) (appendGeneral g (zoneReset z (state .generation z)) d) []) (g .drives)
     ∷ flushAll (g .drives)
     ∷ eachBelow (λ d. reset d (dataZone z) ∷ []) (g .drives)
+    ∷ flushAll (g .drives)
     ∷ eachBelow (λ d. appendGeneral g (counters (generationsFrom (raisedAt state z) zero (g .zones))) d) (g .drives)
     ∷ flushAll (g .drives)
     ∷ []
@@ -99,11 +100,12 @@ resetStores g present state z = concat (eachOnPresent present (resetPhases g sta
 abbrev pub resetState : ℕ → StateView → ℕ → StateView
 resetState x state z = record { lost = x; generation = raisedAt state z; condition = setAt (state .condition) z (pick (eqb (suc (state .generation z)) wornGeneration) (Worn zero) Empty) }
 
--- ==== format: "reset every zone; label, then counters (all 1), drive by drive; flush all" (x: the drive left out, or noDrive; a: the array
+-- ==== format: "reset every zone; label, then counters (all 1), drive by drive; flush all", with that flush after the resets (x: the drive left out, or noDrive; a: the array
 -- number)
 abbrev pub formatPhases : Geometry → ℕ → ℕ → List (List Store)
 formatPhases g x a =
     eachBelow (λ d. eachBelow (λ y. reset d y ∷ []) (physicalZones g)) (g .drives)
+    ∷ flushAll (g .drives)
     ∷ eachBelow (λ d. appendGeneral g (label x a) d ++ appendGeneral g (counters (generationsFrom (λ z. 1) zero (g .zones))) d) (g .drives)
     ∷ flushAll (g .drives)
     ∷ []

@@ -1,4 +1,4 @@
--- A format on the tables: its refusals as numbers, its three phases as the code makes them, and the state that it hands on.
+-- A format on the tables: its refusals as numbers, its four phases as the code makes them, and the state that it hands on.
 use mathlib.Core.Path.{_≡_, refl, ap, ap₂, _∙_, fun-ext}
 use mathlib.Core.Logic.{_⊎_, inl, inr}
 use mathlib.Core.Bool.{Bool, true, false, _&&_, not}
@@ -151,14 +151,16 @@ entries-more g present x a d =
 pub ones-first : (k : ℕ) → k ≤ 16 → take k (replicate 16 1) ≡ generationsFrom (λ z. 1) zero k
 ones-first k h = first-generations (λ z. 1) 16 k h
 
--- the three phases, one after the other
-pub format-made : (g : Geometry) (present : ℕ → Bool) (x a b₀ b₁ b₂ b₃ : ℕ) (xs ws ds ws₁ ds₁ xs₁ ws₂ ds₂ : List ℕ)
+-- the four phases, one after the other
+pub format-made : (g : Geometry) (present : ℕ → Bool) (x a b₀ b₁ b₂ b₃ b₄ : ℕ) (xs ws ds ws₁ ds₁ ds₂ xs₁ ws₂ ds₃ : List ℕ)
     → MadePointers g b₀ b₁ (onPresent present (eachBelow (driveResets g) (g .drives))) ws ds ws₁ ds₁
-    → MadeAppends g b₁ b₂ (onPresent present (eachBelow (driveEntries g x a) (g .drives))) xs ws₁ xs₁ ws₂
-    → MadePointers g b₂ b₃ (flushStores g present) ws₂ ds₁ ws₂ ds₂
-    → Made g b₀ b₃ (formatStores g present x a) (tablesOf xs ws ds) (tablesOf xs₁ ws₂ ds₂)
+    → MadePointers g b₁ b₂ (flushStores g present) ws₁ ds₁ ws₁ ds₂
+    → MadeAppends g b₂ b₃ (onPresent present (eachBelow (driveEntries g x a) (g .drives))) xs ws₁ xs₁ ws₂
+    → MadePointers g b₃ b₄ (flushStores g present) ws₂ ds₂ ws₂ ds₃
+    → Made g b₀ b₄ (formatStores g present x a) (tablesOf xs ws ds) (tablesOf xs₁ ws₂ ds₃)
 unfolding formatStores flushStores
-format-made g present x a b₀ b₁ b₂ b₃ xs ws ds ws₁ ds₁ xs₁ ws₂ ds₂ cleared labelled flushed =
-    made-append g b₀ b₁ b₃ _ _ (tablesOf xs ws ds) (tablesOf xs ws₁ ds₁) (tablesOf xs₁ ws₂ ds₂) (cleared .made xs) (
-    made-append g b₁ b₂ b₃ _ _ (tablesOf xs ws₁ ds₁) (tablesOf xs₁ ws₂ ds₁) (tablesOf xs₁ ws₂ ds₂) (labelled .made ds₁) (
-    made-append g b₂ b₃ b₃ _ [] (tablesOf xs₁ ws₂ ds₁) (tablesOf xs₁ ws₂ ds₂) (tablesOf xs₁ ws₂ ds₂) (flushed .made xs₁) (made-nil g b₃ (tablesOf xs₁ ws₂ ds₂))))
+format-made g present x a b₀ b₁ b₂ b₃ b₄ xs ws ds ws₁ ds₁ ds₂ xs₁ ws₂ ds₃ cleared forgot labelled flushed =
+    made-append g b₀ b₁ b₄ _ _ (tablesOf xs ws ds) (tablesOf xs ws₁ ds₁) (tablesOf xs₁ ws₂ ds₃) (cleared .made xs) (
+    made-append g b₁ b₂ b₄ _ _ (tablesOf xs ws₁ ds₁) (tablesOf xs ws₁ ds₂) (tablesOf xs₁ ws₂ ds₃) (forgot .made xs) (
+    made-append g b₂ b₃ b₄ _ _ (tablesOf xs ws₁ ds₂) (tablesOf xs₁ ws₂ ds₂) (tablesOf xs₁ ws₂ ds₃) (labelled .made ds₂) (
+    made-append g b₃ b₄ b₄ _ [] (tablesOf xs₁ ws₂ ds₂) (tablesOf xs₁ ws₂ ds₃) (tablesOf xs₁ ws₂ ds₃) (flushed .made xs₁) (made-nil g b₄ (tablesOf xs₁ ws₂ ds₃)))))

@@ -1,4 +1,4 @@
--- A reset of a zone that has passed refusals 7 and 12: refusal 14, the emptyings of the general logs that lack room, the five phases. That it is the reset of the
+-- A reset of a zone that has passed refusals 7 and 12: refusal 14, the emptyings of the general logs that lack room, the six phases. That it is the reset of the
 -- rules, by the tables with the logs where they lie.
 use mathlib.Core.Path.{_≡_, ap, ap₂, _∙_, fun-ext, subst}
 use mathlib.Core.Bool.{Bool, true, false, _||_, not}

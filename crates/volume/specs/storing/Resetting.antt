@@ -1,4 +1,4 @@
--- A reset on the tables: its refusals as numbers, its five phases as the code makes them, and the state that it hands on.
+-- A reset on the tables: its refusals as numbers, its six phases as the code makes them, and the state that it hands on.
 use mathlib.Core.Path.{_≡_, refl, sym, ap, ap₂, _∙_, fun-ext}
 use mathlib.Core.Logic.{_≢_}
 use mathlib.Core.Bool.{Bool, true, false, _&&_, _||_, not}
@@ -226,27 +226,30 @@ pub raised-first : (s : State) (z k : ℕ) → k ≤ 16 → take k (raisedList s
 unfolding raisedList
 raised-first s z k h = first-generations (raisedAt (viewState s) z) 16 k h
 
--- the five phases, of generation n, with the generations that the counters give
+-- the six phases, of generation n, with the generations that the counters give
 unfoldable pub resetWith : Geometry → (ℕ → Bool) → ℕ → ℕ → List ℕ → List Store
 resetWith g present z n ns =
-    onPresent present (eachBelow (resetEntry g z n) (g .drives)) ++ (flushStores g present ++ (onPresent present (eachBelow (zoneResetAt z) (g .drives)) ++ (onPresent present (eachBelow (countersAt g ns) (g .drives)) ++ (flushStores g present ++ []))))
+    onPresent present (eachBelow (resetEntry g z n) (g .drives)) ++ (flushStores g present
+    ++ (onPresent present (eachBelow (zoneResetAt z) (g .drives)) ++ (flushStores g present ++ (onPresent present (eachBelow (countersAt g ns) (g .drives)) ++ (flushStores g present ++ [])))))
 
 pub reset-with : (g : Geometry) (present : ℕ → Bool) (s : State) (z : ℕ) → g .zones ≤ 16 → resetWith g present z (recordAt s z .generation) (take (g .zones) (raisedList s z)) ≡ resetStores g present (viewState s) z
 unfolding resetWith resetStores flushStores
 reset-with g present s z h = rw (raised-first s z (g .zones) h) refl
 
 -- one after the other
-pub reset-made : (g : Geometry) (present : ℕ → Bool) (z n b₀ b₁ b₂ b₃ b₄ b₅ : ℕ) (ns xs ws ds xs₁ ws₁ ds₁ ws₂ ds₂ xs₂ ws₃ ds₃ : List ℕ)
+pub reset-made : (g : Geometry) (present : ℕ → Bool) (z n b₀ b₁ b₂ b₃ b₄ b₅ b₆ : ℕ) (ns xs ws ds xs₁ ws₁ ds₁ ws₂ ds₂ ds₃ xs₂ ws₃ ds₄ : List ℕ)
     → MadeAppends g b₀ b₁ (onPresent present (eachBelow (resetEntry g z n) (g .drives))) xs ws xs₁ ws₁
     → MadePointers g b₁ b₂ (flushStores g present) ws₁ ds ws₁ ds₁
     → MadePointers g b₂ b₃ (onPresent present (eachBelow (zoneResetAt z) (g .drives))) ws₁ ds₁ ws₂ ds₂
-    → MadeAppends g b₃ b₄ (onPresent present (eachBelow (countersAt g ns) (g .drives))) xs₁ ws₂ xs₂ ws₃
-    → MadePointers g b₄ b₅ (flushStores g present) ws₃ ds₂ ws₃ ds₃
-    → Made g b₀ b₅ (resetWith g present z n ns) (tablesOf xs ws ds) (tablesOf xs₂ ws₃ ds₃)
+    → MadePointers g b₃ b₄ (flushStores g present) ws₂ ds₂ ws₂ ds₃
+    → MadeAppends g b₄ b₅ (onPresent present (eachBelow (countersAt g ns) (g .drives))) xs₁ ws₂ xs₂ ws₃
+    → MadePointers g b₅ b₆ (flushStores g present) ws₃ ds₃ ws₃ ds₄
+    → Made g b₀ b₆ (resetWith g present z n ns) (tablesOf xs ws ds) (tablesOf xs₂ ws₃ ds₄)
 unfolding resetWith
-reset-made g present z n b₀ b₁ b₂ b₃ b₄ b₅ ns xs ws ds xs₁ ws₁ ds₁ ws₂ ds₂ xs₂ ws₃ ds₃ logged flushed cleared counted last =
-    made-append g b₀ b₁ b₅ _ _ (tablesOf xs ws ds) (tablesOf xs₁ ws₁ ds) (tablesOf xs₂ ws₃ ds₃) (logged .made ds) (
-    made-append g b₁ b₂ b₅ _ _ (tablesOf xs₁ ws₁ ds) (tablesOf xs₁ ws₁ ds₁) (tablesOf xs₂ ws₃ ds₃) (flushed .made xs₁) (
-    made-append g b₂ b₃ b₅ _ _ (tablesOf xs₁ ws₁ ds₁) (tablesOf xs₁ ws₂ ds₂) (tablesOf xs₂ ws₃ ds₃) (cleared .made xs₁) (
-    made-append g b₃ b₄ b₅ _ _ (tablesOf xs₁ ws₂ ds₂) (tablesOf xs₂ ws₃ ds₂) (tablesOf xs₂ ws₃ ds₃) (counted .made ds₂) (
-    made-append g b₄ b₅ b₅ _ [] (tablesOf xs₂ ws₃ ds₂) (tablesOf xs₂ ws₃ ds₃) (tablesOf xs₂ ws₃ ds₃) (last .made xs₂) (made-nil g b₅ (tablesOf xs₂ ws₃ ds₃))))))
+reset-made g present z n b₀ b₁ b₂ b₃ b₄ b₅ b₆ ns xs ws ds xs₁ ws₁ ds₁ ws₂ ds₂ ds₃ xs₂ ws₃ ds₄ logged flushed cleared forgot counted last =
+    made-append g b₀ b₁ b₆ _ _ (tablesOf xs ws ds) (tablesOf xs₁ ws₁ ds) (tablesOf xs₂ ws₃ ds₄) (logged .made ds) (
+    made-append g b₁ b₂ b₆ _ _ (tablesOf xs₁ ws₁ ds) (tablesOf xs₁ ws₁ ds₁) (tablesOf xs₂ ws₃ ds₄) (flushed .made xs₁) (
+    made-append g b₂ b₃ b₆ _ _ (tablesOf xs₁ ws₁ ds₁) (tablesOf xs₁ ws₂ ds₂) (tablesOf xs₂ ws₃ ds₄) (cleared .made xs₁) (
+    made-append g b₃ b₄ b₆ _ _ (tablesOf xs₁ ws₂ ds₂) (tablesOf xs₁ ws₂ ds₃) (tablesOf xs₂ ws₃ ds₄) (forgot .made xs₁) (
+    made-append g b₄ b₅ b₆ _ _ (tablesOf xs₁ ws₂ ds₃) (tablesOf xs₂ ws₃ ds₃) (tablesOf xs₂ ws₃ ds₄) (counted .made ds₃) (
+    made-append g b₅ b₆ b₆ _ [] (tablesOf xs₂ ws₃ ds₃) (tablesOf xs₂ ws₃ ds₄) (tablesOf xs₂ ws₃ ds₄) (last .made xs₂) (made-nil g b₆ (tablesOf xs₂ ws₃ ds₄)))))))

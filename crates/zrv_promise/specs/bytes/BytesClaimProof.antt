@@ -1,4 +1,4 @@
--- The promise on bytes holds. At every point of a history the promise holds of the tables which the bytes hold (promise's TablesClaimProof); here it is
+-- What is promised on bytes holds at a point of a history: the promise holds of the tables which the bytes hold (promise's TablesClaimProof); here it is
 -- carried to what the functions of the C edge do.
 use mathlib.Core.Path.{_≡_, refl, sym, ap, _∙_, subst, fun-ext}
 use mathlib.Core.Logic.{_≢_, _⊎_, inl, inr}
@@ -14,7 +14,6 @@ use Rattle.tables.specs.declared.Geometry.{Geometry}
 use Rattle.tables.specs.meaning.Basics.{pick}
 use Rattle.tables.specs.meaning.Geometry.{Valid, physicalZones, cells}
 use Rattle.tables.specs.meaning.GeometryTest.{isValid}
-use Rattle.tables.specs.laws.GeometryTest.{valid-if-test}
 use Rattle.tables.specs.meaning.Drives.{noDrive}
 use Rattle.tables.specs.meaning.Device.{Loss}
 use Rattle.tables.specs.meaning.Tables.{Tables, tablesOf, cell, deviceOf, TablesLoss}
@@ -30,7 +29,6 @@ use Rattle.volume.specs.laws.ByteLists.{Bytes}
 use Rattle.promise.specs.meaning.Ledger.{Fits}
 use Rattle.promise.specs.meaning.Claim.{Call, mounts, writes, flushes, resets, formats, Peeked, System, Event, calls, looks, reads, peeks, reports, cuts, loses, MayMount, ready, settled, ledgerAfter, next, NamesAll, Duty, Promise, start}
 use Rattle.promise.specs.meaning.OnTables.{resultOn, callResult, shownIn, onTables}
-use Rattle.promise.specs.invariant.Throughout.{throughout}
 use Rattle.promise.specs.device.AtRestAnswers.{left-out}
 use Rattle.promise.specs.tables.TablesEvents.{TablesOk, loss-event}
 use Rattle.promise.specs.tables.MountRefines.{shown-agrees}
@@ -43,16 +41,16 @@ use Rattle.zrv.specs.laws.RoundTrips.{number-back}
 use Rattle.zrv.specs.laws.TablesRoundTrip.{table-long, table-bytes, table-bytes-long}
 use Rattle.zrv.specs.laws.CallsLeave.{format-stored}
 use Rattle.zrv.specs.laws.StateRoundTrip.{HandsOn, look-hands-on, format-hands-on}
-use Rattle.zrv_promise.specs.meaning.OnBytes.{LentBytes, rangesOf, tablesAt, answerOf, edgeOf, bytesResult, shownBytes, StillBytes, onBytes, BytesClaim}
+use Rattle.zrv_promise.specs.meaning.OnBytes.{LentBytes, rangesOf, tablesAt, answerOf, edgeOf, bytesResult, shownBytes, StillBytes, onBytes}
 use Rattle.zrv_promise.specs.bytes.CallsOnBytes.{OnTheTables, format-small, storing-known, viewBytes, views, takes, format-on, mount-on, write-on, flush-on, reset-on}
 use Rattle.zrv_promise.specs.bytes.ReadsOnBytes.{sizes-pass, look-other, look-is, read-is, peek-is, report-is}
 
 -- ---- numbers
-bytes-all : (xs : List ℕ) → ((i : ℕ) → getD xs i 0 < 256) → Bytes xs
+pub bytes-all : (xs : List ℕ) → ((i : ℕ) → getD xs i 0 < 256) → Bytes xs
 bytes-all [] h = tt
 bytes-all (x ∷ xs) h = (h 0, bytes-all xs (λ i. h (suc i)))
 
-finished-code : (n : ℕ) → answerOf n ≡ Finished → n ≡ 0
+pub finished-code : (n : ℕ) → answerOf n ≡ Finished → n ≡ 0
 finished-code n e = go (eqb n 0) (eqb n 255) refl e
   where
     go : (b c : Bool) → eqb n 0 ≡ b → pick b Finished (pick c Unfinished (Refused n)) ≡ Finished → n ≡ 0
@@ -61,7 +59,7 @@ finished-code n e = go (eqb n 0) (eqb n 255) refl e
     go false false q r = absurd (let z : _≡_ {A = ℕ} 0 1 = cc in omega arith)
 
 -- ---- the system that the bytes hold, and the invariant
-abbrev viewSystem : (g : Geometry) → System (onBytes g) → System (onTables g)
+abbrev pub viewSystem : (g : Geometry) → System (onBytes g) → System (onTables g)
 viewSystem g s = record { memory = tablesAt g (s .memory); lost = s .lost; mode = s .mode; state = stateFrom (g .zones) (s .state); ledger = s .ledger }
 
 pub record BytesOk (g : Geometry) (s : System (onBytes g)) : Type 0 where
@@ -98,10 +96,10 @@ module _ (g : Geometry) (ok : Valid g) (wb : isValid g ≡ true) (s : System (on
     call-on (resets z) stop = (_, reset-on g mask m (o .written-bytes) (o .durable-bytes) (o .taken) z stop)
     call-on (formats array) stop = (_, format-on g mask m (o .written-bytes) (o .durable-bytes) sizes array stop)
 
-    call-views : (c : Call) (stop : ℕ) → viewBytes g (onBytes g .call c mask (s .state) stop (s .memory)) ≡ onTables g .call c (namedOf mask) st stop t
+    pub call-views : (c : Call) (stop : ℕ) → viewBytes g (onBytes g .call c mask (s .state) stop (s .memory)) ≡ onTables g .call c (namedOf mask) st stop t
     call-views c stop = let (r, q) = call-on c stop in views g m (edgeOf g c mask stop m) r (resultOn g c (namedOf mask) st stop t) q
 
-    answers : (c : Call) (stop : ℕ) → onBytes g .call c mask (s .state) stop (s .memory) .answer ≡ onTables g .call c (namedOf mask) st stop t .answer
+    pub answers : (c : Call) (stop : ℕ) → onBytes g .call c mask (s .state) stop (s .memory) .answer ≡ onTables g .call c (namedOf mask) st stop t .answer
     answers c stop = ap (λ (r : CallResult Tables State). r .answer) (call-views c stop)
 
     module _ (n : NamesAll g (onBytes g) s mask) where
@@ -119,7 +117,7 @@ module _ (g : Geometry) (ok : Valid g) (wb : isValid g ≡ true) (s : System (on
       look-hands : HandsOn g (lookEdge g mask m .left .state) (lookOfBytes g mask m .state) (length (s .memory .written)) (length (s .memory .durable))
       look-hands = look-hands-on g mask m (finished-code (lookEdge g mask m .code) (ap (λ (r : CallResult LentBytes (List ℕ)). r .answer) looked))
 
-      look-state : stateFrom (g .zones) (onBytes g .look mask (s .state) (s .memory) .state) ≡ lookOn g (namedOf mask) st t .state
+      pub look-state : stateFrom (g .zones) (onBytes g .look mask (s .state) (s .memory) .state) ≡ lookOn g (namedOf mask) st t .state
       look-state =
           let x = stateShown g (shownIn g (namedOf mask) t t) in
           look-hands .reads-back ∙ ap (λ (u : Outcome). u .state) (look-other g (namedOf mask) st unreadState x t look-on) ∙ ap (λ (u : Outcome). u .state) (sym look-on)
@@ -226,6 +224,16 @@ module _ (g : Geometry) (ok : Valid g) (wb : isValid g ≡ true) (s : System (on
   }
 
 -- ==== the format at the head. Nothing is asked of what the ranges held: a drive left out keeps what it had, and that need not be bytes
+-- where no drive is lost, the loss of none leaves the device
+pub none-changed : (g : Geometry) → Valid g → (x : ℕ) → x ≡ noDrive → (t u : Tables) → TablesLoss g x t u → deviceOf g u ≡ deviceOf g t
+none-changed g ok x e t u c = fun-ext λ d. fun-ext λ z. same d z (ℕ-discrete d x)
+  where
+    same : (d z : ℕ) → Dec (d ≡ x) → deviceOf g u d z ≡ deviceOf g t d z
+    same d z (yes q) =
+        let out : ltb d (g .drives) && ltb z (physicalZones g) ≡ false = rw (le-ltb d (g .drives) (omega (arith, q, e, ok .drives-most))) refl in
+        device-outside g u d z out ∙ sym (device-outside g t d z out)
+    same d z (no n) = unfold Loss in loss-refines g x t u c d z n
+
 -- what becomes of a lost drive's memory is open
 lost-open : (g : Geometry) → Valid g → (s : System (onTables g)) → TablesOk g s → (s .lost ≡ noDrive) ⊎ (s .lost < g .drives) → (u : Tables) → TablesLoss g (s .lost) (s .memory) u
     → TablesOk g (record { memory = u; lost = s .lost; mode = s .mode; state = s .state; ledger = s .ledger })
@@ -234,21 +242,15 @@ lost-open g ok s o (inl e) u c = record {
   sized = kept-sized g (s .lost) (s .memory) u (c .kept) (o .sized);
   order = λ d hd n. loss-order g (s .lost) d (s .memory) u c hd n (o .order d hd n);
   records = o .records;
-  holds = rw (fun-ext λ d. fun-ext λ z. same d z (ℕ-discrete d (s .lost))) (o .holds);
+  holds = rw (none-changed g ok (s .lost) e (s .memory) u c) (o .holds);
 }
-  where
-    same : (d z : ℕ) → Dec (d ≡ s .lost) → deviceOf g u d z ≡ deviceOf g (s .memory) d z
-    same d z (yes q) =
-        let out : ltb d (g .drives) && ltb z (physicalZones g) ≡ false = rw (le-ltb d (g .drives) (omega (arith, q, e, ok .drives-most))) refl in
-        device-outside g u d z out ∙ sym (device-outside g (s .memory) d z out)
-    same d z (no n) = unfold Loss in loss-refines g (s .lost) (s .memory) u c d z n
 
 -- tables whose numbers are not all of 32 bits, written and read back: only a lost drive's may differ
 module _ (g : Geometry) (ok : Valid g) (s : System (onTables g)) (o : TablesOk g s) where
-  abbrev again : Tables
+  abbrev pub again : Tables
   again = tablesOf (s .memory .sectors) (tableFrom (cells g) (tableTo (s .memory .written))) (tableFrom (cells g) (tableTo (s .memory .durable)))
 
-  read-again : TablesLoss g (s .lost) (s .memory) again
+  pub read-again : TablesLoss g (s .lost) (s .memory) again
   read-again = record {
     kept = record {
       sectors-long = refl;
@@ -264,13 +266,13 @@ module _ (g : Geometry) (ok : Valid g) (s : System (onTables g)) (o : TablesOk g
       written-small d z hd hz n = omega (arith, o .order d hd n .written-most z hz, ok .zone-most)
 
 module _ (g : Geometry) (mask array stop : ℕ) (old : List ℕ) (m : LentBytes) (small : array < 256 ^ 8) where
-  abbrev before : Ranges
+  abbrev pub before : Ranges
   before = rangesOf m old
 
-  abbrev edge : Answered Ranges
+  abbrev pub edge : Answered Ranges
   edge = formatEdge g mask array stop (rangesOf m old)
 
-  abbrev made-on : Result
+  abbrev pub made-on : Result
   made-on = formatOfBytes g mask array stop (rangesOf m old)
 
   module _ (h : edge .code ≡ 0) where
@@ -281,23 +283,31 @@ module _ (g : Geometry) (mask array stop : ℕ) (old : List ℕ) (m : LentBytes)
         go (yes e) = e
         go (no e) = ap (λ (x : Answered Ranges). x .code) (refused _ (storedAll g made-on before) before e) ∙ h
 
-    sized : Sized g (length old) (length (m .written)) (length (m .durable))
+    pub sized : Sized g (length old) (length (m .written)) (length (m .durable))
     sized = sizes-passed g (length old) (length (m .written)) (length (m .durable)) sizes-fit
 
     edge-is : edge ≡ storedAll g made-on before
     edge-is = sym (made _ (storedAll g made-on before) before sizes-fit)
 
-    finished : made-on .outcome .answer ≡ Finished
+    pub finished : made-on .outcome .answer ≡ Finished
     unfolding storedAll format-stored
     finished =
         let k : answerNumber (made-on .outcome .answer) ≡ 0 = ap (λ (x : Answered Ranges). x .code) (sym edge-is) ∙ h in
         sym (storing-known g (tablesIn g before) made-on (format-stored g (tablesIn g before) (namedOf mask) stop array unreadState) (format-small g (namedOf mask) (tablesIn g before))) ∙ ap answerOf k
 
-    abbrev began : System (onTables g)
+    abbrev pub began : System (onTables g)
     began = start g (onTables g) (namedOf mask) (callResult made-on)
 
-    begins : (isValid g ≡ true) × TablesOk g began
+    pub begins : (isValid g ≡ true) × TablesOk g began
     begins = tables-start g (namedOf mask) array unreadState stop (tablesIn g before) small finished
+
+    -- the tables and the state that the bytes hold then
+    pub left-tables : tablesAt g (bytesResult edge .memory) ≡ again g (sized .valid) began (begins .1)
+    unfolding storedAll
+    left-tables = ap (λ (x : Answered Ranges). tablesAt g (bytesResult x .memory)) edge-is
+
+    pub left-state : stateFrom (g .zones) (edge .left .state) ≡ made-on .outcome .state
+    left-state = format-hands-on g mask (rangesOf m old) array stop h .reads-back
 
     pub bytes-start : BytesOk g (start g (onBytes g) mask (bytesResult edge))
     unfolding storedAll
@@ -316,11 +326,3 @@ module _ (g : Geometry) (mask array stop : ℕ) (old : List ℕ) (m : LentBytes)
           holds = subst (λ (x : State). TablesOk g (with-state x)) (sym (k .reads-back) ∙ ap (stateFrom (g .zones)) z) opened;
         } in
         rw edge-is bytes
-
--- THE THEOREM
-pub bytes-keep-the-promise : BytesClaim
-bytes-keep-the-promise g mask array old stop m small e es d =
-    let h = finished-code (formatEdge g mask array stop (rangesOf m old) .code) e in
-    let wb = begins g mask array stop old m small h .0 in
-    let ok = valid-if-test g wb in
-    throughout g (onBytes g) (BytesOk g) (bytes-promise g ok wb) (bytes-event g ok wb) (start g (onBytes g) mask (bytesResult (formatEdge g mask array stop (rangesOf m old)))) (bytes-start g mask array stop old m small h) es d

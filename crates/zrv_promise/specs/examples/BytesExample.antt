@@ -27,7 +27,8 @@ use Rattle.zrv.specs.meaning.EdgeCalls.{namedOf, tablesIn, unreadState, storedA
 use Rattle.zrv.specs.laws.EdgeCalls.{Sized, input-passed, made}
 use Rattle.zrv_promise.specs.meaning.OnBytes.{LentBytes, rangesOf, bytesResult, answerOf, StillBytes, onBytes}
 use Rattle.zrv_promise.specs.bytes.ReadsOnBytes.{sizes-pass}
-use Rattle.zrv_promise.specs.bytes.BytesClaimProof.{BytesOk, bytes-start, bytes-keep-the-promise}
+use Rattle.zrv_promise.specs.bytes.BytesClaimProof.{BytesOk, bytes-start}
+use Rattle.zrv_promise.specs.bytes.CachedBytesClaim.{bytes-keep-the-promise}
 
 -- ---- bytes of zeros hold a table of zeros
 drop-zeros : (n k : ℕ) → drop {A = ℕ} n (replicate k 0) ≡ replicate (k - n) 0

@@ -1,0 +1,32 @@
+-- What a volume promises, it promises on drives that cache resets: every clause speaks of its memory alone, not of what is remembered. (Of one point of a
+-- history; that every event keeps what gives it is CachedEvents.)
+use mathlib.Core.Path.{_≡_, ap}
+use Prim.Native.Nat.{ℕ}
+use Rattle.tables.specs.declared.Geometry.{Geometry}
+use Rattle.volume.specs.meaning.Answers.{CallResult}
+use Rattle.promise.specs.meaning.Claim.{Volume, System, NamesAll, SameZones, Promise}
+use Rattle.promise.specs.meaning.Caches.{WithCaches, Caches, withCaches, beneath}
+
+module _ (g : Geometry) (vol : Volume) (k : Caches vol) (s : System (withCaches vol k)) where
+  pub names-beneath : (named : vol .Names) → NamesAll g (withCaches vol k) s named → NamesAll g vol (beneath vol k s) named
+  names-beneath named n = record { drives = n .drives }
+
+  abbrev beside : CallResult (vol .Memory) (vol .State) → CallResult (WithCaches (vol .Memory)) (vol .State)
+  beside r = record { answer = r .answer; memory = record { memory = r .memory; was = s .memory .was }; state = r .state }
+
+  pub cached-promise : Promise g vol (beneath vol k s) → Promise g (withCaches vol k) s
+  cached-promise p = record {
+    look-fits = λ named n. let (e, f) = p .look-fits named (names-beneath named n) in (ap beside e, f);
+    mount-fits = λ named n m stop e. p .mount-fits named (names-beneath named n) m stop e;
+    mount-refused = λ named n stop i e. p .mount-refused named (names-beneath named n) stop i e;
+    pointer-is = p .pointer-is;
+    look-holds = λ named n m. let (e, z) = p .look-holds named (names-beneath named n) m in (e, record { generations = z .generations; conditions = z .conditions });
+    flush-accepted = λ named n m stop i e. p .flush-accepted named (names-beneath named n) m stop i e;
+    reset-refused = λ named n m z stop i e. p .reset-refused named (names-beneath named n) m z stop i e;
+    write-refused = λ named n m a count buffer stop i e. p .write-refused named (names-beneath named n) m a count buffer stop i e;
+    read-gives = λ named n m a count out e. p .read-gives named (names-beneath named n) m a count out e;
+    read-accepted = λ named n m a count out h i j o. p .read-accepted named (names-beneath named n) m a count out h i j o;
+    peek-gives = λ named n m a e. p .peek-gives named (names-beneath named n) m a e;
+    peek-accepted = λ named n m a h i o. p .peek-accepted named (names-beneath named n) m a h i o;
+    report-gives = λ named n m list. p .report-gives named (names-beneath named n) m list;
+  }

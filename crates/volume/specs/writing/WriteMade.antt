@@ -57,7 +57,7 @@ use Rattle.volume.specs.writing.WriteZone.{writeRoom, write-room-emptied
 use Rattle.volume.specs.writing.WriteSeen.{entries-are, value-is, gone-before-is, copies-gone-is, in-force-is}
 
 -- ---- of many drives only one counts
-each-none : (f : ℕ → List Store) (n : ℕ) → ((d : ℕ) → d < n → f d ≡ []) → eachBelow f n ≡ []
+pub each-none : (f : ℕ → List Store) (n : ℕ) → ((d : ℕ) → d < n → f d ≡ []) → eachBelow f n ≡ []
 each-none f zero e = refl
 each-none f (suc n) e = ap₂ (λ (x y : List Store). x ++ y) (each-none f n (λ d l. e d (omega arith))) (e n (omega arith))
 
@@ -132,7 +132,7 @@ new-by : (g : Geometry) (r : Roles) (d : ℕ) (es : List Entry) (f h : InForce) 
 unfolding newParity
 new-by g r d es f h e = ap (λ (l : List Entry). concat (map (sectorsOf g d true) l) ++ (closingSector g true d r ∷ [])) e
 
-sectors-count : (g : Geometry) (c : ℕ) (buffer : List ℕ) → length (sectorsIn g c buffer) ≡ c
+pub sectors-count : (g : Geometry) (c : ℕ) (buffer : List ℕ) → length (sectorsIn g c buffer) ≡ c
 unfolding sectorsIn
 sectors-count g c buffer = length-tabulate-from _ zero c
 

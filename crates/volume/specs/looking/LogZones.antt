@@ -107,39 +107,36 @@ counts-three a = go (leb (a 1) (a 0) && leb (a 2) (a 0)) (leb (a 2) (a 1))
     go false false = refl
 
 -- ---- the claims decide: where no other zone claims the kind, whatever the generation of the first place is
--- (o: what the zone claims as the other log, n: as its own; x, y: what the other zones claim)
+-- (o: what the zone claims as the other log, n: as its own; x, y: what the other zones claim. F: what follows from the ranks, the zone's first)
+decided : (F : ℕ → ℕ → ℕ → Counting) (n x y : ℕ) → F (suc 0) 0 0 ≡ F (suc n) 0 0 → (a b c : Bool)
+    → F (pick a (suc (pick (a && (not b || not c)) n 0)) 0) (pick (not b) (suc x) 0) (pick (not c) (suc y) 0) ≡ F (pick a (suc n) 0) (pick b 0 (suc x)) (pick c 0 (suc y))
+decided F n x y alone true true true = alone
+decided F n x y alone true true false = refl
+decided F n x y alone true false true = refl
+decided F n x y alone true false false = refl
+decided F n x y alone false true true = refl
+decided F n x y alone false true false = refl
+decided F n x y alone false false true = refl
+decided F n x y alone false false false = refl
+
 general-decided : (o n x y : ℕ) → countingOf (three (rank (homeClaim o (not (eqb x 0) || not (eqb y 0)) n)) (rank (movedClaim x)) (rank (movedClaim y)))
     ≡ countingOf (three (pick (eqb o 0) (suc n) 0) (pick (eqb x 0) 0 (suc x)) (pick (eqb y 0) 0 (suc y)))
-general-decided o n x y = go (eqb o 0) (eqb x 0) (eqb y 0)
+general-decided o n x y = decided (λ p q r. countingOf (three p q r)) n x y alone (eqb o 0) (eqb x 0) (eqb y 0)
   where
-    go : (a b c : Bool) → countingOf (three (pick a (suc (pick (a && (not b || not c)) n 0)) 0) (pick (not b) (suc x) 0) (pick (not c) (suc y) 0)) ≡ countingOf (three (pick a (suc n) 0) (pick b 0 (suc x)) (pick c 0 (suc y)))
-    go true true true =
+    alone : countingOf (three (suc 0) 0 0) ≡ countingOf (three (suc n) 0 0)
+    alone =
         let e : leb 0 (suc n) ≡ true = le-leb 0 (suc n) (omega arith) in
         ap (λ (b : Bool). record { zone = 0; lacks = b }) (sym (suc-not-zero n)) ∙ counts-first (suc n) 0 0 (rw e refl)
-    go true true false = refl
-    go true false true = refl
-    go true false false = refl
-    go false true true = refl
-    go false true false = refl
-    go false false true = refl
-    go false false false = refl
 
 parity-decided : (o n x y : ℕ) → countingOf (three (rank (movedClaim x)) (rank (homeClaim o (not (eqb x 0) || not (eqb y 0)) n)) (rank (movedClaim y)))
     ≡ countingOf (three (pick (eqb x 0) 0 (suc x)) (pick (eqb o 0) (suc n) 0) (pick (eqb y 0) 0 (suc y)))
-parity-decided o n x y = go (eqb o 0) (eqb x 0) (eqb y 0)
+parity-decided o n x y = decided (λ p q r. countingOf (three q p r)) n x y alone (eqb o 0) (eqb x 0) (eqb y 0)
   where
-    go : (a b c : Bool) → countingOf (three (pick (not b) (suc x) 0) (pick a (suc (pick (a && (not b || not c)) n 0)) 0) (pick (not c) (suc y) 0)) ≡ countingOf (three (pick b 0 (suc x)) (pick a (suc n) 0) (pick c 0 (suc y)))
-    go true true true =
+    alone : countingOf (three 0 (suc 0) 0) ≡ countingOf (three 0 (suc n) 0)
+    alone =
         let e : leb 0 (suc n) ≡ true = le-leb 0 (suc n) (omega arith) in
         let f : leb (suc n) 0 ≡ false = lt-leb (suc n) 0 (omega arith) in
         ap (λ (b : Bool). record { zone = 1; lacks = b }) (sym (suc-not-zero n)) ∙ counts-second 0 (suc n) 0 (rw f refl) e
-    go true true false = refl
-    go true false true = refl
-    go true false false = refl
-    go false true true = refl
-    go false true false = refl
-    go false false true = refl
-    go false false false = refl
 
 -- ---- a claim, read in the tables
 pub claim-read : (g : Geometry) (xs ws : List ℕ) (d : ℕ) (par : Bool) (z : ℕ) → d < g .drives → z < 3 → firstClosing (logHeads g d par z (zonePointer g ws d z) xs) ≡ claim g d par (zonesRead g xs ws d z)

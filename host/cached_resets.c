@@ -123,6 +123,28 @@ void undo_reset(struct shelf *shelf, size_t cell) {
     put32(shelf->durable.bytes + cell * sizeof(uint32_t), pointer_in(shelf->old_durable, cell));
 }
 
+size_t undo_all_resets(struct shelf *shelf) {
+    for (size_t at = 0; at < shelf_cells(shelf->geometry); at++)
+        if (reset_is_cached(shelf, at))
+            undo_reset(shelf, at);
+    return cached_resets(shelf);
+}
+
+size_t undo_resets_at_random(struct shelf *shelf, uint64_t seed) {
+    size_t cells = shelf_cells(shelf->geometry), undone = 0;
+    uint32_t draw = first_draw(seed);
+    for (size_t at = 0; at < cells; at++)
+        draw = next_draw(draw);
+    for (size_t at = 0; at < cells; at++) {
+        draw = next_draw(draw);
+        if (reset_is_cached(shelf, at) && says_yes(draw)) {
+            undo_reset(shelf, at);
+            undone++;
+        }
+    }
+    return undone;
+}
+
 void forget_resets(struct shelf *shelf) {
     memset(shelf->old_written.bytes, 0, shelf->old_written.length);
     memset(shelf->old_durable.bytes, 0, shelf->old_durable.length);

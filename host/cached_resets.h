@@ -21,6 +21,11 @@ size_t cached_resets(const struct shelf *shelf);
 /* In a power cut: the zone is as it was before the reset, to lose what it could have lost then. */
 void undo_reset(struct shelf *shelf, size_t cell);
 
+/* The same of every cached reset; or of each by chance, as the stream of the seed says past the numbers that lose_power_at_random takes, one for each cell.
+ * How many were undone. */
+size_t undo_all_resets(struct shelf *shelf);
+size_t undo_resets_at_random(struct shelf *shelf, uint64_t seed);
+
 /* No reset is in a cache any more. */
 void forget_resets(struct shelf *shelf);
 

@@ -98,19 +98,20 @@ static bool find_cell(const struct driver *driver, uint32_t drive, uint32_t zone
 
 bool undo_resets(struct driver *driver, const struct power_loss *loss, size_t *undone, struct message *message) {
     struct shelf *shelf = &driver->drives.shelf;
-    size_t at = 0;
     for (size_t i = 0; i < loss->undone_count; i++) {
         const struct kept_zone *zone = &loss->undone[i];
+        size_t at = 0;
         if (!find_cell(driver, zone->drive, zone->zone, &at, message))
             return false;
         if (!reset_is_cached(shelf, at))
             return fail(message, "zone %u of drive %u has no reset in the drive's cache", zone->zone, zone->drive);
         undo_reset(shelf, at);
     }
-    for (at = 0; loss->undoes_all && at < shelf_cells(shelf->geometry); at++)
-        if (reset_is_cached(shelf, at))
-            undo_reset(shelf, at);
-    *undone = loss->undoes_all ? cached_resets(shelf) : loss->undone_count;
+    *undone = loss->undone_count;
+    if (loss->undoes == UNDO_ALL)
+        *undone = undo_all_resets(shelf);
+    if (loss->undoes == UNDO_RANDOM)
+        *undone = undo_resets_at_random(shelf, loss->seed);
     return true;
 }
 

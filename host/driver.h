@@ -28,15 +28,16 @@ struct kept_zone {
 };
 
 /* What the write caches keep of a power cut: nothing, everything, as much as a seed says; and beside that the zones given. Drives whose zone resets last at once,
- * and drives that cache them: of the resets in the caches none is undone, or all, or those of the zones given. */
+ * and drives that cache them: of the resets in the caches those of the zones given are undone, if any, or all, or those that the seed says. */
 enum cache_keeps { KEEP_NONE, KEEP_ALL, KEEP_RANDOM };
+enum cache_undoes { UNDO_GIVEN, UNDO_ALL, UNDO_RANDOM };
 
 struct power_loss {
     enum cache_keeps keeps;
     uint64_t seed;
     const struct kept_zone *given;
     size_t given_count;
-    bool undoes_all;
+    enum cache_undoes undoes;
     const struct kept_zone *undone; /* drives and zones alone */
     size_t undone_count;
 };

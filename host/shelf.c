@@ -84,6 +84,8 @@ uint32_t first_draw(uint64_t seed) { return (uint32_t)(seed % STREAM_MODULUS); }
 
 uint32_t next_draw(uint32_t draw) { return (uint32_t)(((uint64_t)draw * STREAM_FACTOR + STREAM_STEP) % STREAM_MODULUS); }
 
+bool says_yes(uint32_t draw) { return __builtin_parity(draw / STREAM_UNUSED) != 0; }
+
 void fill_from_stream(uint8_t *bytes, size_t length, uint64_t seed) {
     uint32_t draw = first_draw(seed);
     for (size_t i = 0; i < length; i++) {

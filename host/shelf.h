@@ -31,6 +31,10 @@ uint64_t table_sum(struct range table);
 /* Before the first number of a seed's stream; the number after one. */
 uint32_t first_draw(uint64_t seed);
 uint32_t next_draw(uint32_t draw);
+
+/* Yes or no by a number of the stream: by all its bits that are used, since by one of them neighbouring seeds would often say the same. */
+bool says_yes(uint32_t draw);
+
 void fill_from_stream(uint8_t *bytes, size_t length, uint64_t seed);
 
 #endif

@@ -211,11 +211,17 @@ static bool parse_power_loss(const struct command_option *keep, const struct com
     return true;
 }
 
-static bool parse_undone(const struct command_option *undo, struct power_loss *loss, struct kept_zone **list, struct message *message) {
+/* Which cached resets are undone: those that --undo tells; with --cached-resets a reset is kept as --keep keeps a sector. */
+static bool parse_undone(const struct command_option *undo, bool cached_resets, struct power_loss *loss, struct kept_zone **list, struct message *message) {
+    static const enum cache_undoes not_kept[] = {[KEEP_NONE] = UNDO_ALL, [KEEP_ALL] = UNDO_GIVEN, [KEEP_RANDOM] = UNDO_RANDOM};
+    if (cached_resets && (undo->given || loss->given_count > 0))
+        return fail(message, "--cached-resets goes with --keep none, all or random, and not with --undo");
+    if (cached_resets)
+        loss->undoes = not_kept[loss->keeps];
     if (!undo->given)
         return true;
-    loss->undoes_all = strcmp(undo->text, "all") == 0;
-    if (!loss->undoes_all && (loss->undone_count = parse_zones(undo->text, read_zone, list)) == 0)
+    loss->undoes = strcmp(undo->text, "all") == 0 ? UNDO_ALL : UNDO_GIVEN;
+    if (loss->undoes == UNDO_GIVEN && (loss->undone_count = parse_zones(undo->text, read_zone, list)) == 0)
         return fail(message, "--undo: \"%s\" is not all or DRIVE:ZONE,..", undo->text);
     loss->undone = *list;
     return true;
@@ -242,15 +248,22 @@ static int lose_power_and_save(struct driver *driver, const struct power_loss *l
     return EXIT_DONE;
 }
 
+enum { KEEP, SEED, UNDO, CACHED_RESETS };
+
 int cut_main(int argc, char **argv) {
     struct command_option option[] = {
-        {.name = "keep", .kind = OPTION_TEXT}, {.name = "seed", .kind = OPTION_NUMBER, .most = UINT64_MAX}, {.name = "undo", .kind = OPTION_TEXT}};
+        [KEEP] = {.name = "keep", .kind = OPTION_TEXT},
+        [SEED] = {.name = "seed", .kind = OPTION_NUMBER, .most = UINT64_MAX},
+        [UNDO] = {.name = "undo", .kind = OPTION_TEXT},
+        [CACHED_RESETS] = {.name = "cached-resets", .kind = OPTION_FLAG},
+    };
     struct kept_zone *list = NULL, *undone = NULL;
     struct power_loss loss;
     struct driver driver;
     struct message message;
     int code = begin_command(argc, argv, option, COUNT(option), &driver);
-    if (code == EXIT_DONE && (!parse_power_loss(&option[0], &option[1], &loss, &list, &message) || !parse_undone(&option[2], &loss, &undone, &message)))
+    if (code == EXIT_DONE && (!parse_power_loss(&option[KEEP], &option[SEED], &loss, &list, &message) ||
+                              !parse_undone(&option[UNDO], option[CACHED_RESETS].given, &loss, &undone, &message)))
         code = usage_error(argv[0], "%s", message.text);
     if (code == EXIT_DONE)
         code = lose_power_and_save(&driver, &loss);

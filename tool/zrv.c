@@ -61,8 +61,10 @@ static const struct command commands[] = {
      "  --keep D:Z=N,..   the first N sectors of physical zone Z of drive D, a list; nothing of the others\n"
      "  --seed N          the seed for random\n"
      "  --undo all        drives that cache a zone reset until they are flushed: every reset that is still in a cache is undone, and --keep speaks of\n"
-     "                    what the zone held before it. Without --undo every reset lasts\n"
-     "  --undo D:Z,..     of physical zone Z of drive D, a list\n"},
+     "                    what the zone held before it. Without --undo and --cached-resets every reset lasts\n"
+     "  --undo D:Z,..     of physical zone Z of drive D, a list\n"
+     "  --cached-resets   such drives, where --keep speaks of resets too: none undoes every reset that is still in a cache, all undoes none, random\n"
+     "                    undoes each by chance, drive by drive and zone by zone. Not with --undo, nor with a list of --keep\n"},
     {"pull", pull_main, "take a drive out", "FOLDER --drive N",
      "Renames the drive's file to drive-N.pulled. The drive is given up: it is not used again, even if the file comes back.\n"
      "  --drive N         the drive\n"},

@@ -8,11 +8,11 @@ ghost use Prim.Native.Nat.{_+_, _*_, _-_, _≤_, _<_};
 ghost use lib.ListN.{length, take, drop, replicate};
 ghost use Rattle.tables.specs.meaning.Geometry.{Valid, stripeSectors, zoneSectors};
 ghost use Rattle.tables.specs.meaning.LittleEndian.{bytesLE, sameBytes};
-ghost use Rattle.logs.specs.code.Lays.{headSame};
+ghost use Rattle.logs.specs.code.Lays.{headSame, zerosFrom, zeroWords};
 ghost use Rattle.logs.specs.code.Judge.{found};
-ghost use Rattle.logs.specs.code.JudgeMore.{labelSame};
+ghost use Rattle.logs.specs.code.JudgeMore.{labelSame, asCounters};
 ghost use Rattle.logs.specs.code.WalkCode.{rowsSeen, badSeen};
-ghost use Rattle.logs.specs.meaning.Entry.{markBytes, decode, fitsLog, kindOf, frame, zoneReset, partialParity, seal};
+ghost use Rattle.logs.specs.meaning.Entry.{markBytes, encode, decode, fitsLog, kindOf, frame, label, zoneReset, partialParity, seal};
 
 // Whether the eight bytes from `at` say n.
 fn same_u64(s: &[u8], at: usize, n: u64) -> bool
@@ -30,10 +30,22 @@ fn same_u32(s: &[u8], at: usize, n: u32) -> bool
     tables::bytes::read_u32(s, at) == n
 }
 
-// Whether all bytes from `at` on are zero.
-fn zeros_from(s: &[u8], at: usize) -> bool
+// Whether the 32 bytes from `at` are zero.
+fn zero_words(s: &[u8], at: usize) -> bool
+    requires { ⌜ at + 32 ≤ length (now s) ⌝ }
+    ensures { λ r. ⌜ r ≡ zeroWords (now (s .entry)) at ⌝ }
+{
+    let a = same_u64(s, at, 0);
+    let b = same_u64(s, at + 8, 0);
+    let c = same_u64(s, at + 16, 0);
+    let d = same_u64(s, at + 24, 0);
+    a & (b & (c & d))
+}
+
+// Whether all bytes from `at` on are zero, byte by byte.
+fn zero_bytes(s: &[u8], at: usize) -> bool
     requires { ⌜ at ≤ length (now s) ⌝ }
-    ensures { λ r. ⌜ r ≡ sameBytes (replicate (length (now (s .entry)) - at) 0) (drop at (now (s .entry))) ⌝ }
+    ensures { λ r. ⌜ r ≡ zerosFrom (now (s .entry)) at ⌝ }
 {
     let n = s.len();
     let mut i = at;
@@ -44,6 +56,23 @@ fn zeros_from(s: &[u8], at: usize) -> bool
         i += 1;
     }
     true
+}
+
+// Whether all bytes from `at` on are zero, 32 at a time.
+fn zeros_from(s: &[u8], at: usize) -> bool
+    requires { ⌜ at ≤ length (now s) ⌝ }
+    ensures { λ r. ⌜ r ≡ zerosFrom (now (s .entry)) at ⌝ }
+{
+    let n = s.len();
+    let mut i = at;
+    while 32 <= n - i {
+        let zero = zero_words(s, i);
+        if !zero {
+            return false;
+        }
+        i += 32;
+    }
+    zero_bytes(s, i)
 }
 
 // Whether the first eight bytes are the mark, this type, version 1 and zeros.
@@ -76,8 +105,10 @@ fn is_span(s: &[u8], kind: u8, start: u64, end: u64, generation: u64) -> bool
     ensures { λ r. ⌜ r ≡ sameBytes (frame kind start end generation (replicate (length (now (s .entry)) - 32) 0)) (now (s .entry)) ⌝ }
 {
     let a = is_frame(s, kind, start, end, generation);
-    let b = zeros_from(s, 32);
-    a & b
+    if !a {
+        return false;
+    }
+    zeros_from(s, 32)
 }
 
 // Type 3 stands in the general log, on the drives of the first unit and of parity of its zone's stripe 0.
@@ -149,6 +180,26 @@ fn names_label(s: &[u8], g: Geometry, drive: usize, lost: usize) -> bool
                     & ((lost == b4) & ((0 == s[37]) & ((0 == s[38]) & (0 == s[39])))))))
 }
 
+// Whether all bytes are those of this drive's label.
+fn is_label(s: &[u8], g: Geometry, drive: usize, lost: usize, array: u64) -> bool
+    requires { ⌜ Valid g ⌝ }
+    requires { ⌜ length (now s) ≡ g .sector ⌝ }
+    ensures { λ r. ⌜ r ≡ sameBytes (encode g drive (label lost array)) (now (s .entry)) ⌝ }
+{
+    let l = g.zones;
+    let c = g.capacity;
+    let t1 = is_frame(s, 1, 0, 0, 0);
+    let t2 = names_label(s, g, drive, lost);
+    let t3 = same_u32(s, 40, c as u32);
+    let t4 = same_u32(s, 44, (l + tables::DATA_ZONES) as u32);
+    let t5 = same_u64(s, 48, array);
+    let front = t1 & (t2 & (t3 & (t4 & t5)));
+    if !front {
+        return false;
+    }
+    zeros_from(s, 56)
+}
+
 // Type 1, or any other byte 3.
 fn judge_label(s: &[u8], g: Geometry, drive: usize, parity: bool) -> Found
     requires { ⌜ Valid g ⌝ }
@@ -157,24 +208,30 @@ fn judge_label(s: &[u8], g: Geometry, drive: usize, parity: bool) -> Found
 {
     let lost = byte_value(s[36]);
     let array = tables::bytes::read_u64(s, 48);
-    let l = g.zones;
-    let c = g.capacity;
     let d = g.drives;
-    let t1 = is_frame(s, 1, 0, 0, 0);
-    let t2 = names_label(s, g, drive, lost);
-    let t3 = same_u32(s, 40, c as u32);
-    let t4 = same_u32(s, 44, (l + tables::DATA_ZONES) as u32);
-    let t5 = same_u64(s, 48, array);
-    let t6 = zeros_from(s, 56);
-    let ok = t1 & (t2 & (t3 & (t4 & (t5 & t6))));
     let fit = !parity & ((lost < d) | (lost == 255));
     if !fit {
         return Found::Bad;
     }
+    let ok = is_label(s, g, drive, lost, array);
     if !ok {
         return Found::Bad;
     }
     Found::Label(lost, array)
+}
+
+// Whether all bytes are those of counters.
+fn is_counters(s: &[u8], g: Geometry, drive: usize) -> bool
+    requires { ⌜ Valid g ⌝ }
+    requires { ⌜ length (now s) ≡ g .sector ⌝ }
+    ensures { λ r. ⌜ r ≡ sameBytes (encode g drive (asCounters g (now (s .entry)))) (now (s .entry)) ⌝ }
+{
+    let l = g.zones;
+    let a = is_frame(s, 2, 0, 0, 0);
+    if !a {
+        return false;
+    }
+    zeros_from(s, 32 + 8 * l)
 }
 
 // Type 2. Its numbers may be any, so they say nothing.
@@ -183,13 +240,10 @@ fn judge_counters(s: &[u8], g: Geometry, drive: usize, parity: bool) -> Found
     requires { ⌜ (length (now s) ≡ g .sector) × (kindOf (now s) ≡ 2) ⌝ }
     ensures { λ r. ⌜ r ≡ found (decode g drive parity (now (s .entry))) ⌝ }
 {
-    let l = g.zones;
-    let a = is_frame(s, 2, 0, 0, 0);
-    let b = zeros_from(s, 32 + 8 * l);
-    let ok = a & b;
     if parity {
         return Found::Bad;
     }
+    let ok = is_counters(s, g, drive);
     if !ok {
         return Found::Bad;
     }
@@ -277,11 +331,11 @@ fn judge_closing(s: &[u8], g: Geometry, drive: usize, parity: bool) -> Found
     let own = super::headers::kind_of_log(parity);
     let kind = tables::bytes::read_u64(s, 8);
     let generation = tables::bytes::read_u64(s, 24);
-    let ok = is_span(s, 6, kind, 0, generation);
     let fit = (kind == own) & (0 < generation);
     if !fit {
         return Found::Bad;
     }
+    let ok = is_span(s, 6, kind, 0, generation);
     if !ok {
         return Found::Bad;
     }

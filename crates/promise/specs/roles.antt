@@ -9,4 +9,5 @@ pub mod ReadsSectors
 pub mod Roled
 pub mod RoledCalls
 pub mod SamePlaces
+pub mod SameZones
 pub mod Spares

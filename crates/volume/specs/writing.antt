@@ -1,5 +1,7 @@
+pub mod OwnStores
 pub mod RunSeen
 pub mod WriteChecks
+pub mod WriteDirectly
 pub mod WriteMade
 pub mod WriteRoom
 pub mod WriteRun

@@ -11,7 +11,7 @@ ghost use Rattle.tables.specs.meaning.Below.{eachBelow};
 ghost use Rattle.tables.specs.meaning.Tables.{tablesOf};
 ghost use Rattle.tables.specs.laws.Made.{Made};
 ghost use Rattle.volume.specs.emptying.Emptyings.{EmptyingReady, emptiedOn, newGeneralOn};
-ghost use Rattle.volume.specs.emptying.ParityEmptyings.{ParityKnown, newParityOn};
+ghost use Rattle.volume.specs.emptying.ParityEmptyings.{ParityKnown, TurnReady, newParityOn};
 ghost use Rattle.volume.specs.emptying.ParityTurns.{ParitiesReady, parityCopiesOn, ParitiesEmptied};
 
 // Which logs are emptied: where all logs lay and where they lie afterwards, the drives that are here, those whose log is emptied, and the generations of
@@ -95,54 +95,7 @@ pub fn empty_generals(
     rest
 }
 
-// A drive's parity log, if it is one of them, by the generations and pointers in force.
-pub fn empty_parity_on(
-    sectors: &mut [u8],
-    written: &mut [u32],
-    durable: &mut [u32],
-    pointers: &[u32],
-    all: Emptyings,
-    generations: &[u64],
-    points: &[usize],
-    drive: usize,
-    budget: u64,
-) -> u64
-    requires { ⌜ Valid (all .from) ⌝ }
-    requires { ⌜ EmptyingReady true all (now pointers) (now sectors) (now written) (now durable) × ParityKnown all (now generations) (now points) (now pointers) (now sectors) (now written) drive ⌝ }
-    ensures { λ r. ⌜ Made (all .to) budget r (emptiedOn all true (newParityOn all (now (generations .entry)) (now (points .entry)) (now (sectors .entry)) (now (pointers .entry)) drive) drive)
-        (tablesOf (now (sectors .entry)) (now (written .entry)) (now (durable .entry))) (tablesOf (now (sectors .exit)) (now (written .exit)) (now (durable .exit))) ⌝ }
-{
-    let emptied = all.emptied;
-    let due = emptied[drive];
-    if !due {
-        return budget;
-    }
-    let from = all.from;
-    let to = all.to;
-    let here = all.here;
-    let closing = all.generations;
-    let generation = closing[drive];
-    let e = Emptying {
-        from,
-        to,
-        here,
-        drive,
-        generation,
-    };
-    super::emptying_parity::empty_parity(
-        sectors,
-        written,
-        durable,
-        pointers,
-        pointers,
-        e,
-        generations,
-        points,
-        budget,
-    )
-}
-
-// A drive's parity log in a mount, if it is one of them: values are read below `pointers`, the old log below `starts`.
+// A drive's parity log, if it is one of them, by the generations and pointers in force: values are read below `pointers`, the old log below `starts`.
 fn empty_parity_at(
     sectors: &mut [u8],
     written: &mut [u32],
@@ -156,7 +109,7 @@ fn empty_parity_at(
     budget: u64,
 ) -> u64
     requires { ⌜ Valid (all .from) ⌝ }
-    requires { ⌜ ParitiesReady all (now generations) (now points) (now pointers) (now starts) (now sectors) (now written) (now durable) × (drive < all .from .drives) ⌝ }
+    requires { ⌜ TurnReady all (now generations) (now points) (now pointers) (now starts) (now sectors) (now written) (now durable) drive ⌝ }
     ensures { λ r. ⌜ Made (all .to) budget r (emptiedOn all true (parityCopiesOn all (now (generations .entry)) (now (points .entry)) (now (pointers .entry)) (now (starts .entry)) (now (sectors .entry)) drive) drive)
         (tablesOf (now (sectors .entry)) (now (written .entry)) (now (durable .entry))) (tablesOf (now (sectors .exit)) (now (written .exit)) (now (durable .exit))) ⌝ }
 {
@@ -186,6 +139,37 @@ fn empty_parity_at(
         e,
         generations,
         points,
+        budget,
+    )
+}
+
+// The same outside a mount: all is read below `pointers`.
+pub fn empty_parity_on(
+    sectors: &mut [u8],
+    written: &mut [u32],
+    durable: &mut [u32],
+    pointers: &[u32],
+    all: Emptyings,
+    generations: &[u64],
+    points: &[usize],
+    drive: usize,
+    budget: u64,
+) -> u64
+    requires { ⌜ Valid (all .from) ⌝ }
+    requires { ⌜ EmptyingReady true all (now pointers) (now sectors) (now written) (now durable) × ParityKnown all (now generations) (now points) (now pointers) (now sectors) (now written) drive ⌝ }
+    ensures { λ r. ⌜ Made (all .to) budget r (emptiedOn all true (newParityOn all (now (generations .entry)) (now (points .entry)) (now (sectors .entry)) (now (pointers .entry)) drive) drive)
+        (tablesOf (now (sectors .entry)) (now (written .entry)) (now (durable .entry))) (tablesOf (now (sectors .exit)) (now (written .exit)) (now (durable .exit))) ⌝ }
+{
+    empty_parity_at(
+        sectors,
+        written,
+        durable,
+        pointers,
+        pointers,
+        all,
+        generations,
+        points,
+        drive,
         budget,
     )
 }

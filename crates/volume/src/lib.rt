@@ -33,6 +33,7 @@ pub mod resetting;
 pub mod roles;
 pub mod rows;
 pub mod write_checks;
+pub mod write_directly;
 pub mod write_room;
 pub mod write_stores;
 pub mod writing;

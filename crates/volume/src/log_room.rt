@@ -12,7 +12,7 @@ ghost use lib.Dec.{ltb};
 ghost use Rattle.tables.specs.meaning.Basics.{pick};
 ghost use Rattle.tables.specs.meaning.Geometry.{Valid, cells};
 ghost use Rattle.volume.specs.meaning.CallContracts.{isSet};
-ghost use Rattle.volume.specs.checks.LogRoom.{Asking, kindLacksAt, unusedAt, lacksAt, claimAt, lostAt, driveRoomOf, roomOf, emptyingsOf, generalRoomAt, parityRoomAt};
+ghost use Rattle.volume.specs.checks.LogRoom.{Asking, kindLacksAt, unusedAt, lacksAt, claimAt, lostAt, driveRoomOf, unsizedAt, noAnswers, withAnswer, roomOf, emptyingsOf, generalRoomAt, parityRoomAt};
 ghost use Rattle.volume.specs.emptying.ParityCopies.{PointersWithin};
 
 // What a call asks of the logs of a kind: so many sectors unused on every drive that is due. The geometry of the tables, where the logs lie in it, the drives
@@ -132,6 +132,29 @@ fn new_log(
     }
 }
 
+// A drive's answer before the size of its new log is known.
+fn room_unsized(
+    sectors: &[u8],
+    written: &[u32],
+    pointers: &[u32],
+    asked: RoomAsked,
+    drive: usize,
+) -> DriveRoom
+    requires { ⌜ Valid (asked .first) ⌝ }
+    requires { ⌜ Asking asked (now sectors) (now written) (now pointers) × (drive < asked .first .drives) ⌝ }
+    ensures { λ r. ⌜ r ≡ unsizedAt asked (now (sectors .entry)) (now (written .entry)) (now (pointers .entry)) drive ⌝ }
+{
+    let lacks = lacks_room(pointers, asked, drive);
+    if !lacks {
+        return DriveRoom {
+            lacks: false,
+            full: false,
+            generation: 0,
+        };
+    }
+    new_log(sectors, written, pointers, asked, drive)
+}
+
 // The same with the size that the new log has.
 fn with_size(room: DriveRoom, capacity: usize, limit: usize, size: usize) -> DriveRoom
     ensures { λ r. ⌜ r ≡ pick (ltb (capacity - size) limit) (driveRoomOf true true 0) room ⌝ }
@@ -147,6 +170,34 @@ fn with_size(room: DriveRoom, capacity: usize, limit: usize, size: usize) -> Dri
     room
 }
 
+// No drive has answered yet.
+fn no_answers() -> LogRoom
+    ensures { λ r. ⌜ r ≡ noAnswers ⌝ }
+{
+    LogRoom {
+        full: false,
+        emptied: [false; 8],
+        generations: [0u64; 8],
+    }
+}
+
+// The answers with that of one more drive.
+fn with_answer(all: LogRoom, drive: usize, room: DriveRoom) -> LogRoom
+    requires { ⌜ drive < 8 ⌝ }
+    ensures { λ r. ⌜ r ≡ withAnswer all drive room ⌝ }
+{
+    let full = all.full | room.full;
+    let mut emptied = all.emptied;
+    let mut generations = all.generations;
+    emptied[drive] = room.lacks;
+    generations[drive] = room.generation;
+    LogRoom {
+        full,
+        emptied,
+        generations,
+    }
+}
+
 // A drive's answer for its general log, by the generations in force.
 fn general_on(
     sectors: &[u8],
@@ -160,17 +211,10 @@ fn general_on(
     requires { ⌜ Asking asked (now sectors) (now written) (now pointers) × (drive < asked .first .drives) × (asked .first .zones ≤ length (now generations)) ⌝ }
     ensures { λ r. ⌜ r ≡ generalRoomAt asked (now (generations .entry)) (now (sectors .entry)) (now (written .entry)) (now (pointers .entry)) drive ⌝ }
 {
-    let lacks = lacks_room(pointers, asked, drive);
-    if !lacks {
-        return DriveRoom {
-            lacks: false,
-            full: false,
-            generation: 0,
-        };
-    }
-    let room = new_log(sectors, written, pointers, asked, drive);
+    let room = room_unsized(sectors, written, pointers, asked, drive);
+    let lacks = room.lacks;
     let full = room.full;
-    if full {
+    if full | !lacks {
         return room;
     }
     let places = asked.places;
@@ -195,22 +239,14 @@ pub fn general_room(
 {
     let g = asked.first;
     let n = g.drives;
-    let mut full = false;
-    let mut emptied = [false; 8];
-    let mut next = [0u64; 8];
+    let mut all = no_answers();
     let mut d = 0;
     while d < n {
         let room = general_on(sectors, written, pointers, asked, generations, d);
-        full = full | room.full;
-        emptied[d] = room.lacks;
-        next[d] = room.generation;
+        all = with_answer(all, d, room);
         d += 1;
     }
-    LogRoom {
-        full,
-        emptied,
-        generations: next,
-    }
+    all
 }
 
 // The emptyings of the logs that lack room, none of which stays full.
@@ -247,17 +283,10 @@ fn parity_on(
     requires { ⌜ Asking asked (now sectors) (now written) (now pointers) × (drive < asked .first .drives) × PointersWithin (asked .first) (now points) ⌝ }
     ensures { λ r. ⌜ r ≡ parityRoomAt asked (now (points .entry)) (now (sectors .entry)) (now (written .entry)) (now (pointers .entry)) drive ⌝ }
 {
-    let lacks = lacks_room(pointers, asked, drive);
-    if !lacks {
-        return DriveRoom {
-            lacks: false,
-            full: false,
-            generation: 0,
-        };
-    }
-    let room = new_log(sectors, written, pointers, asked, drive);
+    let room = room_unsized(sectors, written, pointers, asked, drive);
+    let lacks = room.lacks;
     let full = room.full;
-    if full {
+    if full | !lacks {
         return room;
     }
     let g = asked.first;
@@ -281,20 +310,12 @@ pub fn parity_room(
 {
     let g = asked.first;
     let n = g.drives;
-    let mut full = false;
-    let mut emptied = [false; 8];
-    let mut next = [0u64; 8];
+    let mut all = no_answers();
     let mut d = 0;
     while d < n {
         let room = parity_on(sectors, written, pointers, asked, points, d);
-        full = full | room.full;
-        emptied[d] = room.lacks;
-        next[d] = room.generation;
+        all = with_answer(all, d, room);
         d += 1;
     }
-    LogRoom {
-        full,
-        emptied,
-        generations: next,
-    }
+    all
 }

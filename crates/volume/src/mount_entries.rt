@@ -21,7 +21,7 @@ ghost use Rattle.volume.specs.meaning.Rules.{parityEntries};
 ghost use Rattle.volume.specs.meaning.CallContracts.{isSet};
 ghost use Rattle.volume.specs.rows.RowStores.{rowsIf};
 ghost use Rattle.volume.specs.mounting.MountLook.{zoneLook, LookWithin};
-ghost use Rattle.volume.specs.mounting.MountValues.{shownAt};
+ghost use Rattle.volume.specs.mounting.MountValues.{shownBy};
 ghost use Rattle.volume.specs.mounting.MountReady.{Appending};
 ghost use Rattle.volume.specs.mounting.MountLastEntries.{Entering, entryDue, newEntry, zoneEntryStores, entryStoresBelow};
 ghost use Rattle.volume.specs.looking.Knowing.{readDevice};
@@ -86,7 +86,9 @@ pub fn append_entry_rows(
     requires { ⌜ Valid (basis .geometry) ⌝ }
     requires { ⌜ (entry .drive < basis .geometry .drives) × (entry .zone < basis .geometry .zones) × (entry .stripe * stripeSectors (basis .geometry) + entry .fill ≤ zoneLook (basis .look) (entry .zone) .pointer) × (entry .from ≤ min (entry .fill) (basis .geometry .unit))
         × Appending (basis .geometry) to (basis .here) (basis .look) parityZone (now pointers) (now sectors) (now written) ⌝ }
-    ensures { λ r. ⌜ MadeAppends to budget r (rowsIf true (entry .drive) parityZone (rowXorBelow (basis .geometry .drives) (basis .geometry .unit) (shownAt (basis .geometry) (basis .here) (basis .look) (now (sectors .entry)) (now (pointers .entry)) .zone (entry .zone) .value) (entry .stripe) (entry .stripe * stripeSectors (basis .geometry) + entry .fill)) (entry .from) (min (entry .fill) (basis .geometry .unit))) (now (sectors .entry)) (now (written .entry)) (now (sectors .exit)) (now (written .exit)) ⌝ }
+    ensures { λ r. ⌜ MadeAppends to budget r
+        (rowsIf true (entry .drive) parityZone
+        (rowXorBelow (basis .geometry .drives) (basis .geometry .unit) (shownBy basis (now (sectors .entry)) (now (pointers .entry)) .zone (entry .zone) .value) (entry .stripe) (entry .stripe * stripeSectors (basis .geometry) + entry .fill)) (entry .from) (min (entry .fill) (basis .geometry .unit))) (now (sectors .entry)) (now (written .entry)) (now (sectors .exit)) (now (written .exit)) ⌝ }
 {
     let g = basis.geometry;
     let z = entry.zone;
@@ -132,7 +134,7 @@ fn append_entry(
     requires { ⌜ Valid (basis .geometry) ⌝ }
     requires { ⌜ (drive < basis .geometry .drives) × (z < basis .geometry .zones) × (stripeOf (basis .geometry .drives) (basis .geometry .unit) (zoneLook (basis .look) z .pointer) * stripeSectors (basis .geometry) < zoneLook (basis .look) z .pointer)
         × Appending (basis .geometry) to (basis .here) (basis .look) parityZone (now pointers) (now sectors) (now written) ⌝ }
-    ensures { λ r. ⌜ MadeAppends to budget r (newEntry (basis .geometry) (shownAt (basis .geometry) (basis .here) (basis .look) (now (sectors .entry)) (now (pointers .entry))) drive z) (now (sectors .entry)) (now (written .entry)) (now (sectors .exit)) (now (written .exit)) ⌝ }
+    ensures { λ r. ⌜ MadeAppends to budget r (newEntry (basis .geometry) (shownBy basis (now (sectors .entry)) (now (pointers .entry))) drive z) (now (sectors .entry)) (now (written .entry)) (now (sectors .exit)) (now (written .exit)) ⌝ }
 {
     let g = basis.geometry;
     let look = basis.look;
@@ -179,7 +181,8 @@ fn log_entry(
 ) -> u64
     requires { ⌜ Valid (basis .geometry) ⌝ }
     requires { ⌜ (drive < basis .geometry .drives) × (z < basis .geometry .zones) × Entering (basis .geometry) to (basis .here) (basis .look) (now pointers) (now starts) (now sectors) (now written) ⌝ }
-    ensures { λ r. ⌜ MadeAppends to budget r (onPresent (isSet (basis .here)) (zoneEntryStores (basis .geometry) (basis .look) (shownAt (basis .geometry) (basis .here) (basis .look) (now (sectors .entry)) (now (pointers .entry))) (parityEntries to (readDevice to (now (sectors .entry)) (now (starts .entry))) drive) drive z)) (now (sectors .entry)) (now (written .entry)) (now (sectors .exit)) (now (written .exit)) ⌝ }
+    ensures { λ r. ⌜ MadeAppends to budget r
+        (onPresent (isSet (basis .here)) (zoneEntryStores (basis .geometry) (basis .look) (shownBy basis (now (sectors .entry)) (now (pointers .entry))) (parityEntries to (readDevice to (now (sectors .entry)) (now (starts .entry))) drive) drive z)) (now (sectors .entry)) (now (written .entry)) (now (sectors .exit)) (now (written .exit)) ⌝ }
 {
     let here = basis.here;
     let look = basis.look;
@@ -207,7 +210,8 @@ fn log_drive(
 ) -> u64
     requires { ⌜ Valid (basis .geometry) ⌝ }
     requires { ⌜ (drive < basis .geometry .drives) × Entering (basis .geometry) to (basis .here) (basis .look) (now pointers) (now starts) (now sectors) (now written) ⌝ }
-    ensures { λ r. ⌜ MadeAppends to budget r (onPresent (isSet (basis .here)) (eachBelow (zoneEntryStores (basis .geometry) (basis .look) (shownAt (basis .geometry) (basis .here) (basis .look) (now (sectors .entry)) (now (pointers .entry))) (parityEntries to (readDevice to (now (sectors .entry)) (now (starts .entry))) drive) drive) (basis .geometry .zones))) (now (sectors .entry)) (now (written .entry)) (now (sectors .exit)) (now (written .exit)) ⌝ }
+    ensures { λ r. ⌜ MadeAppends to budget r
+        (onPresent (isSet (basis .here)) (eachBelow (zoneEntryStores (basis .geometry) (basis .look) (shownBy basis (now (sectors .entry)) (now (pointers .entry))) (parityEntries to (readDevice to (now (sectors .entry)) (now (starts .entry))) drive) drive) (basis .geometry .zones))) (now (sectors .entry)) (now (written .entry)) (now (sectors .exit)) (now (written .exit)) ⌝ }
 {
     let g = basis.geometry;
     let n = g.zones;
@@ -242,7 +246,8 @@ pub fn log_entries(
 ) -> u64
     requires { ⌜ Valid (basis .geometry) ⌝ }
     requires { ⌜ Entering (basis .geometry) to (basis .here) (basis .look) (now pointers) (now starts) (now sectors) (now written) ⌝ }
-    ensures { λ r. ⌜ MadeAppends to budget r (onPresent (isSet (basis .here)) (entryStoresBelow (basis .geometry) (basis .look) (shownAt (basis .geometry) (basis .here) (basis .look) (now (sectors .entry)) (now (pointers .entry))) (parityEntries to (readDevice to (now (sectors .entry)) (now (starts .entry)))) (basis .geometry .drives))) (now (sectors .entry)) (now (written .entry)) (now (sectors .exit)) (now (written .exit)) ⌝ }
+    ensures { λ r. ⌜ MadeAppends to budget r
+        (onPresent (isSet (basis .here)) (entryStoresBelow (basis .geometry) (basis .look) (shownBy basis (now (sectors .entry)) (now (pointers .entry))) (parityEntries to (readDevice to (now (sectors .entry)) (now (starts .entry)))) (basis .geometry .drives))) (now (sectors .entry)) (now (written .entry)) (now (sectors .exit)) (now (written .exit)) ⌝ }
 {
     let g = basis.geometry;
     let m = g.drives;

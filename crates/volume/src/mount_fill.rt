@@ -13,7 +13,7 @@ ghost use Rattle.tables.specs.laws.Made.{MadeAppends, storeIf};
 ghost use Rattle.volume.specs.meaning.Content.{contentAt};
 ghost use Rattle.volume.specs.meaning.CallContracts.{isSet};
 ghost use Rattle.volume.specs.rows.RowStores.{rowsIf};
-ghost use Rattle.volume.specs.mounting.MountValues.{shownAt};
+ghost use Rattle.volume.specs.mounting.MountValues.{shownBy};
 ghost use Rattle.volume.specs.mounting.MountRestoring.{Filling};
 ghost use Rattle.volume.specs.mounting.MountReady.{ZoneReady, valuesIn};
 ghost use Rattle.volume.specs.mounting.MountFillOn.{fillZone, fillDrives};
@@ -35,23 +35,9 @@ fn append_value(
 {
     let to = known.to;
     let g = known.geometry;
-    let here = known.here;
-    let z = known.zone;
-    let generation = known.generation;
-    let limit = known.limit;
     let b = g.sector;
     let mut value = [0u8; 4096];
-    super::knowing::sector_value(
-        sectors,
-        pointers,
-        g,
-        here,
-        z,
-        generation,
-        limit,
-        a,
-        &mut value[..b],
-    );
+    super::rows::known_value(sectors, pointers, known, a, &mut value[..b]);
     let present = target.present;
     let drive = target.drive;
     let zone = target.zone;
@@ -144,7 +130,8 @@ fn fill_zone(
 ) -> u64
     requires { ⌜ Valid (basis .geometry) ⌝ }
     requires { ⌜ (drive < basis .geometry .drives) × (z < basis .geometry .zones) × Filling (basis .geometry) (basis .here) (basis .look) (now pointers) (now sectors) (now written) ⌝ }
-    ensures { λ r. ⌜ MadeAppends (basis .geometry) budget r (onPresent (isSet (basis .here)) (fillZone (basis .geometry) (shownAt (basis .geometry) (basis .here) (basis .look) (now (sectors .entry)) (now (pointers .entry))) (readDevice (basis .geometry) (now (sectors .entry)) (now (pointers .entry))) drive z)) (now (sectors .entry)) (now (written .entry)) (now (sectors .exit)) (now (written .exit)) ⌝ }
+    ensures { λ r. ⌜ MadeAppends (basis .geometry) budget r
+        (onPresent (isSet (basis .here)) (fillZone (basis .geometry) (shownBy basis (now (sectors .entry)) (now (pointers .entry))) (readDevice (basis .geometry) (now (sectors .entry)) (now (pointers .entry))) drive z)) (now (sectors .entry)) (now (written .entry)) (now (sectors .exit)) (now (written .exit)) ⌝ }
 {
     let g = basis.geometry;
     let here = basis.here;
@@ -181,7 +168,8 @@ fn fill_drive(
 ) -> u64
     requires { ⌜ Valid (basis .geometry) ⌝ }
     requires { ⌜ (drive < basis .geometry .drives) × Filling (basis .geometry) (basis .here) (basis .look) (now pointers) (now sectors) (now written) ⌝ }
-    ensures { λ r. ⌜ MadeAppends (basis .geometry) budget r (onPresent (isSet (basis .here)) (eachBelow (fillZone (basis .geometry) (shownAt (basis .geometry) (basis .here) (basis .look) (now (sectors .entry)) (now (pointers .entry))) (readDevice (basis .geometry) (now (sectors .entry)) (now (pointers .entry))) drive) (basis .geometry .zones))) (now (sectors .entry)) (now (written .entry)) (now (sectors .exit)) (now (written .exit)) ⌝ }
+    ensures { λ r. ⌜ MadeAppends (basis .geometry) budget r
+        (onPresent (isSet (basis .here)) (eachBelow (fillZone (basis .geometry) (shownBy basis (now (sectors .entry)) (now (pointers .entry))) (readDevice (basis .geometry) (now (sectors .entry)) (now (pointers .entry))) drive) (basis .geometry .zones))) (now (sectors .entry)) (now (written .entry)) (now (sectors .exit)) (now (written .exit)) ⌝ }
 {
     let g = basis.geometry;
     let n = g.zones;
@@ -204,7 +192,8 @@ pub fn fill_drives(
 ) -> u64
     requires { ⌜ Valid (basis .geometry) ⌝ }
     requires { ⌜ Filling (basis .geometry) (basis .here) (basis .look) (now pointers) (now sectors) (now written) ⌝ }
-    ensures { λ r. ⌜ MadeAppends (basis .geometry) budget r (onPresent (isSet (basis .here)) (fillDrives (basis .geometry) (shownAt (basis .geometry) (basis .here) (basis .look) (now (sectors .entry)) (now (pointers .entry))) (readDevice (basis .geometry) (now (sectors .entry)) (now (pointers .entry))) (basis .geometry .drives))) (now (sectors .entry)) (now (written .entry)) (now (sectors .exit)) (now (written .exit)) ⌝ }
+    ensures { λ r. ⌜ MadeAppends (basis .geometry) budget r
+        (onPresent (isSet (basis .here)) (fillDrives (basis .geometry) (shownBy basis (now (sectors .entry)) (now (pointers .entry))) (readDevice (basis .geometry) (now (sectors .entry)) (now (pointers .entry))) (basis .geometry .drives))) (now (sectors .entry)) (now (written .entry)) (now (sectors .exit)) (now (written .exit)) ⌝ }
 {
     let g = basis.geometry;
     let m = g.drives;

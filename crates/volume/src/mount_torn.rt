@@ -20,7 +20,7 @@ ghost use Rattle.volume.specs.meaning.Calls.{appendAll};
 ghost use Rattle.volume.specs.meaning.Mount.{rowFor};
 ghost use Rattle.volume.specs.meaning.CallContracts.{isSet};
 ghost use Rattle.volume.specs.rows.RowStores.{rowsIf};
-ghost use Rattle.volume.specs.mounting.MountValues.{shownAt};
+ghost use Rattle.volume.specs.mounting.MountValues.{shownBy};
 ghost use Rattle.volume.specs.mounting.MountRestoring.{Filling};
 ghost use Rattle.volume.specs.mounting.MountTornLogs.{missingSeen, TornFits, tornStores, zeroRow};
 ghost use Rattle.volume.specs.looking.Knowing.{readDevice};
@@ -87,7 +87,8 @@ fn complete_rows(
     requires { ⌜ Valid (basis .geometry) ⌝ }
     requires { ⌜ (entry .drive < basis .geometry .drives) × (entry .zone < basis .geometry .zones) × (entry .stripe * stripeSectors (basis .geometry) + entry .fill ≤ zoneSectors (basis .geometry)) × (entry .from ≤ min (entry .fill) (basis .geometry .unit))
         × Filling (basis .geometry) (basis .here) (basis .look) (now pointers) (now sectors) (now written) ⌝ }
-    ensures { λ r. ⌜ MadeAppends (basis .geometry) budget r (rowsIf true (entry .drive) parityZone (rowFor (basis .geometry) (shownAt (basis .geometry) (basis .here) (basis .look) (now (sectors .entry)) (now (pointers .entry)) .zone (entry .zone)) (entry .stripe) (entry .fill) n) (entry .from) (min (entry .fill) (basis .geometry .unit))) (now (sectors .entry)) (now (written .entry)) (now (sectors .exit)) (now (written .exit)) ⌝ }
+    ensures { λ r. ⌜ MadeAppends (basis .geometry) budget r
+        (rowsIf true (entry .drive) parityZone (rowFor (basis .geometry) (shownBy basis (now (sectors .entry)) (now (pointers .entry)) .zone (entry .zone)) (entry .stripe) (entry .fill) n) (entry .from) (min (entry .fill) (basis .geometry .unit))) (now (sectors .entry)) (now (written .entry)) (now (sectors .exit)) (now (written .exit)) ⌝ }
 {
     let g = basis.geometry;
     let look = basis.look;
@@ -124,7 +125,7 @@ fn complete_entry(
     requires { ⌜ Valid (basis .geometry) ⌝ }
     requires { ⌜ (drive < basis .geometry .drives) × Filling (basis .geometry) (basis .here) (basis .look) (now pointers) (now sectors) (now written)
         × TornFits (basis .geometry) f rows ⌝ }
-    ensures { λ r. ⌜ MadeAppends (basis .geometry) budget r (appendAll drive parityZone (missingSeen (basis .geometry) (shownAt (basis .geometry) (basis .here) (basis .look) (now (sectors .entry)) (now (pointers .entry))) f rows)) (now (sectors .entry)) (now (written .entry)) (now (sectors .exit)) (now (written .exit)) ⌝ }
+    ensures { λ r. ⌜ MadeAppends (basis .geometry) budget r (appendAll drive parityZone (missingSeen (basis .geometry) (shownBy basis (now (sectors .entry)) (now (pointers .entry))) f rows)) (now (sectors .entry)) (now (written .entry)) (now (sectors .exit)) (now (written .exit)) ⌝ }
 {
     match f {
         Found::Bad => budget,
@@ -162,7 +163,8 @@ fn complete_log(
 ) -> u64
     requires { ⌜ Valid (basis .geometry) ⌝ }
     requires { ⌜ (drive < basis .geometry .drives) × Filling (basis .geometry) (basis .here) (basis .look) (now pointers) (now sectors) (now written) ⌝ }
-    ensures { λ r. ⌜ MadeAppends (basis .geometry) budget r (onPresent (isSet (basis .here)) (tornStores (basis .geometry) (shownAt (basis .geometry) (basis .here) (basis .look) (now (sectors .entry)) (now (pointers .entry))) (readDevice (basis .geometry) (now (sectors .entry)) (now (pointers .entry))) drive)) (now (sectors .entry)) (now (written .entry)) (now (sectors .exit)) (now (written .exit)) ⌝ }
+    ensures { λ r. ⌜ MadeAppends (basis .geometry) budget r
+        (onPresent (isSet (basis .here)) (tornStores (basis .geometry) (shownBy basis (now (sectors .entry)) (now (pointers .entry))) (readDevice (basis .geometry) (now (sectors .entry)) (now (pointers .entry))) drive)) (now (sectors .entry)) (now (written .entry)) (now (sectors .exit)) (now (written .exit)) ⌝ }
 {
     let g = basis.geometry;
     let here = basis.here;
@@ -190,7 +192,8 @@ pub fn complete_logs(
 ) -> u64
     requires { ⌜ Valid (basis .geometry) ⌝ }
     requires { ⌜ Filling (basis .geometry) (basis .here) (basis .look) (now pointers) (now sectors) (now written) ⌝ }
-    ensures { λ r. ⌜ MadeAppends (basis .geometry) budget r (onPresent (isSet (basis .here)) (eachBelow (tornStores (basis .geometry) (shownAt (basis .geometry) (basis .here) (basis .look) (now (sectors .entry)) (now (pointers .entry))) (readDevice (basis .geometry) (now (sectors .entry)) (now (pointers .entry)))) (basis .geometry .drives))) (now (sectors .entry)) (now (written .entry)) (now (sectors .exit)) (now (written .exit)) ⌝ }
+    ensures { λ r. ⌜ MadeAppends (basis .geometry) budget r
+        (onPresent (isSet (basis .here)) (eachBelow (tornStores (basis .geometry) (shownBy basis (now (sectors .entry)) (now (pointers .entry))) (readDevice (basis .geometry) (now (sectors .entry)) (now (pointers .entry)))) (basis .geometry .drives))) (now (sectors .entry)) (now (written .entry)) (now (sectors .exit)) (now (written .exit)) ⌝ }
 {
     let g = basis.geometry;
     let m = g.drives;

@@ -15,13 +15,13 @@ ghost use Rattle.logs.specs.code.Query.{logHeads};
 ghost use Rattle.logs.specs.meaning.Heads.{firstClosing};
 ghost use Rattle.volume.specs.meaning.CallContracts.{isSet};
 ghost use Rattle.volume.specs.meaning.Roles.{claim, claimOfKind, otherThan, roles, byRoles};
-ghost use Rattle.volume.specs.laws.LogPlaces.{withLogs};
+ghost use Rattle.volume.specs.laws.LogPlaces.{withLogs, withParity};
 ghost use Rattle.volume.specs.laws.LogClaims.{strengths};
 ghost use Rattle.volume.specs.looking.DriveLogs.{Sized};
 ghost use Rattle.volume.specs.looking.Knowing.{readDevice};
 ghost use Rattle.volume.specs.looking.HiddenLogs.{placesOf, hiddenLog, hiddenLogs};
 ghost use Rattle.volume.specs.looking.MovedLogs.{zonesAfter, movedLogs};
-ghost use Rattle.volume.specs.looking.LogZones.{rank, three, movedClaim, homeClaim, countingOf, movedOf, zonesRead, zonesBy, zonesOf};
+ghost use Rattle.volume.specs.looking.LogZones.{rank, three, movedClaim, homeClaim, countingOf, movedOf, ParityClaims, zonesRead, zonesBy, zonesOf};
 
 // A zone as a log of a kind: whether it is one, and of which generation.
 struct Claim {
@@ -38,9 +38,9 @@ struct Moved {
 }
 
 // The counting log of a kind, and whether the drive lacks that kind.
-struct Counting {
-    zone: usize,
-    lacks: bool,
+pub struct Counting {
+    pub zone: usize,
+    pub lacks: bool,
 }
 
 // The zones of a drive's two logs, and which kinds it lacks. A log that lacks has a zone all the same, which says nothing.
@@ -188,7 +188,7 @@ fn general_log(sectors: &[u8], written: &[u32], g: Geometry, drive: usize, moved
 // The parity log that counts.
 fn parity_log(sectors: &[u8], written: &[u32], g: Geometry, drive: usize, moved: Moved) -> Counting
     requires { ⌜ Valid g ⌝ }
-    requires { ⌜ Sized g (now sectors) (now written) × (drive < g .drives) × (moved ≡ movedOf g drive (zonesRead g (now sectors) (now written) drive)) ⌝ }
+    requires { ⌜ Sized g (now sectors) (now written) × (drive < g .drives) × ParityClaims g drive (zonesRead g (now sectors) (now written) drive) moved ⌝ }
     ensures { λ r. ⌜ r ≡ countingOf (strengths g drive (zonesRead g (now (sectors .entry)) (now (written .entry)) drive) true) ⌝ }
 {
     let other = moved.general_in_second;
@@ -226,6 +226,24 @@ fn zones_by(general: Counting, parity: Counting) -> LogZones
         lacks_general,
         lacks_parity,
     }
+}
+
+// The parity log of a drive alone, by the claims that decide on it.
+pub fn find_parity(sectors: &[u8], written: &[u32], g: Geometry, drive: usize) -> Counting
+    requires { ⌜ Valid g ⌝ }
+    requires { ⌜ Sized g (now sectors) (now written) × (drive < g .drives) ⌝ }
+    ensures { λ r. ⌜ r ≡ countingOf (strengths g drive (zonesRead g (now (sectors .entry)) (now (written .entry)) drive) true) ⌝ }
+{
+    let parity_in_first = claim_of(sectors, written, g, drive, 0, true);
+    let general_in_second = claim_of(sectors, written, g, drive, 1, false);
+    let parity_in_third = claim_of(sectors, written, g, drive, 2, true);
+    let moved = Moved {
+        parity_in_first,
+        general_in_second,
+        general_in_third: 0,
+        parity_in_third,
+    };
+    parity_log(sectors, written, g, drive, moved)
 }
 
 // Which zones are a drive's logs.
@@ -285,6 +303,22 @@ fn with_logs(g: Geometry, logs: u64) -> Geometry
         capacity,
         logs,
     }
+}
+
+// A geometry in which one drive's parity log lies in this zone, and all other drives' logs in their first places.
+pub fn place_parity(g: Geometry, drive: usize, zone: usize) -> Geometry
+    requires { ⌜ (zone < 3) × (drive < 8) ⌝ }
+    ensures { λ r. ⌜ r ≡ withParity g drive zone ⌝ }
+{
+    let general = other_than(zone);
+    let zones = LogZones {
+        general,
+        parity: zone,
+        lacks_general: false,
+        lacks_parity: false,
+    };
+    let bits = log_bits(zones, drive);
+    with_logs(g, bits)
 }
 
 // Where the logs of all drives lie.

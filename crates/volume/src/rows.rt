@@ -18,7 +18,7 @@ ghost use Rattle.volume.specs.meaning.Rules.{valueAt};
 ghost use Rattle.volume.specs.meaning.CallContracts.{isSet};
 ghost use Rattle.volume.specs.looking.Knowing.{readDevice, ownHeld, ownSector};
 ghost use Rattle.volume.specs.rows.RowStores.{rowsIf};
-ghost use Rattle.volume.specs.rows.RowsInPlace.{withMember, contentOf, FreePlace, MemberKnown, StripeKnown, RowsReady};
+ghost use Rattle.volume.specs.rows.RowsInPlace.{withMember, contentOf, FreePlace, MemberKnown, StripeKnown, RowsReady, ValueKnown};
 
 // The content of a zone below `end`. Up to `below` it is what is known under a generation, by rule 4; from there on the sectors of a buffer. limit is the
 // zone's least current seal, or any number where every sector that is read is held. Logs are read where `geometry` says they lie, and what is stored
@@ -74,6 +74,20 @@ fn put_held(sectors: &mut [u8], pointers: &[u32], known: Extent, a: usize, to: u
     tables::sectors::xor_within(sectors, to, from, b);
 }
 
+// The value of address a, by what is known of its zone.
+pub fn known_value(sectors: &[u8], pointers: &[u32], known: Extent, a: usize, out: &mut [u8])
+    requires { ⌜ Valid (known .geometry) ⌝ }
+    requires { ⌜ ValueKnown known (now sectors) (now pointers) a × (length (now out) ≡ known .geometry .sector) ⌝ }
+    ensures { λ _. ⌜ now (out .exit) ≡ valueAt (known .geometry) (isSet (known .here)) (readDevice (known .geometry) (now (sectors .entry)) (now (pointers .entry))) (known .zone) (known .generation) a ⌝ }
+{
+    let g = known.geometry;
+    let here = known.here;
+    let z = known.zone;
+    let generation = known.generation;
+    let limit = known.limit;
+    super::knowing::sector_value(sectors, pointers, g, here, z, generation, limit, a, out);
+}
+
 // The same with the value of address a, which lies below `below`.
 fn put_known(sectors: &mut [u8], pointers: &[u32], known: Extent, a: usize, to: usize, first: bool)
     requires { ⌜ Valid (known .geometry) ⌝ }
@@ -88,21 +102,9 @@ fn put_known(sectors: &mut [u8], pointers: &[u32], known: Extent, a: usize, to: 
         put_held(sectors, pointers, known, a, to, first);
         return;
     }
-    let generation = known.generation;
-    let limit = known.limit;
     let b = g.sector;
     let mut value = [0u8; 4096];
-    super::knowing::sector_value(
-        sectors,
-        pointers,
-        g,
-        here,
-        z,
-        generation,
-        limit,
-        a,
-        &mut value[..b],
-    );
+    known_value(sectors, pointers, known, a, &mut value[..b]);
     put(sectors, to, first, &value[..b]);
 }
 

@@ -48,7 +48,7 @@ pub fn entry_drive(g: Geometry, z: usize, end: usize) -> EntryDrive
 }
 
 // The room that it asks for.
-fn write_limit(g: Geometry, end: usize) -> usize
+pub fn write_limit(g: Geometry, end: usize) -> usize
     requires { ⌜ Valid g ⌝ }
     requires { ⌜ end ≤ zoneSectors g ⌝ }
     ensures { λ r. ⌜ r ≡ writeLimit g end ⌝ }

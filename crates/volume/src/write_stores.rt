@@ -15,17 +15,16 @@ ghost use Rattle.tables.specs.meaning.Basics.{pick};
 ghost use Rattle.tables.specs.meaning.Device.{append};
 ghost use Rattle.tables.specs.meaning.Geometry.{Valid, zoneSectors, stripeSectors, cells, totalBytes};
 ghost use Rattle.tables.specs.meaning.Phases.{onPresent};
-ghost use Rattle.tables.specs.meaning.Placement.{stripeOf};
 ghost use Rattle.tables.specs.laws.Made.{MadeAppends, storeIf};
 ghost use Rattle.logs.specs.meaning.Entry.{parityZone, encode, partialParity};
-ghost use Rattle.volume.specs.meaning.Content.{insideStripe, fillOf};
+ghost use Rattle.volume.specs.meaning.Content.{insideStripe};
 ghost use Rattle.volume.specs.meaning.Rules.{sealLimit};
 ghost use Rattle.volume.specs.meaning.Calls.{sectorStores, dataStores, entryStores, writeWith};
 ghost use Rattle.volume.specs.meaning.Answers.{sectorsIn};
 ghost use Rattle.volume.specs.meaning.CallContracts.{isSet};
-ghost use Rattle.volume.specs.looking.Knowing.{Readable, readDevice, allHeld};
+ghost use Rattle.volume.specs.looking.Knowing.{Readable, readDevice};
 ghost use Rattle.volume.specs.rows.RowsInPlace.{contentOf};
-ghost use Rattle.volume.specs.writing.WriteStores.{WriteReady, StoresPast, Writing, runContent};
+ghost use Rattle.volume.specs.writing.WriteStores.{earlierHeld, WriteReady, StoresPast, Writing, runContent};
 
 // One address: its sector, and the stripe's parity if it is the last of its stripe. What is left of the budget of stores.
 fn write_sector(
@@ -203,23 +202,35 @@ fn write_extent(
     write_entry(sectors, written, pointers, buffer, known, rest)
 }
 
-// The least current seal of a zone, where an earlier sector of pointer n's stripe is not held. Where all are held no log is walked: a write's time does
-// not grow with what the logs hold.
-fn earlier_limit(sectors: &[u8], pointers: &[u32], zone: Zone, n: usize) -> usize
+// Whether the earlier sectors of a pointer's stripe are held.
+pub fn earlier_held(written: &[u32], zone: Zone, n: usize) -> bool
     requires { ⌜ Valid (zone .geometry) ⌝ }
-    requires { ⌜ Readable (zone .geometry) (zone .here) (now sectors) (now pointers) (zone .number) × (n ≤ zoneSectors (zone .geometry)) ⌝ }
-    ensures { λ r. ⌜ r ≡ pick (allHeld (zone .geometry) (zone .here) (now (pointers .entry)) (zone .number) (stripeOf (zone .geometry .drives) (zone .geometry .unit) n * stripeSectors (zone .geometry)) (fillOf (zone .geometry) n)) 0
-        (sealLimit (zone .geometry) (isSet (zone .here)) (readDevice (zone .geometry) (now (sectors .entry)) (now (pointers .entry))) (zone .number) (zone .generation)) ⌝ }
+    requires { ⌜ (zone .number < zone .geometry .zones) × (length (now written) ≡ cells (zone .geometry)) × (n ≤ zoneSectors (zone .geometry)) ⌝ }
+    ensures { λ r. ⌜ r ≡ earlierHeld (zone .geometry) (zone .here) (now (written .entry)) (zone .number) n ⌝ }
 {
     let g = zone.geometry;
     let here = zone.here;
     let z = zone.number;
     let k = tables::bounds::stripe_sectors(g);
     let start = n / k * k;
-    let held = super::knowing::all_held(pointers, g, here, z, start, n - start);
+    super::knowing::all_held(written, g, here, z, start, n - start)
+}
+
+// The least current seal of a zone, where an earlier sector of pointer n's stripe is not held. Where all are held no log is walked: a write's time does
+// not grow with what the logs hold.
+fn earlier_limit(sectors: &[u8], pointers: &[u32], zone: Zone, n: usize) -> usize
+    requires { ⌜ Valid (zone .geometry) ⌝ }
+    requires { ⌜ Readable (zone .geometry) (zone .here) (now sectors) (now pointers) (zone .number) × (n ≤ zoneSectors (zone .geometry)) ⌝ }
+    ensures { λ r. ⌜ r ≡ pick (earlierHeld (zone .geometry) (zone .here) (now (pointers .entry)) (zone .number) n) 0
+        (sealLimit (zone .geometry) (isSet (zone .here)) (readDevice (zone .geometry) (now (sectors .entry)) (now (pointers .entry))) (zone .number) (zone .generation)) ⌝ }
+{
+    let held = earlier_held(pointers, zone, n);
     if held {
         return 0;
     }
+    let g = zone.geometry;
+    let here = zone.here;
+    let z = zone.number;
     let generation = zone.generation;
     super::knowing::seal_limit(sectors, pointers, g, here, z, generation)
 }

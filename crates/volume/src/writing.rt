@@ -233,7 +233,7 @@ fn at_places(run: Run, places: LogPlaces) -> Run
 }
 
 // The same, where the logs are still to be found.
-fn write_zone(
+fn write_by_roles(
     sectors: &mut [u8],
     written: &mut [u32],
     durable: &mut [u32],
@@ -263,6 +263,34 @@ fn write_zone(
         buffer,
         count,
     )
+}
+
+// The same. Where it needs no log but that of its entry, and that has room, no other is looked for.
+fn write_zone(
+    sectors: &mut [u8],
+    written: &mut [u32],
+    durable: &mut [u32],
+    run: Run,
+    state: State,
+    buffer: &[u8],
+    count: u32,
+) -> Outcome
+    requires { ⌜ Valid (run .zone .geometry) ⌝ }
+    requires { ⌜ Sized (run .zone .geometry) (now sectors) (now written) × (run .zone .geometry .logs ≡ 0) × RunReady run state (now written) (now durable) (now buffer) ⌝ }
+    ensures { λ r. ⌜ (r ≡ writeZoneOn run state (now (buffer .entry)) count (tablesOf (now (sectors .entry)) (now (written .entry)) (now (durable .entry))) .outcome)
+        × (tablesOf (now (sectors .exit)) (now (written .exit)) (now (durable .exit)) ≡ writeZoneOn run state (now (buffer .entry)) count (tablesOf (now (sectors .entry)) (now (written .entry)) (now (durable .entry))) .tables) ⌝ }
+{
+    let place = super::write_directly::place_of(sectors, written, run);
+    let alone = place.alone;
+    if !alone {
+        return write_by_roles(sectors, written, durable, run, state, buffer, count);
+    }
+    let to = place.geometry;
+    let budget = super::checks::budget_of(count);
+    let rest = super::write_directly::write_directly(sectors, written, run, to, buffer, budget);
+    let zone = run.zone;
+    let end = run.pointer + run.count;
+    outcome(zone, state, end, rest)
 }
 
 // The call: `run` sectors from an address, out of a buffer.

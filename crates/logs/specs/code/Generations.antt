@@ -75,7 +75,7 @@ counters-last c0 cs (seal z p n ∷ fs) hs e = counters-last c0 cs fs hs e
 counters-last c0 cs (closing kind gen ∷ fs) hs e = counters-last c0 cs fs hs e
 
 -- a header that is counters, with its numbers
-counters-of : (h : Header) → isCounters h ≡ true → (cs : List ℕ) × (h ≡ counters cs)
+pub counters-of : (h : Header) → isCounters h ≡ true → (cs : List ℕ) × (h ≡ counters cs)
 counters-of (label x a) e = absurd (true≢false (sym e))
 counters-of (counters cs) e = (cs, refl)
 counters-of (zoneReset z n) e = absurd (true≢false (sym e))

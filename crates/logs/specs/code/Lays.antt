@@ -85,6 +85,39 @@ five true true false d e = refl
 five true false c d e = refl
 five false b c d e = refl
 
+-- ---- zeros, 32 bytes at a time
+abbrev pub zerosFrom : List ℕ → ℕ → Bool
+zerosFrom s i = sameBytes (replicate (length s - i) 0) (drop i s)
+
+abbrev zeroWord : List ℕ → ℕ → Bool
+zeroWord s i = sameBytes (bytesLE 8 0) (take 8 (drop i s))
+
+unfoldable pub zeroWords : List ℕ → ℕ → Bool
+zeroWords s i = zeroWord s i && (zeroWord s (i + 8) && (zeroWord s (i + 16) && zeroWord s (i + 24)))
+
+eight-zeros : (s : List ℕ) (i j : ℕ) → j ≡ i + 8 → j ≤ length s → zerosFrom s i ≡ zeroWord s i && zerosFrom s j
+eight-zeros s i j e h =
+    let m : length s - i ≡ suc (suc (suc (suc (suc (suc (suc (suc (length s - j)))))))) = omega arith in
+    ap (λ (k : ℕ). sameBytes (replicate k 0) (drop i s)) m ∙ same-append (bytesLE 8 0) (replicate (length s - j) 0) (drop i s)
+    ∙ ap (λ (t : List ℕ). zeroWord s i && sameBytes (replicate (length s - j) 0) t) (drop-drop 8 i s ∙ ap (λ (k : ℕ). drop k s) (sym e))
+
+words-are-zeros : (s : List ℕ) (i : ℕ) → i + 32 ≤ length s → zerosFrom s i ≡ zeroWords s i && zerosFrom s (i + 32)
+unfolding zeroWords
+words-are-zeros s i h =
+    let a = zeroWord s i in
+    let b = zeroWord s (i + 8) in
+    let c = zeroWord s (i + 16) in
+    eight-zeros s i (i + 8) refl (omega arith) ∙ ap (λ (t : Bool). a && t) (eight-zeros s (i + 8) (i + 16) (omega arith) (omega arith))
+    ∙ ap (λ (t : Bool). a && (b && t)) (eight-zeros s (i + 16) (i + 24) (omega arith) (omega arith))
+    ∙ ap (λ (t : Bool). a && (b && (c && t))) (eight-zeros s (i + 24) (i + 32) (omega arith) (omega arith))
+    ∙ five a b c (zeroWord s (i + 24)) (zerosFrom s (i + 32))
+
+pub words-go : (s : List ℕ) (i : ℕ) → i + 32 ≤ length s → zeroWords s i ≡ true → zerosFrom s i ≡ zerosFrom s (i + 32)
+words-go s i h e = words-are-zeros s i h ∙ ap (λ (b : Bool). b && zerosFrom s (i + 32)) e
+
+pub words-stop : (s : List ℕ) (i : ℕ) → i + 32 ≤ length s → zeroWords s i ≡ false → zerosFrom s i ≡ false
+words-stop s i h e = words-are-zeros s i h ∙ ap (λ (b : Bool). b && zerosFrom s (i + 32)) e
+
 pub frame-same : (k s e n : ℕ) (rest sec : List ℕ) → sameBytes (frame k s e n rest) sec ≡ headSame k s e n sec && sameBytes rest (drop 32 sec)
 unfolding frame headSame
 frame-same k s e n rest sec =

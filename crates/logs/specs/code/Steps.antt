@@ -8,7 +8,9 @@ use lib.Dec.{leb}
 use native.Mathlib.Decide.{decLt}
 use Rattle.tables.specs.meaning.Basics.{pick}
 use lib.ListN.{length, getD, take, drop}
+use Rattle.tables.specs.laws.Below.{length-tabulate}
 use Rattle.tables.specs.declared.Geometry.{Geometry}
+use Rattle.logs.specs.declared.Log.{Log}
 use Rattle.logs.specs.declared.Found.{Found}
 use Rattle.logs.specs.declared.WalkEnd.{WalkEnd}
 use Rattle.logs.specs.declared.WalkEnd.the-variants.{AtPointer, NoEntry, Torn}
@@ -17,7 +19,7 @@ use Rattle.logs.specs.declared.Step.the-variants.{Left, Whole}
 use Rattle.logs.specs.meaning.Entry.{Header, Entry, Decoded, legal, bad, rowsOf, decode}
 use Rattle.logs.specs.meaning.Walk.{Walked, withEntry, inZone, decodeAt}
 use Rattle.logs.specs.code.Judge.{seen, found}
-use Rattle.logs.specs.code.WalkCode.{walkEndOf, rowsSeen, badSeen, leftAt, at-end, at-bad, at-torn, at-whole, stops-bad, stops-past, stops-torn, takes}
+use Rattle.logs.specs.code.WalkCode.{logSectors, walkEndOf, rowsSeen, badSeen, leftAt, at-end, at-bad, at-torn, at-whole, stops-bad, stops-past, stops-torn, takes}
 
 -- the step at p, by the walk that is left there: its end if it has no whole entry, else its first entry and where the next
 -- one begins. This gives each case of the code's enum Step its value.
@@ -152,3 +154,14 @@ module _ (g : Geometry) (d : ℕ) (par : Bool) (ss : List (List ℕ)) where
             ∙ sym (ap (λ (x : Walked). map (λ (e : Entry). seen (e .head)) (x .entries)) (t .on));
         end-is = w .end-is ∙ sym (ap walkEndOf (t .on));
       }
+
+-- ---- of a log, as its fields tell it
+abbrev pub sectorsOfLog : Geometry → Log → List ℕ → List (List ℕ)
+sectorsOfLog g log xs = logSectors g (log .drive) (log .zone) xs (log .written)
+
+pub low-in-log : (g : Geometry) (log : Log) (xs : List ℕ) (p : ℕ) → p ≤ log .written → p ≤ length (sectorsOfLog g log xs)
+low-in-log g log xs p h = rw length-tabulate h
+
+pub climbs-in-log : (g : Geometry) (log : Log) (par : Bool) (xs : List ℕ) (p : ℕ) → p ≤ log .written → (f : Found) (q : ℕ)
+    → stepOf g p (leftAt g (log .drive) par (sectorsOfLog g log xs) p) ≡ Whole f q → (p < q) × (q ≤ log .written)
+climbs-in-log g log par xs p l f q e = let (u, v) = step-climbs g (log .drive) par (sectorsOfLog g log xs) p (low-in-log g log xs p l) f q e in (u, rw length-tabulate at v)

@@ -35,13 +35,11 @@ use Rattle.tables.specs.laws.Below.{length-tabulate-from, getD-tabulate-from}
 use Rattle.volume.specs.laws.Content.{row-xor-below-cong}
 use Rattle.promise.specs.content.Columns.{column, piece, column-grows}
 use Rattle.promise.specs.calls.WriteLocal.{data-piece, appends-other-zone, appends-same, appends-other-drive, data-stores-elsewhere}
-use Rattle.volume.specs.declared.Condition.{Condition}
-use Rattle.volume.specs.declared.Condition.the-variants.{Empty, Open, Sealed, Worn}
 use Rattle.volume.specs.meaning.State.{pointerIn, StateView, setAt}
 use Rattle.volume.specs.meaning.Rules.{valueAt}
-use Rattle.promise.specs.invariant.Obligations.{WriteOk, Writable, WriteKeeps, WriteRests}
+use Rattle.promise.specs.invariant.Obligations.{WriteOk, writable-plain, WriteKeeps, WriteRests}
 use Rattle.promise.specs.meaning.Ledger.{Ledger, afterWrite}
-use Rattle.promise.specs.invariant.Invariant.{Ghost, Here, LogsOk, CappedBelow, TrueRows, Live, Inv, Rest, RestZone, rest-inv, Plain, Shape, closingEntry}
+use Rattle.promise.specs.invariant.Invariant.{Ghost, Here, LogsOk, CappedBelow, TrueRows, Live, Inv, Rest, RestZone, rest-inv, Plain, closingEntry}
 use Rattle.logs.specs.laws.Heads.{zoneGen}
 use Rattle.promise.specs.look.LookFits.{rest-known}
 use Rattle.tables.specs.laws.Sizes.{needed-fits}
@@ -60,13 +58,7 @@ module _ (g : Geometry) (ok : Valid g) (x : ℕ) (v : Device) (state : StateView
   here = r .zones z (wk .zone-ok)
 
   plain : Plain g x v γ l z
-  plain = go (state .condition z) (wk .writable) (here .shape)
-    where
-      go : (c : Condition) → Writable c → Shape g x v γ l z c → Plain g x v γ l z
-      go Empty w s = s
-      go (Open n) w s = s
-      go (Sealed n) w s = absurd w
-      go (Worn n) w s = absurd w
+  plain = writable-plain g x v γ l z (state .condition z) (wk .writable) (here .shape)
 
   value : (a : ℕ) → a < length (l .content z) → valueAt g (presentBut g x) v z (γ .generation z) a ≡ at (l .content z) a
   value a h = rw (here .generation-is) (rest-known g ok x v state l γ r z (wk .zone-ok) a h .1)

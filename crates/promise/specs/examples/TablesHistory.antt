@@ -206,37 +206,12 @@ pub history-goes : T (all wentSo)
 unfolding tablesOpen wentSo
 history-goes = tt
 
-ready-1 : s1 .mode ≡ ready
+-- the volume is ready for a call at these points
+readies : (s1 .mode ≡ ready) × (s2 .mode ≡ ready) × (s3 .mode ≡ ready) × (s6 .mode ≡ ready) × (s7 .mode ≡ ready) × (s8 .mode ≡ ready) × (s13 .mode ≡ ready) × (s14 .mode ≡ ready)
 unfolding wentSo
-ready-1 = ready-is (s1 .mode) (all-at wentSo history-goes 0)
-
-ready-2 : s2 .mode ≡ ready
-unfolding wentSo
-ready-2 = ready-is (s2 .mode) (all-at wentSo history-goes 1)
-
-ready-3 : s3 .mode ≡ ready
-unfolding wentSo
-ready-3 = ready-is (s3 .mode) (all-at wentSo history-goes 2)
-
-ready-6 : s6 .mode ≡ ready
-unfolding wentSo
-ready-6 = ready-is (s6 .mode) (all-at wentSo history-goes 8)
-
-ready-7 : s7 .mode ≡ ready
-unfolding wentSo
-ready-7 = ready-is (s7 .mode) (all-at wentSo history-goes 9)
-
-ready-8 : s8 .mode ≡ ready
-unfolding wentSo
-ready-8 = ready-is (s8 .mode) (all-at wentSo history-goes 10)
-
-ready-13 : s13 .mode ≡ ready
-unfolding wentSo
-ready-13 = ready-is (s13 .mode) (all-at wentSo history-goes 23)
-
-ready-14 : s14 .mode ≡ ready
-unfolding wentSo
-ready-14 = ready-is (s14 .mode) (all-at wentSo history-goes 24)
+readies =
+    let at = all-at wentSo history-goes in
+    (ready-is (s1 .mode) (at 0), ready-is (s2 .mode) (at 1), ready-is (s3 .mode) (at 2), ready-is (s6 .mode) (at 8), ready-is (s7 .mode) (at 9), ready-is (s8 .mode) (at 10), ready-is (s13 .mode) (at 23), ready-is (s14 .mode) (at 24))
 
 -- ---- its duties are done
 none-lost : s0 .lost ≡ noDrive
@@ -310,10 +285,11 @@ cut-sized = record { sectors-long = stopped-sized .sectors-long; written-long = 
 
 pub duties-done : Dutiful small vol s0 history
 duties-done =
-    done (names-all s0 none-lost, refl, tt) (done (names-all s1 none-lost, ready-1, tt) (done (names-all s2 none-lost, ready-2, tt) (done (names-all s3 none-lost, may-mount (s3 .mode) ready-3)
-    (done (names-all s4 none-lost, ready-3) (done (names-all s5 none-lost, ready-3, tt) (done (names-all s6 none-lost, ready-6, tt) (done (names-all s7 none-lost, ready-7, tt)
-    (done (names-all s8 none-lost, ready-8, tt) (done (cut-done (s9 .memory) stopped-sized stopped-in-order (s9 .lost)) (done (names-all s10 none-lost, tt) (done (lit< tt, inl none-lost, loss-done (s11 .memory) cut-sized (replicate 2304 255) (replicate 4 99) (replicate 4 999) refl refl refl)
-    (done (names-without-2 s12 refl, tt, tt) (done (names-without-2 s13 refl, ready-13, tt) (done (names-without-2 s14 refl, ready-14) (done (names-without-2 s15 refl, ready-14) tt)))))))))))))))
+    let (r1, r2, r3, r6, r7, r8, r13, r14) = readies in
+    done (names-all s0 none-lost, refl, tt) (done (names-all s1 none-lost, r1, tt) (done (names-all s2 none-lost, r2, tt) (done (names-all s3 none-lost, may-mount (s3 .mode) r3)
+    (done (names-all s4 none-lost, r3) (done (names-all s5 none-lost, r3, tt) (done (names-all s6 none-lost, r6, tt) (done (names-all s7 none-lost, r7, tt)
+    (done (names-all s8 none-lost, r8, tt) (done (cut-done (s9 .memory) stopped-sized stopped-in-order (s9 .lost)) (done (names-all s10 none-lost, tt) (done (lit< tt, inl none-lost, loss-done (s11 .memory) cut-sized (replicate 2304 255) (replicate 4 99) (replicate 4 999) refl refl refl)
+    (done (names-without-2 s12 refl, tt, tt) (done (names-without-2 s13 refl, r13, tt) (done (names-without-2 s14 refl, r14) (done (names-without-2 s15 refl, r14) tt)))))))))))))))
 
 -- ---- and what the promise says of it
 pub history-keeps-the-promise : Throughout small vol s0 history

@@ -51,24 +51,28 @@ closingEntry k n = record { head = closing k n; rows = [] }
 abbrev pub LabelFits : ℕ → ℕ → ℕ → ℕ → Type 0
 LabelFits x array y a = ((y ≡ noDrive) ⊎ (y ≡ x)) × (a ≡ array)
 
-pub record LogsOk (g : Geometry) (x : ℕ) (v : Device) (γ : Ghost) : Type 0 where
+pub record LogsIn (g : Geometry) (x : ℕ) (v : Device) (general : ℕ → List Header) (parity : ℕ → List Entry) (array : ℕ) (closed : LogGenerations) : Type 0 where
   pub lost-ok : (x ≡ noDrive) ⊎ (x < g .drives)
-  pub array-lt : γ .array < 256 ^ 8
-  pub general-is : (d : ℕ) → Here g x d → v d generalZone .sectors ≡ map (encode g d) (γ .general d)
-  pub general-reads : (d : ℕ) → Here g x d → (h : Header) → List·Memᴰ h (γ .general d) → Reads g d false h
-  pub first : (d : ℕ) → Here g x d → (y : ℕ) × (hs : List Header) × (γ .general d ≡ label y (γ .array) ∷ hs)
+  pub array-lt : array < 256 ^ 8
+  pub general-is : (d : ℕ) → Here g x d → v d generalZone .sectors ≡ map (encode g d) (general d)
+  pub general-reads : (d : ℕ) → Here g x d → (h : Header) → List·Memᴰ h (general d) → Reads g d false h
+  pub first : (d : ℕ) → Here g x d → (y : ℕ) × (hs : List Header) × (general d ≡ label y array ∷ hs)
   pub first-lasts : (d : ℕ) → Here g x d → 1 ≤ v d generalZone .durable
-  pub labels : (d : ℕ) → Here g x d → (y a : ℕ) → List·Memᴰ (label y a) (γ .general d) → LabelFits x (γ .array) y a
+  pub labels : (d : ℕ) → Here g x d → (y a : ℕ) → List·Memᴰ (label y a) (general d) → LabelFits x array y a
   -- closing entries: all of one generation, and one lasts; or none
-  pub general-closes : (d : ℕ) → Here g x d → (k n : ℕ) → List·Memᴰ (closing k n) (γ .general d) → n ≡ γ .closed d .0
-  pub general-closed : (d : ℕ) → Here g x d → 0 < γ .closed d .0 → List·Memᴰ (closing 0 (γ .closed d .0)) (take (v d generalZone .durable) (γ .general d))
-  pub parity-closes : (d : ℕ) → Here g x d → (e : Entry) → List·Memᴰ e (γ .parity d) → (k n : ℕ) → e .head ≡ closing k n → n ≡ γ .closed d .1
-  pub parity-closed : (d : ℕ) → Here g x d → 0 < γ .closed d .1 → List·Memᴰ (closingEntry 1 (γ .closed d .1)) (cutEntries g d true (γ .parity d) (v d parityZone .durable))
-  pub parity-is : (d : ℕ) → Here g x d → v d parityZone .sectors ≡ sectorsOfAll g d true (γ .parity d)
-  pub parity-lawful : (d : ℕ) → Here g x d → WellFormedLog g d true (γ .parity d)
-  pub parity-fits : (d : ℕ) → Here g x d → logExtent g d true (γ .parity d) ≤ g .capacity
+  pub general-closes : (d : ℕ) → Here g x d → (k n : ℕ) → List·Memᴰ (closing k n) (general d) → n ≡ closed d .0
+  pub general-closed : (d : ℕ) → Here g x d → 0 < closed d .0 → List·Memᴰ (closing 0 (closed d .0)) (take (v d generalZone .durable) (general d))
+  pub parity-closes : (d : ℕ) → Here g x d → (e : Entry) → List·Memᴰ e (parity d) → (k n : ℕ) → e .head ≡ closing k n → n ≡ closed d .1
+  pub parity-closed : (d : ℕ) → Here g x d → 0 < closed d .1 → List·Memᴰ (closingEntry 1 (closed d .1)) (cutEntries g d true (parity d) (v d parityZone .durable))
+  pub parity-is : (d : ℕ) → Here g x d → v d parityZone .sectors ≡ sectorsOfAll g d true (parity d)
+  pub parity-lawful : (d : ℕ) → Here g x d → WellFormedLog g d true (parity d)
+  pub parity-fits : (d : ℕ) → Here g x d → logExtent g d true (parity d) ≤ g .capacity
   pub lasting : (d y : ℕ) → Here g x d → y < physicalZones g → v d y .durable ≤ length (v d y .sectors)
   pub place-fits : (d y : ℕ) → Here g x d → y < physicalZones g → length (v d y .sectors) ≤ g .capacity
+
+-- they speak of no zone's sectors and generation
+abbrev pub LogsOk : Geometry → ℕ → Device → Ghost → Type 0
+LogsOk g x v γ = LogsIn g x v (γ .general) (γ .parity) (γ .array) (γ .closed)
 
 -- ---- what a zone's clauses speak of
 -- the zone's cap: on every present drive a current seal at or below c lasts (a copied log keeps only its least seal)

@@ -19,7 +19,7 @@ use Rattle.volume.specs.meaning.State.{pointerIn, StateView}
 use Rattle.volume.specs.meaning.Content.{at, insideStripe, fillOf, parityDriveAt}
 use Rattle.volume.specs.meaning.Calls.{writeStores, writeState, flushStores, flushState, resetStores, resetState, formatStores, formatState}
 use Rattle.promise.specs.meaning.Ledger.{Ledger, freshLedger, afterWrite, afterFlush, afterReset, afterStoppedReset}
-use Rattle.promise.specs.invariant.Invariant.{Ghost, Inv, Rest, LogGenerations}
+use Rattle.promise.specs.invariant.Invariant.{Ghost, Inv, Rest, Plain, Shape, LogGenerations}
 
 -- ---- accepted calls
 abbrev pub Writable : Condition → Type 0
@@ -27,6 +27,12 @@ Writable Empty = Unit {0}
 Writable (Open n) = Unit {0}
 Writable (Sealed n) = ⊥
 Writable (Worn n) = ⊥
+
+pub writable-plain : (g : Geometry) (x : ℕ) (v : Device) (γ : Ghost) (l : Ledger) (z : ℕ) (c : Condition) → Writable c → Shape g x v γ l z c → Plain g x v γ l z
+writable-plain g x v γ l z Empty w s = s
+writable-plain g x v γ l z (Open n) w s = s
+writable-plain g x v γ l z (Sealed n) w s = absurd w
+writable-plain g x v γ l z (Worn n) w s = absurd w
 
 -- a write of ss at the pointer of zone z (refusals 2, 8, 9, 11, 12, 14)
 pub record WriteOk (g : Geometry) (present : ℕ → Bool) (v : Device) (state : StateView) (z : ℕ) (ss : List (List ℕ)) : Type 0 where

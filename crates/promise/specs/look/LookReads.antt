@@ -8,7 +8,7 @@ use Rattle.tables.specs.meaning.Drives.{noDrive}
 use Rattle.tables.specs.laws.Lists.{length-map}
 use mathlib.Core.Path.{_≡_, refl, sym, ap, _∙_, fun-ext}
 use mathlib.Core.Logic.{_≢_, _⊎_, inl, inr}
-use mathlib.Core.Bool.{Bool, true, false, _&&_, _||_, not}
+use mathlib.Core.Bool.{Bool, true, false, _&&_, not}
 use Prim.Native.Nat.{ℕ, zero, _-_, _≤_, _<_}
 use native.Mathlib.Omega.{arith}
 use native.Mathlib.Decide.{ℕ-discrete}
@@ -16,17 +16,16 @@ use mathlib.Core.List.{List, [], _∷_, map, List·Memᴰ, List·Memᴰ·head, L
 use lib.ListN.{length}
 use lib.Dec.{ltb, eqb}
 use borrow.Author.Tests.{le-ltb, ltb-true, eq-eqb, ne-eqb}
-use Rattle.tables.specs.meaning.Below.{anyBelow}
 use Rattle.tables.specs.laws.Below.{none-any-below, count-below-one}
 use Rattle.tables.specs.meaning.Device.{Device}
 use Rattle.tables.specs.meaning.Basics.{pick}
 use Rattle.tables.specs.declared.Geometry.{Geometry}
-use Rattle.tables.specs.meaning.Geometry.{Valid, physicalZones}
+use Rattle.tables.specs.meaning.Geometry.{Valid}
 use Rattle.logs.specs.meaning.Entry.{generalZone, parityZone, Header, Entry, encode, rowsOf}
 use Rattle.logs.specs.meaning.Walk.{atPointer, torn, walkLog}
 use Rattle.logs.specs.laws.Walk.{Reads, WellFormedLog, logExtent, sectorsOfAll, wholeEntries, endingOf, isWhole, walk-lawful}
 use Rattle.logs.specs.meaning.Heads.{labelled, arrayIn, lastLost}
-use Rattle.volume.specs.meaning.Refusals.{isNoEntry, badPointers, twoLost, badLabels, badLogs}
+use Rattle.volume.specs.meaning.Refusals.{isNoEntry, twoLost, badLabels, badLogs}
 use Rattle.promise.specs.meaning.Claim.{allBut}
 use Rattle.promise.specs.invariant.Invariant.{Ghost, Here, LogsOk}
 
@@ -68,9 +67,8 @@ ending-fine g d par (e ∷ es) = go (isWhole g d par e) (ending-fine g d par es)
     go true ih = ih
     go false ih = refl
 
--- no refusal of a look that speaks of the device applies, by the drives that are not lost
+-- no refusal of a look that speaks of the device by its roles applies, by the drives that are not lost
 pub record Unrefused (g : Geometry) (x : ℕ) (v : Device) : Type 0 where
-  pub pointers : badPointers g (allBut x) v ≡ false
   pub lost : twoLost g (allBut x) v ≡ false
   pub labels : badLabels g (presentBut g x) v ≡ false
   pub logs : badLogs g (presentBut g x) v ≡ false
@@ -148,17 +146,6 @@ module _ (g : Geometry) (ok : Valid g) (x : ℕ) (v : Device) (γ : Ghost) (lg :
       go (inr h) = find-below-one (isLost g (allBut x) v) (g .drives) x h lost-self lost-other
 
   -- ---- no refusal
-  pointers-fine : badPointers g (allBut x) v ≡ false
-  unfolding badPointers
-  pointers-fine = none-any-below _ (g .drives) (λ d hd. go d hd (ℕ-discrete d x))
-    where
-      go : (d : ℕ) → d < g .drives → Dec (d ≡ x) → allBut x d && anyBelow (λ y. ltb (g .capacity) (length (v d y .sectors)) || ltb (length (v d y .sectors)) (v d y .durable)) (physicalZones g) ≡ false
-      go d hd (yes q) = rw (eq-eqb d x q) refl
-      go d hd (no q) =
-          let a = present-other g x d hd q in
-          rw (ne-eqb d x q) (none-any-below (λ y. ltb (g .capacity) (length (v d y .sectors)) || ltb (length (v d y .sectors)) (v d y .durable)) (physicalZones g)
-          (λ y hy. rw (le-ltb (g .capacity) (length (v d y .sectors)) (lg .place-fits d y a hy), le-ltb (length (v d y .sectors)) (v d y .durable) (lg .lasting d y a hy)) refl))
-
   one-lost : twoLost g (allBut x) v ≡ false
   unfolding twoLost
   one-lost = le-ltb 1 _ (count-below-one (isLost g (allBut x) v) (g .drives) x lost-other)
@@ -183,4 +170,4 @@ module _ (g : Geometry) (ok : Valid g) (x : ℕ) (v : Device) (γ : Ghost) (lg :
 
   -- A LOOK IS NOT REFUSED
   pub look-unrefused : Unrefused g x v
-  look-unrefused = record { pointers = pointers-fine; lost = one-lost; labels = labels-fine; logs = logs-fine }
+  look-unrefused = record { lost = one-lost; labels = labels-fine; logs = logs-fine }

@@ -63,24 +63,7 @@ module _ (g : Geometry) (ok : Valid g) (x : ℕ) (u : Device) (δ : Ghost) (l : 
 
   logs′ : LogsOk g x u γ′
   unfolding γ′
-  logs′ = let lg = fi .logs in record {
-    lost-ok = lg .lost-ok;
-    array-lt = lg .array-lt;
-    general-is = lg .general-is;
-    general-reads = lg .general-reads;
-    first = lg .first;
-    first-lasts = lg .first-lasts;
-    labels = lg .labels;
-    general-closes = lg .general-closes;
-    general-closed = lg .general-closed;
-    parity-closes = lg .parity-closes;
-    parity-closed = lg .parity-closed;
-    parity-is = lg .parity-is;
-    parity-lawful = lg .parity-lawful;
-    parity-fits = lg .parity-fits;
-    lasting = lg .lasting;
-    place-fits = lg .place-fits;
-  }
+  logs′ = fi .logs
 
   module _ (z : ℕ) (hz : z < g .zones) where
     lv′ : Live g x u γ′ l′ z
@@ -126,9 +109,19 @@ module _ (g : Geometry) (ok : Valid g) (x : ℕ) (u : Device) (δ : Ghost) (l : 
         let e : valueAt g (presentBut g x) u z (generationOf g (presentBut g x) u z) a ≡ valueAt g (presentBut g x) u z (γ′ .generation z) a = ap (λ (m : ℕ). valueAt g (presentBut g x) u z m a) generation-shown in
         e ∙ knows-value g ok x u γ′ logs′ l′ z lv′ a (omega (arith, h, p, pointer-there)) .0
 
+    -- what follows the content is laid out at least as far
+    pointer-laid : shownPointer z ≤ length (laidNow (k .zone z .condition) (δ .laid z))
+    unfolding l′
+    pointer-laid =
+        let laid = laidNow (k .zone z .condition) (δ .laid z) in
+        let h : length (take (shownPointer z) laid) ≡ min (shownPointer z) (length laid) = rw length-take refl in
+        omega (arith, content-length, h)
+
     content-shown : afterMount K .content z ≡ l′ .content z
     unfolding γ′ l′
-    content-shown = ap (tabulateFrom (K .zone z .value) zero) pointer-shown ∙ tab-take (K .zone z .value) (laidNow (k .zone z .condition) (δ .laid z)) (shownPointer z) (let h = content-length in let h2 : length (take (shownPointer z) (laidNow (k .zone z .condition) (δ .laid z))) ≡ min (shownPointer z) (length (laidNow (k .zone z .condition) (δ .laid z))) = rw length-take refl in unfold l′ in omega (arith, h, h2)) values
+    content-shown =
+        ap (tabulateFrom (K .zone z .value) zero) pointer-shown
+        ∙ tab-take (K .zone z .value) (laidNow (k .zone z .condition) (δ .laid z)) (shownPointer z) pointer-laid values
 
     live-end : Live g x u γ′ (afterMount K) z
     live-end = live-here g x u γ′ (afterMount K) z (

@@ -3,16 +3,13 @@
 use mathlib.Core.Path.{_≡_, refl, sym, ap, _∙_}
 use mathlib.Core.Bool.{Bool, true, false, _&&_}
 use Prim.Native.Nat.{ℕ, _≤_, _<_, min}
-use native.Mathlib.Nat.{le-refl}
 use native.Mathlib.Omega.{arith}
 use mathlib.Core.List.{List}
 use lib.ListN.{length}
-use lib.Seq.{take-length}
 use lib.Dec.{ltb}
 use borrow.Author.Tests.{lt-ltb, ltb-true}
 use Rattle.tables.specs.meaning.Basics.{pick}
 use Rattle.tables.specs.laws.Basics.{and-join, and-split}
-use Rattle.tables.specs.laws.Lists.{prefix-refl}
 use Rattle.tables.specs.meaning.Device.{Device, Store, flushed, applyAll, ZoneCut, Cut}
 use Rattle.tables.specs.laws.Device.{WellFormed, well-formed-apply-all}
 use Rattle.tables.specs.laws.Local.{applyAllHere, localStores, local-is}
@@ -20,15 +17,14 @@ use Rattle.tables.specs.laws.Drives.{presentBut}
 use Rattle.tables.specs.declared.Geometry.{Geometry}
 use Rattle.tables.specs.meaning.Geometry.{physicalZones, dataZone}
 use Rattle.logs.specs.meaning.Entry.{generalZone, parityZone}
-use Rattle.volume.specs.declared.Condition.{Condition}
-use Rattle.volume.specs.declared.Condition.the-variants.{Empty, Open, Sealed, Worn}
 use Rattle.volume.specs.meaning.State.{StateView}
 use Rattle.volume.specs.meaning.Roles.{zoneOfRole, byRoles}
 use Rattle.volume.specs.laws.Firm.{Firm, firm-seen, firm-same}
 use Rattle.promise.specs.meaning.Ledger.{Ledger}
-use Rattle.promise.specs.invariant.Invariant.{Ghost, Here, LogsOk, Inv, Rest, Plain, Shape, LogGenerations}
+use Rattle.promise.specs.invariant.Invariant.{Ghost, Here, LogsOk, Inv, Rest, LogGenerations}
 use Rattle.promise.specs.invariant.Obligations.{Invs, Rests}
-use Rattle.promise.specs.invariant.HoldsLess.{withLogs, Less, less-zone, less-live, less-capped}
+use Rattle.promise.specs.invariant.HoldsLess.{withLogs}
+use Rattle.promise.specs.roles.SameZones.{SameZones, InBounds, same-inv, same-rest}
 use Rattle.promise.specs.roles.Kept.{Lasting, Kept, role-below, whole-cut}
 use Rattle.promise.specs.roles.Roled.{Standing}
 use Rattle.promise.specs.roles.RoledCalls.{RoledInvs, RoledRests}
@@ -41,74 +37,21 @@ module _ (g : Geometry) (x : ℕ) (u w : Device) (k : SamePlaces g x u w) (γ : 
   abbrev δ : Ghost
   δ = withLogs γ (γ .general) (γ .parity)
 
-  at-general : (d : ℕ) → Here g x d → w d generalZone ≡ u d generalZone
-  at-general d a = k d generalZone a (omega arith)
-
-  at-parity : (d : ℕ) → Here g x d → w d parityZone ≡ u d parityZone
-  at-parity d a = k d parityZone a (omega arith)
-
-  at-data : (d z : ℕ) → Here g x d → z < g .zones → w d (dataZone z) ≡ u d (dataZone z)
-  at-data d z a h = k d (dataZone z) a (omega arith)
-
-  placed-logs : LogsOk g x u γ → LogsOk g x w δ
-  placed-logs lg = record {
-    lost-ok = lg .lost-ok;
-    array-lt = lg .array-lt;
-    general-is = λ d a. rw (at-general d a) (lg .general-is d a);
-    general-reads = lg .general-reads;
-    first = lg .first;
-    first-lasts = λ d a. rw (at-general d a) (lg .first-lasts d a);
-    labels = lg .labels;
-    general-closes = lg .general-closes;
-    general-closed = λ d a. rw (at-general d a) (lg .general-closed d a);
-    parity-closes = lg .parity-closes;
-    parity-closed = λ d a. rw (at-parity d a) (lg .parity-closed d a);
-    parity-is = λ d a. rw (at-parity d a) (lg .parity-is d a);
-    parity-lawful = lg .parity-lawful;
-    parity-fits = lg .parity-fits;
-    lasting = λ d y a h. rw (k d y a h) (lg .lasting d y a h);
-    place-fits = λ d y a h. rw (k d y a h) (lg .place-fits d y a h);
+  zones : SameZones g x u w
+  zones = record {
+    general = λ d a. k d generalZone a (omega arith);
+    parity = λ d a. k d parityZone a (omega arith);
+    data-zone = λ d z a h. k d (dataZone z) a (omega arith);
   }
 
-  placed-less : Less g x x u w γ (γ .general) (γ .parity)
-  placed-less = record {
-    here = λ d a. a;
-    general-sub = λ d a h m. m;
-    general-lasts = λ d a h m. rw (at-general d a) m;
-    general-cuts = λ d a j h. (j, rw (← at-general d a) h, refl);
-    parity-sub = λ d a e m. record { of = e; isSet = m; heads = refl; many = length (e .rows); rows-are = sym (take-length (e .rows)) };
-    parity-lasts = λ d a e q m. rw (at-parity d a) m;
-    data-sub = λ d z hz a. rw (at-data d z a hz) (prefix-refl (u d (dataZone z) .sectors));
-    data-lasts = λ d z hz a. rw (at-data d z a hz) (le-refl (u d (dataZone z) .durable));
-  }
+  bounds : LogsOk g x u γ → InBounds g x w
+  bounds lg = record { lasting = λ d y a h. rw (k d y a h) (lg .lasting d y a h); fits = λ d y a h. rw (k d y a h) (lg .place-fits d y a h) }
 
   placed-inv : (l : Ledger) → Inv g x u l γ → Inv g x w l δ
-  placed-inv l i = record { logs = placed-logs (i .logs); zones = λ z hz. less-zone g x x u w γ (γ .general) (γ .parity) (i .logs) placed-less l z hz (i .zones z hz) }
+  placed-inv l i = same-inv g x u w zones γ (bounds (i .logs)) l i
 
   placed-rest : (state : StateView) (l : Ledger) → Rest g x u state l γ → Rest g x w state l δ
-  placed-rest state l r = record {
-    logs = placed-logs (r .logs);
-    zones = λ z hz. let q = r .zones z hz in record {
-      live = less-live g x x u w γ (γ .general) (γ .parity) (r .logs) placed-less l z hz (q .live);
-      generation-is = q .generation-is;
-      pointer-is = q .pointer-is;
-      strong-now = record { places = λ d a. rw (at-data d z a hz) (q .strong-now .places d a); entry = q .strong-now .entry };
-      shape = shaped z hz (state .condition z) (q .shape);
-      sectors = q .sectors;
-      no-flag = q .no-flag;
-    };
-    whole = r .whole;
-    lost-is = r .lost-is;
-  }
-    where
-      plain : (z : ℕ) → z < g .zones → Plain g x u γ l z → Plain g x w δ l z
-      plain z hz p = record { all-content = p .all-content; just = λ d a. rw (at-data d z a hz) (p .just d a); no-seal = p .no-seal; unworn = p .unworn }
-
-      shaped : (z : ℕ) → z < g .zones → (c : Condition) → Shape g x u γ l z c → Shape g x w δ l z c
-      shaped z hz Empty p = plain z hz p
-      shaped z hz (Open n) p = plain z hz p
-      shaped z hz (Sealed n) p = (less-capped g x x u w γ (γ .general) (γ .parity) (r .logs) placed-less z (length (l .content z)) (p .0), p .1, p .2)
-      shaped z hz (Worn n) p = p
+  placed-rest state l r = same-rest g x u w zones γ (bounds (r .logs)) state l r
 
 -- ---- of the physical device
 module _ (g : Geometry) (x : ℕ) (c : LogGenerations) (v w : Device) (s : Standing g x v c) (k : SamePlaces g x v w) where

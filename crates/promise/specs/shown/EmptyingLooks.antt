@@ -1,5 +1,5 @@
 -- THE CLAIM ABOUT EMPTYINGS HOLDS: in every history, of every accepted write, reset and mount that empties logs (meaning/Emptied.antt).
-use mathlib.Core.Path.{_≡_, refl, sym, ap, subst}
+use mathlib.Core.Path.{_≡_, refl, sym, subst}
 use mathlib.Core.Logic.{_≢_, inl, inr}
 use mathlib.Core.Bool.{Bool, true, false, _&&_}
 use Prim.Native.Nat.{ℕ, zero, _+_, _<_}
@@ -9,11 +9,10 @@ use lib.ListN.{length}
 use lib.Dec.{eqb}
 use Rattle.tables.specs.laws.Basics.{and-split}
 use Rattle.tables.specs.laws.Below.{length-tabulate-from}
-use Rattle.tables.specs.meaning.Device.{ZoneView, Device, Store, applyAll}
+use Rattle.tables.specs.meaning.Device.{Device, Store, applyAll}
 use Rattle.tables.specs.meaning.Below.{anyBelow}
-use Rattle.tables.specs.meaning.Phases.{flushAll, onPresent}
+use Rattle.tables.specs.meaning.Phases.{onPresent}
 use Rattle.tables.specs.meaning.Through.{through}
-use Rattle.tables.specs.laws.Phases.{absent-frame}
 use Rattle.tables.specs.declared.Geometry.{Geometry}
 use Rattle.tables.specs.meaning.Geometry.{Valid}
 use Rattle.tables.specs.laws.GeometryTest.{valid-if-test}
@@ -24,6 +23,7 @@ use Rattle.volume.specs.meaning.Rules.{generalHeads, parityEntries, showing, zo
 use Rattle.volume.specs.meaning.Roles.{driveByRoles, roles, byRoles, placedBy}
 use Rattle.volume.specs.meaning.Calls.{flushStores}
 use Rattle.volume.specs.meaning.Emptying.{byState, byLook, lacksRoom, newGeneral, newParity, newParitySize, resetLimit, writeLimit, emptiedFor, emptiedForWrite, emptyings, emptyGeneral, emptyParity, isMade}
+use Rattle.volume.specs.mounting.RestoreAgrees.{opening-sectors}
 use Rattle.volume.specs.meaning.Mount.{spareStep, afterOpening, afterFill, mountView, mountLook, startRoles, emptiedGeneral, emptiedParity, middleRoles}
 use Rattle.volume.specs.meaning.Refusals.{TableLengths, zoneOf}
 use Rattle.volume.specs.meaning.Answers.{sectorsIn}
@@ -164,12 +164,8 @@ module _ (g : Geometry) (ok : Valid g) (x : ℕ) (c : LogGenerations) (v : Devic
 
 -- ---- a mount
 opened-sectors : (g : Geometry) (x : ℕ) (v : Device) (d y : ℕ) → v d y .sectors ≡ flushedAll g x v d y .sectors
-unfolding flushStores
-opened-sectors g x v d y = sym (go (presentBut g x d) refl)
-  where
-    go : (b : Bool) → presentBut g x d ≡ b → flushedAll g x v d y .sectors ≡ v d y .sectors
-    go true a = flush-sectors g x v d y a
-    go false a = ap (λ (z : ZoneView). z .sectors) (absent-frame (presentBut g x) (flushAll (g .drives)) v d y a)
+unfolding afterOpening flushStores
+opened-sectors g x v d y = sym (opening-sectors g (presentBut g x) v d y)
 
 module _ (g : Geometry) (ok : Valid g) (x : ℕ) (c : LogGenerations) (v : Device) (l : Ledger) (ri : RoledInvs c g x v l)
     (ma : MountAccepted g (presentBut g x) (roles g v) (byRoles g v) (byLook (showing g (presentBut g x) x (byRoles g v)))) where

@@ -3,12 +3,10 @@
 use mathlib.Core.Path.{_≡_, refl, ap, _∙_, subst}
 use mathlib.Core.Logic.{_⊎_, inl, inr}
 use mathlib.Core.Bool.{Bool, true, false, _&&_}
-use Prim.Native.Nat.{ℕ, zero, _≤_, _<_}
+use Prim.Native.Nat.{ℕ, _<_}
 use native.Mathlib.Nat.{le-trans}
-use native.Mathlib.Omega.{arith}
 use mathlib.Core.List.{List}
-use lib.ListN.{length, take}
-use Rattle.tables.specs.laws.Lists.{prefix-length}
+use lib.ListN.{take}
 use Rattle.tables.specs.meaning.Below.{anyBelow}
 use Rattle.tables.specs.laws.Below.{none-any-below, any-below-false}
 use Rattle.tables.specs.meaning.Device.{Device, Store, applyAll, Cut}
@@ -16,14 +14,14 @@ use Rattle.tables.specs.meaning.Phases.{onPresent}
 use Rattle.tables.specs.meaning.Through.{through}
 use Rattle.tables.specs.laws.Drives.{presentBut}
 use Rattle.tables.specs.declared.Geometry.{Geometry}
-use Rattle.tables.specs.meaning.Geometry.{Valid, dataZone}
+use Rattle.tables.specs.meaning.Geometry.{Valid}
 use Rattle.volume.specs.meaning.Rules.{Shown}
 use Rattle.volume.specs.meaning.Roles.{roles, byRoles, placedBy}
 use Rattle.volume.specs.meaning.Emptying.{byLook, isMade, newParitySize, emptyParity}
 use Rattle.volume.specs.meaning.Mount.{mountLook, emptiedParity, middleRoles}
 use Rattle.promise.specs.meaning.Ledger.{Ledger}
-use Rattle.promise.specs.invariant.Invariant.{Ghost, Here, LogGenerations, Live, Dying}
-use Rattle.promise.specs.mount.MountFilled.{Filled as FilledNow, OpenNow, SealedNow, ZoneNow, keptNow, wornNow, goneNow, WornNow, kept-at, kept-content}
+use Rattle.promise.specs.invariant.Invariant.{Ghost, Here, LogGenerations}
+use Rattle.promise.specs.mount.MountFilled.{Filled as FilledNow, OpenNow, SealedNow, kept-at}
 use Rattle.promise.specs.emptying.CanEmpty.{CanEmptyLog}
 use Rattle.promise.specs.emptying.CallParts.{FilledAt, filled-solid}
 use Rattle.promise.specs.emptying.OnPresent.{on-present-all}
@@ -34,43 +32,12 @@ use Rattle.promise.specs.emptying.ParityRests.{newSectors}
 use Rattle.promise.specs.emptying.ParityMounts.{Looks, looks-more}
 use Rattle.promise.specs.emptying.MountTail.{MountReady, filledDevice, stepped, known, entries-through, emptyings-are}
 use Rattle.promise.specs.emptying.FilledShows.{NoneShownPast, heldJust, sealedAt}
-use Rattle.promise.specs.emptying.ParityFilled.{FilledZone, Filled}
+use Rattle.promise.specs.emptying.FilledCopied.{filled-before}
 use Rattle.promise.specs.emptying.ParityMountShows.{AllShown}
 use Rattle.promise.specs.emptying.ParityMountAll.{MountStopped, mount-emptyings-stopped}
 
 -- ---- what is filled, as the looks need it
 module _ (g : Geometry) (ok : Valid g) (x : ℕ) (u : Device) (δ : Ghost) (l : Ledger) (k : Shown) (f : FilledNow g x u δ l k) where
-  zone-filled : (z : ℕ) → z < g .zones → zero < k .zone z .pointer → FilledZone g x u l δ k z
-  zone-filled z hz h =
-      let q = kept-at g x u δ l k f z hz h in
-      record {
-        live = q .live;
-        generation-is = q .generation-is;
-        unworn = q .unworn;
-        least = q .least;
-        most = kept-content g ok x u δ l k z q;
-        values = q .values;
-        seals-past = q .seals-past;
-        places = λ e a. rw (f .settled .lasts e (dataZone z) a) (q .places e a);
-      }
-
-  zone-idle : (z : ℕ) → z < g .zones → k .zone z .pointer ≡ zero → (Live g x u δ l z × (length (l .content z) ≡ zero)) ⊎ Dying g x u δ l z
-  zone-idle z hz h = go (f .zones z hz)
-    where
-      worn : WornNow g x u δ l k z → length (l .content z) ≡ zero
-      worn q =
-          let e : length (δ .laid z) ≡ zero = ap length (q .live .worn-empty (q .most) .0) in
-          let p : length (l .content z) ≤ length (δ .laid z) = prefix-length (q .live .front) in
-          omega (arith, e, p)
-
-      go : ZoneNow g x u δ l k z → (Live g x u δ l z × (length (l .content z) ≡ zero)) ⊎ Dying g x u δ l z
-      go (keptNow q) = absurd (omega (arith, h, q .some))
-      go (wornNow q) = inl (q .live, worn q)
-      go (goneNow q) = inr (q .dying)
-
-  pub filled-now : Filled g x u l δ k
-  filled-now = record { logs = f .logs; whole = f .whole; staying = zone-filled; idle = zone-idle }
-
   pub shown-now : AllShown g x u δ k
   shown-now z hz h =
       let q = kept-at g x u δ l k f z hz h in
@@ -84,9 +51,9 @@ module _ (g : Geometry) (ok : Valid g) (x : ℕ) (u : Device) (δ : Ghost) (l : 
 pub mount-parity-looks : (g : Geometry) (ok : Valid g) (x : ℕ) (u : Device) (c : LogGenerations) (l : Ledger) (k : Shown) (fa : FilledAt g x u c l k) (emptied : ℕ → Bool)
     (can : (d : ℕ) → d < g .drives → emptied d ≡ true → Here g x d × CanEmptyLog g true u d (newParitySize g (byLook k) d)) (n : ℕ) (w : Device)
     → Cut x (applyAll (take n (emptyParity g (presentBut g x) (roles g u) (byLook k) emptied (byRoles g u))) u) w
-    → MountStopped g ok x c u (fa .standing) (filled-solid g x u c l k fa) l (fa .ghosts) k (filled-now g ok x (byRoles g u) (fa .ghosts) l k (fa .filled)) (fa .closed-is) (shown-now g ok x (byRoles g u) (fa .ghosts) l k (fa .filled)) emptied can (g .drives) w
+    → MountStopped g ok x c u (fa .standing) (filled-solid g x u c l k fa) l (fa .ghosts) k (filled-before g ok x (byRoles g u) (fa .ghosts) l k (fa .filled)) (fa .closed-is) (shown-now g ok x (byRoles g u) (fa .ghosts) l k (fa .filled)) emptied can (g .drives) w
 mount-parity-looks g ok x u c l k fa emptied can n w cut =
-    mount-emptyings-stopped g ok x c u (fa .standing) (filled-solid g x u c l k fa) l (fa .ghosts) k (filled-now g ok x (byRoles g u) (fa .ghosts) l k (fa .filled)) (fa .closed-is) (shown-now g ok x (byRoles g u) (fa .ghosts) l k (fa .filled)) emptied can n w cut
+    mount-emptyings-stopped g ok x c u (fa .standing) (filled-solid g x u c l k fa) l (fa .ghosts) k (filled-before g ok x (byRoles g u) (fa .ghosts) l k (fa .filled)) (fa .closed-is) (shown-now g ok x (byRoles g u) (fa .ghosts) l k (fa .filled)) emptied can n w cut
 
 -- ---- STEP 10 OF A MOUNT OF v, which has reached v2 after its step 2: u, all sectors filled, is what it then has
 module _ (g : Geometry) (ok : Valid g) (x : ℕ) (l : Ledger) (v v2 : Device) (r : MountReady g x l v v2) where

@@ -98,9 +98,6 @@ module _ (g : Geometry) (ok : Valid g) (wb : isValid g ≡ true) (s : System (on
   abbrev w : Device
   w = deviceOf g (s .memory)
 
-  abbrev st : StateView
-  st = viewState (s .state)
-
   -- the rules' promise
   pub promised : Promise g (onDevice g (lengthsOf t)) (viewSystem g s)
   promised = kept g ok (lengthsOf t) wb (sized-lengths g t (o .sized)) (viewSystem g s) (o .holds)
@@ -116,7 +113,7 @@ module _ (g : Geometry) (ok : Valid g) (wb : isValid g ≡ true) (s : System (on
     pub look-is : lookOn g named (s .state) t ≡ record { answer = Finished; state = stateShown g (shownIn g named t t) }
     unfolding lookOn
     look-is =
-        let p = look-accepted (firstRefusal (lookRows g (lengthsOf t) (badPointers g (isSet named) w) (isSet named) (roles g w) (byRoles g w))) (shownIn g named t t) st (mountState (shownIn g named t t)) w (promised .look-fits (isSet named) names .0) in
+        let p = look-accepted (firstRefusal (lookRows g (lengthsOf t) (badPointers g (isSet named) w) (isSet named) (roles g w) (byRoles g w))) (shownIn g named t t) (viewState (s .state)) (mountState (shownIn g named t t)) w (promised .look-fits (isSet named) names .0) in
         rw (look-verdict g named t fine, p) refl
 
     look-claim : (resultOf (lookOn g named (s .state) t) t ≡ record { answer = Finished; memory = t; state = stateShown g (shownIn g named t t) }) × Fits g (s .ledger) (shownIn g named t t)
@@ -126,7 +123,7 @@ module _ (g : Geometry) (ok : Valid g) (wb : isValid g ≡ true) (s : System (on
     held-claim : s .mode ≡ ready → (lookOn g named (s .state) t .state .lost ≡ s .lost) × SameZones g (onTables g) (lookOn g named (s .state) t .state) (s .state)
     held-claim m =
         let k = shownIn g named t t in
-        let e : lookResult (lookCall g (lengthsOf t) (isSet named) w) st w .state ≡ mountState k = ap (λ (r : CallResult Device StateView). r .state) (promised .look-fits (isSet named) names .0) in
+        let e : lookResult (lookCall g (lengthsOf t) (isSet named) w) (viewState (s .state)) w .state ≡ mountState k = ap (λ (r : CallResult Device StateView). r .state) (promised .look-fits (isSet named) names .0) in
         let (a, b) = promised .look-holds (isSet named) names m in
         let f = shown-agrees g k in
         rw look-is (
@@ -141,8 +138,8 @@ module _ (g : Geometry) (ok : Valid g) (wb : isValid g ≡ true) (s : System (on
     look-event : Duty g (onTables g) s (looks named true) → TablesOk g (next g (onTables g) s (looks named true))
     look-event d =
         let k = shownIn g named t t in
-        let e : lookResult (lookCall g (lengthsOf t) (isSet named) w) st w .state ≡ mountState k = ap (λ (r : CallResult Device StateView). r .state) (promised .look-fits (isSet named) names .0) in
-        let i : OkIn g (s .mode) (s .lost) w (lookResult (lookCall g (lengthsOf t) (isSet named) w) st w .state) (s .ledger) = event-keeps g ok (lengthsOf t) (viewSystem g s) (o .holds) (looks (isSet named) true) (names, d .1) in
+        let e : lookResult (lookCall g (lengthsOf t) (isSet named) w) (viewState (s .state)) w .state ≡ mountState k = ap (λ (r : CallResult Device StateView). r .state) (promised .look-fits (isSet named) names .0) in
+        let i : OkIn g (s .mode) (s .lost) w (lookResult (lookCall g (lengthsOf t) (isSet named) w) (viewState (s .state)) w .state) (s .ledger) = event-keeps g ok (lengthsOf t) (viewSystem g s) (o .holds) (looks (isSet named) true) (names, d .1) in
         rw look-is (record {
           sized = o .sized;
           order = o .order;
@@ -152,10 +149,10 @@ module _ (g : Geometry) (ok : Valid g) (wb : isValid g ≡ true) (s : System (on
 
     -- a read by the rules
     abbrev sectors : ℕ → ℕ → List (List ℕ)
-    sectors a count = tabulateFrom (valueAt g (callPresent g (isSet named) st) (byRoles g w) (zoneOf g a) (st .generation (zoneOf g a))) (offsetOf g a) count
+    sectors a count = tabulateFrom (valueAt g (callPresent g (isSet named) (viewState (s .state))) (byRoles g w) (zoneOf g a) (viewState (s .state) .generation (zoneOf g a))) (offsetOf g a) count
 
     abbrev readVerdict : ℕ → ℕ → List ℕ → Verdict
-    readVerdict a count out = firstRefusal (readRows g (lengthsOf t) (badPointers g (isSet named) w) (isSet named) st a count (length out) (byRoles g w))
+    readVerdict a count out = firstRefusal (readRows g (lengthsOf t) (badPointers g (isSet named) w) (isSet named) (viewState (s .state)) a count (length out) (byRoles g w))
 
     read-same : (a count : ℕ) (out : List ℕ) → readOn g named (s .state) a count out t ≡ readResult (giving (readVerdict a count out) (sectors a count)) out
     unfolding readOn valuesOn
@@ -165,8 +162,8 @@ module _ (g : Geometry) (ok : Valid g) (wb : isValid g ≡ true) (s : System (on
         go accept h = refl
         go (refuse k) h = rw (ne-eqb k 0 h) refl
 
-    peek-number-same : (a : ℕ) → peekNumber g named (s .state) a t ≡ peekResult g (giving (firstRefusal (peekRows g (lengthsOf t) (badPointers g (isSet named) w) (isSet named) st a (byRoles g w))) (placeOf g a)) w .number
-    peek-number-same a = peek-number g named t fine (s .state) a ∙ go (firstRefusal (peekRows g (lengthsOf t) (badPointers g (isSet named) w) (isSet named) st a (byRoles g w)))
+    peek-number-same : (a : ℕ) → peekNumber g named (s .state) a t ≡ peekResult g (giving (firstRefusal (peekRows g (lengthsOf t) (badPointers g (isSet named) w) (isSet named) (viewState (s .state)) a (byRoles g w))) (placeOf g a)) w .number
+    peek-number-same a = peek-number g named t fine (s .state) a ∙ go (firstRefusal (peekRows g (lengthsOf t) (badPointers g (isSet named) w) (isSet named) (viewState (s .state)) a (byRoles g w)))
       where
         go : (v : Verdict) → verdictNumber v ≡ peekResult g (giving v (placeOf g a)) w .number
         go accept = refl
@@ -184,7 +181,7 @@ module _ (g : Geometry) (ok : Valid g) (wb : isValid g ≡ true) (s : System (on
         let hy : dataZone z < physicalZones g = omega arith in
         let most = o .order d hd there .written-most (dataZone z) hy in
         let (k, marks, above, (standing, r)) = rests-of g (lengthsOf t) (viewSystem g s) (o .holds) m in
-        let long = content-long g k (s .lost) (byRoles g w) st (withMarks (s .ledger) marks) r z hz (offsetOf g a) h in
+        let long = content-long g k (s .lost) (byRoles g w) (viewState (s .state)) (withMarks (s .ledger) marks) r z hz (offsetOf g a) h in
         let held : x < getD (t .written) (cell g d (dataZone z)) 0 = inside d (dataZone z) x hd hy (at (s .ledger .content z) (offsetOf g a)) e (omega (arith, long, ok .sector-least)) in
         sym (getD-tabulate (λ k. sectorAt g (t .sectors) d (dataZone z) k) (getD (t .written) (cell g d (dataZone z)) 0) x [] held) ∙ ap (λ (l : List (List ℕ)). getD l x []) (sym (device-sectors g t d (dataZone z) hd hy most)) ∙ e
       where
@@ -203,10 +200,10 @@ module _ (g : Geometry) (ok : Valid g) (wb : isValid g ≡ true) (s : System (on
         let z = zoneOf g a in
         let d = driveOf (g .drives) (g .unit) z (offsetOf g a) in
         let x = sectorOf (g .drives) (g .unit) (offsetOf g a) in
-        let rows = peekRows g (lengthsOf t) (badPointers g (isSet named) w) (isSet named) st a (byRoles g w) in
+        let rows = peekRows g (lengthsOf t) (badPointers g (isSet named) w) (isSet named) (viewState (s .state)) a (byRoles g w) in
         let p = numbered-accept (firstRefusal rows) (peek-numbered g named t (s .state) a) (sym (peek-number g named t fine (s .state) a) ∙ e) in
         let hz : z < g .zones = ltb-true z (g .zones) (not-not (ltb z (g .zones)) (accepted-row rows p 8)) in
-        let (here, held) = and-split (callPresent g (isSet named) st d) (ltb x (length (byRoles g w d (dataZone z) .sectors))) (not-not (callPresent g (isSet named) st d && ltb x (length (byRoles g w d (dataZone z) .sectors))) (accepted-row rows p 15)) in
+        let (here, held) = and-split (callPresent g (isSet named) (viewState (s .state)) d) (ltb x (length (byRoles g w d (dataZone z) .sectors))) (not-not (callPresent g (isSet named) (viewState (s .state)) d && ltb x (length (byRoles g w d (dataZone z) .sectors))) (accepted-row rows p 15)) in
         let there : d ≢ s .lost = present-not g (s .lost) d (sym (ap (λ (f : ℕ → Bool). f d) (drives-of-call g ok (lengthsOf t) (viewSystem g s) (o .holds) (isSet named) names m)) ∙ here) in
         let (h, b, c) = promised .peek-gives (isSet named) names m a (sym (peek-number-same a) ∙ e) in
         let n = eq-eqb (peekNumber g named (s .state) a t) 0 e in

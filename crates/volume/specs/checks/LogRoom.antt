@@ -17,20 +17,22 @@ use Rattle.tables.specs.meaning.Below.{anyBelow, tabulate}
 use Rattle.tables.specs.laws.Below.{any-below-cong, any-below-false}
 use Rattle.tables.specs.meaning.Geometry.{Valid, physicalZones, cells}
 use Rattle.tables.specs.meaning.Device.{Device}
-use Rattle.tables.specs.meaning.Tables.{tablesOf, deviceOf}
+use Rattle.tables.specs.meaning.Tables.{Tables, tablesOf, deviceOf}
 use Rattle.tables.specs.laws.Tables.{device-length}
 use Rattle.logs.specs.meaning.Entry.{wornGeneration, generalZone, spareZone, kindOfLog, Entry}
 use Rattle.logs.specs.meaning.Walk.{walkLog}
+use Rattle.volume.specs.declared.State.{State}
+use Rattle.volume.specs.declared.Zone.{Zone}
 use Rattle.volume.specs.declared.roles.LogPlaces.{LogPlaces}
 use Rattle.volume.specs.declared.log_room.RoomAsked.{RoomAsked}
 use Rattle.volume.specs.declared.log_room.DriveRoom.{DriveRoom}
 use Rattle.volume.specs.declared.log_room.LogRoom.{LogRoom}
 use Rattle.volume.specs.declared.emptyings.Emptyings.{Emptyings}
 use Rattle.volume.specs.looking.MovedLogs.{movedLogs}
-use Rattle.volume.specs.meaning.CallContracts.{isSet, rolesOf, seenIn}
+use Rattle.volume.specs.meaning.CallContracts.{viewState, isSet, rolesOf, seenIn}
 use Rattle.volume.specs.meaning.Rules.{generalHeads}
 use Rattle.volume.specs.meaning.Roles.{Roles, roles, claimOfKind, lacksKind}
-use Rattle.volume.specs.meaning.Emptying.{newGeneralSize, newParitySize, unusedIn, staysFull, spareWritten, emptiedFor}
+use Rattle.volume.specs.meaning.Emptying.{InForce, byState, newGeneralSize, newParitySize, unusedIn, staysFull, spareWritten, emptiedFor}
 use Rattle.volume.specs.laws.LogPlaces.{withLogs, withRoles, logsOf, valid-with-logs}
 use Rattle.volume.specs.looking.DriveLogs.{Sized, zonePointer}
 use Rattle.volume.specs.looking.DrivesLost.{fill-at, fill-more}
@@ -50,6 +52,10 @@ abbrev pub roomOf : (ℕ → DriveRoom) → ℕ → LogRoom
 roomOf f n = record { full = anyBelow (λ d. f d .full) n; emptied = tabulate (λ d. f d .lacks) n ++ replicate (8 - n) false; generations = tabulate (λ d. f d .generation) n ++ replicate (8 - n) 0 }
 
 -- ---- on the tables
+-- what is in force, by the state that a call on a zone is handed
+abbrev pub forceOf : Zone → State → Tables → InForce
+forceOf zone s t = byState (zone .geometry) (isSet (zone .here)) (seenIn (zone .geometry) t) (viewState s)
+
 -- the drive lacks the kind
 abbrev pub kindLacksAt : LogPlaces → Bool → ℕ → Bool
 kindLacksAt p par d = pick par (isSet (p .«no_parity») d) (isSet (p .«no_general») d)
@@ -68,7 +74,11 @@ claimAt a xs ws d = claimOfKind (a .parity) (roles (a .first) (readDevice (a .fi
 unfoldable pub lostAt : RoomAsked → List ℕ → List ℕ → List ℕ → ℕ → Bool
 lostAt a xs ws ps d = (kindLacksAt (a .places) false d || kindLacksAt (a .places) true d) || (ltb wornGeneration (claimAt a xs ws d) || (not (a .«clears_spares») && ltb 0 (zonePointer (a .places .geometry) ps d spareZone)))
 
--- and by the size of the new log
+-- its answer before the size of the new log is known
+abbrev pub unsizedAt : RoomAsked → List ℕ → List ℕ → List ℕ → ℕ → DriveRoom
+unsizedAt a xs ws ps d = driveRoomOf (lacksAt a ps d) (lostAt a xs ws ps d) (claimAt a xs ws d)
+
+-- and by that size
 abbrev roomAt : RoomAsked → ℕ → List ℕ → List ℕ → List ℕ → ℕ → DriveRoom
 roomAt a size xs ws ps d = driveRoomOf (lacksAt a ps d) (lostAt a xs ws ps d || ltb (a .first .capacity - size) (a .limit)) (claimAt a xs ws d)
 
@@ -145,26 +155,53 @@ module _ (g : Geometry) (p : LogPlaces) (xs ws ps : List ℕ) (k : SeenByRoles g
   kind-claimed d h e false q = let b = either (kindLacksAt p false d) (kindLacksAt p true d) e .0 in eqb-false (claimOfKind false (r d)) 0 (sym (kind-lacks-is false d h) ∙ b) q
 
 -- ---- as the code's loop goes on
-pub room-more : (f : ℕ → DriveRoom) (d : ℕ) (full : Bool) (es : List Bool) (gs : List ℕ) (x : DriveRoom) → d < 8 → x ≡ f d → full ≡ anyBelow (λ e. f e .full) d → es ≡ tabulate (λ e. f e .lacks) d ++ replicate (8 - d) false
-    → gs ≡ tabulate (λ e. f e .generation) d ++ replicate (8 - d) 0
-    → (full || x .full ≡ anyBelow (λ e. f e .full) (d + 1)) × (set es d (x .lacks) ≡ tabulate (λ e. f e .lacks) (d + 1) ++ replicate (8 - (d + 1)) false) × (set gs d (x .generation) ≡ tabulate (λ e. f e .generation) (d + 1) ++ replicate (8 - (d + 1)) 0)
-room-more f d full es gs x h e p q s = rw (e, p, q, s, add-one) (refl, fill-more (λ e. f e .lacks) false 8 d h, fill-more (λ e. f e .generation) 0 8 d h)
+abbrev pub noAnswers : LogRoom
+noAnswers = record { full = false; emptied = replicate 8 false; generations = replicate 8 0 }
+
+abbrev pub withAnswer : LogRoom → ℕ → DriveRoom → LogRoom
+withAnswer x d a = record { full = x .full || a .full; emptied = set (x .emptied) d (a .lacks); generations = set (x .generations) d (a .generation) }
+
+pub answered : (f : ℕ → DriveRoom) (d : ℕ) (x : LogRoom) (a : DriveRoom) → d < 8 → a ≡ f d → x ≡ roomOf f d → withAnswer x d a ≡ roomOf f (d + 1)
+answered f d x a h e q = rw (e, q, add-one) (more (fill-more (λ e. f e .lacks) false 8 d h) (fill-more (λ e. f e .generation) 0 8 d h))
+  where
+    more : set (tabulate (λ e. f e .lacks) d ++ replicate (8 - d) false) d (f d .lacks) ≡ tabulate (λ e. f e .lacks) (suc d) ++ replicate (8 - suc d) false
+        → set (tabulate (λ e. f e .generation) d ++ replicate (8 - d) 0) d (f d .generation) ≡ tabulate (λ e. f e .generation) (suc d) ++ replicate (8 - suc d) 0
+        → withAnswer (roomOf f d) d (f d) ≡ roomOf f (suc d)
+    more p r = λ i. record { full = anyBelow (λ e. f e .full) d || f d .full; emptied = p i; generations = r i }
 
 -- ---- case by case
-module _ (a : RoomAsked) (size : ℕ) (xs ws ps : List ℕ) (d : ℕ) where
-  pub room-kept : lacksAt a ps d ≡ false → driveRoomOf false false 0 ≡ roomAt a size xs ws ps d
-  room-kept e = rw e refl
+pub room-none : (lacks lost : Bool) (claim : ℕ) → lacks ≡ false → driveRoomOf false false 0 ≡ driveRoomOf lacks lost claim
+room-none lacks lost claim e = rw e refl
 
-  pub room-lost : lacksAt a ps d ≡ true → lostAt a xs ws ps d ≡ true → driveRoomOf true (lostAt a xs ws ps d) (claimAt a xs ws d) ≡ roomAt a size xs ws ps d
-  room-lost e l = rw (e, l) refl
+pub room-new : (lacks lost : Bool) (claim : ℕ) → lacks ≡ true → driveRoomOf true lost claim ≡ driveRoomOf lacks lost claim
+room-new lacks lost claim e = rw e refl
 
-  pub room-sized : lacksAt a ps d ≡ true → lostAt a xs ws ps d ≡ false
-      → pick (ltb (a .first .capacity - size) (a .limit)) (driveRoomOf true true 0) (driveRoomOf true (lostAt a xs ws ps d) (claimAt a xs ws d)) ≡ roomAt a size xs ws ps d
-  room-sized e l = rw (e, l) (go (ltb (a .first .capacity - size) (a .limit)))
-    where
-      go : (b : Bool) → pick b (driveRoomOf true true 0) (driveRoomOf true false (claimAt a xs ws d)) ≡ driveRoomOf true b (claimAt a xs ws d)
-      go true = refl
-      go false = refl
+-- it has room, or stays full whatever the size
+abbrev pub isDone : DriveRoom → Bool
+isDone x = x .full || not (x .lacks)
+
+done-sized : (lacks lost small : Bool) (claim : ℕ) → isDone (driveRoomOf lacks lost claim) ≡ true → driveRoomOf lacks lost claim ≡ driveRoomOf lacks (lost || small) claim
+done-sized true true small claim h = refl
+done-sized true false small claim h = absurd (true≢false (sym h))
+done-sized false lost small claim h = refl
+
+left-sized : (lacks lost small : Bool) (claim : ℕ) → isDone (driveRoomOf lacks lost claim) ≡ false → pick small (driveRoomOf true true 0) (driveRoomOf lacks lost claim) ≡ driveRoomOf lacks (lost || small) claim
+left-sized true true small claim h = absurd (true≢false h)
+left-sized true false true claim h = refl
+left-sized true false false claim h = refl
+left-sized false lost small claim h = absurd (true≢false h)
+
+module _ (a : RoomAsked) (size : ℕ) (xs ws ps : List ℕ) (d : ℕ) (x : DriveRoom) (e : x ≡ unsizedAt a xs ws ps d) where
+  abbrev small : ℕ → Bool
+  small n = ltb (a .first .capacity - n) (a .limit)
+
+  pub room-done : isDone x ≡ true → x ≡ roomAt a size xs ws ps d
+  room-done h = e ∙ done-sized (lacksAt a ps d) (lostAt a xs ws ps d) (small size) (claimAt a xs ws d) (sym (ap isDone e) ∙ h)
+
+  -- n: the size as the code found it, in a geometry of that capacity
+  pub room-sized : (c n : ℕ) → c ≡ a .first .capacity → n ≡ size → isDone x ≡ false → pick (ltb (c - n) (a .limit)) (driveRoomOf true true 0) x ≡ roomAt a size xs ws ps d
+  room-sized c n q r h =
+      rw (q, r) (ap (λ (y : DriveRoom). pick (small size) (driveRoomOf true true 0) y) e ∙ left-sized (lacksAt a ps d) (lostAt a xs ws ps d) (small size) (claimAt a xs ws d) (sym (ap isDone e) ∙ h))
 
 -- the log's claim is one above its generation, which fits a number of 64 bits
 pub worn-claim : (n claim : ℕ) → n < 2 ^ 64 → suc n ≡ claim → eqb n wornGeneration ≡ ltb wornGeneration claim

@@ -20,7 +20,7 @@ use Rattle.logs.specs.meaning.Entry.{spareZone, kindOfLog}
 use Rattle.volume.specs.meaning.Calls.{appendAll}
 use Rattle.volume.specs.meaning.Roles.{Roles, zoneOfKind, zoneOfRole, placedBy, rolesAfter, emptiedRoles}
 use Rattle.volume.specs.meaning.Emptying.{emptyingStores, emptyings}
-use Rattle.volume.specs.laws.LogPlaces.{withRoles, Proper, OnDrives, run-by-roles}
+use Rattle.volume.specs.laws.LogPlaces.{withLogs, withRoles, logsOf, Proper, OnDrives, CellsAt, run-at, cells-at}
 
 -- ---- carried
 module _ (ρ : ℕ → ℕ → ℕ) where
@@ -118,8 +118,11 @@ length-carried : (ρ : ℕ → ℕ → ℕ) (xs : List Store) → length (map (c
 length-carried ρ [] = refl
 length-carried ρ (x ∷ xs) = ap suc (length-carried ρ xs)
 
-pub made-by-roles : (g : Geometry) → g .logs ≡ 0 → (r : ℕ → Roles) → ((d : ℕ) → Proper (r d)) → (budget rest : ℕ) (xs : List Store) (t u : Tables) → OnDrives g xs → Made (withRoles g r) budget rest xs t u → Made g budget rest (map (carry (placedBy r)) xs) t u
-made-by-roles g first r proper budget rest xs t u h m = record {
+pub made-at : (g : Geometry) (n : ℕ) (r : ℕ → Roles) (budget rest : ℕ) (xs : List Store) (t u : Tables) → CellsAt g n r xs → Made (withLogs g n) budget rest xs t u → Made g budget rest (map (carry (placedBy r)) xs) t u
+made-at g n r budget rest xs t u h m = record {
   rest-is = m .rest-is ∙ ap (λ (n : ℕ). budget - n) (sym (length-carried (placedBy r) xs));
-  tables-are = m .tables-are ∙ run-by-roles g first r proper (budget - 1) xs t h;
+  tables-are = m .tables-are ∙ run-at g n r (budget - 1) xs t h;
 }
+
+pub made-by-roles : (g : Geometry) → g .logs ≡ 0 → (r : ℕ → Roles) → ((d : ℕ) → Proper (r d)) → (budget rest : ℕ) (xs : List Store) (t u : Tables) → OnDrives g xs → Made (withRoles g r) budget rest xs t u → Made g budget rest (map (carry (placedBy r)) xs) t u
+made-by-roles g first r proper budget rest xs t u h m = made-at g (logsOf r (g .drives)) r budget rest xs t u (cells-at g first r proper xs h) m

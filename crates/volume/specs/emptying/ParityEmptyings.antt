@@ -5,7 +5,7 @@ use Prim.Native.Nat.{ℕ, _≤_, _<_}
 use mathlib.Core.List.{List}
 use lib.ListN.{length, getD}
 use lib.Dec.{eqb}
-use Rattle.tables.specs.meaning.Geometry.{Valid, physicalZones}
+use Rattle.tables.specs.meaning.Geometry.{Valid, physicalZones, cells}
 use Rattle.volume.specs.emptying.Elsewhere.{SectorsLong}
 use Rattle.tables.specs.meaning.Tables.{cell}
 use Rattle.logs.specs.meaning.Entry.{spareZone}
@@ -44,6 +44,15 @@ known-copying a gs qs ps xs ws ds d r k e = record {
   pointers-within = k .pointers-within;
   known-if-made = none-gone-known (emptyingOf a d) gs qs (readDevice (a .from) xs ps) (k .none-gone e);
 }
+
+-- what the emptying of a drive's parity log relies on, if it is one of them: values are read below `ps`, the old log below `ss`
+pub record TurnReady (a : Emptyings) (gs qs ps ss xs ws ds : List ℕ) (d : ℕ) : Type 0 where
+  pub drive-in : d < a .from .drives
+  pub copying : isSet (a .emptied) d ≡ true → ParityCopying (emptyingOf a d) gs qs ps ss xs ws
+  pub durable-long : length ds ≡ cells (a .from)
+
+pub known-ready : (a : Emptyings) (gs qs ps xs ws ds : List ℕ) (d : ℕ) → EmptyingReady true a ps xs ws ds → ParityKnown a gs qs ps xs ws d → TurnReady a gs qs ps ps xs ws ds d
+known-ready a gs qs ps xs ws ds d r k = record { drive-in = k .drive-in; copying = known-copying a gs qs ps xs ws ds d r k; durable-long = r .durable-long }
 
 -- these copies are whole sectors
 pub known-long : (a : Emptyings) (gs qs ps xs ws ds : List ℕ) (d : ℕ) → Valid (a .from) → EmptyingReady true a ps xs ws ds → ParityKnown a gs qs ps xs ws d → isSet (a .emptied) d ≡ true → SectorsLong (a .from .sector) (newParityOn a gs qs xs ps d)

@@ -27,6 +27,7 @@ use Rattle.volume.specs.emptying.Elsewhere.{SectorsLong}
 use Rattle.volume.specs.emptying.EmptyingStores.{emptiedTo}
 use Rattle.volume.specs.emptying.EmptiedKeeps.{leaves, emptied-durable, emptied-behind, emptied-device}
 use Rattle.volume.specs.emptying.ParityCopies.{inForceBy, PointersWithin, oldEntries, entrySectors, copiedEntries, pointOf}
+use Rattle.volume.specs.emptying.ParityEmptyings.{TurnReady}
 use Rattle.volume.specs.emptying.ParityReady.{KnownIfMade, ParityCopying, parity-copies-long}
 use Rattle.volume.specs.emptying.Emptyings.{emptyingOf, emptiedOn, EmptyingReady, ready-copying, emptied-kept}
 
@@ -71,6 +72,9 @@ turn-copying a gs qs ps ss xs ws ds d r hd e =
       pointers-within = r .pointers-within;
       known-if-made = λ z hz. r .known-if-made d z hd e hz;
     }
+
+pub turn-ready : (a : Emptyings) (gs qs ps ss xs ws ds : List ℕ) (d : ℕ) → ParitiesReady a gs qs ps ss xs ws ds → d < a .from .drives → TurnReady a gs qs ps ss xs ws ds d
+turn-ready a gs qs ps ss xs ws ds d r hd = record { drive-in = hd; copying = turn-copying a gs qs ps ss xs ws ds d r hd; durable-long = r .ready .durable-long }
 
 -- what its stores leave, of the pointers and of what is read below ps
 record Left (a : Emptyings) (ps ss xs xs′ ws′ ds′ : List ℕ) : Type 0 where

@@ -21,15 +21,16 @@ use Rattle.volume.specs.meaning.Content.{insideStripe, parityDriveAt, en
 use Rattle.volume.specs.meaning.Roles.{Roles, claimOfKind}
 use Rattle.volume.specs.meaning.Emptying.{InForce, generalCopies, lastEntry, isCopied, madeEntry, parityCopies, newGeneral, newParity}
 use Rattle.volume.specs.laws.EachBelow.{each-below-cong}
-use Rattle.volume.specs.emptying.Shape.{SameShape, relaid, shape-is, shape-encode}
+use Rattle.volume.specs.laws.LogPlaces.{withLogs}
+use Rattle.volume.specs.emptying.Shape.{SameShape, shape-is, shape-encode}
 use Rattle.volume.specs.emptying.EmptyingStores.{withClosing}
 
 -- ---- where the logs lie
-relaid-general : (g : Geometry) (l : ℕ) (f : InForce) (hs : List Header) → generalCopies (relaid g l) f hs ≡ generalCopies g f hs
+relaid-general : (g : Geometry) (l : ℕ) (f : InForce) (hs : List Header) → generalCopies (withLogs g l) f hs ≡ generalCopies g f hs
 unfolding generalCopies copiedGeneral zoneSectors
 relaid-general g l f hs = refl
 
-relaid-ends : (g : Geometry) (l z n q : ℕ) (h : Header) → endsAt (relaid g l) z n q h ≡ endsAt g z n q h
+relaid-ends : (g : Geometry) (l z n q : ℕ) (h : Header) → endsAt (withLogs g l) z n q h ≡ endsAt g z n q h
 relaid-ends g l z n q (label x a) = refl
 relaid-ends g l z n q (counters cs) = refl
 relaid-ends g l z n q (zoneReset y m) = refl
@@ -37,7 +38,7 @@ relaid-ends g l z n q (partialParity y s f m) = refl
 relaid-ends g l z n q (seal y p m) = refl
 relaid-ends g l z n q (closing kind gen) = refl
 
-relaid-parity : (g : Geometry) (l : ℕ) (f : InForce) (d : ℕ) (es : List Entry) → parityCopies (relaid g l) f d es ≡ parityCopies g f d es
+relaid-parity : (g : Geometry) (l : ℕ) (f : InForce) (d : ℕ) (es : List Entry) → parityCopies (withLogs g l) f d es ≡ parityCopies g f d es
 unfolding parityCopies entryAt
 relaid-parity g l f d es =
     ap (λ (t : ℕ → Entry → Bool). eachBelow (λ z. pick (isCopied g f d z) (lastEntry (t z) (madeEntry g f z ∷ []) es) []) (g .zones)) (fun-ext λ z. fun-ext λ e. relaid-ends g l z (f .generation z) (f .pointer z) (e .head))

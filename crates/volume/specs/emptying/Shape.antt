@@ -3,6 +3,7 @@ use mathlib.Core.Path.{_≡_, refl, sym, ap, _∙_, subst}
 use Prim.Native.Nat.{ℕ}
 use Rattle.tables.specs.declared.Geometry.{Geometry}
 use Rattle.tables.specs.meaning.Geometry.{Valid, zoneSectors, cells, totalBytes}
+use Rattle.volume.specs.laws.LogPlaces.{withLogs, valid-with-logs}
 use Rattle.logs.specs.meaning.Entry.{Header, label, counters, zoneReset, partialParity, seal, closing, encode, labelBytes}
 
 pub record SameShape (g h : Geometry) : Type 0 where
@@ -12,35 +13,15 @@ pub record SameShape (g h : Geometry) : Type 0 where
   pub zones : h .zones ≡ g .zones
   pub capacity : h .capacity ≡ g .capacity
 
--- the geometry with the logs elsewhere
-abbrev pub relaid : Geometry → ℕ → Geometry
-relaid g l = record { drives = g .drives; sector = g .sector; unit = g .unit; zones = g .zones; capacity = g .capacity; logs = l }
-
-pub relaid-shape : (g : Geometry) (l : ℕ) → SameShape g (relaid g l)
+pub relaid-shape : (g : Geometry) (l : ℕ) → SameShape g (withLogs g l)
 relaid-shape g l = record { drives = refl; sector = refl; unit = refl; zones = refl; capacity = refl }
 
 module _ (g h : Geometry) (s : SameShape g h) where
-  pub shape-is : h ≡ relaid g (h .logs)
+  pub shape-is : h ≡ withLogs g (h .logs)
   shape-is = λ i. record { drives = s .drives i; sector = s .sector i; unit = s .unit i; zones = s .zones i; capacity = s .capacity i; logs = h .logs }
 
   pub shape-valid : Valid g → Valid h
-  shape-valid v = subst Valid (sym shape-is) (record {
-    drives-least = v .drives-least;
-    drives-most = v .drives-most;
-    sector = v .sector;
-    sector-least = v .sector-least;
-    sector-most = v .sector-most;
-    unit-least = v .unit-least;
-    unit-most = v .unit-most;
-    zones-least = v .zones-least;
-    zones-most = v .zones-most;
-    counters-fit = v .counters-fit;
-    units = v .units;
-    whole-units = v .whole-units;
-    zone-most = v .zone-most;
-    logs-fit = v .logs-fit;
-    general-fits = v .general-fits;
-  })
+  shape-valid v = subst Valid (sym shape-is) (valid-with-logs g (h .logs) v)
 
   pub shape-cells : cells h ≡ cells g
   shape-cells = ap cells shape-is
@@ -49,7 +30,7 @@ module _ (g h : Geometry) (s : SameShape g h) where
   shape-bytes = ap totalBytes shape-is
 
 -- ---- headers
-relaid-encode : (g : Geometry) (l d : ℕ) (x : Header) → encode (relaid g l) d x ≡ encode g d x
+relaid-encode : (g : Geometry) (l d : ℕ) (x : Header) → encode (withLogs g l) d x ≡ encode g d x
 unfolding encode labelBytes zoneSectors
 relaid-encode g l d (label x a) = refl
 relaid-encode g l d (counters cs) = refl

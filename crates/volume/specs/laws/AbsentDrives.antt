@@ -28,7 +28,7 @@ use Rattle.volume.specs.declared.State.{State}
 use Rattle.volume.specs.meaning.State.{StateView, callPresent, pointerIn}
 use Rattle.volume.specs.meaning.Content.{at}
 use Rattle.volume.specs.meaning.Rules.{valueAt, zoneView, viewOf, generalHeads, parityEntries}
-use Rattle.volume.specs.meaning.Refusals.{zoneOf, offsetOf, formatRows, flushRows, resetRows, writeRows, readRows, peekRows}
+use Rattle.volume.specs.meaning.Refusals.{zoneOf, offsetOf, stale, formatRows, flushRows, resetRows, writeRows, readRows, peekRows}
 use Rattle.volume.specs.meaning.Calls.{formatPhases, formatStores, flushStores, resetPhases, resetStores, writeWith, zoneContent, writeStores}
 use Rattle.volume.specs.meaning.Answers.{lostIn, leftOut, namedDrives, sectorsIn, placeOf}
 use Rattle.volume.specs.meaning.CallContracts.{viewState, isSet, rolesOf, seenIn, recordAt, pointerOf, verdictNumber, Result, storingOn, withLost, withReset, writtenState, freshState, formatVerdict, formatOn, flushVerdict, flushOn, resetVerdict, resetOn, writeVerdict, writeOn, readNumber, readOn, valuesOn, peekNumber, peekOn, partAt}
@@ -134,6 +134,9 @@ module _ (g : Geometry) (named : List Bool) (t u : Tables) (same : AgreeOn g (is
     force-same : byState g present (byRoles g v) (viewState s) ≡ byState g present (byRoles g w) (viewState s)
     force-same = by-state-depends g present (byRoles g v) (byRoles g w) seen-same (viewState s)
 
+    stale-same : (z : ℕ) → stale g present (byRoles g v) (viewState s) z ≡ stale g present (byRoles g w) (viewState s) z
+    stale-same = stale-depends g present (byRoles g v) (byRoles g w) seen-same (viewState s)
+
     flush-same : flushVerdict g named s t ≡ flushVerdict g named s u
     unfolding flushVerdict flushRows
     flush-same = rw (same .sectors-long, same .written-long, same .durable-long, pointers-same) refl
@@ -141,55 +144,31 @@ module _ (g : Geometry) (named : List Bool) (t u : Tables) (same : AgreeOn g (is
     reset-same : (z : ℕ) → resetVerdict g named s z t ≡ resetVerdict g named s z u
     unfolding resetVerdict resetRows
     reset-same z =
-        rw (
-          same .sectors-long,
-          same .written-long,
-          same .durable-long,
-          pointers-same,
-          stale-depends g present (byRoles g v) (byRoles g w) seen-same (viewState s) z,
-          reset-full-depends g present (byRoles g v) (byRoles g w) seen-same (roles g v) (roles g w) roles-same (byState g present (byRoles g v) (viewState s)) (byState g present (byRoles g w) (viewState s)) force-same,
-        ) refl
+        let full = reset-full-depends g present (byRoles g v) (byRoles g w) seen-same (roles g v) (roles g w) roles-same (byState g present (byRoles g v) (viewState s)) (byState g present (byRoles g w) (viewState s)) force-same in
+        rw (same .sectors-long, same .written-long, same .durable-long, pointers-same, stale-same z, full) refl
 
     write-same : (a k bytes : ℕ) → writeVerdict g named s a k bytes t ≡ writeVerdict g named s a k bytes u
     unfolding writeVerdict writeRows
     write-same a k bytes =
         let z = zoneOf g a in
-        rw (
-          same .sectors-long,
-          same .written-long,
-          same .durable-long,
-          pointers-same,
-          stale-depends g present (byRoles g v) (byRoles g w) seen-same (viewState s) z,
-          write-full-depends g present (byRoles g v) (byRoles g w) seen-same (roles g v) (roles g w) roles-same (byState g present (byRoles g v) (viewState s)) (byState g present (byRoles g w) (viewState s)) force-same z (pointerOf s z + k),
-          gone-entry-depends g present (byRoles g v) (byRoles g w) seen-same (roles g v) (roles g w) roles-same (byState g present (byRoles g v) (viewState s)) (byState g present (byRoles g w) (viewState s)) force-same z (pointerOf s z + k),
-          gone-before-depends g present (byRoles g v) (byRoles g w) seen-same z (recordAt s z .generation) (pointerOf s z),
-        ) refl
+        let full = write-full-depends g present (byRoles g v) (byRoles g w) seen-same (roles g v) (roles g w) roles-same (byState g present (byRoles g v) (viewState s)) (byState g present (byRoles g w) (viewState s)) force-same z (pointerOf s z + k) in
+        let entry = gone-entry-depends g present (byRoles g v) (byRoles g w) seen-same (roles g v) (roles g w) roles-same (byState g present (byRoles g v) (viewState s)) (byState g present (byRoles g w) (viewState s)) force-same z (pointerOf s z + k) in
+        let old = gone-before-depends g present (byRoles g v) (byRoles g w) seen-same z (recordAt s z .generation) (pointerOf s z) in
+        rw (same .sectors-long, same .written-long, same .durable-long, pointers-same, stale-same z, full, entry, old) refl
 
     read-same : (a count bytes : ℕ) → readNumber g named s a count bytes t ≡ readNumber g named s a count bytes u
     unfolding readNumber readRows
     read-same a count bytes =
         let z = zoneOf g a in
-        rw (
-          same .sectors-long,
-          same .written-long,
-          same .durable-long,
-          pointers-same,
-          stale-depends g present (byRoles g v) (byRoles g w) seen-same (viewState s) z,
-          gone-depends g present (byRoles g v) (byRoles g w) seen-same z (recordAt s z .generation) (offsetOf g a) count,
-        ) refl
+        let gone = gone-depends g present (byRoles g v) (byRoles g w) seen-same z (recordAt s z .generation) (offsetOf g a) count in
+        rw (same .sectors-long, same .written-long, same .durable-long, pointers-same, stale-same z, gone) refl
 
     peek-same : (a : ℕ) → peekNumber g named s a t ≡ peekNumber g named s a u
     unfolding peekNumber peekRows
     peek-same a =
         let z = zoneOf g a in
-        rw (
-          same .sectors-long,
-          same .written-long,
-          same .durable-long,
-          pointers-same,
-          stale-depends g present (byRoles g v) (byRoles g w) seen-same (viewState s) z,
-          not-held-depends g present (byRoles g v) (byRoles g w) seen-same z (recordAt s z .generation) (offsetOf g a),
-        ) refl
+        let lost = not-held-depends g present (byRoles g v) (byRoles g w) seen-same z (recordAt s z .generation) (offsetOf g a) in
+        rw (same .sectors-long, same .written-long, same .durable-long, pointers-same, stale-same z, lost) refl
 
     -- ---- a reset's stores
     abbrev emptiedByReset : Device → ℕ → Bool

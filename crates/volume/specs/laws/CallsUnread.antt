@@ -1,5 +1,5 @@
 -- Nor do refusals, calls and the steps of a mount read where a geometry places the logs (the rules: RulesUnread; emptyings: EmptyingUnread; a mount: MountUnread). Their stores go to the zones by role; where these
--- lie is the tables' business (LogPlaces: `store-by-roles`).
+-- lie is the tables' business (LogPlaces: `run-at`).
 use mathlib.Core.Path.{_≡_, refl, ap, fun-ext}
 use mathlib.Core.Bool.{Bool}
 use Prim.Native.Nat.{ℕ, _+_}

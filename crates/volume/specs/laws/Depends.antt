@@ -24,7 +24,8 @@ use Rattle.logs.specs.meaning.Entry.{generalZone, parityZone, Header, Entry}
 use Rattle.logs.specs.meaning.Walk.{walkLog}
 use Rattle.logs.specs.meaning.Heads.{labelled, lastLost, generationIn, isReset, isSeal, endsPast, leastSeal}
 use Rattle.tables.specs.meaning.Drives.{noDrive}
-use Rattle.volume.specs.meaning.Rules.{ParityEntry, View, Found, found, nothing, lastOf, heldAt, rowAddress, parityOf, rowDrive, byParity, serves, entryFor, known, othersXor, entryXor, fromEntry, valueOf, knownPrefix, isFound, generalHeads, generalEnding, parityEntries, parityEnding, isLost, generationOf, resetSeen, sealLimitBelow, sealLimit, servingEntries, viewOf, zoneView, valueAt, pointerAt, sealSeen, endingPast, cleanAt, conditionOf, zoneAt, zoneShown}
+use Rattle.volume.specs.meaning.Rules.{ParityEntry, View, Found, found, nothing, lastOf, heldAt, rowAddress, parityOf, rowDrive, byParity, serves, entryFor, known, othersXor, entryXor, fromEntry, valueOf, knownPrefix, isFound}
+use Rattle.volume.specs.meaning.Rules.{generalHeads, generalEnding, parityEntries, parityEnding, isLost, generationOf, resetSeen, sealLimitBelow, sealLimit, servingEntries, viewOf, zoneView, valueAt, pointerAt, sealSeen, endingPast, cleanAt, conditionOf, zoneAt, zoneShown}
 
 -- the same sectors on every drive that is present
 abbrev pub SameOn : (ℕ → Bool) → Device → Device → Type 0

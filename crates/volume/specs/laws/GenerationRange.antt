@@ -1,7 +1,7 @@
 -- A zone's generation is a number of 8 bytes: every counter of a legal entry is, for the entry's bytes are what its numbers are written as.
-use mathlib.Core.Path.{_≡_, refl, sym, ap, _∙_}
+use mathlib.Core.Path.{_≡_, ap, _∙_}
 use mathlib.Core.Logic.{_⊎_, inl, inr}
-use mathlib.Core.Bool.{Bool, true, false, true≢false}
+use mathlib.Core.Bool.{Bool, true, false}
 use Prim.Native.Nat.{ℕ, zero, _+_, _-_, _*_, _^_, _<_}
 use native.Mathlib.Decide.{ℕ-discrete}
 use native.Mathlib.Omega.{arith}
@@ -14,14 +14,14 @@ use Rattle.tables.specs.meaning.Below.{maxBelow}
 use Rattle.tables.specs.laws.Below.{max-below-is}
 use Rattle.tables.specs.meaning.LittleEndian.{wordsLE}
 use Rattle.tables.specs.meaning.Device.{Device}
-use Rattle.logs.specs.meaning.Entry.{generalZone, Header, label, counters, zoneReset, partialParity, seal, closing, encode, frame, legal}
+use Rattle.logs.specs.meaning.Entry.{generalZone, counters, encode, frame, legal}
 use Rattle.logs.specs.laws.Legal.{legal-written-again}
 use Rattle.logs.specs.meaning.Walk.{walkLog}
 use Rattle.logs.specs.laws.Heads.{isCounters}
 use Rattle.logs.specs.meaning.Heads.{generationIn}
 use Rattle.logs.specs.code.Query.{headsOf}
 use Rattle.logs.specs.laws.Places.{last-there}
-use Rattle.logs.specs.code.Generations.{countersPlace, no-generation, generation-there}
+use Rattle.logs.specs.code.Generations.{counters-of, countersPlace, no-generation, generation-there}
 use Rattle.volume.specs.meaning.Rules.{generalHeads, generationOf}
 use Rattle.volume.specs.laws.ByteLists.{Bytes, bytes-append, bytes-take, bytes-drop, bytes-zeros, words-in-bytes, number-small}
 
@@ -29,14 +29,6 @@ use Rattle.volume.specs.laws.ByteLists.{Bytes, bytes-append, bytes-take,
 counters-bytes : (g : Geometry) (d : ℕ) (cs : List ℕ) → Bytes (drop 32 (encode g d (counters cs)))
 unfolding encode frame
 counters-bytes g d cs = bytes-append (wordsLE cs) (replicate (g .sector - (32 + 8 * length cs)) 0) (words-in-bytes cs) (bytes-zeros (g .sector - (32 + 8 * length cs)))
-
-counters-of : (h : Header) → isCounters h ≡ true → (cs : List ℕ) × (h ≡ counters cs)
-counters-of (label x a) e = absurd (true≢false (sym e))
-counters-of (counters cs) e = (cs, refl)
-counters-of (zoneReset z n) e = absurd (true≢false (sym e))
-counters-of (partialParity z s f n) e = absurd (true≢false (sym e))
-counters-of (seal z p n) e = absurd (true≢false (sym e))
-counters-of (closing kind gen) e = absurd (true≢false (sym e))
 
 module _ (g : Geometry) (d : ℕ) (ss : List (List ℕ)) (z : ℕ) (hz : z < g .zones) where
   there : (p : ℕ) → countersPlace g d ss ≡ p + 1 → generationIn z (headsOf (walkLog g d false ss)) < 256 ^ 8

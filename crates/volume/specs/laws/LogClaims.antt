@@ -118,7 +118,7 @@ module _ (g : Geometry) (d : ℕ) (zs : ℕ → List (List ℕ)) where
   unfolding rolesIn
   general-zone n = rw (ne-eqb (strengths false (strongest (strengths false))) 0 n) refl
 
-  parity-zone : strengths true (strongest (strengths true)) ≢ 0 → rolesIn g d zs .parity ≡ strongest (strengths true)
+  pub parity-zone : strengths true (strongest (strengths true)) ≢ 0 → rolesIn g d zs .parity ≡ strongest (strengths true)
   unfolding rolesIn
   parity-zone n = go (eqb (strengths false (strongest (strengths false))) 0) refl
     where

@@ -4,7 +4,7 @@ use mathlib.Core.Path.{_≡_, refl, sym, ap, _∙_, fun-ext}
 use mathlib.Core.Logic.{_≢_}
 use mathlib.Core.Bool.{Bool, true, false, _&&_}
 use Prim.Native.Nat.{ℕ, zero, suc, _+_, _-_, _*_, _/_, _%_, _^_, _≤_, _<_}
-use native.Mathlib.Nat.{mod-eq-of-lt, mul-le-mul-right, add-mul-div-right, mul-add-mod-self-right, add-comm, div-eq-of-lt, not-suc-le-zero, le-trans}
+use native.Mathlib.Nat.{mod-eq-of-lt, mul-div-cancel, mul-le-mul-right, add-mul-div-right, mul-add-mod-self-right, add-comm, div-eq-of-lt, not-suc-le-zero, le-trans}
 use native.Mathlib.Decide.{decLt, ℕ-discrete}
 use native.Mathlib.Omega.{arith}
 use mathlib.Core.List.{List, [], _∷_, map}
@@ -20,7 +20,7 @@ use Rattle.tables.specs.meaning.Lists.{overlay}
 use Rattle.tables.specs.meaning.Geometry.{Valid, physicalZones}
 use Rattle.tables.specs.meaning.Device.{Device, Store, append, reset, flush, storeDrive, apply}
 use Rattle.tables.specs.meaning.Through.{through, carry}
-use Rattle.tables.specs.meaning.Tables.{Tables, tablesOf, movedZone, unsaid, logBits, zonePlace, firstCell, cell, zoneAtCell, deviceOf, sectorsAfterAppend, writtenAfterAppend, pointersAfterReset, durableAfterFlush, makeStore, runStores}
+use Rattle.tables.specs.meaning.Tables.{Tables, tablesOf, movedZone, unsaid, logPlace, logBits, zonePlace, firstCell, cell, zoneAtCell, deviceOf, sectorsAfterAppend, writtenAfterAppend, pointersAfterReset, durableAfterFlush, makeStore, runStores}
 use Rattle.tables.specs.laws.Tables.{device-in, device-outside}
 use Rattle.tables.specs.laws.ZonePlaces.{log-place-unsaid, log-place-said, place-in}
 use Rattle.tables.specs.laws.Made.{WellSized, AllPlaced, Placed, Fits, FitsAll}
@@ -39,6 +39,10 @@ logsOf r n = sumBelow (λ d. bitsOf (r d) * 2 ^ (4 * d)) n
 
 abbrev pub withRoles : Geometry → (ℕ → Roles) → Geometry
 withRoles g r = withLogs g (logsOf r (g .drives))
+
+-- g with drive d's parity log in zone p, and every other drive's logs in their first places
+abbrev pub withParity : Geometry → ℕ → ℕ → Geometry
+withParity g d p = withLogs g ((otherThan p + 4 * p) * 2 ^ (4 * d))
 
 -- a geometry's bounds do not speak of its logs
 pub valid-with-logs : (g : Geometry) (n : ℕ) → Valid g → Valid (withLogs g n)
@@ -98,7 +102,7 @@ strongest-lt a = go (leb (a 1) (a 0) && leb (a 2) (a 0)) (leb (a 2) (a 1))
     go false true = omega arith
     go false false = omega arith
 
-other-lt : (y : ℕ) → otherThan y < 3
+pub other-lt : (y : ℕ) → otherThan y < 3
 other-lt y = go (eqb y 0)
   where
     go : (b : Bool) → pick b 1 0 < 3
@@ -250,6 +254,29 @@ pub placed-on-drives : (g : Geometry) (xs : List Store) → AllPlaced g xs → O
 placed-on-drives g [] p = tt
 placed-on-drives g (x ∷ xs) p = (placed-drive g x (p .0), placed-on-drives g xs (p .1))
 
+-- ---- stores whose cells, by a geometry with these logs, are those of the roles
+abbrev pub CellAt : Geometry → ℕ → (ℕ → Roles) → Store → Type 0
+CellAt g n r (append d z s) = cell (withLogs g n) d z ≡ cell g d (zoneOfRole (r d) z)
+CellAt g n r (reset d z) = cell (withLogs g n) d z ≡ cell g d (zoneOfRole (r d) z)
+CellAt g n r (flush d) = Unit {0}
+
+abbrev pub CellsAt : Geometry → ℕ → (ℕ → Roles) → List Store → Type 0
+CellsAt g n r [] = Unit {0}
+CellsAt g n r (x ∷ xs) = CellAt g n r x × CellsAt g n r xs
+
+module _ (g : Geometry) (n : ℕ) (r : ℕ → Roles) where
+  -- A STORE made by it is the carried store
+  store-at : (x : Store) (t : Tables) → CellAt g n r x → makeStore (withLogs g n) x t ≡ makeStore g (carry (placedBy r) x) t
+  unfolding sectorsAfterAppend writtenAfterAppend pointersAfterReset durableAfterFlush
+  store-at (append d z s) t h = ap (λ (k : ℕ). appendedAt g k s t) h
+  store-at (reset d z) t h = ap (λ (k : ℕ). tablesOf (t .sectors) (set (t .written) k 0) (set (t .durable) k 0)) h
+  store-at (flush d) t h = refl
+
+  pub run-at : (k : ℕ) (xs : List Store) (t : Tables) → CellsAt g n r xs → runStores (withLogs g n) k xs t ≡ runStores g k (map (carry (placedBy r)) xs) t
+  run-at k [] t h = refl
+  run-at zero (x ∷ xs) t h = refl
+  run-at (suc k) (x ∷ xs) t h = run-at k xs (makeStore (withLogs g n) x t) (h .1) ∙ ap (λ (u : Tables). runStores g k (map (carry (placedBy r)) xs) u) (store-at x t (h .0))
+
 module _ (g : Geometry) (first : g .logs ≡ 0) (r : ℕ → Roles) (proper : (d : ℕ) → Proper (r d)) where
   pub cell-by-role : (d z : ℕ) → d < g .drives → cell (withRoles g r) d z ≡ cell g d (zoneOfRole (r d) z)
   cell-by-role d z hd = ap (λ (p : ℕ). firstCell g d + p) (zone-by-role g r proper d hd z ∙ sym (zone-at-first g first d (zoneOfRole (r d) z)))
@@ -274,14 +301,26 @@ module _ (g : Geometry) (first : g .logs ≡ 0) (r : ℕ → Roles) (proper : (d
           let q : (y : ℕ) → ltb d (g .drives) && ltb y (physicalZones g) ≡ false = λ y. rw (le-ltb d (g .drives) (omega arith)) refl in
           device-outside (withRoles g r) t d z (q z) ∙ sym (device-outside g t d (zoneOfRole (r d) z) (q (zoneOfRole (r d) z)))
 
-  -- A STORE made by it is the carried store
-  pub store-by-roles : (x : Store) (t : Tables) → storeDrive x < g .drives → makeStore (withRoles g r) x t ≡ makeStore g (carry (placedBy r) x) t
-  unfolding sectorsAfterAppend writtenAfterAppend pointersAfterReset durableAfterFlush
-  store-by-roles (append d z s) t h = ap (λ (k : ℕ). appendedAt g k s t) (cell-by-role d z h)
-  store-by-roles (reset d z) t h = ap (λ (k : ℕ). tablesOf (t .sectors) (set (t .written) k 0) (set (t .durable) k 0)) (cell-by-role d z h)
-  store-by-roles (flush d) t h = refl
+  -- and so are the cells of stores on the volume's drives
+  cell-at : (x : Store) → storeDrive x < g .drives → CellAt g (logsOf r (g .drives)) r x
+  cell-at (append d z s) h = cell-by-role d z h
+  cell-at (reset d z) h = cell-by-role d z h
+  cell-at (flush d) h = tt
 
-  pub run-by-roles : (k : ℕ) (xs : List Store) (t : Tables) → OnDrives g xs → runStores (withRoles g r) k xs t ≡ runStores g k (map (carry (placedBy r)) xs) t
-  run-by-roles k [] t h = refl
-  run-by-roles zero (x ∷ xs) t h = refl
-  run-by-roles (suc k) (x ∷ xs) t h = run-by-roles k xs (makeStore (withRoles g r) x t) (h .1) ∙ ap (λ (u : Tables). runStores g k (map (carry (placedBy r)) xs) u) (store-by-roles x t (h .0))
+  pub cells-at : (xs : List Store) → OnDrives g xs → CellsAt g (logsOf r (g .drives)) r xs
+  cells-at [] h = tt
+  cells-at (x ∷ xs) h = (cell-at x (h .0), cells-at xs (h .1))
+
+-- ---- one drive's parity log placed alone
+pub parity-placed : (g : Geometry) (d p : ℕ) → p < 3 → zonePlace (withParity g d p) d 1 ≡ p
+unfolding zonePlace
+parity-placed g d p h =
+    let small : otherThan p + 4 * p < 16 = omega (arith, h, other-lt p) in
+    let bits : logBits (withParity g d p) d ≡ otherThan p + 4 * p = ap (λ (x : ℕ). x % 16) (mul-div-cancel (otherThan p + 4 * p) (pow-pos (4 * d))) ∙ mod-eq-of-lt small in
+    ap (λ (b : ℕ). logPlace (b % 4) (b / 4) 1) bits ∙ go p h
+  where
+    go : (p : ℕ) → p < 3 → logPlace ((otherThan p + 4 * p) % 4) ((otherThan p + 4 * p) / 4) 1 ≡ p
+    go zero h = sym (log-place-said 1 0 1 refl)
+    go (suc zero) h = sym (log-place-said 0 1 1 refl)
+    go (suc (suc zero)) h = sym (log-place-said 0 2 1 refl)
+    go (suc (suc (suc p))) h = absurd (omega (arith, h))

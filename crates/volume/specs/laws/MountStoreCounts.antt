@@ -36,7 +36,8 @@ use Rattle.volume.specs.meaning.Roles.{placedBy}
 use Rattle.volume.specs.meaning.Emptying.{byLook, spareWritten, emptyParity}
 use Rattle.volume.specs.meaning.Answers.{presentIn, lostDriveIn}
 use Rattle.volume.specs.meaning.Calls.{appendAll, appendGeneral, generationsFrom, logsReset}
-use Rattle.volume.specs.meaning.Mount.{spareStep, labelStep, resetEntryStep, needsReset, zoneResetStep, nextGeneration, countersDiffer, counterStep, sealStep, missingRows, tornRowStep, fillStep, entryStep, withFlush, withFlushes, stepsBeforeEntries, mountView, mountLook, startRoles, emptiedParity, middleRoles, endRoles, phasesBeforeEntries, phasesOfParityLogs, phasesOfEntries, afterFill, mountStores}
+use Rattle.volume.specs.meaning.Mount.{spareStep, labelStep, resetEntryStep, needsReset, zoneResetStep, nextGeneration, countersDiffer, counterStep, sealStep, missingRows, tornRowStep, fillStep, entryStep}
+use Rattle.volume.specs.meaning.Mount.{withFlush, withFlushes, stepsBeforeEntries, mountView, mountLook, startRoles, emptiedParity, middleRoles, endRoles, phasesBeforeEntries, phasesOfParityLogs, phasesOfEntries, afterFill, mountStores}
 use Rattle.volume.specs.meaning.CallContracts.{isSet, seenIn, verdictNumber, mountVerdict, mountStoresOn, mountShownOn, mountOn}
 use Rattle.volume.specs.mounting.MountFillOn.{missing, fillZone}
 use Rattle.volume.specs.laws.PassedRows.{mount-passed, mount-number-accepts}

@@ -4,9 +4,10 @@ use mathlib.Core.Path.{_≡_, refl, sym, ap, _∙_, fun-ext}
 use mathlib.Core.Bool.{Bool, true, false, _&&_, _||_, not}
 use Prim.Native.Nat.{ℕ, zero, suc, _+_, _-_, _≤_, _<_}
 use native.Mathlib.Decide.{decLt}
+use native.Mathlib.Numerals.{add-one}
 use native.Mathlib.Omega.{arith}
 use mathlib.Core.List.{List, [], _∷_, _++_}
-use lib.ListN.{length, getD, set, replicate, length-append, length-replicate, List·getD-append}
+use lib.ListN.{length, getD, set, replicate, length-set, length-append, length-replicate, List·getD-append}
 use lib.Seq.{getD-append-add}
 use lib.Dec.{ltb, eqb}
 use borrow.Author.Tests.{lt-ltb, le-ltb, ne-eqb}
@@ -40,6 +41,16 @@ fill-more f x m n h =
     let e : m - n ≡ suc (m - suc n) = omega arith in
     let l : length (tabulate f n) ≡ n = length-tabulate f n in
     rw e (ap (λ (i : ℕ). set (tabulate f n ++ replicate (suc (m - suc n)) x) i (f n)) (sym l) ∙ set-at-end (tabulate f n) (m - suc n) x (f n))
+
+-- an array of n numbers of which the first z are filled, as a loop does it
+abbrev pub FilledTo : (ℕ → ℕ) → ℕ → ℕ → List ℕ → Type 0
+FilledTo f n z xs = (z ≤ n) × (length xs ≡ n) × (xs ≡ tabulate f z ++ replicate (n - z) 0)
+
+pub filled-turn : (f : ℕ → ℕ) (n z : ℕ) (xs : List ℕ) → z < n → FilledTo f n z xs → FilledTo f n (z + 1) (set xs z (f z))
+filled-turn f n z xs h (a, l, e) = (omega (arith, h), simp length-set l, rw (e, add-one) (fill-more f 0 n z h))
+
+pub filled-end : (f : ℕ → ℕ) (n z : ℕ) (xs : List ℕ) → n ≤ z → FilledTo f n z xs → xs ≡ tabulate f n ++ replicate (n - n) 0
+filled-end f n z xs h (a, l, e) = let q : z ≡ n = omega (arith, h, a) in e ∙ rw q refl
 
 pub fill-long : {A : Type 0} (f : ℕ → A) (x : A) (m n : ℕ) → n ≤ m → length (tabulate f n ++ replicate (m - n) x) ≡ m
 fill-long f x m n h = length-append (tabulate f n) (replicate (m - n) x) ∙ omega (arith, length-tabulate f n, length-replicate (m - n) x, h)

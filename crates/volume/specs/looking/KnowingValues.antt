@@ -30,7 +30,7 @@ use Rattle.logs.specs.code.WalkCode.{logSectors}
 use Rattle.logs.specs.code.QueryLaws.{SmallSeen}
 use Rattle.volume.specs.declared.knowing.Source.{Source}
 use Rattle.volume.specs.declared.knowing.Source.the-variants.{Unknown, Held, Row}
-use Rattle.volume.specs.meaning.Rules.{found, nothing, fromEntry, parityOf, rowDrive, rowAddress, entryFor, sealLimit, zoneView, valueAt}
+use Rattle.volume.specs.meaning.Rules.{nothing, fromEntry, parityOf, rowDrive, rowAddress, entryFor, sealLimit, zoneView, valueAt}
 use Rattle.volume.specs.meaning.CallContracts.{isSet}
 use Rattle.volume.specs.looking.Knowing.{readDevice, Readable, heldOn, ownSector, stripeEnd, reachOf, servingPlace, rowComplete, sourceOf, hasSource, rowXor, endSeen, entryEnd, wayValue, SourceFits}
 use Rattle.volume.specs.looking.KnowingLaws.{leb-min, row-address-below, parity-in, row-drive-in, held-is, held-sector, reach-held, reach-most, by-parity-is, stripe-end-is, stripe-end-small}
@@ -124,12 +124,16 @@ has-row g d a z n high (partialParity y s f k) ok ha fit e m =
     omega (arith, w .0, parts, u, row-index-below (g .drives) (g .unit) zero (omega (arith, ok .drives-least)) (ok .unit-least) a)
 
 module _ (g : Geometry) (here : List Bool) (xs ws : List ℕ) (z : ℕ) (r : Readable g here xs ws z) (ok : Valid g) (n a : ℕ) (ha : a < zoneSectors g) where
+  -- sector k of the row of address a, if it lies below an end, as it is in the tables
+  abbrev rowPart : ℕ → ℕ → List ℕ
+  rowPart e = λ (k : ℕ). pick (ltb (rowAddress (g .drives) (g .unit) a k) e) (sectorAt g xs (rowDrive (g .drives) (g .unit) z a k) (dataZone z) (sectorOf (g .drives) (g .unit) a)) []
+
   -- the row's other sectors below an end that its reach allows are those of the tables
   row-same : (e : ℕ) (f : ℕ → List ℕ) → e ≤ stripeEnd g a → leb e (reachOf g here ws z a) ≡ true
       → ((k : ℕ) → k < g .drives - 1 → f k ≡ pick (ltb (rowAddress (g .drives) (g .unit) a k) e) ((zoneView g (isSet here) (readDevice g xs ws) z n) .sectorAt (rowDrive (g .drives) (g .unit) z a k) (sectorOf (g .drives) (g .unit) a)) [])
       → xorBelow (without f (unitIndex (g .drives) (g .unit) a)) (g .drives - 1) ≡ rowXor g xs z a e
   unfolding rowXor
-  row-same e f h l same = xor-below-cong (without f (unitIndex (g .drives) (g .unit) a)) (without (λ (k : ℕ). pick (ltb (rowAddress (g .drives) (g .unit) a k) e) (sectorAt g xs (rowDrive (g .drives) (g .unit) z a k) (dataZone z) (sectorOf (g .drives) (g .unit) a)) []) (unitIndex (g .drives) (g .unit) a)) (g .drives - 1) each
+  row-same e f h l same = xor-below-cong (without f (unitIndex (g .drives) (g .unit) a)) (without (rowPart e) (unitIndex (g .drives) (g .unit) a)) (g .drives - 1) each
     where
       inner : (k : ℕ) → k < g .drives - 1 → eqb k (unitIndex (g .drives) (g .unit) a) ≡ false → (b : Bool) → ltb (rowAddress (g .drives) (g .unit) a k) e ≡ b
           → pick b ((zoneView g (isSet here) (readDevice g xs ws) z n) .sectorAt (rowDrive (g .drives) (g .unit) z a k) (sectorOf (g .drives) (g .unit) a)) [] ≡ pick b (sectorAt g xs (rowDrive (g .drives) (g .unit) z a k) (dataZone z) (sectorOf (g .drives) (g .unit) a)) []
@@ -137,14 +141,14 @@ module _ (g : Geometry) (here : List Bool) (xs ws : List ℕ) (z : ℕ) (r : Rea
           held-sector g here xs ws z r n (rowDrive (g .drives) (g .unit) z a k) (sectorOf (g .drives) (g .unit) a) (row-drive-in g z a k ok) (reach-held g here xs ws z r ok n a e k h l m q (ltb-true (rowAddress (g .drives) (g .unit) a k) e t))
       inner k m q false t = refl
 
-      each : (k : ℕ) → k < g .drives - 1 → without f (unitIndex (g .drives) (g .unit) a) k ≡ without (λ (k : ℕ). pick (ltb (rowAddress (g .drives) (g .unit) a k) e) (sectorAt g xs (rowDrive (g .drives) (g .unit) z a k) (dataZone z) (sectorOf (g .drives) (g .unit) a)) []) (unitIndex (g .drives) (g .unit) a) k
+      each : (k : ℕ) → k < g .drives - 1 → without f (unitIndex (g .drives) (g .unit) a) k ≡ without (rowPart e) (unitIndex (g .drives) (g .unit) a) k
       each k m = go (eqb k (unitIndex (g .drives) (g .unit) a)) refl
         where
-          go : (b : Bool) → eqb k (unitIndex (g .drives) (g .unit) a) ≡ b → without f (unitIndex (g .drives) (g .unit) a) k ≡ without (λ (k : ℕ). pick (ltb (rowAddress (g .drives) (g .unit) a k) e) (sectorAt g xs (rowDrive (g .drives) (g .unit) z a k) (dataZone z) (sectorOf (g .drives) (g .unit) a)) []) (unitIndex (g .drives) (g .unit) a) k
+          go : (b : Bool) → eqb k (unitIndex (g .drives) (g .unit) a) ≡ b → without f (unitIndex (g .drives) (g .unit) a) k ≡ without (rowPart e) (unitIndex (g .drives) (g .unit) a) k
           go true q = rw (q, without) refl
           go false q =
               let u : without f (unitIndex (g .drives) (g .unit) a) k ≡ f k = rw (q, without) refl in
-              let v : without (λ (k : ℕ). pick (ltb (rowAddress (g .drives) (g .unit) a k) e) (sectorAt g xs (rowDrive (g .drives) (g .unit) z a k) (dataZone z) (sectorOf (g .drives) (g .unit) a)) []) (unitIndex (g .drives) (g .unit) a) k ≡ (pick (ltb (rowAddress (g .drives) (g .unit) a k) e) (sectorAt g xs (rowDrive (g .drives) (g .unit) z a k) (dataZone z) (sectorOf (g .drives) (g .unit) a)) []) = rw (q, without) refl in
+              let v : without (rowPart e) (unitIndex (g .drives) (g .unit) a) k ≡ rowPart e k = rw (q, without) refl in
               u ∙ same k m ∙ inner k m q (ltb (rowAddress (g .drives) (g .unit) a k) e) refl ∙ sym v
 
   own-drive : driveOf (g .drives) (g .unit) z a < g .drives

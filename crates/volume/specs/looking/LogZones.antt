@@ -107,39 +107,36 @@ counts-three a = go (leb (a 1) (a 0) && leb (a 2) (a 0)) (leb (a 2) (a 1))
     go false false = refl
 
 -- ---- the claims decide: where no other zone claims the kind, whatever the generation of the first place is
--- (o: what the zone claims as the other log, n: as its own; x, y: what the other zones claim)
+-- (o: what the zone claims as the other log, n: as its own; x, y: what the other zones claim. F: what follows from the ranks, the zone's first)
+decided : (F : ℕ → ℕ → ℕ → Counting) (n x y : ℕ) → F (suc 0) 0 0 ≡ F (suc n) 0 0 → (a b c : Bool)
+    → F (pick a (suc (pick (a && (not b || not c)) n 0)) 0) (pick (not b) (suc x) 0) (pick (not c) (suc y) 0) ≡ F (pick a (suc n) 0) (pick b 0 (suc x)) (pick c 0 (suc y))
+decided F n x y alone true true true = alone
+decided F n x y alone true true false = refl
+decided F n x y alone true false true = refl
+decided F n x y alone true false false = refl
+decided F n x y alone false true true = refl
+decided F n x y alone false true false = refl
+decided F n x y alone false false true = refl
+decided F n x y alone false false false = refl
+
 general-decided : (o n x y : ℕ) → countingOf (three (rank (homeClaim o (not (eqb x 0) || not (eqb y 0)) n)) (rank (movedClaim x)) (rank (movedClaim y)))
     ≡ countingOf (three (pick (eqb o 0) (suc n) 0) (pick (eqb x 0) 0 (suc x)) (pick (eqb y 0) 0 (suc y)))
-general-decided o n x y = go (eqb o 0) (eqb x 0) (eqb y 0)
+general-decided o n x y = decided (λ p q r. countingOf (three p q r)) n x y alone (eqb o 0) (eqb x 0) (eqb y 0)
   where
-    go : (a b c : Bool) → countingOf (three (pick a (suc (pick (a && (not b || not c)) n 0)) 0) (pick (not b) (suc x) 0) (pick (not c) (suc y) 0)) ≡ countingOf (three (pick a (suc n) 0) (pick b 0 (suc x)) (pick c 0 (suc y)))
-    go true true true =
+    alone : countingOf (three (suc 0) 0 0) ≡ countingOf (three (suc n) 0 0)
+    alone =
         let e : leb 0 (suc n) ≡ true = le-leb 0 (suc n) (omega arith) in
         ap (λ (b : Bool). record { zone = 0; lacks = b }) (sym (suc-not-zero n)) ∙ counts-first (suc n) 0 0 (rw e refl)
-    go true true false = refl
-    go true false true = refl
-    go true false false = refl
-    go false true true = refl
-    go false true false = refl
-    go false false true = refl
-    go false false false = refl
 
 parity-decided : (o n x y : ℕ) → countingOf (three (rank (movedClaim x)) (rank (homeClaim o (not (eqb x 0) || not (eqb y 0)) n)) (rank (movedClaim y)))
     ≡ countingOf (three (pick (eqb x 0) 0 (suc x)) (pick (eqb o 0) (suc n) 0) (pick (eqb y 0) 0 (suc y)))
-parity-decided o n x y = go (eqb o 0) (eqb x 0) (eqb y 0)
+parity-decided o n x y = decided (λ p q r. countingOf (three q p r)) n x y alone (eqb o 0) (eqb x 0) (eqb y 0)
   where
-    go : (a b c : Bool) → countingOf (three (pick (not b) (suc x) 0) (pick a (suc (pick (a && (not b || not c)) n 0)) 0) (pick (not c) (suc y) 0)) ≡ countingOf (three (pick b 0 (suc x)) (pick a (suc n) 0) (pick c 0 (suc y)))
-    go true true true =
+    alone : countingOf (three 0 (suc 0) 0) ≡ countingOf (three 0 (suc n) 0)
+    alone =
         let e : leb 0 (suc n) ≡ true = le-leb 0 (suc n) (omega arith) in
         let f : leb (suc n) 0 ≡ false = lt-leb (suc n) 0 (omega arith) in
         ap (λ (b : Bool). record { zone = 1; lacks = b }) (sym (suc-not-zero n)) ∙ counts-second 0 (suc n) 0 (rw f refl) e
-    go true true false = refl
-    go true false true = refl
-    go true false false = refl
-    go false true true = refl
-    go false true false = refl
-    go false false true = refl
-    go false false false = refl
 
 -- ---- a claim, read in the tables
 pub claim-read : (g : Geometry) (xs ws : List ℕ) (d : ℕ) (par : Bool) (z : ℕ) → d < g .drives → z < 3 → firstClosing (logHeads g d par z (zonePointer g ws d z) xs) ≡ claim g d par (zonesRead g xs ws d z)
@@ -152,10 +149,21 @@ generalBy m n = countingOf (three
     (rank (homeClaim (m .«parity_in_first») (not (eqb (m .«general_in_second») 0) || not (eqb (m .«general_in_third») 0)) n))
     (rank (movedClaim (m .«general_in_second»))) (rank (movedClaim (m .«general_in_third»))))
 
-abbrev parityBy : Moved → ℕ → Counting
-parityBy m n = countingOf (three (rank (movedClaim (m .«parity_in_first»)))
-    (rank (homeClaim (m .«general_in_second») (not (eqb (m .«parity_in_first») 0) || not (eqb (m .«parity_in_third») 0)) n))
-    (rank (movedClaim (m .«parity_in_third»))))
+-- (x, o, y: what zones 0, 1 and 2 claim that are not in their first places)
+abbrev parityBy : ℕ → ℕ → ℕ → ℕ → Counting
+parityBy x o y n = countingOf (three (rank (movedClaim x)) (rank (homeClaim o (not (eqb x 0) || not (eqb y 0)) n)) (rank (movedClaim y)))
+
+parity-by : (x o y x′ o′ y′ n : ℕ) → x ≡ x′ → o ≡ o′ → y ≡ y′ → parityBy x o y n ≡ parityBy x′ o′ y′ n
+parity-by x o y x′ o′ y′ n p q r = rw (p, q, r) refl
+
+-- the claims that decide on the parity log
+pub record ParityClaims (g : Geometry) (d : ℕ) (zs : ℕ → List (List ℕ)) (m : Moved) : Type 0 where
+  pub in-first : m .«parity_in_first» ≡ claim g d true (zs 0)
+  pub in-second : m .«general_in_second» ≡ claim g d false (zs 1)
+  pub in-third : m .«parity_in_third» ≡ claim g d true (zs 2)
+
+pub parity-claims : (g : Geometry) (d : ℕ) (zs : ℕ → List (List ℕ)) (m : Moved) → m ≡ movedOf g d zs → ParityClaims g d zs m
+parity-claims g d zs m e = record { in-first = ap (λ (k : Moved). k .«parity_in_first») e; in-second = ap (λ (k : Moved). k .«general_in_second») e; in-third = ap (λ (k : Moved). k .«parity_in_third») e }
 
 module _ (g : Geometry) (d : ℕ) (zs : ℕ → List (List ℕ)) where
   general-counts : generalBy (movedOf g d zs) (claim g d false (zs 0)) ≡ countingOf (strengths g d zs false)
@@ -163,34 +171,36 @@ module _ (g : Geometry) (d : ℕ) (zs : ℕ → List (List ℕ)) where
       general-decided (claim g d true (zs 0)) (claim g d false (zs 0)) (claim g d false (zs 1)) (claim g d false (zs 2))
       ∙ rw (← home-strength g d (zs 0) false, ← moved-strength g d (zs 1) false 1 (λ e. omega (arith, e)), ← moved-strength g d (zs 2) false 2 (λ e. omega (arith, e))) (counts-three (strengths g d zs false))
 
-  parity-counts : parityBy (movedOf g d zs) (claim g d true (zs 1)) ≡ countingOf (strengths g d zs true)
+  parity-counts : parityBy (claim g d true (zs 0)) (claim g d false (zs 1)) (claim g d true (zs 2)) (claim g d true (zs 1)) ≡ countingOf (strengths g d zs true)
   parity-counts =
       parity-decided (claim g d false (zs 1)) (claim g d true (zs 1)) (claim g d true (zs 0)) (claim g d true (zs 2))
       ∙ rw (← home-strength g d (zs 1) true, ← moved-strength g d (zs 0) true 0 (λ e. omega (arith, e)), ← moved-strength g d (zs 2) true 2 (λ e. omega (arith, e))) (counts-three (strengths g d zs true))
 
 -- as the code finds it (m: what the moved zones claim; l: the log in its first place; h, x, y: the claims of the three zones)
-module _ (g : Geometry) (xs ws : List ℕ) (d : ℕ) (hd : d < g .drives) (m : Moved) (em : m ≡ movedOf g d (zonesRead g xs ws d)) (l : Log) (h x y : Claim) where
+module _ (g : Geometry) (xs ws : List ℕ) (d : ℕ) (hd : d < g .drives) (m : Moved) (l : Log) (h x y : Claim) where
   home-read : (par : Bool) (z : ℕ) → z < 3 → l ≡ logIn g ws d z → firstClosing (logHeads g (l .drive) par (l .zone) (l .written) xs) ≡ claim g d par (zonesRead g xs ws d z)
   home-read par z hz el = ap (λ (k : Log). firstClosing (logHeads g (k .drive) par (k .zone) (k .written) xs)) el ∙ claim-read g xs ws d par z hd hz
 
   ranks : (a b c : Claim) → a ≡ h → b ≡ x → c ≡ y → countingOf (three (rank h) (rank x) (rank y)) ≡ countingOf (three (rank a) (rank b) (rank c))
   ranks a b c p q r = rw (p, q, r) refl
 
-  pub general-found : l ≡ logIn g ws d generalZone
+  pub general-found : m ≡ movedOf g d (zonesRead g xs ws d) → l ≡ logIn g ws d generalZone
       → h ≡ homeClaim (m .«parity_in_first») (not (eqb (m .«general_in_second») 0) || not (eqb (m .«general_in_third») 0)) (firstClosing (logHeads g (l .drive) false (l .zone) (l .written) xs))
       → x ≡ movedClaim (m .«general_in_second») → y ≡ movedClaim (m .«general_in_third»)
       → countingOf (three (rank h) (rank x) (rank y)) ≡ countingOf (strengths g d (zonesRead g xs ws d) false)
-  general-found el eh ex ey =
+  general-found em el eh ex ey =
       ranks _ _ _ (sym eh) (sym ex) (sym ey) ∙ ap (generalBy m) (home-read false generalZone (omega arith) el)
       ∙ ap (λ (k : Moved). generalBy k (claim g d false (zonesRead g xs ws d generalZone))) em ∙ general-counts g d (zonesRead g xs ws d)
 
-  pub parity-found : l ≡ logIn g ws d parityZone → h ≡ movedClaim (m .«parity_in_first»)
+  pub parity-found : ParityClaims g d (zonesRead g xs ws d) m → l ≡ logIn g ws d parityZone → h ≡ movedClaim (m .«parity_in_first»)
       → x ≡ homeClaim (m .«general_in_second») (not (eqb (m .«parity_in_first») 0) || not (eqb (m .«parity_in_third») 0)) (firstClosing (logHeads g (l .drive) true (l .zone) (l .written) xs))
       → y ≡ movedClaim (m .«parity_in_third»)
       → countingOf (three (rank h) (rank x) (rank y)) ≡ countingOf (strengths g d (zonesRead g xs ws d) true)
-  parity-found el eh ex ey =
-      ranks _ _ _ (sym eh) (sym ex) (sym ey) ∙ ap (parityBy m) (home-read true parityZone (omega arith) el)
-      ∙ ap (λ (k : Moved). parityBy k (claim g d true (zonesRead g xs ws d parityZone))) em ∙ parity-counts g d (zonesRead g xs ws d)
+  parity-found em el eh ex ey =
+      let zs = zonesRead g xs ws d in
+      ranks _ _ _ (sym eh) (sym ex) (sym ey) ∙ ap (parityBy (m .«parity_in_first») (m .«general_in_second») (m .«parity_in_third»)) (home-read true parityZone (omega arith) el)
+      ∙ parity-by (m .«parity_in_first») (m .«general_in_second») (m .«parity_in_third») (claim g d true (zs 0)) (claim g d false (zs 1)) (claim g d true (zs 2)) (claim g d true (zs 1)) (em .in-first) (em .in-second) (em .in-third)
+      ∙ parity-counts g d zs
 
 -- ---- the zones of the two logs
 abbrev pub zonesBy : Counting → Counting → LogZones

@@ -6,11 +6,13 @@ use Prim.Native.Nat.{ℕ, zero, suc, _+_, _-_, _≤_, _<_}
 use native.Mathlib.Omega.{arith}
 use native.Mathlib.Decide.{ℕ-discrete}
 use mathlib.Core.List.{List, [], _∷_, _++_}
-use lib.ListN.{length, getD, replicate}
+use lib.ListN.{length, getD, take, replicate}
+use lib.Seq.{length-take-le}
 use lib.Dec.{ltb, eqb}
 use borrow.Author.Tests.{eq-eqb, ne-eqb, lt-ltb, le-ltb}
 use Rattle.tables.specs.declared.Geometry.{Geometry}
 use Rattle.tables.specs.meaning.Basics.{pick}
+use Rattle.tables.specs.laws.Sizes.{cells-small}
 use Rattle.tables.specs.laws.Basics.{and-split, not-true, or-none, not-not}
 use Rattle.tables.specs.meaning.Below.{countBelow, tabulate, anyBelow}
 use Rattle.tables.specs.laws.Below.{tabulate-cong, none-any-below}
@@ -225,6 +227,13 @@ module _ (g : Geometry) (named : List Bool) (sectors : ℕ) (ws ds : List ℕ) w
       let (a, b, c) = three (isValid g) (lengthsFit g sectors (length ws) (length ds)) (pointersBad g named ws ds) h in
       let (x, y, z) = lengths-are g sectors (length ws) (length ds) b in
       (valid-if-test g a, x, y, c)
+
+  -- so an array of 152 numbers has room for the pointers
+  pub shaped-front : shapeNumber g named sectors ws ds ≡ 0 → (length ws ≤ 152) × (length (take (length ws) (replicate {A = ℕ} 152 0)) ≡ length ws)
+  shaped-front h =
+      let (ok, x, y, z) = shaped h in
+      let few : length ws ≤ 152 = omega (arith, y, cells-small g ok) in
+      (few, length-take-le (length ws) (replicate 152 0) few)
 
 module _ (p : LogPlaces) (here : List Bool) (v : Device) where
   pub logs-4 : 1 < countBelow (λ d. not (isSet here d)) (p .geometry .drives) → 4 ≡ logNumber p here v

@@ -32,7 +32,8 @@ use Rattle.volume.specs.meaning.Rules.{Shown, parityEntries}
 use Rattle.volume.specs.meaning.Calls.{appendAll}
 use Rattle.volume.specs.meaning.Mount.{withFlush}
 use Rattle.volume.specs.rows.RowStores.{present-all, rowsIf, rows-in}
-use Rattle.volume.specs.rows.SameShape.{SameShape, withLogs, shape-refl, by-shape, shape-valid, shape-cells, shape-bytes}
+use Rattle.volume.specs.laws.LogPlaces.{withLogs}
+use Rattle.volume.specs.rows.SameShape.{SameShape, shape-refl, by-shape, shape-valid, shape-cells, shape-bytes}
 use Rattle.volume.specs.rows.KeptBelow.{StoresIn, each-in, pick-in, Behind, stores-in-same, stored-keeps}
 use Rattle.volume.specs.mounting.MountTables.{seen-sectors}
 use Rattle.volume.specs.mounting.MountLook.{zoneLook, LookWithin}
@@ -53,8 +54,11 @@ pub record Entering (g to : Geometry) (here : List Bool) (k : Look) (ps ss xs ws
   pub starts-behind : Behind to onParity ss ws
 
 -- and it can go on relying on it: the look's device is the same, and so is that of the step's beginning
+abbrev pub StillEntering : Geometry → Geometry → List Bool → Look → List ℕ → List ℕ → List ℕ → List ℕ → List ℕ → Type 0
+StillEntering g to here k ps ss xs xs′ ws′ = Entering g to here k ps ss xs′ ws′ × (readDevice g xs′ ps ≡ readDevice g xs ps) × (readDevice to xs′ ss ≡ readDevice to xs ss)
+
 pub entered : (g to : Geometry) (here : List Bool) (k : Look) (budget rest : ℕ) (stores : List Store) (ps ss xs ws xs′ ws′ : List ℕ) → Entering g to here k ps ss xs ws → StoresIn g onParity stores → MadeAppends to budget rest stores xs ws xs′ ws′
-    → Entering g to here k ps ss xs′ ws′ × (readDevice g xs′ ps ≡ readDevice g xs ps) × (readDevice to xs′ ss ≡ readDevice to xs ss)
+    → StillEntering g to here k ps ss xs xs′ ws′
 entered g to here k budget rest stores ps ss xs ws xs′ ws′ n p m =
     let a = n .appends in
     let (f, e) = appending-kept g to here k parityZone budget rest stores ps xs ws xs′ ws′ a p m in

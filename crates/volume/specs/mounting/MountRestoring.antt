@@ -49,8 +49,11 @@ pub filling : (g : Geometry) (here : List Bool) (k : Look) (ps : List ℕ) (t : 
 filling g here k ps t r = record { logging = r .logging; known-below = r .known-below }
 
 -- and they can go on relying on it
+abbrev pub StillFilling : Geometry → List Bool → Look → List ℕ → List ℕ → List ℕ → List ℕ → Type 0
+StillFilling g here k ps xs xs′ ws′ = Filling g here k ps xs′ ws′ × (readDevice g xs′ ps ≡ readDevice g xs ps)
+
 pub filled : (g : Geometry) (here : List Bool) (k : Look) (budget rest : ℕ) (ss : List Store) (ps xs ws xs′ ws′ : List ℕ) → Filling g here k ps xs ws → StoresIn g (stays k) ss → MadeAppends g budget rest ss xs ws xs′ ws′
-    → Filling g here k ps xs′ ws′ × (readDevice g xs′ ps ≡ readDevice g xs ps)
+    → StillFilling g here k ps xs xs′ ws′
 filled g here k budget rest ss ps xs ws xs′ ws′ f p m =
     let (r, e) = restoring-kept g here k ps budget rest ss (tablesOf xs ws ws) (tablesOf xs′ ws′ ws) (record { logging = f .logging; durable-long = f .logging .written-long; known-below = f .known-below }) p (m .made ws) in
     (filling g here k ps (tablesOf xs′ ws′ ws) r, e)

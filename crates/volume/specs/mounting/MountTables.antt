@@ -1,12 +1,13 @@
 -- Stores of a mount, one after the other: a loop's turns, a step and the flush after it, and what they leave alone.
-use mathlib.Core.Path.{_≡_, sym, ap, _∙_}
+use mathlib.Core.Path.{_≡_, refl, sym, ap, _∙_}
 use mathlib.Core.Logic.{_≢_}
 use mathlib.Core.Bool.{Bool, true, false}
-use Prim.Native.Nat.{ℕ, zero, suc, _≤_, _<_, min}
+use Prim.Native.Nat.{ℕ, zero, suc, _+_, _≤_, _<_, min}
 use native.Mathlib.Nat.{le-refl, sub-zero}
+use native.Mathlib.Numerals.{add-one}
 use native.Mathlib.Omega.{arith}
 use mathlib.Core.List.{List, [], _∷_, _++_, append-nil}
-use lib.ListN.{getD}
+use lib.ListN.{length, getD}
 use Rattle.tables.specs.declared.Geometry.{Geometry}
 use Rattle.tables.specs.meaning.Basics.{pick}
 use Rattle.tables.specs.meaning.Below.{eachBelow}
@@ -20,7 +21,7 @@ use Rattle.tables.specs.laws.Made.{Made, MadeAppends, MadePointers}
 use Rattle.tables.specs.laws.Tables.{device-in}
 use Rattle.tables.specs.laws.Counted.{run-none, made-append}
 use Rattle.logs.specs.code.WalkCode.{logSectors}
-use Rattle.volume.specs.laws.CallContracts.{appends-append, pointers-append}
+use Rattle.volume.specs.laws.CallContracts.{appends-nil, appends-append, pointers-append}
 use Rattle.volume.specs.rows.KeptBelow.{StoresIn, stores-in-append, on-present-in}
 use Rattle.volume.specs.meaning.Mount.{withFlush}
 
@@ -38,6 +39,29 @@ pub appends-more : (g : Geometry) (a : ℕ → Bool) (budget mid rest : ℕ) (f 
     → MadeAppends g mid rest (onPresent a (f n)) xs′ ws′ xs″ ws″ → MadeAppends g budget rest (onPresent a (eachBelow f (suc n))) xs ws xs″ ws″
 appends-more g a budget mid rest f n xs ws xs′ ws′ xs″ ws″ p q =
     rw (on-present-append a (eachBelow f n) (f n)) (appends-append g budget mid rest (onPresent a (eachBelow f n)) (onPresent a (f n)) xs ws xs′ ws′ xs″ ws″ p q)
+
+-- what a loop over the drives, or over the zones of one, keeps while it appends: the stores for the numbers below d of n are made, and the lengths stay
+pub record AppendsBelow (g : Geometry) (a : ℕ → Bool) (budget : ℕ) (f : ℕ → List Store) (n d rest : ℕ) (xs ws xs′ ws′ : List ℕ) : Type 0 where
+  pub within : d ≤ n
+  pub sectors-long : length xs′ ≡ length xs
+  pub written-long : length ws′ ≡ length ws
+  pub made : MadeAppends g budget rest (onPresent a (eachBelow f d)) xs ws xs′ ws′
+
+pub appends-begin : (g : Geometry) (a : ℕ → Bool) (budget : ℕ) (f : ℕ → List Store) (n : ℕ) (xs ws : List ℕ) → AppendsBelow g a budget f n 0 budget xs ws xs ws
+appends-begin g a budget f n xs ws = record { within = omega arith; sectors-long = refl; written-long = refl; made = appends-nil g budget xs ws }
+
+pub appends-turn : (g : Geometry) (a : ℕ → Bool) (budget mid rest : ℕ) (f : ℕ → List Store) (n d : ℕ) (xs ws xs′ ws′ xs″ ws″ : List ℕ) → AppendsBelow g a budget f n d mid xs ws xs′ ws′ → d < n
+    → length xs″ ≡ length xs′ → length ws″ ≡ length ws′ → MadeAppends g mid rest (onPresent a (f d)) xs′ ws′ xs″ ws″ → AppendsBelow g a budget f n (d + 1) rest xs ws xs″ ws″
+appends-turn g a budget mid rest f n d xs ws xs′ ws′ xs″ ws″ p h lx lw q = record {
+  within = omega (arith, h);
+  sectors-long = lx ∙ p .sectors-long;
+  written-long = lw ∙ p .written-long;
+  made = rw add-one (appends-more g a budget mid rest f d xs ws xs′ ws′ xs″ ws″ (p .made) q);
+}
+
+pub appends-end : (g : Geometry) (a : ℕ → Bool) (budget : ℕ) (f : ℕ → List Store) (n d rest : ℕ) (xs ws xs′ ws′ : List ℕ) → AppendsBelow g a budget f n d rest xs ws xs′ ws′ → n ≤ d
+    → MadeAppends g budget rest (onPresent a (eachBelow f n)) xs ws xs′ ws′
+appends-end g a budget f n d rest xs ws xs′ ws′ p h = let e : d ≡ n = omega (arith, p .within, h) in rw e at (p .made)
 
 -- the same of resets
 pub pointers-more : (g : Geometry) (a : ℕ → Bool) (budget mid rest : ℕ) (f : ℕ → List Store) (n : ℕ) (ws ds ws′ ds′ ws″ ds″ : List ℕ) → MadePointers g budget mid (onPresent a (eachBelow f n)) ws ds ws′ ds′

@@ -9,6 +9,7 @@ use Rattle.tables.specs.declared.Geometry.{Geometry}
 use Rattle.tables.specs.meaning.Geometry.{cells}
 use Rattle.tables.specs.meaning.Device.{Device}
 use Rattle.tables.specs.meaning.Tables.{Tables}
+use Rattle.volume.specs.declared.Basis.{Basis}
 use Rattle.volume.specs.declared.Look.{Look}
 use Rattle.volume.specs.meaning.CallContracts.{isSet}
 use Rattle.volume.specs.meaning.Rules.{Shown, sealLimit, valueAt}
@@ -24,6 +25,9 @@ shownIn g here k w = shownWith k (λ z. valueAt g (isSet here) w z (zoneLook k z
 -- with values read below the pointers ps
 abbrev pub shownAt : Geometry → List Bool → Look → List ℕ → List ℕ → Shown
 shownAt g here k xs ps = shownIn g here k (readDevice g xs ps)
+
+abbrev pub shownBy : Basis → List ℕ → List ℕ → Shown
+shownBy b xs ps = shownAt (b .geometry) (b .here) (b .look) xs ps
 
 -- the limit that the seals set to zone z
 abbrev pub limitAt : Geometry → List Bool → Look → List ℕ → List ℕ → ℕ → ℕ

@@ -4,7 +4,7 @@ use mathlib.Core.Logic.{_≢_}
 use mathlib.Core.Bool.{Bool, true, false, _&&_, not}
 use Prim.Native.Nat.{ℕ, _+_, _*_, _≤_, _<_}
 use native.Mathlib.Omega.{arith}
-use mathlib.Core.List.{List, [], _∷_, _++_}
+use mathlib.Core.List.{List, [], _∷_}
 use lib.ListN.{length}
 use lib.Dec.{ltb, eqb}
 use borrow.Author.Tests.{eq-eqb, ne-eqb}
@@ -23,12 +23,12 @@ use Rattle.volume.specs.meaning.Rules.{viewOf, zoneView}
 use Rattle.volume.specs.meaning.Refusals.{firstRefusal, stateWithin, twoAbsent, stale, noZone, unwritten, notHeld, zoneOf, offsetOf, peekRows}
 use Rattle.volume.specs.meaning.Answers.{placeOf}
 use Rattle.volume.specs.meaning.CallContracts.{viewState, recordAt, isSet, verdictNumber, seenIn, peekNumber, partAt, peekOn, byteOf, peekFrom, past}
-use Rattle.volume.specs.checks.CheckLaws.{presentList, present-is, absent-two, openingNumber, Opened, opened, after-four}
+use Rattle.volume.specs.checks.CheckLaws.{presentList, present-is, absent-two, openingNumber, Opened, opened}
 use Rattle.volume.specs.checks.ZoneChecks.{staleOn}
 use Rattle.volume.specs.looking.Knowing.{readDevice, Readable, ownHeld}
 use Rattle.volume.specs.looking.KnowingLaws.{held-is}
 use Rattle.volume.specs.looking.SeenByRoles.{data-seen}
-use Rattle.volume.specs.reading.Reading.{zoneRows, zoneNumber, after-two, after-zone, three, opened-readable, zone-on-in, second-is, second-in, second-out}
+use Rattle.volume.specs.reading.Reading.{zoneNumber, after-six, after-zone, three, opened-readable, zone-on-in, second-is, second-in, second-out}
 
 -- ---- the rows after those of its zone
 abbrev pub placeRows : Geometry → (ℕ → Bool) → Device → StateView → ℕ → ℕ → List (ℕ × Bool)
@@ -81,10 +81,11 @@ module _ (g : Geometry) (named : List Bool) (s : State) (a : ℕ) (xs ws ds : Li
   pub peek-number-is : peekNumber g named s a (tablesOf xs ws ds) ≡ pick (eqb first 0) (pick (eqb second 0) third second) first
   unfolding peekNumber peekRows openingNumber zoneNumber placeNumber
   peek-number-is =
-      rw (absent-two g named s, no-buffer g, and-true (lengthsFit g (length xs) (length ws) (length ds))) (after-four (not (isValid g && stateWithin g (viewState s))) (not (lengthsFit g (length xs) (length ws) (length ds))) (pointersBad g named ws ds) (twoAbsent g (isSet named) (viewState s))
-      (zoneRows g (callPresent g (isSet named) (viewState s)) (seenIn g (tablesOf xs ws ds)) (viewState s) (zoneOf g a) ++ placeRows g (callPresent g (isSet named) (viewState s)) (seenIn g (tablesOf xs ws ds)) (viewState s) (zoneOf g a) (offsetOf g a))
-      ∙ ap (λ (n : ℕ). pick (eqb (verdictNumber (firstRefusal ((1, not (isValid g && stateWithin g (viewState s))) ∷ (2, not (lengthsFit g (length xs) (length ws) (length ds))) ∷ (3, pointersBad g named ws ds) ∷ (4, twoAbsent g (isSet named) (viewState s)) ∷ []))) 0) n (verdictNumber (firstRefusal ((1, not (isValid g && stateWithin g (viewState s))) ∷ (2, not (lengthsFit g (length xs) (length ws) (length ds))) ∷ (3, pointersBad g named ws ds) ∷ (4, twoAbsent g (isSet named) (viewState s)) ∷ []))))
-      (after-two (stale g (callPresent g (isSet named) (viewState s)) (seenIn g (tablesOf xs ws ds)) (viewState s) (zoneOf g a)) (noZone g (zoneOf g a)) (placeRows g (callPresent g (isSet named) (viewState s)) (seenIn g (tablesOf xs ws ds)) (viewState s) (zoneOf g a) (offsetOf g a))))
+      let w = seenIn g (tablesOf xs ws ds) in
+      let present = callPresent g (isSet named) (viewState s) in
+      rw (absent-two g named s, no-buffer g, and-true (lengthsFit g (length xs) (length ws) (length ds)))
+      (after-six (not (isValid g && stateWithin g (viewState s))) (not (lengthsFit g (length xs) (length ws) (length ds))) (pointersBad g named ws ds) (twoAbsent g (isSet named) (viewState s))
+      (stale g present w (viewState s) (zoneOf g a)) (noZone g (zoneOf g a)) (placeRows g present w (viewState s) (zoneOf g a) (offsetOf g a)))
 
   -- the number, case by case
   pub peek-first : first ≢ 0 → first ≡ peekNumber g named s a (tablesOf xs ws ds)

@@ -197,6 +197,17 @@ after-two true b rest = refl
 after-two false true rest = refl
 after-two false false rest = refl
 
+-- the number of rows 1 to 4, then of 7 and 8, then of those behind them
+abbrev pub fourNumber : Bool → Bool → Bool → Bool → ℕ
+fourNumber a b c d = verdictNumber (firstRefusal ((1, a) ∷ (2, b) ∷ (3, c) ∷ (4, d) ∷ []))
+
+abbrev pub twoNumber : Bool → Bool → ℕ
+twoNumber e f = verdictNumber (firstRefusal ((7, e) ∷ (8, f) ∷ []))
+
+pub after-six : (a b c d e f : Bool) (rest : List (ℕ × Bool)) → verdictNumber (firstRefusal ((1, a) ∷ (2, b) ∷ (3, c) ∷ (4, d) ∷ (7, e) ∷ (8, f) ∷ rest))
+    ≡ pick (eqb (fourNumber a b c d) 0) (pick (eqb (twoNumber e f) 0) (verdictNumber (firstRefusal rest)) (twoNumber e f)) (fourNumber a b c d)
+after-six a b c d e f rest = after-four a b c d ((7, e) ∷ (8, f) ∷ rest) ∙ ap (λ (n : ℕ). pick (eqb (fourNumber a b c d) 0) n (fourNumber a b c d)) (after-two e f rest)
+
 -- the number of a zone that there is, then the rest
 pub after-zone : (b : Bool) (second third : ℕ) → second ≡ pick b 7 0 → pick b 7 third ≡ pick (eqb second 0) third second
 after-zone true second third e = rw e refl
@@ -245,10 +256,10 @@ module _ (g : Geometry) (named : List Bool) (s : State) (a count bytes : ℕ) (x
   pub read-number-is : readNumber g named s a count bytes (tablesOf xs ws ds) ≡ pick (eqb first 0) (pick (eqb second 0) third second) first
   unfolding readNumber readRows openingNumber zoneNumber runNumber
   read-number-is =
-      rw (absent-two g named s) (after-four (not (isValid g && stateWithin g (viewState s))) (not (lengthsFit g (length xs) (length ws) (length ds) && bufferFits g count bytes)) (pointersBad g named ws ds) (twoAbsent g (isSet named) (viewState s))
-      (zoneRows g (callPresent g (isSet named) (viewState s)) (seenIn g (tablesOf xs ws ds)) (viewState s) (zoneOf g a) ++ runRows g (callPresent g (isSet named) (viewState s)) (seenIn g (tablesOf xs ws ds)) (recordAt s (zoneOf g a) .condition) (recordAt s (zoneOf g a) .generation) (zoneOf g a) (offsetOf g a) count)
-      ∙ ap (λ (n : ℕ). pick (eqb (verdictNumber (firstRefusal ((1, not (isValid g && stateWithin g (viewState s))) ∷ (2, not (lengthsFit g (length xs) (length ws) (length ds) && bufferFits g count bytes)) ∷ (3, pointersBad g named ws ds) ∷ (4, twoAbsent g (isSet named) (viewState s)) ∷ []))) 0) n (verdictNumber (firstRefusal ((1, not (isValid g && stateWithin g (viewState s))) ∷ (2, not (lengthsFit g (length xs) (length ws) (length ds) && bufferFits g count bytes)) ∷ (3, pointersBad g named ws ds) ∷ (4, twoAbsent g (isSet named) (viewState s)) ∷ []))))
-      (after-two (stale g (callPresent g (isSet named) (viewState s)) (seenIn g (tablesOf xs ws ds)) (viewState s) (zoneOf g a)) (noZone g (zoneOf g a)) (runRows g (callPresent g (isSet named) (viewState s)) (seenIn g (tablesOf xs ws ds)) (recordAt s (zoneOf g a) .condition) (recordAt s (zoneOf g a) .generation) (zoneOf g a) (offsetOf g a) count)))
+      let w = seenIn g (tablesOf xs ws ds) in
+      let present = callPresent g (isSet named) (viewState s) in
+      rw (absent-two g named s) (after-six (not (isValid g && stateWithin g (viewState s))) (not (lengthsFit g (length xs) (length ws) (length ds) && bufferFits g count bytes)) (pointersBad g named ws ds) (twoAbsent g (isSet named) (viewState s))
+      (stale g present w (viewState s) (zoneOf g a)) (noZone g (zoneOf g a)) (runRows g present w (recordAt s (zoneOf g a) .condition) (recordAt s (zoneOf g a) .generation) (zoneOf g a) (offsetOf g a) count))
 
   -- the number, case by case
   pub read-first : first ≢ 0 → first ≡ readNumber g named s a count bytes (tablesOf xs ws ds)

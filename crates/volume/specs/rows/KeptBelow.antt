@@ -25,7 +25,8 @@ use Rattle.tables.specs.meaning.Tables.{Tables, tablesOf, cell, sectorNo, hasRo
 use Rattle.tables.specs.laws.Made.{Made, MadeAppends, WellSized}
 use Rattle.tables.specs.laws.Tables.{cell-in, cell-injective, sector-elsewhere, In, inside, outside, inOrOut, device-inside, device-outside}
 use Rattle.tables.specs.laws.TablesRefine.{store-sized}
-use Rattle.volume.specs.rows.SameShape.{SameShape, withLogs, shape-is, by-shape, shape-cells, shape-bytes}
+use Rattle.volume.specs.laws.LogPlaces.{withLogs}
+use Rattle.volume.specs.rows.SameShape.{SameShape, shape-is, by-shape, shape-cells, shape-bytes}
 
 -- ---- sectors below the pointers ps are the same in both, cell by cell
 pub record KeptBelow (g : Geometry) (ps xs ys : List ℕ) : Type 0 where

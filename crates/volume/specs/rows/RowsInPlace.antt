@@ -53,6 +53,11 @@ pub row-of-known : (k : Extent) (v : Device) (buffer : List ℕ) (s r : ℕ) →
     → rowXorBelow (k .geometry .drives) (k .geometry .unit) (contentOf k v buffer) s (k .end) r ≡ rowXorBelow (k .geometry .drives) (k .geometry .unit) (valueAt (k .geometry) (isSet (k .here)) v (k .zone) (k .generation)) s (k .end) r
 row-of-known k v buffer s r h = row-xor-below-cong (k .geometry .drives) (k .geometry .unit) (contentOf k v buffer) (valueAt (k .geometry) (isSet (k .here)) v (k .zone) (k .generation)) s (k .end) r (λ a l. content-known k v buffer a (omega arith))
 
+-- what finding the value of address a relies on
+abbrev pub ValueKnown : Extent → List ℕ → List ℕ → ℕ → Type 0
+ValueKnown k xs ps a = Readable (k .geometry) (k .here) xs ps (k .zone) × (a < zoneSectors (k .geometry)) × (k .limit ≡ sealLimit (k .geometry) (isSet (k .here)) (readDevice (k .geometry) xs ps) (k .zone) (k .generation))
+    × (known (k .geometry .drives) (k .geometry .unit) (k .zone) (zoneView (k .geometry) (isSet (k .here)) (readDevice (k .geometry) xs ps) (k .zone) (k .generation)) a ≡ true)
+
 -- what reading the content of address a relies on, if a is below the end
 pub record MemberKnown (k : Extent) (xs ps buffer : List ℕ) (a : ℕ) : Type 0 where
   pub readable : Readable (k .geometry) (k .here) xs ps (k .zone)

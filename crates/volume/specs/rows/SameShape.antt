@@ -9,6 +9,7 @@ use lib.Dec.{eqb}
 use borrow.Author.Tests.{ne-eqb}
 use Rattle.tables.specs.declared.Geometry.{Geometry}
 use Rattle.tables.specs.meaning.Geometry.{Valid, physicalZones, cells, totalBytes, stripeSectors, zoneSectors, dataZone}
+use Rattle.volume.specs.laws.LogPlaces.{withLogs, valid-with-logs}
 use Rattle.logs.specs.meaning.Entry.{spareZone, Header, label, counters, zoneReset, partialParity, seal, closing, encode, labelBytes}
 
 -- the zones of a drive that are no spare, by their role
@@ -28,12 +29,8 @@ pub record SameShape (g h : Geometry) : Type 0 where
 pub shape-refl : (g : Geometry) → SameShape g g
 shape-refl g = record { drives-same = refl; sector-same = refl; unit-same = refl; zones-same = refl; capacity-same = refl }
 
--- a geometry with its logs elsewhere
-abbrev pub withLogs : Geometry → ℕ → Geometry
-withLogs g l = record { drives = g .drives; sector = g .sector; unit = g .unit; zones = g .zones; capacity = g .capacity; logs = l }
-
-pub shape-with : (g : Geometry) (l : ℕ) → SameShape g (withLogs g l)
-shape-with g l = record { drives-same = refl; sector-same = refl; unit-same = refl; zones-same = refl; capacity-same = refl }
+pub shape-with : (g : Geometry) (logs : ℕ) → SameShape g (withLogs g logs)
+shape-with g logs = record { drives-same = refl; sector-same = refl; unit-same = refl; zones-same = refl; capacity-same = refl }
 
 same-numbers : (d b u z c d′ b′ u′ z′ c′ l : ℕ) → d ≡ d′ → b ≡ b′ → u ≡ u′ → z ≡ z′ → c ≡ c′
     → _≡_ {A = Geometry} (record { drives = d; sector = b; unit = u; zones = z; capacity = c; logs = l }) (record { drives = d′; sector = b′; unit = u′; zones = z′; capacity = c′; logs = l })
@@ -48,23 +45,7 @@ module _ (g h : Geometry) (same : SameShape g h) where
   by-shape P p = subst P (sym shape-is) p
 
   pub shape-valid : Valid g → Valid h
-  shape-valid ok = by-shape Valid (record {
-    drives-least = ok .drives-least;
-    drives-most = ok .drives-most;
-    sector = ok .sector;
-    sector-least = ok .sector-least;
-    sector-most = ok .sector-most;
-    unit-least = ok .unit-least;
-    unit-most = ok .unit-most;
-    zones-least = ok .zones-least;
-    zones-most = ok .zones-most;
-    counters-fit = ok .counters-fit;
-    units = ok .units;
-    whole-units = ok .whole-units;
-    zone-most = ok .zone-most;
-    logs-fit = ok .logs-fit;
-    general-fits = ok .general-fits;
-  })
+  shape-valid ok = by-shape Valid (valid-with-logs g (h .logs) ok)
 
   pub shape-zones : physicalZones h ≡ physicalZones g
   shape-zones = ap (λ (n : ℕ). n + 3) (same .zones-same)

@@ -20,7 +20,7 @@ use Rattle.volume.specs.meaning.Refusals.{resetFull}
 use Rattle.volume.specs.meaning.Emptying.{byState, resetAll}
 use Rattle.volume.specs.meaning.CallContracts.{recordAt, viewState, isSet, verdictNumber, rolesOf, seenIn, Result, storingOn, resetVerdict, withReset, resetOn}
 use Rattle.tables.specs.meaning.Geometry.{Valid}
-use Rattle.tables.specs.meaning.Device.{Device, Store}
+use Rattle.tables.specs.meaning.Device.{Store}
 use Rattle.tables.specs.laws.Made.{Made}
 use Rattle.logs.specs.meaning.Entry.{kindOfLog, Header, closing, encode}
 use Rattle.volume.specs.declared.roles.LogPlaces.{LogPlaces}
@@ -36,7 +36,7 @@ use Rattle.volume.specs.laws.CallsUnread.{reset-stores-alike}
 use Rattle.volume.specs.laws.EmptyingUnread.{general-copies-alike}
 use Rattle.volume.specs.laws.PlacedStores.{reset-placed}
 use Rattle.volume.specs.looking.Knowing.{readDevice}
-use Rattle.volume.specs.checks.LogRoom.{driveRoomOf, roomOf, generalRoomAt, emptyingsOf, SeenByRoles, placed-is, seen-heads, room-is, rooms-full, rooms-emptied, rooms-generation}
+use Rattle.volume.specs.checks.LogRoom.{forceOf, driveRoomOf, roomOf, generalRoomAt, emptyingsOf, SeenByRoles, placed-is, seen-heads, room-is, rooms-full, rooms-emptied, rooms-generation}
 use Rattle.volume.specs.emptying.GeneralCopies.{byGenerations}
 use Rattle.volume.specs.emptying.SameCopies.{general-by}
 use Rattle.volume.specs.emptying.EmptyingStores.{withClosing}
@@ -103,26 +103,20 @@ module _ (zone : Zone) (p : LogPlaces) (s : State) (xs ws ps ds : List ℕ) (k :
   abbrev t : Tables
   t = tablesOf xs ws ds
 
-  abbrev w : Device
-  w = seenIn (zone .geometry) (tablesOf xs ws ds)
-
-  abbrev inForce : InForce
-  inForce = byState (zone .geometry) (isSet (zone .here)) (seenIn (zone .geometry) (tablesOf xs ws ds)) (viewState s)
-
   abbrev emptied : ℕ → Bool
   emptied = emptiedFor (zone .geometry) (isSet (zone .here)) false (rolesOf (zone .geometry) (tablesOf xs ws ds)) (seenIn (zone .geometry) (tablesOf xs ws ds)) (resetLimit (zone .geometry))
 
   abbrev stays : ℕ → Bool
-  stays d = staysFull (zone .geometry) false (rolesOf (zone .geometry) (tablesOf xs ws ds)) (resetLimit (zone .geometry)) (newGeneralSize (zone .geometry) inForce (generalHeads (zone .geometry) (seenIn (zone .geometry) (tablesOf xs ws ds)) d)) d || spareWritten (seenIn (zone .geometry) (tablesOf xs ws ds)) d
+  stays d = staysFull (zone .geometry) false (rolesOf (zone .geometry) (tablesOf xs ws ds)) (resetLimit (zone .geometry)) (newGeneralSize (zone .geometry) (forceOf zone s t) (generalHeads (zone .geometry) (seenIn (zone .geometry) (tablesOf xs ws ds)) d)) d || spareWritten (seenIn (zone .geometry) (tablesOf xs ws ds)) d
 
-  copies-are : (d : ℕ) → generalCopies (p .geometry) (byGenerations (generationsIn s)) (generalHeads (p .geometry) (readDevice (p .geometry) xs ps) d) ≡ generalCopies g inForce (generalHeads g w d)
-  copies-are = copies-seen g p xs ws ps k ds (generationsIn s) inForce (λ z h. generations-in-at s z (omega (arith, h, ok .zones-most)))
+  copies-are : (d : ℕ) → generalCopies (p .geometry) (byGenerations (generationsIn s)) (generalHeads (p .geometry) (readDevice (p .geometry) xs ps) d) ≡ generalCopies g (forceOf zone s t) (generalHeads g (seenIn g t) d)
+  copies-are = copies-seen g p xs ws ps k ds (generationsIn s) (forceOf zone s t) (λ z h. generations-in-at s z (omega (arith, h, ok .zones-most)))
 
   drive-room : (d : ℕ) → d < g .drives → generalRoomAt (askedBy zone p) (generationsIn s) xs ws ps d ≡ driveRoomOf (emptied d) (stays d) (rolesOf g t d .generalClaim)
   unfolding generalRoomAt
   drive-room d hd =
       room-is (askedBy zone p) xs ws ps k ds d hd (newGeneralSize (p .geometry) (byGenerations (generationsIn s)) (generalHeads (p .geometry) (readDevice (p .geometry) xs ps) d))
-      ∙ ap (λ (n : ℕ). driveRoomOf (emptied d) (staysFull g false (rolesOf g t) (resetLimit g) n d || spareWritten w d) (rolesOf g t d .generalClaim)) (size-seen g p xs ws ps k ds (generationsIn s) inForce (λ z h. generations-in-at s z (omega (arith, h, ok .zones-most))) d)
+      ∙ ap (λ (n : ℕ). driveRoomOf (emptied d) (staysFull g false (rolesOf g t) (resetLimit g) n d || spareWritten (seenIn g t) d) (rolesOf g t d .generalClaim)) (size-seen g p xs ws ps k ds (generationsIn s) (forceOf zone s t) (λ z h. generations-in-at s z (omega (arith, h, ok .zones-most))) d)
 
   -- refusal 14
   pub room-full : roomBy zone p s xs ws ps .full ≡ zoneFull zone s t
@@ -137,7 +131,7 @@ module _ (zone : Zone) (p : LogPlaces) (s : State) (xs ws ps ds : List ℕ) (k :
 
   -- the new logs
   new-logs : roomBy zone p s xs ws ps .full ≡ false → (d : ℕ) → d < g .drives → emptied d ≡ true
-      → withClosing (emptyingOf (emptyingsOf (askedBy zone p) (roomBy zone p s xs ws ps)) d) false (newGeneralOn (emptyingsOf (askedBy zone p) (roomBy zone p s xs ws ps)) (generationsIn s) xs ps d) ≡ newGeneral g inForce (rolesOf g t d) d (generalHeads g w d)
+      → withClosing (emptyingOf (emptyingsOf (askedBy zone p) (roomBy zone p s xs ws ps)) d) false (newGeneralOn (emptyingsOf (askedBy zone p) (roomBy zone p s xs ws ps)) (generationsIn s) xs ps d) ≡ newGeneral g (forceOf zone s t) (rolesOf g t d) d (generalHeads g (seenIn g t) d)
   unfolding newGeneral
   new-logs full d hd e =
       let coded : encode (p .geometry) d ≡ encode g d = fun-ext λ x. ap (λ (h : Geometry). encode h d x) (placed-is g p xs ws ps k) ∙ encode-alike g (logsOf (roles g (readDevice g xs ws)) (g .drives)) d x in
@@ -147,7 +141,7 @@ module _ (zone : Zone) (p : LogPlaces) (s : State) (xs ws ps ds : List ℕ) (k :
   -- WHAT IS MADE is what the rules say
   pub reset-made-all : (z : ℕ) → z < g .zones → roomBy zone p s xs ws ps .full ≡ false → (budget left : ℕ) (u : Tables) → let all = emptyingsOf (askedBy zone p) (roomBy zone p s xs ws ps) in
       Made (all .to) budget left (eachBelow (λ d. emptiedOn all false (newGeneralOn all (generationsIn s) xs ps d) d) (all .from .drives) ++ resetWith (all .to) (isSet (zone .here)) z (recordAt s z .generation) (take (all .to .zones) (raisedList s z))) t u
-      → Made g budget left (resetAll g (isSet (zone .here)) (rolesOf g t) w (viewState s) z) t u
+      → Made g budget left (resetAll g (isSet (zone .here)) (rolesOf g t) (seenIn g t) (viewState s) z) t u
   unfolding resetAll emptyGeneral
   reset-made-all z hz full budget left u m =
       let a = askedBy zone p in
@@ -157,7 +151,7 @@ module _ (zone : Zone) (p : LogPlaces) (s : State) (xs ws ps ds : List ℕ) (k :
       ap (λ (h : Geometry). resetWith h (isSet (zone .here)) z (recordAt s z .generation) (take (h .zones) (raisedList s z))) (to-is a x xs ws ps k)
       ∙ reset-with (withRoles g (rolesAfter false (isSet (x .emptied)) (roles g (readDevice g xs ws)))) (isSet (zone .here)) s z (ok .zones-most)
       ∙ reset-stores-alike g (logsOf (rolesAfter false (isSet (x .emptied)) (roles g (readDevice g xs ws))) (g .drives)) (isSet (zone .here)) (viewState s) z in
-      emptied-made-all a x xs ws ps ds k (newGeneralOn all (generationsIn s) xs ps) emptied (λ d. newGeneral g inForce (rolesOf g t d) d (generalHeads g w d)) room-emptied (new-logs full) budget left (resetStores g (isSet (zone .here)) (viewState s) z) u
+      emptied-made-all a x xs ws ps ds k (newGeneralOn all (generationsIn s) xs ps) emptied (λ d. newGeneral g (forceOf zone s t) (rolesOf g t d) d (generalHeads g (seenIn g t) d)) room-emptied (new-logs full) budget left (resetStores g (isSet (zone .here)) (viewState s) z) u
       (placed-on-drives g (resetStores g (isSet (zone .here)) (viewState s) z) (reset-placed g ok (isSet (zone .here)) (viewState s) z hz))
       (subst (λ (l : List Store). Made (all .to) budget left (eachBelow (λ d. emptiedOn all false (newGeneralOn all (generationsIn s) xs ps d) d) (all .from .drives) ++ l) t u) own m)
 

@@ -36,12 +36,12 @@ use Rattle.volume.specs.meaning.Roles.{Roles, roles, placedBy, rolesAfte
 use Rattle.volume.specs.meaning.Refusals.{goneForEntry, goneBefore}
 use Rattle.volume.specs.meaning.Calls.{appendAll, parityStores, sectorStores, dataStores, entryStores, writeWith, zoneContent, writeStores}
 use Rattle.volume.specs.meaning.Answers.{sectorsIn}
-use Rattle.volume.specs.meaning.Emptying.{InForce, byState, closingSector, newParity, parityCopies, writeLimit, emptiedFor, emptiedForWrite, goneForCopies, emptyings, emptyParity, writeAll}
+use Rattle.volume.specs.meaning.Emptying.{InForce, closingSector, newParity, parityCopies, writeLimit, emptiedFor, emptiedForWrite, goneForCopies, emptyings, emptyParity, writeAll}
 use Rattle.volume.specs.meaning.CallContracts.{recordAt, viewState, isSet, rolesOf, seenIn, pointerOf}
 use Rattle.volume.specs.laws.LogPlaces.{logsOf, OnDrives}
 use Rattle.volume.specs.laws.CallsUnread.{write-with-alike}
 use Rattle.volume.specs.looking.Knowing.{readDevice}
-use Rattle.volume.specs.checks.LogRoom.{emptyingsOf, SeenByRoles, placed-is}
+use Rattle.volume.specs.checks.LogRoom.{forceOf, emptyingsOf, SeenByRoles, placed-is}
 use Rattle.volume.specs.emptying.Shape.{SameShape}
 use Rattle.volume.specs.emptying.SameCopies.{parity-new, parity-by}
 use Rattle.volume.specs.emptying.EmptyingStores.{withClosing, emptiedTo}
@@ -57,7 +57,7 @@ use Rattle.volume.specs.writing.WriteZone.{writeRoom, write-room-emptied
 use Rattle.volume.specs.writing.WriteSeen.{entries-are, value-is, gone-before-is, copies-gone-is, in-force-is}
 
 -- ---- of many drives only one counts
-each-none : (f : ℕ → List Store) (n : ℕ) → ((d : ℕ) → d < n → f d ≡ []) → eachBelow f n ≡ []
+pub each-none : (f : ℕ → List Store) (n : ℕ) → ((d : ℕ) → d < n → f d ≡ []) → eachBelow f n ≡ []
 each-none f zero e = refl
 each-none f (suc n) e = ap₂ (λ (x y : List Store). x ++ y) (each-none f n (λ d l. e d (omega arith))) (e n (omega arith))
 
@@ -132,7 +132,7 @@ new-by : (g : Geometry) (r : Roles) (d : ℕ) (es : List Entry) (f h : InForce) 
 unfolding newParity
 new-by g r d es f h e = ap (λ (l : List Entry). concat (map (sectorsOf g d true) l) ++ (closingSector g true d r ∷ [])) e
 
-sectors-count : (g : Geometry) (c : ℕ) (buffer : List ℕ) → length (sectorsIn g c buffer) ≡ c
+pub sectors-count : (g : Geometry) (c : ℕ) (buffer : List ℕ) → length (sectorsIn g c buffer) ≡ c
 unfolding sectorsIn
 sectors-count g c buffer = length-tabulate-from _ zero c
 
@@ -154,9 +154,6 @@ module _ (zone : Zone) (p : LogPlaces) (s : State) (end : ℕ) (xs ws ps ds : Li
 
   abbrev w : Device
   w = seenIn (zone .geometry) (tablesOf xs ws ds)
-
-  abbrev inForce : InForce
-  inForce = byState (zone .geometry) (isSet (zone .here)) (seenIn (zone .geometry) (tablesOf xs ws ds)) (viewState s)
 
   abbrev emptied : ℕ → Bool
   emptied = emptiedForWrite (zone .geometry) (isSet (zone .here)) (rolesOf (zone .geometry) (tablesOf xs ws ds)) (seenIn (zone .geometry) (tablesOf xs ws ds)) (zone .number) end
@@ -184,28 +181,28 @@ module _ (zone : Zone) (p : LogPlaces) (s : State) (end : ℕ) (xs ws ps ds : Li
   -- refusal 15
   pub room-gone : (generation n : ℕ)
       → (isSet (room .emptied) own && goneForCopies (p .geometry) present (inForceOf (p .geometry) present (readDevice (p .geometry) xs ps) (generationsIn s) (pointsIn s)) (readDevice (p .geometry) xs ps) own) || goneBefore (p .geometry) present (readDevice (p .geometry) xs ps) z generation n
-      ≡ goneForEntry g present r inForce w z end || goneBefore g present w z generation n
+      ≡ goneForEntry g present r (forceOf zone s t) w z end || goneBefore g present w z generation n
   unfolding goneForEntry
   room-gone generation n =
       ap₂ (λ (a b : Bool). a || b)
       (ap₂ (λ (a b : Bool). a && b) (write-room-emptied zone p s end xs ws ps ds k ok own own-below) (copies-gone-is g p xs ws ps k ds present s ok own)
-      ∙ sym (any-only (λ d. emptied d && goneForCopies g present inForce w d) (g .drives) own own-below (λ d hd h. ap (λ (b : Bool). b && goneForCopies g present inForce w d) (emptied-own d h))))
+      ∙ sym (any-only (λ d. emptied d && goneForCopies g present (forceOf zone s t) w d) (g .drives) own own-below (λ d hd h. ap (λ (b : Bool). b && goneForCopies g present (forceOf zone s t) w d) (emptied-own d h))))
       (gone-before-is g p xs ws ps k ds present z generation n)
 
   -- the new log
   shape : SameShape g (p .geometry)
   shape = rw (placed-is g p xs ws ps k) (record { drives = refl; sector = refl; unit = refl; zones = refl; capacity = refl })
 
-  new-copies : (d : ℕ) → newParity g (inForceOf (p .geometry) present (readDevice (p .geometry) xs ps) (generationsIn s) (pointsIn s)) (r d) d (parityEntries (p .geometry) (readDevice (p .geometry) xs ps) d) ≡ newParity g inForce (r d) d (parityEntries g w d)
+  new-copies : (d : ℕ) → newParity g (inForceOf (p .geometry) present (readDevice (p .geometry) xs ps) (generationsIn s) (pointsIn s)) (r d) d (parityEntries (p .geometry) (readDevice (p .geometry) xs ps) d) ≡ newParity g (forceOf zone s t) (r d) d (parityEntries g w d)
   new-copies d =
       ap (λ (es : List Entry). newParity g (inForceOf (p .geometry) present (readDevice (p .geometry) xs ps) (generationsIn s) (pointsIn s)) (r d) d es) (entries-are g p xs ws ps k ds present d)
-      ∙ by-copies (parity-by g (inForceOf (p .geometry) present (readDevice (p .geometry) xs ps) (generationsIn s) (pointsIn s)) inForce d (parityEntries g w d) (λ y h. in-force-is g p xs ws ps k ds present s ok y h))
+      ∙ by-copies (parity-by g (inForceOf (p .geometry) present (readDevice (p .geometry) xs ps) (generationsIn s) (pointsIn s)) (forceOf zone s t) d (parityEntries g w d) (λ y h. in-force-is g p xs ws ps k ds present s ok y h))
     where
-      by-copies : parityCopies g (inForceOf (p .geometry) present (readDevice (p .geometry) xs ps) (generationsIn s) (pointsIn s)) d (parityEntries g w d) ≡ parityCopies g inForce d (parityEntries g w d)
-          → newParity g (inForceOf (p .geometry) present (readDevice (p .geometry) xs ps) (generationsIn s) (pointsIn s)) (r d) d (parityEntries g w d) ≡ newParity g inForce (r d) d (parityEntries g w d)
-      by-copies e = new-by g (r d) d (parityEntries g w d) (inForceOf (p .geometry) present (readDevice (p .geometry) xs ps) (generationsIn s) (pointsIn s)) inForce e
+      by-copies : parityCopies g (inForceOf (p .geometry) present (readDevice (p .geometry) xs ps) (generationsIn s) (pointsIn s)) d (parityEntries g w d) ≡ parityCopies g (forceOf zone s t) d (parityEntries g w d)
+          → newParity g (inForceOf (p .geometry) present (readDevice (p .geometry) xs ps) (generationsIn s) (pointsIn s)) (r d) d (parityEntries g w d) ≡ newParity g (forceOf zone s t) (r d) d (parityEntries g w d)
+      by-copies e = new-by g (r d) d (parityEntries g w d) (inForceOf (p .geometry) present (readDevice (p .geometry) xs ps) (generationsIn s) (pointsIn s)) (forceOf zone s t) e
 
-  new-logs : room .full ≡ false → (d : ℕ) → d < g .drives → emptied d ≡ true → withClosing (emptyingOf all d) true (newParityOn all (generationsIn s) (pointsIn s) xs ps d) ≡ newParity g inForce (r d) d (parityEntries g w d)
+  new-logs : room .full ≡ false → (d : ℕ) → d < g .drives → emptied d ≡ true → withClosing (emptyingOf all d) true (newParityOn all (generationsIn s) (pointsIn s) xs ps d) ≡ newParity g (forceOf zone s t) (r d) d (parityEntries g w d)
   new-logs full d hd e =
       parity-new g (emptyingOf all d) shape (r d) (inForceOf (p .geometry) present (readDevice (p .geometry) xs ps) (generationsIn s) (pointsIn s)) (parityEntries (p .geometry) (readDevice (p .geometry) xs ps) d) (sym (write-room-generation zone p s end xs ws ps ds k ok full d hd e))
       ∙ new-copies d
@@ -246,7 +243,7 @@ module _ (zone : Zone) (p : LogPlaces) (s : State) (end : ℕ) (xs ws ps ds : Li
       let stores = writeStores g present w (viewState s) z (sectorsIn g c buffer) in
       let alone : first own ≡ eachBelow first (all .from .drives) =
       sym (each-only first (all .from .drives) own (omega (arith, own-below, drives)) (λ d hd h. ap (λ (b : Bool). pick b (emptiedTo (emptyingOf all d) true (newParityOn all (generationsIn s) (pointsIn s) xs ps d)) []) (write-room-emptied zone p s end xs ws ps ds k ok d (omega (arith, hd, drives)) ∙ emptied-own d h))) in
-      let made = emptied-made-all (writeAsked zone p end) room xs ws ps ds k (newParityOn all (generationsIn s) (pointsIn s) xs ps) emptied (λ d. newParity g inForce (r d) d (parityEntries g w d)) (write-room-emptied zone p s end xs ws ps ds k ok) (new-logs full) budget left stores u (own-on c buffer)
+      let made = emptied-made-all (writeAsked zone p end) room xs ws ps ds k (newParityOn all (generationsIn s) (pointsIn s) xs ps) emptied (λ d. newParity g (forceOf zone s t) (r d) d (parityEntries g w d)) (write-room-emptied zone p s end xs ws ps ds k ok) (new-logs full) budget left stores u (own-on c buffer)
       (subst (λ (l : List Store). Made (all .to) budget left (l ++ stores) t u) alone (subst (λ (l : List Store). Made (all .to) budget left (first own ++ l) t u) (own-stores c buffer) m)) in
       let ends : end ≡ pointerOf s z + length (sectorsIn g c buffer) = sym at-end ∙ ap (λ (i : ℕ). pointerOf s z + i) (sym (sectors-count g c buffer)) in
-      subst (λ (i : ℕ). Made g budget left (emptyings g present true r (emptiedForWrite g present r w z i) (λ d. newParity g inForce (r d) d (parityEntries g w d)) ++ map (carry (placedBy (rolesAfter true (emptiedForWrite g present r w z i) r))) stores) t u) ends made
+      subst (λ (i : ℕ). Made g budget left (emptyings g present true r (emptiedForWrite g present r w z i) (λ d. newParity g (forceOf zone s t) (r d) d (parityEntries g w d)) ++ map (carry (placedBy (rolesAfter true (emptiedForWrite g present r w z i) r))) stores) t u) ends made

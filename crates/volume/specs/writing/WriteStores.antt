@@ -46,6 +46,10 @@ use Rattle.volume.specs.rows.RowsInPlace.{contentOf, content-new, Stripe
 unfoldable pub runContent : Geometry → (ℕ → Bool) → Device → ℕ → ℕ → ℕ → List (List ℕ) → ℕ → List ℕ
 runContent g present v z generation n ss a = pick (ltb a n) (valueAt g present v z generation a) (at ss (a - n))
 
+-- the earlier sectors of the pointer's stripe are held
+abbrev pub earlierHeld : Geometry → List Bool → List ℕ → ℕ → ℕ → Bool
+earlierHeld g here ps z n = allHeld g here ps z (stripeOf (g .drives) (g .unit) n * stripeSectors g) (fillOf g n)
+
 -- the zone, from pointer n on, with what a write of `count` sectors is handed; `to`: where the logs lie for what it stores
 abbrev pub extentOf : Geometry → Geometry → List Bool → ℕ → ℕ → ℕ → ℕ → ℕ → Extent
 extentOf g to here z generation limit n count = record { geometry = g; to = to; here = here; zone = z; generation = generation; limit = limit; below = n; end = n + count }
@@ -164,7 +168,7 @@ pub record Writing (k : Extent) (xs ws ps buffer : List ℕ) : Type 0 where
 
 -- its beginning. Below the pointer only the earlier sectors of the pointer's stripe are read, and only where that stripe's parity drive is present.
 module _ (g to : Geometry) (ok : Valid g) (here : List Bool) (xs ps ws : List ℕ) (z generation n count : ℕ) (buffer : List ℕ) (r : WriteReady g here xs ps z generation n count buffer) (past : StoresPast g to ps ws) (limit : ℕ)
-    (limit-is : limit ≡ pick (allHeld g here ps z (stripeOf (g .drives) (g .unit) n * stripeSectors g) (fillOf g n)) 0 (sealLimit g (isSet here) (readDevice g xs ps) z generation)) where
+    (limit-is : limit ≡ pick (earlierHeld g here ps z n) 0 (sealLimit g (isSet here) (readDevice g xs ps) z generation)) where
   abbrev first : ℕ
   first = stripeOf (g .drives) (g .unit) n
 
@@ -192,9 +196,9 @@ module _ (g to : Geometry) (ok : Valid g) (here : List Bool) (xs ps ws : List �
       subst (λ (x : ℕ). known (g .drives) (g .unit) z (zoneView g (isSet here) (readDevice g xs ps) z generation) x ≡ true) e (known-in g (isSet here) (readDevice g xs ps) z generation (first * stripeSectors g) (fillOf g n) (a - first * stripeSectors g) gone m)
 
   limited : (a : ℕ) → first * stripeSectors g ≤ a → a < n → ownHeld g here ps z a ≡ false → limit ≡ sealLimit g (isSet here) (readDevice g xs ps) z generation
-  limited a l q h = go (allHeld g here ps z (first * stripeSectors g) (fillOf g n)) refl
+  limited a l q h = go (earlierHeld g here ps z n) refl
     where
-      go : (b : Bool) → allHeld g here ps z (first * stripeSectors g) (fillOf g n) ≡ b → limit ≡ sealLimit g (isSet here) (readDevice g xs ps) z generation
+      go : (b : Bool) → earlierHeld g here ps z n ≡ b → limit ≡ sealLimit g (isSet here) (readDevice g xs ps) z generation
       go true e =
           let (i, m) = inside-first a l q in
           absurd (true≢false (sym (subst (λ (x : ℕ). ownHeld g here ps z x ≡ true) i (all-below-all (λ i. ownHeld g here ps z (first * stripeSectors g + i)) (fillOf g n) (a - first * stripeSectors g) e m)) ∙ h))

@@ -1,15 +1,15 @@
 -- A write to a zone that has passed refusals 7 to 12: refusals 14 and 15, the emptying of its entry's parity log if that lacks room, its own stores. By the rules.
-use mathlib.Core.Path.{_≡_, refl, sym, ap, ap₂, _∙_, fun-ext, subst}
+use mathlib.Core.Path.{_≡_, refl, ap, ap₂, _∙_}
 use mathlib.Core.Bool.{Bool, true, false, _&&_, _||_}
-use Prim.Native.Nat.{ℕ, zero, suc, _+_, _-_, _*_, _≤_, _<_, min}
+use Prim.Native.Nat.{ℕ, zero, suc, _+_, _-_, _<_, min}
 use native.Mathlib.Omega.{arith}
-use mathlib.Core.List.{List, [], _∷_, _++_, map}
-use lib.ListN.{length, getD}
-use lib.Dec.{ltb, eqb}
+use mathlib.Core.List.{List}
+use lib.ListN.{getD}
+use lib.Dec.{eqb}
 use Rattle.tables.specs.declared.Geometry.{Geometry}
 use Rattle.tables.specs.meaning.Basics.{pick}
-use Rattle.tables.specs.meaning.Below.{anyBelow, sumBelow}
-use Rattle.tables.specs.meaning.Geometry.{Valid, zoneSectors}
+use Rattle.tables.specs.meaning.Below.{sumBelow}
+use Rattle.tables.specs.meaning.Geometry.{Valid}
 use Rattle.tables.specs.meaning.Device.{Device}
 use Rattle.tables.specs.meaning.Tables.{Tables, tablesOf}
 use Rattle.tables.specs.meaning.Placement.{stripeOf}
@@ -18,12 +18,11 @@ use Rattle.volume.specs.declared.State.{State}
 use Rattle.volume.specs.declared.Zone.{Zone}
 use Rattle.volume.specs.declared.roles.LogPlaces.{LogPlaces}
 use Rattle.volume.specs.declared.log_room.LogRoom.{LogRoom}
-use Rattle.volume.specs.meaning.State.{pointerIn}
 use Rattle.volume.specs.meaning.Content.{insideStripe, fillOf, parityDriveAt}
 use Rattle.volume.specs.meaning.Refusals.{writeFull}
-use Rattle.volume.specs.meaning.Emptying.{InForce, byState, isCopied, copySize, newParitySize, staysFull, spareWritten, writeLimit, lacksRoom, emptiedFor, emptiedForWrite}
-use Rattle.volume.specs.meaning.CallContracts.{recordAt, viewState, isSet, rolesOf, seenIn}
-use Rattle.volume.specs.checks.LogRoom.{driveRoomOf, roomOf, parityRoomAt, SeenByRoles, room-is, rooms-full, rooms-emptied, rooms-generation}
+use Rattle.volume.specs.meaning.Emptying.{InForce, copySize, newParitySize, staysFull, spareWritten, writeLimit, lacksRoom, emptiedFor, emptiedForWrite}
+use Rattle.volume.specs.meaning.CallContracts.{isSet, rolesOf, seenIn}
+use Rattle.volume.specs.checks.LogRoom.{forceOf, driveRoomOf, roomOf, parityRoomAt, SeenByRoles, room-is, rooms-full, rooms-emptied, rooms-generation}
 use Rattle.volume.specs.emptying.ParityCopies.{byPointers}
 use Rattle.volume.specs.writing.WriteRoom.{pointsIn, points-at, entryDriveOf, onlyAt, only-at, writeAsked}
 
@@ -50,7 +49,7 @@ module _ (zone : Zone) (p : LogPlaces) (s : State) (end : ℕ) (xs ws ps ds : Li
   w = seenIn (zone .geometry) (tablesOf xs ws ds)
 
   abbrev inForce : InForce
-  inForce = byState (zone .geometry) (isSet (zone .here)) (seenIn (zone .geometry) (tablesOf xs ws ds)) (viewState s)
+  inForce = forceOf zone s (tablesOf xs ws ds)
 
   abbrev emptied : ℕ → Bool
   emptied = emptiedForWrite (zone .geometry) (isSet (zone .here)) (rolesOf (zone .geometry) (tablesOf xs ws ds)) (seenIn (zone .geometry) (tablesOf xs ws ds)) (zone .number) end

@@ -19,7 +19,8 @@ use Rattle.volume.specs.meaning.State.{callPresent}
 use Rattle.volume.specs.meaning.Refusals.{zoneOf, offsetOf}
 use Rattle.volume.specs.meaning.CallContracts.{recordAt, viewState, isSet, answerNumber, seenIn, Result, readNumber, valuesOn, readOn, peekNumber}
 use Rattle.volume.specs.laws.ByteLists.{Bytes}
-use Rattle.zrv.specs.meaning.EdgeCalls.{namedOf, inputNumber, sizesNumber, Ranges, tablesIn, stateIn, unreadState, Answered, answered, unlessRefused, handedBack, storedAll, storedFlushes, formatOfBytes, formatEdge, lookOfBytes, lookEdge, mountOfBytes, mountEdge, writeOfBytes, writeEdge, flushOfBytes, flushEdge, resetOfBytes, resetEdge, readAnswer, readEdge, placeAnswer, placeSized, peekEdge}
+use Rattle.zrv.specs.meaning.EdgeCalls.{namedOf, inputNumber, sizesNumber, Ranges, tablesIn, stateIn, unreadState, Answered, answered, unlessRefused, handedBack, storedAll, storedFlushes, formatOfBytes, formatEdge}
+use Rattle.zrv.specs.meaning.EdgeCalls.{lookOfBytes, lookEdge, mountOfBytes, mountEdge, writeOfBytes, writeEdge, flushOfBytes, flushEdge, resetOfBytes, resetEdge, readAnswer, readEdge, placeAnswer, placeSized, peekEdge}
 use Rattle.zrv.specs.laws.EdgeCalls.{Sized, input-passed, sizes-passed, refused, made, state-kept}
 use Rattle.zrv.specs.laws.RoundTrips.{bytes-table-bytes}
 use Rattle.zrv.specs.laws.CallsLeave.{Stored, format-stored, mount-stored, flush-stored, reset-stored, write-stored}

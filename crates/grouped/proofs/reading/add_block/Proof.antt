@@ -29,12 +29,6 @@ place-of-requires c κs = let s = c .before .before .before .before in
 room : (c : tie.After-place-of) → c .place-of .result * c .before .before .before .before .before .args .s .block + c .before .before .before .before .before .args .s .block ≤ totalBlocks (c .before .before .before .before .before .args .s) * c .before .before .before .before .before .args .s .block
 room c = omega (arith, mul-le-mul-right (c .before .before .before .before .before .args .s .block) (c .place-of .ensures .1))
 
-mul-from : tie.Need-mul-from
-mul-from c = let s = c .before .before .before .before .before in omega (arith, room c, bytes-small (s .args .s) (s .pre .0 .0))
-
-add-end : tie.Need-add-end
-add-end c = let s = c .before .before .before .before .before in omega (arith, room c, bytes-small (s .args .s) (s .pre .0 .0))
-
 part-xor-into-end : tie.Need-part-xor-into-end
 part-xor-into-end c = let s = c .before .before .before .before .before .before in omega (arith, room (c .before), s .pre .1 .2)
 
@@ -48,4 +42,4 @@ returns-2 c =
     c .before .before .xor-into .ensures ∙ rw (ne-eqb (a .d) (a .missing) (other (p .before)), d, f .ensures .0) refl
 
 pub add-block-spec : {M : Type 1} → statement M
-add-block-spec = tie.close (tie.spec returns place-of-requires mul-from add-end (λ c. search needs) (λ c. search needs) part-xor-into-end (λ c κs. search needs) (λ c. search needs) returns-2)
+add-block-spec = tie.close (tie.spec returns place-of-requires (λ c. let s = c .before .before .before .before .before in omega (arith, room c, bytes-small (s .args .s) (s .pre .0 .0))) (λ c. let s = c .before .before .before .before .before in omega (arith, room c, bytes-small (s .args .s) (s .pre .0 .0))) (λ c. search needs) (λ c. search needs) part-xor-into-end (λ c κs. search needs) (λ c. search needs) returns-2)

@@ -5,7 +5,7 @@ use Rattle.logs.specs.code.QueryLaws.{answerAt, answer-left, answer-whol
 use Rattle.tables.specs.laws.Below.{length-tabulate}
 use lib.ListN.{length}
 use mathlib.Core.List.{List}
-use Rattle.logs.specs.code.Steps.{stepOf, step-climbs}
+use Rattle.logs.specs.code.Steps.{stepOf, climbs-in-log}
 use Rattle.logs.specs.declared.Step.the-variants.{Whole}
 use mathlib.Core.Path.{_≡_, _∙_, refl, sym}
 use Prim.Native.Nat.{ℕ, _-_, _≤_, _<_}
@@ -42,8 +42,7 @@ climbs : (k : tie.After-known-told Inv-walk μ-walk) → (k .before .before .bef
 climbs k =
     let w = k .before .before .before .before in
     let a = w .before .before .args in
-    let (u, v) = step-climbs (a .g) (a .log .drive) (a .parity) (sectorsOf w) (w .walk .p) (low w) (k .before .step .given .0 .0) (k .before .step .given .0 .1 .0) (whole k) in
-    (u, rw length-tabulate at v)
+    climbs-in-log (a .g) (a .log) (a .parity) (a .sectors .now) (w .walk .p) (w .walk .inv .0) (k .before .step .given .0 .0) (k .before .step .given .0 .1 .0) (whole k)
 
 after-found-requires : tie.Need-after-found-requires Inv-walk μ-walk
 after-found-requires c κs =

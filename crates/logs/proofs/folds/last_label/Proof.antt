@@ -2,11 +2,9 @@ use Rattle.logs.specs.code.WalkCode.{logSectors, leftAt}
 use Rattle.logs.specs.declared.Found.the-variants.{Bad}
 use Rattle.logs.specs.code.Query.{headsOf, logHeads}
 use Rattle.logs.specs.code.KeptLabel.{lastLabelSeen, label-left, label-on}
-use Rattle.tables.specs.laws.Below.{length-tabulate}
-use lib.ListN.{length}
 use mathlib.Core.List.{List}
 use mathlib.Core.Bool.{false}
-use Rattle.logs.specs.code.Steps.{stepOf, step-climbs}
+use Rattle.logs.specs.code.Steps.{stepOf, sectorsOfLog, low-in-log, climbs-in-log}
 use Rattle.logs.specs.declared.Step.the-variants.{Whole}
 use mathlib.Core.Path.{_≡_, _∙_, refl, sym}
 use Prim.Native.Nat.{ℕ, _-_, _≤_, _<_}
@@ -23,19 +21,8 @@ Inv-walk sectors g log last₀ p₀ last p =
 abbrev μ-walk : tie.MeasureT-walk
 μ-walk sectors g log last₀ p₀ last p = log .written - p
 
-walk-holds : tie.Need-walk-holds Inv-walk μ-walk
-walk-holds c = (omega arith, refl)
-
-next-entry-requires : tie.Need-next-entry-requires Inv-walk μ-walk
-next-entry-requires c κs = let s = c .before .before in (s .pre .0, (s .pre .1, c .walk .inv .0))
-
 abbrev sectorsOf : tie.At-walk Inv-walk μ-walk → List (List ℕ)
-sectorsOf w =
-    let s = w .before .before in
-    logSectors (s .args .g) (s .args .log .drive) (s .args .log .zone) (s .args .sectors .now) (s .args .log .written)
-
-low : (w : tie.At-walk Inv-walk μ-walk) → w .walk .p ≤ length (sectorsOf w)
-low w = rw length-tabulate (w .walk .inv .0)
+sectorsOf w = let a = w .before .before .args in sectorsOfLog (a .g) (a .log) (a .sectors .now)
 
 abbrev turn : tie.After-known-told Inv-walk μ-walk → tie.At-walk Inv-walk μ-walk
 turn k = k .before .before .before .before
@@ -48,8 +35,7 @@ climbs : (k : tie.After-known-told Inv-walk μ-walk) → (turn k .walk .p < k .b
 climbs k =
     let w = turn k in
     let a = w .before .before .args in
-    let (u, v) = step-climbs (a .g) (a .log .drive) false (sectorsOf w) (w .walk .p) (low w) (k .before .step .given .0 .0) (k .before .step .given .0 .1 .0) (whole k) in
-    (u, rw length-tabulate at v)
+    climbs-in-log (a .g) (a .log) false (a .sectors .now) (w .walk .p) (w .walk .inv .0) (k .before .step .given .0 .0) (k .before .step .given .0 .1 .0) (whole k)
 
 walk-less : tie.Need-walk-less Inv-walk μ-walk
 walk-less c = omega (arith, climbs (c .before) .0, climbs (c .before) .1)
@@ -59,16 +45,16 @@ walk-again c =
     let k = c .before in
     let w = turn k in
     let a = w .before .before .args in
-    (climbs k .1, rw (c .later-label .ensures) (sym (label-on (a .g) (a .log .drive) false (sectorsOf w) (w .walk .p) (low w) (w .walk .last) (k .before .step .given .0 .0) (k .before .step .given .0 .1 .0) (whole k)) ∙ w .walk .inv .1))
+    (climbs k .1, rw (c .later-label .ensures) (sym (label-on (a .g) (a .log .drive) false (sectorsOf w) (w .walk .p) (low-in-log (a .g) (a .log) (a .sectors .now) (w .walk .p) (w .walk .inv .0)) (w .walk .last) (k .before .step .given .0 .0) (k .before .step .given .0 .1 .0) (whole k)) ∙ w .walk .inv .1))
 
 returns : tie.Need-returns Inv-walk μ-walk
 returns c =
     let w = c .before .before .before in
     let a = w .before .before .args in
-    sym (label-left (a .g) (a .log .drive) false (sectorsOf w) (w .walk .p) (low w) (w .walk .last) (c .enum-told .given .0 .0) (sym (c .before .before .next-entry .ensures) ∙ c .enum-told .given .1)) ∙ w .walk .inv .1
+    sym (label-left (a .g) (a .log .drive) false (sectorsOf w) (w .walk .p) (low-in-log (a .g) (a .log) (a .sectors .now) (w .walk .p) (w .walk .inv .0)) (w .walk .last) (c .enum-told .given .0 .0) (sym (c .before .before .next-entry .ensures) ∙ c .enum-told .given .1)) ∙ w .walk .inv .1
 
 pub last-label-spec : {M : Type 1} → statement M
 last-label-spec =
     tie.close
-    (tie.spec Inv-walk μ-walk walk-holds next-entry-requires (λ c. search needs) (λ c. search needs) (λ c κs. search needs) walk-less walk-again
+    (tie.spec Inv-walk μ-walk (λ c. (omega arith, refl)) (λ c κs. let s = c .before .before in (s .pre .0, (s .pre .1, c .walk .inv .0))) (λ c. search needs) (λ c. search needs) (λ c κs. search needs) walk-less walk-again
     returns)

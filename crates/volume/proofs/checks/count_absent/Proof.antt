@@ -14,9 +14,6 @@ Inv-loop here n k₀ d₀ k d = (d ≤ n) × (k ≤ d) × (k ≡ countBelow (λ 
 abbrev μ-loop : tie.MeasureT-loop
 μ-loop here n k₀ d₀ k d = n - d
 
-add-k : tie.Need-add-k Inv-loop μ-loop
-add-k c = omega (arith, c .one-unless .ensures .1, c .before .before .before .pre .drives-most)
-
 loop-again : tie.Need-loop-again Inv-loop μ-loop
 loop-again c =
     let l = c .before .before .loop in
@@ -28,5 +25,5 @@ returns c = let l = c .before .loop in let e : l .d ≡ c .before .before .args 
 pub count-absent-spec : {M : Type 1} → statement M
 count-absent-spec =
     tie.close
-    (tie.spec Inv-loop μ-loop (λ c. (omega arith, omega arith, refl)) (λ c. omega (arith, c .before .before .pre .drives-most)) (λ c κs. tt) add-k
+    (tie.spec Inv-loop μ-loop (λ c. (omega arith, omega arith, refl)) (λ c. omega (arith, c .before .before .pre .drives-most)) (λ c κs. tt) (λ c. omega (arith, c .one-unless .ensures .1, c .before .before .before .pre .drives-most))
     (λ c. omega (arith, c .before .before .before .pre .drives-most)) (λ c. omega arith) loop-again returns)

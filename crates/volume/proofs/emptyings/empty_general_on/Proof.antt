@@ -1,12 +1,9 @@
-use mathlib.Core.Path.{_≡_, refl, sym, _∙_, subst}
+use mathlib.Core.Path.{_≡_}
 use mathlib.Core.Bool.{true, false}
-use mathlib.Core.List.{List, []}
 use lib.ListN.{getD}
 use denote.Ref.{now}
 use borrow.Author.Tests.{not-true, not-false}
-use Rattle.tables.specs.meaning.Device.{Store}
 use Rattle.tables.specs.meaning.Tables.{tablesOf}
-use Rattle.tables.specs.laws.Made.{Made}
 use Rattle.tables.specs.laws.Counted.{made-nil}
 use Rattle.volume.specs.emptying.Emptyings.{ready-copying}
 use borrow.Author.Needs.{needs}

@@ -3,7 +3,7 @@ use Prim.Native.Nat.{_-_, _≤_, _<_}
 use native.Mathlib.Omega.{arith}
 use native.Mathlib.Numerals.{add-one}
 use lib.ListN.{length}
-use Rattle.volume.specs.emptying.ParityTurns.{ParityTurn, parities-begin, parities-more, parities-done}
+use Rattle.volume.specs.emptying.ParityTurns.{ParityTurn, turn-ready, parities-begin, parities-more, parities-done}
 use Rattle.volume.proofs.emptyings.empty_parities.Statement.{statement}
 use Rattle.volume.proofs.emptyings.empty_parities.Tie as tie
 
@@ -24,7 +24,9 @@ loop-holds c =
 empty-parity-at-requires : tie.Need-empty-parity-at-requires Inv-loop μ-loop
 empty-parity-at-requires c κs =
     let s = c .before .before .before .before .before .before .before .before .before .before .before .before .before in
-    (s .pre .0, (c .before .before .before .before .loop .inv .4 .ready, omega arith))
+    let a = s .args in
+    let l = c .before .before .before .before .loop in
+    (s .pre .0, turn-ready (a .all) (a .generations .now) (a .points .now) (a .pointers .now) (a .starts .now) (l .sectors) (l .written) (l .durable) (l .d) (l .inv .4 .ready) (omega arith))
 
 add-d : tie.Need-add-d Inv-loop μ-loop
 add-d c = let s = c .before .before .before .before .before .before .before .before .before .before .before .before .before .before .before .before .before .before .before .before in omega (arith, s .pre .0 .drives-most)

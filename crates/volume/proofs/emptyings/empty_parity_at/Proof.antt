@@ -6,7 +6,6 @@ use borrow.Author.Tests.{not-true, not-false}
 use borrow.Author.Needs.{needs}
 use Rattle.tables.specs.meaning.Tables.{tablesOf}
 use Rattle.tables.specs.laws.Counted.{made-nil}
-use Rattle.volume.specs.emptying.ParityTurns.{turn-copying}
 use Rattle.volume.proofs.emptyings.empty_parity_at.Statement.{statement}
 use Rattle.volume.proofs.emptyings.empty_parity_at.Tie as tie
 
@@ -21,9 +20,7 @@ returns c =
 empty-parity-requires : tie.Need-empty-parity-requires
 empty-parity-requires c κs =
     let s = c .before .before .before .before .before .before .before .before .before .before .before .before .before .before .before .before in
-    let a = s .args in
-    let r = s .pre .1 .0 in
-    (s .pre .0, (turn-copying (a .all) (now (a .generations)) (now (a .points)) (now (a .pointers)) (now (a .starts)) (now (a .sectors)) (now (a .written)) (now (a .durable)) (a .drive) r (s .pre .1 .1) (due (c .before .before .before .before .before .before .before)), r .ready .durable-long))
+    (s .pre .0, (s .pre .1 .copying (due (c .before .before .before .before .before .before .before)), s .pre .1 .durable-long))
 
 returns-2 : tie.Need-returns-2
 returns-2 c = rw (due (c .before .before .before .before .before .before .before .before .before .before .before .before .before .before)) (c .before .before .before .before .before .before .empty-parity .ensures)

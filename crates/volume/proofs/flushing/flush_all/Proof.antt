@@ -34,10 +34,8 @@ add-d c = omega (arith, c .before .before .before .before .before .before .befor
 
 loop-again : tie.Need-loop-again Inv-loop μ-loop
 loop-again c =
-    let at-loop = c .before .before .before .before .before in
-    let s = at-loop .before .before .before in
-    let a = s .args in
-    let l = at-loop .loop in
+    let l = c .before .before .before .before .before .loop in
+    let a = c .before .before .before .before .before .before .before .before .args in
     let f = c .before .before .flush-counted in (
       omega arith,
       f .kept .1 .0 ∙ l .inv .1,

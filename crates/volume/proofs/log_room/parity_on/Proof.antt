@@ -1,14 +1,10 @@
-use mathlib.Core.Path.{_≡_, refl, sym, ap, _∙_}
-use mathlib.Core.Bool.{true, false}
-use Prim.Native.Nat.{ℕ, _-_}
-use lib.Dec.{ltb}
-use Rattle.tables.specs.meaning.Basics.{pick}
+use mathlib.Core.Path.{_≡_, refl, _∙_}
+use mathlib.Core.Bool.{true}
+use Prim.Native.Nat.{ℕ}
 use denote.Ref.{now}
-use borrow.Author.Tests.{not-true, not-false}
-use Rattle.volume.specs.declared.log_room.DriveRoom.{DriveRoom}
 use Rattle.volume.specs.meaning.Emptying.{newParitySize}
 use Rattle.volume.specs.emptying.ParityCopies.{byPointers}
-use Rattle.volume.specs.checks.LogRoom.{lacksAt, lostAt, claimAt, driveRoomOf, parityRoomAt, placed-valid, placed-drives, placed-zones, placed-capacity, placed-cells, placed-sized, room-kept, room-lost, room-sized}
+use Rattle.volume.specs.checks.LogRoom.{parityRoomAt, isDone, room-done, room-sized}
 use borrow.Author.Needs.{needs}
 use Rattle.volume.proofs.log_room.parity_on.Statement.{statement}
 use Rattle.volume.proofs.log_room.parity_on.Tie as tie
@@ -17,51 +13,22 @@ use Rattle.volume.proofs.log_room.parity_on.Tie as tie
 abbrev newSize : tie.Start → ℕ
 newSize s = let a = s .args in newParitySize (a .asked .first) (byPointers (now (a .points))) (a .drive)
 
-lacks-room-requires : tie.Need-lacks-room-requires
-lacks-room-requires c κs =
-    let s = c .before .before .before .before in
-    let a = s .args in
-    let k = s .pre .1 .0 in
-    (placed-valid (a .asked .first) (a .asked .places) (now (a .sectors)) (now (a .written)) (now (a .pointers)) k (s .pre .0), (rw (placed-drives (a .asked .first) (a .asked .places) (now (a .sectors)) (now (a .written)) (now (a .pointers)) k) (s .pre .1 .1), placed-cells (a .asked .first) (a .asked .places) (now (a .sectors)) (now (a .written)) (now (a .pointers)) k))
-
-abbrev to-start : tie.After-lacks-room → tie.Start
+abbrev to-start : tie.After-room-unsized → tie.Start
 to-start w = w .before .before .before .before .before
 
-returns : tie.Need-returns
+done : (w : tie.After-room-unsized) → isDone (w .room-unsized .result) ≡ true → let a = to-start w .args in w .room-unsized .result ≡ parityRoomAt (a .asked) (now (a .points)) (now (a .sectors)) (now (a .written)) (now (a .pointers)) (a .drive)
 unfolding parityRoomAt
-returns c =
-    let w = c .before in
-    let s = to-start w in
-    let a = s .args in
-    room-kept (a .asked) (newSize s) (now (a .sectors)) (now (a .written)) (now (a .pointers)) (a .drive) (sym (w .lacks-room .ensures) ∙ not-true (w .lacks-room .result) (c .if1 .taken))
-
-lacking : (c : tie.Else1) → let a = to-start (c .before) .args in lacksAt (a .asked) (now (a .pointers)) (a .drive) ≡ true
-lacking c = let w = c .before in sym (w .lacks-room .ensures) ∙ not-false (w .lacks-room .result) (c .if1 .left)
-
-abbrev from-new : tie.After-new-log → tie.Else1
-from-new n = n .before
-
-stays : (n : tie.After-new-log) → n .new-log .result .full ≡ lostAt (to-start (from-new n .before) .args .asked) (now (to-start (from-new n .before) .args .sectors)) (now (to-start (from-new n .before) .args .written)) (now (to-start (from-new n .before) .args .pointers)) (to-start (from-new n .before) .args .drive)
-stays n = ap (λ (x : DriveRoom). x .full) (n .new-log .ensures)
+done w h = let s = to-start w in let a = s .args in room-done (a .asked) (newSize s) (now (a .sectors)) (now (a .written)) (now (a .pointers)) (a .drive) (w .room-unsized .result) (w .room-unsized .ensures) h
 
 returns-2 : tie.Need-returns-2
 unfolding parityRoomAt
 returns-2 c =
-    let n = c .before in
-    let s = to-start (from-new n .before) in
-    let a = s .args in
-    n .new-log .ensures ∙ room-lost (a .asked) (newSize s) (now (a .sectors)) (now (a .written)) (now (a .pointers)) (a .drive) (lacking (from-new n)) (sym (stays n) ∙ c .if2 .taken)
-
-returns-3 : tie.Need-returns-3
-unfolding parityRoomAt
-returns-3 c =
-    let n = c .before .before .before .before in
     let e = c .before .before .before in
-    let s = to-start (from-new n .before) in
+    let w = e .before in
+    let s = to-start w in
     let a = s .args in
-    let sized : ℕ → ℕ → DriveRoom → DriveRoom = λ m k x. pick (ltb (m - k) (a .asked .limit)) (driveRoomOf true true 0) x in
-    c .with-size .ensures ∙ ap (λ (k : ℕ). sized (a .asked .first .capacity) k (n .new-log .result)) (c .before .parity-size .ensures) ∙ ap (sized (a .asked .first .capacity) (newSize s)) (n .new-log .ensures)
-    ∙ room-sized (a .asked) (newSize s) (now (a .sectors)) (now (a .written)) (now (a .pointers)) (a .drive) (lacking (from-new n)) (sym (stays n) ∙ e .if2 .left)
+    let size = c .before .parity-size in
+    c .with-size .ensures ∙ room-sized (a .asked) (newSize s) (now (a .sectors)) (now (a .written)) (now (a .pointers)) (a .drive) (w .room-unsized .result) (w .room-unsized .ensures) (a .asked .first .capacity) (size .result) refl (size .ensures) (e .if1 .left)
 
 pub parity-on-spec : {M : Type 1} → statement M
-parity-on-spec = tie.close (tie.spec lacks-room-requires returns (λ c κs. search needs) returns-2 (λ c κs. search needs) (λ c κs. search needs) returns-3)
+parity-on-spec = tie.close (tie.spec (λ c κs. search needs) (λ c. done (c .before) (c .if1 .taken)) (λ c κs. search needs) (λ c κs. search needs) returns-2)

@@ -1,49 +1,38 @@
-use mathlib.Core.Path.{_≡_, refl, ap, ap₂, _∙_}
-use mathlib.Core.Bool.{Bool, false}
-use Prim.Native.Nat.{ℕ, _+_, _-_, _≤_, _<_}
+use mathlib.Core.Path.{_≡_, refl, _∙_}
+use Prim.Native.Nat.{_-_, _≤_, _<_}
 use native.Mathlib.Omega.{arith}
-use mathlib.Core.List.{List, _++_}
-use lib.ListN.{length, length-set, replicate}
 use denote.Ref.{now}
-use Rattle.tables.specs.meaning.Below.{anyBelow, tabulate}
-use Rattle.volume.specs.declared.log_room.DriveRoom.{DriveRoom}
-use Rattle.volume.specs.checks.LogRoom.{parityRoomAt, roomOf, room-more}
+use borrow.Author.Needs.{needs}
+use Rattle.volume.specs.checks.LogRoom.{parityRoomAt, roomOf, answered}
 use Rattle.volume.proofs.log_room.parity_room.Statement.{statement}
 use Rattle.volume.proofs.log_room.parity_room.Tie as tie
 
 abbrev Inv-loop : tie.InvT-loop
-Inv-loop sectors written pointers asked points n full₀ emptied₀ next₀ d₀ full emptied next d =
-    (d ≤ n) × (length emptied ≡ 8) × (length next ≡ 8) × (full ≡ anyBelow (λ e. parityRoomAt asked points sectors written pointers e .full) d)
-    × (emptied ≡ tabulate (λ e. parityRoomAt asked points sectors written pointers e .lacks) d ++ replicate (8 - d) false)
-    × (next ≡ tabulate (λ e. parityRoomAt asked points sectors written pointers e .generation) d ++ replicate (8 - d) 0)
+Inv-loop sectors written pointers asked points n all₀ d₀ all d = (d ≤ n) × (all ≡ roomOf (parityRoomAt asked points sectors written pointers) d)
 
 abbrev μ-loop : tie.MeasureT-loop
-μ-loop sectors written pointers asked points n full₀ emptied₀ next₀ d₀ full emptied next d = n - d
+μ-loop sectors written pointers asked points n all₀ d₀ all d = n - d
+
+abbrev to-start : tie.At-loop Inv-loop μ-loop → tie.Start Inv-loop μ-loop
+to-start c = c .before .before .before .before .before .before .before
 
 parity-on-requires : tie.Need-parity-on-requires Inv-loop μ-loop
-parity-on-requires c κs = let s = c .before .before .before .before .before .before .before in (s .pre .0, (s .pre .1 .0, omega arith, s .pre .1 .1))
+parity-on-requires c κs = let s = to-start (c .before) in (s .pre .0, (s .pre .1 .0, omega arith, s .pre .1 .1))
 
 small : (c : tie.After-parity-on Inv-loop μ-loop) → c .before .before .loop .d < 8
-small c = let s = c .before .before .before .before .before .before .before .before in omega (arith, s .pre .0 .drives-most)
+small c = omega (arith, c .before .loop-test .taken, to-start (c .before .before) .pre .0 .drives-most)
 
 loop-again : tie.Need-loop-again Inv-loop μ-loop
 loop-again c =
-    let g = c .before in
-    let s = g .before .before .before .before .before .before .before .before in
-    let a = s .args in
-    let l = g .before .before .loop in
-    let m = room-more (parityRoomAt (a .asked) (now (a .points)) (now (a .sectors)) (now (a .written)) (now (a .pointers))) (l .d) (l .full) (l .emptied) (l .next) (g .parity-on .result) (small g) (g .parity-on .ensures) (l .inv .3) (l .inv .4) (l .inv .5) in
-    (omega arith, simp length-set (l .inv .1), simp length-set (l .inv .2), m .0, m .1, m .2)
+    let l = c .before .before .before in
+    let a = to-start l .args in
+    (omega arith, c .with-answer .ensures ∙ answered (parityRoomAt (a .asked) (now (a .points)) (now (a .sectors)) (now (a .written)) (now (a .pointers))) (l .loop .d) (l .loop .all) (c .before .parity-on .result) (small (c .before)) (c .before .parity-on .ensures) (l .loop .inv .1))
 
 returns : tie.Need-returns Inv-loop μ-loop
-returns c =
-    let s = c .before .before .before .before .before .before .before in
-    let l = c .before .loop in
-    let e : l .d ≡ s .args .asked .first .drives = omega arith in
-    rw (l .inv .3, l .inv .4, l .inv .5, e) refl
+returns c = let l = c .before in let e : l .loop .d ≡ to-start l .args .asked .first .drives = omega arith in l .loop .inv .1 ∙ rw e refl
 
 pub parity-room-spec : {M : Type 1} → statement M
 parity-room-spec =
     tie.close
-    (tie.spec Inv-loop μ-loop (λ c. (omega arith, refl, refl, refl, refl, refl)) parity-on-requires (λ c. small (c .before)) (λ c. let h = small (c .before) in omega arith) (λ c. small (c .before)) (λ c. let h = small (c .before) in omega arith)
-    (λ c. omega arith) loop-again returns)
+    (tie.spec Inv-loop μ-loop (λ c κs. search needs) (λ c. (omega arith, c .no-answers .ensures)) parity-on-requires (λ c κs. small c)
+    (λ c. let h = small (c .before) in omega arith) (λ c. omega arith) loop-again returns)

@@ -3,16 +3,15 @@ use mathlib.Core.List.{List, _++_}
 use Prim.Native.Nat.{ℕ, _≤_}
 use native.Mathlib.Omega.{arith}
 use lib.ListN.{length, take, drop, replicate}
-use lib.Seq.{length-take-le, take-at}
+use lib.Seq.{take-at}
 use denote.Ref.{now}
-use Rattle.tables.specs.meaning.Geometry.{Valid, cells}
+use Rattle.tables.specs.meaning.Geometry.{Valid}
 use Rattle.tables.specs.meaning.Tables.{Tables, tablesOf}
-use Rattle.tables.specs.laws.Sizes.{cells-small}
 use Rattle.volume.specs.meaning.CallContracts.{Result}
 use Rattle.volume.specs.checks.Logging.{front-fits, front-long}
 use Rattle.volume.specs.checks.LogRoom.{SeenByRoles}
 use Rattle.volume.specs.looking.SeenByRoles.{seen-long}
-use Rattle.volume.specs.looking.Looking.{Lookable, shapeNumber, shaped, shaped-first}
+use Rattle.volume.specs.looking.Looking.{Lookable, shapeNumber, shaped, shaped-first, shaped-front}
 use Rattle.volume.specs.looking.Surveying.{survey-lookable}
 use Rattle.volume.specs.mounting.MountPlan.{Planning, PlanMade}
 use Rattle.volume.specs.mounting.MountRooms.{Planned}
@@ -41,22 +40,16 @@ passed c = let h : c .before .shape-refusal .result ≡ 0 = omega arith in sym (
 valid : (c : tie.Else1) → Valid (to-start c .args .g)
 valid c = let a = to-start c .args in shaped (a .g) (a .named) (length (now (a .sectors))) (now (a .written)) (now (a .durable)) (passed c) .0
 
-written-long : (c : tie.Else1) → length (now (to-start c .args .written)) ≡ cells (to-start c .args .g)
-written-long c = let a = to-start c .args in shaped (a .g) (a .named) (length (now (a .sectors))) (now (a .written)) (now (a .durable)) (passed c) .2
-
 -- ---- the survey, with an array for the pointers
-few : (c : tie.Else1) → length (now (to-start c .args .written)) ≤ 152
-few c = omega (arith, written-long c, cells-small (to-start c .args .g) (valid c))
-
-front-of : (c : tie.Else1) → length (take (length (now (to-start c .args .written))) (replicate {A = ℕ} 152 0)) ≡ length (now (to-start c .args .written))
-front-of c = length-take-le (length (now (to-start c .args .written))) (replicate 152 0) (few c)
+front : (c : tie.Else1) → let ws = now (to-start c .args .written) in (length ws ≤ 152) × (length (take (length ws) (replicate {A = ℕ} 152 0)) ≡ length ws)
+front c = let a = to-start c .args in shaped-front (a .g) (a .named) (length (now (a .sectors))) (now (a .written)) (now (a .durable)) (passed c)
 
 survey-drives-requires : tie.Need-survey-drives-requires
 survey-drives-requires c κs =
     let e = c .before .before .before in
     let a = to-start e .args in
     let (ok, x, y, z) = shaped (a .g) (a .named) (length (now (a .sectors))) (now (a .written)) (now (a .durable)) (passed e) in
-    (ok, (record { sectors-long = x; written-long = y }, front-of e ∙ y, shaped-first (a .g) (a .named) (length (now (a .sectors))) (now (a .written)) (now (a .durable)) (passed e)))
+    (ok, (record { sectors-long = x; written-long = y }, front e .1 ∙ y, shaped-first (a .g) (a .named) (length (now (a .sectors))) (now (a .written)) (now (a .durable)) (passed e)))
 
 abbrev shape-of : tie.After-survey-drives → tie.Else1
 shape-of f = f .before .before .before .before
@@ -69,20 +62,20 @@ abbrev pointers-of : tie.After-survey-drives → List ℕ
 pointers-of f = f .survey-drives .last .1 .1 .0
 
 pointers-long : (f : tie.After-survey-drives) → length (pointers-of f) ≡ length (now (from-survey f .args .written))
-pointers-long f = let a = from-survey f .args in seen-long (a .g) (now (a .sectors)) (now (a .written)) (f .survey-drives .result .places) (pointers-of f) (f .survey-drives .ensures .seen) ∙ sym (written-long (shape-of f))
+pointers-long f = let a = from-survey f .args in seen-long (a .g) (now (a .sectors)) (now (a .written)) (f .survey-drives .result .places) (pointers-of f) (f .survey-drives .ensures .seen) ∙ sym (shaped (a .g) (a .named) (length (now (a .sectors))) (now (a .written)) (now (a .durable)) (passed (shape-of f)) .2)
 
 -- the rest of the array
 abbrev past : tie.After-survey-drives → List ℕ
 past f = drop (length (now (from-survey f .args .written))) (replicate 152 0)
 
-lent : (f : tie.After-survey-drives) → take (length (now (from-survey f .args .written))) (pointers-of f ++ past f) ≡ pointers-of f
-lent f = take-at (pointers-of f) (past f) (length (now (from-survey f .args .written))) (pointers-long f)
+front-kept : (f : tie.After-survey-drives) → take (length (now (from-survey f .args .written))) (pointers-of f ++ past f) ≡ pointers-of f
+front-kept f = take-at (pointers-of f) (past f) (length (now (from-survey f .args .written))) (pointers-long f)
 
-lent-fits : (f : tie.After-survey-drives) → length (now (from-survey f .args .written)) ≤ length (pointers-of f ++ past f)
-lent-fits f = front-fits (length (now (from-survey f .args .written))) (pointers-of f) (past f) (pointers-long f)
+front-within : (f : tie.After-survey-drives) → length (now (from-survey f .args .written)) ≤ length (pointers-of f ++ past f)
+front-within f = front-fits (length (now (from-survey f .args .written))) (pointers-of f) (past f) (pointers-long f)
 
-lent-long : (f : tie.After-survey-drives) → length (now (from-survey f .args .written)) ≡ length (take (length (now (from-survey f .args .written))) (pointers-of f ++ past f))
-lent-long f = front-long (length (now (from-survey f .args .written))) (pointers-of f) (past f) (pointers-long f)
+front-whole : (f : tie.After-survey-drives) → length (now (from-survey f .args .written)) ≡ length (take (length (now (from-survey f .args .written))) (pointers-of f ++ past f))
+front-whole f = front-long (length (now (from-survey f .args .written))) (pointers-of f) (past f) (pointers-long f)
 
 -- ---- refusals 4 to 6
 returns-2 : tie.Need-returns-2
@@ -104,7 +97,7 @@ plan-mount-requires c κs =
     let v = f .survey-drives .result in
     let s = f .survey-drives .ensures .seen in (
       valid (shape-of f),
-      subst (λ (ps : List ℕ). SeenByRoles (a .g) (v .places) (now (a .sectors)) (now (a .written)) ps × Lookable (v .places .geometry) (v .here) (now (a .sectors)) ps) (sym (lent f)) (
+      subst (λ (ps : List ℕ). SeenByRoles (a .g) (v .places) (now (a .sectors)) (now (a .written)) ps × Lookable (v .places .geometry) (v .here) (now (a .sectors)) ps) (sym (front-kept f)) (
         record { sized = s .sized; logs-first = s .first; places-are = s .places; hidden = s .hidden },
         survey-lookable (a .g) (a .named) (now (a .sectors)) (now (a .written)) v (pointers-of f) (f .survey-drives .ensures) (now (a .durable)) (passed (shape-of f)),
       ),
@@ -118,7 +111,7 @@ planning p =
     let f = found-of p in
     let a = from-survey f .args in
     let m : PlanMade (a .g) (f .survey-drives .result) (now (a .sectors)) (now (a .written)) (pointers-of f) (p .plan-mount .result) =
-    subst (λ (ps : List ℕ). PlanMade (a .g) (f .survey-drives .result) (now (a .sectors)) (now (a .written)) ps (p .plan-mount .result)) (lent f) (p .plan-mount .ensures) in
+    subst (λ (ps : List ℕ). PlanMade (a .g) (f .survey-drives .result) (now (a .sectors)) (now (a .written)) ps (p .plan-mount .result)) (front-kept f) (p .plan-mount .ensures) in
     m .planning (a .named) (now (a .durable)) (record { shape = passed (shape-of f); found = f .survey-drives .ensures; none = accepted (p .before .before .before .before) })
 
 -- ---- refusal 14
@@ -137,7 +130,7 @@ mount-planned-requires c κs =
     let p = c .before .before .before .before .before .before .before .before .before in
     let f = found-of p in
     let s = from-survey f in
-    (valid (shape-of f), subst (Planned (s .args .g) (given s) (p .plan-mount .result)) (sym (lent f)) (planning p .planned (c .before .before .before .before .if3 .left)))
+    (valid (shape-of f), subst (Planned (s .args .g) (given s) (p .plan-mount .result)) (sym (front-kept f)) (planning p .planned (c .before .before .before .before .if3 .left)))
 
 returns-4 : tie.Need-returns-4
 returns-4 c =
@@ -153,9 +146,9 @@ returns-4 c =
 pub mount-spec : {M : Type 1} → statement M
 mount-spec =
     tie.close
-    (tie.spec (λ c κs. search needs) (λ c κs. search needs) (λ c. search needs) (λ c. search needs) returns (λ c. few (c .before .before)) (λ c. sym (front-of (c .before .before .before)))
-    survey-drives-requires (λ c κs. search needs) (λ c. search needs) (λ c. search needs) (λ c. search needs) returns-2 (λ c. lent-fits (c .before .before .before .before)) (λ c. lent-long (c .before .before .before .before .before))
+    (tie.spec (λ c κs. search needs) (λ c κs. search needs) (λ c. search needs) (λ c. search needs) returns (λ c. front (c .before .before) .0) (λ c. sym (front (c .before .before .before) .1))
+    survey-drives-requires (λ c κs. search needs) (λ c. search needs) (λ c. search needs) (λ c. search needs) returns-2 (λ c. front-within (c .before .before .before .before)) (λ c. front-whole (c .before .before .before .before .before))
     plan-mount-requires (λ c κs. search needs) (λ c. search needs) (λ c. search needs) (λ c. search needs) returns-3
-    (λ c. lent-fits (c .before .before .before .before .before .before .before .before .before .before .before .before .before .before))
-    (λ c. lent-long (c .before .before .before .before .before .before .before .before .before .before .before .before .before .before .before))
+    (λ c. front-within (c .before .before .before .before .before .before .before .before .before .before .before .before .before .before))
+    (λ c. front-whole (c .before .before .before .before .before .before .before .before .before .before .before .before .before .before .before))
     mount-planned-requires (λ c. search needs) (λ c. search needs) (λ c. search needs) returns-4)

@@ -19,8 +19,8 @@ returns c =
     let a = s .args in
     let l = c .before .before .before .before .log-in in
     c .strongest-of .ensures
-    ∙ general-found (a .g) (a .sectors .now) (a .written .now) (a .drive) (s .pre .1 .1) (a .moved) (s .pre .1 .2) (l .result)
-    (c .before .before .before .home-claim .result) (c .before .before .moved-claim .result) (c .before .moved-claim2 .result) (l .ensures) (c .before .before .before .home-claim .ensures) (c .before .before .moved-claim .ensures) (c .before .moved-claim2 .ensures)
+    ∙ general-found (a .g) (a .sectors .now) (a .written .now) (a .drive) (s .pre .1 .1) (a .moved) (l .result)
+    (c .before .before .before .home-claim .result) (c .before .before .moved-claim .result) (c .before .moved-claim2 .result) (s .pre .1 .2) (l .ensures) (c .before .before .before .home-claim .ensures) (c .before .before .moved-claim .ensures) (c .before .moved-claim2 .ensures)
 
 pub general-log-spec : {M : Type 1} → statement M
 general-log-spec =

@@ -36,32 +36,32 @@ returns c =
     ∙ ap (λ (x : List ℕ). withMember (a .first) (now (a .sectors)) (a .to) x)
     (sym (value-held g (a .known .here) (now (a .sectors)) (now (a .pointers)) (a .known .zone) (m .readable) (s .pre .0) (a .known .generation) (a .a) (omega (arith, s .pre .1 .1, m .end-most)) (sym (h .own-held .ensures) ∙ c .before .before .before .before .if1 .taken)))
 
-slice-aggregate-sector-value : tie.Need-slice-aggregate-sector-value
-slice-aggregate-sector-value c = let s = c .before .before .before .before .before .before .before .before in sym (length-take-le (s .args .known .geometry .sector) _ (s .pre .0 .sector-most))
+slice-aggregate-known-value : tie.Need-slice-aggregate-known-value
+slice-aggregate-known-value c = let s = c .before .before .before .before .before .before .before .before in sym (length-take-le (s .args .known .geometry .sector) _ (s .pre .0 .sector-most))
 
-sector-value-requires : tie.Need-sector-value-requires
-sector-value-requires c κs =
+known-value-requires : tie.Need-known-value-requires
+known-value-requires c κs =
     let h = c .before .before .before in
     let s = h .before .before .before .before .before in
     let m = s .pre .1 .2 in
-    (s .pre .0, (m .readable, omega (arith, s .pre .1 .1, m .end-most), m .limit-is (s .pre .1 .1) (s .pre .1 .0) (sym (h .own-held .ensures) ∙ c .before .before .if1 .left), m .known-is (s .pre .1 .1) (s .pre .1 .0), length-take-le (s .args .known .geometry .sector) _ (s .pre .0 .sector-most)))
+    (s .pre .0, ((m .readable, omega (arith, s .pre .1 .1, m .end-most), m .limit-is (s .pre .1 .1) (s .pre .1 .0) (sym (h .own-held .ensures) ∙ c .before .before .if1 .left), m .known-is (s .pre .1 .1) (s .pre .1 .0)), length-take-le (s .args .known .geometry .sector) _ (s .pre .0 .sector-most)))
 
-abbrev to-start : tie.After-sector-value → tie.Start
+abbrev to-start : tie.After-known-value → tie.Start
 to-start c = c .before .before .before .before .before .before .before .before .before
 
 -- it is one sector long
-long : (c : tie.After-sector-value) → length (c .sector-value .last .1 .1 .1 .1 .1 .1 .1 .1 .0) ≡ to-start c .args .known .geometry .sector
-long c = let s = to-start c in c .sector-value .kept .1 .1 .1 .1 .1 .1 .1 .1 .0 ∙ length-take-le (s .args .known .geometry .sector) _ (s .pre .0 .sector-most)
+long : (c : tie.After-known-value) → length (c .known-value .last .1 .1 .1 .1 .0) ≡ to-start c .args .known .geometry .sector
+long c = let s = to-start c in c .known-value .kept .1 .1 .1 .1 .0 ∙ length-take-le (s .args .known .geometry .sector) _ (s .pre .0 .sector-most)
 
 -- the rest of the local
 abbrev rest : tie.Start → List ℕ
 rest s = drop (s .args .known .geometry .sector) (replicate 4096 0)
 
 array-share-prefix-value : tie.Need-array-share-prefix-value
-array-share-prefix-value c = let w = c .before .before in let s = to-start w in front-fits (s .args .known .geometry .sector) (w .sector-value .last .1 .1 .1 .1 .1 .1 .1 .1 .0) (rest s) (long w)
+array-share-prefix-value c = let w = c .before .before in let s = to-start w in front-fits (s .args .known .geometry .sector) (w .known-value .last .1 .1 .1 .1 .0) (rest s) (long w)
 
-whole : (w : tie.After-sector-value) → to-start w .args .known .geometry .sector ≡ length (take (to-start w .args .known .geometry .sector) (w .sector-value .last .1 .1 .1 .1 .1 .1 .1 .1 .0 ++ rest (to-start w)))
-whole w = let s = to-start w in front-long (s .args .known .geometry .sector) (w .sector-value .last .1 .1 .1 .1 .1 .1 .1 .1 .0) (rest s) (long w)
+whole : (w : tie.After-known-value) → to-start w .args .known .geometry .sector ≡ length (take (to-start w .args .known .geometry .sector) (w .known-value .last .1 .1 .1 .1 .0 ++ rest (to-start w)))
+whole w = let s = to-start w in front-long (s .args .known .geometry .sector) (w .known-value .last .1 .1 .1 .1 .0) (rest s) (long w)
 
 put-requires : tie.Need-put-requires
 put-requires c κs =
@@ -76,11 +76,11 @@ returns-2 c =
     let s = to-start w in
     let a = s .args in
     let n = a .known .geometry .sector in
-    let e : take n (w .sector-value .last .1 .1 .1 .1 .1 .1 .1 .1 .0 ++ rest s) ≡ value s = front-is n (w .sector-value .last .1 .1 .1 .1 .1 .1 .1 .1 .0) (rest s) (value s) (long w) (w .sector-value .ensures) in
+    let e : take n (w .known-value .last .1 .1 .1 .1 .0 ++ rest s) ≡ value s = front-is n (w .known-value .last .1 .1 .1 .1 .0) (rest s) (value s) (long w) (w .known-value .ensures) in
     c .before .before .put .ensures ∙ ap (λ (x : List ℕ). withMember (a .first) (now (a .sectors)) (a .to) x) e
 
 pub put-known-spec : {M : Type 1} → statement M
 put-known-spec =
     tie.close
-    (tie.spec (λ c κs. search needs) put-held-requires (λ c. search needs) returns (λ c. search needs) slice-aggregate-sector-value sector-value-requires
+    (tie.spec (λ c κs. search needs) put-held-requires (λ c. search needs) returns (λ c. search needs) slice-aggregate-known-value known-value-requires
     array-share-prefix-value (λ c. whole (c .before .before .before)) put-requires (λ c. search needs) returns-2)

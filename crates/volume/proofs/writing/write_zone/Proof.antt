@@ -1,55 +1,65 @@
-use Prim.Native.Nat.{ℕ, _≤_}
-use mathlib.Core.Path.{_≡_, sym, _∙_}
-use mathlib.Core.List.{List, _++_}
+use mathlib.Core.Path.{_≡_, sym, ap, _∙_, subst}
+use mathlib.Core.Bool.{true}
+use Prim.Native.Nat.{ℕ, suc, _+_, _<_, _^_}
 use native.Mathlib.Omega.{arith}
-use lib.ListN.{length, take, drop, replicate}
-use lib.Seq.{length-take-le}
 use denote.Ref.{now}
-use Rattle.tables.specs.laws.Sizes.{cells-small}
-use Rattle.volume.specs.checks.Logging.{front-fits, front-is, front-long}
-use Rattle.volume.specs.looking.HiddenLogs.{hiddenLogs}
+use borrow.Author.Tests.{not-false}
+use Rattle.tables.specs.laws.Made.{MadeAppends}
+use Rattle.tables.specs.laws.Sizes.{zone-small}
+use Rattle.volume.specs.declared.write_directly.EntryPlace.{EntryPlace}
+use Rattle.volume.specs.writing.WriteStores.{StoresPast}
+use Rattle.volume.specs.writing.WriteRun.{runStoresOf, RunReady}
+use Rattle.volume.specs.writing.WriteDirectly.{placeOf, directly-ready, directly-past, directly-ends}
 use borrow.Author.Needs.{needs}
 use Rattle.volume.proofs.writing.write_zone.Statement.{statement}
 use Rattle.volume.proofs.writing.write_zone.Tie as tie
 
--- the pointers fit the copy
-few : (s : tie.Start) → length (now (s .args .written)) ≤ 152
-few s = omega (arith, s .pre .1 .0 .written-long, cells-small (s .args .run .zone .geometry) (s .pre .0))
+abbrev to-start : tie.After-place-of → tie.Start
+to-start c = c .before .before .before .before .before .before .before
 
-front-of : (s : tie.Start) → length (take (length (now (s .args .written))) (replicate {A = ℕ} 152 0)) ≡ length (now (s .args .written))
-front-of s = length-take-le (length (now (s .args .written))) (replicate 152 0) (few s)
+ready : (s : tie.Start) → RunReady (s .args .run) (s .args .state) (now (s .args .written)) (now (s .args .durable)) (now (s .args .buffer))
+ready s = s .pre .1 .2
 
--- the rest of the array
-abbrev past : tie.Start → List ℕ
-past s = drop (length (now (s .args .written))) (replicate 152 0)
+-- no other log is needed
+alone : (e : tie.Else1) → let a = to-start (e .before) .args in placeOf (a .run) (now (a .sectors)) (now (a .written)) .alone ≡ true
+alone e = sym (ap (λ (p : EntryPlace). p .alone) (e .before .place-of .ensures)) ∙ not-false (e .before .place-of .result .alone) (e .if1 .left)
 
-abbrev to-start : tie.After-see-by-roles → tie.Start
-to-start c = c .before .before .before .before .before .before .before .before .before .before
+write-directly-requires : tie.Need-write-directly-requires
+write-directly-requires c κs =
+    let e = c .before .before .before .before in
+    let s = to-start (e .before) in
+    let a = s .args in
+    let past : EntryPlace → Type 0 = λ p. StoresPast (a .run .zone .geometry) (p .geometry) (now (a .written)) (now (a .written)) in (
+      s .pre .0,
+      (
+        directly-ready (a .run) (a .state) (now (a .sectors)) (now (a .written)) (now (a .durable)) (now (a .buffer)) (s .pre .0) (s .pre .1 .1) (s .pre .1 .0) (ready s) (alone e),
+        subst past (sym (e .before .place-of .ensures)) (directly-past (a .run) (a .state) (now (a .sectors)) (now (a .written)) (now (a .durable)) (now (a .buffer)) (s .pre .0) (s .pre .1 .1) (s .pre .1 .0) (ready s) (alone e)),
+      ),
+    )
 
-copy-long : (c : tie.After-see-by-roles) → length (c .see-by-roles .last .1 .1 .0) ≡ length (now (to-start c .args .written))
-copy-long c = c .see-by-roles .kept .1 .1 .0 ∙ front-of (to-start c)
+add-end : tie.Need-add-end
+add-end c =
+    let s = c .before .before .before .before .before .before .before .before .before .before .before .before .before .before .before .before .before .before .before in
+    let h : s .args .run .pointer + s .args .run .count < 2 ^ 64 = omega (arith, ready s .inside, zone-small (s .args .run .zone .geometry) (s .pre .0) .1) in
+    record { fits = h }
 
-copied : (c : tie.After-see-by-roles) → let ws = now (to-start c .args .written) in take (length ws) (c .see-by-roles .last .1 .1 .0 ++ past (to-start c)) ≡ hiddenLogs (c .see-by-roles .result) ws (c .see-by-roles .result .geometry .drives)
-copied c =
-    let ws = now (to-start c .args .written) in
-    front-is (length ws) (c .see-by-roles .last .1 .1 .0) (past (to-start c)) (hiddenLogs (c .see-by-roles .result) ws (c .see-by-roles .result .geometry .drives)) (copy-long c) (c .see-by-roles .ensures .2)
+outcome-requires : tie.Need-outcome-requires
+outcome-requires c κs = let s = c .before .before .before .before .before .before .before .before .before .before .before .before .before .before .before .before .before .before .before in (s .pre .0, (ready s .zone-in, ready s .generation-is))
 
-see-by-roles-requires : tie.Need-see-by-roles-requires
-see-by-roles-requires c κs = let s = c .before .before .before .before .before .before .before .before .before in (s .pre .0, (s .pre .1 .0, front-of s ∙ s .pre .1 .0 .written-long, s .pre .1 .1))
-
-array-share-prefix-pointers : tie.Need-array-share-prefix-pointers
-array-share-prefix-pointers c = let f = c .before .before .before .before in front-fits (length (now (to-start f .args .written))) (f .see-by-roles .last .1 .1 .0) (past (to-start f)) (copy-long f)
-
-slice-aggregate-write-seen : tie.Need-slice-aggregate-write-seen
-slice-aggregate-write-seen c = let f = c .before .before .before .before .before in front-long (length (now (to-start f .args .written))) (f .see-by-roles .last .1 .1 .0) (past (to-start f)) (copy-long f)
-
-write-seen-requires : tie.Need-write-seen-requires
-write-seen-requires c κs =
-    let f = c .before .before .before .before .before in
-    let s = to-start f in
-    (s .pre .0, (record { sized = s .pre .1 .0; logs-first = s .pre .1 .1; places-are = f .see-by-roles .ensures .0; hidden = copied f }, s .pre .1 .2))
+returns-2 : tie.Need-returns-2
+returns-2 c =
+    let w = c .before .before .before .before .before .before .before .write-directly in
+    let e = c .before .before .before .before .before .before .before .before .before .before .before .before in
+    let p = e .before .place-of in
+    let s = to-start (e .before) in
+    let a = s .args in
+    let made : EntryPlace → ℕ → Type 0 = λ q b. MadeAppends (q .geometry) b (w .result) (runStoresOf (a .run) (now (a .sectors)) (now (a .written)) (now (a .buffer))) (now (a .sectors)) (now (a .written)) (w .last .0) (w .last .1 .0) in
+    let m = subst (λ (q : EntryPlace). made q (suc (a .count))) (p .ensures) (subst (made (p .result)) (c .before .before .before .before .before .before .before .before .before .before .budget-of .ensures) (w .ensures)) in
+    let (x, y) = directly-ends (a .run) (a .state) (now (a .sectors)) (now (a .written)) (now (a .durable)) (now (a .buffer)) (s .pre .0) (s .pre .1 .1) (s .pre .1 .0) (ready s) (alone e) (a .count) (w .result) (w .last .0) (w .last .1 .0) m in
+    (c .outcome .ensures ∙ x, y)
 
 pub write-zone-spec : {M : Type 1} → statement M
 write-zone-spec =
     tie.close
-    (tie.spec (λ c. few (c .before .before .before .before .before .before .before .before)) (λ c. sym (front-of (c .before .before .before .before .before .before .before .before .before))) see-by-roles-requires array-share-prefix-pointers slice-aggregate-write-seen write-seen-requires (λ c. search needs) (λ c. search needs) (λ c. search needs) (λ c. search needs))
+    (tie.spec (λ c κs. search needs) (λ c κs. search needs) (λ c. search needs) (λ c. search needs) (λ c. search needs) (λ c. search needs) (λ c κs. search needs) write-directly-requires add-end outcome-requires (λ c. search needs)
+    (λ c. search needs) returns-2)

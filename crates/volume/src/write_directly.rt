@@ -1,0 +1,111 @@
+// A write that needs no log but that of its entry, and finds room there. The other logs count for a write in two ways: a sector of its first stripe that is
+// not held may be known by them, and a log without room is emptied. Where the stripe's earlier sectors are held, and the entry's log has room or there is
+// no entry, no other log is looked for (specs: `directly-ends`).
+use super::Zone;
+use super::writing::Run;
+use tables::Geometry;
+ghost use mathlib.Core.Path.{_≡_};
+ghost use Prim.Native.Nat.{_+_, _≤_, _<_};
+ghost use Rattle.tables.specs.meaning.Geometry.{Valid, zoneSectors};
+ghost use Rattle.tables.specs.laws.Made.{MadeAppends};
+ghost use Rattle.volume.specs.looking.DriveLogs.{Sized};
+ghost use Rattle.volume.specs.writing.WriteStores.{WriteReady, StoresPast};
+ghost use Rattle.volume.specs.writing.WriteRun.{runStoresOf};
+ghost use Rattle.volume.specs.writing.WriteDirectly.{entryLog, entryPlace, placeOf};
+
+// Whether a write needs no log but that of its entry; and the geometry that places that one.
+pub struct EntryPlace {
+    pub alone: bool,
+    pub geometry: Geometry,
+}
+
+// A drive's parity log: whether it has so much room, and the geometry that places it.
+fn entry_log(sectors: &[u8], written: &[u32], g: Geometry, drive: usize, limit: usize) -> EntryPlace
+    requires { ⌜ Valid g ⌝ }
+    requires { ⌜ Sized g (now sectors) (now written) × (drive < g .drives) ⌝ }
+    ensures { λ r. ⌜ r ≡ entryLog g (now (sectors .entry)) (now (written .entry)) drive limit ⌝ }
+{
+    let log = super::roles::find_parity(sectors, written, g, drive);
+    let lacks = log.lacks;
+    let zone = log.zone;
+    let n = super::drive_logs::zone_pointer(written, g, drive, zone);
+    let c = g.capacity;
+    let alone = !lacks & (limit <= c - n);
+    let geometry = super::roles::place_parity(g, drive, zone);
+    EntryPlace { alone, geometry }
+}
+
+// That of a write that ends at a pointer: there may be no entry.
+fn entry_place(sectors: &[u8], written: &[u32], zone: Zone, end: usize) -> EntryPlace
+    requires { ⌜ Valid (zone .geometry) ⌝ }
+    requires { ⌜ Sized (zone .geometry) (now sectors) (now written) × (zone .number < zone .geometry .zones) × (end ≤ zoneSectors (zone .geometry)) ⌝ }
+    ensures { λ r. ⌜ r ≡ entryPlace zone (now (sectors .entry)) (now (written .entry)) end ⌝ }
+{
+    let g = zone.geometry;
+    let here = zone.here;
+    let z = zone.number;
+    let entry = super::write_room::entry_drive(g, z, end);
+    let inside = entry.inside;
+    let drive = entry.drive;
+    let asks = inside & here[drive];
+    if !asks {
+        return EntryPlace {
+            alone: true,
+            geometry: g,
+        };
+    }
+    let limit = super::write_room::write_limit(g, end);
+    entry_log(sectors, written, g, drive, limit)
+}
+
+// That of a write from its zone's pointer on.
+pub fn place_of(sectors: &[u8], written: &[u32], run: Run) -> EntryPlace
+    requires { ⌜ Valid (run .zone .geometry) ⌝ }
+    requires { ⌜ Sized (run .zone .geometry) (now sectors) (now written) × (run .zone .number < run .zone .geometry .zones) × (run .pointer + run .count ≤ zoneSectors (run .zone .geometry)) ⌝ }
+    ensures { λ r. ⌜ r ≡ placeOf run (now (sectors .entry)) (now (written .entry)) ⌝ }
+{
+    let zone = run.zone;
+    let g = zone.geometry;
+    let n = run.pointer;
+    let count = run.count;
+    let held = super::write_stores::earlier_held(written, zone, n);
+    if !held {
+        return EntryPlace {
+            alone: false,
+            geometry: g,
+        };
+    }
+    entry_place(sectors, written, zone, n + count)
+}
+
+// Its stores, by the geometry that places its entry's log. What is read is read below the written pointers of its start.
+pub fn write_directly(
+    sectors: &mut [u8],
+    written: &mut [u32],
+    run: Run,
+    to: Geometry,
+    buffer: &[u8],
+    budget: u64,
+) -> u64
+    requires { ⌜ Valid (run .zone .geometry) ⌝ }
+    requires { ⌜ WriteReady (run .zone .geometry) (run .zone .here) (now sectors) (now written) (run .zone .number) (run .zone .generation) (run .pointer) (run .count) (now buffer) × StoresPast (run .zone .geometry) to (now written) (now written) ⌝ }
+    ensures { λ r. ⌜ MadeAppends to budget r (runStoresOf run (now (sectors .entry)) (now (written .entry)) (now (buffer .entry))) (now (sectors .entry)) (now (written .entry)) (now (sectors .exit)) (now (written .exit)) ⌝ }
+{
+    let zone = run.zone;
+    let n = run.pointer;
+    let count = run.count;
+    let cells = written.len();
+    let mut pointers = [0u32; 152];
+    tables::sectors::copy_pointers(&mut pointers[..cells], 0, written);
+    super::write_stores::write_all(
+        sectors,
+        written,
+        &pointers[..cells],
+        zone,
+        to,
+        n,
+        count,
+        buffer,
+        budget,
+    )
+}

@@ -40,7 +40,7 @@ SANITIZE = -O1 -g -fsanitize=address,undefined -fno-sanitize-recover=all
 EDGE = target/edge
 
 REPLAY_C = c/replay.c c/script_host.c c/damage.c c/script.c host/shelf.c host/call.c
-PLAIN_C = c/plain.c c/plain_emptying.c c/plain_logs.c c/plain_refusals.c c/plain_rows.c c/plain_sectors.c c/plain_stores.c host/journal.c
+PLAIN_C = c/plain.c c/plain_emptying.c c/plain_logs.c c/plain_look.c c/plain_refusals.c c/plain_rows.c c/plain_sectors.c c/plain_stores.c host/journal.c
 BAD_INPUT_C = c/bad_input.c c/fixture.c c/expected.c $(PLAIN_C) host/shelf.c host/call.c
 GROUPED_REPLAY_C = c/grouped_replay.c c/script.c host/shelf.c host/call.c
 BENCH_C = c/bench.c c/bench_grouped.c c/plain_grouped.c $(PLAIN_C) host/shelf.c host/call.c
@@ -48,7 +48,7 @@ BENCH_ISAL_C = c/bench_isal.c host/shelf.c host/call.c
 HOST_C = host/driver.c host/drives.c host/drive_file.c host/files.c host/journal.c host/cached_resets.c host/old_zones.c host/stores.c host/progress.c host/message.c host/shelf.c host/call.c
 EXPLORE_C = tool/explore/explore.c tool/explore/options.c tool/explore/oracle.c tool/explore/caches.c tool/explore/world.c tool/explore/story.c \
 	tool/explore/check.c tool/explore/engine.c tool/explore/report.c tool/explore/picture.c
-ZRV_C = tool/zrv.c tool/commands.c tool/transfer.c tool/report.c tool/grouped.c tool/checklist.c tool/left_out.c tool/tool.c tool/options.c tool/words.c tool/refusals.c $(EXPLORE_C) $(HOST_C)
+ZRV_C = tool/zrv.c tool/commands.c tool/transfer.c tool/report.c tool/grouped.c tool/look_json.c tool/checklist.c tool/bad_log.c tool/left_out.c tool/tool.c tool/options.c tool/words.c tool/refusals.c $(EXPLORE_C) $(HOST_C)
 ZRV_H = include/zrv.h $(wildcard host/*.h tool/*.h tool/explore/*.h)
 
 zrv: target/zrv

@@ -1,6 +1,6 @@
 /* Bad input through the C edge: every length one short and one long, every number at its bound and past it, a state with each of its bytes damaged, masks,
- * addresses, counts of stores. Each call must answer the number that document 01's table gives, and keep every byte of every range where it refuses.
- * Prints the count of cases; leaves with 1 at the first that is wrong and says which. */
+ * addresses, counts of stores, logs with each of their bytes damaged. Each call must answer the number that document 01's table gives, with the place of a bad
+ * log, and keep every byte of every range where it refuses. Prints the count of cases; leaves with 1 at the first that is wrong and says which. */
 #include <inttypes.h>
 #include <stdio.h>
 #include <stdlib.h>
@@ -8,7 +8,7 @@
 
 #include "bytes.h"
 #include "fixture.h"
-#include "shelf.h"
+#include "plain_logs.h"
 
 static const enum call_kind every_kind[] = {CALL_FORMAT, CALL_LOOK, CALL_MOUNT, CALL_WRITE, CALL_FLUSH, CALL_RESET, CALL_READ, CALL_PEEK, CALL_REPORT};
 enum { KINDS = sizeof every_kind / sizeof *every_kind };
@@ -47,22 +47,29 @@ static bool guards_kept(const struct fixture *f) {
     return memcmp(f->memory + at, f->before + at, GUARD_BYTES) == 0;
 }
 
+/* A place as the C edge returns it. */
+static uint64_t place_number(struct log_place place) { return (uint64_t)place.drive << 24 | (uint64_t)place.zone << 16 | place.sector; }
+
 /* One case: the memory holds what the call is to find. The class may fix the number that must come (or ZRV_FINISHED for any). */
 static void judge(struct fixture *f, const char *class, const struct call *call, uint32_t fixed) {
     struct expected *e = &f->expected;
     cases++;
     memcpy(f->before, f->memory, f->memory_bytes);
-    expect(e, call, &f->made);
+    expect(e, call);
     if (fixed != ZRV_FINISHED && e->code != fixed)
         fail(f, class, call, "the expectation", fixed, e->code);
     uint32_t filled = 0;
+    struct log_place bad = {0, 0, 0};
     struct call made = *call;
     made.filled = &filled;
+    made.bad = &bad;
     uint32_t code = make_call(&made);
     if (code != e->code)
         fail(f, class, call, "answer", e->code, code);
     if (filled != e->filled)
         fail(f, class, call, "descriptors", e->filled, filled);
+    if (place_number(bad) != place_number(e->bad))
+        fail(f, class, call, "place of a bad log", place_number(e->bad), place_number(bad));
     bool kept = code != ZRV_FINISHED && code != ZRV_UNFINISHED;
     bool none_made = code == ZRV_UNFINISHED && call->count == 0;
     refused += kept;
@@ -99,7 +106,7 @@ static void lengths(struct fixture *f) {
 /* A report's list of every length up to one descriptor more than there are zones. */
 static void lists(struct fixture *f) {
     struct call call = usual_call(f, CALL_REPORT);
-    size_t most = (size_t)(f->made.geometry.zones + 1) * ZRV_DESCRIPTOR_BYTES + 1;
+    size_t most = (size_t)(f->geometry.zones + 1) * ZRV_DESCRIPTOR_BYTES + 1;
     for (size_t length = 0; length <= most && length <= f->range[BUFFER].length; length++) {
         call.range[BUFFER].length = length;
         judge(f, "list", &call, ZRV_FINISHED);
@@ -128,7 +135,7 @@ static void geometries(struct fixture *f) {
 
 /* Every set of drives, also with bits that name no drive. */
 static void masks(struct fixture *f) {
-    uint32_t drives = f->made.geometry.drives, all = (1u << drives) - 1;
+    uint32_t drives = f->geometry.drives, all = (1u << drives) - 1;
     for (int k = 0; k < KINDS; k++)
         for (uint32_t mask = 0; mask <= all; mask++) {
             const uint32_t beyond[] = {0, 1u << drives, 0x100, 1u << 31, ~all};
@@ -150,7 +157,7 @@ static void one_pointer(struct fixture *f, enum call_kind kind, size_t index, ui
 
 /* Each write pointer at a zone's end and past it, and durable past written; its drive named and not. */
 static void pointers(struct fixture *f) {
-    struct geometry g = f->made.geometry;
+    struct geometry g = f->geometry;
     size_t zones = (size_t)g.zones + ZRV_LOG_ZONES;
     for (int k = 0; k < KINDS; k++)
         for (size_t index = 0; index < g.drives * zones; index++)
@@ -176,7 +183,7 @@ static void one_run(struct fixture *f, enum call_kind kind, uint64_t address, ui
 
 /* Addresses about every pointer and zone's end, those past the last, those that would wrap; runs of none, one, up to a zone's end and past it. */
 static void addresses(struct fixture *f) {
-    struct geometry g = f->made.geometry;
+    struct geometry g = f->geometry;
     uint64_t whole = zone_addresses(g), last = whole * g.zones;
     for (uint32_t zone = 0; zone <= g.zones; zone++) {
         uint64_t start = zone * whole, pointer = zone < g.zones ? zone_pointer(f, zone) : 0;
@@ -200,13 +207,13 @@ static void wrapping_runs(struct fixture *f) {
     for (size_t k = 0; k < 2; k++) {
         struct call call = usual_call(f, kind[k]);
         call.range[BUFFER] = buffer_of(f, 1);
-        call.run = (uint32_t)((1ull << 32) / f->made.geometry.sector_bytes + 1);
+        call.run = (uint32_t)((1ull << 32) / f->geometry.sector_bytes + 1);
         judge(f, "run that wraps", &call, ZRV_LENGTH);
     }
 }
 
 static void zones(struct fixture *f) {
-    uint32_t l = f->made.geometry.zones;
+    uint32_t l = f->geometry.zones;
     const uint32_t zone[] = {0, 1, l - 1, l, l + 1, 16, 17, 255, 256, 1u << 16, 1u << 31, UINT32_MAX - 1, UINT32_MAX};
     for (size_t i = 0; i < sizeof zone / sizeof *zone; i++) {
         struct call call = usual_call(f, CALL_RESET);
@@ -247,7 +254,7 @@ static void states(struct fixture *f) {
 
 /* Each zone's record at and past its bounds. */
 static void records(struct fixture *f) {
-    uint32_t whole = (uint32_t)zone_addresses(f->made.geometry);
+    uint32_t whole = (uint32_t)zone_addresses(f->geometry);
     const uint32_t pointer[] = {0, 1, whole - 1, whole, whole + 1, 1u << 31, UINT32_MAX};
     const uint64_t generation[] = {0, 1, UINT32_MAX, UINT64_MAX - 1, UINT64_MAX};
     for (int k = 0; k < KINDS; k++)
@@ -260,6 +267,79 @@ static void records(struct fixture *f) {
                 put32(record + ZRV_RECORD_POINTER, pointer[i / 5 % 7]);
                 judge(f, "zone's record", &call, ZRV_FINISHED);
             }
+}
+
+static const enum call_kind walking[] = {CALL_LOOK, CALL_MOUNT}; /* the calls that a bad log refuses */
+
+static struct log_zones zones_of(const struct fixture *f, uint32_t drive) {
+    struct shelf shelf = {.geometry = f->geometry, .sectors = f->range[SECTORS], .written = f->range[WRITTEN], .durable = f->range[DURABLE]};
+    return log_zones_of(&shelf, drive);
+}
+
+static uint8_t *sector_in(const struct fixture *f, uint32_t drive, uint32_t zone, uint32_t sector) {
+    return f->range[SECTORS].bytes + sector_offset(f->geometry, drive, zone, sector);
+}
+
+/* Every byte of every sector in the first three zones, with its lowest and its highest bit turned. */
+static void log_bytes(struct fixture *f) {
+    struct geometry g = f->geometry;
+    for (uint32_t d = 0; d < g.drives; d++)
+        for (uint32_t y = 0; y < ZRV_LOG_ZONES; y++) {
+            size_t bytes = (size_t)get32(f->range[WRITTEN].bytes + 4 * cell(g, d, y)) * g.sector_bytes;
+            for (size_t i = 0; i < 4 * bytes; i++) {
+                struct call call = usual_call(f, walking[i % 2]);
+                sector_in(f, d, y, 0)[i / 4] ^= i / 2 % 2 == 0 ? 0x01 : 0x80;
+                judge(f, "byte of a log", &call, ZRV_FINISHED);
+            }
+        }
+}
+
+/* At the end of a log a sector of zeros, or a closing entry that is not legal, of generation 0. */
+static void append_bad(struct fixture *f, uint32_t drive, uint32_t log, bool marked) {
+    struct log_zones zones = zones_of(f, drive);
+    uint32_t y = find_log(&zones, log), at = zones.zone[y].written;
+    uint8_t *sector = sector_in(f, drive, y, at);
+    memset(sector, 0, f->geometry.sector_bytes);
+    if (marked)
+        closing_header(sector, f->geometry, log, 0);
+    put32(f->range[WRITTEN].bytes + 4 * cell(f->geometry, drive, y), at + 1);
+}
+
+/* Two bad logs, every pair of them: the earlier drive and zone decides. */
+static void bad_pairs(struct fixture *f) {
+    uint32_t logs = 2 * f->geometry.drives;
+    for (uint32_t i = 0; i < logs * logs * 2; i++) {
+        uint32_t first = i / 2 / logs, second = i / 2 % logs;
+        struct call call = usual_call(f, walking[i % 2]);
+        append_bad(f, first / 2, first % 2, false);
+        if (second != first)
+            append_bad(f, second / 2, second % 2, true);
+        judge(f, "two bad logs", &call, ZRV_FINISHED);
+    }
+}
+
+/* A parity log filled to `rows` sectors before its end, there a header that wants that many rows, of a stripe that has its parity on drive `of`. */
+static void append_rows(struct fixture *f, uint32_t drive, uint32_t of, uint32_t rows) {
+    struct geometry g = f->geometry;
+    struct log_zones zones = zones_of(f, drive);
+    uint32_t y = find_log(&zones, PARITY_LOG), at = zones.zone[y].written;
+    for (; at + rows < g.zone_sectors; at++)
+        closing_header(sector_in(f, drive, y, at), g, PARITY_LOG, 1);
+    uint64_t start = (uint64_t)((of + 1) % g.drives) * stripe_sectors(g);
+    partial_header(sector_in(f, drive, y, at), g, start, start + rows, 1);
+    put32(f->range[WRITTEN].bytes + 4 * cell(g, drive, y), at + 1);
+}
+
+/* A header whose rows would just pass the zone's end, on every drive and of every drive's stripes: only where it is legal that is what is wrong. */
+static void rows_past_the_end(struct fixture *f) {
+    uint32_t drives = f->geometry.drives;
+    for (uint32_t i = 0; i < 2 * drives * drives * f->geometry.unit; i++) {
+        uint32_t drive = i / 2 % drives, of = i / 2 / drives % drives, rows = i / 2 / drives / drives + 1;
+        struct call call = usual_call(f, walking[i % 2]);
+        bool lost = drive == f->range[STATE].bytes[ZRV_STATE_LOST];
+        append_rows(f, drive, of, rows);
+        judge(f, "rows past the end", &call, lost ? ZRV_FINISHED : of == drive ? ZRV_LOG_ROWS : ZRV_LOG_ENTRY);
+    }
 }
 
 int main(void) {
@@ -276,6 +356,9 @@ int main(void) {
         counts(&f);
         states(&f);
         records(&f);
+        log_bytes(&f);
+        bad_pairs(&f);
+        rows_past_the_end(&f);
         free_fixture(&f);
     }
     printf("bad_input: %lu cases as document 01 says, %lu of them refused with nothing changed\n", cases, refused);

@@ -5,7 +5,6 @@
 #include <string.h>
 
 #include "bytes.h"
-#include "plain_logs.h"
 
 static bool reads_state(enum call_kind kind) {
     return kind != CALL_FORMAT && kind != CALL_LOOK && kind != CALL_MOUNT;
@@ -64,7 +63,7 @@ static size_t cells_in(struct range range, uint32_t *table) {
     return range.length % 4 == 0 ? cells : SIZE_MAX;
 }
 
-static void volume_of(struct expected *e, const struct call *call, const struct made_by *made) {
+static void volume_of(struct expected *e, const struct call *call) {
     const struct range *range = call->range;
     memcpy(e->sectors, range[SECTORS].bytes, range[SECTORS].length);
     e->volume = (struct volume){
@@ -75,37 +74,14 @@ static void volume_of(struct expected *e, const struct call *call, const struct 
         .durable = e->durable,
         .written_cells = cells_in(range[WRITTEN], e->written),
         .durable_cells = cells_in(range[DURABLE], e->durable),
-        .state.lost = call->geometry.unit == made->geometry.unit ? made->labelled_lost : ZRV_NO_DRIVE, /* a label that is not legal says nothing */
+        .state.lost = ZRV_NO_DRIVE,
     };
     if (reads_state(call->kind) && range[STATE].length == ZRV_STATE_BYTES)
         state_from_bytes(&e->volume.state, range[STATE].bytes);
 }
 
-/* Refusals 5 and 6 of tables whose logs were legal: a geometry that the labels do not tell, no label, something else where an entry should be. */
-static uint32_t log_refusal(const struct volume *v, uint32_t named, const struct made_by *made) {
-    uint32_t absent = absent_drive(v->geometry, named, v->state.lost);
-    if (v->geometry.unit != made->geometry.unit)
-        return ZRV_LABEL;
-    for (uint32_t d = 0; d < v->geometry.drives; d++)
-        if (d != absent && v->written[cell(v->geometry, d, log_zone(v, d, GENERAL_LOG))] == 0)
-            return ZRV_LABEL;
-    for (uint32_t d = 0; d < v->geometry.drives; d++)
-        for (uint32_t log = GENERAL_LOG; d != absent && log <= PARITY_LOG; log++) {
-            size_t at = cell(v->geometry, d, log_zone(v, d, log));
-            if (v->written[at] > get32(made->written + 4 * at))
-                return ZRV_LOG;
-        }
-    return ZRV_FINISHED;
-}
-
-/* A mount's 14 is not met here: a fixture's log lacks room only where something else was put past its end, which is 6. */
-static uint32_t look_code(const struct volume *v, const struct call *call, const struct made_by *made) {
-    uint32_t refusal = look_refusal(v, call->named);
-    return refusal == ZRV_FINISHED ? log_refusal(v, call->named, made) : refusal;
-}
-
 /* The answer of a call whose state has its form and length. */
-static uint32_t code_of(struct expected *e, const struct call *call, const struct made_by *made) {
+static uint32_t code_of(struct expected *e, const struct call *call) {
     struct volume *v = &e->volume;
     const struct range *buffer = &call->range[BUFFER];
     switch (call->kind) {
@@ -113,7 +89,7 @@ static uint32_t code_of(struct expected *e, const struct call *call, const struc
         return plain_format(v, call->named, call->array, call->count);
     case CALL_LOOK:
     case CALL_MOUNT:
-        return look_code(v, call, made);
+        return look_refusal(v, call->named, &e->bad); /* a mount's 14 is not met: a fixture's logs have room, or are bad where they have none */
     case CALL_WRITE:
         return plain_write(v, call->named, call->address, call->run, call->count, buffer->bytes, buffer->length);
     case CALL_FLUSH:
@@ -131,21 +107,23 @@ static uint32_t code_of(struct expected *e, const struct call *call, const struc
     return ZRV_FINISHED;
 }
 
-void expect(struct expected *e, const struct call *call, const struct made_by *made) {
+void expect(struct expected *e, const struct call *call) {
     const struct range *state = &call->range[STATE];
     bool state_length = state->length == ZRV_STATE_BYTES;
     bool place_length = call->kind != CALL_PEEK || call->range[BUFFER].length == ZRV_PLACE_BYTES;
-    volume_of(e, call, made);
+    volume_of(e, call);
     e->bytes_known = call->kind != CALL_LOOK && call->kind != CALL_MOUNT && call->kind != CALL_PEEK;
     e->filled = 0;
+    e->bad = (struct log_place){0, 0, 0};
     if (!geometry_fits(call->geometry) || (reads_state(call->kind) && state_length && !state_form(state->bytes, call->geometry.zones))) {
         e->code = ZRV_GEOMETRY;
         return;
     }
-    e->code = code_of(e, call, made);
+    e->code = code_of(e, call);
     if (e->code != ZRV_GEOMETRY && (!state_length || !place_length)) {
         e->code = ZRV_LENGTH;
         e->filled = 0;
+        e->bad = (struct log_place){0, 0, 0};
     }
     if (e->code == ZRV_FINISHED && call->kind == CALL_MOUNT && call->count == 0)
         e->code = ZRV_UNFINISHED;

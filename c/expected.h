@@ -6,13 +6,6 @@
 #include "placement.h"
 #include "plain.h"
 
-/* What is known of the tables beside their bytes: how they were made. */
-struct made_by {
-    struct geometry geometry;      /* of the format */
-    uint32_t labelled_lost;        /* the drive that the labels name lost */
-    const uint8_t *written;        /* where the legal part of each log ends; zeros follow */
-};
-
 struct expected {
     uint32_t code;
     bool bytes_known;                  /* the bytes below are those that the call should leave */
@@ -20,10 +13,11 @@ struct expected {
     uint8_t *sectors;                  /* space for as many sectors as the call is lent */
     uint8_t *answer;                   /* space for a read's answer or a report's list */
     uint32_t filled;                   /* descriptors of a report */
+    struct log_place bad;              /* where a look or mount finds a log bad */
     uint32_t written[MOST_CELLS], durable[MOST_CELLS];
 };
 
-void expect(struct expected *expected, const struct call *call, const struct made_by *made);
+void expect(struct expected *expected, const struct call *call);
 
 /* Whether the byte ranges hold what is expected. */
 bool bytes_as_expected(const struct expected *expected, const struct call *call);

@@ -63,7 +63,7 @@ static void must_finish(const struct call *call) {
 
 static void write_at_pointer(struct fixture *f, uint32_t zone, uint32_t run) {
     struct call call = usual_call(f, CALL_WRITE);
-    call.address = zone * zone_addresses(f->made.geometry) + zone_pointer(f, zone);
+    call.address = zone * zone_addresses(f->geometry) + zone_pointer(f, zone);
     call.run = run;
     call.range[BUFFER] = buffer_of(f, run);
     must_finish(&call);
@@ -71,7 +71,7 @@ static void write_at_pointer(struct fixture *f, uint32_t zone, uint32_t run) {
 
 /* Zone 0 ends inside a stripe after a complete one, zone 1 inside its first, by two writes. */
 static void write_zones(struct fixture *f) {
-    struct geometry g = f->made.geometry;
+    struct geometry g = f->geometry;
     uint32_t stripe = (g.drives - 1) * g.unit;
     write_at_pointer(f, 0, stripe + 1);
     write_at_pointer(f, 1, 1);
@@ -81,7 +81,7 @@ static void write_zones(struct fixture *f) {
 
 /* A cut that keeps of zone 0 its first sector, while its partial parity entry of a later end stays: the mount must seal the zone. */
 static void cut_and_mount(struct fixture *f) {
-    struct geometry g = f->made.geometry;
+    struct geometry g = f->geometry;
     size_t zones = (size_t)g.zones + ZRV_LOG_ZONES;
     for (uint32_t d = 0; d < g.drives; d++)
         put32(f->range[WRITTEN].bytes + 4 * (d * zones + ZRV_LOG_ZONES), d == 0 ? 1 : 0);
@@ -95,7 +95,7 @@ static void cut_and_mount(struct fixture *f) {
 }
 
 struct fixture new_fixture(int which) {
-    struct fixture f = {.name = plan[which].name, .made = {plan[which].geometry, ZRV_NO_DRIVE, NULL}};
+    struct fixture f = {.name = plan[which].name, .geometry = plan[which].geometry};
     lay_out(&f, plan[which].geometry);
     struct call call = usual_call(&f, CALL_FORMAT);
     must_finish(&call);
@@ -109,12 +109,10 @@ struct fixture new_fixture(int which) {
         call = usual_call(&f, CALL_MOUNT);
         call.named &= ~(1u << plan[which].lost);
         must_finish(&call);
-        f.made.labelled_lost = plan[which].lost;
     }
     if (plan[which].cut)
         cut_and_mount(&f);
     memcpy(f.base, f.memory, f.memory_bytes);
-    f.made.written = f.base + (f.range[WRITTEN].bytes - f.memory);
     return f;
 }
 
@@ -130,7 +128,7 @@ void restore(struct fixture *f) { memcpy(f->memory, f->base, f->memory_bytes); }
 
 struct range buffer_of(const struct fixture *f, uint32_t run) {
     struct range buffer = f->range[BUFFER];
-    size_t wanted = (size_t)run * f->made.geometry.sector_bytes;
+    size_t wanted = (size_t)run * f->geometry.sector_bytes;
     buffer.length = wanted < buffer.length ? wanted : buffer.length;
     return buffer;
 }
@@ -138,7 +136,7 @@ struct range buffer_of(const struct fixture *f, uint32_t run) {
 uint32_t zone_pointer(const struct fixture *f, uint32_t zone) { return get32(zone_record(f->range[STATE].bytes, zone) + ZRV_RECORD_POINTER); }
 
 struct call usual_call(const struct fixture *f, enum call_kind kind) {
-    struct call call = {.kind = kind, .geometry = f->made.geometry, .named = (1u << f->made.geometry.drives) - 1, .array = 77, .count = ZRV_ALL_STORES};
+    struct call call = {.kind = kind, .geometry = f->geometry, .named = (1u << f->geometry.drives) - 1, .array = 77, .count = ZRV_ALL_STORES};
     memcpy(call.range, f->range, sizeof f->range);
     call.run = kind == CALL_WRITE ? 2 : 1;
     if (kind == CALL_WRITE)

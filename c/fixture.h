@@ -9,7 +9,7 @@ enum { GUARD_BYTES = 64, GUARD = 0xa5 };
 
 struct fixture {
     const char *name;
-    struct made_by made;
+    struct geometry geometry; /* of the format */
     uint8_t *memory;       /* guard, range, guard, range, .. guard */
     size_t memory_bytes;
     uint8_t *base;         /* what every case starts from */

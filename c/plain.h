@@ -35,11 +35,11 @@ uint32_t plain_read(const struct volume *volume, uint32_t named, uint64_t addres
 uint32_t plain_flush(struct volume *volume, uint32_t named, uint32_t count);
 uint32_t plain_report(const struct volume *volume, uint8_t *list, size_t list_bytes, uint32_t *filled);
 
-/* What is refused, ZRV_FINISHED if nothing is, up to refusal 14 (of a write up to 13, of a peek 15 too). Of look and mount 1 to 4, with the lost drive that
- * the labels name in the volume's state. */
+/* What is refused, ZRV_FINISHED if nothing is, up to refusal 14 (of a write up to 13, of a peek 15 too). Of look and mount 1 to 6, 16 and 17, with the place
+ * of a bad log, else zeros. */
 bool geometry_fits(struct geometry geometry);
 uint32_t format_refusal(const struct volume *volume, uint32_t named);
-uint32_t look_refusal(const struct volume *volume, uint32_t named);
+uint32_t look_refusal(const struct volume *volume, uint32_t named, struct log_place *bad);
 uint32_t flush_refusal(const struct volume *volume, uint32_t named);
 uint32_t write_refusal(const struct volume *volume, uint32_t named, uint64_t address, uint32_t run, size_t data_bytes);
 uint32_t read_refusal(const struct volume *volume, uint32_t named, uint64_t address, uint32_t run, size_t answer_bytes);

@@ -1,5 +1,5 @@
-/* The refusals of document 01's table, least number first: 1 to 4 of every call, then those of each call from 7 on. Refusals 5 and 6 belong to look
- * and mount, which have no plain version; 14 of a write is found with its log, 15 of a read and a write where the sectors are sought. */
+/* The refusals of document 01's table, least number first: 1 to 4 of every call, then those of each call from 7 on. Those of look and mount are in
+ * plain_look.c; 14 of a write is found with its log, 15 of a read and a write where the sectors are sought. */
 #include "plain_emptying.h"
 
 static uint32_t larger(uint32_t a, uint32_t b) { return a > b ? a : b; }
@@ -48,19 +48,15 @@ static bool two_lost(const struct volume *v, uint32_t named, uint32_t lost) {
     return count > 1;
 }
 
-/* Refusals 1 to 4 of a call that reads no state. */
-static uint32_t tables_refusal(const struct volume *v, uint32_t named, uint32_t lost) {
+uint32_t format_refusal(const struct volume *v, uint32_t named) {
     if (!geometry_fits(v->geometry))
         return ZRV_GEOMETRY;
     if (!lengths_fit(v))
         return ZRV_LENGTH;
     if (!pointers_fit(v, named))
         return ZRV_POINTER;
-    return two_lost(v, named, lost) ? ZRV_TWO_LOST : ZRV_FINISHED;
+    return two_lost(v, named, ZRV_NO_DRIVE) ? ZRV_TWO_LOST : ZRV_FINISHED;
 }
-
-uint32_t format_refusal(const struct volume *v, uint32_t named) { return tables_refusal(v, named, ZRV_NO_DRIVE); }
-uint32_t look_refusal(const struct volume *v, uint32_t named) { return tables_refusal(v, named, v->state.lost); }
 
 /* Refusals 1 to 4 of a call that reads the state, and has a buffer that is or is not as long as it should be. */
 static uint32_t input_refusal(const struct volume *v, uint32_t named, bool buffer_fits) {

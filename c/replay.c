@@ -65,6 +65,8 @@ static void show(const struct host *host, const struct command *command, struct 
         printf(" same");
     if (reply->code == ZRV_FINISHED)
         show_rest(host, command, reply);
+    if (has_place(reply->code))
+        printf(" at %" PRIu32 " %" PRIu32 " %" PRIu32, reply->bad.drive, reply->bad.zone, reply->bad.sector);
     putchar('\n');
 }
 

@@ -77,6 +77,7 @@ static struct reply perform_call(struct host *host, const struct command *comman
     reply.buffer = buffer_for(host, command);
     call.range[BUFFER] = reply.buffer;
     call.filled = &reply.filled;
+    call.bad = &reply.bad;
     reply.code = make_call(&call);
     if (reply.code == ZRV_FINISHED && strchr("fmwur", command->letter) != NULL)
         keep_state(host, &reply);

@@ -30,6 +30,7 @@ struct reply {
     uint8_t shown[ZRV_STATE_BYTES];
     struct range buffer;
     uint32_t filled;
+    struct log_place bad; /* where a look or mount found a log bad */
 };
 
 /* A read with a state and drives, on the shelf's whole byte ranges, whatever the shortage. */

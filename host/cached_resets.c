@@ -101,12 +101,14 @@ static void note_unfinished(struct shelf *shelf, const struct shelf *before, con
 }
 
 void note_resets(struct shelf *shelf, const struct shelf *before, const struct call *call, uint32_t answer, const uint8_t *state) {
-    if (answer == ZRV_FINISHED && call->kind == CALL_WRITE)
-        note_finished_write(shelf, before, call->named);
-    else if (answer == ZRV_FINISHED)
-        forget_named(shelf, call->named); /* all others end with a flush */
-    else if (call->kind != CALL_FORMAT) /* a format's drives are new: their zones have nothing to come back */
+    if (call->kind == CALL_FORMAT) /* its drives are new: no zone has anything to come back */
+        return;
+    if (answer == ZRV_UNFINISHED)
         note_unfinished(shelf, before, call, state);
+    else if (call->kind == CALL_WRITE)
+        note_finished_write(shelf, before, call->named);
+    else
+        forget_named(shelf, call->named); /* a mount, a flush and a reset end with a flush */
 }
 
 bool reset_is_cached(const struct shelf *shelf, size_t cell) { return pointer_in(shelf->old_written, cell) > 0; }

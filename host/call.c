@@ -14,14 +14,20 @@ static uint32_t make_report(const struct call *call) {
     return ZRV_REPORT_ANSWER(returned);
 }
 
+static uint32_t answer_with_place(const struct call *call, uint64_t returned) {
+    if (call->bad != NULL)
+        *call->bad = (struct log_place){ZRV_BAD_DRIVE(returned), ZRV_BAD_ZONE(returned), ZRV_BAD_SECTOR(returned)};
+    return ZRV_ANSWER(returned);
+}
+
 uint32_t make_call(const struct call *call) {
     switch (call->kind) {
     case CALL_FORMAT:
         return zrv_format(NUMBERS(call), call->array, call->count, TABLES(call));
     case CALL_LOOK:
-        return zrv_look(NUMBERS(call), TABLES(call));
+        return answer_with_place(call, zrv_look(NUMBERS(call), TABLES(call)));
     case CALL_MOUNT:
-        return zrv_mount(NUMBERS(call), call->count, TABLES(call));
+        return answer_with_place(call, zrv_mount(NUMBERS(call), call->count, TABLES(call)));
     case CALL_WRITE:
         return zrv_write(NUMBERS(call), call->address, call->run, call->count, TABLES(call), RANGE(call, BUFFER));
     case CALL_FLUSH:

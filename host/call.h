@@ -31,6 +31,11 @@ struct range {
 /* The byte ranges of a call, in their order; the buffer is a write's data, a read's answer, a peek's place, a report's list. */
 enum { SECTORS, WRITTEN, DURABLE, STATE, BUFFER, RANGES };
 
+/* A sector of a drive's log. */
+struct log_place {
+    uint32_t drive, zone, sector; /* the zone is the physical one */
+};
+
 struct call {
     enum call_kind kind;
     struct geometry geometry;
@@ -41,10 +46,14 @@ struct call {
     uint32_t zone;    /* reset */
     uint32_t count;   /* of stores */
     uint32_t *filled; /* report: how many descriptors it filled goes here, unless it is NULL */
+    struct log_place *bad; /* look, mount: the place of a bad log, or zeros, goes here, unless it is NULL */
     struct range range[RANGES];
 };
 
 uint32_t make_call(const struct call *call);
+
+/* Whether an answer has the place of a bad log beside it. */
+static inline bool has_place(uint32_t answer) { return answer == ZRV_LOG || answer == ZRV_LOG_ENTRY || answer == ZRV_LOG_ROWS; }
 
 /* Whether a geometry is inside document 01's bounds, asked of the volume itself. */
 bool geometry_is_taken(struct geometry geometry);

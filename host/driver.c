@@ -73,6 +73,7 @@ uint32_t driver_call(struct driver *driver, struct call call, struct message *me
     call.range[WRITTEN] = drives->shelf.written;
     call.range[DURABLE] = drives->shelf.durable;
     call.range[STATE] = (struct range){driver->shown, ZRV_STATE_BYTES};
+    call.bad = &driver->bad;
     if (!is_storing(call.kind))
         return make_call(&call);
     struct shelf before = shelf_before(&drives->shelf, &call);

@@ -9,6 +9,7 @@
 struct driver {
     struct drives drives;
     uint8_t shown[ZRV_STATE_BYTES]; /* what the last finished look or storing call shows */
+    struct log_place bad;           /* where the last look or mount found a log bad, if it answered so */
 };
 
 /* Answers of the driver's own, beside the volume's: a duty stands against the call; a drive is not the one that this shelf was left with. */

@@ -44,7 +44,7 @@ int main(void) {
 
     memcpy(v.written, v.durable, sizeof v.written);
     memset(v.state, 0, sizeof v.state); /* the host's memory is gone too: a mount reads no state */
-    report("mount", zrv_mount(NUMBERS, ZRV_ALL_STORES, BYTES(&v)), &v);
+    report("mount", ZRV_ANSWER(zrv_mount(NUMBERS, ZRV_ALL_STORES, BYTES(&v))), &v);
     report("read", zrv_read(NUMBERS, 0, FLUSHED, BYTES(&v), answer, sizeof answer), &v);
     int differs = memcmp(answer, data, sizeof answer) != 0;
     printf("the flushed sectors are %s\n", differs ? "different" : "as written");

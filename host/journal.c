@@ -49,9 +49,13 @@ static bool is_closing(struct geometry g, uint32_t log, const uint8_t *s) {
     return get64(s + ENTRY_START) == log && get64(s + ENTRY_END) == 0 && get64(s + ENTRY_GENERATION) != 0 && zeros(s, ENTRY_HEAD_BYTES, g.sector_bytes);
 }
 
+bool entry_is_marked(const uint8_t *header) {
+    static const uint8_t version[] = {ENTRY_FORMAT, 0};
+    return memcmp(header, ENTRY_MARK, ENTRY_MARK_BYTES) == 0 && memcmp(header + ENTRY_VERSION, version, sizeof version) == 0;
+}
+
 bool entry_is_legal(struct geometry g, uint32_t drive, uint32_t log, const uint8_t *header) {
-    static const uint8_t version[] = {ENTRY_FORMAT, 0, 0, 0};
-    if (memcmp(header, ENTRY_MARK, ENTRY_MARK_BYTES) != 0 || memcmp(header + ENTRY_VERSION, version, sizeof version) != 0)
+    if (!entry_is_marked(header) || !zeros(header, ENTRY_VERSION_END, ENTRY_START))
         return false;
     if (header[ENTRY_TYPE] == ENTRY_CLOSING)
         return is_closing(g, log, header);
@@ -93,6 +97,12 @@ enum journal_step next_entry(struct journal_reader *reader, const uint8_t **head
         return JOURNAL_TORN;
     reader->at = next;
     return JOURNAL_ENTRY;
+}
+
+uint32_t why_no_entry(const struct journal_reader *reader, const uint8_t *header) {
+    if (!entry_is_marked(header))
+        return ZRV_LOG;
+    return entry_is_legal(reader->geometry, reader->drive, reader->log, header) ? ZRV_LOG_ROWS : ZRV_LOG_ENTRY;
 }
 
 uint64_t log_generation(const struct log_zones *zones, uint32_t log, uint32_t zone) {

@@ -1,7 +1,7 @@
 /* The logs of a drive, read as document 01 says. An entry is a header sector, and in the parity log one to U row sectors after it. Header: the mark "ZRV",
  * the type, the version (1) in two bytes, two zeros, then start, end and generation of eight bytes each; the sector's rest is zero but for a label's and
  * a counters entry's own fields. A reader goes from entry to entry until the write pointer, a torn entry (its rows reach past the write pointer), or a
- * sector that is no entry.
+ * sector that is no entry: without the mark or with another version, not legal for its drive and log, or legal with rows that would pass the zone's end.
  *
  * Which of a drive's physical zones 0 to 2 is its general log and which its parity log is told by closing entries (document 02): a log is emptied by copying
  * what is still needed of it to the third zone, the spare, and a closing entry after the copies. A log's generation is that of its first closing entry, 0 if
@@ -23,6 +23,7 @@ enum { ENTRY_MARK_BYTES = sizeof ENTRY_MARK - 1, ENTRY_FORMAT = 1 };
 enum {
     ENTRY_TYPE = 3,
     ENTRY_VERSION = 4,
+    ENTRY_VERSION_END = 6,
     ENTRY_START = 8,
     ENTRY_END = 16,
     ENTRY_GENERATION = 24,
@@ -38,7 +39,8 @@ enum {
     LABEL_END = 56
 };
 
-/* Whether a header sector is a legal entry of that drive and kind of log. */
+/* Whether a sector has an entry's mark and version; whether it is a legal header of that drive and kind of log. */
+bool entry_is_marked(const uint8_t *header);
 bool entry_is_legal(struct geometry geometry, uint32_t drive, uint32_t log, const uint8_t *header);
 
 /* The row sectors that follow a legal entry's header. */
@@ -59,8 +61,11 @@ struct journal_reader {
 
 enum journal_step { JOURNAL_ENTRY, JOURNAL_TORN, JOURNAL_NO_ENTRY, JOURNAL_END };
 
-/* The next entry's header. After a torn entry, which is given too, or a sector that is no entry, the reader stays where it is. */
+/* The next entry's header. After a torn entry or a sector that is no entry, which are given too, the reader stays where it is. */
 enum journal_step next_entry(struct journal_reader *reader, const uint8_t **header);
+
+/* Why a sector at which a reader found no entry is none: the answer of a look. */
+uint32_t why_no_entry(const struct journal_reader *reader, const uint8_t *header);
 
 /* A drive's physical zones 0 to 2. */
 struct log_zones {

@@ -16,7 +16,8 @@
  *   durable   the same, of those that a power cut keeps
  *   state     ZRV_STATE_BYTES bytes: what the host keeps between calls (below)
  *
- * Each (zrv_report beside its number of descriptors) returns 0 (finished), 1 to 15 (refused, the least number that applies) or 255 (unfinished: stores were left when the count ran out). On anything
+ * Each (zrv_look and zrv_mount beside the place of a bad log, zrv_report beside its number of descriptors) returns 0 (finished), 1 to 17 (refused: of those
+ * that apply the first in the order 1 to 5, then 6, 16 and 17 together, then 7 to 15) or 255 (unfinished: stores were left when the count ran out). On anything
  * but 0 every byte range keeps what it held, but for the stores that an unfinished call has made in sectors, written and durable.
  *
  * The state: byte 0 the lost drive or 255, bytes 1 to 7 zero; then 16 records of 16 bytes, one a zone: the generation (8 bytes), the condition (1 byte:
@@ -67,6 +68,13 @@ extern "C" {
 #define ZRV_REPORTED_OPEN 1u         /* also where it is written to its end */
 #define ZRV_REPORTED_READ_ONLY 2u    /* sealed or worn */
 
+/* What zrv_look and zrv_mount return: the answer and, with 6, 16 and 17, the sector of a log for which they are refused: its drive, its physical zone (0 to 2)
+ * and its number in that zone. With every other answer these are 0. */
+#define ZRV_ANSWER(returned) ((uint32_t)((returned)&UINT32_MAX))
+#define ZRV_BAD_DRIVE(returned) ((uint32_t)((returned) >> 56))
+#define ZRV_BAD_ZONE(returned) ((uint32_t)((returned) >> 48 & 0xffu))
+#define ZRV_BAD_SECTOR(returned) ((uint32_t)((returned) >> 32 & 0xffffu))
+
 /* What zrv_report returns. */
 #define ZRV_REPORT_ANSWER(returned) ((uint32_t)((returned)&UINT32_MAX))
 #define ZRV_REPORT_NUMBER(returned) ((uint32_t)((returned) >> 32))
@@ -95,7 +103,7 @@ extern "C" {
 #define ZRV_POINTER 3u   /* a named drive has written > C or durable > written */
 #define ZRV_TWO_LOST 4u  /* more than one drive is lost */
 #define ZRV_LABEL 5u     /* look, mount: a present drive lacks a log, or its general log has no fitting first label */
-#define ZRV_LOG 6u       /* look, mount: a present drive's log is broken */
+#define ZRV_LOG 6u       /* look, mount: a present drive's log has a sector without the mark or with another version */
 #define ZRV_STALE 7u     /* a present drive's pointer in the zone is not what the state needs */
 #define ZRV_ADDRESS 8u   /* no such zone or address */
 #define ZRV_RUN 9u       /* no sectors, or past the zone's end */
@@ -105,6 +113,8 @@ extern "C" {
 #define ZRV_UNWRITTEN 13u   /* a read or peek past the pointer */
 #define ZRV_LOG_FULL 14u    /* mount, reset, write: a log lacks room, and emptying it would not give it */
 #define ZRV_GONE 15u        /* a sector needed is not known; in a peek, not held */
+#define ZRV_LOG_ENTRY 16u   /* look, mount: a present drive's log has an entry of that mark and version that is not legal */
+#define ZRV_LOG_ROWS 17u    /* look, mount: a present drive's log has an entry whose rows would pass the zone's end */
 #define ZRV_GROUP_IDS 23u   /* zrv_grouped_read: in some group a present drive lacks a stripe ID, or has it twice */
 #define ZRV_GROUP_ALIKE 24u /* zrv_grouped_read: two data blocks, no fillers, with equal address and timestamp */
 #define ZRV_UNFINISHED 255u
@@ -116,14 +126,16 @@ uint32_t zrv_format(uint32_t drives, uint32_t sector_bytes, uint32_t unit, uint3
                     uint8_t *sectors, size_t sectors_bytes, uint8_t *written, size_t written_bytes,
                     uint8_t *durable, size_t durable_bytes, uint8_t *state, size_t state_bytes);
 
-/* Look: what the present drives show. It stores nothing. Finished, `state` is what is shown; what it held is never read. Refusals 1 to 6. */
-uint32_t zrv_look(uint32_t drives, uint32_t sector_bytes, uint32_t unit, uint32_t zones, uint32_t zone_sectors, uint32_t named,
+/* Look: what the present drives show. It stores nothing. Finished, `state` is what is shown; what it held is never read. It returns its answer in the low 32
+ * bits and, with 6, 16 and 17, in the high 32 the place of the first bad sector of a log, drive * 2^24 + zone * 2^16 + sector, else 0. Refusals 1 to 6, 16 and
+ * 17. */
+uint64_t zrv_look(uint32_t drives, uint32_t sector_bytes, uint32_t unit, uint32_t zones, uint32_t zone_sectors, uint32_t named,
                   const uint8_t *sectors, size_t sectors_bytes, const uint8_t *written, size_t written_bytes,
                   const uint8_t *durable, size_t durable_bytes, uint8_t *state, size_t state_bytes);
 
-/* Mount: brings the volume back after a power cut or the loss of a drive. Finished, `state` is what it shows; what it held is never read.
- * Refusals 1 to 6 and 14. */
-uint32_t zrv_mount(uint32_t drives, uint32_t sector_bytes, uint32_t unit, uint32_t zones, uint32_t zone_sectors, uint32_t named,
+/* Mount: brings the volume back after a power cut or the loss of a drive. Finished, `state` is what it shows; what it held is never read. It returns as
+ * zrv_look does. Refusals 1 to 6, 14, 16 and 17. */
+uint64_t zrv_mount(uint32_t drives, uint32_t sector_bytes, uint32_t unit, uint32_t zones, uint32_t zone_sectors, uint32_t named,
                    uint32_t count,
                    uint8_t *sectors, size_t sectors_bytes, uint8_t *written, size_t written_bytes,
                    uint8_t *durable, size_t durable_bytes, uint8_t *state, size_t state_bytes);

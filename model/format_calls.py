@@ -3,7 +3,7 @@
 A call that stores is a generator: it raises Refused before its first store, yields its stores in order, and returns the state that it
 hands on.
 """
-from format_numbers import (ALL_STORES, COUNTERS, FIRST_DATA_ZONE, GENERAL_LOG, LABEL, LAST_GENERATION, LOGS, NO_DRIVE, PARITY_LOG, RESET, SEAL,
+from format_numbers import (ALL_STORES, COUNTERS, FIRST_DATA_ZONE, GENERAL_LOG, LABEL, LAST_GENERATION, NO_DRIVE, PARITY_LOG, RESET, SEAL,
                             Answer, Condition)
 from format_volume import (Drives, Logs, Memory, Refused, State, Store, Unfinished, Zone, ZoneRecord, closing, counters, descriptor,
                            exclusive_or, label, partial_parity, reset_entry, seal, walk)
@@ -64,15 +64,17 @@ class Call:
         self.lost = missing[0] if missing else NO_DRIVE
 
     def settle_by_labels(self):
-        """Look and mount: rule 1 and refusals 4 to 6."""
+        """Look and mount: rule 1 and refusals 4 to 6, 16 and 17."""
         self.logs = logs = Logs(self.drives, self.named)
         self.settle_present([logs.last(d, LABEL).lost for d in self.named if logs.first_label(d)])
         firsts = [logs.first_label(d) for d in self.present]
         if any(logs.lacks(d) for d in self.present) or None in firsts or len({first.array for first in firsts}) > 1:
             raise Refused(Answer.LABEL)
         self.array = firsts[0].array
-        if any(logs.walks[d, log].broken_at is not None for d in self.present for log in LOGS):
-            raise Refused(Answer.LOG)
+        bad = logs.first_bad(self.present)
+        if bad:
+            place, answer = bad
+            raise Refused(answer, place)
 
     def settle_by_state(self):
         """The other calls: refusal 4, and the logs that they find."""
@@ -417,24 +419,25 @@ class Host:
 
     def __init__(self, geometry):
         self.geometry, self.memory, self.state = geometry, Memory(geometry), None
-        self.stores = []
+        self.stores, self.bad_place = [], None
 
     def store(self, name, named, *arguments, count=ALL_STORES, lengths=None):
-        """A call that stores: its answer, a number. Finished, its state is kept."""
+        """A call that stores: its answer, a number. Finished, its state is kept. Refused for a log's sector, `bad_place` is that sector's."""
         call = Call(self.geometry, self.memory, named, self.state, lengths)
-        self.stores = call.made
+        self.stores, self.bad_place = call.made, None
         try:
             self.state = call.carry_out(getattr(call, name)(*arguments), count)
             return Answer.FINISHED
         except Refused as refused:
+            self.bad_place = refused.place
             return refused.number
         except Unfinished:
             return Answer.UNFINISHED
 
     def ask(self, name, named, *arguments, state=None, lengths=None):
-        """A look, read, peek or report: its answer, and what it gives if it finishes."""
+        """A look, read, peek or report: its answer, and what it gives if it finishes, or the place of a log's sector for which it is refused."""
         call = Call(self.geometry, self.memory, named, state or self.state, lengths)
         try:
             return Answer.FINISHED, getattr(call, name)(*arguments)
         except Refused as refused:
-            return refused.number, None
+            return refused.number, refused.place

@@ -5,10 +5,10 @@ import re
 from format_cases import (ALL_DRIVES, ARRAY, FILLS, SPARE, V, Volume, before_emptied_general_log, before_emptied_parity_log, before_mount, either,
                           ends, five_written, formatted, kept, sector, without)
 from format_check_stores import check_emptying, check_mount, check_stores
-from format_numbers import (CLOSING, COUNTERS, FIRST_DATA_ZONE, GENERAL_LOG, LABEL, LOGS, MOST_ZONE_SECTORS, PARITY_LOG, RESET, SEAL, SECTOR_SIZES,
-                            Answer, Condition)
+from format_numbers import (CLOSING, COUNTERS, FIRST_DATA_ZONE, GENERAL_LOG, LABEL, LOGS, MOST_ZONE_SECTORS, PARITY_LOG, PARTIAL_PARITY, RESET,
+                            SEAL, SECTOR_SIZES, Answer, Condition)
 from format_page import NotFound, Page
-from format_volume import Geometry, Logs, ZoneRecord, closing, counters, partial_parity, reset_entry, seal
+from format_volume import Geometry, Logs, ZoneRecord, closing, counters, header, partial_parity, reset_entry, seal
 
 CALL_LETTERS = {"f": "format", "l": "look", "m": "mount", "w": "write", "u": "flush", "r": "reset", "d": "read", "p": "peek", "o": "report"}
 
@@ -102,21 +102,24 @@ def check_walks(page):
     row = bytes(V.B)
     first = log_of(0, [partial_parity(V, 1, 2, 1), row, row, partial_parity(V, 1, 5, 1)])
     fifteen = [partial_parity(V, 0, 1, 0), row] * 15
-    two_rows, one_row = (log_of(3, fifteen + [partial_parity(V, 0, n, 0)]) for n in (2, 1))
+    two_rows, elsewhere, one_row = (log_of(3, fifteen + [partial_parity(V, 0, n, 0)]) for n in (2, V.K + 2, 1))
     page.phrase("header 96 to 98, two rows, header 96 to 101; written 4 (drive 0) | one whole entry at {}, a torn one at {} without rows",
                 first.whole[0][0], first.torn[0])
-    page.phrase("header that wants two rows at sector 30; written 31 | no entry at {}: {} is past C",
-                two_rows.broken_at, two_rows.broken_at + 3)
+    page.phrase("header that wants two rows at sector 30; written 31 | no entry at {} ({}): {} is past C",
+                *two_rows.bad, two_rows.bad.sector + 3)
+    page.phrase("the same, of a stripe with its parity on another drive | no entry at {} ({})", *elsewhere.bad)
     page.phrase("header that wants one row at sector 30; written 31 | torn at {}", one_row.torn[0])
+    zeros, complete = (log_of(0, [partial_parity(V, 1, 2, 1), row, row, last]) for last in (row, header(V, PARTIAL_PARITY, V.Q, V.Q + V.K, 1)))
+    page.phrase("header 96 to 98, two rows, a sector of zeros; written 4 (drive 0) | no entry at {} ({})", *zeros.bad)
+    page.phrase("header 96 to 98, two rows, header 96 to 102; written 4 (drive 0) | no entry at {} ({})", *complete.bad)
     check_roles(page)
 
 
 def check_roles(page):
     """Section 5: the table of which zones are the logs."""
     copied, closed, lacking = formatted(), formatted(), Volume()
-    for volume in (copied, closed):
-        for x in (0, 1):
-            volume.drives.append(0, SPARE, volume.drives.sector(0, GENERAL_LOG, x))
+    copy_general_log(copied)
+    copy_general_log(closed)
     closed.drives.append(0, SPARE, closing(V, GENERAL_LOG, 1))
     lacking.drives.append(0, 0, closing(V, PARITY_LOG, 1))
     rows = page.table("| Zones 0, 1, 2 of a drive of V |")[1:]
@@ -124,6 +127,12 @@ def check_roles(page):
         logs = Logs(volume.drives, [0])
         found = [logs.zones.get((0, log), "lacks") for log in LOGS] + ["none" if logs.spare(0) is None else logs.spare(0)]
         page.compare(position, " ".join(zones), " ".join(str(zone) for zone in found))
+
+
+def copy_general_log(volume):
+    """What a format left in drive 0's general log, into its spare."""
+    for x in (0, 1):
+        volume.drives.append(0, SPARE, volume.drives.sector(0, GENERAL_LOG, x))
 
 
 def log_of(d, sectors):
@@ -197,6 +206,37 @@ def check_refusals_on_v(page):
     page.phrase("With a write pointer of 33 in zone 4 of drive 1: {}, also for a read in zone 0.", five.read(0, 1)[0])
 
 
+def changed(sector, at, byte):
+    """A sector with one byte changed."""
+    return sector[:at] + bytes([byte]) + sector[at + 1:]
+
+
+def check_bad_places(page):
+    """Sections 7 and 10: the table of bad logs, and a place as a number. Of each row what is appended, and the drives named."""
+    zeros, odd, generations = bytes(V.B), header(V, 7), counters(V, [1] * V.L)
+    past_the_end = [(3, PARITY_LOG, data) for data in [partial_parity(V, 0, 1, 0), zeros] * 15 + [partial_parity(V, 0, 2, 0)]]
+    cases = [([(2, GENERAL_LOG, zeros)], ALL_DRIVES), ([(2, GENERAL_LOG, zeros)], without(2)), ([(2, SPARE, zeros)], ALL_DRIVES),
+             ([(2, GENERAL_LOG, changed(generations, 4, 2))], ALL_DRIVES), ([(2, GENERAL_LOG, odd)], ALL_DRIVES),
+             ([(2, GENERAL_LOG, changed(generations, 6, 1))], ALL_DRIVES),
+             ([(2, GENERAL_LOG, formatted().drives.sector(1, GENERAL_LOG, 0))], ALL_DRIVES), (past_the_end, ALL_DRIVES),
+             ([(3, GENERAL_LOG, zeros), (1, PARITY_LOG, odd)], ALL_DRIVES),
+             ([(0, SPARE, closing(V, GENERAL_LOG, 1)), (0, SPARE, zeros), (0, PARITY_LOG, odd)], ALL_DRIVES)]
+    rows = page.table("| V, fresh, and at the write pointers of |")[1:]
+    for (position, (words, stands)), (appended, named) in zip(rows, cases, strict=True):
+        volume = formatted()
+        if "emptied into it" in words:
+            copy_general_log(volume)
+        for d, y, data in appended:
+            volume.drives.append(d, y, data)
+        page.compare(position, stands, refused_at(*volume.ask("look", named)))
+        page.compare(position, stands, refused_at(volume.store("mount", named), volume.bad_place))
+    page.phrase("Drive 3, zone 1, sector 30 is {}.", 3 * 2**24 + 1 * 2**16 + 30)
+
+
+def refused_at(answer, place):
+    return "%d at drive %d, zone %d, sector %d" % (answer, *place) if answer else "finished"
+
+
 def check_names(page):
     """Sections 7 and 10: the numbers' words."""
     rows = page.table("| | Word | Refused if |")[1:]
@@ -265,8 +305,8 @@ def check_script(page, replay):
 def check(path, answers, replay):
     """Compares the page with the model and with the answers of the vectors; 0 if they agree. `replay` gives the answers to the lines of a script."""
     page = Page(path)
-    for section in (check_geometry, check_placement, check_entries, check_walks, check_looks, check_refusals, check_names, check_emptying, check_stores,
-                    check_mount, lambda page: check_matrix(page, answers), lambda page: check_script(page, replay)):
+    for section in (check_geometry, check_placement, check_entries, check_walks, check_looks, check_refusals, check_bad_places, check_names,
+                    check_emptying, check_stores, check_mount, lambda page: check_matrix(page, answers), lambda page: check_script(page, replay)):
         try:
             section(page)
         except NotFound as missing:

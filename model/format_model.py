@@ -21,6 +21,11 @@ NOTHING_SHORT = (0, 0, 0, 0)
 UNTOUCHED = bytes([0xEE]) * DESCRIPTOR_BYTES
 
 
+def at(place):
+    """Where a look or mount met the sector for which it was refused."""
+    return ["at", *place] if place else []
+
+
 def words(state):
     return ["lost", state.lost] + ["%d:%d:%d" % record for record in state.zones]
 
@@ -72,7 +77,8 @@ class Replay:
         return self.store("format", named, array, count=count)
 
     def command_m(self, named, count):
-        return self.store("mount", named, count=count)
+        code, _ = self.store("mount", named, count=count)
+        return code, at(self.host.bad_place)
 
     def command_w(self, named, address, sectors, seed, count):
         return self.store("write", named, address, sectors, stream_bytes(seed, self.buffer(sectors)), count=count)
@@ -99,7 +105,7 @@ class Replay:
 
     def command_l(self, named):
         code, shown = self.ask("look", named)
-        return code, [] if code else words(shown) + [self.zone_checksum(named, shown, z) for z in range(self.host.geometry.L)]
+        return code, at(shown) if code else words(shown) + [self.zone_checksum(named, shown, z) for z in range(self.host.geometry.L)]
 
     def zone_checksum(self, named, shown, z):
         """Of a read up to the pointer that a look shows."""

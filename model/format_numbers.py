@@ -20,6 +20,8 @@ class Answer(IntEnum):
     UNWRITTEN = 13
     LOG_FULL = 14
     GONE = 15
+    ENTRY = 16
+    ROWS = 17
     NO_STATE = 254       # in a script alone
     UNFINISHED = 255
 

@@ -6,14 +6,17 @@ import struct
 from collections import namedtuple
 
 from format_numbers import (CLOSING, COUNTERS, FIRST_DATA_ZONE, GENERAL_LOG, LABEL, LAST_GENERATION, LOGS, MOST_ZONE_SECTORS, NO_DRIVE,
-                            PARITY_LOG, PARTIAL_PARITY, RESET, SEAL, SECTOR_SIZES, STATE_RECORD_BYTES, STATE_RECORDS, Condition, Told)
+                            PARITY_LOG, PARTIAL_PARITY, RESET, SEAL, SECTOR_SIZES, STATE_RECORD_BYTES, STATE_RECORDS, Answer, Condition, Told)
 
 Place = namedtuple("Place", "drive sector parity_drive stripe unit row")
 Store = namedtuple("Store", "kind drive zone data sector", defaults=(None,) * 3)     # kind: append, reset or flush
 View = namedtuple("View", "sectors written durable")                                  # a zone as it was just before a reset
-Walk = namedtuple("Walk", "whole torn broken_at", defaults=((), None, None))
+Walk = namedtuple("Walk", "whole torn bad", defaults=((), None, None))
+Bad = namedtuple("Bad", "sector answer")                # where a walk found no entry, and the refusal that this is
+BadPlace = namedtuple("BadPlace", "drive zone sector")
 Role = namedtuple("Role", "log generation")
 ZoneRecord = namedtuple("ZoneRecord", "generation condition pointer")
+MARK, VERSION = b"ZRV", bytes([1, 0])
 TOLD = {Condition.EMPTY: Told.EMPTY, Condition.OPEN: Told.OPEN, Condition.SEALED: Told.READ_ONLY, Condition.WORN: Told.READ_ONLY}
 
 
@@ -25,11 +28,11 @@ class Entry(namedtuple("Entry", "type zone stripe end generation rows lost array
 
 
 class Refused(Exception):
-    """Section 7: the call is refused with this number."""
+    """Section 7: the call is refused with this number; with 6, 16 or 17 for the sector at that place."""
 
-    def __init__(self, number):
+    def __init__(self, number, place=None):
         super().__init__(number)
-        self.number = number
+        self.number, self.place = number, place
 
 
 class Unfinished(Exception):
@@ -163,7 +166,7 @@ def exclusive_or(sectors, B):
 # ---- section 4: log entries
 
 def header(g, kind, start=0, end=0, generation=0, rest=b""):
-    fields = b"ZRV" + struct.pack("<BHHQQQ", kind, 1, 0, start, end, generation) + rest
+    fields = MARK + struct.pack("<B2sHQQQ", kind, VERSION, 0, start, end, generation) + rest
     return fields + bytes(g.B - len(fields))
 
 
@@ -233,14 +236,22 @@ def read_entry(g, d, log, sector):
     return None
 
 
+def has_mark(sector):
+    """Whether a sector has the mark and the version of an entry."""
+    return sector[:3] == MARK and sector[4:6] == VERSION
+
+
 def walk(drives, d, log, y):
     """Section 5: zone y walked as a log of that kind: the whole entries with their sectors, the torn entry with its sector or None, the sector where
-    no entry stands or None."""
+    no entry stands, with the reason, or None."""
     g, x, written, whole = drives.geometry, 0, drives.written(d, y), []
     while x < written:
-        entry = read_entry(g, d, log, drives.sector(d, y, x))
-        if entry is None or x + 1 + entry.rows > g.C:
-            return Walk(whole, None, x)
+        sector = drives.sector(d, y, x)
+        entry = read_entry(g, d, log, sector)
+        if entry is None:
+            return Walk(whole, None, Bad(x, Answer.ENTRY if has_mark(sector) else Answer.LOG))
+        if x + 1 + entry.rows > g.C:
+            return Walk(whole, None, Bad(x, Answer.ROWS))
         if x + 1 + entry.rows > written:
             return Walk(whole, (x, entry), None)
         whole.append((x, entry))
@@ -273,6 +284,12 @@ class Logs:
     def lacks(self, d):
         """Whether the drive lacks a kind of log."""
         return any((d, log) not in self.zones for log in LOGS)
+
+    def first_bad(self, numbers):
+        """Of the counting logs of these drives the first place, by drive, zone and sector, where a walk found no entry, and the refusal; None if none did."""
+        found = [(BadPlace(d, self.zones[d, log], bad.sector), bad.answer)
+                 for d in numbers for log in LOGS for bad in [self.walks[d, log].bad] if bad]
+        return min(found, default=None)
 
     def spare(self, d):
         """The zone that is neither counting log; None where the drive lacks one."""

@@ -4,8 +4,8 @@
 #include <stdarg.h>
 #include <stdio.h>
 
+#include "bad_log.h"
 #include "bytes.h"
-#include "journal.h"
 #include "left_out.h"
 #include "refusals.h"
 
@@ -149,8 +149,11 @@ static uint32_t check_log(struct line *line, uint32_t drive, uint32_t log) {
     if (step == JOURNAL_TORN)
         found(line, "drive %u: the entry at sector %u, ending at address %llu, is cut in half: %u of its %u rows are there; the next mount completes it",
               drive, reader.at, (unsigned long long)get64(header + ENTRY_END), reader.zone.written - reader.at - 1, entry_rows(g, header));
-    if (step == JOURNAL_NO_ENTRY)
-        found(line, "drive %u: sector %u is no entry", drive, reader.at);
+    if (step == JOURNAL_NO_ENTRY) {
+        struct message what;
+        describe_no_entry(&reader, header, &what);
+        found(line, "drive %u: sector %u is no entry: %s", drive, reader.at, what.text);
+    }
     return entries;
 }
 

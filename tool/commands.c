@@ -7,6 +7,7 @@
 #include <time.h>
 
 #include "checklist.h"
+#include "look_json.h"
 #include "tool.h"
 #include "words.h"
 
@@ -130,21 +131,26 @@ int mount_main(int argc, char **argv) {
     return code;
 }
 
+/* What a look found, for a person. */
+static void print_look(const struct driver *driver, uint32_t answer) {
+    print_checklist(driver, answer);
+    if (answer == ZRV_FINISHED)
+        print_zones(driver->drives.record.geometry, driver->shown);
+    print_logs(driver);
+    if (driver->drives.record.phase == PHASE_MOUNT_DUE)
+        printf("power was cut: a mount comes next\n");
+}
+
 int look_main(int argc, char **argv) {
+    struct command_option option[] = {{.name = "json", .kind = OPTION_FLAG}};
     struct driver driver;
     struct message message;
-    int code = begin_command(argc, argv, NULL, 0, &driver);
+    int code = begin_command(argc, argv, option, COUNT(option), &driver);
     if (code == EXIT_DONE) {
         struct call call = {.kind = CALL_LOOK};
         uint32_t answer = driver_call(&driver, call, &message);
         if (answer != ANSWER_NOT_NOW)
-            print_checklist(&driver, answer);
-        if (answer == ZRV_FINISHED)
-            print_zones(driver.drives.record.geometry, driver.shown);
-        if (answer != ANSWER_NOT_NOW)
-            print_logs(&driver);
-        if (driver.drives.record.phase == PHASE_MOUNT_DUE)
-            printf("power was cut: a mount comes next\n");
+            (option[0].given ? print_look_json : print_look)(&driver, answer);
         fflush(stdout);
         code = tell_answer(&driver, &call, answer, &message);
     }

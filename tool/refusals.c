@@ -1,5 +1,5 @@
 /* The refusals' words. In a sentence {pointer} is the address at which the call's zone goes on, {end} the one past its end, {zones} and {addresses} how many
- * the volume has, {stripe} the sectors of a stripe. */
+ * the volume has, {stripe} the sectors of a stripe. A refusal for a bad log has its sentence from bad_log.c. */
 #include "refusals.h"
 
 #include <string.h>
@@ -17,7 +17,7 @@ static const struct {
     [ZRV_POINTER] = {"pointer", "a drive's write pointers are out of order; pull that drive"},
     [ZRV_TWO_LOST] = {"two lost", "more than one drive is lost; put back one that is missing and was not given up"},
     [ZRV_LABEL] = {"label", "a drive's log does not begin with its label of this shelf; pull the drive that zrv look names"},
-    [ZRV_LOG] = {"log", "a drive's log has a sector that is no entry; pull the drive that zrv look names"},
+    [ZRV_LOG] = {"log", NULL},
     [ZRV_STALE] = {"stale", "a drive's write pointer in this zone is not what the zone needs; mount the volume (zrv mount)"},
     [ZRV_ADDRESS] = {"address", "there is no such zone or address; zones lie below {zones}, addresses below {addresses}"},
     [ZRV_RUN] = {"run", "there are no sectors, or they pass the zone's end; stay below address {end}"},
@@ -28,12 +28,14 @@ static const struct {
     [ZRV_LOG_FULL] = {"log full", "what has to be kept of a log leaves too little room; end writes at a stripe's end (every {stripe} sectors), or copy the "
                                   "data out and format anew with more zone sectors"},
     [ZRV_GONE] = {"gone", "no drive that is here holds the sector; read it, which rebuilds it from parity"},
+    [ZRV_LOG_ENTRY] = {"entry", NULL},
+    [ZRV_LOG_ROWS] = {"rows", NULL},
 };
 
 /* The sentence of refusal 10 where the zone has no room. */
 static const char *const order_when_full = "the zone is full; reset it or write to another zone";
 
-const char *refusal_word(uint32_t number) { return number >= ZRV_GEOMETRY && number <= ZRV_GONE ? refusals[number].word : "no refusal"; }
+const char *refusal_word(uint32_t number) { return number >= ZRV_GEOMETRY && number <= LAST_REFUSAL ? refusals[number].word : "no refusal"; }
 
 const char *condition_word(uint8_t condition) {
     static const char *const words[] = {[ZRV_EMPTY] = "empty", [ZRV_OPEN] = "open", [ZRV_SEALED] = "sealed", [ZRV_WORN] = "worn"};

@@ -1,4 +1,4 @@
-/* Document 01's fifteen refusals in words: the number, its word, what it means and what to do; and a zone's condition. */
+/* The volume's refusals in words: the number, its word, what it means and what to do (of a bad log in bad_log.h); and a zone's condition. */
 #ifndef REFUSALS_H
 #define REFUSALS_H
 
@@ -6,13 +6,15 @@
 
 #include "call.h"
 
+enum { LAST_REFUSAL = ZRV_LOG_ROWS };
+
 /* The word of a refusal; "no refusal" for any other number. */
 const char *refusal_word(uint32_t number);
 
 /* The word of a condition in a zone's record. */
 const char *condition_word(uint8_t condition);
 
-/* Prints "NUMBER WORD: sentence" and a new line. The call and the state tell the addresses that a sentence names. */
+/* Prints "NUMBER WORD: sentence" and a new line, of any refusal but those with a place. The call and the state tell the addresses that a sentence names. */
 void print_refusal(FILE *to, uint32_t number, const struct call *call, struct geometry geometry, const uint8_t *state);
 
 #endif

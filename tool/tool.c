@@ -4,6 +4,7 @@
 #include <stdarg.h>
 #include <stdio.h>
 
+#include "bad_log.h"
 #include "bytes.h"
 #include "refusals.h"
 
@@ -48,7 +49,10 @@ int tell_answer(const struct driver *driver, const struct call *call, uint32_t a
         fprintf(stderr, "zrv: unfinished: stopped after %u store%s with more to make; a power cut comes next (zrv cut)\n", call->count, plural(call->count));
     } else {
         fprintf(stderr, "zrv: refused: ");
-        print_refusal(stderr, answer, call, record->geometry, record->state);
+        if (has_place(answer))
+            print_bad_log(stderr, &driver->drives.shelf, answer, driver->bad);
+        else
+            print_refusal(stderr, answer, call, record->geometry, record->state);
     }
     return EXIT_REFUSED;
 }

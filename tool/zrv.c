@@ -68,9 +68,11 @@ static const struct command commands[] = {
     {"pull", pull_main, "take a drive out", "FOLDER --drive N",
      "Renames the drive's file to drive-N.pulled. The drive is given up: it is not used again, even if the file comes back.\n"
      "  --drive N         the drive\n"},
-    {"look", look_main, "go through the checklist; nothing is stored", "FOLDER",
+    {"look", look_main, "go through the checklist; nothing is stored", "FOLDER [options]",
      "Prints line by line what was looked at, what that catches, and ok or what was found; then the zones, and of each drive which physical zones are its\n"
-     "logs, with their generations and unused sectors. It ends with 0 where the volume shows its zones, whatever was found, and with 1 where it refuses to.\n"},
+     "logs, with their generations and unused sectors. It ends with 0 where the volume shows its zones, whatever was found, and with 1 where it refuses to.\n"
+     "Where a log is bad it says which drive, log and sector, what stands there and what should.\n"
+     "  --json            what the volume answers and shows, and where the logs lie, as a JSON object\n"},
     {"mount", mount_main, "bring the volume up after a power cut or the loss of a drive", "FOLDER [options]",
      "Completes what was cut short and shows the zones.\n" STORES_HELP},
     {"grouped", grouped_main, "read a block of a segment with grouped stripes", "read --blocks FILE --metadata FILE --at ADDRESS [options]",

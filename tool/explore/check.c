@@ -27,7 +27,7 @@ static bool misfit(struct explorer *explorer, const struct world *world, struct 
     struct counts *counts = &explorer->counts;
     counts->misfits++;
     counts->trouble[verdict.trouble]++;
-    if (verdict.answer <= ZRV_GONE)
+    if (verdict.answer <= LAST_REFUSAL)
         counts->refused[verdict.answer]++;
     size_t rank = explorer->trail.length + (verdict.answer == ZRV_FINISHED ? 0 : MOST_EVENTS);
     if (explorer->story == NULL || rank < explorer->story_rank) {

@@ -4,6 +4,7 @@
 #define EXPLORE_ENGINE_H
 
 #include "explore/story.h"
+#include "refusals.h"
 
 /* How a request ended, sent without a loss of power. */
 struct outcome {
@@ -42,7 +43,7 @@ struct counts {
     uint64_t drawn;        /* second losses of power whose caches were drawn */
     uint64_t left_out;     /* second losses of power for which nothing was left of the budget */
     uint64_t unaffordable; /* returns of power for whose second losses nothing was left */
-    uint64_t misfits, trouble[TROUBLES], refused[ZRV_GONE + 1];
+    uint64_t misfits, trouble[TROUBLES], refused[LAST_REFUSAL + 1];
 };
 
 struct explorer {

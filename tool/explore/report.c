@@ -132,7 +132,7 @@ static void report_troubles(const struct counts *counts) {
     for (int i = LOOK_REFUSED; i < TROUBLES; i++)
         if (counts->trouble[i] > 0)
             print_number(counts->trouble[i], words[i]);
-    for (uint32_t answer = ZRV_GEOMETRY; answer <= ZRV_GONE; answer++) {
+    for (uint32_t answer = ZRV_GEOMETRY; answer <= LAST_REFUSAL; answer++) {
         char text[64];
         snprintf(text, sizeof text, "of these refused with %u (%s)", answer, refusal_word(answer));
         if (counts->refused[answer] > 0)

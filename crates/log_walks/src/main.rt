@@ -92,7 +92,7 @@ fn show_place(p: usize, why: u64) {
 fn show_end(end: WalkEnd) {
     match end {
         WalkEnd::AtPointer(p) => show_place(p, 0),
-        WalkEnd::NoEntry(p) => show_place(p, 1),
+        WalkEnd::NoEntry(p, _) => show_place(p, 1),
         WalkEnd::Torn(p) => show_place(p, 2),
     }
 }

@@ -1,5 +1,6 @@
 // What a sector holds, as an entry of one log of one drive: its fields are read, tested against geometry, drive and log, and all its bytes
 // compared with those of the header that they make. No buffer, no copy.
+use super::Fault;
 use super::Found;
 use tables::Geometry;
 ghost use mathlib.Core.Path.{_≡_};
@@ -12,7 +13,7 @@ ghost use Rattle.logs.specs.code.Lays.{headSame, zerosFrom, zeroWords};
 ghost use Rattle.logs.specs.code.Judge.{found};
 ghost use Rattle.logs.specs.code.JudgeMore.{labelSame, asCounters};
 ghost use Rattle.logs.specs.code.WalkCode.{rowsSeen, badSeen};
-ghost use Rattle.logs.specs.meaning.Entry.{markBytes, encode, decode, fitsLog, kindOf, frame, label, zoneReset, partialParity, seal};
+ghost use Rattle.logs.specs.meaning.Entry.{markBytes, marked, faultOf, encode, decode, fitsLog, kindOf, frame, label, zoneReset, partialParity, seal};
 
 // Whether the eight bytes from `at` say n.
 fn same_u64(s: &[u8], at: usize, n: u64) -> bool
@@ -75,16 +76,35 @@ fn zeros_from(s: &[u8], at: usize) -> bool
     zero_bytes(s, i)
 }
 
+// Whether mark and version are there: bytes 0 to 2, 4 and 5.
+fn is_marked(s: &[u8]) -> bool
+    requires { ⌜ 8 ≤ length (now s) ⌝ }
+    ensures { λ r. ⌜ r ≡ marked (now (s .entry)) ⌝ }
+{
+    (super::MARK[0] == s[0])
+        & ((super::MARK[1] == s[1])
+            & ((super::MARK[2] == s[2]) & ((super::VERSION == s[4]) & (0 == s[5]))))
+}
+
 // Whether the first eight bytes are the mark, this type, version 1 and zeros.
 fn is_mark(s: &[u8], kind: u8) -> bool
     requires { ⌜ 8 ≤ length (now s) ⌝ }
     ensures { λ r. ⌜ r ≡ sameBytes (markBytes kind) (take 8 (now (s .entry))) ⌝ }
 {
-    (super::MARK[0] == s[0])
-        & ((super::MARK[1] == s[1])
-            & ((super::MARK[2] == s[2])
-                & ((kind == s[3])
-                    & ((super::VERSION == s[4]) & ((0 == s[5]) & ((0 == s[6]) & (0 == s[7])))))))
+    let marked = is_marked(s);
+    marked & ((kind == s[3]) & ((0 == s[6]) & (0 == s[7])))
+}
+
+// Why a sector is no legal header, of one that is none.
+pub fn fault_of(s: &[u8]) -> Fault
+    requires { ⌜ 8 ≤ length (now s) ⌝ }
+    ensures { λ r. ⌜ r ≡ faultOf (now (s .entry)) ⌝ }
+{
+    let marked = is_marked(s);
+    if marked {
+        return Fault::NotLegal;
+    }
+    Fault::NoMark
 }
 
 // Whether the first 32 bytes say so.

@@ -46,12 +46,22 @@ pub enum Found {
     Closing(u64),
 }
 
+// Why a sector where an entry should begin is none (specs: `faultOf`, `inZone`; `faultNumber` gives each case's number).
+pub enum Fault {
+    // no mark, or another version
+    NoMark,
+    // mark and version are right, the entry is not legal
+    NotLegal,
+    // a legal header whose rows would pass the zone's end
+    RowsPast,
+}
+
 // Where a log's legal part ends, and why (specs: `walkEndOf`). Each case holds the first sector that belongs to no whole entry.
 pub enum WalkEnd {
     // the written pointer
     AtPointer(usize),
-    // a sector that is no entry
-    NoEntry(usize),
+    // a sector that is no entry, and why it is none
+    NoEntry(usize, Fault),
     // an entry whose rows reach past the written pointer
     Torn(usize),
 }

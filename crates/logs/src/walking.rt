@@ -1,8 +1,9 @@
 // The walk of a log, sector by sector over the zone's own sectors. It is left
 // - at the written pointer, where the log is whole;
-// - at a sector that is no entry: not legal, or with rows past the zone's end C;
+// - at a sector that is no entry: without mark or version, otherwise not legal, or with rows past the zone's end C;
 // - at a torn entry: one whose rows reach past the written pointer, but not past C.
 // The position is that of the first sector that belongs to no whole entry.
+use super::Fault;
 use super::Found;
 use super::Log;
 use super::Step;
@@ -13,10 +14,10 @@ ghost use mathlib.Core.List.{[]};
 ghost use Prim.Native.Nat.{_≤_, _<_};
 ghost use lib.ListN.{getD, length};
 ghost use Rattle.tables.specs.meaning.Geometry.{Valid, physicalZones, totalBytes};
-ghost use Rattle.logs.specs.meaning.Entry.{decode};
+ghost use Rattle.logs.specs.meaning.Entry.{decode, faultOf};
 ghost use Rattle.logs.specs.code.Judge.{found};
 ghost use Rattle.logs.specs.meaning.Walk.{walkLog};
-ghost use Rattle.logs.specs.code.WalkCode.{InLog, logSectors, walkEndOf, endPlace, noEntryEnd, leftAt};
+ghost use Rattle.logs.specs.code.WalkCode.{InLog, logSectors, walkEndOf, endPlace, leftAt};
 ghost use Rattle.logs.specs.code.Steps.{stepOf};
 ghost use Rattle.logs.specs.code.ZoneWalk.{InZone, LegalEnd, sectorsIn, stepInZone, zoneBytes};
 
@@ -59,6 +60,18 @@ fn judge_in_zone(
     super::judging::judge(&bytes[at..end], g, drive, parity)
 }
 
+// Why sector p of a zone is no legal header, of one that is none.
+fn fault_in_zone(bytes: &[u8], g: Geometry, written: usize, p: usize) -> Fault
+    requires { ⌜ Valid g ⌝ }
+    requires { ⌜ InZone g written (now bytes) × (p < written) ⌝ }
+    ensures { λ r. ⌜ r ≡ faultOf (getD (sectorsIn (g .sector) (now (bytes .entry)) written) p []) ⌝ }
+{
+    let b = g.sector;
+    let at = p * b;
+    let end = at + b;
+    super::judging::fault_of(&bytes[at..end])
+}
+
 // One step of the walk, in the zone's own bytes: the entry that begins at sector p, or why the walk is left there.
 pub fn step_in_zone(
     bytes: &[u8],
@@ -80,10 +93,11 @@ pub fn step_in_zone(
     let bad = super::judging::is_bad(f);
     let q = p + 1 + rows;
     if bad {
-        return Step::Left(WalkEnd::NoEntry(p));
+        let fault = fault_in_zone(bytes, g, written, p);
+        return Step::Left(WalkEnd::NoEntry(p, fault));
     }
     if c < q {
-        return Step::Left(WalkEnd::NoEntry(p));
+        return Step::Left(WalkEnd::NoEntry(p, Fault::RowsPast));
     }
     if written < q {
         return Step::Left(WalkEnd::Torn(p));
@@ -106,10 +120,11 @@ pub fn walk_zone(bytes: &[u8], g: Geometry, drive: usize, parity: bool, written:
         let rows = super::judging::rows_of(f, g);
         let bad = super::judging::is_bad(f);
         if bad {
-            break 'walk WalkEnd::NoEntry(p);
+            let fault = fault_in_zone(bytes, g, written, p);
+            break 'walk WalkEnd::NoEntry(p, fault);
         }
         if c < p + 1 + rows {
-            break 'walk WalkEnd::NoEntry(p);
+            break 'walk WalkEnd::NoEntry(p, Fault::RowsPast);
         }
         let mut k = 0;
         'rows: while k < rows {
@@ -119,17 +134,6 @@ pub fn walk_zone(bytes: &[u8], g: Geometry, drive: usize, parity: bool, written:
             k += 1;
         }
         p = p + 1 + rows;
-    }
-}
-
-// Whether the walk is left at a sector that is no entry.
-pub fn is_no_entry(end: WalkEnd) -> bool
-    ensures { λ r. ⌜ r ≡ noEntryEnd end ⌝ }
-{
-    match end {
-        WalkEnd::AtPointer(_) => false,
-        WalkEnd::NoEntry(_) => true,
-        WalkEnd::Torn(_) => false,
     }
 }
 

@@ -4,6 +4,7 @@
 use replaying::Command;
 use replaying::Host;
 use replaying::Reply;
+use volume::BadPlace;
 use volume::State;
 ghost use mathlib.Core.Path.{_≡_};
 ghost use lib.ListN.{length};
@@ -122,7 +123,18 @@ fn show_look(
     }
 }
 
-// What a finished look, read, peek or report adds to the line.
+// The place of a bad log, which a look or a mount tells that is refused for it.
+fn show_place(b: BadPlace) {
+    if b.number == 0 {
+        return;
+    }
+    text(b" at");
+    field(b.drive as u64);
+    field(b.zone as u64);
+    field(b.sector as u64);
+}
+
+// What a finished look, read, peek or report adds to the line, and a refusal for a log.
 fn show_rest(
     space: &[u8],
     written: &[u32],
@@ -135,6 +147,7 @@ fn show_rest(
     let h = r.host;
     let letter = c.letter;
     if r.code != 0 {
+        show_place(r.place);
         return;
     }
     if letter == b'l' {

@@ -8,14 +8,18 @@ use lib.Dec.{eqb}
 use lib.ListN.{length}
 use Rattle.tables.specs.meaning.Basics.{pick}
 use Rattle.tables.specs.meaning.Tables.{Tables}
+use Rattle.volume.specs.declared.Answer.{Answer}
+use Rattle.volume.specs.declared.Answer.the-variants.{Finished, Unfinished, Refused, BadLog}
+use Rattle.volume.specs.declared.BadPlace.{BadPlace}
 use Rattle.volume.specs.declared.State.{State}
 use Rattle.volume.specs.declared.Outcome.{Outcome}
+use Rattle.volume.specs.meaning.Refusals.{noBadPlace}
 use Rattle.volume.specs.meaning.CallContracts.{viewState, Result, answerNumber, formatOn, mountOn, lookOn, writeOn, flushOn, resetOn, ReadResult, readOn, peekNumber}
 use Rattle.volume.specs.reading.Reporting.{reportedAs}
 use Rattle.replaying.specs.declared.Command.{Command}
 use Rattle.replaying.specs.declared.Host.{Host}
 use Rattle.replaying.specs.declared.Reply.{Reply}
-use Rattle.replaying.specs.Hosting.{narrowed, namedIn, holding}
+use Rattle.replaying.specs.Hosting.{narrowed, namedIn, holding, plainReply}
 use Rattle.replaying.specs.Stream.{streamOver}
 
 -- what a command leaves
@@ -25,8 +29,15 @@ pub record Done : Type 0 where
   pub buffer : List ℕ
 
 -- ---- replies
-abbrev pub plainReply : Host → ℕ → State → Reply
-plainReply h n s = record { host = h; code = n; shown = s }
+-- the bad place that an answer tells
+abbrev pub placeTold : Answer → BadPlace
+placeTold Finished = noBadPlace
+placeTold Unfinished = noBadPlace
+placeTold (Refused n) = noBadPlace
+placeTold (BadLog b) = b
+
+abbrev pub toldReply : Host → Outcome → Reply
+toldReply h o = record { host = h; code = answerNumber (o .answer); shown = o .state; place = placeTold (o .answer) }
 
 -- "254 for a write, flush, reset, read or peek while there is no state", and for a report
 abbrev pub statelessReply : Host → Reply
@@ -34,7 +45,7 @@ statelessReply h = plainReply h 254 (h .state)
 
 -- "the host keeps the state that the last finished format, mount, write, flush or reset left"
 unfoldable pub keptReply : Host → Outcome → Reply
-keptReply h o = pick (eqb (answerNumber (o .answer)) 0) (record { host = holding h (o .state); code = 0; shown = o .state }) (plainReply h (answerNumber (o .answer)) (o .state))
+keptReply h o = pick (eqb (answerNumber (o .answer)) 0) (plainReply (holding h (o .state)) 0 (o .state)) (toldReply h o)
 
 -- ---- the calls, with a command's numbers
 unfoldable pub formatMade : Host → Command → Tables → Result
@@ -44,7 +55,7 @@ unfoldable pub lookMade : Host → Command → Tables → Outcome
 lookMade h c t = lookOn (h .geometry) (namedIn (c .first)) (h .state) t
 
 abbrev pub lookReply : Host → Outcome → Reply
-lookReply h o = plainReply h (answerNumber (o .answer)) (o .state)
+lookReply h o = toldReply h o
 
 unfoldable pub mountMade : Host → Command → Tables → Result
 mountMade h c t = mountOn (h .geometry) (namedIn (c .first)) (h .state) (narrowed (c .second)) t

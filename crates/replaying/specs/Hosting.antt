@@ -16,6 +16,7 @@ use Rattle.replaying.specs.declared.Command.{Command}
 use Rattle.replaying.specs.declared.Shortage.{Shortage}
 use Rattle.replaying.specs.declared.Host.{Host}
 use Rattle.replaying.specs.declared.Reply.{Reply}
+use Rattle.volume.specs.meaning.Refusals.{noBadPlace}
 
 -- ---- numbers of a command
 -- a length, less what it is short of, and never more than there is
@@ -81,6 +82,11 @@ withRecord h c = pick (leb 16 (c .first)) h (withState h (record { lost = h .sta
 abbrev pub withLost : Host → ℕ → Host
 withLost h x = withState h (record { lost = x; zones = h .state .zones })
 
--- ---- what a command leaves that is no call
+-- ---- what a command leaves
+-- (that tells no bad place)
+abbrev pub plainReply : Host → ℕ → State → Reply
+plainReply h n s = record { host = h; code = n; shown = s; place = noBadPlace }
+
+-- that is no call
 abbrev pub quietReply : Host → Reply
-quietReply h = record { host = h; code = 0; shown = h .state }
+quietReply h = plainReply h 0 (h .state)

@@ -11,7 +11,7 @@ use Rattle.tables.specs.meaning.LittleEndian.{readLE}
 use Rattle.tables.specs.laws.LittleEndian.{writeLE}
 use Rattle.tables.specs.meaning.Tables.{Tables, tablesOf}
 use Rattle.volume.specs.declared.Answer.{Answer}
-use Rattle.volume.specs.declared.Answer.the-variants.{Finished, Unfinished, Refused}
+use Rattle.volume.specs.declared.Answer.the-variants.{Finished, Unfinished, Refused, BadLog}
 use Rattle.volume.specs.declared.State.{State}
 use Rattle.volume.specs.meaning.State.{pointerIn}
 use Rattle.volume.specs.meaning.CallContracts.{answerNumber, recordAt, ReadResult, readOn, peekOn}
@@ -38,6 +38,7 @@ abbrev pub glimpseBy : Answer → List ℕ → Glimpse
 glimpseBy Finished out = record { code = answerNumber Finished; sum = adlerOfBytes out }
 glimpseBy Unfinished out = record { code = answerNumber Unfinished; sum = 0 }
 glimpseBy (Refused n) out = record { code = answerNumber (Refused n); sum = 0 }
+glimpseBy (BadLog b) out = record { code = answerNumber (BadLog b); sum = 0 }
 
 abbrev pub glimpseOf : ReadResult → Glimpse
 glimpseOf r = glimpseBy (r .answer) (r .buffer)

@@ -2,20 +2,47 @@
 use super::Command;
 use super::Host;
 use super::Reply;
+use volume::Answer;
+use volume::BadPlace;
 use volume::Outcome;
 ghost use mathlib.Core.Path.{_≡_};
 ghost use Rattle.tables.specs.meaning.Tables.{tablesOf};
-ghost use Rattle.replaying.specs.Calling.{plainReply, statelessReply, keptReply, lookReply, readReply, writeBuffer, formatMade, mountMade, lookMade, writeMade, flushMade, resetMade, readMade, peekMade, reportMade};
+ghost use Rattle.replaying.specs.Hosting.{plainReply};
+ghost use Rattle.replaying.specs.Calling.{placeTold, toldReply, statelessReply, keptReply, lookReply, readReply, writeBuffer, formatMade, mountMade, lookMade, writeMade, flushMade, resetMade, readMade, peekMade, reportMade};
 
 // A call while there is no state.
 pub fn stateless(h: Host) -> Reply
     ensures { λ r. ⌜ r ≡ statelessReply h ⌝ }
 {
     let shown = h.state;
+    super::hosting::plain(h, 254, shown)
+}
+
+// The bad place that an answer tells.
+fn place_told(a: Answer) -> BadPlace
+    ensures { λ r. ⌜ r ≡ placeTold a ⌝ }
+{
+    match a {
+        Answer::Finished => volume::bad_places::no_place(),
+        Answer::Unfinished => volume::bad_places::no_place(),
+        Answer::Refused(_) => volume::bad_places::no_place(),
+        Answer::BadLog(b) => b,
+    }
+}
+
+// What a call leaves that hands nothing on.
+fn told(h: Host, o: Outcome) -> Reply
+    ensures { λ r. ⌜ r ≡ toldReply h o ⌝ }
+{
+    let a = o.answer;
+    let shown = o.state;
+    let code = volume::numbers::answer_number(a);
+    let place = place_told(a);
     Reply {
         host: h,
-        code: 254,
+        code,
         shown,
+        place,
     }
 }
 
@@ -27,11 +54,7 @@ fn kept(h: Host, o: Outcome) -> Reply
     let s = o.state;
     let code = volume::numbers::answer_number(a);
     if code != 0 {
-        return Reply {
-            host: h,
-            code,
-            shown: s,
-        };
+        return told(h, o);
     }
     let g = h.geometry;
     let l = g.zones;
@@ -39,11 +62,7 @@ fn kept(h: Host, o: Outcome) -> Reply
     t.held = true;
     t.zones = l;
     t.state = s;
-    Reply {
-        host: t,
-        code,
-        shown: s,
-    }
+    super::hosting::plain(t, code, s)
 }
 
 // Format.
@@ -92,14 +111,7 @@ pub fn look(sectors: &[u8], written: &[u32], durable: &[u32], h: Host, c: Comman
     let s = h.state;
     let named = super::hosting::named_in(c.first);
     let o = volume::looking::look(sectors, written, durable, g, named, s);
-    let a = o.answer;
-    let shown = o.state;
-    let code = volume::numbers::answer_number(a);
-    Reply {
-        host: h,
-        code,
-        shown,
-    }
+    told(h, o)
 }
 
 // Write of the stream's bytes.
@@ -197,11 +209,7 @@ pub fn read(
         buffer,
     );
     let code = volume::numbers::answer_number(a);
-    Reply {
-        host: h,
-        code,
-        shown: s,
-    }
+    super::hosting::plain(h, code, s)
 }
 
 // Peek: whether it is refused. What it gives is looked at when the answer is shown.
@@ -212,11 +220,7 @@ pub fn peek(sectors: &[u8], written: &[u32], durable: &[u32], h: Host, c: Comman
     let s = h.state;
     let named = super::hosting::named_in(c.first);
     let code = volume::reading::peek_refusal(sectors, written, durable, g, named, s, c.second);
-    Reply {
-        host: h,
-        code,
-        shown: s,
-    }
+    super::hosting::plain(h, code, s)
 }
 
 // Report: whether it is refused. What it fills is looked at when the answer is shown.
@@ -228,9 +232,5 @@ pub fn report(h: Host) -> Reply
     let o = volume::reporting::reported(g, s, 0);
     let a = o.answer;
     let code = volume::numbers::answer_number(a);
-    Reply {
-        host: h,
-        code,
-        shown: s,
-    }
+    super::hosting::plain(h, code, s)
 }

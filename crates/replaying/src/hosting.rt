@@ -9,7 +9,7 @@ use volume::State;
 use volume::ZoneRecord;
 ghost use mathlib.Core.Path.{_≡_};
 ghost use Prim.Native.Nat.{_≤_};
-ghost use Rattle.replaying.specs.Hosting.{handedLength, narrowed, runBytes, namedIn, geometryIn, shortageIn, noShortage, blankState, emptyHost, noGeometry, freshHost, withGeometry, withShortage, withRecord, withLost, quietReply};
+ghost use Rattle.replaying.specs.Hosting.{handedLength, narrowed, runBytes, namedIn, geometryIn, shortageIn, noShortage, blankState, emptyHost, noGeometry, freshHost, withGeometry, withShortage, withRecord, withLost, plainReply, quietReply};
 
 // A length, less what it is short of, and never more than there is.
 pub fn lend(length: usize, short: usize, most: usize) -> usize
@@ -209,14 +209,23 @@ pub fn with_lost(h: Host, lost: usize) -> Host
     t
 }
 
+// What a command leaves that tells no bad place.
+pub fn plain(h: Host, code: u8, shown: State) -> Reply
+    ensures { λ r. ⌜ r ≡ plainReply h code shown ⌝ }
+{
+    let place = volume::bad_places::no_place();
+    Reply {
+        host: h,
+        code,
+        shown,
+        place,
+    }
+}
+
 // What a command leaves that is no call.
 pub fn quiet(h: Host) -> Reply
     ensures { λ r. ⌜ r ≡ quietReply h ⌝ }
 {
     let shown = h.state;
-    Reply {
-        host: h,
-        code: 0,
-        shown,
-    }
+    plain(h, 0, shown)
 }

@@ -1,6 +1,7 @@
 // The script language of the conformance vectors: a command line read, the host that carries it out over the tables that the caller lends, and
 // what its answer line shows. Every answer is a public call's own; no rule of the volume is written here a second time.
 use tables::Geometry;
+use volume::BadPlace;
 use volume::State;
 
 pub mod calling;
@@ -51,11 +52,12 @@ pub struct Host {
     pub shortage: Shortage,
 }
 
-// What a command leaves: the host, the answer's number, and the state that the call handed back.
+// What a command leaves: the host, the answer's number, the state that the call handed back, and the bad place that it told.
 pub struct Reply {
     pub host: Host,
     pub code: u8,
     pub shown: State,
+    pub place: BadPlace,
 }
 
 // What a read showed: the answer's number, and the checksum of the bytes read.

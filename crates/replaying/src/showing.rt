@@ -30,6 +30,10 @@ fn glimpse_of(a: Answer, buffer: &[u8]) -> Glimpse
         },
         Answer::Unfinished => Glimpse { code: 255, sum: 0 },
         Answer::Refused(n) => Glimpse { code: n, sum: 0 },
+        Answer::BadLog(b) => Glimpse {
+            code: b.number,
+            sum: 0,
+        },
     }
 }
 

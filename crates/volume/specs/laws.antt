@@ -1,5 +1,7 @@
 pub mod AbsentDrives
+pub mod AnswerNumbers
 pub mod ArrayNumbers
+pub mod BadPlaces
 pub mod ByteLists
 pub mod CallAppends
 pub mod CallContracts

@@ -1,5 +1,6 @@
 // What every call checks of its input before it looks at a zone: refusals 1 to 4, and the drives that are present.
 use super::Answer;
+use super::BadPlace;
 use super::Condition;
 use super::Outcome;
 use super::State;
@@ -16,6 +17,7 @@ ghost use Rattle.tables.specs.meaning.GeometryTest.{isValid};
 ghost use Rattle.volume.specs.declared.Answer.the-variants.{Refused};
 ghost use Rattle.volume.specs.meaning.State.{pointerIn};
 ghost use Rattle.volume.specs.meaning.Refusals.{stateWithin};
+ghost use Rattle.volume.specs.meaning.Answers.{refusedAt};
 ghost use Rattle.volume.specs.meaning.CallContracts.{recordAt, viewState, isSet};
 ghost use Rattle.volume.specs.checks.CheckLaws.{presentList, openingFrom, Tested};
 
@@ -196,6 +198,19 @@ pub fn refused(number: u8, state: State) -> Outcome
         answer: Answer::Refused(number),
         state,
     }
+}
+
+// A look or a mount that is refused: by row 6 it tells the first bad place, by any other its number.
+pub fn refused_at(number: u8, bad: BadPlace, state: State) -> Outcome
+    ensures { λ r. ⌜ r ≡ record { answer = refusedAt bad number; state = state } ⌝ }
+{
+    if number == 6 {
+        return Outcome {
+            answer: Answer::BadLog(bad),
+            state,
+        };
+    }
+    refused(number, state)
 }
 
 // The budget of a call that may make `count` stores: one more (specs: `Made`).

@@ -15,8 +15,7 @@ ghost use Rattle.logs.specs.meaning.Heads.{labelled, arrayIn, generationIn, end
 ghost use Rattle.logs.specs.code.Query.{answer};
 ghost use Rattle.logs.specs.meaning.Entry.{Entry};
 ghost use Rattle.logs.specs.code.QueryLaws.{SmallSeen};
-ghost use Rattle.volume.specs.meaning.Rules.{generalHeads, generalEnding, parityEntries, parityEnding, endingPast};
-ghost use Rattle.volume.specs.meaning.Refusals.{isNoEntry};
+ghost use Rattle.volume.specs.meaning.Rules.{generalHeads, parityEntries, parityEnding, endingPast};
 ghost use Rattle.volume.specs.looking.DriveLogs.{Sized, zonePointer, logIn, saysLost, pastSeen};
 ghost use Rattle.volume.specs.looking.Knowing.{readDevice};
 
@@ -78,20 +77,6 @@ pub fn says_lost(sectors: &[u8], written: &[u32], g: Geometry, drive: usize) -> 
     }
     let log = log_in(written, g, drive, logs::GENERAL_LOG);
     logs::folds::last_lost(sectors, g, log)
-}
-
-// Refusal 6: whether a sector where one of the two logs should have an entry is no legal one, or rows pass the zone's end.
-pub fn logs_broken(sectors: &[u8], written: &[u32], g: Geometry, drive: usize) -> bool
-    requires { ⌜ Valid g ⌝ }
-    requires { ⌜ Sized g (now sectors) (now written) × (drive < g .drives) ⌝ }
-    ensures { λ r. ⌜ r ≡ isNoEntry (generalEnding g (readDevice g (now (sectors .entry)) (now (written .entry))) drive)
-        || isNoEntry (parityEnding g (readDevice g (now (sectors .entry)) (now (written .entry))) drive) ⌝ }
-{
-    let n = zone_pointer(written, g, drive, logs::GENERAL_LOG);
-    let general = logs::walking::walk_log(sectors, g, drive, logs::GENERAL_LOG, false, n);
-    let m = zone_pointer(written, g, drive, logs::PARITY_LOG);
-    let parity = logs::walking::walk_log(sectors, g, drive, logs::PARITY_LOG, true, m);
-    logs::walking::is_no_entry(general) | logs::walking::is_no_entry(parity)
 }
 
 // The generation that the last counters give zone z; 0 if there are none.

@@ -1,4 +1,4 @@
-// Rule 1: which drives are lost by what the named drives' logs say, and which are present. And refusals 5 and 6, which look at the logs of
+// Rule 1: which drives are lost by what the named drives' logs say, and which are present. And refusal 5, which looks at the general logs of
 // the present drives.
 use tables::Geometry;
 ghost use mathlib.Core.Path.{_≡_};
@@ -11,8 +11,8 @@ ghost use Rattle.tables.specs.meaning.Drives.{findBelow, noDrive};
 ghost use Rattle.tables.specs.meaning.Geometry.{Valid};
 ghost use Rattle.logs.specs.meaning.Heads.{labelled, arrayIn};
 ghost use Rattle.volume.specs.meaning.CallContracts.{isSet};
-ghost use Rattle.volume.specs.meaning.Rules.{generalHeads, generalEnding, parityEnding, isPresent};
-ghost use Rattle.volume.specs.meaning.Refusals.{isNoEntry, badLabels, badLogs};
+ghost use Rattle.volume.specs.meaning.Rules.{generalHeads, isPresent};
+ghost use Rattle.volume.specs.meaning.Refusals.{badLabels};
 ghost use Rattle.volume.specs.looking.DriveLogs.{Sized, saysLost};
 ghost use Rattle.volume.specs.looking.Knowing.{readDevice};
 ghost use Rattle.volume.specs.looking.DrivesLost.{saidList, saidOf, labelBad};
@@ -143,36 +143,6 @@ pub fn labels_bad(sectors: &[u8], written: &[u32], g: Geometry, here: [bool; 8])
     let mut d = 0;
     while d < n {
         let b = label_bad(sectors, written, g, here, d);
-        bad = bad | b;
-        d += 1;
-    }
-    bad
-}
-
-// Refusal 6 for one drive.
-fn log_bad(sectors: &[u8], written: &[u32], g: Geometry, present: bool, d: usize) -> bool
-    requires { ⌜ Valid g ⌝ }
-    requires { ⌜ Sized g (now sectors) (now written) × (d < g .drives) ⌝ }
-    ensures { λ r. ⌜ r ≡ present && (isNoEntry (generalEnding g (readDevice g (now (sectors .entry)) (now (written .entry))) d)
-        || isNoEntry (parityEnding g (readDevice g (now (sectors .entry)) (now (written .entry))) d)) ⌝ }
-{
-    if !present {
-        return false;
-    }
-    super::drive_logs::logs_broken(sectors, written, g, d)
-}
-
-// Refusal 6.
-pub fn logs_bad(sectors: &[u8], written: &[u32], g: Geometry, here: [bool; 8]) -> bool
-    requires { ⌜ Valid g ⌝ }
-    requires { ⌜ Sized g (now sectors) (now written) ⌝ }
-    ensures { λ r. ⌜ r ≡ badLogs g (isSet here) (readDevice g (now (sectors .entry)) (now (written .entry))) ⌝ }
-{
-    let n = g.drives;
-    let mut bad = false;
-    let mut d = 0;
-    while d < n {
-        let b = log_bad(sectors, written, g, here[d], d);
         bad = bad | b;
         d += 1;
     }

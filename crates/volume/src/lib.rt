@@ -1,6 +1,7 @@
 // The volume: the nine calls over the tables that the host lends and the state that it keeps between calls.
 use tables::Geometry;
 
+pub mod bad_places;
 pub mod checks;
 pub mod copies_known;
 pub mod drive_logs;
@@ -68,11 +69,21 @@ pub struct Zone {
     pub generation: u64,
 }
 
-// A call's answer: finished, unfinished (stores were left when the count of stores ran out), or refused with document 01's number.
+// A bad place of a log: its number, 6, 16 or 17 (logs' `Fault`), 0 if there is none; its drive, physical zone and sector.
+pub struct BadPlace {
+    pub number: u8,
+    pub drive: u8,
+    pub zone: u8,
+    pub sector: u16,
+}
+
+// A call's answer: finished, unfinished (stores were left when the count of stores ran out), or refused with the documents' number; a look or a mount
+// that is refused for a log tells its first bad place.
 pub enum Answer {
     Finished,
     Unfinished,
     Refused(u8),
+    BadLog(BadPlace),
 }
 
 // What a call hands back: its answer, and the state that the host keeps from then on.

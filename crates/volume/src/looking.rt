@@ -1,5 +1,6 @@
 // Look: what the present drives show, rules 1 to 6 over all zones, with their logs where these lie. It stores nothing.
 use super::Answer;
+use super::BadPlace;
 use super::Condition;
 use super::Look;
 use super::Outcome;
@@ -14,8 +15,9 @@ ghost use Prim.Native.Nat.{ℕ};
 ghost use lib.ListN.{length};
 ghost use Rattle.tables.specs.meaning.Drives.{findBelow};
 ghost use Rattle.tables.specs.meaning.Geometry.{Valid, cells};
-ghost use Rattle.tables.specs.meaning.Tables.{tablesOf};
+ghost use Rattle.tables.specs.meaning.Tables.{tablesOf, zonePlace};
 ghost use Rattle.volume.specs.meaning.CallContracts.{isSet, lookOn};
+ghost use Rattle.volume.specs.meaning.Refusals.{firstBadPlace};
 ghost use Rattle.volume.specs.meaning.Rules.{showing, zoneShown};
 ghost use Rattle.volume.specs.looking.DriveLogs.{Sized};
 ghost use Rattle.volume.specs.looking.Knowing.{readDevice};
@@ -23,11 +25,12 @@ ghost use Rattle.volume.specs.looking.SeenByRoles.{kindLacksOn};
 ghost use Rattle.volume.specs.looking.Looking.{Lookable, shapeNumber, logNumber, looksFrom, lookOf, recordsOf};
 ghost use Rattle.volume.specs.looking.Surveying.{Surveyed};
 
-// What a look goes by: where the logs lie, which drives are present, and the refusal by their logs (4 to 6; 0 if none applies).
+// What a look goes by: where the logs lie, which drives are present, the refusal by their logs (4 to 6; 0 if none applies), and the first bad place.
 pub struct Survey {
     pub places: LogPlaces,
     pub here: [bool; 8],
     pub refusal: u8,
+    pub bad: BadPlace,
 }
 
 // Refusals 1 to 3, of a call that is handed no state; 0 if none applies.
@@ -73,10 +76,17 @@ fn kind_lacks(places: LogPlaces, here: [bool; 8]) -> bool
     lacks
 }
 
-// Refusals 4 to 6, by the drives that rule 1 leaves present; 0 if none applies.
-fn log_refusal(sectors: &[u8], written: &[u32], places: LogPlaces, here: [bool; 8]) -> u8
+// Refusals 4 to 6, by the drives that rule 1 leaves present and their first bad place; 0 if none applies.
+fn log_refusal(
+    sectors: &[u8],
+    written: &[u32],
+    places: LogPlaces,
+    here: [bool; 8],
+    bad: BadPlace,
+) -> u8
     requires { ⌜ Valid (places .geometry) ⌝ }
-    requires { ⌜ Sized (places .geometry) (now sectors) (now written) ⌝ }
+    requires { ⌜ Sized (places .geometry) (now sectors) (now written)
+        × (bad ≡ firstBadPlace (places .geometry) (isSet here) (zonePlace (places .geometry)) (readDevice (places .geometry) (now sectors) (now written))) ⌝ }
     ensures { λ r. ⌜ r ≡ logNumber places here (readDevice (places .geometry) (now (sectors .entry)) (now (written .entry))) ⌝ }
 {
     let g = places.geometry;
@@ -92,8 +102,8 @@ fn log_refusal(sectors: &[u8], written: &[u32], places: LogPlaces, here: [bool; 
     if labels {
         return 5;
     }
-    let logs = super::drives_lost::logs_bad(sectors, written, g, here);
-    if logs {
+    let number = bad.number;
+    if number != 0 {
         return 6;
     }
     0
@@ -114,11 +124,13 @@ pub fn survey_drives(
     let places = super::roles::see_by_roles(sectors, written, pointers, g);
     let h = places.geometry;
     let here = super::drives_lost::look_present(sectors, pointers, h, named);
-    let refusal = log_refusal(sectors, pointers, places, here);
+    let bad = super::bad_places::first_bad(sectors, pointers, h, here);
+    let refusal = log_refusal(sectors, pointers, places, here, bad);
     Survey {
         places,
         here,
         refusal,
+        bad,
     }
 }
 
@@ -203,7 +215,7 @@ pub fn look(
     let found = survey_drives(sectors, written, &mut pointers[..cells], g, named);
     let refusal = found.refusal;
     if refusal != 0 {
-        return super::checks::refused(refusal, old);
+        return super::checks::refused_at(refusal, found.bad, old);
     }
     let places = found.places;
     let h = places.geometry;

@@ -185,7 +185,7 @@ pub fn mount(
     let found = super::looking::survey_drives(sectors, written, &mut pointers[..cells], g, named);
     let refusal = found.refusal;
     if refusal != 0 {
-        return super::checks::refused(refusal, old);
+        return super::checks::refused_at(refusal, found.bad, old);
     }
     let plan = super::mount_plan::plan_mount(sectors, written, &pointers[..cells], g, found);
     let general = plan.general;

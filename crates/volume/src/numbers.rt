@@ -15,6 +15,7 @@ pub fn answer_number(a: Answer) -> u8
         Answer::Finished => 0,
         Answer::Unfinished => 255,
         Answer::Refused(n) => n,
+        Answer::BadLog(b) => b.number,
     }
 }
 

@@ -6,10 +6,14 @@ use volume::Outcome;
 use volume::State;
 use volume::ZoneRecord;
 ghost use mathlib.Core.Path.{_≡_};
+ghost use Prim.Native.Nat.{_+_, _*_, _<_};
 ghost use lib.ListN.{length};
 ghost use Rattle.tables.specs.meaning.Geometry.{Valid};
 ghost use Rattle.volume.specs.meaning.CallContracts.{answerNumber};
-ghost use Rattle.zrv.specs.meaning.EdgeCalls.{shapeOf, namedOf, sizesFit, stateBad, inputNumber, sizesNumber, unreadState, stateAfter};
+ghost use Rattle.zrv.specs.meaning.EdgeCalls.{shapeOf, namedOf, sizesFit, stateBad, inputNumber, sizesNumber, unreadState, stateAfter, withNumber, placeNumber};
+
+// What a number in the high 32 bits is multiplied by.
+pub const HIGH: u64 = 4294967296;
 
 // The geometry of a call's first five numbers.
 pub fn shape(drives: u32, sector_bytes: u32, unit: u32, zones: u32, zone_sectors: u32) -> Geometry
@@ -130,4 +134,35 @@ pub fn hand_back(g: Geometry, outcome: Outcome, bytes: &mut [u8]) -> u32
     }
     super::state::state_to(g, state, bytes);
     n
+}
+
+// A bad place as a number of 32 bits.
+fn place_of(drive: u8, zone: u8, sector: u16) -> u64
+    ensures { λ r. ⌜ (r ≡ drive * 16777216 + (zone * 65536 + sector)) × (r < 4294967296) ⌝ }
+{
+    (drive as u64) * 16777216 + ((zone as u64) * 65536 + (sector as u64))
+}
+
+// The place that an answer tells; 0 if it tells none.
+fn place_number(a: Answer) -> u64
+    ensures { λ r. ⌜ (r ≡ placeNumber a) × (r < 4294967296) ⌝ }
+{
+    match a {
+        Answer::Finished => 0,
+        Answer::Unfinished => 0,
+        Answer::Refused(_) => 0,
+        Answer::BadLog(b) => place_of(b.drive, b.zone, b.sector),
+    }
+}
+
+// Hands the outcome of a look or a mount back: its number, with the place that it tells, and the state's bytes where the call is finished.
+pub fn hand_back_placed(g: Geometry, outcome: Outcome, bytes: &mut [u8]) -> u64
+    requires { ⌜ Valid g ⌝ }
+    requires { ⌜ length (now bytes) ≡ 264 ⌝ }
+    ensures { λ r. ⌜ (r ≡ withNumber (answerNumber (outcome .answer)) (placeNumber (outcome .answer))) × (now (bytes .exit) ≡ stateAfter g outcome (now (bytes .entry))) ⌝ }
+{
+    let answer = outcome.answer;
+    let place = place_number(answer);
+    let n = hand_back(g, outcome, bytes);
+    (n as u64) + HIGH * place
 }

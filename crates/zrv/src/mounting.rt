@@ -40,7 +40,7 @@ pub extern "C" fn zrv_format(
     super::input::hand_back(g, outcome, state)
 }
 
-// Look: what the present drives show becomes the state. It stores nothing.
+// Look: what the present drives show becomes the state. It stores nothing. Refused for a log, it returns the bad place too.
 #[no_mangle]
 pub extern "C" fn zrv_look(
     drives: u32,
@@ -53,14 +53,14 @@ pub extern "C" fn zrv_look(
     written: &[u8],
     durable: &[u8],
     state: &mut [u8],
-) -> u32
+) -> u64
     ensures { λ r. ⌜ answered r (ranges (now (sectors .entry)) (now (written .entry)) (now (durable .entry)) (now (state .exit)))
         ≡ lookEdge (shapeOf drives «sector_bytes» unit zones «zone_sectors») named (ranges (now (sectors .entry)) (now (written .entry)) (now (durable .entry)) (now (state .entry))) ⌝ }
 {
     let g = super::input::shape(drives, sector_bytes, unit, zones, zone_sectors);
     let refusal = super::input::sizes_refusal(g, state.len(), written.len(), durable.len());
     if refusal != 0 {
-        return refusal;
+        return refusal as u64;
     }
     let n = tables::bounds::table_cells(g);
     let here = super::input::named_drives(named);
@@ -71,10 +71,10 @@ pub extern "C" fn zrv_look(
     let ds = &mut d[..n];
     super::words::tables_from(g, written, durable, ws, ds);
     let outcome = volume::looking::look(sectors, ws, ds, g, here, old);
-    super::input::hand_back(g, outcome, state)
+    super::input::hand_back_placed(g, outcome, state)
 }
 
-// Mount: brings the volume back after a cut. Finished, what it shows becomes the state.
+// Mount: brings the volume back after a cut. Finished, what it shows becomes the state. It returns as a look does.
 #[no_mangle]
 pub extern "C" fn zrv_mount(
     drives: u32,
@@ -88,14 +88,14 @@ pub extern "C" fn zrv_mount(
     written: &mut [u8],
     durable: &mut [u8],
     state: &mut [u8],
-) -> u32
+) -> u64
     ensures { λ r. ⌜ answered r (ranges (now (sectors .exit)) (now (written .exit)) (now (durable .exit)) (now (state .exit)))
         ≡ mountEdge (shapeOf drives «sector_bytes» unit zones «zone_sectors») named count (ranges (now (sectors .entry)) (now (written .entry)) (now (durable .entry)) (now (state .entry))) ⌝ }
 {
     let g = super::input::shape(drives, sector_bytes, unit, zones, zone_sectors);
     let refusal = super::input::sizes_refusal(g, state.len(), written.len(), durable.len());
     if refusal != 0 {
-        return refusal;
+        return refusal as u64;
     }
     let n = tables::bounds::table_cells(g);
     let here = super::input::named_drives(named);
@@ -108,5 +108,5 @@ pub extern "C" fn zrv_mount(
     let outcome = volume::mounting::mount(sectors, ws, ds, g, here, old, count);
     super::words::table_to(ws, written);
     super::words::table_to(ds, durable);
-    super::input::hand_back(g, outcome, state)
+    super::input::hand_back_placed(g, outcome, state)
 }

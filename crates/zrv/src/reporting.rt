@@ -11,10 +11,8 @@ ghost use Rattle.volume.specs.meaning.CallContracts.{viewState};
 ghost use Rattle.zrv.specs.meaning.Bytes.{descriptorTo};
 ghost use Rattle.zrv.specs.meaning.EdgeCalls.{shapeOf, answered, reportInput, filledBytes, reportEdge};
 
-// The bytes of a descriptor, and what the number of descriptors is multiplied by in what a report returns.
+// The bytes of a descriptor.
 const DESCRIPTOR: usize = 32;
-
-const HIGH: u64 = 4294967296;
 
 // What is refused before a report; 0 if nothing is.
 fn report_refusal(g: Geometry, state: &[u8]) -> u32
@@ -83,5 +81,5 @@ pub extern "C" fn zrv_report(
     let held = super::state::state_from(g, state);
     let n = volume::reporting::report_number(g, held, list.len() / DESCRIPTOR);
     fill_list(g, held, n, list);
-    HIGH * (n as u64)
+    super::input::HIGH * (n as u64)
 }

@@ -169,10 +169,10 @@ array-seen (closing kind gen ∷ hs) = refl
 -- ---- the torn entry
 pub torn-none : (l : Ending) (x : ℕ) → walkEndAt l x ≢ Torn x → Bad ≡ tornSeen l
 torn-none atPointer x h = refl
-torn-none noEntry x h = refl
+torn-none (noEntry f) x h = refl
 torn-none (torn hd rs) x h = absurd (h refl)
 
 pub torn-found : (g : Geometry) (d : ℕ) (par : Bool) (ss : List (List ℕ)) (l : Ending) (x p : ℕ) → EndsAt g d par ss l x → walkEndAt l x ≡ Torn p → (p < length ss) × (found (decode g d par (getD ss p [])) ≡ tornSeen l)
 torn-found g d par ss atPointer x p e h = absurd (let z : _≡_ {A = ℕ} 0 1 = cc in omega arith)
-torn-found g d par ss noEntry x p e h = absurd (let z : _≡_ {A = ℕ} 0 1 = cc in omega arith)
+torn-found g d par ss (noEntry f) x p e h = absurd (let z : _≡_ {A = ℕ} 0 1 = cc in omega arith)
 torn-found g d par ss (torn hd rs) x p e h = let q : x ≡ p = cc in (rw q at (e .0), rw q at (ap found (e .1)))

@@ -14,7 +14,7 @@ use Rattle.tables.specs.meaning.Lists.{anyOf}
 use Rattle.tables.specs.laws.Lists.{map-append}
 use Rattle.tables.specs.declared.Geometry.{Geometry}
 use Rattle.tables.specs.meaning.LittleEndian.{numberLE, numbersLE, readLE, sameBytes}
-use Rattle.logs.specs.meaning.Entry.{Header, label, counters, zoneReset, partialParity, seal, closing, Entry, legal, bad, readFields, kindOf, encode, fitsLog, decode}
+use Rattle.logs.specs.meaning.Entry.{Header, label, counters, zoneReset, partialParity, seal, closing, Entry, legal, bad, faultOf, readFields, kindOf, encode, fitsLog, decode}
 use Rattle.logs.specs.laws.Entry.{decode-legal}
 use Rattle.logs.specs.meaning.Walk.{walkLog}
 use Rattle.logs.specs.laws.Heads.{isCounters}
@@ -26,7 +26,7 @@ use Rattle.logs.specs.laws.Places.{lastPlace, LastSuch, last-place, walk
 fields-of-legal : (g : Geometry) (d : ℕ) (par : Bool) (s : List ℕ) (h : Header) → decode g d par s ≡ legal h → readFields g s ≡ h
 fields-of-legal g d par s h e = go (sameBytes (encode g d (readFields g s)) s && fitsLog g d par (readFields g s)) e
   where
-    go : (b : Bool) → pick b (legal (readFields g s)) bad ≡ legal h → readFields g s ≡ h
+    go : (b : Bool) → pick b (legal (readFields g s)) (bad (faultOf s)) ≡ legal h → readFields g s ≡ h
     go true q = cc
     go false q = absurd (let z : _≡_ {A = ℕ} 0 1 = cc in omega arith)
 

@@ -13,10 +13,11 @@ use Rattle.tables.specs.declared.Geometry.{Geometry}
 use Rattle.tables.specs.meaning.Basics.{pick}
 use Rattle.tables.specs.laws.Basics.{and-split}
 use Rattle.tables.specs.meaning.Geometry.{Valid, stripeSectors, zoneSectors, firstDriveOf, parityDriveOf}
+use Rattle.logs.specs.declared.Fault.{Fault}
 use Rattle.logs.specs.declared.Found.{Found}
 use Rattle.logs.specs.declared.Found.the-variants.{Bad, Label, Counters, Resets, Partial, Seal, Closing}
 use Rattle.tables.specs.meaning.LittleEndian.{numberLE, sameBytes}
-use Rattle.logs.specs.meaning.Entry.{Header, label, counters, zoneReset, partialParity, seal, closing, Decoded, legal, bad, encode, readFields, kindOf, startOf, endOf, genOf, kindOfLog, fitsLog, decode}
+use Rattle.logs.specs.meaning.Entry.{Header, label, counters, zoneReset, partialParity, seal, closing, Decoded, legal, bad, faultOf, encode, readFields, kindOf, startOf, endOf, genOf, kindOfLog, fitsLog, decode}
 use Rattle.logs.specs.laws.Entry.{typeOf}
 use Rattle.tables.specs.laws.Placement.{stripe-of-sum}
 use Rattle.tables.specs.laws.Sizes.{stripe-small, stripes-most, zone-small}
@@ -31,7 +32,7 @@ seen (closing kind gen) = Closing gen
 
 abbrev pub found : Decoded → Found
 found (legal h) = seen h
-found bad = Bad
+found (bad f) = Bad
 
 -- document 01's type of each case; 0 for none
 abbrev pub foundType : Found → ℕ
@@ -51,9 +52,9 @@ found-type (partialParity z s f n) = refl
 found-type (seal z p n) = refl
 found-type (closing kind gen) = refl
 
-found-pick : (b : Bool) (h : Header) → found (pick b (legal h) bad) ≡ pick b (seen h) Bad
-found-pick true h = refl
-found-pick false h = refl
+found-pick : (b : Bool) (h : Header) (f : Fault) → found (pick b (legal h) (bad f)) ≡ pick b (seen h) Bad
+found-pick true h f = refl
+found-pick false h f = refl
 
 pub and-false : (b : Bool) → b && false ≡ false
 and-false true = refl
@@ -62,7 +63,7 @@ and-false false = refl
 -- ---- by the fields
 module _ (g : Geometry) (d : ℕ) (par : Bool) (s : List ℕ) (h : Header) (e : readFields g s ≡ h) where
   pub judged : found (decode g d par s) ≡ pick (sameBytes (encode g d h) s && fitsLog g d par h) (seen h) Bad
-  judged = found-pick (sameBytes (encode g d (readFields g s)) s && fitsLog g d par (readFields g s)) (readFields g s) ∙ ap (λ (k : Header). pick (sameBytes (encode g d k) s && fitsLog g d par k) (seen k) Bad) e
+  judged = found-pick (sameBytes (encode g d (readFields g s)) s && fitsLog g d par (readFields g s)) (readFields g s) (faultOf s) ∙ ap (λ (k : Header). pick (sameBytes (encode g d k) s && fitsLog g d par k) (seen k) Bad) e
 
   pub judged-unfit : fitsLog g d par h ≡ false → Bad ≡ found (decode g d par s)
   judged-unfit f = sym (judged ∙ rw (f, and-false (sameBytes (encode g d h) s)) refl)

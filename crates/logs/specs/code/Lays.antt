@@ -1,5 +1,5 @@
 -- Bytes laid over a sector one after the other: the headers as the code writes them.
-use mathlib.Core.Path.{_≡_, refl, sym, ap, _∙_}
+use mathlib.Core.Path.{_≡_, refl, sym, ap, ap₂, _∙_}
 use mathlib.Core.Bool.{Bool, true, false, _&&_}
 use Prim.Native.Nat.{ℕ, zero, suc, _+_, _-_, _*_, _≤_, _<_}
 use native.Mathlib.Omega.{arith}
@@ -15,7 +15,7 @@ use Rattle.tables.specs.meaning.Lists.{overlay}
 use Rattle.tables.specs.laws.Lists.{lay-lay}
 use Rattle.tables.specs.meaning.LittleEndian.{bytesLE, wordsLE, sameBytes}
 use Rattle.tables.specs.laws.LittleEndian.{writeLE}
-use Rattle.logs.specs.meaning.Entry.{markBytes, frame, encode, label, counters, labelBytes}
+use Rattle.logs.specs.meaning.Entry.{mark, version, markBytes, marked, frame, encode, label, counters, labelBytes}
 use Rattle.tables.specs.declared.Geometry.{Geometry}
 use Rattle.tables.specs.meaning.Geometry.{log2, physicalZones}
 
@@ -142,6 +142,33 @@ pub mark-same : (k : ℕ) (s : List ℕ) → 8 ≤ length s
     → sameBytes (markBytes k) (take 8 s)
     ≡ eqb 90 (getD s 0 0) && (eqb 82 (getD s 1 0) && (eqb 86 (getD s 2 0) && (eqb k (getD s 3 0) && (eqb 1 (getD s 4 0) && (eqb 0 (getD s 5 0) && (eqb 0 (getD s 6 0) && eqb 0 (getD s 7 0)))))))
 mark-same k s h = ap (sameBytes (markBytes k)) (ones-are 7 s 0 h) ∙ rw (and-true (eqb 0 (getD s 7 0))) refl
+
+pub marked-same : (s : List ℕ) → 8 ≤ length s → marked s ≡ eqb 90 (getD s 0 0) && (eqb 82 (getD s 1 0) && (eqb 86 (getD s 2 0) && (eqb 1 (getD s 4 0) && eqb 0 (getD s 5 0))))
+unfolding marked
+marked-same s h =
+    ap₂ (λ (a b : List ℕ). sameBytes mark a && sameBytes version b) (ones-are 2 s 0 (omega arith)) (ones-are 1 s 4 (omega arith))
+    ∙ rw (and-true (eqb 86 (getD s 2 0)), and-true (eqb 0 (getD s 5 0))) (three (eqb 90 (getD s 0 0)) (eqb 82 (getD s 1 0)) (eqb 86 (getD s 2 0)) (eqb 1 (getD s 4 0) && eqb 0 (getD s 5 0)))
+  where
+    three : (a b c r : Bool) → (a && (b && c)) && r ≡ a && (b && (c && r))
+    three true true c r = refl
+    three true false c r = refl
+    three false b c r = refl
+
+pub mark-marked : (k : ℕ) (s : List ℕ) → 8 ≤ length s → sameBytes (markBytes k) (take 8 s) ≡ marked s && (eqb k (getD s 3 0) && (eqb 0 (getD s 6 0) && eqb 0 (getD s 7 0)))
+mark-marked k s h =
+    mark-same k s h
+    ∙ apart (eqb 90 (getD s 0 0)) (eqb 82 (getD s 1 0)) (eqb 86 (getD s 2 0)) (eqb k (getD s 3 0)) (eqb 1 (getD s 4 0)) (eqb 0 (getD s 5 0)) (eqb 0 (getD s 6 0) && eqb 0 (getD s 7 0))
+    ∙ ap (λ (b : Bool). b && (eqb k (getD s 3 0) && (eqb 0 (getD s 6 0) && eqb 0 (getD s 7 0)))) (sym (marked-same s h))
+  where
+    apart : (a b c i v z r : Bool) → a && (b && (c && (i && (v && (z && r))))) ≡ (a && (b && (c && (v && z)))) && (i && r)
+    apart true true true true true z r = refl
+    apart true true true true false z r = refl
+    apart true true true false true true r = refl
+    apart true true true false true false r = refl
+    apart true true true false false z r = refl
+    apart true true false i v z r = refl
+    apart true false c i v z r = refl
+    apart false b c i v z r = refl
 
 -- ---- labels and counters, as the code writes them over a header of zeros
 -- bytes 32 to 39 of a label

@@ -61,7 +61,7 @@ closingSeen (Closing gen) = gen
 
 abbrev pub tornSeen : Ending → Found
 tornSeen atPointer = Bad
-tornSeen noEntry = Bad
+tornSeen (noEntry f) = Bad
 tornSeen (torn h rs) = seen h
 
 -- ---- the answer x so far, after one more entry of each type

@@ -10,13 +10,14 @@ use Rattle.tables.specs.meaning.Basics.{pick}
 use lib.ListN.{length, getD, take, drop}
 use Rattle.tables.specs.laws.Below.{length-tabulate}
 use Rattle.tables.specs.declared.Geometry.{Geometry}
+use Rattle.logs.specs.declared.Fault.the-variants.{RowsPast}
 use Rattle.logs.specs.declared.Log.{Log}
 use Rattle.logs.specs.declared.Found.{Found}
 use Rattle.logs.specs.declared.WalkEnd.{WalkEnd}
 use Rattle.logs.specs.declared.WalkEnd.the-variants.{AtPointer, NoEntry, Torn}
 use Rattle.logs.specs.declared.Step.{Step}
 use Rattle.logs.specs.declared.Step.the-variants.{Left, Whole}
-use Rattle.logs.specs.meaning.Entry.{Header, Entry, Decoded, legal, bad, rowsOf, decode}
+use Rattle.logs.specs.meaning.Entry.{Header, Entry, Decoded, legal, bad, rowsOf, faultOf, decode}
 use Rattle.logs.specs.meaning.Walk.{Walked, withEntry, inZone, decodeAt}
 use Rattle.logs.specs.code.Judge.{seen, found}
 use Rattle.logs.specs.code.WalkCode.{logSectors, walkEndOf, rowsSeen, badSeen, leftAt, at-end, at-bad, at-torn, at-whole, stops-bad, stops-past, stops-torn, takes}
@@ -36,11 +37,11 @@ module _ (g : Geometry) (d : ℕ) (par : Bool) (ss : List (List ℕ)) (p : ℕ) 
   step-end e = sym (ap (stepOf g p) (at-end g d par ss p e))
 
   module _ (f : Found) (l : p < length ss) (e : f ≡ found (decode g d par (getD ss p []))) where
-    pub step-bad : badSeen f ≡ true → Left (NoEntry p) ≡ stepOf g p (leftAt g d par ss p)
+    pub step-bad : badSeen f ≡ true → Left (NoEntry p (faultOf (getD ss p []))) ≡ stepOf g p (leftAt g d par ss p)
     step-bad b = sym (ap (stepOf g p) (stops-bad g d par ss p f l e b))
 
-    pub step-past : g .capacity < p + 1 + rowsSeen g f → Left (NoEntry p) ≡ stepOf g p (leftAt g d par ss p)
-    step-past b = sym (ap (stepOf g p) (stops-past g d par ss p f l e b))
+    pub step-past : badSeen f ≡ false → g .capacity < p + 1 + rowsSeen g f → Left (NoEntry p RowsPast) ≡ stepOf g p (leftAt g d par ss p)
+    step-past c b = sym (ap (stepOf g p) (stops-past g d par ss p f l e c b))
 
     pub step-torn : badSeen f ≡ false → p + 1 + rowsSeen g f ≤ g .capacity → length ss < p + 1 + rowsSeen g f → Left (Torn p) ≡ stepOf g p (leftAt g d par ss p)
     step-torn b c k = sym (ap (stepOf g p) (stops-torn g d par ss p f l e b c k .1))
@@ -73,10 +74,10 @@ module _ (g : Geometry) (d : ℕ) (par : Bool) (ss : List (List ℕ)) where
     pub on : leftAt g d par ss p ≡ withEntry entry (leftAt g d par ss q)
 
   pub decode-in-zone : (p : ℕ) (r : Decoded) (h : Header) → inZone g p r ≡ legal h → r ≡ legal h
-  decode-in-zone p bad h e = absurd (let z : _≡_ {A = ℕ} 0 1 = cc in omega arith)
+  decode-in-zone p (bad f) h e = absurd (let z : _≡_ {A = ℕ} 0 1 = cc in omega arith)
   decode-in-zone p (legal k) h e = go (leb (p + suc (rowsOf g k)) (g .capacity)) e
     where
-      go : (b : Bool) → pick b (legal k) bad ≡ legal h → legal k ≡ legal h
+      go : (b : Bool) → pick b (legal k) (bad RowsPast) ≡ legal h → legal k ≡ legal h
       go true q = q
       go false q = absurd (let z : _≡_ {A = ℕ} 0 1 = cc in omega arith)
 
@@ -113,7 +114,7 @@ module _ (g : Geometry) (d : ℕ) (par : Bool) (ss : List (List ℕ)) where
             }
 
         here : (r : Decoded) → p < length ss → decodeAt g d par p (getD ss p []) ≡ r → Taken p f q
-        here bad l r = none (NoEntry p) (ap (stepOf g p) (at-bad g d par ss p l r))
+        here (bad k) l r = none (NoEntry p k) (ap (stepOf g p) (at-bad g d par ss p k l r))
         here (legal hd) l r = whole hd l r (decLt (length ss) (p + suc (rowsOf g hd)))
 
         at : Dec (p < length ss) → Taken p f q

@@ -1,6 +1,6 @@
 -- The walk by positions, as the code does it, over the sectors of a zone in the lent bytes.
 use mathlib.Core.Path.{_≡_, refl, sym, ap, ap₂, _∙_}
-use mathlib.Core.Bool.{Bool, true, false, true≢false}
+use mathlib.Core.Bool.{Bool, true, false, _&&_, true≢false}
 use Prim.Native.Nat.{ℕ, zero, suc, _+_, _-_, _*_, _≤_, _<_, min}
 use native.Mathlib.Omega.{arith}
 use mathlib.Core.List.{List, [], _∷_, _++_}
@@ -8,14 +8,18 @@ use lib.ListN.{length, getD, take, drop, length-drop, take-append-drop}
 use lib.Seq.{drop-length, drop-cons, drop-drop, length-take-le}
 use borrow.Author.Tests.{le-leb, lt-leb}
 use Rattle.tables.specs.declared.Geometry.{Geometry}
+use Rattle.tables.specs.meaning.Basics.{pick}
+use Rattle.tables.specs.meaning.LittleEndian.{sameBytes}
 use Rattle.tables.specs.meaning.Geometry.{physicalZones, totalBytes}
 use Rattle.tables.specs.meaning.Tables.{sectorNo, cell}
 use Rattle.tables.specs.meaning.Below.{tabulate}
+use Rattle.logs.specs.declared.Fault.{Fault}
+use Rattle.logs.specs.declared.Fault.the-variants.{RowsPast}
 use Rattle.logs.specs.declared.Found.{Found}
 use Rattle.logs.specs.declared.Found.the-variants.{Bad, Label, Counters, Resets, Partial, Seal, Closing}
 use Rattle.logs.specs.declared.WalkEnd.{WalkEnd}
 use Rattle.logs.specs.declared.WalkEnd.the-variants.{AtPointer, NoEntry, Torn}
-use Rattle.logs.specs.meaning.Entry.{Header, label, counters, zoneReset, partialParity, seal, closing, Decoded, legal, bad, rowsOf, decode}
+use Rattle.logs.specs.meaning.Entry.{Header, label, counters, zoneReset, partialParity, seal, closing, Decoded, legal, bad, rowsOf, faultOf, readFields, encode, fitsLog, decode}
 use Rattle.logs.specs.meaning.Walk.{Walked, withEntry, Ending, atPointer, noEntry, torn, between, inEntry, decodeAt, walk}
 use Rattle.logs.specs.laws.Walk.{step-zero, step-suc, walk-rows, walk-torn}
 use Rattle.logs.specs.code.Judge.{seen, found}
@@ -34,7 +38,7 @@ logSectors g d z xs n = tabulate (λ i. sectorNo (g .sector) xs (cell g d z * g 
 -- the end of a walk as the code has it: each case of Ending, with the position
 abbrev pub walkEndAt : Ending → ℕ → WalkEnd
 walkEndAt atPointer p = AtPointer p
-walkEndAt noEntry p = NoEntry p
+walkEndAt (noEntry f) p = NoEntry p f
 walkEndAt (torn h rs) p = Torn p
 
 abbrev pub walkEndOf : Walked → WalkEnd
@@ -43,13 +47,8 @@ walkEndOf w = walkEndAt (w .last) (w .position)
 -- its position
 abbrev pub endPlace : WalkEnd → ℕ
 endPlace (AtPointer p) = p
-endPlace (NoEntry p) = p
+endPlace (NoEntry p f) = p
 endPlace (Torn p) = p
-
-abbrev pub noEntryEnd : WalkEnd → Bool
-noEntryEnd (AtPointer p) = false
-noEntryEnd (NoEntry p) = true
-noEntryEnd (Torn p) = false
 
 -- the rows that follow what was found
 abbrev pub rowsSeen : Geometry → Found → ℕ
@@ -87,6 +86,14 @@ not-bad (partialParity z s f n) = refl
 not-bad (seal z p n) = refl
 not-bad (closing kind gen) = refl
 
+-- a sector that is no legal header says by its mark and version why
+pub decode-fault : (g : Geometry) (d : ℕ) (par : Bool) (s : List ℕ) (f : Fault) → decode g d par s ≡ bad f → f ≡ faultOf s
+decode-fault g d par s f e = go (sameBytes (encode g d (readFields g s)) s && fitsLog g d par (readFields g s)) e
+  where
+    go : (b : Bool) → pick b (legal (readFields g s)) (bad (faultOf s)) ≡ bad f → f ≡ faultOf s
+    go true q = absurd (let z : _≡_ {A = ℕ} 0 1 = cc in omega arith)
+    go false q = cc
+
 module _ (g : Geometry) (d : ℕ) (par : Bool) (ss : List (List ℕ)) where
   -- the walk that is left at p
   abbrev pub leftAt : ℕ → Walked
@@ -98,8 +105,8 @@ module _ (g : Geometry) (d : ℕ) (par : Bool) (ss : List (List ℕ)) where
   pub at-end : (p : ℕ) → p ≡ length ss → leftAt p ≡ record { entries = []; last = atPointer; position = p }
   at-end p e = let q : drop p ss ≡ [] = rw e (drop-length ss) in rw q refl
 
-  pub at-bad : (p : ℕ) → p < length ss → decodeAt g d par p (getD ss p []) ≡ bad → leftAt p ≡ record { entries = []; last = noEntry; position = p }
-  at-bad p h e = rw (next p h, walk) (rw e refl)
+  pub at-bad : (p : ℕ) (f : Fault) → p < length ss → decodeAt g d par p (getD ss p []) ≡ bad f → leftAt p ≡ record { entries = []; last = noEntry f; position = p }
+  at-bad p f h e = rw (next p h, walk) (rw e refl)
 
   pub at-torn : (p : ℕ) (h : Header) → p < length ss → decodeAt g d par p (getD ss p []) ≡ legal h → length ss < p + 1 + rowsOf g h
       → leftAt p ≡ record { entries = []; last = torn h (drop (suc p) ss); position = p }
@@ -135,18 +142,18 @@ module _ (g : Geometry) (d : ℕ) (par : Bool) (ss : List (List ℕ)) where
 
 -- ---- the same, by what the code has found at p
 module _ (g : Geometry) (d : ℕ) (par : Bool) (ss : List (List ℕ)) (p : ℕ) (f : Found) (l : p < length ss) (e : f ≡ found (decode g d par (getD ss p []))) where
-  pub stops-bad : badSeen f ≡ true → leftAt g d par ss p ≡ record { entries = []; last = noEntry; position = p }
-  stops-bad b = at-bad g d par ss p l (go (decode g d par (getD ss p [])) refl)
+  pub stops-bad : badSeen f ≡ true → leftAt g d par ss p ≡ record { entries = []; last = noEntry (faultOf (getD ss p [])); position = p }
+  stops-bad b = at-bad g d par ss p (faultOf (getD ss p [])) l (go (decode g d par (getD ss p [])) refl)
     where
-      go : (r : Decoded) → decode g d par (getD ss p []) ≡ r → decodeAt g d par p (getD ss p []) ≡ bad
-      go bad q = rw q refl
+      go : (r : Decoded) → decode g d par (getD ss p []) ≡ r → decodeAt g d par p (getD ss p []) ≡ bad (faultOf (getD ss p []))
+      go (bad k) q = rw q (ap bad (decode-fault g d par (getD ss p []) k q))
       go (legal h) q = absurd (let t : true ≡ false = sym b ∙ ap badSeen (e ∙ ap found q) ∙ not-bad h in true≢false t)
 
-  pub stops-past : g .capacity < p + 1 + rowsSeen g f → leftAt g d par ss p ≡ record { entries = []; last = noEntry; position = p }
-  stops-past b = at-bad g d par ss p l (go (decode g d par (getD ss p [])) refl)
+  pub stops-past : badSeen f ≡ false → g .capacity < p + 1 + rowsSeen g f → leftAt g d par ss p ≡ record { entries = []; last = noEntry RowsPast; position = p }
+  stops-past c b = at-bad g d par ss p RowsPast l (go (decode g d par (getD ss p [])) refl)
     where
-      go : (r : Decoded) → decode g d par (getD ss p []) ≡ r → decodeAt g d par p (getD ss p []) ≡ bad
-      go bad q = rw q refl
+      go : (r : Decoded) → decode g d par (getD ss p []) ≡ r → decodeAt g d par p (getD ss p []) ≡ bad RowsPast
+      go (bad k) q = absurd (let t : true ≡ false = sym (ap badSeen (e ∙ ap found q)) ∙ c in true≢false t)
       go (legal h) q =
           let k : rowsSeen g f ≡ rowsOf g h = ap (rowsSeen g) (e ∙ ap found q) ∙ rows-seen g h in
           rw q (rw (lt-leb (p + suc (rowsOf g h)) (g .capacity) (omega arith)) refl)
@@ -162,7 +169,7 @@ module _ (g : Geometry) (d : ℕ) (par : Bool) (ss : List (List ℕ)) (p : ℕ) 
   legal-here b c = go (decode g d par (getD ss p [])) refl
     where
       go : (r : Decoded) → decode g d par (getD ss p []) ≡ r → Legal
-      go bad q = absurd (let t : true ≡ false = sym (ap badSeen (e ∙ ap found q)) ∙ b in true≢false t)
+      go (bad k) q = absurd (let t : true ≡ false = sym (ap badSeen (e ∙ ap found q)) ∙ b in true≢false t)
       go (legal h) q =
           let k : rowsSeen g f ≡ rowsOf g h = ap (rowsSeen g) (e ∙ ap found q) ∙ rows-seen g h in
           record { head = h; here = q; reads = rw q (rw (le-leb (p + suc (rowsOf g h)) (g .capacity) (omega arith)) refl); rows = k }

@@ -11,7 +11,7 @@ use Rattle.tables.specs.laws.Basics.{and-split}
 use Rattle.tables.specs.laws.Lists.{mem-nil}
 use Rattle.tables.specs.meaning.LittleEndian.{sameBytes}
 use Rattle.tables.specs.declared.Geometry.{Geometry}
-use Rattle.logs.specs.meaning.Entry.{Header, label, counters, zoneReset, partialParity, seal, closing, Decoded, legal, bad, encode, readFields, decode, fitsLog, kindOfLog}
+use Rattle.logs.specs.meaning.Entry.{Header, label, counters, zoneReset, partialParity, seal, closing, Decoded, legal, bad, faultOf, encode, readFields, decode, fitsLog, kindOfLog}
 use Rattle.logs.specs.meaning.Heads.{firstClosing}
 use Rattle.logs.specs.laws.Walk.{Reads}
 use Rattle.logs.specs.laws.HeadLaws.{reads-fits}
@@ -38,7 +38,7 @@ one-kind g d false (closing kind gen) f = other-kind g d false kind gen f
 fields-of : (g : Geometry) (d : ℕ) (par : Bool) (s : List ℕ) (h : Header) → decode g d par s ≡ legal h → readFields g s ≡ h
 fields-of g d par s h e = go (sameBytes (encode g d (readFields g s)) s && fitsLog g d par (readFields g s)) e
   where
-    go : (b : Bool) → pick b (legal (readFields g s)) bad ≡ legal h → readFields g s ≡ h
+    go : (b : Bool) → pick b (legal (readFields g s)) (bad (faultOf s)) ≡ legal h → readFields g s ≡ h
     go true q = cc
     go false q = absurd (let o : _≡_ {A = ℕ} 0 1 = cc in omega arith)
 
@@ -46,7 +46,7 @@ and-none : (b : Bool) → b && false ≡ false
 and-none true = refl
 and-none false = refl
 
-pub other-bad : (g : Geometry) (d : ℕ) (par : Bool) (h : Header) → Reads g d par h → decode g d (not par) (encode g d h) ≡ bad
+pub other-bad : (g : Geometry) (d : ℕ) (par : Bool) (h : Header) → Reads g d par h → decode g d (not par) (encode g d h) ≡ bad (faultOf (encode g d h))
 other-bad g d par h r = rw (fields-of g d par (encode g d h) h r, one-kind g d par h (reads-fits g d par h r), and-none (sameBytes (encode g d h) (encode g d h))) refl
 
 -- a legal closing entry names its log's kind, and no generation 0

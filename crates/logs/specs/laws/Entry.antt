@@ -10,7 +10,7 @@ use Rattle.tables.specs.declared.Geometry.{Geometry}
 use Rattle.tables.specs.meaning.Geometry.{stripeSectors, zoneSectors}
 use Rattle.tables.specs.laws.LittleEndian.{Small, same-bytes-refl, same-bytes-eq}
 use Rattle.tables.specs.meaning.LittleEndian.{sameBytes}
-use Rattle.logs.specs.meaning.Entry.{wornGeneration, Header, label, counters, zoneReset, partialParity, seal, closing, encode, fitsLog, readFields, legal, bad, decode}
+use Rattle.logs.specs.meaning.Entry.{wornGeneration, Header, label, counters, zoneReset, partialParity, seal, closing, encode, fitsLog, readFields, legal, bad, faultOf, decode}
 
 -- document 01's number of each type, byte 3 of its header
 abbrev pub typeOf : Header → ℕ
@@ -45,7 +45,7 @@ decode-legal g d par s h q = go (sameBytes (encode g d (readFields g s)) s && fi
         let (p, f) = and-split (sameBytes (encode g d (readFields g s)) s) (fitsLog g d par (readFields g s)) e in
         (rw (← n) (same-bytes-eq (encode g d (readFields g s)) s p), rw (← n) f)
     go false e =
-        let m : bad ≡ legal h = rw e at q in
+        let m : bad (faultOf s) ≡ legal h = rw e at q in
         absurd (let z : _≡_ {A = ℕ} 0 1 = cc in omega arith)
 
 -- the fields of what was written are what was written

@@ -27,7 +27,7 @@ module _ (g : Geometry) (d : ℕ) (par : Bool) (ss : List (List ℕ)) where
   -- what stands where the walk is left
   abbrev pub EndsAt : Ending → ℕ → Type 0
   EndsAt atPointer x = x ≡ length ss
-  EndsAt noEntry x = (x < length ss) × (decodeAt g d par x (getD ss x []) ≡ bad)
+  EndsAt (noEntry f) x = (x < length ss) × (decodeAt g d par x (getD ss x []) ≡ bad f)
   EndsAt (torn h rs) x = (x < length ss) × (decode g d par (getD ss x []) ≡ legal h) × (rs ≡ drop (suc x) ss) × (length ss < x + suc (rowsOf g h))
 
   -- a walk from p: its entries stand one after the other from p on, and it is left right after them
@@ -54,7 +54,7 @@ module _ (g : Geometry) (d : ℕ) (par : Bool) (ss : List (List ℕ)) where
           rw (at-whole g d par ss p hd l r (omega arith)) (well-placed-step p e (leftAt g d par ss (p + suc (rowsOf g hd))) t (ih (p + suc (rowsOf g hd)) (omega arith) (omega arith)))
 
       here : (r : Decoded) → p < length ss → decodeAt g d par p (getD ss p []) ≡ r → ((q : ℕ) → q ≤ length ss → length ss ≤ q + k → WellPlaced q (leftAt g d par ss q)) → WellPlaced p (leftAt g d par ss p)
-      here bad l r ih = rw (at-bad g d par ss p l r) (well-placed-none p noEntry (l, r))
+      here (bad f) l r ih = rw (at-bad g d par ss p f l r) (well-placed-none p (noEntry f) (l, r))
       here (legal hd) l r ih = whole hd l r (decLt (length ss) (p + suc (rowsOf g hd))) ih
 
       at : Dec (p < length ss) → ((q : ℕ) → q ≤ length ss → length ss ≤ q + k → WellPlaced q (leftAt g d par ss q)) → WellPlaced p (leftAt g d par ss p)

@@ -13,6 +13,7 @@ use Rattle.tables.specs.laws.Below.{tabulate-cong}
 use Rattle.tables.specs.meaning.Tables.{Tables, cell, sectorAt, deviceOf}
 use Rattle.tables.specs.laws.Tables.{device-sectors}
 use Rattle.logs.specs.meaning.Entry.{Header, Entry, Decoded, legal, bad, rowsOf, encode}
+use Rattle.logs.specs.declared.Fault.{Fault}
 use Rattle.logs.specs.meaning.Walk.{Walked, withEntry, atPointer, noEntry, torn, WalkState, between, inEntry, walk, walkLog, decodeAt, sectorsOf}
 use Rattle.logs.specs.laws.Walk.{sectorsOfAll, Reads, Whole, WellFormedLog, logExtent, wholeEntries, endingOf, cutEntries, cut-flat, cut-lawful, cut-extent, walk-lawful, walk-one, read-at, walk-torn, step-zero, step-suc}
 use Rattle.logs.specs.code.WalkCode.{logSectors}
@@ -38,8 +39,8 @@ position-in-front (e ∷ es) w = position-in-front es w
 not-pointer : (h : Header) (rs : List (List ℕ)) → torn h rs ≡ atPointer → _≡_ {A = ℕ} 0 1
 not-pointer h rs e = cc
 
-no-pointer : noEntry ≡ atPointer → _≡_ {A = ℕ} 0 1
-no-pointer e = cc
+no-pointer : (f : Fault) → noEntry f ≡ atPointer → _≡_ {A = ℕ} 0 1
+no-pointer f e = cc
 
 module _ (g : Geometry) (d : ℕ) (par : Bool) where
   -- THE WALK GOES ON: where a log is whole up to its pointer, the walk of what follows it comes after its entries
@@ -72,7 +73,7 @@ module _ (g : Geometry) (d : ℕ) (par : Bool) where
           v ∙ w ∙ ap₂ (λ (es : List Entry) (y : ℕ). withEntries es (walk g d par y between ts)) (sym (ap (λ (l : Walked). l .entries) u)) next
 
       go : (r : Decoded) → decodeAt g d par x s ≡ r → Rest → Goal
-      go bad q ih = absurd (let w : walk g d par x between (s ∷ ss) ≡ record { entries = []; last = noEntry; position = x } = rw (q, walk) refl in let z = no-pointer (sym (ap (λ (l : Walked). l .last) w) ∙ e) in omega arith)
+      go (bad f) q ih = absurd (let w : walk g d par x between (s ∷ ss) ≡ record { entries = []; last = noEntry f; position = x } = rw (q, walk) refl in let z = no-pointer f (sym (ap (λ (l : Walked). l .last) w) ∙ e) in omega arith)
       go (legal h) q ih = rows h (rowsOf g h) q refl ih
   walk-goes-on (s ∷ ss) ts x (inEntry y h zero acc) e =
       let next : suc x + length ss ≡ x + suc (length ss) = omega arith in

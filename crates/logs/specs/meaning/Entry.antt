@@ -9,6 +9,8 @@ use Rattle.tables.specs.declared.Geometry.{Geometry}
 use Rattle.tables.specs.meaning.Geometry.{stripeSectors, zoneSectors, parityDriveOf, firstDriveOf, log2, physicalZones}
 use Rattle.tables.specs.meaning.Drives.{noDrive}
 use Rattle.tables.specs.meaning.LittleEndian.{bytesLE, numberLE, wordsLE, numbersLE, sameBytes}
+use Rattle.logs.specs.declared.Fault.{Fault}
+use Rattle.logs.specs.declared.Fault.the-variants.{NoMark, NotLegal, RowsPast}
 
 -- the physical zones of the two logs (document 01, "Placement"), and the one between them and the data, which takes a log's copies when the
 -- log is emptied; of a drive whose logs have moved, the zones by their roles
@@ -52,9 +54,13 @@ rowsOf g (closing kind gen) = zero
 abbrev pub mark : List ℕ
 mark = 90 ∷ 82 ∷ 86 ∷ []
 
+-- 16 bits
+abbrev pub version : List ℕ
+version = 1 ∷ 0 ∷ []
+
 -- the first eight bytes of a header
 abbrev pub markBytes : ℕ → List ℕ
-markBytes kind = mark ++ (kind ∷ 1 ∷ 0 ∷ 0 ∷ 0 ∷ [])
+markBytes kind = mark ++ (kind ∷ (version ++ (0 ∷ 0 ∷ [])))
 
 unfoldable pub frame : ℕ → ℕ → ℕ → ℕ → List ℕ → List ℕ
 frame kind start end gen rest = markBytes kind ++ (bytesLE 8 start ++ (bytesLE 8 end ++ (bytesLE 8 gen ++ rest)))
@@ -106,10 +112,25 @@ readFields g s =
     (pick (eqb (kindOf s) 6) (closing (startOf s) (genOf s))
     (label (getD s 36 0) (numberLE (take 8 (drop 48 s))))))))
 
+-- what a sector is, where an entry should begin; or why it is none
 pub data Decoded : Type 0 where
   legal : Header → Decoded
-  bad : Decoded
+  bad : Fault → Decoded
+
+-- the number by which look and mount refuse a log for it
+abbrev pub faultNumber : Fault → ℕ
+faultNumber NoMark = 6
+faultNumber NotLegal = 16
+faultNumber RowsPast = 17
+
+-- "a sector without the mark or with another version"
+unfoldable pub marked : List ℕ → Bool
+marked s = sameBytes mark (take 3 s) && sameBytes version (take 2 (drop 4 s))
+
+-- of a sector that is no legal header
+abbrev pub faultOf : List ℕ → Fault
+faultOf s = pick (marked s) NotLegal NoMark
 
 -- "an entry is legal if all its bytes are as said here and fit geometry, drive and log"
 abbrev pub decode : Geometry → ℕ → Bool → List ℕ → Decoded
-decode g d par s = pick (sameBytes (encode g d (readFields g s)) s && fitsLog g d par (readFields g s)) (legal (readFields g s)) bad
+decode g d par s = pick (sameBytes (encode g d (readFields g s)) s && fitsLog g d par (readFields g s)) (legal (readFields g s)) (bad (faultOf s))

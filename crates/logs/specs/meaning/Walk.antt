@@ -5,14 +5,16 @@ use mathlib.Core.List.{List, [], _∷_, _++_}
 use lib.Dec.{leb}
 use Rattle.tables.specs.meaning.Basics.{pick}
 use Rattle.tables.specs.declared.Geometry.{Geometry}
+use Rattle.logs.specs.declared.Fault.{Fault}
+use Rattle.logs.specs.declared.Fault.the-variants.{RowsPast}
 use Rattle.logs.specs.meaning.Entry.{Header, Entry, Decoded, legal, bad, rowsOf, encode, decode}
 
 pub data Ending : Type 0 where
   atPointer : Ending  -- at the written pointer
-  noEntry : Ending  -- at a sector that is no entry: not legal, or with rows past the zone's end
+  noEntry : Fault → Ending  -- at a sector that is no entry, and why: not legal, or with rows past the zone's end
   torn : Header → List (List ℕ) → Ending  -- at an entry whose rows reach past the written pointer
 
--- position: where the log's legal part ends
+-- position: the sector where the log's legal part ends
 pub record Walked : Type 0 where
   pub entries : List Entry
   pub last : Ending
@@ -28,8 +30,8 @@ pub data WalkState : Type 0 where
 
 -- the entry that begins at sector x, if its rows have room in the zone
 abbrev pub inZone : Geometry → ℕ → Decoded → Decoded
-inZone g x (legal h) = pick (leb (x + suc (rowsOf g h)) (g .capacity)) (legal h) bad
-inZone g x bad = bad
+inZone g x (legal h) = pick (leb (x + suc (rowsOf g h)) (g .capacity)) (legal h) (bad RowsPast)
+inZone g x (bad f) = bad f
 
 abbrev pub decodeAt : Geometry → ℕ → Bool → ℕ → List ℕ → Decoded
 decodeAt g d par x s = inZone g x (decode g d par s)
@@ -40,7 +42,7 @@ module _ (g : Geometry) (d : ℕ) (par : Bool) where
   walk x (inEntry y h k acc) [] = record { entries = []; last = torn h acc; position = y }
   walk x between (s ∷ ss) = elim (decodeAt g d par x s) [
     | legal h ↦ elim (rowsOf g h) [ zero ↦ withEntry (record { head = h; rows = [] }) (walk (suc x) between ss) | suc k ↦ walk (suc x) (inEntry x h k []) ss ]
-    | bad ↦ record { entries = []; last = noEntry; position = x }
+    | bad f ↦ record { entries = []; last = noEntry f; position = x }
   ]
   walk x (inEntry y h zero acc) (s ∷ ss) = withEntry (record { head = h; rows = acc ++ (s ∷ []) }) (walk (suc x) between ss)
   walk x (inEntry y h (suc k) acc) (s ∷ ss) = walk (suc x) (inEntry y h k (acc ++ (s ∷ []))) ss

@@ -1,7 +1,8 @@
 -- What an accepted call meets: no row of its table applies. So the logs that it asks for room have it, or can be emptied (RoomAsked), and an
 -- answer that is finished came of an accepted call. A refused one meets a row that applies. Of the drives named only those below D matter.
 use Rattle.volume.specs.meaning.Answers.{CallResult, storing, sectorsIn, presentIn, lostDriveIn}
-use Rattle.volume.specs.declared.Answer.the-variants.{Finished, Unfinished, Refused}
+use Rattle.volume.specs.declared.Answer.the-variants.{Finished, Unfinished, Refused, BadLog}
+use Rattle.volume.specs.declared.BadPlace.{BadPlace}
 use Rattle.volume.specs.laws.Refusals.{accepted-row}
 use Rattle.tables.specs.meaning.Device.{applyAll, Store, Device}
 use Rattle.tables.specs.meaning.GeometryTest.{isValid}
@@ -240,6 +241,18 @@ module _ (r : Verdict) (xs : List Store) (new old : StateView) (stop : ℕ) (v :
 
       go : (u : Verdict) → storing u xs new old stop v .answer ≡ Refused n → u ≡ refuse n
       go (refuse m) q = let k : m ≡ n = cc in ap refuse k
+      go accept q = by-count (ltb stop (length xs)) q
+
+  -- (the rules tell row 6 by its number)
+  pub storing-no-place : (b : BadPlace) → storing r xs new old stop v .answer ≢ BadLog b
+  storing-no-place b e = go r e
+    where
+      by-count : (c : Bool) → pick {A = CallResult Device StateView} c (record { answer = Unfinished; memory = applyAll (take stop xs) v; state = old }) (record { answer = Finished; memory = applyAll xs v; state = new }) .answer ≡ BadLog b → ⊥
+      by-count true q = absurd (let z : _≡_ {A = ℕ} 0 1 = cc in omega arith)
+      by-count false q = absurd (let z : _≡_ {A = ℕ} 0 1 = cc in omega arith)
+
+      go : (u : Verdict) → storing u xs new old stop v .answer ≡ BadLog b → ⊥
+      go (refuse m) q = absurd (let z : _≡_ {A = ℕ} 0 1 = cc in omega arith)
       go accept q = by-count (ltb stop (length xs)) q
 
   pub storing-finished : storing r xs new old stop v .answer ≡ Finished → (r ≡ accept) × (ltb stop (length xs) ≡ false)

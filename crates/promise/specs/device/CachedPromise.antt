@@ -19,6 +19,7 @@ module _ (g : Geometry) (vol : Volume) (k : Caches vol) (s : System (withCaches 
     look-fits = λ named n. let (e, f) = p .look-fits named (names-beneath named n) in (ap beside e, f);
     mount-fits = λ named n m stop e. p .mount-fits named (names-beneath named n) m stop e;
     mount-refused = λ named n stop i e. p .mount-refused named (names-beneath named n) stop i e;
+    mount-logs-good = λ named n stop b e. p .mount-logs-good named (names-beneath named n) stop b e;
     pointer-is = p .pointer-is;
     look-holds = λ named n m. let (e, z) = p .look-holds named (names-beneath named n) m in (e, record { generations = z .generations; conditions = z .conditions });
     flush-accepted = λ named n m stop i e. p .flush-accepted named (names-beneath named n) m stop i e;

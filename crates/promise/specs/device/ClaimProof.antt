@@ -3,7 +3,7 @@
 use Rattle.volume.specs.meaning.Refusals.{Verdict, goneIn, notHeld, badPointers, twoLost, kindLacks, badLabels, badLogs, refuse, accept, TableLengths, zoneOf, offsetOf, stateWithin, tablesFit, wornFor, goneBefore, goneForEntry, twoAbsent, stale, lookRows, mountRows, writeRows, flushRows, resetRows, readRows, peekRows, firstRefusal}
 use mathlib.Core.Logic.{_≢_, inl, inr}
 use mathlib.Core.Bool.{_||_, Bool, true, false, _&&_, not}
-use Rattle.promise.specs.device.AcceptedCalls.{Applies, refused-applies, storing-finished, storing-refused, two-same, pointers-same}
+use Rattle.promise.specs.device.AcceptedCalls.{Applies, refused-applies, storing-finished, storing-no-place, storing-refused, two-same, pointers-same}
 use Rattle.volume.specs.laws.Refusals.{accepted-row, passed, Numbered, numbered}
 use mathlib.Core.Path.{_≡_, refl, sym, ap, _∙_}
 use Prim.Native.Nat.{ℕ, zero, _+_, _-_, _*_, _≤_, _<_}
@@ -37,7 +37,8 @@ use Rattle.promise.specs.look.LookFits.{rest-known}
 use Rattle.tables.specs.meaning.Tables.{bufferFits}
 use Rattle.volume.specs.meaning.Answers.{CallResult, StoringCall, giving, Place, lookCall, placeOf, presentIn, lostDriveIn}
 use Rattle.volume.specs.meaning.CallContracts.{byteOf}
-use Rattle.volume.specs.declared.Answer.the-variants.{Finished, Refused}
+use Rattle.volume.specs.declared.Answer.the-variants.{Finished, Refused, BadLog}
+use Rattle.volume.specs.declared.BadPlace.{BadPlace}
 use Rattle.volume.specs.declared.ZoneDescriptor.{ZoneDescriptor}
 use Rattle.volume.specs.meaning.Report.{reportOn}
 use Rattle.volume.specs.laws.Report.{report-finished, report-same}
@@ -148,6 +149,9 @@ module _ (g : Geometry) (ok : Valid g) (t : TableLengths) (wb : isValid g ≡ tr
         by (inr (r1, inr (r2, inr (r3, inr (r4, inr (r5, inl (k, b))))))) = not-both _ b row-6
         by (inr (r1, inr (r2, inr (r3, inr (r4, inr (r5, inr (r6, inl (k, b)))))))) = k
         by (inr (r1, inr (r2, inr (r3, inr (r4, inr (r5, inr (r6, inr (r14, none)))))))) = absurd none
+
+    logs-claim : (stop : ℕ) (b : BadPlace) → onDevice g t .call mounts named (s .state) stop (s .memory) .answer ≢ BadLog b
+    logs-claim stop b = storing-no-place (firstRefusal (mountCalled .refusals)) (mountCalled .stores) (mountCalled .state) (s .state) stop (s .memory) b
 
     -- ---- flushes, resets and writes
     flush-claim : s .mode ≡ ready → (stop n : ℕ) → onDevice g t .call flushes named (s .state) stop (s .memory) .answer ≢ Refused n
@@ -310,6 +314,7 @@ module _ (g : Geometry) (ok : Valid g) (t : TableLengths) (wb : isValid g ≡ tr
     look-fits = look-claim;
     mount-fits = mount-claim;
     mount-refused = refused-claim;
+    mount-logs-good = logs-claim;
     pointer-is = pointer-claim;
     look-holds = held-claim;
     flush-accepted = flush-claim;

@@ -37,6 +37,7 @@ module _ (g : Geometry) (vol : Volume) (k : Caches vol) where
       look-fits = λ named n. let (e, f) = p .look-fits named (names named n) in (ap without e, f);
       mount-fits = λ named n m stop e. p .mount-fits named (names named n) m stop e;
       mount-refused = λ named n stop i e. p .mount-refused named (names named n) stop i e;
+      mount-logs-good = λ named n stop b e. p .mount-logs-good named (names named n) stop b e;
       pointer-is = p .pointer-is;
       look-holds = λ named n m. let (e, z) = p .look-holds named (names named n) m in (e, record { generations = z .generations; conditions = z .conditions });
       flush-accepted = λ named n m stop i e. p .flush-accepted named (names named n) m stop i e;

@@ -17,7 +17,8 @@ use Rattle.tables.specs.declared.Geometry.{Geometry}
 use Rattle.tables.specs.meaning.Geometry.{zoneSectors}
 use Rattle.logs.specs.meaning.Entry.{wornGeneration}
 use Rattle.volume.specs.declared.Answer.{Answer}
-use Rattle.volume.specs.declared.Answer.the-variants.{Finished, Unfinished, Refused}
+use Rattle.volume.specs.declared.Answer.the-variants.{Finished, Unfinished, Refused, BadLog}
+use Rattle.volume.specs.declared.BadPlace.{BadPlace}
 use Rattle.volume.specs.declared.Condition.{Condition}
 use Rattle.volume.specs.meaning.State.{pointerIn, isSealed, isWorn}
 use Rattle.volume.specs.meaning.Content.{at}
@@ -95,11 +96,13 @@ abbrev pub replyTo : Answer → Reply
 replyTo Finished = isFinished
 replyTo Unfinished = isUnfinished
 replyTo (Refused n) = isRefused
+replyTo (BadLog b) = isRefused
 
 abbrev pub modeAfter : Answer → Mode → Mode
 modeAfter Finished m = ready
 modeAfter Unfinished m = stopped
 modeAfter (Refused n) m = m
+modeAfter (BadLog b) m = m
 
 -- what the ledger is told of a call that shows k when it has finished
 abbrev pub noteOf : Geometry → Call → Shown → Reply → LedgerNote
@@ -154,6 +157,7 @@ abbrev pub NotStopped : Answer → Type 0
 NotStopped Finished = Unit {0}
 NotStopped Unfinished = ⊥
 NotStopped (Refused n) = Unit {0}
+NotStopped (BadLog b) = Unit {0}
 
 -- a later format is not stopped half way: the ledger says nothing of a volume that is half gone; and its array number has 64 bits
 abbrev pub Completes : Call → Answer → Type 0
@@ -216,6 +220,8 @@ pub record Promise (g : Geometry) (vol : Volume) (s : System vol) : Type 0 where
       r .answer ≡ Finished → (r .state ≡ vol .stateOf (vol .shows named (s .memory) (r .memory))) × Fits g (s .ledger) (vol .shows named (s .memory) (r .memory))
   -- a mount is refused by 14, log full, alone
   pub mount-refused : (named : vol .Names) → NamesAll g vol s named → (stop n : ℕ) → vol .call mounts named (s .state) stop (s .memory) .answer ≡ Refused n → n ≡ 14
+  -- so it meets no bad place of a log: never 6, 16 or 17
+  pub mount-logs-good : (named : vol .Names) → NamesAll g vol s named → (stop : ℕ) (b : BadPlace) → vol .call mounts named (s .state) stop (s .memory) .answer ≢ BadLog b
   -- between finished calls the state's pointers are the lengths of the contents
   pub pointer-is : s .mode ≡ ready → (z : ℕ) → z < g .zones → pointerHeld vol (s .state) z ≡ length (s .ledger .content z)
   -- and a look's state says of every zone what the host's says, and the drive that is lost: either may be handed on

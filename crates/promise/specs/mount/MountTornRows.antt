@@ -119,7 +119,7 @@ module _ (g : Geometry) (d : ℕ) where
   -- missing rows of a torn end
   abbrev lacking : Ending → ℕ
   lacking atPointer = zero
-  lacking noEntry = zero
+  lacking (noEntry f) = zero
   lacking (torn h rs) = rowsOf g h - length rs
 
   extend-lawful : (es : List Entry) (rs : List (List ℕ)) → WellFormedLog g d true es → length rs ≤ lacking (endingOf g d true es) → WellFormedLog g d true (extend es rs)
@@ -180,7 +180,7 @@ module _ (g : Geometry) (d : ℕ) where
 
 missing-length : (g : Geometry) (d : ℕ) (k : Shown) (T : Ending) → length (missingRows g k T) ≡ lacking g d T
 missing-length g d k atPointer = refl
-missing-length g d k noEntry = refl
+missing-length g d k (noEntry f) = refl
 missing-length g d k (torn (label y c) rs) = omega arith
 missing-length g d k (torn (counters cs) rs) = omega arith
 missing-length g d k (torn (zoneReset y n) rs) = omega arith

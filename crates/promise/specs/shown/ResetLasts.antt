@@ -15,7 +15,7 @@ use Rattle.tables.specs.meaning.Below.{tabulateFrom}
 use Rattle.tables.specs.laws.Lists.{mem-nil, mem-left, mem-right, mem-append}
 use Rattle.tables.specs.declared.Geometry.{Geometry}
 use Rattle.volume.specs.declared.Answer.{Answer}
-use Rattle.volume.specs.declared.Answer.the-variants.{Finished, Unfinished, Refused}
+use Rattle.volume.specs.declared.Answer.the-variants.{Finished, Unfinished, Refused, BadLog}
 use Rattle.volume.specs.meaning.Content.{at}
 use Rattle.volume.specs.meaning.Rules.{Shown}
 use Rattle.volume.specs.meaning.Refusals.{zoneOf, offsetOf}
@@ -86,6 +86,7 @@ module _ (g : Geometry) (vol : Volume) (z : ℕ) (hz : z < g .zones) where
   finished-answer Finished e = refl
   finished-answer Unfinished e = absurd (let q : _≡_ {A = ℕ} 0 1 = cc in omega arith)
   finished-answer (Refused n) e = absurd (let q : _≡_ {A = ℕ} 0 1 = cc in omega arith)
+  finished-answer (BadLog b) e = absurd (let q : _≡_ {A = ℕ} 0 1 = cc in omega arith)
 
   -- ---- one event
   event-among : (s : System vol) (e : Event vol) → Promise g vol s → Duty g vol s e → (new : List (List ℕ)) → Among (s .ledger) z new → Among (next g vol s e .ledger) z (new ++ writtenIn g vol z s e)

@@ -1,7 +1,9 @@
 -- A mount on the tables. Since its stores fit, those made on the tables are the rules', steps 10 and 11 included, which go by what the tables have become;
 -- so a mount keeps the invariant, and what it shows is what the rules' mount shows.
 use mathlib.Core.Path.{_≡_, refl, sym, ap, _∙_}
+use mathlib.Core.Logic.{_≢_, inl, inr}
 use mathlib.Core.Bool.{Bool, false}
+use native.Mathlib.Omega.{arith}
 use Prim.Native.Nat.{ℕ}
 use mathlib.Core.List.{List}
 use lib.ListN.{length}
@@ -9,23 +11,29 @@ use lib.Dec.{ltb}
 use borrow.Author.Tests.{ltb-false}
 use Rattle.tables.specs.declared.Geometry.{Geometry}
 use Rattle.tables.specs.meaning.Geometry.{Valid}
+use Rattle.tables.specs.meaning.GeometryTest.{isValid}
+use Rattle.tables.specs.laws.Basics.{not-not}
+use Rattle.tables.specs.laws.TablesFrame.{sized-lengths}
 use Rattle.tables.specs.meaning.Device.{Device, Store}
 use Rattle.tables.specs.meaning.Tables.{Tables, deviceOf, runStores}
 use Rattle.tables.specs.laws.Made.{FitsAll}
 use Rattle.tables.specs.laws.Counted.{run-covered}
 use Rattle.volume.specs.declared.State.{State}
 use Rattle.volume.specs.looking.DrivesLost.{fill-long}
-use Rattle.volume.specs.meaning.CallContracts.{zoneLookOf, blankRecord, viewState, isSet, lengthsOf, recordFrom, stateShown, mountStoresOn, mountShownOn, mountOn}
+use Rattle.volume.specs.meaning.CallContracts.{zoneLookOf, blankRecord, viewState, isSet, lengthsOf, recordFrom, stateShown, mountStoresOn, mountShownOn, mountOn, verdictNumber, storingOn, badPlaceOn}
 use Rattle.volume.specs.declared.Answer.the-variants.{Finished, Refused}
 use Rattle.volume.specs.meaning.Rules.{Shown, showing}
 use Rattle.volume.specs.meaning.Roles.{roles, byRoles}
-use Rattle.volume.specs.meaning.Answers.{presentIn, lostDriveIn}
-use Rattle.volume.specs.meaning.Refusals.{Verdict, accept, firstRefusal, mountRows, badPointers}
+use Rattle.volume.specs.meaning.Answers.{presentIn, lostDriveIn, storing}
+use Rattle.volume.specs.laws.BadPlaces.{told-plain, told-finished}
+use Rattle.volume.specs.meaning.Refusals.{Verdict, refuse, accept, firstRefusal, mountRows, badPointers}
 use Rattle.volume.specs.meaning.Mount.{mountStores, mountShows, mountState}
 use Rattle.promise.specs.meaning.Ledger.{Fits}
 use Rattle.promise.specs.meaning.Claim.{mounts, System, NamesAll, Promise, MayMount}
 use Rattle.promise.specs.meaning.OnDevice.{onDevice}
 use Rattle.promise.specs.meaning.OnTables.{onTables, shownIn}
+use Rattle.promise.specs.device.AcceptedCalls.{Applies, refused-applies}
+use Rattle.promise.specs.device.ClaimProof.{kept}
 use Rattle.promise.specs.tables.CallVerdicts.{mount-verdict, mount-numbered}
 use Rattle.volume.specs.laws.MountStoresFit.{mount-stores-fit, mount-stores-are}
 use Rattle.volume.specs.looking.Looking.{state-shown-in, state-shown-lost}
@@ -78,13 +86,32 @@ module _ (g : Geometry) (ok : Valid g) (s : System (onTables g)) (o : TablesOk g
       ap (λ (u : Tables). showing g present lost (byRoles g (deviceOf g u))) (sym (run-covered g stop ss t (rw (same p) (ltb-false stop (length xs) e))))
       ∙ ap (λ (u : Device). showing g present lost (byRoles g u)) (all-made g t verdict (mount-numbered g named t) ss xs new (s .state) (mountState (mountShows g present lost w)) stop (o .sized) same fits p e)
 
+  -- no log is bad, so it tells no place
+  not-six : verdict ≢ refuse 6
+  unfolding mountRows
+  not-six e = by (refused-applies (mountRows g (lengthsOf t) (badPointers g (isSet named) w) (isSet named) (roles g w) (byRoles g w)) 6 e)
+    where
+      by : Applies (mountRows g (lengthsOf t) (badPointers g (isSet named) w) (isSet named) (roles g w) (byRoles g w)) 6 → ⊥
+      by (inl (k, b)) = absurd (omega (arith, k))
+      by (inr (r1, rest)) =
+          let promised = kept g ok (lengthsOf t) (not-not (isValid g) r1) (sized-lengths g t (o .sized)) (viewSystem g s) (o .holds) in
+          let z = promised .mount-refused (isSet named) (names-seen g s named n) 0 6 (ap (λ (r : Verdict). storing r xs (mountState (mountShows g present lost w)) (viewState (s .state)) 0 w .answer) e) in
+          absurd (omega (arith, z))
+
+  number-not-six : verdictNumber verdict ≢ 6
+  number-not-six z = go verdict refl z
+    where
+      go : (u : Verdict) → verdict ≡ u → verdictNumber u ≡ 6 → ⊥
+      go accept p q = absurd (omega (arith, q))
+      go (refuse k) p q = not-six (p ∙ ap refuse q)
+
   pub mount-refines : (stop : ℕ) → Refines g s mounts named stop
   unfolding mountOn mountShownOn
   mount-refines stop = record {
     verdict = verdict;
     stores = ss;
     new = new;
-    result-is = rw (mount-verdict g named t (pointers-fine g s named n o)) refl;
+    result-is = rw (mount-verdict g named t (pointers-fine g s named n o)) (told-plain g (badPlaceOn g named t) (verdictNumber verdict) ss new (s .state) stop t number-not-six);
     verdict-is = refl;
     has-number = mount-numbered g named t;
     same = same;
@@ -98,7 +125,7 @@ module _ (g : Geometry) (ok : Valid g) (s : System (onTables g)) (o : TablesOk g
   unfolding mountOn mountShownOn
   state-is stop e =
       let v = mount-verdict g named t (pointers-fine g s named n o) in
-      let (p, q) = answer-finished g verdict (mount-numbered g named t) ss new (s .state) stop t (rw v at e) in
+      let (p, q) = answer-finished g verdict (mount-numbered g named t) ss new (s .state) stop t (told-finished (badPlaceOn g named t) (storingOn g (verdictNumber verdict) ss new (s .state) stop t .outcome .answer) (rw v at e)) in
       rw (v, p, q) (ap (λ (u : Tables). stateShown g (showing g present lost (byRoles g (deviceOf g u)))) (sym (run-covered g stop ss t (ltb-false stop (length ss) q))))
 
   -- a finished mount shows what fits

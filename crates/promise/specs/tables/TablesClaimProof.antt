@@ -218,6 +218,7 @@ module _ (g : Geometry) (ok : Valid g) (wb : isValid g ≡ true) where
         look-fits = look-claim g ok wb s o;
         mount-fits = λ named n m stop e. mount-claim g ok s o named n promised m stop e;
         mount-refused = λ named n stop k e. mount-refusal g ok s o named n promised stop k e;
+        mount-logs-good = λ named n stop b e. promised .mount-logs-good (isSet named) (names-seen g s named n) stop b (call-agrees g ok s o mounts named stop (mount-refines g ok s o named n stop) .answer-same ∙ e);
         pointer-is = promised .pointer-is;
         look-holds = held-claim g ok wb s o;
         flush-accepted = λ named n m stop k e. promised .flush-accepted (isSet named) (names-seen g s named n) m stop k (call-agrees g ok s o flushes named stop (flush-refines g ok s o named n stop) .answer-same ∙ e);

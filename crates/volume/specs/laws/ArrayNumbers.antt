@@ -8,7 +8,7 @@ use lib.ListN.{take, replicate, length-take}
 use Rattle.tables.specs.declared.Geometry.{Geometry}
 use Rattle.tables.specs.meaning.Basics.{pick}
 use Rattle.tables.specs.meaning.LittleEndian.{sameBytes, numberLE, bytesLE}
-use Rattle.logs.specs.meaning.Entry.{Header, Entry, label, counters, zoneReset, partialParity, seal, closing, legal, bad, encode, frame, labelBytes, readFields, kindOf, decode, fitsLog}
+use Rattle.logs.specs.meaning.Entry.{Header, Entry, label, counters, zoneReset, partialParity, seal, closing, legal, bad, faultOf, encode, frame, labelBytes, readFields, kindOf, decode, fitsLog}
 use Rattle.logs.specs.meaning.Walk.{walkLog}
 use Rattle.logs.specs.meaning.Heads.{arrayIn}
 use Rattle.logs.specs.laws.Legal.{legal-reads-back}
@@ -19,7 +19,7 @@ use Rattle.volume.specs.laws.ByteLists.{bytes-append, bytes-take, bytes-
 fields-are : (g : Geometry) (d : ℕ) (par : Bool) (s : List ℕ) (h : Header) → decode g d par s ≡ legal h → readFields g s ≡ h
 fields-are g d par s h e = go (sameBytes (encode g d (readFields g s)) s && fitsLog g d par (readFields g s)) e
   where
-    go : (b : Bool) → pick b (legal (readFields g s)) bad ≡ legal h → readFields g s ≡ h
+    go : (b : Bool) → pick b (legal (readFields g s)) (bad (faultOf s)) ≡ legal h → readFields g s ≡ h
     go true q = cc
     go false q = absurd (let z : _≡_ {A = ℕ} 0 1 = cc in omega arith)
 

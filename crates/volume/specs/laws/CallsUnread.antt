@@ -1,24 +1,27 @@
 -- Nor do refusals, calls and the steps of a mount read where a geometry places the logs (the rules: RulesUnread; emptyings: EmptyingUnread; a mount: MountUnread). Their stores go to the zones by role; where these
 -- lie is the tables' business (LogPlaces: `run-at`).
-use mathlib.Core.Path.{_≡_, refl, ap, fun-ext}
-use mathlib.Core.Bool.{Bool}
+use mathlib.Core.Path.{_≡_, refl, ap, ap₂, fun-ext}
+use mathlib.Core.Bool.{Bool, true, false}
 use Prim.Native.Nat.{ℕ, _+_}
 use mathlib.Core.List.{List, [], _∷_, _++_}
 use Rattle.tables.specs.declared.Geometry.{Geometry}
+use Rattle.tables.specs.meaning.Basics.{pick}
 use Rattle.tables.specs.meaning.Device.{Device, Store}
 use Rattle.tables.specs.meaning.Geometry.{zoneSectors}
 use Rattle.tables.specs.meaning.Tables.{lengthsFit, bufferFits}
-use Rattle.logs.specs.meaning.Entry.{label, counters, zoneReset, partialParity, seal, closing, Entry}
-use Rattle.logs.specs.meaning.Walk.{Ending, atPointer, noEntry, torn, sectorsOf}
+use Rattle.logs.specs.meaning.Entry.{generalZone, parityZone, label, counters, zoneReset, partialParity, seal, closing, Entry}
+use Rattle.logs.specs.meaning.Walk.{Walked, Ending, atPointer, noEntry, torn, sectorsOf}
 use Rattle.volume.specs.meaning.State.{StateView, callPresent}
 use Rattle.volume.specs.meaning.Content.{entryAt}
 use Rattle.volume.specs.meaning.Rules.{Shown}
-use Rattle.volume.specs.meaning.Refusals.{TableLengths, stateWithin, tablesFit, badPointers, twoLost, twoAbsent, twoUnnamed, badLabels, kindLacks, badLogs, stale, noZone, badRun, goneIn, goneBefore, notHeld}
+use Rattle.volume.specs.meaning.Refusals.{noBadPlace, badPlaceIn, lowerFirst, firstBadPlace, driveBadPlace, TableLengths, stateWithin, tablesFit, badPointers, twoLost, twoAbsent, twoUnnamed, badLabels, kindLacks, badLogs, stale, noZone, badRun, goneIn, goneBefore, notHeld}
 use Rattle.volume.specs.meaning.Calls.{writeWith, zoneContent, writeStores, flushStores, resetStores, formatStores}
 use Rattle.volume.specs.meaning.Roles.{Roles}
 use Rattle.volume.specs.meaning.Mount.{spareStep, labelStep, resetEntryStep, zoneResetStep, countersDiffer, counterStep, sealStep, missingRows, tornRowStep, fillStep, entryStep, withFlush, withFlushes, afterOpening}
 use Rattle.volume.specs.laws.LogPlaces.{withLogs}
-use Rattle.volume.specs.laws.LogsUnread.{encode-alike}
+use Rattle.volume.specs.declared.BadPlace.{BadPlace}
+use Rattle.volume.specs.laws.BadPlaces.{first-below-cong}
+use Rattle.volume.specs.laws.LogsUnread.{walk-log-alike, encode-alike}
 use Rattle.volume.specs.laws.RulesUnread.{heads-alike, general-ending-alike, entries-alike, parity-ending-alike, is-lost-alike, zone-view-alike, value-at, ends-at-alike}
 
 module _ (g : Geometry) (n : ℕ) where
@@ -62,6 +65,17 @@ module _ (g : Geometry) (n : ℕ) where
   pub bad-logs-alike : (present : ℕ → Bool) (v : Device) → badLogs (withLogs g n) present v ≡ badLogs g present v
   unfolding badLogs
   bad-logs-alike present v = simp (general-ending-alike g n, parity-ending-alike g n)
+
+  drive-place-alike : (placed : ℕ → ℕ) (v : Device) (d : ℕ) → driveBadPlace (withLogs g n) placed v d ≡ driveBadPlace g placed v d
+  unfolding driveBadPlace
+  drive-place-alike placed v d =
+      ap₂ (λ (a b : Walked). lowerFirst (placed generalZone) (placed parityZone) (badPlaceIn d (placed generalZone) a) (badPlaceIn d (placed parityZone) b)) (walk-log-alike g n d false (v d generalZone .sectors)) (walk-log-alike g n d true (v d parityZone .sectors))
+
+  pub bad-place-alike : (present : ℕ → Bool) (placed : ℕ → ℕ → ℕ) (v : Device) → firstBadPlace (withLogs g n) present placed v ≡ firstBadPlace g present placed v
+  unfolding firstBadPlace
+  bad-place-alike present placed v =
+      first-below-cong (λ d. pick (present d) (driveBadPlace (withLogs g n) (placed d) v d) noBadPlace) (λ d. pick (present d) (driveBadPlace g (placed d) v d) noBadPlace) (g .drives)
+      (λ d h. ap (λ (x : BadPlace). pick (present d) x noBadPlace) (drive-place-alike (placed d) v d))
 
   pub stale-alike : (present : ℕ → Bool) (v : Device) (state : StateView) (z : ℕ) → stale (withLogs g n) present v state z ≡ stale g present v state z
   unfolding stale
@@ -149,7 +163,7 @@ module _ (g : Geometry) (n : ℕ) where
 
   missing-rows-alike : (k : Shown) (l : Ending) → missingRows (withLogs g n) k l ≡ missingRows g k l
   missing-rows-alike k atPointer = refl
-  missing-rows-alike k noEntry = refl
+  missing-rows-alike k (noEntry f) = refl
   missing-rows-alike k (torn (label x a) rs) = refl
   missing-rows-alike k (torn (counters cs) rs) = refl
   missing-rows-alike k (torn (zoneReset z m) rs) = refl

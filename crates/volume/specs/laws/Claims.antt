@@ -9,7 +9,7 @@ use lib.Dec.{ltb, eqb}
 use borrow.Author.Tests.{eq-eqb, ne-eqb, lt-ltb}
 use Rattle.tables.specs.meaning.Basics.{pick}
 use Rattle.tables.specs.declared.Geometry.{Geometry}
-use Rattle.logs.specs.meaning.Entry.{Header, Entry, bad, encode, kindOfLog}
+use Rattle.logs.specs.meaning.Entry.{Header, Entry, bad, faultOf, encode, kindOfLog}
 use Rattle.logs.specs.meaning.Heads.{firstClosing}
 use Rattle.logs.specs.meaning.Walk.{Walked, walk, between, noEntry, decodeAt, inZone}
 use Rattle.logs.specs.laws.Walk.{Reads}
@@ -25,8 +25,8 @@ none-claims-none g d par = refl
 pub other-claims-none : (g : Geometry) (d : ℕ) (par : Bool) (h : Header) (ss : List (List ℕ)) → Reads g d par h → claim g d (not par) (encode g d h ∷ ss) ≡ 0
 unfolding claim
 other-claims-none g d par h ss r =
-    let q : decodeAt g d (not par) zero (encode g d h) ≡ bad = ap (inZone g zero) (other-bad g d par h r) in
-    let w : walk g d (not par) zero between (encode g d h ∷ ss) ≡ record { entries = []; last = noEntry; position = zero } = rw (q, walk) refl in
+    let q : decodeAt g d (not par) zero (encode g d h) ≡ bad (faultOf (encode g d h)) = ap (inZone g zero) (other-bad g d par h r) in
+    let w : walk g d (not par) zero between (encode g d h ∷ ss) ≡ record { entries = []; last = noEntry (faultOf (encode g d h)); position = zero } = rw (q, walk) refl in
     ap (λ (k : Walked). firstClosing (map (λ (e : Entry). e .head) (k .entries))) w
 
 pub blank-strength : (g : Geometry) (d : ℕ) (par : Bool) (y : ℕ) → strength g d par y [] ≡ strengthBy 0 0 par y

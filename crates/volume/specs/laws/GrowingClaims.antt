@@ -13,6 +13,7 @@ use Rattle.tables.specs.meaning.Basics.{pick}
 use Rattle.tables.specs.laws.Lists.{map-append}
 use Rattle.logs.specs.meaning.Entry.{Header, label, counters, zoneReset, partialParity, seal, closing, Entry, Decoded, legal, bad, rowsOf, decode, readFields}
 use Rattle.logs.specs.meaning.Heads.{firstClosing}
+use Rattle.logs.specs.declared.Fault.the-variants.{RowsPast}
 use Rattle.logs.specs.meaning.Walk.{Walked, Ending, atPointer, noEntry, torn, WalkState, between, inEntry, inZone, decodeAt, walk, walkLog}
 use Rattle.logs.specs.laws.Walk.{wholeEntries, logExtent, walk-lawful, walk-rows, step-zero, step-suc, extent-whole}
 use Rattle.logs.specs.laws.WalkLaws.{entries-in-front, walk-goes-on}
@@ -109,7 +110,7 @@ module _ (g : Geometry) (d : ℕ) where
           ap first w ∙ ih (suc x) (inEntry x i n []) (omega (arith, r)) (sym (ap (λ (b : Walked). b .last) u) ∙ e) (rw next at k) ∙ sym (ap first u)
 
       go : (r : Decoded) → decodeAt g d true x s ≡ r → Rest → Goal
-      go bad q ih = absurd (let w : walk g d true x between (s ∷ ss) ≡ record { entries = []; last = noEntry; position = x } = rw (q, walk) refl in none-not-torn h rs (sym (ap (λ (b : Walked). b .last) w) ∙ e))
+      go (bad f) q ih = absurd (let w : walk g d true x between (s ∷ ss) ≡ record { entries = []; last = noEntry f; position = x } = rw (q, walk) refl in none-not-torn f h rs (sym (ap (λ (b : Walked). b .last) w) ∙ e))
       go (legal i) q ih = rows i (rowsOf g i) q refl ih
   torn-kept h rs ms ts (s ∷ ss) x (inEntry y i zero acc) c e l k =
       let next : x + suc (length ss) + length ms ≡ suc x + length ss + length ms = omega arith in
@@ -138,15 +139,15 @@ module _ (g : Geometry) (d : ℕ) where
           ap (λ (us : List (List ℕ)). first (walkLog g d true (ss ++ us))) m ∙ ap first w ∙ ap (λ (es : List Entry). firstClosing (map (λ (e : Entry). e .head) es)) (entries-in-front (walkLog g d true ss .entries) (walk g d true (zero + length ss) between ts))
           ∙ ap firstClosing (map-append (λ (e : Entry). e .head) (walkLog g d true ss .entries) (walk g d true (zero + length ss) between ts .entries))
           ∙ first-front (headsOf (walkLog g d true ss)) (headsOf (walk g d true (zero + length ss) between ts)) (rw z at rest)
-      go noEntry e q = absurd q
+      go (noEntry f) e q = absurd q
       go (torn h rs) e q = torn-kept h rs ms ts ss zero between tt e q rest
 
 -- ---- a whole log of one kind, in a walk for the other
 in-zone-legal : (g : Geometry) (x : ℕ) (r : Decoded) (h : Header) → inZone g x r ≡ legal h → r ≡ legal h
-in-zone-legal g x bad h e = absurd (let o : _≡_ {A = ℕ} 0 1 = cc in omega arith)
+in-zone-legal g x (bad f) h e = absurd (let o : _≡_ {A = ℕ} 0 1 = cc in omega arith)
 in-zone-legal g x (legal k) h e = go (leb (x + suc (rowsOf g k)) (g .capacity)) e
   where
-    go : (b : Bool) → pick b (legal k) bad ≡ legal h → legal k ≡ legal h
+    go : (b : Bool) → pick b (legal k) (bad RowsPast) ≡ legal h → legal k ≡ legal h
     go true q = q
     go false q = absurd (let o : _≡_ {A = ℕ} 0 1 = cc in omega arith)
 
@@ -160,8 +161,8 @@ whole-claims-other g d par (s ∷ ss) e = go (decodeAt g d par zero s) refl (dec
     both false h i a b = fits-one-kind g d (readFields g s) (read-fits g d false s h a) (read-fits g d true s i b)
 
     go : (r : Decoded) → decodeAt g d par zero s ≡ r → (q : Decoded) → decodeAt g d (not par) zero s ≡ q → firstClosing (headsOf (walkLog g d (not par) (s ∷ ss))) ≡ 0
-    go r a bad b = let w : walk g d (not par) zero between (s ∷ ss) ≡ record { entries = []; last = noEntry; position = zero } = rw (b, walk) refl in ap (λ (k : Walked). firstClosing (headsOf k)) w
-    go bad a (legal i) b =
-        let w : walk g d par zero between (s ∷ ss) ≡ record { entries = []; last = noEntry; position = zero } = rw (a, walk) refl in
-        absurd (let z : atPointer ≡ noEntry = sym e ∙ ap (λ (k : Walked). k .last) w in let o : _≡_ {A = ℕ} 0 1 = cc in omega arith)
+    go r a (bad f) b = let w : walk g d (not par) zero between (s ∷ ss) ≡ record { entries = []; last = noEntry f; position = zero } = rw (b, walk) refl in ap (λ (k : Walked). firstClosing (headsOf k)) w
+    go (bad f) a (legal i) b =
+        let w : walk g d par zero between (s ∷ ss) ≡ record { entries = []; last = noEntry f; position = zero } = rw (a, walk) refl in
+        absurd (let z : atPointer ≡ noEntry f = sym e ∙ ap (λ (k : Walked). k .last) w in let o : _≡_ {A = ℕ} 0 1 = cc in omega arith)
     go (legal h) a (legal i) b = absurd (both par h i (in-zone-legal g zero (decode g d par s) h a) (in-zone-legal g zero (decode g d (not par) s) i b))

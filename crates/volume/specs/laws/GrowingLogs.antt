@@ -10,6 +10,7 @@ use lib.ListN.{length, getD, length-append}
 use Rattle.tables.specs.declared.Geometry.{Geometry}
 use Rattle.tables.specs.laws.Lists.{map-append, mem-nil}
 use Rattle.logs.specs.meaning.Entry.{Header, closing, Entry, Decoded, legal, bad, rowsOf, encode}
+use Rattle.logs.specs.declared.Fault.{Fault}
 use Rattle.logs.specs.meaning.Walk.{Walked, Ending, atPointer, noEntry, torn, WalkState, between, inEntry, decodeAt, walk, walkLog, sectorsOf}
 use Rattle.logs.specs.laws.Walk.{sectorsOfAll, sectors-of-append, Reads, Whole, WellFormedLog, logExtent, walk-lawful, walk-rows, step-zero, step-suc, lawful-joins, extent-whole}
 use Rattle.logs.specs.laws.WalkLaws.{entries-in-front, last-in-front, walk-goes-on, walk-of-append, AllWhole}
@@ -23,8 +24,8 @@ use Rattle.logs.specs.code.Query.{headsOf}
 pub pointer-not-torn : (h : Header) (rs : List (List ℕ)) → atPointer ≡ torn h rs → ⊥
 pointer-not-torn h rs e = let z : _≡_ {A = ℕ} 0 1 = cc in omega arith
 
-pub none-not-torn : (h : Header) (rs : List (List ℕ)) → noEntry ≡ torn h rs → ⊥
-none-not-torn h rs e = let z : _≡_ {A = ℕ} 0 1 = cc in omega arith
+pub none-not-torn : (f : Fault) (h : Header) (rs : List (List ℕ)) → noEntry f ≡ torn h rs → ⊥
+none-not-torn f h rs e = let z : _≡_ {A = ℕ} 0 1 = cc in omega arith
 
 -- a header that is no closing entry
 abbrev pub Plain : Header → Type 0
@@ -94,18 +95,18 @@ general-not-torn g d ss h rs e = go (walkLog g d false ss .last) e (walk-places 
   where
     go : (l : Ending) → l ≡ torn h rs → EndsAt g d false ss l (walkLog g d false ss .position) → ⊥
     go atPointer q p = pointer-not-torn h rs q
-    go noEntry q p = none-not-torn h rs q
+    go (noEntry f) q p = none-not-torn f h rs q
     go (torn k ks) q p =
         let n : rowsOf g k ≡ zero = general-no-rows g d k (legal-fits g d false (getD ss (walkLog g d false ss .position) []) k (p .1)) in
         omega (arith, n, p .0, p .3)
 
 -- so one that ends at no bad entry is whole
-pub general-whole : (g : Geometry) (d : ℕ) (ss : List (List ℕ)) → walkLog g d false ss .last ≢ noEntry → walkLog g d false ss .last ≡ atPointer
+pub general-whole : (g : Geometry) (d : ℕ) (ss : List (List ℕ)) → ((f : Fault) → walkLog g d false ss .last ≢ noEntry f) → walkLog g d false ss .last ≡ atPointer
 general-whole g d ss n = go (walkLog g d false ss .last) refl n
   where
-    go : (l : Ending) → walkLog g d false ss .last ≡ l → l ≢ noEntry → l ≡ atPointer
+    go : (l : Ending) → walkLog g d false ss .last ≡ l → ((f : Fault) → l ≢ noEntry f) → l ≡ atPointer
     go atPointer q n = refl
-    go noEntry q n = absurd (n refl)
+    go (noEntry f) q n = absurd (n f refl)
     go (torn h rs) q n = absurd (general-not-torn g d ss h rs q)
 
 -- ==== the parity log of drive d
@@ -191,7 +192,7 @@ module _ (g : Geometry) (d : ℕ) where
           ap (λ (b : Walked). b .last) w ∙ ih (suc x) (inEntry x i n []) (omega (arith, r)) (sym (ap (λ (b : Walked). b .last) u) ∙ e) (rw next at k)
 
       go : (r : Decoded) → decodeAt g d true x s ≡ r → Rest → Goal
-      go bad q ih = absurd (let w : walk g d true x between (s ∷ ss) ≡ record { entries = []; last = noEntry; position = x } = rw (q, walk) refl in none-not-torn h rs (sym (ap (λ (b : Walked). b .last) w) ∙ e))
+      go (bad f) q ih = absurd (let w : walk g d true x between (s ∷ ss) ≡ record { entries = []; last = noEntry f; position = x } = rw (q, walk) refl in none-not-torn f h rs (sym (ap (λ (b : Walked). b .last) w) ∙ e))
       go (legal i) q ih = rows i (rowsOf g i) q refl ih
   torn-completed h rs ms ts (s ∷ ss) x (inEntry y i zero acc) c e l k =
       let next : x + suc (length ss) + length ms ≡ suc x + length ss + length ms = omega arith in
@@ -204,7 +205,7 @@ module _ (g : Geometry) (d : ℕ) where
   -- the rows that an ending lacks
   abbrev pub Lacks : Ending → ℕ → Type 0
   Lacks atPointer n = n ≡ zero
-  Lacks noEntry n = ⊥
+  Lacks (noEntry f) n = ⊥
   Lacks (torn h rs) n = length rs + n ≡ rowsOf g h
 
   pub parity-grows : (ss ms ts : List (List ℕ)) → Lacks (walkLog g d true ss .last) (length ms) → Entries ts → length ss + length (ms ++ ts) ≤ g .capacity → walkLog g d true (ss ++ (ms ++ ts)) .last ≡ atPointer
@@ -223,5 +224,5 @@ module _ (g : Geometry) (d : ℕ) where
           let z : zero + length ss + length ms ≡ zero + length ss = omega (arith, q) in
           ap (λ (b : List (List ℕ)). walkLog g d true (ss ++ b) .last) m ∙ ap (λ (w : Walked). w .last) (walk-goes-on g d true ss ts zero between e) ∙ last-in-front (walkLog g d true ss .entries) _
           ∙ ap (λ (j : ℕ). walk g d true j between ts .last) (sym z) ∙ rest
-      go noEntry e q = absurd q
+      go (noEntry f) e q = absurd q
       go (torn h rs) e q = torn-completed h rs ms ts ss zero between tt e q rest

@@ -17,13 +17,16 @@ use Rattle.tables.specs.declared.Geometry.{Geometry}
 use Rattle.volume.specs.declared.State.{State}
 use Rattle.volume.specs.declared.Outcome.{Outcome}
 use Rattle.volume.specs.declared.Answer.{Answer}
+use Rattle.volume.specs.declared.BadPlace.{BadPlace}
 use Rattle.volume.specs.declared.Answer.the-variants.{Finished, Unfinished, Refused}
 use Rattle.volume.specs.meaning.Refusals.{Verdict, refuse, accept, firstRefusal, zoneOf, formatRows, lookRows, mountRows, writeRows, flushRows, resetRows, readRows, peekRows}
 use Rattle.volume.specs.meaning.State.{callPresent}
 use Rattle.volume.specs.meaning.Calls.{flushStores, formatStores}
 use Rattle.volume.specs.meaning.Emptying.{writeAll, resetAll}
-use Rattle.volume.specs.meaning.Answers.{lostIn, sectorsIn, leftOut, namedDrives, presentIn, lostDriveIn}
-use Rattle.volume.specs.meaning.CallContracts.{viewState, isSet, lengthsOf, badIn, rolesOf, seenIn, verdictNumber, storingOn, flushVerdict, withLost, flushOn, resetVerdict, withReset, resetOn, writeVerdict, writtenState, pointerOf, writeOn, formatVerdict, freshState, formatOn, lookVerdict, lookOn, mountVerdict, mountStoresOn, mountShownOn, mountOn, readNumber, readOn, peekNumber}
+use Rattle.volume.specs.meaning.Answers.{lostIn, sectorsIn, leftOut, namedDrives, presentIn, lostDriveIn, refusedAt, toldAt}
+use Rattle.volume.specs.meaning.CallContracts.{viewState, isSet, lengthsOf, badIn, rolesOf, seenIn, verdictNumber, storingOn, flushVerdict, withLost, flushOn, resetVerdict, withReset, resetOn, writeVerdict}
+use Rattle.volume.specs.meaning.CallContracts.{writtenState, pointerOf, writeOn, formatVerdict, freshState, formatOn, lookVerdict, lookOn, mountVerdict, mountStoresOn, mountShownOn, badPlaceOn, mountOn, readNumber, readOn, peekNumber}
+use Rattle.volume.specs.laws.BadPlaces.{refused-same, not-finished, not-unfinished}
 use Rattle.volume.specs.laws.Refusals.{conditionOfRow, accepted-row, Numbered, numbered, nonzero, refusalOrder, inOrder}
 
 -- ==== orders
@@ -118,32 +121,36 @@ first-least (k ∷ order) ((j, b) ∷ rows) n u o e =
 
 -- ==== an answer by its rows
 -- the answer is refused by the least number, or no condition holds
-pub record ByRows (rows : List (ℕ × Bool)) (a : Answer) : Type 0 where
-  pub refused : (n : ℕ) → a ≡ Refused n → Least refusalOrder rows n
-  pub passed : ((n : ℕ) → a ≢ Refused n) → (n : ℕ) → conditionOfRow n rows ≡ false
+-- (by: how a refusal by a row is answered)
+pub record AnsweredBy (by : ℕ → Answer) (rows : List (ℕ × Bool)) (a : Answer) : Type 0 where
+  pub refused : (n : ℕ) → a ≡ by n → Least refusalOrder rows n
+  pub passed : ((n : ℕ) → a ≢ by n) → (n : ℕ) → conditionOfRow n rows ≡ false
+
+abbrev pub ByRows : List (ℕ × Bool) → Answer → Type 0
+ByRows rows a = AnsweredBy Refused rows a
 
 -- in the order of document 01, with numbers of their own
 abbrev Asked : List (ℕ × Bool) → Type 0
 Asked rows = (inOrder refusalOrder rows ≡ true) × (nonzero rows ≡ true)
 
-same-number : (a : Answer) (j n : ℕ) → a ≡ Refused j → a ≡ Refused n → j ≡ n
-same-number a j n p q = cc
+same-number : (j n : ℕ) → Refused j ≡ Refused n → j ≡ n
+same-number j n e = cc
 
 -- an answer that is the verdict's number where there is one, and else no refusal
-by-verdict : (rows : List (ℕ × Bool)) → Asked rows → (a : Answer) → ((n : ℕ) → verdictNumber (firstRefusal rows) ≡ n → n ≢ 0 → a ≡ Refused n)
-    → (verdictNumber (firstRefusal rows) ≡ 0 → (n : ℕ) → a ≢ Refused n) → ByRows rows a
-by-verdict rows (o, u) a r k = go (firstRefusal rows) refl (numbered rows u) r k
+by-verdict : (by : ℕ → Answer) → ((j n : ℕ) → by j ≡ by n → j ≡ n) → (rows : List (ℕ × Bool)) → Asked rows → (a : Answer) → ((n : ℕ) → verdictNumber (firstRefusal rows) ≡ n → n ≢ 0 → a ≡ by n)
+    → (verdictNumber (firstRefusal rows) ≡ 0 → (n : ℕ) → a ≢ by n) → AnsweredBy by rows a
+by-verdict by one rows (o, u) a r k = go (firstRefusal rows) refl (numbered rows u) r k
   where
-    go : (v : Verdict) → firstRefusal rows ≡ v → Numbered v → ((n : ℕ) → verdictNumber v ≡ n → n ≢ 0 → a ≡ Refused n) → (verdictNumber v ≡ 0 → (n : ℕ) → a ≢ Refused n) → ByRows rows a
+    go : (v : Verdict) → firstRefusal rows ≡ v → Numbered v → ((n : ℕ) → verdictNumber v ≡ n → n ≢ 0 → a ≡ by n) → (verdictNumber v ≡ 0 → (n : ℕ) → a ≢ by n) → AnsweredBy by rows a
     go accept e m r′ k′ = record { refused = λ n q. absurd (k′ refl n q); passed = λ no n. accepted-row rows e n }
     go (refuse j) e m r′ k′ =
         let given = r′ j refl m in
-        record { refused = λ n q. first-least refusalOrder rows n refl o (e ∙ ap refuse (same-number a j n given q)); passed = λ no n. absurd (no j given) }
+        record { refused = λ n q. first-least refusalOrder rows n refl o (e ∙ ap refuse (one j n (sym given ∙ q))); passed = λ no n. absurd (no j given) }
 
 storing-by-rows : (rows : List (ℕ × Bool)) → Asked rows → (g : Geometry) (ss : List Store) (new old : State) (count : ℕ) (t : Tables)
     → ByRows rows (storingOn g (verdictNumber (firstRefusal rows)) ss new old count t .outcome .answer)
 storing-by-rows rows u g ss new old count t =
-    by-verdict rows u (storingOn g (verdictNumber (firstRefusal rows)) ss new old count t .outcome .answer) (λ n e h. rw (e, ne-eqb n 0 h) refl) (λ e n q. go (ltb count (length ss)) n (rw e at q))
+    by-verdict Refused same-number rows u (storingOn g (verdictNumber (firstRefusal rows)) ss new old count t .outcome .answer) (λ n e h. rw (e, ne-eqb n 0 h) refl) (λ e n q. go (ltb count (length ss)) n (rw e at q))
   where
     go : (c : Bool) (n : ℕ) → pick {A = Outcome} c (record { answer = Unfinished; state = old }) (record { answer = Finished; state = new }) .answer ≡ Refused n → ⊥
     go true n q = absurd (let z : _≡_ {A = ℕ} 0 1 = cc in omega arith)
@@ -176,24 +183,37 @@ module _ (g : Geometry) (named : List Bool) (s : State) (t : Tables) where
       storing-by-rows _ (refl, refl) g (writeAll g (callPresent g (isSet named) (viewState s)) (rolesOf g t) (seenIn g t) (viewState s) (zoneOf g a) (sectorsIn g k buffer))
       (writtenState s (lostIn g (isSet named) (viewState s)) (zoneOf g a) (pointerOf s (zoneOf g a) + k)) s count t
 
-  pub mount-by-rows : (count : ℕ) → ByRows (mountRows g (lengthsOf t) (badIn g named t) (isSet named) (rolesOf g t) (seenIn g t)) (mountOn g named s count t .outcome .answer)
+  -- (row 6 is answered by the first bad place)
+  pub mount-by-rows : (count : ℕ) → AnsweredBy (refusedAt (badPlaceOn g named t)) (mountRows g (lengthsOf t) (badIn g named t) (isSet named) (rolesOf g t) (seenIn g t)) (mountOn g named s count t .outcome .answer)
   unfolding mountOn mountVerdict mountRows
   mount-by-rows count =
-      storing-by-rows _ (refl, refl) g (mountStoresOn g (presentIn g (isSet named) (deviceOf g t)) (lostDriveIn g (isSet named) (deviceOf g t)) t)
-      (mountShownOn g (presentIn g (isSet named) (deviceOf g t)) (lostDriveIn g (isSet named) (deviceOf g t)) t) s count t
+      by-verdict (refusedAt b) (refused-same b) _ (refl, refl) (mountOn g named s count t .outcome .answer) (λ n e h. rw (e, ne-eqb n 0 h) refl) (λ e n q. go (ltb count (length ss)) n (rw e at q))
+    where
+      b : BadPlace
+      b = badPlaceOn g named t
 
-  pub look-by-rows : ByRows (lookRows g (lengthsOf t) (badIn g named t) (isSet named) (rolesOf g t) (seenIn g t)) (lookOn g named s t .answer)
+      ss : List Store
+      ss = mountStoresOn g (presentIn g (isSet named) (deviceOf g t)) (lostDriveIn g (isSet named) (deviceOf g t)) t
+
+      new : State
+      new = mountShownOn g (presentIn g (isSet named) (deviceOf g t)) (lostDriveIn g (isSet named) (deviceOf g t)) t
+
+      go : (c : Bool) (n : ℕ) → toldAt b (pick {A = Outcome} c (record { answer = Unfinished; state = s }) (record { answer = Finished; state = new }) .answer) ≡ refusedAt b n → ⊥
+      go true n q = not-unfinished b n q
+      go false n q = not-finished b n q
+
+  pub look-by-rows : AnsweredBy (refusedAt (badPlaceOn g named t)) (lookRows g (lengthsOf t) (badIn g named t) (isSet named) (rolesOf g t) (seenIn g t)) (lookOn g named s t .answer)
   unfolding lookOn lookVerdict lookRows
-  look-by-rows = by-verdict _ (refl, refl) (lookOn g named s t .answer) (λ n e h. rw (e, ne-eqb n 0 h) refl) (λ e n q. let q′ : Finished ≡ Refused n = rw e at q in let z : _≡_ {A = ℕ} 0 1 = cc in omega arith)
+  look-by-rows = by-verdict (refusedAt (badPlaceOn g named t)) (refused-same (badPlaceOn g named t)) _ (refl, refl) (lookOn g named s t .answer) (λ n e h. rw (e, ne-eqb n 0 h) refl) (λ e n q. not-finished (badPlaceOn g named t) n (rw e at q))
 
   pub read-by-rows : (a k : ℕ) (out : List ℕ) → ByRows (readRows g (lengthsOf t) (badIn g named t) (isSet named) (viewState s) a k (length out) (seenIn g t)) (readOn g named s a k out t .answer)
   unfolding readOn readNumber readRows
   read-by-rows a k out =
-      by-verdict _ (refl, refl) (readOn g named s a k out t .answer) (λ n e h. rw (e, ne-eqb n 0 h) refl) (λ e n q. let q′ : Finished ≡ Refused n = rw e at q in let z : _≡_ {A = ℕ} 0 1 = cc in omega arith)
+      by-verdict Refused same-number _ (refl, refl) (readOn g named s a k out t .answer) (λ n e h. rw (e, ne-eqb n 0 h) refl) (λ e n q. let q′ : Finished ≡ Refused n = rw e at q in let z : _≡_ {A = ℕ} 0 1 = cc in omega arith)
 
   -- (a peek's number: 0 where it is not refused)
   pub peek-by-rows : (a : ℕ) → ByRows (peekRows g (lengthsOf t) (badIn g named t) (isSet named) (viewState s) a (seenIn g t)) (pick (eqb (peekNumber g named s a t) 0) Finished (Refused (peekNumber g named s a t)))
   unfolding peekNumber peekRows
   peek-by-rows a =
-      by-verdict _ (refl, refl) (pick (eqb (peekNumber g named s a t) 0) Finished (Refused (peekNumber g named s a t))) (λ n e h. rw (e, ne-eqb n 0 h) refl)
+      by-verdict Refused same-number _ (refl, refl) (pick (eqb (peekNumber g named s a t) 0) Finished (Refused (peekNumber g named s a t))) (λ n e h. rw (e, ne-eqb n 0 h) refl)
       (λ e n q. let q′ : Finished ≡ Refused n = rw e at q in let z : _≡_ {A = ℕ} 0 1 = cc in omega arith)

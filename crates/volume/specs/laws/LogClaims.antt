@@ -13,7 +13,7 @@ use Rattle.tables.specs.declared.Geometry.{Geometry}
 use Rattle.tables.specs.meaning.Basics.{pick}
 use Rattle.tables.specs.laws.Basics.{and-split, eqb-same}
 use Rattle.tables.specs.meaning.LittleEndian.{sameBytes}
-use Rattle.logs.specs.meaning.Entry.{Header, label, counters, zoneReset, partialParity, seal, closing, Entry, legal, bad, encode, readFields, fitsLog, decode, kindOfLog}
+use Rattle.logs.specs.meaning.Entry.{Header, label, counters, zoneReset, partialParity, seal, closing, Entry, legal, bad, faultOf, encode, readFields, fitsLog, decode, kindOfLog}
 use Rattle.logs.specs.meaning.Heads.{firstClosing}
 use Rattle.logs.specs.meaning.Walk.{walkLog}
 use Rattle.logs.specs.code.Steps.{Placed}
@@ -40,7 +40,7 @@ fits-one-kind g d (closing kind gen) e f =
 pub read-fits : (g : Geometry) (d : ℕ) (par : Bool) (s : List ℕ) (h : Header) → decode g d par s ≡ legal h → fitsLog g d par (readFields g s) ≡ true
 read-fits g d par s h e = go (sameBytes (encode g d (readFields g s)) s) (fitsLog g d par (readFields g s)) e
   where
-    go : (a b : Bool) → pick (a && b) (legal (readFields g s)) bad ≡ legal h → b ≡ true
+    go : (a b : Bool) → pick (a && b) (legal (readFields g s)) (bad (faultOf s)) ≡ legal h → b ≡ true
     go true true q = refl
     go true false q = absurd (let z : _≡_ {A = ℕ} 0 1 = cc in omega arith)
     go false b q = absurd (let z : _≡_ {A = ℕ} 0 1 = cc in omega arith)

@@ -8,7 +8,8 @@ use Rattle.tables.specs.declared.Geometry.{Geometry}
 use Rattle.tables.specs.meaning.Basics.{pick}
 use Rattle.tables.specs.meaning.LittleEndian.{sameBytes}
 use Rattle.tables.specs.meaning.Geometry.{zoneSectors}
-use Rattle.logs.specs.meaning.Entry.{Header, label, counters, zoneReset, partialParity, seal, closing, Decoded, legal, bad, encode, labelBytes, readFields, fitsLog, rowsOf, decode}
+use Rattle.logs.specs.meaning.Entry.{Header, label, counters, zoneReset, partialParity, seal, closing, Decoded, legal, bad, faultOf, encode, labelBytes, readFields, fitsLog, rowsOf, decode}
+use Rattle.logs.specs.declared.Fault.the-variants.{RowsPast}
 use Rattle.logs.specs.meaning.Walk.{Walked, WalkState, between, inEntry, withEntry, noEntry, inZone, decodeAt, walk, walkLog}
 use Rattle.volume.specs.laws.LogPlaces.{withLogs}
 
@@ -45,11 +46,11 @@ module _ (g : Geometry) (n : ℕ) where
 
   pub decode-alike : (d : ℕ) (par : Bool) (s : List ℕ) → decode (withLogs g n) d par s ≡ decode g d par s
   decode-alike d par s =
-      rw (fields-alike s) (ap₂ (λ (bs : List ℕ) (b : Bool). pick (sameBytes bs s && b) (legal (readFields g s)) bad) (encode-alike d (readFields g s)) (fits-alike d par (readFields g s)))
+      rw (fields-alike s) (ap₂ (λ (bs : List ℕ) (b : Bool). pick (sameBytes bs s && b) (legal (readFields g s)) (bad (faultOf s))) (encode-alike d (readFields g s)) (fits-alike d par (readFields g s)))
 
   in-zone-alike : (x : ℕ) (r : Decoded) → inZone (withLogs g n) x r ≡ inZone g x r
-  in-zone-alike x (legal h) = ap (λ (k : ℕ). pick (leb (x + suc k) (g .capacity)) (legal h) bad) (rows-alike h)
-  in-zone-alike x bad = refl
+  in-zone-alike x (legal h) = ap (λ (k : ℕ). pick (leb (x + suc k) (g .capacity)) (legal h) (bad RowsPast)) (rows-alike h)
+  in-zone-alike x (bad f) = refl
 
   decode-at-alike : (d : ℕ) (par : Bool) (x : ℕ) (s : List ℕ) → decodeAt (withLogs g n) d par x s ≡ decodeAt g d par x s
   decode-at-alike d par x s = in-zone-alike x (decode (withLogs g n) d par s) ∙ ap (inZone g x) (decode-alike d par s)
@@ -60,7 +61,7 @@ module _ (g : Geometry) (n : ℕ) where
     afterHeader e x ss h k = elim k [ zero ↦ withEntry (record { head = h; rows = [] }) (walk e d par (suc x) between ss) | suc k ↦ walk e d par (suc x) (inEntry x h k []) ss ]
 
     afterDecode : Geometry → ℕ → List (List ℕ) → Decoded → Walked
-    afterDecode e x ss r = elim r [ legal h ↦ afterHeader e x ss h (rowsOf e h) | bad ↦ record { entries = []; last = noEntry; position = x } ]
+    afterDecode e x ss r = elim r [ legal h ↦ afterHeader e x ss h (rowsOf e h) | bad f ↦ record { entries = []; last = noEntry f; position = x } ]
 
     walk-alike : (x : ℕ) (st : WalkState) (ss : List (List ℕ)) → walk (withLogs g n) d par x st ss ≡ walk g d par x st ss
     unfolding afterHeader afterDecode
@@ -75,7 +76,7 @@ module _ (g : Geometry) (n : ℕ) where
 
         go : (r : Decoded) → ((st : WalkState) → walk (withLogs g n) d par (suc x) st ss ≡ walk g d par (suc x) st ss) → afterDecode (withLogs g n) x ss r ≡ afterDecode g x ss r
         go (legal h) ih = ap (afterHeader (withLogs g n) x ss h) (rows-alike h) ∙ rest h (rowsOf g h) ih
-        go bad ih = refl
+        go (bad f) ih = refl
     walk-alike x (inEntry y h zero acc) (s ∷ ss) = ap (withEntry (record { head = h; rows = acc ++ (s ∷ []) })) (walk-alike (suc x) between ss)
     walk-alike x (inEntry y h (suc k) acc) (s ∷ ss) = walk-alike (suc x) (inEntry y h k (acc ++ (s ∷ []))) ss
 

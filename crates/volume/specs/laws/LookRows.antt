@@ -18,6 +18,7 @@ use Rattle.tables.specs.meaning.Geometry.{Valid}
 use Rattle.tables.specs.meaning.GeometryTest.{isValid}
 use Rattle.tables.specs.meaning.Device.{Device}
 use Rattle.tables.specs.meaning.Tables.{Tables, deviceOf}
+use Rattle.logs.specs.declared.Fault.{Fault}
 use Rattle.logs.specs.meaning.Walk.{Ending, atPointer, noEntry}
 use Rattle.logs.specs.meaning.Heads.{labelled, arrayIn, lastLost}
 use Rattle.volume.specs.meaning.Rules.{generalHeads, generalEnding, parityEnding, isLost, lostDrive}
@@ -110,8 +111,8 @@ kinds-pass g present r h = none-any-below (λ e. present e && lacksKind (r e)) (
     go d false p = refl
     go d true p = h d p
 
-pub entry-ends : (l : Ending) → isNoEntry l ≡ false → l ≢ noEntry
-entry-ends l h q = true≢false (sym (rw q refl) ∙ h)
+pub entry-ends : (l : Ending) → isNoEntry l ≡ false → (f : Fault) → l ≢ noEntry f
+entry-ends l h f q = true≢false (sym (rw q refl) ∙ h)
 
 -- what rows 5 and 6 say of a present drive
 module _ (g : Geometry) (present : ℕ → Bool) (v : Device) where

@@ -21,15 +21,17 @@ use Rattle.tables.specs.laws.StoresFit.{AllOn, on-present-on, on-append, fits-a
 use Rattle.tables.specs.laws.NamedDrives.{AgreeOn, device-agrees, pointers-agree, run-agrees}
 use Rattle.volume.specs.declared.State.{State}
 use Rattle.volume.specs.declared.Outcome.{Outcome}
-use Rattle.volume.specs.declared.Answer.the-variants.{Finished, Refused}
+use Rattle.volume.specs.declared.Answer.the-variants.{Finished}
+use Rattle.volume.specs.declared.BadPlace.{BadPlace}
 use Rattle.volume.specs.meaning.Rules.{Shown, showing, isPresent, lostDrive}
-use Rattle.volume.specs.meaning.Refusals.{accept, kindLacks, badLabels, badLogs, mountFull, lookRows, mountRows}
-use Rattle.volume.specs.meaning.Roles.{placedBy}
+use Rattle.volume.specs.meaning.Refusals.{firstBadPlace, accept, kindLacks, badLabels, badLogs, mountFull, lookRows, mountRows}
+use Rattle.volume.specs.meaning.Roles.{placedBy, zoneOfRole}
 use Rattle.volume.specs.meaning.Emptying.{byLook, emptyGeneral, emptyParity}
-use Rattle.volume.specs.meaning.Answers.{presentIn, lostDriveIn}
+use Rattle.volume.specs.meaning.Answers.{presentIn, lostDriveIn, refusedAt, toldAt}
 use Rattle.volume.specs.meaning.Mount.{spareStep, entryStep, withFlush, withFlushes, stepsBeforeEntries, carryPhases, mountView, mountLook, startRoles, emptiedGeneral, emptiedParity, middleRoles, endRoles, phasesOfLogs, phasesBeforeEntries, phasesOfParityLogs, phasesOfEntries, afterFill, mountStores}
-use Rattle.volume.specs.meaning.CallContracts.{isSet, rolesOf, seenIn, verdictNumber, stateShown, lookVerdict, lookOn, mountVerdict, mountStoresOn, mountShownOn, mountOn}
+use Rattle.volume.specs.meaning.CallContracts.{isSet, rolesOf, seenIn, verdictNumber, stateShown, lookVerdict, lookOn, mountVerdict, mountStoresOn, mountShownOn, badPlaceOn, mountOn}
 use Rattle.volume.specs.laws.PassedRows.{look-passed, look-number-accepts, mount-passed, mount-number-accepts}
+use Rattle.volume.specs.laws.BadPlaces.{first-bad-depends}
 use Rattle.volume.specs.laws.Depends.{SameOn}
 use Rattle.volume.specs.laws.RefusalsDepend.{present-depends, lost-drive-depends, two-lost-depends, labels-depend, logs-depend, kinds-depend, by-look-depends, mount-full-depends}
 use Rattle.volume.specs.laws.RolesDepend.{roles-depend, by-roles-depend}
@@ -130,6 +132,11 @@ module _ (g : Geometry) (named : List Bool) (t u : Tables) (same : AgreeOn g (is
   kinds-same : kindLacks g (found v) (rolesOf g t) ≡ kindLacks g (found w) (rolesOf g u)
   kinds-same = kinds-depend g (found v) v w drives-same (rolesOf g t) (rolesOf g u) roles-same ∙ ap (λ (f : ℕ → Bool). kindLacks g f (rolesOf g u)) found-same
 
+  bad-same : badPlaceOn g named t ≡ badPlaceOn g named u
+  bad-same =
+      first-bad-depends g (found v) v w drives-same (placedBy (rolesOf g t)) (placedBy (rolesOf g u)) (λ d h p. ap zoneOfRole (roles-same d p))
+      ∙ ap (λ (f : ℕ → Bool). firstBadPlace g f (placedBy (rolesOf g u)) w) found-same
+
   abbrev fullFor : (ℕ → Bool) → ℕ → Bool
   fullFor f x = mountFull g f (rolesOf g u) (byLook (showing g f x w)) w
 
@@ -155,12 +162,15 @@ module _ (g : Geometry) (named : List Bool) (t u : Tables) (same : AgreeOn g (is
   unfolding lookOn
   look-absent old = rw (← look-verdict-same) (go (ℕ-discrete (verdictNumber (lookVerdict g named t)) 0))
     where
-      outcome : Shown → Outcome
-      outcome k = pick (eqb (verdictNumber (lookVerdict g named t)) 0) (record { answer = Finished; state = stateShown g k }) (record { answer = Refused (verdictNumber (lookVerdict g named t)); state = old })
+      number : ℕ
+      number = verdictNumber (lookVerdict g named t)
 
-      go : Dec (verdictNumber (lookVerdict g named t) ≡ 0) → outcome (showing g (found v) (lostDrive g (isSet named) v) v) ≡ outcome (showing g (found w) (lostDrive g (isSet named) w) w)
-      go (yes e) = ap outcome (shown-same (look-passed g named t (look-number-accepts g named t e) .valid .drives-most))
-      go (no e) = rw (ne-eqb (verdictNumber (lookVerdict g named t)) 0 e) refl
+      outcome : Shown → BadPlace → Outcome
+      outcome k b = pick (eqb number 0) (record { answer = Finished; state = stateShown g k }) (record { answer = refusedAt b number; state = old })
+
+      go : Dec (number ≡ 0) → outcome (showing g (found v) (lostDrive g (isSet named) v) v) (badPlaceOn g named t) ≡ outcome (showing g (found w) (lostDrive g (isSet named) w) w) (badPlaceOn g named u)
+      go (yes e) = ap₂ outcome (shown-same (look-passed g named t (look-number-accepts g named t e) .valid .drives-most)) bad-same
+      go (no e) = rw (ne-eqb number 0 e) (ap (λ (b : BadPlace). record { answer = refusedAt b number; state = old }) bad-same)
 
   -- ==== MOUNT, of inputs that are accepted
   module _ (e : mountVerdict g named t ≡ accept) where
@@ -199,7 +209,11 @@ mount-absent g named old count =
     let new : Tables → State = λ t. mountShownOn g (presentIn g (isSet named) (deviceOf g t)) (lostDriveIn g (isSet named) (deviceOf g t)) t in
     record {
       not-read = λ t u same.
-          storing-same g named old count t u same (number t) (number u) (ap verdictNumber (mount-verdict-same g named t u same)) (stores t) (stores u) (λ e. stores-same g named t u same (mount-number-accepts g named t e)) (new t) (new u) (λ e. state-same g named t u same (mount-number-accepts g named t e))
-          (λ e. stores-on g named t (mount-number-accepts g named t e));
+          let (p, q) = storing-same g named old count t u same (number t) (number u) (ap verdictNumber (mount-verdict-same g named t u same)) (stores t) (stores u) (λ e. stores-same g named t u same (mount-number-accepts g named t e)) (new t) (new u) (λ e. state-same g named t u same (mount-number-accepts g named t e))
+          (λ e. stores-on g named t (mount-number-accepts g named t e)) in
+          (ap₂ telling (bad-same g named t u same) p, q);
       not-changed = λ t. storing-kept g named old count t (number t) (stores t) (new t) (λ e. stores-on g named t (mount-number-accepts g named t e));
     }
+  where
+    telling : BadPlace → Outcome → Outcome
+    telling b o = record { answer = toldAt b (o .answer); state = o .state }

@@ -113,7 +113,7 @@ module _ (g : Geometry) (k : Shown) (d y : ℕ) where
 
   pub missing-most : (l : Ending) → length (missingRows g k l) ≤ g .unit
   missing-most atPointer = omega arith
-  missing-most noEntry = omega arith
+  missing-most (noEntry f) = omega arith
   missing-most (torn (label x a) rs) = omega arith
   missing-most (torn (counters cs) rs) = omega arith
   missing-most (torn (zoneReset z n) rs) = omega arith

@@ -21,6 +21,7 @@ use Rattle.tables.specs.meaning.Geometry.{Valid, dataZone}
 use Rattle.tables.specs.meaning.Placement.{needed}
 use Rattle.tables.specs.meaning.Device.{Device, Store, reset}
 use Rattle.logs.specs.meaning.Entry.{generalZone, parityZone, Header, Entry, label, counters, zoneReset, partialParity, seal, closing, rowsOf, encode, fitsLog}
+use Rattle.logs.specs.declared.Fault.{Fault}
 use Rattle.logs.specs.meaning.Walk.{Ending, atPointer, noEntry, torn, walkLog, sectorsOf}
 use Rattle.logs.specs.meaning.Heads.{lastLost, isSealAt, endsAt}
 use Rattle.logs.specs.laws.Walk.{Reads}
@@ -255,7 +256,7 @@ module _ (g : Geometry) (k : Shown) (w : Device) (d : ℕ) where
       ∙ append-nil (sectorsTo d parityZone rows) ∙ torn-rows-there hd
 
 -- the rows that join are those that lack
-pub missing-lack : (g : Geometry) (k : Shown) (d : ℕ) (ss : List (List ℕ)) → walkLog g d true ss .last ≢ noEntry → Lacks g d (walkLog g d true ss .last) (length (missingRows g k (walkLog g d true ss .last)))
+pub missing-lack : (g : Geometry) (k : Shown) (d : ℕ) (ss : List (List ℕ)) → ((f : Fault) → walkLog g d true ss .last ≢ noEntry f) → Lacks g d (walkLog g d true ss .last) (length (missingRows g k (walkLog g d true ss .last)))
 missing-lack g k d ss n = go (walkLog g d true ss .last) n (walk-places g d true ss .left)
   where
     rows : (h : Header) (rs : List (List ℕ)) → fitsLog g d true h ≡ true → length rs < rowsOf g h → length rs + length (missingRows g k (torn h rs)) ≡ rowsOf g h
@@ -266,9 +267,9 @@ missing-lack g k d ss n = go (walkLog g d true ss .last) n (walk-places g d true
     rows (seal z p m) rs f l = absurd (true≢false (sym f))
     rows (closing kind gen) rs f l = absurd (omega arith)
 
-    go : (end : Ending) → end ≢ noEntry → EndsAt g d true ss end (walkLog g d true ss .position) → Lacks g d end (length (missingRows g k end))
+    go : (end : Ending) → ((f : Fault) → end ≢ noEntry f) → EndsAt g d true ss end (walkLog g d true ss .position) → Lacks g d end (length (missingRows g k end))
     go atPointer q p = refl
-    go noEntry q p = absurd (q refl)
+    go (noEntry f) q p = absurd (q f refl)
     go (torn h rs) q p =
         let x = walkLog g d true ss .position in
         let long : length rs ≡ length ss - suc x = ap length (p .2) ∙ length-drop (suc x) ss in

@@ -167,7 +167,7 @@ module _ (g : Geometry) (present : ℕ → Bool) (W : Device) where
 module _ (g : Geometry) (k : Shown) (d : ℕ) (ss : List (List ℕ)) (short : length ss ≤ g .capacity) where
   missing-room : (l : Ending) → walkLog g d true ss .last ≡ l → length ss + length (missingRows g k l) ≤ g .capacity
   missing-room atPointer e = omega (arith, short)
-  missing-room noEntry e = omega (arith, short)
+  missing-room (noEntry f) e = omega (arith, short)
   missing-room (torn (label x a) rs) e = omega (arith, short)
   missing-room (torn (counters cs) rs) e = omega (arith, short)
   missing-room (torn (zoneReset z n) rs) e = omega (arith, short)

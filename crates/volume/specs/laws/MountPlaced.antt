@@ -86,7 +86,7 @@ module _ (g : Geometry) (ok : Valid g) (k : Shown) (values : ShowsSectors g k) w
 
   missing-long : (l : Ending) → AllLong (g .sector) (missingRows g k l)
   missing-long atPointer = tt
-  missing-long noEntry = tt
+  missing-long (noEntry f) = tt
   missing-long (torn (label x a) rs) = tt
   missing-long (torn (counters cs) rs) = tt
   missing-long (torn (zoneReset z n) rs) = tt

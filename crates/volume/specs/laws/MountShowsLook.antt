@@ -38,9 +38,10 @@ use Rattle.volume.specs.meaning.Rules.{generalHeads, isLost, isPresent, 
 use Rattle.volume.specs.meaning.Roles.{roles, byRoles, driveByRoles, lacksKind}
 use Rattle.volume.specs.meaning.Refusals.{accept, twoLost, kindLacks, badLabels, badLogs, lookRows}
 use Rattle.volume.specs.meaning.Mount.{afterOpening, mountView, startRoles, mountStores}
-use Rattle.volume.specs.meaning.Answers.{presentIn, lostDriveIn}
-use Rattle.volume.specs.meaning.CallContracts.{isSet, lengthsOf, badIn, rolesOf, seenIn, answerNumber, verdictNumber, stateShown, lookVerdict, lookOn, mountVerdict, mountStoresOn, mountShownOn, mountOn}
+use Rattle.volume.specs.meaning.Answers.{refusedAt, presentIn, lostDriveIn}
+use Rattle.volume.specs.meaning.CallContracts.{badPlaceOn, isSet, lengthsOf, badIn, rolesOf, seenIn, answerNumber, verdictNumber, stateShown, lookVerdict, lookOn, mountVerdict, mountStoresOn, mountShownOn, mountOn}
 use Rattle.volume.specs.mounting.RestoreAgrees.{opening-sectors}
+use Rattle.volume.specs.laws.BadPlaces.{told-finished}
 use Rattle.volume.specs.laws.Refusals.{passed}
 use Rattle.volume.specs.laws.PassedRows.{MountPassed, mount-passed, mount-number-accepts}
 use Rattle.volume.specs.laws.CallStoresFit.{zone-short}
@@ -230,14 +231,14 @@ module _ (g : Geometry) (named : List Bool) (t : Tables) (e : mountVerdict g nam
   look-left : (old : State) → lookOn g named old left ≡ record { answer = Finished; state = mountShownOn g present x t }
   unfolding lookOn mountShownOn
   look-left old =
-      ap (λ (n : ℕ). pick (eqb n 0) (record { answer = Finished; state = stateShown g (showing g (isPresent g (isSet named) w) (lostDrive g (isSet named) w) w) }) (record { answer = Refused n; state = old })) (ap verdictNumber look-accepts)
+      ap (λ (n : ℕ). pick (eqb n 0) (record { answer = Finished; state = stateShown g (showing g (isPresent g (isSet named) w) (lostDrive g (isSet named) w) w) }) (record { answer = refusedAt (badPlaceOn g named left) n; state = old })) (ap verdictNumber look-accepts)
       ∙ ap₂ (λ (a : ℕ → Bool) (y : ℕ). record { answer = Finished; state = stateShown g (showing g a y w) }) present-left lost-drive-left
 
 -- ==== the law
 pub mount-shows-the-look : (g : Geometry) (named : List Bool) (old old′ : State) (count : ℕ) (t : Tables) → mountOn g named old count t .outcome .answer ≡ Finished
     → lookOn g named old′ (mountOn g named old count t .tables) ≡ record { answer = Finished; state = mountOn g named old count t .outcome .state }
 unfolding mountOn
-mount-shows-the-look g named old old′ count t f = go (eqb n 0) refl (ltb count (length ss)) refl f
+mount-shows-the-look g named old old′ count t f = go (eqb n 0) refl (ltb count (length ss)) refl (told-finished (badPlaceOn g named t) (outcome (eqb n 0) (ltb count (length ss)) .answer) f)
   where
     a : ℕ → Bool
     a = presentIn g (isSet named) (deviceOf g t)

@@ -38,8 +38,9 @@ use Rattle.volume.specs.meaning.Answers.{presentIn, lostDriveIn}
 use Rattle.volume.specs.meaning.Calls.{appendAll, appendGeneral, generationsFrom, logsReset}
 use Rattle.volume.specs.meaning.Mount.{spareStep, labelStep, resetEntryStep, needsReset, zoneResetStep, nextGeneration, countersDiffer, counterStep, sealStep, missingRows, tornRowStep, fillStep, entryStep}
 use Rattle.volume.specs.meaning.Mount.{withFlush, withFlushes, stepsBeforeEntries, mountView, mountLook, startRoles, emptiedParity, middleRoles, endRoles, phasesBeforeEntries, phasesOfParityLogs, phasesOfEntries, afterFill, mountStores}
-use Rattle.volume.specs.meaning.CallContracts.{isSet, seenIn, verdictNumber, mountVerdict, mountStoresOn, mountShownOn, mountOn}
+use Rattle.volume.specs.meaning.CallContracts.{badPlaceOn, storingOn, isSet, seenIn, verdictNumber, mountVerdict, mountStoresOn, mountShownOn, mountOn}
 use Rattle.volume.specs.mounting.MountFillOn.{missing, fillZone}
+use Rattle.volume.specs.laws.BadPlaces.{told-unfinished}
 use Rattle.volume.specs.laws.PassedRows.{mount-passed, mount-number-accepts}
 use Rattle.volume.specs.laws.CallAppends.{entry-long}
 use Rattle.volume.specs.laws.MountAppends.{missing-most}
@@ -242,7 +243,9 @@ mount-few g named t e =
 
 pub mount-ends : (g : Geometry) (named : List Bool) (old : State) (t : Tables) → mountOn g named old (2 ^ 32 - 1) t .outcome .answer ≢ Unfinished
 unfolding mountOn
-mount-ends g named old t =
+mount-ends g named old t e =
     let present = presentIn g (isSet named) (deviceOf g t) in
     let x = lostDriveIn g (isSet named) (deviceOf g t) in
-    covered-ends g (verdictNumber (mountVerdict g named t)) (mountStoresOn g present x t) (mountShownOn g present x t) old (2 ^ 32 - 1) t (λ e. omega (arith, mount-few g named t (mount-number-accepts g named t e)))
+    let n = verdictNumber (mountVerdict g named t) in
+    covered-ends g n (mountStoresOn g present x t) (mountShownOn g present x t) old (2 ^ 32 - 1) t (λ z. omega (arith, mount-few g named t (mount-number-accepts g named t z)))
+    (told-unfinished (badPlaceOn g named t) (storingOn g n (mountStoresOn g present x t) (mountShownOn g present x t) old (2 ^ 32 - 1) t .outcome .answer) e)

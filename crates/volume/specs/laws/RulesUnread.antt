@@ -119,7 +119,7 @@ module _ (g : Geometry) (n : ℕ) where
 
   ending-past-alike : (z m q : ℕ) (l : Ending) → endingPast (withLogs g n) z m q l ≡ endingPast g z m q l
   ending-past-alike z m q atPointer = refl
-  ending-past-alike z m q noEntry = refl
+  ending-past-alike z m q (noEntry f) = refl
   ending-past-alike z m q (torn h rs) = ends-past-alike z m q h
 
   pub clean-alike : (present : ℕ → Bool) (v : Device) (z m q : ℕ) → cleanAt (withLogs g n) present v z m q ≡ cleanAt g present v z m q

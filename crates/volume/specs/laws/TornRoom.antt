@@ -10,14 +10,15 @@ use borrow.Author.Tests.{leb-true}
 use Rattle.tables.specs.declared.Geometry.{Geometry}
 use Rattle.tables.specs.meaning.Basics.{pick}
 use Rattle.logs.specs.meaning.Entry.{Header, Decoded, legal, bad, rowsOf, decode}
+use Rattle.logs.specs.declared.Fault.the-variants.{RowsPast}
 use Rattle.logs.specs.meaning.Walk.{noEntry, torn, Walked, WalkState, between, inEntry, inZone, decodeAt, walk, walkLog}
 use Rattle.logs.specs.laws.Walk.{step-zero, step-suc}
 
 in-zone : (g : Geometry) (x : ℕ) (r : Decoded) (h : Header) → inZone g x r ≡ legal h → x + suc (rowsOf g h) ≤ g .capacity
-in-zone g x bad h e = absurd (let z : _≡_ {A = ℕ} 0 1 = cc in omega arith)
+in-zone g x (bad f) h e = absurd (let z : _≡_ {A = ℕ} 0 1 = cc in omega arith)
 in-zone g x (legal k) h e = go (leb (x + suc (rowsOf g k)) (g .capacity)) refl e
   where
-    go : (b : Bool) → leb (x + suc (rowsOf g k)) (g .capacity) ≡ b → pick b (legal k) bad ≡ legal h → x + suc (rowsOf g h) ≤ g .capacity
+    go : (b : Bool) → leb (x + suc (rowsOf g k)) (g .capacity) ≡ b → pick b (legal k) (bad RowsPast) ≡ legal h → x + suc (rowsOf g h) ≤ g .capacity
     go true q p = let i : k ≡ h = cc in rw (← i) (leb-true (x + suc (rowsOf g k)) (g .capacity) q)
     go false q p = absurd (let z : _≡_ {A = ℕ} 0 1 = cc in omega arith)
 
@@ -40,9 +41,9 @@ module _ (g : Geometry) (d : ℕ) (par : Bool) where
   torn-from (s ∷ ss) x between h rs b e = go (decodeAt g d par x s) refl (λ st c q. torn-from ss (suc x) st h rs c q)
     where
       go : (r : Decoded) → decodeAt g d par x s ≡ r → ((st : WalkState) → Begun (suc x) st → walk g d par (suc x) st ss .last ≡ torn h rs → suc x + length ss + (rowsOf g h - length rs) ≤ g .capacity) → x + suc (length ss) + (rowsOf g h - length rs) ≤ g .capacity
-      go bad q ih =
-          let n : walk g d par x between (s ∷ ss) .last ≡ noEntry = rw (q, walk) refl in
-          let m : noEntry ≡ torn h rs = sym n ∙ e in
+      go (bad f) q ih =
+          let n : walk g d par x between (s ∷ ss) .last ≡ noEntry f = rw (q, walk) refl in
+          let m : noEntry f ≡ torn h rs = sym n ∙ e in
           absurd (let z : _≡_ {A = ℕ} 0 1 = cc in omega arith)
       go (legal k) q ih = rows (rowsOf g k) refl
         where

@@ -3,7 +3,7 @@
 use mathlib.Core.Path.{_≡_, refl, sym, ap, ap₂, subst, _∙_}
 use mathlib.Core.Logic.{_⊎_, inl, inr}
 use mathlib.Core.Bool.{Bool, true, false, _&&_, _||_, not}
-use Prim.Native.Nat.{ℕ, suc, _+_, _-_, _*_, _<_, min}
+use Prim.Native.Nat.{ℕ, suc, _+_, _-_, _*_, _≤_, _<_, min}
 use native.Mathlib.Omega.{arith}
 use mathlib.Core.List.{List, [], _∷_, _++_, map}
 use lib.ListN.{length, getD}
@@ -16,15 +16,18 @@ use Rattle.tables.specs.meaning.Drives.{noDrive}
 use Rattle.tables.specs.meaning.Geometry.{Valid, physicalZones, cells, totalBytes, stripeSectors, zoneSectors}
 use Rattle.tables.specs.laws.Sizes.{zone-small, stripe-small}
 use Rattle.tables.specs.meaning.Device.{ZoneView}
-use Rattle.tables.specs.meaning.Tables.{tablesOf, cell, zoneAtCell}
+use Rattle.tables.specs.meaning.Tables.{tablesOf, cell, sectorNo, zoneAtCell}
+use Rattle.tables.specs.laws.Below.{length-tabulate}
 use Rattle.tables.specs.laws.Tables.{device-in}
 use Rattle.logs.specs.declared.Log.{Log}
+use Rattle.logs.specs.declared.WalkEnd.{WalkEnd}
+use Rattle.logs.specs.declared.WalkEnd.the-variants.{AtPointer, NoEntry, Torn}
 use Rattle.logs.specs.declared.Found.{Found}
 use Rattle.logs.specs.declared.Found.the-variants.{Bad, Label, Counters, Resets, Partial, Seal, Closing}
-use Rattle.logs.specs.meaning.Entry.{generalZone, parityZone, Header, label, counters, zoneReset, partialParity, seal, closing, Entry, rowsOf, fitsLog}
+use Rattle.logs.specs.meaning.Entry.{generalZone, parityZone, faultNumber, Header, label, counters, zoneReset, partialParity, seal, closing, Entry, rowsOf, fitsLog}
 use Rattle.logs.specs.laws.Entry.{decode-legal}
 use Rattle.logs.specs.meaning.Walk.{Walked, Ending, atPointer, noEntry, torn, walkLog}
-use Rattle.logs.specs.code.WalkCode.{InLog, logSectors, walkEndAt, noEntryEnd}
+use Rattle.logs.specs.code.WalkCode.{InLog, logSectors, walkEndAt, walkEndOf}
 use Rattle.logs.specs.meaning.Heads.{labelled, lastLost, endsPast}
 use Rattle.logs.specs.laws.Heads.{endsWithin}
 use Rattle.logs.specs.code.Query.{headOf, headsOf, tornSeen}
@@ -34,7 +37,8 @@ use Rattle.logs.specs.laws.Legal.{stripe-ends}
 use Rattle.logs.specs.code.Steps.{Placed}
 use Rattle.logs.specs.laws.Places.{lastPlace, LastSuch, last-place, EndsAt, walk-places}
 use Rattle.volume.specs.meaning.Rules.{generalHeads, generalEnding, parityEntries, parityEnding, endingPast}
-use Rattle.volume.specs.meaning.Refusals.{isNoEntry}
+use Rattle.volume.specs.declared.BadPlace.{BadPlace}
+use Rattle.volume.specs.meaning.Refusals.{noBadPlace, badPlaceAt, badPlaceIn}
 use Rattle.volume.specs.looking.Knowing.{readDevice}
 
 -- ---- what is read
@@ -88,11 +92,35 @@ module _ (g : Geometry) (xs ws : List ℕ) (d : ℕ) (hd : d < g .drives) (n : �
 abbrev pub saysLost : List Header → ℕ
 saysLost hs = pick (labelled hs) (lastLost noDrive hs) noDrive
 
--- ---- refusal 6, by the end of a walk
-pub no-entry-is : (l : Ending) (x : ℕ) → noEntryEnd (walkEndAt l x) ≡ isNoEntry l
-no-entry-is atPointer x = refl
-no-entry-is noEntry x = refl
-no-entry-is (torn h rs) x = refl
+-- ---- refusals 6, 16 and 17, by the end of a walk as the code has it
+abbrev pub badPlaceSeen : ℕ → ℕ → WalkEnd → BadPlace
+badPlaceSeen d y (AtPointer x) = noBadPlace
+badPlaceSeen d y (NoEntry x f) = record { number = faultNumber f; drive = d; zone = y; sector = x }
+badPlaceSeen d y (Torn x) = noBadPlace
+
+bad-seen : (d y : ℕ) (l : Ending) (x : ℕ) → badPlaceSeen d y (walkEndAt l x) ≡ badPlaceAt d y l x
+bad-seen d y atPointer x = refl
+bad-seen d y (noEntry f) x = refl
+bad-seen d y (torn h rs) x = refl
+
+-- (y: where zone z of drive d lies; n: its pointer)
+pub bad-place-seen : (g : Geometry) (xs ws : List ℕ) (d z y : ℕ) (par : Bool) (n : ℕ) → d < g .drives → z < physicalZones g → n ≡ zonePointer g ws d z
+    → badPlaceSeen d y (walkEndOf (walkLog g d par (logSectors g d z xs n))) ≡ badPlaceIn d y (walkLog g d par (readDevice g xs ws d z .sectors))
+bad-place-seen g xs ws d z y par n hd hz e =
+    let w = walkLog g d par (logSectors g d z xs n) in
+    bad-seen d y (w .last) (w .position)
+    ∙ ap (λ (ss : List (List ℕ)). badPlaceIn d y (walkLog g d par ss)) (ap (logSectors g d z xs) e ∙ sym (zone-sectors g xs ws d z hd hz))
+
+-- it lies below the pointer: its sector has 16 bits
+pub bad-sector-small : (g : Geometry) → Valid g → (xs : List ℕ) (d z y : ℕ) (par : Bool) (n : ℕ) → n ≤ g .capacity → badPlaceSeen d y (walkEndOf (walkLog g d par (logSectors g d z xs n))) .sector < 65536
+bad-sector-small g ok xs d z y par n h =
+    let w = walkLog g d par (logSectors g d z xs n) in
+    go (w .last) (w .position) (walk-places g d par (logSectors g d z xs n) .left)
+  where
+    go : (l : Ending) (x : ℕ) → EndsAt g d par (logSectors g d z xs n) l x → badPlaceSeen d y (walkEndAt l x) .sector < 65536
+    go atPointer x e = omega arith
+    go (noEntry f) x e = omega (arith, e .0, length-tabulate (λ (i : ℕ). sectorNo (g .sector) xs (cell g d z * g .capacity + i)) n, h, ok .zone-most)
+    go (torn hd rs) x e = omega arith
 
 -- ---- rule 6: a partial parity entry that ends past a pointer
 -- by what the code finds
@@ -122,7 +150,7 @@ end-small g ok k y s fill n e f h seen =
 -- the torn one
 pub torn-past : (g : Geometry) (z n q : ℕ) (l : Ending) → pastSeen g z n q (tornSeen l) ≡ endingPast g z n q l
 torn-past g z n q atPointer = refl
-torn-past g z n q noEntry = refl
+torn-past g z n q (noEntry f) = refl
 torn-past g z n q (torn h rs) = past-seen g z n q h
 
 small-fits : (g : Geometry) (d : ℕ) (par : Bool) (h : Header) → fitsLog g d par h ≡ true → SmallSeen g (seen h)
@@ -139,7 +167,7 @@ torn-small g d par ss = go (walkLog g d par ss .last) (walkLog g d par ss .posit
   where
     go : (l : Ending) (x : ℕ) → EndsAt g d par ss l x → SmallSeen g (tornSeen l)
     go atPointer x e = tt
-    go noEntry x e = tt
+    go (noEntry f) x e = tt
     go (torn h rs) x e = small-fits g d par h (decode-legal g d par (getD ss x []) h (e .1) .1)
 
 -- the whole ones: every end lies in the zone, so one with an end up to the zone's end is any

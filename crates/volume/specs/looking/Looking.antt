@@ -24,18 +24,21 @@ use Rattle.tables.specs.meaning.Device.{Device, ZoneView, blankZone}
 use Rattle.tables.specs.meaning.Tables.{tablesOf, cell, zoneAtCell, deviceOf, lengthsFit, pointersBad}
 use Rattle.tables.specs.laws.TablesFrame.{lengths-are, pointers-good}
 use Rattle.tables.specs.laws.Tables.{device-pointer, device-durable}
-use Rattle.volume.specs.meaning.Refusals.{badPointers, firstRefusal, lookRows, twoLost, badLabels, kindLacks, badLogs}
+use Rattle.volume.specs.meaning.Refusals.{firstBadPlace, driveBadPlace, badPointers, firstRefusal, lookRows, twoLost, badLabels, kindLacks, badLogs}
 use Rattle.volume.specs.declared.Condition.the-variants.{Empty}
 use Rattle.volume.specs.declared.ZoneRecord.{ZoneRecord}
 use Rattle.volume.specs.declared.State.{State}
 use Rattle.volume.specs.declared.ZoneLook.{ZoneLook}
 use Rattle.volume.specs.declared.Look.{Look}
 use Rattle.volume.specs.declared.Outcome.{Outcome}
+use Rattle.volume.specs.declared.Answer.{Answer}
+use Rattle.volume.specs.meaning.Answers.{refusedAt}
+use Rattle.volume.specs.laws.BadPlaces.{refused-plain}
 use Rattle.volume.specs.declared.Answer.the-variants.{Refused}
 use Rattle.logs.specs.meaning.Heads.{arrayIn, leastSeal}
 use Rattle.volume.specs.meaning.Rules.{sealLimitBelow, servingEntries, View, valueOf, Shown, ZoneShown, showing, isLost, isPresent, lostDrive, generalHeads, generalEnding, parityEntries, parityEnding, generationOf, resetSeen, sealSeen, sealLimit, viewOf, zoneView, valueAt, pointerAt, cleanAt, zoneAt, zoneShown}
 use Rattle.volume.specs.meaning.Mount.{mountState}
-use Rattle.volume.specs.meaning.CallContracts.{blankRecord, recordAt, viewState, isSet, verdictNumber, lengthsOf, rolesOf, seenIn, zoneLookOf, recordFrom, stateShown, lookVerdict, lookOn}
+use Rattle.volume.specs.meaning.CallContracts.{badPlaceOn, blankRecord, recordAt, viewState, isSet, verdictNumber, lengthsOf, rolesOf, seenIn, zoneLookOf, recordFrom, stateShown, lookVerdict, lookOn}
 use Rattle.volume.specs.meaning.Roles.{Roles}
 use Rattle.volume.specs.declared.roles.LogPlaces.{LogPlaces}
 use Rattle.volume.specs.looking.Knowing.{Readable, readDevice}
@@ -104,6 +107,10 @@ module _ (g : Geometry) (named : ℕ → Bool) where
   logs-sectors : (v : Device) → badLogs g named v ≡ badLogs g named (sectorsOnly v)
   unfolding badLogs generalEnding parityEnding
   logs-sectors v = refl
+
+  bad-place-sectors : (placed : ℕ → ℕ → ℕ) (v : Device) → firstBadPlace g named placed v ≡ firstBadPlace g named placed (sectorsOnly v)
+  unfolding firstBadPlace driveBadPlace
+  bad-place-sectors placed v = refl
 
   generation-sectors : (v : Device) (z : ℕ) → generationOf g named v z ≡ generationOf g named (sectorsOnly v) z
   unfolding generationOf generalHeads
@@ -176,6 +183,9 @@ module _ (g : Geometry) (xs ws ds : List ℕ) where
   pub logs-read : (present : ℕ → Bool) → badLogs g present (deviceOf g (tablesOf xs ws ds)) ≡ badLogs g present (readDevice g xs ws)
   logs-read present = logs-sectors g present (deviceOf g (tablesOf xs ws ds)) ∙ ap (badLogs g present) (same-sectors g xs ws ds) ∙ sym (logs-sectors g present (readDevice g xs ws))
 
+  pub bad-place-read : (present : ℕ → Bool) (placed : ℕ → ℕ → ℕ) → firstBadPlace g present placed (deviceOf g (tablesOf xs ws ds)) ≡ firstBadPlace g present placed (readDevice g xs ws)
+  bad-place-read present placed = bad-place-sectors g present placed (deviceOf g (tablesOf xs ws ds)) ∙ ap (firstBadPlace g present placed) (same-sectors g xs ws ds) ∙ sym (bad-place-sectors g present placed (readDevice g xs ws))
+
   pub shown-read : (present : ℕ → Bool) (x : ℕ) → showing g present x (deviceOf g (tablesOf xs ws ds)) ≡ showing g present x (readDevice g xs ws)
   shown-read present x = shown-sectors g present x (deviceOf g (tablesOf xs ws ds)) ∙ ap (showing g present x) (same-sectors g xs ws ds) ∙ sym (shown-sectors g present x (readDevice g xs ws))
 
@@ -212,6 +222,16 @@ module _ (g : Geometry) (named : List Bool) (sectors : ℕ) (ws ds : List ℕ) w
   three true true true h = absurd (omega arith)
   three true false c h = absurd (omega arith)
   three false b c h = absurd (omega arith)
+
+  most : (a b c : Bool) → verdictNumber (firstRefusal ((1, not a) ∷ (2, not b) ∷ (3, c) ∷ [])) ≤ 3
+  most true true false = omega arith
+  most true true true = omega arith
+  most true false c = omega arith
+  most false b c = omega arith
+
+  pub shape-most : shapeNumber g named sectors ws ds ≤ 3
+  unfolding shapeNumber
+  shape-most = most (isValid g) (lengthsFit g sectors (length ws) (length ds)) (pointersBad g named ws ds)
 
   pub shaped-first : shapeNumber g named sectors ws ds ≡ 0 → g .logs ≡ 0
   unfolding shapeNumber
@@ -315,9 +335,15 @@ module _ (g : Geometry) (named : List Bool) (old : State) (xs ws ds : List ℕ) 
       go (yes h) = h
       go (no h) = look-shape g named xs ws ds h ∙ e
 
-  pub look-refused : (n : ℕ) → n ≡ verdictNumber (lookVerdict g named (tablesOf xs ws ds)) → n ≢ 0 → _≡_ {A = Outcome} (record { answer = Refused n; state = old }) (lookOn g named old (tablesOf xs ws ds))
+  pub look-refused : (n : ℕ) → n ≡ verdictNumber (lookVerdict g named (tablesOf xs ws ds)) → n ≢ 0 → _≡_ {A = Outcome} (record { answer = refusedAt (badPlaceOn g named (tablesOf xs ws ds)) n; state = old }) (lookOn g named old (tablesOf xs ws ds))
   unfolding lookOn
   look-refused n e h = rw (← e, ne-eqb n 0 h) refl
+
+  -- 1 to 3
+  pub look-refused-shape : (n : ℕ) → n ≡ shapeNumber g named (length xs) ws ds → n ≢ 0 → _≡_ {A = Outcome} (record { answer = Refused n; state = old }) (lookOn g named old (tablesOf xs ws ds))
+  look-refused-shape n e h =
+      ap (λ (a : Answer). record { answer = a; state = old }) (refused-plain (badPlaceOn g named (tablesOf xs ws ds)) n (λ z. omega (arith, z, e, shape-most g named (length xs) ws ds)))
+      ∙ look-refused n (e ∙ look-shape g named xs ws ds (λ z. h (e ∙ z))) h
 
 -- ---- where no pointer is bad, row 3 of the tables is row 3 of the device: the look's answer is the rules' (Answers: lookCall)
 pointer-fine : (g : Geometry) (named : List Bool) (xs ws ds : List ℕ) (d y : ℕ) → pointersBad g named ws ds ≡ false → d < g .drives → y < physicalZones g → isSet named d ≡ true

@@ -14,7 +14,7 @@ use Rattle.tables.specs.meaning.Below.{anyBelow}
 use Rattle.tables.specs.laws.Below.{any-below-cong}
 use Rattle.tables.specs.meaning.Geometry.{Valid, physicalZones, zoneSectors, dataZone, cells}
 use Rattle.tables.specs.meaning.Device.{Device, ZoneView}
-use Rattle.tables.specs.meaning.Tables.{tablesOf, deviceOf, cell}
+use Rattle.tables.specs.meaning.Tables.{tablesOf, deviceOf, cell, zonePlace}
 use Rattle.tables.specs.laws.ZonePlaces.{place-in}
 use Rattle.volume.specs.declared.roles.LogPlaces.{LogPlaces}
 use Rattle.volume.specs.meaning.CallContracts.{isSet, seenIn}
@@ -77,6 +77,10 @@ module _ (g : Geometry) (xs ws : List ℕ) (p : LogPlaces) (ps : List ℕ) (s : 
   -- ---- pointers
   role-in : (d y : ℕ) → d < g .drives → y < physicalZones g → zoneOfRole (roles g (readDevice g xs ws) d) y < physicalZones g
   role-in d y hd hy = let r = roles g (readDevice g xs ws) in rw (zone-by-role g r (roles-proper g (readDevice g xs ws)) d hd y) at (place-in (withRoles g r) d y hy)
+
+  -- where a zone lies
+  pub seen-place : (d y : ℕ) → d < g .drives → zonePlace (p .geometry) d y ≡ zoneOfRole (roles g (readDevice g xs ws) d) y
+  seen-place d y hd = ap (λ (q : LogPlaces). zonePlace (q .geometry) d y) (s .places) ∙ zone-by-role g (roles g (readDevice g xs ws)) (roles-proper g (readDevice g xs ws)) d hd y
 
   pub seen-cell : (d y : ℕ) → d < g .drives → cell (p .geometry) d y ≡ cell g d (zoneOfRole (roles g (readDevice g xs ws) d) y)
   seen-cell d y hd = ap (λ (q : LogPlaces). cell (q .geometry) d y) (s .places) ∙ cell-by-role g (s .first) (roles g (readDevice g xs ws)) (roles-proper g (readDevice g xs ws)) d y hd

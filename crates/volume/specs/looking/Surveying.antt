@@ -1,6 +1,6 @@
 -- A look by what its survey found (src/looking.rt): the geometry h that places the logs, the drives present, the pointers ps. By them its refusals, and
 -- what it shows, are those of the device by its roles. A mount begins so too.
-use mathlib.Core.Path.{_≡_, sym, ap, ap₂, subst, _∙_}
+use mathlib.Core.Path.{_≡_, refl, sym, ap, ap₂, subst, _∙_, fun-ext}
 use mathlib.Core.Bool.{Bool, true, _||_, not}
 use Prim.Native.Nat.{ℕ, _≤_, _<_}
 use native.Mathlib.Omega.{arith}
@@ -13,7 +13,7 @@ use Rattle.tables.specs.meaning.Below.{countBelow}
 use Rattle.tables.specs.meaning.Drives.{findBelow}
 use Rattle.tables.specs.meaning.Geometry.{physicalZones}
 use Rattle.tables.specs.meaning.Device.{Device}
-use Rattle.tables.specs.meaning.Tables.{tablesOf, deviceOf, cell}
+use Rattle.tables.specs.meaning.Tables.{tablesOf, deviceOf, cell, zonePlace}
 use Rattle.tables.specs.laws.TablesFrame.{pointers-good}
 use Rattle.volume.specs.declared.State.{State}
 use Rattle.volume.specs.declared.Look.{Look}
@@ -21,23 +21,25 @@ use Rattle.volume.specs.declared.Outcome.{Outcome}
 use Rattle.volume.specs.declared.Answer.the-variants.{Finished}
 use Rattle.volume.specs.declared.looking.Survey.{Survey}
 use Rattle.volume.specs.meaning.Rules.{Shown, showing, isPresent, lostDrive}
-use Rattle.volume.specs.meaning.Refusals.{firstRefusal, twoLost, kindLacks, badLabels, badLogs}
+use Rattle.volume.specs.meaning.Refusals.{firstRefusal, twoLost, kindLacks, badLabels, badLogs, firstBadPlace}
 use Rattle.volume.specs.meaning.Answers.{presentIn, lostDriveIn}
-use Rattle.volume.specs.meaning.Roles.{Roles, roles}
-use Rattle.volume.specs.meaning.CallContracts.{isSet, verdictNumber, rolesOf, seenIn, stateShown, lookVerdict, lookOn}
+use Rattle.volume.specs.meaning.Roles.{Roles, roles, zoneOfRole, placedBy}
+use Rattle.volume.specs.meaning.CallContracts.{isSet, verdictNumber, rolesOf, seenIn, stateShown, lookVerdict, lookOn, badPlaceOn}
 use Rattle.volume.specs.laws.LogPlaces.{withLogs}
 use Rattle.volume.specs.laws.RulesUnread.{is-present-alike, lost-drive-alike, showing-alike}
-use Rattle.volume.specs.laws.CallsUnread.{two-lost-alike, bad-labels-alike, bad-logs-alike}
+use Rattle.volume.specs.laws.CallsUnread.{two-lost-alike, bad-labels-alike, bad-logs-alike, bad-place-alike}
+use Rattle.volume.specs.laws.BadPlaces.{first-bad-depends}
 use Rattle.volume.specs.looking.DrivesLost.{two-lost-is, lost-drive-is}
 use Rattle.volume.specs.looking.HiddenLogs.{roles-durable}
 use Rattle.volume.specs.looking.Knowing.{readDevice}
-use Rattle.volume.specs.looking.SeenByRoles.{Seen, kindLacksOn, seen-geometry, seen-sized, seen-read, seen-good, seen-lacks}
-use Rattle.volume.specs.looking.Looking.{shapeNumber, shaped, logNumber, lookOf, recordsOf, state-of-look, present-read, lost-drive-read, two-lost-read, labels-read, logs-read, shown-read, look-late, present-named, Lookable}
+use Rattle.volume.specs.looking.SeenByRoles.{Seen, kindLacksOn, seen-place, seen-geometry, seen-sized, seen-read, seen-good, seen-lacks}
+use Rattle.volume.specs.looking.Looking.{shapeNumber, shaped, logNumber, lookOf, recordsOf, state-of-look, present-read, lost-drive-read, two-lost-read, labels-read, logs-read, bad-place-read, shown-read, look-late, present-named, Lookable}
 
 pub record Surveyed (g : Geometry) (named : List Bool) (xs ws : List ℕ) (v : Survey) (ps : List ℕ) : Type 0 where
   pub seen : Seen g xs ws (v .places) ps
   pub present : isSet (v .here) ≡ isPresent (v .places .geometry) (isSet named) (readDevice (v .places .geometry) xs ps)
   pub refused : v .refusal ≡ logNumber (v .places) (v .here) (readDevice (v .places .geometry) xs ps)
+  pub bad-is : v .bad ≡ firstBadPlace (v .places .geometry) (isSet (v .here)) (zonePlace (v .places .geometry)) (readDevice (v .places .geometry) xs ps)
 
 -- the state shown does not tell where the logs lie
 pub state-alike : (g h : Geometry) → h ≡ withLogs g (h .logs) → (k : Shown) → stateShown h k ≡ stateShown g k
@@ -96,6 +98,16 @@ module _ (g : Geometry) (named : List Bool) (xs ws : List ℕ) (v : Survey) (ps 
   pub survey-refusal : shapeNumber g named (length xs) ws ds ≡ 0 → v .refusal ≡ verdictNumber (lookVerdict g named (tablesOf xs ws ds))
   unfolding logNumber
   survey-refusal e = s .refused ∙ (λ i. rowsBy (two-is i) (kind-is i) (labels-are i) (logs-are i)) ∙ sym (look-late g named xs ws ds e)
+
+  -- and where a log is bad, its place
+  placed-is : (d : ℕ) → d < g .drives → zonePlace h d ≡ placedBy (rolesOf g (tablesOf xs ws ds)) d
+  placed-is d hd = fun-ext λ y. seen-place g xs ws (v .places) ps (s .seen) d y hd ∙ ap (λ (r : ℕ → Roles). zoneOfRole (r d) y) (sym (roles-durable g xs ws ds))
+
+  pub survey-bad : v .bad ≡ badPlaceOn g named (tablesOf xs ws ds)
+  survey-bad =
+      s .bad-is
+      ∙ by-present (λ (k : Geometry) (q : ℕ → Bool) (x : Device). firstBadPlace k q (zonePlace h) x) (λ n x. bad-place-alike g n (isSet (v .here)) (zonePlace h) x) (bad-place-read h xs ps ds (isSet (v .here)) (zonePlace h))
+      ∙ first-bad-depends g (isPresent g (isSet named) w) w w (λ d p y. refl) (zonePlace h) (placedBy (rolesOf g (tablesOf xs ws ds))) (λ d hd p. placed-is d hd)
 
   -- what the deed needs
   pub survey-lookable : shapeNumber g named (length xs) ws ds ≡ 0 → Lookable h (v .here) xs ps

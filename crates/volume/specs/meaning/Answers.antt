@@ -1,12 +1,12 @@
 -- The calls on any input, on a device: what refuses each, what it stores, what it hands on or gives. The refusals are those of Refusals.antt, the
 -- stores those of Calls.antt and Mount.antt, what is shown and read that of Rules.antt.
 use Rattle.volume.specs.meaning.Rules.{lostDrive, Shown, isPresent, showing, valueAt}
-use Rattle.volume.specs.meaning.Refusals.{firstRefusal, Verdict, refuse, accept, TableLengths, zoneOf, offsetOf, formatRows, lookRows, mountRows, writeRows, flushRows, resetRows, readRows, peekRows, badPointers}
+use Rattle.volume.specs.meaning.Refusals.{firstBadPlace, firstRefusal, Verdict, refuse, accept, TableLengths, zoneOf, offsetOf, formatRows, lookRows, mountRows, writeRows, flushRows, resetRows, readRows, peekRows, badPointers}
 use mathlib.Core.Bool.{Bool, _&&_, not}
 use Prim.Native.Nat.{ℕ, zero, _+_, _-_, _*_}
 use mathlib.Core.List.{List}
 use lib.ListN.{length, take, drop}
-use lib.Dec.{ltb}
+use lib.Dec.{ltb, eqb}
 use Rattle.tables.specs.meaning.Device.{Device, Store, applyAll}
 use Rattle.tables.specs.meaning.Basics.{pick}
 use Rattle.tables.specs.meaning.Placement.{driveOf, sectorOf}
@@ -15,11 +15,12 @@ use Rattle.tables.specs.meaning.Below.{tabulateFrom}
 use Rattle.tables.specs.meaning.Drives.{findBelow}
 use Rattle.volume.specs.meaning.State.{StateView, callPresent}
 use Rattle.volume.specs.meaning.Calls.{writeState, flushStores, flushState, resetState, formatStores, formatState}
-use Rattle.volume.specs.meaning.Roles.{roles, byRoles}
+use Rattle.volume.specs.meaning.Roles.{roles, byRoles, placedBy}
 use Rattle.volume.specs.meaning.Emptying.{writeAll, resetAll}
 use Rattle.volume.specs.meaning.Mount.{mountStores, mountShows, mountState}
 use Rattle.volume.specs.declared.Answer.{Answer}
-use Rattle.volume.specs.declared.Answer.the-variants.{Finished, Unfinished, Refused}
+use Rattle.volume.specs.declared.Answer.the-variants.{Finished, Unfinished, Refused, BadLog}
+use Rattle.volume.specs.declared.BadPlace.{BadPlace}
 use Rattle.tables.specs.meaning.Geometry.{dataZone}
 
 -- what a call leaves: its answer, the memory (here a device), and the state that the host holds from then on. "Refused: no store is made; state and
@@ -84,6 +85,20 @@ presentIn g named v = isPresent g named (byRoles g v)
 
 abbrev pub lostDriveIn : Geometry → (ℕ → Bool) → Device → ℕ
 lostDriveIn g named v = lostDrive g named (byRoles g v)
+
+-- the first bad place of the counting logs of those drives, in their zones
+abbrev pub badPlaceOf : Geometry → (ℕ → Bool) → Device → BadPlace
+badPlaceOf g named v = firstBadPlace g (presentIn g named v) (placedBy (roles g v)) (byRoles g v)
+
+-- the answer of a look or mount that is refused by row n: row 6 by the number and the place of the first bad place (b), any other by its number
+abbrev pub refusedAt : BadPlace → ℕ → Answer
+refusedAt b n = pick (eqb n 6) (BadLog b) (Refused n)
+
+abbrev pub toldAt : BadPlace → Answer → Answer
+toldAt b Finished = Finished
+toldAt b Unfinished = Unfinished
+toldAt b (Refused n) = refusedAt b n
+toldAt b (BadLog p) = BadLog p
 
 abbrev pub formatCall : Geometry → TableLengths → (ℕ → Bool) → ℕ → Device → StoringCall
 formatCall g t named array v = record { refusals = formatRows g t (badPointers g named v) named v; stores = formatStores g (namedDrives g named) (leftOut g named) array; state = formatState (leftOut g named) }

@@ -14,12 +14,13 @@ use Rattle.volume.specs.declared.Condition.the-variants.{Empty, Worn, Op
 use Rattle.volume.specs.declared.ZoneRecord.{ZoneRecord}
 use Rattle.volume.specs.declared.State.{State}
 use Rattle.volume.specs.declared.Answer.{Answer}
-use Rattle.volume.specs.declared.Answer.the-variants.{Finished, Unfinished, Refused}
+use Rattle.volume.specs.declared.Answer.the-variants.{Finished, Unfinished, Refused, BadLog}
+use Rattle.volume.specs.declared.BadPlace.{BadPlace}
 use Rattle.volume.specs.declared.Outcome.{Outcome}
 use Rattle.volume.specs.meaning.State.{StateView, callPresent, pointerIn}
 use Rattle.volume.specs.meaning.Refusals.{Verdict, refuse, accept, firstRefusal, TableLengths, flushRows, resetRows, writeRows, zoneOf, offsetOf, formatRows, lookRows, mountRows, readRows, peekRows}
 use Rattle.volume.specs.meaning.Calls.{flushStores, formatStores}
-use Rattle.volume.specs.meaning.Answers.{lostIn, sectorsIn, leftOut, namedDrives, Place, placeOf, presentIn, lostDriveIn}
+use Rattle.volume.specs.meaning.Answers.{lostIn, sectorsIn, leftOut, namedDrives, Place, placeOf, presentIn, lostDriveIn, badPlaceOf, refusedAt, toldAt}
 use Rattle.volume.specs.meaning.Roles.{Roles, roles, byRoles}
 use Rattle.volume.specs.meaning.Emptying.{writeAll, resetAll}
 use Rattle.tables.specs.meaning.Below.{tabulate, tabulateFrom}
@@ -51,6 +52,7 @@ abbrev pub answerNumber : Answer → ℕ
 answerNumber Finished = 0
 answerNumber Unfinished = 255
 answerNumber (Refused n) = n
+answerNumber (BadLog b) = b .number
 
 -- the number of a refusal, 0 if there is none
 abbrev pub verdictNumber : Verdict → ℕ
@@ -161,12 +163,16 @@ stateShown g k = record { lost = k .lost; zones = tabulate (λ z. recordFrom (zo
 unfoldable pub lookVerdict : Geometry → List Bool → Tables → Verdict
 lookVerdict g named t = firstRefusal (lookRows g (lengthsOf t) (badIn g named t) (isSet named) (rolesOf g t) (seenIn g t))
 
+-- the first bad place of the logs that a look reads
+abbrev pub badPlaceOn : Geometry → List Bool → Tables → BadPlace
+badPlaceOn g named t = badPlaceOf g (isSet named) (deviceOf g t)
+
 -- refused: the state stays; else what is shown is the state from then on. Nothing is stored.
 unfoldable pub lookOn : Geometry → List Bool → State → Tables → Outcome
 lookOn g named old t =
     pick (eqb (verdictNumber (lookVerdict g named t)) 0)
     (record { answer = Finished; state = stateShown g (showing g (presentIn g (isSet named) (deviceOf g t)) (lostDriveIn g (isSet named) (deviceOf g t)) (seenIn g t)) })
-    (record { answer = Refused (verdictNumber (lookVerdict g named t)); state = old })
+    (record { answer = refusedAt (badPlaceOn g named t) (verdictNumber (lookVerdict g named t)); state = old })
 
 -- ==== mount
 unfoldable pub mountVerdict : Geometry → List Bool → Tables → Verdict
@@ -193,10 +199,14 @@ mountStoresOn g present x t =
 unfoldable pub mountShownOn : Geometry → (ℕ → Bool) → ℕ → Tables → State
 mountShownOn g present x t = stateShown g (showing g present x (seenIn g (afterStores g (mountStoresOn g present x t) t)))
 
+-- its answer tells the bad place
+abbrev pub tellingAt : BadPlace → Result → Result
+tellingAt b r = record { outcome = record { answer = toldAt b (r .outcome .answer); state = r .outcome .state }; tables = r .tables }
+
 unfoldable pub mountOn : Geometry → List Bool → State → ℕ → Tables → Result
-mountOn g named old count t =
-    storingOn g (verdictNumber (mountVerdict g named t)) (mountStoresOn g (presentIn g (isSet named) (deviceOf g t)) (lostDriveIn g (isSet named) (deviceOf g t)) t)
-    (mountShownOn g (presentIn g (isSet named) (deviceOf g t)) (lostDriveIn g (isSet named) (deviceOf g t)) t) old count t
+mountOn g named old count t = tellingAt (badPlaceOn g named t)
+    (storingOn g (verdictNumber (mountVerdict g named t)) (mountStoresOn g (presentIn g (isSet named) (deviceOf g t)) (lostDriveIn g (isSet named) (deviceOf g t)) t)
+    (mountShownOn g (presentIn g (isSet named) (deviceOf g t)) (lostDriveIn g (isSet named) (deviceOf g t)) t) old count t)
 
 -- ==== read: its answer, and its buffer
 unfoldable pub readNumber : Geometry → List Bool → State → ℕ → ℕ → ℕ → Tables → ℕ

@@ -78,7 +78,7 @@ rowFor g s i f n r = pick (eqb n (s .generation) && leb (i * stripeSectors g + f
 
 abbrev pub missingRows : Geometry → Shown → Ending → List (List ℕ)
 missingRows g k atPointer = []
-missingRows g k noEntry = []
+missingRows g k (noEntry f) = []
 missingRows g k (torn (label x a) rs) = []
 missingRows g k (torn (counters cs) rs) = []
 missingRows g k (torn (zoneReset z n) rs) = []

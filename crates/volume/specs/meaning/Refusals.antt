@@ -2,7 +2,7 @@
 -- condition." Each condition of the table is a definition, in the table's order; then each call lists the rows that it can meet.
 -- The device has no lengths of tables and buffers: refusal 2 takes them as numbers.
 use mathlib.Core.Bool.{Bool, true, false, _&&_, _||_, not}
-use Prim.Native.Nat.{ℕ, suc, _+_, _-_, _*_, _/_, _%_, min}
+use Prim.Native.Nat.{ℕ, zero, suc, _+_, _-_, _*_, _/_, _%_, min}
 use mathlib.Core.List.{List, [], _∷_}
 use lib.ListN.{length}
 use lib.Dec.{ltb, leb, eqb}
@@ -15,9 +15,10 @@ use Rattle.tables.specs.declared.Geometry.{Geometry}
 use Rattle.tables.specs.meaning.Geometry.{stripeSectors, zoneSectors, physicalZones, dataZone}
 use Rattle.tables.specs.meaning.GeometryTest.{isValid}
 use Rattle.tables.specs.meaning.Tables.{lengthsFit, bufferFits}
-use Rattle.logs.specs.meaning.Entry.{wornGeneration}
-use Rattle.logs.specs.meaning.Walk.{Ending, atPointer, noEntry, torn}
+use Rattle.logs.specs.meaning.Entry.{generalZone, parityZone, wornGeneration, faultNumber}
+use Rattle.logs.specs.meaning.Walk.{Ending, atPointer, noEntry, torn, Walked, walkLog}
 use Rattle.logs.specs.meaning.Heads.{labelled, arrayIn}
+use Rattle.volume.specs.declared.BadPlace.{BadPlace}
 use Rattle.volume.specs.declared.Condition.{Condition}
 use Rattle.volume.specs.declared.Condition.the-variants.{Empty, Open, Sealed, Worn}
 use Rattle.volume.specs.meaning.State.{pointerIn, isSealed, isWorn, StateView, callPresent}
@@ -83,14 +84,50 @@ badLabels g present v =
 unfoldable pub kindLacks : Geometry → (ℕ → Bool) → (ℕ → Roles) → Bool
 kindLacks g present r = anyBelow (λ d. present d && lacksKind (r d)) (g .drives)
 
--- 6, log: "a sector where a present drive's log should have an entry is no legal one, or rows pass C"
+-- 6, 16 and 17, log: "a sector where a present drive's log should have an entry is no legal one, or rows pass C". The three stand at one place of the
+-- order: here they are row 6, and the first bad place says which of them the answer is
 abbrev pub isNoEntry : Ending → Bool
 isNoEntry atPointer = false
-isNoEntry noEntry = true
+isNoEntry (noEntry f) = true
 isNoEntry (torn h rs) = false
 
 unfoldable pub badLogs : Geometry → (ℕ → Bool) → Device → Bool
 badLogs g present v = anyBelow (λ d. present d && (isNoEntry (generalEnding g v d) || isNoEntry (parityEnding g v d))) (g .drives)
+
+-- "the earliest drive, zone and sector deciding": a bad place has its number, 0 if there is none; its drive, physical zone and sector
+abbrev pub noBadPlace : BadPlace
+noBadPlace = record { number = 0; drive = 0; zone = 0; sector = 0 }
+
+-- the bad place of drive d's log in zone y, by the end of its walk at sector x: a walk is left at the first one
+abbrev pub badPlaceAt : ℕ → ℕ → Ending → ℕ → BadPlace
+badPlaceAt d y atPointer x = noBadPlace
+badPlaceAt d y (noEntry f) x = record { number = faultNumber f; drive = d; zone = y; sector = x }
+badPlaceAt d y (torn h rs) x = noBadPlace
+
+abbrev pub badPlaceIn : ℕ → ℕ → Walked → BadPlace
+badPlaceIn d y w = badPlaceAt d y (w .last) (w .position)
+
+-- of two, the first that there is
+abbrev pub firstOf : BadPlace → BadPlace → BadPlace
+firstOf a b = pick (eqb (a .number) 0) b a
+
+-- of the logs in two zones, the lower zone's first
+abbrev pub lowerFirst : ℕ → ℕ → BadPlace → BadPlace → BadPlace
+lowerFirst y z a b = pick (ltb y z) (firstOf a b) (firstOf b a)
+
+-- of drive d (placed: the zones of its roles)
+unfoldable pub driveBadPlace : Geometry → (ℕ → ℕ) → Device → ℕ → BadPlace
+driveBadPlace g placed w d = lowerFirst (placed generalZone) (placed parityZone)
+    (badPlaceIn d (placed generalZone) (walkLog g d false (w d generalZone .sectors))) (badPlaceIn d (placed parityZone) (walkLog g d true (w d parityZone .sectors)))
+
+-- of those numbered below n
+abbrev pub firstBelow : (ℕ → BadPlace) → ℕ → BadPlace
+firstBelow p zero = noBadPlace
+firstBelow p (suc n) = firstOf (firstBelow p n) (p n)
+
+-- of the present drives
+unfoldable pub firstBadPlace : Geometry → (ℕ → Bool) → (ℕ → ℕ → ℕ) → Device → BadPlace
+firstBadPlace g present placed w = firstBelow (λ d. pick (present d) (driveBadPlace g (placed d) w d) noBadPlace) (g .drives)
 
 -- 7, stale: "a present drive's pointer in the named zone isn't what an empty or open state needs, or is below that when sealed or worn"
 abbrev pub staleIn : Condition → ℕ → ℕ → Bool

@@ -187,7 +187,7 @@ sealSeen g present v z n = anyBelow (λ d. present d && anyOf (isSeal z n) (gene
 
 abbrev pub endingPast : Geometry → ℕ → ℕ → ℕ → Ending → Bool
 endingPast g z n q atPointer = false
-endingPast g z n q noEntry = false
+endingPast g z n q (noEntry f) = false
 endingPast g z n q (torn h rs) = endsPast g z n q h
 
 -- "A zone is clean if no present drive has more sectors than the pointer needs .. and no current type 4 entry, whole or torn, ends past it."

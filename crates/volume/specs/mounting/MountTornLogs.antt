@@ -102,7 +102,7 @@ torn-fits g d c (closing kind gen) ok e l = tt
 torn-at : (g : Geometry) (k : Shown) (d : ℕ) (ss : List (List ℕ)) (l : Ending) (x p : ℕ) → Valid g → EndsAt g d true ss l x → walkEndAt l x ≡ Torn p
     → (p < length ss) × (missingRows g k l ≡ missingSeen g k (found (decode g d true (getD ss p []))) (length ss - suc p)) × TornFits g (found (decode g d true (getD ss p []))) (length ss - suc p)
 torn-at g k d ss atPointer x p ok e h = absurd (let z : _≡_ {A = ℕ} 0 1 = cc in omega arith)
-torn-at g k d ss noEntry x p ok e h = absurd (let z : _≡_ {A = ℕ} 0 1 = cc in omega arith)
+torn-at g k d ss (noEntry f) x p ok e h = absurd (let z : _≡_ {A = ℕ} 0 1 = cc in omega arith)
 torn-at g k d ss (torn hd rs) x p ok e h =
     let q : x ≡ p = cc in
     let c : length rs ≡ length ss - suc x = ap (λ (r : List (List ℕ)). length r) (e .2) ∙ length-drop (suc x) ss in
@@ -115,7 +115,7 @@ torn-at g k d ss (torn hd rs) x p ok e h =
 
 torn-not : (g : Geometry) (k : Shown) (l : Ending) (x : ℕ) → walkEndAt l x ≢ Torn x → missingRows g k l ≡ []
 torn-not g k atPointer x h = refl
-torn-not g k noEntry x h = refl
+torn-not g k (noEntry f) x h = refl
 torn-not g k (torn hd rs) x h = absurd (h refl)
 
 -- ---- the stores of one drive
@@ -197,7 +197,7 @@ module _ (g : Geometry) (here : List Bool) (k : Look) (ps xs ws : List ℕ) (ok 
     where
       go : (l : Ending) (x : ℕ) → EndsAt g d true (parityLog g xs ps d) l x → StoresIn g (stays k) (appendAll d parityZone (missingRows g (shownAt g here k xs ps) l))
       go atPointer x e = tt
-      go noEntry x e = tt
+      go (noEntry f) x e = tt
       go (torn h rs) x e =
           let t = torn-at g (shownAt g here k xs ps) d (parityLog g xs ps d) (torn h rs) x x ok e refl in
           rw (t .1) (missing-in d (length (parityLog g xs ps d) - suc x) (found (decode g d true (getD (parityLog g xs ps d) x []))) hd (t .2))

@@ -19,21 +19,24 @@ use Rattle.tables.specs.laws.Counted.{run-covered}
 use Rattle.tables.specs.laws.PointerOrder.{run-most}
 use Rattle.volume.specs.declared.State.{State}
 use Rattle.volume.specs.declared.Outcome.{Outcome}
+use Rattle.volume.specs.declared.Answer.{Answer}
 use Rattle.volume.specs.declared.Answer.the-variants.{Finished, Unfinished, Refused}
+use Rattle.volume.specs.declared.BadPlace.{BadPlace}
 use Rattle.volume.specs.declared.looking.Survey.{Survey}
 use Rattle.volume.specs.declared.mount_rooms.Plan.{Plan}
 use Rattle.volume.specs.declared.roles.LogPlaces.{LogPlaces}
 use Rattle.volume.specs.meaning.Rules.{showing}
 use Rattle.volume.specs.meaning.Emptying.{byLook}
 use Rattle.volume.specs.meaning.Refusals.{firstRefusal, mountRows, lookRows, tablesFit, twoLost, kindLacks, badLabels, badLogs, mountFull}
-use Rattle.volume.specs.meaning.Answers.{presentIn, lostDriveIn}
-use Rattle.volume.specs.meaning.CallContracts.{isSet, verdictNumber, lengthsOf, badIn, Result, storingOn, rolesOf, seenIn, stateShown, lookVerdict, mountVerdict, mountStoresOn, mountShownOn, mountOn}
+use Rattle.volume.specs.meaning.Answers.{presentIn, lostDriveIn, refusedAt}
+use Rattle.volume.specs.meaning.CallContracts.{isSet, verdictNumber, lengthsOf, badIn, Result, storingOn, rolesOf, seenIn, stateShown, lookVerdict, mountVerdict, mountStoresOn, mountShownOn, tellingAt, mountOn, badPlaceOn}
+use Rattle.volume.specs.laws.BadPlaces.{refused-plain, told-plain}
 use Rattle.volume.specs.laws.CallContracts.{storing-unfinished, storing-finished}
 use Rattle.volume.specs.laws.RulesUnread.{showing-alike}
 use Rattle.volume.specs.looking.Knowing.{readDevice}
-use Rattle.volume.specs.looking.Looking.{Lookable, lookable-zone, shapeNumber, look-shape, shown-read}
+use Rattle.volume.specs.looking.Looking.{Lookable, lookable-zone, shapeNumber, shape-most, look-shape, shown-read}
 use Rattle.volume.specs.looking.SeenByRoles.{Seen, seen-geometry, seen-read, seen-readable}
-use Rattle.volume.specs.looking.Surveying.{Surveyed, state-alike, survey-present, survey-lost, survey-refusal}
+use Rattle.volume.specs.looking.Surveying.{Surveyed, state-alike, survey-present, survey-lost, survey-refusal, survey-bad}
 use Rattle.volume.specs.mounting.MountRooms.{lostAmong, Planned}
 use Rattle.volume.specs.mounting.MountPlan.{Planning}
 
@@ -128,22 +131,28 @@ module _ (g : Geometry) (xs ws : List ℕ) (p : LogPlaces) (ps : List ℕ) (s : 
 -- ---- THE CALL
 module _ (g : Geometry) (named : List Bool) (old : State) (count : ℕ) (t : Tables) where
   mount-refused : (n : ℕ) → n ≡ verdictNumber (mountVerdict g named t) → n ≢ 0
-      → (_≡_ {A = Outcome} (record { answer = Refused n; state = old }) (mountOn g named old count t .outcome)) × (t ≡ mountOn g named old count t .tables)
+      → (_≡_ {A = Outcome} (record { answer = refusedAt (badPlaceOn g named t) n; state = old }) (mountOn g named old count t .outcome)) × (t ≡ mountOn g named old count t .tables)
   unfolding mountOn
   mount-refused n e h = rw (← e, ne-eqb n 0 h) (refl, refl)
 
   -- refusals 1 to 3
   pub refused-shape : (n : ℕ) → n ≡ shapeNumber g named (length (t .sectors)) (t .written) (t .durable) → n ≢ 0
       → (_≡_ {A = Outcome} (record { answer = Refused n; state = old }) (mountOn g named old count t .outcome)) × (t ≡ mountOn g named old count t .tables)
-  refused-shape n e h = mount-refused n (refused-by-look g named t n (e ∙ look-shape g named (t .sectors) (t .written) (t .durable) (λ z. h (e ∙ z))) h) h
+  refused-shape n e h =
+      let (p, q) = mount-refused n (refused-by-look g named t n (e ∙ look-shape g named (t .sectors) (t .written) (t .durable) (λ z. h (e ∙ z))) h) h in
+      let six : n ≢ 6 = λ z. omega (arith, z, e, shape-most g named (length (t .sectors)) (t .written) (t .durable)) in
+      (ap (λ (a : Answer). record { answer = a; state = old }) (refused-plain (badPlaceOn g named t) n six) ∙ p, q)
 
   module _ (v : Survey) (ps : List ℕ) (shape : shapeNumber g named (length (t .sectors)) (t .written) (t .durable) ≡ 0) (found : Surveyed g named (t .sectors) (t .written) v ps) where
     looked : v .refusal ≡ verdictNumber (lookVerdict g named t)
     looked = survey-refusal g named (t .sectors) (t .written) v ps found (t .durable) shape
 
     -- 4 to 6
-    pub refused-logs : v .refusal ≢ 0 → (_≡_ {A = Outcome} (record { answer = Refused (v .refusal); state = old }) (mountOn g named old count t .outcome)) × (t ≡ mountOn g named old count t .tables)
-    refused-logs h = mount-refused (v .refusal) (refused-by-look g named t (v .refusal) looked h) h
+    pub refused-logs : v .refusal ≢ 0 → (_≡_ {A = Outcome} (record { answer = refusedAt (v .bad) (v .refusal); state = old }) (mountOn g named old count t .outcome)) × (t ≡ mountOn g named old count t .tables)
+    refused-logs h =
+        let (p, q) = mount-refused (v .refusal) (refused-by-look g named t (v .refusal) looked h) h in
+        let e = survey-bad g named (t .sectors) (t .written) v ps found (t .durable) in
+        (ap (λ (b : BadPlace). record { answer = refusedAt b (v .refusal); state = old }) e ∙ p, q)
 
     module _ (none : v .refusal ≡ 0) (p : Plan) (k : Planning g t v p ps) where
       here-is : isSet (p .here) ≡ presentIn g (isSet named) (deviceOf g t)
@@ -166,5 +175,6 @@ module _ (g : Geometry) (named : List Bool) (old : State) (count : ℕ) (t : Tab
       unfolding mountOn
       mount-goes-on e =
           ap₂ (λ (q : ℕ → Bool) (y : ℕ). mountedOn g q y old count t) here-is lost-is
-          ∙ sym (ap (λ (n : ℕ). storingOn g n (mountStoresOn g (presentIn g (isSet named) (deviceOf g t)) (lostDriveIn g (isSet named) (deviceOf g t)) t) (mountShownOn g (presentIn g (isSet named) (deviceOf g t)) (lostDriveIn g (isSet named) (deviceOf g t)) t) old count t)
+          ∙ sym (told-plain g (badPlaceOn g named t) 0 (mountStoresOn g (presentIn g (isSet named) (deviceOf g t)) (lostDriveIn g (isSet named) (deviceOf g t)) t) (mountShownOn g (presentIn g (isSet named) (deviceOf g t)) (lostDriveIn g (isSet named) (deviceOf g t)) t) old count t (λ z. omega (arith, z)))
+          ∙ sym (ap (λ (n : ℕ). tellingAt (badPlaceOn g named t) (storingOn g n (mountStoresOn g (presentIn g (isSet named) (deviceOf g t)) (lostDriveIn g (isSet named) (deviceOf g t)) t) (mountShownOn g (presentIn g (isSet named) (deviceOf g t)) (lostDriveIn g (isSet named) (deviceOf g t)) t) old count t))
           (number-is ∙ ap (λ (b : Bool). pick b 14 0) e))

@@ -39,7 +39,7 @@ module _ (g : Geometry) (s t : Shown) (same : (z : ℕ) → z < g .zones → s .
   -- a torn entry is of a zone of the volume
   rows-told : (d : ℕ) (ss : List (List ℕ)) (l : Ending) (x : ℕ) → EndsAt g d true ss l x → missingRows g s l ≡ missingRows g t l
   rows-told d ss atPointer x e = refl
-  rows-told d ss noEntry x e = refl
+  rows-told d ss (noEntry f) x e = refl
   rows-told d ss (torn (label y a) rs) x e = refl
   rows-told d ss (torn (counters cs) rs) x e = refl
   rows-told d ss (torn (zoneReset z n) rs) x e = refl

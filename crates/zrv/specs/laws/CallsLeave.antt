@@ -5,24 +5,27 @@ use mathlib.Core.Bool.{Bool, true, false}
 use Prim.Native.Nat.{ℕ, zero, suc, _+_, _*_}
 use mathlib.Core.List.{List, [], _∷_, _++_}
 use lib.ListN.{length}
-use lib.Dec.{eqb}
+use lib.Dec.{ltb, eqb}
 use Rattle.tables.specs.declared.Geometry.{Geometry}
 use Rattle.tables.specs.meaning.Basics.{pick}
 use Rattle.tables.specs.meaning.Geometry.{Valid, cells}
 use Rattle.tables.specs.meaning.Device.{Store, append, reset, flush}
 use Rattle.tables.specs.meaning.Phases.{onPresent, flushAll}
 use Rattle.tables.specs.meaning.Tables.{Tables, tablesOf, deviceOf, makeStore, runStores}
+use Rattle.volume.specs.declared.Answer.{Answer}
+use Rattle.volume.specs.declared.Answer.the-variants.{Finished, Unfinished, Refused}
+use Rattle.volume.specs.declared.BadPlace.{BadPlace}
 use Rattle.volume.specs.declared.State.{State}
 use Rattle.volume.specs.meaning.State.{callPresent}
 use Rattle.volume.specs.meaning.Refusals.{zoneOf}
-use Rattle.volume.specs.meaning.Answers.{lostIn, leftOut, namedDrives, sectorsIn, presentIn, lostDriveIn}
+use Rattle.volume.specs.meaning.Answers.{lostIn, leftOut, namedDrives, sectorsIn, presentIn, lostDriveIn, refusedAt}
 use Rattle.volume.specs.meaning.Calls.{flushStores, formatStores}
 use Rattle.volume.specs.meaning.Emptying.{writeAll, resetAll}
-use Rattle.volume.specs.meaning.CallContracts.{viewState, isSet, answerNumber, verdictNumber, rolesOf, seenIn, Result, storingOn, flushVerdict, withLost, flushOn, resetVerdict, withReset, resetOn, writeVerdict, writtenState, pointerOf, writeOn, formatVerdict, freshState, formatOn, mountVerdict, mountStoresOn, mountShownOn, mountOn}
+use Rattle.volume.specs.meaning.CallContracts.{viewState, isSet, answerNumber, verdictNumber, rolesOf, seenIn, Result, storingOn, flushVerdict, withLost, flushOn, resetVerdict, withReset, resetOn, writeVerdict, writtenState, pointerOf, writeOn, formatVerdict, freshState, formatOn, mountVerdict, mountStoresOn, mountShownOn, badPlaceOn, tellingAt, mountOn}
 use Rattle.volume.specs.laws.ByteLists.{Bytes}
 use Rattle.zrv.specs.meaning.Bytes.{tableFrom, tableTo}
-use Rattle.zrv.specs.meaning.EdgeCalls.{namedOf, inputNumber, sizesNumber, stateAfter, Ranges, tablesIn, stateIn, unreadState, Answered, storedAll, storedFlushes, unlessRefused, formatOfBytes, formatEdge, mountOfBytes, mountEdge, writeOfBytes, writeEdge, flushOfBytes, flushEdge, resetOfBytes, resetEdge}
-use Rattle.zrv.specs.laws.EdgeCalls.{Sized, input-passed, sizes-passed, made}
+use Rattle.zrv.specs.meaning.EdgeCalls.{namedOf, inputNumber, sizesNumber, stateAfter, Ranges, tablesIn, stateIn, unreadState, Answered, storedAll, storedFlushes, unlessRefused, formatOfBytes, formatEdge, mountOfBytes, mountEdge, withoutPlace, writeOfBytes, writeEdge, flushOfBytes, flushEdge, resetOfBytes, resetEdge}
+use Rattle.zrv.specs.laws.EdgeCalls.{Sized, input-passed, sizes-passed, made, mount-alone}
 use Rattle.zrv.specs.laws.TablesRoundTrip.{InWords, ranges-in-words, words-read-back, run-words, table-bytes, table-bytes-long}
 
 -- ---- a flush only flushes, and flushes leave `sectors` and `written`
@@ -64,19 +67,42 @@ run-flushes g (suc k) (reset d z ∷ xs) t p = absurd p
 run-flushes g (suc k) (flush d ∷ xs) t p = run-flushes g k xs (makeStore g (flush d) t) p
 
 -- ==== a storing call on tables
+-- volume's storingOn; told: how a refusal is answered, by its number or, in a mount, by a place
+abbrev pub storingTold : (ℕ → Answer) → Geometry → ℕ → List Store → State → State → ℕ → Tables → Result
+storingTold told g n ss new old count t = record {
+  outcome = pick (eqb n 0) (pick (ltb count (length ss)) (record { answer = Unfinished; state = old }) (record { answer = Finished; state = new })) (record { answer = told n; state = old });
+  tables = pick (eqb n 0) (runStores g count ss t) t;
+}
+
+pub storing-told : (b : BadPlace) (g : Geometry) (n : ℕ) (ss : List Store) (new old : State) (count : ℕ) (t : Tables) → tellingAt b (storingOn g n ss new old count t) ≡ storingTold (refusedAt b) g n ss new old count t
+storing-told b g n ss new old count t = go (eqb n 0) (ltb count (length ss))
+  where
+    ended : Answer → Bool → Bool → Result
+    ended a c e = record {
+      outcome = pick c (pick e (record { answer = Unfinished; state = old }) (record { answer = Finished; state = new })) (record { answer = a; state = old });
+      tables = pick c (runStores g count ss t) t;
+    }
+
+    go : (c e : Bool) → tellingAt b (ended (Refused n) c e) ≡ ended (refusedAt b n) c e
+    go true true = refl
+    go true false = refl
+    go false e = refl
+
 -- r is what it leaves of t
 pub record Stored (g : Geometry) (t : Tables) (r : Result) : Type 0 where
+  pub told : ℕ → Answer
   pub number : ℕ
   pub stores : List Store
   pub new : State
   pub old : State
   pub count : ℕ
-  pub is : r ≡ storingOn g number stores new old count t
+  pub is : r ≡ storingTold told g number stores new old count t
 
 module _ (g : Geometry) (t : Tables) (named : List Bool) (count : ℕ) where
   unfoldable pub format-stored : (array : ℕ) (old : State) → Stored g t (formatOn g named array old count t)
   unfolding formatOn
   format-stored array old = record {
+    told = Refused;
     number = verdictNumber (formatVerdict g named t);
     stores = formatStores g (namedDrives g (isSet named)) (leftOut g (isSet named)) array;
     new = freshState g (leftOut g (isSet named));
@@ -90,7 +116,16 @@ module _ (g : Geometry) (t : Tables) (named : List Bool) (count : ℕ) where
   mount-stored old =
       let present = presentIn g (isSet named) (deviceOf g t) in
       let x = lostDriveIn g (isSet named) (deviceOf g t) in
-      record { number = verdictNumber (mountVerdict g named t); stores = mountStoresOn g present x t; new = mountShownOn g present x t; old = old; count = count; is = refl }
+      let n = verdictNumber (mountVerdict g named t) in
+      record {
+        told = refusedAt (badPlaceOn g named t);
+        number = n;
+        stores = mountStoresOn g present x t;
+        new = mountShownOn g present x t;
+        old = old;
+        count = count;
+        is = storing-told (badPlaceOn g named t) g n (mountStoresOn g present x t) (mountShownOn g present x t) old count t;
+      }
 
   module _ (s : State) where
     abbrev here : ℕ → Bool
@@ -101,15 +136,16 @@ module _ (g : Geometry) (t : Tables) (named : List Bool) (count : ℕ) where
 
     unfoldable pub flush-stored : Stored g t (flushOn g named s count t)
     unfolding flushOn
-    flush-stored = record { number = verdictNumber (flushVerdict g named s t); stores = flushStores g here; new = withLost s lost; old = s; count = count; is = refl }
+    flush-stored = record { told = Refused; number = verdictNumber (flushVerdict g named s t); stores = flushStores g here; new = withLost s lost; old = s; count = count; is = refl }
 
     unfoldable pub reset-stored : (z : ℕ) → Stored g t (resetOn g named s z count t)
     unfolding resetOn
-    reset-stored z = record { number = verdictNumber (resetVerdict g named s z t); stores = resetAll g here (rolesOf g t) (seenIn g t) (viewState s) z; new = withReset s z lost; old = s; count = count; is = refl }
+    reset-stored z = record { told = Refused; number = verdictNumber (resetVerdict g named s z t); stores = resetAll g here (rolesOf g t) (seenIn g t) (viewState s) z; new = withReset s z lost; old = s; count = count; is = refl }
 
     unfoldable pub write-stored : (a k : ℕ) (buffer : List ℕ) → Stored g t (writeOn g named s a k buffer count t)
     unfolding writeOn
     write-stored a k buffer = record {
+      told = Refused;
       number = verdictNumber (writeVerdict g named s a k (length buffer) t);
       stores = writeAll g here (rolesOf g t) (seenIn g t) (viewState s) (zoneOf g a) (sectorsIn g k buffer);
       new = writtenState s lost (zoneOf g a) (pointerOf s (zoneOf g a) + k);
@@ -194,8 +230,9 @@ module _ (g : Geometry) (mask : ℕ) (m : Ranges) (a : Bytes (m .written)) (b : 
     pub format-leaves : (array count : ℕ) → Leaves g m (formatEdge g mask array count m) (formatOfBytes g mask array count m)
     format-leaves array count = leaves-all (formatOfBytes g mask array count m) (format-stored g (tablesIn g m) (namedOf mask) count array unreadState)
 
-    pub mount-leaves : (count : ℕ) → Leaves g m (mountEdge g mask count m) (mountOfBytes g mask count m)
-    mount-leaves count = leaves-all (mountOfBytes g mask count m) (mount-stored g (tablesIn g m) (namedOf mask) count unreadState)
+    -- (with the answer that it returns)
+    pub mount-leaves : (count : ℕ) → Leaves g m (withoutPlace (mountEdge g mask count m)) (mountOfBytes g mask count m)
+    mount-leaves count = rw (mount-alone g mask m count) (leaves-all (mountOfBytes g mask count m) (mount-stored g (tablesIn g m) (namedOf mask) count unreadState))
 
   module _ (n : inputNumber g (m .state) (length (m .written)) (length (m .durable)) ≡ 0) where
     abbrev taken : Sized g (length (m .state)) (length (m .written)) (length (m .durable))

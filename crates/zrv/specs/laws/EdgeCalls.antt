@@ -1,8 +1,8 @@
 -- Laws of the C edge, one for each step of a call: what its input's test gives, what it is made on, what is refused before it, what it hands back.
-use mathlib.Core.Path.{_≡_, refl, ap, _∙_}
+use mathlib.Core.Path.{_≡_, refl, ap, ap₂, _∙_}
 use mathlib.Core.Logic.{_≢_}
 use mathlib.Core.Bool.{Bool, true, false, _&&_}
-use Prim.Native.Nat.{ℕ, _-_, _*_, _≤_}
+use Prim.Native.Nat.{ℕ, _+_, _-_, _*_, _%_, _≤_}
 use native.Mathlib.Omega.{arith}
 use mathlib.Core.List.{List}
 use lib.ListN.{length, take, drop, replicate}
@@ -20,10 +20,11 @@ use Rattle.volume.specs.declared.Answer.{Answer}
 use Rattle.volume.specs.declared.Outcome.{Outcome}
 use Rattle.volume.specs.declared.State.{State}
 use Rattle.volume.specs.meaning.CallContracts.{answerNumber, Result, ReadResult, peekNumber, peekOn}
+use Rattle.volume.specs.laws.AnswerNumbers.{look-answer-small, mount-answer-small}
 use Rattle.volume.specs.reading.Peeking.{peek-done}
 use Rattle.tables.specs.meaning.LittleEndian.{bytesLE}
 use Rattle.zrv.specs.meaning.Bytes.{tableTo, stateTo}
-use Rattle.zrv.specs.meaning.EdgeCalls.{sizesFit, stateBad, inputNumber, sizesNumber, stateAfter, Ranges, ranges, Answered, answered, unlessRefused, handedBack, storedAll, storedFlushes, readAnswer, offsetAt, placeAnswer, placeSized}
+use Rattle.zrv.specs.meaning.EdgeCalls.{namedOf, sizesFit, stateBad, inputNumber, sizesNumber, stateAfter, Ranges, ranges, tablesIn, unreadState, Answered, answered, unlessRefused, writingState, handedBack, storedAll, storedFlushes, withNumber, placeNumber, withPlace, withoutPlace, lookOfBytes, lookEdge, mountOfBytes, mountEdge, readAnswer, offsetAt, placeAnswer, placeSized}
 
 -- ---- the input
 -- what passing its test gives
@@ -129,6 +130,48 @@ shown g m {o} {q} {n} {st} p h =
     let a : n ≡ answerNumber (q .answer) = h .0 ∙ ap (λ (u : Outcome). answerNumber (u .answer)) p in
     let b : st ≡ stateAfter g q (m .state) = h .1 ∙ ap (λ (u : Outcome). stateAfter g u (m .state)) p in
     cc
+
+-- ---- the calls that return a place too
+-- the code adds it last
+pub placed : {a b : Answer} {m : Ranges} {n k : ℕ} {r : Answered Ranges} → b ≡ a → answered n m ≡ r → k ≡ withNumber n (placeNumber b) → answered k m ≡ withPlace a r
+placed {a} {b} {m} {n} {k} {r} e f h =
+    let c : n ≡ r .code = ap (λ (x : Answered Ranges). x .code) f in
+    let p : k ≡ withNumber (r .code) (placeNumber a) = h ∙ ap₂ withNumber c (ap placeNumber e) in
+    ap₂ answered p (ap (λ (x : Answered Ranges). x .left) f)
+
+sizes-most : (g : Geometry) (n w d : ℕ) → sizesNumber g n w d ≤ 2
+unfolding sizesNumber
+sizes-most g n w d = go (isValid g) (sizesFit g n w d)
+  where
+    go : (a b : Bool) → pick a (pick b 0 2) 1 ≤ 2
+    go true true = omega arith
+    go true false = omega arith
+    go false b = omega arith
+
+-- without it they are calls like the others
+alone : (n : ℕ) (a : Answer) (r : Answered Ranges) (m : Ranges) → n ≤ 2 → r .code ≤ 255 → withoutPlace (unlessRefused n (withPlace a r) m) ≡ unlessRefused n r m
+unfolding unlessRefused
+alone n a r m h k = go (eqb n 0)
+  where
+    low : (x : ℕ) → x ≤ 255 → (y : ℕ) → (x + 4294967296 * y) % 4294967296 ≡ x
+    low x l y = omega arith
+
+    go : (c : Bool) → withoutPlace (pick c (withPlace a r) (answered n m)) ≡ pick c r (answered n m)
+    go true = ap (λ (x : ℕ). answered x (r .left)) (low (r .code) k (placeNumber a))
+    go false = ap (λ (x : ℕ). answered x m) (let e : n % 4294967296 ≡ n = omega arith in e)
+
+module _ (g : Geometry) (mask : ℕ) (m : Ranges) where
+  pub look-alone : withoutPlace (lookEdge g mask m) ≡ writingState g m (handedBack g (lookOfBytes g mask m) m)
+  look-alone =
+      let o = lookOfBytes g mask m in
+      alone (sizesNumber g (length (m .state)) (length (m .written)) (length (m .durable))) (o .answer) (handedBack g o m) m (sizes-most g (length (m .state)) (length (m .written)) (length (m .durable)))
+      (look-answer-small g (namedOf mask) (tablesIn g m) unreadState)
+
+  pub mount-alone : (count : ℕ) → withoutPlace (mountEdge g mask count m) ≡ writingState g m (storedAll g (mountOfBytes g mask count m) m)
+  mount-alone count =
+      let r = mountOfBytes g mask count m in
+      alone (sizesNumber g (length (m .state)) (length (m .written)) (length (m .durable))) (r .outcome .answer) (storedAll g r m) m (sizes-most g (length (m .state)) (length (m .written)) (length (m .durable)))
+      (unfold storedAll in mount-answer-small g (namedOf mask) (tablesIn g m) unreadState count)
 
 -- ---- the calls that answer in a buffer
 pub read-answered : (r : ReadResult) {x : Answer} {n : ℕ} {out : List ℕ} → (x ≡ r .answer) × (out ≡ r .buffer) → n ≡ answerNumber x → answered n out ≡ readAnswer r

@@ -1,9 +1,9 @@
 -- Refused, every range is as it was: one law for each function of the C edge. Tables that a function might have changed are written again, as the same
 -- bytes; so what those ranges held has to be bytes, as it is in C.
-use mathlib.Core.Path.{_≡_, refl, sym, ap, _∙_}
+use mathlib.Core.Path.{_≡_, refl, sym, ap, subst, _∙_}
 use mathlib.Core.Logic.{_≢_}
 use mathlib.Core.Bool.{Bool, true, false}
-use Prim.Native.Nat.{ℕ, _*_}
+use Prim.Native.Nat.{ℕ, _*_, _%_}
 use native.Mathlib.Decide.{ℕ-discrete}
 use mathlib.Core.List.{List}
 use lib.ListN.{length}
@@ -19,9 +19,9 @@ use Rattle.volume.specs.meaning.State.{callPresent}
 use Rattle.volume.specs.meaning.Refusals.{zoneOf, offsetOf}
 use Rattle.volume.specs.meaning.CallContracts.{recordAt, viewState, isSet, answerNumber, seenIn, Result, readNumber, valuesOn, readOn, peekNumber}
 use Rattle.volume.specs.laws.ByteLists.{Bytes}
-use Rattle.zrv.specs.meaning.EdgeCalls.{namedOf, inputNumber, sizesNumber, Ranges, tablesIn, stateIn, unreadState, Answered, answered, unlessRefused, handedBack, storedAll, storedFlushes, formatOfBytes, formatEdge}
+use Rattle.zrv.specs.meaning.EdgeCalls.{namedOf, inputNumber, sizesNumber, Ranges, tablesIn, stateIn, unreadState, Answered, answered, unlessRefused, writingState, handedBack, storedAll, storedFlushes, formatOfBytes, formatEdge}
 use Rattle.zrv.specs.meaning.EdgeCalls.{lookOfBytes, lookEdge, mountOfBytes, mountEdge, writeOfBytes, writeEdge, flushOfBytes, flushEdge, resetOfBytes, resetEdge, readAnswer, readEdge, placeAnswer, placeSized, peekEdge}
-use Rattle.zrv.specs.laws.EdgeCalls.{Sized, input-passed, sizes-passed, refused, made, state-kept}
+use Rattle.zrv.specs.laws.EdgeCalls.{Sized, input-passed, sizes-passed, refused, made, state-kept, look-alone, mount-alone}
 use Rattle.zrv.specs.laws.RoundTrips.{bytes-table-bytes}
 use Rattle.zrv.specs.laws.CallsLeave.{Stored, format-stored, mount-stored, flush-stored, reset-stored, write-stored}
 
@@ -34,7 +34,7 @@ stored-refused : (g : Geometry) (t : Tables) (r : Result) → Stored g t r → I
 stored-refused g t r q h = ap (λ (u : Result). u .tables) (q .is) ∙ go (eqb (q .number) 0) (ltb (q .count) (length (q .stores))) (rw (q .is) at h)
   where
     ended : Bool → Bool → Outcome
-    ended b c = pick b (pick c (record { answer = Unfinished; state = q .old }) (record { answer = Finished; state = q .new })) (record { answer = Refused (q .number); state = q .old })
+    ended b c = pick b (pick c (record { answer = Unfinished; state = q .old }) (record { answer = Finished; state = q .new })) (record { answer = q .told (q .number); state = q .old })
 
     go : (b c : Bool) → IsRefusal (answerNumber (ended b c .answer)) → pick b (runStores g (q .count) (q .stores) t) t ≡ t
     go true true k = absurd (k .1 refl)
@@ -87,10 +87,14 @@ module _ (g : Geometry) (mask : ℕ) (m : Ranges) where
         let r = formatOfBytes g mask array count m in
         unless-kept (sizesNumber g (length (m .state)) w d) (storedAll g r m) m (λ n. all-kept r (format-stored g t (namedOf mask) count array unreadState) (sizes-passed g (length (m .state)) w d n))
 
-    pub mount-refused : (count : ℕ) → IsRefusal (mountEdge g mask count m .code) → mountEdge g mask count m .left ≡ m
-    mount-refused count =
-        let r = mountOfBytes g mask count m in
-        unless-kept (sizesNumber g (length (m .state)) w d) (storedAll g r m) m (λ n. all-kept r (mount-stored g t (namedOf mask) count unreadState) (sizes-passed g (length (m .state)) w d n))
+    -- (by the low 32 bits of what it returns)
+    pub mount-refused : (count : ℕ) → IsRefusal (mountEdge g mask count m .code % 4294967296) → mountEdge g mask count m .left ≡ m
+    mount-refused count = subst (λ (e : Answered Ranges). IsRefusal (e .code) → e .left ≡ m) (sym (mount-alone g mask m count)) (plain count)
+      where
+        plain : (count : ℕ) → let e = writingState g m (storedAll g (mountOfBytes g mask count m) m) in IsRefusal (e .code) → e .left ≡ m
+        plain count =
+            let r = mountOfBytes g mask count m in
+            unless-kept (sizesNumber g (length (m .state)) w d) (storedAll g r m) m (λ n. all-kept r (mount-stored g t (namedOf mask) count unreadState) (sizes-passed g (length (m .state)) w d n))
 
     pub reset-refused : (z count : ℕ) → IsRefusal (resetEdge g mask z count m .code) → resetEdge g mask z count m .left ≡ m
     reset-refused z count =
@@ -110,8 +114,10 @@ module _ (g : Geometry) (mask : ℕ) (m : Ranges) where
       kept : (r : Result) → Stored g t r → Sized g (length (m .state)) w d → storedFlushes g r m .code ≢ 0 → storedFlushes g r m .code ≢ 255 → storedFlushes g r m .left ≡ m
       kept r q s p u = unfold storedFlushes in ap (λ (x : Answered Ranges). x .left) (refused-flushes g m r (stored-refused g t r q (p, u)) p b (s .durable-long))
 
-  pub look-refused : IsRefusal (lookEdge g mask m .code) → lookEdge g mask m .left ≡ m
-  look-refused = unless-kept (sizesNumber g (length (m .state)) w d) (handedBack g (lookOfBytes g mask m) m) m (λ n p u. ap (λ (x : Answered Ranges). x .left) (refused-shown g m (lookOfBytes g mask m) p))
+  pub look-refused : IsRefusal (lookEdge g mask m .code % 4294967296) → lookEdge g mask m .left ≡ m
+  look-refused =
+      subst (λ (e : Answered Ranges). IsRefusal (e .code) → e .left ≡ m) (sym (look-alone g mask m))
+      (unless-kept (sizesNumber g (length (m .state)) w d) (handedBack g (lookOfBytes g mask m) m) m (λ n p u. ap (λ (x : Answered Ranges). x .left) (refused-shown g m (lookOfBytes g mask m) p)))
 
   pub read-refused : (at k : ℕ) (out : List ℕ) → IsRefusal (readEdge g mask at k m out .code) → readEdge g mask at k m out .left ≡ out
   unfolding readAnswer readOn

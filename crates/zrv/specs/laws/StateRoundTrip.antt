@@ -1,7 +1,7 @@
 -- What a finished call of the C edge hands on: the state's bytes that it leaves are those of the state that the call on tables hands on, they read back as
 -- that very state, and the next call takes them. So it is for each of the six calls that hand on a state; nothing is asked but that the call returned 0.
-use mathlib.Core.Path.{_≡_, refl, sym, ap, _∙_}
-use mathlib.Core.Logic.{_⊎_, inl, inr}
+use mathlib.Core.Path.{_≡_, refl, sym, ap, subst, _∙_}
+use mathlib.Core.Logic.{_≢_, _⊎_, inl, inr}
 use mathlib.Core.Bool.{Bool, true, false, _&&_, _||_, not}
 use Prim.Native.Nat.{ℕ, zero, suc, _+_, _-_, _*_, _^_, _≤_, _<_, zero-le}
 use native.Mathlib.Decide.{ℕ-discrete}
@@ -28,6 +28,7 @@ use Rattle.logs.specs.meaning.Entry.{wornGeneration}
 use Rattle.volume.specs.declared.Condition.the-variants.{Empty, Open, Sealed, Worn}
 use Rattle.volume.specs.declared.ZoneRecord.{ZoneRecord}
 use Rattle.volume.specs.declared.State.{State}
+use Rattle.volume.specs.declared.Answer.{Answer}
 use Rattle.volume.specs.declared.Answer.the-variants.{Finished, Unfinished, Refused}
 use Rattle.volume.specs.declared.Outcome.{Outcome}
 use Rattle.volume.specs.meaning.State.{pointerIn, isWorn, callPresent}
@@ -35,18 +36,20 @@ use Rattle.volume.specs.meaning.Rules.{isLost, conditionOf, generationOf, point
 use Rattle.volume.specs.meaning.Refusals.{accept, stateWithin, zoneOf, resetRows}
 use Rattle.volume.specs.meaning.Calls.{flushStores, formatStores}
 use Rattle.volume.specs.meaning.Emptying.{writeAll, resetAll}
-use Rattle.volume.specs.meaning.Answers.{lostIn, leftOut, namedDrives, sectorsIn, presentIn, lostDriveIn}
-use Rattle.volume.specs.meaning.CallContracts.{blankRecord, freshRecord, recordAt, viewState, isSet, answerNumber, verdictNumber, lengthsOf, badIn, rolesOf, seenIn, storingOn}
-use Rattle.volume.specs.meaning.CallContracts.{zoneLookOf, flushVerdict, withLost, flushOn, resetVerdict, resetRecord, withReset, resetOn, formatVerdict, freshState, formatOn, recordFrom, stateShown, lookVerdict, lookOn, writeVerdict, writtenState, pointerOf, writeOn, mountVerdict, mountStoresOn, mountShownOn, mountOn}
+use Rattle.volume.specs.meaning.Answers.{lostIn, leftOut, namedDrives, sectorsIn, presentIn, lostDriveIn, refusedAt}
+use Rattle.volume.specs.meaning.CallContracts.{blankRecord, freshRecord, recordAt, viewState, isSet, answerNumber, verdictNumber, lengthsOf, badIn, rolesOf, seenIn, Result, storingOn}
+use Rattle.volume.specs.meaning.CallContracts.{zoneLookOf, flushVerdict, withLost, flushOn, resetVerdict, resetRecord, withReset, resetOn, formatVerdict, freshState, formatOn, recordFrom, stateShown, lookVerdict, lookOn, writeVerdict, writtenState, pointerOf, writeOn, mountVerdict, mountStoresOn, mountShownOn, badPlaceOn, mountOn}
 use Rattle.volume.specs.looking.DrivesLost.{fill-long, fill-at, fill-past}
 use Rattle.volume.specs.checks.ZoneChecks.{pointer-within}
 use Rattle.volume.specs.laws.Refusals.{accepted-row}
 use Rattle.volume.specs.laws.PassedRows.{reset-number-accepts, reset-passed, write-number-accepts, write-passed}
+use Rattle.volume.specs.laws.AnswerNumbers.{refused-numbered, look-told, mount-told}
 use Rattle.volume.specs.laws.GenerationRange.{generation-range}
 use Rattle.volume.specs.mounting.MountStart.{worn-top, pointer-within as pointer-at-within}
 use Rattle.zrv.specs.meaning.Bytes.{stateFrom, stateTo, stateWellFormed}
-use Rattle.zrv.specs.meaning.EdgeCalls.{namedOf, sizesFit, stateBad, inputNumber, sizesNumber, Ranges, tablesIn, stateIn, unreadState, stateAfter, Answered, unlessRefused, handedBack, storedAll, storedFlushes, flushOfBytes, flushEdge, lookOfBytes, lookEdge, mountOfBytes, mountEdge, formatOfBytes, formatEdge, resetOfBytes, resetEdge, writeOfBytes, writeEdge}
-use Rattle.zrv.specs.laws.EdgeCalls.{Sized, input-passed, sizes-passed, refused, made, state-new}
+use Rattle.zrv.specs.meaning.EdgeCalls.{namedOf, sizesFit, stateBad, inputNumber, sizesNumber, Ranges, tablesIn, stateIn, unreadState, stateAfter, Answered, unlessRefused, handedBack, storedAll, storedFlushes, withoutPlace, flushOfBytes, flushEdge, lookOfBytes, lookEdge, mountOfBytes, mountEdge, formatOfBytes, formatEdge, resetOfBytes, resetEdge, writeOfBytes, writeEdge}
+use Rattle.zrv.specs.laws.EdgeCalls.{Sized, input-passed, sizes-passed, refused, made, state-new, look-alone, mount-alone}
+use Rattle.zrv.specs.laws.CallsLeave.{storingTold, mount-stored}
 use Rattle.zrv.specs.laws.RoundTrips.{StateRange, state-bytes-state, length-state-to, state-well-formed, read-generation}
 
 -- ---- what is promised of the bytes that a call leaves and of the state s that it hands on (w, d: the lengths of the two tables, in bytes)
@@ -135,17 +138,21 @@ module _ (g : Geometry) (n : ℕ) (r : Answered Ranges) (o : Outcome) (m : Range
           hands-on g (unlessRefused n r m .left .state) (o .state) (length (m .state)) (length (m .written)) (length (m .durable)) (sized e) b (bounded e (sized e .valid) a)
 
 -- a finished call was not refused, and its state is the new one
+-- (told: how it is answered if it is refused)
 module _ (P : State → Type 0) (g : Geometry) (n : ℕ) (ss : List Store) (new old : State) (count : ℕ) (t : Tables) where
-  finished-new : (n ≡ 0 → P new) → answerNumber (storingOn g n ss new old count t .outcome .answer) ≡ 0 → P (storingOn g n ss new old count t .outcome .state)
-  finished-new made = go (eqb n 0) (ltb count (length ss)) refl
+  finished-told : (told : ℕ → Answer) → (n ≢ 0 → answerNumber (told n) ≢ 0) → (n ≡ 0 → P new) → answerNumber (storingTold told g n ss new old count t .outcome .answer) ≡ 0 → P (storingTold told g n ss new old count t .outcome .state)
+  finished-told told numbered made = go (eqb n 0) (ltb count (length ss)) refl
     where
       ended : Bool → Bool → Outcome
-      ended b c = pick b (pick c (record { answer = Unfinished; state = old }) (record { answer = Finished; state = new })) (record { answer = Refused n; state = old })
+      ended b c = pick b (pick c (record { answer = Unfinished; state = old }) (record { answer = Finished; state = new })) (record { answer = told n; state = old })
 
       go : (b c : Bool) → eqb n 0 ≡ b → answerNumber (ended b c .answer) ≡ 0 → P (ended b c .state)
       go true true e h = absurd (omega arith)
       go true false e h = made (eqb-true n 0 e)
-      go false c e h = absurd (eqb-false n 0 e h)
+      go false c e h = absurd (numbered (eqb-false n 0 e) h)
+
+  finished-new : (n ≡ 0 → P new) → answerNumber (storingOn g n ss new old count t .outcome .answer) ≡ 0 → P (storingOn g n ss new old count t .outcome .state)
+  finished-new = finished-told Refused (λ h. h)
 
 -- ---- states read from bytes that passed
 state-passed : (g : Geometry) (st : List ℕ) (w d : ℕ) → inputNumber g st w d ≡ 0 → (stateWellFormed (g .zones) st ≡ true) × (stateWithin g (viewState (stateFrom (g .zones) st)) ≡ true)
@@ -294,20 +301,23 @@ module _ (g : Geometry) (ok : Valid g) (named : List Bool) (old : State) where
       ended : Bool → Outcome
       ended c =
           pick c (record { answer = Finished; state = stateShown g (showing g (presentIn g (isSet named) (deviceOf g t)) (lostDriveIn g (isSet named) (deviceOf g t)) (seenIn g t)) })
-          (record { answer = Refused n; state = old })
+          (record { answer = refusedAt (badPlaceOn g named t) n; state = old })
 
       go : (c : Bool) → eqb n 0 ≡ c → answerNumber (ended c .answer) ≡ 0 → Bounded g (ended c .state)
       go true e h = shown-bounded g (presentIn g (isSet named) (deviceOf g t)) (isLost g (isSet named) (seenIn g t)) (seenIn g t) ok
-      go false e h = absurd (eqb-false n 0 e h)
+      go false e h = absurd (refused-numbered (badPlaceOn g named t) n (look-told g named t) (eqb-false n 0 e) h)
 
   mount-bounded : (count : ℕ) (t : Tables) → answerNumber (mountOn g named old count t .outcome .answer) ≡ 0 → Bounded g (mountOn g named old count t .outcome .state)
-  unfolding mountOn mountShownOn
+  unfolding mount-stored mountShownOn
   mount-bounded count t =
       let present = presentIn g (isSet named) (deviceOf g t) in
       let x = lostDriveIn g (isSet named) (deviceOf g t) in
       let ss = mountStoresOn g present x t in
-      finished-new (Bounded g) g (verdictNumber (mountVerdict g named t)) ss (mountShownOn g present x t) old count t
-      (λ v. shown-bounded g present (isLost g (isSet named) (seenIn g t)) (seenIn g (runStores g (length ss) ss t)) ok)
+      let n = verdictNumber (mountVerdict g named t) in
+      let b = badPlaceOn g named t in
+      subst (λ (r : Result). answerNumber (r .outcome .answer) ≡ 0 → Bounded g (r .outcome .state)) (sym (mount-stored g t named count old .is))
+      (finished-told (Bounded g) g n ss (mountShownOn g present x t) old count t (refusedAt b) (refused-numbered b n (mount-told g named t))
+      (λ v. shown-bounded g present (isLost g (isSet named) (seenIn g t)) (seenIn g (runStores g (length ss) ss t)) ok))
 
 fresh-bounded : (g : Geometry) (named : List Bool) → Valid g → Bounded g (freshState g (leftOut g (isSet named)))
 unfolding leftOut freshState
@@ -369,16 +379,19 @@ module _ (g : Geometry) (mask : ℕ) (m : Ranges) where
       let r = writeOfBytes g mask a k count bytes m in
       after-reading g m (storedAll g r m) (r .outcome) refl refl (λ b ok. write-bounded g (namedOf mask) (stateIn g m) b count a k bytes (tablesIn g m) ok)
 
-  pub look-hands-on : HandedOn g m (lookEdge g mask m) (lookOfBytes g mask m .state)
+  -- (a look and a mount by the answer that they return)
+  pub look-hands-on : HandedOn g m (withoutPlace (lookEdge g mask m)) (lookOfBytes g mask m .state)
   look-hands-on =
       let o = lookOfBytes g mask m in
-      after-writing g m (handedBack g o m) o refl refl (λ ok. look-bounded g ok (namedOf mask) unreadState (tablesIn g m))
+      subst (λ (e : Answered Ranges). HandedOn g m e (o .state)) (sym (look-alone g mask m))
+      (after-writing g m (handedBack g o m) o refl refl (λ ok. look-bounded g ok (namedOf mask) unreadState (tablesIn g m)))
 
-  pub mount-hands-on : (count : ℕ) → HandedOn g m (mountEdge g mask count m) (mountOfBytes g mask count m .outcome .state)
+  pub mount-hands-on : (count : ℕ) → HandedOn g m (withoutPlace (mountEdge g mask count m)) (mountOfBytes g mask count m .outcome .state)
   unfolding storedAll
   mount-hands-on count =
       let r = mountOfBytes g mask count m in
-      after-writing g m (storedAll g r m) (r .outcome) refl refl (λ ok. mount-bounded g ok (namedOf mask) unreadState count (tablesIn g m))
+      subst (λ (e : Answered Ranges). HandedOn g m e (r .outcome .state)) (sym (mount-alone g mask m count))
+      (after-writing g m (storedAll g r m) (r .outcome) refl refl (λ ok. mount-bounded g ok (namedOf mask) unreadState count (tablesIn g m)))
 
   pub format-hands-on : (array count : ℕ) → HandedOn g m (formatEdge g mask array count m) (formatOfBytes g mask array count m .outcome .state)
   unfolding storedAll

@@ -11,6 +11,8 @@ use Rattle.tables.specs.meaning.Below.{eachBelow}
 use Rattle.tables.specs.meaning.Geometry.{geometryOf, cells}
 use Rattle.tables.specs.meaning.GeometryTest.{isValid}
 use Rattle.tables.specs.meaning.Tables.{Tables, tablesOf}
+use Rattle.volume.specs.declared.Answer.{Answer}
+use Rattle.volume.specs.declared.Answer.the-variants.{Finished, Unfinished, Refused, BadLog}
 use Rattle.volume.specs.declared.Condition.{Condition}
 use Rattle.volume.specs.declared.State.{State}
 use Rattle.volume.specs.declared.Outcome.{Outcome}
@@ -84,6 +86,10 @@ pub record Answered (A : Type 0) : Type 0 where
 abbrev pub answered : {A : Type 0} → ℕ → A → Answered A
 answered n a = record { code = n; left = a }
 
+-- some return their answer in the low 32 bits, and a number in the high 32
+abbrev pub withNumber : ℕ → ℕ → ℕ
+withNumber answer n = answer + 4294967296 * n
+
 -- n: what is refused before the call, 0 if nothing is; refused, everything stays
 unfoldable pub unlessRefused : {A : Type 0} → ℕ → Answered A → A → Answered A
 unlessRefused n r a = pick (eqb n 0) r (answered n a)
@@ -112,6 +118,21 @@ storedAll g r m = handedBack g (r .outcome) (ranges (r .tables .sectors) (tableT
 unfoldable pub storedFlushes : Geometry → Result → Ranges → Answered Ranges
 storedFlushes g r m = handedBack g (r .outcome) (ranges (m .sectors) (m .written) (tableTo (r .tables .durable)) (m .state))
 
+-- a look and a mount return a place beside their answer: with 6, 16 and 17 that of the first bad sector of a log, its drive, physical zone and number in
+-- the zone; else 0
+abbrev pub placeNumber : Answer → ℕ
+placeNumber Finished = 0
+placeNumber Unfinished = 0
+placeNumber (Refused n) = 0
+placeNumber (BadLog b) = b .drive * 16777216 + (b .zone * 65536 + b .sector)
+
+abbrev pub withPlace : Answer → Answered Ranges → Answered Ranges
+withPlace a r = answered (withNumber (r .code) (placeNumber a)) (r .left)
+
+-- with its answer alone
+abbrev pub withoutPlace : Answered Ranges → Answered Ranges
+withoutPlace r = answered (r .code % 4294967296) (r .left)
+
 -- ---- the calls that store, and look: each first as the call on what the ranges hold
 abbrev pub formatOfBytes : Geometry → ℕ → ℕ → ℕ → Ranges → Result
 formatOfBytes g mask array count m = formatOn g (namedOf mask) array unreadState count (tablesIn g m)
@@ -123,13 +144,13 @@ abbrev pub lookOfBytes : Geometry → ℕ → Ranges → Outcome
 lookOfBytes g mask m = lookOn g (namedOf mask) unreadState (tablesIn g m)
 
 abbrev pub lookEdge : Geometry → ℕ → Ranges → Answered Ranges
-lookEdge g mask m = writingState g m (handedBack g (lookOfBytes g mask m) m)
+lookEdge g mask m = writingState g m (withPlace (lookOfBytes g mask m .answer) (handedBack g (lookOfBytes g mask m) m))
 
 abbrev pub mountOfBytes : Geometry → ℕ → ℕ → Ranges → Result
 mountOfBytes g mask count m = mountOn g (namedOf mask) unreadState count (tablesIn g m)
 
 abbrev pub mountEdge : Geometry → ℕ → ℕ → Ranges → Answered Ranges
-mountEdge g mask count m = writingState g m (storedAll g (mountOfBytes g mask count m) m)
+mountEdge g mask count m = writingState g m (withPlace (mountOfBytes g mask count m .outcome .answer) (storedAll g (mountOfBytes g mask count m) m))
 
 -- write of k sectors, the given bytes, at address a
 abbrev pub writeOfBytes : Geometry → ℕ → ℕ → ℕ → ℕ → List ℕ → Ranges → Result
@@ -186,11 +207,7 @@ descriptorsIn list = length list / 32
 unfoldable pub filledBytes : Geometry → (ℕ → Condition) → ℕ → List ℕ → List ℕ
 filledBytes g condition n list = eachBelow (λ z. descriptorTo (descriptorOf g z (condition z))) n ++ drop (n * 32) list
 
--- a report returns its answer in the low 32 bits and the number of descriptors in the high 32
-abbrev pub withNumber : ℕ → ℕ → ℕ
-withNumber answer n = answer + 4294967296 * n
-
--- a finished report of zones in these conditions
+-- a finished report of zones in these conditions, with the number of descriptors
 abbrev pub reportBytes : Geometry → (ℕ → Condition) → List ℕ → Answered (List ℕ)
 reportBytes g condition list = answered (withNumber 0 (filledNumber g (descriptorsIn list))) (filledBytes g condition (filledNumber g (descriptorsIn list)) list)
 

@@ -24,7 +24,8 @@ use Rattle.volume.specs.declared.State.{State}
 use Rattle.volume.specs.declared.Outcome.{Outcome}
 use Rattle.volume.specs.declared.Answer.the-variants.{Finished, Unfinished, Refused}
 use Rattle.volume.specs.meaning.Answers.{CallResult}
-use Rattle.volume.specs.meaning.CallContracts.{recordAt, isSet, answerNumber, Result, stateShown, lookOn, ReadResult}
+use Rattle.volume.specs.meaning.CallContracts.{recordAt, isSet, answerNumber, verdictNumber, Result, stateShown, lookOn, mountVerdict, badPlaceOn, ReadResult}
+use Rattle.volume.specs.laws.AnswerNumbers.{mount-tells}
 use Rattle.volume.specs.laws.ByteLists.{Bytes}
 use Rattle.promise.specs.meaning.Ledger.{Fits}
 use Rattle.promise.specs.meaning.Claim.{Call, mounts, writes, flushes, resets, formats, Peeked, System, Event, calls, looks, reads, peeks, reports, cuts, loses, MayMount, ready, settled, ledgerAfter, next, NamesAll, Duty, Promise, start}
@@ -34,7 +35,7 @@ use Rattle.promise.specs.tables.TablesEvents.{TablesOk, loss-event}
 use Rattle.promise.specs.tables.MountRefines.{shown-agrees}
 use Rattle.promise.specs.tables.TablesClaimProof.{tables-promise, tables-event, tables-start}
 use Rattle.zrv.specs.meaning.Bytes.{tableFrom, tableTo, stateFrom, stateTo}
-use Rattle.zrv.specs.meaning.EdgeCalls.{namedOf, inputNumber, sizesNumber, Ranges, tablesIn, unreadState, Answered, storedAll, lookOfBytes, lookEdge, formatOfBytes, formatEdge}
+use Rattle.zrv.specs.meaning.EdgeCalls.{namedOf, inputNumber, sizesNumber, Ranges, tablesIn, unreadState, Answered, storedAll, withoutPlace, lookOfBytes, lookEdge, formatOfBytes, formatEdge}
 use Rattle.zrv.specs.laws.EdgeCalls.{Sized, input-passed, sizes-passed, refused, made}
 use Rattle.zrv.specs.laws.Report.{input-reports}
 use Rattle.zrv.specs.laws.RoundTrips.{number-back}
@@ -88,23 +89,27 @@ module _ (g : Geometry) (ok : Valid g) (wb : isValid g ≡ true) (s : System (on
     abbrev named : List Bool
     named = namedOf mask
 
-    -- each call is that on the tables
-    call-on : (c : Call) (stop : ℕ) → (r : Result) × OnTheTables g m (edgeOf g c mask stop m) r (resultOn g c (namedOf mask) st stop t)
-    call-on mounts stop = (_, mount-on g mask m (o .written-bytes) (o .durable-bytes) sizes stop)
-    call-on (writes a k buffer) stop = (_, write-on g mask m (o .written-bytes) (o .durable-bytes) (o .taken) a k stop buffer)
-    call-on flushes stop = (_, flush-on g mask m (o .written-bytes) (o .durable-bytes) (o .taken) stop)
-    call-on (resets z) stop = (_, reset-on g mask m (o .written-bytes) (o .durable-bytes) (o .taken) z stop)
-    call-on (formats array) stop = (_, format-on g mask m (o .written-bytes) (o .durable-bytes) sizes array stop)
-
-    pub call-views : (c : Call) (stop : ℕ) → viewBytes g (onBytes g .call c mask (s .state) stop (s .memory)) ≡ onTables g .call c (namedOf mask) st stop t
-    call-views c stop = let (r, q) = call-on c stop in views g m (edgeOf g c mask stop m) r (resultOn g c (namedOf mask) st stop t) q
-
-    pub answers : (c : Call) (stop : ℕ) → onBytes g .call c mask (s .state) stop (s .memory) .answer ≡ onTables g .call c (namedOf mask) st stop t .answer
-    answers c stop = ap (λ (r : CallResult Tables State). r .answer) (call-views c stop)
-
     module _ (n : NamesAll g (onBytes g) s mask) where
       abbrev names : NamesAll g (onTables g) (viewSystem g s) (namedOf mask)
       names = record { drives = n .drives }
+
+      -- no mount is refused for a log
+      logs-good : (stop : ℕ) → verdictNumber (mountVerdict g (namedOf mask) t) ≢ 6
+      logs-good stop e = promised .mount-logs-good (namedOf mask) names stop (badPlaceOn g (namedOf mask) t) (mount-tells g (namedOf mask) t st stop e)
+
+      -- each call is that on the tables
+      call-on : (c : Call) (stop : ℕ) → (r : Result) × OnTheTables g m (edgeOf g c mask stop m) r (resultOn g c (namedOf mask) st stop t)
+      call-on mounts stop = (_, mount-on g mask m (o .written-bytes) (o .durable-bytes) sizes stop (logs-good stop))
+      call-on (writes a k buffer) stop = (_, write-on g mask m (o .written-bytes) (o .durable-bytes) (o .taken) a k stop buffer)
+      call-on flushes stop = (_, flush-on g mask m (o .written-bytes) (o .durable-bytes) (o .taken) stop)
+      call-on (resets z) stop = (_, reset-on g mask m (o .written-bytes) (o .durable-bytes) (o .taken) z stop)
+      call-on (formats array) stop = (_, format-on g mask m (o .written-bytes) (o .durable-bytes) sizes array stop)
+
+      pub call-views : (c : Call) (stop : ℕ) → viewBytes g (onBytes g .call c mask (s .state) stop (s .memory)) ≡ onTables g .call c (namedOf mask) st stop t
+      call-views c stop = let (r, q) = call-on c stop in views g m (edgeOf g c mask stop m) r (resultOn g c (namedOf mask) st stop t) q
+
+      pub answers : (c : Call) (stop : ℕ) → onBytes g .call c mask (s .state) stop (s .memory) .answer ≡ onTables g .call c (namedOf mask) st stop t .answer
+      answers c stop = ap (λ (r : CallResult Tables State). r .answer) (call-views c stop)
 
       -- ---- looks
       look-on : lookOn g (namedOf mask) st t ≡ record { answer = Finished; state = stateShown g (shownIn g (namedOf mask) t t) }
@@ -115,7 +120,7 @@ module _ (g : Geometry) (ok : Valid g) (wb : isValid g ≡ true) (s : System (on
 
       -- its state's bytes are taken, and hold what the look on the tables hands on
       look-hands : HandsOn g (lookEdge g mask m .left .state) (lookOfBytes g mask m .state) (length (s .memory .written)) (length (s .memory .durable))
-      look-hands = look-hands-on g mask m (finished-code (lookEdge g mask m .code) (ap (λ (r : CallResult LentBytes (List ℕ)). r .answer) looked))
+      look-hands = look-hands-on g mask m (finished-code (withoutPlace (lookEdge g mask m) .code) (ap (λ (r : CallResult LentBytes (List ℕ)). r .answer) looked))
 
       pub look-state : stateFrom (g .zones) (onBytes g .look mask (s .state) (s .memory) .state) ≡ lookOn g (namedOf mask) st t .state
       look-state =
@@ -148,7 +153,8 @@ module _ (g : Geometry) (ok : Valid g) (wb : isValid g ≡ true) (s : System (on
   bytes-promise = record {
     look-fits = λ mask n. (looked mask n, promised .look-fits (namedOf mask) (names mask n) .1);
     mount-fits = mount-claim;
-    mount-refused = λ mask n stop k e. promised .mount-refused (namedOf mask) (names mask n) stop k (sym (answers mask mounts stop) ∙ e);
+    mount-refused = λ mask n stop k e. promised .mount-refused (namedOf mask) (names mask n) stop k (sym (answers mask n mounts stop) ∙ e);
+    mount-logs-good = λ mask n stop b e. promised .mount-logs-good (namedOf mask) (names mask n) stop b (sym (answers mask n mounts stop) ∙ e);
     pointer-is = promised .pointer-is;
     look-holds = λ mask n r.
         let (a, b) = promised .look-holds (namedOf mask) (names mask n) r in (
@@ -158,9 +164,9 @@ module _ (g : Geometry) (ok : Valid g) (wb : isValid g ≡ true) (s : System (on
             conditions = λ z h. ap (λ (x : State). recordAt x z .condition) (look-state mask n) ∙ b .conditions z h;
           },
         );
-    flush-accepted = λ mask n r stop k e. promised .flush-accepted (namedOf mask) (names mask n) r stop k (sym (answers mask flushes stop) ∙ e);
-    reset-refused = λ mask n r z stop k e. promised .reset-refused (namedOf mask) (names mask n) r z stop k (sym (answers mask (resets z) stop) ∙ e);
-    write-refused = λ mask n r a count buffer stop k e. promised .write-refused (namedOf mask) (names mask n) r a count buffer stop k (sym (answers mask (writes a count buffer) stop) ∙ e);
+    flush-accepted = λ mask n r stop k e. promised .flush-accepted (namedOf mask) (names mask n) r stop k (sym (answers mask n flushes stop) ∙ e);
+    reset-refused = λ mask n r z stop k e. promised .reset-refused (namedOf mask) (names mask n) r z stop k (sym (answers mask n (resets z) stop) ∙ e);
+    write-refused = λ mask n r a count buffer stop k e. promised .write-refused (namedOf mask) (names mask n) r a count buffer stop k (sym (answers mask n (writes a count buffer) stop) ∙ e);
     read-gives = λ mask n r a count out e.
         let q = read-is g mask (s .memory) (s .state) (o .taken) a count out in
         let (x, y) = promised .read-gives (namedOf mask) (names mask n) r a count out (sym (ap (λ (u : ReadResult). u .answer) q) ∙ e) in
@@ -182,13 +188,13 @@ module _ (g : Geometry) (ok : Valid g) (wb : isValid g ≡ true) (s : System (on
 
   call-event : (c : Call) (mask stop : ℕ) → Duty g (onBytes g) s (calls c mask stop) → BytesOk g (next g (onBytes g) s (calls c mask stop))
   call-event c mask stop (n, may, comp) =
-      let (r, q) = call-on mask c stop in
+      let (r, q) = call-on mask n c stop in
       record {
         written-bytes = q .leaves .written-bytes;
         durable-bytes = q .leaves .durable-bytes;
         taken = takes g m (edgeOf g c mask stop m) r (resultOn g c (namedOf mask) st stop t) q (o .taken);
-        holds = subst (λ (x : CallResult Tables State). TablesOk g (after c (namedOf mask) x)) (sym (call-views mask c stop))
-            (tables-event g ok wb (viewSystem g s) (o .holds) (calls c (namedOf mask) stop) (names mask n, may, rw (answers mask c stop) at comp));
+        holds = subst (λ (x : CallResult Tables State). TablesOk g (after c (namedOf mask) x)) (sym (call-views mask n c stop))
+            (tables-event g ok wb (viewSystem g s) (o .holds) (calls c (namedOf mask) stop) (names mask n, may, rw (answers mask n c stop) at comp));
       }
 
   look-event : (mask : ℕ) → Duty g (onBytes g) s (looks mask true) → BytesOk g (next g (onBytes g) s (looks mask true))
@@ -293,7 +299,7 @@ module _ (g : Geometry) (mask array stop : ℕ) (old : List ℕ) (m : LentBytes)
     unfolding storedAll format-stored
     finished =
         let k : answerNumber (made-on .outcome .answer) ≡ 0 = ap (λ (x : Answered Ranges). x .code) (sym edge-is) ∙ h in
-        sym (storing-known g (tablesIn g before) made-on (format-stored g (tablesIn g before) (namedOf mask) stop array unreadState) (format-small g (namedOf mask) (tablesIn g before))) ∙ ap answerOf k
+        sym (storing-known g (tablesIn g before) made-on (format-stored g (tablesIn g before) (namedOf mask) stop array unreadState) (format-small g (namedOf mask) (tablesIn g before)) refl) ∙ ap answerOf k
 
     abbrev pub began : System (onTables g)
     began = start g (onTables g) (namedOf mask) (callResult made-on)

@@ -76,12 +76,13 @@ module _ (g : Geometry) (ok : Valid g) (wb : isValid g ≡ true) (s : System (on
 
   call-cached : (c : Call) (mask stop : ℕ) → Duty g (onCachingBytes g) s (calls c mask stop) → BytesOkCached g (next g (onCachingBytes g) s (calls c mask stop))
   call-cached c mask stop (n, may, comp) =
-      let e : onBytes g .call c mask (s .state) stop (s .memory .memory) .answer ≡ onTables g .call c (namedOf mask) st stop t .answer = answers g ok wb s0 (o .plain) mask c stop in
+      let m = names-beneath g (onBytes g) (bytesCaches g) s mask n in
+      let e : onBytes g .call c mask (s .state) stop (s .memory .memory) .answer ≡ onTables g .call c (namedOf mask) st stop t .answer = answers g ok wb s0 (o .plain) mask m c stop in
       let k = tables-keep (calls c (namedOf mask) stop) (record { drives = n .drives }, may, rw e at comp) in
       let r = next g (onCachingBytes g) s (calls c mask stop) in
       record {
-        plain = bytes-event g ok wb s0 (o .plain) (calls c mask stop) (names-beneath g (onBytes g) (bytesCaches g) s mask n, may, comp);
-        holds = subst (λ (x : CallResult Tables State). Holds g (after c (namedOf mask) x) (r .memory .was)) (sym (call-views g ok wb s0 (o .plain) mask c stop)) (k .holds);
+        plain = bytes-event g ok wb s0 (o .plain) (calls c mask stop) (m, may, comp);
+        holds = subst (λ (x : CallResult Tables State). Holds g (after c (namedOf mask) x) (r .memory .was)) (sym (call-views g ok wb s0 (o .plain) mask m c stop)) (k .holds);
       }
 
   look-cached : (mask : ℕ) → Duty g (onCachingBytes g) s (looks mask true) → BytesOkCached g (next g (onCachingBytes g) s (looks mask true))

@@ -1,25 +1,27 @@
 -- Each storing function on bytes is that call on the tables which the bytes hold: its answer, the tables and the state that it leaves, all read back.
-use mathlib.Core.Path.{_≡_, refl, sym, ap, _∙_}
+use mathlib.Core.Path.{_≡_, refl, sym, ap, subst, _∙_}
 use mathlib.Core.Logic.{_≢_}
-use mathlib.Core.Bool.{Bool, true, false, _&&_}
+use mathlib.Core.Bool.{Bool, true, false}
 use Prim.Native.Nat.{ℕ, _<_}
 use native.Mathlib.Decide.{ℕ-discrete}
 use native.Mathlib.Omega.{arith}
-use mathlib.Core.List.{List, [], _∷_}
+use mathlib.Core.List.{List}
 use lib.ListN.{length}
 use lib.Dec.{ltb, eqb}
-use borrow.Author.Tests.{ltb-true, ne-eqb, eqb-false}
+use borrow.Author.Tests.{ne-eqb, eqb-false}
 use Rattle.tables.specs.declared.Geometry.{Geometry}
 use Rattle.tables.specs.meaning.Basics.{pick}
-use Rattle.tables.specs.laws.Basics.{and-split}
 use Rattle.tables.specs.meaning.Device.{Store}
 use Rattle.tables.specs.meaning.Tables.{Tables, deviceOf, runStores}
 use Rattle.volume.specs.declared.State.{State}
 use Rattle.volume.specs.declared.Outcome.{Outcome}
+use Rattle.volume.specs.declared.Answer.{Answer}
 use Rattle.volume.specs.declared.Answer.the-variants.{Finished, Unfinished, Refused}
 use Rattle.volume.specs.meaning.Answers.{CallResult}
-use Rattle.volume.specs.meaning.Refusals.{refuse, firstRefusal, formatRows, mountRows, writeRows, flushRows, resetRows, readRows}
-use Rattle.volume.specs.meaning.CallContracts.{viewState, isSet, answerNumber, verdictNumber, lengthsOf, badIn, rolesOf, seenIn, Result, storingOn, flushVerdict, flushOn, resetVerdict, resetOn, writeVerdict, writeOn, formatVerdict, formatOn, mountVerdict, mountOn, readNumber}
+use Rattle.volume.specs.meaning.Refusals.{formatRows, writeRows, flushRows, resetRows, readRows}
+use Rattle.volume.specs.meaning.CallContracts.{viewState, isSet, answerNumber, verdictNumber, lengthsOf, badIn, rolesOf, seenIn, Result, storingOn, flushVerdict, flushOn, resetVerdict, resetOn, writeVerdict, writeOn, formatVerdict, formatOn, mountVerdict, badPlaceOn, readNumber}
+use Rattle.volume.specs.laws.AnswerNumbers.{verdict-small, mount-small, mount-told, refused-numbered}
+use Rattle.volume.specs.laws.BadPlaces.{refused-plain}
 use Rattle.volume.specs.laws.ByteLists.{Bytes}
 use Rattle.promise.specs.meaning.Claim.{mounts, writes, flushes, resets, formats}
 use Rattle.promise.specs.meaning.OnTables.{resultOn, callResult}
@@ -27,30 +29,14 @@ use Rattle.zrv.specs.meaning.Bytes.{stateFrom}
 use Rattle.zrv.specs.meaning.EdgeCalls.{namedOf, inputNumber, sizesNumber, Ranges, tablesIn, stateIn, unreadState, Answered, formatOfBytes, mountOfBytes, writeOfBytes, flushOfBytes, resetOfBytes}
 use Rattle.zrv.specs.laws.EdgeCalls.{state-kept}
 use Rattle.zrv.specs.laws.StateRoundTrip.{HandedOn, flush-hands-on, reset-hands-on, write-hands-on, mount-hands-on, format-hands-on}
-use Rattle.zrv.specs.laws.CallsLeave.{Stored, Leaves, format-stored, mount-stored, write-stored, flush-stored, reset-stored, format-leaves, mount-leaves, write-leaves, flush-leaves, reset-leaves}
+use Rattle.zrv.specs.laws.CallsLeave.{storingTold, Stored, Leaves, format-stored, mount-stored, write-stored, flush-stored, reset-stored, format-leaves, mount-leaves, write-leaves, flush-leaves, reset-leaves}
 use Rattle.zrv_promise.specs.meaning.OnBytes.{LentBytes, tablesAt, answerOf, edgeOf, bytesResult}
 
 -- ---- a refusal's number is below 16
-abbrev smallRows : List (ℕ × Bool) → Bool
-smallRows [] = true
-smallRows ((n, b) ∷ rows) = ltb n 16 && smallRows rows
-
-verdict-small : (rows : List (ℕ × Bool)) → smallRows rows ≡ true → verdictNumber (firstRefusal rows) < 16
-verdict-small [] e = omega arith
-verdict-small ((n, b) ∷ rows) e = let (p, q) = and-split (ltb n 16) (smallRows rows) e in go b p (verdict-small rows q)
-  where
-    go : (c : Bool) → ltb n 16 ≡ true → verdictNumber (firstRefusal rows) < 16 → verdictNumber (pick c (refuse n) (firstRefusal rows)) < 16
-    go true p q = ltb-true n 16 p
-    go false p q = q
-
 module _ (g : Geometry) (named : List Bool) (t : Tables) where
   pub format-small : verdictNumber (formatVerdict g named t) < 16
   unfolding formatVerdict formatRows
   format-small = verdict-small (formatRows g (lengthsOf t) (badIn g named t) (isSet named) (deviceOf g t)) refl
-
-  mount-small : verdictNumber (mountVerdict g named t) < 16
-  unfolding mountVerdict mountRows
-  mount-small = verdict-small (mountRows g (lengthsOf t) (badIn g named t) (isSet named) (rolesOf g t) (seenIn g t)) refl
 
   module _ (s : State) where
     flush-small : verdictNumber (flushVerdict g named s t) < 16
@@ -73,16 +59,17 @@ module _ (g : Geometry) (named : List Bool) (t : Tables) where
 pub refused-known : (n : ℕ) → n < 16 → eqb n 0 ≡ false → answerOf n ≡ Refused n
 refused-known n h e = rw (e, ne-eqb n 255 (λ k. omega (arith, k, h))) refl
 
-pub storing-known : (g : Geometry) (t : Tables) (r : Result) (q : Stored g t r) → q .number < 16 → answerOf (answerNumber (r .outcome .answer)) ≡ r .outcome .answer
-storing-known g t r q h = ap (λ (u : Result). answerOf (answerNumber (u .outcome .answer))) (q .is) ∙ go (eqb (q .number) 0) (ltb (q .count) (length (q .stores))) refl ∙ ap (λ (u : Result). u .outcome .answer) (sym (q .is))
+-- (plain: it is answered by its number)
+pub storing-known : (g : Geometry) (t : Tables) (r : Result) (q : Stored g t r) → q .number < 16 → q .told (q .number) ≡ Refused (q .number) → answerOf (answerNumber (r .outcome .answer)) ≡ r .outcome .answer
+storing-known g t r q h plain = ap (λ (u : Result). answerOf (answerNumber (u .outcome .answer))) (q .is) ∙ go (eqb (q .number) 0) (ltb (q .count) (length (q .stores))) refl ∙ ap (λ (u : Result). u .outcome .answer) (sym (q .is))
   where
     ended : Bool → Bool → Outcome
-    ended b c = pick b (pick c (record { answer = Unfinished; state = q .old }) (record { answer = Finished; state = q .new })) (record { answer = Refused (q .number); state = q .old })
+    ended b c = pick b (pick c (record { answer = Unfinished; state = q .old }) (record { answer = Finished; state = q .new })) (record { answer = q .told (q .number); state = q .old })
 
     go : (b c : Bool) → eqb (q .number) 0 ≡ b → answerOf (answerNumber (ended b c .answer)) ≡ ended b c .answer
     go true true e = refl
     go true false e = refl
-    go false c e = refused-known (q .number) h e
+    go false c e = ap (λ (a : Answer). answerOf (answerNumber a)) plain ∙ refused-known (q .number) h e ∙ sym plain
 
 -- ---- a call that is handed another old state does the same, and hands back that state if it is not finished
 pub record Alike (r u : Result) (old : State) : Type 0 where
@@ -91,19 +78,23 @@ pub record Alike (r u : Result) (old : State) : Type 0 where
   pub new-same : answerNumber (r .outcome .answer) ≡ 0 → r .outcome .state ≡ u .outcome .state
   pub old-kept : answerNumber (r .outcome .answer) ≢ 0 → u .outcome .state ≡ old
 
-storing-alike : (g : Geometry) (n : ℕ) (ss : List Store) (new a b : State) (count : ℕ) (t : Tables) → Alike (storingOn g n ss new a count t) (storingOn g n ss new b count t) b
-storing-alike g n ss new a b count t = go (eqb n 0) (ltb count (length ss)) refl
+told-alike : (told : ℕ → Answer) (g : Geometry) (n : ℕ) (ss : List Store) (new a b : State) (count : ℕ) (t : Tables) → (n ≢ 0 → answerNumber (told n) ≢ 0)
+    → Alike (storingTold told g n ss new a count t) (storingTold told g n ss new b count t) b
+told-alike told g n ss new a b count t numbered = go (eqb n 0) (ltb count (length ss)) refl
   where
     ended : Bool → Bool → State → Result
     ended c d old = record {
-      outcome = pick c (pick d (record { answer = Unfinished; state = old }) (record { answer = Finished; state = new })) (record { answer = Refused n; state = old });
+      outcome = pick c (pick d (record { answer = Unfinished; state = old }) (record { answer = Finished; state = new })) (record { answer = told n; state = old });
       tables = pick c (runStores g count ss t) t;
     }
 
     go : (c d : Bool) → eqb n 0 ≡ c → Alike (ended c d a) (ended c d b) b
     go true true e = record { answer-same = refl; tables-same = refl; new-same = λ h. absurd (omega arith); old-kept = λ h. refl }
     go true false e = record { answer-same = refl; tables-same = refl; new-same = λ h. refl; old-kept = λ h. absurd (h refl) }
-    go false d e = record { answer-same = refl; tables-same = refl; new-same = λ h. absurd (eqb-false n 0 e h); old-kept = λ h. refl }
+    go false d e = record { answer-same = refl; tables-same = refl; new-same = λ h. absurd (numbered (eqb-false n 0 e) h); old-kept = λ h. refl }
+
+storing-alike : (g : Geometry) (n : ℕ) (ss : List Store) (new a b : State) (count : ℕ) (t : Tables) → Alike (storingOn g n ss new a count t) (storingOn g n ss new b count t) b
+storing-alike g n ss new a b count t = told-alike Refused g n ss new a b count t (λ h. h)
 
 -- ==== a function e on the ranges m, its call r on the tables that they hold, and u, the same call handed the host's state
 pub record OnTheTables (g : Geometry) (m : Ranges) (e : Answered Ranges) (r u : Result) : Type 0 where
@@ -161,19 +152,24 @@ module _ (g : Geometry) (mask : ℕ) (m : Ranges) (a : Bytes (m .written)) (b : 
         record {
           leaves = format-leaves g mask m a b n array count;
           hands-on = format-hands-on g mask m array count;
-          known = storing-known g t (formatOfBytes g mask array count m) q (format-small g named t);
+          known = storing-known g t (formatOfBytes g mask array count m) q (format-small g named t) refl;
           alike = storing-alike g (q .number) (q .stores) (q .new) unreadState s count t;
         }
 
-    pub mount-on : (count : ℕ) → OnTheTables g m (edgeOf g mounts mask count m) (mountOfBytes g mask count m) (resultOn g mounts named s count t)
-    unfolding mount-stored mountOn
-    mount-on count =
+    -- (a mount that is not refused for a log)
+    pub mount-on : (count : ℕ) → verdictNumber (mountVerdict g named t) ≢ 6 → OnTheTables g m (edgeOf g mounts mask count m) (mountOfBytes g mask count m) (resultOn g mounts named s count t)
+    unfolding mount-stored
+    mount-on count good =
         let q = mount-stored g t named count unreadState in
+        let p = badPlaceOn g named t in
         record {
           leaves = mount-leaves g mask m a b n count;
           hands-on = mount-hands-on g mask m count;
-          known = storing-known g t (mountOfBytes g mask count m) q (mount-small g named t);
-          alike = storing-alike g (q .number) (q .stores) (q .new) unreadState s count t;
+          known = storing-known g t (mountOfBytes g mask count m) q (mount-small g named t) (sym (refused-plain p (q .number) good));
+          alike =
+              subst (λ (r : Result). Alike r (resultOn g mounts named s count t) s) (sym (q .is))
+              (subst (λ (u : Result). Alike (storingTold (q .told) g (q .number) (q .stores) (q .new) unreadState count t) u s) (sym (mount-stored g t named count s .is))
+              (told-alike (q .told) g (q .number) (q .stores) (q .new) unreadState s count t (refused-numbered p (q .number) (mount-told g named t))));
         }
 
   module _ (n : inputNumber g (m .state) (length (m .written)) (length (m .durable)) ≡ 0) where
@@ -184,7 +180,7 @@ module _ (g : Geometry) (mask : ℕ) (m : Ranges) (a : Bytes (m .written)) (b : 
         record {
           leaves = write-leaves g mask m a b n at k count bytes;
           hands-on = write-hands-on g mask m at k count bytes;
-          known = storing-known g t (writeOfBytes g mask at k count bytes m) q (write-small g named t s at k (length bytes));
+          known = storing-known g t (writeOfBytes g mask at k count bytes m) q (write-small g named t s at k (length bytes)) refl;
           alike = storing-alike g (q .number) (q .stores) (q .new) s s count t;
         }
 
@@ -195,7 +191,7 @@ module _ (g : Geometry) (mask : ℕ) (m : Ranges) (a : Bytes (m .written)) (b : 
         record {
           leaves = flush-leaves g mask m a b n count;
           hands-on = flush-hands-on g mask m count;
-          known = storing-known g t (flushOfBytes g mask count m) q (flush-small g named t s);
+          known = storing-known g t (flushOfBytes g mask count m) q (flush-small g named t s) refl;
           alike = storing-alike g (q .number) (q .stores) (q .new) s s count t;
         }
 
@@ -206,6 +202,6 @@ module _ (g : Geometry) (mask : ℕ) (m : Ranges) (a : Bytes (m .written)) (b : 
         record {
           leaves = reset-leaves g mask m a b n z count;
           hands-on = reset-hands-on g mask m z count;
-          known = storing-known g t (resetOfBytes g mask z count m) q (reset-small g named t s z);
+          known = storing-known g t (resetOfBytes g mask z count m) q (reset-small g named t s z) refl;
           alike = storing-alike g (q .number) (q .stores) (q .new) s s count t;
         }

@@ -24,16 +24,17 @@ use Rattle.volume.specs.declared.State.{State}
 use Rattle.volume.specs.declared.Answer.the-variants.{Finished, Refused}
 use Rattle.volume.specs.declared.Outcome.{Outcome}
 use Rattle.volume.specs.meaning.Rules.{Shown, showing}
-use Rattle.volume.specs.meaning.Answers.{presentIn, lostDriveIn}
+use Rattle.volume.specs.meaning.Answers.{presentIn, lostDriveIn, refusedAt}
 use Rattle.volume.specs.meaning.Refusals.{zoneOf, offsetOf}
-use Rattle.volume.specs.meaning.CallContracts.{recordAt, viewState, isSet, answerNumber, verdictNumber, seenIn, stateShown, lookVerdict, lookOn, ReadResult, readNumber, readOn, peekNumber, peekFrom, peekOn}
+use Rattle.volume.specs.meaning.CallContracts.{recordAt, viewState, isSet, answerNumber, verdictNumber, seenIn, stateShown, lookVerdict, badPlaceOn, lookOn, ReadResult, readNumber, readOn, peekNumber, peekFrom, peekOn}
 use Rattle.volume.specs.meaning.Report.{ReportResult, filledNumber}
+use Rattle.volume.specs.laws.BadPlaces.{not-finished}
 use Rattle.volume.specs.laws.Report.{filled-most}
 use Rattle.volume.specs.looking.KnowingValues.{sector-within}
 use Rattle.volume.specs.reading.Peeking.{peek-accepted, peek-refused, peek-done}
 use Rattle.zrv.specs.meaning.Bytes.{stateFrom, stateTo}
-use Rattle.zrv.specs.meaning.EdgeCalls.{namedOf, sizesFit, inputNumber, sizesNumber, stateAfter, Ranges, tablesIn, stateIn, unreadState, Answered, answered, handedBack, lookOfBytes, lookEdge, readAnswer, readEdge, offsetAt, placeAnswer, placeSized, peekEdge, reportInput, descriptorsIn, filledBytes, withNumber, reportBytes, reportEdge}
-use Rattle.zrv.specs.laws.EdgeCalls.{Sized, input-passed, made, place-right, place-refused, place-made}
+use Rattle.zrv.specs.meaning.EdgeCalls.{namedOf, sizesFit, inputNumber, sizesNumber, stateAfter, Ranges, tablesIn, stateIn, unreadState, Answered, answered, handedBack, withoutPlace, lookOfBytes, lookEdge, readAnswer, readEdge, offsetAt, placeAnswer, placeSized, peekEdge, reportInput, descriptorsIn, filledBytes, withNumber, reportBytes, reportEdge}
+use Rattle.zrv.specs.laws.EdgeCalls.{Sized, input-passed, made, look-alone, place-right, place-refused, place-made}
 use Rattle.zrv.specs.laws.Report.{filled-same}
 use Rattle.zrv_promise.specs.meaning.OnBytes.{LentBytes, rangesOf, answerOf, bytesResult, readBytes, peekedBytes, noPlace, reportedBytes, shownBytes}
 use Rattle.zrv_promise.specs.bytes.CallsOnBytes.{read-small, refused-known}
@@ -54,11 +55,11 @@ look-other g named a b x t = go (eqb v 0)
     ended : Bool → State → Outcome
     ended c old =
         pick c (record { answer = Finished; state = stateShown g (showing g (presentIn g (isSet named) (deviceOf g t)) (lostDriveIn g (isSet named) (deviceOf g t)) (seenIn g t)) })
-        (record { answer = Refused v; state = old })
+        (record { answer = refusedAt (badPlaceOn g named t) v; state = old })
 
     go : (c : Bool) → ended c a ≡ record { answer = Finished; state = x } → ended c b ≡ record { answer = Finished; state = x }
     go true e = e
-    go false e = absurd (let q : Refused v ≡ Finished = ap (λ (o : Outcome). o .answer) e in let z : _≡_ {A = ℕ} 0 1 = cc in omega arith)
+    go false e = absurd (not-finished (badPlaceOn g named t) v (sym (ap (λ (o : Outcome). o .answer) e)))
 
 module _ (g : Geometry) (mask : ℕ) (m : LentBytes) (st : List ℕ) (n : inputNumber g st (length (m .written)) (length (m .durable)) ≡ 0) where
   abbrev r : Ranges
@@ -76,11 +77,13 @@ module _ (g : Geometry) (mask : ℕ) (m : LentBytes) (st : List ℕ) (n : inputN
   abbrev sized : Sized g (length st) (length (m .written)) (length (m .durable))
   sized = input-passed g st (length (m .written)) (length (m .durable)) n
 
-  pub look-is : (x : State) → lookOn g named s t ≡ record { answer = Finished; state = x } → bytesResult (lookEdge g mask (rangesOf m st)) ≡ record { answer = Finished; memory = m; state = stateTo (g .zones) x }
+  pub look-is : (x : State) → lookOn g named s t ≡ record { answer = Finished; state = x } → bytesResult (withoutPlace (lookEdge g mask (rangesOf m st))) ≡ record { answer = Finished; memory = m; state = stateTo (g .zones) x }
   unfolding stateAfter
   look-is x e =
       let o : lookOfBytes g mask r ≡ record { answer = Finished; state = x } = look-other g named s unreadState x t e in
-      let u : handedBack g (lookOfBytes g mask r) r ≡ lookEdge g mask r = made _ (handedBack g (lookOfBytes g mask r) r) r (sizes-pass g (length st) (length (m .written)) (length (m .durable)) sized) in
+      let u : handedBack g (lookOfBytes g mask r) r ≡ withoutPlace (lookEdge g mask r) =
+      made _ (handedBack g (lookOfBytes g mask r) r) r (sizes-pass g (length st) (length (m .written)) (length (m .durable)) sized) ∙ sym (look-alone g mask r)
+      in
       ap bytesResult (sym u) ∙ ap (λ (q : Outcome). bytesResult (handedBack g q r)) o
 
   -- ---- read

@@ -19,7 +19,7 @@ use Rattle.volume.specs.meaning.CallContracts.{recordAt, isSet, stateShown, Rea
 use Rattle.promise.specs.meaning.Claim.{Call, mounts, writes, flushes, resets, formats, Peeked, Volume, KeepsPromise}
 use Rattle.promise.specs.meaning.OnTables.{shownIn}
 use Rattle.zrv.specs.meaning.Bytes.{stateFrom, stateTo}
-use Rattle.zrv.specs.meaning.EdgeCalls.{namedOf, Ranges, ranges, tablesIn, Answered, formatEdge, lookEdge, mountEdge, writeEdge, flushEdge, resetEdge, readEdge, peekEdge, descriptorsIn, filledBytes, reportEdge}
+use Rattle.zrv.specs.meaning.EdgeCalls.{namedOf, Ranges, ranges, tablesIn, Answered, withoutPlace, formatEdge, lookEdge, mountEdge, writeEdge, flushEdge, resetEdge, readEdge, peekEdge, descriptorsIn, filledBytes, reportEdge}
 
 -- the ranges of the sectors and of the two tables
 pub record LentBytes : Type 0 where
@@ -35,12 +35,13 @@ rangesOf m st = ranges (m .sectors) (m .written) (m .durable) st
 abbrev pub tablesAt : Geometry → LentBytes → Tables
 tablesAt g m = tablesIn g (rangesOf m [])
 
--- what a function returns: 0 finished, 255 unfinished, else the refusal's number
+-- what a function returns: 0 finished, 255 unfinished, else the refusal's number (a look and a mount in the low 32 bits; so their refusals for a log are
+-- numbers here too, and where a refusal has to be 14 it is neither 6, 16 nor 17)
 abbrev pub answerOf : ℕ → Answer
 answerOf n = pick (eqb n 0) Finished (pick (eqb n 255) Unfinished (Refused n))
 
 abbrev pub edgeOf : Geometry → Call → ℕ → ℕ → Ranges → Answered Ranges
-edgeOf g mounts mask count m = mountEdge g mask count m
+edgeOf g mounts mask count m = withoutPlace (mountEdge g mask count m)
 edgeOf g (writes a k buffer) mask count m = writeEdge g mask a k count buffer m
 edgeOf g flushes mask count m = flushEdge g mask count m
 edgeOf g (resets z) mask count m = resetEdge g mask z count m
@@ -82,7 +83,7 @@ onBytes g = record {
   Names = ℕ;
   isNamed = λ mask. isSet (namedOf mask);
   call = λ c mask st count m. bytesResult (edgeOf g c mask count (rangesOf m st));
-  look = λ mask st m. bytesResult (lookEdge g mask (rangesOf m st));
+  look = λ mask st m. bytesResult (withoutPlace (lookEdge g mask (rangesOf m st)));
   read = λ mask st a k out m. readBytes (readEdge g mask a k (rangesOf m st) out);
   peek = λ mask st a m. peekedBytes g (peekEdge g mask a (rangesOf m st) noPlace) m;
   Listing = List ℕ;

@@ -3,7 +3,10 @@ use Rattle.logs.specs.code.WalkCode.{rowsSeen, badSeen}
 use Rattle.logs.specs.code.ZoneWalk.{stepInZone, sectorsIn}
 use Rattle.tables.specs.laws.Below.{length-tabulate}
 use lib.ListN.{length}
-use mathlib.Core.Path.{_≡_, _∙_, sym}
+use mathlib.Core.Path.{_≡_, _∙_, sym, ap}
+use Rattle.logs.specs.declared.Fault.{Fault}
+use Rattle.logs.specs.declared.WalkEnd.the-variants.{NoEntry}
+use Rattle.logs.specs.declared.Step.the-variants.{Left}
 use mathlib.Core.Bool.{false}
 use mathlib.Core.List.{List}
 use Prim.Native.Nat.{ℕ, _+_, _≤_, _<_}
@@ -32,10 +35,11 @@ returns c =
 returns-2 : tie.Need-returns-2
 unfolding stepInZone
 returns-2 c =
-    let k = c .before in
+    let k = c .before .before in
     let a = start k .args in
     let j = k .before .before .judge-in-zone in
-    step-bad (a .g) (a .drive) (a .parity) (log (start k)) (a .p) (j .result) (inside k) (j .ensures) (sym (k .is-bad .ensures) ∙ c .if2 .taken)
+    ap (λ (f : Fault). Left (NoEntry (a .p) f)) (c .fault-in-zone .ensures)
+    ∙ step-bad (a .g) (a .drive) (a .parity) (log (start k)) (a .p) (j .result) (inside k) (j .ensures) (sym (k .is-bad .ensures) ∙ c .before .if2 .taken)
 
 returns-3 : tie.Need-returns-3
 unfolding stepInZone
@@ -43,7 +47,7 @@ returns-3 c =
     let k = c .before .before in
     let a = start k .args in
     let j = k .before .before .judge-in-zone in
-    step-past (a .g) (a .drive) (a .parity) (log (start k)) (a .p) (j .result) (inside k) (j .ensures) (rw (← k .before .rows-of .ensures .0) (c .if3 .taken))
+    step-past (a .g) (a .drive) (a .parity) (log (start k)) (a .p) (j .result) (inside k) (j .ensures) (sym (k .is-bad .ensures) ∙ c .before .if2 .left) (rw (← k .before .rows-of .ensures .0) (c .if3 .taken))
 
 -- a legal entry whose rows have room in the zone
 legal : (c : tie.Else3) → (badSeen (c .before .before .before .before .judge-in-zone .result) ≡ false) × (start (c .before .before) .args .p + 1 + rowsSeen (start (c .before .before) .args .g) (c .before .before .before .before .judge-in-zone .result) ≤ start (c .before .before) .args .g .capacity)
@@ -72,5 +76,5 @@ returns-5 c =
 pub step-in-zone-spec : {M : Type 1} → statement M
 step-in-zone-spec =
     tie.close
-    (tie.spec returns (λ c κs. search needs) (λ c κs. search needs) (λ c κs. search needs) (λ c. search needs) (λ c. search needs) returns-2 returns-3
+    (tie.spec returns (λ c κs. search needs) (λ c κs. search needs) (λ c κs. search needs) (λ c. search needs) (λ c. search needs) (λ c κs. search needs) returns-2 returns-3
     returns-4 returns-5)

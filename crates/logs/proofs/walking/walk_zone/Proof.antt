@@ -2,6 +2,7 @@ use Rattle.logs.specs.code.ZoneWalk.{sectorsIn}
 use Rattle.logs.specs.code.WalkCode.{walkEndOf, leftAt, at-end, stops-bad, stops-past, stops-torn, goes-on}
 use Rattle.tables.specs.laws.Below.{length-tabulate}
 use Rattle.logs.specs.meaning.Walk.{walkLog}
+use Rattle.logs.specs.declared.WalkEnd.the-variants.{NoEntry}
 use lib.ListN.{length}
 use mathlib.Core.List.{List}
 use mathlib.Core.Path.{_≡_, _∙_, refl, sym, ap}
@@ -43,6 +44,12 @@ rows-of-requires c κs = c .before .before .before .before .pre .0
 
 fits : (c : tie.Else3 Inv-rows μ-rows Inv-walk μ-walk) → c .before .before .before .before .before .before .walk .p + 1 + c .before .before .before .rows-of .result ≤ c .before .before .before .before .before .before .before .before .args .g .capacity
 fits c = omega arith
+
+fault-in-zone-requires : tie.Need-fault-in-zone-requires Inv-rows μ-rows Inv-walk μ-walk
+fault-in-zone-requires c κs =
+    let at-judge = c .before .before .before in
+    let s = at-judge .before .before .before .before in
+    (s .pre .0, (s .pre .1, below (at-judge .before)))
 
 add-if3 : tie.Need-add-if3 Inv-rows μ-rows Inv-walk μ-walk
 add-if3 c =
@@ -107,18 +114,18 @@ returns c =
 
 returns-2 : tie.Need-returns-2 Inv-rows μ-rows Inv-walk μ-walk
 returns-2 c =
-    let j = c .before .before .before in
+    let j = c .before .before .before .before in
     let w = j .before .before in
     let a = w .before .before .args in
-    let t = stops-bad (a .g) (a .drive) (a .parity) (sectorsOf w) (w .walk .p) (j .judge-in-zone .result) (inside j) (j .judge-in-zone .ensures) (sym (c .before .is-bad .ensures) ∙ c .if2 .taken) in
-    record { ends = sym (ap walkEndOf t) ∙ w .walk .inv .1; within = w .walk .inv .0 }
+    let t = stops-bad (a .g) (a .drive) (a .parity) (sectorsOf w) (w .walk .p) (j .judge-in-zone .result) (inside j) (j .judge-in-zone .ensures) (sym (c .before .before .is-bad .ensures) ∙ c .before .if2 .taken) in
+    record { ends = ap (NoEntry (w .walk .p)) (c .fault-in-zone .ensures) ∙ sym (ap walkEndOf t) ∙ w .walk .inv .1; within = w .walk .inv .0 }
 
 returns-3 : tie.Need-returns-3 Inv-rows μ-rows Inv-walk μ-walk
 returns-3 c =
     let j = c .before .before .before .before in
     let w = j .before .before in
     let a = w .before .before .args in
-    let t = stops-past (a .g) (a .drive) (a .parity) (sectorsOf w) (w .walk .p) (j .judge-in-zone .result) (inside j) (j .judge-in-zone .ensures) (rw (← c .before .before .before .rows-of .ensures .0) (c .if3 .taken)) in
+    let t = stops-past (a .g) (a .drive) (a .parity) (sectorsOf w) (w .walk .p) (j .judge-in-zone .result) (inside j) (j .judge-in-zone .ensures) (sym (c .before .before .is-bad .ensures) ∙ c .before .if2 .left) (rw (← c .before .before .before .rows-of .ensures .0) (c .if3 .taken)) in
     record { ends = sym (ap walkEndOf t) ∙ w .walk .inv .1; within = w .walk .inv .0 }
 
 returns-4 : tie.Need-returns-4 Inv-rows μ-rows Inv-walk μ-walk
@@ -137,6 +144,6 @@ returns-4 c =
 pub walk-zone-spec : {M : Type 1} → statement M
 walk-zone-spec =
     tie.close
-    (tie.spec Inv-rows μ-rows Inv-walk μ-walk (λ c. (omega arith, refl)) judge-in-zone-requires rows-of-requires (λ c κs. tt) add-if3 add-if3-2
+    (tie.spec Inv-rows μ-rows Inv-walk μ-walk (λ c. (omega arith, refl)) judge-in-zone-requires rows-of-requires (λ c κs. tt) fault-in-zone-requires add-if3 add-if3-2
     rows-holds add-if4 add-if4-2 add-k (λ c. omega arith) (λ c. (omega arith, omega arith)) add-p add-p-2 walk-less walk-again returns returns-2
     returns-3 returns-4)

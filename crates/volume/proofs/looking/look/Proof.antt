@@ -11,12 +11,14 @@ use Rattle.tables.specs.meaning.Geometry.{Valid, cells}
 use Rattle.tables.specs.laws.Sizes.{cells-small}
 use Rattle.tables.specs.meaning.Drives.{findBelow}
 use Rattle.volume.specs.meaning.Rules.{showing}
+use Rattle.volume.specs.declared.BadPlace.{BadPlace}
+use Rattle.volume.specs.meaning.Answers.{refusedAt}
 use Rattle.volume.specs.meaning.CallContracts.{isSet}
 use Rattle.volume.specs.checks.Logging.{front-fits, front-long}
 use Rattle.volume.specs.looking.Knowing.{readDevice}
 use Rattle.volume.specs.looking.SeenByRoles.{seen-valid, seen-long}
-use Rattle.volume.specs.looking.Looking.{Lookable, lookOf, shapeNumber, shaped, shaped-first, look-shape, look-refused}
-use Rattle.volume.specs.looking.Surveying.{survey-refusal, survey-lookable, survey-finished}
+use Rattle.volume.specs.looking.Looking.{Lookable, lookOf, shapeNumber, shaped, shaped-first, look-refused, look-refused-shape}
+use Rattle.volume.specs.looking.Surveying.{survey-refusal, survey-bad, survey-lookable, survey-finished}
 use borrow.Author.Needs.{needs}
 use Rattle.volume.proofs.looking.look.Statement.{statement}
 use Rattle.volume.proofs.looking.look.Tie as tie
@@ -27,9 +29,7 @@ returns c =
     let a = c .before .before .before .before .before .before .args in
     let r = c .before .before .shape-refusal in
     let h : r .result ≢ 0 = c .before .if1 .taken in
-    c .refused .ensures
-    ∙ look-refused (a .g) (a .named) (a .old) (now (a .sectors)) (now (a .written)) (now (a .durable)) (r .result)
-    (r .ensures ∙ look-shape (a .g) (a .named) (now (a .sectors)) (now (a .written)) (now (a .durable)) (rw (r .ensures) at h)) h
+    c .refused .ensures ∙ look-refused-shape (a .g) (a .named) (a .old) (now (a .sectors)) (now (a .written)) (now (a .durable)) (r .result) (r .ensures) h
 
 abbrev to-start : tie.Else1 → tie.Start
 to-start c = c .before .before .before .before .before
@@ -81,7 +81,9 @@ returns-2 : tie.Need-returns-2
 returns-2 c =
     let f = c .before .before .before in
     let a = to-start (shape-of f) .args in
-    c .refused2 .ensures
+    c .refused-at .ensures
+    ∙ ap (λ (b : BadPlace). record { answer = refusedAt b (f .survey-drives .result .refusal); state = a .old })
+    (survey-bad (a .g) (a .named) (now (a .sectors)) (now (a .written)) (f .survey-drives .result) (pointers-of f) (f .survey-drives .ensures) (now (a .durable)))
     ∙ look-refused (a .g) (a .named) (a .old) (now (a .sectors)) (now (a .written)) (now (a .durable)) (f .survey-drives .result .refusal)
     (survey-refusal (a .g) (a .named) (now (a .sectors)) (now (a .written)) (f .survey-drives .result) (pointers-of f) (f .survey-drives .ensures) (now (a .durable)) (passed (shape-of f))) (c .before .if2 .taken)
 

@@ -17,17 +17,29 @@ look-present-requires c κs =
     let a = s .args in
     (seen-valid (a .g) (now (a .sectors)) (now (a .written)) (r .see-by-roles .result) (r .see-by-roles .last .1 .1 .0) (seen r) (s .pre .0), seen-sized (a .g) (now (a .sectors)) (now (a .written)) (r .see-by-roles .result) (r .see-by-roles .last .1 .1 .0) (seen r))
 
-log-refusal-requires : tie.Need-log-refusal-requires
-log-refusal-requires c κs =
+first-bad-requires : tie.Need-first-bad-requires
+first-bad-requires c κs =
     let r = c .before .before .before .before .before .before in
     let s = to-start r in
     let a = s .args in
     (seen-valid (a .g) (now (a .sectors)) (now (a .written)) (r .see-by-roles .result) (r .see-by-roles .last .1 .1 .0) (seen r) (s .pre .0), seen-sized (a .g) (now (a .sectors)) (now (a .written)) (r .see-by-roles .result) (r .see-by-roles .last .1 .1 .0) (seen r))
 
+log-refusal-requires : tie.Need-log-refusal-requires
+log-refusal-requires c κs =
+    let r = c .before .before .before .before .before .before .before .before in
+    let s = to-start r in
+    let a = s .args in
+    (seen-valid (a .g) (now (a .sectors)) (now (a .written)) (r .see-by-roles .result) (r .see-by-roles .last .1 .1 .0) (seen r) (s .pre .0), (seen-sized (a .g) (now (a .sectors)) (now (a .written)) (r .see-by-roles .result) (r .see-by-roles .last .1 .1 .0) (seen r), c .before .first-bad .ensures))
+
 returns : tie.Need-returns
-returns c = record { seen = seen (c .before .before .before .before .before .before .before); present = c .before .before .look-present .ensures; refused = c .log-refusal .ensures }
+returns c = record {
+  seen = seen (c .before .before .before .before .before .before .before .before .before);
+  present = c .before .before .before .before .look-present .ensures;
+  refused = c .log-refusal .ensures;
+  bad-is = c .before .before .first-bad .ensures;
+}
 
 pub survey-drives-spec : {M : Type 1} → statement M
 survey-drives-spec =
     tie.close
-    (tie.spec (λ c κs. search needs) look-present-requires log-refusal-requires (λ c. search needs) returns)
+    (tie.spec (λ c κs. search needs) look-present-requires first-bad-requires log-refusal-requires (λ c. search needs) returns)

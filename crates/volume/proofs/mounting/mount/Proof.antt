@@ -84,7 +84,7 @@ returns-2 c =
     let s = from-survey f in
     let a = s .args in
     let (p, q) = refused-logs (a .g) (a .named) (a .old) (a .count) (given s) (f .survey-drives .result) (pointers-of f) (passed (shape-of f)) (f .survey-drives .ensures) (c .before .if2 .taken) in
-    (c .refused2 .ensures ∙ p, q)
+    (c .refused-at .ensures ∙ p, q)
 
 accepted : (c : tie.Else2) → c .before .before .survey-drives .result .refusal ≡ 0
 accepted c = omega arith
@@ -122,7 +122,7 @@ returns-3 c =
     let s = from-survey f in
     let a = s .args in
     let (x, y) = refused-full (a .g) (a .named) (a .old) (a .count) (given s) (f .survey-drives .result) (pointers-of f) (passed (shape-of f)) (f .survey-drives .ensures) (accepted (p .before .before .before .before)) (p .plan-mount .result) (planning p) (c .before .if3 .taken) in
-    (c .refused3 .ensures ∙ x, y)
+    (c .refused2 .ensures ∙ x, y)
 
 -- ---- none
 mount-planned-requires : tie.Need-mount-planned-requires

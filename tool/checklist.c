@@ -202,16 +202,26 @@ static void check_reset_log(const struct driver *driver, bool shown) {
         end_line(&line, "ok, no reset under way; at least %u sectors unused on each drive", least_unused(driver, GENERAL_LOG));
 }
 
+#define BOTH_THE_SAME "on healthy drives both are the same"
+
 /* Why another count of sectors is shown with a drive left out. */
 static const char *reason_for_length(const struct driver *driver, uint32_t zone) {
     if (driver->drives.record.phase == PHASE_READY)
-        return "on healthy drives both are the same";
+        return BOTH_THE_SAME;
     return drives_with_reset(driver, zone) != 0 ? "its reset is under way" : "on healthy drives that is data that no finished flush or mount covered";
 }
 
+static unsigned long long generation_in(const uint8_t *record) { return get64(record + ZRV_RECORD_GENERATION); }
+
 static void tell_left_out(void *listener, const struct difference *d) {
     struct line *line = listener;
-    if (d->kind == DIFFERENT_BYTES)
+    if (d->kind == DIFFERENT_RECORD && line->driver->drives.record.phase != PHASE_READY)
+        return; /* as it may be before a mount */
+    if (d->kind == DIFFERENT_RECORD)
+        found(line, "zone %u: %s, generation %llu with drive %u left out; %s, generation %llu with all; %s", d->zone,
+              condition_word(d->record_without[ZRV_RECORD_CONDITION]), generation_in(d->record_without), d->drive,
+              condition_word(d->record_with_all[ZRV_RECORD_CONDITION]), generation_in(d->record_with_all), BOTH_THE_SAME);
+    else if (d->kind == DIFFERENT_BYTES)
         found(line, "zone %u, address %llu: other bytes with drive %u left out; parity and data of its row do not match", d->zone,
               (unsigned long long)d->address, d->drive);
     else if (d->kind == DIFFERENT_LENGTH)
@@ -227,12 +237,15 @@ static void check_left_out(const struct driver *driver, bool shown) {
     struct line line = {driver, "each drive left out", "parity older than the data beside it", 0};
     uint32_t every = (1u << driver->drives.record.geometry.drives) - 1;
     bool whole = driver->drives.present == every && driver->shown[ZRV_STATE_LOST] == ZRV_NO_DRIVE;
+    bool ready = driver->drives.record.phase == PHASE_READY;
+    const char *same = ready ? "ok, every zone shows the same condition and sectors with any one drive left out, as is proved of it after a mount"
+                             : "ok, every zone shows the same sectors with any one drive left out";
     if (shown && whole)
         compare_left_out(driver, tell_left_out, &line);
     if (shown && !whole)
         end_line(&line, "not judged: a drive is missing, and a second one cannot be left out");
     else
-        end_line(&line, "%s", shown ? "ok, every zone shows the same sectors with any one drive left out" : NO_LOOK);
+        end_line(&line, "%s", shown ? same : NO_LOOK);
 }
 
 static void print_log(const struct log_zones *zones, uint32_t log, const char *name) {

@@ -63,8 +63,10 @@ static void compare_zone(struct view *all, struct view *part, struct difference 
     struct range a, b;
     difference.with_all = shown_sectors(all, difference.zone);
     difference.without = shown_sectors(part, difference.zone);
-    difference.kind = DIFFERENT_LENGTH;
-    if (difference.with_all != difference.without)
+    difference.record_with_all = zone_record(all->shown, difference.zone);
+    difference.record_without = zone_record(part->shown, difference.zone);
+    difference.kind = difference.with_all != difference.without ? DIFFERENT_LENGTH : DIFFERENT_RECORD;
+    if (memcmp(difference.record_with_all, difference.record_without, ZRV_STATE_RECORD_BYTES) != 0)
         tell(listener, &difference);
     uint32_t run = difference.with_all < difference.without ? difference.with_all : difference.without;
     uint32_t answer_all = read_view(all, difference.zone, run, &a), answer_part = read_view(part, difference.zone, run, &b);

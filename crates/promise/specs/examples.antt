@@ -1,4 +1,5 @@
 pub mod AnswerCases
+pub mod AnyDriveExample
 pub mod CachedExample
 pub mod CachedTablesHistory
 pub mod Cases

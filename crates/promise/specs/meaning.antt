@@ -1,3 +1,4 @@
+pub mod AnyDrive
 pub mod Caches
 pub mod CachesOnTables
 pub mod Claim

@@ -1,3 +1,6 @@
+pub mod AnyDrive
+pub mod AnyDriveCaching
+pub mod AnyDriveProved
 pub mod BehindDelayed
 pub mod BehindFlush
 pub mod BehindLooks

@@ -1,3 +1,4 @@
+pub mod AnyDriveBytes
 pub mod BytesClaimProof
 pub mod CachedBytesClaim
 pub mod CallsOnBytes

@@ -43,13 +43,13 @@ pub data Case : Type 0 where
   resetStops : ℕ → ℕ → Case
 
 -- the kind of a condition, and its pointer
-abbrev conditionKind : Condition → ℕ
+abbrev pub conditionKind : Condition → ℕ
 conditionKind Empty = 0
 conditionKind (Open n) = 1
 conditionKind (Sealed n) = 2
 conditionKind (Worn n) = 3
 
-abbrev sameCondition : Condition → Condition → Bool
+abbrev pub sameCondition : Condition → Condition → Bool
 sameCondition c d = eqb (conditionKind c) (conditionKind d) && eqb (pointerIn c) (pointerIn d)
 
 abbrev samePlace : Place → ℕ → ℕ → ℕ → Bool

@@ -255,7 +255,7 @@ unfolding Cut WellFormed
 cut-to-durable x v h d y n = record { kept = v d y .durable; least = le-refl (v d y .durable); most = h d y; is = refl }
 
 -- the device is well formed whatever a call answers
-answer-well-formed : (r : Verdict) (xs : List Store) (new old : StateView) (stop : ℕ) (v : Device) → WellFormed v → WellFormed (storing r xs new old stop v .memory)
+pub answer-well-formed : (r : Verdict) (xs : List Store) (new old : StateView) (stop : ℕ) (v : Device) → WellFormed v → WellFormed (storing r xs new old stop v .memory)
 answer-well-formed (refuse n) xs new old stop v h = h
 answer-well-formed accept xs new old stop v h = go (ltb stop (length xs))
   where

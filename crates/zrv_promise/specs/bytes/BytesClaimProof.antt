@@ -3,7 +3,7 @@
 use mathlib.Core.Path.{_≡_, refl, sym, ap, _∙_, subst, fun-ext}
 use mathlib.Core.Logic.{_≢_, _⊎_, inl, inr}
 use mathlib.Core.Bool.{Bool, true, false, _&&_}
-use Prim.Native.Nat.{ℕ, suc, _*_, _^_, _<_}
+use Prim.Native.Nat.{ℕ, zero, suc, _*_, _^_, _<_}
 use native.Mathlib.Decide.{ℕ-discrete}
 use native.Mathlib.Omega.{arith}
 use mathlib.Core.List.{List, [], _∷_}
@@ -50,6 +50,11 @@ use Rattle.zrv_promise.specs.bytes.ReadsOnBytes.{sizes-pass, look-other,
 pub bytes-all : (xs : List ℕ) → ((i : ℕ) → getD xs i 0 < 256) → Bytes xs
 bytes-all [] h = tt
 bytes-all (x ∷ xs) h = (h 0, bytes-all xs (λ i. h (suc i)))
+
+pub byte-at : (xs : List ℕ) (i : ℕ) → Bytes xs → getD xs i 0 < 256
+byte-at [] i b = omega arith
+byte-at (x ∷ xs) zero b = b .0
+byte-at (x ∷ xs) (suc i) b = byte-at xs i (b .1)
 
 pub finished-code : (n : ℕ) → answerOf n ≡ Finished → n ≡ 0
 finished-code n e = go (eqb n 0) (eqb n 255) refl e

@@ -19,7 +19,6 @@ use Rattle.tables.specs.meaning.LittleEndian.{numberLE, readLE}
 use Rattle.volume.specs.meaning.Calls.{formatStores}
 use Rattle.volume.specs.meaning.Answers.{leftOut, namedDrives}
 use Rattle.volume.specs.meaning.CallContracts.{isSet, answerNumber, formatOn}
-use Rattle.volume.specs.laws.ByteLists.{Bytes}
 use Rattle.promise.specs.meaning.Claim.{mounts, System, Event, calls, cuts, loses, Dutiful, Throughout, start}
 use Rattle.promise.specs.examples.TablesExample.{every, without1, without1-named, format-finishes, none-lost}
 use Rattle.zrv.specs.meaning.Bytes.{tableFrom, noState}
@@ -27,7 +26,7 @@ use Rattle.zrv.specs.meaning.EdgeCalls.{namedOf, tablesIn, unreadState, storedA
 use Rattle.zrv.specs.laws.EdgeCalls.{Sized, input-passed, made}
 use Rattle.zrv_promise.specs.meaning.OnBytes.{LentBytes, rangesOf, bytesResult, answerOf, StillBytes, onBytes}
 use Rattle.zrv_promise.specs.bytes.ReadsOnBytes.{sizes-pass}
-use Rattle.zrv_promise.specs.bytes.BytesClaimProof.{BytesOk, bytes-start}
+use Rattle.zrv_promise.specs.bytes.BytesClaimProof.{byte-at, BytesOk, bytes-start}
 use Rattle.zrv_promise.specs.bytes.CachedBytesClaim.{bytes-keep-the-promise}
 
 -- ---- bytes of zeros hold a table of zeros
@@ -52,11 +51,6 @@ tabulate-zeros (suc n) = ap (λ (l : List ℕ). l ++ (0 ∷ [])) (tabulate-zeros
 table-zeros : (n k : ℕ) → tableFrom n (replicate k 0) ≡ replicate n 0
 unfolding tableFrom
 table-zeros n k = tabulate-cong (λ i. readLE 4 (replicate k 0) (i * 4)) (λ i. 0) n (λ i h. ap (λ (l : List ℕ). numberLE (take 4 l)) (drop-zeros (i * 4) k) ∙ number-zeros 4 (k - i * 4)) ∙ tabulate-zeros n
-
-byte-at : (xs : List ℕ) (i : ℕ) → Bytes xs → getD xs i 0 < 256
-byte-at [] i b = omega arith
-byte-at (x ∷ xs) zero b = b .0
-byte-at (x ∷ xs) (suc i) b = byte-at xs i (b .1)
 
 -- ---- masks
 all-drives : namedOf 255 ≡ every

@@ -17,6 +17,7 @@ pub mod Placement
 pub mod PointerOrder
 pub mod Sizes
 pub mod StoresFit
+pub mod StripeAt
 pub mod Tables
 pub mod TablesFrame
 pub mod TablesRefine

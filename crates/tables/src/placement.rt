@@ -5,6 +5,7 @@ ghost use mathlib.Core.Logic.{_≢_};
 ghost use Prim.Native.Nat.{_+_, _*_, _-_, _/_, _≤_, _<_, min};
 ghost use Rattle.tables.specs.meaning.Placement.{parityDrive, unitDrive, unitOf, driveOf, sectorOf, addressAt, needed};
 ghost use Rattle.tables.specs.meaning.Geometry.{Valid, zoneSectors, firstDriveOf};
+ghost use Rattle.tables.specs.laws.StripeAt.{stripeAt, neededOf};
 
 // The drive that holds the parity of a stripe.
 pub fn parity_drive(d: usize, zone: usize, stripe: usize) -> usize
@@ -19,7 +20,8 @@ pub fn unit_drive(d: usize, p: usize, j: usize) -> usize
     requires { ⌜ (1 ≤ d) × (d ≤ 8) × (p < d) × (j < d) ⌝ }
     ensures { λ r. ⌜ (r ≡ unitDrive d p j) × (r < d) ⌝ }
 {
-    (p + 1 + j) % d
+    let n = p + 1 + j;
+    if n < d { n } else { n - d }
 }
 
 // The unit that a drive holds of a stripe whose parity drive is p.
@@ -27,7 +29,11 @@ pub fn unit_of(d: usize, p: usize, drive: usize) -> usize
     requires { ⌜ (1 ≤ d) × (d ≤ 8) × (p < d) × (drive < d) ⌝ }
     ensures { λ r. ⌜ (r ≡ unitOf d p drive) × (r < d) ⌝ }
 {
-    (drive + d - (p + 1)) % d
+    if p < drive {
+        drive - (p + 1)
+    } else {
+        drive + d - (p + 1)
+    }
 }
 
 // The drive of the first unit of a zone's stripe 0.
@@ -94,22 +100,58 @@ pub fn saturating_sub(a: usize, b: usize) -> usize
     if b <= a { a - b } else { 0 }
 }
 
-// The sectors that a zone's pointer n needs of a drive.
+// A pointer's stripe, the sectors of it below the pointer, and its parity drive.
+pub struct StripeAt {
+    pub stripe: usize,
+    pub fill: usize,
+    pub parity: usize,
+}
+
+// Where a zone's pointer n lies.
+pub fn stripe_at(g: Geometry, zone: usize, n: usize) -> StripeAt
+    requires { ⌜ Valid g ⌝ }
+    requires { ⌜ (zone < g .zones) × (n ≤ zoneSectors g) ⌝ }
+    ensures { λ r. ⌜ r ≡ stripeAt (g .drives) (g .unit) zone n ⌝ }
+{
+    let d = g.drives;
+    let u = g.unit;
+    let k = (d - 1) * u;
+    let stripe = n / k;
+    let fill = n % k;
+    let parity = parity_drive(d, zone, stripe);
+    StripeAt {
+        stripe,
+        fill,
+        parity,
+    }
+}
+
+// The sectors that a pointer needs of a drive.
+pub fn needed_of(g: Geometry, at: StripeAt, drive: usize) -> usize
+    requires { ⌜ Valid g ⌝ }
+    requires { ⌜ (at .stripe ≤ 65536) × (at .parity < g .drives) × (drive < g .drives) ⌝ }
+    ensures { λ r. ⌜ r ≡ neededOf (g .drives) (g .unit) at drive ⌝ }
+{
+    let d = g.drives;
+    let u = g.unit;
+    let s = at.stripe;
+    let fill = at.fill;
+    let p = at.parity;
+    if drive == p {
+        return s * u;
+    }
+    let j = unit_of(d, p, drive);
+    let more = saturating_sub(fill, j * u);
+    let own = min(more, u);
+    s * u + own
+}
+
+// The same of a zone's pointer n.
 pub fn sectors_needed(g: Geometry, zone: usize, n: usize, drive: usize) -> usize
     requires { ⌜ Valid g ⌝ }
     requires { ⌜ (zone < g .zones) × (n ≤ zoneSectors g) × (drive < g .drives) ⌝ }
     ensures { λ r. ⌜ (r ≡ needed (g .drives) (g .unit) zone n drive) × (r ≤ g .capacity) ⌝ }
 {
-    let d = g.drives;
-    let u = g.unit;
-    let k = (d - 1) * u;
-    let s = n / k;
-    let p = parity_drive(d, zone, s);
-    if drive == p {
-        return s * u;
-    }
-    let j = unit_of(d, p, drive);
-    let more = saturating_sub(n % k, j * u);
-    let own = min(more, u);
-    s * u + own
+    let at = stripe_at(g, zone, n);
+    needed_of(g, at, drive)
 }

@@ -1,3 +1,4 @@
+pub mod ByRecord
 pub mod CheckLaws
 pub mod LogRoom
 pub mod Logging

@@ -8,6 +8,7 @@ pub mod KnowingValues
 pub mod LogZones
 pub mod Looking
 pub mod MovedLogs
+pub mod RowOthers
 pub mod SeenByRoles
 pub mod Surveying
 pub mod ZoneLooking

@@ -1,5 +1,6 @@
 pub mod OwnStores
 pub mod RunSeen
+pub mod WriteByRecord
 pub mod WriteChecks
 pub mod WriteDirectly
 pub mod WriteMade
@@ -7,5 +8,6 @@ pub mod WriteRoom
 pub mod WriteRun
 pub mod WriteSeen
 pub mod WriteStores
+pub mod WriteTried
 pub mod WriteZone
 pub mod Writing

@@ -19,7 +19,7 @@ ghost use Rattle.volume.specs.meaning.State.{pointerIn};
 ghost use Rattle.volume.specs.meaning.Refusals.{stateWithin};
 ghost use Rattle.volume.specs.meaning.Answers.{refusedAt};
 ghost use Rattle.volume.specs.meaning.CallContracts.{recordAt, viewState, isSet};
-ghost use Rattle.volume.specs.checks.CheckLaws.{presentList, openingFrom, Tested};
+ghost use Rattle.volume.specs.checks.CheckLaws.{presentList, openingFrom, openedFrom, Tested};
 
 // The pointer that a condition carries.
 pub fn pointer_of(c: Condition) -> usize
@@ -153,6 +153,31 @@ pub struct Sizes {
     pub bytes: usize,
 }
 
+// Refusals 2 to 4 of a call that passed 1, with tables of pointers of the right lengths; 0 if none applies. `bad`: what refusal 3 found.
+pub fn opened(g: Geometry, named: [bool; 8], lost: usize, sizes: Sizes, bad: bool) -> u8
+    requires { ⌜ Valid g ⌝ }
+    ensures { λ r. ⌜ r ≡ openedFrom g named lost (sizes .count) (sizes .bytes) (sizes .sectors) bad ⌝ }
+{
+    let sectors = sizes.sectors;
+    let count = sizes.count;
+    let bytes = sizes.bytes;
+    let total = tables::bounds::total_bytes(g);
+    let buffer = tables::bounds::buffer_fits(g, count, bytes);
+    let fit = (sectors == total) & buffer;
+    if !fit {
+        return 2;
+    }
+    if bad {
+        return 3;
+    }
+    let here = present_drives(g, named, lost);
+    let absent = count_absent(g, here);
+    if 1 < absent {
+        return 4;
+    }
+    0
+}
+
 // Refusals 1 to 4 of a call with a state; 0 if none applies. `within`: what refusal 1 found.
 pub fn opening(
     within: bool,
@@ -169,25 +194,13 @@ pub fn opening(
     if !within {
         return 1;
     }
-    let sectors = sizes.sectors;
-    let count = sizes.count;
-    let bytes = sizes.bytes;
-    let lengths = tables::bounds::lengths_fit(g, sectors, written.len(), durable.len());
-    let buffer = tables::bounds::buffer_fits(g, count, bytes);
-    let fit = lengths & buffer;
+    let n = tables::bounds::table_cells(g);
+    let fit = (written.len() == n) & (durable.len() == n);
     if !fit {
         return 2;
     }
     let bad = tables::bounds::pointers_bad(written, durable, g, named);
-    if bad {
-        return 3;
-    }
-    let here = present_drives(g, named, lost);
-    let absent = count_absent(g, here);
-    if 1 < absent {
-        return 4;
-    }
-    0
+    opened(g, named, lost, sizes, bad)
 }
 
 // A refused call hands the state back as it was.

@@ -15,22 +15,31 @@ fn zone_gone(sectors: &[u8], pointers: &[u32], zone: Zone, drive: usize, pointer
     requires { ⌜ Readable (zone .geometry) (zone .here) (now sectors) (now pointers) (zone .number) × (drive < zone .geometry .drives) × (pointer ≤ zoneSectors (zone .geometry)) ⌝ }
     ensures { λ r. ⌜ r ≡ goneAt (zone .geometry) (isSet (zone .here)) (readDevice (zone .geometry) (now (sectors .entry)) (now (pointers .entry))) drive (zone .number) (zone .generation) pointer ⌝ }
 {
-    let g = zone.geometry;
     let here = zone.here;
-    let z = zone.number;
-    let generation = zone.generation;
-    let copied = super::emptying_parity::is_copied(g, drive, z, pointer);
-    if !copied {
+    if !super::emptying_parity::is_copied(zone.geometry, drive, zone.number, pointer) {
         return false;
     }
-    let log = super::drive_logs::log_in(pointers, g, drive, logs::PARITY_LOG);
-    let found = logs::folds::has_partial_at(sectors, g, log, z, generation, pointer);
-    if found {
+    let log = super::drive_logs::log_in(pointers, zone.geometry, drive, logs::PARITY_LOG);
+    if logs::folds::has_partial_at(
+        sectors,
+        zone.geometry,
+        log,
+        zone.number,
+        zone.generation,
+        pointer,
+    ) {
         return false;
     }
-    let k = tables::bounds::stripe_sectors(g);
+    let k = tables::bounds::stripe_sectors(zone.geometry);
     let start = pointer / k * k;
-    let limit = super::knowing::seal_limit(sectors, pointers, g, here, z, generation);
+    let limit = super::knowing::seal_limit(
+        sectors,
+        pointers,
+        zone.geometry,
+        here,
+        zone.number,
+        zone.generation,
+    );
     super::reading::some_gone(sectors, pointers, zone, limit, start, pointer - start)
 }
 

@@ -112,23 +112,19 @@ fn copy_header(
     requires { ⌜ Copying false e (now pointers) (now sectors) (now written) × (z < e .from .zones) ⌝ }
     ensures { λ r. ⌜ MadeAppends (e .to) budget r (headersOn e (copyFor (e .from) kind generation (oldHeads e (now (sectors .entry)) (now (pointers .entry))) z)) (now (sectors .entry)) (now (written .entry)) (now (sectors .exit)) (now (written .exit)) ⌝ }
 {
-    let from = e.from;
-    let to = e.to;
-    let drive = e.drive;
-    let log = super::drive_logs::log_in(pointers, from, drive, logs::GENERAL_LOG);
-    let due = copy_due(kind, sectors, from, log, z, generation);
-    if !due {
+    let log = super::drive_logs::log_in(pointers, e.from, e.drive, logs::GENERAL_LOG);
+    if !copy_due(kind, sectors, e.from, log, z, generation) {
         return budget;
     }
     let mut header = [0u8; 4096];
-    let b = from.sector;
-    write_copy(kind, &mut header[..b], sectors, from, log, z, generation);
+    let b = e.from.sector;
+    write_copy(kind, &mut header[..b], sectors, e.from, log, z, generation);
     tables::stores::append_counted(
         sectors,
         written,
-        to,
+        e.to,
         true,
-        drive,
+        e.drive,
         logs::GENERAL_LOG,
         &header[..b],
         budget,
@@ -149,8 +145,7 @@ fn copy_headers(
     requires { ⌜ Copying false e (now pointers) (now sectors) (now written) × (e .from .zones ≤ length (now generations)) ⌝ }
     ensures { λ r. ⌜ MadeAppends (e .to) budget r (headersOn e (copiesBelow (e .from) kind (now (generations .entry)) (oldHeads e (now (sectors .entry)) (now (pointers .entry))) (e .from .zones))) (now (sectors .entry)) (now (written .entry)) (now (sectors .exit)) (now (written .exit)) ⌝ }
 {
-    let g = e.from;
-    let n = g.zones;
+    let n = e.from.zones;
     let mut rest = budget;
     let mut z = 0;
     while z < n {
@@ -173,15 +168,13 @@ fn copy_label(
     requires { ⌜ Copying false e (now pointers) (now sectors) (now written) ⌝ }
     ensures { λ r. ⌜ MadeAppends (e .to) budget r (headersOn e (keptLabel (oldHeads e (now (sectors .entry)) (now (pointers .entry))))) (now (sectors .entry)) (now (written .entry)) (now (sectors .exit)) (now (written .exit)) ⌝ }
 {
-    let from = e.from;
-    let to = e.to;
     let drive = e.drive;
-    let log = super::drive_logs::log_in(pointers, from, drive, logs::GENERAL_LOG);
-    let kept = logs::folds::kept_label(sectors, from, log);
+    let log = super::drive_logs::log_in(pointers, e.from, drive, logs::GENERAL_LOG);
+    let kept = logs::folds::kept_label(sectors, e.from, log);
     match kept {
         Found::Bad => budget,
         Found::Label(lost, array) => {
-            super::logging::append_label(sectors, written, to, true, drive, lost, array, budget)
+            super::logging::append_label(sectors, written, e.to, true, drive, lost, array, budget)
         }
         Found::Counters => budget,
         Found::Resets(_, _) => budget,
@@ -203,9 +196,7 @@ fn copy_counters(
     requires { ⌜ (e .drive < e .to .drives) × (e .to .zones ≤ length (now generations)) × (length (now sectors) ≡ totalBytes (e .to)) × (length (now written) ≡ cells (e .to)) × SameShape (e .from) (e .to) ⌝ }
     ensures { λ r. ⌜ MadeAppends (e .to) budget r (headersOn e (counters (take (e .from .zones) (now (generations .entry))) ∷ [])) (now (sectors .entry)) (now (written .entry)) (now (sectors .exit)) (now (written .exit)) ⌝ }
 {
-    let to = e.to;
-    let drive = e.drive;
-    super::logging::append_counters(sectors, written, to, true, drive, generations, budget)
+    super::logging::append_counters(sectors, written, e.to, true, e.drive, generations, budget)
 }
 
 // The copies: "last label, counters with the zones' generations as now in force, each zone's least current seal, then one current reset of each".
@@ -336,13 +327,18 @@ pub fn end_emptying(
     requires { ⌜ (e .drive < e .to .drives) × (length (now sectors) ≡ totalBytes (e .to)) × (length (now written) ≡ cells (e .to)) × (length (now durable) ≡ cells (e .to)) × SameShape (e .from) (e .to) ⌝ }
     ensures { λ r. ⌜ Made (e .to) budget r (endStores e parity) (tablesOf (now (sectors .entry)) (now (written .entry)) (now (durable .entry))) (tablesOf (now (sectors .exit)) (now (written .exit)) (now (durable .exit))) ⌝ }
 {
-    let to = e.to;
     let here = e.here;
-    let drive = e.drive;
-    let generation = e.generation;
-    let closed = append_closing(sectors, written, to, drive, parity, generation, budget);
-    let flushed = super::flushing::flush_all(written, durable, to, here, closed);
-    tables::stores::reset_counted(written, durable, to, true, drive, SPARE_ZONE, flushed)
+    let closed = append_closing(
+        sectors,
+        written,
+        e.to,
+        e.drive,
+        parity,
+        e.generation,
+        budget,
+    );
+    let flushed = super::flushing::flush_all(written, durable, e.to, here, closed);
+    tables::stores::reset_counted(written, durable, e.to, true, e.drive, SPARE_ZONE, flushed)
 }
 
 // Empties a drive's general log into its spare zone.
@@ -360,9 +356,8 @@ pub fn empty_general(
     ensures { λ r. ⌜ Made (e .to) budget r (emptiedTo e false (map (encode (e .from) (e .drive)) (copiedHeaders e (now (generations .entry)) (now (pointers .entry)) (now (sectors .entry)))))
         (tablesOf (now (sectors .entry)) (now (written .entry)) (now (durable .entry))) (tablesOf (now (sectors .exit)) (now (written .exit)) (now (durable .exit))) ⌝ }
 {
-    let to = e.to;
     let here = e.here;
-    let flushed = super::flushing::flush_all(written, durable, to, here, budget);
+    let flushed = super::flushing::flush_all(written, durable, e.to, here, budget);
     let copied = copy_general(sectors, written, pointers, e, generations, flushed);
     end_emptying(sectors, written, durable, e, false, copied)
 }

@@ -41,8 +41,7 @@ pub fn is_copied(g: Geometry, drive: usize, z: usize, pointer: usize) -> bool
 {
     let k = tables::bounds::stripe_sectors(g);
     let s = pointer / k;
-    let d = g.drives;
-    let parity = tables::placement::parity_drive(d, z, s);
+    let parity = tables::placement::parity_drive(g.drives, z, s);
     (s * k < pointer) & (drive == parity)
 }
 
@@ -54,8 +53,7 @@ pub fn entry_size(g: Geometry, pointer: usize) -> usize
 {
     let k = tables::bounds::stripe_sectors(g);
     let s = pointer / k;
-    let u = g.unit;
-    let rows = tables::placement::min(pointer - s * k, u);
+    let rows = tables::placement::min(pointer - s * k, g.unit);
     1 + rows
 }
 
@@ -96,16 +94,21 @@ fn copy_sector(sectors: &mut [u8], written: &mut [u32], e: Emptying, n: usize, b
     requires { ⌜ Copying true e (now written) (now sectors) (now written) × (n < e .from .capacity) ⌝ }
     ensures { λ r. ⌜ MadeAppends (e .to) budget r (storeIf true (append (e .drive) parityZone (sectorAt (e .from) (now (sectors .entry)) (e .drive) parityZone n))) (now (sectors .entry)) (now (written .entry)) (now (sectors .exit)) (now (written .exit)) ⌝ }
 {
-    let from = e.from;
-    let to = e.to;
     let drive = e.drive;
     let mut buffer = [0u8; 4096];
-    let b = from.sector;
-    tables::sectors::read_sector(sectors, from, drive, logs::PARITY_LOG, n, &mut buffer[..b]);
+    let b = e.from.sector;
+    tables::sectors::read_sector(
+        sectors,
+        e.from,
+        drive,
+        logs::PARITY_LOG,
+        n,
+        &mut buffer[..b],
+    );
     tables::stores::append_counted(
         sectors,
         written,
-        to,
+        e.to,
         true,
         drive,
         logs::PARITY_LOG,
@@ -202,25 +205,20 @@ fn append_made(
     requires { ⌜ Making e point (now pointers) (now sectors) (now written) ⌝ }
     ensures { λ r. ⌜ MadeAppends (e .to) budget r (entriesOn e (madeAt e (readDevice (e .from) (now (sectors .entry)) (now (pointers .entry))) point ∷ [])) (now (sectors .entry)) (now (written .entry)) (now (sectors .exit)) (now (written .exit)) ⌝ }
 {
-    let from = e.from;
-    let to = e.to;
-    let drive = e.drive;
-    let z = point.number;
-    let generation = point.generation;
     let pointer = point.pointer;
-    let k = tables::bounds::stripe_sectors(from);
+    let k = tables::bounds::stripe_sectors(e.from);
     let s = pointer / k;
     let fill = pointer - s * k;
     let rest = super::write_stores::append_partial(
         sectors,
         written,
-        to,
+        e.to,
         true,
-        drive,
-        z,
+        e.drive,
+        point.number,
         s,
         fill,
-        generation,
+        point.generation,
         budget,
     );
     append_made_rows(sectors, written, pointers, e, point, rest)
@@ -241,22 +239,25 @@ fn copy_entry(
     requires { ⌜ PointCopying e point (now pointers) (now starts) (now sectors) (now written) ⌝ }
     ensures { λ r. ⌜ MadeAppends (e .to) budget r (entriesOn e (copiedEntry e point (now (pointers .entry)) (now (starts .entry)) (now (sectors .entry)))) (now (sectors .entry)) (now (written .entry)) (now (sectors .exit)) (now (written .exit)) ⌝ }
 {
-    let from = e.from;
-    let drive = e.drive;
-    let z = point.number;
-    let generation = point.generation;
     let pointer = point.pointer;
-    let copied = is_copied(from, drive, z, pointer);
-    if !copied {
+    if !is_copied(e.from, e.drive, point.number, pointer) {
         return budget;
     }
-    let log = super::drive_logs::log_in(starts, from, drive, logs::PARITY_LOG);
-    let place = logs::folds::last_partial(sectors, from, log, z, generation, pointer - 1, pointer);
+    let log = super::drive_logs::log_in(starts, e.from, e.drive, logs::PARITY_LOG);
+    let place = logs::folds::last_partial(
+        sectors,
+        e.from,
+        log,
+        point.number,
+        point.generation,
+        pointer - 1,
+        pointer,
+    );
     if place == 0 {
         return append_made(sectors, written, pointers, e, point, budget);
     }
     let first = place - 1;
-    let size = entry_size(from, pointer);
+    let size = entry_size(e.from, pointer);
     copy_run(sectors, written, e, first, first + size, budget)
 }
 
@@ -275,8 +276,7 @@ pub fn copy_parity(
     requires { ⌜ ParityCopying e (now generations) (now points) (now pointers) (now starts) (now sectors) (now written) ⌝ }
     ensures { λ r. ⌜ MadeAppends (e .to) budget r (entriesOn e (copiedEntries e (now (generations .entry)) (now (points .entry)) (now (pointers .entry)) (now (starts .entry)) (now (sectors .entry)))) (now (sectors .entry)) (now (written .entry)) (now (sectors .exit)) (now (written .exit)) ⌝ }
 {
-    let g = e.from;
-    let n = g.zones;
+    let n = e.from.zones;
     let mut rest = budget;
     let mut z = 0;
     while z < n {
@@ -310,9 +310,8 @@ pub fn empty_parity(
     ensures { λ r. ⌜ Made (e .to) budget r (emptiedTo e true (entrySectors e (copiedEntries e (now (generations .entry)) (now (points .entry)) (now (pointers .entry)) (now (starts .entry)) (now (sectors .entry)))))
         (tablesOf (now (sectors .entry)) (now (written .entry)) (now (durable .entry))) (tablesOf (now (sectors .exit)) (now (written .exit)) (now (durable .exit))) ⌝ }
 {
-    let to = e.to;
     let here = e.here;
-    let flushed = super::flushing::flush_all(written, durable, to, here, budget);
+    let flushed = super::flushing::flush_all(written, durable, e.to, here, budget);
     let copied = copy_parity(
         sectors,
         written,

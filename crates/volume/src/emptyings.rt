@@ -75,8 +75,7 @@ pub fn empty_generals(
     ensures { λ r. ⌜ Made (all .to) budget r (eachBelow (λ d. emptiedOn all false (newGeneralOn all (now (generations .entry)) (now (sectors .entry)) (now (pointers .entry)) d) d) (all .from .drives))
         (tablesOf (now (sectors .entry)) (now (written .entry)) (now (durable .entry))) (tablesOf (now (sectors .exit)) (now (written .exit)) (now (durable .exit))) ⌝ }
 {
-    let g = all.from;
-    let n = g.drives;
+    let n = all.from.drives;
     let mut rest = budget;
     let mut d = 0;
     while d < n {
@@ -191,8 +190,7 @@ pub fn empty_parities(
     ensures { λ r. ⌜ ParitiesEmptied all (now (generations .entry)) (now (points .entry)) (now (pointers .entry)) (now (starts .entry)) budget r
         (tablesOf (now (sectors .entry)) (now (written .entry)) (now (durable .entry))) (tablesOf (now (sectors .exit)) (now (written .exit)) (now (durable .exit))) ⌝ }
 {
-    let g = all.from;
-    let n = g.drives;
+    let n = all.from.drives;
     let mut rest = budget;
     let mut d = 0;
     while d < n {

@@ -7,9 +7,12 @@ use tables::Geometry;
 ghost use mathlib.Core.Path.{_≡_};
 ghost use Prim.Native.Nat.{_<_};
 ghost use lib.ListN.{length};
+ghost use lib.Dec.{eqb};
+ghost use Rattle.tables.specs.meaning.Basics.{pick};
 ghost use Rattle.tables.specs.meaning.Geometry.{Valid, cells};
 ghost use Rattle.tables.specs.meaning.Tables.{tablesOf};
 ghost use Rattle.tables.specs.laws.Made.{MadePointers};
+ghost use Rattle.volume.specs.declared.Answer.the-variants.{Finished, Unfinished};
 ghost use Rattle.volume.specs.meaning.Calls.{flushStores};
 ghost use Rattle.volume.specs.meaning.CallContracts.{isSet, flushOn};
 
@@ -34,6 +37,22 @@ pub fn flush_all(
         d += 1;
     }
     rest
+}
+
+// How a call ends with `rest` left of its budget: unfinished with the old state, or finished with the next one.
+pub fn ended(old: State, next: State, rest: u64) -> Outcome
+    ensures { λ r. ⌜ r ≡ pick (eqb rest 0) (record { answer = Unfinished; state = old }) (record { answer = Finished; state = next }) ⌝ }
+{
+    if rest == 0 {
+        return Outcome {
+            answer: Answer::Unfinished,
+            state: old,
+        };
+    }
+    Outcome {
+        answer: Answer::Finished,
+        state: next,
+    }
 }
 
 // The call.
@@ -63,16 +82,8 @@ pub fn flush(
     let here = super::checks::present_drives(g, named, lost);
     let budget = count as u64 + 1;
     let rest = flush_all(written, durable, g, here, budget);
-    if rest == 0 {
-        return Outcome {
-            answer: Answer::Unfinished,
-            state,
-        };
-    }
     let x = super::checks::left_out(g, here);
     let zones = state.zones;
-    Outcome {
-        answer: Answer::Finished,
-        state: State { lost: x, zones },
-    }
+    let next = State { lost: x, zones };
+    ended(state, next, rest)
 }

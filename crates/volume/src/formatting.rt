@@ -1,5 +1,4 @@
 // Format: reset every zone; flush all, so that no cut brings an old log back over the new; label, then counters (all 1), drive by drive; flush all.
-use super::Answer;
 use super::Condition;
 use super::Outcome;
 use super::State;
@@ -27,20 +26,16 @@ fn format_refusal(
 ) -> u8
     ensures { λ r. ⌜ r ≡ formatNumber g named sectors (now (written .entry)) (now (durable .entry)) ⌝ }
 {
-    let ok = tables::bounds::valid(g);
-    if !ok {
+    if !tables::bounds::valid(g) {
         return 1;
     }
-    let fit = tables::bounds::lengths_fit(g, sectors, written.len(), durable.len());
-    if !fit {
+    if !tables::bounds::lengths_fit(g, sectors, written.len(), durable.len()) {
         return 2;
     }
-    let bad = tables::bounds::pointers_bad(written, durable, g, named);
-    if bad {
+    if tables::bounds::pointers_bad(written, durable, g, named) {
         return 3;
     }
-    let absent = super::checks::count_absent(g, named);
-    if 1 < absent {
+    if 1 < super::checks::count_absent(g, named) {
         return 4;
     }
     0
@@ -196,24 +191,12 @@ pub fn format(
 {
     let refusal = format_refusal(sectors.len(), written, durable, g, named);
     if refusal != 0 {
-        return Outcome {
-            answer: Answer::Refused(refusal),
-            state: old,
-        };
+        return super::checks::refused(refusal, old);
     }
     let here = super::checks::present_drives(g, named, 255);
     let lost = super::checks::left_out(g, named);
     let budget = count as u64 + 1;
     let rest = format_stores(sectors, written, durable, g, here, lost, array, budget);
-    if rest == 0 {
-        return Outcome {
-            answer: Answer::Unfinished,
-            state: old,
-        };
-    }
     let state = fresh_state(g, lost);
-    Outcome {
-        answer: Answer::Finished,
-        state,
-    }
+    super::flushing::ended(old, state, rest)
 }

@@ -4,16 +4,16 @@
 // row below its end are held. The more an entry covers, the more sectors it needs: so the entries that serve are those that end past the sector
 // and at most at its row's first other sector that is not held. A sector that is held costs no walk of a log.
 use super::Zone;
+use super::rebuilding::RowPlace;
 use logs::Found;
 use tables::Geometry;
 ghost use mathlib.Core.Path.{_≡_};
-ghost use mathlib.Core.Bool.{true, _||_};
+ghost use mathlib.Core.Bool.{true};
 ghost use Prim.Native.Nat.{_+_, _-_, _≤_, _<_, min};
-ghost use lib.Dec.{leb, eqb};
 ghost use lib.ListN.{length};
 ghost use Rattle.tables.specs.meaning.Basics.{pick};
-ghost use Rattle.tables.specs.meaning.Geometry.{Valid, cells, physicalZones, totalBytes, zoneSectors, dataZone};
-ghost use Rattle.tables.specs.meaning.Placement.{sectorOf, unitIndex};
+ghost use Rattle.tables.specs.meaning.Geometry.{Valid, cells, physicalZones, totalBytes, zoneSectors};
+ghost use Rattle.tables.specs.meaning.Placement.{unitIndex};
 ghost use Rattle.tables.specs.meaning.Tables.{sectorAt};
 ghost use Rattle.tables.specs.meaning.Xor.{xorBytes};
 ghost use Rattle.logs.specs.meaning.Heads.{leastSeal};
@@ -21,7 +21,7 @@ ghost use Rattle.logs.specs.meaning.Entry.{parityZone, decode};
 ghost use Rattle.logs.specs.code.Judge.{found};
 ghost use Rattle.logs.specs.code.QueryLaws.{SmallSeen};
 ghost use Rattle.volume.specs.declared.knowing.Source.the-variants.{Held, Row, Entry};
-ghost use Rattle.volume.specs.meaning.Rules.{generalHeads, sealLimit, known, zoneView, valueAt, parityOf, rowDrive, rowAddress};
+ghost use Rattle.volume.specs.meaning.Rules.{generalHeads, sealLimit, known, zoneView, valueAt, parityOf, rowAddress};
 ghost use Rattle.volume.specs.meaning.CallContracts.{isSet};
 ghost use Rattle.volume.specs.looking.Knowing.{Readable, readDevice, heldOn, ownHeld, allHeld, rowHeld, rowComplete, stripeEnd, reachOf, servingPlace, sourceOf, hasSource, rowXor, endSeen, entryEnd, wayValue, valueFrom, SourceFits};
 
@@ -44,17 +44,21 @@ fn seal_of(sectors: &[u8], written: &[u32], zone: Zone, d: usize, most: usize) -
     if !present {
         return most;
     }
-    let g = zone.geometry;
-    let z = zone.number;
-    let generation = zone.generation;
-    let at = tables::stores::cell_of(g, d, logs::GENERAL_LOG);
+    let at = tables::stores::cell_of(zone.geometry, d, logs::GENERAL_LOG);
     let n = tables::bounds::widen(written[at]);
     let log = logs::Log {
         drive: d,
         zone: logs::GENERAL_LOG,
         written: n,
     };
-    logs::folds::least_seal(sectors, g, log, z, generation, most)
+    logs::folds::least_seal(
+        sectors,
+        zone.geometry,
+        log,
+        zone.number,
+        zone.generation,
+        most,
+    )
 }
 
 // The least current seal of a zone; its length if there is none.
@@ -211,8 +215,7 @@ fn reach_past(
 {
     let own = unit_index(g, a);
     let p = parity_of(g, z, a);
-    let drives = g.drives;
-    let d = tables::placement::unit_drive(drives, p, k);
+    let d = tables::placement::unit_drive(g.drives, p, k);
     let x = tables::placement::sector_of(g, a);
     let held = is_held(written, g, here, z, d, x);
     if (k == own) | held {
@@ -228,25 +231,30 @@ fn serving_place(sectors: &[u8], written: &[u32], zone: Zone, limit: usize, a: u
     requires { ⌜ Readable (zone .geometry) (zone .here) (now sectors) (now written) (zone .number) × (a < zoneSectors (zone .geometry)) ⌝ }
     ensures { λ r. ⌜ r ≡ servingPlace (zone .geometry) (zone .here) (now (sectors .entry)) (now (written .entry)) (zone .number) (zone .generation) limit a ⌝ }
 {
-    let g = zone.geometry;
     let here = zone.here;
-    let z = zone.number;
-    let p = parity_of(g, z, a);
+    let p = parity_of(zone.geometry, zone.number, a);
     let present = here[p];
     if !present {
         return 0;
     }
-    let reach = reach_of(written, g, here, z, a);
+    let reach = reach_of(written, zone.geometry, here, zone.number, a);
     let high = tables::placement::min(limit, reach);
-    let at = tables::stores::cell_of(g, p, logs::PARITY_LOG);
+    let at = tables::stores::cell_of(zone.geometry, p, logs::PARITY_LOG);
     let n = tables::bounds::widen(written[at]);
     let log = logs::Log {
         drive: p,
         zone: logs::PARITY_LOG,
         written: n,
     };
-    let generation = zone.generation;
-    logs::folds::last_partial(sectors, g, log, z, generation, a, high)
+    logs::folds::last_partial(
+        sectors,
+        zone.geometry,
+        log,
+        zone.number,
+        zone.generation,
+        a,
+        high,
+    )
 }
 
 // Whether the row's parity is in place with all its other data.
@@ -269,14 +277,12 @@ fn source_of(sectors: &[u8], written: &[u32], zone: Zone, limit: usize, a: usize
     requires { ⌜ Readable (zone .geometry) (zone .here) (now sectors) (now written) (zone .number) × (a < zoneSectors (zone .geometry)) ⌝ }
     ensures { λ r. ⌜ r ≡ sourceOf (zone .geometry) (zone .here) (now (sectors .entry)) (now (written .entry)) (zone .number) (zone .generation) limit a ⌝ }
 {
-    let g = zone.geometry;
     let here = zone.here;
-    let z = zone.number;
-    let held = own_held(written, g, here, z, a);
+    let held = own_held(written, zone.geometry, here, zone.number, a);
     if held {
         return Source::Held;
     }
-    let row = row_complete(written, g, here, z, a);
+    let row = row_complete(written, zone.geometry, here, zone.number, a);
     if row {
         return Source::Row;
     }
@@ -309,38 +315,8 @@ pub fn is_known(sectors: &[u8], written: &[u32], zone: Zone, limit: usize, a: us
     has_source(way)
 }
 
-// Adds unit k of the row of a to a buffer, unless it is a's own or not below an end.
-fn xor_unit(sectors: &[u8], g: Geometry, z: usize, a: usize, end: usize, k: usize, out: &mut [u8])
-    requires { ⌜ Valid g ⌝ }
-    requires { ⌜ (z < g .zones) × (a < zoneSectors g) × (k < g .drives) × (length (now sectors) ≡ totalBytes g) × (length (now out) ≡ g .sector) ⌝ }
-    ensures { λ _. ⌜ now (out .exit) ≡ pick (eqb k (unitIndex (g .drives) (g .unit) a) || leb end (rowAddress (g .drives) (g .unit) a k)) (now (out .entry))
-        (xorBytes (now (out .entry)) (sectorAt g (now (sectors .entry)) (rowDrive (g .drives) (g .unit) z a k) (dataZone z) (sectorOf (g .drives) (g .unit) a))) ⌝ }
-{
-    let own = unit_index(g, a);
-    let b = row_address(g, a, k);
-    let p = parity_of(g, z, a);
-    let drives = g.drives;
-    let d = tables::placement::unit_drive(drives, p, k);
-    let x = tables::placement::sector_of(g, a);
-    let skip = (k == own) | (end <= b);
-    tables::sectors::xor_sector(sectors, g, d, tables::DATA_ZONES + z, x, skip, out);
-}
-
-// Adds the other sectors in the row of a below an end to a buffer.
-fn xor_row(sectors: &[u8], g: Geometry, z: usize, a: usize, end: usize, out: &mut [u8])
-    requires { ⌜ Valid g ⌝ }
-    requires { ⌜ (z < g .zones) × (a < zoneSectors g) × (length (now sectors) ≡ totalBytes g) × (length (now out) ≡ g .sector) ⌝ }
-    ensures { λ _. ⌜ now (out .exit) ≡ xorBytes (now (out .entry)) (rowXor g (now (sectors .entry)) z a end) ⌝ }
-{
-    let n = g.drives - 1;
-    let mut k = 0;
-    while k < n {
-        xor_unit(sectors, g, z, a, end, k, out);
-        k += 1;
-    }
-}
-
-// Their exclusive or with sector n of a zone of the parity drive: the row's parity in place, or a row of an entry.
+// The exclusive or of the other sectors in the row of a below an end with sector n of a zone of the parity drive: the row's parity in place, or a row
+// of an entry.
 fn rebuild(
     sectors: &[u8],
     g: Geometry,
@@ -356,8 +332,16 @@ fn rebuild(
     ensures { λ _. ⌜ now (out .exit) ≡ xorBytes (rowXor g (now (sectors .entry)) z a end) (sectorAt g (now (sectors .entry)) (parityOf (g .drives) (g .unit) z a) zone n) ⌝ }
 {
     let p = parity_of(g, z, a);
+    let row = RowPlace {
+        zone: z,
+        parity: p,
+        sector: tables::placement::sector_of(g, a),
+        start: row_address(g, a, 0),
+        own: unit_index(g, a),
+        end,
+    };
     tables::sectors::read_sector(sectors, g, p, zone, n, out);
-    xor_row(sectors, g, z, a, end, out);
+    super::rebuilding::xor_row(sectors, g, row, out);
 }
 
 // The end of a partial parity entry.
@@ -384,8 +368,7 @@ fn entry_end(sectors: &[u8], g: Geometry, d: usize, place: usize) -> usize
     requires { ⌜ (d < g .drives) × (length (now sectors) ≡ totalBytes g) × (0 < place) × (place ≤ g .capacity) × SmallSeen g (found (decode g d true (sectorAt g (now sectors) d parityZone (place - 1)))) ⌝ }
     ensures { λ r. ⌜ r ≡ entryEnd g (now (sectors .entry)) d place ⌝ }
 {
-    let c = g.capacity;
-    let f = logs::walking::judge_at(sectors, g, d, logs::PARITY_LOG, true, c, place - 1);
+    let f = logs::walking::judge_at(sectors, g, d, logs::PARITY_LOG, true, g.capacity, place - 1);
     end_of(f, g)
 }
 
@@ -455,9 +438,7 @@ pub fn served_value(
     ensures { λ _. ⌜ now (out .exit) ≡ valueAt (zone .geometry) (isSet (zone .here)) (readDevice (zone .geometry) (now (sectors .entry)) (now (written .entry))) (zone .number) (zone .generation) a ⌝ }
 {
     let way = source_of(sectors, written, zone, limit, a);
-    let g = zone.geometry;
-    let z = zone.number;
-    value_by(sectors, g, z, a, way, out);
+    value_by(sectors, zone.geometry, zone.number, a, way, out);
 }
 
 // The value of address a of a zone, which is known under a generation; limit is the zone's least current seal.

@@ -2,6 +2,7 @@
 use tables::Geometry;
 
 pub mod bad_places;
+pub mod by_record;
 pub mod checks;
 pub mod copies_known;
 pub mod drive_logs;
@@ -29,6 +30,7 @@ pub mod mount_zones;
 pub mod mounting;
 pub mod numbers;
 pub mod reading;
+pub mod rebuilding;
 pub mod reporting;
 pub mod resetting;
 pub mod roles;

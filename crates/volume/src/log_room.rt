@@ -60,16 +60,12 @@ fn unused(pointers: &[u32], asked: RoomAsked, drive: usize) -> usize
     requires { ⌜ (drive < asked .places .geometry .drives) × (length (now pointers) ≡ cells (asked .places .geometry)) ⌝ }
     ensures { λ r. ⌜ r ≡ unusedAt asked (now (pointers .entry)) drive ⌝ }
 {
-    let places = asked.places;
-    let parity = asked.parity;
-    let lacks = kind_lacks(places, parity, drive);
-    if lacks {
+    if kind_lacks(asked.places, asked.parity, drive) {
         return 0;
     }
-    let g = places.geometry;
-    let zone = super::emptying::log_zone(parity);
-    let n = super::drive_logs::zone_pointer(pointers, g, drive, zone);
-    let c = g.capacity;
+    let zone = super::emptying::log_zone(asked.parity);
+    let n = super::drive_logs::zone_pointer(pointers, asked.places.geometry, drive, zone);
+    let c = asked.places.geometry.capacity;
     c - n
 }
 
@@ -101,11 +97,8 @@ fn new_log(
     requires { ⌜ Asking asked (now sectors) (now written) (now pointers) × (drive < asked .first .drives) ⌝ }
     ensures { λ r. ⌜ r ≡ driveRoomOf true (lostAt asked (now (sectors .entry)) (now (written .entry)) (now (pointers .entry)) drive) (claimAt asked (now (sectors .entry)) (now (written .entry)) drive) ⌝ }
 {
-    let first = asked.first;
-    let places = asked.places;
-    let parity = asked.parity;
-    let no_general = kind_lacks(places, false, drive);
-    let no_parity = kind_lacks(places, true, drive);
+    let no_general = kind_lacks(asked.places, false, drive);
+    let no_parity = kind_lacks(asked.places, true, drive);
     if no_general | no_parity {
         return DriveRoom {
             lacks: true,
@@ -113,9 +106,13 @@ fn new_log(
             generation: 0,
         };
     }
-    let old = super::roles::log_generation(sectors, written, first, drive, parity);
-    let g = places.geometry;
-    let spare = super::drive_logs::zone_pointer(pointers, g, drive, super::emptying::SPARE_ZONE);
+    let old = super::roles::log_generation(sectors, written, asked.first, drive, asked.parity);
+    let spare = super::drive_logs::zone_pointer(
+        pointers,
+        asked.places.geometry,
+        drive,
+        super::emptying::SPARE_ZONE,
+    );
     let clears = asked.clears_spares;
     if (old == logs::WORN_GENERATION) | (!clears & (0 < spare)) {
         return DriveRoom {
@@ -217,12 +214,14 @@ fn general_on(
     if full | !lacks {
         return room;
     }
-    let places = asked.places;
-    let g = places.geometry;
-    let size = super::emptying::general_size(sectors, pointers, g, drive, generations);
-    let c = g.capacity;
-    let limit = asked.limit;
-    with_size(room, c, limit, size)
+    let size = super::emptying::general_size(
+        sectors,
+        pointers,
+        asked.places.geometry,
+        drive,
+        generations,
+    );
+    with_size(room, asked.places.geometry.capacity, asked.limit, size)
 }
 
 // The general logs of all drives.
@@ -237,8 +236,7 @@ pub fn general_room(
     requires { ⌜ Asking asked (now sectors) (now written) (now pointers) × (asked .first .zones ≤ length (now generations)) ⌝ }
     ensures { λ r. ⌜ r ≡ roomOf (generalRoomAt asked (now (generations .entry)) (now (sectors .entry)) (now (written .entry)) (now (pointers .entry))) (asked .first .drives) ⌝ }
 {
-    let g = asked.first;
-    let n = g.drives;
+    let n = asked.first.drives;
     let mut all = no_answers();
     let mut d = 0;
     while d < n {
@@ -255,12 +253,11 @@ pub fn emptyings_of(asked: RoomAsked, room: LogRoom) -> Emptyings
     ensures { λ r. ⌜ r ≡ emptyingsOf asked room ⌝ }
 {
     let places = asked.places;
-    let parity = asked.parity;
     let here = asked.here;
     let from = places.geometry;
     let emptied = room.emptied;
     let generations = room.generations;
-    let to = super::roles::move_logs(from, parity, emptied);
+    let to = super::roles::move_logs(from, asked.parity, emptied);
     Emptyings {
         from,
         to,
@@ -291,9 +288,7 @@ fn parity_on(
     }
     let g = asked.first;
     let size = super::emptying_parity::parity_size(g, drive, points);
-    let c = g.capacity;
-    let limit = asked.limit;
-    with_size(room, c, limit, size)
+    with_size(room, g.capacity, asked.limit, size)
 }
 
 // The parity logs of all drives.
@@ -308,8 +303,7 @@ pub fn parity_room(
     requires { ⌜ Asking asked (now sectors) (now written) (now pointers) × PointersWithin (asked .first) (now points) ⌝ }
     ensures { λ r. ⌜ r ≡ roomOf (parityRoomAt asked (now (points .entry)) (now (sectors .entry)) (now (written .entry)) (now (pointers .entry))) (asked .first .drives) ⌝ }
 {
-    let g = asked.first;
-    let n = g.drives;
+    let n = asked.first.drives;
     let mut all = no_answers();
     let mut d = 0;
     while d < n {

@@ -43,16 +43,13 @@ pub fn shape_refusal(
 ) -> u8
     ensures { λ r. ⌜ r ≡ shapeNumber g named sectors (now (written .entry)) (now (durable .entry)) ⌝ }
 {
-    let ok = tables::bounds::valid(g);
-    if !ok {
+    if !tables::bounds::valid(g) {
         return 1;
     }
-    let fit = tables::bounds::lengths_fit(g, sectors, written.len(), durable.len());
-    if !fit {
+    if !tables::bounds::lengths_fit(g, sectors, written.len(), durable.len()) {
         return 2;
     }
-    let bad = tables::bounds::pointers_bad(written, durable, g, named);
-    if bad {
+    if tables::bounds::pointers_bad(written, durable, g, named) {
         return 3;
     }
     0
@@ -63,10 +60,9 @@ fn kind_lacks(places: LogPlaces, here: [bool; 8]) -> bool
     requires { ⌜ Valid (places .geometry) ⌝ }
     ensures { λ r. ⌜ r ≡ kindLacksOn places here ⌝ }
 {
-    let g = places.geometry;
     let no_general = places.no_general;
     let no_parity = places.no_parity;
-    let n = g.drives;
+    let n = places.geometry.drives;
     let mut lacks = false;
     let mut d = 0;
     while d < n {
@@ -89,17 +85,13 @@ fn log_refusal(
         × (bad ≡ firstBadPlace (places .geometry) (isSet here) (zonePlace (places .geometry)) (readDevice (places .geometry) (now sectors) (now written))) ⌝ }
     ensures { λ r. ⌜ r ≡ logNumber places here (readDevice (places .geometry) (now (sectors .entry)) (now (written .entry))) ⌝ }
 {
-    let g = places.geometry;
-    let absent = super::checks::count_absent(g, here);
-    if 1 < absent {
+    if 1 < super::checks::count_absent(places.geometry, here) {
         return 4;
     }
-    let lacks = kind_lacks(places, here);
-    if lacks {
+    if kind_lacks(places, here) {
         return 5;
     }
-    let labels = super::drives_lost::labels_bad(sectors, written, g, here);
-    if labels {
+    if super::drives_lost::labels_bad(sectors, written, places.geometry, here) {
         return 5;
     }
     let number = bad.number;
@@ -122,9 +114,8 @@ pub fn survey_drives(
     ensures { λ r. ⌜ Surveyed g named (now (sectors .entry)) (now (written .entry)) r (now (pointers .exit)) ⌝ }
 {
     let places = super::roles::see_by_roles(sectors, written, pointers, g);
-    let h = places.geometry;
-    let here = super::drives_lost::look_present(sectors, pointers, h, named);
-    let bad = super::bad_places::first_bad(sectors, pointers, h, here);
+    let here = super::drives_lost::look_present(sectors, pointers, places.geometry, named);
+    let bad = super::bad_places::first_bad(sectors, pointers, places.geometry, here);
     let refusal = log_refusal(sectors, pointers, places, here, bad);
     Survey {
         places,
@@ -217,13 +208,11 @@ pub fn look(
     if refusal != 0 {
         return super::checks::refused_at(refusal, found.bad, old);
     }
-    let places = found.places;
-    let h = places.geometry;
     let here = found.here;
-    let shown = look_all(sectors, &pointers[..cells], h, here);
+    let shown = look_all(sectors, &pointers[..cells], found.places.geometry, here);
     let lost = shown.lost;
     let looks = shown.zones;
-    let zones = records_of(h, looks);
+    let zones = records_of(found.places.geometry, looks);
     Outcome {
         answer: Answer::Finished,
         state: State { lost, zones },

@@ -225,14 +225,11 @@ pub fn store_counters(sectors: &mut [u8], written: &mut [u32], basis: Basis, bud
     requires { ⌜ CountersReady (basis .geometry) (basis .look) (now sectors) (now written) ⌝ }
     ensures { λ r. ⌜ MadeAppends (basis .geometry) budget r (onPresent (isSet (basis .here)) (counterStep (basis .geometry) (shownBy (basis .look)) (basis .differ))) (now (sectors .entry)) (now (written .entry)) (now (sectors .exit)) (now (written .exit)) ⌝ }
 {
-    let g = basis.geometry;
     let here = basis.here;
-    let look = basis.look;
-    let differ = basis.differ;
-    let due = counters_due(g, look, differ);
+    let due = counters_due(basis.geometry, basis.look, basis.differ);
     if !due {
         return budget;
     }
-    let next = next_generations(g, look);
-    super::resetting::log_counters(sectors, written, g, here, &next, budget)
+    let next = next_generations(basis.geometry, basis.look);
+    super::resetting::log_counters(sectors, written, basis.geometry, here, &next, budget)
 }

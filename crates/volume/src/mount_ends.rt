@@ -1,15 +1,15 @@
 // The last two steps of a mount: the parity logs that lacked room at its start are emptied, "with all missing sectors stored"; then come the entries at the
 // pointers that lack one, where the logs lie by then.
-use super::Basis;
 use super::Look;
 use super::emptyings::Emptyings;
+use super::mount_plan::Course;
 use super::mount_rooms::Plan;
 use tables::Geometry;
 ghost use mathlib.Core.Path.{_≡_};
 ghost use lib.ListN.{length};
 ghost use Rattle.tables.specs.meaning.Geometry.{Valid, cells};
 ghost use Rattle.tables.specs.meaning.Tables.{tablesOf};
-ghost use Rattle.volume.specs.mounting.MountEnds.{ParityStepMade, EndsReady, EndsMade};
+ghost use Rattle.volume.specs.mounting.MountEnds.{courseOf, ParityStepMade, EndsReady, EndsMade};
 ghost use Rattle.volume.specs.mounting.MountRooms.{generationsIn, pointersIn};
 ghost use Rattle.volume.specs.emptying.ParityTurns.{ParitiesReady};
 
@@ -31,7 +31,6 @@ fn parity_step(
 {
     let generations = super::mount_rooms::generations_of(look);
     let points = super::mount_rooms::pointers_of(look);
-    let to = all.to;
     let here = all.here;
     let rest = super::emptyings::empty_parities(
         sectors,
@@ -44,7 +43,7 @@ fn parity_step(
         &points,
         budget,
     );
-    super::mount_steps::flush_after(written, durable, to, here, budget, rest)
+    super::mount_steps::flush_after(written, durable, all.to, here, budget, rest)
 }
 
 // Steps 10 and 11: what is left of the budget. `pointers` are those of the moment before step 3; `starts` is scratch.
@@ -56,52 +55,35 @@ pub fn restore_ends(
     starts: &mut [u32],
     g: Geometry,
     plan: Plan,
+    course: Course,
     budget: u64,
 ) -> u64
     requires { ⌜ Valid g ⌝ }
-    requires { ⌜ EndsReady g plan (now pointers) (tablesOf (now sectors) (now written) (now durable)) × (length (now starts) ≡ cells g) ⌝ }
+    requires { ⌜ EndsReady g plan (now pointers) (tablesOf (now sectors) (now written) (now durable)) × ((length (now starts) ≡ cells g) × (course ≡ courseOf plan)) ⌝ }
     ensures { λ r. ⌜ EndsMade g plan (now (pointers .entry)) budget r (tablesOf (now (sectors .entry)) (now (written .entry)) (now (durable .entry))) (tablesOf (now (sectors .exit)) (now (written .exit)) (now (durable .exit))) ⌝ }
 {
-    let places = plan.places;
-    let here = plan.here;
-    let look = plan.look;
-    let differ = plan.differ;
-    let room = plan.general;
-    let moved = room.emptied;
-    let middle = super::mount_rooms::places_after(places, false, moved);
-    super::roles::hide_lacking(written, starts, middle);
-    let from = middle.geometry;
-    let lacking = plan.parity;
-    let emptied = lacking.emptied;
-    let generations = lacking.generations;
-    let end = super::mount_rooms::places_after(middle, true, emptied);
-    let to = end.geometry;
-    let all = Emptyings {
-        from,
-        to,
-        here,
-        emptied,
-        generations,
-    };
+    super::roles::hide_lacking(written, starts, course.middle);
     let rest = parity_step(
         sectors,
         written,
         durable,
         pointers,
         starts,
-        all,
-        look,
+        course.parity,
+        plan.look,
         budget,
     );
     if rest == 0 {
         return 0;
     }
-    super::roles::hide_lacking(written, starts, end);
-    let basis = Basis {
-        geometry: from,
-        here,
-        look,
-        differ,
-    };
-    super::mount_steps::entry_step(sectors, written, durable, pointers, starts, basis, to, rest)
+    super::mount_steps::entry_step(
+        sectors,
+        written,
+        durable,
+        pointers,
+        starts,
+        course.basis,
+        course.end,
+        rest,
+    )
 }

@@ -42,16 +42,13 @@ fn entry_due(
 {
     let zones = look.zones;
     let zone = zones[z];
-    let generation = zone.generation;
     let pointer = zone.pointer;
     let k = tables::bounds::stripe_sectors(g);
     let s = pointer / k;
     if pointer <= s * k {
         return false;
     }
-    let d = g.drives;
-    let parity = tables::placement::parity_drive(d, z, s);
-    if drive != parity {
+    if drive != tables::placement::parity_drive(g.drives, z, s) {
         return false;
     }
     let n = super::mount_logs::sectors_then(starts, g, drive, logs::PARITY_LOG);
@@ -60,7 +57,7 @@ fn entry_due(
         zone: logs::PARITY_LOG,
         written: n,
     };
-    let there = logs::folds::has_partial_at(sectors, g, log, z, generation, pointer);
+    let there = logs::folds::has_partial_at(sectors, g, log, z, zone.generation, pointer);
     !there
 }
 
@@ -90,21 +87,17 @@ pub fn append_entry_rows(
         (rowsIf true (entry .drive) parityZone
         (rowXorBelow (basis .geometry .drives) (basis .geometry .unit) (shownBy basis (now (sectors .entry)) (now (pointers .entry)) .zone (entry .zone) .value) (entry .stripe) (entry .stripe * stripeSectors (basis .geometry) + entry .fill)) (entry .from) (min (entry .fill) (basis .geometry .unit))) (now (sectors .entry)) (now (written .entry)) (now (sectors .exit)) (now (written .exit)) ⌝ }
 {
-    let g = basis.geometry;
-    let z = entry.zone;
     let s = entry.stripe;
     let fill = entry.fill;
-    let k = tables::bounds::stripe_sectors(g);
+    let k = tables::bounds::stripe_sectors(basis.geometry);
     let end = s * k + fill;
-    let known = super::mount_known::known_below(sectors, pointers, basis, to, z, end);
+    let known = super::mount_known::known_below(sectors, pointers, basis, to, entry.zone, end);
     let target = Target {
         drive: entry.drive,
         zone: logs::PARITY_LOG,
         present: true,
     };
-    let from = entry.from;
-    let u = g.unit;
-    let m = tables::placement::min(fill, u);
+    let m = tables::placement::min(fill, basis.geometry.unit);
     let none = [0u8; 1];
     super::rows::append_rows(
         sectors,
@@ -114,7 +107,7 @@ pub fn append_entry_rows(
         known,
         target,
         s,
-        from,
+        entry.from,
         m,
         budget,
     )
@@ -136,13 +129,11 @@ fn append_entry(
         × Appending (basis .geometry) to (basis .here) (basis .look) parityZone (now pointers) (now sectors) (now written) ⌝ }
     ensures { λ r. ⌜ MadeAppends to budget r (newEntry (basis .geometry) (shownBy basis (now (sectors .entry)) (now (pointers .entry))) drive z) (now (sectors .entry)) (now (written .entry)) (now (sectors .exit)) (now (written .exit)) ⌝ }
 {
-    let g = basis.geometry;
-    let look = basis.look;
-    let zones = look.zones;
+    let zones = basis.look.zones;
     let zone = zones[z];
     let generation = zone.generation;
     let pointer = zone.pointer;
-    let k = tables::bounds::stripe_sectors(g);
+    let k = tables::bounds::stripe_sectors(basis.geometry);
     let s = pointer / k;
     let fill = pointer - s * k;
     let rest = super::write_stores::append_partial(
@@ -185,13 +176,10 @@ fn log_entry(
         (onPresent (isSet (basis .here)) (zoneEntryStores (basis .geometry) (basis .look) (shownBy basis (now (sectors .entry)) (now (pointers .entry))) (parityEntries to (readDevice to (now (sectors .entry)) (now (starts .entry))) drive) drive z)) (now (sectors .entry)) (now (written .entry)) (now (sectors .exit)) (now (written .exit)) ⌝ }
 {
     let here = basis.here;
-    let look = basis.look;
-    let present = here[drive];
-    if !present {
+    if !here[drive] {
         return budget;
     }
-    let due = entry_due(sectors, starts, to, look, drive, z);
-    if !due {
+    if !entry_due(sectors, starts, to, basis.look, drive, z) {
         return budget;
     }
     append_entry(sectors, written, pointers, basis, to, drive, z, budget)
@@ -213,8 +201,7 @@ fn log_drive(
     ensures { λ r. ⌜ MadeAppends to budget r
         (onPresent (isSet (basis .here)) (eachBelow (zoneEntryStores (basis .geometry) (basis .look) (shownBy basis (now (sectors .entry)) (now (pointers .entry))) (parityEntries to (readDevice to (now (sectors .entry)) (now (starts .entry))) drive) drive) (basis .geometry .zones))) (now (sectors .entry)) (now (written .entry)) (now (sectors .exit)) (now (written .exit)) ⌝ }
 {
-    let g = basis.geometry;
-    let n = g.zones;
+    let n = basis.geometry.zones;
     let mut rest = budget;
     let mut z = 0;
     while z < n {
@@ -249,8 +236,7 @@ pub fn log_entries(
     ensures { λ r. ⌜ MadeAppends to budget r
         (onPresent (isSet (basis .here)) (entryStoresBelow (basis .geometry) (basis .look) (shownBy basis (now (sectors .entry)) (now (pointers .entry))) (parityEntries to (readDevice to (now (sectors .entry)) (now (starts .entry)))) (basis .geometry .drives))) (now (sectors .entry)) (now (written .entry)) (now (sectors .exit)) (now (written .exit)) ⌝ }
 {
-    let g = basis.geometry;
-    let m = g.drives;
+    let m = basis.geometry.drives;
     let mut rest = budget;
     let mut d = 0;
     while d < m {

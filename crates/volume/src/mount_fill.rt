@@ -3,9 +3,11 @@
 use super::Basis;
 use super::rows::Extent;
 use super::rows::Target;
+ghost use mathlib.Core.Path.{_≡_};
 ghost use Prim.Native.Nat.{_≤_, _<_};
+ghost use lib.ListN.{length};
 ghost use Rattle.tables.specs.meaning.Below.{eachBelow};
-ghost use Rattle.tables.specs.meaning.Geometry.{Valid};
+ghost use Rattle.tables.specs.meaning.Geometry.{Valid, cells};
 ghost use Rattle.tables.specs.meaning.Placement.{needed};
 ghost use Rattle.tables.specs.meaning.Device.{append};
 ghost use Rattle.tables.specs.meaning.Phases.{onPresent};
@@ -13,10 +15,11 @@ ghost use Rattle.tables.specs.laws.Made.{MadeAppends, storeIf};
 ghost use Rattle.volume.specs.meaning.Content.{contentAt};
 ghost use Rattle.volume.specs.meaning.CallContracts.{isSet};
 ghost use Rattle.volume.specs.rows.RowStores.{rowsIf};
+ghost use Rattle.volume.specs.mounting.MountLook.{LookWithin};
 ghost use Rattle.volume.specs.mounting.MountValues.{shownBy};
 ghost use Rattle.volume.specs.mounting.MountRestoring.{Filling};
 ghost use Rattle.volume.specs.mounting.MountReady.{ZoneReady, valuesIn};
-ghost use Rattle.volume.specs.mounting.MountFillOn.{fillZone, fillDrives};
+ghost use Rattle.volume.specs.mounting.MountFillOn.{fillZone, fillDrives, MissingIn};
 ghost use Rattle.volume.specs.looking.Knowing.{readDevice};
 
 // The value of address a, which lies below the end, appended: what is left of the budget of stores.
@@ -33,21 +36,16 @@ fn append_value(
     requires { ⌜ ZoneReady known target (now sectors) (now written) (now pointers) × (a < known .end) ⌝ }
     ensures { λ rest. ⌜ MadeAppends (known .to) budget rest (storeIf (target .present) (append (target .drive) (target .zone) (valuesIn known (now (sectors .entry)) (now (pointers .entry)) a))) (now (sectors .entry)) (now (written .entry)) (now (sectors .exit)) (now (written .exit)) ⌝ }
 {
-    let to = known.to;
-    let g = known.geometry;
-    let b = g.sector;
+    let b = known.geometry.sector;
     let mut value = [0u8; 4096];
     super::rows::known_value(sectors, pointers, known, a, &mut value[..b]);
-    let present = target.present;
-    let drive = target.drive;
-    let zone = target.zone;
     tables::stores::append_counted(
         sectors,
         written,
-        to,
-        present,
-        drive,
-        zone,
+        known.to,
+        target.present,
+        target.drive,
+        target.zone,
         &value[..b],
         budget,
     )
@@ -68,14 +66,10 @@ fn fill_sector(
     ensures { λ rest. ⌜ MadeAppends (known .to) budget rest (storeIf (target .present) (append (target .drive) (target .zone) (contentAt (known .geometry .drives) (known .geometry .unit) (known .zone) (valuesIn known (now (sectors .entry)) (now (pointers .entry))) (target .drive) x)))
         (now (sectors .entry)) (now (written .entry)) (now (sectors .exit)) (now (written .exit)) ⌝ }
 {
-    let g = known.geometry;
-    let z = known.zone;
     let drive = target.drive;
-    let d = g.drives;
-    let u = g.unit;
+    let u = known.geometry.unit;
     let s = x / u;
-    let p = tables::placement::parity_drive(d, z, s);
-    if drive == p {
+    if drive == tables::placement::parity_drive(known.geometry.drives, known.zone, s) {
         let none = [0u8; 1];
         return super::rows::append_row(
             sectors,
@@ -89,7 +83,7 @@ fn fill_sector(
             budget,
         );
     }
-    let a = tables::placement::address_at(g, z, drive, x);
+    let a = tables::placement::address_at(known.geometry, known.zone, drive, x);
     append_value(sectors, written, pointers, known, target, a, budget)
 }
 
@@ -118,7 +112,43 @@ fn fill_sectors(
     rest
 }
 
-// One zone of a drive, if the drive is here and lacks sectors of it: from those that were there up to those needed.
+// What a zone of a drive lacks: its sectors from those that were there up to those that the zone's pointer needs.
+pub struct Missing {
+    pub pointer: usize,
+    pub from: usize,
+    pub to: usize,
+}
+
+// That, and nothing where the drive isn't here.
+fn missing_in(pointers: &[u32], basis: Basis, drive: usize, z: usize) -> Missing
+    requires { ⌜ Valid (basis .geometry) ⌝ }
+    requires { ⌜ (drive < basis .geometry .drives) × (z < basis .geometry .zones) × (length (now pointers) ≡ cells (basis .geometry)) × LookWithin (basis .geometry) (basis .look) ⌝ }
+    ensures { λ r. ⌜ MissingIn basis (now (pointers .entry)) drive z r ⌝ }
+{
+    let here = basis.here;
+    let present = here[drive];
+    let look = basis.look;
+    let zones = look.zones;
+    let zone = zones[z];
+    let pointer = zone.pointer;
+    if !present {
+        return Missing {
+            pointer,
+            from: 0,
+            to: 0,
+        };
+    }
+    let from = super::mount_logs::sectors_then(
+        pointers,
+        basis.geometry,
+        drive,
+        tables::DATA_ZONES + z,
+    );
+    let to = tables::placement::sectors_needed(basis.geometry, z, pointer, drive);
+    Missing { pointer, from, to }
+}
+
+// One zone of a drive, if it lacks sectors.
 fn fill_zone(
     sectors: &mut [u8],
     written: &mut [u32],
@@ -133,22 +163,21 @@ fn fill_zone(
     ensures { λ r. ⌜ MadeAppends (basis .geometry) budget r
         (onPresent (isSet (basis .here)) (fillZone (basis .geometry) (shownBy basis (now (sectors .entry)) (now (pointers .entry))) (readDevice (basis .geometry) (now (sectors .entry)) (now (pointers .entry))) drive z)) (now (sectors .entry)) (now (written .entry)) (now (sectors .exit)) (now (written .exit)) ⌝ }
 {
-    let g = basis.geometry;
-    let here = basis.here;
-    let look = basis.look;
-    let present = here[drive];
-    if !present {
-        return budget;
-    }
-    let zones = look.zones;
-    let zone = zones[z];
-    let pointer = zone.pointer;
-    let from = super::mount_logs::sectors_then(pointers, g, drive, tables::DATA_ZONES + z);
-    let to = tables::placement::sectors_needed(g, z, pointer, drive);
+    let missing = missing_in(pointers, basis, drive, z);
+    let from = missing.from;
+    let to = missing.to;
     if to <= from {
         return budget;
     }
-    let known = super::mount_known::known_below(sectors, pointers, basis, g, z, pointer);
+    let pointer = missing.pointer;
+    let known = super::mount_known::known_below(
+        sectors,
+        pointers,
+        basis,
+        basis.geometry,
+        z,
+        pointer,
+    );
     let target = Target {
         drive,
         zone: tables::DATA_ZONES + z,
@@ -171,8 +200,7 @@ fn fill_drive(
     ensures { λ r. ⌜ MadeAppends (basis .geometry) budget r
         (onPresent (isSet (basis .here)) (eachBelow (fillZone (basis .geometry) (shownBy basis (now (sectors .entry)) (now (pointers .entry))) (readDevice (basis .geometry) (now (sectors .entry)) (now (pointers .entry))) drive) (basis .geometry .zones))) (now (sectors .entry)) (now (written .entry)) (now (sectors .exit)) (now (written .exit)) ⌝ }
 {
-    let g = basis.geometry;
-    let n = g.zones;
+    let n = basis.geometry.zones;
     let mut rest = budget;
     let mut z = 0;
     while z < n {
@@ -195,8 +223,7 @@ pub fn fill_drives(
     ensures { λ r. ⌜ MadeAppends (basis .geometry) budget r
         (onPresent (isSet (basis .here)) (fillDrives (basis .geometry) (shownBy basis (now (sectors .entry)) (now (pointers .entry))) (readDevice (basis .geometry) (now (sectors .entry)) (now (pointers .entry))) (basis .geometry .drives))) (now (sectors .entry)) (now (written .entry)) (now (sectors .exit)) (now (written .exit)) ⌝ }
 {
-    let g = basis.geometry;
-    let m = g.drives;
+    let m = basis.geometry.drives;
     let mut rest = budget;
     let mut d = 0;
     while d < m {

@@ -23,8 +23,7 @@ pub fn known_below(
 {
     let g = basis.geometry;
     let here = basis.here;
-    let look = basis.look;
-    let zones = look.zones;
+    let zones = basis.look.zones;
     let zone = zones[z];
     let generation = zone.generation;
     let limit = super::knowing::seal_limit(sectors, pointers, g, here, z, generation);

@@ -46,8 +46,7 @@ pub fn sectors_then(pointers: &[u32], g: Geometry, drive: usize, zone: usize) ->
 {
     let at = tables::stores::cell_of(g, drive, zone);
     let n = tables::bounds::widen(pointers[at]);
-    let c = g.capacity;
-    tables::placement::min(n, c)
+    tables::placement::min(n, g.capacity)
 }
 
 fn is_sealed(c: Condition) -> bool
@@ -67,17 +66,15 @@ fn label_due(sectors: &[u8], pointers: &[u32], basis: Basis, drive: usize) -> bo
     requires { ⌜ (drive < basis .geometry .drives) × (length (now sectors) ≡ totalBytes (basis .geometry)) × (length (now pointers) ≡ cells (basis .geometry)) ⌝ }
     ensures { λ r. ⌜ r ≡ labelDue (basis .geometry) (basis .look) (readDevice (basis .geometry) (now (sectors .entry)) (now (pointers .entry))) drive ⌝ }
 {
-    let g = basis.geometry;
-    let look = basis.look;
-    let n = sectors_then(pointers, g, drive, logs::GENERAL_LOG);
+    let n = sectors_then(pointers, basis.geometry, drive, logs::GENERAL_LOG);
     let log = logs::Log {
         drive,
         zone: logs::GENERAL_LOG,
         written: n,
     };
-    let last = logs::folds::last_lost(sectors, g, log);
-    let lost = look.lost;
-    let d = g.drives;
+    let last = logs::folds::last_lost(sectors, basis.geometry, log);
+    let lost = basis.look.lost;
+    let d = basis.geometry.drives;
     (lost < d) & (last != lost)
 }
 
@@ -102,21 +99,24 @@ fn seal_due(sectors: &[u8], pointers: &[u32], basis: Basis, drive: usize, z: usi
     requires { ⌜ (drive < basis .geometry .drives) × (z < basis .geometry .zones) × (length (now sectors) ≡ totalBytes (basis .geometry)) × (length (now pointers) ≡ cells (basis .geometry)) ⌝ }
     ensures { λ r. ⌜ r ≡ sealDue (basis .geometry) (basis .look) (readDevice (basis .geometry) (now (sectors .entry)) (now (pointers .entry))) drive z ⌝ }
 {
-    let g = basis.geometry;
-    let look = basis.look;
-    let zones = look.zones;
+    let zones = basis.look.zones;
     let zone = zones[z];
-    let generation = zone.generation;
-    let pointer = zone.pointer;
     let condition = zone.condition;
     let sealed = is_sealed(condition);
-    let n = sectors_then(pointers, g, drive, logs::GENERAL_LOG);
+    let n = sectors_then(pointers, basis.geometry, drive, logs::GENERAL_LOG);
     let log = logs::Log {
         drive,
         zone: logs::GENERAL_LOG,
         written: n,
     };
-    let there = logs::folds::has_seal_at(sectors, g, log, z, generation, pointer);
+    let there = logs::folds::has_seal_at(
+        sectors,
+        basis.geometry,
+        log,
+        z,
+        zone.generation,
+        zone.pointer,
+    );
     sealed & !there
 }
 
@@ -146,16 +146,19 @@ fn write_header(kind: HeaderKind, out: &mut [u8], g: Geometry, look: Look, drive
     requires { ⌜ (drive < g .drives) × (z < g .zones) × (length (now out) ≡ g .sector) × LookWithin g look ⌝ }
     ensures { λ _. ⌜ now (out .exit) ≡ encode g drive (headerFor kind look z) ⌝ }
 {
-    let lost = look.lost;
-    let array = look.array;
     let zones = look.zones;
     let zone = zones[z];
-    let generation = zone.generation;
-    let pointer = zone.pointer;
     match kind {
-        HeaderKind::Label => logs::headers::write_label(out, g, drive, lost, array),
-        HeaderKind::Reset => logs::headers::write_reset(out, g, drive, z, generation),
-        HeaderKind::Seal => logs::headers::write_seal(out, g, drive, z, pointer, generation),
+        HeaderKind::Label => logs::headers::write_label(out, g, drive, look.lost, look.array),
+        HeaderKind::Reset => logs::headers::write_reset(out, g, drive, z, zone.generation),
+        HeaderKind::Seal => logs::headers::write_seal(
+            out,
+            g,
+            drive,
+            z,
+            zone.pointer,
+            zone.generation,
+        ),
     }
 }
 
@@ -174,24 +177,20 @@ fn log_header(
     requires { ⌜ (drive < basis .geometry .drives) × (z < basis .geometry .zones) × Logging (basis .geometry) (basis .look) (now pointers) (now sectors) (now written) ⌝ }
     ensures { λ r. ⌜ MadeAppends (basis .geometry) budget r (onPresent (isSet (basis .here)) (headerStores (basis .geometry) kind (basis .look) (readDevice (basis .geometry) (now (sectors .entry)) (now (pointers .entry))) drive z)) (now (sectors .entry)) (now (written .entry)) (now (sectors .exit)) (now (written .exit)) ⌝ }
 {
-    let g = basis.geometry;
     let here = basis.here;
-    let look = basis.look;
-    let present = here[drive];
-    if !present {
+    if !here[drive] {
         return budget;
     }
-    let due = header_due(kind, sectors, pointers, basis, drive, z);
-    if !due {
+    if !header_due(kind, sectors, pointers, basis, drive, z) {
         return budget;
     }
     let mut header = [0u8; 4096];
-    let b = g.sector;
-    write_header(kind, &mut header[..b], g, look, drive, z);
+    let b = basis.geometry.sector;
+    write_header(kind, &mut header[..b], basis.geometry, basis.look, drive, z);
     tables::stores::append_counted(
         sectors,
         written,
-        g,
+        basis.geometry,
         true,
         drive,
         logs::GENERAL_LOG,
@@ -238,8 +237,7 @@ pub fn log_headers(
     requires { ⌜ (n ≤ basis .geometry .zones) × Logging (basis .geometry) (basis .look) (now pointers) (now sectors) (now written) ⌝ }
     ensures { λ r. ⌜ MadeAppends (basis .geometry) budget r (onPresent (isSet (basis .here)) (headerSteps (basis .geometry) kind (basis .look) (readDevice (basis .geometry) (now (sectors .entry)) (now (pointers .entry))) n (basis .geometry .drives))) (now (sectors .entry)) (now (written .entry)) (now (sectors .exit)) (now (written .exit)) ⌝ }
 {
-    let g = basis.geometry;
-    let m = g.drives;
+    let m = basis.geometry.drives;
     let mut rest = budget;
     let mut d = 0;
     while d < m {

@@ -1,12 +1,17 @@
-// What a mount goes by (`Plan`), found before its first store: where the logs lie, the look, whether the drives' last counters differ, and which logs lack room.
+// What a mount goes by (`Plan`), found before its first store: where the logs lie, the look, whether the drives' last counters differ, and which logs lack room. By
+// it, what each step goes by (`Course`).
+use super::Basis;
+use super::emptyings::Emptyings;
 use super::log_room::RoomAsked;
 use super::looking::Survey;
 use super::mount_rooms::Plan;
+use super::roles::LogPlaces;
 use tables::Geometry;
 ghost use mathlib.Core.Path.{_≡_};
 ghost use Rattle.tables.specs.meaning.Geometry.{Valid};
 ghost use Rattle.volume.specs.checks.LogRoom.{SeenByRoles};
 ghost use Rattle.volume.specs.looking.Looking.{Lookable};
+ghost use Rattle.volume.specs.mounting.MountEnds.{courseOf};
 ghost use Rattle.volume.specs.mounting.MountPlan.{PlanMade};
 ghost use Rattle.volume.specs.mounting.MountPlanned.{mountAsked};
 
@@ -41,9 +46,8 @@ pub fn plan_mount(
 {
     let places = found.places;
     let here = found.here;
-    let h = places.geometry;
-    let look = super::looking::look_all(sectors, pointers, h, here);
-    let differ = super::mount_counters::counters_differ(sectors, pointers, h, here);
+    let look = super::looking::look_all(sectors, pointers, places.geometry, here);
+    let differ = super::mount_counters::counters_differ(sectors, pointers, places.geometry, here);
     let generations = super::mount_rooms::generations_of(look);
     let points = super::mount_rooms::pointers_of(look);
     let l = g.zones;
@@ -66,5 +70,57 @@ pub fn plan_mount(
         differ,
         general,
         parity,
+    }
+}
+
+// What the steps of a mount go by: where the logs lie from step 2 on and from step 10 on, the emptyings of these two steps, and what the other steps are
+// made by.
+pub struct Course {
+    pub middle: LogPlaces,
+    pub end: LogPlaces,
+    pub general: Emptyings,
+    pub parity: Emptyings,
+    pub basis: Basis,
+}
+
+// That, by the plan.
+pub fn course_of(plan: Plan) -> Course
+    requires { ⌜ Valid (plan .places .geometry) ⌝ }
+    ensures { λ r. ⌜ r ≡ courseOf plan ⌝ }
+{
+    let here = plan.here;
+    let look = plan.look;
+    let first = plan.places.geometry;
+    let moved = plan.general.emptied;
+    let closing = plan.general.generations;
+    let middle = super::mount_rooms::places_after(plan.places, false, moved);
+    let emptied = plan.parity.emptied;
+    let generations = plan.parity.generations;
+    let end = super::mount_rooms::places_after(middle, true, emptied);
+    let geometry = middle.geometry;
+    let to = end.geometry;
+    Course {
+        middle,
+        end,
+        general: Emptyings {
+            from: first,
+            to: geometry,
+            here,
+            emptied: moved,
+            generations: closing,
+        },
+        parity: Emptyings {
+            from: geometry,
+            to,
+            here,
+            emptied,
+            generations,
+        },
+        basis: Basis {
+            geometry,
+            here,
+            look,
+            differ: plan.differ,
+        },
     }
 }

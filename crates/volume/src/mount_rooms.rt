@@ -1,8 +1,8 @@
 // The room of the logs in a mount: its steps 1, 2 and 10. "After its look, mount first resets the zone that is neither log, where it has sectors written, then
 // empties general logs; parity logs it empties just before its last step, with all missing sectors stored".
 use super::Look;
-use super::emptyings::Emptyings;
 use super::log_room::LogRoom;
+use super::mount_plan::Course;
 use super::roles::LogPlaces;
 use tables::Geometry;
 ghost use mathlib.Core.Path.{_≡_};
@@ -15,7 +15,8 @@ ghost use Rattle.tables.specs.meaning.Tables.{tablesOf, deviceOf};
 ghost use Rattle.tables.specs.laws.Made.{Made, MadePointers};
 ghost use Rattle.volume.specs.meaning.Mount.{phasesOfLogs};
 ghost use Rattle.volume.specs.meaning.CallContracts.{isSet};
-ghost use Rattle.volume.specs.mounting.MountRooms.{spareReset, generationsIn, pointersIn, lostAmong, placesAfter, Planned};
+ghost use Rattle.volume.specs.mounting.MountEnds.{courseOf};
+ghost use Rattle.volume.specs.mounting.MountRooms.{spareReset, generationsIn, pointersIn, lostAmong, placesAfter, SparesCleared, Planned};
 
 // 1. The reset of the spare zone on each drive that is here where that zone has sectors written, by the pointers of the start.
 pub fn reset_spares(
@@ -98,15 +99,33 @@ pub fn places_after(places: LogPlaces, parity: bool, emptied: [bool; 8]) -> LogP
     requires { ⌜ Valid (places .geometry) ⌝ }
     ensures { λ r. ⌜ r ≡ placesAfter places parity emptied ⌝ }
 {
-    let g = places.geometry;
     let no_general = places.no_general;
     let no_parity = places.no_parity;
-    let geometry = super::roles::move_logs(g, parity, emptied);
+    let geometry = super::roles::move_logs(places.geometry, parity, emptied);
     LogPlaces {
         geometry,
         no_general,
         no_parity,
     }
+}
+
+// The first flush, and step 1 with its flush.
+fn clear_spares(
+    written: &mut [u32],
+    durable: &mut [u32],
+    pointers: &[u32],
+    g: Geometry,
+    places: LogPlaces,
+    here: [bool; 8],
+    budget: u64,
+) -> u64
+    requires { ⌜ Valid g × Valid (places .geometry) ⌝ }
+    requires { ⌜ (length (now written) ≡ cells g) × (length (now durable) ≡ cells g) × (length (now pointers) ≡ cells g) × (cells (places .geometry) ≡ cells g) ⌝ }
+    ensures { λ r. ⌜ SparesCleared g (places .geometry) here budget r (now (pointers .entry)) (now (written .entry)) (now (durable .entry)) (now (written .exit)) (now (durable .exit)) ⌝ }
+{
+    let flushed = super::flushing::flush_all(written, durable, g, here, budget);
+    let spared = reset_spares(written, durable, pointers, places.geometry, here, flushed);
+    super::mount_steps::flush_after(written, durable, g, here, flushed, spared)
 }
 
 // The first flush, and steps 1 and 2. `pointers` are those of the start, without those of logs that lack; afterwards, those of the moment before step 2.
@@ -117,41 +136,27 @@ pub fn open_logs(
     pointers: &mut [u32],
     g: Geometry,
     plan: Plan,
+    course: Course,
     budget: u64,
 ) -> u64
     requires { ⌜ Valid g ⌝ }
-    requires { ⌜ Planned g (tablesOf (now sectors) (now written) (now durable)) plan (now pointers) ⌝ }
+    requires { ⌜ Planned g (tablesOf (now sectors) (now written) (now durable)) plan (now pointers) × (course ≡ courseOf plan) ⌝ }
     ensures { λ r. ⌜ Made g budget r (concat (phasesOfLogs g (isSet (plan .here)) (lostAmong g (plan .here)) (deviceOf g (tablesOf (now (sectors .entry)) (now (written .entry)) (now (durable .entry))))))
         (tablesOf (now (sectors .entry)) (now (written .entry)) (now (durable .entry))) (tablesOf (now (sectors .exit)) (now (written .exit)) (now (durable .exit))) ⌝ }
 {
-    let places = plan.places;
     let here = plan.here;
-    let room = plan.general;
-    let emptied = room.emptied;
-    let generations = room.generations;
-    let from = places.geometry;
-    let flushed = super::flushing::flush_all(written, durable, g, here, budget);
-    let spared = reset_spares(written, durable, pointers, from, here, flushed);
-    let rest = super::mount_steps::flush_after(written, durable, g, here, flushed, spared);
+    let rest = clear_spares(written, durable, pointers, g, plan.places, here, budget);
     if rest == 0 {
         return 0;
     }
-    super::roles::hide_lacking(written, pointers, places);
-    let to = super::roles::move_logs(from, false, emptied);
-    let all = Emptyings {
-        from,
-        to,
-        here,
-        emptied,
-        generations,
-    };
+    super::roles::hide_lacking(written, pointers, plan.places);
     let current = generations_of(plan.look);
     let copied = super::emptyings::empty_generals(
         sectors,
         written,
         durable,
         pointers,
-        all,
+        course.general,
         &current,
         rest,
     );

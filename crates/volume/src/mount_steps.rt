@@ -5,6 +5,7 @@ use super::Basis;
 use super::mount_counters::store_counters;
 use super::mount_logs::HeaderKind;
 use super::mount_logs::log_headers;
+use super::roles::LogPlaces;
 use tables::Geometry;
 ghost use mathlib.Core.Path.{_≡_};
 ghost use lib.ListN.{length};
@@ -18,9 +19,10 @@ ghost use Rattle.volume.specs.meaning.CallContracts.{isSet};
 ghost use Rattle.volume.specs.mounting.MountTables.{FlushedAfter};
 ghost use Rattle.volume.specs.mounting.MountHeaders.{headersBy};
 ghost use Rattle.volume.specs.mounting.MountValues.{shownAt, Restoring};
-ghost use Rattle.volume.specs.mounting.MountSteps.{tornRowsBy, fillsBy, StepMade, ZonesReset, CountersMade, CountersReady, Restored};
+ghost use Rattle.volume.specs.mounting.MountSteps.{tornRowsBy, fillsBy, StepMade, ZonesReset, CountersMade, CountersReady, ZonesRestored, Restored};
 ghost use Rattle.volume.specs.mounting.MountLastEntries.{Entering, entryStoresBelow};
 ghost use Rattle.volume.specs.looking.Knowing.{readDevice};
+ghost use Rattle.volume.specs.looking.HiddenLogs.{hiddenLogs};
 
 // The flush after a step, if the step stored: it had `before` and left `rest`.
 pub fn flush_after(
@@ -57,11 +59,10 @@ fn header_step(
     ensures { λ r. ⌜ StepMade (basis .geometry) (basis .here) (basis .look) (now (pointers .entry)) budget r (headersBy (basis .geometry) kind (basis .look))
         (tablesOf (now (sectors .entry)) (now (written .entry)) (now (durable .entry))) (tablesOf (now (sectors .exit)) (now (written .exit)) (now (durable .exit))) ⌝ }
 {
-    let g = basis.geometry;
     let here = basis.here;
-    let n = super::mount_logs::header_zones(kind, g);
+    let n = super::mount_logs::header_zones(kind, basis.geometry);
     let rest = log_headers(kind, sectors, written, pointers, basis, n, budget);
-    flush_after(written, durable, g, here, budget, rest)
+    flush_after(written, durable, basis.geometry, here, budget, rest)
 }
 
 // 5. "Resets of those zones and of unclean ones with pointer 0, worn zones excepted".
@@ -70,11 +71,16 @@ fn zone_reset_step(written: &mut [u32], durable: &mut [u32], basis: Basis, budge
     requires { ⌜ (length (now written) ≡ cells (basis .geometry)) × (length (now durable) ≡ cells (basis .geometry)) ⌝ }
     ensures { λ r. ⌜ ZonesReset (basis .geometry) (basis .here) (basis .look) budget r (now (written .entry)) (now (durable .entry)) (now (written .exit)) (now (durable .exit)) ⌝ }
 {
-    let g = basis.geometry;
     let here = basis.here;
-    let look = basis.look;
-    let rest = super::mount_zones::reset_zones(written, durable, g, here, look, budget);
-    flush_after(written, durable, g, here, budget, rest)
+    let rest = super::mount_zones::reset_zones(
+        written,
+        durable,
+        basis.geometry,
+        here,
+        basis.look,
+        budget,
+    );
+    flush_after(written, durable, basis.geometry, here, budget, rest)
 }
 
 // 6. The counters, "every empty zone's raised by 1".
@@ -90,10 +96,9 @@ fn counter_step(
     ensures { λ r. ⌜ CountersMade (basis .geometry) (basis .here) (basis .look) (basis .differ) budget r
         (tablesOf (now (sectors .entry)) (now (written .entry)) (now (durable .entry))) (tablesOf (now (sectors .exit)) (now (written .exit)) (now (durable .exit))) ⌝ }
 {
-    let g = basis.geometry;
     let here = basis.here;
     let rest = store_counters(sectors, written, basis, budget);
-    flush_after(written, durable, g, here, budget, rest)
+    flush_after(written, durable, basis.geometry, here, budget, rest)
 }
 
 // 8. "Rows missing from torn entries".
@@ -110,10 +115,9 @@ fn torn_row_step(
     ensures { λ r. ⌜ StepMade (basis .geometry) (basis .here) (basis .look) (now (pointers .entry)) budget r (tornRowsBy (basis .geometry) (basis .here) (basis .look))
         (tablesOf (now (sectors .entry)) (now (written .entry)) (now (durable .entry))) (tablesOf (now (sectors .exit)) (now (written .exit)) (now (durable .exit))) ⌝ }
 {
-    let g = basis.geometry;
     let here = basis.here;
     let rest = super::mount_torn::complete_logs(sectors, written, pointers, basis, budget);
-    flush_after(written, durable, g, here, budget, rest)
+    flush_after(written, durable, basis.geometry, here, budget, rest)
 }
 
 // 9. "Sectors missing below the pointer, and parity of complete stripes".
@@ -130,40 +134,63 @@ fn fill_step(
     ensures { λ r. ⌜ StepMade (basis .geometry) (basis .here) (basis .look) (now (pointers .entry)) budget r (fillsBy (basis .geometry) (basis .here) (basis .look))
         (tablesOf (now (sectors .entry)) (now (written .entry)) (now (durable .entry))) (tablesOf (now (sectors .exit)) (now (written .exit)) (now (durable .exit))) ⌝ }
 {
-    let g = basis.geometry;
     let here = basis.here;
     let rest = super::mount_fill::fill_drives(sectors, written, pointers, basis, budget);
-    flush_after(written, durable, g, here, budget, rest)
+    flush_after(written, durable, basis.geometry, here, budget, rest)
 }
 
-// 11. "A type 4 entry at each pointer inside a stripe that by then has no whole current one ending there". `starts` is a copy of the written
-// pointers; the logs lie now where `to` says.
+// 11. "A type 4 entry at each pointer inside a stripe that by then has no whole current one ending there". The logs lie now where `to` says; `starts` is
+// scratch: a copy of the written pointers.
 pub fn entry_step(
     sectors: &mut [u8],
     written: &mut [u32],
     durable: &mut [u32],
     pointers: &[u32],
-    starts: &[u32],
+    starts: &mut [u32],
     basis: Basis,
-    to: Geometry,
+    to: LogPlaces,
     budget: u64,
 ) -> u64
     requires { ⌜ Valid (basis .geometry) ⌝ }
-    requires { ⌜ Entering (basis .geometry) to (basis .here) (basis .look) (now pointers) (now starts) (now sectors) (now written) × (length (now durable) ≡ cells (basis .geometry)) ⌝ }
-    ensures { λ r. ⌜ Made to budget r (concat (withFlush (basis .geometry) (isSet (basis .here)) (entryStoresBelow (basis .geometry) (basis .look) (shownAt (basis .geometry) (basis .here) (basis .look) (now (sectors .entry)) (now (pointers .entry))) (parityEntries to (readDevice to (now (sectors .entry)) (now (starts .entry)))) (basis .geometry .drives))))
+    requires { ⌜ Entering (basis .geometry) (to .geometry) (basis .here) (basis .look) (now pointers) (hiddenLogs to (now written) (to .geometry .drives)) (now sectors) (now written)
+        × ((length (now durable) ≡ cells (basis .geometry)) × (length (now starts) ≡ cells (basis .geometry))) ⌝ }
+    ensures { λ r. ⌜ Made (to .geometry) budget r (concat (withFlush (basis .geometry) (isSet (basis .here)) (entryStoresBelow (basis .geometry) (basis .look)
+        (shownAt (basis .geometry) (basis .here) (basis .look) (now (sectors .entry)) (now (pointers .entry))) (parityEntries (to .geometry) (readDevice (to .geometry) (now (sectors .entry)) (hiddenLogs to (now (written .entry)) (to .geometry .drives)))) (basis .geometry .drives))))
         (tablesOf (now (sectors .entry)) (now (written .entry)) (now (durable .entry))) (tablesOf (now (sectors .exit)) (now (written .exit)) (now (durable .exit))) ⌝ }
 {
     let here = basis.here;
+    super::roles::hide_lacking(written, starts, to);
     let rest = super::mount_entries::log_entries(
         sectors,
         written,
         pointers,
         starts,
         basis,
-        to,
+        to.geometry,
         budget,
     );
-    flush_after(written, durable, to, here, budget, rest)
+    flush_after(written, durable, to.geometry, here, budget, rest)
+}
+
+// Steps 3 to 6: the labels, the resets and the counters.
+fn restore_zones(
+    sectors: &mut [u8],
+    written: &mut [u32],
+    durable: &mut [u32],
+    pointers: &[u32],
+    basis: Basis,
+    budget: u64,
+) -> u64
+    requires { ⌜ Valid (basis .geometry) ⌝ }
+    requires { ⌜ Restoring (basis .geometry) (basis .here) (basis .look) (now pointers) (tablesOf (now sectors) (now written) (now durable)) ⌝ }
+    ensures { λ r. ⌜ ZonesRestored basis (now (pointers .entry)) budget r (tablesOf (now (sectors .entry)) (now (written .entry)) (now (durable .entry))) (tablesOf (now (sectors .exit)) (now (written .exit)) (now (durable .exit))) ⌝ }
+{
+    let label = HeaderKind::Label;
+    let rest = header_step(label, sectors, written, durable, pointers, basis, budget);
+    let reset = HeaderKind::Reset;
+    let rest = header_step(reset, sectors, written, durable, pointers, basis, rest);
+    let rest = zone_reset_step(written, durable, basis, rest);
+    counter_step(sectors, written, durable, basis, rest)
 }
 
 // Steps 3 to 9, by the mount's look.
@@ -179,12 +206,7 @@ pub fn restore_steps(
     requires { ⌜ Restoring (basis .geometry) (basis .here) (basis .look) (now pointers) (tablesOf (now sectors) (now written) (now durable)) ⌝ }
     ensures { λ r. ⌜ Restored basis (now (pointers .entry)) budget r (tablesOf (now (sectors .entry)) (now (written .entry)) (now (durable .entry))) (tablesOf (now (sectors .exit)) (now (written .exit)) (now (durable .exit))) ⌝ }
 {
-    let label = HeaderKind::Label;
-    let rest = header_step(label, sectors, written, durable, pointers, basis, budget);
-    let reset = HeaderKind::Reset;
-    let rest = header_step(reset, sectors, written, durable, pointers, basis, rest);
-    let rest = zone_reset_step(written, durable, basis, rest);
-    let rest = counter_step(sectors, written, durable, basis, rest);
+    let rest = restore_zones(sectors, written, durable, pointers, basis, budget);
     let seal = HeaderKind::Seal;
     let rest = header_step(seal, sectors, written, durable, pointers, basis, rest);
     let rest = torn_row_step(sectors, written, durable, pointers, basis, rest);

@@ -90,25 +90,30 @@ fn complete_rows(
     ensures { λ r. ⌜ MadeAppends (basis .geometry) budget r
         (rowsIf true (entry .drive) parityZone (rowFor (basis .geometry) (shownBy basis (now (sectors .entry)) (now (pointers .entry)) .zone (entry .zone)) (entry .stripe) (entry .fill) n) (entry .from) (min (entry .fill) (basis .geometry .unit))) (now (sectors .entry)) (now (written .entry)) (now (sectors .exit)) (now (written .exit)) ⌝ }
 {
-    let g = basis.geometry;
-    let look = basis.look;
     let z = entry.zone;
     let s = entry.stripe;
     let fill = entry.fill;
-    let zones = look.zones;
+    let zones = basis.look.zones;
     let zone = zones[z];
     let generation = zone.generation;
     let pointer = zone.pointer;
-    let k = tables::bounds::stripe_sectors(g);
+    let k = tables::bounds::stripe_sectors(basis.geometry);
     let current = (n == generation) & (s * k + fill <= pointer);
     if current {
-        return append_entry_rows(sectors, written, pointers, basis, g, entry, budget);
+        return append_entry_rows(
+            sectors,
+            written,
+            pointers,
+            basis,
+            basis.geometry,
+            entry,
+            budget,
+        );
     }
     let drive = entry.drive;
     let from = entry.from;
-    let u = g.unit;
-    let m = tables::placement::min(fill, u);
-    append_zero_rows(sectors, written, g, drive, from, m, budget)
+    let m = tables::placement::min(fill, basis.geometry.unit);
+    append_zero_rows(sectors, written, basis.geometry, drive, from, m, budget)
 }
 
 // The same by what was found; only a partial parity entry has rows.
@@ -166,18 +171,17 @@ fn complete_log(
     ensures { λ r. ⌜ MadeAppends (basis .geometry) budget r
         (onPresent (isSet (basis .here)) (tornStores (basis .geometry) (shownBy basis (now (sectors .entry)) (now (pointers .entry))) (readDevice (basis .geometry) (now (sectors .entry)) (now (pointers .entry))) drive)) (now (sectors .entry)) (now (written .entry)) (now (sectors .exit)) (now (written .exit)) ⌝ }
 {
-    let g = basis.geometry;
     let here = basis.here;
     let present = here[drive];
     if !present {
         return budget;
     }
-    let n = super::mount_logs::sectors_then(pointers, g, drive, logs::PARITY_LOG);
-    let w = logs::walking::walk_log(sectors, g, drive, logs::PARITY_LOG, true, n);
+    let n = super::mount_logs::sectors_then(pointers, basis.geometry, drive, logs::PARITY_LOG);
+    let w = logs::walking::walk_log(sectors, basis.geometry, drive, logs::PARITY_LOG, true, n);
     let WalkEnd::Torn(p) = w else {
         return budget;
     };
-    let f = logs::walking::judge_at(sectors, g, drive, logs::PARITY_LOG, true, n, p);
+    let f = logs::walking::judge_at(sectors, basis.geometry, drive, logs::PARITY_LOG, true, n, p);
     let rows = n - (p + 1);
     complete_entry(sectors, written, pointers, basis, drive, f, rows, budget)
 }
@@ -195,8 +199,7 @@ pub fn complete_logs(
     ensures { λ r. ⌜ MadeAppends (basis .geometry) budget r
         (onPresent (isSet (basis .here)) (eachBelow (tornStores (basis .geometry) (shownBy basis (now (sectors .entry)) (now (pointers .entry))) (readDevice (basis .geometry) (now (sectors .entry)) (now (pointers .entry)))) (basis .geometry .drives))) (now (sectors .entry)) (now (written .entry)) (now (sectors .exit)) (now (written .exit)) ⌝ }
 {
-    let g = basis.geometry;
-    let m = g.drives;
+    let m = basis.geometry.drives;
     let mut rest = budget;
     let mut d = 0;
     while d < m {

@@ -2,9 +2,9 @@
 // a flush of all present drives after each step that stored". Its look, where the logs lie and which of them lack room are found before its first store
 // (`Plan`); the steps that follow read by copies of the written pointers.
 use super::Answer;
-use super::Basis;
 use super::Outcome;
 use super::State;
+use super::mount_plan::Course;
 use super::mount_rooms::Plan;
 use tables::Geometry;
 ghost use mathlib.Core.Path.{_≡_};
@@ -21,7 +21,8 @@ ghost use Rattle.volume.specs.looking.Knowing.{readDevice};
 ghost use Rattle.volume.specs.looking.Looking.{Lookable};
 ghost use Rattle.volume.specs.mounting.MountRooms.{lostAmong, Planned};
 ghost use Rattle.volume.specs.mounting.MountBetween.{Before};
-ghost use Rattle.volume.specs.mounting.Mounting.{mountedOn, ShownNow};
+ghost use Rattle.volume.specs.mounting.MountEnds.{courseOf};
+ghost use Rattle.volume.specs.mounting.Mounting.{mountedOn, ShownNow, MountEnded};
 
 // The state that the drives that are here show.
 fn shown_state(sectors: &[u8], written: &[u32], g: Geometry, here: [bool; 8]) -> State
@@ -45,38 +46,28 @@ fn restore_before(
     pointers: &mut [u32],
     g: Geometry,
     plan: Plan,
+    course: Course,
     budget: u64,
 ) -> u64
     requires { ⌜ Valid g ⌝ }
-    requires { ⌜ Planned g (tablesOf (now sectors) (now written) (now durable)) plan (now pointers) ⌝ }
+    requires { ⌜ Planned g (tablesOf (now sectors) (now written) (now durable)) plan (now pointers) × (course ≡ courseOf plan) ⌝ }
     ensures { λ r. ⌜ Before g (tablesOf (now (sectors .entry)) (now (written .entry)) (now (durable .entry))) plan budget r (now (pointers .exit)) (tablesOf (now (sectors .exit)) (now (written .exit)) (now (durable .exit))) ⌝ }
 {
-    let rest = super::mount_rooms::open_logs(sectors, written, durable, pointers, g, plan, budget);
-    if rest == 0 {
-        return 0;
-    }
-    let places = plan.places;
-    let here = plan.here;
-    let look = plan.look;
-    let differ = plan.differ;
-    let room = plan.general;
-    let emptied = room.emptied;
-    let middle = super::mount_rooms::places_after(places, false, emptied);
-    super::roles::hide_lacking(written, pointers, middle);
-    let geometry = middle.geometry;
-    super::mount_steps::restore_steps(
+    let rest = super::mount_rooms::open_logs(
         sectors,
         written,
         durable,
         pointers,
-        Basis {
-            geometry,
-            here,
-            look,
-            differ,
-        },
-        rest,
-    )
+        g,
+        plan,
+        course,
+        budget,
+    );
+    if rest == 0 {
+        return 0;
+    }
+    super::roles::hide_lacking(written, pointers, course.middle);
+    super::mount_steps::restore_steps(sectors, written, durable, pointers, course.basis, rest)
 }
 
 // The stores of a mount: what is left of the budget. `pointers` and `starts` are scratch: copies of the written pointers.
@@ -95,11 +86,22 @@ fn restore(
     ensures { λ r. ⌜ Made g budget r (mountStoresOn g (isSet (plan .here)) (lostAmong g (plan .here)) (tablesOf (now (sectors .entry)) (now (written .entry)) (now (durable .entry))))
         (tablesOf (now (sectors .entry)) (now (written .entry)) (now (durable .entry))) (tablesOf (now (sectors .exit)) (now (written .exit)) (now (durable .exit))) ⌝ }
 {
-    let rest = restore_before(sectors, written, durable, pointers, g, plan, budget);
+    let course = super::mount_plan::course_of(plan);
+    let rest = restore_before(sectors, written, durable, pointers, g, plan, course, budget);
     if rest == 0 {
         return 0;
     }
-    super::mount_ends::restore_ends(sectors, written, durable, pointers, starts, g, plan, rest)
+    super::mount_ends::restore_ends(
+        sectors,
+        written,
+        durable,
+        pointers,
+        starts,
+        g,
+        plan,
+        course,
+        rest,
+    )
 }
 
 // The state that the drives that are here show, their logs where these lie now. `pointers` is scratch: a copy of the written pointers.
@@ -115,8 +117,34 @@ fn shown_now(
     ensures { λ r. ⌜ ShownNow g here (now (sectors .entry)) (now (written .entry)) r ⌝ }
 {
     let places = super::roles::see_by_roles(sectors, written, pointers, g);
-    let h = places.geometry;
-    shown_state(sectors, pointers, h, here)
+    shown_state(sectors, pointers, places.geometry, here)
+}
+
+// How a mount ends with `rest` left of the budget. If it finished, its state is what the drives that are here show. `pointers` is scratch.
+fn outcome(
+    sectors: &[u8],
+    written: &[u32],
+    pointers: &mut [u32],
+    g: Geometry,
+    here: [bool; 8],
+    old: State,
+    rest: u64,
+) -> Outcome
+    requires { ⌜ Valid g ⌝ }
+    requires { ⌜ Lookable g here (now sectors) (now written) × (length (now pointers) ≡ cells g) × (g .logs ≡ 0) ⌝ }
+    ensures { λ r. ⌜ MountEnded g here old rest (now (sectors .entry)) (now (written .entry)) r ⌝ }
+{
+    if rest == 0 {
+        return Outcome {
+            answer: Answer::Unfinished,
+            state: old,
+        };
+    }
+    let state = shown_now(sectors, written, pointers, g, here);
+    Outcome {
+        answer: Answer::Finished,
+        state,
+    }
 }
 
 // A mount that no refusal stopped: its stores, and the state that they leave.
@@ -150,17 +178,7 @@ fn mount_planned(
         plan,
         budget,
     );
-    if rest == 0 {
-        return Outcome {
-            answer: Answer::Unfinished,
-            state: old,
-        };
-    }
-    let state = shown_now(sectors, written, pointers, g, here);
-    Outcome {
-        answer: Answer::Finished,
-        state,
-    }
+    outcome(sectors, written, pointers, g, here, old, rest)
 }
 
 // The call.
@@ -188,9 +206,7 @@ pub fn mount(
         return super::checks::refused_at(refusal, found.bad, old);
     }
     let plan = super::mount_plan::plan_mount(sectors, written, &pointers[..cells], g, found);
-    let general = plan.general;
-    let parity = plan.parity;
-    if general.full | parity.full {
+    if plan.general.full | plan.parity.full {
         return super::checks::refused(14, old);
     }
     mount_planned(

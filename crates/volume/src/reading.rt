@@ -11,7 +11,9 @@ ghost use mathlib.Core.Path.{_≡_};
 ghost use mathlib.Core.Bool.{false};
 ghost use Prim.Native.Nat.{_+_, _*_, _≤_, _<_};
 ghost use lib.ListN.{length};
+ghost use lib.Dec.{eqb};
 ghost use denote.Ref.{ptr};
+ghost use Rattle.tables.specs.meaning.Basics.{pick};
 ghost use Rattle.tables.specs.meaning.Below.{tabulateFrom};
 ghost use Rattle.tables.specs.meaning.Lists.{concat};
 ghost use Rattle.tables.specs.meaning.Geometry.{Valid, cells, totalBytes, zoneSectors};
@@ -21,7 +23,9 @@ ghost use Rattle.volume.specs.meaning.Refusals.{goneIn, zoneOf, offsetOf
 ghost use Rattle.volume.specs.meaning.State.{pointerIn};
 ghost use Rattle.volume.specs.meaning.CallContracts.{isSet, readOn, peekNumber, peekOn, peekFrom, past};
 ghost use Rattle.volume.specs.looking.Knowing.{Readable, readDevice, ownSector};
+ghost use Rattle.volume.specs.declared.Answer.the-variants.{Finished, Refused};
 ghost use Rattle.volume.specs.reading.Reading.{lateNumber, RunReady, RunRead};
+ghost use Rattle.volume.specs.reading.ReadZone.{ReadAsked, zoneReadNumber, zoneReadLeft};
 ghost use Rattle.volume.specs.reading.ReadingHeld.{LimitServes};
 ghost use Rattle.volume.specs.reading.Peeking.{placeNumberOn};
 
@@ -81,8 +85,7 @@ fn rebuild_run(
         × LimitServes (zone .geometry) (zone .here) (now sectors) (now written) (zone .number) (zone .generation) limit offset count ⌝ }
     ensures { λ _. ⌜ now (out .exit) ≡ concat (tabulateFrom (valueAt (zone .geometry) (isSet (zone .here)) (readDevice (zone .geometry) (now (sectors .entry)) (now (written .entry))) (zone .number) (zone .generation)) offset count) ⌝ }
 {
-    let g = zone.geometry;
-    let b = g.sector;
+    let b = zone.geometry.sector;
     let mut i = 0;
     while i < count {
         let at = i * b;
@@ -107,19 +110,23 @@ fn read_by_roles(
         × (offset + count ≤ zoneSectors (zone .geometry)) × (length (now out) ≡ count * zone .geometry .sector) ⌝ }
     ensures { λ r. ⌜ RunRead zone (now (sectors .entry)) (now (written .entry)) offset count (now (out .entry)) r (now (out .exit)) ⌝ }
 {
-    let g = zone.geometry;
     let here = zone.here;
-    let number = zone.number;
-    let generation = zone.generation;
-    let places = super::roles::see_by_roles(sectors, written, pointers, g);
+    let places = super::roles::see_by_roles(sectors, written, pointers, zone.geometry);
     let h = places.geometry;
     let seen = Zone {
         geometry: h,
         here,
-        number,
-        generation,
+        number: zone.number,
+        generation: zone.generation,
     };
-    let limit = super::knowing::seal_limit(sectors, pointers, h, here, number, generation);
+    let limit = super::knowing::seal_limit(
+        sectors,
+        pointers,
+        h,
+        here,
+        zone.number,
+        zone.generation,
+    );
     let gone = some_gone(sectors, pointers, seen, limit, offset, count);
     if gone {
         return true;
@@ -169,15 +176,13 @@ fn read_run(
     requires { ⌜ RunReady zone (now sectors) (now written) pointer offset count (now out) ⌝ }
     ensures { λ r. ⌜ RunRead zone (now (sectors .entry)) (now (written .entry)) offset count (now (out .entry)) r (now (out .exit)) ⌝ }
 {
-    let g = zone.geometry;
     let here = zone.here;
-    let z = zone.number;
-    let absent = super::checks::count_absent(g, here);
+    let absent = super::checks::count_absent(zone.geometry, here);
     if absent == 0 {
-        copy_run(sectors, g, z, offset, count, out);
+        copy_run(sectors, zone.geometry, zone.number, offset, count, out);
         return false;
     }
-    let logged = super::zone_checks::needs_log(g, here, pointer, offset + count);
+    let logged = super::zone_checks::needs_log(zone.geometry, here, pointer, offset + count);
     if logged {
         return read_logged(sectors, written, zone, offset, count, out);
     }
@@ -209,14 +214,12 @@ fn run_refusal(written: &[u32], zone: Zone, c: Condition, offset: usize, count: 
     requires { ⌜ (length (now written) ≡ cells (zone .geometry)) × (zone .number < zone .geometry .zones) × (pointerIn c ≤ zoneSectors (zone .geometry)) × (offset ≤ zoneSectors (zone .geometry)) × (count ≤ 4294967295) ⌝ }
     ensures { λ r. ⌜ r ≡ lateNumber (zone .geometry) (zone .here) (now (written .entry)) c (zone .number) offset count ⌝ }
 {
-    let g = zone.geometry;
     let here = zone.here;
-    let z = zone.number;
-    let stale = super::zone_checks::is_stale(written, g, here, c, z);
+    let stale = super::zone_checks::is_stale(written, zone.geometry, here, c, zone.number);
     if stale {
         return 7;
     }
-    let most = tables::bounds::zone_sectors(g);
+    let most = tables::bounds::zone_sectors(zone.geometry);
     let end = offset + count;
     if (count == 0) | (most < end) {
         return 9;
@@ -226,6 +229,42 @@ fn run_refusal(written: &[u32], zone: Zone, c: Condition, offset: usize, count: 
         return 13;
     }
     0
+}
+
+// A read of a run in a zone that there is, in condition c: refusals 7, 9, 13 and 15; 0 if none applies, and then the buffer holds the sectors.
+pub fn read_zone(
+    sectors: &[u8],
+    written: &[u32],
+    zone: Zone,
+    c: Condition,
+    offset: usize,
+    count: usize,
+    out: &mut [u8],
+) -> u8
+    requires { ⌜ Valid (zone .geometry) ⌝ }
+    requires { ⌜ ReadAsked zone c (now sectors) (now written) offset count (now out) ⌝ }
+    ensures { λ r. ⌜ (r ≡ zoneReadNumber zone c (now (sectors .entry)) (now (written .entry)) offset count) × (now (out .exit) ≡ zoneReadLeft zone (now (sectors .entry)) (now (written .entry)) offset count (now (out .entry)) r) ⌝ }
+{
+    let late = run_refusal(written, zone, c, offset, count);
+    if late != 0 {
+        return late;
+    }
+    let pointer = super::checks::pointer_of(c);
+    let gone = read_run(sectors, written, zone, pointer, offset, count, out);
+    if gone {
+        return 15;
+    }
+    0
+}
+
+// A read's answer, by the number of its refusal.
+fn answer_by(number: u8) -> Answer
+    ensures { λ r. ⌜ r ≡ pick (eqb number 0) Finished (Refused number) ⌝ }
+{
+    if number == 0 {
+        return Answer::Finished;
+    }
+    Answer::Refused(number)
 }
 
 // The call. A refused read leaves the buffer as it was.
@@ -259,7 +298,8 @@ pub fn read(
     if zones <= z {
         return Answer::Refused(8);
     }
-    let record = state.zones[z];
+    let records = state.zones;
+    let record = records[z];
     let c = record.condition;
     let here = super::checks::present_drives(g, named, lost);
     let zone = Zone {
@@ -269,16 +309,8 @@ pub fn read(
         generation: record.generation,
     };
     let offset = offset_of(g, address);
-    let late = run_refusal(written, zone, c, offset, count as usize);
-    if late != 0 {
-        return Answer::Refused(late);
-    }
-    let pointer = super::checks::pointer_of(c);
-    let gone = read_run(sectors, written, zone, pointer, offset, count as usize, out);
-    if gone {
-        return Answer::Refused(15);
-    }
-    Answer::Finished
+    let number = read_zone(sectors, written, zone, c, offset, count as usize, out);
+    answer_by(number)
 }
 
 // Refusals 7, 13 and 15 of a peek in a zone that exists; 0 if none applies.
@@ -337,7 +369,8 @@ pub fn peek_refusal(
     if zones <= z {
         return 8;
     }
-    let record = state.zones[z];
+    let records = state.zones;
+    let record = records[z];
     let c = record.condition;
     let here = super::checks::present_drives(g, named, lost);
     let offset = offset_of(g, address);

@@ -1,6 +1,5 @@
 // Reset: type 3 on the zone's two drives; flush all; reset the zone on all; flush all, so that no cut brings the old sectors back behind the raised counters;
 // counters raised, on all; flush all.
-use super::Answer;
 use super::Condition;
 use super::Outcome;
 use super::State;
@@ -41,13 +40,11 @@ fn zone_refusal(written: &[u32], g: Geometry, here: [bool; 8], r: ZoneRecord, z:
     ensures { λ n. ⌜ n ≡ resetLateNumber g (isSet here) r z (now (written .entry)) ⌝ }
 {
     let condition = r.condition;
-    let stale = super::zone_checks::is_stale(written, g, here, condition, z);
-    if stale {
+    if super::zone_checks::is_stale(written, g, here, condition, z) {
         return 7;
     }
     let generation = r.generation;
-    let worn = super::zone_checks::is_worn(condition) | (logs::WORN_GENERATION <= generation);
-    if worn {
+    if super::zone_checks::is_worn(condition) | (logs::WORN_GENERATION <= generation) {
         return 12;
     }
     0
@@ -183,16 +180,15 @@ fn reset_stores(
     requires { ⌜ (zone .number < zone .geometry .zones) × (zone .geometry .zones ≤ length (now generations)) × (length (now sectors) ≡ totalBytes (zone .geometry)) × (length (now written) ≡ cells (zone .geometry)) × (length (now durable) ≡ cells (zone .geometry)) ⌝ }
     ensures { λ r. ⌜ Made (zone .geometry) budget r (resetWith (zone .geometry) (isSet (zone .here)) (zone .number) (zone .generation) (take (zone .geometry .zones) (now (generations .entry)))) (tablesOf (now (sectors .entry)) (now (written .entry)) (now (durable .entry))) (tablesOf (now (sectors .exit)) (now (written .exit)) (now (durable .exit))) ⌝ }
 {
-    let g = zone.geometry;
     let here = zone.here;
     let z = zone.number;
     let generation = zone.generation;
-    let logged = log_resets(sectors, written, g, here, z, generation, budget);
-    let flushed = super::flushing::flush_all(written, durable, g, here, logged);
-    let cleared = reset_zones(written, durable, g, here, z, flushed);
-    let settled = super::flushing::flush_all(written, durable, g, here, cleared);
-    let counted = log_counters(sectors, written, g, here, generations, settled);
-    super::flushing::flush_all(written, durable, g, here, counted)
+    let logged = log_resets(sectors, written, zone.geometry, here, z, generation, budget);
+    let flushed = super::flushing::flush_all(written, durable, zone.geometry, here, logged);
+    let cleared = reset_zones(written, durable, zone.geometry, here, z, flushed);
+    let settled = super::flushing::flush_all(written, durable, zone.geometry, here, cleared);
+    let counted = log_counters(sectors, written, zone.geometry, here, generations, settled);
+    super::flushing::flush_all(written, durable, zone.geometry, here, counted)
 }
 
 // The emptyings, and then the phases where the logs lie from then on.
@@ -251,23 +247,14 @@ fn outcome(zone: Zone, state: State, rest: u64) -> Outcome
     ensures { λ r. ⌜ r ≡ pick (eqb rest 0) (record { answer = Unfinished; state = state })
         (record { answer = Finished; state = withReset state (zone .number) (findBelow (λ (d : ℕ). not (isSet (zone .here) d)) (zone .geometry .drives)) }) ⌝ }
 {
-    if rest == 0 {
-        return Outcome {
-            answer: Answer::Unfinished,
-            state,
-        };
-    }
-    let g = zone.geometry;
     let here = zone.here;
     let z = zone.number;
-    let lost = super::checks::left_out(g, here);
+    let lost = super::checks::left_out(zone.geometry, here);
     let mut zones = state.zones;
     let record = zones[z];
     zones[z] = reset_record(record);
-    Outcome {
-        answer: Answer::Finished,
-        state: State { lost, zones },
-    }
+    let next = State { lost, zones };
+    super::flushing::ended(state, next, rest)
 }
 
 // A reset of a zone that passed refusals 7 and 12, with the logs where they lie: refusal 14, and the stores.
@@ -331,10 +318,14 @@ fn reset_zone(
     ensures { λ r. ⌜ (r ≡ resetZoneOn zone state count (tablesOf (now (sectors .entry)) (now (written .entry)) (now (durable .entry))) .outcome)
         × (tablesOf (now (sectors .exit)) (now (written .exit)) (now (durable .exit)) ≡ resetZoneOn zone state count (tablesOf (now (sectors .entry)) (now (written .entry)) (now (durable .entry))) .tables) ⌝ }
 {
-    let g = zone.geometry;
     let cells = written.len();
     let mut pointers = [0u32; 152];
-    let places = super::roles::see_by_roles(sectors, written, &mut pointers[..cells], g);
+    let places = super::roles::see_by_roles(
+        sectors,
+        written,
+        &mut pointers[..cells],
+        zone.geometry,
+    );
     reset_seen(
         sectors,
         written,
@@ -376,7 +367,8 @@ pub fn reset(
     if zones <= zone {
         return super::checks::refused(8, state);
     }
-    let record = state.zones[zone];
+    let records = state.zones;
+    let record = records[zone];
     let here = super::checks::present_drives(g, named, lost);
     let late = zone_refusal(written, g, here, record, zone);
     if late != 0 {

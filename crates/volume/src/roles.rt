@@ -174,12 +174,11 @@ fn general_log(sectors: &[u8], written: &[u32], g: Geometry, drive: usize, moved
     requires { ⌜ Sized g (now sectors) (now written) × (drive < g .drives) × (moved ≡ movedOf g drive (zonesRead g (now sectors) (now written) drive)) ⌝ }
     ensures { λ r. ⌜ r ≡ countingOf (strengths g drive (zonesRead g (now (sectors .entry)) (now (written .entry)) drive) false) ⌝ }
 {
-    let other = moved.parity_in_first;
     let second = moved.general_in_second;
     let third = moved.general_in_third;
     let asked = (second != 0) | (third != 0);
     let log = super::drive_logs::log_in(written, g, drive, logs::GENERAL_LOG);
-    let home = home_claim(sectors, g, log, false, other, asked);
+    let home = home_claim(sectors, g, log, false, moved.parity_in_first, asked);
     let in_second = moved_claim(second);
     let in_third = moved_claim(third);
     strongest_of(home, in_second, in_third)
@@ -191,12 +190,11 @@ fn parity_log(sectors: &[u8], written: &[u32], g: Geometry, drive: usize, moved:
     requires { ⌜ Sized g (now sectors) (now written) × (drive < g .drives) × ParityClaims g drive (zonesRead g (now sectors) (now written) drive) moved ⌝ }
     ensures { λ r. ⌜ r ≡ countingOf (strengths g drive (zonesRead g (now (sectors .entry)) (now (written .entry)) drive) true) ⌝ }
 {
-    let other = moved.general_in_second;
     let first = moved.parity_in_first;
     let third = moved.parity_in_third;
     let asked = (first != 0) | (third != 0);
     let log = super::drive_logs::log_in(written, g, drive, logs::PARITY_LOG);
-    let home = home_claim(sectors, g, log, true, other, asked);
+    let home = home_claim(sectors, g, log, true, moved.general_in_second, asked);
     let in_first = moved_claim(first);
     let in_third = moved_claim(third);
     strongest_of(in_first, home, in_third)
@@ -402,15 +400,20 @@ pub fn hide_lacking(written: &[u32], pointers: &mut [u32], places: LogPlaces)
     requires { ⌜ (length (now written) ≡ cells (places .geometry)) × (length (now pointers) ≡ cells (places .geometry)) ⌝ }
     ensures { λ _. ⌜ now (pointers .exit) ≡ hiddenLogs places (now (written .entry)) (places .geometry .drives) ⌝ }
 {
-    let g = places.geometry;
     let no_general = places.no_general;
     let no_parity = places.no_parity;
-    let n = g.drives;
+    let n = places.geometry.drives;
     tables::sectors::copy_pointers(pointers, 0, written);
     let mut d = 0;
     while d < n {
-        hide_log(pointers, g, no_general[d], d, logs::GENERAL_LOG);
-        hide_log(pointers, g, no_parity[d], d, logs::PARITY_LOG);
+        hide_log(
+            pointers,
+            places.geometry,
+            no_general[d],
+            d,
+            logs::GENERAL_LOG,
+        );
+        hide_log(pointers, places.geometry, no_parity[d], d, logs::PARITY_LOG);
         d += 1;
     }
 }

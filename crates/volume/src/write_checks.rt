@@ -55,24 +55,34 @@ pub fn gone_before(sectors: &[u8], written: &[u32], zone: Zone, n: usize) -> boo
     requires { ⌜ Readable (zone .geometry) (zone .here) (now sectors) (now written) (zone .number) × (n ≤ zoneSectors (zone .geometry)) ⌝ }
     ensures { λ r. ⌜ r ≡ goneBefore (zone .geometry) (isSet (zone .here)) (readDevice (zone .geometry) (now (sectors .entry)) (now (written .entry))) (zone .number) (zone .generation) n ⌝ }
 {
-    let g = zone.geometry;
     let here = zone.here;
-    let z = zone.number;
-    let k = tables::bounds::stripe_sectors(g);
+    let k = tables::bounds::stripe_sectors(zone.geometry);
     let s = n / k;
-    let d = g.drives;
-    let p = tables::placement::parity_drive(d, z, s);
+    let p = tables::placement::parity_drive(zone.geometry.drives, zone.number, s);
     let present = here[p];
     if !present {
         return false;
     }
     let start = s * k;
-    let held = super::knowing::all_held(written, g, here, z, start, n - start);
+    let held = super::knowing::all_held(
+        written,
+        zone.geometry,
+        here,
+        zone.number,
+        start,
+        n - start,
+    );
     if held {
         return false;
     }
-    let generation = zone.generation;
-    let limit = super::knowing::seal_limit(sectors, written, g, here, z, generation);
+    let limit = super::knowing::seal_limit(
+        sectors,
+        written,
+        zone.geometry,
+        here,
+        zone.number,
+        zone.generation,
+    );
     super::reading::some_gone(sectors, written, zone, limit, start, n - start)
 }
 
@@ -83,12 +93,10 @@ pub fn zone_refusal(written: &[u32], zone: Zone, c: Condition, offset: usize, co
     requires { ⌜ (offset < zoneSectors (zone .geometry)) × (count < 4294967296) ⌝ }
     ensures { λ r. ⌜ r ≡ zoneNumber (zone .geometry) (isSet (zone .here)) (now (written .entry)) c (zone .number) offset count ⌝ }
 {
-    let g = zone.geometry;
     let here = zone.here;
-    let z = zone.number;
-    let stale = super::zone_checks::is_stale(written, g, here, c, z);
+    let stale = super::zone_checks::is_stale(written, zone.geometry, here, c, zone.number);
     if stale {
         return 7;
     }
-    run_refusal(g, c, offset, count)
+    run_refusal(zone.geometry, c, offset, count)
 }

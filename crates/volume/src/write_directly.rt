@@ -1,17 +1,28 @@
 // A write that needs no log but that of its entry, and finds room there. The other logs count for a write in two ways: a sector of its first stripe that is
 // not held may be known by them, and a log without room is emptied. Where the stripe's earlier sectors are held, and the entry's log has room or there is
 // no entry, no other log is looked for (specs: `directly-ends`).
+use super::Condition;
 use super::Zone;
 use super::writing::Run;
 use tables::Geometry;
 ghost use mathlib.Core.Path.{_≡_};
 ghost use Prim.Native.Nat.{_+_, _≤_, _<_};
-ghost use Rattle.tables.specs.meaning.Geometry.{Valid, zoneSectors};
+ghost use lib.ListN.{length};
+ghost use Rattle.tables.specs.meaning.Geometry.{Valid, zoneSectors, cells};
 ghost use Rattle.tables.specs.laws.Made.{MadeAppends};
+ghost use Rattle.volume.specs.checks.ZoneChecks.{Reached};
 ghost use Rattle.volume.specs.looking.DriveLogs.{Sized};
-ghost use Rattle.volume.specs.writing.WriteStores.{WriteReady, StoresPast};
-ghost use Rattle.volume.specs.writing.WriteRun.{runStoresOf};
-ghost use Rattle.volume.specs.writing.WriteDirectly.{entryLog, entryPlace, placeOf};
+ghost use Rattle.volume.specs.writing.WriteStores.{earlierHeld, WriteReady, StoresPast};
+ghost use Rattle.volume.specs.writing.WriteRun.{runStoresOf, RunAsked};
+ghost use Rattle.volume.specs.writing.WriteDirectly.{entryLog, entryPlace, placeOf, TriedOn};
+
+// What a write that is asked of its zone came to: refused by 7 or 9 to 12 (0 if by none); made, with what is left of the budget of stores; or neither,
+// for it needs other logs.
+pub struct Tried {
+    pub refusal: u8,
+    pub made: bool,
+    pub rest: u64,
+}
 
 // Whether a write needs no log but that of its entry; and the geometry that places that one.
 pub struct EntryPlace {
@@ -43,8 +54,7 @@ fn entry_place(sectors: &[u8], written: &[u32], zone: Zone, end: usize) -> Entry
 {
     let g = zone.geometry;
     let here = zone.here;
-    let z = zone.number;
-    let entry = super::write_room::entry_drive(g, z, end);
+    let entry = super::write_room::entry_drive(g, zone.number, end);
     let inside = entry.inside;
     let drive = entry.drive;
     let asks = inside & here[drive];
@@ -58,28 +68,41 @@ fn entry_place(sectors: &[u8], written: &[u32], zone: Zone, end: usize) -> Entry
     entry_log(sectors, written, g, drive, limit)
 }
 
+// Whether the earlier sectors of a pointer's stripe are held. With every drive present they are: no drive has less than the pointer needs.
+fn earlier_held(written: &[u32], zone: Zone, n: usize) -> bool
+    requires { ⌜ Valid (zone .geometry) ⌝ }
+    requires { ⌜ (zone .number < zone .geometry .zones) × (length (now written) ≡ cells (zone .geometry)) × (n ≤ zoneSectors (zone .geometry)) × Reached (zone .geometry) (zone .here) (now written) (zone .number) n ⌝ }
+    ensures { λ r. ⌜ r ≡ earlierHeld (zone .geometry) (zone .here) (now (written .entry)) (zone .number) n ⌝ }
+{
+    let here = zone.here;
+    let absent = super::checks::count_absent(zone.geometry, here);
+    if absent == 0 {
+        return true;
+    }
+    super::write_stores::earlier_held(written, zone, n)
+}
+
 // That of a write from its zone's pointer on.
-pub fn place_of(sectors: &[u8], written: &[u32], run: Run) -> EntryPlace
+fn place_of(sectors: &[u8], written: &[u32], run: Run) -> EntryPlace
     requires { ⌜ Valid (run .zone .geometry) ⌝ }
-    requires { ⌜ Sized (run .zone .geometry) (now sectors) (now written) × (run .zone .number < run .zone .geometry .zones) × (run .pointer + run .count ≤ zoneSectors (run .zone .geometry)) ⌝ }
+    requires { ⌜ Sized (run .zone .geometry) (now sectors) (now written) × (run .zone .number < run .zone .geometry .zones) × (run .pointer + run .count ≤ zoneSectors (run .zone .geometry)) × Reached (run .zone .geometry) (run .zone .here) (now written) (run .zone .number) (run .pointer) ⌝ }
     ensures { λ r. ⌜ r ≡ placeOf run (now (sectors .entry)) (now (written .entry)) ⌝ }
 {
-    let zone = run.zone;
-    let g = zone.geometry;
+    let g = run.zone.geometry;
     let n = run.pointer;
     let count = run.count;
-    let held = super::write_stores::earlier_held(written, zone, n);
+    let held = earlier_held(written, run.zone, n);
     if !held {
         return EntryPlace {
             alone: false,
             geometry: g,
         };
     }
-    entry_place(sectors, written, zone, n + count)
+    entry_place(sectors, written, run.zone, n + count)
 }
 
 // Its stores, by the geometry that places its entry's log. What is read is read below the written pointers of its start.
-pub fn write_directly(
+fn write_directly(
     sectors: &mut [u8],
     written: &mut [u32],
     run: Run,
@@ -91,9 +114,6 @@ pub fn write_directly(
     requires { ⌜ WriteReady (run .zone .geometry) (run .zone .here) (now sectors) (now written) (run .zone .number) (run .zone .generation) (run .pointer) (run .count) (now buffer) × StoresPast (run .zone .geometry) to (now written) (now written) ⌝ }
     ensures { λ r. ⌜ MadeAppends to budget r (runStoresOf run (now (sectors .entry)) (now (written .entry)) (now (buffer .entry))) (now (sectors .entry)) (now (written .entry)) (now (sectors .exit)) (now (written .exit)) ⌝ }
 {
-    let zone = run.zone;
-    let n = run.pointer;
-    let count = run.count;
     let cells = written.len();
     let mut pointers = [0u32; 152];
     tables::sectors::copy_pointers(&mut pointers[..cells], 0, written);
@@ -101,11 +121,50 @@ pub fn write_directly(
         sectors,
         written,
         &pointers[..cells],
-        zone,
+        run.zone,
         to,
-        n,
-        count,
+        run.pointer,
+        run.count,
         buffer,
         budget,
     )
+}
+
+// Refusals 7 and 9 to 12 of a write in a zone that there is, in condition c; if none applies and it needs no log but that of its entry, its stores.
+pub fn write_alone(
+    sectors: &mut [u8],
+    written: &mut [u32],
+    run: Run,
+    c: Condition,
+    buffer: &[u8],
+    count: u32,
+) -> Tried
+    requires { ⌜ Valid (run .zone .geometry) ⌝ }
+    requires { ⌜ RunAsked run c (now sectors) (now written) (now buffer) ⌝ }
+    ensures { λ r. ⌜ TriedOn run c count (now (buffer .entry)) (now (sectors .entry)) (now (written .entry)) (now (sectors .exit)) (now (written .exit)) r ⌝ }
+{
+    let refusal = super::write_checks::zone_refusal(written, run.zone, c, run.pointer, run.count);
+    if refusal != 0 {
+        return Tried {
+            refusal,
+            made: false,
+            rest: 0,
+        };
+    }
+    let place = place_of(sectors, written, run);
+    let alone = place.alone;
+    if !alone {
+        return Tried {
+            refusal: 0,
+            made: false,
+            rest: 0,
+        };
+    }
+    let budget = super::checks::budget_of(count);
+    let rest = write_directly(sectors, written, run, place.geometry, buffer, budget);
+    Tried {
+        refusal: 0,
+        made: true,
+        rest,
+    }
 }

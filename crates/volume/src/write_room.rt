@@ -41,8 +41,7 @@ pub fn entry_drive(g: Geometry, z: usize, end: usize) -> EntryDrive
 {
     let k = tables::bounds::stripe_sectors(g);
     let s = end / k;
-    let d = g.drives;
-    let drive = tables::placement::parity_drive(d, z, s);
+    let drive = tables::placement::parity_drive(g.drives, z, s);
     let inside = s * k < end;
     EntryDrive { inside, drive }
 }
@@ -78,8 +77,7 @@ pub fn write_asks(zone: Zone, places: LogPlaces, end: usize) -> RoomAsked
 {
     let g = zone.geometry;
     let here = zone.here;
-    let z = zone.number;
-    let entry = entry_drive(g, z, end);
+    let entry = entry_drive(g, zone.number, end);
     let due = only_drive(here, entry);
     let limit = write_limit(g, end);
     RoomAsked {

@@ -41,25 +41,29 @@ fn write_sector(
     ensures { λ r. ⌜ MadeAppends (known .to) budget r (onPresent (isSet (known .here)) (sectorStores (known .geometry .drives) (known .geometry .unit) (known .zone) (contentOf known (readDevice (known .geometry) (now (sectors .entry)) (now (pointers .entry))) (now (buffer .entry))) a))
         (now (sectors .entry)) (now (written .entry)) (now (sectors .exit)) (now (written .exit)) ⌝ }
 {
-    let to = known.to;
-    let g = known.geometry;
     let here = known.here;
     let z = known.zone;
     let below = known.below;
     let zone = tables::DATA_ZONES + z;
-    let d = tables::placement::drive_of(g, z, a);
-    let b = g.sector;
+    let d = tables::placement::drive_of(known.geometry, z, a);
+    let b = known.geometry.sector;
     let at = (a - below) * b;
     let end = at + b;
-    let due = here[d];
-    let rest = stores::append_counted(sectors, written, to, due, d, zone, &buffer[at..end], budget);
-    let k = tables::bounds::stripe_sectors(g);
+    let rest = stores::append_counted(
+        sectors,
+        written,
+        known.to,
+        here[d],
+        d,
+        zone,
+        &buffer[at..end],
+        budget,
+    );
+    let k = tables::bounds::stripe_sectors(known.geometry);
     if a % k + 1 < k {
         return rest;
     }
-    let n = g.drives;
-    let u = g.unit;
-    let p = tables::placement::parity_drive(n, z, a / k);
+    let p = tables::placement::parity_drive(known.geometry.drives, z, a / k);
     let target = Target {
         drive: p,
         zone,
@@ -74,7 +78,7 @@ fn write_sector(
         target,
         a / k,
         0,
-        u,
+        known.geometry.unit,
         rest,
     )
 }
@@ -146,25 +150,30 @@ fn write_entry(
     ensures { λ r. ⌜ MadeAppends (known .to) budget r (onPresent (isSet (known .here)) (pick (insideStripe (known .geometry) (known .end)) (entryStores (known .geometry) (known .zone) (known .generation) (contentOf known (readDevice (known .geometry) (now (sectors .entry)) (now (pointers .entry))) (now (buffer .entry))) (known .end)) []))
         (now (sectors .entry)) (now (written .entry)) (now (sectors .exit)) (now (written .exit)) ⌝ }
 {
-    let to = known.to;
-    let g = known.geometry;
     let here = known.here;
-    let z = known.zone;
-    let generation = known.generation;
     let end = known.end;
-    let k = tables::bounds::stripe_sectors(g);
+    let k = tables::bounds::stripe_sectors(known.geometry);
     let s = end / k;
     let start = s * k;
     if end <= start {
         return budget;
     }
     let fill = end - start;
-    let n = g.drives;
-    let u = g.unit;
-    let p = tables::placement::parity_drive(n, z, s);
+    let p = tables::placement::parity_drive(known.geometry.drives, known.zone, s);
     let due = here[p];
-    let rest = append_partial(sectors, written, to, due, p, z, s, fill, generation, budget);
-    let m = tables::placement::min(fill, u);
+    let rest = append_partial(
+        sectors,
+        written,
+        known.to,
+        due,
+        p,
+        known.zone,
+        s,
+        fill,
+        known.generation,
+        budget,
+    );
+    let m = tables::placement::min(fill, known.geometry.unit);
     let target = Target {
         drive: p,
         zone: logs::PARITY_LOG,
@@ -208,12 +217,10 @@ pub fn earlier_held(written: &[u32], zone: Zone, n: usize) -> bool
     requires { ⌜ (zone .number < zone .geometry .zones) × (length (now written) ≡ cells (zone .geometry)) × (n ≤ zoneSectors (zone .geometry)) ⌝ }
     ensures { λ r. ⌜ r ≡ earlierHeld (zone .geometry) (zone .here) (now (written .entry)) (zone .number) n ⌝ }
 {
-    let g = zone.geometry;
     let here = zone.here;
-    let z = zone.number;
-    let k = tables::bounds::stripe_sectors(g);
+    let k = tables::bounds::stripe_sectors(zone.geometry);
     let start = n / k * k;
-    super::knowing::all_held(written, g, here, z, start, n - start)
+    super::knowing::all_held(written, zone.geometry, here, zone.number, start, n - start)
 }
 
 // The least current seal of a zone, where an earlier sector of pointer n's stripe is not held. Where all are held no log is walked: a write's time does
@@ -228,11 +235,15 @@ fn earlier_limit(sectors: &[u8], pointers: &[u32], zone: Zone, n: usize) -> usiz
     if held {
         return 0;
     }
-    let g = zone.geometry;
     let here = zone.here;
-    let z = zone.number;
-    let generation = zone.generation;
-    super::knowing::seal_limit(sectors, pointers, g, here, z, generation)
+    super::knowing::seal_limit(
+        sectors,
+        pointers,
+        zone.geometry,
+        here,
+        zone.number,
+        zone.generation,
+    )
 }
 
 // The stores of a write of `count` sectors from pointer n of a zone, as far as the budget of stores goes: what is left of it. `pointers` is a copy of

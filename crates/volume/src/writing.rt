@@ -33,7 +33,7 @@ ghost use Rattle.volume.specs.emptying.ParityEmptyings.{ParityKnown, new
 ghost use Rattle.volume.specs.storing.ResetZone.{generationsIn};
 ghost use Rattle.volume.specs.writing.WriteRoom.{pointsIn};
 ghost use Rattle.volume.specs.writing.WriteStores.{WriteReady};
-ghost use Rattle.volume.specs.writing.WriteRun.{atPlaces, runStoresOf, RunReady, writeZoneOn};
+ghost use Rattle.volume.specs.writing.WriteRun.{atPlaces, runStoresOf, RunReady, RunAsked, RunStated, writeZoneOn, writeAskedOn};
 
 // What is written: so many sectors of a zone from its pointer on.
 pub struct Run {
@@ -55,14 +55,12 @@ fn outcome(zone: Zone, state: State, n: usize, rest: u64) -> Outcome
             state,
         };
     }
-    let g = zone.geometry;
     let here = zone.here;
     let z = zone.number;
-    let lost = super::checks::left_out(g, here);
-    let generation = zone.generation;
+    let lost = super::checks::left_out(zone.geometry, here);
     let mut zones = state.zones;
     zones[z] = ZoneRecord {
-        generation,
+        generation: zone.generation,
         condition: Condition::Open(n),
     };
     Outcome {
@@ -86,18 +84,15 @@ fn write_gone(
     ensures { λ r. ⌜ r ≡ (emptied && goneForCopies (run .zone .geometry) (isSet (run .zone .here)) (inForceOf (run .zone .geometry) (isSet (run .zone .here)) (readDevice (run .zone .geometry) (now (sectors .entry)) (now (pointers .entry))) (now (generations .entry)) (now (points .entry))) (readDevice (run .zone .geometry) (now (sectors .entry)) (now (pointers .entry))) drive)
         || goneBefore (run .zone .geometry) (isSet (run .zone .here)) (readDevice (run .zone .geometry) (now (sectors .entry)) (now (pointers .entry))) (run .zone .number) (run .zone .generation) (run .pointer) ⌝ }
 {
-    let zone = run.zone;
-    let g = zone.geometry;
-    let here = zone.here;
-    let n = run.pointer;
-    let before = super::write_checks::gone_before(sectors, pointers, zone, n);
+    let here = run.zone.here;
+    let before = super::write_checks::gone_before(sectors, pointers, run.zone, run.pointer);
     if !emptied {
         return before;
     }
     let copies = super::copies_known::copies_gone(
         sectors,
         pointers,
-        g,
+        run.zone.geometry,
         here,
         drive,
         generations,
@@ -140,11 +135,17 @@ fn write_from(
         drive,
         budget,
     );
-    let zone = run.zone;
-    let to = all.to;
-    let n = run.pointer;
-    let count = run.count;
-    super::write_stores::write_all(sectors, written, pointers, zone, to, n, count, buffer, rest)
+    super::write_stores::write_all(
+        sectors,
+        written,
+        pointers,
+        run.zone,
+        all.to,
+        run.pointer,
+        run.count,
+        buffer,
+        rest,
+    )
 }
 
 // A write that passed refusals 7 to 12, with the logs where they lie: refusals 14 and 15, and the stores.
@@ -164,18 +165,15 @@ fn write_seen(
     ensures { λ r. ⌜ (r ≡ writeZoneOn run state (now (buffer .entry)) count (tablesOf (now (sectors .entry)) (now (written .entry)) (now (durable .entry))) .outcome)
         × (tablesOf (now (sectors .exit)) (now (written .exit)) (now (durable .exit)) ≡ writeZoneOn run state (now (buffer .entry)) count (tablesOf (now (sectors .entry)) (now (written .entry)) (now (durable .entry))) .tables) ⌝ }
 {
-    let zone = run.zone;
-    let n = run.pointer;
-    let end = n + run.count;
-    let asked = super::write_room::write_asks(zone, places, end);
+    let end = run.pointer + run.count;
+    let asked = super::write_room::write_asks(run.zone, places, end);
     let points = super::write_room::points_of(state);
     let room = super::log_room::parity_room(sectors, written, pointers, asked, &points);
-    let full = room.full;
-    if full {
+    if room.full {
         return super::checks::refused(14, state);
     }
     let generations = super::resetting::generations_of(state);
-    let entry = super::write_room::entry_drive(zone.geometry, zone.number, end);
+    let entry = super::write_room::entry_drive(run.zone.geometry, run.zone.number, end);
     let drive = entry.drive;
     let emptied = room.emptied;
     let lies = at_places(run, places);
@@ -205,30 +203,25 @@ fn write_seen(
         buffer,
         budget,
     );
-    outcome(zone, state, end, rest)
+    outcome(run.zone, state, end, rest)
 }
 
 // The run, read where the logs lie.
 fn at_places(run: Run, places: LogPlaces) -> Run
     ensures { λ r. ⌜ r ≡ atPlaces run places ⌝ }
 {
-    let zone = run.zone;
-    let here = zone.here;
-    let number = zone.number;
-    let generation = zone.generation;
-    let pointer = run.pointer;
-    let count = run.count;
+    let here = run.zone.here;
     let geometry = places.geometry;
     let lies = Zone {
         geometry,
         here,
-        number,
-        generation,
+        number: run.zone.number,
+        generation: run.zone.generation,
     };
     Run {
         zone: lies,
-        pointer,
-        count,
+        pointer: run.pointer,
+        count: run.count,
     }
 }
 
@@ -247,11 +240,14 @@ fn write_by_roles(
     ensures { λ r. ⌜ (r ≡ writeZoneOn run state (now (buffer .entry)) count (tablesOf (now (sectors .entry)) (now (written .entry)) (now (durable .entry))) .outcome)
         × (tablesOf (now (sectors .exit)) (now (written .exit)) (now (durable .exit)) ≡ writeZoneOn run state (now (buffer .entry)) count (tablesOf (now (sectors .entry)) (now (written .entry)) (now (durable .entry))) .tables) ⌝ }
 {
-    let zone = run.zone;
-    let g = zone.geometry;
     let cells = written.len();
     let mut pointers = [0u32; 152];
-    let places = super::roles::see_by_roles(sectors, written, &mut pointers[..cells], g);
+    let places = super::roles::see_by_roles(
+        sectors,
+        written,
+        &mut pointers[..cells],
+        run.zone.geometry,
+    );
     write_seen(
         sectors,
         written,
@@ -265,32 +261,34 @@ fn write_by_roles(
     )
 }
 
-// The same. Where it needs no log but that of its entry, and that has room, no other is looked for.
+// A write in a zone that there is, in condition c: refusals 7 and 9 to 15, and the stores. Where it needs no log but that of its entry, and that has
+// room, no other is looked for.
 fn write_zone(
     sectors: &mut [u8],
     written: &mut [u32],
     durable: &mut [u32],
     run: Run,
+    c: Condition,
     state: State,
     buffer: &[u8],
     count: u32,
 ) -> Outcome
     requires { ⌜ Valid (run .zone .geometry) ⌝ }
-    requires { ⌜ Sized (run .zone .geometry) (now sectors) (now written) × (run .zone .geometry .logs ≡ 0) × RunReady run state (now written) (now durable) (now buffer) ⌝ }
-    ensures { λ r. ⌜ (r ≡ writeZoneOn run state (now (buffer .entry)) count (tablesOf (now (sectors .entry)) (now (written .entry)) (now (durable .entry))) .outcome)
-        × (tablesOf (now (sectors .exit)) (now (written .exit)) (now (durable .exit)) ≡ writeZoneOn run state (now (buffer .entry)) count (tablesOf (now (sectors .entry)) (now (written .entry)) (now (durable .entry))) .tables) ⌝ }
+    requires { ⌜ RunAsked run c (now sectors) (now written) (now buffer) × RunStated run c state (now durable) ⌝ }
+    ensures { λ r. ⌜ (r ≡ writeAskedOn run state (now (buffer .entry)) count (tablesOf (now (sectors .entry)) (now (written .entry)) (now (durable .entry))) .outcome)
+        × (tablesOf (now (sectors .exit)) (now (written .exit)) (now (durable .exit)) ≡ writeAskedOn run state (now (buffer .entry)) count (tablesOf (now (sectors .entry)) (now (written .entry)) (now (durable .entry))) .tables) ⌝ }
 {
-    let place = super::write_directly::place_of(sectors, written, run);
-    let alone = place.alone;
-    if !alone {
+    let tried = super::write_directly::write_alone(sectors, written, run, c, buffer, count);
+    let refusal = tried.refusal;
+    if refusal != 0 {
+        return super::checks::refused(refusal, state);
+    }
+    let made = tried.made;
+    if !made {
         return write_by_roles(sectors, written, durable, run, state, buffer, count);
     }
-    let to = place.geometry;
-    let budget = super::checks::budget_of(count);
-    let rest = super::write_directly::write_directly(sectors, written, run, to, buffer, budget);
-    let zone = run.zone;
     let end = run.pointer + run.count;
-    outcome(zone, state, end, rest)
+    outcome(run.zone, state, end, tried.rest)
 }
 
 // The call: `run` sectors from an address, out of a buffer.
@@ -325,7 +323,8 @@ pub fn write(
     if zones <= z {
         return super::checks::refused(8, state);
     }
-    let record = state.zones[z];
+    let records = state.zones;
+    let record = records[z];
     let c = record.condition;
     let here = super::checks::present_drives(g, named, lost);
     let zone = Zone {
@@ -335,15 +334,10 @@ pub fn write(
         generation: record.generation,
     };
     let offset = super::reading::offset_of(g, address);
-    let n = run as usize;
-    let late = super::write_checks::zone_refusal(written, zone, c, offset, n);
-    if late != 0 {
-        return super::checks::refused(late, state);
-    }
     let asked = Run {
         zone,
         pointer: offset,
-        count: n,
+        count: run as usize,
     };
-    write_zone(sectors, written, durable, asked, state, buffer, count)
+    write_zone(sectors, written, durable, asked, c, state, buffer, count)
 }

@@ -2,13 +2,14 @@
 // drives are looked at.
 use super::Condition;
 use tables::Geometry;
+use tables::placement::StripeAt;
 ghost use mathlib.Core.Path.{_≡_};
 ghost use mathlib.Core.Bool.{_&&_};
 ghost use Prim.Native.Nat.{_+_, _-_, _≤_, _<_};
 ghost use lib.Dec.{ltb};
 ghost use lib.ListN.{length, getD};
 ghost use Rattle.tables.specs.meaning.Geometry.{Valid, zoneSectors, physicalZones, cells, dataZone};
-ghost use Rattle.tables.specs.meaning.Placement.{needed};
+ghost use Rattle.tables.specs.laws.StripeAt.{neededOf};
 ghost use Rattle.tables.specs.meaning.Tables.{cell};
 ghost use Rattle.volume.specs.meaning.State.{pointerIn, isWorn};
 ghost use Rattle.volume.specs.meaning.Refusals.{staleIn};
@@ -49,25 +50,25 @@ fn stale_in(c: Condition, written: usize, needs: usize) -> bool
     }
 }
 
-// Refusal 7 on one drive.
+// Refusal 7 on one drive; `at` is where the condition's pointer lies.
 fn drive_stale(
     written: &[u32],
     g: Geometry,
     here: bool,
     condition: Condition,
+    at: StripeAt,
     z: usize,
     drive: usize,
 ) -> bool
     requires { ⌜ Valid g ⌝ }
-    requires { ⌜ (length (now written) ≡ cells g) × (z < g .zones) × (drive < g .drives) × (pointerIn condition ≤ zoneSectors g) ⌝ }
-    ensures { λ r. ⌜ r ≡ here && staleIn condition (getD (now (written .entry)) (cell g drive (dataZone z)) 0) (needed (g .drives) (g .unit) z (pointerIn condition) drive) ⌝ }
+    requires { ⌜ (length (now written) ≡ cells g) × (z < g .zones) × (drive < g .drives) × (at .stripe ≤ 65536) × (at .parity < g .drives) ⌝ }
+    ensures { λ r. ⌜ r ≡ here && staleIn condition (getD (now (written .entry)) (cell g drive (dataZone z)) 0) (neededOf (g .drives) (g .unit) at drive) ⌝ }
 {
     if !here {
         return false;
     }
-    let n = super::checks::pointer_of(condition);
     let w = written_at(written, g, drive, tables::DATA_ZONES + z);
-    let needs = tables::placement::sectors_needed(g, z, n, drive);
+    let needs = tables::placement::needed_of(g, at, drive);
     stale_in(condition, w, needs)
 }
 
@@ -83,11 +84,13 @@ pub fn is_stale(
     requires { ⌜ (length (now written) ≡ cells g) × (z < g .zones) × (pointerIn condition ≤ zoneSectors g) ⌝ }
     ensures { λ r. ⌜ r ≡ staleOn g (isSet here) (now (written .entry)) condition z ⌝ }
 {
+    let pointer = super::checks::pointer_of(condition);
+    let at = tables::placement::stripe_at(g, z, pointer);
     let n = g.drives;
     let mut stale = false;
     let mut d = 0;
     while d < n {
-        let bad = drive_stale(written, g, here[d], condition, z, d);
+        let bad = drive_stale(written, g, here[d], condition, at, z, d);
         stale = stale | bad;
         d += 1;
     }

@@ -109,12 +109,11 @@ fn drive_clean(sectors: &[u8], written: &[u32], zone: Zone, d: usize, q: usize) 
     if !present {
         return true;
     }
-    let g = zone.geometry;
     let z = zone.number;
     let generation = zone.generation;
-    let n = super::drive_logs::zone_pointer(written, g, d, tables::DATA_ZONES + z);
-    let needs = tables::placement::sectors_needed(g, z, q, d);
-    let past = super::drive_logs::entry_past(sectors, written, g, d, z, generation, q);
+    let n = super::drive_logs::zone_pointer(written, zone.geometry, d, tables::DATA_ZONES + z);
+    let needs = tables::placement::sectors_needed(zone.geometry, z, q, d);
+    let past = super::drive_logs::entry_past(sectors, written, zone.geometry, d, z, generation, q);
     (n <= needs) & !past
 }
 
@@ -124,8 +123,7 @@ pub fn is_clean(sectors: &[u8], written: &[u32], zone: Zone, q: usize) -> bool
     requires { ⌜ Sized (zone .geometry) (now sectors) (now written) × (zone .number < zone .geometry .zones) × (q ≤ zoneSectors (zone .geometry)) ⌝ }
     ensures { λ r. ⌜ r ≡ cleanAt (zone .geometry) (isSet (zone .here)) (readDevice (zone .geometry) (now (sectors .entry)) (now (written .entry))) (zone .number) (zone .generation) q ⌝ }
 {
-    let g = zone.geometry;
-    let n = g.drives;
+    let n = zone.geometry.drives;
     let mut clean = true;
     let mut d = 0;
     while d < n {
@@ -181,11 +179,15 @@ pub fn pointer_at(sectors: &[u8], written: &[u32], zone: Zone, reset: bool) -> u
     if reset {
         return 0;
     }
-    let g = zone.geometry;
     let here = zone.here;
-    let z = zone.number;
-    let generation = zone.generation;
-    let limit = super::knowing::seal_limit(sectors, written, g, here, z, generation);
+    let limit = super::knowing::seal_limit(
+        sectors,
+        written,
+        zone.geometry,
+        here,
+        zone.number,
+        zone.generation,
+    );
     known_prefix(sectors, written, zone, limit)
 }
 

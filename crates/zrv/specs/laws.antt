@@ -1,6 +1,8 @@
+pub mod ByRecord
 pub mod Bytes
 pub mod CallsLeave
 pub mod EdgeCalls
+pub mod OneRecord
 pub mod RefusedCalls
 pub mod Report
 pub mod RoundTrips

@@ -5,6 +5,7 @@
 pub mod input;
 pub mod mounting;
 pub mod reading;
+pub mod records;
 pub mod reporting;
 pub mod segments;
 pub mod state;

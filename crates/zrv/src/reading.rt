@@ -33,24 +33,12 @@ pub extern "C" fn zrv_read(
     }
     let n = tables::bounds::table_cells(g);
     let here = super::input::named_drives(named);
-    let old = super::state::state_from(g, state);
     let mut w = [0u32; 152];
-    let mut d = [0u32; 152];
     let ws = &mut w[..n];
-    let ds = &mut d[..n];
-    super::words::tables_from(g, written, durable, ws, ds);
-    let found = volume::reading::read(
-        sectors,
-        ws,
-        ds,
-        g,
-        here,
-        old,
-        address,
-        sectors_to_read,
-        answer,
-    );
-    super::input::number_of(found)
+    super::words::table_from(written, ws);
+    let by = super::records::record_of(g, here, state, ws, durable, address);
+    let number = volume::by_record::read_record(sectors, ws, by, address, sectors_to_read, answer);
+    number as u32
 }
 
 // The offset in `sectors` of the sector at an address.

@@ -5,13 +5,14 @@ use volume::State;
 use volume::ZoneRecord;
 ghost use mathlib.Core.Path.{_≡_};
 ghost use mathlib.Core.Bool.{_&&_};
-ghost use Prim.Native.Nat.{ℕ, _+_, _*_, _≤_, _<_};
+ghost use Prim.Native.Nat.{ℕ, _+_, _*_, _%_, _≤_, _<_};
 ghost use lib.ListN.{length};
 ghost use Rattle.tables.specs.meaning.Geometry.{Valid};
 ghost use Rattle.tables.specs.meaning.Lists.{overlay};
 ghost use Rattle.tables.specs.meaning.Below.{allBelow};
+ghost use Rattle.tables.specs.laws.LittleEndian.{writeLE};
 ghost use Rattle.volume.specs.meaning.Refusals.{stateWithin};
-ghost use Rattle.volume.specs.meaning.CallContracts.{viewState};
+ghost use Rattle.volume.specs.meaning.CallContracts.{recordAt, viewState};
 ghost use Rattle.zrv.specs.meaning.Bytes.{recordTo, recordFrom, stateTo, stateFrom, stateWellFormed};
 ghost use Rattle.zrv.specs.laws.StateForm.{recordFits, zerosFrom};
 
@@ -43,6 +44,31 @@ fn record_from(bytes: &[u8], at: usize) -> ZoneRecord
         generation,
         condition,
     }
+}
+
+// The record of a zone; of one that there is not, a blank one.
+pub fn record_at(g: Geometry, bytes: &[u8], z: usize) -> ZoneRecord
+    requires { ⌜ Valid g ⌝ }
+    requires { ⌜ length (now bytes) ≡ 264 ⌝ }
+    ensures { λ r. ⌜ r ≡ recordAt (stateFrom (g .zones) (now (bytes .entry))) z ⌝ }
+{
+    let n = g.zones;
+    if n <= z {
+        return ZoneRecord {
+            generation: 0,
+            condition: Condition::Empty,
+        };
+    }
+    record_from(bytes, 8 + 16 * z)
+}
+
+// Puts the lost drive and the record of zone z into the bytes of a state. The other records stay.
+pub fn put_record(bytes: &mut [u8], lost: usize, z: usize, r: ZoneRecord)
+    requires { ⌜ (length (now bytes) ≡ 264) × (z < 16) ⌝ }
+    ensures { λ _. ⌜ now (bytes .exit) ≡ overlay (writeLE 8 (now (bytes .entry)) 0 (lost % 256)) (8 + 16 * z) (recordTo r) ⌝ }
+{
+    tables::bytes::write_u64(bytes, 0, (lost % 256) as u64);
+    record_to(r, bytes, 8 + 16 * z);
 }
 
 // The bytes of a state.

@@ -1,6 +1,51 @@
 // The calls of the C edge that store by the state that they are handed: write, flush and reset. Finished, each hands on the state.
+use super::records::WriteAsked;
 ghost use mathlib.Core.Path.{_≡_};
+ghost use lib.ListN.{length};
+ghost use Rattle.zrv.specs.laws.ByRecord.{InputTaken, wholeWrite};
 ghost use Rattle.zrv.specs.meaning.EdgeCalls.{shapeOf, ranges, answered, writeEdge, flushEdge, resetEdge};
+
+// A write that passed the tests of its input, by the whole state.
+fn write_whole(
+    asked: WriteAsked,
+    sectors: &mut [u8],
+    written: &mut [u8],
+    durable: &mut [u8],
+    state: &mut [u8],
+    buffer: &[u8],
+) -> u32
+    requires { ⌜ InputTaken (asked .geometry) (now state) (length (now written)) (length (now durable)) ⌝ }
+    ensures { λ r. ⌜ answered r (ranges (now (sectors .exit)) (now (written .exit)) (now (durable .exit)) (now (state .exit)))
+        ≡ wholeWrite asked (now (buffer .entry)) (ranges (now (sectors .entry)) (now (written .entry)) (now (durable .entry)) (now (state .entry))) ⌝ }
+{
+    let g = asked.geometry;
+    let named = asked.named;
+    let address = asked.address;
+    let run = asked.run;
+    let count = asked.count;
+    let n = tables::bounds::table_cells(g);
+    let old = super::state::state_from(g, state);
+    let mut w = [0u32; 152];
+    let mut d = [0u32; 152];
+    let ws = &mut w[..n];
+    let ds = &mut d[..n];
+    super::words::tables_from(g, written, durable, ws, ds);
+    let outcome = volume::writing::write(
+        sectors,
+        ws,
+        ds,
+        g,
+        named,
+        old,
+        address,
+        run,
+        buffer,
+        count,
+    );
+    super::words::table_to(ws, written);
+    super::words::table_to(ds, durable);
+    super::input::hand_back(g, outcome, state)
+}
 
 // Write: so many sectors at an address, which must be their zone's pointer. It stores in `sectors` and `written`, and where it empties a log in `durable` too.
 #[no_mangle]
@@ -28,29 +73,20 @@ pub extern "C" fn zrv_write(
     if refusal != 0 {
         return refusal;
     }
-    let n = tables::bounds::table_cells(g);
     let here = super::input::named_drives(named);
-    let old = super::state::state_from(g, state);
-    let mut w = [0u32; 152];
-    let mut d = [0u32; 152];
-    let ws = &mut w[..n];
-    let ds = &mut d[..n];
-    super::words::tables_from(g, written, durable, ws, ds);
-    let outcome = volume::writing::write(
-        sectors,
-        ws,
-        ds,
-        g,
-        here,
-        old,
+    let asked = WriteAsked {
+        geometry: g,
+        named: here,
         address,
-        sectors_to_write,
-        buffer,
+        run: sectors_to_write,
         count,
-    );
-    super::words::table_to(ws, written);
-    super::words::table_to(ds, durable);
-    super::input::hand_back(g, outcome, state)
+    };
+    let tried = super::records::write_by_record(asked, sectors, written, durable, state, buffer);
+    let made = tried.made;
+    if made {
+        return tried.code;
+    }
+    write_whole(asked, sectors, written, durable, state, buffer)
 }
 
 // Flush: every present drive is flushed. It stores in `durable`.

@@ -1,19 +1,19 @@
 -- One part of a list copied over another part of it, or added to it by exclusive or, one after the other in a loop: as long as the two parts do not
 -- meet, what is read is what was there at the start.
-use mathlib.Core.Path.{_≡_, refl, sym, ap, ap₂, _∙_}
+use mathlib.Core.Path.{_≡_, sym, ap, ap₂, _∙_}
 use mathlib.Core.Logic.{_⊎_, inl, inr, _≢_}
-use Prim.Native.Nat.{ℕ, zero, suc, _+_, _-_, _*_, _≤_, _<_}
+use Prim.Native.Nat.{ℕ, _+_, _-_, _*_, _≤_, _<_}
 use native.Mathlib.Nat.{mul-le-mul-right, suc-mul}
 use native.Mathlib.Decide.{decLt}
 use native.Mathlib.Omega.{arith}
-use mathlib.Core.List.{List, [], _∷_, _++_, append-assoc}
+use mathlib.Core.List.{List, _++_, append-assoc}
 use lib.Bits.{bitXor}
 use lib.ListN.{length, getD, take, drop, set, length-drop, length-append, List·getD-append}
 use lib.Seq.{length-paste-head, getD-append-add, getD-drop, getD-take, length-take-le, take-at, drop-at, drop-drop}
 use Rattle.tables.specs.meaning.Lists.{overlay}
 use Rattle.tables.specs.laws.Lists.{Copied, copied-next}
 use Rattle.tables.specs.meaning.Xor.{xorBytes}
-use Rattle.tables.specs.laws.Xor.{length-xor}
+use Rattle.tables.specs.laws.Xor.{xor-assoc, length-xor, getD-xor}
 
 -- two parts of n elements that do not meet
 abbrev pub Apart : ℕ → ℕ → ℕ → Type 0
@@ -33,12 +33,6 @@ part-long xs from n h = length-take-le n (drop from xs) (rw length-drop (omega a
 
 getD-part : (xs : List ℕ) (from n i : ℕ) → i < n → getD (take n (drop from xs)) i 0 ≡ getD xs (from + i) 0
 getD-part xs from n i h = getD-take n (drop from xs) i 0 h ∙ getD-drop from xs i 0
-
-getD-xor : (xs ys : List ℕ) (i : ℕ) → i < length xs → i < length ys → getD (xorBytes xs ys) i 0 ≡ bitXor (getD xs i 0) (getD ys i 0)
-getD-xor [] ys i h k = absurd (omega arith)
-getD-xor (x ∷ xs) [] i h k = absurd (omega arith)
-getD-xor (x ∷ xs) (y ∷ ys) zero h k = refl
-getD-xor (x ∷ xs) (y ∷ ys) (suc i) h k = getD-xor xs ys i (omega arith) (omega arith)
 
 -- a part changed in place, as code leaves it
 pub part-changed : (xs ys : List ℕ) (from n : ℕ) → length ys ≡ n → take from xs ++ (ys ++ drop n (drop from xs)) ≡ overlay xs from ys
@@ -85,21 +79,55 @@ module _ (xs : List ℕ) (to : ℕ) (src : List ℕ) (i : ℕ) (ys : List ℕ) (
 
 -- one turn of each loop
 module _ (xs : List ℕ) (to from n : ℕ) (ht : to + n ≤ length xs) (hf : from + n ≤ length xs) (apart : Apart to from n) (i : ℕ) (ys : List ℕ) (h : i < n) where
+  -- what it reads of the two parts
+  abbrev here : List ℕ
+  here = take n (drop to xs)
+
+  abbrev there : List ℕ
+  there = take n (drop from xs)
+
+  read-here : (src : List ℕ) → length src ≡ n → Copied xs to src i ys → getD ys (to + i) 0 ≡ getD here i 0
+  read-here src l c = copied-past xs to src i ys (omega arith) c (to + i) (omega arith) ∙ sym (getD-part xs to n i h)
+
+  read-there : (src : List ℕ) → length src ≡ n → Copied xs to src i ys → getD ys (from + i) 0 ≡ getD there i 0
+  read-there src l c = copied-apart xs to src i ys (omega arith) c from n h apart ∙ sym (getD-part xs from n i h)
+
   pub copied-within : Copied xs to (take n (drop from xs)) i ys → Copied xs to (take n (drop from xs)) (i + 1) (set ys (to + i) (getD ys (from + i) 0))
   copied-within c =
       let l = part-long xs from n hf in
-      let e : getD ys (from + i) 0 ≡ getD (take n (drop from xs)) i 0 = copied-apart xs to (take n (drop from xs)) i ys (omega arith) c from n h apart ∙ sym (getD-part xs from n i h) in
-      rw e (copied-next xs to (take n (drop from xs)) i ys (omega arith) (omega arith) c)
+      rw (read-there there l c) (copied-next xs to there i ys (omega arith) (omega arith) c)
 
   abbrev added : List ℕ
   added = xorBytes (take n (drop to xs)) (take n (drop from xs))
 
+  added-long : length added ≡ n
+  added-long = length-xor here there (omega (arith, part-long xs to n ht, part-long xs from n hf)) ∙ part-long xs to n ht
+
+  added-at : getD added i 0 ≡ bitXor (getD here i 0) (getD there i 0)
+  added-at = getD-xor here there i (omega (arith, part-long xs to n ht)) (omega (arith, part-long xs from n hf))
+
   pub added-within : Copied xs to added i ys → Copied xs to added (i + 1) (set ys (to + i) (bitXor (getD ys (to + i) 0) (getD ys (from + i) 0)))
   added-within c =
-      let a = part-long xs to n ht in
-      let b = part-long xs from n hf in
-      let l : length added ≡ n = length-xor (take n (drop to xs)) (take n (drop from xs)) (omega arith) ∙ a in
-      let e : bitXor (getD ys (to + i) 0) (getD ys (from + i) 0) ≡ getD added i 0 =
-      ap₂ bitXor (copied-past xs to added i ys (omega arith) c (to + i) (omega arith) ∙ sym (getD-part xs to n i h)) (copied-apart xs to added i ys (omega arith) c from n h apart ∙ sym (getD-part xs from n i h))
-      ∙ sym (getD-xor (take n (drop to xs)) (take n (drop from xs)) i (omega arith) (omega arith)) in
+      let l = added-long in
+      let e : bitXor (getD ys (to + i) 0) (getD ys (from + i) 0) ≡ getD added i 0 = ap₂ bitXor (read-here added l c) (read-there added l c) ∙ sym added-at in
       rw e (copied-next xs to added i ys (omega arith) (omega arith) c)
+
+  -- with a source of its own besides
+  module _ (src : List ℕ) (ls : length src ≡ n) where
+    pub laid-with : Copied xs to (xorBytes (take n (drop from xs)) src) i ys → Copied xs to (xorBytes (take n (drop from xs)) src) (i + 1) (set ys (to + i) (bitXor (getD ys (from + i) 0) (getD src i 0)))
+    laid-with c =
+        let b = part-long xs from n hf in
+        let t = xorBytes there src in
+        let l : length t ≡ n = length-xor there src (omega arith) ∙ b in
+        let e : bitXor (getD ys (from + i) 0) (getD src i 0) ≡ getD t i 0 = ap (λ (x : ℕ). bitXor x (getD src i 0)) (read-there t l c) ∙ sym (getD-xor there src i (omega arith) (omega arith)) in
+        rw e (copied-next xs to t i ys (omega arith) (omega arith) c)
+
+    pub added-with : Copied xs to (xorBytes added src) i ys → Copied xs to (xorBytes added src) (i + 1) (set ys (to + i) (bitXor (getD ys (to + i) 0) (bitXor (getD ys (from + i) 0) (getD src i 0))))
+    added-with c =
+        let a = added-long in
+        let t = xorBytes added src in
+        let l : length t ≡ n = length-xor added src (omega arith) ∙ a in
+        let e : bitXor (getD ys (to + i) 0) (bitXor (getD ys (from + i) 0) (getD src i 0)) ≡ getD t i 0 =
+        ap₂ (λ (x y : ℕ). bitXor x (bitXor y (getD src i 0))) (read-here t l c) (read-there t l c)
+        ∙ sym (xor-assoc (getD here i 0) (getD there i 0) (getD src i 0)) ∙ ap (λ (x : ℕ). bitXor x (getD src i 0)) (sym added-at) ∙ sym (getD-xor added src i (omega arith) (omega arith)) in
+        rw e (copied-next xs to t i ys (omega arith) (omega arith) c)

@@ -146,6 +146,22 @@ xor-part-suc (x ∷ xs) [] i h k = absurd (omega arith)
 xor-part-suc (x ∷ xs) (y ∷ ys) zero h k = ap (λ (l : List ℕ). bitXor x y ∷ l) (sym (xor-nil xs))
 xor-part-suc (x ∷ xs) (y ∷ ys) (suc i) h k = ap (λ (l : List ℕ). bitXor x y ∷ l) (xor-part-suc xs ys i (omega arith) (omega arith))
 
+pub getD-xor : (xs ys : List ℕ) (i : ℕ) → i < length xs → i < length ys → getD (xorBytes xs ys) i 0 ≡ bitXor (getD xs i 0) (getD ys i 0)
+getD-xor [] ys i h k = absurd (omega arith)
+getD-xor (x ∷ xs) [] i h k = absurd (omega arith)
+getD-xor (x ∷ xs) (y ∷ ys) zero h k = refl
+getD-xor (x ∷ xs) (y ∷ ys) (suc i) h k = getD-xor xs ys i (omega arith) (omega arith)
+
+-- three sources in one pass: the byte that a loop adds at i
+pub xor-three-at : (xs ys zs : List ℕ) (i : ℕ) → length ys ≡ length xs → length zs ≡ length xs → i < length xs
+    → bitXor (getD xs i 0) (bitXor (getD ys i 0) (getD zs i 0)) ≡ getD (xorBytes xs (xorBytes ys zs)) i 0
+xor-three-at xs ys zs i e f h =
+    let l = length-xor ys zs (omega arith) in
+    sym (getD-xor xs (xorBytes ys zs) i h (omega arith) ∙ ap (bitXor (getD xs i 0)) (getD-xor ys zs i (omega arith) (omega arith)))
+
+pub xor-three-long : (xs ys zs : List ℕ) → length ys ≡ length xs → length zs ≡ length xs → length (xorBytes xs (xorBytes ys zs)) ≡ length xs
+xor-three-long xs ys zs e f = length-xor xs (xorBytes ys zs) (let l = length-xor ys zs (omega arith) in omega arith)
+
 -- a loop over the units of a row that begins with zeros
 pub xor-row-suc : (z : List ℕ) (f : ℕ → List ℕ) (k : ℕ) → xorBytes (xorBytes z (xorBelow f k)) (f k) ≡ xorBytes z (xorBelow f (suc k))
 xor-row-suc z f k = xor-bytes-assoc z (xorBelow f k) (f k)

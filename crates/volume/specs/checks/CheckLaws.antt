@@ -9,7 +9,7 @@ use mathlib.Core.List.{List, [], _∷_, _++_}
 use lib.ListN.{length, getD, replicate, List·getD-append}
 use lib.Seq.{getD-append-add}
 use lib.Dec.{ltb, eqb}
-use borrow.Author.Tests.{lt-ltb, le-ltb}
+use borrow.Author.Tests.{lt-ltb, le-ltb, eq-eqb, eqb-true}
 use Rattle.tables.specs.declared.Geometry.{Geometry}
 use Rattle.tables.specs.meaning.Basics.{pick}
 use Rattle.tables.specs.laws.Basics.{and-split}
@@ -17,7 +17,7 @@ use Rattle.tables.specs.meaning.Below.{countBelow, tabulate}
 use Rattle.tables.specs.laws.Below.{length-tabulate, getD-tabulate}
 use Rattle.tables.specs.meaning.Drives.{findBelow}
 use Rattle.volume.specs.meaning.Answers.{lostIn}
-use Rattle.tables.specs.meaning.Geometry.{Valid}
+use Rattle.tables.specs.meaning.Geometry.{Valid, cells, totalBytes}
 use Rattle.tables.specs.meaning.GeometryTest.{isValid}
 use Rattle.tables.specs.laws.GeometryTest.{valid-if-test, first-if-test}
 use Rattle.tables.specs.meaning.Tables.{lengthsFit, bufferFits, pointersBad}
@@ -160,6 +160,49 @@ module _ (g : Geometry) (named : List Bool) (within : Bool) (lost count bytes se
       → countBelow (λ d. not (isSet (presentList g named lost) d)) (g .drives) ≤ 1 → 0 ≡ openingFrom g named within lost count bytes sectors ws ds
   unfolding openingFrom
   opening-0 a b c d = rw (a, b, c, le-ltb 1 (countBelow (λ e. not (isSet (presentList g named lost) e)) (g .drives)) d) refl
+
+-- ---- the same where the tables of pointers have their lengths, by what refusal 3 found
+unfoldable pub openedFrom : Geometry → List Bool → ℕ → ℕ → ℕ → ℕ → Bool → ℕ
+openedFrom g named lost count bytes sectors bad = verdictNumber (firstRefusal ((2, not (eqb sectors (totalBytes g) && bufferFits g count bytes)) ∷ (3, bad) ∷ (4, ltb 1 (countBelow (λ d. not (isSet (presentList g named lost) d)) (g .drives))) ∷ []))
+
+-- what passing them gives
+pub record Opens (g : Geometry) (named : List Bool) (lost count bytes sectors : ℕ) (bad : Bool) : Type 0 where
+  pub sectors-long : sectors ≡ totalBytes g
+  pub buffer : bufferFits g count bytes ≡ true
+  pub good : bad ≡ false
+  pub one-absent : ltb 1 (countBelow (λ d. not (isSet (presentList g named lost) d)) (g .drives)) ≡ false
+
+three : (a b c : Bool) → verdictNumber (firstRefusal ((2, not a) ∷ (3, b) ∷ (4, c) ∷ [])) ≡ 0 → (a ≡ true) × (b ≡ false) × (c ≡ false)
+three true false false h = (refl, refl, refl)
+three true false true h = absurd (omega arith)
+three true true c h = absurd (omega arith)
+three false b c h = absurd (omega arith)
+
+pub opens : (g : Geometry) (named : List Bool) (lost count bytes sectors : ℕ) (bad : Bool) → openedFrom g named lost count bytes sectors bad ≡ 0 → Opens g named lost count bytes sectors bad
+unfolding openedFrom
+opens g named lost count bytes sectors bad h =
+    let (p, q, r) = three (eqb sectors (totalBytes g) && bufferFits g count bytes) bad (ltb 1 (countBelow (λ d. not (isSet (presentList g named lost) d)) (g .drives))) h in
+    let (l, b) = and-split (eqb sectors (totalBytes g)) (bufferFits g count bytes) p in
+    record { sectors-long = eqb-true sectors (totalBytes g) l; buffer = b; good = q; one-absent = r }
+
+pub and-true : (b : Bool) → b && true ≡ b
+and-true true = refl
+and-true false = refl
+
+pub opened-from : (g : Geometry) (named : List Bool) (within : Bool) (lost count bytes sectors : ℕ) (ws ds : List ℕ) → within ≡ true → length ws ≡ cells g → length ds ≡ cells g
+    → openedFrom g named lost count bytes sectors (pointersBad g named ws ds) ≡ openingFrom g named within lost count bytes sectors ws ds
+unfolding openedFrom openingFrom lengthsFit
+opened-from g named within lost count bytes sectors ws ds a x y =
+    rw (a, eq-eqb (length ws) (cells g) x, eq-eqb (length ds) (cells g) y, and-true (eqb sectors (totalBytes g))) refl
+
+-- a table of pointers of another length is refusal 2
+pub lengths-differ : (g : Geometry) (sectors count bytes : ℕ) (ws ds : List ℕ) → eqb (length ws) (cells g) && eqb (length ds) (cells g) ≡ false → lengthsFit g sectors (length ws) (length ds) && bufferFits g count bytes ≡ false
+unfolding lengthsFit
+lengths-differ g sectors count bytes ws ds e = rw e (go (eqb sectors (totalBytes g)))
+  where
+    go : (b : Bool) → (b && false) && bufferFits g count bytes ≡ false
+    go true = refl
+    go false = refl
 
 -- ---- a call's refusal is that of these four, or that of its other rows
 pub after-four : (a b c d : Bool) (rest : List (ℕ × Bool)) → verdictNumber (firstRefusal ((1, a) ∷ (2, b) ∷ (3, c) ∷ (4, d) ∷ rest))

@@ -1,7 +1,7 @@
 -- The value of a sector by each of the three ways, as the code makes it: that it is rule 4's.
 use mathlib.Core.Path.{_≡_, refl, sym, ap, ap₂, _∙_}
 use mathlib.Core.Logic.{_≢_, _⊎_, inl, inr}
-use mathlib.Core.Bool.{Bool, true, false, _&&_, _||_, true≢false}
+use mathlib.Core.Bool.{Bool, true, false, _&&_, true≢false}
 use Prim.Native.Nat.{ℕ, zero, suc, _+_, _-_, _*_, _≤_, _<_, min}
 use native.Mathlib.Omega.{arith}
 use mathlib.Core.List.{List, []}
@@ -9,7 +9,7 @@ use lib.ListN.{length, getD, drop, length-drop}
 use lib.Seq.{getD-take, getD-drop, length-take-le}
 use lib.Arith.{digits-lt}
 use lib.Dec.{ltb, leb, eqb}
-use borrow.Author.Tests.{lt-ltb, le-ltb, ltb-true, leb-true, leb-false, eq-eqb, ne-eqb}
+use borrow.Author.Tests.{lt-ltb, ltb-true, eq-eqb, ne-eqb}
 use Rattle.tables.specs.declared.Geometry.{Geometry}
 use Rattle.tables.specs.meaning.Basics.{pick}
 use Rattle.tables.specs.laws.Basics.{and-split}
@@ -21,7 +21,7 @@ use Rattle.tables.specs.laws.Sizes.{zone-stripes}
 use Rattle.tables.specs.meaning.Tables.{cell, sectorAt}
 use Rattle.tables.specs.laws.Tables.{sector-in}
 use Rattle.tables.specs.meaning.Xor.{xorBytes, xorBelow, without}
-use Rattle.tables.specs.laws.Xor.{xor-nil, xor-bytes-assoc, xor-below-cong}
+use Rattle.tables.specs.laws.Xor.{xor-below-cong}
 use Rattle.logs.specs.meaning.Entry.{Header, label, counters, zoneReset, partialParity, seal, closing, Entry, parityZone, rowsOf, Decoded, decode, legal, fitsLog}
 use Rattle.logs.specs.laws.Entry.{decode-legal}
 use Rattle.logs.specs.code.Judge.{seen, partial-small}
@@ -53,29 +53,6 @@ sector-long g xs d y i e hd hy hi = length-take-le (g .sector) (drop ((cell g d 
 pub own-long : (g : Geometry) (xs : List ℕ) (z a : ℕ) → Valid g → z < g .zones → a < zoneSectors g → length xs ≡ totalBytes g → length (ownSector g xs z a) ≡ g .sector
 own-long g xs z a ok hz ha e =
     sector-long g xs (driveOf (g .drives) (g .unit) z a) (dataZone z) (sectorOf (g .drives) (g .unit) a) e (drive-below (g .drives) (g .unit) z (omega (arith, ok .drives-least)) (ok .unit-least) a) (omega (arith, hz)) (sector-within g a ok ha)
-
--- ---- the loop over a row: one more unit, skipped if it is the sector's own or not below the end
-pub row-more : (zs : List ℕ) (s : ℕ → List ℕ) (f : ℕ → ℕ) (e i k : ℕ)
-    → pick (eqb k i || leb e (f k)) (xorBytes zs (xorBelow (without (λ m. pick (ltb (f m) e) (s m) []) i) k)) (xorBytes (xorBytes zs (xorBelow (without (λ m. pick (ltb (f m) e) (s m) []) i) k)) (s k))
-    ≡ xorBytes zs (xorBelow (without (λ m. pick (ltb (f m) e) (s m) []) i) (suc k))
-row-more zs s f e i k = go (eqb k i) refl (leb e (f k)) refl
-  where
-    h : ℕ → List ℕ
-    h = λ m. pick (ltb (f m) e) (s m) []
-
-    acc : List ℕ
-    acc = xorBelow (without (λ m. pick (ltb (f m) e) (s m) []) i) k
-
-    none : without (λ m. pick (ltb (f m) e) (s m) []) i k ≡ [] → xorBytes zs acc ≡ xorBytes zs (xorBytes acc (without (λ m. pick (ltb (f m) e) (s m) []) i k))
-    none q = sym (ap (λ (l : List ℕ). xorBytes zs (xorBytes acc l)) q ∙ ap (xorBytes zs) (xor-nil acc))
-
-    go : (b : Bool) → eqb k i ≡ b → (c : Bool) → leb e (f k) ≡ c → pick (b || c) (xorBytes zs acc) (xorBytes (xorBytes zs acc) (s k)) ≡ xorBytes zs (xorBytes acc (without (λ m. pick (ltb (f m) e) (s m) []) i k))
-    go true q c t = none (rw (q, without) refl)
-    go false q true t = none (let w : without h i k ≡ h k = rw (q, without) refl in w ∙ ap (λ (b : Bool). pick b (s k) []) (le-ltb (f k) e (leb-true e (f k) t)))
-    go false q false t =
-        let w : without h i k ≡ h k = rw (q, without) refl in
-        let v : without h i k ≡ s k = w ∙ ap (λ (b : Bool). pick b (s k) []) (lt-ltb (f k) e (leb-false e (f k) t)) in
-        xor-bytes-assoc zs acc (s k) ∙ sym (ap (λ (l : List ℕ). xorBytes zs (xorBytes acc l)) v)
 
 -- ---- headers
 end-seen : (g : Geometry) (h : Header) → endSeen g (seen h) ≡ endIn g h

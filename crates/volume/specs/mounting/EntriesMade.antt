@@ -21,15 +21,16 @@ use Rattle.logs.specs.meaning.Heads.{endsAt}
 use Rattle.logs.specs.meaning.Walk.{sectorsOf}
 use Rattle.volume.specs.declared.Look.{Look}
 use Rattle.volume.specs.declared.roles.LogPlaces.{LogPlaces}
-use Rattle.volume.specs.declared.emptyings.Emptyings.{Emptyings}
 use Rattle.volume.specs.declared.mount_rooms.Plan.{Plan}
+use Rattle.volume.specs.declared.mount_plan.Course.{Course}
+use Rattle.volume.specs.declared.Basis.{Basis}
 use Rattle.volume.specs.meaning.Content.{insideStripe, parityDriveAt, entryAt}
 use Rattle.volume.specs.meaning.Calls.{appendAll}
 use Rattle.volume.specs.meaning.CallContracts.{isSet, seenIn, storesBefore, storesToParityLogs, mountStoresOn}
 use Rattle.volume.specs.meaning.Rules.{Shown, showing, parityEntries}
 use Rattle.volume.specs.meaning.Roles.{placedBy}
 use Rattle.volume.specs.meaning.Mount.{withFlush, entryStep, phasesOfEntries}
-use Rattle.volume.specs.laws.LogPlaces.{withLogs, withRoles, logsOf, valid-with-logs, OnDrives}
+use Rattle.volume.specs.laws.LogPlaces.{withLogs, withRoles, logsOf, OnDrives}
 use Rattle.volume.specs.laws.RulesUnread.{entries-alike}
 use Rattle.volume.specs.laws.CallsUnread.{entry-step-alike}
 use Rattle.volume.specs.laws.MountDepends.{entry-depends}
@@ -44,11 +45,11 @@ use Rattle.volume.specs.mounting.MountValues.{shownAt, shownIn}
 use Rattle.volume.specs.mounting.MountRestoring.{below-kept}
 use Rattle.volume.specs.mounting.MountLastEntries.{Entering, entryDue, entryStoresBelow}
 use Rattle.volume.specs.mounting.RestoreAgrees.{entries-told}
-use Rattle.volume.specs.mounting.MountRooms.{lostAmong, generationsIn, pointersIn, placesAfter, Planned}
+use Rattle.volume.specs.mounting.MountRooms.{lostAmong, generationsIn, pointersIn, Planned}
 use Rattle.volume.specs.mounting.MountBetween.{middlePlaces, Between, Before}
 use Rattle.volume.specs.mounting.MountOpened.{made-spent}
 use Rattle.volume.specs.mounting.MountJoined.{with-flush-on, entry-phases, parity-joined, mount-joined}
-use Rattle.volume.specs.mounting.MountEnds.{endPlaces, parityEmptyings, ParityStepMade, EndsReady, EndsMade}
+use Rattle.volume.specs.mounting.MountEnds.{endPlaces, parityEmptyings, courseOf, ParityStepMade, EndsReady, EndsMade}
 use Rattle.volume.specs.mounting.PlannedPlaces.{middleOf, middle-geometry, places-valid, middle-valid, middle-cells}
 use Rattle.volume.specs.mounting.ParityLogsMade.{role-read, endOf, end-proper, end-kinds, end-is, to-is, startsOf, parities-ready, parity-step-made}
 
@@ -81,12 +82,12 @@ entries-by g l m k value v =
     ap (λ (es : ℕ → List Entry). entryStoresBelow (withLogs g l) k (shownWith k value) es (g .drives)) (fun-ext λ d. entries-alike g m v d ∙ sym (entries-alike g l v d))
     ∙ entry-step-alike g l (shownWith k value) v
 
--- what the code's step has made, with the logs at the places m before step 10 and at e after it (ss: the pointers by which the entries are asked for)
-abbrev EntriesBy : Plan → List ℕ → ℕ → ℕ → Tables → Tables → LogPlaces → LogPlaces → List ℕ → Type 0
-EntriesBy p ps budget rest t u m e ss =
-    let shown = shownAt (m .geometry) (p .here) (p .look) (t .sectors) ps in
-    let entries = parityEntries (e .geometry) (readDevice (e .geometry) (t .sectors) ss) in
-    Made (e .geometry) budget rest (concat (withFlush (m .geometry) (isSet (p .here)) (entryStoresBelow (m .geometry) (p .look) shown entries (m .geometry .drives)))) t u
+-- what the code's step has made by the basis b, with the logs at the places e after step 10
+abbrev EntriesBy : Basis → List ℕ → ℕ → ℕ → Tables → Tables → LogPlaces → Type 0
+EntriesBy b ps budget rest t u e =
+    let shown = shownAt (b .geometry) (b .here) (b .look) (t .sectors) ps in
+    let entries = parityEntries (e .geometry) (readDevice (e .geometry) (t .sectors) (hiddenLogs e (t .written) (e .geometry .drives))) in
+    Made (e .geometry) budget rest (concat (withFlush (b .geometry) (isSet (b .here)) (entryStoresBelow (b .geometry) (b .look) shown entries (b .geometry .drives)))) t u
 
 module _ (g : Geometry) (t : Tables) (p : Plan) (start : List ℕ) (k : Planned g t p start) (ok : Valid g) (ps : List ℕ) (u : Tables) (b : Between g t p ps u)
     (ss : List ℕ) (mid rest : ℕ) (v : Tables) (s : ParityStepMade (parityEmptyings p) (p .look) ps ss mid rest u v) where
@@ -155,7 +156,7 @@ module _ (g : Geometry) (t : Tables) (p : Plan) (start : List ℕ) (k : Planned 
       ∙ entry-depends g a read last same-on shown
 
   -- STEP 11 IS MADE
-  entries-made : (end : ℕ) (w : Tables) → EntriesBy p ps rest end v w (middlePlaces p) (endPlaces p) endStarts
+  entries-made : (end : ℕ) (w : Tables) → EntriesBy (courseOf p .basis) ps rest end v w (endPlaces p)
       → Made g rest end (concat (phasesOfEntries g (isSet (p .here)) (lostAmong g (p .here)) (deviceOf g t) (deviceOf g v))) v w
   entries-made end w m =
       let q = endOf g t p start k in
@@ -188,28 +189,17 @@ module _ (g : Geometry) (t : Tables) (p : Plan) (start : List ℕ) (k : Planned 
 pub before-stopped : (g : Geometry) (a : ℕ → Bool) (x : ℕ) (t : Tables) (budget : ℕ) (u : Tables) → Made g budget 0 (storesBefore g a x t) t u → Made g budget 0 (mountStoresOn g a x t) t u
 before-stopped g a x t budget u m = mount-joined g a x t budget 0 0 u u (parity-joined g a x t budget 0 0 u u m (made-spent g _ u)) (made-spent g _ u)
 
--- ---- AS THE CODE HAS IT: places m and e of the logs before and after step 10, pointers ss of the moment before it
-abbrev emptyingsAt : Plan → LogPlaces → LogPlaces → Emptyings
-emptyingsAt p m e = record { from = m .geometry; to = e .geometry; here = p .here; emptied = p .parity .emptied; generations = p .parity .generations }
-
-pub record CodePlaces (p : Plan) (ws : List ℕ) (m e : LogPlaces) (ss : List ℕ) : Type 0 where
-  pub middle : m ≡ middlePlaces p
-  pub end : e ≡ placesAfter m true (p .parity .emptied)
-  pub starts : ss ≡ hiddenLogs m ws (m .geometry .drives)
-
-module _ (p : Plan) (ws : List ℕ) (m e : LogPlaces) (ss : List ℕ) (c : CodePlaces p ws m e ss) where
-  end-of : e ≡ endPlaces p
-  end-of = c .end ∙ ap (λ (x : LogPlaces). placesAfter x true (p .parity .emptied)) (c .middle)
-
+-- ---- AS THE CODE HAS IT: what it goes by (q), pointers ss of the moment before step 10
+module _ (p : Plan) (q : Course) (e : q ≡ courseOf p) (ws ss : List ℕ) (h : ss ≡ hiddenLogs (q .middle) ws (q .middle .geometry .drives)) where
   starts-of : ss ≡ hiddenLogs (middlePlaces p) ws (middlePlaces p .geometry .drives)
-  starts-of = c .starts ∙ ap (λ (x : LogPlaces). hiddenLogs x ws (x .geometry .drives)) (c .middle)
+  starts-of = h ∙ ap (λ (x : Course). hiddenLogs (x .middle) ws (x .middle .geometry .drives)) e
 
-  -- what holds of the plan's places holds of the code's, and the other way round
-  to-code : (P : LogPlaces → LogPlaces → List ℕ → Type 0) → P (middlePlaces p) (endPlaces p) (hiddenLogs (middlePlaces p) ws (middlePlaces p .geometry .drives)) → P m e ss
-  to-code P h = subst (λ (x : LogPlaces). P x e ss) (sym (c .middle)) (subst (λ (x : LogPlaces). P (middlePlaces p) x ss) (sym end-of) (subst (P (middlePlaces p) (endPlaces p)) (sym starts-of) h))
+  -- what holds by the plan holds by the code, and the other way round
+  to-code : (P : Course → List ℕ → Type 0) → P (courseOf p) (hiddenLogs (middlePlaces p) ws (middlePlaces p .geometry .drives)) → P q ss
+  to-code P x = subst (λ (y : Course). P y ss) (sym e) (subst (P (courseOf p)) (sym starts-of) x)
 
-  from-code : (P : LogPlaces → LogPlaces → List ℕ → Type 0) → P m e ss → P (middlePlaces p) (endPlaces p) (hiddenLogs (middlePlaces p) ws (middlePlaces p .geometry .drives))
-  from-code P h = subst (P (middlePlaces p) (endPlaces p)) starts-of (subst (λ (x : LogPlaces). P (middlePlaces p) x ss) end-of (subst (λ (x : LogPlaces). P x e ss) (c .middle) h))
+  from-code : (P : Course → List ℕ → Type 0) → P q ss → P (courseOf p) (hiddenLogs (middlePlaces p) ws (middlePlaces p .geometry .drives))
+  from-code P x = subst (P (courseOf p)) starts-of (subst (λ (y : Course). P y ss) e x)
 
 module _ (g : Geometry) (ok : Valid g) (p : Plan) (ps : List ℕ) (u : Tables) (r : EndsReady g p ps u) where
   pub valid-places : Valid (p .places .geometry)
@@ -221,44 +211,41 @@ module _ (g : Geometry) (ok : Valid g) (p : Plan) (ps : List ℕ) (u : Tables) (
   cells-are : cells (middlePlaces p .geometry) ≡ cells g
   cells-are = middle-cells g ok (r .met) p (r .start) (r .planned)
 
-  -- what the copies of the written pointers rely on (zs: their scratch)
-  pub hiding-at : (m : LogPlaces) (zs : List ℕ) → m ≡ middlePlaces p → length zs ≡ cells g → Valid (m .geometry) × ((length (u .written) ≡ cells (m .geometry)) × (length zs ≡ cells (m .geometry)))
-  hiding-at m zs q l =
-      subst (λ (x : LogPlaces). Valid (x .geometry) × ((length (u .written) ≡ cells (x .geometry)) × (length zs ≡ cells (x .geometry)))) (sym q) (valid-middle, (r .between .restoring .logging .written-long, l ∙ sym cells-are))
+  module _ (q : Course) (e : q ≡ courseOf p) where
+    -- what the copy of the written pointers relies on (zs: its scratch)
+    pub hiding-at : (zs : List ℕ) → length zs ≡ cells g → Valid (q .middle .geometry) × ((length (u .written) ≡ cells (q .middle .geometry)) × (length zs ≡ cells (q .middle .geometry)))
+    hiding-at zs l =
+        subst (λ (x : Course). Valid (x .middle .geometry) × ((length (u .written) ≡ cells (x .middle .geometry)) × (length zs ≡ cells (x .middle .geometry)))) (sym e) (valid-middle, (r .between .restoring .logging .written-long, l ∙ sym cells-are))
 
-  module _ (m e : LogPlaces) (ss : List ℕ) (c : CodePlaces p (u .written) m e ss) where
-    abbrev asked : LogPlaces → LogPlaces → List ℕ → Type 0
-    asked x y zs = Valid (x .geometry) × ParitiesReady (emptyingsAt p x y) (generationsIn (p .look)) (pointersIn (p .look)) ps zs (u .sectors) (u .written) (u .durable)
+    module _ (ss : List ℕ) (h : ss ≡ hiddenLogs (q .middle) (u .written) (q .middle .geometry .drives)) where
+      abbrev asked : Course → List ℕ → Type 0
+      asked x zs = Valid (x .parity .from) × ParitiesReady (x .parity) (generationsIn (p .look)) (pointersIn (p .look)) ps zs (u .sectors) (u .written) (u .durable)
 
-    -- STEP 10
-    pub ready-at : asked m e ss
-    ready-at = to-code p (u .written) m e ss c asked (valid-middle, parities-ready g (r .met) p (r .start) (r .planned) ok ps u (r .between))
+      -- STEP 10
+      pub ready-at : asked q ss
+      ready-at = to-code p q e (u .written) ss h asked (valid-middle, parities-ready g (r .met) p (r .start) (r .planned) ok ps u (r .between))
 
-    module _ (mid rest : ℕ) (v : Tables) (s : ParityStepMade (emptyingsAt p m e) (p .look) ps ss mid rest u v) where
-      step-at : ParityStepMade (parityEmptyings p) (p .look) ps (hiddenLogs (middlePlaces p) (u .written) (middlePlaces p .geometry .drives)) mid rest u v
-      step-at = from-code p (u .written) m e ss c (λ x y zs. ParityStepMade (emptyingsAt p x y) (p .look) ps zs mid rest u v) s
+      module _ (mid rest : ℕ) (v : Tables) (s : ParityStepMade (q .parity) (p .look) ps ss mid rest u v) where
+        step-at : ParityStepMade (parityEmptyings p) (p .look) ps (hiddenLogs (middlePlaces p) (u .written) (middlePlaces p .geometry .drives)) mid rest u v
+        step-at = from-code p q e (u .written) ss h (λ x zs. ParityStepMade (x .parity) (p .look) ps zs mid rest u v) s
 
-      pub hiding-end : (zs : List ℕ) → length zs ≡ cells g → Valid (e .geometry) × ((length (v .written) ≡ cells (e .geometry)) × (length zs ≡ cells (e .geometry)))
-      hiding-end zs l =
-          let h = middlePlaces p .geometry in
-          subst (λ (x : LogPlaces). Valid (x .geometry) × ((length (v .written) ≡ cells (x .geometry)) × (length zs ≡ cells (x .geometry)))) (sym (end-of p (u .written) m e ss c))
-          (valid-with-logs h (endPlaces p .geometry .logs) valid-middle, (step-at .sized .written-long, l ∙ sym cells-are))
+        -- where the budget ends with it
+        pub ends-stopped : rest ≡ 0 → EndsMade g p ps mid 0 u v
+        ends-stopped z = record { whole = λ t start budget k before b. whole-stopped g t p start k ok ps u b budget mid before v (subst (λ (n : ℕ). ParityStepMade (parityEmptyings p) (p .look) ps (startsOf g t p start k ok ps u b) mid n u v) z step-at) }
 
-      -- where the budget ends with it
-      pub ends-stopped : rest ≡ 0 → EndsMade g p ps mid 0 u v
-      ends-stopped z = record { whole = λ t start budget k before b. whole-stopped g t p start k ok ps u b budget mid before v (subst (λ (n : ℕ). ParityStepMade (parityEmptyings p) (p .look) ps (startsOf g t p start k ok ps u b) mid n u v) z step-at) }
+        -- STEP 11 (zs: its scratch)
+        abbrev entering : Course → List ℕ → Type 0
+        entering x zs = Valid (x .basis .geometry) × (Entering (x .basis .geometry) (x .end .geometry) (x .basis .here) (x .basis .look) ps (hiddenLogs (x .end) (v .written) (x .end .geometry .drives)) (v .sectors) (v .written)
+            × ((length (v .durable) ≡ cells (x .basis .geometry)) × (length zs ≡ cells (x .basis .geometry))))
 
-      -- STEP 11 (zs: the pointers of the moment before it)
-      module _ (zs : List ℕ) (q : zs ≡ hiddenLogs e (v .written) (e .geometry .drives)) where
-        abbrev entering : LogPlaces → LogPlaces → List ℕ → Type 0
-        entering x y us = Valid (x .geometry) × (Entering (x .geometry) (y .geometry) (p .here) (p .look) ps (hiddenLogs y (v .written) (y .geometry .drives)) (v .sectors) (v .written) × (length (v .durable) ≡ cells (x .geometry)))
+        pub entering-at : (zs : List ℕ) → length zs ≡ cells g → entering q zs
+        entering-at zs l =
+            subst (λ (x : Course). entering x zs) (sym e) (valid-middle, (entering-after g (r .met) p (r .start) (r .planned) ok ps u (r .between) _ mid rest v step-at, (step-at .sized .durable-long, l ∙ sym cells-are)))
 
-        pub entering-at : Valid (m .geometry) × (Entering (m .geometry) (e .geometry) (p .here) (p .look) ps zs (v .sectors) (v .written) × (length (v .durable) ≡ cells (m .geometry)))
-        entering-at =
-            subst (λ (us : List ℕ). Valid (m .geometry) × (Entering (m .geometry) (e .geometry) (p .here) (p .look) ps us (v .sectors) (v .written) × (length (v .durable) ≡ cells (m .geometry)))) (sym q)
-            (to-code p (u .written) m e ss c entering (valid-middle, (entering-after g (r .met) p (r .start) (r .planned) ok ps u (r .between) _ mid rest v step-at, step-at .sized .durable-long)))
+        abbrev entered : Course → ℕ → Tables → Type 0
+        entered x end w = EntriesBy (x .basis) ps rest end v w (x .end)
 
-        pub ends-made : (end : ℕ) (w : Tables) → EntriesBy p ps rest end v w m e zs → EndsMade g p ps mid end u w
+        pub ends-made : (end : ℕ) (w : Tables) → entered q end w → EndsMade g p ps mid end u w
         ends-made end w n =
-            let n′ = from-code p (u .written) m e ss c (λ x y us. EntriesBy p ps rest end v w x y (hiddenLogs y (v .written) (y .geometry .drives))) (subst (EntriesBy p ps rest end v w m e) q n) in
+            let n′ = subst (λ (x : Course). entered x end w) e n in
             record { whole = λ t start budget k before b. whole-made g t p start k ok ps u b budget mid before rest end v w step-at (entries-made g t p start k ok ps u b _ mid rest v step-at end w n′) }

@@ -17,6 +17,7 @@ use Rattle.volume.specs.declared.Look.{Look}
 use Rattle.volume.specs.declared.roles.LogPlaces.{LogPlaces}
 use Rattle.volume.specs.declared.emptyings.Emptyings.{Emptyings}
 use Rattle.volume.specs.declared.mount_rooms.Plan.{Plan}
+use Rattle.volume.specs.declared.mount_plan.Course.{Course}
 use Rattle.volume.specs.meaning.CallContracts.{isSet, mountStoresOn}
 use Rattle.volume.specs.meaning.Mount.{withFlush}
 use Rattle.volume.specs.looking.Knowing.{readDevice}
@@ -33,6 +34,16 @@ endPlaces p = placesAfter (middlePlaces p) true (p .parity .emptied)
 -- the emptyings of step 10
 abbrev pub parityEmptyings : Plan → Emptyings
 parityEmptyings p = record { from = middlePlaces p .geometry; to = endPlaces p .geometry; here = p .here; emptied = p .parity .emptied; generations = p .parity .generations }
+
+-- what the steps of a mount go by
+abbrev pub courseOf : Plan → Course
+courseOf p = record {
+  middle = middlePlaces p;
+  end = endPlaces p;
+  general = record { from = p .places .geometry; to = middlePlaces p .geometry; here = p .here; emptied = p .general .emptied; generations = p .general .generations };
+  parity = parityEmptyings p;
+  basis = record { geometry = middlePlaces p .geometry; here = p .here; look = p .look; differ = p .differ };
+}
 
 -- ---- step 10 with its flush, where the logs lie (ps: the look's pointers; ss: those of the moment)
 abbrev pub parityStores : Emptyings → Look → List ℕ → List ℕ → List ℕ → List Store

@@ -3,12 +3,12 @@
 use mathlib.Core.Path.{_≡_, refl, sym, ap, _∙_}
 use mathlib.Core.Logic.{_≢_}
 use mathlib.Core.Bool.{Bool, true, false}
-use Prim.Native.Nat.{ℕ, zero, _+_, _-_, _*_, _/_, _%_, _≤_, _<_}
+use Prim.Native.Nat.{ℕ, zero, _+_, _-_, _*_, _/_, _%_, _≤_, _<_, min}
 use native.Mathlib.Nat.{mod-lt, div-add-mod'}
 use native.Mathlib.Decide.{ℕ-discrete, decLt}
 use native.Mathlib.Omega.{arith}
 use mathlib.Core.List.{List, []}
-use lib.ListN.{length}
+use lib.ListN.{length, getD}
 use lib.Dec.{ltb}
 use borrow.Author.Tests.{eq-eqb, ne-eqb, lt-ltb}
 use Rattle.tables.specs.declared.Geometry.{Geometry}
@@ -20,7 +20,12 @@ use Rattle.tables.specs.meaning.Placement.{needed, stripeOf, stripeLength, pari
 use Rattle.tables.specs.laws.Placement.{needed-iff, needed-parity, needed-zero, complete-lt, place-onto, address-sum}
 use Rattle.tables.specs.meaning.Device.{Device, Store}
 use Rattle.tables.specs.meaning.Phases.{onPresent}
+use Rattle.tables.specs.meaning.Tables.{tablesOf, cell}
+use Rattle.tables.specs.laws.Tables.{device-length}
 use Rattle.volume.specs.declared.Look.{Look}
+use Rattle.volume.specs.declared.Basis.{Basis}
+use Rattle.volume.specs.declared.mount_fill.Missing.{Missing}
+use Rattle.volume.specs.meaning.CallContracts.{isSet}
 use Rattle.volume.specs.meaning.Content.{contentAt, rowXor, rowXorBelow}
 use Rattle.volume.specs.meaning.Calls.{appendAll}
 use Rattle.volume.specs.meaning.Rules.{Shown}
@@ -59,6 +64,51 @@ fill-idle g a s w d z h = let e : needed (g .drives) (g .unit) z (s .zone z .poi
 pub fill-made : (g : Geometry) (a : ℕ → Bool) (s : Shown) (w : Device) (d z from to : ℕ) → a d ≡ true → from ≡ length (w d (dataZone z) .sectors) → to ≡ needed (g .drives) (g .unit) z (s .zone z .pointer) d
     → onPresent a (fillZone g s w d z) ≡ rowsIf true d (dataZone z) (contentAt (g .drives) (g .unit) z (s .zone z .value) d) from to
 fill-made g a s w d z from to e p q = rw (present-all a d (dataZone z) (missing g s w d z), e, p, q) refl
+
+-- ---- what the code finds missing there: nothing where the drive is not here
+pub record MissingIn (b : Basis) (ps : List ℕ) (d z : ℕ) (m : Missing) : Type 0 where
+  pub pointer-is : m .pointer ≡ zoneLook (b .look) z .pointer
+  pub from-is : m .from ≡ pick (isSet (b .here) d) (min (getD ps (cell (b .geometry) d (dataZone z)) 0) (b .geometry .capacity)) 0
+  pub to-is : m .to ≡ pick (isSet (b .here) d) (needed (b .geometry .drives) (b .geometry .unit) z (zoneLook (b .look) z .pointer) d) 0
+
+module _ (b : Basis) (xs ps : List ℕ) (d z : ℕ) (m : Missing) (found : MissingIn b ps d z m) (hd : d < b .geometry .drives) (hz : z < b .geometry .zones) where
+  abbrev here : ℕ → Bool
+  here = isSet (b .here)
+
+  abbrev stores : List Store
+  stores = onPresent here (fillZone (b .geometry) (shownAt (b .geometry) (b .here) (b .look) xs ps) (readDevice (b .geometry) xs ps) d z)
+
+  abbrev last : ℕ
+  last = needed (b .geometry .drives) (b .geometry .unit) z (zoneLook (b .look) z .pointer) d
+
+  abbrev first : ℕ
+  first = min (getD ps (cell (b .geometry) d (dataZone z)) 0) (b .geometry .capacity)
+
+  -- the sectors that the look found there
+  there : length (readDevice (b .geometry) xs ps d (dataZone z) .sectors) ≡ first
+  there = device-length (b .geometry) (tablesOf xs ps []) d (dataZone z) hd (omega arith)
+
+  pub missing-none : m .to ≤ m .from → stores ≡ []
+  missing-none h = go (here d) refl (found .from-is) (found .to-is)
+    where
+      go : (x : Bool) → here d ≡ x → m .from ≡ pick x first 0 → m .to ≡ pick x last 0 → stores ≡ []
+      go true e p q = fill-idle (b .geometry) here (shownAt (b .geometry) (b .here) (b .look) xs ps) (readDevice (b .geometry) xs ps) d z (omega (arith, h, p, q, there))
+      go false e p q = fill-absent (b .geometry) here (shownAt (b .geometry) (b .here) (b .look) xs ps) (readDevice (b .geometry) xs ps) d z e
+
+  pub missing-to : m .from < m .to → m .to ≡ last
+  missing-to h = go (here d) (found .to-is)
+    where
+      go : (x : Bool) → m .to ≡ pick x last 0 → m .to ≡ last
+      go true q = q
+      go false q = absurd (omega (arith, h, q))
+
+  pub missing-made : m .from < m .to → stores ≡ rowsIf true d (dataZone z) (contentAt (b .geometry .drives) (b .geometry .unit) z (shownAt (b .geometry) (b .here) (b .look) xs ps .zone z .value) d) (m .from) (m .to)
+  missing-made h = go (here d) refl (found .from-is) (found .to-is)
+    where
+      go : (x : Bool) → here d ≡ x → m .from ≡ pick x first 0 → m .to ≡ pick x last 0
+          → stores ≡ rowsIf true d (dataZone z) (contentAt (b .geometry .drives) (b .geometry .unit) z (shownAt (b .geometry) (b .here) (b .look) xs ps .zone z .value) d) (m .from) (m .to)
+      go true e p q = fill-made (b .geometry) here (shownAt (b .geometry) (b .here) (b .look) xs ps) (readDevice (b .geometry) xs ps) d z (m .from) (m .to) e (p ∙ sym there) q
+      go false e p q = absurd (omega (arith, h, q))
 
 -- ---- what is missing is made of sectors below the pointer
 module _ (D U z : ℕ) (hD : 1 < D) (hU : zero < U) where

@@ -11,14 +11,16 @@ use Rattle.tables.specs.meaning.Below.{eachBelow, tabulate}
 use Rattle.tables.specs.meaning.Drives.{findBelow}
 use Rattle.tables.specs.meaning.Geometry.{physicalZones}
 use Rattle.tables.specs.meaning.Device.{Device, Store, reset}
+use Rattle.tables.specs.meaning.Phases.{onPresent}
 use Rattle.tables.specs.meaning.Tables.{Tables, cell}
-use Rattle.tables.specs.laws.Made.{WellSized}
+use Rattle.tables.specs.laws.Made.{WellSized, MadePointers}
 use Rattle.logs.specs.meaning.Entry.{spareZone}
 use Rattle.volume.specs.declared.Look.{Look}
 use Rattle.volume.specs.declared.roles.LogPlaces.{LogPlaces}
 use Rattle.volume.specs.declared.log_room.LogRoom.{LogRoom}
 use Rattle.volume.specs.declared.mount_rooms.Plan.{Plan}
 use Rattle.volume.specs.meaning.CallContracts.{isSet, rolesOf, seenIn}
+use Rattle.volume.specs.meaning.Calls.{flushStores}
 use Rattle.volume.specs.meaning.Rules.{showing, generalHeads}
 use Rattle.volume.specs.meaning.Refusals.{badLabels}
 use Rattle.volume.specs.meaning.Roles.{Roles, claimOfKind, lacksKind}
@@ -32,10 +34,22 @@ use Rattle.volume.specs.looking.MovedLogs.{movedLogs}
 use Rattle.volume.specs.looking.Looking.{lookOf}
 use Rattle.volume.specs.laws.EachBelow.{each-below-cong}
 use Rattle.volume.specs.mounting.MountLook.{zoneLook}
+use Rattle.volume.specs.mounting.MountTables.{FlushedAfter}
 
 -- the reset of drive d's spare, if it has sectors below the pointers ps
 abbrev pub spareReset : Geometry → List ℕ → ℕ → List Store
 spareReset g ps d = pick (ltb 0 (zonePointer g ps d spareZone)) (reset d spareZone ∷ []) []
+
+-- ---- the first flush and step 1 with its flush, as the code makes them (from: where the logs lie; ps: the pointers of the start)
+pub record SparesCleared (g from : Geometry) (here : List Bool) (budget rest : ℕ) (ps ws ds ws′ ds′ : List ℕ) : Type 0 where
+  -- what the flush and the resets leave of the budget, and of the durable pointers
+  pub flushed : ℕ
+  pub spared : ℕ
+  pub flushed-pointers : List ℕ
+  pub spared-pointers : List ℕ
+  pub flush : MadePointers g budget flushed (flushStores g (isSet here)) ws ds ws flushed-pointers
+  pub resets : MadePointers from flushed spared (onPresent (isSet here) (eachBelow (spareReset from ps) (from .drives))) ws flushed-pointers ws′ spared-pointers
+  pub after : FlushedAfter g (isSet here) flushed spared rest ws′ spared-pointers ds′
 
 -- STEP 1 as the code makes it
 pub spare-resets : (g : Geometry) (ps : List ℕ) (w : Device) → ((d : ℕ) → d < g .drives → zonePointer g ps d spareZone ≡ length (w d spareZone .sectors)) → eachBelow (spareReset g ps) (g .drives) ≡ spareStep g w

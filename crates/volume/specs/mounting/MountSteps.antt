@@ -99,7 +99,13 @@ steps-then {g} {here} {k} {ps} {budget} {mid} {rest} {step} {steps} {t} {u} {v} 
 abbrev pub stepList : Geometry → List Bool → Look → Bool → List (Device → List Store)
 stepList g here k differ = headersBy g Label k ∷ headersBy g Reset k ∷ zoneResetsBy g k ∷ countersBy g k differ ∷ headersBy g Seal k ∷ tornRowsBy g here k ∷ fillsBy g here k ∷ []
 
--- they are made, and leave what the steps rely on
+-- the first four are made, whatever follows, and leave what the steps rely on
+pub record ZonesRestored (b : Basis) (ps : List ℕ) (budget rest : ℕ) (t u : Tables) : Type 0 where
+  pub steps : {end : ℕ} {more : List (Device → List Store)} {v : Tables} → StepsMade (b .geometry) (b .here) ps rest end more u v
+      → StepsMade (b .geometry) (b .here) ps budget end (headersBy (b .geometry) Label (b .look) ∷ headersBy (b .geometry) Reset (b .look) ∷ zoneResetsBy (b .geometry) (b .look) ∷ countersBy (b .geometry) (b .look) (b .differ) ∷ more) t v
+  pub restoring : Restoring (b .geometry) (b .here) (b .look) ps u
+
+-- all are made, and leave that
 pub record Restored (b : Basis) (ps : List ℕ) (budget rest : ℕ) (t u : Tables) : Type 0 where
   pub steps : StepsMade (b .geometry) (b .here) ps budget rest (stepList (b .geometry) (b .here) (b .look) (b .differ)) t u
   pub restoring : Restoring (b .geometry) (b .here) (b .look) ps u

@@ -3,6 +3,7 @@ use mathlib.Core.Path.{_≡_, refl, sym, ap, ap₂, _∙_}
 use mathlib.Core.Logic.{_≢_}
 use mathlib.Core.Bool.{Bool, true, false, _||_, not}
 use Prim.Native.Nat.{ℕ, suc, _-_, _≤_}
+use native.Mathlib.Decide.{ℕ-discrete}
 use native.Mathlib.Omega.{arith}
 use mathlib.Core.List.{List, [], _∷_}
 use lib.ListN.{length}
@@ -100,6 +101,19 @@ module _ (g : Geometry) (a : ℕ → Bool) (x : ℕ) (old : State) (count : ℕ)
   mounted-finished h s es =
       let (p, q) = storing-finished g 0 (mountStoresOn g a x t) (mountShownOn g a x t) old count t rest u refl m h in
       (ap (λ (y : State). record { answer = Finished; state = y }) (es ∙ sym (shown-after h)) ∙ sym p, sym q)
+
+-- how it ends, by what is left of the budget
+pub record MountEnded (g : Geometry) (here : List Bool) (old : State) (rest : ℕ) (xs ws : List ℕ) (r : Outcome) : Type 0 where
+  pub unfinished : rest ≡ 0 → r ≡ record { answer = Unfinished; state = old }
+  pub finished : rest ≢ 0 → (ds : List ℕ) → r ≡ record { answer = Finished; state = stateShown g (showing g (isSet here) (lostAmong g here) (seenIn g (tablesOf xs ws ds))) }
+
+pub mounted-ended : (g : Geometry) (here : List Bool) (old : State) (count : ℕ) (t : Tables) (rest : ℕ) (u : Tables) (r : Outcome) → Made g (suc count) rest (mountStoresOn g (isSet here) (lostAmong g here) t) t u → MountEnded g here old rest (u .sectors) (u .written) r
+    → (r ≡ mountedOn g (isSet here) (lostAmong g here) old count t .outcome) × (u ≡ mountedOn g (isSet here) (lostAmong g here) old count t .tables)
+mounted-ended g here old count t rest u r m e = go (ℕ-discrete rest 0)
+  where
+    go : Dec (rest ≡ 0) → (r ≡ mountedOn g (isSet here) (lostAmong g here) old count t .outcome) × (u ≡ mountedOn g (isSet here) (lostAmong g here) old count t .tables)
+    go (yes z) = let (p, q) = mounted-unfinished g (isSet here) (lostAmong g here) old count t rest u m z in (e .unfinished z ∙ p, q)
+    go (no h) = let (p, q) = mounted-finished g (isSet here) (lostAmong g here) old count t rest u m h _ refl in (e .finished h (u .durable) ∙ p, q)
 
 -- the tables that its stores leave can be looked at
 pub lookable-after : (g : Geometry) (p : Plan) (ps : List ℕ) (budget rest : ℕ) (ss : List Store) (t : Tables) (xs ws ds : List ℕ) → Planned g t p ps → length xs ≡ length (t .sectors) → length ws ≡ length (t .written)

@@ -229,7 +229,7 @@ late-then false false true c = refl
 late-then false false false true = refl
 late-then false false false false = refl
 
-late-none : (s a b : Bool) → pick s 7 (earlyNumber a b) ≡ 0 → (s ≡ false) × (a ≡ false) × (b ≡ false)
+pub late-none : (s a b : Bool) → pick s 7 (earlyNumber a b) ≡ 0 → (s ≡ false) × (a ≡ false) × (b ≡ false)
 late-none false false false h = (refl, refl, refl)
 late-none false false true h = absurd (omega arith)
 late-none false true b h = absurd (omega arith)
@@ -281,7 +281,7 @@ module _ (g : Geometry) (named : List Bool) (s : State) (a count bytes : ℕ) (x
   abbrev gone : Bool
   gone = goneIn g (isSet (presentList g named (s .lost))) (readByRoles g xs ws) (zoneOf g a) (recordAt s (zoneOf g a) .generation) (offsetOf g a) count
 
-  opened-sized : Opened g named s count bytes (length xs) ws ds → Sized g xs ws
+  pub opened-sized : Opened g named s count bytes (length xs) ws ds → Sized g xs ws
   opened-sized o = let l = lengths-are g (length xs) (length ws) (length ds) (o .lengths) in record { sectors-long = l .0; written-long = l .1 }
 
   gone-is : Opened g named s count bytes (length xs) ws ds → gone ≡ goneIn g (callPresent g (isSet named) (viewState s)) (seenIn g (tablesOf xs ws ds)) (zoneOf g a) (recordAt s (zoneOf g a) .generation) (offsetOf g a) count
@@ -305,7 +305,7 @@ module _ (g : Geometry) (named : List Bool) (s : State) (a count bytes : ℕ) (x
   abbrev late : ℕ
   late = lateNumber g (presentList g named (s .lost)) ws (recordAt s (zoneOf g a) .condition) (zoneOf g a) (offsetOf g a) count
 
-  late-is : first ≡ 0 → zoneOf g a < g .zones → readNumber g named s a count bytes (tablesOf xs ws ds) ≡ pick (eqb late 0) (pick gone 15 0) late
+  pub late-is : first ≡ 0 → zoneOf g a < g .zones → readNumber g named s a count bytes (tablesOf xs ws ds) ≡ pick (eqb late 0) (pick gone 15 0) late
   unfolding lateNumber runNumber
   late-is e h =
       let o = opened g named s count bytes (length xs) ws ds e in
@@ -315,33 +315,6 @@ module _ (g : Geometry) (named : List Bool) (s : State) (a count bytes : ℕ) (x
       read-number-is ∙ ap (λ (c : Bool). pick c (pick (eqb second 0) third second) first) (eq-eqb first 0 e)
       ∙ ap (λ (n : ℕ). pick (eqb n 0) third n) (second-in o h)
       ∙ ap (λ (c : Bool). pick (eqb (pick b 7 0) 0) (verdictNumber (firstRefusal ((9, bad) ∷ (13, past) ∷ (15, c) ∷ []))) (pick b 7 0)) (sym (gone-is o)) ∙ late-then b bad past gone
-
-  pub read-late : first ≡ 0 → zoneOf g a < g .zones → late ≢ 0 → late ≡ readNumber g named s a count bytes (tablesOf xs ws ds)
-  read-late e h n = sym (late-is e h ∙ ap (λ (c : Bool). pick c (pick gone 15 0) late) (ne-eqb late 0 n))
-
-  pub read-last : first ≡ 0 → zoneOf g a < g .zones → late ≡ 0 → pick gone 15 0 ≡ readNumber g named s a count bytes (tablesOf xs ws ds)
-  read-last e h n = sym (late-is e h ∙ ap (λ (c : Bool). pick c (pick gone 15 0) late) (eq-eqb late 0 n))
-
-  -- what passing them gives
-  pub record ReadFits : Type 0 where
-    pub passed : Opened g named s count bytes (length xs) ws ds
-    pub sized : Sized g xs ws
-    pub run-in : offsetOf g a + count ≤ zoneSectors g
-    pub reaches : Reached g (presentList g named (s .lost)) ws (zoneOf g a) (pointerIn (recordAt s (zoneOf g a) .condition))
-    pub below : offsetOf g a + count ≤ pointerIn (recordAt s (zoneOf g a) .condition)
-
-  pub read-fits : first ≡ 0 → late ≡ 0 → ReadFits
-  unfolding lateNumber
-  read-fits e n =
-      let o = opened g named s count bytes (length xs) ws ds e in
-      let (fresh, run, past) = late-none (staleOn g (isSet (presentList g named (s .lost))) ws (recordAt s (zoneOf g a) .condition) (zoneOf g a)) (badRun g (offsetOf g a) count) (ltb (pointerIn (recordAt s (zoneOf g a) .condition)) (offsetOf g a + count)) n in
-      record {
-        passed = o;
-        sized = opened-sized o;
-        run-in = ltb-false (zoneSectors g) (offsetOf g a + count) (or-none (eqb count 0) (ltb (zoneSectors g) (offsetOf g a + count)) run .1);
-        reaches = reached g (presentList g named (s .lost)) ws (recordAt s (zoneOf g a) .condition) (zoneOf g a) (o .drives) fresh;
-        below = ltb-false (pointerIn (recordAt s (zoneOf g a) .condition)) (offsetOf g a + count) past;
-      }
 
 -- ---- how a read ends
 module _ (g : Geometry) (named : List Bool) (s : State) (a count : ℕ) (out : List ℕ) (t : Tables) where

@@ -63,6 +63,14 @@ module _ (g : Geometry) (present : ℕ → Bool) (ws : List ℕ) (c : Condition)
       go true q = absurd (omega arith)
       go false q = unfold runNumber in q
 
+  pub zone-fresh : zoneNumber g present ws c z offset count ≡ 0 → staleOn g present ws c z ≡ false
+  unfolding zoneNumber
+  zone-fresh h = go (staleOn g present ws c z) h
+    where
+      go : (b : Bool) → verdictNumber (firstRefusal ((7, b) ∷ runRows g c offset count)) ≡ 0 → b ≡ false
+      go true q = absurd (omega arith)
+      go false q = refl
+
 -- ---- with the rows after these
 pub after-zone : (a b c d e : Bool) (rest : List (ℕ × Bool)) → verdictNumber (firstRefusal ((7, a) ∷ (9, b) ∷ (10, c) ∷ (11, d) ∷ (12, e) ∷ rest))
     ≡ pick (eqb (verdictNumber (firstRefusal ((7, a) ∷ (9, b) ∷ (10, c) ∷ (11, d) ∷ (12, e) ∷ []))) 0) (verdictNumber (firstRefusal rest)) (verdictNumber (firstRefusal ((7, a) ∷ (9, b) ∷ (10, c) ∷ (11, d) ∷ (12, e) ∷ [])))

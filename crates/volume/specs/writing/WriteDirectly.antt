@@ -33,6 +33,8 @@ use Rattle.volume.specs.declared.Outcome.{Outcome}
 use Rattle.volume.specs.declared.Answer.the-variants.{Finished, Unfinished}
 use Rattle.volume.specs.declared.writing.Run.{Run}
 use Rattle.volume.specs.declared.write_directly.EntryPlace.{EntryPlace}
+use Rattle.volume.specs.declared.write_directly.Tried.{Tried}
+use Rattle.volume.specs.declared.Condition.{Condition}
 use Rattle.volume.specs.meaning.Content.{at, insideStripe, fillOf, parityDriveAt}
 use Rattle.volume.specs.meaning.Rules.{known, zoneView, valueAt, parityEntries}
 use Rattle.volume.specs.meaning.Roles.{Roles, strongest, otherThan, rolesIn, roles, zoneOfRole, zoneOfKind, placedBy, driveByRoles, emptiedRoles, rolesAfter}
@@ -53,8 +55,9 @@ use Rattle.volume.specs.reading.ReadingHeld.{directly, direct-same}
 use Rattle.volume.specs.rows.SameShape.{SameShape, shape-with}
 use Rattle.volume.specs.emptying.Carried.{made-at}
 use Rattle.volume.specs.writing.OwnStores.{write-with-same, cells-write}
+use Rattle.volume.specs.writing.WriteChecks.{zoneNumber}
 use Rattle.volume.specs.writing.WriteStores.{runContent, earlierHeld, WriteReady, StoresPast}
-use Rattle.volume.specs.writing.WriteRun.{runStoresOf, RunReady, runFull, runGone, writeZoneOn}
+use Rattle.volume.specs.writing.WriteRun.{runStoresOf, RunReady, RunPlaced, runFull, runGone, writeZoneOn}
 use Rattle.volume.specs.writing.WriteMade.{each-none, sectors-count}
 
 -- ---- what the code finds
@@ -78,7 +81,14 @@ and-false : (b : Bool) → b && false ≡ false
 and-false true = refl
 and-false false = refl
 
-module _ (run : Run) (s : State) (xs ws ds buffer : List ℕ) (ok : Valid (run .zone .geometry)) (logs-first : run .zone .geometry .logs ≡ 0) (sized : Sized (run .zone .geometry) xs ws) (h : RunReady run s ws ds buffer) (alone : placeOf run xs ws .alone ≡ true) where
+-- what trying a write came to: refused, or made, or neither, and then nothing has changed
+pub record TriedOn (run : Run) (c : Condition) (count : ℕ) (buffer xs ws xs′ ws′ : List ℕ) (r : Tried) : Type 0 where
+  pub refusal-is : r .refusal ≡ zoneNumber (run .zone .geometry) (isSet (run .zone .here)) ws c (run .zone .number) (run .pointer) (run .count)
+  pub alone : r .made ≡ true → (r .refusal ≡ 0) × (placeOf run xs ws .alone ≡ true)
+  pub stores : r .made ≡ true → MadeAppends (placeOf run xs ws .geometry) (suc count) (r .rest) (runStoresOf run xs ws buffer) xs ws xs′ ws′
+  pub kept : r .made ≡ false → (xs′ ≡ xs) × (ws′ ≡ ws)
+
+module _ (run : Run) (xs ws buffer : List ℕ) (ok : Valid (run .zone .geometry)) (logs-first : run .zone .geometry .logs ≡ 0) (sized : Sized (run .zone .geometry) xs ws) (p : RunPlaced run ws buffer) (alone : placeOf run xs ws .alone ≡ true) where
   abbrev g : Geometry
   g = run .zone .geometry
 
@@ -93,15 +103,6 @@ module _ (run : Run) (s : State) (xs ws ds buffer : List ℕ) (ok : Valid (run .
 
   abbrev present : ℕ → Bool
   present = isSet (run .zone .here)
-
-  abbrev t : Tables
-  t = tablesOf xs ws ds
-
-  abbrev r : ℕ → Roles
-  r = rolesOf (run .zone .geometry) (tablesOf xs ws ds)
-
-  abbrev w : Device
-  w = seenIn (run .zone .geometry) (tablesOf xs ws ds)
 
   -- the drive that gets the entry, and its counting parity log
   abbrev own : ℕ
@@ -139,7 +140,7 @@ module _ (run : Run) (s : State) (xs ws ds buffer : List ℕ) (ok : Valid (run .
       (subst (λ (x : ℕ). ownHeld g (run .zone .here) ws z x ≡ true) e (all-below-all (λ i. ownHeld g (run .zone .here) ws z (start + i)) (fillOf g n) (a - start) held i))
 
   readable : Readable g (run .zone .here) xs ws z
-  readable = record { zone-in = h .zone-in; sectors-long = sized .sectors-long; written-long = sized .written-long; pointers = h .in-zones }
+  readable = record { zone-in = p .zone-in; sectors-long = sized .sectors-long; written-long = sized .written-long; pointers = p .in-zones }
 
   -- refusal 15, by every device with these data zones
   none-before : (v : Device) → ((d : ℕ) → v d (dataZone z) .sectors ≡ readDevice g xs ws d (dataZone z) .sectors) → goneBefore g present v z (run .zone .generation) n ≡ false
@@ -151,128 +152,14 @@ module _ (run : Run) (s : State) (xs ws ds buffer : List ℕ) (ok : Valid (run .
       ∙ and-false (present (parityDriveAt g z n))
 
   pub directly-ready : WriteReady g (run .zone .here) xs ws z (run .zone .generation) n (run .count) buffer
-  directly-ready = record { readable = readable; inside = h .inside; buffer-long = h .buffer-long; earlier-known = none-before (readDevice g xs ws) (λ d. refl) }
+  directly-ready = record { readable = readable; inside = p .inside; buffer-long = p .buffer-long; earlier-known = none-before (readDevice g xs ws) (λ d. refl) }
 
-  -- ---- the entry's log has room
+  -- ---- so the place is its entry's
   placed : place ≡ entryPlace (run .zone) xs ws end
   unfolding placeOf
   placed = ap (λ (b : Bool). pick b (entryPlace (run .zone) xs ws end) (record { alone = false; geometry = g })) held
 
-  module _ (inside : insideStripe g end ≡ true) (here : present own ≡ true) where
-    log-found : place ≡ entryLog g xs ws own (writeLimit g end)
-    unfolding entryPlace
-    log-found = placed ∙ ap₂ (λ (a b : Bool). pick (a && b) (entryLog g xs ws own (writeLimit g end)) (record { alone = true; geometry = g })) inside here
-
-    tested : not (eqb (asParity q) 0) && leb (writeLimit g end) (g .capacity - zonePointer g ws own q) ≡ true
-    unfolding entryLog
-    tested = sym (ap (λ (p : EntryPlace). p .alone) log-found) ∙ alone
-
-    has-kind : asParity q ≢ 0
-    has-kind = eqb-false (asParity q) 0 (off (eqb (asParity q) 0) (and-split (not (eqb (asParity q) 0)) (leb (writeLimit g end) (g .capacity - zonePointer g ws own q)) tested .0))
-      where
-        off : (b : Bool) → not b ≡ true → b ≡ false
-        off true e = absurd (true≢false (sym e))
-        off false e = refl
-
-    claim-is : r own .parityClaim ≡ asParity q
-    unfolding rolesIn
-    claim-is = ap (λ (f : ℕ → Roles). f own .parityClaim) (roles-durable g xs ws ds)
-
-    has-claim : r own .parityClaim ≢ 0
-    has-claim e = has-kind (sym claim-is ∙ e)
-
-    parity-is : r own .parity ≡ q
-    parity-is = ap (λ (f : ℕ → Roles). f own .parity) (roles-durable g xs ws ds) ∙ parity-zone g own (zonesRead g xs ws own) has-kind
-
-    seen-log : w own parityZone ≡ deviceOf g t own (r own .parity)
-    unfolding driveByRoles
-    seen-log = rw (ne-eqb (r own .parityClaim) 0 has-claim) refl
-
-    q-below : q < 3
-    q-below = strongest-lt asParity
-
-    log-length : length (w own parityZone .sectors) ≡ zonePointer g ws own q
-    log-length = ap (λ (v : ZoneView). length (v .sectors)) seen-log ∙ ap (λ (y : ℕ). length (deviceOf g t own y .sectors)) parity-is ∙ device-length g t own q own-below (omega (arith, q-below))
-
-    unused-is : unusedIn g true r w own ≡ g .capacity - zonePointer g ws own q
-    unfolding unusedIn
-    unused-is = ap (λ (b : Bool). pick b 0 (g .capacity - length (w own parityZone .sectors))) (ne-eqb (r own .parityClaim) 0 has-claim) ∙ ap (λ (m : ℕ). g .capacity - m) log-length
-
-    has-room : lacksRoom g true r w (writeLimit g end) own ≡ false
-    has-room =
-        let enough = leb-true (writeLimit g end) (g .capacity - zonePointer g ws own q) (and-split (not (eqb (asParity q) 0)) (leb (writeLimit g end) (g .capacity - zonePointer g ws own q)) tested .1) in
-        le-ltb (unusedIn g true r w own) (writeLimit g end) (omega (arith, unused-is, enough))
-
-    logs-are : place .geometry .logs ≡ (otherThan q + 4 * q) * 2 ^ (4 * own)
-    unfolding entryLog
-    logs-are = ap (λ (p : EntryPlace). p .geometry .logs) log-found
-
-    log-at : cell (withLogs g (place .geometry .logs)) own parityZone ≡ cell g own (zoneOfRole (r own) parityZone)
-    log-at =
-        ap (λ (m : ℕ). cell (withLogs g m) own parityZone) logs-are
-        ∙ ap (λ (p : ℕ). firstCell g own + p) (parity-placed g own q q-below ∙ sym parity-is ∙ sym (zone-at-first g logs-first own (r own .parity)))
-
-  -- ---- so no log is emptied
-  emptied-none : (d : ℕ) → emptiedForWrite g present r w z end d ≡ false
-  unfolding emptiedForWrite emptiedFor
-  emptied-none d = go (insideStripe g end) refl (eqb d own) refl (present d) refl
-    where
-      go : (a : Bool) → insideStripe g end ≡ a → (b : Bool) → eqb d own ≡ b → (c : Bool) → present d ≡ c → (a && b) && (c && lacksRoom g true r w (writeLimit g end) d) ≡ false
-      go true i true e true p = ap (λ (x : ℕ). lacksRoom g true r w (writeLimit g end) x) (eqb-true d own e) ∙ has-room i (subst (λ (x : ℕ). present x ≡ true) (eqb-true d own e) p)
-      go true i true e false p = refl
-      go true i false e c p = refl
-      go false i b e c p = refl
-
-  abbrev inForce : InForce
-  inForce = byState (run .zone .geometry) (isSet (run .zone .here)) (seenIn (run .zone .geometry) (tablesOf xs ws ds)) (viewState s)
-
-  full-none : runFull run s t ≡ false
-  unfolding writeFull
-  full-none = none-any-below (λ d. emptiedForWrite g present r w z end d && (staysFull g true r (writeLimit g end) (newParitySize g inForce d) d || spareWritten w d)) (g .drives)
-      (λ d hd. ap (λ (b : Bool). b && (staysFull g true r (writeLimit g end) (newParitySize g inForce d) d || spareWritten w d)) (emptied-none d))
-
-  copies-none : goneForEntry g present r inForce w z end ≡ false
-  unfolding goneForEntry
-  copies-none = none-any-below (λ d. emptiedForWrite g present r w z end d && goneForCopies g present inForce w d) (g .drives) (λ d hd. ap (λ (b : Bool). b && goneForCopies g present inForce w d) (emptied-none d))
-
-  gone-none : runGone run s t ≡ false
-  gone-none = ap₂ (λ (a b : Bool). a || b) copies-none (none-before w (λ d. data-seen g xs ws ds d z))
-
-  -- ---- the stores
-  abbrev ss : List (List ℕ)
-  ss = sectorsIn (run .zone .geometry) (run .count) buffer
-
-  content-same : (a : ℕ) → start ≤ a → runContent g present w z (run .zone .generation) n ss a ≡ runContent g present (readDevice g xs ws) z (run .zone .generation) n ss a
-  unfolding runContent
-  content-same a l = go (ltb a n) refl
-    where
-      go : (b : Bool) → ltb a n ≡ b → pick b (valueAt g present w z (run .zone .generation) a) (at ss (a - n)) ≡ pick b (valueAt g present (readDevice g xs ws) z (run .zone .generation) a) (at ss (a - n))
-      go true e = sym (direct-same g ok (run .zone .here) xs ws z readable w (λ d. data-seen g xs ws ds d z) (run .zone .generation) a (is-direct a l (ltb-true a n e)) .1)
-      go false e = refl
-
-  own-stores : writeStores g present w (viewState s) z ss ≡ runStoresOf run xs ws buffer
-  unfolding writeStores runStoresOf zoneContent runContent
-  own-stores =
-      let stores : ℕ → ℕ → ℕ → List Store = λ m p k. onPresent present (writeWith g z m (runContent g present w z m p ss) p k) in
-      ap (stores (recordAt s z .generation) (pointerOf s z)) (sectors-count g (run .count) buffer)
-      ∙ ap₂ (λ (m p : ℕ). stores m p (run .count)) (sym (h .generation-is)) (sym (h .pointer-is))
-      ∙ ap (onPresent present) (write-with-same g ok z n (runContent g present w z (run .zone .generation) n ss) (runContent g present (readDevice g xs ws) z (run .zone .generation) n ss) content-same (run .zone .generation) (run .count))
-
-  ends : pointerOf s z + length ss ≡ end
-  ends = ap₂ (λ (a b : ℕ). a + b) (sym (h .pointer-is)) (sectors-count g (run .count) buffer)
-
-  all-stores : writeAll g present r w (viewState s) z ss ≡ map (carry (placedBy r)) (runStoresOf run xs ws buffer)
-  unfolding writeAll emptyParity emptyings
-  all-stores =
-      let emptied : ℕ → Bool = emptiedForWrite g present r w z (pointerOf s z + length ss) in
-      let none : (d : ℕ) → emptied d ≡ false = λ d. ap (λ (i : ℕ). emptiedForWrite g present r w z i d) ends ∙ emptied-none d in
-      let one : ℕ → List Store = λ d. emptyingStores g present d (zoneOfKind true (r d)) (r d .spare) (newParity g inForce (r d) d (parityEntries g w d)) in
-      let first : eachBelow (λ d. pick (emptied d) (one d) []) (g .drives) ≡ [] = each-none (λ d. pick (emptied d) (one d) []) (g .drives) (λ d hd. ap (λ (b : Bool). pick b (one d) []) (none d)) in
-      let same : rolesAfter true emptied r ≡ r = fun-ext λ d. ap (λ (b : Bool). pick b (emptiedRoles true (r d)) (r d)) (none d) in
-      ap₂ (λ (x : List Store) (f : ℕ → Roles). x ++ map (carry (placedBy f)) (writeStores g present w (viewState s) z ss)) first same
-      ∙ ap (map (carry (placedBy r))) own-stores
-
-  -- ---- made by the geometry that places the entry's log, they are the rules'
+  -- by a geometry that differs from its own in where logs lie
   place-is : place .geometry ≡ withLogs g (place .geometry .logs)
   unfolding placeOf entryPlace entryLog
   place-is = go (earlierHeld g (run .zone .here) ws z n) (insideStripe g end && present own)
@@ -288,23 +175,150 @@ module _ (run : Run) (s : State) (xs ws ds buffer : List ℕ) (ok : Valid (run .
   pub directly-past : StoresPast g (place .geometry) ws ws
   directly-past = record { shape = subst (SameShape g) (sym place-is) (shape-with g (place .geometry .logs)); written-long = sized .written-long; behind = record { least = λ d y hd hy hb. omega arith } }
 
-  data-at : (d : ℕ) → cell (withLogs g (place .geometry .logs)) d (dataZone z) ≡ cell g d (zoneOfRole (r d) (dataZone z))
-  data-at d =
-      let m = place .geometry .logs in
-      ap (λ (p : ℕ). firstCell g d + p) (place-of-other (withLogs g m) d (dataZone z) (omega arith) ∙ sym (place-of-other g d (dataZone z) (omega arith))) ∙ sym (ap (cell g d) (role-of-other (r d) (dataZone z) (omega arith)))
+  -- ---- by a state that says so of the zone
+  module _ (s : State) (ds : List ℕ) (h : RunReady run s ws ds buffer) where
+    abbrev t : Tables
+    t = tablesOf xs ws ds
 
-  cells-are : CellsAt g (place .geometry .logs) r (runStoresOf run xs ws buffer)
-  unfolding runStoresOf
-  cells-are = cells-write g (place .geometry .logs) r z (runContent g present (readDevice g xs ws) z (run .zone .generation) n ss) present data-at (run .zone .generation) n (run .count) log-at
+    abbrev r : ℕ → Roles
+    r = rolesOf (run .zone .geometry) (tablesOf xs ws ds)
 
-  pub directly-ends : (count rest : ℕ) (xs′ ws′ : List ℕ) → MadeAppends (placeOf run xs ws .geometry) (suc count) rest (runStoresOf run xs ws buffer) xs ws xs′ ws′
-      → (pick (eqb rest 0) (record { answer = Unfinished; state = s }) (record { answer = Finished; state = writtenState s (findBelow (λ (d : ℕ). not (isSet (run .zone .here) d)) (run .zone .geometry .drives)) (run .zone .number) (run .pointer + run .count) })
-      ≡ writeZoneOn run s buffer count (tablesOf xs ws ds) .outcome) × (tablesOf xs′ ws′ ds ≡ writeZoneOn run s buffer count (tablesOf xs ws ds) .tables)
-  unfolding writeZoneOn
-  directly-ends count rest xs′ ws′ m =
-      let u : Tables = tablesOf xs′ ws′ ds in
-      let number : _≡_ {A = ℕ} (pick (runFull run s t) 14 (pick (runGone run s t) 15 0)) 0 = ap₂ (λ (a b : Bool). pick a 14 (pick b 15 0)) full-none gone-none in
-      let by-place = subst (λ (k : Geometry). Made k (suc count) rest (runStoresOf run xs ws buffer) t u) place-is (m .made ds) in
-      let made = made-at g (place .geometry .logs) r (suc count) rest (runStoresOf run xs ws buffer) t u cells-are by-place in
-      storing-ends g (pick (runFull run s t) 14 (pick (runGone run s t) 15 0)) (writeAll g present r w (viewState s) z ss) (writtenState s (findBelow (λ (d : ℕ). not (present d)) (g .drives)) z end) s count t rest u number
-      (subst (λ (l : List Store). Made g (suc count) rest l t u) (sym all-stores) made)
+    abbrev w : Device
+    w = seenIn (run .zone .geometry) (tablesOf xs ws ds)
+
+    -- ---- the entry's log has room
+    module _ (inside : insideStripe g end ≡ true) (here : present own ≡ true) where
+      log-found : place ≡ entryLog g xs ws own (writeLimit g end)
+      unfolding entryPlace
+      log-found = placed ∙ ap₂ (λ (a b : Bool). pick (a && b) (entryLog g xs ws own (writeLimit g end)) (record { alone = true; geometry = g })) inside here
+
+      tested : not (eqb (asParity q) 0) && leb (writeLimit g end) (g .capacity - zonePointer g ws own q) ≡ true
+      unfolding entryLog
+      tested = sym (ap (λ (p : EntryPlace). p .alone) log-found) ∙ alone
+
+      has-kind : asParity q ≢ 0
+      has-kind = eqb-false (asParity q) 0 (off (eqb (asParity q) 0) (and-split (not (eqb (asParity q) 0)) (leb (writeLimit g end) (g .capacity - zonePointer g ws own q)) tested .0))
+        where
+          off : (b : Bool) → not b ≡ true → b ≡ false
+          off true e = absurd (true≢false (sym e))
+          off false e = refl
+
+      claim-is : r own .parityClaim ≡ asParity q
+      unfolding rolesIn
+      claim-is = ap (λ (f : ℕ → Roles). f own .parityClaim) (roles-durable g xs ws ds)
+
+      has-claim : r own .parityClaim ≢ 0
+      has-claim e = has-kind (sym claim-is ∙ e)
+
+      parity-is : r own .parity ≡ q
+      parity-is = ap (λ (f : ℕ → Roles). f own .parity) (roles-durable g xs ws ds) ∙ parity-zone g own (zonesRead g xs ws own) has-kind
+
+      seen-log : w own parityZone ≡ deviceOf g t own (r own .parity)
+      unfolding driveByRoles
+      seen-log = rw (ne-eqb (r own .parityClaim) 0 has-claim) refl
+
+      q-below : q < 3
+      q-below = strongest-lt asParity
+
+      log-length : length (w own parityZone .sectors) ≡ zonePointer g ws own q
+      log-length = ap (λ (v : ZoneView). length (v .sectors)) seen-log ∙ ap (λ (y : ℕ). length (deviceOf g t own y .sectors)) parity-is ∙ device-length g t own q own-below (omega (arith, q-below))
+
+      unused-is : unusedIn g true r w own ≡ g .capacity - zonePointer g ws own q
+      unfolding unusedIn
+      unused-is = ap (λ (b : Bool). pick b 0 (g .capacity - length (w own parityZone .sectors))) (ne-eqb (r own .parityClaim) 0 has-claim) ∙ ap (λ (m : ℕ). g .capacity - m) log-length
+
+      has-room : lacksRoom g true r w (writeLimit g end) own ≡ false
+      has-room =
+          let enough = leb-true (writeLimit g end) (g .capacity - zonePointer g ws own q) (and-split (not (eqb (asParity q) 0)) (leb (writeLimit g end) (g .capacity - zonePointer g ws own q)) tested .1) in
+          le-ltb (unusedIn g true r w own) (writeLimit g end) (omega (arith, unused-is, enough))
+
+      logs-are : place .geometry .logs ≡ (otherThan q + 4 * q) * 2 ^ (4 * own)
+      unfolding entryLog
+      logs-are = ap (λ (p : EntryPlace). p .geometry .logs) log-found
+
+      log-at : cell (withLogs g (place .geometry .logs)) own parityZone ≡ cell g own (zoneOfRole (r own) parityZone)
+      log-at =
+          ap (λ (m : ℕ). cell (withLogs g m) own parityZone) logs-are
+          ∙ ap (λ (p : ℕ). firstCell g own + p) (parity-placed g own q q-below ∙ sym parity-is ∙ sym (zone-at-first g logs-first own (r own .parity)))
+
+    -- ---- so no log is emptied
+    emptied-none : (d : ℕ) → emptiedForWrite g present r w z end d ≡ false
+    unfolding emptiedForWrite emptiedFor
+    emptied-none d = go (insideStripe g end) refl (eqb d own) refl (present d) refl
+      where
+        go : (a : Bool) → insideStripe g end ≡ a → (b : Bool) → eqb d own ≡ b → (c : Bool) → present d ≡ c → (a && b) && (c && lacksRoom g true r w (writeLimit g end) d) ≡ false
+        go true i true e true p = ap (λ (x : ℕ). lacksRoom g true r w (writeLimit g end) x) (eqb-true d own e) ∙ has-room i (subst (λ (x : ℕ). present x ≡ true) (eqb-true d own e) p)
+        go true i true e false p = refl
+        go true i false e c p = refl
+        go false i b e c p = refl
+
+    abbrev inForce : InForce
+    inForce = byState (run .zone .geometry) (isSet (run .zone .here)) (seenIn (run .zone .geometry) (tablesOf xs ws ds)) (viewState s)
+
+    full-none : runFull run s t ≡ false
+    unfolding writeFull
+    full-none = none-any-below (λ d. emptiedForWrite g present r w z end d && (staysFull g true r (writeLimit g end) (newParitySize g inForce d) d || spareWritten w d)) (g .drives)
+        (λ d hd. ap (λ (b : Bool). b && (staysFull g true r (writeLimit g end) (newParitySize g inForce d) d || spareWritten w d)) (emptied-none d))
+
+    copies-none : goneForEntry g present r inForce w z end ≡ false
+    unfolding goneForEntry
+    copies-none = none-any-below (λ d. emptiedForWrite g present r w z end d && goneForCopies g present inForce w d) (g .drives) (λ d hd. ap (λ (b : Bool). b && goneForCopies g present inForce w d) (emptied-none d))
+
+    gone-none : runGone run s t ≡ false
+    gone-none = ap₂ (λ (a b : Bool). a || b) copies-none (none-before w (λ d. data-seen g xs ws ds d z))
+
+    -- ---- the stores
+    abbrev ss : List (List ℕ)
+    ss = sectorsIn (run .zone .geometry) (run .count) buffer
+
+    content-same : (a : ℕ) → start ≤ a → runContent g present w z (run .zone .generation) n ss a ≡ runContent g present (readDevice g xs ws) z (run .zone .generation) n ss a
+    unfolding runContent
+    content-same a l = go (ltb a n) refl
+      where
+        go : (b : Bool) → ltb a n ≡ b → pick b (valueAt g present w z (run .zone .generation) a) (at ss (a - n)) ≡ pick b (valueAt g present (readDevice g xs ws) z (run .zone .generation) a) (at ss (a - n))
+        go true e = sym (direct-same g ok (run .zone .here) xs ws z readable w (λ d. data-seen g xs ws ds d z) (run .zone .generation) a (is-direct a l (ltb-true a n e)) .1)
+        go false e = refl
+
+    own-stores : writeStores g present w (viewState s) z ss ≡ runStoresOf run xs ws buffer
+    unfolding writeStores runStoresOf zoneContent runContent
+    own-stores =
+        let stores : ℕ → ℕ → ℕ → List Store = λ m p k. onPresent present (writeWith g z m (runContent g present w z m p ss) p k) in
+        ap (stores (recordAt s z .generation) (pointerOf s z)) (sectors-count g (run .count) buffer)
+        ∙ ap₂ (λ (m p : ℕ). stores m p (run .count)) (sym (h .generation-is)) (sym (h .pointer-is))
+        ∙ ap (onPresent present) (write-with-same g ok z n (runContent g present w z (run .zone .generation) n ss) (runContent g present (readDevice g xs ws) z (run .zone .generation) n ss) content-same (run .zone .generation) (run .count))
+
+    ends : pointerOf s z + length ss ≡ end
+    ends = ap₂ (λ (a b : ℕ). a + b) (sym (h .pointer-is)) (sectors-count g (run .count) buffer)
+
+    all-stores : writeAll g present r w (viewState s) z ss ≡ map (carry (placedBy r)) (runStoresOf run xs ws buffer)
+    unfolding writeAll emptyParity emptyings
+    all-stores =
+        let emptied : ℕ → Bool = emptiedForWrite g present r w z (pointerOf s z + length ss) in
+        let none : (d : ℕ) → emptied d ≡ false = λ d. ap (λ (i : ℕ). emptiedForWrite g present r w z i d) ends ∙ emptied-none d in
+        let one : ℕ → List Store = λ d. emptyingStores g present d (zoneOfKind true (r d)) (r d .spare) (newParity g inForce (r d) d (parityEntries g w d)) in
+        let first : eachBelow (λ d. pick (emptied d) (one d) []) (g .drives) ≡ [] = each-none (λ d. pick (emptied d) (one d) []) (g .drives) (λ d hd. ap (λ (b : Bool). pick b (one d) []) (none d)) in
+        let same : rolesAfter true emptied r ≡ r = fun-ext λ d. ap (λ (b : Bool). pick b (emptiedRoles true (r d)) (r d)) (none d) in
+        ap₂ (λ (x : List Store) (f : ℕ → Roles). x ++ map (carry (placedBy f)) (writeStores g present w (viewState s) z ss)) first same
+        ∙ ap (map (carry (placedBy r))) own-stores
+
+    -- ---- made by the geometry that places the entry's log, they are the rules'
+    data-at : (d : ℕ) → cell (withLogs g (place .geometry .logs)) d (dataZone z) ≡ cell g d (zoneOfRole (r d) (dataZone z))
+    data-at d =
+        let m = place .geometry .logs in
+        ap (λ (p : ℕ). firstCell g d + p) (place-of-other (withLogs g m) d (dataZone z) (omega arith) ∙ sym (place-of-other g d (dataZone z) (omega arith))) ∙ sym (ap (cell g d) (role-of-other (r d) (dataZone z) (omega arith)))
+
+    cells-are : CellsAt g (place .geometry .logs) r (runStoresOf run xs ws buffer)
+    unfolding runStoresOf
+    cells-are = cells-write g (place .geometry .logs) r z (runContent g present (readDevice g xs ws) z (run .zone .generation) n ss) present data-at (run .zone .generation) n (run .count) log-at
+
+    pub directly-ends : (count rest : ℕ) (xs′ ws′ : List ℕ) → MadeAppends (placeOf run xs ws .geometry) (suc count) rest (runStoresOf run xs ws buffer) xs ws xs′ ws′
+        → (pick (eqb rest 0) (record { answer = Unfinished; state = s }) (record { answer = Finished; state = writtenState s (findBelow (λ (d : ℕ). not (isSet (run .zone .here) d)) (run .zone .geometry .drives)) (run .zone .number) (run .pointer + run .count) })
+        ≡ writeZoneOn run s buffer count (tablesOf xs ws ds) .outcome) × (tablesOf xs′ ws′ ds ≡ writeZoneOn run s buffer count (tablesOf xs ws ds) .tables)
+    unfolding writeZoneOn
+    directly-ends count rest xs′ ws′ m =
+        let u : Tables = tablesOf xs′ ws′ ds in
+        let number : _≡_ {A = ℕ} (pick (runFull run s t) 14 (pick (runGone run s t) 15 0)) 0 = ap₂ (λ (a b : Bool). pick a 14 (pick b 15 0)) full-none gone-none in
+        let by-place = subst (λ (k : Geometry). Made k (suc count) rest (runStoresOf run xs ws buffer) t u) place-is (m .made ds) in
+        let made = made-at g (place .geometry .logs) r (suc count) rest (runStoresOf run xs ws buffer) t u cells-are by-place in
+        storing-ends g (pick (runFull run s t) 14 (pick (runGone run s t) 15 0)) (writeAll g present r w (viewState s) z ss) (writtenState s (findBelow (λ (d : ℕ). not (present d)) (g .drives)) z end) s count t rest u number
+        (subst (λ (l : List Store). Made g (suc count) rest l t u) (sym all-stores) made)

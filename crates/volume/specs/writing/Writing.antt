@@ -27,16 +27,18 @@ use Rattle.volume.specs.declared.State.{State}
 use Rattle.volume.specs.meaning.State.{pointerIn, isSealed, isWorn, callPresent, StateView, setAt}
 use Rattle.volume.specs.meaning.Refusals.{firstRefusal, writeRows, stale, noZone, badRun, badOrder, writeFull, goneBefore, goneForEntry, zoneOf, offsetOf, twoAbsent, stateWithin}
 use Rattle.volume.specs.meaning.Calls.{writeState}
-use Rattle.volume.specs.meaning.Answers.{sectorsIn}
+use Rattle.tables.specs.meaning.Device.{Store}
+use Rattle.volume.specs.declared.Answer.the-variants.{Refused}
+use Rattle.volume.specs.meaning.Answers.{lostIn, sectorsIn}
 use Rattle.volume.specs.meaning.CallContracts.{viewState, recordAt, blankRecord, isSet, verdictNumber, rolesOf, seenIn, Result, storingOn, writeVerdict, writtenState, pointerOf, writeOn}
 use Rattle.volume.specs.checks.CheckLaws.{Opened, opened, openingNumber, absent-two, after-four, presentList, present-is, left-out-is}
-use Rattle.volume.specs.checks.ZoneChecks.{staleOn, stale-on-tables, present-good}
+use Rattle.volume.specs.checks.ZoneChecks.{staleOn, stale-on-tables, present-good, pointer-within}
 use Rattle.volume.specs.storing.Resetting.{stale-seen}
 use Rattle.volume.specs.storing.ResetZone.{zoneNow}
 use Rattle.volume.specs.meaning.Emptying.{byState, writeAll}
 use Rattle.volume.specs.declared.writing.Run.{Run}
 use Rattle.volume.specs.writing.WriteChecks.{zoneNumber, zone-passed, after-zone, RunFits}
-use Rattle.volume.specs.writing.WriteRun.{RunReady, writeZoneOn}
+use Rattle.volume.specs.writing.WriteRun.{RunReady, RunAsked, RunStated, askedNumber, writeZoneOn, writeAskedOn}
 
 -- ---- the state is the rules'
 same-lists : (x : ℕ) (p q : ℕ → ℕ) (c d : ℕ → Condition) → p ≡ q → c ≡ d → _≡_ {A = StateView} (record { lost = x; generation = p; condition = c }) (record { lost = x; generation = q; condition = d })
@@ -140,20 +142,25 @@ buffer-is g k bytes h = eqb-true bytes (k * g .sector) h
 abbrev pub runNow : Geometry → List Bool → State → ℕ → ℕ → ℕ → Run
 runNow g here s z n k = record { zone = zoneNow g here s z; pointer = n; count = k }
 
-pub run-ready : (g : Geometry) (named : List Bool) (s : State) (a k : ℕ) (buffer xs ws ds : List ℕ) → Opened g named s k (length buffer) (length xs) ws ds → zoneOf g a < g .zones → RunFits g (recordAt s (zoneOf g a) .condition) (offsetOf g a) k
-    → RunReady (runNow g (presentList g named (s .lost)) s (zoneOf g a) (offsetOf g a) k) s ws ds buffer
-run-ready g named s a k buffer xs ws ds o h f =
+pub run-asked : (g : Geometry) (named : List Bool) (s : State) (a k : ℕ) (buffer xs ws ds : List ℕ) → Opened g named s k (length buffer) (length xs) ws ds → zoneOf g a < g .zones → offsetOf g a < zoneSectors g → k < 4294967296
+    → RunAsked (runNow g (presentList g named (s .lost)) s (zoneOf g a) (offsetOf g a) k) (recordAt s (zoneOf g a) .condition) xs ws buffer
+run-asked g named s a k buffer xs ws ds o h starts small =
     let l = lengths-are g (length xs) (length ws) (length ds) (o .lengths) in
     record {
-      within = o .within;
-      durable-long = l .2;
+      sized = record { sectors-long = l .0; written-long = l .1 };
+      logs-first = o .logs-first;
+      one-absent = o .drives;
       in-zones = λ d y hd p hy. present-good g named s ws ds (o .pointers) d y hd hy (sym (ap (λ (f : ℕ → Bool). f d) (present-is g named s)) ∙ p);
       zone-in = h;
-      generation-is = refl;
-      pointer-is = f .pointer;
-      inside = f .inside;
+      pointer-in = pointer-within g s (zoneOf g a) (o .within) h;
+      starts-in = starts;
+      count-small = small;
       buffer-long = buffer-is g k (length buffer) (o .buffer);
     }
+
+pub run-stated : (g : Geometry) (named : List Bool) (s : State) (a k : ℕ) (buffer xs ws ds : List ℕ) → Opened g named s k (length buffer) (length xs) ws ds
+    → RunStated (runNow g (presentList g named (s .lost)) s (zoneOf g a) (offsetOf g a) k) (recordAt s (zoneOf g a) .condition) s ds
+run-stated g named s a k buffer xs ws ds o = record { within = o .within; durable-long = lengths-are g (length xs) (length ws) (length ds) (o .lengths) .2; generation-is = refl; condition-is = refl }
 
 pub write-zone-on : (g : Geometry) (named : List Bool) (s : State) (a k count : ℕ) (buffer xs ws ds : List ℕ) → openingNumber g named s k (length buffer) (length xs) ws ds ≡ 0 → zoneOf g a < g .zones
     → zoneNumber g (isSet (presentList g named (s .lost))) ws (recordAt s (zoneOf g a) .condition) (zoneOf g a) (offsetOf g a) k ≡ 0
@@ -173,3 +180,29 @@ write-zone-on g named s a k count buffer xs ws ds o h n =
     ap (λ (q : ℕ). on (isSet here) (last (isSet here) q) lost q) (fits .pointer)
     ∙ ap (λ (p : ℕ → Bool). on p (last p (pointerOf s z)) lost (pointerOf s z)) (present-is g named s)
     ∙ ap₂ (λ (m x : ℕ). on (callPresent g (isSet named) (viewState s)) m x (pointerOf s z)) verdict (left-out-is g named s)
+
+-- the call, once it has passed refusals 1 to 4 and its zone is there
+pub write-asked-on : (g : Geometry) (named : List Bool) (s : State) (a k count : ℕ) (buffer xs ws ds : List ℕ) → openingNumber g named s k (length buffer) (length xs) ws ds ≡ 0 → zoneOf g a < g .zones
+    → writeAskedOn (runNow g (presentList g named (s .lost)) s (zoneOf g a) (offsetOf g a) k) s buffer count (tablesOf xs ws ds) ≡ writeOn g named s a k buffer count (tablesOf xs ws ds)
+unfolding writeAskedOn writeOn writeNumber
+write-asked-on g named s a k count buffer xs ws ds o h = go (ℕ-discrete late 0)
+  where
+    run : Run
+    run = runNow g (presentList g named (s .lost)) s (zoneOf g a) (offsetOf g a) k
+
+    late : ℕ
+    late = askedNumber run s ws
+
+    t : Tables
+    t = tablesOf xs ws ds
+
+    refused : Result
+    refused = record { outcome = record { answer = Refused late; state = s }; tables = t }
+
+    go : Dec (late ≡ 0) → pick (eqb late 0) (writeZoneOn run s buffer count t) refused ≡ writeOn g named s a k buffer count t
+    go (yes e) = ap (λ (b : Bool). pick b (writeZoneOn run s buffer count t) refused) (eq-eqb late 0 e) ∙ write-zone-on g named s a k count buffer xs ws ds o h e
+    go (no ne) =
+        let stores : List Store = writeAll g (callPresent g (isSet named) (viewState s)) (rolesOf g t) (seenIn g t) (viewState s) (zoneOf g a) (sectorsIn g k buffer) in
+        let on : ℕ → Result = λ n. storingOn g n stores (writtenState s (lostIn g (isSet named) (viewState s)) (zoneOf g a) (pointerOf s (zoneOf g a) + k)) s count t in
+        let same : on late ≡ refused = rw (ne-eqb late 0 ne) refl in
+        ap (λ (b : Bool). pick b (writeZoneOn run s buffer count t) refused) (ne-eqb late 0 ne) ∙ sym same ∙ ap on (number-zone g named s a k (length buffer) xs ws ds o h ne)

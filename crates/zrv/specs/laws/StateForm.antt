@@ -47,7 +47,7 @@ abbrev pub stateFits : Geometry → List ℕ → Bool
 stateFits g xs = (ltb (readLE 8 xs 0) (g .drives) || eqb (readLE 8 xs 0) noDrive) && (allBelow (λ z. recordFits (zoneSectors g) xs (8 + 16 * z)) (g .zones) && zerosFrom xs (8 + 16 * g .zones))
 
 -- ---- numbers in bytes
-listed : (xs : List ℕ) → Bytes xs → ByteList xs
+pub listed : (xs : List ℕ) → Bytes xs → ByteList xs
 listed [] b = tt
 listed (x ∷ xs) b = (b 0, listed xs (λ i. b (suc i)))
 

@@ -18,10 +18,10 @@ use Rattle.volume.proofs.copies_known.zone_gone.Statement.{statement}
 use Rattle.volume.proofs.copies_known.zone_gone.Tie as tie
 
 abbrev start : tie.Else1 → tie.Start
-start c = c .before .before .before .before .before .before
+start c = c .before .before .before .before .before
 
 returns : tie.Need-returns
-returns c = let a = c .before .before .before .before .before .before .args in gone-uncopied (a .zone .geometry) (isSet (a .zone .here)) (readDevice (a .zone .geometry) (now (a .sectors)) (now (a .pointers))) (a .drive) (a .zone .number) (a .zone .generation) (a .pointer) (sym (c .before .is-copied .ensures) ∙ not-true (c .before .is-copied .result) (c .if1 .taken))
+returns c = let a = c .before .before .before .before .before .args in gone-uncopied (a .zone .geometry) (isSet (a .zone .here)) (readDevice (a .zone .geometry) (now (a .sectors)) (now (a .pointers))) (a .drive) (a .zone .number) (a .zone .generation) (a .pointer) (sym (c .before .is-copied .ensures) ∙ not-true (c .before .is-copied .result) (c .if1 .taken))
 
 copied : (c : tie.Else1) → let a = start c .args in copiedAt (a .zone .geometry) (a .drive) (a .zone .number) (a .pointer) ≡ true
 copied c = sym (c .before .is-copied .ensures) ∙ not-false (c .before .is-copied .result) (c .if1 .left)

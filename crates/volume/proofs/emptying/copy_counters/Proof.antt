@@ -12,7 +12,7 @@ use Rattle.volume.proofs.emptying.copy_counters.Tie as tie
 
 returns : tie.Need-returns
 returns c =
-    let s = c .before .before .before .before .before .before .before .before .before .before .before in
+    let s = c .before .before .before .before .before .before .before .before .before .before in
     let a = s .args in
     let e = a .e in
     let gs = now (a .generations) in
@@ -22,4 +22,4 @@ returns c =
     (shape-encode (e .from) (e .to) h (e .drive) (counters (take (e .to .zones) gs)) ∙ ap (λ (n : ℕ). encode (e .from) (e .drive) (counters (take n gs))) (h .zones)) (f .ensures)
 
 pub copy-counters-spec : {M : Type 1} → statement M
-copy-counters-spec = tie.close (tie.spec (λ c κs. let s = c .before .before .before .before .before .before in (s .pre .0, (s .pre .1 .0, s .pre .1 .1, s .pre .1 .2, s .pre .1 .3))) (λ c. search needs) (λ c. search needs) returns)
+copy-counters-spec = tie.close (tie.spec (λ c κs. let s = c .before .before .before .before .before in (s .pre .0, (s .pre .1 .0, s .pre .1 .1, s .pre .1 .2, s .pre .1 .3))) (λ c. search needs) (λ c. search needs) returns)

@@ -20,7 +20,7 @@ use Rattle.volume.proofs.emptying.copy_header.Statement.{statement}
 use Rattle.volume.proofs.emptying.copy_header.Tie as tie
 
 abbrev start : tie.After-log-in → tie.Start
-start l = l .before .before .before .before .before .before
+start l = l .before .before .before .before
 
 abbrev heads : tie.After-log-in → List Header
 heads l = let a = start l .args in oldHeads (a .e) (now (a .sectors)) (now (a .pointers))
@@ -48,7 +48,7 @@ returns c =
     rw (copy-idle (a .e) (a .kind) (a .generation) (heads l) (a .z) (sym (due-is d) ∙ not-true (d .copy-due .result) (c .if1 .taken))) (appends-nil (a .e .to) (a .budget) (now (a .sectors)) (now (a .written)))
 
 slice-aggregate-write-copy : tie.Need-slice-aggregate-write-copy
-slice-aggregate-write-copy c = let s = c .before .before .before .before .before .before .before .before .before .before in sym (length-take-le (s .args .e .from .sector) _ (s .pre .0 .sector-most))
+slice-aggregate-write-copy c = let s = c .before .before .before .before .before .before .before .before in sym (length-take-le (s .args .e .from .sector) _ (s .pre .0 .sector-most))
 
 write-copy-requires : tie.Need-write-copy-requires
 write-copy-requires c κs = let l = c .before .before .before .before .before in let s = start l in (s .pre .0, (inside l, length-take-le (s .args .e .from .sector) _ (s .pre .0 .sector-most), s .pre .1 .1))

@@ -19,7 +19,7 @@ abbrev μ-loop : tie.MeasureT-loop
 μ-loop kind sectors₀ written₀ pointers e generations budget n rest₀ z₀ sectors written rest z = n - z
 
 abbrev start : tie.At-loop Inv-loop μ-loop → tie.Start Inv-loop μ-loop
-start w = w .before .before .before .before .before .before
+start w = w .before .before .before .before .before
 
 -- what is read is as it was
 kept : (w : tie.At-loop Inv-loop μ-loop) → Copying false (start w .args .e) (start w .args .pointers .now) (w .loop .sectors) (w .loop .written) × (oldHeads (start w .args .e) (w .loop .sectors) (start w .args .pointers .now) ≡ oldHeads (start w .args .e) (start w .args .sectors .now) (start w .args .pointers .now))

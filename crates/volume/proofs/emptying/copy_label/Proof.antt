@@ -19,7 +19,7 @@ use Rattle.volume.proofs.emptying.copy_label.Statement.{statement}
 use Rattle.volume.proofs.emptying.copy_label.Tie as tie
 
 abbrev start : tie.After-log-in → tie.Start
-start l = l .before .before .before .before .before .before
+start l = l .before .before .before .before
 
 abbrev heads : tie.After-log-in → List Header
 heads l = let a = start l .args in oldHeads (a .e) (now (a .sectors)) (now (a .pointers))

@@ -15,20 +15,20 @@ use Rattle.volume.proofs.emptying.empty_general.Tie as tie
 
 flush-all-requires : tie.Need-flush-all-requires
 flush-all-requires c κs =
-    let s = c .before .before .before .before .before .before .before .before .before in
+    let s = c .before .before .before .before .before .before .before .before in
     let a = s .args in
     let m = s .pre .1 .0 in
     let h = m .moves .shape in
     (shape-valid (a .e .from) (a .e .to) h (s .pre .0), (to-written false (a .e) (now (a .pointers)) (now (a .sectors)) (now (a .written)) m, s .pre .1 .2 ∙ sym (shape-cells (a .e .from) (a .e .to) h)))
 
 copy-general-requires : tie.Need-copy-general-requires
-copy-general-requires c κs = let s = c .before .before .before .before .before .before .before .before .before .before .before .before .before .before in (s .pre .0, (s .pre .1 .0, s .pre .1 .1))
+copy-general-requires c κs = let s = c .before .before .before .before .before .before .before .before .before .before .before .before .before in (s .pre .0, (s .pre .1 .0, s .pre .1 .1))
 
 end-emptying-requires : tie.Need-end-emptying-requires
 end-emptying-requires c κs =
     let k = c .before .before .before .before .before .before .before in
     let f = k .before .before .before .before .before in
-    let s = f .before .before .before .before .before .before .before .before .before .before in
+    let s = f .before .before .before .before .before .before .before .before .before in
     let a = s .args in
     let m = s .pre .1 .0 in
     let h = m .moves .shape in
@@ -40,7 +40,7 @@ returns c =
     let r = c .before .before .before .before .before .before in
     let k = r .before .before .before .before .before .before .before .before in
     let f = k .before .before .before .before .before in
-    let s = f .before .before .before .before .before .before .before .before .before .before in
+    let s = f .before .before .before .before .before .before .before .before .before in
     let a = s .args in
     let copies = generalCopies (a .e .from) (byGenerations (now (a .generations))) (oldHeads (a .e) (now (a .sectors)) (now (a .pointers))) in
     emptied-made (a .e) false (s .pre .1 .0 .moves .shape) (a .budget) (f .flush-all .result) (k .copy-general .result) (r .end-emptying .result) (map (encode (a .e .from) (a .e .drive)) copies) (now (a .sectors)) (now (a .written)) (now (a .durable)) (f .flush-all .last .1 .0) (k .copy-general .last .0) (k .copy-general .last .1 .0)

@@ -26,12 +26,12 @@ use Rattle.volume.proofs.emptying_parity.copy_entry.Tie as tie
 
 returns : tie.Need-returns
 returns c =
-    let s = c .before .before .before .before .before .before .before in
+    let s = c .before .before .before .before .before .before in
     let a = s .args in
     rw (entry-skipped (a .e) (a .point) (now (a .pointers)) (now (a .starts)) (now (a .sectors)) (now (a .written)) (s .pre .1) (sym (c .before .is-copied .ensures) ∙ not-true (c .before .is-copied .result) (c .if1 .taken))) (appends-nil (a .e .to) (a .budget) (now (a .sectors)) (now (a .written)))
 
 abbrev start : tie.Else1 → tie.Start
-start c = c .before .before .before .before .before .before .before
+start c = c .before .before .before .before .before .before
 
 copied : (c : tie.Else1) → copiedAt (start c .args .e .from) (start c .args .e .drive) (start c .args .point .number) (start c .args .point .pointer) ≡ true
 copied c = sym (c .before .is-copied .ensures) ∙ not-false (c .before .is-copied .result) (c .if1 .left)
@@ -108,5 +108,5 @@ returns-3 c =
 pub copy-entry-spec : {M : Type 1} → statement M
 copy-entry-spec =
     tie.close
-    (tie.spec (λ c κs. let s = c .before .before .before .before .before in (s .pre .0, (s .pre .1 .zone-in, s .pre .1 .pointer-most))) returns (λ c κs. search needs) (λ c. some (c .before .before)) last-partial-requires append-made-requires (λ c. search needs) (λ c. search needs) returns-2
-    (λ c. search needs) (λ c κs. let s = c .before .before .before .before .before .before .before .before .before .before .before in (s .pre .0, s .pre .1 .pointer-most)) add-copy-run copy-run-requires (λ c. search needs) (λ c. search needs) returns-3)
+    (tie.spec (λ c κs. let s = c .before .before .before .before in (s .pre .0, (s .pre .1 .zone-in, s .pre .1 .pointer-most))) returns (λ c κs. search needs) (λ c. some (c .before .before)) last-partial-requires append-made-requires (λ c. search needs) (λ c. search needs) returns-2
+    (λ c. search needs) (λ c κs. let s = c .before .before .before .before .before .before .before .before .before .before in (s .pre .0, s .pre .1 .pointer-most)) add-copy-run copy-run-requires (λ c. search needs) (λ c. search needs) returns-3)

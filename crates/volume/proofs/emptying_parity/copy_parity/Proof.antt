@@ -19,7 +19,7 @@ abbrev μ-loop : tie.MeasureT-loop
 μ-loop sectors₀ written₀ pointers starts e generations points budget n rest₀ z₀ sectors written rest z = n - z
 
 abbrev start : tie.At-loop Inv-loop μ-loop → tie.Start Inv-loop μ-loop
-start w = w .before .before .before .before .before .before .before .before
+start w = w .before .before .before .before .before .before .before
 
 -- what is relied on, and what is read, is as it was
 kept : (w : tie.At-loop Inv-loop μ-loop) → ParityCopying (start w .args .e) (start w .args .generations .now) (start w .args .points .now) (start w .args .pointers .now) (start w .args .starts .now) (w .loop .sectors) (w .loop .written)

@@ -16,7 +16,7 @@ use Rattle.volume.proofs.emptying_parity.copy_sector.Statement.{stateme
 use Rattle.volume.proofs.emptying_parity.copy_sector.Tie as tie
 
 abbrev start : tie.After-read-sector → tie.Start
-start w = w .before .before .before .before .before .before .before
+start w = w .before .before .before .before .before
 
 abbrev read : tie.After-read-sector → List ℕ
 read w = w .read-sector .last .1 .1 .1 .1 .1 .0
@@ -30,11 +30,11 @@ abbrev rest : tie.Start → List ℕ
 rest s = drop (s .args .e .from .sector) (replicate 4096 0)
 
 slice-aggregate-read-sector : tie.Need-slice-aggregate-read-sector
-slice-aggregate-read-sector c = let s = c .before .before .before .before .before .before in sym (length-take-le (s .args .e .from .sector) _ (s .pre .0 .sector-most))
+slice-aggregate-read-sector c = let s = c .before .before .before .before in sym (length-take-le (s .args .e .from .sector) _ (s .pre .0 .sector-most))
 
 read-sector-requires : tie.Need-read-sector-requires
 read-sector-requires c κs =
-    let s = c .before .before .before .before .before .before in
+    let s = c .before .before .before .before in
     let m = s .pre .1 .0 in
     (s .pre .0, (m .moves .drive-in, omega arith, s .pre .1 .1, m .sectors-long, length-take-le (s .args .e .from .sector) _ (s .pre .0 .sector-most)))
 

@@ -14,20 +14,20 @@ use Rattle.volume.proofs.emptying_parity.empty_parity.Tie as tie
 
 flush-all-requires : tie.Need-flush-all-requires
 flush-all-requires c κs =
-    let s = c .before .before .before .before .before .before .before .before .before .before .before in
+    let s = c .before .before .before .before .before .before .before .before .before .before in
     let a = s .args in
     let m = s .pre .1 .0 .tables .copying in
     let h = m .moves .shape in
     (shape-valid (a .e .from) (a .e .to) h (s .pre .0), (to-written true (a .e) (now (a .pointers)) (now (a .sectors)) (now (a .written)) m, s .pre .1 .1 ∙ sym (shape-cells (a .e .from) (a .e .to) h)))
 
 copy-parity-requires : tie.Need-copy-parity-requires
-copy-parity-requires c κs = let s = c .before .before .before .before .before .before .before .before .before .before .before .before .before .before .before .before in (s .pre .0, s .pre .1 .0)
+copy-parity-requires c κs = let s = c .before .before .before .before .before .before .before .before .before .before .before .before .before .before .before in (s .pre .0, s .pre .1 .0)
 
 end-emptying-requires : tie.Need-end-emptying-requires
 end-emptying-requires c κs =
     let k = c .before .before .before .before .before .before .before in
     let f = k .before .before .before .before .before in
-    let s = f .before .before .before .before .before .before .before .before .before .before .before .before in
+    let s = f .before .before .before .before .before .before .before .before .before .before .before in
     let a = s .args in
     let m = s .pre .1 .0 .tables .copying in
     let h = m .moves .shape in
@@ -39,7 +39,7 @@ returns c =
     let r = c .before .before .before .before .before .before in
     let k = r .before .before .before .before .before .before .before .before in
     let f = k .before .before .before .before .before in
-    let s = f .before .before .before .before .before .before .before .before .before .before .before .before in
+    let s = f .before .before .before .before .before .before .before .before .before .before .before in
     let a = s .args in
     let v = readDevice (a .e .from) (now (a .sectors)) (now (a .pointers)) in
     let copies = parityCopies (a .e .from) (inForceBy (a .e) (now (a .generations)) (now (a .points)) v) (a .e .drive) (oldEntries (a .e) (readDevice (a .e .from) (now (a .sectors)) (now (a .starts)))) in

@@ -24,21 +24,21 @@ abbrev μ-loop : tie.MeasureT-loop
 
 loop-holds : tie.Need-loop-holds Inv-loop μ-loop
 loop-holds c =
-    let s = c .before .before .before .before .before .before in
+    let s = c .before .before .before .before .before in
     let a = s .args in
     (omega arith, refl, refl, refl, turn-begins false (a .all) (λ (e : ℕ). emptiedOn (a .all) false (newGeneralOn (a .all) (a .generations .now) (a .sectors .now) (a .pointers .now) e) e) (a .pointers .now) (a .sectors .now) (a .written .now) (a .durable .now) (a .budget) (s .pre .1 .0))
 
 empty-general-on-requires : tie.Need-empty-general-on-requires Inv-loop μ-loop
 empty-general-on-requires c κs =
-    let s = c .before .before .before .before .before .before .before .before .before .before .before in
+    let s = c .before .before .before .before .before .before .before .before .before .before in
     (s .pre .0, (c .before .before .before .before .loop .inv .4 .ready, omega arith, s .pre .1 .1))
 
 add-d : tie.Need-add-d Inv-loop μ-loop
-add-d c = let s = c .before .before .before .before .before .before .before .before .before .before .before .before .before .before .before .before .before .before in omega (arith, s .pre .0 .drives-most)
+add-d c = let s = c .before .before .before .before .before .before .before .before .before .before .before .before .before .before .before .before .before in omega (arith, s .pre .0 .drives-most)
 
 loop-again : tie.Need-loop-again Inv-loop μ-loop
 loop-again c =
-    let s = c .before .before .before .before .before .before .before .before .before .before .before .before .before .before .before .before .before .before in
+    let s = c .before .before .before .before .before .before .before .before .before .before .before .before .before .before .before .before .before in
     let a = s .args in
     let l = c .before .before .before .before .before .before .before .before .before .before .before .loop in
     let f = c .before .before .before .before .before .before .empty-general-on in
@@ -56,7 +56,7 @@ loop-again c =
 
 returns : tie.Need-returns Inv-loop μ-loop
 returns c =
-    let s = c .before .before .before .before .before .before .before .before in
+    let s = c .before .before .before .before .before .before .before in
     let l = c .before .loop in
     let e : l .d ≡ s .args .all .from .drives = omega arith in
     rw e at (l .inv .4 .made)

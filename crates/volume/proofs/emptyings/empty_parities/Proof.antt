@@ -17,23 +17,23 @@ abbrev μ-loop : tie.MeasureT-loop
 
 loop-holds : tie.Need-loop-holds Inv-loop μ-loop
 loop-holds c =
-    let s = c .before .before .before .before .before .before .before .before in
+    let s = c .before .before .before .before .before .before .before in
     let a = s .args in
     (omega arith, refl, refl, refl, parities-begin (a .all) (a .generations .now) (a .points .now) (a .pointers .now) (a .starts .now) (a .sectors .now) (a .written .now) (a .durable .now) (a .budget) (s .pre .1))
 
 empty-parity-at-requires : tie.Need-empty-parity-at-requires Inv-loop μ-loop
 empty-parity-at-requires c κs =
-    let s = c .before .before .before .before .before .before .before .before .before .before .before .before .before in
+    let s = c .before .before .before .before .before .before .before .before .before .before .before .before in
     let a = s .args in
     let l = c .before .before .before .before .loop in
     (s .pre .0, turn-ready (a .all) (a .generations .now) (a .points .now) (a .pointers .now) (a .starts .now) (l .sectors) (l .written) (l .durable) (l .d) (l .inv .4 .ready) (omega arith))
 
 add-d : tie.Need-add-d Inv-loop μ-loop
-add-d c = let s = c .before .before .before .before .before .before .before .before .before .before .before .before .before .before .before .before .before .before .before .before in omega (arith, s .pre .0 .drives-most)
+add-d c = let s = c .before .before .before .before .before .before .before .before .before .before .before .before .before .before .before .before .before .before .before in omega (arith, s .pre .0 .drives-most)
 
 loop-again : tie.Need-loop-again Inv-loop μ-loop
 loop-again c =
-    let s = c .before .before .before .before .before .before .before .before .before .before .before .before .before .before .before .before .before .before .before .before in
+    let s = c .before .before .before .before .before .before .before .before .before .before .before .before .before .before .before .before .before .before .before in
     let a = s .args in
     let l = c .before .before .before .before .before .before .before .before .before .before .before .loop in
     let f = c .before .before .before .before .before .before .empty-parity-at in
@@ -48,7 +48,7 @@ loop-again c =
 
 returns : tie.Need-returns Inv-loop μ-loop
 returns c =
-    let s = c .before .before .before .before .before .before .before .before .before .before in
+    let s = c .before .before .before .before .before .before .before .before .before in
     let a = s .args in
     let l = c .before .loop in
     let e : l .d ≡ a .all .from .drives = omega arith in

@@ -1,18 +1,25 @@
 use Rattle.tables.specs.laws.TablesFrame.{lengths-are}
 use Rattle.tables.specs.laws.Made.{Made}
-use Rattle.tables.specs.meaning.Tables.{tablesOf}
-use Prim.Native.Nat.{suc, _-_}
-use mathlib.Core.Path.{_≡_, sym, _∙_, refl}
-use mathlib.Core.Logic.{_≢_}
+use Rattle.tables.specs.meaning.Basics.{pick}
+use Rattle.tables.specs.meaning.Device.{Store}
+use Rattle.tables.specs.meaning.Drives.{findBelow}
+use Rattle.tables.specs.meaning.Tables.{Tables, tablesOf}
+use Prim.Native.Nat.{ℕ, suc, _+_}
+use mathlib.Core.Path.{_≡_, sym, ap, subst, _∙_}
+use mathlib.Core.Bool.{Bool, not}
+use mathlib.Core.List.{List}
 use native.Mathlib.Omega.{arith}
-use native.Mathlib.Numerals.{add-one}
 use lib.ListN.{length}
+use lib.Dec.{eqb}
 use denote.Ref.{now}
+use Rattle.volume.specs.declared.State.{State}
+use Rattle.volume.specs.declared.Outcome.{Outcome}
+use Rattle.volume.specs.declared.Answer.the-variants.{Finished, Unfinished, Refused}
 use Rattle.volume.specs.meaning.State.{callPresent}
 use Rattle.volume.specs.meaning.Calls.{flushStores}
 use Rattle.volume.specs.meaning.Answers.{lostIn}
 use Rattle.volume.specs.meaning.CallContracts.{isSet, viewState, verdictNumber, flushOn, flushVerdict, withLost}
-use Rattle.volume.specs.laws.CallContracts.{storing-refused, storing-unfinished, storing-finished}
+use Rattle.volume.specs.laws.CallContracts.{storing-refused, storing-ends}
 use Rattle.volume.specs.checks.CheckLaws.{Opened, opened, openingNumber, opening-is, tested, present-is, left-out-is}
 use Rattle.volume.specs.storing.Flushing.{flush-refusal}
 use borrow.Author.Needs.{needs}
@@ -36,15 +43,28 @@ passed c = omega arith
 accepted : (c : tie.Else1) → let a = to-start (c .before) .args in Opened (a .g) (a .named) (a .state) 0 0 (length (now (a .sectors))) (now (a .written)) (now (a .durable))
 accepted c = let a = to-start (c .before) .args in opened (a .g) (a .named) (a .state) 0 0 (length (now (a .sectors))) (now (a .written)) (now (a .durable)) (sym (opened-as (c .before)) ∙ passed c)
 
+abbrev given : tie.Start → Tables
+given s = tablesOf (now (s .args .sectors)) (now (s .args .written)) (now (s .args .durable))
+
+abbrev stores : tie.Start → List Store
+stores s = flushStores (s .args .g) (callPresent (s .args .g) (isSet (s .args .named)) (viewState (s .args .state)))
+
+abbrev refusal : tie.Start → ℕ
+refusal s = verdictNumber (flushVerdict (s .args .g) (s .args .named) (s .args .state) (given s))
+
+abbrev handed-on : tie.Start → State
+handed-on s = withLost (s .args .state) (lostIn (s .args .g) (isSet (s .args .named)) (viewState (s .args .state)))
+
 returns : tie.Need-returns
 unfolding flushOn
 returns c =
     let o = c .before .before in
-    let a = to-start o .args in
+    let s = to-start o in
+    let a = s .args in
     let e = number o in
-    let h : o .opening .result ≢ 0 = c .before .if1 .taken in
-    let (p, q) = storing-refused (a .g) (verdictNumber (flushVerdict (a .g) (a .named) (a .state) (tablesOf (now (a .sectors)) (now (a .written)) (now (a .durable))))) (flushStores (a .g) (callPresent (a .g) (isSet (a .named)) (viewState (a .state)))) (withLost (a .state) (lostIn (a .g) (isSet (a .named)) (viewState (a .state)))) (a .state) (a .count) (tablesOf (now (a .sectors)) (now (a .written)) (now (a .durable))) (rw (← e) h) in
-    (c .refused .ensures ∙ sym (p ∙ rw (← e) refl), sym q)
+    let (p, q) = storing-refused (a .g) (refusal s) (stores s) (handed-on s) (a .state) (a .count) (given s) (λ k. c .before .if1 .taken (e ∙ k)) in
+    let refused : ℕ → Outcome = λ k. record { answer = Refused k; state = a .state } in
+    (c .refused .ensures ∙ ap refused e ∙ sym p, sym q)
 
 present-drives-requires : tie.Need-present-drives-requires
 present-drives-requires c κs = accepted c .valid
@@ -57,45 +77,43 @@ flush-all-requires c κs =
     (o .valid, (l .1, l .2))
 
 -- what flush_all made, as the call's stores
-made : (c : tie.After-flush-all) → Made (c .before .before .before .before .before .before .before .before .before .before .args .g) (suc (c .before .before .before .before .before .before .before .before .before .before .args .count)) (c .flush-all .result) (flushStores (c .before .before .before .before .before .before .before .before .before .before .args .g) (callPresent (c .before .before .before .before .before .before .before .before .before .before .args .g) (isSet (c .before .before .before .before .before .before .before .before .before .before .args .named)) (viewState (c .before .before .before .before .before .before .before .before .before .before .args .state))))
-    (tablesOf (now (c .before .before .before .before .before .before .before .before .before .before .args .sectors)) (now (c .before .before .before .before .before .before .before .before .before .before .args .written)) (now (c .before .before .before .before .before .before .before .before .before .before .args .durable))) (tablesOf (now (c .before .before .before .before .before .before .before .before .before .before .args .sectors)) (now (c .before .before .before .before .before .before .before .before .before .before .args .written)) (c .flush-all .last .1 .0))
-made c =
-    let a = c .before .before .before .before .before .before .before .before .before .before .args in
-    let p = c .before .before .present-drives .ensures ∙ refl in
-    let q = c .flush-all .ensures .made (now (a .sectors)) in
-    rw (p, present-is (a .g) (a .named) (a .state), add-one) at q
+abbrev from-flush : tie.After-flush-all → tie.Start
+from-flush f = to-start (f .before .before .before .before)
+
+abbrev left : tie.After-flush-all → Tables
+left f = let a = from-flush f .args in tablesOf (now (a .sectors)) (now (a .written)) (f .flush-all .last .1 .0)
+
+made : (f : tie.After-flush-all) → Made (from-flush f .args .g) (suc (from-flush f .args .count)) (f .flush-all .result) (stores (from-flush f)) (given (from-flush f)) (left f)
+made f =
+    let s = from-flush f in
+    let a = s .args in
+    let here = f .before .before .present-drives in
+    let h : isSet (here .result) ≡ callPresent (a .g) (isSet (a .named)) (viewState (a .state)) = ap isSet (here .ensures) ∙ present-is (a .g) (a .named) (a .state) in
+    let b : a .count + 1 ≡ suc (a .count) = omega arith in
+    subst (λ (l : ℕ). Made (a .g) l (f .flush-all .result) (stores s) (given s) (left f)) b
+    (subst (λ (p : ℕ → Bool). Made (a .g) (a .count + 1) (f .flush-all .result) (flushStores (a .g) p) (given s) (left f)) h (f .flush-all .ensures .made (now (a .sectors))))
+
+left-out-requires : tie.Need-left-out-requires
+left-out-requires c κs = accepted (c .before .before .before .before .before) .valid
 
 returns-2 : tie.Need-returns-2
 unfolding flushOn
 returns-2 c =
-    let at-flush-all = c .before .before .before in
-    let s = at-flush-all .before .before .before in
-    let at-start = s .before in
-    let at-start-2 = to-start at-start in
-    let a = at-start-2 .args in
-    let e = sym (number (at-start)) ∙ passed (s) in
-    let (p, q) = storing-unfinished (a .g) (verdictNumber (flushVerdict (a .g) (a .named) (a .state) (tablesOf (now (a .sectors)) (now (a .written)) (now (a .durable))))) (flushStores (a .g) (callPresent (a .g) (isSet (a .named)) (viewState (a .state)))) (withLost (a .state) (lostIn (a .g) (isSet (a .named)) (viewState (a .state)))) (a .state) (a .count) (tablesOf (now (a .sectors)) (now (a .written)) (now (a .durable))) (at-flush-all .flush-all .result) (tablesOf (now (a .sectors)) (now (a .written)) (at-flush-all .flush-all .last .1 .0)) e (made (at-flush-all)) (c .if2 .taken) in
-    (sym p, sym q)
-
-left-out-requires : tie.Need-left-out-requires
-left-out-requires c κs = accepted (c .before .before .before .before .before .before) .valid
-
-returns-3 : tie.Need-returns-3
-unfolding flushOn
-returns-3 c =
-    let at-flush-all = c .before .before .before .before .before in
-    let at-present-drives = at-flush-all .before .before in
-    let s = at-present-drives .before in
-    let at-start = s .before in
-    let at-start-2 = to-start at-start in
-    let a = at-start-2 .args in
-    let e = sym (number (at-start)) ∙ passed (s) in
-    let x : c .before .left-out .result ≡ lostIn (a .g) (isSet (a .named)) (viewState (a .state)) = c .before .left-out .ensures ∙ rw (at-present-drives .present-drives .ensures) (left-out-is (a .g) (a .named) (a .state)) in
-    let (p, q) = storing-finished (a .g) (verdictNumber (flushVerdict (a .g) (a .named) (a .state) (tablesOf (now (a .sectors)) (now (a .written)) (now (a .durable))))) (flushStores (a .g) (callPresent (a .g) (isSet (a .named)) (viewState (a .state)))) (withLost (a .state) (lostIn (a .g) (isSet (a .named)) (viewState (a .state)))) (a .state) (a .count) (tablesOf (now (a .sectors)) (now (a .written)) (now (a .durable))) (at-flush-all .flush-all .result) (tablesOf (now (a .sectors)) (now (a .written)) (at-flush-all .flush-all .last .1 .0)) e (made (at-flush-all)) (c .before .before .if2 .left) in
-    (rw x (sym p), sym q)
+    let l = c .before .before in
+    let f = l .before .before .before in
+    let r = f .before .before in
+    let e = r .before in
+    let s = from-flush f in
+    let a = s .args in
+    let n = sym (number (e .before)) ∙ passed e in
+    let x : l .left-out .result ≡ lostIn (a .g) (isSet (a .named)) (viewState (a .state)) =
+    l .left-out .ensures ∙ ap (λ (h : List Bool). findBelow (λ (d : ℕ). not (isSet h d)) (a .g .drives)) (r .present-drives .ensures) ∙ left-out-is (a .g) (a .named) (a .state) in
+    let ending : ℕ → Outcome = λ y. pick (eqb (f .flush-all .result) 0) (record { answer = Unfinished; state = a .state }) (record { answer = Finished; state = withLost (a .state) y }) in
+    let (p, q) = storing-ends (a .g) (refusal s) (stores s) (handed-on s) (a .state) (a .count) (given s) (f .flush-all .result) (left f) n (made f) in
+    (c .ended .ensures ∙ ap ending x ∙ p, q)
 
 pub flush-spec : {M : Type 1} → statement M
 flush-spec =
     tie.close
-    (tie.spec (λ c κs. search needs) (λ c κs. tested _ (c .before .before .before .before .before .args .state) _ (c .before .input-within .ensures)) (λ c κs. search needs) (λ c. search needs) returns present-drives-requires (λ c. search needs) flush-all-requires (λ c. search needs)
-    returns-2 left-out-requires (λ c. search needs) returns-3)
+    (tie.spec (λ c κs. search needs) (λ c κs. tested _ (c .before .before .before .before .before .args .state) _ (c .before .input-within .ensures)) (λ c κs. search needs) (λ c. search needs) returns present-drives-requires (λ c. search needs) flush-all-requires
+    left-out-requires (λ c κs. search needs) (λ c. search needs) returns-2)

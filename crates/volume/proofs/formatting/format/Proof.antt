@@ -1,11 +1,11 @@
-use Prim.Native.Nat.{ℕ, suc}
-use mathlib.Core.Path.{_≡_, refl, sym, _∙_}
-use mathlib.Core.Logic.{_≢_}
-use mathlib.Core.Bool.{true, not}
+use Prim.Native.Nat.{ℕ, suc, _+_, _<_}
+use mathlib.Core.Path.{_≡_, sym, ap, ap₂, subst, _∙_}
+use mathlib.Core.Bool.{Bool, true, not}
 use mathlib.Core.List.{List}
 use native.Mathlib.Omega.{arith}
-use native.Mathlib.Numerals.{add-one}
 use lib.ListN.{length}
+use lib.Dec.{eqb}
+use Rattle.tables.specs.meaning.Basics.{pick}
 use denote.Ref.{now}
 use Rattle.tables.specs.meaning.Device.{Store}
 use Rattle.tables.specs.meaning.Geometry.{Valid}
@@ -13,10 +13,12 @@ use Rattle.tables.specs.meaning.Tables.{Tables, tablesOf, lengthsFit}
 use Rattle.tables.specs.laws.Made.{Made}
 use Rattle.tables.specs.laws.TablesFrame.{lengths-are}
 use Rattle.volume.specs.declared.State.{State}
+use Rattle.volume.specs.declared.Outcome.{Outcome}
+use Rattle.volume.specs.declared.Answer.the-variants.{Finished, Unfinished, Refused}
 use Rattle.volume.specs.meaning.Calls.{formatStores}
 use Rattle.volume.specs.meaning.Answers.{leftOut, namedDrives}
 use Rattle.volume.specs.meaning.CallContracts.{isSet, verdictNumber, formatOn, formatVerdict, freshState}
-use Rattle.volume.specs.laws.CallContracts.{storing-refused, storing-unfinished, storing-finished}
+use Rattle.volume.specs.laws.CallContracts.{storing-refused, storing-ends}
 use Rattle.volume.specs.storing.Formatting.{format-refusal, format-accepted, named-is, left-out-named, find-small}
 use borrow.Author.Needs.{needs}
 use Rattle.volume.proofs.formatting.format.Statement.{statement}
@@ -47,12 +49,13 @@ accepted c = let a = c .before .before .before .before .before .before .before .
 returns : tie.Need-returns
 unfolding formatOn
 returns c =
-    let s = c .before .before .before .before .before .before .before in
+    let o = c .before .before in
+    let s = o .before .before .before .before .before .before in
     let a = s .args in
-    let e = number (c .before) in
-    let h : c .before .format-refusal .result ≢ 0 = c .if1 .taken in
-    let (p, q) = storing-refused (a .g) (refusal s) (stores s) (next s) (a .old) (a .count) (given s) (rw (← e) h) in
-    (sym (p ∙ rw (← e) refl), sym q)
+    let e = number o in
+    let (p, q) = storing-refused (a .g) (refusal s) (stores s) (next s) (a .old) (a .count) (given s) (λ k. c .before .if1 .taken (e ∙ k)) in
+    let refused : ℕ → Outcome = λ k. record { answer = Refused k; state = a .old } in
+    (c .refused .ensures ∙ ap refused e ∙ sym p, sym q)
 
 present-drives-requires : tie.Need-present-drives-requires
 present-drives-requires c κs = accepted c .0
@@ -66,7 +69,7 @@ format-stores-requires c κs =
     let (v, f) = accepted (c .before .before .before .before .before) in
     let l = lengths-are (a .g) (length (now (a .sectors))) (length (now (a .written))) (length (now (a .durable))) f in
     let x = find-small (λ d. not (isSet (a .named) d)) (a .g .drives) (omega (arith, v .drives-most)) in
-    (v, (rw (c .before .before .before .left-out .ensures) x, l .0, l .1, l .2))
+    (v, (subst (λ (n : ℕ). n < 256) (sym (c .before .before .before .left-out .ensures)) x, l .0, l .1, l .2))
 
 -- what was made, as the call's stores
 abbrev left : tie.After-format-stores → Tables
@@ -80,39 +83,34 @@ lost-is c =
 made : (c : tie.After-format-stores) → Made (c .before .before .before .before .before .before .before .before .before .before .before .before .before .args .g) (suc (c .before .before .before .before .before .before .before .before .before .before .before .before .before .args .count)) (c .format-stores .result) (stores (c .before .before .before .before .before .before .before .before .before .before .before .before .before)) (given (c .before .before .before .before .before .before .before .before .before .before .before .before .before)) (left c)
 made c =
     let a = c .before .before .before .before .before .before .before .before .before .before .before .before .before .args in
-    rw (c .before .before .before .before .before .present-drives .ensures, named-is (a .g) (a .named) (accepted (c .before .before .before .before .before .before) .0), lost-is (c .before .before .before .before), add-one) at (c .format-stores .ensures)
+    let here = c .before .before .before .before .before .present-drives in
+    let f = c .format-stores in
+    let t = tablesOf (now (a .sectors)) (now (a .written)) (now (a .durable)) in
+    let h : isSet (here .result) ≡ namedDrives (a .g) (isSet (a .named)) = ap isSet (here .ensures) ∙ named-is (a .g) (a .named) (accepted (c .before .before .before .before .before .before) .0) in
+    let e = ap₂ (λ (p : ℕ → Bool) (x : ℕ). formatStores (a .g) p x (a .array)) h (lost-is (c .before .before .before .before)) in
+    let b : a .count + 1 ≡ suc (a .count) = omega arith in
+    subst (λ (l : ℕ). Made (a .g) l (f .result) (formatStores (a .g) (namedDrives (a .g) (isSet (a .named))) (leftOut (a .g) (isSet (a .named))) (a .array)) t (left c)) b
+    (subst (λ (ss : List Store). Made (a .g) (a .count + 1) (f .result) ss t (left c)) e (f .ensures))
+
+fresh-state-requires : tie.Need-fresh-state-requires
+fresh-state-requires c κs = accepted (c .before .before .before .before .before .before .before .before .before .before .before .before) .0
 
 returns-2 : tie.Need-returns-2
 unfolding formatOn
 returns-2 c =
-    let at-format-stores = c .before .before .before .before .before .before .before in
-    let at-start = at-format-stores .before .before .before .before .before .before in
-    let at-start-2 = at-start .before in
-    let s = at-start-2 .before .before .before .before .before .before in
+    let f = c .before .before .before .before .before .before .before .before in
+    let x = f .before .before .before .before in
+    let e = x .before .before in
+    let s = e .before .before .before .before .before .before .before in
     let a = s .args in
-    let e = sym (number (at-start-2)) ∙ passed (at-start) in
-    let (p, q) = storing-unfinished (a .g) (refusal s) (stores s) (next s) (a .old) (a .count) (given s) (at-format-stores .format-stores .result) (left (at-format-stores)) e (made (at-format-stores)) (c .if2 .taken) in
-    (sym p, sym q)
-
-fresh-state-requires : tie.Need-fresh-state-requires
-fresh-state-requires c κs = accepted (c .before .before .before .before .before .before .before .before .before .before .before .before .before) .0
-
-returns-3 : tie.Need-returns-3
-unfolding formatOn
-returns-3 c =
-    let at-format-stores = c .before .before .before .before .before .before .before .before in
-    let at-start = at-format-stores .before .before .before .before in
-    let at-start-2 = at-start .before .before in
-    let at-start-3 = at-start-2 .before in
-    let s = at-start-3 .before .before .before .before .before .before in
-    let a = s .args in
-    let e = sym (number (at-start-3)) ∙ passed (at-start-2) in
-    let (p, q) = storing-finished (a .g) (refusal s) (stores s) (next s) (a .old) (a .count) (given s) (at-format-stores .format-stores .result) (left (at-format-stores)) e (made (at-format-stores)) (c .before .if2 .left) in
-    (rw (c .fresh-state .ensures, lost-is (at-start)) (sym p), sym q)
+    let n = sym (number (e .before)) ∙ passed e in
+    let state : c .before .fresh-state .result ≡ next s = c .before .fresh-state .ensures ∙ ap (freshState (a .g)) (lost-is x) in
+    let ending : State → Outcome = λ y. pick (eqb (f .format-stores .result) 0) (record { answer = Unfinished; state = a .old }) (record { answer = Finished; state = y }) in
+    let (p, q) = storing-ends (a .g) (refusal s) (stores s) (next s) (a .old) (a .count) (given s) (f .format-stores .result) (left f) n (made f) in
+    (c .ended .ensures ∙ ap ending state ∙ p, q)
 
 pub format-spec : {M : Type 1} → statement M
 format-spec =
     tie.close
-    (tie.spec (λ c κs. search needs) (λ c. search needs) (λ c. search needs) returns present-drives-requires left-out-requires (λ c. search needs)
-    format-stores-requires (λ c. search needs) (λ c. search needs) (λ c. search needs) returns-2 fresh-state-requires (λ c. search needs)
-    (λ c. search needs) (λ c. search needs) returns-3)
+    (tie.spec (λ c κs. search needs) (λ c κs. search needs) (λ c. search needs) (λ c. search needs) returns present-drives-requires left-out-requires (λ c. search needs)
+    format-stores-requires fresh-state-requires (λ c κs. search needs) (λ c. search needs) (λ c. search needs) (λ c. search needs) returns-2)

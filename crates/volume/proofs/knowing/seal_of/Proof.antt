@@ -19,15 +19,15 @@ returns c =
 
 least-seal-requires : tie.Need-least-seal-requires
 least-seal-requires c κs =
-    let s = c .before .before .before .before .before .before .before .before in
+    let s = c .before .before .before .before .before .before .before in
     let r = s .pre .1 .0 in
-    let h : isSet (s .args .zone .here) (s .args .d) ≡ true = not-not (isSet (s .args .zone .here) (s .args .d)) (c .before .before .before .before .if1 .left) in
+    let h : isSet (s .args .zone .here) (s .args .d) ≡ true = not-not (isSet (s .args .zone .here) (s .args .d)) (c .before .before .before .if1 .left) in
     let e : c .widen .result ≡ getD (now (s .args .written)) (cell (s .args .zone .geometry) (s .args .d) 0) 0 = c .widen .ensures ∙ rw (c .before .before .cell-of .ensures .0) refl in
     (s .pre .0, record { drive-in = s .pre .1 .1; zone-in = omega arith; short = rw e (r .pointers (s .args .d) 0 (s .pre .1 .1) h (omega arith)); long = r .sectors-long })
 
 returns-2 : tie.Need-returns-2
 returns-2 c =
-    let at-if = c .before .before .before .before .before in
+    let at-if = c .before .before .before .before in
     let s = at-if .before .before .before .before in
     let a = s .args in
     let h : isSet (a .zone .here) (a .d) ≡ true = not-not (isSet (a .zone .here) (a .d)) (at-if .if1 .left) in

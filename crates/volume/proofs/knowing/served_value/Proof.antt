@@ -20,20 +20,20 @@ way-is c = c .source-of .ensures ∙ c .before .before .before .before .pre .1 .
 
 value-by-requires : tie.Need-value-by-requires
 value-by-requires c κs =
-    let s = c .before .before .before .before .before .before in
+    let s = c .before .before .before .before .before in
     let a = s .args in
-    (s .pre .0, (s .pre .1 .0 .zone-in, s .pre .1 .1, s .pre .1 .0 .sectors-long, s .pre .1 .4, rw (way-is (c .before .before)) (value-is (a .zone .geometry) (a .zone .here) (now (a .sectors)) (now (a .written)) (a .zone .number) (s .pre .1 .0) (s .pre .0) (a .zone .generation) (a .a) (s .pre .1 .1) .0)))
+    (s .pre .0, (s .pre .1 .0 .zone-in, s .pre .1 .1, s .pre .1 .0 .sectors-long, s .pre .1 .4, rw (way-is (c .before)) (value-is (a .zone .geometry) (a .zone .here) (now (a .sectors)) (now (a .written)) (a .zone .number) (s .pre .1 .0) (s .pre .0) (a .zone .generation) (a .a) (s .pre .1 .1) .0)))
 
 same-length : tie.Need-same-length
 same-length c = search needs
 
 returns : tie.Need-returns
 returns c =
-    let s = c .before .before .before .before .before .before .before .before .before in
+    let s = c .before .before .before .before .before .before .before .before in
     let a = s .args in
     let w = sourceOf (a .zone .geometry) (a .zone .here) (now (a .sectors)) (now (a .written)) (a .zone .number) (a .zone .generation) (sealLimit (a .zone .geometry) (isSet (a .zone .here)) (readDevice (a .zone .geometry) (now (a .sectors)) (now (a .written))) (a .zone .number) (a .zone .generation)) (a .a) in
     let k : hasSource w ≡ true = sym (known-is (a .zone .geometry) (a .zone .here) (now (a .sectors)) (now (a .written)) (a .zone .number) (s .pre .1 .0) (s .pre .0) (a .zone .generation) (a .a) (s .pre .1 .1)) ∙ s .pre .1 .3 in
-    c .before .before .value-by .ensures ∙ ap (λ (x : Source). valueFrom (a .zone .geometry) (now (a .sectors)) (a .zone .number) (a .a) x (now (a .out))) (way-is (c .before .before .before .before .before))
+    c .before .before .value-by .ensures ∙ ap (λ (x : Source). valueFrom (a .zone .geometry) (now (a .sectors)) (a .zone .number) (a .a) x (now (a .out))) (way-is (c .before .before .before .before))
     ∙ ap (λ (b : Bool). pick b (wayValue (a .zone .geometry) (now (a .sectors)) (a .zone .number) (a .a) w) (now (a .out))) k ∙ sym (value-is (a .zone .geometry) (a .zone .here) (now (a .sectors)) (now (a .written)) (a .zone .number) (s .pre .1 .0) (s .pre .0) (a .zone .generation) (a .a) (s .pre .1 .1) .1 k)
 
 pub served-value-spec : {M : Type 1} → statement M

@@ -22,7 +22,7 @@ use Rattle.volume.proofs.knowing.serving_place.Tie as tie
 returns : tie.Need-returns
 unfolding servingPlace
 returns c =
-    let a = c .before .before .before .before .before .before .args in
+    let a = c .before .before .before .before .before .args in
     let h : isSet (a .zone .here) (parityOf (a .zone .geometry .drives) (a .zone .geometry .unit) (a .zone .number) (a .a)) ≡ false = ap (λ (p : ℕ). isSet (a .zone .here) p) (sym (c .before .parity-of .ensures .0)) ∙ not-true (isSet (a .zone .here) (c .before .parity-of .result)) (c .if1 .taken) in
     rw h refl
 
@@ -30,7 +30,7 @@ last-partial-requires : tie.Need-last-partial-requires
 last-partial-requires c κs =
     let at-if = c .before .before .before .before .before in
     let at-parity-of = at-if .before in
-    let s = at-parity-of .before .before .before .before .before in
+    let s = at-parity-of .before .before .before .before in
     let a = s .args in
     let f = at-parity-of .parity-of in
     let h : isSet (a .zone .here) (f .result) ≡ true = not-not (isSet (a .zone .here) (f .result)) (at-if .if1 .left) in
@@ -44,7 +44,7 @@ returns-2 c =
     let at-reach-of = at-min .before in
     let at-if = at-reach-of .before in
     let at-parity-of = at-if .before in
-    let s = at-parity-of .before .before .before .before .before in
+    let s = at-parity-of .before .before .before .before in
     let a = s .args in
     let f = at-parity-of .parity-of in
     let P = parityOf (a .zone .geometry .drives) (a .zone .geometry .unit) (a .zone .number) (a .a) in

@@ -27,7 +27,7 @@ returns c =
 
 general-size-requires : tie.Need-general-size-requires
 general-size-requires c κs =
-    let s = to-start (c .before .before .before) in
+    let s = to-start (c .before) in
     let a = s .args in
     let k = s .pre .1 .0 in
     let at = placed-zones (a .asked .first) (a .asked .places) (now (a .sectors)) (now (a .written)) (now (a .pointers)) k in
@@ -36,7 +36,7 @@ general-size-requires c κs =
 returns-2 : tie.Need-returns-2
 unfolding generalRoomAt
 returns-2 c =
-    let e = c .before .before .before .before in
+    let e = c .before .before in
     let w = e .before in
     let s = to-start w in
     let a = s .args in

@@ -14,7 +14,7 @@ abbrev μ-loop : tie.MeasureT-loop
 μ-loop sectors written pointers asked points n all₀ d₀ all d = n - d
 
 abbrev to-start : tie.At-loop Inv-loop μ-loop → tie.Start Inv-loop μ-loop
-to-start c = c .before .before .before .before .before .before .before
+to-start c = c .before .before .before .before .before .before
 
 parity-on-requires : tie.Need-parity-on-requires Inv-loop μ-loop
 parity-on-requires c κs = let s = to-start (c .before) in (s .pre .0, (s .pre .1 .0, omega arith, s .pre .1 .1))

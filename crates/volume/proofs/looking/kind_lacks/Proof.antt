@@ -18,22 +18,22 @@ loop-holds : tie.Need-loop-holds Inv-loop μ-loop
 loop-holds c = (omega arith, refl)
 
 array-read-lacks : tie.Need-array-read-lacks Inv-loop μ-loop
-array-read-lacks c = omega (arith, c .before .before .before .before .before .pre .drives-most)
+array-read-lacks c = omega (arith, c .before .before .before .before .pre .drives-most)
 
 array-read-lacks-2 : tie.Need-array-read-lacks-2 Inv-loop μ-loop
-array-read-lacks-2 c = omega (arith, c .before .before .before .before .before .pre .drives-most)
+array-read-lacks-2 c = omega (arith, c .before .before .before .before .pre .drives-most)
 
 array-read-lacks-3 : tie.Need-array-read-lacks-3 Inv-loop μ-loop
-array-read-lacks-3 c = omega (arith, c .before .before .before .before .before .pre .drives-most)
+array-read-lacks-3 c = omega (arith, c .before .before .before .before .pre .drives-most)
 
 add-d : tie.Need-add-d Inv-loop μ-loop
-add-d c = omega (arith, c .before .before .before .before .before .pre .drives-most)
+add-d c = omega (arith, c .before .before .before .before .pre .drives-most)
 
 loop-again : tie.Need-loop-again Inv-loop μ-loop
 loop-again c = let l = c .before .loop in (omega arith, rw (l .inv .1, add-one) refl)
 
 returns : tie.Need-returns Inv-loop μ-loop
-returns c = let l = c .before .loop in let e : l .d ≡ c .before .before .before .before .before .args .places .geometry .drives = omega arith in l .inv .1 ∙ rw e refl
+returns c = let l = c .before .loop in let e : l .d ≡ c .before .before .before .before .args .places .geometry .drives = omega arith in l .inv .1 ∙ rw e refl
 
 pub kind-lacks-spec : {M : Type 1} → statement M
 kind-lacks-spec =

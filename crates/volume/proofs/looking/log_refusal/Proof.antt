@@ -18,11 +18,11 @@ use Rattle.volume.proofs.looking.log_refusal.Statement.{statement}
 use Rattle.volume.proofs.looking.log_refusal.Tie as tie
 
 -- at most one drive is lost
-one : (c : tie.Else1) → let a = c .before .before .before .before .before .args in countBelow (λ (d : ℕ). not (isSet (a .here) d)) (a .places .geometry .drives) ≤ 1
+one : (c : tie.Else1) → let a = c .before .before .before .before .args in countBelow (λ (d : ℕ). not (isSet (a .here) d)) (a .places .geometry .drives) ≤ 1
 one c = let h : c .before .count-absent .result ≤ 1 = omega arith in rw (c .before .count-absent .ensures) at h
 
 -- no kind lacks
-kinds : (c : tie.Else2) → let a = c .before .before .before .before .before .before .before .args in kindLacksOn (a .places) (a .here) ≡ false
+kinds : (c : tie.Else2) → let a = c .before .before .before .before .before .before .args in kindLacksOn (a .places) (a .here) ≡ false
 kinds c = sym (c .before .kind-lacks .ensures) ∙ c .if2 .left
 
 -- whether a log is bad, by the first bad place
@@ -36,26 +36,26 @@ told s =
 
 returns : tie.Need-returns
 returns c =
-    let a = c .before .before .before .before .before .args in let v = readDevice (a .places .geometry) (now (a .sectors)) (now (a .written)) in
+    let a = c .before .before .before .before .args in let v = readDevice (a .places .geometry) (now (a .sectors)) (now (a .written)) in
     let h : 1 < c .before .count-absent .result = c .if1 .taken in
     logs-4 (a .places) (a .here) v (rw (c .before .count-absent .ensures) at h)
 
 returns-2 : tie.Need-returns-2
-returns-2 c = let a = c .before .before .before .before .before .before .before .args in let v = readDevice (a .places .geometry) (now (a .sectors)) (now (a .written)) in logs-5-kind (a .places) (a .here) v (one (c .before .before)) (sym (c .before .kind-lacks .ensures) ∙ c .if2 .taken)
+returns-2 c = let a = c .before .before .before .before .before .before .args in let v = readDevice (a .places .geometry) (now (a .sectors)) (now (a .written)) in logs-5-kind (a .places) (a .here) v (one (c .before .before)) (sym (c .before .kind-lacks .ensures) ∙ c .if2 .taken)
 
 returns-3 : tie.Need-returns-3
-returns-3 c = let a = c .before .before .before .before .before .before .before .before .before .args in let v = readDevice (a .places .geometry) (now (a .sectors)) (now (a .written)) in logs-5 (a .places) (a .here) v (one (c .before .before .before .before)) (kinds (c .before .before)) (sym (c .before .labels-bad .ensures) ∙ c .if3 .taken)
+returns-3 c = let a = c .before .before .before .before .before .before .before .before .args in let v = readDevice (a .places .geometry) (now (a .sectors)) (now (a .written)) in logs-5 (a .places) (a .here) v (one (c .before .before .before .before)) (kinds (c .before .before)) (sym (c .before .labels-bad .ensures) ∙ c .if3 .taken)
 
 returns-4 : tie.Need-returns-4
 returns-4 c =
-    let a = c .before .before .before .before .before .before .before .before .before .before .args in let v = readDevice (a .places .geometry) (now (a .sectors)) (now (a .written)) in
-    logs-6 (a .places) (a .here) v (one (c .before .before .before .before .before)) (kinds (c .before .before .before)) (sym (c .before .before .labels-bad .ensures) ∙ c .before .if3 .left) (told (c .before .before .before .before .before .before .before .before .before .before) ∙ ap not (ne-eqb (a .bad .number) 0 (c .if4 .taken)))
+    let a = c .before .before .before .before .before .before .before .before .before .args in let v = readDevice (a .places .geometry) (now (a .sectors)) (now (a .written)) in
+    logs-6 (a .places) (a .here) v (one (c .before .before .before .before .before)) (kinds (c .before .before .before)) (sym (c .before .before .labels-bad .ensures) ∙ c .before .if3 .left) (told (c .before .before .before .before .before .before .before .before .before) ∙ ap not (ne-eqb (a .bad .number) 0 (c .if4 .taken)))
 
 returns-5 : tie.Need-returns-5
 returns-5 c =
-    let a = c .before .before .before .before .before .before .before .before .before .before .args in let v = readDevice (a .places .geometry) (now (a .sectors)) (now (a .written)) in
+    let a = c .before .before .before .before .before .before .before .before .before .args in let v = readDevice (a .places .geometry) (now (a .sectors)) (now (a .written)) in
     let none : a .bad .number ≡ 0 = omega arith in
-    logs-0 (a .places) (a .here) v (one (c .before .before .before .before .before)) (kinds (c .before .before .before)) (sym (c .before .before .labels-bad .ensures) ∙ c .before .if3 .left) (told (c .before .before .before .before .before .before .before .before .before .before) ∙ ap not (eq-eqb (a .bad .number) 0 none))
+    logs-0 (a .places) (a .here) v (one (c .before .before .before .before .before)) (kinds (c .before .before .before)) (sym (c .before .before .labels-bad .ensures) ∙ c .before .if3 .left) (told (c .before .before .before .before .before .before .before .before .before) ∙ ap not (eq-eqb (a .bad .number) 0 none))
 
 pub log-refusal-spec : {M : Type 1} → statement M
 log-refusal-spec =

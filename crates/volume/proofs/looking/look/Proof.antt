@@ -70,8 +70,8 @@ pointers-long f = let a = to-start (shape-of f) .args in seen-long (a .g) (now (
 abbrev past : tie.After-survey-drives → List ℕ
 past f = drop (length (now (to-start (shape-of f) .args .written))) (replicate 152 0)
 
-lent : (f : tie.After-survey-drives) → take (length (now (to-start (shape-of f) .args .written))) (pointers-of f ++ past f) ≡ pointers-of f
-lent f = take-at (pointers-of f) (past f) (length (now (to-start (shape-of f) .args .written))) (pointers-long f)
+front-kept : (f : tie.After-survey-drives) → take (length (now (to-start (shape-of f) .args .written))) (pointers-of f ++ past f) ≡ pointers-of f
+front-kept f = take-at (pointers-of f) (past f) (length (now (to-start (shape-of f) .args .written))) (pointers-long f)
 
 placed-valid : (f : tie.After-survey-drives) → Valid (f .survey-drives .result .places .geometry)
 placed-valid f = let a = to-start (shape-of f) .args in seen-valid (a .g) (now (a .sectors)) (now (a .written)) (f .survey-drives .result .places) (pointers-of f) (f .survey-drives .ensures .seen) (valid (shape-of f))
@@ -92,31 +92,31 @@ accepted c = omega arith
 
 -- ---- what is shown
 array-share-prefix-pointers : tie.Need-array-share-prefix-pointers
-array-share-prefix-pointers c = let f = c .before .before .before .before .before in front-fits (length (now (to-start (shape-of f) .args .written))) (pointers-of f) (past f) (pointers-long f)
+array-share-prefix-pointers c = let f = c .before .before .before in front-fits (length (now (to-start (shape-of f) .args .written))) (pointers-of f) (past f) (pointers-long f)
 
 slice-aggregate-look-all : tie.Need-slice-aggregate-look-all
-slice-aggregate-look-all c = let f = c .before .before .before .before .before .before in front-long (length (now (to-start (shape-of f) .args .written))) (pointers-of f) (past f) (pointers-long f)
+slice-aggregate-look-all c = let f = c .before .before .before .before in front-long (length (now (to-start (shape-of f) .args .written))) (pointers-of f) (past f) (pointers-long f)
 
 look-all-requires : tie.Need-look-all-requires
 look-all-requires c κs =
-    let f = c .before .before .before .before .before .before in
+    let f = c .before .before .before .before in
     let a = to-start (shape-of f) .args in
     let v = f .survey-drives .result in
-    (placed-valid f, subst (λ (ps : List ℕ). Lookable (v .places .geometry) (v .here) (now (a .sectors)) ps) (sym (lent f)) (survey-lookable (a .g) (a .named) (now (a .sectors)) (now (a .written)) v (pointers-of f) (f .survey-drives .ensures) (now (a .durable)) (passed (shape-of f))))
+    (placed-valid f, subst (λ (ps : List ℕ). Lookable (v .places .geometry) (v .here) (now (a .sectors)) ps) (sym (front-kept f)) (survey-lookable (a .g) (a .named) (now (a .sectors)) (now (a .written)) v (pointers-of f) (f .survey-drives .ensures) (now (a .durable)) (passed (shape-of f))))
 
 returns-3 : tie.Need-returns-3
 returns-3 c =
-    let f = c .before .before .before .before .before .before .before .before .before in
+    let f = c .before .before .before .before .before .before .before in
     let a = to-start (shape-of f) .args in
     let v = f .survey-drives .result in
     let h = v .places .geometry in
     let k = c .before .before .look-all in
-    let e = k .ensures ∙ ap (λ (ps : List ℕ). lookOf h (showing h (isSet (v .here)) (findBelow (λ (d : ℕ). not (isSet (v .here) d)) (h .drives)) (readDevice h (now (a .sectors)) ps))) (lent f) in
-    let q = survey-finished (a .g) (a .named) (now (a .sectors)) (now (a .written)) v (pointers-of f) (f .survey-drives .ensures) (now (a .durable)) (a .old) (passed (shape-of f)) (accepted (c .before .before .before .before .before .before .before)) (k .result) e in
+    let e = k .ensures ∙ ap (λ (ps : List ℕ). lookOf h (showing h (isSet (v .here)) (findBelow (λ (d : ℕ). not (isSet (v .here) d)) (h .drives)) (readDevice h (now (a .sectors)) ps))) (front-kept f) in
+    let q = survey-finished (a .g) (a .named) (now (a .sectors)) (now (a .written)) v (pointers-of f) (f .survey-drives .ensures) (now (a .durable)) (a .old) (passed (shape-of f)) (accepted (c .before .before .before .before .before)) (k .result) e in
     rw (c .records-of .ensures) q
 
 pub look-spec : {M : Type 1} → statement M
 look-spec =
     tie.close
     (tie.spec (λ c κs. search needs) (λ c κs. search needs) returns few (λ c. sym (front-of (c .before))) survey-drives-requires (λ c κs. search needs) returns-2 array-share-prefix-pointers
-    slice-aggregate-look-all look-all-requires (λ c κs. placed-valid (c .before .before .before .before .before .before .before .before)) returns-3)
+    slice-aggregate-look-all look-all-requires (λ c κs. placed-valid (c .before .before .before .before .before .before)) returns-3)

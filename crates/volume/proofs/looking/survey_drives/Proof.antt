@@ -12,28 +12,28 @@ seen c = let p = to-start c .pre .1 in let e = c .see-by-roles .ensures in recor
 
 look-present-requires : tie.Need-look-present-requires
 look-present-requires c κs =
-    let r = c .before .before .before .before in
+    let r = c .before .before .before in
     let s = to-start r in
     let a = s .args in
     (seen-valid (a .g) (now (a .sectors)) (now (a .written)) (r .see-by-roles .result) (r .see-by-roles .last .1 .1 .0) (seen r) (s .pre .0), seen-sized (a .g) (now (a .sectors)) (now (a .written)) (r .see-by-roles .result) (r .see-by-roles .last .1 .1 .0) (seen r))
 
 first-bad-requires : tie.Need-first-bad-requires
 first-bad-requires c κs =
-    let r = c .before .before .before .before .before .before in
+    let r = c .before .before .before .before .before in
     let s = to-start r in
     let a = s .args in
     (seen-valid (a .g) (now (a .sectors)) (now (a .written)) (r .see-by-roles .result) (r .see-by-roles .last .1 .1 .0) (seen r) (s .pre .0), seen-sized (a .g) (now (a .sectors)) (now (a .written)) (r .see-by-roles .result) (r .see-by-roles .last .1 .1 .0) (seen r))
 
 log-refusal-requires : tie.Need-log-refusal-requires
 log-refusal-requires c κs =
-    let r = c .before .before .before .before .before .before .before .before in
+    let r = c .before .before .before .before .before .before .before in
     let s = to-start r in
     let a = s .args in
     (seen-valid (a .g) (now (a .sectors)) (now (a .written)) (r .see-by-roles .result) (r .see-by-roles .last .1 .1 .0) (seen r) (s .pre .0), (seen-sized (a .g) (now (a .sectors)) (now (a .written)) (r .see-by-roles .result) (r .see-by-roles .last .1 .1 .0) (seen r), c .before .first-bad .ensures))
 
 returns : tie.Need-returns
 returns c = record {
-  seen = seen (c .before .before .before .before .before .before .before .before .before);
+  seen = seen (c .before .before .before .before .before .before .before .before);
   present = c .before .before .before .before .look-present .ensures;
   refused = c .log-refusal .ensures;
   bad-is = c .before .before .first-bad .ensures;

@@ -1,10 +1,12 @@
 use Prim.Native.Nat.{ℕ, _+_, _-_}
-use mathlib.Core.Path.{_≡_, sym, ap, _∙_}
+use mathlib.Core.Path.{_≡_, sym, ap, ap₂, _∙_}
 use mathlib.Core.Bool.{false}
 use native.Mathlib.Omega.{arith}
-use mathlib.Core.List.{List}
+use mathlib.Core.List.{List, []}
 use lib.Dec.{eqb}
 use Rattle.logs.specs.meaning.Entry.{Header}
+use Rattle.logs.specs.meaning.Heads.{lastCounters}
+use Rattle.tables.specs.meaning.LittleEndian.{sameBytes}
 use denote.Ref.{now}
 use Rattle.logs.specs.meaning.Walk.{walkLog}
 use Rattle.logs.specs.code.WalkCode.{logSectors}
@@ -38,19 +40,24 @@ heads w =
       seen-heads (a .g) (now (a .sectors)) (now (a .pointers)) (a .e) (s .pre .1 .1) ∙ ap (at (a .e)) (sym (w .before .before .sectors-then2 .ensures .0)),
     )
 
+-- so are their last counters
+told : (w : tie.After-last-counters2) → let a = start w .args in let v = readDevice (a .g) (now (a .sectors)) (now (a .pointers)) in
+    sameBytes (lastCounters [] (headsOf (walkLog (a .g) (a .d) false (first w)))) (lastCounters [] (headsOf (walkLog (a .g) (a .e) false (second w)))) ≡ sameBytes (lastCounters [] (generalHeads (a .g) v (a .d))) (lastCounters [] (generalHeads (a .g) v (a .e)))
+told w = sym (ap₂ (λ (x y : List Header). sameBytes (lastCounters [] x) (lastCounters [] y)) (heads w .0) (heads w .1))
+
 returns : tie.Need-returns
 returns c =
     let w = c .before in
     let s = start w in
     let a = s .args in
-    rw (heads w .0, heads w .1) (ap (λ (k : ℕ). eqb k 0) (w .last-counters2 .ensures .0) ∙ same-if-none (a .g) (a .d) (a .e) (first w) (second w) (s .pre .0 .zones-least) (sym (w .before .last-counters .ensures .0) ∙ c .if1 .taken))
+    ap (λ (k : ℕ). eqb k 0) (w .last-counters2 .ensures .0) ∙ same-if-none (a .g) (a .d) (a .e) (first w) (second w) (s .pre .0 .zones-least) (sym (w .before .last-counters .ensures .0) ∙ c .if1 .taken) ∙ told w
 
 returns-2 : tie.Need-returns-2
 returns-2 c =
     let w = c .before .before in
     let s = start w in
     let a = s .args in
-    rw (heads w .0, heads w .1) (differ-if-one (a .g) (a .d) (a .e) (first w) (second w) (s .pre .0 .zones-least) (λ h. c .before .if1 .left (w .before .last-counters .ensures .0 ∙ h)) (sym (w .last-counters2 .ensures .0) ∙ c .if2 .taken))
+    differ-if-one (a .g) (a .d) (a .e) (first w) (second w) (s .pre .0 .zones-least) (λ h. c .before .if1 .left (w .before .last-counters .ensures .0 ∙ h)) (sym (w .last-counters2 .ensures .0) ∙ c .if2 .taken) ∙ told w
 
 returns-3 : tie.Need-returns-3
 returns-3 c =
@@ -61,7 +68,7 @@ returns-3 c =
     let q = w .last-counters2 in
     let x : p .result ≡ p .result - 1 + 1 = omega (arith, c .before .before .if1 .left) in
     let y : q .result ≡ q .result - 1 + 1 = omega (arith, c .before .if2 .left) in
-    rw (heads w .0, heads w .1) (c .same-generations .ensures ∙ same-if-both (a .g) (a .d) (a .e) (first w) (second w) (s .pre .0 .zones-least) (p .result - 1) (q .result - 1) (sym (p .ensures .0) ∙ x) (sym (q .ensures .0) ∙ y))
+    c .same-generations .ensures ∙ same-if-both (a .g) (a .d) (a .e) (first w) (second w) (s .pre .0 .zones-least) (p .result - 1) (q .result - 1) (sym (p .ensures .0) ∙ x) (sym (q .ensures .0) ∙ y) ∙ told w
 
 pub same-counters-spec : {M : Type 1} → statement M
 same-counters-spec =

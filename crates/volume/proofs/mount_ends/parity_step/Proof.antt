@@ -16,17 +16,17 @@ use Rattle.volume.proofs.mount_ends.parity_step.Tie as tie
 -- the arrays of the look, as the code has made them
 empty-parities-requires : tie.Need-empty-parities-requires
 empty-parities-requires c κs =
-    let s = c .before .before .before .before .before .before .before .before .before .before .before .before .before .before in
+    let s = c .before .before .before .before .before .before .before .before .before .before .before .before .before in
     let a = s .args in
-    let gs = c .before .before .before .before .before .before .before .before .generations-of in
-    let qs = c .before .before .before .before .before .before .before .pointers-of in
+    let gs = c .before .before .before .before .before .before .before .generations-of in
+    let qs = c .before .before .before .before .before .before .pointers-of in
     let ready : List ℕ → List ℕ → Type 0 = λ x y. ParitiesReady (a .all) x y (now (a .pointers)) (now (a .starts)) (now (a .sectors)) (now (a .written)) (now (a .durable)) in
     (s .pre .0, subst (λ (x : List ℕ). ready x (qs .result)) (sym (gs .ensures)) (subst (ready (generationsIn (a .look))) (sym (qs .ensures)) (s .pre .1)))
 
 flush-after-requires : tie.Need-flush-after-requires
 flush-after-requires c κs =
     let f = c .before .before .before .before .before .before .before .before .empty-parities in
-    let s = c .before .before .before .before .before .before .before .before .before .before .before .before .before .before .before .before .before .before .before .before .before .before .before in
+    let s = c .before .before .before .before .before .before .before .before .before .before .before .before .before .before .before .before .before .before .before .before .before .before in
     let all = s .args .all in
     let shape = s .pre .1 .ready .shape in
     let few = sym (shape-cells (all .from) (all .to) shape) in
@@ -36,9 +36,9 @@ returns : tie.Need-returns
 returns c =
     let h = c .before .before .flush-after in
     let f = c .before .before .before .before .before .before .before .before .before .before .before .empty-parities in
-    let s = c .before .before .before .before .before .before .before .before .before .before .before .before .before .before .before .before .before .before .before .before .before .before .before .before .before .before in
-    let gs = c .before .before .before .before .before .before .before .before .before .before .before .before .before .before .before .before .before .before .before .before .generations-of in
-    let qs = c .before .before .before .before .before .before .before .before .before .before .before .before .before .before .before .before .before .before .before .pointers-of in
+    let s = c .before .before .before .before .before .before .before .before .before .before .before .before .before .before .before .before .before .before .before .before .before .before .before .before .before in
+    let gs = c .before .before .before .before .before .before .before .before .before .before .before .before .before .before .before .before .before .before .before .generations-of in
+    let qs = c .before .before .before .before .before .before .before .before .before .before .before .before .before .before .before .before .before .before .pointers-of in
     let a = s .args in
     let t = tablesOf (now (a .sectors)) (now (a .written)) (now (a .durable)) in
     let u = tablesOf (f .last .0) (f .last .1 .0) (f .last .1 .1 .0) in

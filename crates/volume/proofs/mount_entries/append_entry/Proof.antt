@@ -26,10 +26,10 @@ use Rattle.volume.proofs.mount_entries.append_entry.Statement.{statemen
 use Rattle.volume.proofs.mount_entries.append_entry.Tie as tie
 
 -- the stripe begins at or below the pointer, which is small
-begins : (c : tie.After-stripe-sectors) → let a = c .before .before .before .before .before .before .before .before .args in let p = zoneLook (a .basis .look) (a .z) .pointer in
+begins : (c : tie.After-stripe-sectors) → let a = c .before .before .before .before .before .before .args in let p = zoneLook (a .basis .look) (a .z) .pointer in
     (p / c .stripe-sectors .result * c .stripe-sectors .result ≤ p) × (p ≤ 458752)
 begins c =
-    let s = c .before .before .before .before .before .before .before .before in
+    let s = c .before .before .before .before .before .before in
     let a = s .args in
     let p = zoneLook (a .basis .look) (a .z) .pointer in
     (omega (arith, div-add-mod' p (c .stripe-sectors .result)), omega (arith, s .pre .1 .3 .within .pointer-most (a .z) (s .pre .1 .1), zone-small (a .basis .geometry) (s .pre .0) .1))
@@ -42,7 +42,7 @@ sub-fill c = omega (arith, begins c .0)
 
 append-partial-requires : tie.Need-append-partial-requires
 append-partial-requires c κs =
-    let s = c .before .before .before .before .before .before .before .before .before .before in
+    let s = c .before .before .before .before .before .before .before .before in
     let a = s .args in
     let l = s .pre .1 .3 in
     let g = a .basis .geometry in
@@ -61,7 +61,7 @@ abbrev header : tie.Start → List Store
 header s = let a = s .args in append (a .drive) parityZone (encode (a .basis .geometry) (a .drive) (entryHeader (a .basis .geometry) (a .z) (zoneLook (a .basis .look) (a .z) .generation) (zoneLook (a .basis .look) (a .z) .pointer))) ∷ []
 
 abbrev to-start : tie.After-append-partial → tie.Start
-to-start c = c .before .before .before .before .before .before .before .before .before .before .before
+to-start c = c .before .before .before .before .before .before .before .before .before
 
 headed : (c : tie.After-append-partial) → let a = to-start c .args in let f = c .append-partial in MadeAppends (a .to) (a .budget) (f .result) (header (to-start c)) (now (a .sectors)) (now (a .written)) (f .last .0) (f .last .1 .0)
 headed c =
@@ -89,16 +89,16 @@ kept c =
 
 append-entry-rows-requires : tie.Need-append-entry-rows-requires
 append-entry-rows-requires c κs =
-    let s = c .before .before .before .before .before .before .before .before .before .before .before .before .before .before .before .before .before in
+    let s = c .before .before .before .before .before .before .before .before .before .before .before .before .before .before .before in
     let a = s .args in
     let k = c .before .before .before .before .before .before .before .before .before in
     (s .pre .0, (s .pre .1 .0, s .pre .1 .1, rw (← k .stripe-sectors .ensures .0) (omega (arith, begins k .0)), omega arith, kept (c .before .before .before .before .before .before) .0))
 
 -- the rows, as they are meant
-rows : (c : tie.After-append-entry-rows) → let s = c .before .before .before .before .before .before .before .before .before .before .before .before .before .before .before .before .before .before in let a = s .args in let b = a .basis in let f = c .before .before .before .before .before .before .before .append-partial in let r = c .append-entry-rows in
+rows : (c : tie.After-append-entry-rows) → let s = c .before .before .before .before .before .before .before .before .before .before .before .before .before .before .before .before in let a = s .args in let b = a .basis in let f = c .before .before .before .before .before .before .before .append-partial in let r = c .append-entry-rows in
     MadeAppends (a .to) (f .result) (r .result) (entryRows (b .geometry) (values s) (a .drive) (zoneLook (b .look) (a .z) .pointer)) (f .last .0) (f .last .1 .0) (r .last .0) (r .last .1 .0)
 rows c =
-    let s = c .before .before .before .before .before .before .before .before .before .before .before .before .before .before .before .before .before .before in
+    let s = c .before .before .before .before .before .before .before .before .before .before .before .before .before .before .before .before in
     let a = s .args in
     let b = a .basis in
     let at = c .before .before .before .before .before .before .before in
@@ -113,7 +113,7 @@ rows c =
 
 returns : tie.Need-returns
 returns c =
-    let s = c .before .before .before .before .before .before .before .before .before .before .before .before .before .before .before .before .before .before .before .before .before .before in
+    let s = c .before .before .before .before .before .before .before .before .before .before .before .before .before .before .before .before .before .before .before .before in
     let a = s .args in
     let b = a .basis in
     let at = c .before .before .before .before .before .before .before .before .before .before .before in

@@ -22,10 +22,10 @@ use Rattle.volume.proofs.mount_entries.append_entry_rows.Statement.{sta
 use Rattle.volume.proofs.mount_entries.append_entry_rows.Tie as tie
 
 -- the entry's end is at or below the pointer, and small
-end-below : (c : tie.After-stripe-sectors) → let s = c .before .before .before .before .before in let e = s .args .entry in
+end-below : (c : tie.After-stripe-sectors) → let s = c .before .before .before .before in let e = s .args .entry in
     (e .stripe * c .stripe-sectors .result + e .fill ≤ zoneLook (s .args .basis .look) (e .zone) .pointer) × (zoneLook (s .args .basis .look) (e .zone) .pointer ≤ 458752)
 end-below c =
-    let s = c .before .before .before .before .before in
+    let s = c .before .before .before .before in
     let z = s .args .entry .zone in
     (rw (c .stripe-sectors .ensures .0) (s .pre .1 .2), omega (arith, s .pre .1 .4 .within .pointer-most z (s .pre .1 .1), zone-small (s .args .basis .geometry) (s .pre .0) .1))
 
@@ -36,20 +36,20 @@ add-end : tie.Need-add-end
 add-end c = let e = end-below c in omega (arith, e .0, e .1)
 
 known-below-requires : tie.Need-known-below-requires
-known-below-requires c κs = let s = c .before .before .before .before .before .before in (s .pre .0, s .pre .1 .4 .known-below (s .args .entry .zone) (s .pre .1 .1) .readable)
+known-below-requires c κs = let s = c .before .before .before .before .before in (s .pre .0, s .pre .1 .4 .known-below (s .args .entry .zone) (s .pre .1 .1) .readable)
 
 -- what is known, and where it goes
 abbrev extent : tie.After-stripe-sectors → Extent
 extent c =
-    let a = c .before .before .before .before .before .args in
+    let a = c .before .before .before .before .args in
     knownExtent (a .basis .geometry) (a .to) (a .basis .here) (a .basis .look) (now (a .sectors)) (now (a .pointers)) (a .entry .zone) (a .entry .stripe * c .stripe-sectors .result + a .entry .fill)
 
 abbrev target : tie.After-stripe-sectors → Target
-target c = record { drive = c .before .before .before .before .before .args .entry .drive; zone = parityZone; present = true }
+target c = record { drive = c .before .before .before .before .args .entry .drive; zone = parityZone; present = true }
 
-ready : (c : tie.After-stripe-sectors) → let a = c .before .before .before .before .before .args in ZoneReady (extent c) (target c) (now (a .sectors)) (now (a .written)) (now (a .pointers))
+ready : (c : tie.After-stripe-sectors) → let a = c .before .before .before .before .args in ZoneReady (extent c) (target c) (now (a .sectors)) (now (a .written)) (now (a .pointers))
 ready c =
-    let s = c .before .before .before .before .before in
+    let s = c .before .before .before .before in
     let a = s .args in
     let b = a .basis in
     let e = a .entry in
@@ -57,7 +57,7 @@ ready c =
 
 append-rows-requires : tie.Need-append-rows-requires
 append-rows-requires c κs =
-    let s = c .before .before .before .before .before .before .before .before .before .before .before in
+    let s = c .before .before .before .before .before .before .before .before .before .before in
     let a = s .args in
     let at = c .before .before .before .before .before .before in
     let m = c .before .before .before .min in
@@ -67,7 +67,7 @@ append-rows-requires c κs =
 
 returns : tie.Need-returns
 returns c =
-    let a = c .before .before .before .before .before .before .before .before .before .before .before .before .before .before .before .before .args in
+    let a = c .before .before .before .before .before .before .before .before .before .before .before .before .before .before .before .args in
     let b = a .basis in
     let g = b .geometry in
     let e = a .entry in

@@ -4,13 +4,13 @@ use Rattle.volume.specs.meaning.Rules.{parityEntries}
 use Rattle.tables.specs.laws.Sizes.{stripes-most, zone-small}
 use Rattle.tables.specs.laws.Placement.{stripe-quotient, stripe-begin}
 use Rattle.tables.specs.meaning.Geometry.{stripeSectors}
-use Rattle.tables.specs.meaning.Placement.{stripeOf}
+use Rattle.tables.specs.meaning.Placement.{stripeOf, parityDrive}
 use denote.Ref.{now}
 use native.Mathlib.Omega.{arith}
 use native.Mathlib.Nat.{div-add-mod'}
 use mathlib.Core.Bool.{not}
-use Prim.Native.Nat.{_*_, _/_}
-use mathlib.Core.Path.{_≡_, sym, ap, _∙_}
+use Prim.Native.Nat.{ℕ, _*_, _/_, _≤_, _<_}
+use mathlib.Core.Path.{_≡_, sym, ap, subst, _∙_}
 use borrow.Author.Needs.{needs}
 use Rattle.volume.proofs.mount_entries.entry_due.Statement.{statement}
 use Rattle.volume.proofs.mount_entries.entry_due.Tie as tie
@@ -34,7 +34,7 @@ stripe-is c = let a = c .before .before .before .before .before .args in stripe-
 returns : tie.Need-returns
 returns c =
     let a = c .before .before .before .before .before .before .args in
-    sym (due-outside (a .g) (a .look) (a .drive) (a .z) (parityEntries (a .g) (readDevice (a .g) (now (a .sectors)) (now (a .starts))) (a .drive)) (rw (start-is (c .before)) at (c .if1 .taken)))
+    sym (due-outside (a .g) (a .look) (a .drive) (a .z) (parityEntries (a .g) (readDevice (a .g) (now (a .sectors)) (now (a .starts))) (a .drive)) (subst (λ (n : ℕ). zoneLook (a .look) (a .z) .pointer ≤ n) (start-is (c .before)) (c .if1 .taken)))
 
 parity-drive-requires : tie.Need-parity-drive-requires
 parity-drive-requires c κs =
@@ -45,7 +45,7 @@ parity-drive-requires c κs =
 returns-2 : tie.Need-returns-2
 returns-2 c =
     let a = c .before .before .before .before .before .before .before .before .args in
-    sym (due-elsewhere (a .g) (a .look) (a .drive) (a .z) (parityEntries (a .g) (readDevice (a .g) (now (a .sectors)) (now (a .starts))) (a .drive)) (λ e. c .if2 .taken (e ∙ sym (rw (stripe-is (c .before .before .before)) at (c .before .parity-drive .ensures .0)))))
+    sym (due-elsewhere (a .g) (a .look) (a .drive) (a .z) (parityEntries (a .g) (readDevice (a .g) (now (a .sectors)) (now (a .starts))) (a .drive)) (λ e. c .if2 .taken (e ∙ sym (c .before .parity-drive .ensures .0 ∙ ap (parityDrive (a .g .drives) (a .z)) (stripe-is (c .before .before .before))))))
 
 returns-3 : tie.Need-returns-3
 returns-3 c =
@@ -53,7 +53,7 @@ returns-3 c =
     let a = s .args in
     let k = c .before .before .before .before .before in
     let n = c .before .sectors-then in
-    ap not (c .has-partial-at .ensures) ∙ sym (due-here (a .g) (a .look) (a .drive) (a .z) (now (a .sectors)) (now (a .starts)) (n .result) (s .pre .1 .0) (n .ensures .0) (rw (start-is k) at (c .before .before .before .before .if1 .left)) (c .before .before .if2 .left ∙ rw (stripe-is k) at (c .before .before .before .parity-drive .ensures .0)))
+    ap not (c .has-partial-at .ensures) ∙ sym (due-here (a .g) (a .look) (a .drive) (a .z) (now (a .sectors)) (now (a .starts)) (n .result) (s .pre .1 .0) (n .ensures .0) (subst (λ (n : ℕ). n < zoneLook (a .look) (a .z) .pointer) (start-is k) (c .before .before .before .before .if1 .left)) (c .before .before .if2 .left ∙ c .before .before .before .parity-drive .ensures .0 ∙ ap (parityDrive (a .g .drives) (a .z)) (stripe-is k)))
 
 pub entry-due-spec : {M : Type 1} → statement M
 entry-due-spec =

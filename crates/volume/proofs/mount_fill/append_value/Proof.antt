@@ -17,16 +17,16 @@ abbrev value : tie.Start → List ℕ
 value s = let a = s .args in valuesIn (a .known) (now (a .sectors)) (now (a .pointers)) (a .a)
 
 slice-aggregate-known-value : tie.Need-slice-aggregate-known-value
-slice-aggregate-known-value c = let s = c .before .before .before .before .before .before .before in sym (length-take-le (s .args .known .geometry .sector) _ (s .pre .0 .sector-most))
+slice-aggregate-known-value c = let s = c .before .before .before .before .before in sym (length-take-le (s .args .known .geometry .sector) _ (s .pre .0 .sector-most))
 
 known-value-requires : tie.Need-known-value-requires
 known-value-requires c κs =
-    let s = c .before .before .before .before .before .before .before in
+    let s = c .before .before .before .before .before in
     let k = s .pre .1 .0 .known-below in
     (s .pre .0, ((k .readable, omega (arith, s .pre .1 .1, k .end-most), k .limit-is, k .all-known (s .args .a) (s .pre .1 .1)), length-take-le (s .args .known .geometry .sector) _ (s .pre .0 .sector-most)))
 
 abbrev to-start : tie.After-known-value → tie.Start
-to-start c = c .before .before .before .before .before .before .before .before
+to-start c = c .before .before .before .before .before .before
 
 -- it is one sector long
 long : (c : tie.After-known-value) → length (c .known-value .last .1 .1 .1 .1 .0) ≡ to-start c .args .known .geometry .sector

@@ -21,7 +21,7 @@ abbrev μ-loop : tie.MeasureT-loop
 μ-loop sectors₀ written₀ pointers basis drive budget n rest₀ z₀ sectors written rest z = n - z
 
 abbrev to-start : tie.At-loop Inv-loop μ-loop → tie.Start Inv-loop μ-loop
-to-start c = c .before .before .before .before .before
+to-start c = c .before .before .before .before
 
 -- the stores of each zone
 abbrev row : tie.Start Inv-loop μ-loop → ℕ → List Store

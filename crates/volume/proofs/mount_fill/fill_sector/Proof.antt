@@ -43,25 +43,25 @@ below s e = let k = s .args .known in data-below (k .geometry .drives) (k .geome
 
 parity-drive-requires : tie.Need-parity-drive-requires
 parity-drive-requires c κs =
-    let s = c .before .before .before .before in
+    let s = c .before .before .before in
     let a = s .args in
     let ready = s .pre .1 .0 in
     (omega (arith, s .pre .0 .drives-least), s .pre .0 .drives-most, omega (arith, ready .known-below .readable .zone-in, s .pre .0 .zones-most), small-address (a .known .geometry) (a .target .drive) (a .x) (s .pre .0) (ready .rows 0 .drive-in) (within s) .stripes)
 
 -- the branch to the parity drive
-own : (c : tie.Then1) → Own (c .before .before .before .before .before .before)
+own : (c : tie.Then1) → Own (c .before .before .before .before .before)
 own c = c .if1 .taken ∙ c .before .parity-drive .ensures .0
 
 append-row-requires : tie.Need-append-row-requires
 append-row-requires c κs =
-    let s = c .before .before .before .before .before .before .before .before .before in
+    let s = c .before .before .before .before .before .before .before .before in
     let k = s .args .known in
     let x = s .args .x in
     (s .pre .0, (s .pre .1 .0 .rows (x / k .geometry .unit), parity-first (k .geometry .drives) (k .geometry .unit) (k .zone) (two s) (s .pre .0 .unit-least) (k .end) (x / k .geometry .unit) (x % k .geometry .unit) (complete s (own (c .before .before .before))) (mod-lt x (s .pre .0 .unit-least))))
 
 returns : tie.Need-returns
 returns c =
-    let s = c .before .before .before .before .before .before .before .before .before .before .before .before .before .before in
+    let s = c .before .before .before .before .before .before .before .before .before .before .before .before .before in
     let a = s .args in
     let k = a .known in
     let g = k .geometry in
@@ -74,22 +74,22 @@ returns c =
     ∙ sym (content-parity (g .drives) (g .unit) (k .zone) (two s) (s .pre .0 .unit-least) (values s) (a .target .drive) (a .x) e)) (f .ensures)
 
 -- the other branch
-other : (c : tie.Else1) → Own (c .before .before .before .before .before .before) → ⊥
+other : (c : tie.Else1) → Own (c .before .before .before .before .before) → ⊥
 other c e = c .if1 .left (e ∙ sym (c .before .parity-drive .ensures .0))
 
 address-at-requires : tie.Need-address-at-requires
 address-at-requires c κs =
-    let s = c .before .before .before .before .before .before in
+    let s = c .before .before .before .before .before in
     (s .pre .0, (s .pre .1 .0 .known-below .readable .zone-in, s .pre .1 .0 .rows 0 .drive-in, within s, other (c)))
 
 append-value-requires : tie.Need-append-value-requires
 append-value-requires c κs =
-    let s = c .before .before .before .before .before .before .before .before .before in
+    let s = c .before .before .before .before .before .before .before .before in
     (s .pre .0, (s .pre .1 .0, rw (c .before .before .address-at .ensures .0) (below s (other (c .before .before .before)))))
 
 returns-2 : tie.Need-returns-2
 returns-2 c =
-    let s = c .before .before .before .before .before .before .before .before .before .before .before .before .before .before in
+    let s = c .before .before .before .before .before .before .before .before .before .before .before .before .before in
     let a = s .args in
     let g = a .known .geometry in
     let f = c .before .before .before .before .append-value in

@@ -8,7 +8,7 @@ use Rattle.volume.proofs.mount_known.known_below.Tie as tie
 
 returns : tie.Need-returns
 returns c =
-    let a = c .before .before .before .before .before .before .before .before .args in
+    let a = c .before .before .before .before .before .before .before .args in
     let b = a .basis in
     ap (λ (l : ℕ). let r : Extent = record { geometry = b .geometry; to = a .to; here = b .here; zone = a .z; generation = zoneLook (b .look) (a .z) .generation; limit = l; below = a .end; end = a .end } in r) (c .seal-limit .ensures .0)
 

@@ -8,7 +8,7 @@ use Rattle.volume.proofs.mount_logs.label_due.Tie as tie
 returns : tie.Need-returns
 unfolding labelDue
 returns c =
-    let s = c .before .before .before .before .before .before in
+    let s = c .before .before .before .before in
     let a = s .args in
     rw (c .last-lost .ensures .0, c .before .sectors-then .ensures .0, seen-heads (a .basis .geometry) (now (a .sectors)) (now (a .pointers)) (a .drive) (s .pre .1 .0)) refl
 

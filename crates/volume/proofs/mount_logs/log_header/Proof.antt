@@ -19,22 +19,22 @@ use Rattle.volume.specs.looking.Knowing.{readDevice}
 
 returns : tie.Need-returns
 returns c =
-    let a = c .before .before .before .before .before .before .before .args in
+    let a = c .before .before .before .before .before .args in
     rw (header-absent (a .basis .geometry) (a .kind) (a .basis .look) (readDevice (a .basis .geometry) (now (a .sectors)) (now (a .pointers))) (isSet (a .basis .here)) (a .drive) (a .z) (not-true (isSet (a .basis .here) (a .drive)) (c .if1 .taken))) (appends-nil (a .basis .geometry) (a .budget) (now (a .sectors)) (now (a .written)))
 
 returns-2 : tie.Need-returns-2
 returns-2 c =
-    let a = c .before .before .before .before .before .before .before .before .before .before .args in
+    let a = c .before .before .before .before .before .before .before .before .args in
     rw (header-idle (a .basis .geometry) (a .kind) (a .basis .look) (readDevice (a .basis .geometry) (now (a .sectors)) (now (a .pointers))) (isSet (a .basis .here)) (a .drive) (a .z) (sym (c .before .header-due .ensures) ∙ not-true (c .before .header-due .result) (c .if2 .taken))) (appends-nil (a .basis .geometry) (a .budget) (now (a .sectors)) (now (a .written)))
 
 slice-aggregate-write-header : tie.Need-slice-aggregate-write-header
-slice-aggregate-write-header c = let s = c .before .before .before .before .before .before .before .before .before .before .before in sym (length-take-le (s .args .basis .geometry .sector) _ (s .pre .0 .sector-most))
+slice-aggregate-write-header c = let s = c .before .before .before .before .before .before .before .before .before in sym (length-take-le (s .args .basis .geometry .sector) _ (s .pre .0 .sector-most))
 
 write-header-requires : tie.Need-write-header-requires
-write-header-requires c κs = let s = c .before .before .before .before .before .before .before .before .before .before .before in (s .pre .0, (s .pre .1 .0, s .pre .1 .1, length-take-le (s .args .basis .geometry .sector) _ (s .pre .0 .sector-most), s .pre .1 .2 .within))
+write-header-requires c κs = let s = c .before .before .before .before .before .before .before .before .before in (s .pre .0, (s .pre .1 .0, s .pre .1 .1, length-take-le (s .args .basis .geometry .sector) _ (s .pre .0 .sector-most), s .pre .1 .2 .within))
 
 abbrev to-start : tie.After-write-header → tie.Start
-to-start c = c .before .before .before .before .before .before .before .before .before .before .before .before
+to-start c = c .before .before .before .before .before .before .before .before .before .before
 
 -- the header is one sector long
 long : (c : tie.After-write-header) → length (c .write-header .last .1 .0) ≡ to-start c .args .basis .geometry .sector
@@ -55,14 +55,14 @@ slice-aggregate-append-counted c = whole (c .before .before .before .before)
 
 append-counted-requires : tie.Need-append-counted-requires
 append-counted-requires c κs =
-    let s = c .before .before .before .before .before .before .before .before .before .before .before .before .before .before .before .before in
+    let s = c .before .before .before .before .before .before .before .before .before .before .before .before .before .before in
     let l = s .pre .1 .2 in
     (s .pre .0, ((s .pre .1 .0, omega arith), (l .sectors-long, l .written-long, sym (whole (c .before .before .before .before)))))
 
 returns-3 : tie.Need-returns-3
 returns-3 c =
     let w = c .before .before .before .before .before .before .before .before .before in
-    let s = c .before .before .before .before .before .before .before .before .before .before .before .before .before .before .before .before .before .before .before .before .before in
+    let s = c .before .before .before .before .before .before .before .before .before .before .before .before .before .before .before .before .before .before .before in
     let a = s .args in
     let b = a .basis in
     let n = b .geometry .sector in

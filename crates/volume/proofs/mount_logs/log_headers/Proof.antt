@@ -24,21 +24,21 @@ abbrev μ-loop : tie.MeasureT-loop
 
 log-drive-requires : tie.Need-log-drive-requires Inv-loop μ-loop
 log-drive-requires c κs =
-    let s = c .before .before .before .before .before .before .before .before in
+    let s = c .before .before .before .before .before .before .before in
     let a = s .args in
     let l = c .before .before .before .loop in
     let k = logged (a .basis .geometry) (a .basis .look) (a .budget) (l .rest) (onPresent (isSet (a .basis .here)) (headerSteps (a .basis .geometry) (a .kind) (a .basis .look) (readDevice (a .basis .geometry) (a .sectors .now) (a .pointers .now)) (a .n) (l .d))) (a .pointers .now) (a .sectors .now) (a .written .now) (l .sectors) (l .written) (s .pre .1 .1) (header-steps-in (a .basis .geometry) (a .kind) (a .basis .look) (readDevice (a .basis .geometry) (a .sectors .now) (a .pointers .now)) (isSet (a .basis .here)) (s .pre .0) (a .n) (l .d) (l .inv .0)) (l .inv .3) in
     (s .pre .0, (c .before .before .loop-test .taken, s .pre .1 .0, k .0))
 
 add-d : tie.Need-add-d Inv-loop μ-loop
-add-d c = omega (arith, c .before .before .before .before .before .before .before .before .before .before .before .before .before .pre .0 .drives-most)
+add-d c = omega (arith, c .before .before .before .before .before .before .before .before .before .before .before .before .pre .0 .drives-most)
 
 loop-again : tie.Need-loop-again Inv-loop μ-loop
 loop-again c =
     let at-log-drive = c .before .before .before .before in
     let at-loop-test = at-log-drive .before .before .before in
     let at-loop = at-loop-test .before in
-    let s = at-loop .before .before .before .before .before in
+    let s = at-loop .before .before .before .before in
     let a = s .args in
     let l = at-loop .loop in
     let f = at-log-drive .log-drive in
@@ -53,7 +53,7 @@ loop-again c =
 returns : tie.Need-returns Inv-loop μ-loop
 returns c =
     let l = c .before .loop in
-    let e : l .d ≡ c .before .before .before .before .before .before .args .basis .geometry .drives = omega arith in
+    let e : l .d ≡ c .before .before .before .before .before .args .basis .geometry .drives = omega arith in
     rw e at (l .inv .3)
 
 pub log-headers-spec : {M : Type 1} → statement M

@@ -14,7 +14,7 @@ use Rattle.volume.specs.looking.Knowing.{readDevice}
 returns : tie.Need-returns
 unfolding sealDue
 returns c =
-    let s = c .before .before .before .before .before .before .before .before .before in
+    let s = c .before .before .before .before .before .before .before in
     let a = s .args in
     let there : c .has-seal-at .result ≡ anyOf (isSealAt (a .z) (zoneLook (a .basis .look) (a .z) .generation) (zoneLook (a .basis .look) (a .z) .pointer)) (generalHeads (a .basis .geometry) (readDevice (a .basis .geometry) (now (a .sectors)) (now (a .pointers))) (a .drive)) = c .has-seal-at .ensures ∙ rw (c .before .sectors-then .ensures .0, seen-heads (a .basis .geometry) (now (a .sectors)) (now (a .pointers)) (a .drive) (s .pre .1 .0)) refl in
     ap₂ (λ (sealed found : Bool). sealed && not found) (c .before .before .is-sealed .ensures) there

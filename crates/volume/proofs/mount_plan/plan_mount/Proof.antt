@@ -20,7 +20,7 @@ use Rattle.volume.proofs.mount_plan.plan_mount.Statement.{statement}
 use Rattle.volume.proofs.mount_plan.plan_mount.Tie as tie
 
 abbrev to-start : tie.After-look-all → tie.Start
-to-start l = l .before .before .before .before .before .before .before
+to-start l = l .before .before .before .before .before .before
 
 -- the geometry with the logs where they lie is one
 placed : (s : tie.Start) → Valid (s .args .found .places .geometry)
@@ -31,7 +31,7 @@ abbrev shows : tie.Start → Look
 shows s = let a = s .args in lookBy (a .found) (now (a .sectors)) (now (a .pointers))
 
 look-all-requires : tie.Need-look-all-requires
-look-all-requires c κs = let s = c .before .before .before .before .before .before in (placed s, s .pre .1 .1)
+look-all-requires c κs = let s = c .before .before .before .before .before in (placed s, s .pre .1 .1)
 
 counters-differ-requires : tie.Need-counters-differ-requires
 counters-differ-requires c κs = let s = to-start c in (placed s, (s .pre .1 .1 .sectors-long, s .pre .1 .1 .written-long))

@@ -9,13 +9,13 @@ use Rattle.volume.proofs.mount_steps.counter_step.Tie as tie
 
 flush-after-requires : tie.Need-flush-after-requires
 flush-after-requires c κs =
-    let s = c .before .before .before .before .before .before .before .before .before .before .before .before .before .before in
+    let s = c .before .before .before .before .before .before .before .before .before .before .before .before .before in
     (s .pre .0, (c .before .before .before .before .before .before .store-counters .kept .1 .0 ∙ s .pre .1 .0 .written-long, s .pre .1 .1))
 
 returns : tie.Need-returns
 returns c =
     let at-store-counters = c .before .before .before .before .before .before .before .before .before in
-    let s = c .before .before .before .before .before .before .before .before .before .before .before .before .before .before .before .before .before in
+    let s = c .before .before .before .before .before .before .before .before .before .before .before .before .before .before .before .before in
     let a = s .args in
     let b = a .basis in
     let f = at-store-counters .store-counters in

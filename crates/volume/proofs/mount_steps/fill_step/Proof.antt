@@ -12,20 +12,20 @@ use Rattle.volume.proofs.mount_steps.fill_step.Tie as tie
 
 fill-drives-requires : tie.Need-fill-drives-requires
 fill-drives-requires c κs =
-    let s = c .before .before .before .before .before .before .before .before in
+    let s = c .before .before .before .before .before .before .before in
     let a = s .args in
     (s .pre .0, (filling (a .basis .geometry) (a .basis .here) (a .basis .look) (now (a .pointers)) (tablesOf (now (a .sectors)) (now (a .written)) (now (a .durable))) (s .pre .1)))
 
 flush-after-requires : tie.Need-flush-after-requires
 flush-after-requires c κs =
     let at-fill-drives = c .before .before .before .before .before .before in
-    let s = c .before .before .before .before .before .before .before .before .before .before .before .before .before .before .before in
+    let s = c .before .before .before .before .before .before .before .before .before .before .before .before .before .before in
     (s .pre .0, (at-fill-drives .fill-drives .kept .1 .0 ∙ s .pre .1 .logging .written-long, s .pre .1 .durable-long))
 
 returns : tie.Need-returns
 returns c =
     let at-fill-drives = c .before .before .before .before .before .before .before .before .before in
-    let s = c .before .before .before .before .before .before .before .before .before .before .before .before .before .before .before .before .before .before in
+    let s = c .before .before .before .before .before .before .before .before .before .before .before .before .before .before .before .before .before in
     let a = s .args in
     let f = at-fill-drives .fill-drives in
     let t = tablesOf (now (a .sectors)) (now (a .written)) (now (a .durable)) in

@@ -10,20 +10,20 @@ use Rattle.volume.proofs.mount_steps.header_step.Tie as tie
 
 log-headers-requires : tie.Need-log-headers-requires
 log-headers-requires c κs =
-    let s = c .before .before .before .before .before .before .before .before .before in
+    let s = c .before .before .before .before .before .before .before .before in
     (s .pre .0, (rw (c .before .before .header-zones .ensures) (header-zones-most (s .args .basis .geometry) (s .args .kind) (s .pre .0)), s .pre .1 .logging))
 
 flush-after-requires : tie.Need-flush-after-requires
 flush-after-requires c κs =
     let at-log-headers = c .before .before .before .before .before .before in
-    let s = c .before .before .before .before .before .before .before .before .before .before .before .before .before .before .before .before in
+    let s = c .before .before .before .before .before .before .before .before .before .before .before .before .before .before .before in
     (s .pre .0, (at-log-headers .log-headers .kept .1 .1 .0 ∙ s .pre .1 .logging .written-long, s .pre .1 .durable-long))
 
 returns : tie.Need-returns
 returns c =
     let at-log-headers = c .before .before .before .before .before .before .before .before .before in
     let at-header-zones = c .before .before .before .before .before .before .before .before .before .before .before .before in
-    let s = c .before .before .before .before .before .before .before .before .before .before .before .before .before .before .before .before .before .before .before in
+    let s = c .before .before .before .before .before .before .before .before .before .before .before .before .before .before .before .before .before .before in
     let a = s .args in
     let f = at-log-headers .log-headers in
     let t = tablesOf (now (a .sectors)) (now (a .written)) (now (a .durable)) in

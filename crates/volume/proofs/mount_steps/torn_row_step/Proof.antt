@@ -12,20 +12,20 @@ use Rattle.volume.proofs.mount_steps.torn_row_step.Tie as tie
 
 complete-logs-requires : tie.Need-complete-logs-requires
 complete-logs-requires c κs =
-    let s = c .before .before .before .before .before .before .before .before in
+    let s = c .before .before .before .before .before .before .before in
     let a = s .args in
     (s .pre .0, (filling (a .basis .geometry) (a .basis .here) (a .basis .look) (now (a .pointers)) (tablesOf (now (a .sectors)) (now (a .written)) (now (a .durable))) (s .pre .1)))
 
 flush-after-requires : tie.Need-flush-after-requires
 flush-after-requires c κs =
     let at-complete-logs = c .before .before .before .before .before .before in
-    let s = c .before .before .before .before .before .before .before .before .before .before .before .before .before .before .before in
+    let s = c .before .before .before .before .before .before .before .before .before .before .before .before .before .before in
     (s .pre .0, (at-complete-logs .complete-logs .kept .1 .0 ∙ s .pre .1 .logging .written-long, s .pre .1 .durable-long))
 
 returns : tie.Need-returns
 returns c =
     let at-complete-logs = c .before .before .before .before .before .before .before .before .before in
-    let s = c .before .before .before .before .before .before .before .before .before .before .before .before .before .before .before .before .before .before in
+    let s = c .before .before .before .before .before .before .before .before .before .before .before .before .before .before .before .before .before in
     let a = s .args in
     let f = at-complete-logs .complete-logs in
     let t = tablesOf (now (a .sectors)) (now (a .written)) (now (a .durable)) in

@@ -9,7 +9,7 @@ use Rattle.volume.proofs.mount_steps.zone_reset_step.Tie as tie
 returns : tie.Need-returns
 returns c =
     let at-reset-zones = c .before .before .before .before .before .before .before .before .before in
-    let s = at-reset-zones .before .before .before .before .before .before .before .before in
+    let s = at-reset-zones .before .before .before .before .before .before in
     let a = s .args in
     let f = at-reset-zones .reset-zones in
     record {

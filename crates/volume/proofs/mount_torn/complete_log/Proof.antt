@@ -21,13 +21,13 @@ shown s = let a = s .args in shownAt (a .basis .geometry) (a .basis .here) (a .b
 
 returns : tie.Need-returns
 returns c =
-    let s = c .before .before .before .before .before .before in
+    let s = c .before .before .before .before .before in
     let a = s .args in
     rw (torn-absent (a .basis .geometry) (shown s) (readDevice (a .basis .geometry) (now (a .sectors)) (now (a .pointers))) (isSet (a .basis .here)) (a .drive) (not-true (isSet (a .basis .here) (a .drive)) (c .if1 .taken))) (appends-nil (a .basis .geometry) (a .budget) (now (a .sectors)) (now (a .written)))
 
 returns-2 : tie.Need-returns-2
 returns-2 c =
-    let s = c .before .before .before .before .before .before .before .before .before .before in
+    let s = c .before .before .before .before .before .before .before .before .before in
     let a = s .args in
     let n = c .before .before .before .sectors-then in
     rw (torn-idle (a .basis .geometry) (shown s) (now (a .sectors)) (now (a .pointers)) (isSet (a .basis .here)) (a .drive) (n .result) (s .pre .1 .0) (n .ensures .0) (λ e. let t = ap (tagOf WalkEnd.the-type) (sym e ∙ sym (c .before .walk-log .ensures .0)) in ⊎-elim (λ k. omega arith) (λ k. omega arith) (c .match .keys2)))
@@ -35,7 +35,7 @@ returns-2 c =
 
 -- where the walk has been left at a torn entry
 abbrev start : tie.After-w → tie.Start
-start k = k .before .before .before .before .before .before .before .before .before .before .before
+start k = k .before .before .before .before .before .before .before .before .before .before
 
 inside : (k : tie.After-w) → (k .w .given .0 .0 < k .before .before .before .before .sectors-then .result) × (k .before .before .before .before .sectors-then .result ≤ 65536)
 inside k =

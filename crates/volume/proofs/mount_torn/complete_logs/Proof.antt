@@ -23,7 +23,7 @@ abbrev μ-loop : tie.MeasureT-loop
 μ-loop sectors₀ written₀ pointers basis budget m rest₀ d₀ sectors written rest d = m - d
 
 abbrev to-start : tie.At-loop Inv-loop μ-loop → tie.Start Inv-loop μ-loop
-to-start c = c .before .before .before .before .before
+to-start c = c .before .before .before .before
 
 -- the stores of each drive
 abbrev row : tie.Start Inv-loop μ-loop → ℕ → List Store

@@ -22,8 +22,8 @@ abbrev shown : tie.Start → ZoneShown
 shown s = let a = s .args in shownAt (a .basis .geometry) (a .basis .here) (a .basis .look) (now (a .sectors)) (now (a .pointers)) .zone (a .entry .zone)
 
 -- the entry's end is small
-end-small : (c : tie.After-stripe-sectors) → c .before .before .before .before .before .before .before .before .args .entry .stripe * c .stripe-sectors .result + c .before .before .before .before .before .before .before .before .args .entry .fill ≤ 458752
-end-small c = let s = c .before .before .before .before .before .before .before .before in rw (c .stripe-sectors .ensures .0) (omega (arith, s .pre .1 .2, zone-small (s .args .basis .geometry) (s .pre .0) .1))
+end-small : (c : tie.After-stripe-sectors) → c .before .before .before .before .before .before .args .entry .stripe * c .stripe-sectors .result + c .before .before .before .before .before .before .args .entry .fill ≤ 458752
+end-small c = let s = c .before .before .before .before .before .before in rw (c .stripe-sectors .ensures .0) (omega (arith, s .pre .1 .2, zone-small (s .args .basis .geometry) (s .pre .0) .1))
 
 mul-current : tie.Need-mul-current
 mul-current c = omega (arith, end-small c)
@@ -32,10 +32,10 @@ add-current : tie.Need-add-current
 add-current c = omega (arith, end-small c)
 
 -- whether it is current
-current : (c : tie.Then1) → let s = c .before .before .before .before .before .before .before .before .before in let e = s .args .entry in eqb (s .args .n) (shown s .generation) && leb (e .stripe * stripeSectors (s .args .basis .geometry) + e .fill) (shown s .pointer) ≡ true
+current : (c : tie.Then1) → let s = c .before .before .before .before .before .before .before in let e = s .args .entry in eqb (s .args .n) (shown s .generation) && leb (e .stripe * stripeSectors (s .args .basis .geometry) + e .fill) (shown s .pointer) ≡ true
 current c = rw (c .before .stripe-sectors .ensures .0) at (c .if1 .taken)
 
-stale : (c : tie.Else1) → let s = c .before .before .before .before .before .before .before .before .before in let e = s .args .entry in eqb (s .args .n) (shown s .generation) && leb (e .stripe * stripeSectors (s .args .basis .geometry) + e .fill) (shown s .pointer) ≡ false
+stale : (c : tie.Else1) → let s = c .before .before .before .before .before .before .before in let e = s .args .entry in eqb (s .args .n) (shown s .generation) && leb (e .stripe * stripeSectors (s .args .basis .geometry) + e .fill) (shown s .pointer) ≡ false
 stale c = rw (c .before .stripe-sectors .ensures .0) at (c .if1 .left)
 
 -- the rows go to the parity log
@@ -44,27 +44,27 @@ appends s = let a = s .args in let b = a .basis in filling-appends (b .geometry)
 
 append-entry-rows-requires : tie.Need-append-entry-rows-requires
 append-entry-rows-requires c κs =
-    let s = c .before .before .before .before .before .before .before .before .before .before .before in
+    let s = c .before .before .before .before .before .before .before .before .before in
     let e = s .args .entry in
     let end = e .stripe * stripeSectors (s .args .basis .geometry) + e .fill in
     (s .pre .0, (s .pre .1 .0, s .pre .1 .1, leb-true end (shown s .pointer) (and-split (eqb (s .args .n) (shown s .generation)) (leb end (shown s .pointer)) (current (c .before .before)) .1), s .pre .1 .3, appends s))
 
 returns : tie.Need-returns
 returns c =
-    let s = c .before .before .before .before .before .before .before .before .before .before .before .before .before .before .before .before in
+    let s = c .before .before .before .before .before .before .before .before .before .before .before .before .before .before in
     let a = s .args in
     let e = a .entry in
     rw (rows-current (a .basis .geometry) (shown s) (e .drive) (e .stripe) (e .fill) (a .n) (e .from) (current (c .before .before .before .before .before .before .before))) (c .before .before .before .before .append-entry-rows .ensures)
 
 append-zero-rows-requires : tie.Need-append-zero-rows-requires
 append-zero-rows-requires c κs =
-    let s = c .before .before .before .before .before .before .before .before .before .before .before .before in
+    let s = c .before .before .before .before .before .before .before .before .before .before in
     let l = s .pre .1 .4 .logging in
     rw (c .before .before .min .ensures) (s .pre .0, (s .pre .1 .0, l .sectors-long, l .written-long, s .pre .1 .3, omega arith))
 
 returns-2 : tie.Need-returns-2
 returns-2 c =
-    let s = c .before .before .before .before .before .before .before .before .before .before .before .before .before .before .before .before .before in
+    let s = c .before .before .before .before .before .before .before .before .before .before .before .before .before .before .before in
     let a = s .args in
     let e = a .entry in
     rw (rows-stale (a .basis .geometry) (shown s) (e .drive) (e .stripe) (e .fill) (a .n) (e .from) (stale (c .before .before .before .before .before .before .before .before))) (rw (c .before .before .before .before .before .before .before .min .ensures) at (c .before .before .before .before .append-zero-rows .ensures))

@@ -117,7 +117,7 @@ planning p =
 -- ---- refusal 14
 returns-3 : tie.Need-returns-3
 returns-3 c =
-    let p = c .before .before .before .before .before .before in
+    let p = c .before .before .before in
     let f = found-of p in
     let s = from-survey f in
     let a = s .args in
@@ -127,7 +127,7 @@ returns-3 c =
 -- ---- none
 mount-planned-requires : tie.Need-mount-planned-requires
 mount-planned-requires c κs =
-    let p = c .before .before .before .before .before .before .before .before .before in
+    let p = c .before .before .before .before .before .before in
     let f = found-of p in
     let s = from-survey f in
     (valid (shape-of f), subst (Planned (s .args .g) (given s) (p .plan-mount .result)) (sym (front-kept f)) (planning p .planned (c .before .before .before .before .if3 .left)))
@@ -135,7 +135,7 @@ mount-planned-requires c κs =
 returns-4 : tie.Need-returns-4
 returns-4 c =
     let m = c .before .before .before .before .before .before .before in
-    let p = m .before .before .before .before .before .before .before .before .before .before in
+    let p = m .before .before .before .before .before .before .before in
     let f = found-of p in
     let s = from-survey f in
     let a = s .args in
@@ -149,6 +149,6 @@ mount-spec =
     (tie.spec (λ c κs. search needs) (λ c κs. search needs) (λ c. search needs) (λ c. search needs) returns (λ c. front (c .before .before) .0) (λ c. sym (front (c .before .before .before) .1))
     survey-drives-requires (λ c κs. search needs) (λ c. search needs) (λ c. search needs) (λ c. search needs) returns-2 (λ c. front-within (c .before .before .before .before)) (λ c. front-whole (c .before .before .before .before .before))
     plan-mount-requires (λ c κs. search needs) (λ c. search needs) (λ c. search needs) (λ c. search needs) returns-3
-    (λ c. front-within (c .before .before .before .before .before .before .before .before .before .before .before .before .before .before))
-    (λ c. front-whole (c .before .before .before .before .before .before .before .before .before .before .before .before .before .before .before))
+    (λ c. front-within (c .before .before .before .before .before .before .before .before .before .before .before))
+    (λ c. front-whole (c .before .before .before .before .before .before .before .before .before .before .before .before))
     mount-planned-requires (λ c. search needs) (λ c. search needs) (λ c. search needs) returns-4)

@@ -11,7 +11,7 @@ use Rattle.tables.specs.laws.Made.{Made}
 use Rattle.tables.specs.laws.Sizes.{cells-small}
 use Rattle.volume.specs.meaning.CallContracts.{isSet, mountStoresOn}
 use Rattle.volume.specs.mounting.MountRooms.{lostAmong}
-use Rattle.volume.specs.mounting.Mounting.{mounted-unfinished, mounted-finished, lookable-after}
+use Rattle.volume.specs.mounting.Mounting.{mounted-ended, lookable-after}
 use Rattle.volume.specs.mounting.PlannedPlaces.{planned-long}
 use borrow.Author.Needs.{needs}
 use Rattle.volume.proofs.mounting.mount_planned.Statement.{statement}
@@ -46,17 +46,10 @@ left f = tablesOf (f .restore .last .0) (f .restore .last .1 .0) (f .restore .la
 made : (f : tie.After-restore) → let s = to-start f in Made (s .args .g) (suc (s .args .count)) (f .restore .result) (stores s) (given s) (left f)
 made f = let s = to-start f in subst (λ (n : ℕ). Made (s .args .g) n (f .restore .result) (stores s) (given s) (left f)) (f .before .before .before .before .before .before .budget-of .ensures) (f .restore .ensures)
 
-returns : tie.Need-returns
-returns c =
-    let f = c .before .before .before .before .before .before .before .before .before .before in
-    let s = to-start f in
-    let a = s .args in
-    mounted-unfinished (a .g) (isSet (a .plan .here)) (lost s) (a .old) (a .count) (given s) (f .restore .result) (left f) (made f) (c .if1 .taken)
-
--- ---- the state that they leave
-shown-now-requires : tie.Need-shown-now-requires
-shown-now-requires c κs =
-    let f = c .before .before .before .before .before .before .before .before .before .before .before .before .before in
+-- ---- how it ends
+outcome-requires : tie.Need-outcome-requires
+outcome-requires c κs =
+    let f = c .before .before .before .before .before .before .before .before .before .before .before .before in
     let s = to-start f in
     let a = s .args in
     let k = f .restore .kept in
@@ -69,17 +62,16 @@ shown-now-requires c κs =
       ),
     )
 
-returns-2 : tie.Need-returns-2
-returns-2 c =
-    let f = c .before .before .before .before .before .before .before .before .before .before .before .before .before .before .before .before in
+returns : tie.Need-returns
+returns c =
+    let f = c .before .before .before .before .before .before .before .before .before .before .before .before .before .before .before in
     let s = to-start f in
     let a = s .args in
-    let r = c .before .before .shown-now in
-    mounted-finished (a .g) (isSet (a .plan .here)) (lost s) (a .old) (a .count) (given s) (f .restore .result) (left f) (made f) (c .before .before .before .before .before .before .if1 .left) (r .result) (r .ensures .shown (f .restore .last .1 .1 .0))
+    let r = c .before .before .outcome in
+    mounted-ended (a .g) (a .plan .here) (a .old) (a .count) (given s) (f .restore .result) (left f) (r .result) (made f) (r .ensures)
 
 pub mount-planned-spec : {M : Type 1} → statement M
 mount-planned-spec =
     tie.close
     (tie.spec (λ c κs. search needs) (λ c. few (c .before .before .before .before .before .before .before .before .before .before)) (λ c. sym (front-of (c .before .before .before .before .before .before .before .before .before .before .before)))
-    restore-requires (λ c. search needs) (λ c. search needs) (λ c. search needs) (λ c. search needs) returns
-    shown-now-requires (λ c. search needs) (λ c. search needs) (λ c. search needs) (λ c. search needs) returns-2)
+    restore-requires outcome-requires (λ c. search needs) (λ c. search needs) (λ c. search needs) (λ c. search needs) returns)

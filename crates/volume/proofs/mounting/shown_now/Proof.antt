@@ -21,7 +21,7 @@ seen f =
 
 shown-state-requires : tie.Need-shown-state-requires
 shown-state-requires c κs =
-    let f = c .before .before .before .before in
+    let f = c .before .before .before in
     let s = to-start f in
     let a = s .args in
     let p = f .see-by-roles .result in
@@ -29,7 +29,7 @@ shown-state-requires c κs =
 
 returns : tie.Need-returns
 returns c =
-    let f = c .before .before .before .before .before in
+    let f = c .before .before .before .before in
     let a = to-start f .args in
     seen-shown (a .g) (now (a .sectors)) (now (a .written)) (f .see-by-roles .result) (pointers-of f) (seen f) (a .here) (c .shown-state .result) (c .shown-state .ensures)
 

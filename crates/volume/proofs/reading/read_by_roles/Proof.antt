@@ -15,7 +15,7 @@ use Rattle.volume.proofs.reading.read_by_roles.Statement.{statement}
 use Rattle.volume.proofs.reading.read_by_roles.Tie as tie
 
 abbrev to-start : tie.After-see-by-roles → tie.Start
-to-start r = r .before .before .before .before .before .before .before .before
+to-start r = r .before .before .before .before .before .before .before
 
 -- the pointers by which the tables are read
 abbrev pointers-of : tie.After-see-by-roles → List ℕ

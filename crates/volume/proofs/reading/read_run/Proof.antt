@@ -16,7 +16,7 @@ use Rattle.volume.proofs.reading.read_run.Tie as tie
 -- no drive is absent
 returns : tie.Need-returns
 returns c =
-    let s = c .before .before .before .before .before .before .before .before .before .before .before in
+    let s = c .before .before .before .before .before .before .before .before .before .before in
     let a = s .args in
     let g = a .zone .geometry in
     let r = s .pre .1 in
@@ -26,12 +26,12 @@ returns c =
     (c .before .before .copy-run .ensures ∙ held-values g (a .zone .here) (now (a .sectors)) (now (a .written)) (a .zone .number) (r .readable) (a .zone .generation) (a .offset) (a .count) (s .pre .0) (r .run-in) held)
 
 -- one is, and no log is needed
-none : (c : tie.Else2) → let a = c .before .before .before .before .before .before .before .before .before .args in needsLog (a .zone .geometry) (a .zone .here) (a .pointer) (a .offset + a .count) ≡ false
+none : (c : tie.Else2) → let a = c .before .before .before .before .before .before .before .before .args in needsLog (a .zone .geometry) (a .zone .here) (a .pointer) (a .offset + a .count) ≡ false
 none c = sym (c .before .needs-log .ensures) ∙ c .if2 .left
 
 rebuild-run-requires : tie.Need-rebuild-run-requires
 rebuild-run-requires c κs =
-    let s = c .before .before .before .before .before .before .before .before .before .before in
+    let s = c .before .before .before .before .before .before .before .before .before in
     let a = s .args in
     let g = a .zone .geometry in
     let h = a .zone .here in
@@ -53,7 +53,7 @@ rebuild-run-requires c κs =
 returns-3 : tie.Need-returns-3
 unfolding valuesOn
 returns-3 c =
-    let s = c .before .before .before .before .before .before .before .before .before .before .before .before .before in
+    let s = c .before .before .before .before .before .before .before .before .before .before .before .before in
     let a = s .args in
     read-directly (a .zone) (s .pre .0) (now (a .sectors)) (now (a .written)) (a .pointer) (a .offset) (a .count) (now (a .out)) (c .before .before .rebuild-run .last .1 .1 .1 .1 .1 .1 .0) (s .pre .1) (none (c .before .before .before .before)) (c .before .before .rebuild-run .ensures)
 

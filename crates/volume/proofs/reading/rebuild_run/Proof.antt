@@ -23,42 +23,42 @@ abbrev μ-loop : tie.MeasureT-loop
 μ-loop sectors written zone limit offset count out₀ b i₀ out i = count - i
 
 loop-holds : tie.Need-loop-holds Inv-loop μ-loop
-loop-holds c = (omega arith, c .before .before .before .before .pre .1 .2, rw zero-mul refl)
+loop-holds c = (omega arith, c .before .before .before .pre .1 .2, rw zero-mul refl)
 
 mul-at : tie.Need-mul-at Inv-loop μ-loop
 mul-at c =
-    let s = c .before .before .before .before .before .before in
+    let s = c .before .before .before .before .before in
     let k = run-small (s .args .zone .geometry) (s .args .offset) (s .args .count) (c .before .loop .i) (s .pre .0) (s .pre .1 .1) (omega arith) in omega (arith, k .0, k .1)
 
 add-end : tie.Need-add-end Inv-loop μ-loop
 add-end c =
-    let s = c .before .before .before .before .before .before in
+    let s = c .before .before .before .before .before in
     let k = run-small (s .args .zone .geometry) (s .args .offset) (s .args .count) (c .before .loop .i) (s .pre .0) (s .pre .1 .1) (omega arith) in omega (arith, k .0, k .1)
 
 add-served-value : tie.Need-add-served-value Inv-loop μ-loop
-add-served-value c = let s = c .before .before .before .before .before .before in omega (arith, s .pre .1 .1, zone-small (s .args .zone .geometry) (s .pre .0) .1)
+add-served-value c = let s = c .before .before .before .before .before in omega (arith, s .pre .1 .1, zone-small (s .args .zone .geometry) (s .pre .0) .1)
 
 part-served-value-end : tie.Need-part-served-value-end Inv-loop μ-loop
 part-served-value-end c =
-    let s = c .before .before .before .before .before .before in
+    let s = c .before .before .before .before .before in
     let k = run-small (s .args .zone .geometry) (s .args .offset) (s .args .count) (c .before .loop .i) (s .pre .0) (s .pre .1 .1) (omega arith) in omega (arith, k .0, c .before .loop .inv .1)
 
 served-value-requires : tie.Need-served-value-requires Inv-loop μ-loop
 served-value-requires c κs =
     let at-loop = c .before .before in
-    let s = at-loop .before .before .before .before .before in
+    let s = at-loop .before .before .before .before in
     let a = s .args in
     let l = at-loop .loop in
     let k = run-small (s .args .zone .geometry) (s .args .offset) (s .args .count) (at-loop .loop .i) (s .pre .0) (s .pre .1 .1) (omega arith) in
     (s .pre .0, (s .pre .1 .0, omega (arith, s .pre .1 .1), s .pre .1 .4 .same-source (l .i) (omega arith), known-in (a .zone .geometry) (isSet (a .zone .here)) (readDevice (a .zone .geometry) (now (a .sectors)) (now (a .written))) (a .zone .number) (a .zone .generation) (a .offset) (a .count) (l .i) (s .pre .1 .3) (omega arith), part-long (a .zone .geometry .sector) (l .i) (a .count * a .zone .geometry .sector) (l .out) (k .0) (l .inv .1)))
 
 add-i : tie.Need-add-i Inv-loop μ-loop
-add-i c = let s = c .before .before .before .before .before .before .before .before .before .before in omega (arith, s .pre .1 .1, zone-small (s .args .zone .geometry) (s .pre .0) .1)
+add-i c = let s = c .before .before .before .before .before .before .before .before .before in omega (arith, s .pre .1 .1, zone-small (s .args .zone .geometry) (s .pre .0) .1)
 
 loop-again : tie.Need-loop-again Inv-loop μ-loop
 loop-again c =
     let at-loop = c .before .before .before .before .before in
-    let s = at-loop .before .before .before .before .before in
+    let s = at-loop .before .before .before .before in
     let a = s .args in
     let l = at-loop .loop in
     let f = c .before .before .served-value in
@@ -72,11 +72,11 @@ loop-again c =
     )
 
 same-length : tie.Need-same-length Inv-loop μ-loop
-same-length c = c .before .loop .inv .1 ∙ sym (c .before .before .before .before .before .before .pre .1 .2)
+same-length c = c .before .loop .inv .1 ∙ sym (c .before .before .before .before .before .pre .1 .2)
 
 returns : tie.Need-returns Inv-loop μ-loop
 returns c =
-    let s = c .before .before .before .before .before .before in
+    let s = c .before .before .before .before .before in
     let a = s .args in
     let l = c .before .loop in
     let e : l .i ≡ a .count = omega arith in

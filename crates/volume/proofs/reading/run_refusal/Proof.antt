@@ -15,7 +15,7 @@ use Rattle.volume.proofs.reading.run_refusal.Statement.{statement}
 use Rattle.volume.proofs.reading.run_refusal.Tie as tie
 
 abbrev to-start : tie.Else1 → tie.Start
-to-start c = c .before .before .before .before .before
+to-start c = c .before .before .before .before
 
 returns : tie.Need-returns
 unfolding lateNumber

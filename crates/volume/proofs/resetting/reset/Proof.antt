@@ -34,35 +34,35 @@ abbrev given : tie.Start → Tables
 given s = tablesOf (now (s .args .sectors)) (now (s .args .written)) (now (s .args .durable))
 
 abbrev number : tie.Start → ℕ
-number s = verdictNumber (resetVerdict (s .args .g) (s .args .named) (s .args .t6) (s .args .zone) (given s))
+number s = verdictNumber (resetVerdict (s .args .g) (s .args .named) (s .args .state) (s .args .zone) (given s))
 
 abbrev stores : tie.Start → List Store
-stores s = resetAll (s .args .g) (callPresent (s .args .g) (isSet (s .args .named)) (viewState (s .args .t6))) (rolesOf (s .args .g) (given s)) (seenIn (s .args .g) (given s)) (viewState (s .args .t6)) (s .args .zone)
+stores s = resetAll (s .args .g) (callPresent (s .args .g) (isSet (s .args .named)) (viewState (s .args .state))) (rolesOf (s .args .g) (given s)) (seenIn (s .args .g) (given s)) (viewState (s .args .state)) (s .args .zone)
 
 abbrev next : tie.Start → State
-next s = withReset (s .args .t6) (s .args .zone) (lostIn (s .args .g) (isSet (s .args .named)) (viewState (s .args .t6)))
+next s = withReset (s .args .state) (s .args .zone) (lostIn (s .args .g) (isSet (s .args .named)) (viewState (s .args .state)))
 
 abbrev opening : tie.Start → ℕ
-opening s = let a = s .args in openingNumber (a .g) (a .named) (a .t6) 0 0 (length (now (a .sectors))) (now (a .written)) (now (a .durable))
+opening s = let a = s .args in openingNumber (a .g) (a .named) (a .state) 0 0 (length (now (a .sectors))) (now (a .written)) (now (a .durable))
 
 -- refusals 1 to 4
 abbrev to-start : tie.After-opening → tie.Start
 to-start c = c .before .before .before .before .before .before .before
 
 opened-as : (c : tie.After-opening) → c .opening .result ≡ opening (to-start c)
-opened-as c = let a = to-start c .args in c .opening .ensures ∙ opening-is (a .g) (a .named) (a .t6) (c .before .before .before .input-within .result) 0 0 (length (now (a .sectors))) (now (a .written)) (now (a .durable)) (c .before .before .before .input-within .ensures)
+opened-as c = let a = to-start c .args in c .opening .ensures ∙ opening-is (a .g) (a .named) (a .state) (c .before .before .before .input-within .result) 0 0 (length (now (a .sectors))) (now (a .written)) (now (a .durable)) (c .before .before .before .input-within .ensures)
 
 opening-passed : (c : tie.Else1) → opening (to-start (c .before)) ≡ 0
 opening-passed c = let e : c .before .opening .result ≡ 0 = omega arith in sym (opened-as (c .before)) ∙ e
 
-open-is : (c : tie.Else1) → let a = to-start (c .before) .args in Opened (a .g) (a .named) (a .t6) 0 0 (length (now (a .sectors))) (now (a .written)) (now (a .durable))
-open-is c = let a = to-start (c .before) .args in opened (a .g) (a .named) (a .t6) 0 0 (length (now (a .sectors))) (now (a .written)) (now (a .durable)) (opening-passed c)
+open-is : (c : tie.Else1) → let a = to-start (c .before) .args in Opened (a .g) (a .named) (a .state) 0 0 (length (now (a .sectors))) (now (a .written)) (now (a .durable))
+open-is c = let a = to-start (c .before) .args in opened (a .g) (a .named) (a .state) 0 0 (length (now (a .sectors))) (now (a .written)) (now (a .durable)) (opening-passed c)
 
 abbrev full : tie.Start → Bool
-full s = resetFullIn (s .args .g) (s .args .named) (s .args .t6) (given s)
+full s = resetFullIn (s .args .g) (s .args .named) (s .args .state) (given s)
 
-refusal : (s : tie.Start) → let a = s .args in resetNumber (a .g) (a .named) (a .t6) (a .zone) (full s) (length (now (a .sectors))) (now (a .written)) (now (a .durable)) ≡ number s
-refusal s = let a = s .args in reset-refusal (a .g) (a .named) (a .t6) (a .zone) (now (a .sectors)) (now (a .written)) (now (a .durable))
+refusal : (s : tie.Start) → let a = s .args in resetNumber (a .g) (a .named) (a .state) (a .zone) (full s) (length (now (a .sectors))) (now (a .written)) (now (a .durable)) ≡ number s
+refusal s = let a = s .args in reset-refusal (a .g) (a .named) (a .state) (a .zone) (now (a .sectors)) (now (a .written)) (now (a .durable))
 
 returns : tie.Need-returns
 unfolding resetOn
@@ -70,9 +70,9 @@ returns c =
     let o = c .before .before in
     let s = to-start o in
     let a = s .args in
-    let e : o .opening .result ≡ number s = opened-as o ∙ reset-early (a .g) (a .named) (a .t6) (a .zone) (full s) (length (now (a .sectors))) (now (a .written)) (now (a .durable)) (λ k. c .before .if1 .taken (opened-as o ∙ k)) ∙ refusal s in
-    let (p, q) = storing-refused (a .g) (number s) (stores s) (next s) (a .t6) (a .count) (given s) (λ k. c .before .if1 .taken (e ∙ k)) in
-    let refused : ℕ → Outcome = λ k. record { answer = Refused k; state = a .t6 } in
+    let e : o .opening .result ≡ number s = opened-as o ∙ reset-early (a .g) (a .named) (a .state) (a .zone) (full s) (length (now (a .sectors))) (now (a .written)) (now (a .durable)) (λ k. c .before .if1 .taken (opened-as o ∙ k)) ∙ refusal s in
+    let (p, q) = storing-refused (a .g) (number s) (stores s) (next s) (a .state) (a .count) (given s) (λ k. c .before .if1 .taken (e ∙ k)) in
+    let refused : ℕ → Outcome = λ k. record { answer = Refused k; state = a .state } in
     (c .refused .ensures ∙ ap refused e ∙ sym p, sym q)
 
 -- the zone
@@ -82,9 +82,9 @@ returns-2 c =
     let e = c .before .before in
     let s = to-start (e .before) in
     let a = s .args in
-    let n : 8 ≡ number s = reset-8 (a .g) (a .named) (a .t6) (a .zone) (full s) (length (now (a .sectors))) (now (a .written)) (now (a .durable)) (opening-passed e) (c .before .if2 .taken) ∙ refusal s in
-    let (p, q) = storing-refused (a .g) (number s) (stores s) (next s) (a .t6) (a .count) (given s) (λ k. let z : _≡_ {A = ℕ} 8 0 = n ∙ k in absurd (omega (arith, z))) in
-    let refused : ℕ → Outcome = λ k. record { answer = Refused k; state = a .t6 } in
+    let n : 8 ≡ number s = reset-8 (a .g) (a .named) (a .state) (a .zone) (full s) (length (now (a .sectors))) (now (a .written)) (now (a .durable)) (opening-passed e) (c .before .if2 .taken) ∙ refusal s in
+    let (p, q) = storing-refused (a .g) (number s) (stores s) (next s) (a .state) (a .count) (given s) (λ k. let z : _≡_ {A = ℕ} 8 0 = n ∙ k in absurd (omega (arith, z))) in
+    let refused : ℕ → Outcome = λ k. record { answer = Refused k; state = a .state } in
     (c .refused2 .ensures ∙ ap refused n ∙ sym p, sym q)
 
 abbrev from-zone : tie.Else2 → tie.Start
@@ -99,34 +99,34 @@ zone-small c = omega (arith, zone-in c, open-is (c .before) .valid .zones-most)
 -- refusals 7 and 12
 zone-refusal-requires : tie.Need-zone-refusal-requires
 zone-refusal-requires c κs =
-    let f = c .before .before .before in
+    let f = c .before .before .before .before in
     let a = from-zone f .args in
     let o = open-is (f .before) in
     let l = lengths-are (a .g) (length (now (a .sectors))) (length (now (a .written))) (length (now (a .durable))) (o .lengths) in
-    (o .valid, (l .1, zone-in f, pointer-within (a .g) (a .t6) (a .zone) (o .within) (zone-in f)))
+    (o .valid, (l .1, zone-in f, pointer-within (a .g) (a .state) (a .zone) (o .within) (zone-in f)))
 
 abbrev late : tie.Start → ℕ
-late s = let a = s .args in resetLateNumber (a .g) (isSet (presentList (a .g) (a .named) (a .t6 .lost))) (recordAt (a .t6) (a .zone)) (a .zone) (now (a .written))
+late s = let a = s .args in resetLateNumber (a .g) (isSet (presentList (a .g) (a .named) (a .state .lost))) (recordAt (a .state) (a .zone)) (a .zone) (now (a .written))
 
-late-is : (c : tie.After-zone-refusal) → c .zone-refusal .result ≡ late (from-zone (c .before .before .before .before))
+late-is : (c : tie.After-zone-refusal) → c .zone-refusal .result ≡ late (from-zone (c .before .before .before .before .before))
 late-is c =
-    let a = from-zone (c .before .before .before .before) .args in
-    c .zone-refusal .ensures ∙ ap (λ (h : List Bool). resetLateNumber (a .g) (isSet h) (recordAt (a .t6) (a .zone)) (a .zone) (now (a .written))) (c .before .before .present-drives .ensures)
+    let a = from-zone (c .before .before .before .before .before) .args in
+    c .zone-refusal .ensures ∙ ap (λ (h : List Bool). resetLateNumber (a .g) (isSet h) (recordAt (a .state) (a .zone)) (a .zone) (now (a .written))) (c .before .before .present-drives .ensures)
 
 returns-3 : tie.Need-returns-3
 unfolding resetOn
 returns-3 c =
     let r = c .before .before in
-    let f = r .before .before .before .before in
+    let f = r .before .before .before .before .before in
     let s = from-zone f in
     let a = s .args in
-    let e = late-is r ∙ reset-in (a .g) (a .named) (a .t6) (a .zone) (full s) (length (now (a .sectors))) (now (a .written)) (now (a .durable)) (opening-passed (f .before)) (zone-in f) (λ k. c .before .if3 .taken (late-is r ∙ k)) ∙ refusal s in
-    let (p, q) = storing-refused (a .g) (number s) (stores s) (next s) (a .t6) (a .count) (given s) (λ k. c .before .if3 .taken (e ∙ k)) in
-    let refused : ℕ → Outcome = λ k. record { answer = Refused k; state = a .t6 } in
+    let e = late-is r ∙ reset-in (a .g) (a .named) (a .state) (a .zone) (full s) (length (now (a .sectors))) (now (a .written)) (now (a .durable)) (opening-passed (f .before)) (zone-in f) (λ k. c .before .if3 .taken (late-is r ∙ k)) ∙ refusal s in
+    let (p, q) = storing-refused (a .g) (number s) (stores s) (next s) (a .state) (a .count) (given s) (λ k. c .before .if3 .taken (e ∙ k)) in
+    let refused : ℕ → Outcome = λ k. record { answer = Refused k; state = a .state } in
     (c .refused3 .ensures ∙ ap refused e ∙ sym p, sym q)
 
 abbrev from-late : tie.Else3 → tie.Start
-from-late c = from-zone (c .before .before .before .before .before)
+from-late c = from-zone (c .before .before .before .before .before .before)
 
 passed : (c : tie.Else3) → late (from-late c) ≡ 0
 passed c = let e : c .before .zone-refusal .result ≡ 0 = omega arith in sym (late-is (c .before)) ∙ e
@@ -134,7 +134,7 @@ passed c = let e : c .before .zone-refusal .result ≡ 0 = omega arith in sym (l
 reset-zone-requires : tie.Need-reset-zone-requires
 reset-zone-requires c κs =
     let e = c .before .before .before in
-    let f = e .before .before .before .before .before in
+    let f = e .before .before .before .before .before .before in
     let a = from-late e .args in
     let o = open-is (f .before) in
     let l = lengths-are (a .g) (length (now (a .sectors))) (length (now (a .written))) (length (now (a .durable))) (o .lengths) in (
@@ -146,7 +146,7 @@ reset-zone-requires c κs =
           durable-long = l .2;
           zone-in = zone-in f;
           generation-is = refl;
-          fresh = late-fresh (a .g) (isSet (presentList (a .g) (a .named) (a .t6 .lost))) (recordAt (a .t6) (a .zone)) (a .zone) (now (a .written)) (passed e);
+          fresh = late-fresh (a .g) (isSet (presentList (a .g) (a .named) (a .state .lost))) (recordAt (a .state) (a .zone)) (a .zone) (now (a .written)) (passed e);
         },
       ),
     )
@@ -154,20 +154,20 @@ reset-zone-requires c κs =
 returns-4 : tie.Need-returns-4
 returns-4 c =
     let e = c .before .before .before .before .before .before .before .before .before .before in
-    let h = e .before .before .before .before .before in
+    let h = e .before .before .before .before .before .before in
     let s = from-late e in
     let a = s .args in
     let f = c .before .before .before .before .before .before .reset-zone in
     let here = e .before .before .before .present-drives in
-    let on : resetZoneOn (zoneNow (a .g) (here .result) (a .t6) (a .zone)) (a .t6) (a .count) (given s) ≡ resetOn (a .g) (a .named) (a .t6) (a .zone) (a .count) (given s) =
-    ap (λ (l : List Bool). resetZoneOn (zoneNow (a .g) l (a .t6) (a .zone)) (a .t6) (a .count) (given s)) (here .ensures)
-    ∙ reset-zone-on (a .g) (a .named) (a .t6) (a .zone) (a .count) (now (a .sectors)) (now (a .written)) (now (a .durable)) (opening-passed (h .before)) (zone-in h) (passed e) in
+    let on : resetZoneOn (zoneNow (a .g) (here .result) (a .state) (a .zone)) (a .state) (a .count) (given s) ≡ resetOn (a .g) (a .named) (a .state) (a .zone) (a .count) (given s) =
+    ap (λ (l : List Bool). resetZoneOn (zoneNow (a .g) l (a .state) (a .zone)) (a .state) (a .count) (given s)) (here .ensures)
+    ∙ reset-zone-on (a .g) (a .named) (a .state) (a .zone) (a .count) (now (a .sectors)) (now (a .written)) (now (a .durable)) (opening-passed (h .before)) (zone-in h) (passed e) in
     (f .ensures .0 ∙ ap (λ (r : Result). r .outcome) on, f .ensures .1 ∙ ap (λ (r : Result). r .tables) on)
 
 pub reset-spec : {M : Type 1} → statement M
 reset-spec =
     tie.close
-    (tie.spec (λ c κs. search needs) (λ c κs. tested _ (c .before .before .before .before .before .before .args .t6) _ (c .before .before .input-within .ensures)) (λ c κs. search needs) (λ c. search needs)
-    (λ c. search needs) returns (λ c κs. search needs) (λ c. search needs) (λ c. search needs) returns-2 (λ c. let h = zone-small c in omega arith) zone-small
-    (λ c κs. open-is (c .before .before) .valid) zone-refusal-requires (λ c κs. search needs) (λ c. search needs) (λ c. search needs) returns-3
+    (tie.spec (λ c κs. search needs) (λ c κs. tested _ (c .before .before .before .before .before .before .args .state) _ (c .before .before .input-within .ensures)) (λ c κs. search needs) (λ c. search needs)
+    (λ c. search needs) returns (λ c κs. search needs) (λ c. search needs) (λ c. search needs) returns-2 (λ c. let h = zone-small (c .before) in omega arith) (λ c. zone-small (c .before))
+    (λ c κs. open-is (c .before .before .before) .valid) zone-refusal-requires (λ c κs. search needs) (λ c. search needs) (λ c. search needs) returns-3
     reset-zone-requires (λ c. search needs) (λ c. search needs) (λ c. search needs) returns-4)

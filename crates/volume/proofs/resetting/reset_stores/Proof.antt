@@ -10,7 +10,7 @@ use Rattle.volume.proofs.resetting.reset_stores.Tie as tie
 
 -- each call's place, from that of the next
 abbrev at-start : tie.After-log-resets → tie.Start
-at-start c = c .before .before .before .before .before .before .before .before .before
+at-start c = c .before .before .before .before .before .before .before .before
 
 abbrev at-logged : tie.After-flush-all → tie.After-log-resets
 at-logged c = c .before .before .before .before .before .before .before

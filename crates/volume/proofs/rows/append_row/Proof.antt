@@ -37,12 +37,12 @@ goes s =
     )
 
 append-due-requires : tie.Need-append-due-requires
-append-due-requires c κs = let (ok, hd, hz, l) = goes (c .before .before .before .before .before .before) in (ok, (hd, hz, l))
+append-due-requires c κs = let (ok, hd, hz, l) = goes (c .before .before .before .before .before) in (ok, (hd, hz, l))
 
 returns : tie.Need-returns
 returns c =
     let d = c .before .before in
-    let s = d .before .before .before .before .before .before .before in
+    let s = d .before .before .before .before .before .before in
     let a = s .args in
     let t = a .target in
     let e : (t .present && ltb 1 (a .budget)) && hasRoom (a .known .to) (t .drive) (t .zone) (now (a .written)) ≡ false = sym (d .append-due .ensures) ∙ not-true (d .append-due .result) (c .before .if1 .taken) in
@@ -50,7 +50,7 @@ returns c =
 
 -- where the store is due
 abbrev to-start : tie.Else1 → tie.Start
-to-start c = c .before .before .before .before .before .before .before .before
+to-start c = c .before .before .before .before .before .before .before
 
 due : (c : tie.Else1) → let a = to-start c .args in (a .target .present && ltb 1 (a .budget)) && hasRoom (a .known .to) (a .target .drive) (a .target .zone) (now (a .written)) ≡ true
 due c = sym (c .before .append-due .ensures) ∙ not-false (c .before .append-due .result) (c .if1 .left)

@@ -21,14 +21,14 @@ value s = let a = s .args in valueAt (a .known .geometry) (isSet (a .known .here
 
 put-held-requires : tie.Need-put-held-requires
 put-held-requires c κs =
-    let s = c .before .before .before .before .before .before .before in
+    let s = c .before .before .before .before .before .before in
     let m = s .pre .1 .2 in
     (s .pre .0, (m .readable .zone-in, omega (arith, s .pre .1 .1, m .end-most), m .readable .sectors-long, sym (c .before .before .own-held .ensures) ∙ c .before .if1 .taken, s .pre .1 .3))
 
 returns : tie.Need-returns
 returns c =
     let h = c .before .before .before .before .before in
-    let s = h .before .before .before .before .before in
+    let s = h .before .before .before .before in
     let a = s .args in
     let g = a .known .geometry in
     let m = s .pre .1 .2 in
@@ -37,17 +37,17 @@ returns c =
     (sym (value-held g (a .known .here) (now (a .sectors)) (now (a .pointers)) (a .known .zone) (m .readable) (s .pre .0) (a .known .generation) (a .a) (omega (arith, s .pre .1 .1, m .end-most)) (sym (h .own-held .ensures) ∙ c .before .before .before .before .if1 .taken)))
 
 slice-aggregate-known-value : tie.Need-slice-aggregate-known-value
-slice-aggregate-known-value c = let s = c .before .before .before .before .before .before .before .before in sym (length-take-le (s .args .known .geometry .sector) _ (s .pre .0 .sector-most))
+slice-aggregate-known-value c = let s = c .before .before .before .before .before .before .before in sym (length-take-le (s .args .known .geometry .sector) _ (s .pre .0 .sector-most))
 
 known-value-requires : tie.Need-known-value-requires
 known-value-requires c κs =
     let h = c .before .before .before in
-    let s = h .before .before .before .before .before in
+    let s = h .before .before .before .before in
     let m = s .pre .1 .2 in
     (s .pre .0, ((m .readable, omega (arith, s .pre .1 .1, m .end-most), m .limit-is (s .pre .1 .1) (s .pre .1 .0) (sym (h .own-held .ensures) ∙ c .before .before .if1 .left), m .known-is (s .pre .1 .1) (s .pre .1 .0)), length-take-le (s .args .known .geometry .sector) _ (s .pre .0 .sector-most)))
 
 abbrev to-start : tie.After-known-value → tie.Start
-to-start c = c .before .before .before .before .before .before .before .before .before
+to-start c = c .before .before .before .before .before .before .before .before
 
 -- it is one sector long
 long : (c : tie.After-known-value) → length (c .known-value .last .1 .1 .1 .1 .0) ≡ to-start c .args .known .geometry .sector

@@ -31,29 +31,29 @@ returns-2 c =
     (c .before .before .put-known .ensures ∙ ap (λ (x : List ℕ). withMember (a .first) (now (a .sectors)) (a .to) x) (sym (content-known (a .known) (readDevice (a .known .geometry) (now (a .sectors)) (now (a .pointers))) (now (a .buffer)) (a .a) (t .if2 .taken))))
 
 -- the sector lies in the buffer
-within : (c : tie.After-g) → let a = c .before .before .before .before .before .before .args in (a .a - a .known .below) * a .known .geometry .sector + a .known .geometry .sector ≤ length (now (a .buffer))
-within c = let s = c .before .before .before .before .before .before in s .pre .1 .0 .in-buffer (c .before .before .if1 .left) (c .before .if2 .left)
+within : (c : tie.Else2) → let a = c .before .before .before .before .before .args in (a .a - a .known .below) * a .known .geometry .sector + a .known .geometry .sector ≤ length (now (a .buffer))
+within c = let s = c .before .before .before .before .before in s .pre .1 .0 .in-buffer (c .before .if1 .left) (c .if2 .left)
 
 put-requires : tie.Need-put-requires
 put-requires c κs =
-    let g = c .before .before in
-    let s = g .before .before .before .before .before .before in
+    let t = c .before .before in
+    let s = t .before .before .before .before .before in
     let a = s .args in
     let from = (a .a - a .known .below) * a .known .geometry .sector in
     let b = a .known .geometry .sector in
     let e : from + b - from ≡ b = omega arith in
-    rw (e, part-long (now (a .buffer)) from b (within g)) (free-fits (a .known .geometry) (now (a .pointers)) (a .to) (s .pre .1 .1) (now (a .sectors)) (s .pre .1 .0 .readable .sectors-long))
+    rw (e, part-long (now (a .buffer)) from b (within t)) (free-fits (a .known .geometry) (now (a .pointers)) (a .to) (s .pre .1 .1) (now (a .sectors)) (s .pre .1 .0 .readable .sectors-long))
 
 returns-3 : tie.Need-returns-3
 returns-3 c =
-    let g = c .before .before .before .before .before in
-    let a = g .before .before .before .before .before .before .args in
+    let t = c .before .before .before .before .before in
+    let a = t .before .before .before .before .before .args in
     let from = (a .a - a .known .below) * a .known .geometry .sector in
     let b = a .known .geometry .sector in
     let e : from + b - from ≡ b = omega arith in
     let q : take (from + b - from) (drop from (now (a .buffer))) ≡ sectorNo b (now (a .buffer)) (a .a - a .known .below) = rw e refl in
-    rw (lt-ltb (a .a) (a .known .end) (g .before .before .if1 .left))
-    (c .before .before .put .ensures ∙ ap (λ (x : List ℕ). withMember (a .first) (now (a .sectors)) (a .to) x) (q ∙ sym (content-new (a .known) (readDevice (a .known .geometry) (now (a .sectors)) (now (a .pointers))) (now (a .buffer)) (a .a) (g .before .if2 .left))))
+    rw (lt-ltb (a .a) (a .known .end) (t .before .if1 .left))
+    (c .before .before .put .ensures ∙ ap (λ (x : List ℕ). withMember (a .first) (now (a .sectors)) (a .to) x) (q ∙ sym (content-new (a .known) (readDevice (a .known .geometry) (now (a .sectors)) (now (a .pointers))) (now (a .buffer)) (a .a) (t .if2 .left))))
 
 pub put-member-spec : {M : Type 1} → statement M
 put-member-spec =

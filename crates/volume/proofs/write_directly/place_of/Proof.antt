@@ -13,7 +13,7 @@ use Rattle.volume.proofs.write_directly.place_of.Statement.{statement}
 use Rattle.volume.proofs.write_directly.place_of.Tie as tie
 
 abbrev to-start : tie.After-earlier-held → tie.Start
-to-start c = c .before .before .before .before .before
+to-start c = c .before .before .before .before
 
 -- the answer by what is held
 abbrev answer : tie.Start → Bool → EntryPlace
@@ -32,5 +32,5 @@ returns-2 c = let d = c .before .before in c .entry-place .ensures ∙ ap (answe
 pub place-of-spec : {M : Type 1} → statement M
 place-of-spec =
     tie.close
-    (tie.spec (λ c κs. let s = c .before .before .before .before in (s .pre .0, (s .pre .1 .1, s .pre .1 .0 .written-long, omega (arith, s .pre .1 .2)))) returns
+    (tie.spec (λ c κs. let s = c .before .before .before in (s .pre .0, (s .pre .1 .1, s .pre .1 .0 .written-long, omega (arith, s .pre .1 .2), s .pre .1 .3))) returns
     (λ c. let s = to-start (c .before) in omega (arith, s .pre .1 .2, zone-small (s .args .run .zone .geometry) (s .pre .0) .1)) (λ c κs. let s = to-start (c .before) in (s .pre .0, (s .pre .1 .0, s .pre .1 .1, s .pre .1 .2))) returns-2)

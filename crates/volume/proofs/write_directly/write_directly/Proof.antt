@@ -32,7 +32,7 @@ abbrev past : tie.Start → List ℕ
 past s = drop (length (now (s .args .written))) (replicate 152 0)
 
 abbrev to-start : tie.After-copy-pointers → tie.Start
-to-start c = c .before .before .before .before .before .before .before
+to-start c = c .before .before .before .before .before .before
 
 copied : (c : tie.After-copy-pointers) → c .copy-pointers .last .0 ≡ now (to-start c .args .written)
 copied c =
@@ -47,7 +47,7 @@ handed : (c : tie.After-copy-pointers) → take (length (now (to-start c .args .
 handed c = front-is (length (now (to-start c .args .written))) (c .copy-pointers .last .0) (past (to-start c)) (now (to-start c .args .written)) (copy-long c) (copied c)
 
 copy-pointers-requires : tie.Need-copy-pointers-requires
-copy-pointers-requires c κs = omega (arith, front-of (c .before .before .before .before .before .before))
+copy-pointers-requires c κs = omega (arith, front-of (c .before .before .before .before .before))
 
 array-share-prefix-pointers : tie.Need-array-share-prefix-pointers
 array-share-prefix-pointers c = let f = c .before .before .before in front-fits (length (now (to-start f .args .written))) (f .copy-pointers .last .0) (past (to-start f)) (copy-long f)
@@ -79,4 +79,4 @@ returns c =
 pub write-directly-spec : {M : Type 1} → statement M
 write-directly-spec =
     tie.close
-    (tie.spec (λ c. few (c .before .before .before .before)) (λ c. sym (front-of (c .before .before .before .before .before))) copy-pointers-requires array-share-prefix-pointers slice-aggregate-write-all write-all-requires (λ c. search needs) (λ c. search needs) returns)
+    (tie.spec (λ c. few (c .before .before .before)) (λ c. sym (front-of (c .before .before .before .before))) copy-pointers-requires array-share-prefix-pointers slice-aggregate-write-all write-all-requires (λ c. search needs) (λ c. search needs) returns)

@@ -17,7 +17,7 @@ returns : tie.Need-returns
 returns c = let h = c .before in ap (limit (h .before .before .before)) (sym (c .if1 .taken) ∙ h .earlier-held .ensures)
 
 returns-2 : tie.Need-returns-2
-returns-2 c = let h = c .before .before .before .before in c .seal-limit .ensures .0 ∙ ap (limit (h .before .before .before)) (sym (c .before .before .before .if1 .left) ∙ h .earlier-held .ensures)
+returns-2 c = let h = c .before .before .before in c .seal-limit .ensures .0 ∙ ap (limit (h .before .before .before)) (sym (c .before .before .if1 .left) ∙ h .earlier-held .ensures)
 
 pub earlier-limit-spec : {M : Type 1} → statement M
 earlier-limit-spec =

@@ -40,12 +40,12 @@ abbrev header : tie.Start → List ℕ
 header s = let k = s .args .known in encode (k .geometry) (parity s) (entryHeader (k .geometry) (k .zone) (k .generation) (k .end))
 
 -- the stripe begins at or below the end
-start-most : (c : tie.After-stripe-sectors) → let k = c .before .before .before .before .before .before .before .before .args .known in k .end / c .stripe-sectors .result * c .stripe-sectors .result ≤ k .end
-start-most c = omega (arith, div-add-mod' (c .before .before .before .before .before .before .before .before .args .known .end) (c .stripe-sectors .result))
+start-most : (c : tie.After-stripe-sectors) → let k = c .before .before .before .before .before .before .args .known in k .end / c .stripe-sectors .result * c .stripe-sectors .result ≤ k .end
+start-most c = omega (arith, div-add-mod' (c .before .before .before .before .before .before .args .known .end) (c .stripe-sectors .result))
 
 returns : tie.Need-returns
 returns c =
-    let s = c .before .before .before .before .before .before .before .before .before in
+    let s = c .before .before .before .before .before .before .before in
     let a = s .args in
     let k = a .known in
     let n = c .before .stripe-sectors .result in
@@ -53,7 +53,7 @@ returns c =
 
 -- the stripe, its start, its fill and its parity drive, as they are computed
 abbrev to-start : tie.Else1 → tie.Start
-to-start c = c .before .before .before .before .before .before .before .before .before
+to-start c = c .before .before .before .before .before .before .before
 
 stripe-is : (c : tie.Else1) → to-start c .args .known .end / c .before .stripe-sectors .result ≡ stripe (to-start c)
 stripe-is c = let k = to-start c .args .known in stripe-quotient (k .geometry .drives) (k .geometry .unit) (k .end) (c .before .stripe-sectors .result) (c .before .stripe-sectors .ensures .0)
@@ -174,6 +174,6 @@ returns-2 c =
 pub write-entry-spec : {M : Type 1} → statement M
 write-entry-spec =
     tie.close
-    (tie.spec (λ c κs. search needs) (λ c. search needs) (λ c. let s = c .before .before .before .before .before .before .before .before in omega (arith, start-most c, s .pre .1 .end-most, zone-small (s .args .known .geometry) (s .pre .0) .1)) returns
+    (tie.spec (λ c κs. search needs) (λ c. search needs) (λ c. let s = c .before .before .before .before .before .before in omega (arith, start-most c, s .pre .1 .end-most, zone-small (s .args .known .geometry) (s .pre .0) .1)) returns
     (λ c. search needs) parity-drive-requires (λ c. search needs) append-partial-requires (λ c κs. search needs) append-rows-requires (λ c. search needs)
     (λ c. search needs) returns-2)

@@ -45,7 +45,7 @@ fits s = let a = s .args in buffer-fits (a .known) (s .pre .0) (now (a .sectors)
 
 append-counted-requires : tie.Need-append-counted-requires
 append-counted-requires c κs =
-    let s = c .before .before .before .before .before .before .before .before .before .before .before in
+    let s = c .before .before .before .before .before .before .before .before .before in
     let a = s .args in
     let w = s .pre .1 .0 in
     let from = (a .a - a .known .below) * a .known .geometry .sector in
@@ -55,7 +55,7 @@ append-counted-requires c κs =
 
 -- the sector as it is stored
 abbrev to-start : tie.After-append-counted → tie.Start
-to-start c = c .before .before .before .before .before .before .before .before .before .before .before .before
+to-start c = c .before .before .before .before .before .before .before .before .before .before
 
 stored : (c : tie.After-append-counted) → let a = to-start c .args in
     MadeAppends (a .known .to) (a .budget) (c .append-counted .result) (storeIf (isSet (a .known .here) (drive (to-start c))) (append (drive (to-start c)) (dataZone (a .known .zone)) (content (to-start c) (a .a)))) (now (a .sectors)) (now (a .written)) (c .append-counted .last .0) (c .append-counted .last .1 .0)
@@ -74,7 +74,7 @@ stored c =
 add-if1 : tie.Need-add-if1
 add-if1 c =
     let k = c .stripe-sectors in
-    omega (arith, mod-lt (c .before .before .before .before .before .before .before .before .before .before .before .before .before .before .before .before .before .args .a) (k .ensures .1), k .ensures .2)
+    omega (arith, mod-lt (c .before .before .before .before .before .before .before .before .before .before .before .before .before .before .before .args .a) (k .ensures .1), k .ensures .2)
 
 returns : tie.Need-returns
 returns c =
@@ -87,7 +87,7 @@ returns c =
 
 parity-drive-requires : tie.Need-parity-drive-requires
 parity-drive-requires c κs =
-    let s = c .before .before .before .before .before .before .before .before .before .before .before .before .before .before .before .before .before .before in
+    let s = c .before .before .before .before .before .before .before .before .before .before .before .before .before .before .before .before in
     let g = s .args .known .geometry in
     let w = s .pre .1 .0 in
     let k = c .before .stripe-sectors in
@@ -105,18 +105,18 @@ kept c =
     (new-in (a .known) (s .pre .0) (now (a .sectors)) (now (a .written)) (now (a .pointers)) (now (a .buffer)) (s .pre .1 .0) (a .a) (s .pre .1 .1) (s .pre .1 .2) (isSet (a .known .here) (drive s))) (stored c)
 
 -- the stripe and its parity drive, as they are computed
-stripe-is : (c : tie.Else1) → c .before .before .before .before .before .before .before .before .before .before .before .before .before .before .before .before .before .before .args .a / c .before .stripe-sectors .result ≡ stripe (c .before .before .before .before .before .before .before .before .before .before .before .before .before .before .before .before .before .before)
+stripe-is : (c : tie.Else1) → c .before .before .before .before .before .before .before .before .before .before .before .before .before .before .before .before .args .a / c .before .stripe-sectors .result ≡ stripe (c .before .before .before .before .before .before .before .before .before .before .before .before .before .before .before .before)
 stripe-is c =
-    let a = c .before .before .before .before .before .before .before .before .before .before .before .before .before .before .before .before .before .before .args in
+    let a = c .before .before .before .before .before .before .before .before .before .before .before .before .before .before .before .before .args in
     stripe-quotient (a .known .geometry .drives) (a .known .geometry .unit) (a .a) (c .before .stripe-sectors .result) (c .before .stripe-sectors .ensures .0)
 
-parity-is : (c : tie.After-parity-drive) → c .parity-drive .result ≡ parity (c .before .before .before .before .before .before .before .before .before .before .before .before .before .before .before .before .before .before .before)
-parity-is c = let s = c .before .before .before .before .before .before .before .before .before .before .before .before .before .before .before .before .before .before .before in c .parity-drive .ensures .0 ∙ ap (parityDrive (s .args .known .geometry .drives) (s .args .known .zone)) (stripe-is (c .before))
+parity-is : (c : tie.After-parity-drive) → c .parity-drive .result ≡ parity (c .before .before .before .before .before .before .before .before .before .before .before .before .before .before .before .before .before)
+parity-is c = let s = c .before .before .before .before .before .before .before .before .before .before .before .before .before .before .before .before .before in c .parity-drive .ensures .0 ∙ ap (parityDrive (s .args .known .geometry .drives) (s .args .known .zone)) (stripe-is (c .before))
 
 -- the address is its stripe's last
-last : (c : tie.Else1) → let s = c .before .before .before .before .before .before .before .before .before .before .before .before .before .before .before .before .before .before in suc (s .args .a % stripeSectors (s .args .known .geometry)) ≡ stripeSectors (s .args .known .geometry)
+last : (c : tie.Else1) → let s = c .before .before .before .before .before .before .before .before .before .before .before .before .before .before .before .before in suc (s .args .a % stripeSectors (s .args .known .geometry)) ≡ stripeSectors (s .args .known .geometry)
 last c =
-    let s = c .before .before .before .before .before .before .before .before .before .before .before .before .before .before .before .before .before .before in
+    let s = c .before .before .before .before .before .before .before .before .before .before .before .before .before .before .before .before in
     let k = c .before .stripe-sectors in
     let m : s .args .a % k .result < k .result = mod-lt (s .args .a) (k .ensures .1) in
     let e : suc (s .args .a % k .result) ≡ k .result = omega (arith, c .if1 .left) in
@@ -169,7 +169,7 @@ returns-2 c =
 pub write-sector-spec : {M : Type 1} → statement M
 write-sector-spec =
     tie.close
-    (tie.spec (λ c. search needs) (λ c κs. search needs) (λ c. search needs) (λ c. omega (arith, fits (c .before .before .before .before .before .before .before .before))) (λ c. omega (arith, fits (c .before .before .before .before .before .before .before .before)))
-    (λ c. search needs) (λ c. search needs) (λ c. search needs) (λ c. fits (c .before .before .before .before .before .before .before .before .before .before)) append-counted-requires (λ c κs. search needs) (λ c. search needs) add-if1
+    (tie.spec (λ c. search needs) (λ c κs. search needs) (λ c. search needs) (λ c. omega (arith, fits (c .before .before .before .before .before .before))) (λ c. omega (arith, fits (c .before .before .before .before .before .before)))
+    (λ c. search needs) (λ c. search needs) (λ c. search needs) (λ c. fits (c .before .before .before .before .before .before .before .before)) append-counted-requires (λ c κs. search needs) (λ c. search needs) add-if1
     (λ c. search needs) (λ c. search needs) returns (λ c. search needs) parity-drive-requires (λ c. search needs) (λ c. search needs) append-rows-requires
     (λ c. search needs) (λ c. search needs) returns-2)

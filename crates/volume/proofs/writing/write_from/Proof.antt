@@ -61,7 +61,7 @@ kept e =
 
 write-all-requires : tie.Need-write-all-requires
 write-all-requires c κs =
-    let e = c .before .before .before .before .before .before .before .before .before .before in
+    let e = c .before .before .before .before .before .before .before .before in
     let s = to-start e in
     let a = s .args in
     let z = a .run .zone in
@@ -79,7 +79,7 @@ write-all-requires c κs =
 returns : tie.Need-returns
 unfolding runStoresOf
 returns c =
-    let e = c .before .before .before .before .before .before .before .before .before .before .before .before .before .before .before in
+    let e = c .before .before .before .before .before .before .before .before .before .before .before .before .before in
     let s = to-start e in
     let a = s .args in
     let z = a .run .zone in

@@ -80,21 +80,21 @@ valid s = let a = s .args in placed-valid (a .run .zone .geometry) (a .places) (
 
 add-end : tie.Need-add-end
 add-end c =
-    let s = c .before .before .before .before .before .before .before in
+    let s = c .before .before .before .before .before .before in
     let h : s .args .run .pointer + s .args .run .count < 2 ^ 64 = omega (arith, ready s .inside, zone-small (s .args .run .zone .geometry) (s .pre .0) .1) in
     record { fits = h }
 
 -- ---- refusal 14
 parity-room-requires : tie.Need-parity-room-requires
 parity-room-requires c κs =
-    let s = c .before .before .before .before .before .before .before .before .before .before .before .before in
+    let s = c .before .before .before .before .before .before .before .before .before .before .before in
     let a = s .args in
     let needed : RoomAsked → List ℕ → Type 0 = λ q ps. Valid (q .first) × (Asking q (now (a .sectors)) (now (a .written)) (now (a .pointers)) × PointersWithin (q .first) ps) in
     subst (λ (q : RoomAsked). needed q (c .before .before .before .points-of .result)) (sym (c .before .before .before .before .write-asks .ensures))
     (subst (needed (asked s)) (sym (c .before .before .before .points-of .ensures)) (s .pre .0, (seen s, points-within (a .run .zone .geometry) (a .state) (s .pre .0) (ready s .within))))
 
 abbrev to-start : tie.After-parity-room → tie.Start
-to-start r = r .before .before .before .before .before .before .before .before .before .before .before .before .before
+to-start r = r .before .before .before .before .before .before .before .before .before .before .before .before
 
 room-is : (r : tie.After-parity-room) → r .parity-room .result ≡ room (to-start r)
 room-is r =
@@ -119,18 +119,18 @@ returns c =
     (c .refused .ensures ∙ ap refused (sym n) ∙ sym p, sym q)
 
 entry-drive-requires : tie.Need-entry-drive-requires
-entry-drive-requires c κs = let s = c .before .before .before .before .before .before .before .before .before .before .before .before .before .before .before in (s .pre .0, (ready s .zone-in, ready s .inside))
+entry-drive-requires c κs = let s = c .before .before .before .before .before .before .before .before .before .before .before .before .before .before in (s .pre .0, (ready s .zone-in, ready s .inside))
 
 array-read-write-gone : tie.Need-array-read-write-gone
-array-read-write-gone c = let s = c .before .before .before .before .before .before .before .before .before .before .before .before .before .before .before .before .before .before .before in omega (arith, c .before .before .before .entry-drive .ensures .1, s .pre .0 .drives-most)
+array-read-write-gone c = let s = c .before .before .before .before .before .before .before .before .before .before .before .before .before .before .before .before .before .before in omega (arith, c .before .before .before .entry-drive .ensures .1, s .pre .0 .drives-most)
 
 slice-aggregate-write-gone-2 : tie.Need-slice-aggregate-write-gone-2
-slice-aggregate-write-gone-2 c = let s = c .before .before .before .before .before .before .before .before .before .before .before .before .before .before .before .before .before .before .before .before .before in sym (ap length (c .before .before .before .before .before .before .before .before .before .before .before .before .points-of .ensures) ∙ points-in-long (s .args .state))
+slice-aggregate-write-gone-2 c = let s = c .before .before .before .before .before .before .before .before .before .before .before .before .before .before .before .before .before .before .before .before in sym (ap length (c .before .before .before .before .before .before .before .before .before .before .before .before .points-of .ensures) ∙ points-in-long (s .args .state))
 
 -- ---- refusal 15
 write-gone-requires : tie.Need-write-gone-requires
 write-gone-requires c κs =
-    let s = c .before .before .before .before .before .before .before .before .before .before .before .before .before .before .before .before .before .before .before .before .before in
+    let s = c .before .before .before .before .before .before .before .before .before .before .before .before .before .before .before .before .before .before .before .before in
     let a = s .args in
     let g = a .run .zone .geometry in
     let e = c .before .before .before .before .before .entry-drive in
@@ -149,7 +149,7 @@ write-gone-requires c κs =
     (subst (λ (gs : List ℕ). needed (atPlaces (a .run) (a .places)) gs (c .before .before .before .before .before .before .before .before .before .before .before .before .points-of .result)) (sym (c .before .before .before .before .before .before .generations-of .ensures)) (subst (needed (atPlaces (a .run) (a .places)) (generationsIn (a .state))) (sym (c .before .before .before .before .before .before .before .before .before .before .before .before .points-of .ensures)) lies))
 
 abbrev from-gone : tie.After-write-gone → tie.Start
-from-gone x = x .before .before .before .before .before .before .before .before .before .before .before .before .before .before .before .before .before .before .before .before .before .before
+from-gone x = x .before .before .before .before .before .before .before .before .before .before .before .before .before .before .before .before .before .before .before .before .before
 
 abbrev drive : tie.After-write-gone → ℕ
 drive x = x .before .before .before .before .before .before .entry-drive .result .drive
@@ -225,7 +225,7 @@ write-from-requires c κs =
     ))
 
 outcome-requires : tie.Need-outcome-requires
-outcome-requires c κs = let s = c .before .before .before .before .before .before .before .before .before .before .before .before .before .before .before .before .before .before .before .before .before .before .before .before .before .before .before .before .before .before .before .before .before .before .before in (s .pre .0, (ready s .zone-in, ready s .generation-is))
+outcome-requires c κs = let s = c .before .before .before .before .before .before .before .before .before .before .before .before .before .before .before .before .before .before .before .before .before .before .before .before .before .before .before .before .before .before .before .before .before .before in (s .pre .0, (ready s .zone-in, ready s .generation-is))
 
 -- what was stored, as the call's stores
 made : (f : tie.After-write-from) → let s = from-gone (f .before .before .before .before .before .before .before) in let w = f .write-from in

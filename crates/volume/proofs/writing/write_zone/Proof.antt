@@ -1,65 +1,88 @@
-use mathlib.Core.Path.{_≡_, sym, ap, _∙_, subst}
-use mathlib.Core.Bool.{true}
-use Prim.Native.Nat.{ℕ, suc, _+_, _<_, _^_}
+use mathlib.Core.Path.{_≡_, sym, ap, ap₂, _∙_, subst}
+use mathlib.Core.List.{List}
+use mathlib.Core.Bool.{true, false}
+use Prim.Native.Nat.{ℕ, _+_, _<_, _^_}
 use native.Mathlib.Omega.{arith}
 use denote.Ref.{now}
-use borrow.Author.Tests.{not-false}
-use Rattle.tables.specs.laws.Made.{MadeAppends}
-use Rattle.tables.specs.laws.Sizes.{zone-small}
-use Rattle.volume.specs.declared.write_directly.EntryPlace.{EntryPlace}
-use Rattle.volume.specs.writing.WriteStores.{StoresPast}
-use Rattle.volume.specs.writing.WriteRun.{runStoresOf, RunReady}
-use Rattle.volume.specs.writing.WriteDirectly.{placeOf, directly-ready, directly-past, directly-ends}
+use borrow.Author.Tests.{not-true, not-false}
 use borrow.Author.Needs.{needs}
+use Rattle.tables.specs.laws.Sizes.{zone-small}
+use Rattle.tables.specs.meaning.Tables.{tablesOf}
+use Rattle.volume.specs.meaning.CallContracts.{Result}
+use Rattle.volume.specs.looking.DriveLogs.{Sized}
+use Rattle.volume.specs.writing.WriteRun.{RunReady, writeZoneOn}
+use Rattle.volume.specs.writing.WriteTried.{Left, tried-refused, tried-left, tried-made}
 use Rattle.volume.proofs.writing.write_zone.Statement.{statement}
 use Rattle.volume.proofs.writing.write_zone.Tie as tie
 
-abbrev to-start : tie.After-place-of → tie.Start
+abbrev to-start : tie.After-write-alone → tie.Start
 to-start c = c .before .before .before .before .before .before .before
 
-ready : (s : tie.Start) → RunReady (s .args .run) (s .args .state) (now (s .args .written)) (now (s .args .durable)) (now (s .args .buffer))
-ready s = s .pre .1 .2
-
--- no other log is needed
-alone : (e : tie.Else1) → let a = to-start (e .before) .args in placeOf (a .run) (now (a .sectors)) (now (a .written)) .alone ≡ true
-alone e = sym (ap (λ (p : EntryPlace). p .alone) (e .before .place-of .ensures)) ∙ not-false (e .before .place-of .result .alone) (e .if1 .left)
-
-write-directly-requires : tie.Need-write-directly-requires
-write-directly-requires c κs =
-    let e = c .before .before .before .before in
-    let s = to-start (e .before) in
+returns : tie.Need-returns
+returns c =
+    let p = c .before .before .before .before .before .before in
+    let s = to-start p in
     let a = s .args in
-    let past : EntryPlace → Type 0 = λ p. StoresPast (a .run .zone .geometry) (p .geometry) (now (a .written)) (now (a .written)) in (
-      s .pre .0,
-      (
-        directly-ready (a .run) (a .state) (now (a .sectors)) (now (a .written)) (now (a .durable)) (now (a .buffer)) (s .pre .0) (s .pre .1 .1) (s .pre .1 .0) (ready s) (alone e),
-        subst past (sym (e .before .place-of .ensures)) (directly-past (a .run) (a .state) (now (a .sectors)) (now (a .written)) (now (a .durable)) (now (a .buffer)) (s .pre .0) (s .pre .1 .1) (s .pre .1 .0) (ready s) (alone e)),
-      ),
-    )
+    let w = p .write-alone in
+    let (x, y) = tried-refused (a .run) (a .c) (a .state) (a .count) (now (a .buffer)) (now (a .sectors)) (now (a .written)) (now (a .durable)) (w .last .0) (w .last .1 .0) (w .result) (s .pre .0) (s .pre .1 .0) (s .pre .1 .1) (w .ensures) (c .before .if1 .taken) in
+    (c .refused .ensures ∙ x, y)
 
-add-end : tie.Need-add-end
-add-end c =
-    let s = c .before .before .before .before .before .before .before .before .before .before .before .before .before .before .before .before .before .before .before in
-    let h : s .args .run .pointer + s .args .run .count < 2 ^ 64 = omega (arith, ready s .inside, zone-small (s .args .run .zone .geometry) (s .pre .0) .1) in
-    record { fits = h }
+abbrev from-else : tie.Else1 → tie.After-write-alone
+from-else e = e .before .before .before .before .before
 
-outcome-requires : tie.Need-outcome-requires
-outcome-requires c κs = let s = c .before .before .before .before .before .before .before .before .before .before .before .before .before .before .before .before .before .before .before in (s .pre .0, (ready s .zone-in, ready s .generation-is))
+passed : (e : tie.Else1) → from-else e .write-alone .result .refusal ≡ 0
+passed e = omega arith
+
+-- tried, and left as it was
+left : (l : tie.Then2) → let p = from-else (l .before) in let a = to-start p .args in Left (a .run) (a .state) (a .count) (now (a .buffer)) (now (a .sectors)) (now (a .written)) (now (a .durable)) (p .write-alone .last .0) (p .write-alone .last .1 .0)
+left l =
+    let p = from-else (l .before) in
+    let s = to-start p in
+    let a = s .args in
+    let w = p .write-alone in
+    tried-left (a .run) (a .c) (a .state) (a .count) (now (a .buffer)) (now (a .sectors)) (now (a .written)) (now (a .durable)) (w .last .0) (w .last .1 .0) (w .result) (s .pre .0) (s .pre .1 .0) (s .pre .1 .1) (w .ensures) (passed (l .before)) (not-true (w .result .made) (l .if2 .taken))
+
+write-by-roles-requires : tie.Need-write-by-roles-requires
+write-by-roles-requires c κs =
+    let l = c .before .before .before in
+    let p = from-else (l .before) in
+    let s = to-start p in
+    let a = s .args in
+    let g = a .run .zone .geometry in
+    let w = p .write-alone in
+    let k = left l in
+    let sized = subst (λ (y : List ℕ). Sized g y (w .last .1 .0)) (sym (k .same-sectors)) (subst (λ (v : List ℕ). Sized g (now (a .sectors)) v) (sym (k .same-written)) (s .pre .1 .0 .sized)) in
+    (s .pre .0, (sized, s .pre .1 .0 .logs-first, subst (λ (v : List ℕ). RunReady (a .run) (a .state) v (now (a .durable)) (now (a .buffer))) (sym (k .same-written)) (k .ready)))
 
 returns-2 : tie.Need-returns-2
 returns-2 c =
-    let w = c .before .before .before .before .before .before .before .write-directly in
-    let e = c .before .before .before .before .before .before .before .before .before .before .before .before in
-    let p = e .before .place-of in
-    let s = to-start (e .before) in
+    let r = c .before .before .before .before .before .before .write-by-roles in
+    let l = c .before .before .before .before .before .before .before .before .before .before in
+    let a = to-start (from-else (l .before)) .args in
+    let k = left l in
+    let on : List ℕ → List ℕ → Result = λ y v. writeZoneOn (a .run) (a .state) (now (a .buffer)) (a .count) (tablesOf y v (now (a .durable))) in
+    let e = ap₂ on (k .same-sectors) (k .same-written) ∙ k .same-call in
+    (r .ensures .0 ∙ ap (λ (x : Result). x .outcome) e, r .ensures .1 ∙ ap (λ (x : Result). x .tables) e)
+
+-- made
+add-end : tie.Need-add-end
+add-end c =
+    let s = c .before .before .before .before .before .before .before .before .before .before .before .before .before .before in
+    let h : s .args .run .pointer + s .args .run .count < 2 ^ 64 = omega (arith, s .pre .1 .0 .starts-in, s .pre .1 .0 .count-small, zone-small (s .args .run .zone .geometry) (s .pre .0) .1) in
+    record { fits = h }
+
+returns-3 : tie.Need-returns-3
+returns-3 c =
+    let l = c .before .before in
+    let p = from-else (l .before) in
+    let s = to-start p in
     let a = s .args in
-    let made : EntryPlace → ℕ → Type 0 = λ q b. MadeAppends (q .geometry) b (w .result) (runStoresOf (a .run) (now (a .sectors)) (now (a .written)) (now (a .buffer))) (now (a .sectors)) (now (a .written)) (w .last .0) (w .last .1 .0) in
-    let m = subst (λ (q : EntryPlace). made q (suc (a .count))) (p .ensures) (subst (made (p .result)) (c .before .before .before .before .before .before .before .before .before .before .budget-of .ensures) (w .ensures)) in
-    let (x, y) = directly-ends (a .run) (a .state) (now (a .sectors)) (now (a .written)) (now (a .durable)) (now (a .buffer)) (s .pre .0) (s .pre .1 .1) (s .pre .1 .0) (ready s) (alone e) (a .count) (w .result) (w .last .0) (w .last .1 .0) m in
+    let w = p .write-alone in
+    let (x, y) = tried-made (a .run) (a .c) (a .state) (a .count) (now (a .buffer)) (now (a .sectors)) (now (a .written)) (now (a .durable)) (w .last .0) (w .last .1 .0) (w .result) (s .pre .0) (s .pre .1 .0) (s .pre .1 .1) (w .ensures) (not-false (w .result .made) (l .if2 .left)) in
     (c .outcome .ensures ∙ x, y)
 
 pub write-zone-spec : {M : Type 1} → statement M
 write-zone-spec =
     tie.close
-    (tie.spec (λ c κs. search needs) (λ c κs. search needs) (λ c. search needs) (λ c. search needs) (λ c. search needs) (λ c. search needs) (λ c κs. search needs) write-directly-requires add-end outcome-requires (λ c. search needs)
-    (λ c. search needs) returns-2)
+    (tie.spec (λ c κs. search needs) (λ c κs. search needs) (λ c. search needs) (λ c. search needs) returns write-by-roles-requires (λ c. search needs) (λ c. search needs) (λ c. search needs) returns-2 add-end (λ c κs. search needs) (λ c. search needs)
+    (λ c. search needs) returns-3)

@@ -9,11 +9,11 @@ returns c = rw (not-true (c .before .before .args .here) (c .if1 .taken)) refl
 
 returns-2 : tie.Need-returns-2
 returns-2 c =
-    let at-if = c .before .before .before .before in
+    let at-if = c .before .before .before in
     let s = at-if .before .before in
-    rw (not-false (s .args .here) (at-if .if1 .left)) (c .stale-in .ensures ∙ rw (c .before .before .written-at .ensures, c .before .sectors-needed .ensures .0, c .before .before .before .pointer-of .ensures) refl)
+    rw (not-false (s .args .here) (at-if .if1 .left)) (c .stale-in .ensures ∙ rw (c .before .before .written-at .ensures, c .before .needed-of .ensures) refl)
 
 pub drive-stale-spec : {M : Type 1} → statement M
 drive-stale-spec =
     tie.close
-    (tie.spec returns (λ c κs. search needs) (λ c. search needs) (λ c κs. search needs) (λ c κs. search needs) (λ c κs. search needs) returns-2)
+    (tie.spec returns (λ c. search needs) (λ c κs. search needs) (λ c κs. search needs) (λ c κs. search needs) returns-2)

@@ -22,9 +22,9 @@ returns c = let a = c .before .before .before .before .args in rw (not-true (get
 
 returns-2 : tie.Need-returns-2
 returns-2 c =
-    let s = c .before .before .before .before .before .before .before .before in
+    let s = c .before .before .before .before .before .before .before in
     let a = s .args in
-    let p : isSet (a .zone .here) (a .d) ≡ true = not-false (getD (a .zone .here) (a .d) false) (c .before .before .before .before .if1 .left) in
+    let p : isSet (a .zone .here) (a .d) ≡ true = not-false (getD (a .zone .here) (a .d) false) (c .before .before .before .if1 .left) in
     let h : dataZone (a .zone .number) < physicalZones (a .zone .geometry) = omega arith in
     let n : c .before .before .zone-pointer .result ≡ length (readDevice (a .zone .geometry) (a .sectors .now) (a .written .now) (a .d) (dataZone (a .zone .number)) .sectors) = c .before .before .zone-pointer .ensures .0 ∙ zone-length (a .zone .geometry) (a .sectors .now) (a .written .now) (a .d) (dataZone (a .zone .number)) (s .pre .1 .1) h in
     let v = readDevice (a .zone .geometry) (a .sectors .now) (a .written .now) in

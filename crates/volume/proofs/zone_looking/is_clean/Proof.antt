@@ -20,10 +20,10 @@ loop-holds : tie.Need-loop-holds Inv-loop μ-loop
 loop-holds c = (omega arith, refl)
 
 drive-clean-requires : tie.Need-drive-clean-requires Inv-loop μ-loop
-drive-clean-requires c κs = let s = c .before .before .before .before .before in (s .pre .0, (s .pre .1 .0, omega arith, s .pre .1 .1, s .pre .1 .2))
+drive-clean-requires c κs = let s = c .before .before .before .before in (s .pre .0, (s .pre .1 .0, omega arith, s .pre .1 .1, s .pre .1 .2))
 
 add-d : tie.Need-add-d Inv-loop μ-loop
-add-d c = omega (arith, c .before .before .before .before .before .before .pre .0 .drives-most)
+add-d c = omega (arith, c .before .before .before .before .before .pre .0 .drives-most)
 
 loop-less : tie.Need-loop-less Inv-loop μ-loop
 loop-less c = omega arith
@@ -33,7 +33,7 @@ loop-again c = let l = c .before .before .loop in (omega arith, rw (l .inv .1, c
 
 returns : tie.Need-returns Inv-loop μ-loop
 unfolding cleanAt
-returns c = let l = c .before .loop in let e : l .d ≡ c .before .before .before .before .before .args .zone .geometry .drives = omega arith in l .inv .1 ∙ rw e refl
+returns c = let l = c .before .loop in let e : l .d ≡ c .before .before .before .before .args .zone .geometry .drives = omega arith in l .inv .1 ∙ rw e refl
 
 pub is-clean-spec : {M : Type 1} → statement M
 is-clean-spec =

@@ -20,10 +20,10 @@ known-prefix-requires c κs = search needs
 
 returns-2 : tie.Need-returns-2
 returns-2 c =
-    let s = c .before .before .before .before .before .before .before in
+    let s = c .before .before .before .before .before .before in
     let a = s .args in
     let l = c .before .seal-limit in
-    (pointer-known (a .zone .geometry) (isSet (a .zone .here)) (readDevice (a .zone .geometry) (a .sectors .now) (a .written .now)) (a .zone .number) (a .zone .generation) (sym (s .pre .1 .1) ∙ c .before .before .before .before .if1 .left) (c .known-prefix .result) (c .known-prefix .ensures ∙ rw (l .ensures .0) refl), omega (arith, c .known-prefix .ensures, l .ensures .1))
+    (pointer-known (a .zone .geometry) (isSet (a .zone .here)) (readDevice (a .zone .geometry) (a .sectors .now) (a .written .now)) (a .zone .number) (a .zone .generation) (sym (s .pre .1 .1) ∙ c .before .before .before .if1 .left) (c .known-prefix .result) (c .known-prefix .ensures ∙ rw (l .ensures .0) refl), omega (arith, c .known-prefix .ensures, l .ensures .1))
 
 pub pointer-at-spec : {M : Type 1} → statement M
 pointer-at-spec = tie.close (tie.spec returns seal-limit-requires known-prefix-requires returns-2)

@@ -99,7 +99,7 @@ pub fn mount(
     let s = h.state;
     let named = super::hosting::named_in(c.first);
     let count = super::hosting::narrow(c.second);
-    let o = volume::mounting::mount(sectors, written, durable, g, named, s, count);
+    let o = mounting::mount::mount(sectors, written, durable, g, named, s, count);
     kept(h, o)
 }
 

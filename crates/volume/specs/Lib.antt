@@ -3,7 +3,6 @@ pub mod emptying
 pub mod laws
 pub mod looking
 pub mod meaning
-pub mod mounting
 pub mod reading
 pub mod rows
 pub mod storing

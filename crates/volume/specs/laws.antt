@@ -22,6 +22,7 @@ pub mod EmptyingDepends
 pub mod EmptyingFits
 pub mod EmptyingStored
 pub mod EmptyingUnread
+pub mod FillStores
 pub mod Firm
 pub mod GenerationRange
 pub mod GrowingClaims
@@ -48,6 +49,7 @@ pub mod MountStoresDepend
 pub mod MountStoresFit
 pub mod MountUnread
 pub mod NewLogClaims
+pub mod OpeningFlush
 pub mod PassedRows
 pub mod PlacedStores
 pub mod Refusals

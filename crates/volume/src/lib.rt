@@ -1,4 +1,4 @@
-// The volume: the nine calls over the tables that the host lends and the state that it keeps between calls.
+// The volume: the calls over the tables that the host lends and the state that it keeps between calls, all but mount (crate `mounting`).
 use tables::Geometry;
 
 pub mod bad_places;
@@ -16,18 +16,6 @@ pub mod knowing;
 pub mod log_room;
 pub mod logging;
 pub mod looking;
-pub mod mount_counters;
-pub mod mount_ends;
-pub mod mount_entries;
-pub mod mount_fill;
-pub mod mount_known;
-pub mod mount_logs;
-pub mod mount_plan;
-pub mod mount_rooms;
-pub mod mount_steps;
-pub mod mount_torn;
-pub mod mount_zones;
-pub mod mounting;
 pub mod numbers;
 pub mod reading;
 pub mod rebuilding;
@@ -129,12 +117,4 @@ pub struct ZoneDescriptor {
 pub struct Reported {
     pub answer: Answer,
     pub number: usize,
-}
-
-// What the steps of a mount go by: the geometry, the drives that are here, the look, and whether the drives' last counters differed then.
-pub struct Basis {
-    pub geometry: Geometry,
-    pub here: [bool; 8],
-    pub look: Look,
-    pub differ: bool,
 }

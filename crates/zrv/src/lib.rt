@@ -1,13 +1,13 @@
 // The C edge: the nine calls of include/zrv.h, `extern "C"`, on numbers and byte ranges (document 01: "The host driver is written in C and calls mount,
 // write, flush, reset and read with numbers and byte ranges; state and tables pass as bytes"). Each returns 0 finished, 1 to 17 the refusal's number,
-// 255 unfinished; above that a look and a mount tell the place of a bad log, a report its number of descriptors. Each reads its input, makes volume's call on scratch for the two tables, and hands
-// back what that leaves. `segments` has a tenth beside them, the read of a segment with grouped stripes.
+// 255 unfinished; above that a look and a mount tell the place of a bad log, a report its number of descriptors. Each reads its input, makes the call (volume's,
+// or mounting's) on scratch for the two tables, and hands back what that leaves. `segments` has a tenth beside them, the read of a segment with grouped stripes.
 pub mod input;
-pub mod mounting;
 pub mod reading;
 pub mod records;
 pub mod reporting;
 pub mod segments;
+pub mod starting;
 pub mod state;
 pub mod words;
 pub mod writing;

@@ -23,7 +23,7 @@ use Rattle.volume.specs.meaning.Rules.{generalHeads, parityEntries, showing, zo
 use Rattle.volume.specs.meaning.Roles.{driveByRoles, roles, byRoles, placedBy}
 use Rattle.volume.specs.meaning.Calls.{flushStores}
 use Rattle.volume.specs.meaning.Emptying.{byState, byLook, lacksRoom, newGeneral, newParity, newParitySize, resetLimit, writeLimit, emptiedFor, emptiedForWrite, emptyings, emptyGeneral, emptyParity, isMade}
-use Rattle.volume.specs.mounting.RestoreAgrees.{opening-sectors}
+use Rattle.volume.specs.laws.OpeningFlush.{opening-sectors}
 use Rattle.volume.specs.meaning.Mount.{spareStep, afterOpening, afterFill, mountView, mountLook, startRoles, emptiedGeneral, emptiedParity, middleRoles}
 use Rattle.volume.specs.meaning.Refusals.{TableLengths, zoneOf}
 use Rattle.volume.specs.meaning.Answers.{sectorsIn}

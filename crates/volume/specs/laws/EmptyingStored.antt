@@ -25,7 +25,7 @@ use Rattle.volume.specs.meaning.Calls.{appendAll}
 use Rattle.volume.specs.meaning.Roles.{Roles, roles, byRoles, driveByRoles, saysNothing, seenAs, zoneOfRole, zoneOfKind, emptiedRoles, rolesAfter}
 use Rattle.volume.specs.meaning.Emptying.{InForce, newGeneral, newGeneralSize, emptyingStores, emptyings, emptyGeneral}
 use Rattle.volume.specs.meaning.Mount.{afterOpening}
-use Rattle.volume.specs.mounting.RestoreAgrees.{opening-sectors}
+use Rattle.volume.specs.laws.OpeningFlush.{opening-sectors}
 use Rattle.volume.specs.laws.EmptiedLogs.{Emptied}
 
 -- three zones, each in one role

@@ -1,20 +1,23 @@
--- A zone's generation is a number of 8 bytes: every counter of a legal entry is, for the entry's bytes are what its numbers are written as.
-use mathlib.Core.Path.{_≡_, ap, _∙_}
-use mathlib.Core.Logic.{_⊎_, inl, inr}
-use mathlib.Core.Bool.{Bool, true, false}
+-- A zone's generation is a number of 8 bytes: every counter of a legal entry is, for the entry's bytes are what its numbers are written as. The last of them is a
+-- worn zone's.
+use mathlib.Core.Path.{_≡_, ap, _∙_, refl, sym}
+use mathlib.Core.Logic.{_⊎_, inl, inr, _≢_}
+use mathlib.Core.Bool.{Bool, true, false, _||_, not, true≢false}
 use Prim.Native.Nat.{ℕ, zero, _+_, _-_, _*_, _^_, _<_}
 use native.Mathlib.Decide.{ℕ-discrete}
 use native.Mathlib.Omega.{arith}
 use mathlib.Core.List.{List, []}
 use lib.ListN.{length, getD, take, drop, replicate, length-take}
 use lib.Seq.{drop-drop}
+use lib.Dec.{eqb}
+use borrow.Author.Tests.{eq-eqb}
 use Rattle.tables.specs.declared.Geometry.{Geometry}
 use Rattle.tables.specs.meaning.Basics.{pick}
 use Rattle.tables.specs.meaning.Below.{maxBelow}
 use Rattle.tables.specs.laws.Below.{max-below-is}
 use Rattle.tables.specs.meaning.LittleEndian.{wordsLE}
 use Rattle.tables.specs.meaning.Device.{Device}
-use Rattle.logs.specs.meaning.Entry.{generalZone, counters, encode, frame, legal}
+use Rattle.logs.specs.meaning.Entry.{generalZone, counters, encode, frame, legal, wornGeneration}
 use Rattle.logs.specs.laws.Legal.{legal-written-again}
 use Rattle.logs.specs.meaning.Walk.{walkLog}
 use Rattle.logs.specs.laws.Heads.{isCounters}
@@ -22,8 +25,10 @@ use Rattle.logs.specs.meaning.Heads.{generationIn}
 use Rattle.logs.specs.code.Query.{headsOf}
 use Rattle.logs.specs.laws.Places.{last-there}
 use Rattle.logs.specs.code.Generations.{counters-of, countersPlace, no-generation, generation-there}
-use Rattle.volume.specs.meaning.Rules.{generalHeads, generationOf}
+use Rattle.volume.specs.meaning.Rules.{generalHeads, generationOf, conditionOf}
 use Rattle.volume.specs.laws.ByteLists.{Bytes, bytes-append, bytes-take, bytes-drop, bytes-zeros, words-in-bytes, number-small}
+use Rattle.volume.specs.declared.Condition.the-variants.{Empty, Open, Sealed, Worn}
+use Rattle.volume.specs.meaning.State.{isEmpty}
 
 -- ---- counters
 counters-bytes : (g : Geometry) (d : ℕ) (cs : List ℕ) → Bytes (drop 32 (encode g d (counters cs)))
@@ -60,3 +65,12 @@ generation-range g present v z hz = go (max-below-is (λ d. pick (present d) (ge
         → maxBelow (λ d. pick (present d) (generationIn z (generalHeads g v d)) zero) (g .drives) < 2 ^ 64
     go (inl e) = rw e (omega arith)
     go (inr (k, l, e)) = rw e (one (present k) k)
+
+-- ---- the last generation
+-- a zone of generation 2^64 − 1 is worn, not empty
+pub empty-fresh : (n q : ℕ) (clean hasSeal : Bool) → isEmpty (conditionOf n q clean hasSeal) ≡ true → n ≢ wornGeneration
+empty-fresh n q clean hasSeal h e = true≢false (sym h ∙ ap (λ (b : Bool). isEmpty (pick b (Worn q) (pick (eqb q 0) Empty (pick (not clean || hasSeal) (Sealed q) (Open q))))) (eq-eqb n wornGeneration e))
+
+pub worn-top : wornGeneration ≡ 2 ^ 64 - 1
+unfolding wornGeneration
+worn-top = refl

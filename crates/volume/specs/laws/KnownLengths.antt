@@ -1,7 +1,7 @@
--- A known value is one sector long, and so is a row of such values.
+-- A known value is one sector long.
 use mathlib.Core.Path.{_≡_, sym, ap, _∙_}
 use mathlib.Core.Bool.{Bool, true, false, true≢false}
-use Prim.Native.Nat.{ℕ, _+_, _-_, _*_, _≤_, _<_, zero-le}
+use Prim.Native.Nat.{ℕ, _+_, _-_, _≤_, _<_, zero-le}
 use native.Mathlib.Decide.{ℕ-discrete}
 use native.Mathlib.Omega.{arith}
 use mathlib.Core.List.{List, []}
@@ -9,8 +9,8 @@ use lib.ListN.{length, length-take}
 use lib.Dec.{ltb}
 use Rattle.tables.specs.declared.Geometry.{Geometry}
 use Rattle.tables.specs.meaning.Basics.{pick}
-use Rattle.tables.specs.meaning.Geometry.{Valid, stripeSectors, zoneSectors, dataZone}
-use Rattle.tables.specs.meaning.Placement.{driveOf, sectorOf, unitIndex, rowIndex, address}
+use Rattle.tables.specs.meaning.Geometry.{Valid, zoneSectors, dataZone}
+use Rattle.tables.specs.meaning.Placement.{driveOf, sectorOf, unitIndex, rowIndex}
 use Rattle.tables.specs.laws.Placement.{drive-below}
 use Rattle.tables.specs.meaning.Tables.{sectorAt}
 use Rattle.tables.specs.meaning.Xor.{xorBytes, without}
@@ -18,15 +18,12 @@ use Rattle.tables.specs.laws.Xor.{xor-bytes-comm, xor-below-length, without-sel
 use Rattle.logs.specs.meaning.Entry.{parityZone}
 use Rattle.volume.specs.declared.knowing.Source.{Source}
 use Rattle.volume.specs.declared.knowing.Source.the-variants.{Unknown, Held, Row, Entry}
-use Rattle.volume.specs.meaning.Content.{rowXorBelow}
 use Rattle.volume.specs.meaning.Rules.{parityOf, rowDrive, rowAddress, sealLimit, known, zoneView, valueAt}
 use Rattle.volume.specs.meaning.CallContracts.{isSet}
 use Rattle.volume.specs.looking.Knowing.{Readable, readDevice, stripeEnd, sourceOf, hasSource, rowXor, entryEnd, wayValue, SourceFits}
 use Rattle.volume.specs.looking.KnowingLaws.{parity-in}
 use Rattle.volume.specs.looking.KnowingEntries.{known-is}
 use Rattle.volume.specs.looking.KnowingValues.{sector-within, sector-long, value-is}
-use Rattle.volume.specs.laws.Content.{row-long}
-use Rattle.volume.specs.mounting.MountRows.{KnownBelow, valuesOf}
 
 -- the other sectors of a row, added up, are no longer than a sector
 row-most : (g : Geometry) (xs : List ℕ) (z a e : ℕ) → length (rowXor g xs z a e) ≤ g .sector
@@ -66,12 +63,3 @@ module _ (g : Geometry) (here : List Bool) (xs ws : List ℕ) (z : ℕ) (r : Rea
       let e : hasSource w ≡ true = sym (known-is g here xs ws z r ok n a ha) ∙ k in
       let v = value-is g here xs ws z r ok n a ha in
       ap (λ (l : List ℕ). length l) (v .1 e) ∙ way-long w (v .0) e
-
-module _ (g : Geometry) (ok : Valid g) (here : List Bool) (xs ps : List ℕ) (z generation limit end : ℕ) (k : KnownBelow g here xs ps z generation limit end) where
-  -- below an end up to which all is known
-  pub known-long : (a : ℕ) → a < end → length (valuesOf g here xs ps z generation a) ≡ g .sector
-  known-long a h = value-long g here xs ps z (k .readable) ok a (omega (arith, k .end-most)) generation (k .all-known a h)
-
-  -- a row of them that has a sector below the end
-  pub known-row-long : (s r : ℕ) → r < g .unit → s * stripeSectors g + r < end → length (rowXorBelow (g .drives) (g .unit) (valuesOf g here xs ps z generation) s end r) ≡ g .sector
-  known-row-long s r hr h = row-long g ok (valuesOf g here xs ps z generation) s end r hr h (λ j hj l. known-long (address (g .drives) (g .unit) s j r) l)

@@ -31,7 +31,7 @@ use Rattle.volume.specs.meaning.Content.{contentAt, insideStripe, entryA
 use Rattle.volume.specs.meaning.Rules.{Shown, generalHeads, parityEntries, parityEnding}
 use Rattle.volume.specs.meaning.Calls.{appendAll, appendGeneral, generationsFrom, logsReset}
 use Rattle.volume.specs.meaning.Mount.{labelStep, resetEntryStep, needsReset, zoneResetStep, nextGeneration, counterStep, sealStep, rowFor, missingRows, tornRowStep, fillStep, entryStep, withFlush, withFlushes}
-use Rattle.volume.specs.mounting.MountFillOn.{missing, fillZone}
+use Rattle.volume.specs.laws.FillStores.{missing, fillZone}
 use Rattle.tables.specs.laws.AppendCounts.{appendsTo, appends-append, appends-present, appends-flushes, appends-pick, appends-each, appends-one, appends-both, appends-zones}
 use Rattle.volume.specs.laws.CallAppends.{inGeneral, appends-general, appends-general-pick, appends-all, appends-all-most, appends-elsewhere, entry-long}
 

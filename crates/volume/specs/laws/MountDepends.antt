@@ -27,8 +27,8 @@ use Rattle.volume.specs.meaning.Content.{contentAt, insideStripe, entryA
 use Rattle.volume.specs.meaning.Rules.{Shown, showing, generalHeads, parityEntries, parityEnding}
 use Rattle.volume.specs.meaning.Calls.{appendAll, appendGeneral}
 use Rattle.volume.specs.meaning.Mount.{labelStep, resetEntryStep, zoneResetStep, countersDiffer, counterStep, sealStep, missingRows, tornRowStep, fillStep, entryStep, withFlush, withFlushes, stepsBeforeEntries, afterOpening}
-use Rattle.volume.specs.mounting.MountFillOn.{missing, fillZone}
-use Rattle.volume.specs.mounting.RestoreAgrees.{opening-sectors}
+use Rattle.volume.specs.laws.FillStores.{missing, fillZone}
+use Rattle.volume.specs.laws.OpeningFlush.{opening-sectors}
 use Rattle.volume.specs.laws.Depends.{SameOn, and-same, heads-same, parity-same, ending-same, zone-depends}
 
 -- ---- stores of one drive

@@ -25,10 +25,9 @@ use Rattle.volume.specs.meaning.Content.{insideStripe, fillOf, parityDri
 use Rattle.volume.specs.meaning.Rules.{Shown, generalHeads, conditionOf, pointerAt, cleanAt, sealSeen, generationOf, zoneAt, zoneShown, showing}
 use Rattle.volume.specs.meaning.Calls.{generationsFrom, logsReset}
 use Rattle.volume.specs.meaning.Mount.{mountView, mountLook, nextGeneration}
-use Rattle.volume.specs.mounting.MountStart.{empty-fresh}
+use Rattle.volume.specs.laws.GenerationRange.{empty-fresh, generation-range}
 use Rattle.volume.specs.laws.ArrayNumbers.{array-small}
 use Rattle.volume.specs.laws.Counters.{generations-length, generations-small}
-use Rattle.volume.specs.laws.GenerationRange.{generation-range}
 use Rattle.volume.specs.laws.LookPointers.{look-pointer}
 
 -- ---- a sealed zone has sectors

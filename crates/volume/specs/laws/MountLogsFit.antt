@@ -37,7 +37,7 @@ use Rattle.volume.specs.meaning.Roles.{Roles, driveByRoles, zoneOfRole, 
 use Rattle.volume.specs.meaning.Emptying.{byLook, newGeneral, spareWritten, mountGeneralLimit, emptyings}
 use Rattle.volume.specs.meaning.Refusals.{mountFull}
 use Rattle.volume.specs.meaning.Mount.{spareStep, labelStep, resetEntryStep, zoneResetStep, countersDiffer, counterStep, sealStep, rowFor, missingRows, tornRowStep, fillStep, withFlush, withFlushes, stepsBeforeEntries, afterOpening, mountView, mountLook, startRoles, emptiedGeneral, middleRoles}
-use Rattle.volume.specs.mounting.RestoreAgrees.{opening-sectors}
+use Rattle.volume.specs.laws.OpeningFlush.{opening-sectors}
 use Rattle.volume.specs.laws.CallAppends.{inGeneral, appends-all-most}
 use Rattle.volume.specs.laws.PlacedStores.{AllLong}
 use Rattle.volume.specs.laws.MountAppends.{steps-append, label-appends, header-appends, zone-reset-appends, counter-appends, torn-appends, fill-appends, fill-elsewhere}

@@ -31,8 +31,8 @@ use Rattle.volume.specs.meaning.Content.{contentAt, rowXorBelow, insideS
 use Rattle.volume.specs.meaning.Rules.{Shown, isLost, isPresent, generalHeads, parityEntries, parityEnding, generationOf, zoneAt, zoneShown, showing}
 use Rattle.volume.specs.meaning.Calls.{appendAll, appendGeneral, generationsFrom, logsReset}
 use Rattle.volume.specs.meaning.Mount.{labelStep, resetEntryStep, needsReset, zoneResetStep, nextGeneration, countersDiffer, counterStep, sealStep, rowFor, missingRows, tornRowStep, fillStep, entryStep, withFlush, withFlushes, stepsBeforeEntries}
-use Rattle.volume.specs.mounting.MountStart.{below-known}
-use Rattle.volume.specs.mounting.MountFillOn.{row-all, content-parity, content-data, parity-complete, parity-first, data-below}
+use Rattle.volume.specs.laws.LookPointers.{below-known}
+use Rattle.volume.specs.laws.FillStores.{row-all, content-parity, content-data, parity-complete, parity-first, data-below}
 use Rattle.volume.specs.laws.Counters.{generations-length}
 use Rattle.volume.specs.laws.Content.{row-long}
 use Rattle.volume.specs.laws.PlacedStores.{AllLong, placed-general, placed-appends, long-from}

@@ -40,7 +40,7 @@ use Rattle.volume.specs.meaning.Refusals.{accept, twoLost, kindLacks, ba
 use Rattle.volume.specs.meaning.Mount.{afterOpening, mountView, startRoles, mountStores}
 use Rattle.volume.specs.meaning.Answers.{refusedAt, presentIn, lostDriveIn}
 use Rattle.volume.specs.meaning.CallContracts.{badPlaceOn, isSet, lengthsOf, badIn, rolesOf, seenIn, answerNumber, verdictNumber, stateShown, lookVerdict, lookOn, mountVerdict, mountStoresOn, mountShownOn, mountOn}
-use Rattle.volume.specs.mounting.RestoreAgrees.{opening-sectors}
+use Rattle.volume.specs.laws.OpeningFlush.{opening-sectors}
 use Rattle.volume.specs.laws.BadPlaces.{told-finished}
 use Rattle.volume.specs.laws.Refusals.{passed}
 use Rattle.volume.specs.laws.PassedRows.{MountPassed, mount-passed, mount-number-accepts}

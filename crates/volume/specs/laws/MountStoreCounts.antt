@@ -39,7 +39,7 @@ use Rattle.volume.specs.meaning.Calls.{appendAll, appendGeneral, generat
 use Rattle.volume.specs.meaning.Mount.{spareStep, labelStep, resetEntryStep, needsReset, zoneResetStep, nextGeneration, countersDiffer, counterStep, sealStep, missingRows, tornRowStep, fillStep, entryStep}
 use Rattle.volume.specs.meaning.Mount.{withFlush, withFlushes, stepsBeforeEntries, mountView, mountLook, startRoles, emptiedParity, middleRoles, endRoles, phasesBeforeEntries, phasesOfParityLogs, phasesOfEntries, afterFill, mountStores}
 use Rattle.volume.specs.meaning.CallContracts.{badPlaceOn, storingOn, isSet, seenIn, verdictNumber, mountVerdict, mountStoresOn, mountShownOn, mountOn}
-use Rattle.volume.specs.mounting.MountFillOn.{missing, fillZone}
+use Rattle.volume.specs.laws.FillStores.{missing, fillZone}
 use Rattle.volume.specs.laws.BadPlaces.{told-unfinished}
 use Rattle.volume.specs.laws.PassedRows.{mount-passed, mount-number-accepts}
 use Rattle.volume.specs.laws.CallAppends.{entry-long}

@@ -21,7 +21,7 @@ use Rattle.volume.specs.meaning.Rules.{Shown}
 use Rattle.volume.specs.meaning.Roles.{Roles, zoneOfRole, placedBy}
 use Rattle.volume.specs.meaning.Emptying.{byLook, spareWritten, reserve, mountGeneralLimit, emptyGeneral}
 use Rattle.volume.specs.meaning.Mount.{spareStep, entryStep, withFlush, withFlushes, stepsBeforeEntries, carryPhases, afterOpening, mountView, mountLook, startRoles, emptiedGeneral, emptiedParity, middleRoles, endRoles, phasesOfLogs, phasesBeforeEntries, phasesOfParityLogs, phasesOfEntries, afterFill, afterParityLogs, mountStores}
-use Rattle.volume.specs.mounting.RestoreAgrees.{opening-sectors}
+use Rattle.volume.specs.laws.OpeningFlush.{opening-sectors}
 use Rattle.volume.specs.laws.Depends.{SameOn}
 use Rattle.volume.specs.laws.RolesDepend.{roles-depend, by-roles-depend}
 use Rattle.volume.specs.laws.RefusalsDepend.{emptied-depends}

@@ -33,7 +33,7 @@ use Rattle.volume.specs.meaning.Refusals.{accept, mountFull}
 use Rattle.volume.specs.meaning.Mount.{spareStep, entryStep, withFlush, withFlushes, carryPhases, afterOpening, mountView, mountLook, startRoles, emptiedParity, middleRoles, endRoles, phasesOfLogs, phasesBeforeEntries, phasesOfParityLogs, phasesOfEntries, afterFill, mountStores}
 use Rattle.volume.specs.meaning.Answers.{presentIn, lostDriveIn}
 use Rattle.volume.specs.meaning.CallContracts.{isSet, rolesOf, seenIn, mountVerdict, storesBefore, afterStores, parityLogStores, storesToParityLogs, mountStoresOn}
-use Rattle.volume.specs.mounting.RestoreAgrees.{opening-sectors}
+use Rattle.volume.specs.laws.OpeningFlush.{opening-sectors}
 use Rattle.volume.specs.laws.PassedRows.{MountPassed, mount-passed}
 use Rattle.volume.specs.laws.CallStoresFit.{zone-short}
 use Rattle.volume.specs.laws.PlacedStores.{AllLong}

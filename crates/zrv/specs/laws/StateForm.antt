@@ -31,7 +31,7 @@ use Rattle.volume.specs.looking.DrivesLost.{fill-at}
 use Rattle.volume.specs.looking.KnowingLaws.{all-below-cong}
 use Rattle.volume.specs.laws.ByteLists.{number-small, bytes-take}
 use Rattle.volume.specs.laws.ByteLists.{Bytes as ByteList}
-use Rattle.volume.specs.mounting.MountGenerations.{same-numbers}
+use Rattle.mounting.specs.MountGenerations.{same-numbers}
 use Rattle.zrv.specs.meaning.Bytes.{recordTo, recordFrom, recordsTo, noState, stateTo, stateFrom, stateWellFormed}
 
 -- ---- the test

@@ -12,7 +12,7 @@
 # format-test: the model of docs/FORMAT.md in Python: the conformance vectors replayed, then the worked values of the page
 # vectors: other conformance vectors put in place of those of crates/replay: `make vectors FROM=FOLDER` with a script PART.txt and its answers PART.out a part
 # bench: the archive's speed as a share of plain C's
-# bench-isal: the time of a stripe's parity in the archive's writes beside that of ISA-L's xor_gen (needs libisal-dev; part of no test)
+# bench-isal: the time of a stripe's write beside that of memcpy and ISA-L's xor_gen (needs libisal-dev; part of no test)
 .PHONY: explore test check wrong archive zrv from-c edge-test tool-test explore-test example format-test vectors bench bench-isal fmt
 
 explore: target/zrv

@@ -12,6 +12,7 @@ pub mod LittleEndian
 pub mod Local
 pub mod Made
 pub mod NamedDrives
+pub mod Overlays
 pub mod Phases
 pub mod Placement
 pub mod PointerOrder

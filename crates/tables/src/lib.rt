@@ -5,6 +5,7 @@ pub mod bytes;
 pub mod placement;
 pub mod sectors;
 pub mod stores;
+pub mod units;
 
 // Logical zone z lies in physical zone DATA_ZONES + z of every drive (specs: `dataZone`): those before it hold the logs.
 pub const DATA_ZONES: usize = 3;

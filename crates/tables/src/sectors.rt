@@ -1,4 +1,4 @@
-// Sectors copied and combined: the only loops over bytes of this crate.
+// Sectors copied and combined: with `units`, the only loops over bytes of this crate.
 use super::Geometry;
 ghost use mathlib.Core.Path.{_≡_};
 ghost use Prim.Native.Nat.{_+_, _≤_, _<_};

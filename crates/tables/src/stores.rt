@@ -4,7 +4,7 @@ ghost use mathlib.Core.Path.{_≡_};
 ghost use mathlib.Core.Bool.{_&&_};
 ghost use lib.Dec.{ltb};
 ghost use Prim.Native.Nat.{_+_, _-_, _≤_, _<_};
-ghost use lib.ListN.{length, getD};
+ghost use lib.ListN.{length, getD, set};
 ghost use Rattle.tables.specs.meaning.Basics.{pick};
 ghost use Rattle.tables.specs.meaning.Geometry.{Valid, physicalZones, cells, totalBytes};
 ghost use Rattle.tables.specs.meaning.Device.{append, reset, flush};
@@ -94,6 +94,18 @@ pub fn advance(written: &mut [u32], g: Geometry, drive: usize, zone: usize)
     let at = cell_of(g, drive, zone);
     let n = written[at];
     let next = n + 1;
+    written[at] = next;
+}
+
+// The same past n sectors.
+pub fn advance_by(written: &mut [u32], g: Geometry, drive: usize, zone: usize, n: usize)
+    requires { ⌜ Valid g ⌝ }
+    requires { ⌜ (drive < g .drives) × (zone < physicalZones g) × (length (now written) ≡ cells g) × (getD (now written) (cell g drive zone) 0 + n ≤ g .capacity) ⌝ }
+    ensures { λ _. ⌜ now (written .exit) ≡ set (now (written .entry)) (cell g drive zone) (getD (now (written .entry)) (cell g drive zone) 0 + n) ⌝ }
+{
+    let at = cell_of(g, drive, zone);
+    let w = written[at];
+    let next = w + n as u32;
     written[at] = next;
 }
 

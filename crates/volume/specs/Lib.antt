@@ -6,4 +6,5 @@ pub mod meaning
 pub mod reading
 pub mod rows
 pub mod storing
+pub mod stripes
 pub mod writing

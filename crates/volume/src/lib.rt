@@ -23,6 +23,7 @@ pub mod reporting;
 pub mod resetting;
 pub mod roles;
 pub mod rows;
+pub mod stripes;
 pub mod write_checks;
 pub mod write_directly;
 pub mod write_room;

@@ -1,5 +1,5 @@
 // The stores of a write: sector by sector in the order of their addresses, the parity of each stripe that becomes complete, and one partial parity
-// entry if it ends inside a stripe. Stores to a drive that is not here are skipped. Rows are built where they will lie: from the write's buffer, and
+// entry if it ends inside a stripe. A stripe that is written whole is laid at once (`stripes`). Stores to a drive that is not here are skipped. Rows are built where they will lie: from the write's buffer, and
 // where the write begins inside a stripe from that stripe's earlier sectors, read below a copy of the written pointers of its start. The logs may lie
 // elsewhere for what is stored than for what is read: a log that was emptied between the two.
 use super::Zone;
@@ -83,6 +83,38 @@ fn write_sector(
     )
 }
 
+// How far a write has come: its next address, and what is left of the budget of stores.
+struct Reached {
+    next: usize,
+    rest: u64,
+}
+
+// What comes next at address a: its whole stripe, if that begins there and all of it can be stored; else its sector.
+fn write_next(
+    sectors: &mut [u8],
+    written: &mut [u32],
+    pointers: &[u32],
+    buffer: &[u8],
+    known: Extent,
+    a: usize,
+    budget: u64,
+) -> Reached
+    requires { ⌜ Valid (known .geometry) ⌝ }
+    requires { ⌜ Writing known (now sectors) (now written) (now pointers) (now buffer) × (known .below ≤ a) × (a < known .end) ⌝ }
+    ensures { λ r. ⌜ (a < r .next) × (r .next ≤ known .end)
+        × MadeAppends (known .to) budget (r .rest) (onPresent (isSet (known .here)) (dataStores (known .geometry .drives) (known .geometry .unit) (known .zone) (contentOf known (readDevice (known .geometry) (now (sectors .entry)) (now (pointers .entry))) (now (buffer .entry))) a (r .next - a)))
+        (now (sectors .entry)) (now (written .entry)) (now (sectors .exit)) (now (written .exit)) ⌝ }
+{
+    let due = super::stripes::stripe_due(written, known, a, budget);
+    if due {
+        let rest = super::stripes::write_stripe(sectors, written, buffer, known, a, budget);
+        let k = tables::bounds::stripe_sectors(known.geometry);
+        return Reached { next: a + k, rest };
+    }
+    let rest = write_sector(sectors, written, pointers, buffer, known, a, budget);
+    Reached { next: a + 1, rest }
+}
+
 // The addresses from `below` to the end.
 fn write_run(
     sectors: &mut [u8],
@@ -101,8 +133,9 @@ fn write_run(
     let mut rest = budget;
     let mut a = known.below;
     while a < end {
-        rest = write_sector(sectors, written, pointers, buffer, known, a, rest);
-        a += 1;
+        let reached = write_next(sectors, written, pointers, buffer, known, a, rest);
+        rest = reached.rest;
+        a = reached.next;
     }
     rest
 }

@@ -2,8 +2,8 @@
 -- on the named drives (`device-agrees`), pass refusal 3 alike, and stores on named drives keep them so (`run-agrees`).
 use mathlib.Core.Path.{_≡_, refl, sym, ap, _∙_}
 use mathlib.Core.Bool.{Bool, true, false, _&&_}
-use Prim.Native.Nat.{ℕ, zero, suc, _+_, _-_, _*_, _≤_, _<_, min}
-use native.Mathlib.Decide.{ℕ-discrete, decLt}
+use Prim.Native.Nat.{ℕ, zero, suc, _+_, _*_, _≤_, _<_, min}
+use native.Mathlib.Decide.{ℕ-discrete}
 use native.Mathlib.Omega.{arith}
 use mathlib.Core.List.{List, [], _∷_}
 use lib.ListN.{length, getD, take, drop, set, length-take, length-drop}
@@ -13,8 +13,8 @@ use Rattle.tables.specs.declared.Geometry.{Geometry}
 use Rattle.tables.specs.meaning.Basics.{pick}
 use Rattle.tables.specs.meaning.Below.{anyBelow}
 use Rattle.tables.specs.laws.Below.{any-below-cong, tabulate-cong}
-use Rattle.tables.specs.meaning.Lists.{overlay}
-use Rattle.tables.specs.laws.Lists.{overlay-inside, overlay-below, overlay-above, numbers-same}
+use Rattle.tables.specs.laws.Lists.{numbers-same}
+use Rattle.tables.specs.laws.Overlays.{overlay-same}
 use Rattle.tables.specs.meaning.Geometry.{physicalZones}
 use Rattle.tables.specs.meaning.Device.{ZoneView, Store, append, reset, flush, storeDrive}
 use Rattle.tables.specs.meaning.Tables.{Tables, cell, byteAt, sectorNo, sectorAt, hasRoom, sectorsAfterAppend, writtenAfterAppend, pointersAfterReset, makeStore, runStores, zoneAtCell, deviceOf, pointerBad, pointersBad}
@@ -88,21 +88,6 @@ module _ (g : Geometry) (t u : Tables) (w : WellSized g t) (w′ : WellSized g u
       go (yes e) = rw e (getD-set-same qs (cell g d z) x 0 (rw long in-list) ∙ sym (getD-set-same ps (cell g d z) x 0 in-list))
       go (no n) = getD-set-other qs (cell g d z) (cell g d y) x 0 n ∙ h y hy ∙ sym (getD-set-other ps (cell g d z) (cell g d y) x 0 n)
 
-  -- the same bytes laid at the same place
-  laid-same : (xs ys : List ℕ) (at : ℕ) (s : List ℕ) (i : ℕ) → at + length s ≤ length xs → length ys ≡ length xs → getD ys i 0 ≡ getD xs i 0 → getD (overlay ys at s) i 0 ≡ getD (overlay xs at s) i 0
-  laid-same xs ys at s i fit long e = go (decLt i at) (decLt i (at + length s))
-    where
-      fit′ : at + length s ≤ length ys
-      fit′ = rw long fit
-
-      go : Dec (i < at) → Dec (i < at + length s) → getD (overlay ys at s) i 0 ≡ getD (overlay xs at s) i 0
-      go (yes l) q = overlay-below ys at s i fit′ l ∙ e ∙ sym (overlay-below xs at s i fit l)
-      go (no l) (yes m) =
-          let j : at + (i - at) ≡ i = omega arith in
-          let k : i - at < length s = omega arith in
-          rw (← j) (overlay-inside ys at s (i - at) fit′ k ∙ sym (overlay-inside xs at s (i - at) fit k))
-      go (no l) (no m) = overlay-above ys at s i fit′ (omega arith) ∙ e ∙ sym (overlay-above xs at s i fit (omega arith))
-
   written-long : length (u .written) ≡ length (t .written)
   written-long = w′ .written-long ∙ sym (w .written-long)
 
@@ -120,7 +105,7 @@ module _ (g : Geometry) (t u : Tables) (w : WellSized g t) (w′ : WellSized g u
           (pick b (record { sectors = sectorsAfterAppend g d z s (u .sectors) (u .written); written = writtenAfterAppend g d z (u .written); durable = u .durable }) u)
       go false q = same
       go true q = record {
-        sectors-same = λ i h k. unfold sectorsAfterAppend in rw (same .written-same z hz) (laid-same (t .sectors) (u .sectors) (byteAt g d z n) s i (fit (ltb-true n (g .capacity) q)) (w′ .sectors-long ∙ sym (w .sectors-long)) (same .sectors-same i h k));
+        sectors-same = λ i h k. unfold sectorsAfterAppend in rw (same .written-same z hz) (overlay-same (t .sectors) (u .sectors) (byteAt g d z n) s i (fit (ltb-true n (g .capacity) q)) (w′ .sectors-long ∙ sym (w .sectors-long)) (same .sectors-same i h k));
         written-same = unfold writtenAfterAppend in rw (same .written-same z hz) (set-same z (n + 1) (t .written) (u .written) hz (rw (w .written-long) (cell-in g d z hd hz)) written-long (same .written-same));
         durable-same = same .durable-same;
       }

@@ -79,14 +79,29 @@ data-snoc D U z S a (suc k) =
     ap (λ (r : List Store). sectorStores D U z S a ++ r) (data-snoc D U z S (suc a) k ∙ ap (λ (b : ℕ). dataStores D U z S (suc a) k ++ sectorStores D U z S b) e)
     ∙ sym (append-assoc (sectorStores D U z S a) (dataStores D U z S (suc a) k) (sectorStores D U z S (a + suc k)))
 
+-- in two parts
+data-add : (D U z : ℕ) (S : ℕ → List ℕ) (a i k : ℕ) → dataStores D U z S a (i + k) ≡ dataStores D U z S a i ++ dataStores D U z S (a + i) k
+data-add D U z S a zero k =
+    let e : zero + k ≡ k = omega arith in
+    let f : a + zero ≡ a = omega arith in
+    rw (e, f) refl
+data-add D U z S a (suc i) k =
+    let e : suc i + k ≡ suc (i + k) = omega arith in
+    let f : suc a + i ≡ a + suc i = omega arith in
+    ap (dataStores D U z S a) e
+    ∙ ap (λ (r : List Store). sectorStores D U z S a ++ r) (data-add D U z S (suc a) i k ∙ ap (λ (b : ℕ). dataStores D U z S (suc a) i ++ dataStores D U z S b k) f)
+    ∙ sym (append-assoc (sectorStores D U z S a) (dataStores D U z S (suc a) i) (dataStores D U z S (a + suc i) k))
+
 module _ (g : Geometry) (ok : Valid g) (present : ℕ → Bool) (z : ℕ) (S : ℕ → List ℕ) where
-  pub data-more : (n a : ℕ) → n ≤ a → onPresent present (dataStores (g .drives) (g .unit) z S n (suc a - n)) ≡ onPresent present (dataStores (g .drives) (g .unit) z S n (a - n)) ++ onPresent present (sectorStores (g .drives) (g .unit) z S a)
-  data-more n a h =
-      let e : suc a - n ≡ suc (a - n) = omega arith in
+  -- those from n to a, then those to b
+  pub data-more : (n a b : ℕ) → n ≤ a → a ≤ b
+      → onPresent present (dataStores (g .drives) (g .unit) z S n (b - n)) ≡ onPresent present (dataStores (g .drives) (g .unit) z S n (a - n)) ++ onPresent present (dataStores (g .drives) (g .unit) z S a (b - a))
+  data-more n a b h l =
+      let e : b - n ≡ a - n + (b - a) = omega arith in
       let q : n + (a - n) ≡ a = omega arith in
       ap (λ (m : ℕ). onPresent present (dataStores (g .drives) (g .unit) z S n m)) e
-      ∙ ap (onPresent present) (data-snoc (g .drives) (g .unit) z S n (a - n) ∙ ap (λ (b : ℕ). dataStores (g .drives) (g .unit) z S n (a - n) ++ sectorStores (g .drives) (g .unit) z S b) q)
-      ∙ on-present-append present (dataStores (g .drives) (g .unit) z S n (a - n)) (sectorStores (g .drives) (g .unit) z S a)
+      ∙ ap (onPresent present) (data-add (g .drives) (g .unit) z S n (a - n) (b - a) ∙ ap (λ (c : ℕ). dataStores (g .drives) (g .unit) z S n (a - n) ++ dataStores (g .drives) (g .unit) z S c (b - a)) q)
+      ∙ on-present-append present (dataStores (g .drives) (g .unit) z S n (a - n)) (dataStores (g .drives) (g .unit) z S a (b - a))
 
   -- of an address inside its stripe: its sector
   pub sector-inside : (a : ℕ) → suc (a % stripeSectors g) < stripeSectors g

@@ -1,14 +1,12 @@
 use Prim.Native.Nat.{ℕ, _-_, _≤_}
 use mathlib.Core.Path.{_≡_, refl, _∙_}
 use mathlib.Core.List.{List}
-use native.Mathlib.Numerals.{add-one}
 use native.Mathlib.Omega.{arith}
 use lib.ListN.{length}
 use Rattle.tables.specs.meaning.Phases.{onPresent}
 use Rattle.tables.specs.laws.Made.{MadeAppends}
-use Rattle.tables.specs.laws.Sizes.{zone-small}
 use Rattle.volume.specs.declared.rows.Extent.{Extent}
-use Rattle.volume.specs.meaning.Calls.{sectorStores, dataStores}
+use Rattle.volume.specs.meaning.Calls.{dataStores}
 use Rattle.volume.specs.meaning.CallContracts.{isSet}
 use Rattle.volume.specs.laws.CallContracts.{appends-nil, appends-append}
 use Rattle.volume.specs.looking.Knowing.{readDevice}
@@ -50,31 +48,30 @@ kept c =
     writing-kept (a .known) (s .pre .0) (a .sectors .now) (a .written .now) (a .pointers .now) (a .buffer .now) (s .pre .1) (a .budget) (l .rest) (onPresent (isSet (a .known .here)) (dataStores (g .drives) (g .unit) (a .known .zone) (content (a .known) (a .sectors .now) (a .pointers .now) (a .buffer .now)) (a .known .below) (l .a - a .known .below))) (l .sectors) (l .written)
     (run-in (a .known) (s .pre .0) (a .sectors .now) (a .written .now) (a .pointers .now) (a .buffer .now) (s .pre .1) (l .a - a .known .below) (omega (arith, l .inv .1))) (l .inv .4)
 
-write-sector-requires : tie.Need-write-sector-requires Inv-loop μ-loop
-write-sector-requires c κs = let l = c .before .before .before in let s = to-start l in (s .pre .0, (kept l .0, l .loop .inv .0, c .before .before .loop-test .taken))
+write-next-requires : tie.Need-write-next-requires Inv-loop μ-loop
+write-next-requires c κs = let l = c .before .before .before in let s = to-start l in (s .pre .0, (kept l .0, l .loop .inv .0, c .before .before .loop-test .taken))
 
-add-a : tie.Need-add-a Inv-loop μ-loop
-add-a c =
-    let t = c .before .before .before .before .before .before .before in
-    let s = to-start (t .before) in
-    omega (arith, t .loop-test .taken, s .pre .1 .end-most, zone-small (s .args .known .geometry) (s .pre .0) .1)
+loop-less : tie.Need-loop-less Inv-loop μ-loop
+loop-less c = let f = c .before .before .before .before .write-next in omega (arith, f .ensures .0, f .ensures .1)
 
 loop-again : tie.Need-loop-again Inv-loop μ-loop
 loop-again c =
-    let f = c .before .before .before .before .write-sector in
-    let at-loop-test = c .before .before .before .before .before .before .before in
-    let at-loop = at-loop-test .before in
+    let f = c .before .before .before .before .write-next in
+    let at-loop = c .before .before .before .before .before .before .before .before in
     let s = to-start at-loop in
     let a = s .args in
     let g = a .known .geometry in
     let l = at-loop .loop in
+    let next = f .result .next in
+    let present = isSet (a .known .here) in
     let S = content (a .known) (a .sectors .now) (a .pointers .now) (a .buffer .now) in (
-      omega (arith, l .inv .0),
-      omega (arith, at-loop-test .loop-test .taken),
+      omega (arith, l .inv .0, f .ensures .0),
+      f .ensures .1,
       f .kept .0 ∙ l .inv .2,
       f .kept .1 .0 ∙ l .inv .3,
-      rw (add-one, data-more g (s .pre .0) (isSet (a .known .here)) (a .known .zone) S (a .known .below) (l .a) (l .inv .0))
-          (appends-append (a .known .to) (a .budget) (l .rest) (f .result) (onPresent (isSet (a .known .here)) (dataStores (g .drives) (g .unit) (a .known .zone) S (a .known .below) (l .a - a .known .below))) (onPresent (isSet (a .known .here)) (sectorStores (g .drives) (g .unit) (a .known .zone) S (l .a))) (a .sectors .now) (a .written .now) (l .sectors) (l .written) (f .last .0) (f .last .1 .0) (l .inv .4) (rw (kept at-loop .1) at (f .ensures))),
+      rw (data-more g (s .pre .0) present (a .known .zone) S (a .known .below) (l .a) next (l .inv .0) (omega (arith, f .ensures .0)))
+          (appends-append (a .known .to) (a .budget) (l .rest) (f .result .rest) (onPresent present (dataStores (g .drives) (g .unit) (a .known .zone) S (a .known .below) (l .a - a .known .below))) (onPresent present (dataStores (g .drives) (g .unit) (a .known .zone) S (l .a) (next - l .a)))
+          (a .sectors .now) (a .written .now) (l .sectors) (l .written) (f .last .0) (f .last .1 .0) (l .inv .4) (rw (kept at-loop .1) at (f .ensures .2))),
     )
 
 returns : tie.Need-returns Inv-loop μ-loop
@@ -86,5 +83,5 @@ returns c =
 pub write-run-spec : {M : Type 1} → statement M
 write-run-spec =
     tie.close
-    (tie.spec Inv-loop μ-loop loop-holds write-sector-requires add-a (λ c. omega (arith, c .before .before .before .before .before .before .before .loop-test .taken)) loop-again
+    (tie.spec Inv-loop μ-loop loop-holds write-next-requires loop-less loop-again
     (λ c. c .before .loop .inv .2) (λ c. c .before .loop .inv .3) returns)

@@ -197,7 +197,7 @@ module _ (D U z : ℕ) (hD : 1 < D) (hU : zero < U) (m : ℕ) (v : View) (w : La
         let e : driveOf D U z (rowAddress D U a k) ≡ rowDrive D U z a k = address-drive D U z hD hU (stripeOf D U a) k (rowIndex D U a) (omega arith) (row-index-below D U z hD hU a) in
         let x : sectorOf D U (rowAddress D U a k) ≡ sectorOf D U a = address-sector D U z hD hU (stripeOf D U a) k (rowIndex D U a) (omega arith) (row-index-below D U z hD hU a) ∙ sym (sector-sum D U a) in
         let p : v .present (driveOf D U z (rowAddress D U a k)) ≡ true =
-        rest-here (driveOf D U z (rowAddress D U a k)) (drive-below D U z hD hU (rowAddress D U a k)) (λ q. n (unit-injective D (parityOf D U z a) (parity-drive-below D U z hD hU (stripeOf D U a)) k (unitIndex D U a) (omega arith) (unit-index-below D U z hD hU a) (sym e ∙ q ∙ drive-is))) in
+        rest-here (driveOf D U z (rowAddress D U a k)) (drive-below D U z hD hU (rowAddress D U a k)) (λ q. n (unit-injective D (parityOf D U z a) (parity-drive-below D U z hD hU (stripeOf D U a)) k (unitIndex D U a) (omega arith) (omega (arith, unit-index-below D U z hD hU a)) (sym e ∙ q ∙ drive-is))) in
         rw (← e, ← x) (held-below (rowAddress D U a k) l p)
 
     done-stripe : stripeOf D U a < stripeOf D U m → byParity D U z v a ≡ true

@@ -42,7 +42,8 @@ module _ (D p : ℕ) (hp : p < D) where
       go (below a b) = omega arith
       go (above a b) = omega arith
 
-  pub unit-injective : (i j : ℕ) → i + 1 < D → j + 1 < D → unitDrive D p i ≡ unitDrive D p j → i ≡ j
+  -- every unit has a drive of its own, and as unit D − 1 the parity has its
+  pub unit-injective : (i j : ℕ) → i < D → j < D → unitDrive D p i ≡ unitDrive D p j → i ≡ j
   unfolding unitDrive
   unit-injective i j hi hj e = go (once (p + 1 + i) D (omega arith)) (once (p + 1 + j) D (omega arith))
     where
@@ -51,6 +52,14 @@ module _ (D p : ℕ) (hp : p < D) where
       go (below a b) (above c d) = omega arith
       go (above a b) (below c d) = omega arith
       go (above a b) (above c d) = omega arith
+
+  pub unit-last : unitDrive D p (D - 1) ≡ p
+  unfolding unitDrive
+  unit-last = go (once (p + 1 + (D - 1)) D (omega arith))
+    where
+      go : Once (p + 1 + (D - 1)) D → (p + 1 + (D - 1)) % D ≡ p
+      go (below a b) = absurd (omega arith)
+      go (above a b) = omega arith
 
   pub unit-of-drive : (d : ℕ) → d < D → d ≢ p → (unitOf D p d + 1 < D) × (unitDrive D p (unitOf D p d) ≡ d)
   unfolding unitDrive unitOf
@@ -68,7 +77,7 @@ module _ (D p : ℕ) (hp : p < D) where
   pub unit-of-unit : (j : ℕ) → j + 1 < D → unitOf D p (unitDrive D p j) ≡ j
   unit-of-unit j h =
       let (a, b) = unit-of-drive (unitDrive D p j) (unit-drive-below j) (unit-not-parity j h) in
-      unit-injective (unitOf D p (unitDrive D p j)) j a h b
+      unit-injective (unitOf D p (unitDrive D p j)) j (omega arith) (omega arith) b
 
   -- every drive of a row is the parity's or exactly one unit's
   pub row-drive : (d : ℕ) → d < D → (d ≡ p) ⊎ ((j : ℕ) × (j + 1 < D) × (unitDrive D p j ≡ d) × ((i : ℕ) → i + 1 < D → unitDrive D p i ≡ d → i ≡ j))
@@ -76,7 +85,7 @@ module _ (D p : ℕ) (hp : p < D) where
     where
       go : Dec (d ≡ p) → (d ≡ p) ⊎ ((j : ℕ) × (j + 1 < D) × (unitDrive D p j ≡ d) × ((i : ℕ) → i + 1 < D → unitDrive D p i ≡ d → i ≡ j))
       go (yes e) = inl e
-      go (no n) = let (a, b) = unit-of-drive d h n in inr (unitOf D p d, a, b, λ i k e. unit-injective i (unitOf D p d) k a (e ∙ sym b))
+      go (no n) = let (a, b) = unit-of-drive d h n in inr (unitOf D p d, a, b, λ i k e. unit-injective i (unitOf D p d) (omega arith) (omega arith) (e ∙ sym b))
 
 -- ---- what needs no condition on drives and units
 module _ (D U : ℕ) where
@@ -176,7 +185,7 @@ module _ (D U z : ℕ) (hD : 1 < D) (hU : zero < U) where
       let es : stripeOf D U a ≡ stripeOf D U b = cc (sector-stripe a, sector-stripe b) in
       let er : rowIndex D U a ≡ rowIndex D U b = cc (sector-row a, sector-row b) in
       let d′ : unitDrive D (parityDrive D z (stripeOf D U b)) (unitIndex D U a) ≡ unitDrive D (parityDrive D z (stripeOf D U b)) (unitIndex D U b) = cc in
-      let ej : unitIndex D U a ≡ unitIndex D U b = unit-injective D (parityDrive D z (stripeOf D U b)) (parity-drive-below (stripeOf D U b)) (unitIndex D U a) (unitIndex D U b) (unit-index-below a) (unit-index-below b) d′ in
+      let ej : unitIndex D U a ≡ unitIndex D U b = unit-injective D (parityDrive D z (stripeOf D U b)) (parity-drive-below (stripeOf D U b)) (unitIndex D U a) (unitIndex D U b) (omega (arith, unit-index-below a)) (omega (arith, unit-index-below b)) d′ in
       address-parts a ∙ rw (es, ej, er) (sym (address-parts b))
 
   pub unit-row-lt : (j r : ℕ) → j + 1 < D → r < U → j * U + r < stripeLength D U

@@ -104,7 +104,7 @@ module _ (g : Geometry) (ok : Valid g) (here : List Bool) (ws : List ℕ) (z n :
       at k m false e =
           let hk : k + 1 < g .drives = omega arith in
           let ne : driveOf (g .drives) (g .unit) z a ≢ rowDrive (g .drives) (g .unit) z a k =
-          λ q. eqb-false k (unitIndex (g .drives) (g .unit) a) e (unit-injective (g .drives) (parityOf (g .drives) (g .unit) z a) (parity-in g z a ok) k (unitIndex (g .drives) (g .unit) a) hk (unit-index-below (g .drives) (g .unit) z two-drives (ok .unit-least) a) (sym q ∙ drive-of-unit (g .drives) (g .unit) z a)) in
+          λ q. eqb-false k (unitIndex (g .drives) (g .unit) a) e (unit-injective (g .drives) (parityOf (g .drives) (g .unit) z a) (parity-in g z a ok) k (unitIndex (g .drives) (g .unit) a) (omega arith) (omega (arith, unit-index-below (g .drives) (g .unit) z two-drives (ok .unit-least) a)) (sym q ∙ drive-of-unit (g .drives) (g .unit) z a)) in
           unit-held a k hk l (others-present (driveOf (g .drives) (g .unit) z a) (rowDrive (g .drives) (g .unit) z a k) (drive-below (g .drives) (g .unit) z two-drives (ok .unit-least) a) (row-drive-in g z a k ok) ne h)
 
   -- ---- WHERE NO LOG IS NEEDED

@@ -16,7 +16,7 @@ use Rattle.tables.specs.meaning.Geometry.{Valid, cells, totalBytes, stripeSecto
 use Rattle.tables.specs.meaning.Device.{Store}
 use Rattle.tables.specs.meaning.Phases.{onPresent}
 use Rattle.tables.specs.meaning.Placement.{stripeLength, stripeOf, parityDrive, unitDrive}
-use Rattle.tables.specs.laws.Placement.{stripe-rest, stripe-length, unit-drive-below, parity-drive-below}
+use Rattle.tables.specs.laws.Placement.{stripe-rest, stripe-length, unit-drive-below, unit-injective, parity-drive-below}
 use Rattle.tables.specs.meaning.Tables.{cell, sectorNo}
 use Rattle.tables.specs.laws.Made.{MadeAppends}
 use Rattle.volume.specs.declared.rows.Extent.{Extent}
@@ -28,7 +28,6 @@ use Rattle.volume.specs.rows.SameShape.{by-shape, shape-bytes, shape-cel
 use Rattle.volume.specs.rows.RowsInPlace.{contentOf, content-new}
 use Rattle.volume.specs.writing.WriteStores.{Writing}
 use Rattle.volume.specs.stripes.UnitStores.{unitsPassed}
-use Rattle.volume.specs.stripes.StripeStores.{unit-own}
 use Rattle.volume.specs.stripes.WholeStripe.{StripeFits, stripeLaid, stripe-made}
 
 -- ---- a stripe as code names it
@@ -134,7 +133,7 @@ module _ (k : Extent) (ok : Valid (k .to)) (xs ws buffer : List ℕ) (a : ℕ) (
     fit = record {
       zone-in = omega (arith, r .zone-in);
       drive-in = λ j h. unit-drive-below (g .drives) (parityDrive (g .drives) (k .zone) s) parity-in j;
-      own = unit-own (g .drives) (parityDrive (g .drives) (k .zone) s) parity-in;
+      own = unit-injective (g .drives) (parityDrive (g .drives) (k .zone) s) parity-in;
       room = λ j h. room (unitDrive (g .drives) (parityDrive (g .drives) (k .zone) s) j) (unit-drive-below (g .drives) (parityDrive (g .drives) (k .zone) s) parity-in j) .1;
       sectors-long = r .sectors-long;
       written-long = r .written-long;

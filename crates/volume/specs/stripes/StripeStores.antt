@@ -17,7 +17,7 @@ use Rattle.tables.specs.meaning.Device.{Store, append}
 use Rattle.tables.specs.meaning.Phases.{onPresent}
 use Rattle.tables.specs.laws.Phases.{on-present-append}
 use Rattle.tables.specs.meaning.Placement.{stripeOf, driveOf, parityDrive, unitDrive, address}
-use Rattle.tables.specs.laws.Placement.{Once, below, above, once, address-sum, address-drive, rest-at, stripe-at, stripe-length, unit-row-lt, unit-drive-below, parity-drive-below}
+use Rattle.tables.specs.laws.Placement.{address-sum, address-drive, rest-at, stripe-at, stripe-length, unit-row-lt, unit-drive-below, parity-drive-below}
 use Rattle.tables.specs.meaning.Xor.{xorBelow}
 use Rattle.tables.specs.laws.Xor.{xor-below-cong}
 use Rattle.volume.specs.meaning.Content.{rowXor}
@@ -25,26 +25,6 @@ use Rattle.volume.specs.meaning.Calls.{appendAll, parityStores, sectorSt
 use Rattle.volume.specs.rows.RowStores.{append-all-append, present-all, present-one}
 use Rattle.volume.specs.writing.WriteStores.{data-snoc, sector-inside}
 use Rattle.volume.specs.stripes.UnitRows.{rows-joined}
-
--- every unit has a drive of its own, the parity too
-module _ (D p : ℕ) (hp : p < D) where
-  pub unit-own : (i j : ℕ) → i < D → j < D → unitDrive D p i ≡ unitDrive D p j → i ≡ j
-  unfolding unitDrive
-  unit-own i j hi hj e = go (once (p + 1 + i) D (omega arith)) (once (p + 1 + j) D (omega arith))
-    where
-      go : Once (p + 1 + i) D → Once (p + 1 + j) D → i ≡ j
-      go (below a b) (below c d) = omega arith
-      go (below a b) (above c d) = omega arith
-      go (above a b) (below c d) = omega arith
-      go (above a b) (above c d) = omega arith
-
-  pub unit-last : unitDrive D p (D - 1) ≡ p
-  unfolding unitDrive
-  unit-last = go (once (p + 1 + (D - 1)) D (omega arith))
-    where
-      go : Once (p + 1 + (D - 1)) D → (p + 1 + (D - 1)) % D ≡ p
-      go (below a b) = absurd (omega arith)
-      go (above a b) = omega arith
 
 append-one : (d y : ℕ) (S : ℕ → List ℕ) (i m : ℕ) → appendAll d y (tabulateFrom S i (suc m)) ≡ appendAll d y (tabulateFrom S i m) ++ (append d y (S (i + m)) ∷ [])
 append-one d y S i m =

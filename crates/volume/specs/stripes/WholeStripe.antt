@@ -21,7 +21,7 @@ use Rattle.tables.specs.meaning.Geometry.{Valid, stripeSectors, dataZone, total
 use Rattle.tables.specs.meaning.Device.{Store}
 use Rattle.tables.specs.meaning.Phases.{onPresent}
 use Rattle.tables.specs.meaning.Placement.{parityDrive, unitDrive, address}
-use Rattle.tables.specs.laws.Placement.{stripe-length, address-sum, unit-row-lt}
+use Rattle.tables.specs.laws.Placement.{stripe-length, address-sum, unit-last, unit-row-lt}
 use Rattle.tables.specs.meaning.Tables.{tablesOf, runStores, sectorNo}
 use Rattle.tables.specs.laws.Made.{MadeAppends}
 use Rattle.tables.specs.laws.Counted.{run-covered}
@@ -35,7 +35,7 @@ use Rattle.volume.specs.rows.RowsInPlace.{rowLaid, built-all}
 use Rattle.tables.specs.laws.Overlays.{overlay-swap}
 use Rattle.volume.specs.stripes.UnitRows.{sectors-joined}
 use Rattle.volume.specs.stripes.UnitStores.{AllLong, tabulated-long, append-all-long, unitPlace, unitsLaid, unitsPassed, UnitsFit, place-in, places-apart, run-units}
-use Rattle.volume.specs.stripes.StripeStores.{unit-last, whole-stripe, parity-joined}
+use Rattle.volume.specs.stripes.StripeStores.{whole-stripe, parity-joined}
 
 -- the bytes of unit j, of a stripe that begins at byte `from` of a buffer
 abbrev pub unitIn : Geometry → List ℕ → ℕ → ℕ → List ℕ

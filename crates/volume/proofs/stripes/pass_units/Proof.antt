@@ -5,9 +5,8 @@ use mathlib.Core.List.{List}
 use lib.ListN.{length, getD, set, replicate, length-replicate}
 use Rattle.tables.specs.meaning.Geometry.{totalBytes}
 use Rattle.tables.specs.meaning.Placement.{unitDrive}
-use Rattle.tables.specs.laws.Placement.{unit-drive-below}
+use Rattle.tables.specs.laws.Placement.{unit-drive-below, unit-injective}
 use Rattle.tables.specs.meaning.Tables.{cell}
-use Rattle.volume.specs.stripes.StripeStores.{unit-own}
 use Rattle.volume.specs.stripes.UnitStores.{unitsPassed, UnitsFit, passed-long, passed-later}
 use Rattle.volume.proofs.stripes.pass_units.Statement.{statement}
 use Rattle.volume.proofs.stripes.pass_units.Tie as tie
@@ -28,7 +27,7 @@ fit s =
     record {
       zone-in = s .pre .1 .0;
       drive-in = λ j h. unit-drive-below (w .geometry .drives) (w .parity) (s .pre .1 .1) j;
-      own = unit-own (w .geometry .drives) (w .parity) (s .pre .1 .1);
+      own = unit-injective (w .geometry .drives) (w .parity) (s .pre .1 .1);
       room = s .pre .1 .3;
       sectors-long = length-replicate {A = ℕ} (totalBytes (w .geometry)) 0;
       written-long = s .pre .1 .2;

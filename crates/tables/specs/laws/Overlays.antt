@@ -20,10 +20,6 @@ use Rattle.tables.specs.laws.Within.{Apart, part-long}
 pub overlay-nil : (xs : List ℕ) (p : ℕ) → overlay xs p [] ≡ xs
 overlay-nil xs p = let e : p + 0 ≡ p = omega arith in rw (e, append-nil (take p xs)) (take-append-drop p xs)
 
--- one list laid right after another
-pub overlay-join : (xs : List ℕ) (p : ℕ) (s t : List ℕ) → p + length s + length t ≤ length xs → overlay (overlay xs p s) (p + length s) t ≡ overlay xs p (s ++ t)
-overlay-join = lay-lay
-
 -- a number outside the part
 pub overlay-at-apart : (xs : List ℕ) (p : ℕ) (s : List ℕ) (k : ℕ) → p + length s ≤ length xs → (k < p) ⊎ (p + length s ≤ k) → getD (overlay xs p s) k 0 ≡ getD xs k 0
 overlay-at-apart xs p s k h (inl l) = overlay-below xs p s k h l
@@ -164,7 +160,7 @@ set-next xs p s i room h =
     let t : take (i + 1) s ≡ take i s ++ (v ∷ []) = rw add-one (take-suc s i 0 h) in
     set-is-overlay (overlay xs p (take i s)) (p + i) v (rw (length-overlay xs p (take i s) (omega arith)) room)
     ∙ ap (λ (k : ℕ). overlay (overlay xs p (take i s)) (p + k) (v ∷ [])) (sym l)
-    ∙ overlay-join xs p (take i s) (v ∷ []) (omega arith) ∙ ap (overlay xs p) (sym t)
+    ∙ lay-lay xs p (take i s) (v ∷ []) (omega arith) ∙ ap (overlay xs p) (sym t)
 
 -- ---- all of them, in turns
 pub laid-none : (ps : List (ℕ × List ℕ)) (xs : List ℕ) → laidParts ps 0 xs ≡ xs

@@ -28,6 +28,7 @@ use Rattle.volume.specs.meaning.Calls.{appendAll}
 use Rattle.volume.specs.meaning.Content.{insideStripe, fillOf, parityDriveAt, entryAt}
 use Rattle.volume.specs.meaning.Rules.{parityEntries, valueAt}
 use Rattle.volume.specs.meaning.Emptying.{InForce, lastEntry, parityCopies, newParitySize}
+use Rattle.volume.specs.laws.StoreCounts.{appends-long}
 use Rattle.volume.specs.laws.CallContracts.{appends-append}
 use Rattle.volume.specs.rows.RowStores.{append-all-append, rowsIf}
 use Rattle.volume.specs.looking.Knowing.{readDevice}
@@ -124,14 +125,10 @@ module _ (par : Bool) (e : Emptying) (m : Moves par e) where
   carried-run zero (s ∷ ss) t = refl
   carried-run (suc k) (s ∷ ss) t = carried-run k ss (makeStore (e .to) (append (e .drive) (kindOfLog par) s) t) ∙ ap (runStores (e .from) k (appendAll (e .drive) spareZone ss)) (carried-one s t)
 
-  append-count : (d y : ℕ) (ss : List (List ℕ)) → length (appendAll d y ss) ≡ length ss
-  append-count d y [] = refl
-  append-count d y (s ∷ ss) = ap suc (append-count d y ss)
-
   pub carried-to : (budget rest : ℕ) (ss : List (List ℕ)) (xs ws xs′ ws′ : List ℕ) → MadeAppends (e .from) budget rest (appendAll (e .drive) spareZone ss) xs ws xs′ ws′ → MadeAppends (e .to) budget rest (appendAll (e .drive) (kindOfLog par) ss) xs ws xs′ ws′
   carried-to budget rest ss xs ws xs′ ws′ h = record {
     made = λ ds. record {
-      rest-is = h .made ds .rest-is ∙ ap (λ (n : ℕ). budget - n) (append-count (e .drive) spareZone ss ∙ sym (append-count (e .drive) (kindOfLog par) ss));
+      rest-is = h .made ds .rest-is ∙ ap (λ (n : ℕ). budget - n) (appends-long (e .drive) spareZone ss ∙ sym (appends-long (e .drive) (kindOfLog par) ss));
       tables-are = h .made ds .tables-are ∙ sym (carried-run (budget - 1) ss (tablesOf xs ws ds));
     };
   }
@@ -139,7 +136,7 @@ module _ (par : Bool) (e : Emptying) (m : Moves par e) where
   pub carried-from : (budget rest : ℕ) (ss : List (List ℕ)) (xs ws xs′ ws′ : List ℕ) → MadeAppends (e .to) budget rest (appendAll (e .drive) (kindOfLog par) ss) xs ws xs′ ws′ → MadeAppends (e .from) budget rest (appendAll (e .drive) spareZone ss) xs ws xs′ ws′
   carried-from budget rest ss xs ws xs′ ws′ h = record {
     made = λ ds. record {
-      rest-is = h .made ds .rest-is ∙ ap (λ (n : ℕ). budget - n) (append-count (e .drive) (kindOfLog par) ss ∙ sym (append-count (e .drive) spareZone ss));
+      rest-is = h .made ds .rest-is ∙ ap (λ (n : ℕ). budget - n) (appends-long (e .drive) (kindOfLog par) ss ∙ sym (appends-long (e .drive) spareZone ss));
       tables-are = h .made ds .tables-are ∙ carried-run (budget - 1) ss (tablesOf xs ws ds);
     };
   }

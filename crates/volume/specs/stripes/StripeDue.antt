@@ -100,8 +100,8 @@ module _ (k : Extent) (ok : Valid (k .to)) (xs ws buffer : List ℕ) (a : ℕ) (
   abbrev s : ℕ
   s = stripeOf (k .to .drives) (k .to .unit) a
 
-  ends : a + stripeSectors g ≤ k .end
-  ends = leb-true (a + stripeSectors g) (k .end) (and-split (leb (a + stripeSectors g) (k .end)) ((eqb (a % stripeSectors g) 0 && ltb (g .drives * g .unit) budget) && allBelow (roomFor g (k .here) ws (dataZone (k .zone))) (g .drives)) due .0)
+  pub due-end : a + stripeSectors (k .to) ≤ k .end
+  due-end = leb-true (a + stripeSectors g) (k .end) (and-split (leb (a + stripeSectors g) (k .end)) ((eqb (a % stripeSectors g) 0 && ltb (g .drives * g .unit) budget) && allBelow (roomFor g (k .here) ws (dataZone (k .zone))) (g .drives)) due .0)
 
   others : (eqb (a % stripeSectors g) 0 ≡ true) × (ltb (g .drives * g .unit) budget ≡ true) × (allBelow (roomFor g (k .here) ws (dataZone (k .zone))) (g .drives) ≡ true)
   others =
@@ -111,9 +111,6 @@ module _ (k : Extent) (ok : Valid (k .to)) (xs ws buffer : List ℕ) (a : ℕ) (
 
   pub due-covered : k .to .drives * k .to .unit < budget
   due-covered = ltb-true (g .drives * g .unit) budget (others .1)
-
-  pub due-end : a + stripeSectors (k .to) ≤ k .end
-  due-end = ends
 
   begins : a ≡ s * stripeSectors g
   begins = omega (arith, eqb-true (a % stripeSectors g) 0 (others .0), stripe-rest (g .drives) (g .unit) a)
@@ -138,7 +135,7 @@ module _ (k : Extent) (ok : Valid (k .to)) (xs ws buffer : List ℕ) (a : ℕ) (
       sectors-long = r .sectors-long;
       written-long = r .written-long;
     };
-    in-buffer = let m : a - k .below + (g .drives - 1) * g .unit ≤ k .end - k .below = omega (arith, ends, r .below-most, stripe-length (g .drives) (g .unit)) in omega (arith, mul-le-mul-right (g .sector) m, r .buffer-long);
+    in-buffer = let m : a - k .below + (g .drives - 1) * g .unit ≤ k .end - k .below = omega (arith, due-end, r .below-most, stripe-length (g .drives) (g .unit)) in omega (arith, mul-le-mul-right (g .sector) m, r .buffer-long);
   }
 
   pub due-made : (rest : ℕ) (xs′ ws′ : List ℕ) → rest ≡ budget - k .to .drives * k .to .unit

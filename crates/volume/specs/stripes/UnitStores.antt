@@ -10,33 +10,23 @@ use lib.ListN.{length, getD, set, length-set, length-append}
 use lib.Seq.{set-getD, set-set, getD-set-same, getD-set-other}
 use borrow.Author.Tests.{lt-ltb}
 use Rattle.tables.specs.declared.Geometry.{Geometry}
-use Rattle.tables.specs.meaning.Below.{tabulateFrom, eachBelow}
+use Rattle.tables.specs.meaning.Below.{eachBelow}
 use Rattle.tables.specs.meaning.Lists.{concat, overlay}
-use Rattle.tables.specs.laws.Lists.{length-overlay}
+use Rattle.tables.specs.laws.Lists.{length-overlay, lay-lay}
 use Rattle.tables.specs.meaning.Geometry.{physicalZones, cells, totalBytes}
 use Rattle.tables.specs.meaning.Tables.{tablesOf, cell, byteAt, runStores, sectorsAfterAppend, writtenAfterAppend}
 use Rattle.tables.specs.laws.Tables.{cell-in, cell-injective, sector-in}
 use Rattle.tables.specs.laws.Within.{Apart}
 use Rattle.tables.specs.laws.Counted.{run-both}
 use Rattle.volume.specs.meaning.Calls.{appendAll}
-use Rattle.tables.specs.laws.Overlays.{overlay-nil, overlay-join}
+use Rattle.volume.specs.laws.PlacedStores.{AllLong}
+use Rattle.volume.specs.laws.StoreCounts.{appends-long}
+use Rattle.tables.specs.laws.Overlays.{overlay-nil}
 
--- sectors of one length
-abbrev pub AllLong : ℕ → List (List ℕ) → Type 0
-AllLong B [] = Unit {0}
-AllLong B (s ∷ ss) = (length s ≡ B) × AllLong B ss
-
-pub tabulated-long : (B : ℕ) (f : ℕ → List ℕ) (i n : ℕ) → ((r : ℕ) → i ≤ r → r < i + n → length (f r) ≡ B) → AllLong B (tabulateFrom f i n)
-tabulated-long B f i zero h = tt
-tabulated-long B f i (suc n) h = (h i (omega arith) (omega arith), tabulated-long B f (suc i) n (λ r k l. h r (omega arith) (omega arith)))
-
+-- sectors of one length, joined
 pub joined-long : (B : ℕ) (ss : List (List ℕ)) → AllLong B ss → length (concat ss) ≡ length ss * B
 joined-long B [] h = let e : 0 * B ≡ 0 = omega arith in rw e refl
 joined-long B (s ∷ ss) h = rw (length-append, suc-mul) (omega (arith, h .0, joined-long B ss (h .1)))
-
-pub append-all-long : (d y : ℕ) (ss : List (List ℕ)) → length (appendAll d y ss) ≡ length ss
-append-all-long d y [] = refl
-append-all-long d y (s ∷ ss) = ap suc (append-all-long d y ss)
 
 -- ---- places: n sectors from the zone's sector w on
 pub unit-in : (g : Geometry) (d y w n : ℕ) → d < g .drives → y < physicalZones g → w + n ≤ g .capacity → byteAt g d y w + n * g .sector ≤ totalBytes g
@@ -79,7 +69,7 @@ module _ (g : Geometry) (d y : ℕ) (hd : d < g .drives) (hy : y < physicalZones
       rw (lt-ltb w (g .capacity) l)
       (ih
       ∙ ap₂ (λ (a b : List ℕ). tablesOf a b ds)
-      (ap (λ (v : ℕ). overlay (overlay xs p s) (byteAt g d y v) (concat ss)) at ∙ ap (λ (q : ℕ). overlay (overlay xs p s) q (concat ss)) next ∙ overlay-join xs p s (concat ss) room)
+      (ap (λ (v : ℕ). overlay (overlay xs p s) (byteAt g d y v) (concat ss)) at ∙ ap (λ (q : ℕ). overlay (overlay xs p s) q (concat ss)) next ∙ lay-lay xs p s (concat ss) room)
       (set-set ws c (w + 1) (getD (set ws c (w + 1)) c 0 + length ss) ∙ ap (set ws c) (ap (λ (v : ℕ). v + length ss) at ∙ omega arith)))
 
 -- ---- units on drives of their own: unit j goes to a zone of drive `drive j`, at its written pointer
@@ -146,6 +136,6 @@ module _ (g : Geometry) (y : ℕ) (drive : ℕ → ℕ) (n : ℕ) (xs ws : List 
         let e : getD passed (cell g (drive j) y) 0 + length (content j) ≤ g .capacity = rw (w, full j (omega arith)) (u .room j (omega arith)) in
         sym (run-both g first more (tablesOf xs ws ds))
         ∙ ap (runStores g (length more) more) (run-units ds j (omega arith))
-        ∙ ap (λ (k : ℕ). runStores g k more (tablesOf here passed ds)) (append-all-long (drive j) y (content j))
+        ∙ ap (λ (k : ℕ). runStores g k more (tablesOf here passed ds)) (appends-long (drive j) y (content j))
         ∙ run-unit g (drive j) y (u .drive-in j (omega arith)) (u .zone-in) (content j) here passed ds (long j (omega arith)) e (laid-long (λ i. concat (content i)) unit-long j (omega arith)) (passed-long j)
         ∙ rw (w, full j (omega arith)) refl

@@ -31,10 +31,13 @@ use Rattle.tables.specs.laws.Within.{Apart, part-long, part-laid, laid-again}
 use Rattle.volume.specs.meaning.Content.{rowXor}
 use Rattle.volume.specs.laws.Content.{xor-below-full}
 use Rattle.volume.specs.meaning.Calls.{appendAll, parityStores, dataStores}
+use Rattle.volume.specs.laws.EachBelow.{each-below-cong}
+use Rattle.volume.specs.laws.PlacedStores.{AllLong, long-from}
+use Rattle.volume.specs.laws.StoreCounts.{appends-long}
 use Rattle.volume.specs.rows.RowsInPlace.{rowLaid, built-all}
 use Rattle.tables.specs.laws.Overlays.{overlay-swap}
 use Rattle.volume.specs.stripes.UnitRows.{sectors-joined}
-use Rattle.volume.specs.stripes.UnitStores.{AllLong, tabulated-long, append-all-long, unitPlace, unitsLaid, unitsPassed, UnitsFit, place-in, places-apart, run-units}
+use Rattle.volume.specs.stripes.UnitStores.{unitPlace, unitsLaid, unitsPassed, UnitsFit, place-in, places-apart, run-units}
 use Rattle.volume.specs.stripes.StripeStores.{whole-stripe, parity-joined}
 
 -- the bytes of unit j, of a stripe that begins at byte `from` of a buffer
@@ -160,10 +163,6 @@ module _ (g : Geometry) (y p from : ℕ) (xs ws buffer : List ℕ) (f : StripeFi
       rw (ne, a, b, c) (three-more (suc j) ys (omega arith) (omega arith) e)
 
 -- ---- the stores of the whole stripe, on the tables
-each-same : (f h : ℕ → List Store) (n : ℕ) → ((j : ℕ) → j < n → f j ≡ h j) → eachBelow f n ≡ eachBelow h n
-each-same f h zero e = refl
-each-same f h (suc n) e = ap₂ (λ (a b : List Store). a ++ b) (each-same f h n (λ j l. e j (omega arith))) (e n (omega arith))
-
 units-same : (place : ℕ → ℕ) (f h : ℕ → List ℕ) (xs : List ℕ) (n : ℕ) → ((j : ℕ) → j < n → f j ≡ h j) → unitsLaid place f xs n ≡ unitsLaid place h xs n
 units-same place f h xs zero e = refl
 units-same place f h xs (suc n) e = ap₂ (λ (a b : List ℕ). overlay a (place n) b) (units-same place f h xs n (λ j l. e j (omega arith))) (e n (omega arith))
@@ -228,11 +227,11 @@ module _ (g : Geometry) (ok : Valid g) (present : ℕ → Bool) (all : (d : ℕ)
   content-long j h = go (decLt j N)
     where
       go : Dec (j < N) → AllLong (g .sector) (content j)
-      go (yes l) = rw (content-data j l) (tabulated-long (g .sector) S (start + j * g .unit) (g .unit) (λ a k q. sector-long a (omega arith) (inside-unit j a l q)))
+      go (yes l) = rw (content-data j l) (long-from (g .sector) S (start + j * g .unit) (g .unit) (λ k q. sector-long (start + j * g .unit + k) (omega arith) (inside-unit j (start + j * g .unit + k) l (omega arith))))
         where
           inside-unit : (j a : ℕ) → j < N → a < start + j * g .unit + g .unit → a < start + stripeSectors g
           inside-unit j a l q = let m : suc j ≤ N = omega arith in omega (arith, mul-le-mul-right (g .unit) m, stripe-length (g .drives) (g .unit))
-      go (no l) = let e : j ≡ N = omega arith in rw (e, content-rows) (tabulated-long (g .sector) (rowXor (g .drives) (g .unit) S s) 0 (g .unit) (λ r k q. row-sized r (omega arith)))
+      go (no l) = let e : j ≡ N = omega arith in rw (e, content-rows) (long-from (g .sector) (rowXor (g .drives) (g .unit) S s) 0 (g .unit) (λ r q. row-sized (0 + r) (omega arith)))
 
   stores : List Store
   stores = onPresent present (dataStores (g .drives) (g .unit) z S start (stripeSectors g))
@@ -247,11 +246,11 @@ module _ (g : Geometry) (ok : Valid g) (present : ℕ → Bool) (all : (d : ℕ)
       let last : columns N ≡ parityStores (g .drives) (g .unit) z S s = ap₂ (λ (d : ℕ) (c : List (List ℕ)). appendAll d (dataZone z) c) (unit-last (g .drives) p (f .parity-in)) content-rows in
       whole-stripe g ok present all z S s
       ∙ sym (ap (eachBelow columns) more
-      ∙ ap₂ (λ (a b : List Store). a ++ b) (each-same columns (λ j. appendAll (drive j) (dataZone z) (tabulateFrom S (start + j * g .unit) (g .unit))) N (λ j l. ap (appendAll (drive j) (dataZone z)) (content-data j l))) last)
+      ∙ ap₂ (λ (a b : List Store). a ++ b) (each-below-cong columns (λ j. appendAll (drive j) (dataZone z) (tabulateFrom S (start + j * g .unit) (g .unit))) N (λ j l. ap (appendAll (drive j) (dataZone z)) (content-data j l))) last)
 
   columns-long : (n : ℕ) → n ≤ g .drives → length (eachBelow columns n) ≡ n * g .unit
   columns-long zero h = let e : 0 * g .unit ≡ 0 = omega arith in rw e refl
-  columns-long (suc n) h = rw (length-append, suc-mul) (ap₂ (λ (a b : ℕ). a + b) (columns-long n (omega arith)) (append-all-long (drive n) (dataZone z) (content n) ∙ content-full n (omega arith)))
+  columns-long (suc n) h = rw (length-append, suc-mul) (ap₂ (λ (a b : ℕ). a + b) (columns-long n (omega arith)) (appends-long (drive n) (dataZone z) (content n) ∙ content-full n (omega arith)))
 
   long-is : length stores ≡ g .drives * g .unit
   long-is = ap (λ (ss : List Store). length ss) stores-are ∙ columns-long (g .drives) (omega arith)

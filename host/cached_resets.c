@@ -101,8 +101,6 @@ static void note_unfinished(struct shelf *shelf, const struct shelf *before, con
 }
 
 void note_resets(struct shelf *shelf, const struct shelf *before, const struct call *call, uint32_t answer, const uint8_t *state) {
-    if (call->kind == CALL_FORMAT) /* its drives are new: no zone has anything to come back */
-        return;
     if (answer == ZRV_UNFINISHED)
         note_unfinished(shelf, before, call, state);
     else if (call->kind == CALL_WRITE)

@@ -8,7 +8,7 @@
 
 #include "shelf.h"
 
-/* What has to be kept of a shelf before a call that stores, so that note_resets can tell. free_shelf frees it. */
+/* What has to be kept of a shelf before a call that stores, so that note_resets can tell; of any but a format. free_shelf frees it. */
 struct shelf shelf_before(const struct shelf *shelf, const struct call *call);
 
 /* After the call: what it reset and did not flush, and what it flushed. The state is the one before the call. */

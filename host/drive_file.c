@@ -9,7 +9,12 @@
 
 #define MAGIC "zrvdrive"
 
-enum { INDEX = HEAD_OWN, HAS_OLD = 36, ARRAY = 40, SAVE = 48, CHECKSUM = 56, HEAD_BYTES = 64 };
+enum { INDEX = HEAD_OWN, HAS_OLD = 36, ARRAY = 40, SAVE = 48, CHECKSUM = 56, HEAD_BYTES = DRIVE_HEAD_BYTES };
+
+const char *drive_name(char name[DRIVE_NAME_BYTES], uint32_t drive, const char *ending) {
+    snprintf(name, DRIVE_NAME_BYTES, "drive-%u.%s", drive, ending);
+    return name;
+}
 
 static size_t row_bytes(struct geometry g) { return physical_zones(g) * sizeof(uint32_t); }
 
@@ -20,16 +25,23 @@ uint64_t drive_file_length(struct geometry g) { return drive_file_sectors(g) + (
 /* With the pointers from before resets, where there are any. */
 static uint64_t whole_length(struct geometry g, bool has_old) { return drive_file_length(g) + (has_old ? 2 * row_bytes(g) : 0); }
 
-/* The bytes of a physical zone that are kept. A pointer past the zone's end is the volume's to refuse. */
-static size_t kept_bytes(const struct shelf *shelf, uint32_t drive, uint32_t zone) {
-    struct geometry g = shelf->geometry;
-    uint32_t written = get32(shelf->written.bytes + 4 * cell(g, drive, zone)), old = get32(shelf->old_written.bytes + 4 * cell(g, drive, zone));
-    written = written < old ? old : written;
-    return (size_t)(written < g.zone_sectors ? written : g.zone_sectors) * g.sector_bytes;
+/* A pointer past the zone's end is the volume's to refuse. */
+uint32_t kept_sectors(struct geometry g, struct range written, struct range old_written, size_t cell) {
+    uint32_t pointer = get32(written.bytes + 4 * cell), old = get32(old_written.bytes + 4 * cell);
+    pointer = pointer < old ? old : pointer;
+    return pointer < g.zone_sectors ? pointer : g.zone_sectors;
 }
 
-/* Where a physical zone's sectors begin in the file. */
-static off_t zone_offset(struct geometry g, uint32_t zone) { return (off_t)(drive_file_sectors(g) + (uint64_t)zone * g.zone_sectors * g.sector_bytes); }
+static size_t kept_bytes(const struct shelf *shelf, uint32_t drive, uint32_t zone) {
+    struct geometry g = shelf->geometry;
+    return (size_t)kept_sectors(g, shelf->written, shelf->old_written, cell(g, drive, zone)) * g.sector_bytes;
+}
+
+uint64_t drive_file_sector(struct geometry g, uint32_t zone, uint32_t sector) {
+    return drive_file_sectors(g) + ((uint64_t)zone * g.zone_sectors + sector) * g.sector_bytes;
+}
+
+static off_t zone_offset(struct geometry g, uint32_t zone) { return (off_t)drive_file_sector(g, zone, 0); }
 
 static uint64_t head_checksum(const uint8_t *head, const struct shelf *shelf, uint32_t drive) {
     size_t row = row_bytes(shelf->geometry);
@@ -49,22 +61,37 @@ static bool has_old(const struct shelf *shelf, uint32_t drive) {
     return false;
 }
 
-bool read_drive_tag(const struct file_place *place, struct drive_tag *tag) {
+static bool same_geometry(struct geometry a, struct geometry b) {
+    return a.drives == b.drives && a.sector_bytes == b.sector_bytes && a.unit == b.unit && a.zones == b.zones && a.zone_sectors == b.zone_sectors;
+}
+
+static struct drive_tag tag_in(const uint8_t *head) { return (struct drive_tag){get64(head + ARRAY), get64(head + SAVE)}; }
+
+static bool read_drive_head(const struct file_place *place, uint8_t head[HEAD_BYTES]) {
     uint64_t length;
-    uint8_t head[HEAD_BYTES];
     struct message unused;
     FILE *file = open_file(place, &length);
     if (file == NULL)
         return false;
     bool good = fread(head, 1, HEAD_BYTES, file) == HEAD_BYTES && head_fits(head, MAGIC, place, &unused);
     fclose(file);
-    if (good)
-        *tag = (struct drive_tag){get64(head + ARRAY), get64(head + SAVE)};
     return good;
 }
 
-static bool same_geometry(struct geometry a, struct geometry b) {
-    return a.drives == b.drives && a.sector_bytes == b.sector_bytes && a.unit == b.unit && a.zones == b.zones && a.zone_sectors == b.zone_sectors;
+bool read_drive_tag(const struct file_place *place, struct drive_tag *tag) {
+    uint8_t head[HEAD_BYTES];
+    bool good = read_drive_head(place, head);
+    if (good)
+        *tag = tag_in(head);
+    return good;
+}
+
+bool is_drive_file(const struct file_place *place, struct geometry geometry, uint32_t drive, struct drive_tag *tag) {
+    uint8_t head[HEAD_BYTES];
+    if (!read_drive_head(place, head) || !same_geometry(get_geometry(head), geometry) || get32(head + INDEX) != drive)
+        return false;
+    *tag = tag_in(head);
+    return true;
 }
 
 static bool fits_shelf(const uint8_t *head, uint64_t length, const struct file_place *place, struct geometry g, uint32_t drive, struct message *message) {
@@ -97,10 +124,6 @@ static bool read_rows(FILE *file, off_t offset, struct range first, struct range
     return fseeko(file, offset, SEEK_SET) == 0 && fread(first.bytes + drive * row, 1, row, file) == row && fread(second.bytes + drive * row, 1, row, file) == row;
 }
 
-static bool write_rows(FILE *file, off_t offset, struct range first, struct range second, size_t row, uint32_t drive) {
-    return fseeko(file, offset, SEEK_SET) == 0 && fwrite(first.bytes + drive * row, 1, row, file) == row && fwrite(second.bytes + drive * row, 1, row, file) == row;
-}
-
 bool read_drive(FILE *file, uint64_t length, const struct file_place *place, struct shelf *shelf, uint32_t drive, struct drive_tag *tag,
                 struct progress *progress, struct message *message) {
     uint8_t head[HEAD_BYTES];
@@ -116,7 +139,7 @@ bool read_drive(FILE *file, uint64_t length, const struct file_place *place, str
         return fail_by_errno(message, place);
     if (head_checksum(head, shelf, drive) != get64(head + CHECKSUM))
         return fail(message, "%s/%s: damaged: the checksum of its head and pointers does not match", place->folder, place->name);
-    *tag = (struct drive_tag){get64(head + ARRAY), get64(head + SAVE)};
+    *tag = tag_in(head);
     return read_sectors(file, shelf, drive, progress) || fail_by_errno(message, place);
 }
 
@@ -131,22 +154,36 @@ static bool write_sectors(FILE *file, const struct shelf *shelf, uint32_t drive,
     return fflush(file) == 0 && ftruncate(fileno(file), (off_t)drive_file_length(g)) == 0;
 }
 
+/* A drive's part of two tables, one after the other; how many bytes that is. */
+static size_t put_rows(uint8_t *bytes, struct range first, struct range second, size_t row, uint32_t drive) {
+    memcpy(bytes, first.bytes + drive * row, row);
+    memcpy(bytes + row, second.bytes + drive * row, row);
+    return 2 * row;
+}
+
+struct drive_head make_drive_head(const struct shelf *shelf, uint32_t drive, struct drive_tag tag) {
+    struct drive_head head = {.end_length = 0};
+    size_t row = row_bytes(shelf->geometry);
+    bool old = has_old(shelf, drive);
+    put_head(head.start, MAGIC, shelf->geometry);
+    put32(head.start + INDEX, drive);
+    put32(head.start + HAS_OLD, old);
+    put64(head.start + ARRAY, tag.array);
+    put64(head.start + SAVE, tag.save);
+    put64(head.start + CHECKSUM, head_checksum(head.start, shelf, drive));
+    head.start_length = HEAD_BYTES + put_rows(head.start + HEAD_BYTES, shelf->written, shelf->durable, row, drive);
+    if (old)
+        head.end_length = put_rows(head.end, shelf->old_written, shelf->old_durable, row, drive);
+    return head;
+}
+
 bool write_drive(const struct file_place *place, const struct shelf *shelf, uint32_t drive, struct drive_tag tag, struct progress *progress,
                  struct message *message) {
-    uint8_t head[HEAD_BYTES] = {0};
-    size_t row = row_bytes(shelf->geometry);
-    put_head(head, MAGIC, shelf->geometry);
-    put32(head + INDEX, drive);
-    put32(head + HAS_OLD, has_old(shelf, drive));
-    put64(head + ARRAY, tag.array);
-    put64(head + SAVE, tag.save);
-    put64(head + CHECKSUM, head_checksum(head, shelf, drive));
+    struct drive_head head = make_drive_head(shelf, drive, tag);
     FILE *file = create_file(place);
     if (file == NULL)
         return fail_by_errno(message, place);
-    bool good = fwrite(head, 1, HEAD_BYTES, file) == HEAD_BYTES && write_rows(file, HEAD_BYTES, shelf->written, shelf->durable, row, drive) &&
-                write_sectors(file, shelf, drive, progress);
-    if (good && has_old(shelf, drive))
-        good = write_rows(file, (off_t)drive_file_length(shelf->geometry), shelf->old_written, shelf->old_durable, row, drive);
+    bool good = fwrite(head.start, 1, head.start_length, file) == head.start_length && write_sectors(file, shelf, drive, progress);
+    good = good && fseeko(file, (off_t)drive_file_length(shelf->geometry), SEEK_SET) == 0 && fwrite(head.end, 1, head.end_length, file) == head.end_length;
     return (finish_file(file) && good) || fail_by_errno(message, place);
 }

@@ -6,8 +6,8 @@
 #include "bytes.h"
 #include "cached_resets.h"
 
-bool open_driver(struct driver *driver, const char *folder, struct message *message) {
-    return open_folder(&driver->drives, folder, message) && load_drives(&driver->drives, message);
+bool open_driver(struct driver *driver, const struct opening *opening, struct message *message) {
+    return open_folder(&driver->drives, opening, message) && load_drives(&driver->drives, message);
 }
 
 bool is_storing(enum call_kind kind) { return kind != CALL_LOOK && kind != CALL_READ && kind != CALL_PEEK && kind != CALL_REPORT; }
@@ -28,6 +28,8 @@ bool power_loss_is_due(const struct host_record *record, struct message *message
     fail(message, "not now: the last call was left unfinished; a power cut comes next");
     return true;
 }
+
+bool was_formatted(const struct host_record *record) { return get64(zone_record(record->state, 0) + ZRV_RECORD_GENERATION) > 0; }
 
 /* Whether a duty stands against a call. */
 static uint32_t may_call(const struct driver *driver, enum call_kind kind, struct message *message) {
@@ -61,6 +63,26 @@ static void take_unfinished(struct driver *driver) {
     give_up_absent(driver);
 }
 
+/* From where on a call may have stored: from the pointer of before; from a zone's beginning where it was reset. A mount may reset a log's zone or the spare
+ * and fill it again, past where it was: nothing is known of these. */
+static void note_stored(struct drives *drives, const struct shelf *before, enum call_kind kind) {
+    struct geometry g = drives->record.geometry;
+    for (size_t at = 0; at < shelf_cells(g); at++) {
+        uint32_t from = get32(before->written.bytes + 4 * at);
+        if (get32(drives->shelf.written.bytes + 4 * at) < from || (kind == CALL_MOUNT && at % physical_zones(g) < ZRV_LOG_ZONES))
+            from = 0;
+        drives->stored_from[at] = from < drives->stored_from[at] ? from : drives->stored_from[at];
+    }
+}
+
+/* After a call that stored: what the drives' caches hold, and what the files do not. A format's drives are new as a whole. */
+static void note_stores(struct drives *drives, const struct shelf *before, const struct call *call, uint32_t answer) {
+    if (call->kind == CALL_FORMAT)
+        return;
+    note_resets(&drives->shelf, before, call, answer, drives->record.state);
+    note_stored(drives, before, call->kind);
+}
+
 uint32_t driver_call(struct driver *driver, struct call call, struct message *message) {
     struct drives *drives = &driver->drives;
     uint32_t answer = may_call(driver, call.kind, message);
@@ -76,10 +98,10 @@ uint32_t driver_call(struct driver *driver, struct call call, struct message *me
     call.bad = &driver->bad;
     if (!is_storing(call.kind))
         return make_call(&call);
-    struct shelf before = shelf_before(&drives->shelf, &call);
+    struct shelf before = call.kind == CALL_FORMAT ? (struct shelf){.geometry = call.geometry} : shelf_before(&drives->shelf, &call);
     answer = make_call(&call);
     if (answer == ZRV_FINISHED || answer == ZRV_UNFINISHED)
-        note_resets(&drives->shelf, &before, &call, answer, drives->record.state);
+        note_stores(drives, &before, &call, answer);
     free_shelf(&before);
     if (answer == ZRV_FINISHED)
         take_finished(driver);

@@ -16,7 +16,7 @@ struct driver {
 enum { ANSWER_NOT_NOW = 256, ANSWER_STRANGE_DRIVE = 257 };
 
 /* After either answer close_drives is due. */
-bool open_driver(struct driver *driver, const char *folder, struct message *message);
+bool open_driver(struct driver *driver, const struct opening *opening, struct message *message);
 
 /* Makes a call: the kind, its numbers and its buffer are the caller's, the rest is filled in. The message is for the driver's own answers. */
 uint32_t driver_call(struct driver *driver, struct call call, struct message *message);
@@ -51,6 +51,9 @@ bool lose_power(struct driver *driver, const struct power_loss *loss, struct mes
 
 /* Whether an unfinished call was the last, with a message. */
 bool power_loss_is_due(const struct host_record *record, struct message *message);
+
+/* Whether a format has finished: every zone has a generation then. */
+bool was_formatted(const struct host_record *record);
 
 /* The driver's answer where a drive is strange, else ZRV_FINISHED. */
 uint32_t strange_drive(const struct driver *driver, struct message *message);

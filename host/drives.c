@@ -6,15 +6,16 @@
 #include <fcntl.h>
 #include <stdlib.h>
 #include <string.h>
-#include <sys/file.h>
 #include <sys/stat.h>
 #include <unistd.h>
 
 #include "bytes.h"
 #include "drive_file.h"
 #include "progress.h"
+#include "redo.h"
+#include "saving.h"
 
-#define RECORD_NAME "state.zrv"
+#define RECORD_NEW "state.new"
 #define RECORD_MAGIC "zrvstate"
 
 /* Where the record's fields are. */
@@ -24,28 +25,24 @@ enum {
     ARRAY = 40,
     SAVES = 48,
     STATE_AT = SAVES + 8 * ZRV_MOST_DRIVES,
-    CHECKSUM = STATE_AT + ZRV_STATE_BYTES,
-    RECORD_BYTES = CHECKSUM + 8
+    CHECKSUM = STATE_AT + ZRV_STATE_BYTES
 };
-enum { NAME_BYTES = 32 };
+_Static_assert(RECORD_BYTES == CHECKSUM + 8, "the record ends with its checksum");
 
-static struct file_place place_of(const struct drives *drives, const char *name) {
+/* The seconds for which a command that only reads waits to be alone, where it finds a save that was stopped: others of its kind are at the same. */
+enum { RECOVERY_WAIT = 1 };
+
+struct file_place file_of(const struct drives *drives, const char *name) {
     struct file_place place = {drives->folder, name, drives->directory};
     return place;
 }
 
-static const char *drive_name(char name[NAME_BYTES], uint32_t drive, const char *ending) {
-    snprintf(name, NAME_BYTES, "drive-%u.%s", drive, ending);
-    return name;
-}
-
-static bool lock_folder(struct drives *drives, const char *folder, struct message *message) {
-    *drives = (struct drives){.folder = folder, .directory = open(folder, O_RDONLY | O_DIRECTORY)};
+static bool open_and_lock(struct drives *drives, const struct opening *opening, struct message *message) {
+    drives->folder = opening->folder;
+    drives->directory = open(opening->folder, O_RDONLY | O_DIRECTORY);
     if (drives->directory < 0)
-        return fail(message, "%s: %s", folder, strerror(errno));
-    if (flock(drives->directory, LOCK_EX | LOCK_NB) != 0)
-        return fail(message, "%s: in use by another command", folder);
-    return true;
+        return fail(message, "%s: %s", opening->folder, strerror(errno));
+    return lock_folder(drives->directory, opening, message);
 }
 
 /* The record in its byte form; false where the file is short, foreign or damaged. */
@@ -59,8 +56,8 @@ static bool read_record_bytes(FILE *file, uint64_t length, const struct file_pla
     return true;
 }
 
-static bool read_record(struct drives *drives, struct message *message) {
-    struct file_place place = place_of(drives, RECORD_NAME);
+bool read_record(const struct drives *drives, struct host_record *record, struct message *message) {
+    struct file_place place = file_of(drives, RECORD_NAME);
     uint8_t bytes[RECORD_BYTES];
     uint64_t length;
     FILE *file = open_file(&place, &length);
@@ -72,7 +69,6 @@ static bool read_record(struct drives *drives, struct message *message) {
     fclose(file);
     if (!good)
         return false;
-    struct host_record *record = &drives->record;
     record->geometry = get_geometry(bytes);
     record->phase = (enum phase)get32(bytes + PHASE);
     record->given_up = get32(bytes + GIVEN_UP);
@@ -83,10 +79,8 @@ static bool read_record(struct drives *drives, struct message *message) {
     return true;
 }
 
-/* Replaces the record's file, which is what makes a save count. */
-static bool write_record(const struct drives *drives, struct message *message) {
-    const struct host_record *record = &drives->record;
-    uint8_t bytes[RECORD_BYTES] = {0};
+void put_record(const struct host_record *record, uint8_t bytes[RECORD_BYTES]) {
+    memset(bytes, 0, RECORD_BYTES);
     put_head(bytes, RECORD_MAGIC, record->geometry);
     put32(bytes + PHASE, record->phase);
     put32(bytes + GIVEN_UP, record->given_up);
@@ -95,7 +89,13 @@ static bool write_record(const struct drives *drives, struct message *message) {
         put64(bytes + SAVES + 8 * d, record->save[d]);
     memcpy(bytes + STATE_AT, record->state, ZRV_STATE_BYTES);
     put64(bytes + CHECKSUM, checksum(CHECKSUM_START, bytes, CHECKSUM));
-    struct file_place place = place_of(drives, "state.new");
+}
+
+/* Replaces the record's file, which is what makes new files of drives count. */
+static bool write_record(const struct drives *drives, struct message *message) {
+    uint8_t bytes[RECORD_BYTES];
+    put_record(&drives->record, bytes);
+    struct file_place place = file_of(drives, RECORD_NEW);
     if (!sync_names(&place, message)) /* the names of the drives' new files last before the record that makes them count */
         return false;
     FILE *file = create_file(&place);
@@ -109,28 +109,69 @@ static bool write_record(const struct drives *drives, struct message *message) {
 
 /* A drive's new file takes its place if the record says that its save counts, and goes if not. */
 static bool settle_save(const struct drives *drives, uint32_t drive, struct message *message) {
-    char name[NAME_BYTES], new_name[NAME_BYTES];
-    struct file_place place = place_of(drives, drive_name(new_name, drive, "new"));
+    char name[DRIVE_NAME_BYTES], new_name[DRIVE_NAME_BYTES];
+    struct file_place place = file_of(drives, drive_name(new_name, drive, "new"));
     struct drive_tag tag;
-    if (faccessat(place.directory, place.name, F_OK, 0) != 0)
+    if (!file_exists(&place))
         return true;
     if (read_drive_tag(&place, &tag) && tag.array == drives->record.array && tag.save == drives->record.save[drive])
         return rename_file(&place, drive_name(name, drive, "zrv"), message);
-    return unlinkat(place.directory, place.name, 0) == 0 || fail_by_errno(message, &place);
+    return remove_file(&place, message);
 }
 
 static bool settle_saves(const struct drives *drives, struct message *message) {
-    for (uint32_t d = 0; d < drives->record.geometry.drives; d++)
+    for (uint32_t d = 0; d < ZRV_MOST_DRIVES; d++)
         if (!settle_save(drives, d, message))
             return false;
     return true;
 }
 
-bool open_folder(struct drives *drives, const char *folder, struct message *message) {
-    return lock_folder(drives, folder, message) && read_record(drives, message) && settle_saves(drives, message);
+/* Whether a save that was stopped has left a file. */
+static bool was_stopped(const struct drives *drives) {
+    static const char *const names[] = {REDO_NAME, REDO_NEW, RECORD_NEW};
+    char name[DRIVE_NAME_BYTES];
+    struct file_place place = file_of(drives, name);
+    for (uint32_t d = 0; d < ZRV_MOST_DRIVES; d++) {
+        drive_name(name, d, "new");
+        if (file_exists(&place))
+            return true;
+    }
+    for (size_t i = 0; i < sizeof names / sizeof *names; i++) {
+        place.name = names[i];
+        if (file_exists(&place))
+            return true;
+    }
+    return false;
 }
 
+/* Ends a save that was stopped: if it counts, whole; if not, what it left goes. */
+static bool end_save(struct drives *drives, struct message *message) {
+    struct file_place redo = file_of(drives, REDO_NEW), record = file_of(drives, RECORD_NEW);
+    return recover_redo(drives, message) && read_record(drives, &drives->record, message) && settle_saves(drives, message) &&
+           remove_file(&redo, message) && remove_file(&record, message);
+}
+
+/* Nobody else may be at work while a save is ended. A lock is given up before it is taken as another kind; so what was seen is looked at again. */
+static bool end_save_alone(struct drives *drives, const struct opening *opening, struct message *message) {
+    struct opening alone = *opening;
+    alone.lock = LOCK_TO_CHANGE;
+    alone.wait = alone.wait < RECOVERY_WAIT ? RECOVERY_WAIT : alone.wait;
+    while (was_stopped(drives))
+        if (!lock_folder(drives->directory, &alone, message) || !end_save(drives, message) || !lock_folder(drives->directory, opening, message))
+            return false;
+    return true;
+}
+
+bool open_folder(struct drives *drives, const struct opening *opening, struct message *message) {
+    *drives = (struct drives){.directory = -1};
+    return open_and_lock(drives, opening, message) && end_save_alone(drives, opening, message) && read_record(drives, &drives->record, message);
+}
+
+/* The shelf is as its files are. */
 static void remember_pointers(struct drives *drives) {
+    struct shelf *shelf = &drives->shelf;
+    for (size_t at = 0; at < shelf_cells(shelf->geometry); at++)
+        drives->stored_from[at] = kept_sectors(shelf->geometry, shelf->written, shelf->old_written, at);
     memcpy(drives->written_before.bytes, drives->shelf.written.bytes, drives->shelf.written.length);
     memcpy(drives->durable_before.bytes, drives->shelf.durable.bytes, drives->shelf.durable.length);
     memcpy(drives->old_before.bytes, drives->shelf.old_written.bytes, drives->shelf.old_written.length);
@@ -145,13 +186,13 @@ static void new_memory(struct drives *drives) {
 
 /* Whether a given-up drive's file is in the folder. */
 static bool has_returned(const struct drives *drives, uint32_t drive) {
-    char name[NAME_BYTES];
+    char name[DRIVE_NAME_BYTES];
     return (drives->record.given_up >> drive & 1) != 0 && faccessat(drives->directory, drive_name(name, drive, "zrv"), F_OK, 0) == 0;
 }
 
 static bool load_drive(struct drives *drives, uint32_t drive, struct progress *progress, struct message *message) {
-    char name[NAME_BYTES];
-    struct file_place place = place_of(drives, drive_name(name, drive, "zrv"));
+    char name[DRIVE_NAME_BYTES];
+    struct file_place place = file_of(drives, drive_name(name, drive, "zrv"));
     struct drive_tag tag;
     uint64_t length;
     FILE *file = open_file(&place, &length);
@@ -180,50 +221,112 @@ bool load_drives(struct drives *drives, struct message *message) {
     return good;
 }
 
-bool new_drives(struct drives *drives, const char *folder, struct geometry geometry, bool replace, struct message *message) {
-    *drives = (struct drives){.folder = folder, .directory = -1};
-    if (mkdir(folder, 0777) != 0 && errno != EEXIST)
-        return fail(message, "%s: %s", folder, strerror(errno));
-    if (!lock_folder(drives, folder, message))
-        return false;
-    if (!replace && faccessat(drives->directory, RECORD_NAME, F_OK, 0) == 0)
-        return fail(message, "%s/%s: there is a shelf in this folder, which is replaced only by force", folder, RECORD_NAME);
-    drives->record.geometry = geometry;
-    drives->present = (1u << geometry.drives) - 1;
-    new_memory(drives);
-    return true;
+/* A new file takes the place of another file, and of nothing else. */
+static bool can_be_replaced(const struct drives *drives, const char *name, struct message *message) {
+    struct file_place place = file_of(drives, name);
+    struct stat status;
+    if (fstatat(place.directory, place.name, &status, 0) != 0 || S_ISREG(status.st_mode))
+        return true;
+    return fail(message, "%s/%s: not a file, and in the way; move it out of this folder first", place.folder, place.name);
 }
 
-static bool has_changed(const struct drives *drives, uint32_t drive) {
-    size_t row = physical_zones(drives->record.geometry) * sizeof(uint32_t), at = drive * row;
-    return memcmp(drives->shelf.written.bytes + at, drives->written_before.bytes + at, row) != 0 ||
-           memcmp(drives->shelf.durable.bytes + at, drives->durable_before.bytes + at, row) != 0 ||
-           memcmp(drives->shelf.old_written.bytes + at, drives->old_before.bytes + at, row) != 0;
+static bool all_can_be_replaced(const struct drives *drives, struct message *message) {
+    static const char *const endings[] = {"zrv", "new"};
+    char name[DRIVE_NAME_BYTES];
+    for (uint32_t d = 0; d < drives->record.geometry.drives; d++)
+        for (size_t i = 0; i < sizeof endings / sizeof *endings; i++)
+            if (!can_be_replaced(drives, drive_name(name, d, endings[i]), message))
+                return false;
+    return can_be_replaced(drives, RECORD_NAME, message) && can_be_replaced(drives, RECORD_NEW, message);
+}
+
+/* The shelf that is in the folder stays whole until the new one counts, and is told from it by other numbers of saves, even where both have one array number. */
+static void number_after_former(struct drives *drives) {
+    struct message unused;
+    struct drives former = {.folder = drives->folder, .directory = drives->directory};
+    end_save(&former, &unused);
+    if (read_record(&former, &former.record, &unused))
+        memcpy(drives->record.save, former.record.save, sizeof former.record.save);
+}
+
+/* After a format that failed: what it made goes. */
+static void abandon_format(const struct drives *drives) {
+    char name[DRIVE_NAME_BYTES];
+    for (uint32_t d = 0; drives->directory >= 0 && d < drives->record.geometry.drives; d++)
+        unlinkat(drives->directory, drive_name(name, d, "new"), 0);
+    if (drives->directory >= 0)
+        unlinkat(drives->directory, RECORD_NEW, 0);
+    if (drives->made_folder)
+        rmdir(drives->folder);
+}
+
+/* Takes the folder for a format. */
+static bool take_folder(struct drives *drives, const struct opening *opening, bool replace, struct message *message) {
+    drives->made_folder = mkdir(opening->folder, 0777) == 0;
+    if (!drives->made_folder && errno != EEXIST)
+        return fail(message, "%s: %s", opening->folder, strerror(errno));
+    if (!open_and_lock(drives, opening, message))
+        return false;
+    number_after_former(drives);
+    struct file_place record = file_of(drives, RECORD_NAME);
+    if (!replace && file_exists(&record))
+        return fail(message, "%s/%s: there is a shelf in this folder, which is replaced only by force", record.folder, record.name);
+    return all_can_be_replaced(drives, message);
+}
+
+/* Memory comes first: where there is none, nothing has been made. */
+bool new_drives(struct drives *drives, const struct opening *opening, struct geometry geometry, bool replace, struct message *message) {
+    *drives = (struct drives){.folder = opening->folder, .directory = -1, .record.geometry = geometry, .present = (1u << geometry.drives) - 1};
+    new_memory(drives);
+    if (take_folder(drives, opening, replace, message))
+        return true;
+    if (drives->made_folder)
+        rmdir(drives->folder);
+    return false;
 }
 
 static bool write_new_file(struct drives *drives, uint32_t drive, struct progress *progress, struct message *message) {
-    char name[NAME_BYTES];
-    struct file_place place = place_of(drives, drive_name(name, drive, "new"));
+    char name[DRIVE_NAME_BYTES];
+    struct file_place place = file_of(drives, drive_name(name, drive, "new"));
     struct drive_tag tag = {drives->record.array, ++drives->record.save[drive]};
     return write_drive(&place, &drives->shelf, drive, tag, progress, message);
 }
 
-bool save_drives(struct drives *drives, bool all, struct message *message) {
-    uint32_t count = drives->record.geometry.drives;
+/* Whether the host's record is in the folder: its save counts. */
+static bool record_counts(const struct drives *drives) {
+    struct host_record there;
+    struct message unused;
+    return read_record(drives, &there, &unused) && there.array == drives->record.array && memcmp(there.save, drives->record.save, sizeof there.save) == 0;
+}
+
+/* Saves new drives. A redo file that could not be applied to the former shelf goes with it. */
+static bool save_format(struct drives *drives, struct message *message) {
+    struct file_place redo = file_of(drives, REDO_NAME);
     struct progress progress = start_progress("saving the drives", shelf_cells(drives->record.geometry));
     bool good = true;
-    for (uint32_t d = 0; good && d < count; d++)
-        if ((drives->present >> d & 1) != 0 && (all || has_changed(drives, d)))
+    for (uint32_t d = 0; good && d < drives->record.geometry.drives; d++)
+        if ((drives->present >> d & 1) != 0)
             good = write_new_file(drives, d, &progress, message);
     end_progress(&progress);
+    good = good && remove_file(&redo, message) && write_record(drives, message);
+    if (!good && !record_counts(drives)) {
+        abandon_format(drives);
+        return false;
+    }
+    return settle_saves(drives, message) && good;
+}
+
+bool save_drives(struct drives *drives, bool all, struct message *message) {
+    if (!(all ? save_format : save_changes)(drives, message))
+        return false;
     remember_pointers(drives);
-    return good && write_record(drives, message) && settle_saves(drives, message);
+    return true;
 }
 
 bool pull_drive(struct drives *drives, uint32_t drive, struct message *message) {
-    char name[NAME_BYTES], pulled[NAME_BYTES];
-    struct file_place place = place_of(drives, drive_name(name, drive, "zrv"));
-    if (faccessat(place.directory, place.name, F_OK, 0) != 0)
+    char name[DRIVE_NAME_BYTES], pulled[DRIVE_NAME_BYTES];
+    struct file_place place = file_of(drives, drive_name(name, drive, "zrv"));
+    if (!file_exists(&place))
         return fail_by_errno(message, &place);
     drives->record.given_up |= 1u << drive;
     return write_record(drives, message) && rename_file(&place, drive_name(pulled, drive, "pulled"), message);

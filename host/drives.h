@@ -5,22 +5,27 @@
  *   32 the drive's index (4), 36 whether zone resets are in its cache (4, 1 or 0), 40 the array number (8), 48 the save that wrote this file (8),
  *   56 a checksum of bytes 0 to 55 and of all pointers (8);
  *   64 the written pointers of its physical zones (4 each), then the durable ones: what lies between the two is its write cache;
- *   then its sectors, zone by zone. Only those below the written pointer are kept; the others read as zeros;
+ *   then its sectors, zone by zone. Those below the written pointer count; what lies past it means nothing;
  *   where zone resets are in its cache, at the end the written and durable pointers of each zone before its reset (0: none is), and the sectors below them
- *   are kept too.
+ *   count too.
  * The sectors have no checksum of the host's: what they hold is the volume's to judge.
  *
  * state.zrv, the host's: bytes 0 to 7 "zrvstate", version and geometry as above, 32 the phase (4), 36 the drives given up by bit (4), 40 the array number (8),
  *   48 for each of eight drives the save that its file must be of (8 each), 112 the volume's state, 376 a checksum of all before it (8).
  *
- * A save is all or nothing: the changed drives go to drive-N.new first, then state.zrv is replaced by rename, and from then on each drive-N.new counts
- * and takes its drive's place, if need be when the folder is opened next. A drive whose file is missing is not there. One whose file is of another
- * save or array is strange: the folder opens, and its host has to keep to looks. */
+ * A save is all or nothing, and writes what has changed (saving.h). That of a format makes every file anew: the drives go to drive-N.new first, then state.zrv
+ * is replaced by rename, and from then on each drive-N.new counts and takes its drive's place, if need be when the folder is opened next.
+ *
+ * A drive whose file is missing is not there. One whose file is of another save or array is strange: the folder opens, and its host has to keep to looks. */
 #ifndef DRIVES_H
 #define DRIVES_H
 
-#include "message.h"
+#include "files.h"
+#include "lock.h"
 #include "shelf.h"
+
+#define RECORD_NAME "state.zrv"
+enum { RECORD_BYTES = 384 };
 
 /* What may come next: any call; looks and mounts, after a power cut; a power cut, after an unfinished call. */
 enum phase { PHASE_READY = 0, PHASE_MOUNT_DUE = 1, PHASE_POWER_LOSS_DUE = 2 };
@@ -36,26 +41,36 @@ struct host_record {
 
 struct drives {
     const char *folder;
-    int directory; /* open, and locked against a second host; -1 where it is not */
+    int directory; /* open and locked; -1 where it is not */
+    bool made_folder; /* by a format */
     struct host_record record;
     struct shelf shelf;
     uint32_t present; /* drives, by bit, whose file is there and that are not given up */
     uint32_t returned; /* those that are given up and whose file is there all the same */
     uint32_t strange; /* of the present ones those whose file is not the one that the last save left */
     struct range written_before, durable_before, old_before; /* as in the files */
+    uint32_t stored_from[MOST_CELLS]; /* of each cell: the sectors before this one are as in its file */
 };
 
-/* Opens a folder and reads the host's record. After either answer close_drives is due. */
-bool open_folder(struct drives *drives, const char *folder, struct message *message);
+/* Opens a folder, ends a save that was stopped, and reads the host's record. After either answer close_drives is due. */
+bool open_folder(struct drives *drives, const struct opening *opening, struct message *message);
 
 /* Reads every drive that is there. */
 bool load_drives(struct drives *drives, struct message *message);
 
 /* Makes the folder, if it is not there, and a shelf of new drives in memory. Drives that are in the folder already are in the way unless `replace`. */
-bool new_drives(struct drives *drives, const char *folder, struct geometry geometry, bool replace, struct message *message);
+bool new_drives(struct drives *drives, const struct opening *opening, struct geometry geometry, bool replace, struct message *message);
 
-/* Saves the record and each present drive whose pointers have changed, or all present ones. */
+/* Saves the record and what has changed of the present drives; of new drives, with `all`, everything. Where it fails the files hold what they held, and a folder
+ * that new_drives made is gone. */
 bool save_drives(struct drives *drives, bool all, struct message *message);
+
+/* A file of the folder by its name. */
+struct file_place file_of(const struct drives *drives, const char *name);
+
+/* The host's record in its folder; in its byte form. */
+bool read_record(const struct drives *drives, struct host_record *record, struct message *message);
+void put_record(const struct host_record *record, uint8_t bytes[RECORD_BYTES]);
 
 /* Takes a drive out: its file becomes drive-N.pulled, and it is given up. */
 bool pull_drive(struct drives *drives, uint32_t drive, struct message *message);

@@ -60,6 +60,42 @@ FILE *create_file(const struct file_place *place) {
     return descriptor < 0 ? NULL : fdopen(descriptor, "wb");
 }
 
+bool file_exists(const struct file_place *place) { return faccessat(place->directory, place->name, F_OK, 0) == 0; }
+
+bool remove_file(const struct file_place *place, struct message *message) {
+    return unlinkat(place->directory, place->name, 0) == 0 || errno == ENOENT || fail_by_errno(message, place);
+}
+
+bool write_at(int descriptor, const uint8_t *bytes, size_t length, uint64_t offset) {
+    while (length > 0) {
+        ssize_t done = pwrite(descriptor, bytes, length, (off_t)offset);
+        if (done < 0 && errno == EINTR)
+            continue;
+        if (done <= 0)
+            return false;
+        bytes += done;
+        length -= (size_t)done;
+        offset += (uint64_t)done;
+    }
+    return true;
+}
+
+bool read_at(int descriptor, uint8_t *bytes, size_t length, uint64_t offset) {
+    while (length > 0) {
+        ssize_t done = pread(descriptor, bytes, length, (off_t)offset);
+        if (done < 0 && errno == EINTR)
+            continue;
+        if (done == 0)
+            errno = EIO; /* the file has become shorter */
+        if (done <= 0)
+            return false;
+        bytes += done;
+        length -= (size_t)done;
+        offset += (uint64_t)done;
+    }
+    return true;
+}
+
 bool finish_file(FILE *file) {
     bool good = fflush(file) == 0 && fsync(fileno(file)) == 0;
     return fclose(file) == 0 && good;

@@ -29,6 +29,15 @@ uint64_t checksum(uint64_t before, const uint8_t *bytes, size_t length);
 FILE *open_file(const struct file_place *place, uint64_t *length);
 FILE *create_file(const struct file_place *place);
 
+bool file_exists(const struct file_place *place);
+
+/* Removes a file, if there is one. */
+bool remove_file(const struct file_place *place, struct message *message);
+
+/* All bytes, at an offset of an open file. */
+bool write_at(int descriptor, const uint8_t *bytes, size_t length, uint64_t offset);
+bool read_at(int descriptor, uint8_t *bytes, size_t length, uint64_t offset);
+
 /* Brings what was written to the disk and closes the file. */
 bool finish_file(FILE *file);
 

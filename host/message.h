@@ -8,10 +8,14 @@ enum { MESSAGE_BYTES = 1024 };
 
 struct message {
     char text[MESSAGE_BYTES];
+    bool busy; /* another command is at work: the same may do later */
 };
 
 /* Puts the words in place; false, so that a failing function can return it. */
 bool fail(struct message *message, const char *format, ...) __attribute__((format(printf, 2, 3)));
+
+/* The same after a failure: more words behind those that are there. */
+bool add_words(struct message *message, const char *format, ...) __attribute__((format(printf, 2, 3)));
 
 /* The ending of a noun after a count. */
 static inline const char *plural(unsigned long long count) { return count == 1 ? "" : "s"; }

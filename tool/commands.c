@@ -14,7 +14,7 @@
 /* The geometry of a format that is given none, as the help of `zrv format` tells it. */
 static const struct geometry usual = {.drives = 4, .sector_bytes = 4096, .unit = 4, .zones = 4, .zone_sectors = 256};
 
-enum { DRIVES, SECTOR_BYTES, UNIT, ZONES, ZONE_SECTORS, ARRAY, WITHOUT, FORMAT_STORES, FORCE };
+enum { DRIVES, SECTOR_BYTES, UNIT, ZONES, ZONE_SECTORS, ARRAY, WITHOUT, FORMAT_STORES, FORCE, FORMAT_WAIT };
 
 /* An array number for a format that is given none: the time tells shelves apart. */
 static uint64_t array_by_time(void) {
@@ -23,10 +23,10 @@ static uint64_t array_by_time(void) {
     return (uint64_t)now.tv_sec * 1000000000 + (uint64_t)now.tv_nsec;
 }
 
-/* Whether a folder holds a shelf whose last call was left unfinished; the message says so. */
-static bool was_left_unfinished(const char *folder, struct message *message) {
+/* Whether a folder holds a volume whose last call was left unfinished; the message says so. Half a format is no volume. */
+static bool was_left_unfinished(const struct opening *opening, struct message *message) {
     struct drives drives;
-    bool due = open_folder(&drives, folder, message) && power_loss_is_due(&drives.record, message);
+    bool due = open_folder(&drives, opening, message) && was_formatted(&drives.record) && power_loss_is_due(&drives.record, message);
     close_drives(&drives);
     return due;
 }
@@ -56,6 +56,7 @@ int format_main(int argc, char **argv) {
         [WITHOUT] = {.name = "without", .kind = OPTION_NUMBER, .most = ZRV_MOST_DRIVES - 1},
         [FORMAT_STORES] = STORES_OPTION,
         [FORCE] = {.name = "force", .kind = OPTION_FLAG},
+        [FORMAT_WAIT] = WAIT_OPTION,
     };
     struct message message;
     struct driver driver;
@@ -71,9 +72,10 @@ int format_main(int argc, char **argv) {
     }
     if (option[WITHOUT].given && option[WITHOUT].number >= geometry.drives)
         return usage_error(argv[0], "--without: there is no drive %u", (uint32_t)option[WITHOUT].number);
-    if (was_left_unfinished(folder, &message))
+    struct opening opening = opening_to_change(folder, &option[FORMAT_WAIT]);
+    if (was_left_unfinished(&opening, &message))
         return not_now(&message);
-    int code = new_drives(&driver.drives, folder, geometry, option[FORCE].given, &message) ? format_drives(&driver, option) : file_error(&message);
+    int code = new_drives(&driver.drives, &opening, geometry, option[FORCE].given, &message) ? format_drives(&driver, option) : file_error(&message);
     close_drives(&driver.drives);
     return code;
 }
@@ -145,7 +147,7 @@ int look_main(int argc, char **argv) {
     struct command_option option[] = {{.name = "json", .kind = OPTION_FLAG}};
     struct driver driver;
     struct message message;
-    int code = begin_command(argc, argv, option, COUNT(option), &driver);
+    int code = begin_reading(argc, argv, option, COUNT(option), &driver);
     if (code == EXIT_DONE) {
         struct call call = {.kind = CALL_LOOK};
         uint32_t answer = driver_call(&driver, call, &message);
@@ -281,14 +283,15 @@ int cut_main(int argc, char **argv) {
 
 /* Only the host's record is read: a drive that cannot be read can be pulled too. */
 int pull_main(int argc, char **argv) {
-    struct command_option option[] = {{.name = "drive", .kind = OPTION_NUMBER, .needed = true, .most = ZRV_MOST_DRIVES - 1}};
+    struct command_option option[] = {{.name = "drive", .kind = OPTION_NUMBER, .needed = true, .most = ZRV_MOST_DRIVES - 1}, WAIT_OPTION};
     struct drives drives;
     struct message message;
     const char *folder;
     if (!parse_options(argc, argv, option, COUNT(option), &folder, &message))
         return usage_error(argv[0], "%s", message.text);
+    struct opening opening = opening_to_change(folder, &option[1]);
     int code = EXIT_DONE;
-    if (!open_folder(&drives, folder, &message)) {
+    if (!open_folder(&drives, &opening, &message)) {
         code = file_error(&message);
     } else if (power_loss_is_due(&drives.record, &message)) {
         code = not_now(&message);

@@ -17,7 +17,8 @@ static bool take_option(struct command_option *option, const char *value, struct
         return fail(message, "--%s: given twice", option->name);
     option->given = true;
     option->text = value;
-    if (option->kind == OPTION_NUMBER && !parse_number(value, 0, option->most, &option->number))
+    bool is_number = option->kind == OPTION_NUMBER || (option->kind == OPTION_MAYBE_NUMBER && value != NULL);
+    if (is_number && !parse_number(value, 0, option->most, &option->number))
         return fail(message, "--%s: \"%s\" is no number from 0 to %llu", option->name, value, (unsigned long long)option->most);
     return true;
 }
@@ -47,11 +48,19 @@ static bool needed_are_given(const struct command_option *options, size_t count,
     return true;
 }
 
+static struct option as_word(const struct command_option *option, int index) {
+    if (option->kind == OPTION_FLAG)
+        return (struct option)WORD_FLAG(option->name, index);
+    if (option->kind == OPTION_MAYBE_NUMBER)
+        return (struct option)WORD_MAYBE_WITH_VALUE(option->name, index);
+    return (struct option)WORD_WITH_VALUE(option->name, index);
+}
+
 bool parse_options(int argc, char **argv, struct command_option *options, size_t count, const char **folder, struct message *message) {
     struct option list[count + 1];
     memset(list, 0, sizeof list);
     for (int i = 0; i < (int)count; i++)
-        list[i] = options[i].kind == OPTION_FLAG ? (struct option)WORD_FLAG(options[i].name, i) : (struct option)WORD_WITH_VALUE(options[i].name, i);
+        list[i] = as_word(&options[i], i);
     struct words words = begin_words(argc, argv, list);
     struct word word;
     *folder = NULL;

@@ -7,7 +7,7 @@
 
 #include "message.h"
 
-enum option_kind { OPTION_FLAG, OPTION_NUMBER, OPTION_TEXT };
+enum option_kind { OPTION_FLAG, OPTION_NUMBER, OPTION_MAYBE_NUMBER, OPTION_TEXT }; /* "--wait" and "--wait=5" */
 
 /* What a command takes, and once its words are read what it was given. */
 struct command_option {

@@ -3,6 +3,7 @@
 
 #include <stdarg.h>
 #include <stdio.h>
+#include <string.h>
 
 #include "bad_log.h"
 #include "bytes.h"
@@ -20,7 +21,7 @@ int usage_error(const char *command, const char *format, ...) {
 
 int file_error(const struct message *message) {
     fprintf(stderr, "zrv: %s\n", message->text);
-    return EXIT_FILES;
+    return message->busy ? EXIT_BUSY : EXIT_FILES;
 }
 
 int not_now(const struct message *message) {
@@ -28,13 +29,32 @@ int not_now(const struct message *message) {
     return EXIT_REFUSED;
 }
 
-int begin_command(int argc, char **argv, struct command_option *options, size_t count, struct driver *driver) {
+struct opening opening_to_change(const char *folder, const struct command_option *wait) {
+    return (struct opening){.folder = folder, .lock = LOCK_TO_CHANGE, .wait = wait->given ? wait->number : 0};
+}
+
+/* The command's own options are read together with --wait. */
+static int begin(int argc, char **argv, struct command_option *options, size_t count, struct driver *driver, enum lock_kind lock) {
+    struct command_option all[count + 1];
     struct message message;
     const char *folder;
     *driver = (struct driver){.drives.directory = -1};
-    if (!parse_options(argc, argv, options, count, &folder, &message))
+    memcpy(all, options, count * sizeof *options);
+    all[count] = (struct command_option)WAIT_OPTION;
+    if (!parse_options(argc, argv, all, count + 1, &folder, &message))
         return usage_error(argv[0], "%s", message.text);
-    return open_driver(driver, folder, &message) ? EXIT_DONE : file_error(&message);
+    memcpy(options, all, count * sizeof *options);
+    struct opening opening = opening_to_change(folder, &all[count]);
+    opening.lock = lock;
+    return open_driver(driver, &opening, &message) ? EXIT_DONE : file_error(&message);
+}
+
+int begin_command(int argc, char **argv, struct command_option *options, size_t count, struct driver *driver) {
+    return begin(argc, argv, options, count, driver, LOCK_TO_CHANGE);
+}
+
+int begin_reading(int argc, char **argv, struct command_option *options, size_t count, struct driver *driver) {
+    return begin(argc, argv, options, count, driver, LOCK_TO_READ);
 }
 
 int tell_answer(const struct driver *driver, const struct call *call, uint32_t answer, const struct message *message) {

@@ -5,15 +5,21 @@
 #include "driver.h"
 #include "options.h"
 
-enum { EXIT_DONE = 0, EXIT_REFUSED = 1, EXIT_USAGE = 2, EXIT_FILES = 3 };
+enum { EXIT_DONE = 0, EXIT_REFUSED = 1, EXIT_USAGE = 2, EXIT_FILES = 3, EXIT_BUSY = 4 };
 
 #define COUNT(array) (sizeof(array) / sizeof *(array))
 #define STORES_OPTION {.name = "stores", .kind = OPTION_NUMBER, .most = UINT32_MAX, .number = ZRV_ALL_STORES}
+#define WAIT_OPTION {.name = "wait", .kind = OPTION_MAYBE_NUMBER, .most = UINT32_MAX, .number = WAIT_FOREVER}
 
-/* The words of a command read and its shelf opened; 0, or the exit code after the reason was told. After any of them close_drives is due. */
+/* The words of a command read, its own and --wait, and its shelf opened; 0, or the exit code after the reason was told. After any of them close_drives is due.
+ * A command that only reads shares the shelf with others of its kind. */
 int begin_command(int argc, char **argv, struct command_option *options, size_t count, struct driver *driver);
+int begin_reading(int argc, char **argv, struct command_option *options, size_t count, struct driver *driver);
 
-/* Tells bad usage of a command, or a file that cannot be used; the exit code. */
+/* A shelf opened to be changed, with --wait as it was given. */
+struct opening opening_to_change(const char *folder, const struct command_option *wait);
+
+/* Tells bad usage of a command, or a file that cannot be used or is in use; the exit code. */
 int usage_error(const char *command, const char *format, ...) __attribute__((format(printf, 2, 3)));
 int file_error(const struct message *message);
 

@@ -32,6 +32,7 @@ struct words {
 /* An entry of the list of options, at its index; the list ends with one of zeros. */
 #define WORD_FLAG(name, index) {name, no_argument, NULL, FIRST_OPTION + (index)}
 #define WORD_WITH_VALUE(name, index) {name, required_argument, NULL, FIRST_OPTION + (index)}
+#define WORD_MAYBE_WITH_VALUE(name, index) {name, optional_argument, NULL, FIRST_OPTION + (index)} /* then as "--name=value" alone */
 enum { FIRST_OPTION = 256 }; /* above every character, which is what getopt_long gives for other finds */
 
 struct words begin_words(int argc, char **argv, const struct option *options);

@@ -89,8 +89,11 @@ static const struct command commands[] = {
     {"explore", explore_main, "go through every moment at which power can go, in memory", "[options]", NULL},
 };
 
+#define WAIT_HELP "  --wait[=SECONDS]  while other commands use the folder, wait; with seconds, so long at most (any number of commands may read at once)\n"
+
 static const char exit_codes[] = "Exit codes: 0 done; 1 the volume refused, the call was left unfinished, or it is not its turn; 2 bad usage;\n"
-                                 "3 a file could not be used, or memory ran out. Errors go to standard error, results to standard output.\n";
+                                 "3 a file could not be used, or memory ran out; 4 the folder is in use by another command: try again.\n"
+                                 "Errors go to standard error, results to standard output.\n";
 
 static const struct command *find_command(const char *name) {
     for (size_t i = 0; i < COUNT(commands); i++)
@@ -110,7 +113,8 @@ static int print_command_help(const struct command *command) {
     char *own[] = {(char *)command->name, "--help"};
     if (command->help == NULL)
         return command->run(2, own);
-    printf("zrv %s %s: %s\n\n%s\n%s", command->name, command->usage, command->does, command->help, exit_codes);
+    bool has_folder = strncmp(command->usage, "FOLDER", strlen("FOLDER")) == 0;
+    printf("zrv %s %s: %s\n\n%s%s\n%s", command->name, command->usage, command->does, command->help, has_folder ? WAIT_HELP : "", exit_codes);
     return EXIT_DONE;
 }
 

@@ -6,6 +6,7 @@
 #include <unistd.h>
 
 #include "bytes.h"
+#include "mapped_sectors.h"
 
 #define MAGIC "zrvdrive"
 
@@ -110,6 +111,8 @@ static bool fits_shelf(const uint8_t *head, uint64_t length, const struct file_p
 
 static bool read_sectors(FILE *file, struct shelf *shelf, uint32_t drive, struct progress *progress) {
     struct geometry g = shelf->geometry;
+    if (lay_file(shelf, drive, fileno(file), drive_file_sectors(g)))
+        return true;
     for (uint32_t zone = 0; zone < physical_zones(g); zone++) {
         size_t kept = kept_bytes(shelf, drive, zone);
         if (fseeko(file, zone_offset(g, zone), SEEK_SET) != 0 || fread(shelf->sectors.bytes + sector_offset(g, drive, zone, 0), 1, kept, file) != kept)

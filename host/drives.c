@@ -11,6 +11,7 @@
 
 #include "bytes.h"
 #include "drive_file.h"
+#include "mapped_sectors.h"
 #include "progress.h"
 #include "redo.h"
 #include "saving.h"
@@ -177,8 +178,8 @@ static void remember_pointers(struct drives *drives) {
     memcpy(drives->old_before.bytes, drives->shelf.old_written.bytes, drives->shelf.old_written.length);
 }
 
-static void new_memory(struct drives *drives) {
-    drives->shelf = new_shelf(drives->record.geometry);
+static void new_memory(struct drives *drives, struct shelf shelf) {
+    drives->shelf = shelf;
     drives->written_before = new_range(drives->shelf.written.length);
     drives->durable_before = new_range(drives->shelf.durable.length);
     drives->old_before = new_range(drives->shelf.old_written.length);
@@ -208,7 +209,8 @@ static bool load_drive(struct drives *drives, uint32_t drive, struct progress *p
 
 bool load_drives(struct drives *drives, struct message *message) {
     uint32_t count = drives->record.geometry.drives;
-    new_memory(drives);
+    new_memory(drives, new_pointers(drives->record.geometry));
+    map_sectors(&drives->shelf, drive_file_sectors(drives->record.geometry));
     struct progress progress = start_progress("reading the drives", shelf_cells(drives->record.geometry));
     bool good = true;
     for (uint32_t d = 0; good && d < count; d++) {
@@ -277,7 +279,7 @@ static bool take_folder(struct drives *drives, const struct opening *opening, bo
 /* Memory comes first: where there is none, nothing has been made. */
 bool new_drives(struct drives *drives, const struct opening *opening, struct geometry geometry, bool replace, struct message *message) {
     *drives = (struct drives){.folder = opening->folder, .directory = -1, .record.geometry = geometry, .present = (1u << geometry.drives) - 1};
-    new_memory(drives);
+    new_memory(drives, new_shelf(geometry));
     if (take_folder(drives, opening, replace, message))
         return true;
     if (drives->made_folder)
@@ -333,6 +335,7 @@ bool pull_drive(struct drives *drives, uint32_t drive, struct message *message) 
 }
 
 void close_drives(struct drives *drives) {
+    unmap_sectors(&drives->shelf);
     free_shelf(&drives->shelf);
     free(drives->written_before.bytes);
     free(drives->durable_before.bytes);

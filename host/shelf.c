@@ -22,16 +22,21 @@ struct range new_range(size_t length) {
     return range;
 }
 
-struct shelf new_shelf(struct geometry geometry) {
+struct shelf new_pointers(struct geometry geometry) {
     size_t cells = shelf_cells(geometry);
     struct shelf shelf = {
         .geometry = geometry,
-        .sectors = new_range(cells * geometry.zone_sectors * geometry.sector_bytes),
         .written = new_range(cells * sizeof(uint32_t)),
         .durable = new_range(cells * sizeof(uint32_t)),
         .old_written = new_range(cells * sizeof(uint32_t)),
         .old_durable = new_range(cells * sizeof(uint32_t)),
     };
+    return shelf;
+}
+
+struct shelf new_shelf(struct geometry geometry) {
+    struct shelf shelf = new_pointers(geometry);
+    shelf.sectors = new_range(shelf_cells(geometry) * geometry.zone_sectors * geometry.sector_bytes);
     return shelf;
 }
 

@@ -8,11 +8,13 @@
 struct shelf {
     struct geometry geometry;
     struct range sectors, written, durable;
+    struct range pages; /* that hold the sectors, where these are mapped (mapped_sectors.h) */
     struct range old_written, old_durable; /* the drives' own: of a zone whose reset they have only in their cache the pointers before it; written 0: of none */
 };
 
 /* All zero. Each leaves the program where there is no memory. */
 struct range new_range(size_t length);
+struct shelf new_pointers(struct geometry geometry); /* a shelf without sectors */
 struct shelf new_shelf(struct geometry geometry);
 struct shelf copy_shelf(const struct shelf *shelf); /* below the written pointers; zero past them */
 void free_shelf(struct shelf *shelf);

@@ -1,0 +1,53 @@
+/* Files laid over the shelf's memory by mmap. */
+#define _DEFAULT_SOURCE
+#include "mapped_sectors.h"
+
+#include <signal.h>
+#include <stdio.h>
+#include <stdlib.h>
+#include <sys/mman.h>
+#include <unistd.h>
+
+#include "files.h"
+
+static size_t page_bytes(void) { return (size_t)sysconf(_SC_PAGESIZE); }
+
+static size_t drive_bytes(struct geometry g) { return physical_zones(g) * g.zone_sectors * g.sector_bytes; }
+
+/* The first drive's sectors begin as far into a page as they do in its file. */
+void map_sectors(struct shelf *shelf, uint64_t offset) {
+    size_t length = shelf->geometry.drives * drive_bytes(shelf->geometry), inside = (size_t)(offset % page_bytes());
+    shelf->pages = (struct range){mmap(NULL, inside + length, PROT_READ | PROT_WRITE, MAP_PRIVATE | MAP_ANONYMOUS | MAP_NORESERVE, -1, 0), inside + length};
+    if (shelf->pages.bytes == MAP_FAILED) {
+        fprintf(stderr, "no memory for %zu bytes\n", length);
+        exit(3);
+    }
+    shelf->sectors = (struct range){shelf->pages.bytes + inside, length};
+}
+
+void unmap_sectors(struct shelf *shelf) {
+    if (shelf->pages.bytes == NULL)
+        return;
+    munmap(shelf->pages.bytes, shelf->pages.length);
+    shelf->sectors.bytes = shelf->pages.bytes = NULL;
+}
+
+static void end_in_words(int signal) {
+    static const char words[] = "zrv: a drive's file cannot be read any more: it has become shorter, or its disk fails; nothing was stored by this command\n";
+    (void)signal;
+    (void)!write(STDERR_FILENO, words, sizeof words - 1);
+    _exit(3);
+}
+
+/* Whole pages are laid over; what lies before and after them is read. */
+bool lay_file(const struct shelf *shelf, uint32_t drive, int descriptor, uint64_t offset) {
+    uint8_t *from = shelf->sectors.bytes + sector_offset(shelf->geometry, drive, 0, 0);
+    size_t page = page_bytes(), length = drive_bytes(shelf->geometry), before = (page - offset % page) % page;
+    if (shelf->pages.bytes == NULL || (size_t)(from - shelf->pages.bytes) % page != offset % page || length < before + page)
+        return false;
+    size_t whole = (length - before) / page * page, end = before + whole;
+    if (mmap(from + before, whole, PROT_READ | PROT_WRITE, MAP_PRIVATE | MAP_FIXED | MAP_NORESERVE, descriptor, (off_t)(offset + before)) == MAP_FAILED)
+        return false;
+    signal(SIGBUS, end_in_words);
+    return read_at(descriptor, from, before, offset) && read_at(descriptor, from + end, length - end, offset + end);
+}

@@ -6,14 +6,15 @@
 # zrv: the command-line tool over a shelf kept as files, target/zrv (`target/zrv help`)
 # from-c: all tests of the archive and of the tool:
 #   edge-test: the conformance vectors replayed, and bad input; then both once more with the C side's sanitizers
-#   tool-test: the tool used as a person would, with the exact words and exit codes; then once more with the sanitizers
+#   tool-test: the tool used as a person would, with the exact words and exit codes; then once more with the sanitizers; then commands killed while they save
 #   explore-test: explore's counts, its histories that do not fit, its messages and its picture; a part of it once more with the sanitizers
 #   example: the program of docs/USING.md, built and run
+# kill-test: the last of these in full: kills before every change of a file, 400 at drawn moments, and full disks (part of no test)
 # format-test: the model of docs/FORMAT.md in Python: the conformance vectors replayed, then the worked values of the page
 # vectors: other conformance vectors put in place of those of crates/replay: `make vectors FROM=FOLDER` with a script PART.txt and its answers PART.out a part
 # bench: the archive's speed as a share of plain C's
 # bench-isal: the time of a stripe's write beside that of memcpy and ISA-L's xor_gen (needs libisal-dev; part of no test)
-.PHONY: explore test check wrong archive zrv from-c edge-test tool-test explore-test example format-test vectors bench bench-isal fmt
+.PHONY: explore test check wrong archive zrv from-c edge-test tool-test kill-test explore-test example format-test vectors bench bench-isal fmt
 
 explore: target/zrv
 	@target/zrv explore
@@ -79,9 +80,17 @@ edge-test:
 	@$(EDGE)/grouped_replay_sanitized < c/vectors/grouped.txt | cmp - c/vectors/grouped.out && echo "grouped replay, sanitized: $$(wc -l < c/vectors/grouped.out) lines equal"
 	@$(EDGE)/bad_input_sanitized
 
-tool-test: target/zrv target/zrv_sanitized
+target/stop: tool/test/stop.c
+	@mkdir -p target
+	@$(COMPILE) -O2 $< -o $@
+
+tool-test: target/zrv target/zrv_sanitized target/stop
 	@tool/test/tool target/zrv
 	@tool/test/tool target/zrv_sanitized
+	@tool/test/kills target/zrv target/stop 4 4
+
+kill-test: target/zrv target/stop
+	@tool/test/kills target/zrv target/stop 1 100
 
 explore-test: target/zrv target/zrv_sanitized
 	@tool/test/explore target/zrv target/zrv_sanitized

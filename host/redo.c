@@ -136,7 +136,7 @@ bool apply_redo(const struct redo *redo, const struct drives *drives, struct mes
         good = apply_to(redo, d, &place, message);
     }
     if (!good)
-        return add_words(message, "; the command counts, and the next one will end it from %s/%s", own.folder, own.name);
+        return add_words(message, "; the command counts: what it stored is in %s/%s, and the next command puts it in place", own.folder, own.name);
     return remove_file(&own, message);
 }
 

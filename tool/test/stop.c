@@ -1,6 +1,6 @@
 /* Stops a program at a system call that changes files, counted from 1: `stop kill N PROGRAM ..` kills it just before its N-th such call, `stop full N PROGRAM ..`
- * lets that call and every later one that wants space fail, as on a full disk. Exits as the program does, with 137 where it was killed and 125 where it
- * cannot be watched. */
+ * lets that call and every later one that wants space fail, as on a full disk, `stop count 0 PROGRAM ..` stops it nowhere and says on standard error how many bytes
+ * it wrote to files. Exits as the program does, with 137 where it was killed and 125 where it cannot be watched. */
 #define _GNU_SOURCE
 #include <errno.h>
 #include <fcntl.h>
@@ -18,6 +18,9 @@
 enum { KILLED = 137, CANNOT = 125, AT_SYSTEM_CALL = 0x80 };
 
 typedef struct user_regs_struct registers;
+
+enum mode { KILL, FULL, COUNT, MODES };
+static const char *const mode_words[MODES] = {[KILL] = "kill", [FULL] = "full", [COUNT] = "count"};
 
 static bool wants_space(const registers *r) {
     switch (r->orig_rax) {
@@ -76,29 +79,47 @@ static int refuse_space(pid_t program, registers *r) {
     return code;
 }
 
-static int watch(pid_t program, bool kills, long number) {
+/* What a call that has ended wrote to a file. */
+static unsigned long long bytes_written(pid_t program) {
     registers r;
-    long count = 0;
-    for (;;) {
-        int code = go_on(program, 0); /* to the entry of a call */
+    ptrace(PTRACE_GETREGS, program, NULL, &r);
+    bool writes = r.orig_rax == SYS_write || r.orig_rax == SYS_writev || r.orig_rax == SYS_pwrite64;
+    return writes && r.rdi > STDERR_FILENO && (long long)r.rax > 0 ? r.rax : 0;
+}
+
+static int watch(pid_t program, enum mode mode, long number) {
+    registers r;
+    unsigned long long bytes = 0;
+    int code = -1;
+    for (long count = 0; code < 0;) {
+        code = go_on(program, 0); /* to the entry of a call */
         if (code >= 0)
-            return code;
+            break;
         ptrace(PTRACE_GETREGS, program, NULL, &r);
         count += changes_files(&r);
-        if (kills && count == number)
+        if (mode == KILL && count == number)
             return kill_it(program);
-        if (!kills && count >= number && wants_space(&r))
-            code = refuse_space(program, &r);
-        else
-            code = go_on(program, 0); /* to its end */
-        if (code >= 0)
-            return code;
+        bool refuses = mode == FULL && count >= number && wants_space(&r);
+        code = refuses ? refuse_space(program, &r) : go_on(program, 0); /* to its end */
+        if (code < 0 && mode == COUNT)
+            bytes += bytes_written(program);
     }
+    if (mode == COUNT)
+        fprintf(stderr, "%llu\n", bytes);
+    return code;
+}
+
+static enum mode mode_of(const char *word) {
+    enum mode mode = KILL;
+    while (mode < MODES && strcmp(word, mode_words[mode]) != 0)
+        mode++;
+    return mode;
 }
 
 int main(int argc, char **argv) {
-    if (argc < 4 || (strcmp(argv[1], "kill") != 0 && strcmp(argv[1], "full") != 0)) {
-        fprintf(stderr, "stop: kill or full, a number, and a program are wanted\n");
+    enum mode mode = argc < 4 ? MODES : mode_of(argv[1]);
+    if (mode == MODES) {
+        fprintf(stderr, "stop: kill, full or count, a number, and a program are wanted\n");
         return CANNOT;
     }
     pid_t program = fork();
@@ -114,5 +135,5 @@ int main(int argc, char **argv) {
         perror("stop");
         return CANNOT;
     }
-    return watch(program, strcmp(argv[1], "kill") == 0, strtol(argv[2], NULL, 10));
+    return watch(program, mode, strtol(argv[2], NULL, 10));
 }

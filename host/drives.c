@@ -242,7 +242,7 @@ static bool all_can_be_replaced(const struct drives *drives, struct message *mes
     return can_be_replaced(drives, RECORD_NAME, message) && can_be_replaced(drives, RECORD_NEW, message);
 }
 
-/* The shelf that is in the folder stays whole until the new one counts, and is told from it by other numbers of saves, even where both have one array number. */
+/* The shelf that is in the folder stays whole until the new one counts. Numbers of saves tell the two apart, also where both have the same array number. */
 static void number_after_former(struct drives *drives) {
     struct message unused;
     struct drives former = {.folder = drives->folder, .directory = drives->directory};

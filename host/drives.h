@@ -61,8 +61,8 @@ bool load_drives(struct drives *drives, struct message *message);
 /* Makes the folder, if it is not there, and a shelf of new drives in memory. Drives that are in the folder already are in the way unless `replace`. */
 bool new_drives(struct drives *drives, const struct opening *opening, struct geometry geometry, bool replace, struct message *message);
 
-/* Saves the record and what has changed of the present drives; of new drives, with `all`, everything. Where it fails the files hold what they held, and a folder
- * that new_drives made is gone. */
+/* Saves the record and what has changed of the present drives; of new drives, with `all`, everything. Where it fails the files hold what they held, and a
+ * folder that new_drives made is gone. */
 bool save_drives(struct drives *drives, bool all, struct message *message);
 
 /* A file of the folder by its name. */

@@ -1,16 +1,16 @@
-/* Sectors that are read from their files when they are first looked at: the files are laid over the shelf's memory, page by page, each to be changed in memory alone.
- * So a command costs what it touches, not what the shelf holds. */
+/* Sectors that are read from their files when they are first looked at: the files are laid over the shelf's memory, and change in memory alone. So a command
+ * costs what it touches, not what the shelf holds. */
 #ifndef MAPPED_SECTORS_H
 #define MAPPED_SECTORS_H
 
 #include "shelf.h"
 
-/* Memory for the sectors of a shelf that has none yet, so that files whose sectors begin at this offset can be laid over it. Leaves the program where there is none. */
+/* Memory for the sectors of a shelf that has none yet; files whose sectors begin at this offset can be laid over it. Leaves the program where there is none. */
 void map_sectors(struct shelf *shelf, uint64_t offset);
 void unmap_sectors(struct shelf *shelf);
 
-/* Lays a drive's file over its sectors; false where that cannot be done, and the sectors have to be read. From then on a page that cannot be read ends the program,
- * in words and with exit code 3. */
+/* Lays a drive's file over its sectors; false where that cannot be done, and the sectors have to be read. From then on a page that cannot be read ends the
+ * program, in words and with exit code 3. */
 bool lay_file(const struct shelf *shelf, uint32_t drive, int descriptor, uint64_t offset);
 
 #endif

@@ -156,8 +156,10 @@ static bool redo_fits(struct range bytes, const struct file_place *place, struct
         return false;
     if (bytes.length < REDO_HEAD_BYTES || get64(bytes.bytes + LENGTH) != bytes.length || get64(bytes.bytes + CHECKSUM) != redo_checksum(bytes) ||
         !ranges_fit(bytes))
-        return fail(message, "%s/%s: damaged: its checksum does not match; the last command cannot be ended. With this file removed, zrv look tells which drives"
-                    " are not as the shelf left them", place->folder, place->name);
+        return fail(message,
+                    "%s/%s: damaged: its checksum does not match; the last command cannot be ended."
+                    " With this file removed, zrv look tells which drives are not as the shelf left them",
+                    place->folder, place->name);
     return true;
 }
 

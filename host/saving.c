@@ -139,7 +139,8 @@ static bool save_drive(struct save *save, uint32_t drive, struct message *messag
     return good;
 }
 
-/* Gives the space of sectors back that do not count: after a save of those that went, after none of those that came. What cannot be given back stays, and means nothing. */
+/* Gives back the space of sectors that do not count: after a save of those that went, after a failed one of those that came. What cannot be given back stays,
+ * and means nothing. */
 static void drop_sectors(const struct drives *drives, uint32_t drive, bool saved) {
     char name[DRIVE_NAME_BYTES];
     struct geometry g = drives->record.geometry;

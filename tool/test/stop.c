@@ -1,6 +1,6 @@
-/* Stops a program at a system call that changes files, counted from 1: `stop kill N PROGRAM ..` kills it just before its N-th such call, `stop full N PROGRAM ..`
- * lets that call and every later one that wants space fail, as on a full disk, `stop count 0 PROGRAM ..` stops it nowhere and says on standard error how many bytes
- * it wrote to files. Exits as the program does, with 137 where it was killed and 125 where it cannot be watched. */
+/* Stops a program at a system call that changes files, counted from 1. `stop kill N PROGRAM ..` kills it just before its N-th such call. `stop full N
+ * PROGRAM ..` lets that call and every later one that wants space fail, as on a full disk. `stop count 0 PROGRAM ..` stops it nowhere, and says on standard error how many
+ * bytes it wrote to files. Exits as the program does, with 137 where it was killed and 125 where it cannot be watched. */
 #define _GNU_SOURCE
 #include <errno.h>
 #include <fcntl.h>

@@ -42,8 +42,6 @@ uint64_t drive_file_sector(struct geometry g, uint32_t zone, uint32_t sector) {
     return drive_file_sectors(g) + ((uint64_t)zone * g.zone_sectors + sector) * g.sector_bytes;
 }
 
-static off_t zone_offset(struct geometry g, uint32_t zone) { return (off_t)drive_file_sector(g, zone, 0); }
-
 static uint64_t head_checksum(const uint8_t *head, const struct shelf *shelf, uint32_t drive) {
     size_t row = row_bytes(shelf->geometry);
     uint64_t sum = checksum(CHECKSUM_START, head, CHECKSUM);
@@ -111,11 +109,9 @@ static bool fits_shelf(const uint8_t *head, uint64_t length, const struct file_p
 
 static bool read_sectors(FILE *file, struct shelf *shelf, uint32_t drive, struct progress *progress) {
     struct geometry g = shelf->geometry;
-    if (lay_file(shelf, drive, fileno(file), drive_file_sectors(g)))
-        return true;
     for (uint32_t zone = 0; zone < physical_zones(g); zone++) {
-        size_t kept = kept_bytes(shelf, drive, zone);
-        if (fseeko(file, zone_offset(g, zone), SEEK_SET) != 0 || fread(shelf->sectors.bytes + sector_offset(g, drive, zone, 0), 1, kept, file) != kept)
+        uint8_t *sectors = shelf->sectors.bytes + sector_offset(g, drive, zone, 0);
+        if (!load_bytes(shelf, sectors, kept_bytes(shelf, drive, zone), fileno(file), drive_file_sector(g, zone, 0)))
             return false;
         step_progress(progress, 1);
     }
@@ -150,7 +146,8 @@ static bool write_sectors(FILE *file, const struct shelf *shelf, uint32_t drive,
     struct geometry g = shelf->geometry;
     for (uint32_t zone = 0; zone < physical_zones(g); zone++) {
         size_t kept = kept_bytes(shelf, drive, zone);
-        if (fseeko(file, zone_offset(g, zone), SEEK_SET) != 0 || fwrite(shelf->sectors.bytes + sector_offset(g, drive, zone, 0), 1, kept, file) != kept)
+        const uint8_t *sectors = shelf->sectors.bytes + sector_offset(g, drive, zone, 0);
+        if (fseeko(file, (off_t)drive_file_sector(g, zone, 0), SEEK_SET) != 0 || fwrite(sectors, 1, kept, file) != kept)
             return false;
         step_progress(progress, 1);
     }

@@ -39,15 +39,19 @@ static void end_in_words(int signal) {
     _exit(3);
 }
 
-/* Whole pages are laid over; what lies before and after them is read. */
-bool lay_file(const struct shelf *shelf, uint32_t drive, int descriptor, uint64_t offset) {
-    uint8_t *from = shelf->sectors.bytes + sector_offset(shelf->geometry, drive, 0, 0);
-    size_t page = page_bytes(), length = drive_bytes(shelf->geometry), before = (page - offset % page) % page;
-    if (shelf->pages.bytes == NULL || (size_t)(from - shelf->pages.bytes) % page != offset % page || length < before + page)
-        return false;
-    size_t whole = (length - before) / page * page, end = before + whole;
-    if (mmap(from + before, whole, PROT_READ | PROT_WRITE, MAP_PRIVATE | MAP_FIXED | MAP_NORESERVE, descriptor, (off_t)(offset + before)) == MAP_FAILED)
-        return false;
+/* How many of the bytes come before the first whole page. */
+static size_t before_pages(size_t length, uint64_t offset) {
+    size_t page = page_bytes(), before = (page - (size_t)(offset % page)) % page;
+    return before < length ? before : length;
+}
+
+/* Only bytes that a file holds are laid over: to change a page of a hole would, in some file systems, take space. */
+bool load_bytes(const struct shelf *shelf, uint8_t *to, size_t length, int descriptor, uint64_t offset) {
+    size_t page = page_bytes(), before = before_pages(length, offset), whole = (length - before) / page * page, end = before + whole;
+    bool alike = shelf->pages.bytes != NULL && (size_t)(to - shelf->pages.bytes) % page == offset % page;
+    if (!alike || whole == 0 ||
+        mmap(to + before, whole, PROT_READ | PROT_WRITE, MAP_PRIVATE | MAP_FIXED | MAP_NORESERVE, descriptor, (off_t)(offset + before)) == MAP_FAILED)
+        return read_at(descriptor, to, length, offset);
     signal(SIGBUS, end_in_words);
-    return read_at(descriptor, from, before, offset) && read_at(descriptor, from + end, length - end, offset + end);
+    return read_at(descriptor, to, before, offset) && read_at(descriptor, to + end, length - end, offset + end);
 }

@@ -9,8 +9,8 @@
 void map_sectors(struct shelf *shelf, uint64_t offset);
 void unmap_sectors(struct shelf *shelf);
 
-/* Lays a drive's file over its sectors; false where that cannot be done, and the sectors have to be read. From then on a page that cannot be read ends the
- * program, in words and with exit code 3. */
-bool lay_file(const struct shelf *shelf, uint32_t drive, int descriptor, uint64_t offset);
+/* Brings bytes of a file to their place among a shelf's sectors: whole pages are laid over it, where memory and file have the same pages; the rest is read.
+ * From then on a page that cannot be read ends the program, in words and with exit code 3. */
+bool load_bytes(const struct shelf *shelf, uint8_t *to, size_t length, int descriptor, uint64_t offset);
 
 #endif

@@ -63,8 +63,16 @@ bool read_drive_tag(const struct file_place *place, struct drive_tag *tag) {
     return good;
 }
 
-static bool same_geometry(struct geometry a, struct geometry b) {
+bool same_geometry(struct geometry a, struct geometry b) {
     return a.drives == b.drives && a.sector_bytes == b.sector_bytes && a.unit == b.unit && a.zones == b.zones && a.zone_sectors == b.zone_sectors;
+}
+
+static bool has_whole_length(const uint8_t *head, uint64_t length, const struct file_place *place, struct message *message) {
+    uint64_t whole = whole_length(get_geometry(head), get32(head + HAS_OLD) != 0);
+    if (length != whole)
+        return fail(message, "%s/%s: %s: %llu bytes, a drive of this shelf has %llu", place->folder, place->name, length < whole ? "short" : "long",
+                    (unsigned long long)length, (unsigned long long)whole);
+    return true;
 }
 
 static bool fits_shelf(const uint8_t *head, uint64_t length, const struct file_place *place, struct geometry g, uint32_t drive, struct message *message) {
@@ -74,11 +82,7 @@ static bool fits_shelf(const uint8_t *head, uint64_t length, const struct file_p
                     place->name, own.drives, own.sector_bytes, own.unit, own.zones, own.zone_sectors);
     if (get32(head + INDEX) != drive)
         return fail(message, "%s/%s: this is drive %u, not drive %u", place->folder, place->name, get32(head + INDEX), drive);
-    uint64_t whole = whole_length(g, get32(head + HAS_OLD) != 0);
-    if (length != whole)
-        return fail(message, "%s/%s: %s: %llu bytes, a drive of this shelf has %llu", place->folder, place->name, length < whole ? "short" : "long",
-                    (unsigned long long)length, (unsigned long long)whole);
-    return true;
+    return has_whole_length(head, length, place, message);
 }
 
 static bool read_sectors(FILE *file, struct shelf *shelf, uint32_t drive, struct progress *progress) {
@@ -101,14 +105,14 @@ static bool write_rows(FILE *file, off_t offset, struct range first, struct rang
     return fseeko(file, offset, SEEK_SET) == 0 && fwrite(first.bytes + drive * row, 1, row, file) == row && fwrite(second.bytes + drive * row, 1, row, file) == row;
 }
 
-bool read_drive(FILE *file, uint64_t length, const struct file_place *place, struct shelf *shelf, uint32_t drive, struct drive_tag *tag,
-                struct progress *progress, struct message *message) {
-    uint8_t head[HEAD_BYTES];
-    size_t row = row_bytes(shelf->geometry);
+static bool read_head(FILE *file, uint64_t length, const struct file_place *place, uint8_t head[HEAD_BYTES], struct message *message) {
     if (fread(head, 1, HEAD_BYTES, file) != HEAD_BYTES)
         return fail(message, "%s/%s: short: %llu bytes, not even a head", place->folder, place->name, (unsigned long long)length);
-    if (!head_fits(head, MAGIC, place, message) || !fits_shelf(head, length, place, shelf->geometry, drive, message))
-        return false;
+    return head_fits(head, MAGIC, place, message);
+}
+
+static bool read_pointers(FILE *file, const uint8_t *head, const struct file_place *place, struct shelf *shelf, uint32_t drive, struct message *message) {
+    size_t row = row_bytes(shelf->geometry);
     off_t end = (off_t)drive_file_length(shelf->geometry);
     if (!read_rows(file, HEAD_BYTES, shelf->written, shelf->durable, row, drive))
         return fail_by_errno(message, place);
@@ -116,8 +120,52 @@ bool read_drive(FILE *file, uint64_t length, const struct file_place *place, str
         return fail_by_errno(message, place);
     if (head_checksum(head, shelf, drive) != get64(head + CHECKSUM))
         return fail(message, "%s/%s: damaged: the checksum of its head and pointers does not match", place->folder, place->name);
+    return true;
+}
+
+/* Whether a file that is not this drive's can be given up: of another version it can be read by another tool. */
+static bool may_be_given_up(const uint8_t *head) { return memcmp(head, MAGIC, MAGIC_BYTES) != 0 || get32(head + HEAD_VERSION) == FILE_VERSION; }
+
+bool read_drive(FILE *file, uint64_t length, const struct file_place *place, struct shelf *shelf, uint32_t drive, struct drive_tag *tag,
+                struct progress *progress, struct message *message) {
+    uint8_t head[HEAD_BYTES] = {0};
+    if (!read_head(file, length, place, head, message) || !fits_shelf(head, length, place, shelf->geometry, drive, message) ||
+        !read_pointers(file, head, place, shelf, drive, message)) {
+        if (may_be_given_up(head))
+            add_words(message, "; put the right file back, or go on without it: pull drive %u, then mount", drive);
+        return false;
+    }
     *tag = (struct drive_tag){get64(head + ARRAY), get64(head + SAVE)};
     return read_sectors(file, shelf, drive, progress) || fail_by_errno(message, place);
+}
+
+/* The pointers are read into tables of their own, for the checksum alone. */
+static bool head_is_whole(FILE *file, uint64_t length, const struct file_place *place, uint8_t head[HEAD_BYTES], struct message *message) {
+    if (!read_head(file, length, place, head, message))
+        return false;
+    struct geometry g = get_geometry(head);
+    uint32_t drive = get32(head + INDEX);
+    if (!geometry_is_taken(g) || drive >= g.drives)
+        return fail(message, "%s/%s: damaged: its head tells of no drive that there can be", place->folder, place->name);
+    size_t table = shelf_cells(g) * sizeof(uint32_t);
+    struct shelf tables = {.geometry = g, .written = new_range(table), .durable = new_range(table), .old_written = new_range(table),
+                           .old_durable = new_range(table)};
+    bool good = has_whole_length(head, length, place, message) && read_pointers(file, head, place, &tables, drive, message);
+    free_shelf(&tables);
+    return good;
+}
+
+bool read_drive_head(const struct file_place *place, struct drive_head *head, struct message *message) {
+    uint64_t length;
+    uint8_t bytes[HEAD_BYTES];
+    FILE *file = open_file(place, &length);
+    if (file == NULL)
+        return fail_by_errno(message, place);
+    bool good = head_is_whole(file, length, place, bytes, message);
+    fclose(file);
+    if (good)
+        *head = (struct drive_head){get_geometry(bytes), get32(bytes + INDEX), {get64(bytes + ARRAY), get64(bytes + SAVE)}};
+    return good;
 }
 
 static bool write_sectors(FILE *file, const struct shelf *shelf, uint32_t drive, struct progress *progress) {

@@ -11,6 +11,18 @@ struct drive_tag {
     uint64_t array, save;
 };
 
+/* What a drive's file says of itself. */
+struct drive_head {
+    struct geometry geometry;
+    uint32_t drive;
+    struct drive_tag tag;
+};
+
+/* Reads it, with every check that needs no shelf: the head, the length, the pointers' checksum. False, with a message, where the file is no whole drive's. */
+bool read_drive_head(const struct file_place *place, struct drive_head *head, struct message *message);
+
+bool same_geometry(struct geometry a, struct geometry b);
+
 /* The tag at a file's beginning; false where the file is none of a drive. */
 bool read_drive_tag(const struct file_place *place, struct drive_tag *tag);
 

@@ -12,9 +12,9 @@
 
 #include "bytes.h"
 #include "drive_file.h"
+#include "folder.h"
 #include "progress.h"
 
-#define RECORD_NAME "state.zrv"
 #define RECORD_MAGIC "zrvstate"
 
 /* Where the record's fields are. */
@@ -27,19 +27,18 @@ enum {
     CHECKSUM = STATE_AT + ZRV_STATE_BYTES,
     RECORD_BYTES = CHECKSUM + 8
 };
-enum { NAME_BYTES = 32 };
 
-static struct file_place place_of(const struct drives *drives, const char *name) {
+struct file_place place_of(const struct drives *drives, const char *name) {
     struct file_place place = {drives->folder, name, drives->directory};
     return place;
 }
 
-static const char *drive_name(char name[NAME_BYTES], uint32_t drive, const char *ending) {
+const char *drive_name(char name[NAME_BYTES], uint32_t drive, const char *ending) {
     snprintf(name, NAME_BYTES, "drive-%u.%s", drive, ending);
     return name;
 }
 
-static bool lock_folder(struct drives *drives, const char *folder, struct message *message) {
+bool lock_folder(struct drives *drives, const char *folder, struct message *message) {
     *drives = (struct drives){.folder = folder, .directory = open(folder, O_RDONLY | O_DIRECTORY)};
     if (drives->directory < 0)
         return fail(message, "%s: %s", folder, strerror(errno));
@@ -48,14 +47,16 @@ static bool lock_folder(struct drives *drives, const char *folder, struct messag
     return true;
 }
 
+#define MAKE_ANEW "move it away, then zrv assemble makes it anew"
+
 /* The record in its byte form; false where the file is short, foreign or damaged. */
 static bool read_record_bytes(FILE *file, uint64_t length, const struct file_place *place, uint8_t bytes[RECORD_BYTES], struct message *message) {
     if (fread(bytes, 1, RECORD_BYTES, file) != RECORD_BYTES)
-        return fail(message, "%s/%s: short: %llu bytes where %d are due", place->folder, place->name, (unsigned long long)length, RECORD_BYTES);
+        return fail(message, "%s/%s: short: %llu bytes where %d are due; " MAKE_ANEW, place->folder, place->name, (unsigned long long)length, RECORD_BYTES);
     if (!head_fits(bytes, RECORD_MAGIC, place, message))
         return false;
     if (length != RECORD_BYTES || checksum(CHECKSUM_START, bytes, CHECKSUM) != get64(bytes + CHECKSUM) || !geometry_is_taken(get_geometry(bytes)))
-        return fail(message, "%s/%s: damaged: its checksum does not match", place->folder, place->name);
+        return fail(message, "%s/%s: damaged: its checksum does not match; " MAKE_ANEW, place->folder, place->name);
     return true;
 }
 
@@ -65,7 +66,7 @@ static bool read_record(struct drives *drives, struct message *message) {
     uint64_t length;
     FILE *file = open_file(&place, &length);
     if (file == NULL && errno == ENOENT)
-        return fail(message, "%s/%s: not there: this folder holds no shelf", place.folder, place.name);
+        return fail_without_record(drives, message);
     if (file == NULL)
         return fail_by_errno(message, &place);
     bool good = read_record_bytes(file, length, &place, bytes, message);
@@ -84,7 +85,7 @@ static bool read_record(struct drives *drives, struct message *message) {
 }
 
 /* Replaces the record's file, which is what makes a save count. */
-static bool write_record(const struct drives *drives, struct message *message) {
+bool write_record(const struct drives *drives, struct message *message) {
     const struct host_record *record = &drives->record;
     uint8_t bytes[RECORD_BYTES] = {0};
     put_head(bytes, RECORD_MAGIC, record->geometry);
@@ -169,15 +170,15 @@ bool load_drives(struct drives *drives, struct message *message) {
     uint32_t count = drives->record.geometry.drives;
     new_memory(drives);
     struct progress progress = start_progress("reading the drives", shelf_cells(drives->record.geometry));
-    bool good = true;
-    for (uint32_t d = 0; good && d < count; d++) {
+    struct message later;
+    for (uint32_t d = 0; d < count; d++) {
         drives->returned |= (uint32_t)has_returned(drives, d) << d;
-        if ((drives->record.given_up >> d & 1) == 0)
-            good = load_drive(drives, d, &progress, message);
+        if ((drives->record.given_up >> d & 1) == 0 && !load_drive(drives, d, &progress, drives->unreadable == 0 ? message : &later))
+            drives->unreadable |= 1u << d;
     }
     end_progress(&progress);
     remember_pointers(drives);
-    return good;
+    return drives->unreadable == 0;
 }
 
 bool new_drives(struct drives *drives, const char *folder, struct geometry geometry, bool replace, struct message *message) {
@@ -186,8 +187,8 @@ bool new_drives(struct drives *drives, const char *folder, struct geometry geome
         return fail(message, "%s: %s", folder, strerror(errno));
     if (!lock_folder(drives, folder, message))
         return false;
-    if (!replace && faccessat(drives->directory, RECORD_NAME, F_OK, 0) == 0)
-        return fail(message, "%s/%s: there is a shelf in this folder, which is replaced only by force", folder, RECORD_NAME);
+    if (!replace && !folder_is_free(drives, message))
+        return false;
     drives->record.geometry = geometry;
     drives->present = (1u << geometry.drives) - 1;
     new_memory(drives);
@@ -218,15 +219,6 @@ bool save_drives(struct drives *drives, bool all, struct message *message) {
     end_progress(&progress);
     remember_pointers(drives);
     return good && write_record(drives, message) && settle_saves(drives, message);
-}
-
-bool pull_drive(struct drives *drives, uint32_t drive, struct message *message) {
-    char name[NAME_BYTES], pulled[NAME_BYTES];
-    struct file_place place = place_of(drives, drive_name(name, drive, "zrv"));
-    if (faccessat(place.directory, place.name, F_OK, 0) != 0)
-        return fail_by_errno(message, &place);
-    drives->record.given_up |= 1u << drive;
-    return write_record(drives, message) && rename_file(&place, drive_name(pulled, drive, "pulled"), message);
 }
 
 void close_drives(struct drives *drives) {

@@ -19,6 +19,7 @@
 #ifndef DRIVES_H
 #define DRIVES_H
 
+#include "files.h"
 #include "message.h"
 #include "shelf.h"
 
@@ -42,13 +43,14 @@ struct drives {
     uint32_t present; /* drives, by bit, whose file is there and that are not given up */
     uint32_t returned; /* those that are given up and whose file is there all the same */
     uint32_t strange; /* of the present ones those whose file is not the one that the last save left */
+    uint32_t unreadable; /* those whose file is there and cannot be read as this drive's */
     struct range written_before, durable_before, old_before; /* as in the files */
 };
 
 /* Opens a folder and reads the host's record. After either answer close_drives is due. */
 bool open_folder(struct drives *drives, const char *folder, struct message *message);
 
-/* Reads every drive that is there. */
+/* Reads every drive that is there. False, with a message of the first, where one cannot be read; the others are there all the same. */
 bool load_drives(struct drives *drives, struct message *message);
 
 /* Makes the folder, if it is not there, and a shelf of new drives in memory. Drives that are in the folder already are in the way unless `replace`. */
@@ -57,8 +59,13 @@ bool new_drives(struct drives *drives, const char *folder, struct geometry geome
 /* Saves the record and each present drive whose pointers have changed, or all present ones. */
 bool save_drives(struct drives *drives, bool all, struct message *message);
 
-/* Takes a drive out: its file becomes drive-N.pulled, and it is given up. */
-bool pull_drive(struct drives *drives, uint32_t drive, struct message *message);
+/* For what is made of the folder elsewhere (folder.h, assembling.h): names and places in it; the folder opened and locked; the record's file replaced. */
+#define RECORD_NAME "state.zrv"
+enum { NAME_BYTES = 32 };
+struct file_place place_of(const struct drives *drives, const char *name);
+const char *drive_name(char name[NAME_BYTES], uint32_t drive, const char *ending);
+bool lock_folder(struct drives *drives, const char *folder, struct message *message);
+bool write_record(const struct drives *drives, struct message *message);
 
 void close_drives(struct drives *drives);
 

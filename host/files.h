@@ -7,7 +7,7 @@
 #include "call.h"
 #include "message.h"
 
-enum { MAGIC_BYTES = 8, HEAD_VERSION = 8, HEAD_GEOMETRY = 12, HEAD_OWN = 32 };
+enum { FILE_VERSION = 1, MAGIC_BYTES = 8, HEAD_VERSION = 8, HEAD_GEOMETRY = 12, HEAD_OWN = 32 };
 
 /* A file by its folder and name; the folder's name is for messages. */
 struct file_place {

@@ -3,6 +3,7 @@
 
 #include <stdarg.h>
 #include <stdio.h>
+#include <string.h>
 
 bool fail(struct message *message, const char *format, ...) {
     va_list words;
@@ -10,4 +11,12 @@ bool fail(struct message *message, const char *format, ...) {
     vsnprintf(message->text, sizeof message->text, format, words);
     va_end(words);
     return false;
+}
+
+void add_words(struct message *message, const char *format, ...) {
+    size_t length = strlen(message->text);
+    va_list words;
+    va_start(words, format);
+    vsnprintf(message->text + length, sizeof message->text - length, format, words);
+    va_end(words);
 }

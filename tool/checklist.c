@@ -172,7 +172,7 @@ static bool logs_reset(const struct driver *driver, uint32_t drive, uint32_t zon
     struct journal_reader reader = reader_of(driver, drive, GENERAL_LOG);
     const uint8_t *header;
     while (is_present(driver, drive) && next_entry(&reader, &header) == JOURNAL_ENTRY)
-        if (header[ENTRY_TYPE] == ENTRY_RESET && get64(header + ENTRY_START) == zone * zone_addresses(g) &&
+        if (header[ENTRY_TYPE] == ENTRY_RESET && get64(header + ENTRY_START) == zone_start(g, zone) &&
             get64(header + ENTRY_GENERATION) == get64(shown_zone(driver, zone) + ZRV_RECORD_GENERATION))
             return true;
     return false;

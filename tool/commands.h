@@ -11,6 +11,7 @@ int peek_main(int argc, char **argv);
 int report_main(int argc, char **argv);
 int cut_main(int argc, char **argv);
 int pull_main(int argc, char **argv);
+int assemble_main(int argc, char **argv);
 int look_main(int argc, char **argv);
 int mount_main(int argc, char **argv);
 int grouped_main(int argc, char **argv);

@@ -45,6 +45,10 @@ int tell_answer(const struct driver *driver, const struct call *call, uint32_t a
         return file_error(message);
     if (answer == ANSWER_NOT_NOW)
         return not_now(message);
+    if (answer == ANSWER_ZONE_FULL) {
+        fprintf(stderr, "zrv: refused: %s\n", message->text);
+        return EXIT_REFUSED;
+    }
     if (answer == ZRV_UNFINISHED) {
         fprintf(stderr, "zrv: unfinished: stopped after %u store%s with more to make; a power cut comes next (zrv cut)\n", call->count, plural(call->count));
     } else {
@@ -64,6 +68,10 @@ int store_and_save(struct driver *driver, const struct call *call) {
     if (stored && !save_drives(&driver->drives, call->kind == CALL_FORMAT, &message))
         return file_error(&message);
     return tell_answer(driver, call, answer, &message);
+}
+
+void print_size(struct geometry g) {
+    printf("%u drives, %u zone%s of %llu sectors of %u bytes\n", g.drives, g.zones, plural(g.zones), (unsigned long long)zone_addresses(g), g.sector_bytes);
 }
 
 void print_zone(struct geometry g, const uint8_t *state, uint32_t zone) {

@@ -26,6 +26,9 @@ int tell_answer(const struct driver *driver, const struct call *call, uint32_t a
 /* Makes a storing call, saves what it left, and tells what came of it if it did not finish; the exit code. */
 int store_and_save(struct driver *driver, const struct call *call);
 
+/* "4 drives, 2 zones of 96 sectors of 64 bytes" and a new line. */
+void print_size(struct geometry geometry);
+
 /* A line for each zone of a state: its condition, pointer and generation. */
 void print_zones(struct geometry geometry, const uint8_t *state);
 

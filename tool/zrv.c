@@ -28,7 +28,8 @@ static const struct command commands[] = {
      "  --zone-sectors C  sectors of a zone on one drive, a multiple of U (256)\n"
      "  --array N         the number that every drive's label carries (by the clock)\n"
      "  --without DRIVE   leave a drive out from the start\n"
-     "  --force           format a folder that holds a volume; all its data goes\n" STORES_HELP},
+     "  --force           format a folder that holds a volume or drives of one; all their data goes, also of drives that the new volume has not.\n"
+     "                    Drives that were pulled stay\n" STORES_HELP},
     {"write", write_main, "write sectors at a zone's pointer", "FOLDER (--at ADDRESS | --zone Z) [options]",
      "Writes a file or standard input, whole sectors of it, in one call.\n"
      "  --at ADDRESS      the first sector's address; it must be its zone's pointer\n"
@@ -65,9 +66,16 @@ static const struct command commands[] = {
      "  --undo D:Z,..     of physical zone Z of drive D, a list\n"
      "  --cached-resets   such drives, where --keep speaks of resets too: none undoes every reset that is still in a cache, all undoes none, random\n"
      "                    undoes each by chance, drive by drive and zone by zone. Not with --undo, nor with a list of --keep\n"},
-    {"pull", pull_main, "take a drive out", "FOLDER --drive N",
-     "Renames the drive's file to drive-N.pulled. The drive is given up: it is not used again, even if the file comes back.\n"
-     "  --drive N         the drive\n"},
+    {"pull", pull_main, "take a drive out", "FOLDER --drive N [options]",
+     "Renames the drive's file to drive-N.pulled, or to drive-N.pulled-2 and so on where there is one already. The drive is given up: it is not used again,\n"
+     "even if the file comes back. A drive that cannot be read can be pulled too. Where the volume could not be mounted without the drive, it is refused.\n"
+     "  --drive N         the drive\n"
+     "  --force           pull it even if the volume cannot be mounted afterwards\n"},
+    {"assemble", assemble_main, "make a missing state.zrv anew from the drives", "FOLDER [options]",
+     "Geometry, array number and save stand in the head of every drive's file. Each drive must be in its place; one that is missing, foreign or doubled is\n"
+     "named, and nothing is made. A mount comes next, which makes the volume's state anew. What only state.zrv knew is which drive was given up since the last\n"
+     "mount: leave that drive out, even if its file is there. An older copy of a drive is not told by its head; zrv look compares the drives.\n"
+     "  --without DRIVE   leave a drive out: it is given up, and whatever is in its place is not read\n"},
     {"look", look_main, "go through the checklist; nothing is stored", "FOLDER [options]",
      "Prints line by line what was looked at, what that catches, and ok or what was found; then the zones, and of each drive which physical zones are its\n"
      "logs, with their generations and unused sectors. It ends with 0 where the volume shows its zones, whatever was found, and with 1 where it refuses to.\n"

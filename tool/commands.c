@@ -6,6 +6,7 @@
 #include <string.h>
 #include <time.h>
 
+#include "bounds.h"
 #include "checklist.h"
 #include "folder.h"
 #include "look_json.h"
@@ -32,6 +33,14 @@ static bool was_left_unfinished(const char *folder, struct message *message) {
     return due;
 }
 
+/* A volume that can be used until its logs are full for good is one to know of before there is data in it. */
+static void warn_of_full_logs(struct geometry g) {
+    uint32_t least = least_roomy_zone_sectors(g);
+    if (g.zone_sectors < least)
+        fprintf(stderr, "zrv: warning: with zones of %u sectors the logs may fill up for good: a write, a reset or a mount is then refused (14); "
+                        "with --zone-sectors %u or more they never do\n", g.zone_sectors, least);
+}
+
 /* A format by force destroys all of the shelf before it. */
 static int remove_old_drives(const struct drives *drives) {
     struct message message;
@@ -55,6 +64,7 @@ static int format_drives(struct driver *driver, const struct command_option *opt
         return code;
     printf("formatted as array %llu: ", (unsigned long long)call.array);
     print_size(g);
+    warn_of_full_logs(g);
     return remove_old_drives(drives);
 }
 
@@ -77,11 +87,8 @@ int format_main(int argc, char **argv) {
         return usage_error(argv[0], "%s", message.text);
     struct geometry geometry = {(uint32_t)option[DRIVES].number, (uint32_t)option[SECTOR_BYTES].number, (uint32_t)option[UNIT].number,
                                 (uint32_t)option[ZONES].number, (uint32_t)option[ZONE_SECTORS].number};
-    if (!geometry_is_taken(geometry)) {
-        struct call call = {.kind = CALL_FORMAT};
-        driver = (struct driver){.drives.record.geometry = geometry};
-        return tell_answer(&driver, &call, ZRV_GEOMETRY, &message);
-    }
+    if (!geometry_fits(geometry, &message))
+        return usage_error(argv[0], "%s", message.text);
     if (option[WITHOUT].given && option[WITHOUT].number >= geometry.drives)
         return usage_error(argv[0], "--without: there is no drive %u", (uint32_t)option[WITHOUT].number);
     if (was_left_unfinished(folder, &message))

@@ -6,6 +6,7 @@
 #include <stdlib.h>
 #include <string.h>
 
+#include "bounds.h"
 #include "shelf.h"
 #include "words.h"
 
@@ -235,9 +236,9 @@ enum parsed parse_explore_options(int argc, char **argv, struct options *options
     if (words != PARSED)
         return words;
     struct geometry g = options->geometry;
-    if (!geometry_is_taken(g))
-        return complain("%s", "no geometry: a sector is a power of two of bytes, at least 32 + 8 x zones; a zone's sectors are a multiple of the unit, at "
-                              "least zones x (1 + unit) + 2 x unit + 1 and zones + 6");
+    struct message message;
+    if (!geometry_fits(g, &message))
+        return complain("%s", message.text);
     if (ZRV_SECTORS_BYTES(g.drives, g.sector_bytes, g.zones, g.zone_sectors) > MOST_SHELF_BYTES)
         return complain("%s", "a shelf of more than 64 MiB is too large to go through");
     options->cached_resets = options->cached_resets || options->breakage == BREAK_RESET;

@@ -48,7 +48,7 @@ BENCH_ISAL_C = c/bench_isal.c host/shelf.c host/call.c
 HOST_C = host/driver.c host/drives.c host/drive_file.c host/files.c host/folder.c host/assembling.c host/bounds.c host/journal.c host/cached_resets.c host/old_zones.c host/stores.c host/progress.c host/message.c host/shelf.c host/call.c
 EXPLORE_C = tool/explore/explore.c tool/explore/options.c tool/explore/oracle.c tool/explore/caches.c tool/explore/world.c tool/explore/story.c \
 	tool/explore/check.c tool/explore/engine.c tool/explore/report.c tool/explore/picture.c
-ZRV_C = tool/zrv.c tool/commands.c tool/pull.c tool/assemble.c tool/transfer.c tool/report.c tool/grouped.c tool/look_json.c tool/checklist.c tool/bad_log.c tool/left_out.c tool/tool.c tool/options.c tool/words.c tool/refusals.c $(EXPLORE_C) $(HOST_C)
+ZRV_C = tool/zrv.c tool/commands.c tool/pull.c tool/assemble.c tool/info.c tool/transfer.c tool/report.c tool/grouped.c tool/look_json.c tool/checklist.c tool/bad_log.c tool/left_out.c tool/tool.c tool/options.c tool/words.c tool/refusals.c $(EXPLORE_C) $(HOST_C)
 ZRV_H = include/zrv.h $(wildcard host/*.h tool/*.h tool/explore/*.h)
 
 zrv: target/zrv

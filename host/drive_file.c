@@ -78,8 +78,8 @@ static bool has_whole_length(const uint8_t *head, uint64_t length, const struct 
 static bool fits_shelf(const uint8_t *head, uint64_t length, const struct file_place *place, struct geometry g, uint32_t drive, struct message *message) {
     struct geometry own = get_geometry(head);
     if (!same_geometry(own, g))
-        return fail(message, "%s/%s: of a shelf with another geometry: %u drives, sectors of %u bytes, units of %u, %u zones, %u sectors a zone", place->folder,
-                    place->name, own.drives, own.sector_bytes, own.unit, own.zones, own.zone_sectors);
+        return fail(message, "%s/%s: of a shelf with another geometry: %u drives, sectors of %u bytes, units of %u, %u zone%s, %u sectors a zone",
+                    place->folder, place->name, own.drives, own.sector_bytes, own.unit, own.zones, plural(own.zones), own.zone_sectors);
     if (get32(head + INDEX) != drive)
         return fail(message, "%s/%s: this is drive %u, not drive %u", place->folder, place->name, get32(head + INDEX), drive);
     return has_whole_length(head, length, place, message);

@@ -9,6 +9,7 @@ int reset_main(int argc, char **argv);
 int read_main(int argc, char **argv);
 int peek_main(int argc, char **argv);
 int report_main(int argc, char **argv);
+int info_main(int argc, char **argv);
 int cut_main(int argc, char **argv);
 int pull_main(int argc, char **argv);
 int assemble_main(int argc, char **argv);

@@ -54,6 +54,9 @@ static const struct command commands[] = {
     {"report", report_main, "list the zones as a zoned drive's tools do", "FOLDER [options]",
      "A line a zone: its first address, its sectors, its write pointer from its start, and its condition: em empty, op open, ro read-only (sealed or worn).\n"
      "  --json            the same as a JSON list, numbers decimal\n"},
+    {"info", info_main, "tell a shelf's geometry, its drives and what comes next", "FOLDER [options]",
+     "Reads no sectors, and works at any time. A drive is present, missing, given up, strange (another shelf's, or an older copy) or unreadable.\n"
+     "  --json            the same as a JSON object: numbers decimal, the array number as text\n"},
     {"cut", cut_main, "cut the power", "FOLDER [options]",
      "What is durable stays; of the rest the write caches keep what is said here. After a cut the volume takes only looks and mounts until a mount is\n"
      "finished.\n"
@@ -128,9 +131,11 @@ static int unknown_command(const char *name) {
     return EXIT_USAGE;
 }
 
+static bool is_help(const char *word) { return strcmp(word, "help") == 0 || strcmp(word, "--help") == 0 || strcmp(word, "-h") == 0; }
+
 static int help_main(int argc, char **argv) {
     const struct command *command = argc > 1 ? find_command(argv[1]) : NULL;
-    if (argc > 1 && command == NULL)
+    if (argc > 1 && command == NULL && !is_help(argv[1]))
         return unknown_command(argv[1]);
     if (command != NULL)
         return print_command_help(command);
@@ -140,13 +145,13 @@ static int help_main(int argc, char **argv) {
 
 static bool asks_for_help(int argc, char **argv) {
     for (int i = 1; i < argc; i++)
-        if (strcmp(argv[i], "--help") == 0)
+        if (strcmp(argv[i], "--help") == 0 || strcmp(argv[i], "-h") == 0)
             return true;
     return false;
 }
 
 static int run_command(int argc, char **argv) {
-    if (strcmp(argv[0], "help") == 0 || strcmp(argv[0], "--help") == 0)
+    if (is_help(argv[0]))
         return help_main(argc, argv);
     if (strcmp(argv[0], "--version") == 0) {
         printf("zrv " VERSION "\n");

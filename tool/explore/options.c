@@ -20,7 +20,7 @@
 static const struct {
     const char *name, *calls, *later, *words;
 } breakages[BREAKAGES] = {
-    [BREAK_NOTHING] = {"nothing", "w3,w4", "", "none"},
+    [BREAK_NOTHING] = {"nothing", "w3,f,w4,w5", "", "none"},
     [BREAK_FLUSH] = {"flush", "w3,f", "", "a flush keeps nothing: durable does not move"},
     [BREAK_SECTOR] = {"sector", "w3,w4", "", "a sector is torn: the last one that a cache keeps has its second half from before"},
     [BREAK_SECOND_DRIVE] = {"second-drive", "w3,f", "", "a second drive is lost after the mount recorded the first"},
@@ -39,8 +39,9 @@ static const char *const help =
     "or with a shortest history in which one did not, event by event.\n"
     "\n"
     "  --calls LIST       the calls, by commas: wN writes N sectors, f flushes, m mounts, rZ resets zone Z, zZ chooses the zone of the writes that\n"
-    "                     follow (default w3,w4: the first ends inside a stripe, the second goes past that stripe's end). To empty logs: --drives 3\n"
-    "                     --unit 1 --zone-sectors 8 with --calls w1,r0,w1,r0,w1 or --calls m,m,m,m,m\n"
+    "                     follow (default w3,f,w4,w5: a write that ends inside a stripe, made to last; one past that stripe's end, and one to the next\n"
+    "                     stripe's end, of which power may take anything). To empty logs: --drives 3 --unit 1 --zone-sectors 8 with --calls\n"
+    "                     w1,r0,w1,r0,w1 or --calls m,m,m,m,m\n"
     "  --then LIST        calls sent after the first mount, at every store of which power goes once more (default none)\n"
     "  --cached-resets    drives cache a zone reset until they are flushed: when power goes, each zone that was reset since its drive's last flush\n"
     "                     stays reset or is as it could have been left just before, also where it was written since (calls w3,f,r0,w2)\n"

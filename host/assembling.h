@@ -1,5 +1,6 @@
-/* A shelf whose state.zrv is gone, assembled again. Geometry and array number stand in every drive's head, and so does the save that wrote it; the volume's state
- * is a mount's to make, as after a power cut that kept everything. What only state.zrv held is which drives were given up since the last mount: it has to be told.
+/* A shelf whose state.zrv is gone, assembled again. Geometry and array number stand in every drive's head, and so does the save that wrote it; the volume's
+ * state is a mount's to make, as after a power cut that kept everything. What only state.zrv held is which drives were given up since the last mount: it has
+ * to be told.
  *
  * The shelf is the one that most drives in the folder are of. Each of its drives must be in its place, but for one at most that is left out. */
 #ifndef ASSEMBLING_H

@@ -22,7 +22,8 @@ bool open_driver(struct driver *driver, const char *folder, struct message *mess
 /* Makes a call: the kind, its numbers and its buffer are the caller's, the rest is filled in. The message is for the driver's own answers. */
 uint32_t driver_call(struct driver *driver, struct call call, struct message *message);
 
-/* Where a write to a zone goes: its pointer's address, by the state held. Refused as the write would be, with 8 where there is no such zone, and where it is full. */
+/* Where a write to a zone goes: its pointer's address, by the state held. Refused as the write would be, with 8 where there is no such zone, and where it is
+ * full. */
 uint32_t find_address_to_write(const struct driver *driver, uint32_t zone, uint64_t *address, struct message *message);
 
 bool is_storing(enum call_kind kind);

@@ -13,6 +13,8 @@
  * state.zrv, the host's: bytes 0 to 7 "zrvstate", version and geometry as above, 32 the phase (4), 36 the drives given up by bit (4), 40 the array number (8),
  *   48 for each of eight drives the save that its file must be of (8 each), 112 the volume's state, 376 a checksum of all before it (8).
  *
+ * drive-N.pulled, drive-N.pulled-2 and so on: files of drive N that were taken out. They are not used again, nor put one over the other.
+ *
  * A save is all or nothing: the changed drives go to drive-N.new first, then state.zrv is replaced by rename, and from then on each drive-N.new counts
  * and takes its drive's place, if need be when the folder is opened next. A drive whose file is missing is not there. One whose file is of another
  * save or array is strange: the folder opens, and its host has to keep to looks. */

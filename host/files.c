@@ -30,7 +30,8 @@ bool head_fits(const uint8_t *bytes, const char *magic, const struct file_place 
     if (memcmp(bytes, magic, MAGIC_BYTES) != 0)
         return fail(message, "%s/%s: not a file of this tool: it does not begin with \"%s\"", place->folder, place->name, magic);
     if (get32(bytes + HEAD_VERSION) != FILE_VERSION)
-        return fail(message, "%s/%s: of version %u, this tool knows %u; use the tool that wrote it", place->folder, place->name, get32(bytes + HEAD_VERSION), FILE_VERSION);
+        return fail(message, "%s/%s: of version %u, this tool knows %u; use the tool that wrote it", place->folder, place->name, get32(bytes + HEAD_VERSION),
+                    FILE_VERSION);
     return true;
 }
 

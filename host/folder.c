@@ -69,7 +69,8 @@ bool remove_other_drives(const struct drives *drives, uint32_t *removed, struct 
     for (uint32_t d = 0; d < ZRV_MOST_DRIVES; d++) {
         char name[NAME_BYTES];
         struct file_place place = place_of(drives, drive_name(name, d, "zrv"));
-        if ((drives->present >> d & 1) != 0 || !is_taken(drives, name))
+        struct stat status;
+        if ((drives->present >> d & 1) != 0 || fstatat(drives->directory, name, &status, AT_SYMLINK_NOFOLLOW) != 0 || S_ISDIR(status.st_mode))
             continue;
         if (unlinkat(place.directory, place.name, 0) != 0)
             return fail_by_errno(message, &place);

@@ -1,5 +1,5 @@
-/* What lies in a folder under the names of a shelf's drives, told by each file's own head, whatever else is missing: so that nothing is overwritten unasked, and
- * a shelf can be assembled again. A drive that is taken out keeps its file, under a name that nothing has yet. */
+/* What lies in a folder under the names of a shelf's drives, told by each file's own head, whatever else is missing: so that nothing is overwritten unasked,
+ * and a shelf can be assembled again. A drive that is taken out keeps its file, under a name that nothing has yet. */
 #ifndef FOLDER_H
 #define FOLDER_H
 

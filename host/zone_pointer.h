@@ -1,4 +1,4 @@
-/* From a zone's number to an address. A zone goes on at its pointer; a full one goes on nowhere, since the address past its last sector is the next zone's first. */
+/* From a zone's number to an address. A zone goes on at its pointer; a full one goes on nowhere: the address past its last sector is the next zone's first. */
 #ifndef ZONE_POINTER_H
 #define ZONE_POINTER_H
 
@@ -15,7 +15,7 @@ static inline uint64_t zone_start(struct geometry g, uint32_t zone) { return zon
 
 static inline uint32_t pointer_in_state(const uint8_t *state, uint32_t zone) { return get32(zone_record(state, zone) + ZRV_RECORD_POINTER); }
 
-/* The address at which a zone's next write begins, by a state (a look's, or the one held); NO_ADDRESS where the zone is full or the volume has no such zone. */
+/* The address at which a zone's next write begins, by a state (a look's, or the one held); NO_ADDRESS where the zone is full or there is no such zone. */
 static inline uint64_t address_to_write(struct geometry g, const uint8_t *state, uint32_t zone) {
     if (zone >= g.zones || pointer_in_state(state, zone) >= zone_addresses(g))
         return NO_ADDRESS;

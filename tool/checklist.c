@@ -257,7 +257,8 @@ static void print_log(const struct log_zones *zones, uint32_t log, const char *n
         return;
     }
     uint32_t unused = zones->geometry.zone_sectors - zones->zone[zone].written;
-    printf("%s log in zone %u (generation %llu, %u sector%s unused), ", name, zone, (unsigned long long)log_generation(zones, log, zone), unused, plural(unused));
+    printf("%s log in zone %u (generation %llu, %u sector%s unused), ", name, zone, (unsigned long long)log_generation(zones, log, zone), unused,
+           plural(unused));
 }
 
 void print_logs(const struct driver *driver) {

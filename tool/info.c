@@ -17,7 +17,8 @@ static const char *drive_word(const struct host_record *record, const struct fou
     if (!found->is_drive)
         return "unreadable";
     const struct drive_head *head = &found->head;
-    bool own = head->drive == drive && head->tag.array == record->array && head->tag.save == record->save[drive] && same_geometry(head->geometry, record->geometry);
+    bool own = head->drive == drive && head->tag.array == record->array && head->tag.save == record->save[drive] &&
+               same_geometry(head->geometry, record->geometry);
     return own ? "present" : "strange";
 }
 

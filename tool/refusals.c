@@ -1,6 +1,6 @@
-/* The refusals' words. In a sentence {pointer} is the address at which the call's zone goes on, {stripe} the one past the end of the stripe there, {end} the one
- * past the zone's end, {zones} and {addresses} how many the volume has, {roomy} the fewest sectors of a zone with which no log fills up. A refusal for a bad log
- * has its sentence from bad_log.c. */
+/* The refusals' words. In a sentence {pointer} is the address at which the call's zone goes on, {stripe} the one past the end of the stripe there, {end} the
+ * one past the zone's end, {zones} and {addresses} how many the volume has, {roomy} the fewest sectors of a zone with which no log fills up. A refusal for a
+ * bad log has its sentence from bad_log.c. */
 #include "refusals.h"
 
 #include <string.h>
@@ -36,7 +36,8 @@ static const char *const order_when_full = "the zone is full; reset it or write 
 /* The sentences of refusal 14, by the call: what helps is another thing for each. */
 #define TOO_LITTLE_ROOM "what has to be kept of a log leaves too little room"
 #define FORMAT_ANEW "copy the data out and format anew with --zone-sectors {roomy} or more"
-static const char *const log_full_write = TOO_LITTLE_ROOM "; write on to the stripe's end, below address {stripe}, in one call, which needs no log; for good: " FORMAT_ANEW;
+static const char *const log_full_write = TOO_LITTLE_ROOM "; write on to the stripe's end, below address {stripe}, in one call, which needs no log; "
+                                                          "for good: " FORMAT_ANEW;
 static const char *const log_full_reset = TOO_LITTLE_ROOM ", and may do so for good; what is written can still be read: " FORMAT_ANEW;
 static const char *const log_full_mount = TOO_LITTLE_ROOM "; nothing is changed, zrv look still shows the zones; keep the drives' files as they are, and give "
                                                           "the next volume --zone-sectors {roomy} or more";

@@ -62,18 +62,33 @@ static void draw_call_name(const struct panel *panel, const struct request *requ
     fputs("</text>\n", panel->out);
 }
 
-/* The calls as bands behind the plot, named above it. */
+/* The moments of one call, from the first on: where those of the next one begin. */
+static size_t moments_end(const struct explorer *explorer, size_t first) {
+    size_t end = first;
+    while (end < explorer->moments_length && explorer->moments[end].sent == explorer->moments[first].sent)
+        end++;
+    return end;
+}
+
+/* The calls as bands behind the plot. */
+static void draw_bands(const struct panel *panel) {
+    const struct explorer *explorer = panel->explorer;
+    for (size_t first = 0, end; first < explorer->moments_length; first = end) {
+        end = moments_end(explorer, first);
+        if (explorer->moments[first].sent % 2 == 1)
+            fprintf(panel->out, "<rect class=\"band\" x=\"%.1f\" y=\"%.1f\" width=\"%.1f\" height=\"%.1f\"/>\n", panel->left + (double)first * panel->step,
+                    plot_top(panel) - CALL_NAMES, (double)(end - first) * panel->step, panel->bottom - plot_top(panel) + CALL_NAMES);
+    }
+}
+
+/* Their names above it; one may be wider than its band. */
 static void draw_calls(const struct panel *panel) {
     const struct explorer *explorer = panel->explorer;
-    for (size_t first = 0, end = 0; first < explorer->moments_length; first = end) {
+    draw_bands(panel);
+    for (size_t first = 0, end; first < explorer->moments_length; first = end) {
+        end = moments_end(explorer, first);
         size_t sent = explorer->moments[first].sent;
-        for (end = first; end < explorer->moments_length && explorer->moments[end].sent == sent; end++)
-            ;
-        double x = panel->left + (double)first * panel->step, width = (double)(end - first) * panel->step;
-        if (sent % 2 == 1)
-            fprintf(panel->out, "<rect class=\"band\" x=\"%.1f\" y=\"%.1f\" width=\"%.1f\" height=\"%.1f\"/>\n", x, plot_top(panel) - CALL_NAMES, width,
-                    panel->bottom - plot_top(panel) + CALL_NAMES);
-        draw_call_name(panel, sent == 0 ? NULL : &explorer->options->calls.request[sent - 1], x + width / 2);
+        draw_call_name(panel, sent == 0 ? NULL : &explorer->options->calls.request[sent - 1], panel->left + (double)(first + end) / 2 * panel->step);
     }
 }
 

@@ -1,4 +1,4 @@
-# explore: four drives, two writes in succession: every moment at which power can go, times what the caches kept, times the drive that does not come back
+# explore: four drives, a write, a flush and two writes in succession: every moment at which power can go, times what the caches kept, times the drive that does not come back
 # test:  the layout, the worked values of log_walks and of docs/FORMAT.md, then everything proved from nothing, and beside it the wrong programs and the archive; the merge gate
 # check: prove every crate and run the programs (only what changed since the last time)
 # wrong: the wrong programs and wrong rules alone (`scripts/wrong_programs .` takes over this folder's target/, and need not check the crates from nothing)
@@ -46,10 +46,10 @@ BAD_INPUT_C = c/bad_input.c c/fixture.c c/expected.c $(PLAIN_C) host/shelf.c hos
 GROUPED_REPLAY_C = c/grouped_replay.c c/script.c host/shelf.c host/call.c
 BENCH_C = c/bench.c c/bench_grouped.c c/plain_grouped.c $(PLAIN_C) host/shelf.c host/call.c
 BENCH_ISAL_C = c/bench_isal.c host/shelf.c host/call.c
-HOST_C = host/driver.c host/drives.c host/saving.c host/redo.c host/lock.c host/drive_file.c host/mapped_sectors.c host/files.c host/journal.c host/cached_resets.c host/old_zones.c host/stores.c host/progress.c host/message.c host/shelf.c host/call.c
+HOST_C = host/driver.c host/drives.c host/saving.c host/redo.c host/lock.c host/drive_file.c host/mapped_sectors.c host/files.c host/folder.c host/assembling.c host/bounds.c host/journal.c host/cached_resets.c host/old_zones.c host/stores.c host/progress.c host/message.c host/shelf.c host/call.c
 EXPLORE_C = tool/explore/explore.c tool/explore/options.c tool/explore/oracle.c tool/explore/caches.c tool/explore/world.c tool/explore/story.c \
 	tool/explore/check.c tool/explore/engine.c tool/explore/report.c tool/explore/picture.c
-ZRV_C = tool/zrv.c tool/commands.c tool/transfer.c tool/report.c tool/grouped.c tool/look_json.c tool/checklist.c tool/bad_log.c tool/left_out.c tool/tool.c tool/options.c tool/words.c tool/refusals.c $(EXPLORE_C) $(HOST_C)
+ZRV_C = tool/zrv.c tool/commands.c tool/pull.c tool/assemble.c tool/info.c tool/transfer.c tool/report.c tool/grouped.c tool/look_json.c tool/checklist.c tool/bad_log.c tool/left_out.c tool/tool.c tool/options.c tool/words.c tool/refusals.c $(EXPLORE_C) $(HOST_C)
 ZRV_H = include/zrv.h $(wildcard host/*.h tool/*.h tool/explore/*.h)
 
 zrv: target/zrv

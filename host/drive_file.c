@@ -60,13 +60,13 @@ static bool has_old(const struct shelf *shelf, uint32_t drive) {
     return false;
 }
 
-static bool same_geometry(struct geometry a, struct geometry b) {
+bool same_geometry(struct geometry a, struct geometry b) {
     return a.drives == b.drives && a.sector_bytes == b.sector_bytes && a.unit == b.unit && a.zones == b.zones && a.zone_sectors == b.zone_sectors;
 }
 
 static struct drive_tag tag_in(const uint8_t *head) { return (struct drive_tag){get64(head + ARRAY), get64(head + SAVE)}; }
 
-static bool read_drive_head(const struct file_place *place, uint8_t head[HEAD_BYTES]) {
+static bool read_start(const struct file_place *place, uint8_t head[HEAD_BYTES]) {
     uint64_t length;
     struct message unused;
     FILE *file = open_file(place, &length);
@@ -79,7 +79,7 @@ static bool read_drive_head(const struct file_place *place, uint8_t head[HEAD_BY
 
 bool read_drive_tag(const struct file_place *place, struct drive_tag *tag) {
     uint8_t head[HEAD_BYTES];
-    bool good = read_drive_head(place, head);
+    bool good = read_start(place, head);
     if (good)
         *tag = tag_in(head);
     return good;
@@ -87,24 +87,28 @@ bool read_drive_tag(const struct file_place *place, struct drive_tag *tag) {
 
 bool is_drive_file(const struct file_place *place, struct geometry geometry, uint32_t drive, struct drive_tag *tag) {
     uint8_t head[HEAD_BYTES];
-    if (!read_drive_head(place, head) || !same_geometry(get_geometry(head), geometry) || get32(head + INDEX) != drive)
+    if (!read_start(place, head) || !same_geometry(get_geometry(head), geometry) || get32(head + INDEX) != drive)
         return false;
     *tag = tag_in(head);
+    return true;
+}
+
+static bool has_whole_length(const uint8_t *head, uint64_t length, const struct file_place *place, struct message *message) {
+    uint64_t whole = whole_length(get_geometry(head), get32(head + HAS_OLD) != 0);
+    if (length != whole)
+        return fail(message, "%s/%s: %s: %llu bytes, a drive of this shelf has %llu", place->folder, place->name, length < whole ? "short" : "long",
+                    (unsigned long long)length, (unsigned long long)whole);
     return true;
 }
 
 static bool fits_shelf(const uint8_t *head, uint64_t length, const struct file_place *place, struct geometry g, uint32_t drive, struct message *message) {
     struct geometry own = get_geometry(head);
     if (!same_geometry(own, g))
-        return fail(message, "%s/%s: of a shelf with another geometry: %u drives, sectors of %u bytes, units of %u, %u zones, %u sectors a zone", place->folder,
-                    place->name, own.drives, own.sector_bytes, own.unit, own.zones, own.zone_sectors);
+        return fail(message, "%s/%s: of a shelf with another geometry: %u drives, sectors of %u bytes, units of %u, %u zone%s, %u sectors a zone",
+                    place->folder, place->name, own.drives, own.sector_bytes, own.unit, own.zones, plural(own.zones), own.zone_sectors);
     if (get32(head + INDEX) != drive)
         return fail(message, "%s/%s: this is drive %u, not drive %u", place->folder, place->name, get32(head + INDEX), drive);
-    uint64_t whole = whole_length(g, get32(head + HAS_OLD) != 0);
-    if (length != whole)
-        return fail(message, "%s/%s: %s: %llu bytes, a drive of this shelf has %llu", place->folder, place->name, length < whole ? "short" : "long",
-                    (unsigned long long)length, (unsigned long long)whole);
-    return true;
+    return has_whole_length(head, length, place, message);
 }
 
 static bool read_sectors(FILE *file, struct shelf *shelf, uint32_t drive, struct progress *progress) {
@@ -123,14 +127,14 @@ static bool read_rows(FILE *file, off_t offset, struct range first, struct range
     return fseeko(file, offset, SEEK_SET) == 0 && fread(first.bytes + drive * row, 1, row, file) == row && fread(second.bytes + drive * row, 1, row, file) == row;
 }
 
-bool read_drive(FILE *file, uint64_t length, const struct file_place *place, struct shelf *shelf, uint32_t drive, struct drive_tag *tag,
-                struct progress *progress, struct message *message) {
-    uint8_t head[HEAD_BYTES];
-    size_t row = row_bytes(shelf->geometry);
+static bool read_head(FILE *file, uint64_t length, const struct file_place *place, uint8_t head[HEAD_BYTES], struct message *message) {
     if (fread(head, 1, HEAD_BYTES, file) != HEAD_BYTES)
         return fail(message, "%s/%s: short: %llu bytes, not even a head", place->folder, place->name, (unsigned long long)length);
-    if (!head_fits(head, MAGIC, place, message) || !fits_shelf(head, length, place, shelf->geometry, drive, message))
-        return false;
+    return head_fits(head, MAGIC, place, message);
+}
+
+static bool read_pointers(FILE *file, const uint8_t *head, const struct file_place *place, struct shelf *shelf, uint32_t drive, struct message *message) {
+    size_t row = row_bytes(shelf->geometry);
     off_t end = (off_t)drive_file_length(shelf->geometry);
     if (!read_rows(file, HEAD_BYTES, shelf->written, shelf->durable, row, drive))
         return fail_by_errno(message, place);
@@ -138,8 +142,50 @@ bool read_drive(FILE *file, uint64_t length, const struct file_place *place, str
         return fail_by_errno(message, place);
     if (head_checksum(head, shelf, drive) != get64(head + CHECKSUM))
         return fail(message, "%s/%s: damaged: the checksum of its head and pointers does not match", place->folder, place->name);
+    return true;
+}
+
+/* Whether a file that is not this drive's can be given up: of another version it can be read by another tool. */
+static bool may_be_given_up(const uint8_t *head) { return memcmp(head, MAGIC, MAGIC_BYTES) != 0 || get32(head + HEAD_VERSION) == FILE_VERSION; }
+
+bool read_drive(FILE *file, uint64_t length, const struct file_place *place, struct shelf *shelf, uint32_t drive, struct drive_tag *tag,
+                struct progress *progress, struct message *message) {
+    uint8_t head[HEAD_BYTES] = {0};
+    if (!read_head(file, length, place, head, message) || !fits_shelf(head, length, place, shelf->geometry, drive, message) ||
+        !read_pointers(file, head, place, shelf, drive, message)) {
+        if (may_be_given_up(head))
+            add_words(message, "; put the right file back, or go on without it: pull drive %u, then mount", drive);
+        return false;
+    }
     *tag = tag_in(head);
     return read_sectors(file, shelf, drive, progress) || fail_by_errno(message, place);
+}
+
+/* The pointers are read into tables of their own, for the checksum alone. */
+static bool head_is_whole(FILE *file, uint64_t length, const struct file_place *place, uint8_t head[HEAD_BYTES], struct message *message) {
+    if (!read_head(file, length, place, head, message))
+        return false;
+    struct geometry g = get_geometry(head);
+    uint32_t drive = get32(head + INDEX);
+    if (!geometry_is_taken(g) || drive >= g.drives)
+        return fail(message, "%s/%s: damaged: its head tells of no drive that there can be", place->folder, place->name);
+    struct shelf tables = new_pointers(g);
+    bool good = has_whole_length(head, length, place, message) && read_pointers(file, head, place, &tables, drive, message);
+    free_shelf(&tables);
+    return good;
+}
+
+bool read_drive_head(const struct file_place *place, struct drive_head *head, struct message *message) {
+    uint64_t length;
+    uint8_t bytes[HEAD_BYTES];
+    FILE *file = open_file(place, &length);
+    if (file == NULL)
+        return fail_by_errno(message, place);
+    bool good = head_is_whole(file, length, place, bytes, message);
+    fclose(file);
+    if (good)
+        *head = (struct drive_head){get_geometry(bytes), get32(bytes + INDEX), tag_in(bytes)};
+    return good;
 }
 
 static bool write_sectors(FILE *file, const struct shelf *shelf, uint32_t drive, struct progress *progress) {
@@ -161,29 +207,29 @@ static size_t put_rows(uint8_t *bytes, struct range first, struct range second, 
     return 2 * row;
 }
 
-struct drive_head make_drive_head(const struct shelf *shelf, uint32_t drive, struct drive_tag tag) {
-    struct drive_head head = {.end_length = 0};
+struct drive_ends make_drive_ends(const struct shelf *shelf, uint32_t drive, struct drive_tag tag) {
+    struct drive_ends ends = {.end_length = 0};
     size_t row = row_bytes(shelf->geometry);
     bool old = has_old(shelf, drive);
-    put_head(head.start, MAGIC, shelf->geometry);
-    put32(head.start + INDEX, drive);
-    put32(head.start + HAS_OLD, old);
-    put64(head.start + ARRAY, tag.array);
-    put64(head.start + SAVE, tag.save);
-    put64(head.start + CHECKSUM, head_checksum(head.start, shelf, drive));
-    head.start_length = HEAD_BYTES + put_rows(head.start + HEAD_BYTES, shelf->written, shelf->durable, row, drive);
+    put_head(ends.start, MAGIC, shelf->geometry);
+    put32(ends.start + INDEX, drive);
+    put32(ends.start + HAS_OLD, old);
+    put64(ends.start + ARRAY, tag.array);
+    put64(ends.start + SAVE, tag.save);
+    put64(ends.start + CHECKSUM, head_checksum(ends.start, shelf, drive));
+    ends.start_length = HEAD_BYTES + put_rows(ends.start + HEAD_BYTES, shelf->written, shelf->durable, row, drive);
     if (old)
-        head.end_length = put_rows(head.end, shelf->old_written, shelf->old_durable, row, drive);
-    return head;
+        ends.end_length = put_rows(ends.end, shelf->old_written, shelf->old_durable, row, drive);
+    return ends;
 }
 
 bool write_drive(const struct file_place *place, const struct shelf *shelf, uint32_t drive, struct drive_tag tag, struct progress *progress,
                  struct message *message) {
-    struct drive_head head = make_drive_head(shelf, drive, tag);
+    struct drive_ends ends = make_drive_ends(shelf, drive, tag);
     FILE *file = create_file(place);
     if (file == NULL)
         return fail_by_errno(message, place);
-    bool good = fwrite(head.start, 1, head.start_length, file) == head.start_length && write_sectors(file, shelf, drive, progress);
-    good = good && fseeko(file, (off_t)drive_file_length(shelf->geometry), SEEK_SET) == 0 && fwrite(head.end, 1, head.end_length, file) == head.end_length;
+    bool good = fwrite(ends.start, 1, ends.start_length, file) == ends.start_length && write_sectors(file, shelf, drive, progress);
+    good = good && fseeko(file, (off_t)drive_file_length(shelf->geometry), SEEK_SET) == 0 && fwrite(ends.end, 1, ends.end_length, file) == ends.end_length;
     return (finish_file(file) && good) || fail_by_errno(message, place);
 }

@@ -13,16 +13,28 @@ struct drive_tag {
 
 enum { DRIVE_NAME_BYTES = 32, DRIVE_HEAD_BYTES = 64, DRIVE_ROWS_BYTES = 2 * 4 * (ZRV_MOST_ZONES + ZRV_LOG_ZONES) };
 
-/* What a drive's file has beside the sectors: its head and pointers before them, and past them the pointers from before resets, if there are any. */
+/* "drive-2.zrv" */
+const char *drive_name(char name[DRIVE_NAME_BYTES], uint32_t drive, const char *ending);
+
+/* What a drive's file says of itself. */
 struct drive_head {
+    struct geometry geometry;
+    uint32_t drive;
+    struct drive_tag tag;
+};
+
+/* Reads it, with every check that needs no shelf: the head, the length, the pointers' checksum. False, with a message, where the file is no whole drive's. */
+bool read_drive_head(const struct file_place *place, struct drive_head *head, struct message *message);
+
+bool same_geometry(struct geometry a, struct geometry b);
+
+/* What a drive's file has beside the sectors: its head and pointers before them, and past them the pointers from before resets, if there are any. */
+struct drive_ends {
     uint8_t start[DRIVE_HEAD_BYTES + DRIVE_ROWS_BYTES], end[DRIVE_ROWS_BYTES];
     size_t start_length, end_length;
 };
 
-struct drive_head make_drive_head(const struct shelf *shelf, uint32_t drive, struct drive_tag tag);
-
-/* "drive-2.zrv" */
-const char *drive_name(char name[DRIVE_NAME_BYTES], uint32_t drive, const char *ending);
+struct drive_ends make_drive_ends(const struct shelf *shelf, uint32_t drive, struct drive_tag tag);
 
 /* The tag at a file's beginning; false where the file is none of a drive. */
 bool read_drive_tag(const struct file_place *place, struct drive_tag *tag);

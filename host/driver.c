@@ -43,6 +43,18 @@ static uint32_t may_call(const struct driver *driver, enum call_kind kind, struc
     return kind == CALL_LOOK || kind == CALL_REPORT ? ZRV_FINISHED : strange_drive(driver, message);
 }
 
+uint32_t find_address_to_write(const struct driver *driver, uint32_t zone, uint64_t *address, struct message *message) {
+    struct geometry g = driver->drives.record.geometry;
+    uint32_t answer = may_call(driver, CALL_WRITE, message);
+    *address = address_to_write(g, driver->drives.record.state, zone);
+    if (answer != ZRV_FINISHED || *address != NO_ADDRESS)
+        return answer;
+    if (zone >= g.zones)
+        return ZRV_ADDRESS;
+    fail(message, "zone %u is full: all of its %llu sectors are written; reset it or write to another zone", zone, (unsigned long long)zone_addresses(g));
+    return ANSWER_ZONE_FULL;
+}
+
 static void give_up_absent(struct driver *driver) {
     struct host_record *record = &driver->drives.record;
     record->given_up |= ~driver->drives.present & ((1u << record->geometry.drives) - 1);

@@ -5,6 +5,7 @@
 #define DRIVER_H
 
 #include "drives.h"
+#include "zone_pointer.h"
 
 struct driver {
     struct drives drives;
@@ -12,7 +13,7 @@ struct driver {
     struct log_place bad;           /* where the last look or mount found a log bad, if it answered so */
 };
 
-/* Answers of the driver's own, beside the volume's: a duty stands against the call; a drive is not the one that this shelf was left with. */
+/* Answers of the driver's own, beside the volume's and ANSWER_ZONE_FULL: a duty stands against the call; a drive is not the one that this shelf was left with. */
 enum { ANSWER_NOT_NOW = 256, ANSWER_STRANGE_DRIVE = 257 };
 
 /* After either answer close_drives is due. */
@@ -20,6 +21,10 @@ bool open_driver(struct driver *driver, const struct opening *opening, struct me
 
 /* Makes a call: the kind, its numbers and its buffer are the caller's, the rest is filled in. The message is for the driver's own answers. */
 uint32_t driver_call(struct driver *driver, struct call call, struct message *message);
+
+/* Where a write to a zone goes: its pointer's address, by the state held. Refused as the write would be, with 8 where there is no such zone, and where it is
+ * full. */
+uint32_t find_address_to_write(const struct driver *driver, uint32_t zone, uint64_t *address, struct message *message);
 
 bool is_storing(enum call_kind kind);
 

@@ -11,6 +11,7 @@
 
 #include "bytes.h"
 #include "drive_file.h"
+#include "folder.h"
 #include "mapped_sectors.h"
 #include "progress.h"
 #include "redo.h"
@@ -38,7 +39,7 @@ struct file_place file_of(const struct drives *drives, const char *name) {
     return place;
 }
 
-static bool open_and_lock(struct drives *drives, const struct opening *opening, struct message *message) {
+bool open_and_lock(struct drives *drives, const struct opening *opening, struct message *message) {
     drives->folder = opening->folder;
     drives->directory = open(opening->folder, O_RDONLY | O_DIRECTORY);
     if (drives->directory < 0)
@@ -46,14 +47,17 @@ static bool open_and_lock(struct drives *drives, const struct opening *opening, 
     return lock_folder(drives->directory, opening, message);
 }
 
+#define MAKE_ANEW "move it away, then zrv assemble makes it anew"
+
 /* The record in its byte form; false where the file is short, foreign or damaged. */
 static bool read_record_bytes(FILE *file, uint64_t length, const struct file_place *place, uint8_t bytes[RECORD_BYTES], struct message *message) {
     if (fread(bytes, 1, RECORD_BYTES, file) != RECORD_BYTES)
-        return fail(message, "%s/%s: short: %llu bytes where %d are due", place->folder, place->name, (unsigned long long)length, RECORD_BYTES);
+        return fail(message, "%s/%s: short: %llu bytes where %d are due; " MAKE_ANEW, place->folder, place->name, (unsigned long long)length, RECORD_BYTES);
     if (!head_fits(bytes, RECORD_MAGIC, place, message))
         return false;
-    if (length != RECORD_BYTES || checksum(CHECKSUM_START, bytes, CHECKSUM) != get64(bytes + CHECKSUM) || !geometry_is_taken(get_geometry(bytes)))
-        return fail(message, "%s/%s: damaged: its checksum does not match", place->folder, place->name);
+    if (length != RECORD_BYTES || checksum(CHECKSUM_START, bytes, CHECKSUM) != get64(bytes + CHECKSUM) || !geometry_is_taken(get_geometry(bytes)) ||
+        get32(bytes + PHASE) > PHASE_POWER_LOSS_DUE)
+        return fail(message, "%s/%s: damaged: its checksum does not match; " MAKE_ANEW, place->folder, place->name);
     return true;
 }
 
@@ -63,7 +67,7 @@ bool read_record(const struct drives *drives, struct host_record *record, struct
     uint64_t length;
     FILE *file = open_file(&place, &length);
     if (file == NULL && errno == ENOENT)
-        return fail(message, "%s/%s: not there: this folder holds no shelf", place.folder, place.name);
+        return fail_without_record(drives, message);
     if (file == NULL)
         return fail_by_errno(message, &place);
     bool good = read_record_bytes(file, length, &place, bytes, message);
@@ -92,20 +96,16 @@ void put_record(const struct host_record *record, uint8_t bytes[RECORD_BYTES]) {
     put64(bytes + CHECKSUM, checksum(CHECKSUM_START, bytes, CHECKSUM));
 }
 
-/* Replaces the record's file, which is what makes new files of drives count. */
-static bool write_record(const struct drives *drives, struct message *message) {
+bool write_record(const struct drives *drives, struct message *message) {
     uint8_t bytes[RECORD_BYTES];
     put_record(&drives->record, bytes);
     struct file_place place = file_of(drives, RECORD_NEW);
     if (!sync_names(&place, message)) /* the names of the drives' new files last before the record that makes them count */
         return false;
-    FILE *file = create_file(&place);
-    if (file == NULL)
-        return fail_by_errno(message, &place);
-    bool good = fwrite(bytes, 1, RECORD_BYTES, file) == RECORD_BYTES;
-    if (!finish_file(file) || !good)
-        return fail_by_errno(message, &place);
-    return rename_file(&place, RECORD_NAME, message);
+    if (write_file(&place, bytes, RECORD_BYTES, message) && rename_file(&place, RECORD_NAME, message))
+        return true;
+    unlinkat(place.directory, place.name, 0);
+    return false;
 }
 
 /* A drive's new file takes its place if the record says that its save counts, and goes if not. */
@@ -212,15 +212,15 @@ bool load_drives(struct drives *drives, struct message *message) {
     new_memory(drives, new_pointers(drives->record.geometry));
     map_sectors(&drives->shelf, drive_file_sectors(drives->record.geometry));
     struct progress progress = start_progress("reading the drives", shelf_cells(drives->record.geometry));
-    bool good = true;
-    for (uint32_t d = 0; good && d < count; d++) {
+    struct message later;
+    for (uint32_t d = 0; d < count; d++) {
         drives->returned |= (uint32_t)has_returned(drives, d) << d;
-        if ((drives->record.given_up >> d & 1) == 0)
-            good = load_drive(drives, d, &progress, message);
+        if ((drives->record.given_up >> d & 1) == 0 && !load_drive(drives, d, &progress, drives->unreadable == 0 ? message : &later))
+            drives->unreadable |= 1u << d;
     }
     end_progress(&progress);
     remember_pointers(drives);
-    return good;
+    return drives->unreadable == 0;
 }
 
 /* A new file takes the place of another file, and of nothing else. */
@@ -270,10 +270,7 @@ static bool take_folder(struct drives *drives, const struct opening *opening, bo
     if (!open_and_lock(drives, opening, message))
         return false;
     number_after_former(drives);
-    struct file_place record = file_of(drives, RECORD_NAME);
-    if (!replace && file_exists(&record))
-        return fail(message, "%s/%s: there is a shelf in this folder, which is replaced only by force", record.folder, record.name);
-    return all_can_be_replaced(drives, message);
+    return all_can_be_replaced(drives, message) && (replace || folder_is_free(drives, message));
 }
 
 /* Memory comes first: where there is none, nothing has been made. */
@@ -323,15 +320,6 @@ bool save_drives(struct drives *drives, bool all, struct message *message) {
         return false;
     remember_pointers(drives);
     return true;
-}
-
-bool pull_drive(struct drives *drives, uint32_t drive, struct message *message) {
-    char name[DRIVE_NAME_BYTES], pulled[DRIVE_NAME_BYTES];
-    struct file_place place = file_of(drives, drive_name(name, drive, "zrv"));
-    if (!file_exists(&place))
-        return fail_by_errno(message, &place);
-    drives->record.given_up |= 1u << drive;
-    return write_record(drives, message) && rename_file(&place, drive_name(pulled, drive, "pulled"), message);
 }
 
 void close_drives(struct drives *drives) {

@@ -13,6 +13,8 @@
  * state.zrv, the host's: bytes 0 to 7 "zrvstate", version and geometry as above, 32 the phase (4), 36 the drives given up by bit (4), 40 the array number (8),
  *   48 for each of eight drives the save that its file must be of (8 each), 112 the volume's state, 376 a checksum of all before it (8).
  *
+ * drive-N.pulled, drive-N.pulled-2 and so on: files of drive N that were taken out. They are not used again, nor put one over the other.
+ *
  * A save is all or nothing, and writes what has changed (saving.h). That of a format makes every file anew: the drives go to drive-N.new first, then state.zrv
  * is replaced by rename, and from then on each drive-N.new counts and takes its drive's place, if need be when the folder is opened next.
  *
@@ -48,6 +50,7 @@ struct drives {
     uint32_t present; /* drives, by bit, whose file is there and that are not given up */
     uint32_t returned; /* those that are given up and whose file is there all the same */
     uint32_t strange; /* of the present ones those whose file is not the one that the last save left */
+    uint32_t unreadable; /* those whose file is there and cannot be read as this drive's */
     struct range written_before, durable_before, old_before; /* as in the files */
     uint32_t stored_from[MOST_CELLS]; /* of each cell: the sectors before this one are as in its file */
 };
@@ -55,7 +58,7 @@ struct drives {
 /* Opens a folder, ends a save that was stopped, and reads the host's record. After either answer close_drives is due. */
 bool open_folder(struct drives *drives, const struct opening *opening, struct message *message);
 
-/* Reads every drive that is there. */
+/* Reads every drive that is there. False, with a message of the first, where one cannot be read; the others are there all the same. */
 bool load_drives(struct drives *drives, struct message *message);
 
 /* Makes the folder, if it is not there, and a shelf of new drives in memory. Drives that are in the folder already are in the way unless `replace`. */
@@ -65,15 +68,13 @@ bool new_drives(struct drives *drives, const struct opening *opening, struct geo
  * folder that new_drives made is gone. */
 bool save_drives(struct drives *drives, bool all, struct message *message);
 
-/* A file of the folder by its name. */
+/* For what is made of the folder elsewhere (folder.h, assembling.h, redo.h): a file of it by its name; the folder opened and locked; the host's record in it,
+ * in its byte form, and its file replaced, which is what makes new files of drives count. */
 struct file_place file_of(const struct drives *drives, const char *name);
-
-/* The host's record in its folder; in its byte form. */
+bool open_and_lock(struct drives *drives, const struct opening *opening, struct message *message);
 bool read_record(const struct drives *drives, struct host_record *record, struct message *message);
 void put_record(const struct host_record *record, uint8_t bytes[RECORD_BYTES]);
-
-/* Takes a drive out: its file becomes drive-N.pulled, and it is given up. */
-bool pull_drive(struct drives *drives, uint32_t drive, struct message *message);
+bool write_record(const struct drives *drives, struct message *message);
 
 void close_drives(struct drives *drives);
 

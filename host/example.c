@@ -4,8 +4,7 @@
 #include <stdlib.h>
 #include <string.h>
 
-#include "bytes.h"
-#include "call.h"
+#include "zone_pointer.h"
 
 enum { DRIVES = 4, SECTOR_BYTES = 64, UNIT = 2, ZONES = 2, ZONE_SECTORS = 32, EVERY_DRIVE = (1 << DRIVES) - 1, FLUSHED = 5, LATER = 4 };
 
@@ -14,6 +13,8 @@ struct volume {
     uint8_t written[ZRV_TABLE_BYTES(DRIVES, ZONES)], durable[ZRV_TABLE_BYTES(DRIVES, ZONES)];
     uint8_t state[ZRV_STATE_BYTES];
 };
+
+static const struct geometry geometry = {DRIVES, SECTOR_BYTES, UNIT, ZONES, ZONE_SECTORS};
 
 /* What every call is handed: the geometry with the drives present, and the byte ranges. */
 #define NUMBERS DRIVES, SECTOR_BYTES, UNIT, ZONES, ZONE_SECTORS, EVERY_DRIVE
@@ -30,6 +31,16 @@ static void report(const char *call, uint32_t answer, struct volume *v) {
     printf("%-6s zone 0 is %s at %u\n", call, condition[record[ZRV_RECORD_CONDITION]], (unsigned)get32(record + ZRV_RECORD_POINTER));
 }
 
+/* Writes at zone 0's pointer, wherever that is. A full zone has no address to write at: the next one is another zone's. */
+static void append(struct volume *v, const uint8_t *data, uint32_t sectors) {
+    uint64_t address = address_to_write(geometry, v->state, 0);
+    if (address == NO_ADDRESS) {
+        fputs("write: zone 0 is full\n", stderr);
+        exit(1);
+    }
+    report("write", zrv_write(NUMBERS, address, sectors, ZRV_ALL_STORES, BYTES(v), data, (size_t)sectors * SECTOR_BYTES), v);
+}
+
 int main(void) {
     static struct volume v;
     static uint8_t data[(FLUSHED + LATER) * SECTOR_BYTES], answer[FLUSHED * SECTOR_BYTES];
@@ -38,9 +49,9 @@ int main(void) {
         data[i] = (uint8_t)(i / SECTOR_BYTES + 1);
 
     report("format", zrv_format(NUMBERS, array, ZRV_ALL_STORES, BYTES(&v)), &v);
-    report("write", zrv_write(NUMBERS, 0, FLUSHED, ZRV_ALL_STORES, BYTES(&v), data, FLUSHED * SECTOR_BYTES), &v);
+    append(&v, data, FLUSHED);
     report("flush", zrv_flush(NUMBERS, ZRV_ALL_STORES, BYTES(&v)), &v);
-    report("write", zrv_write(NUMBERS, FLUSHED, LATER, ZRV_ALL_STORES, BYTES(&v), data + FLUSHED * SECTOR_BYTES, LATER * SECTOR_BYTES), &v);
+    append(&v, data + FLUSHED * SECTOR_BYTES, LATER);
 
     memcpy(v.written, v.durable, sizeof v.written);
     memset(v.state, 0, sizeof v.state); /* the host's memory is gone too: a mount reads no state */

@@ -10,8 +10,6 @@
 
 #include "bytes.h"
 
-enum { FILE_VERSION = 1 };
-
 #define CHECKSUM_PRIME 1099511628211u
 
 void put_head(uint8_t *bytes, const char *magic, struct geometry g) {
@@ -32,7 +30,8 @@ bool head_fits(const uint8_t *bytes, const char *magic, const struct file_place 
     if (memcmp(bytes, magic, MAGIC_BYTES) != 0)
         return fail(message, "%s/%s: not a file of this tool: it does not begin with \"%s\"", place->folder, place->name, magic);
     if (get32(bytes + HEAD_VERSION) != FILE_VERSION)
-        return fail(message, "%s/%s: of version %u, this tool knows %u", place->folder, place->name, get32(bytes + HEAD_VERSION), FILE_VERSION);
+        return fail(message, "%s/%s: of version %u, this tool knows %u; use the tool that wrote it", place->folder, place->name, get32(bytes + HEAD_VERSION),
+                    FILE_VERSION);
     return true;
 }
 
@@ -58,6 +57,14 @@ FILE *open_file(const struct file_place *place, uint64_t *length) {
 FILE *create_file(const struct file_place *place) {
     int descriptor = openat(place->directory, place->name, O_WRONLY | O_CREAT | O_TRUNC, 0666);
     return descriptor < 0 ? NULL : fdopen(descriptor, "wb");
+}
+
+bool write_file(const struct file_place *place, const uint8_t *bytes, size_t length, struct message *message) {
+    FILE *file = create_file(place);
+    if (file == NULL)
+        return fail_by_errno(message, place);
+    bool good = fwrite(bytes, 1, length, file) == length;
+    return (finish_file(file) && good) || fail_by_errno(message, place);
 }
 
 bool file_exists(const struct file_place *place) { return faccessat(place->directory, place->name, F_OK, 0) == 0; }

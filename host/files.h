@@ -7,7 +7,7 @@
 #include "call.h"
 #include "message.h"
 
-enum { MAGIC_BYTES = 8, HEAD_VERSION = 8, HEAD_GEOMETRY = 12, HEAD_OWN = 32 };
+enum { FILE_VERSION = 1, MAGIC_BYTES = 8, HEAD_VERSION = 8, HEAD_GEOMETRY = 12, HEAD_OWN = 32 };
 
 /* A file by its folder and name; the folder's name is for messages. */
 struct file_place {
@@ -28,6 +28,9 @@ uint64_t checksum(uint64_t before, const uint8_t *bytes, size_t length);
 /* Opens a file and tells its length. NULL, and errno says why, where it cannot be opened. */
 FILE *open_file(const struct file_place *place, uint64_t *length);
 FILE *create_file(const struct file_place *place);
+
+/* A new file of these bytes, brought to the disk. */
+bool write_file(const struct file_place *place, const uint8_t *bytes, size_t length, struct message *message);
 
 bool file_exists(const struct file_place *place);
 

@@ -65,18 +65,10 @@ static void fill_head(struct range bytes, const struct host_record *record) {
     put64(bytes.bytes + CHECKSUM, redo_checksum(bytes));
 }
 
-static bool write_whole(struct range bytes, const struct file_place *place, struct message *message) {
-    FILE *file = create_file(place);
-    if (file == NULL)
-        return fail_by_errno(message, place);
-    bool good = fwrite(bytes.bytes, 1, bytes.length, file) == bytes.length;
-    return (finish_file(file) && good) || fail_by_errno(message, place);
-}
-
 bool commit_redo(struct redo *redo, const struct drives *drives, struct message *message) {
     struct file_place place = file_of(drives, REDO_NEW);
     fill_head(redo->bytes, &drives->record);
-    if (write_whole(redo->bytes, &place, message) && rename_file(&place, REDO_NAME, message))
+    if (write_file(&place, redo->bytes.bytes, redo->bytes.length, message) && rename_file(&place, REDO_NAME, message))
         return true;
     unlinkat(place.directory, REDO_NEW, 0);
     unlinkat(place.directory, REDO_NAME, 0); /* there if its name could not be brought to the disk */

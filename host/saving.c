@@ -106,13 +106,13 @@ static bool save_zone(struct save *save, struct open_drive file, uint32_t zone) 
 static bool save_head(struct save *save, struct open_drive file) {
     struct host_record *record = &save->drives->record;
     struct drive_tag tag = {record->array, ++record->save[file.drive]};
-    struct drive_head head = make_drive_head(&save->drives->shelf, file.drive, tag);
+    struct drive_ends ends = make_drive_ends(&save->drives->shelf, file.drive, tag);
     uint64_t end = drive_file_length(record->geometry);
-    add_range(&save->redo, file.drive, 0, head.start, head.start_length);
-    if (head.end_length > 0)
-        add_range(&save->redo, file.drive, end, head.end, head.end_length);
-    add_range(&save->redo, file.drive, end + head.end_length, NULL, 0);
-    return reserve(file.descriptor, 0, head.start_length) && reserve(file.descriptor, end, head.end_length);
+    add_range(&save->redo, file.drive, 0, ends.start, ends.start_length);
+    if (ends.end_length > 0)
+        add_range(&save->redo, file.drive, end, ends.end, ends.end_length);
+    add_range(&save->redo, file.drive, end + ends.end_length, NULL, 0);
+    return reserve(file.descriptor, 0, ends.start_length) && reserve(file.descriptor, end, ends.end_length);
 }
 
 static bool save_open_drive(struct save *save, struct open_drive file) {

@@ -163,7 +163,8 @@ static void check_parity_log(const struct driver *driver) {
     for (uint32_t d = 0; d < driver->drives.record.geometry.drives; d++)
         if (is_present(driver, d))
             entries += check_log(&line, d, PARITY_LOG);
-    end_line(&line, "ok, read to the last sector, whole entries: %u; at least %u sectors unused on each drive", entries, least_unused(driver, PARITY_LOG));
+    uint32_t unused = least_unused(driver, PARITY_LOG);
+    end_line(&line, "ok, read to the last sector, whole entries: %u; at least %u sector%s unused on each drive", entries, unused, plural(unused));
 }
 
 /* Whether a drive's log has a reset of the generation that the zone still has. */
@@ -172,7 +173,7 @@ static bool logs_reset(const struct driver *driver, uint32_t drive, uint32_t zon
     struct journal_reader reader = reader_of(driver, drive, GENERAL_LOG);
     const uint8_t *header;
     while (is_present(driver, drive) && next_entry(&reader, &header) == JOURNAL_ENTRY)
-        if (header[ENTRY_TYPE] == ENTRY_RESET && get64(header + ENTRY_START) == zone * zone_addresses(g) &&
+        if (header[ENTRY_TYPE] == ENTRY_RESET && get64(header + ENTRY_START) == zone_start(g, zone) &&
             get64(header + ENTRY_GENERATION) == get64(shown_zone(driver, zone) + ZRV_RECORD_GENERATION))
             return true;
     return false;
@@ -196,10 +197,11 @@ static void check_reset_log(const struct driver *driver, bool shown) {
         if (count != 0)
             found(&line, "zone %u: a reset is under way, logged on %u drive%s; the next mount finishes it", z, count, plural(count));
     }
+    uint32_t unused = least_unused(driver, GENERAL_LOG);
     if (!shown)
         end_line(&line, "read to the last sector; %s", NO_LOOK);
     else
-        end_line(&line, "ok, no reset under way; at least %u sectors unused on each drive", least_unused(driver, GENERAL_LOG));
+        end_line(&line, "ok, no reset under way; at least %u sector%s unused on each drive", unused, plural(unused));
 }
 
 #define BOTH_THE_SAME "on healthy drives both are the same"
@@ -250,11 +252,13 @@ static void check_left_out(const struct driver *driver, bool shown) {
 
 static void print_log(const struct log_zones *zones, uint32_t log, const char *name) {
     uint32_t zone = find_log(zones, log);
-    if (zone == NO_ZONE)
+    if (zone == NO_ZONE) {
         printf("no %s log, ", name);
-    else
-        printf("%s log in zone %u (generation %llu, %u sectors unused), ", name, zone, (unsigned long long)log_generation(zones, log, zone),
-               zones->geometry.zone_sectors - zones->zone[zone].written);
+        return;
+    }
+    uint32_t unused = zones->geometry.zone_sectors - zones->zone[zone].written;
+    printf("%s log in zone %u (generation %llu, %u sector%s unused), ", name, zone, (unsigned long long)log_generation(zones, log, zone), unused,
+           plural(unused));
 }
 
 void print_logs(const struct driver *driver) {

@@ -1,4 +1,4 @@
-/* The commands that carry no data: format, flush, reset, mount, look, cut and pull. */
+/* The commands that carry no data: format, flush, reset, mount, look and cut. */
 #include "commands.h"
 
 #include <stdio.h>
@@ -6,7 +6,9 @@
 #include <string.h>
 #include <time.h>
 
+#include "bounds.h"
 #include "checklist.h"
+#include "folder.h"
 #include "look_json.h"
 #include "tool.h"
 #include "words.h"
@@ -31,6 +33,25 @@ static bool was_left_unfinished(const struct opening *opening, struct message *m
     return due;
 }
 
+/* A volume that can be used until its logs are full for good is one to know of before there is data in it. */
+static void warn_of_full_logs(struct geometry g) {
+    uint32_t least = least_roomy_zone_sectors(g);
+    if (g.zone_sectors < least)
+        fprintf(stderr, "zrv: warning: with zones of %u sectors the logs may fill up for good: a write, a reset or a mount is then refused (14); "
+                        "with --zone-sectors %u or more they never do\n", g.zone_sectors, least);
+}
+
+/* A format by force destroys all of the shelf before it. */
+static int remove_old_drives(const struct drives *drives) {
+    struct message message;
+    uint32_t removed;
+    bool good = remove_other_drives(drives, &removed, &message);
+    for (uint32_t d = 0; d < ZRV_MOST_DRIVES; d++)
+        if ((removed >> d & 1) != 0)
+            printf("removed %s/drive-%u.zrv, of the shelf before\n", drives->folder, d);
+    return good ? EXIT_DONE : file_error(&message);
+}
+
 static int format_drives(struct driver *driver, const struct command_option *option) {
     struct call call = {.kind = CALL_FORMAT, .count = (uint32_t)option[FORMAT_STORES].number};
     struct drives *drives = &driver->drives;
@@ -39,10 +60,12 @@ static int format_drives(struct driver *driver, const struct command_option *opt
         drives->present &= ~(1u << option[WITHOUT].number);
     int code = store_and_save(driver, &call);
     struct geometry g = drives->record.geometry;
-    if (code == EXIT_DONE)
-        printf("formatted as array %llu: %u drives, %u zones of %llu sectors of %u bytes\n", (unsigned long long)call.array, g.drives, g.zones,
-               (unsigned long long)zone_addresses(g), g.sector_bytes);
-    return code;
+    if (code != EXIT_DONE)
+        return code;
+    printf("formatted as array %llu: ", (unsigned long long)call.array);
+    print_size(g);
+    warn_of_full_logs(g);
+    return remove_old_drives(drives);
 }
 
 int format_main(int argc, char **argv) {
@@ -65,14 +88,11 @@ int format_main(int argc, char **argv) {
         return usage_error(argv[0], "%s", message.text);
     struct geometry geometry = {(uint32_t)option[DRIVES].number, (uint32_t)option[SECTOR_BYTES].number, (uint32_t)option[UNIT].number,
                                 (uint32_t)option[ZONES].number, (uint32_t)option[ZONE_SECTORS].number};
-    if (!geometry_is_taken(geometry)) {
-        struct call call = {.kind = CALL_FORMAT};
-        driver = (struct driver){.drives.record.geometry = geometry};
-        return tell_answer(&driver, &call, ZRV_GEOMETRY, &message);
-    }
+    if (!geometry_fits(geometry, &message))
+        return usage_error(argv[0], "%s", message.text);
     if (option[WITHOUT].given && option[WITHOUT].number >= geometry.drives)
         return usage_error(argv[0], "--without: there is no drive %u", (uint32_t)option[WITHOUT].number);
-    struct opening opening = opening_to_change(folder, &option[FORMAT_WAIT]);
+    struct opening opening = opening_for(LOCK_TO_CHANGE, folder, &option[FORMAT_WAIT]);
     if (was_left_unfinished(&opening, &message))
         return not_now(&message);
     int code = new_drives(&driver.drives, &opening, geometry, option[FORCE].given, &message) ? format_drives(&driver, option) : file_error(&message);
@@ -278,28 +298,5 @@ int cut_main(int argc, char **argv) {
     free(list);
     free(undone);
     close_drives(&driver.drives);
-    return code;
-}
-
-/* Only the host's record is read: a drive that cannot be read can be pulled too. */
-int pull_main(int argc, char **argv) {
-    struct command_option option[] = {{.name = "drive", .kind = OPTION_NUMBER, .needed = true, .most = ZRV_MOST_DRIVES - 1}, WAIT_OPTION};
-    struct drives drives;
-    struct message message;
-    const char *folder;
-    if (!parse_options(argc, argv, option, COUNT(option), &folder, &message))
-        return usage_error(argv[0], "%s", message.text);
-    struct opening opening = opening_to_change(folder, &option[1]);
-    int code = EXIT_DONE;
-    if (!open_folder(&drives, &opening, &message)) {
-        code = file_error(&message);
-    } else if (power_loss_is_due(&drives.record, &message)) {
-        code = not_now(&message);
-    } else if (!pull_drive(&drives, (uint32_t)option[0].number, &message)) {
-        code = file_error(&message);
-    } else {
-        printf("drive %u is pulled: its file is now %s/drive-%u.pulled\n", (uint32_t)option[0].number, folder, (uint32_t)option[0].number);
-    }
-    close_drives(&drives);
     return code;
 }

@@ -4,6 +4,7 @@
 #include <stdlib.h>
 #include <string.h>
 
+#include "bytes.h"
 #include "commands.h"
 #include "tool.h"
 #include "zrv.h"
@@ -17,10 +18,60 @@ static const struct {
     {ZRV_GEOMETRY, "geometry", "a number is out of bounds; take 3 to 8 drives, blocks of 64 bytes and so on by doubling to 4096, groups of 1 to 256 stripes, "
                                "at most 65536 blocks a drive, and whole groups"},
     {ZRV_LENGTH, "length", "the files have not the lengths of one segment; give D x N blocks and for each of them 20 bytes of metadata"},
-    {ZRV_GROUP_IDS, "stripe IDs", "in some group a drive lacks a stripe ID or has it twice; leave that drive out (--without)"},
     {ZRV_GROUP_ALIKE, "alike", "two data blocks have one address and one timestamp; the segment does not tell which is newer"},
     {ZRV_UNWRITTEN, "unwritten", "no data block has that address"},
 };
+
+/* The numbers of a segment, the drives that are named, and its metadata. */
+struct segment {
+    uint32_t drives, group, per_drive, named;
+    const uint8_t *metadata;
+};
+
+enum { RECORD_ID = 16, MOST_GROUP = 256 };
+
+/* The first stripe ID that a drive lacks in a group; G where it has each. */
+static uint32_t lacking_id(const struct segment *segment, uint32_t drive, uint32_t group) {
+    bool has[MOST_GROUP] = {false};
+    for (uint32_t i = 0; i < segment->group; i++) {
+        size_t block = (size_t)drive * segment->per_drive + (size_t)group * segment->group + i;
+        uint32_t id = get32(segment->metadata + block * ZRV_GROUPED_RECORD_BYTES + RECORD_ID);
+        if (id < segment->group)
+            has[id] = true;
+    }
+    uint32_t id = 0;
+    while (id < segment->group && has[id])
+        id++;
+    return id;
+}
+
+/* The first group in which a drive lacks an ID; the number of groups where it lacks none. */
+static uint32_t wrong_group(const struct segment *segment, uint32_t drive) {
+    uint32_t group = 0, groups = segment->per_drive / segment->group;
+    while (group < groups && lacking_id(segment, drive, group) == segment->group)
+        group++;
+    return group;
+}
+
+/* Refusal 23, with each drive for which it is given and its first group: as many IDs as blocks, so that one that is there twice makes another one lack. */
+static int tell_wrong_ids(const struct segment *segment) {
+    uint32_t wrong = 0, last = 0, absent = 0;
+    fprintf(stderr, "zrv: refused: %u stripe IDs: ", ZRV_GROUP_IDS);
+    for (uint32_t d = 0; d < segment->drives; d++) {
+        bool named = (segment->named >> d & 1) != 0;
+        uint32_t group = named ? wrong_group(segment, d) : 0;
+        absent += !named;
+        if (!named || group == segment->per_drive / segment->group)
+            continue;
+        fprintf(stderr, "%sdrive %u lacks stripe ID %u in group %u", wrong++ == 0 ? "" : ", ", d, lacking_id(segment, d, group), group);
+        last = d;
+    }
+    if (wrong + absent == 1)
+        fprintf(stderr, "; leave that drive out (--without %u)\n", last);
+    else
+        fprintf(stderr, "; more than one drive cannot be left out\n");
+    return EXIT_REFUSED;
+}
 
 static int tell_refusal(uint32_t number) {
     for (size_t i = 0; i < COUNT(refusals); i++)
@@ -66,7 +117,11 @@ static int read_block(const struct command_option *option, const struct range *b
     } else {
         uint32_t number = zrv_grouped_read(drives, bytes, (uint32_t)option[GROUP].number, count, named, option[AT].number, blocks->bytes, blocks->length,
                                            metadata->bytes, metadata->length, work.bytes, work.length, answer.bytes, answer.length);
-        code = number != ZRV_FINISHED ? tell_refusal(number) : put_block(&option[TO], &answer, message) ? EXIT_DONE : EXIT_FILES;
+        struct segment segment = {drives, (uint32_t)option[GROUP].number, count, named, metadata->bytes};
+        if (number == ZRV_FINISHED)
+            code = put_block(&option[TO], &answer, message) ? EXIT_DONE : EXIT_FILES;
+        else
+            code = number == ZRV_GROUP_IDS ? tell_wrong_ids(&segment) : tell_refusal(number);
     }
     free(work.bytes);
     free(answer.bytes);

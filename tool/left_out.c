@@ -44,7 +44,7 @@ static uint32_t shown_sectors(const struct view *view, uint32_t zone) {
 static uint32_t read_view(struct view *view, uint32_t zone, uint32_t run, struct range *buffer) {
     struct call call = view_call(view, CALL_READ, view->state);
     *buffer = new_range((size_t)run * view->shelf.geometry.sector_bytes);
-    call.address = zone * zone_addresses(view->shelf.geometry);
+    call.address = zone_start(view->shelf.geometry, zone);
     call.run = run;
     call.range[BUFFER] = *buffer;
     return run == 0 ? ZRV_FINISHED : make_call(&call);
@@ -73,7 +73,7 @@ static void compare_zone(struct view *all, struct view *part, struct difference 
     uint32_t sector = first_difference(a, b, run, g.sector_bytes);
     difference.answer = answer_all != ZRV_FINISHED ? answer_all : answer_part;
     difference.kind = difference.answer != ZRV_FINISHED ? NOT_COMPARED : DIFFERENT_BYTES;
-    difference.address = difference.zone * zone_addresses(g) + sector;
+    difference.address = zone_start(g, difference.zone) + sector;
     if (difference.answer != ZRV_FINISHED || sector < run)
         tell(listener, &difference);
     free(a.bytes);

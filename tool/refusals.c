@@ -1,18 +1,17 @@
-/* The refusals' words. In a sentence {pointer} is the address at which the call's zone goes on, {end} the one past its end, {zones} and {addresses} how many
- * the volume has, {stripe} the sectors of a stripe. A refusal for a bad log has its sentence from bad_log.c. */
+/* The refusals' words. In a sentence {pointer} is the address at which the call's zone goes on, {stripe} the one past the end of the stripe there, {end} the
+ * one past the zone's end, {zones} and {addresses} how many the volume has, {roomy} the fewest sectors of a zone with which no log fills up. A refusal for a
+ * bad log has its sentence from bad_log.c. */
 #include "refusals.h"
 
 #include <string.h>
 
-#include "bytes.h"
-#include "placement.h"
+#include "bounds.h"
+#include "zone_pointer.h"
 
 static const struct {
     const char *word, *sentence;
 } refusals[] = {
-    [ZRV_GEOMETRY] = {"geometry", "a number is out of bounds; take 3 to 8 drives, sectors of 64 bytes and so on by doubling to 4096, units of 1 to 16 sectors, "
-                                  "1 to 16 zones with 32 + 8 * zones at most the bytes of a sector, zone sectors a multiple of the unit, at most 65536 and "
-                                  "at least zones * (1 + unit) + 2 * unit + 1 and zones + 6"},
+    [ZRV_GEOMETRY] = {"geometry", "the state that the host held is none of this volume; mount the volume (zrv mount)"},
     [ZRV_LENGTH] = {"length", "a table or a buffer has not its length; give whole sectors"},
     [ZRV_POINTER] = {"pointer", "a drive's write pointers are out of order; pull that drive"},
     [ZRV_TWO_LOST] = {"two lost", "more than one drive is lost; put back one that is missing and was not given up"},
@@ -25,8 +24,7 @@ static const struct {
     [ZRV_ZONE_SEALED] = {"sealed", "the zone takes no more; read it, then reset it or write to another zone"},
     [ZRV_ZONE_WORN] = {"worn", "the zone's generations are used up; read it and write to another zone"},
     [ZRV_UNWRITTEN] = {"unwritten", "nothing is written there yet; stay below address {pointer}"},
-    [ZRV_LOG_FULL] = {"log full", "what has to be kept of a log leaves too little room; end writes at a stripe's end (every {stripe} sectors), or copy the "
-                                  "data out and format anew with more zone sectors"},
+    [ZRV_LOG_FULL] = {"log full", NULL},
     [ZRV_GONE] = {"gone", "no drive that is here holds the sector; read it, which rebuilds it from parity"},
     [ZRV_LOG_ENTRY] = {"entry", NULL},
     [ZRV_LOG_ROWS] = {"rows", NULL},
@@ -34,6 +32,15 @@ static const struct {
 
 /* The sentence of refusal 10 where the zone has no room. */
 static const char *const order_when_full = "the zone is full; reset it or write to another zone";
+
+/* The sentences of refusal 14, by the call: what helps is another thing for each. */
+#define TOO_LITTLE_ROOM "what has to be kept of a log leaves too little room"
+#define FORMAT_ANEW "copy the data out and format anew with --zone-sectors {roomy} or more"
+static const char *const log_full_write = TOO_LITTLE_ROOM "; write on to the stripe's end, below address {stripe}, in one call, which needs no log; "
+                                                          "for good: " FORMAT_ANEW;
+static const char *const log_full_reset = TOO_LITTLE_ROOM ", and may do so for good; what is written can still be read: " FORMAT_ANEW;
+static const char *const log_full_mount = TOO_LITTLE_ROOM "; nothing is changed, zrv look still shows the zones; keep the drives' files as they are, and give "
+                                                          "the next volume --zone-sectors {roomy} or more";
 
 const char *refusal_word(uint32_t number) { return number >= ZRV_GEOMETRY && number <= LAST_REFUSAL ? refusals[number].word : "no refusal"; }
 
@@ -47,18 +54,18 @@ struct number {
     uint64_t value;
 };
 
-enum { NUMBERS = 5 };
+enum { NUMBERS = 6 };
 
 /* What the names in a sentence stand for. Where there is no such zone none of its numbers is asked for. */
 static void find_numbers(struct number number[NUMBERS], const struct call *call, struct geometry g, const uint8_t *state) {
-    uint64_t whole = g.drives == 0 ? 0 : zone_addresses(g);
-    uint64_t zone = whole == 0 ? 0 : call->address / whole;
-    uint64_t pointer = zone < ZRV_STATE_RECORDS ? get32(zone_record(state, (uint32_t)zone) + ZRV_RECORD_POINTER) : 0;
+    uint64_t whole = zone_addresses(g), zone = call->address / whole;
+    uint64_t pointer = zone < g.zones ? pointer_in_state(state, (uint32_t)zone) : 0, stripe = stripe_sectors(g);
     number[0] = (struct number){"{pointer}", zone * whole + pointer};
     number[1] = (struct number){"{end}", (zone + 1) * whole};
     number[2] = (struct number){"{zones}", g.zones};
     number[3] = (struct number){"{addresses}", whole * g.zones};
-    number[4] = (struct number){"{stripe}", stripe_sectors(g)};
+    number[4] = (struct number){"{stripe}", zone * whole + (pointer / stripe + 1) * stripe};
+    number[5] = (struct number){"{roomy}", least_roomy_zone_sectors(g)};
 }
 
 /* Prints a number if a name stands here; how far to go on. */
@@ -74,12 +81,19 @@ static size_t print_number(FILE *to, const char *at, const struct number number[
     return 1;
 }
 
+static const char *sentence_of(uint32_t number, enum call_kind kind, bool zone_is_full) {
+    if (number == ZRV_ORDER && zone_is_full)
+        return order_when_full;
+    if (number == ZRV_LOG_FULL)
+        return kind == CALL_WRITE ? log_full_write : kind == CALL_RESET ? log_full_reset : log_full_mount;
+    return refusals[number].sentence;
+}
+
 void print_refusal(FILE *to, uint32_t number, const struct call *call, struct geometry g, const uint8_t *state) {
     struct number numbers[NUMBERS];
     find_numbers(numbers, call, g, state);
-    bool full = number == ZRV_ORDER && numbers[0].value == numbers[1].value;
     fprintf(to, "%u %s: ", number, refusals[number].word);
-    for (const char *at = full ? order_when_full : refusals[number].sentence; *at != '\0';)
+    for (const char *at = sentence_of(number, call->kind, numbers[0].value == numbers[1].value); *at != '\0';)
         at += print_number(to, at, numbers);
     fputc('\n', to);
 }

@@ -29,8 +29,8 @@ int not_now(const struct message *message) {
     return EXIT_REFUSED;
 }
 
-struct opening opening_to_change(const char *folder, const struct command_option *wait) {
-    return (struct opening){.folder = folder, .lock = LOCK_TO_CHANGE, .wait = wait->given ? wait->number : 0};
+struct opening opening_for(enum lock_kind lock, const char *folder, const struct command_option *wait) {
+    return (struct opening){.folder = folder, .lock = lock, .wait = wait->given ? wait->number : 0};
 }
 
 /* The command's own options are read together with --wait. */
@@ -44,8 +44,7 @@ static int begin(int argc, char **argv, struct command_option *options, size_t c
     if (!parse_options(argc, argv, all, count + 1, &folder, &message))
         return usage_error(argv[0], "%s", message.text);
     memcpy(options, all, count * sizeof *options);
-    struct opening opening = opening_to_change(folder, &all[count]);
-    opening.lock = lock;
+    struct opening opening = opening_for(lock, folder, &all[count]);
     return open_driver(driver, &opening, &message) ? EXIT_DONE : file_error(&message);
 }
 
@@ -65,6 +64,10 @@ int tell_answer(const struct driver *driver, const struct call *call, uint32_t a
         return file_error(message);
     if (answer == ANSWER_NOT_NOW)
         return not_now(message);
+    if (answer == ANSWER_ZONE_FULL) {
+        fprintf(stderr, "zrv: refused: %s\n", message->text);
+        return EXIT_REFUSED;
+    }
     if (answer == ZRV_UNFINISHED) {
         fprintf(stderr, "zrv: unfinished: stopped after %u store%s with more to make; a power cut comes next (zrv cut)\n", call->count, plural(call->count));
     } else {
@@ -84,6 +87,10 @@ int store_and_save(struct driver *driver, const struct call *call) {
     if (stored && !save_drives(&driver->drives, call->kind == CALL_FORMAT, &message))
         return file_error(&message);
     return tell_answer(driver, call, answer, &message);
+}
+
+void print_size(struct geometry g) {
+    printf("%u drives, %u zone%s of %llu sectors of %u bytes\n", g.drives, g.zones, plural(g.zones), (unsigned long long)zone_addresses(g), g.sector_bytes);
 }
 
 void print_zone(struct geometry g, const uint8_t *state, uint32_t zone) {

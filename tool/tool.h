@@ -16,8 +16,8 @@ enum { EXIT_DONE = 0, EXIT_REFUSED = 1, EXIT_USAGE = 2, EXIT_FILES = 3, EXIT_BUS
 int begin_command(int argc, char **argv, struct command_option *options, size_t count, struct driver *driver);
 int begin_reading(int argc, char **argv, struct command_option *options, size_t count, struct driver *driver);
 
-/* A shelf opened to be changed, with --wait as it was given. */
-struct opening opening_to_change(const char *folder, const struct command_option *wait);
+/* How a shelf is opened, with --wait as it was given. */
+struct opening opening_for(enum lock_kind lock, const char *folder, const struct command_option *wait);
 
 /* Tells bad usage of a command, or a file that cannot be used or is in use; the exit code. */
 int usage_error(const char *command, const char *format, ...) __attribute__((format(printf, 2, 3)));
@@ -31,6 +31,9 @@ int tell_answer(const struct driver *driver, const struct call *call, uint32_t a
 
 /* Makes a storing call, saves what it left, and tells what came of it if it did not finish; the exit code. */
 int store_and_save(struct driver *driver, const struct call *call);
+
+/* "4 drives, 2 zones of 96 sectors of 64 bytes" and a new line. */
+void print_size(struct geometry geometry);
 
 /* A line for each zone of a state: its condition, pointer and generation. */
 void print_zones(struct geometry geometry, const uint8_t *state);

@@ -18,14 +18,6 @@ enum { AT, ZONE, FILE_NAME, STORES, PAD, WRITE_OPTIONS, SECTOR_COUNT = STORES, R
 #define AT_OPTION {.name = "at", .kind = OPTION_NUMBER, .most = UINT64_MAX}
 #define ZONE_OPTION {.name = "zone", .kind = OPTION_NUMBER, .most = UINT32_MAX}
 
-/* The pointer of a zone in the host's state; 0 where there is no such zone. */
-static uint32_t pointer_of(const struct driver *driver, uint64_t zone) {
-    const struct host_record *record = &driver->drives.record;
-    if (zone >= record->geometry.zones)
-        return 0;
-    return get32(zone_record(record->state, (uint32_t)zone) + ZRV_RECORD_POINTER);
-}
-
 /* All bytes of a file, up to a limit, in memory of a length that every sector's divides. */
 static bool read_all(FILE *file, size_t limit, struct range *data) {
     size_t room = CHUNK_BYTES;
@@ -68,15 +60,19 @@ static void pad_data(struct range *data, uint32_t sector_bytes) {
 
 static int write_data(struct driver *driver, const struct command_option *option, const struct range *data) {
     struct geometry g = driver->drives.record.geometry;
-    uint64_t zone = option[ZONE].number;
+    struct message message;
     struct call call = {
         .kind = CALL_WRITE,
-        .address = option[AT].given ? option[AT].number : zone * zone_addresses(g) + pointer_of(driver, zone),
+        .address = option[AT].number,
         .run = (uint32_t)(data->length / g.sector_bytes),
         .count = (uint32_t)option[STORES].number,
         .range[BUFFER] = *data,
     };
-    int code = store_and_save(driver, &call);
+    int code = EXIT_DONE;
+    if (option[ZONE].given)
+        code = tell_answer(driver, &call, find_address_to_write(driver, (uint32_t)option[ZONE].number, &call.address, &message), &message);
+    if (code == EXIT_DONE)
+        code = store_and_save(driver, &call);
     if (code != EXIT_DONE)
         return code;
     printf("wrote %u sector%s at address %llu; ", call.run, plural(call.run), (unsigned long long)call.address);
@@ -143,17 +139,25 @@ static bool put_data(const struct command_option *to, const struct range *data, 
     return good;
 }
 
+/* The sectors of a zone that are asked for: all below its pointer. Of an empty zone it is the first, which the volume refuses as unwritten and for no other
+ * reason: what else stands against a read is told of an empty zone too. */
+static uint64_t sectors_of_zone(const struct host_record *record, uint32_t zone) {
+    uint32_t pointer = zone < record->geometry.zones ? pointer_in_state(record->state, zone) : 0;
+    return pointer == 0 ? 1 : pointer;
+}
+
 /* A run longer than a zone is cut down to one sector too many, which is refused all the same. */
 static struct call read_call(const struct driver *driver, const struct command_option *option) {
-    struct geometry g = driver->drives.record.geometry;
-    uint64_t zone = option[ZONE].number, whole = zone_addresses(g);
-    uint64_t wanted = option[AT].given ? option[SECTOR_COUNT].number : pointer_of(driver, zone);
+    const struct host_record *record = &driver->drives.record;
+    uint32_t zone = (uint32_t)option[ZONE].number;
+    uint64_t whole = zone_addresses(record->geometry);
+    uint64_t wanted = option[ZONE].given ? sectors_of_zone(record, zone) : option[SECTOR_COUNT].number;
     struct call call = {
         .kind = CALL_READ,
-        .address = option[AT].given ? option[AT].number : zone * whole,
+        .address = option[ZONE].given ? zone_start(record->geometry, zone) : option[AT].number,
         .run = (uint32_t)(wanted > whole ? whole + 1 : wanted),
     };
-    call.range[BUFFER] = new_range((size_t)call.run * g.sector_bytes);
+    call.range[BUFFER] = new_range((size_t)call.run * record->geometry.sector_bytes);
     return call;
 }
 
@@ -161,6 +165,11 @@ static int read_data(struct driver *driver, const struct command_option *option)
     struct message message;
     struct call call = read_call(driver, option);
     uint32_t answer = driver_call(driver, call, &message);
+    if (answer == ZRV_UNWRITTEN && option[ZONE].given) {
+        answer = ZRV_FINISHED;
+        call.run = 0;
+        call.range[BUFFER].length = 0;
+    }
     int code = tell_answer(driver, &call, answer, &message);
     if (code == EXIT_DONE && !put_data(&option[FILE_NAME], &call.range[BUFFER], &message))
         code = file_error(&message);

@@ -24,11 +24,13 @@ static const struct command commands[] = {
      "  --drives D        drives, 3 to 8 (4)\n"
      "  --sector-bytes B  bytes of a sector, 64 and so on by doubling to 4096 (4096)\n"
      "  --unit U          sectors of a stripe unit, 1 to 16 (4)\n"
-     "  --zones L         zones of the volume, 1 to 16 (4)\n"
-     "  --zone-sectors C  sectors of a zone on one drive, a multiple of U (256)\n"
+     "  --zones L         zones of the volume, 1 to 16, with 32 + 8 L at most B (4)\n"
+     "  --zone-sectors C  sectors of a zone on one drive, a multiple of U, at most 65536 (256). With C at least 2 L (1 + U) + 2 U + 2 and 3 L + 7 no log ever\n"
+     "                    fills up; with fewer, down to L (1 + U) + 2 U + 1 and L + 6, calls may be refused for good (14), and format warns\n"
      "  --array N         the number that every drive's label carries (by the clock)\n"
      "  --without DRIVE   leave a drive out from the start\n"
-     "  --force           format a folder that holds a volume; all its data goes\n" STORES_HELP},
+     "  --force           format a folder that holds a volume or drives of one; all their data goes, also of drives that the new volume has not.\n"
+     "                    Drives that were pulled stay\n" STORES_HELP},
     {"write", write_main, "write sectors at a zone's pointer", "FOLDER (--at ADDRESS | --zone Z) [options]",
      "Writes a file or standard input, whole sectors of it, in one call.\n"
      "  --at ADDRESS      the first sector's address; it must be its zone's pointer\n"
@@ -52,6 +54,9 @@ static const struct command commands[] = {
     {"report", report_main, "list the zones as a zoned drive's tools do", "FOLDER [options]",
      "A line a zone: its first address, its sectors, its write pointer from its start, and its condition: em empty, op open, ro read-only (sealed or worn).\n"
      "  --json            the same as a JSON list, numbers decimal\n"},
+    {"info", info_main, "tell a shelf's geometry, its drives and what comes next", "FOLDER [options]",
+     "Reads no sectors, and works at any time. A drive is present, missing, given up, strange (another shelf's, or an older copy) or unreadable.\n"
+     "  --json            the same as a JSON object: numbers decimal, the array number as text\n"},
     {"cut", cut_main, "cut the power", "FOLDER [options]",
      "What is durable stays; of the rest the write caches keep what is said here. After a cut the volume takes only looks and mounts until a mount is\n"
      "finished.\n"
@@ -65,9 +70,16 @@ static const struct command commands[] = {
      "  --undo D:Z,..     of physical zone Z of drive D, a list\n"
      "  --cached-resets   such drives, where --keep speaks of resets too: none undoes every reset that is still in a cache, all undoes none, random\n"
      "                    undoes each by chance, drive by drive and zone by zone. Not with --undo, nor with a list of --keep\n"},
-    {"pull", pull_main, "take a drive out", "FOLDER --drive N",
-     "Renames the drive's file to drive-N.pulled. The drive is given up: it is not used again, even if the file comes back.\n"
-     "  --drive N         the drive\n"},
+    {"pull", pull_main, "take a drive out", "FOLDER --drive N [options]",
+     "Renames the drive's file to drive-N.pulled, or to drive-N.pulled-2 and so on where there is one already. The drive is given up: it is not used again,\n"
+     "even if the file comes back. A drive that cannot be read can be pulled too. Where the volume could not be mounted without the drive, it is refused.\n"
+     "  --drive N         the drive\n"
+     "  --force           pull it even if the volume cannot be mounted afterwards\n"},
+    {"assemble", assemble_main, "make a missing state.zrv anew from the drives", "FOLDER [options]",
+     "Geometry, array number and save stand in the head of every drive's file. Each drive must be in its place; one that is missing, foreign or doubled is\n"
+     "named, and nothing is made. A mount comes next, which makes the volume's state anew. What only state.zrv knew is which drive was given up since the last\n"
+     "mount: leave that drive out, even if its file is there. An older copy of a drive is not told by its head; zrv look compares the drives.\n"
+     "  --without DRIVE   leave a drive out: it is given up, and whatever is in its place is not read\n"},
     {"look", look_main, "go through the checklist; nothing is stored", "FOLDER [options]",
      "Prints line by line what was looked at, what that catches, and ok or what was found; then the zones, and of each drive which physical zones are its\n"
      "logs, with their generations and unused sectors. It ends with 0 where the volume shows its zones, whatever was found, and with 1 where it refuses to.\n"
@@ -123,9 +135,11 @@ static int unknown_command(const char *name) {
     return EXIT_USAGE;
 }
 
+static bool is_help(const char *word) { return strcmp(word, "help") == 0 || strcmp(word, "--help") == 0 || strcmp(word, "-h") == 0; }
+
 static int help_main(int argc, char **argv) {
     const struct command *command = argc > 1 ? find_command(argv[1]) : NULL;
-    if (argc > 1 && command == NULL)
+    if (argc > 1 && command == NULL && !is_help(argv[1]))
         return unknown_command(argv[1]);
     if (command != NULL)
         return print_command_help(command);
@@ -135,13 +149,13 @@ static int help_main(int argc, char **argv) {
 
 static bool asks_for_help(int argc, char **argv) {
     for (int i = 1; i < argc; i++)
-        if (strcmp(argv[i], "--help") == 0)
+        if (strcmp(argv[i], "--help") == 0 || strcmp(argv[i], "-h") == 0)
             return true;
     return false;
 }
 
 static int run_command(int argc, char **argv) {
-    if (strcmp(argv[0], "help") == 0 || strcmp(argv[0], "--help") == 0)
+    if (is_help(argv[0]))
         return help_main(argc, argv);
     if (strcmp(argv[0], "--version") == 0) {
         printf("zrv " VERSION "\n");

@@ -1,4 +1,4 @@
-/* `zrv explore`: two writes are sent, power goes at any moment, a drive may not come back. What is shown? argv[0] is the word "explore". */
+/* `zrv explore`: calls are sent, power goes at any moment, a drive may not come back. What is shown? argv[0] is the word "explore". */
 #ifndef EXPLORE_H
 #define EXPLORE_H
 

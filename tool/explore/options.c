@@ -6,6 +6,7 @@
 #include <stdlib.h>
 #include <string.h>
 
+#include "bounds.h"
 #include "shelf.h"
 #include "words.h"
 
@@ -19,7 +20,7 @@
 static const struct {
     const char *name, *calls, *later, *words;
 } breakages[BREAKAGES] = {
-    [BREAK_NOTHING] = {"nothing", "w3,w4", "", "none"},
+    [BREAK_NOTHING] = {"nothing", "w3,f,w4,w5", "", "none"},
     [BREAK_FLUSH] = {"flush", "w3,f", "", "a flush keeps nothing: durable does not move"},
     [BREAK_SECTOR] = {"sector", "w3,w4", "", "a sector is torn: the last one that a cache keeps has its second half from before"},
     [BREAK_SECOND_DRIVE] = {"second-drive", "w3,f", "", "a second drive is lost after the mount recorded the first"},
@@ -38,8 +39,9 @@ static const char *const help =
     "or with a shortest history in which one did not, event by event.\n"
     "\n"
     "  --calls LIST       the calls, by commas: wN writes N sectors, f flushes, m mounts, rZ resets zone Z, zZ chooses the zone of the writes that\n"
-    "                     follow (default w3,w4: the first ends inside a stripe, the second goes past that stripe's end). To empty logs: --drives 3\n"
-    "                     --unit 1 --zone-sectors 8 with --calls w1,r0,w1,r0,w1 or --calls m,m,m,m,m\n"
+    "                     follow (default w3,f,w4,w5: a write that ends inside a stripe, made to last; one past that stripe's end, and one to the next\n"
+    "                     stripe's end, of which power may take anything). To empty logs: --drives 3 --unit 1 --zone-sectors 8 with --calls\n"
+    "                     w1,r0,w1,r0,w1 or --calls m,m,m,m,m\n"
     "  --then LIST        calls sent after the first mount, at every store of which power goes once more (default none)\n"
     "  --cached-resets    drives cache a zone reset until they are flushed: when power goes, each zone that was reset since its drive's last flush\n"
     "                     stays reset or is as it could have been left just before, also where it was written since (calls w3,f,r0,w2)\n"
@@ -55,8 +57,8 @@ static const char *const help =
     "  --quiet            the verdict alone\n"
     "  --break DUTY       break a duty of the drives or the host, to see what it is for:\n"
     "      flush          a flush keeps nothing (calls w3,f). Fails where less is shown than was flushed, or a stopped mount did not keep its order.\n"
-    "      sector         the last sector that each cache keeps has its second half from before. Fails where other bytes are shown than were\n"
-    "                     written, or a look is refused for a broken log.\n"
+    "      sector         the last sector that each cache keeps has its second half from before (calls w3,w4). Fails where other bytes are shown\n"
+    "                     than were written, or a look is refused for a broken log.\n"
     "      second-drive   a second drive is lost after the mount recorded the first (calls w3,f). Every look is then refused with 4: that is the\n"
     "                     failure, nothing wrong is shown.\n"
     "      lost-again     a drive is lost, calls go on without it, no mount records it, and after power went it is named again (calls w3,f, then\n"
@@ -235,9 +237,9 @@ enum parsed parse_explore_options(int argc, char **argv, struct options *options
     if (words != PARSED)
         return words;
     struct geometry g = options->geometry;
-    if (!geometry_is_taken(g))
-        return complain("%s", "no geometry: a sector is a power of two of bytes, at least 32 + 8 x zones; a zone's sectors are a multiple of the unit, at "
-                              "least zones x (1 + unit) + 2 x unit + 1 and zones + 6");
+    struct message message;
+    if (!geometry_fits(g, &message))
+        return complain("%s", message.text);
     if (ZRV_SECTORS_BYTES(g.drives, g.sector_bytes, g.zones, g.zone_sectors) > MOST_SHELF_BYTES)
         return complain("%s", "a shelf of more than 64 MiB is too large to go through");
     options->cached_resets = options->cached_resets || options->breakage == BREAK_RESET;

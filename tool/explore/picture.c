@@ -46,9 +46,12 @@ static uint32_t largest_pointer(const struct explorer *explorer, uint32_t zone) 
     return most;
 }
 
+/* Of the format there is no request: power goes only when it is done. */
 static void draw_call_name(const struct panel *panel, const struct request *request, double x) {
     fprintf(panel->out, "<text class=\"call\" text-anchor=\"middle\" x=\"%.1f\" y=\"%.1f\">", x, plot_top(panel) - 9);
-    if (request->kind == CALL_FLUSH || request->kind == CALL_MOUNT)
+    if (request == NULL)
+        fputs("format", panel->out);
+    else if (request->kind == CALL_FLUSH || request->kind == CALL_MOUNT)
         fputs(request->kind == CALL_FLUSH ? "flush" : "mount", panel->out);
     else if (request->kind == CALL_RESET)
         fprintf(panel->out, "reset z%u", request->zone);
@@ -59,19 +62,33 @@ static void draw_call_name(const struct panel *panel, const struct request *requ
     fputs("</text>\n", panel->out);
 }
 
-/* The calls as bands behind the plot, named above it. */
+/* The moments of one call, from the first on: where those of the next one begin. */
+static size_t moments_end(const struct explorer *explorer, size_t first) {
+    size_t end = first;
+    while (end < explorer->moments_length && explorer->moments[end].sent == explorer->moments[first].sent)
+        end++;
+    return end;
+}
+
+/* The calls as bands behind the plot. */
+static void draw_bands(const struct panel *panel) {
+    const struct explorer *explorer = panel->explorer;
+    for (size_t first = 0, end; first < explorer->moments_length; first = end) {
+        end = moments_end(explorer, first);
+        if (explorer->moments[first].sent % 2 == 1)
+            fprintf(panel->out, "<rect class=\"band\" x=\"%.1f\" y=\"%.1f\" width=\"%.1f\" height=\"%.1f\"/>\n", panel->left + (double)first * panel->step,
+                    plot_top(panel) - CALL_NAMES, (double)(end - first) * panel->step, panel->bottom - plot_top(panel) + CALL_NAMES);
+    }
+}
+
+/* Their names above it; one may be wider than its band. */
 static void draw_calls(const struct panel *panel) {
     const struct explorer *explorer = panel->explorer;
-    for (size_t first = 0, end = 0; first < explorer->moments_length; first = end) {
+    draw_bands(panel);
+    for (size_t first = 0, end; first < explorer->moments_length; first = end) {
+        end = moments_end(explorer, first);
         size_t sent = explorer->moments[first].sent;
-        for (end = first; end < explorer->moments_length && explorer->moments[end].sent == sent; end++)
-            ;
-        double x = panel->left + (double)first * panel->step, width = (double)(end - first) * panel->step;
-        if (sent % 2 == 1)
-            fprintf(panel->out, "<rect class=\"band\" x=\"%.1f\" y=\"%.1f\" width=\"%.1f\" height=\"%.1f\"/>\n", x, plot_top(panel) - CALL_NAMES, width,
-                    panel->bottom - plot_top(panel) + CALL_NAMES);
-        if (sent > 0)
-            draw_call_name(panel, &explorer->options->calls.request[sent - 1], x + width / 2);
+        draw_call_name(panel, sent == 0 ? NULL : &explorer->options->calls.request[sent - 1], panel->left + (double)(first + end) / 2 * panel->step);
     }
 }
 
@@ -84,12 +101,13 @@ static void draw_axes(const struct panel *panel) {
         fprintf(out, "<line class=\"grid\" x1=\"%.1f\" y1=\"%.1f\" x2=\"%.1f\" y2=\"%.1f\"/>\n", panel->left, y_of(panel, n), right, y_of(panel, n));
         fprintf(out, "<text text-anchor=\"end\" x=\"%.1f\" y=\"%.1f\">%u</text>\n", panel->left - 8, y_of(panel, n) + 4, n);
     }
+    fprintf(out, "<text class=\"small\" text-anchor=\"middle\" x=\"%.1f\" y=\"%.1f\">all</text>\n", x_of(panel, 0), panel->bottom + 15);
     for (size_t i = 1; i < panel->explorer->moments_length; i++)
         fprintf(out, "<text class=\"small\" text-anchor=\"middle\" x=\"%.1f\" y=\"%.1f\">%u</text>\n", x_of(panel, i), panel->bottom + 15,
                 panel->explorer->moments[i].stores);
     fprintf(out, "<line class=\"axis\" x1=\"%.1f\" y1=\"%.1f\" x2=\"%.1f\" y2=\"%.1f\"/>\n", panel->left, panel->bottom, right, panel->bottom);
     fprintf(out, "<line class=\"axis\" x1=\"%.1f\" y1=\"%.1f\" x2=\"%.1f\" y2=\"%.1f\"/>\n", panel->left, panel->bottom, panel->left, plot_top(panel));
-    fprintf(out, "<text text-anchor=\"middle\" x=\"%.1f\" y=\"%.1f\">stores that the call has made when power goes (first column: before any call)</text>\n",
+    fprintf(out, "<text text-anchor=\"middle\" x=\"%.1f\" y=\"%.1f\">stores that the call has made when power goes</text>\n",
             middle, panel->bottom + 38);
     fprintf(out, "<text text-anchor=\"middle\" transform=\"translate(%.1f %.1f) rotate(-90)\">pointer of zone %u, sectors</text>\n", panel->left - 44,
             (panel->bottom + plot_top(panel)) / 2, panel->zone);

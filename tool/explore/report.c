@@ -37,6 +37,12 @@ static void report_first_line(const struct options *options) {
            in_words(calls->length, true), writes ? "write" : "call", calls->length == 1 ? " is" : "s are", in_words(options->geometry.drives, false));
 }
 
+static void tell_refused(uint32_t answer) {
+    printf(": ");
+    tell_answer_of_call(stdout, answer);
+    printf("\n");
+}
+
 static void report_calls(const struct request_list *list, const struct outcome *outcome) {
     for (size_t i = 0; i < list->length; i++) {
         printf("             ");
@@ -44,7 +50,7 @@ static void report_calls(const struct request_list *list, const struct outcome *
         if (outcome == NULL)
             printf("\n");
         else if (outcome[i].answer != ZRV_FINISHED)
-            printf(": refused with %u (%s)\n", outcome[i].answer, refusal_word(outcome[i].answer));
+            tell_refused(outcome[i].answer);
         else if (outcome[i].emptied == 0)
             printf(": %u stores\n", outcome[i].stores);
         else

@@ -4,11 +4,13 @@
 #include "journal.h"
 #include "refusals.h"
 
-static void tell_answer(FILE *out, uint32_t answer) {
+void tell_answer_of_call(FILE *out, uint32_t answer) {
     if (answer == ZRV_FINISHED)
         fputs("finished", out);
     else if (answer == ZRV_UNFINISHED)
         fputs("not finished", out);
+    else if (answer == ANSWER_ZONE_FULL)
+        fputs("refused: the zone is full", out);
     else
         fprintf(out, "refused with %u (%s)", answer, refusal_word(answer));
 }
@@ -27,7 +29,7 @@ static void tell_call(FILE *out, const struct event *event) {
     if (event->request->kind == CALL_WRITE)
         fprintf(out, " at %u", event->pointer);
     fprintf(out, ": %u store%s, ", event->stores, event->stores == 1 ? "" : "s");
-    tell_answer(out, event->answer);
+    tell_answer_of_call(out, event->answer);
     fputs("\n", out);
 }
 
@@ -72,7 +74,7 @@ static void tell_power(FILE *out, const struct caches *caches, const struct shel
 
 static void tell_shown(FILE *out, const struct event *event, uint32_t zones) {
     if (event->answer != ZRV_FINISHED) {
-        tell_answer(out, event->answer);
+        tell_answer_of_call(out, event->answer);
         fputs("\n", out);
         return;
     }

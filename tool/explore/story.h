@@ -37,6 +37,7 @@ struct verdict {
 };
 
 void tell_request(FILE *out, const struct request *request);
+void tell_answer_of_call(FILE *out, uint32_t answer); /* "finished", or how it was not */
 void tell_story(FILE *out, const struct trail *trail, const struct world *world, const struct verdict *verdict);
 
 #endif

@@ -105,7 +105,7 @@ uint32_t mount_world(struct world *world, uint32_t count, enum breakage breakage
 
 uint32_t read_world(struct world *world, uint8_t *shown, uint32_t zone, struct range answer) {
     struct call call = call_on(world, CALL_READ, shown);
-    call.address = zone * zone_addresses(call.geometry);
+    call.address = zone_start(call.geometry, zone);
     call.run = (uint32_t)(answer.length / call.geometry.sector_bytes);
     call.range[BUFFER] = answer;
     return make_call(&call);
@@ -116,7 +116,9 @@ uint32_t send_request(struct world *world, const struct request *request, uint32
     call.count = count;
     call.zone = request->zone;
     if (request->kind == CALL_WRITE) {
-        call.address = request->zone * zone_addresses(call.geometry) + pointer_in_state(world->state, request->zone);
+        call.address = address_to_write(call.geometry, world->state, request->zone);
+        if (call.address == NO_ADDRESS)
+            return ANSWER_ZONE_FULL;
         call.run = request->sectors;
         call.range[BUFFER] = (struct range){request->data, (size_t)request->sectors * call.geometry.sector_bytes};
     }

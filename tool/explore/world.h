@@ -2,10 +2,10 @@
 #ifndef EXPLORE_WORLD_H
 #define EXPLORE_WORLD_H
 
-#include "bytes.h"
 #include "explore/caches.h"
 #include "explore/options.h"
 #include "explore/oracle.h"
+#include "zone_pointer.h"
 
 struct world {
     struct shelf shelf;
@@ -40,8 +40,5 @@ void forget_old_zones(struct world *world);
 /* Power goes: a cut. Each drive and zone keeps what the caches say. torn_from: where not NULL, the last sector that a cache keeps past its durable
  * pointer has its second half from there. */
 void world_loses_power(struct world *world, const struct caches *caches, const struct shelf *torn_from);
-
-/* The pointer of a zone in a state. */
-static inline uint32_t pointer_in_state(const uint8_t *state, uint32_t zone) { return get32(zone_record(state, zone) + ZRV_RECORD_POINTER); }
 
 #endif

@@ -1,0 +1,40 @@
+/* The volume itself judges a geometry; here is why. */
+#include "bounds.h"
+
+static uint32_t larger(uint32_t a, uint32_t b) { return a > b ? a : b; }
+
+static uint32_t whole_units(uint32_t sectors, uint32_t unit) { return (sectors + unit - 1) / unit * unit; }
+
+/* The bytes of a sector that a counters entry needs: a head, and a generation for each zone. */
+static uint32_t counters_bytes(uint32_t zones) { return 32 + 8 * zones; }
+
+uint32_t least_zone_sectors(struct geometry g) { return whole_units(larger(g.zones * (1 + g.unit) + 2 * g.unit + 1, g.zones + 6), g.unit); }
+
+uint32_t least_roomy_zone_sectors(struct geometry g) {
+    return whole_units(larger(2 * g.zones * (1 + g.unit) + 2 * g.unit + 2, 3 * g.zones + 7), g.unit);
+}
+
+static bool is_outside(uint32_t number, uint32_t least, uint32_t most, const char *option, struct message *message) {
+    if (number >= least && number <= most)
+        return false;
+    fail(message, "--%s: %u is not a number from %u to %u", option, number, least, most);
+    return true;
+}
+
+bool geometry_fits(struct geometry g, struct message *message) {
+    if (geometry_is_taken(g))
+        return true;
+    if (is_outside(g.drives, ZRV_LEAST_DRIVES, ZRV_MOST_DRIVES, "drives", message) ||
+        is_outside(g.sector_bytes, ZRV_LEAST_SECTOR_BYTES, ZRV_MOST_SECTOR_BYTES, "sector-bytes", message) ||
+        is_outside(g.unit, 1, ZRV_MOST_UNIT, "unit", message) || is_outside(g.zones, 1, ZRV_MOST_ZONES, "zones", message))
+        return false;
+    if ((g.sector_bytes & (g.sector_bytes - 1)) != 0)
+        return fail(message, "--sector-bytes: %u is not 64 and so on by doubling to 4096", g.sector_bytes);
+    if (counters_bytes(g.zones) > g.sector_bytes)
+        return fail(message, "--zones: %u zones need sectors of at least %u bytes, these have %u", g.zones, counters_bytes(g.zones), g.sector_bytes);
+    if (is_outside(g.zone_sectors, least_zone_sectors(g), ZRV_MOST_ZONE_SECTORS, "zone-sectors", message))
+        return false;
+    if (g.zone_sectors % g.unit != 0)
+        return fail(message, "--zone-sectors: %u is not a multiple of the unit, %u", g.zone_sectors, g.unit);
+    return fail(message, "the volume does not take this geometry");
+}

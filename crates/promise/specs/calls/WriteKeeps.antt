@@ -293,7 +293,8 @@ module _ (g : Geometry) (ok : Valid g) (x : ℕ) (v : Device) (state : StateView
     general-reads = r .logs .general-reads;
     first = r .logs .first;
     first-lasts = λ d a. rw (keep-now d generalZone a) (r .logs .first-lasts d a);
-    labels = r .logs .labels;
+    arrays = r .logs .arrays;
+    labels = λ d a. rw (keep-now d generalZone a) (r .logs .labels d a);
     general-closes = r .logs .general-closes;
     general-closed = λ d a. rw (keep-now d generalZone a) (r .logs .general-closed d a);
     parity-closes = λ d a e m j n q. close d a e j n q (in-next d e m);

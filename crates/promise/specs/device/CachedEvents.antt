@@ -32,7 +32,7 @@ use Rattle.volume.specs.meaning.Answers.{CallResult, storing, leftOut, namedDri
 use Rattle.volume.specs.declared.Answer.the-variants.{Finished, Unfinished, Refused}
 use Rattle.volume.specs.laws.Refusals.{accepted-row}
 use Rattle.promise.specs.meaning.Ledger.{Ledger, freshLedger}
-use Rattle.promise.specs.meaning.Claim.{Call, mounts, writes, flushes, resets, formats, Mode, ready, stopped, down, System, Event, calls, looks, reads, peeks, reports, cuts, loses, settled, ledgerAfter, next, MayMount, NotStopped, NamesAll, Duty, Promise, start}
+use Rattle.promise.specs.meaning.Claim.{WriteAsked, Call, mounts, writes, flushes, resets, formats, Mode, ready, stopped, down, System, Event, calls, looks, reads, peeks, reports, cuts, loses, settled, ledgerAfter, next, MayMount, NotStopped, NamesAll, Duty, Promise, start}
 use Rattle.promise.specs.meaning.OnDevice.{callOf, onDevice, lookResult, shownBy}
 use Rattle.promise.specs.meaning.Caches.{WithCaches, madeBy, rememberedAfter, deviceCaches, onCachingDevice, CachingDeviceClaim, beneath}
 use Rattle.promise.specs.invariant.Throughout.{throughout}
@@ -188,13 +188,13 @@ module _ (g : Geometry) (ok : Valid g) (t : TableLengths) (owed : CachesOwed g) 
     e : s .mode ≡ ready → callPresent g named (s .state) ≡ presentBut g (s .lost)
     e m = drives-of-call g ok t (beneath (onDevice g t) (deviceCaches g t) s) ok-under named names-under m
 
-    write-event : s .mode ≡ ready → (a count : ℕ) (buffer : List ℕ) (stop : ℕ) → Owed (writes a count buffer) stop
-    write-event m a count buffer stop =
-        let z = zoneOf g a in
-        let ss = sectorsIn g count buffer in
-        let accepted : firstRefusal (writeRows g t (badPointers g named v) named (s .state) a count (length buffer) (roles g v) (byRoles g v)) ≡ accept
-        → WriteAccepted g (presentBut g (s .lost)) (roles g v) (byRoles g v) (byState g (presentBut g (s .lost)) (byRoles g v) (s .state)) (s .state) z ss = λ p. rw (e m) at (write-accepted g t named (s .state) v a count buffer p) in
-        by-call (writes a count buffer) stop (λ n. refl)
+    write-event : s .mode ≡ ready → (asked : WriteAsked) (stop : ℕ) → Owed (writes asked) stop
+    write-event m asked stop =
+        let z = zoneOf g (asked .address) in
+        let ss = sectorsIn g (asked .count) (asked .buffer) in
+        let accepted : firstRefusal (writeRows g t (badPointers g named v) named (s .state) (asked .address) (asked .count) (length (asked .buffer)) (roles g v) (byRoles g v)) ≡ accept
+        → WriteAccepted g (presentBut g (s .lost)) (roles g v) (byRoles g v) (byState g (presentBut g (s .lost)) (byRoles g v) (s .state)) (s .state) z ss = λ p. rw (e m) at (write-accepted g t named (s .state) v (asked .address) (asked .count) (asked .buffer) p) in
+        by-call (writes asked) stop (λ n. refl)
         (λ p. rw (e m) (owed .write (s .lost) c (s .state) (s .ledger) z ss (at-rest m) (accepted p) .0 stop))
         (λ p. rw (e m, lost-of-call g ok t under ok-under named names-under m) (owed .write (s .lost) c (s .state) (s .ledger) z ss (at-rest m) (accepted p) .1))
 
@@ -265,7 +265,7 @@ module _ (g : Geometry) (ok : Valid g) (t : TableLengths) (owed : CachesOwed g) 
 
     call-keeps : (k : Call) (stop : ℕ) → Duty g (onCachingDevice g t) s (calls k named stop) → Owed k stop
     call-keeps mounts stop (b, m, q) = mount-event m stop
-    call-keeps (writes a count buffer) stop (b, m, q) = write-event m a count buffer stop
+    call-keeps (writes asked) stop (b, m, q) = write-event m asked stop
     call-keeps flushes stop (b, m, q) = flush-event m stop
     call-keeps (resets z) stop (b, m, q) = reset-event m z stop
     call-keeps (formats array) stop (b, m, (h, n)) = format-event m array stop h n

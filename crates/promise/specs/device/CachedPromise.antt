@@ -24,7 +24,7 @@ module _ (g : Geometry) (vol : Volume) (k : Caches vol) (s : System (withCaches 
     look-holds = λ named n m. let (e, z) = p .look-holds named (names-beneath named n) m in (e, record { generations = z .generations; conditions = z .conditions });
     flush-accepted = λ named n m stop i e. p .flush-accepted named (names-beneath named n) m stop i e;
     reset-refused = λ named n m z stop i e. p .reset-refused named (names-beneath named n) m z stop i e;
-    write-refused = λ named n m a count buffer stop i e. p .write-refused named (names-beneath named n) m a count buffer stop i e;
+    write-refused = λ named n m w stop i e. p .write-refused named (names-beneath named n) m w stop i e;
     read-gives = λ named n m a count out e. p .read-gives named (names-beneath named n) m a count out e;
     read-accepted = λ named n m a count out h i j o. p .read-accepted named (names-beneath named n) m a count out h i j o;
     peek-gives = λ named n m a e. p .peek-gives named (names-beneath named n) m a e;

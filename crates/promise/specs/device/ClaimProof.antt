@@ -42,7 +42,7 @@ use Rattle.volume.specs.declared.BadPlace.{BadPlace}
 use Rattle.volume.specs.declared.ZoneDescriptor.{ZoneDescriptor}
 use Rattle.volume.specs.meaning.Report.{reportOn}
 use Rattle.volume.specs.laws.Report.{report-finished, report-same}
-use Rattle.promise.specs.meaning.Claim.{mounts, writes, flushes, resets, ready, System, NamesAll, MayMount, allBut, contentBytes, SameZones, ResetRefusal, noSuchZone, wornOut, generalLogFull, WriteRefusal, bufferLength, noSuchAddress, noSectors, pastTheEnd, notAtPointer, sealedZone, wornZone, parityLogFull, Promise}
+use Rattle.promise.specs.meaning.Claim.{WriteAsked, mounts, writes, flushes, resets, ready, System, NamesAll, MayMount, allBut, contentBytes, SameZones, ResetRefusal, noSuchZone, wornOut, generalLogFull, WriteRefusal, bufferLength, noSuchAddress, noSectors, pastTheEnd, notAtPointer, sealedZone, wornZone, parityLogFull, Promise}
 use Rattle.promise.specs.meaning.OnDevice.{callOf, lookResult, readResult, peekResult, reportShown, shownBy, onDevice}
 use Rattle.promise.specs.look.LookRest.{generation-held, condition-held}
 use Rattle.promise.specs.device.AtRestAnswers.{absent-fine, state-fine, stale-fine, gone-fine, before-fine, entry-fine, worn-last, rest-held, rest-sector}
@@ -188,42 +188,43 @@ module _ (g : Geometry) (ok : Valid g) (t : TableLengths) (wb : isValid g ≡ tr
         by (inr (r1, inr (r2, inr (r3, inr (r4, inr (r7, inr (r8, inr (r12, inl (k, b))))))))) = generalLogFull k
         by (inr (r1, inr (r2, inr (r3, inr (r4, inr (r7, inr (r8, inr (r12, inr (r14, none))))))))) = absurd none
 
-    write-claim : s .mode ≡ ready → (a count : ℕ) (buffer : List ℕ) (stop n : ℕ) → onDevice g t .call (writes a count buffer) named (s .state) stop (s .memory) .answer ≡ Refused n
-        → WriteRefusal g (s .state .condition (zoneOf g a)) a count buffer n
+    write-claim : s .mode ≡ ready → (w : WriteAsked) (stop n : ℕ) → onDevice g t .call (writes w) named (s .state) stop (s .memory) .answer ≡ Refused n → WriteRefusal g (s .state .condition (zoneOf g (w .address))) w n
     unfolding writeRows bufferFits
-    write-claim m a count buffer stop n e =
-        let c = callOf g t (writes a count buffer) named (s .state) (s .memory) in
+    write-claim m w stop n e =
+        let c = callOf g t (writes w) named (s .state) (s .memory) in
         by (refused-applies (c .refusals) n (storing-refused (firstRefusal (c .refusals)) (c .stores) (c .state) (s .state) stop (s .memory) n e))
       where
-        no-gone : ltb (zoneOf g a) (g .zones) ≡ true → (end : ℕ) → let here = callPresent g named (s .state) in let z = zoneOf g a in
+        no-gone : (z : ℕ) → ltb z (g .zones) ≡ true → (end : ℕ) → let here = callPresent g named (s .state) in
             goneForEntry g here (roles g (s .memory)) (byState g here u (s .state)) u z end || goneBefore g here u z (s .state .generation z) (pointerIn (s .state .condition z)) ≡ false
-        no-gone h end =
+        no-gone z h end =
             let (marks, γ, r) = rest-of m in
-            let z = zoneOf g a in
             let p = entry-fine g ok (s .lost) u (s .state) (withMarks (s .ledger) marks) γ r (roles g (s .memory)) z end in
             let q = before-fine g ok (s .lost) u (s .state) (withMarks (s .ledger) marks) γ r z (ltb-true z (g .zones) h) in
             rw (drives m, p, q) refl
 
-        run : n ≡ 9 → eqb count 0 || ltb (zoneSectors g) (offsetOf g a + count) ≡ true → WriteRefusal g (s .state .condition (zoneOf g a)) a count buffer n
-        run k b = go (eqb count 0) refl b
+        run : n ≡ 9 → eqb (w .count) 0 || ltb (zoneSectors g) (offsetOf g (w .address) + w .count) ≡ true → WriteRefusal g (s .state .condition (zoneOf g (w .address))) w n
+        run k b = go (eqb (w .count) 0) refl b
           where
-            go : (w : Bool) → eqb count 0 ≡ w → w || ltb (zoneSectors g) (offsetOf g a + count) ≡ true → WriteRefusal g (s .state .condition (zoneOf g a)) a count buffer n
-            go true p b = noSectors k (eqb-true count 0 p)
-            go false p b = pastTheEnd k (ltb-true (zoneSectors g) (offsetOf g a + count) b)
+            go : (q : Bool) → eqb (w .count) 0 ≡ q → q || ltb (zoneSectors g) (offsetOf g (w .address) + w .count) ≡ true → WriteRefusal g (s .state .condition (zoneOf g (w .address))) w n
+            go true p b = noSectors k (eqb-true (w .count) 0 p)
+            go false p b = pastTheEnd k (ltb-true (zoneSectors g) (offsetOf g (w .address) + w .count) b)
 
-        by : Applies (writeRows g t (badPointers g named (s .memory)) named (s .state) a count (length buffer) (roles g (s .memory)) u) n → WriteRefusal g (s .state .condition (zoneOf g a)) a count buffer n
+        by : Applies (callOf g t (writes w) named (s .state) (s .memory) .refusals) n → let z = zoneOf g (w .address) in WriteRefusal g (s .state .condition z) w n
         by (inl (k, b)) = not-both _ b (row-1 m)
-        by (inr (r1, inl (k, b))) = bufferLength k (eqb-false (length buffer) (count * g .sector) (rw lf at (not-true (tablesFit g t && eqb (length buffer) (count * g .sector)) b)))
+        by (inr (r1, inl (k, b))) = let fits = eqb (length (w .buffer)) (w .count * g .sector) in bufferLength k (eqb-false (length (w .buffer)) (w .count * g .sector) (rw lf at (not-true (tablesFit g t && fits) b)))
         by (inr (r1, inr (r2, inl (k, b)))) = not-both _ b row-3
         by (inr (r1, inr (r2, inr (r3, inl (k, b))))) = not-both _ b (row-4 m)
-        by (inr (r1, inr (r2, inr (r3, inr (r4, inl (k, b)))))) = not-both _ b (row-7 m (zoneOf g a))
-        by (inr (r1, inr (r2, inr (r3, inr (r4, inr (r7, inl (k, b))))))) = noSuchAddress k (ltb-false (zoneOf g a) (g .zones) (not-true (ltb (zoneOf g a) (g .zones)) b))
+        by (inr (r1, inr (r2, inr (r3, inr (r4, inl (k, b)))))) = not-both _ b (row-7 m (zoneOf g (w .address)))
+        by (inr (r1, inr (r2, inr (r3, inr (r4, inr (r7, inl (k, b))))))) = let z = zoneOf g (w .address) in noSuchAddress k (ltb-false z (g .zones) (not-true (ltb z (g .zones)) b))
         by (inr (r1, inr (r2, inr (r3, inr (r4, inr (r7, inr (r8, inl (k, b)))))))) = run k b
-        by (inr (r1, inr (r2, inr (r3, inr (r4, inr (r7, inr (r8, inr (r9, inl (k, b))))))))) = notAtPointer k (eqb-false (offsetOf g a) (pointerIn (s .state .condition (zoneOf g a))) (not-true (eqb (offsetOf g a) (pointerIn (s .state .condition (zoneOf g a)))) b))
+        by (inr (r1, inr (r2, inr (r3, inr (r4, inr (r7, inr (r8, inr (r9, inl (k, b))))))))) =
+            let a = offsetOf g (w .address) in
+            let p = pointerIn (s .state .condition (zoneOf g (w .address))) in notAtPointer k (eqb-false a p (not-true (eqb a p) b))
         by (inr (r1, inr (r2, inr (r3, inr (r4, inr (r7, inr (r8, inr (r9, inr (r10, inl (k, b)))))))))) = sealedZone k b
         by (inr (r1, inr (r2, inr (r3, inr (r4, inr (r7, inr (r8, inr (r9, inr (r10, inr (r11, inl (k, b))))))))))) = wornZone k b
         by (inr (r1, inr (r2, inr (r3, inr (r4, inr (r7, inr (r8, inr (r9, inr (r10, inr (r11, inr (r12, inl (k, b)))))))))))) = parityLogFull k
-        by (inr (r1, inr (r2, inr (r3, inr (r4, inr (r7, inr (r8, inr (r9, inr (r10, inr (r11, inr (r12, inr (r14, inl (k, b))))))))))))) = not-both _ b (no-gone (not-not (ltb (zoneOf g a) (g .zones)) r8) (pointerIn (s .state .condition (zoneOf g a)) + count))
+        by (inr (r1, inr (r2, inr (r3, inr (r4, inr (r7, inr (r8, inr (r9, inr (r10, inr (r11, inr (r12, inr (r14, inl (k, b))))))))))))) =
+            let z = zoneOf g (w .address) in not-both _ b (no-gone z (not-not (ltb z (g .zones)) r8) (pointerIn (s .state .condition z) + w .count))
         by (inr (r1, inr (r2, inr (r3, inr (r4, inr (r7, inr (r8, inr (r9, inr (r10, inr (r11, inr (r12, inr (r14, inr (r15, none))))))))))))) = absurd none
 
     -- ---- reads

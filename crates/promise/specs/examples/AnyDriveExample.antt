@@ -24,11 +24,11 @@ use Rattle.volume.specs.meaning.Refusals.{TableLengths, firstRefusal}
 use Rattle.volume.specs.meaning.Rules.{Shown, ZoneShown}
 use Rattle.volume.specs.meaning.State.{StateView}
 use Rattle.volume.specs.meaning.Answers.{leftOut}
-use Rattle.promise.specs.meaning.Claim.{Volume, allBut, Call, mounts, writes, flushes, formats, ready, down, modeAfter, System, Event, calls, looks, reads, reports, cuts, next, NamesAll, Dutiful, start}
+use Rattle.promise.specs.meaning.Claim.{Volume, allBut, Call, mounts, flushes, formats, ready, down, modeAfter, System, Event, calls, looks, reads, reports, cuts, next, NamesAll, Dutiful, start}
 use Rattle.promise.specs.meaning.OnDevice.{callOf, onDevice}
 use Rattle.promise.specs.meaning.ResetLasts.{afterAll}
 use Rattle.promise.specs.meaning.AnyDrive.{AllStoreNothing, AnyDriveMayGo}
-use Rattle.promise.specs.examples.Example.{every, noStop, blank, formattedState, bytes}
+use Rattle.promise.specs.examples.Example.{every, noStop, blank, formattedState, bytes, writing}
 use Rattle.promise.specs.examples.Cases.{sameCondition}
 use Rattle.promise.specs.examples.ClaimExample.{isMode, all, all-at, ready-is, may-mount, answer-well-formed, blank-well-formed, done}
 use Rattle.promise.specs.examples.Opened.{deviceOpen}
@@ -54,7 +54,7 @@ abbrev s0 : System vol
 s0 = start geo vol every (vol .call (formats 7) every formattedState noStop blank)
 
 abbrev e1 : Event vol
-e1 = calls (writes 48 3 (bytes 3 7)) every noStop
+e1 = calls (writing 48 3 7) every noStop
 
 abbrev s1 : System vol
 s1 = next geo vol s0 e1
@@ -66,7 +66,7 @@ abbrev s2 : System vol
 s2 = next geo vol s1 e2
 
 abbrev e3 : Event vol
-e3 = calls (writes 0 5 (bytes 5 9)) every noStop
+e3 = calls (writing 0 5 9) every noStop
 
 abbrev s3 : System vol
 s3 = next geo vol s2 e3
@@ -90,7 +90,7 @@ abbrev f2 : Event vol
 f2 = reads every 48 3 (bytes 3 0)
 
 abbrev f3 : Event vol
-f3 = calls (writes 0 1 (bytes 1 5)) every noStop
+f3 = calls (writing 0 1 5) every noStop
 
 abbrev t3 : System vol
 t3 = next geo vol t1 f3
@@ -135,7 +135,7 @@ wentSo =
     let c = next geo vol a3 (cuts (cutTo (2 ∷ 2 ∷ 1 ∷ 0 ∷ []) (a3 .memory))) in
     isMode ready (a1 .mode) ∷ isMode ready (a2 .mode) ∷ isMode ready (a3 .mode) ∷ isMode ready (m .mode) ∷ isMode ready (b1 .mode) ∷ isMode ready (b3 .mode)
     -- the write is refused: not at the pointer
-    ∷ refusedBy 10 (vol .call (writes 0 1 (bytes 1 5)) every (b1 .state) noStop (b1 .memory) .answer)
+    ∷ refusedBy 10 (vol .call (writing 0 1 5) every (b1 .state) noStop (b1 .memory) .answer)
     -- with all drives, and without any one
     ∷ showsThree (vol .shows every (b3 .memory) (b3 .memory)) ∷ allBelow (λ x. showsThree (vol .shows (allBut x) (b3 .memory) (b3 .memory))) 4
     -- not after the other cut: with all drives five sectors, without drive 0 none
@@ -171,9 +171,9 @@ refused-with Unfinished e = absurd (true≢false (sym e))
 refused-with (Refused n) e = (n, refl)
 refused-with (BadLog b) e = absurd (true≢false (sym e))
 
-write-refused : (n : ℕ) × (vol .call (writes 0 1 (bytes 1 5)) every (t1 .state) noStop (t1 .memory) .answer ≡ Refused n)
+write-refused : (n : ℕ) × (vol .call (writing 0 1 5) every (t1 .state) noStop (t1 .memory) .answer ≡ Refused n)
 unfolding wentSo
-write-refused = refused-with (vol .call (writes 0 1 (bytes 1 5)) every (t1 .state) noStop (t1 .memory) .answer) (all-at wentSo history-goes 6)
+write-refused = refused-with (vol .call (writing 0 1 5) every (t1 .state) noStop (t1 .memory) .answer) (all-at wentSo history-goes 6)
 
 -- a call after a cut that leaves the volume ready has finished
 finished-since : (a : Answer) → modeAfter a down ≡ ready → a ≡ Finished
@@ -206,7 +206,7 @@ call-well-formed : (c : Call) (old : StateView) (v : Device) → WellFormed v �
 call-well-formed c old v h = let k = callOf geo lengths c every old v in answer-well-formed (firstRefusal (k .refusals)) (k .stores) (k .state) old noStop v h
 
 well-formed-3 : WellFormed (s3 .memory)
-well-formed-3 = call-well-formed (writes 0 5 (bytes 5 9)) (s2 .state) (s2 .memory) (call-well-formed flushes (s1 .state) (s1 .memory) (call-well-formed (writes 48 3 (bytes 3 7)) (s0 .state) (s0 .memory) (call-well-formed (formats 7) formattedState blank blank-well-formed)))
+well-formed-3 = call-well-formed (writing 0 5 9) (s2 .state) (s2 .memory) (call-well-formed flushes (s1 .state) (s1 .memory) (call-well-formed (writing 48 3 7) (s0 .state) (s0 .memory) (call-well-formed (formats 7) formattedState blank blank-well-formed)))
 
 pub duties-done : Dutiful geo vol s0 (before ++ (calls mounts every noStop ∷ after))
 duties-done =

@@ -1,7 +1,7 @@
 -- The promise on the tables of drives that cache resets is not empty: a history on small tables, computed on the lent bytes, in which an unflushed reset is
 -- brought back. A sector is written and flushed; the reset of its zone is stopped before its second flush; a cut brings the sector back on drive 0; a look shows
 -- the zone empty; a mount by all drives finishes; two sectors are written and read.
-use Rattle.promise.specs.meaning.Claim.{Volume, mounts, writes, flushes, resets, formats, ready, stopped, down, System, Event, calls, looks, reads, cuts, NamesAll, Dutiful, Throughout, start}
+use Rattle.promise.specs.meaning.Claim.{Volume, mounts, flushes, resets, formats, ready, stopped, down, System, Event, calls, looks, reads, cuts, NamesAll, Dutiful, Throughout, start}
 use Rattle.promise.specs.meaning.ResetLasts.{afterAll}
 use Rattle.promise.specs.meaning.Caches.{WithCaches}
 use Rattle.promise.specs.meaning.CachesOnTables.{ZoneKept, ZoneBack, TablesCachingCut, onCachingTables}
@@ -28,7 +28,7 @@ use lib.ListN.{length, getD, take, drop}
 use lib.Dec.{eqb, leb, T, lit<}
 use borrow.Author.Tests.{ne-eqb, eqb-true, leb-true}
 use Rattle.promise.specs.tables.CachedTablesClaim.{caching-tables-keep-the-promise}
-use Rattle.promise.specs.examples.Example.{noStop}
+use Rattle.promise.specs.examples.Example.{noStop, writing}
 use Rattle.promise.specs.examples.ClaimExample.{isMode, all, all-at, ready-is, done}
 use Rattle.promise.specs.examples.TablesHistory.{small, zeros, every, bytes, held, every-set}
 use Rattle.promise.specs.examples.Opened.{tablesOpen}
@@ -95,14 +95,14 @@ s0 = start small vol every (vol .call (formats 7) every held noStop zeroDrives)
 
 -- the reset is stopped once the zone is reset on the three drives: two entries, three flushes, three resets
 abbrev before : List (Event vol)
-before = calls (writes 0 1 (bytes 1 9)) every noStop ∷ calls flushes every noStop ∷ calls (resets 0) every 8 ∷ []
+before = calls (writing 0 1 9) every noStop ∷ calls flushes every noStop ∷ calls (resets 0) every 8 ∷ []
 
 -- drive 0's zone has its sector again
 abbrev cutTo : WithCaches Tables → WithCaches Tables
 cutTo m = let ws = overlay (m .memory .durable) 3 (1 ∷ []) in record { memory = record { sectors = m .memory .sectors; written = ws; durable = ws }; was = λ d z. [] }
 
 abbrev after : WithCaches Tables → List (Event vol)
-after m = cuts (cutTo m) ∷ looks every false ∷ calls mounts every noStop ∷ calls (writes 0 2 (bytes 2 6)) every noStop ∷ reads every 0 2 (bytes 2 0) ∷ []
+after m = cuts (cutTo m) ∷ looks every false ∷ calls mounts every noStop ∷ calls (writing 0 2 6) every noStop ∷ reads every 0 2 (bytes 2 0) ∷ []
 
 abbrev history : List (Event vol)
 history = before ++ after (afterAll small vol s0 before .memory)

@@ -2,7 +2,7 @@
 -- done, and what the promise says of it. A sector is written and flushed; a write at the wrong address is refused; a look is handed on; a peek; the zone is
 -- reset, and three sectors written and flushed; its reset is stopped; a cut leaves just what is durable; a look shows the zone empty; drive 2 is lost, its
 -- memory overwritten; a mount by the others finishes; a write, a read and a peek. (For every valid geometry: TablesExample.)
-use Rattle.promise.specs.meaning.Claim.{Volume, pointerHeld, allBut, mounts, writes, flushes, resets, formats, ready, stopped, down, System, Event, calls, looks, reads, peeks, cuts, loses, next, NamesAll, Dutiful, Throughout, start}
+use Rattle.promise.specs.meaning.Claim.{Volume, pointerHeld, allBut, mounts, flushes, resets, formats, ready, stopped, down, System, Event, calls, looks, reads, peeks, cuts, loses, next, NamesAll, Dutiful, Throughout, start}
 use Rattle.promise.specs.meaning.OnTables.{onTables}
 use Rattle.tables.specs.declared.Geometry.{Geometry}
 use Rattle.tables.specs.meaning.Lists.{overlay}
@@ -19,7 +19,7 @@ use Rattle.tables.specs.laws.Basics.{not-true}
 use Rattle.tables.specs.laws.Made.{WellSized}
 use Rattle.tables.specs.laws.PointerOrder.{order-passed, cut-to-durable}
 use Rattle.promise.specs.tables.CachedTablesClaim.{tables-keep-the-promise}
-use Rattle.promise.specs.examples.Example.{noStop}
+use Rattle.promise.specs.examples.Example.{noStop, writing}
 use Rattle.promise.specs.examples.ClaimExample.{isMode, all, all-at, ready-is, may-mount, done}
 use mathlib.Core.Bool.{Bool, true, false, not}
 use mathlib.Core.Path.{_≡_, refl, sym, ap, _∙_}
@@ -61,7 +61,7 @@ abbrev s0 : System vol
 s0 = start small vol every (vol .call (formats 7) every held noStop zeros)
 
 abbrev e1 : Event vol
-e1 = calls (writes 0 1 (bytes 1 9)) every noStop
+e1 = calls (writing 0 1 9) every noStop
 
 abbrev s1 : System vol
 s1 = next small vol s0 e1
@@ -74,7 +74,7 @@ s2 = next small vol s1 e2
 
 -- refused: not at the pointer
 abbrev e3 : Event vol
-e3 = calls (writes 3 1 (bytes 1 8)) every noStop
+e3 = calls (writing 3 1 8) every noStop
 
 abbrev s3 : System vol
 s3 = next small vol s2 e3
@@ -99,7 +99,7 @@ abbrev s6 : System vol
 s6 = next small vol s5 e6
 
 abbrev e7 : Event vol
-e7 = calls (writes 0 3 (bytes 3 7)) every noStop
+e7 = calls (writing 0 3 7) every noStop
 
 abbrev s7 : System vol
 s7 = next small vol s6 e7
@@ -149,7 +149,7 @@ abbrev s13 : System vol
 s13 = next small vol s12 e13
 
 abbrev e14 : Event vol
-e14 = calls (writes 0 2 (bytes 2 6)) without2 noStop
+e14 = calls (writing 0 2 6) without2 noStop
 
 abbrev s14 : System vol
 s14 = next small vol s13 e14

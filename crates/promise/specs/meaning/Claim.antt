@@ -30,9 +30,14 @@ use Rattle.volume.specs.meaning.Report.{ReportResult}
 use Rattle.promise.specs.meaning.Ledger.{Ledger, freshLedger, Reply, isRefused, isUnfinished, isFinished, LedgerNote, noteWrite, noteFlush, noteReset, noteMount, noteFormat, noted, Fits}
 
 -- ==== the calls that store
+pub record WriteAsked : Type 0 where
+  pub address : ℕ
+  pub count : ℕ  -- of sectors
+  pub buffer : List ℕ
+
 pub data Call : Type 0 where
   mounts : Call
-  writes : ℕ → ℕ → List ℕ → Call  -- address; count of sectors; buffer
+  writes : WriteAsked → Call
   flushes : Call
   resets : ℕ → Call  -- zone
   formats : ℕ → Call  -- array number
@@ -107,7 +112,7 @@ modeAfter (BadLog b) m = m
 -- what the ledger is told of a call that shows k when it has finished
 abbrev pub noteOf : Geometry → Call → Shown → Reply → LedgerNote
 noteOf g mounts k r = noteMount k r
-noteOf g (writes a count buffer) k r = noteWrite (zoneOf g a) (sectorsIn g count buffer) r
+noteOf g (writes w) k r = noteWrite (zoneOf g (w .address)) (sectorsIn g (w .count) (w .buffer)) r
 noteOf g flushes k r = noteFlush r
 noteOf g (resets z) k r = noteReset z r
 noteOf g (formats array) k r = noteFormat r
@@ -148,7 +153,7 @@ MayMount down = Unit {0}
 -- when a call may come: "finishes a mount after each cut before anything but looks and mounts"
 abbrev pub MayCome : Call → Mode → Type 0
 MayCome mounts m = MayMount m
-MayCome (writes a count buffer) m = m ≡ ready
+MayCome (writes w) m = m ≡ ready
 MayCome flushes m = m ≡ ready
 MayCome (resets z) m = m ≡ ready
 MayCome (formats array) m = m ≡ ready
@@ -162,7 +167,7 @@ NotStopped (BadLog b) = Unit {0}
 -- a later format is not stopped half way: the ledger says nothing of a volume that is half gone; and its array number has 64 bits
 abbrev pub Completes : Call → Answer → Type 0
 Completes mounts a = Unit {0}
-Completes (writes a′ count buffer) a = Unit {0}
+Completes (writes w) a = Unit {0}
 Completes flushes a = Unit {0}
 Completes (resets z) a = Unit {0}
 Completes (formats array) a = (array < 256 ^ 8) × NotStopped a
@@ -198,16 +203,16 @@ pub data ResetRefusal (g : Geometry) (generation z n : ℕ) : Type 0 where
   wornOut : n ≡ 12 → wornGeneration ≤ generation → ResetRefusal g generation z n
   generalLogFull : n ≡ 14 → ResetRefusal g generation z n
 
--- and a write of count sectors at address a (held: the zone's condition, as the host holds it)
-pub data WriteRefusal (g : Geometry) (held : Condition) (a count : ℕ) (buffer : List ℕ) (n : ℕ) : Type 0 where
-  bufferLength : n ≡ 2 → length buffer ≢ count * g .sector → WriteRefusal g held a count buffer n
-  noSuchAddress : n ≡ 8 → g .zones ≤ zoneOf g a → WriteRefusal g held a count buffer n
-  noSectors : n ≡ 9 → count ≡ zero → WriteRefusal g held a count buffer n
-  pastTheEnd : n ≡ 9 → zoneSectors g < offsetOf g a + count → WriteRefusal g held a count buffer n
-  notAtPointer : n ≡ 10 → offsetOf g a ≢ pointerIn held → WriteRefusal g held a count buffer n
-  sealedZone : n ≡ 11 → isSealed held ≡ true → WriteRefusal g held a count buffer n
-  wornZone : n ≡ 12 → isWorn held ≡ true → WriteRefusal g held a count buffer n
-  parityLogFull : n ≡ 14 → WriteRefusal g held a count buffer n
+-- and a write (held: the zone's condition, as the host holds it)
+pub data WriteRefusal (g : Geometry) (held : Condition) (w : WriteAsked) (n : ℕ) : Type 0 where
+  bufferLength : n ≡ 2 → length (w .buffer) ≢ w .count * g .sector → WriteRefusal g held w n
+  noSuchAddress : n ≡ 8 → g .zones ≤ zoneOf g (w .address) → WriteRefusal g held w n
+  noSectors : n ≡ 9 → w .count ≡ zero → WriteRefusal g held w n
+  pastTheEnd : n ≡ 9 → zoneSectors g < offsetOf g (w .address) + w .count → WriteRefusal g held w n
+  notAtPointer : n ≡ 10 → offsetOf g (w .address) ≢ pointerIn held → WriteRefusal g held w n
+  sealedZone : n ≡ 11 → isSealed held ≡ true → WriteRefusal g held w n
+  wornZone : n ≡ 12 → isWorn held ≡ true → WriteRefusal g held w n
+  parityLogFull : n ≡ 14 → WriteRefusal g held w n
 
 pub record Promise (g : Geometry) (vol : Volume) (s : System vol) : Type 0 where
   -- "Look: the zones it shows must fit." No look is refused; its state is what is shown; and what is shown fits
@@ -231,8 +236,8 @@ pub record Promise (g : Geometry) (vol : Volume) (s : System vol) : Type 0 where
   pub flush-accepted : (named : vol .Names) → NamesAll g vol s named → s .mode ≡ ready → (stop n : ℕ) → vol .call flushes named (s .state) stop (s .memory) .answer ≢ Refused n
   pub reset-refused : (named : vol .Names) → NamesAll g vol s named → s .mode ≡ ready → (z stop n : ℕ) → vol .call (resets z) named (s .state) stop (s .memory) .answer ≡ Refused n
       → ResetRefusal g (vol .generation (s .state) z) z n
-  pub write-refused : (named : vol .Names) → NamesAll g vol s named → s .mode ≡ ready → (a count : ℕ) (buffer : List ℕ) (stop n : ℕ)
-      → vol .call (writes a count buffer) named (s .state) stop (s .memory) .answer ≡ Refused n → WriteRefusal g (vol .condition (s .state) (zoneOf g a)) a count buffer n
+  pub write-refused : (named : vol .Names) → NamesAll g vol s named → s .mode ≡ ready → (w : WriteAsked) (stop n : ℕ) → vol .call (writes w) named (s .state) stop (s .memory) .answer ≡ Refused n
+      → WriteRefusal g (vol .condition (s .state) (zoneOf g (w .address))) w n
   -- an accepted read leaves the content in the buffer, and a read below the pointer is accepted
   pub read-gives : (named : vol .Names) → NamesAll g vol s named → s .mode ≡ ready → (a count : ℕ) (out : List ℕ) → vol .read named (s .state) a count out (s .memory) .answer ≡ Finished
       → (offsetOf g a + count ≤ length (s .ledger .content (zoneOf g a))) × (vol .read named (s .state) a count out (s .memory) .buffer ≡ contentBytes (s .ledger) (zoneOf g a) (offsetOf g a) count)

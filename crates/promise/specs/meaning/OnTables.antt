@@ -17,7 +17,7 @@ use Rattle.promise.specs.meaning.OnDevice.{shownBy, reportShown}
 
 abbrev pub resultOn : Geometry → Call → List Bool → State → ℕ → Tables → Result
 resultOn g mounts named state stop t = mountOn g named state stop t
-resultOn g (writes a count buffer) named state stop t = writeOn g named state a count buffer stop t
+resultOn g (writes w) named state stop t = writeOn g named state (w .address) (w .count) (w .buffer) stop t
 resultOn g flushes named state stop t = flushOn g named state stop t
 resultOn g (resets z) named state stop t = resetOn g named state z stop t
 resultOn g (formats array) named state stop t = formatOn g named array state stop t

@@ -22,7 +22,7 @@ unlessRefused isFinished ss = ss
 -- the sectors that a call is handed for zone z
 abbrev pub handedTo : Geometry → ℕ → Call → List (List ℕ)
 handedTo g z mounts = []
-handedTo g z (writes a count buffer) = pick (eqb z (zoneOf g a)) (sectorsIn g count buffer) []
+handedTo g z (writes w) = pick (eqb z (zoneOf g (w .address))) (sectorsIn g (w .count) (w .buffer)) []
 handedTo g z flushes = []
 handedTo g z (resets y) = []
 handedTo g z (formats array) = []

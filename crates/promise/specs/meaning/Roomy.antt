@@ -15,7 +15,7 @@ use Rattle.volume.specs.declared.Answer.the-variants.{Finished, Refused}
 use Rattle.volume.specs.meaning.Roles.{roles, claimOfKind}
 use Rattle.volume.specs.meaning.Refusals.{TableLengths}
 use Rattle.volume.specs.laws.RoomAfter.{RoomyGeneral, RoomyParity}
-use Rattle.promise.specs.meaning.Claim.{Volume, mounts, writes, resets, formats, System, NamesAll, Event, Dutiful, start, ready}
+use Rattle.promise.specs.meaning.Claim.{WriteAsked, Volume, mounts, writes, resets, formats, System, NamesAll, Event, Dutiful, start, ready}
 use Rattle.promise.specs.meaning.Caches.{onCachingDevice}
 use Rattle.promise.specs.meaning.CachesOnTables.{onCachingTables}
 use Rattle.promise.specs.meaning.Emptied.{AtEveryPoint}
@@ -28,7 +28,7 @@ BeforeLast g x v = (par : Bool) (d : ℕ) → presentBut g x d ≡ true → clai
 pub record NeverFull (g : Geometry) (vol : Volume) (s : System vol) : Type 0 where
   pub mount-accepted : (named : vol .Names) → NamesAll g vol s named → (stop n : ℕ) → vol .call mounts named (s .state) stop (s .memory) .answer ≢ Refused n
   pub reset-not-full : (named : vol .Names) → NamesAll g vol s named → s .mode ≡ ready → (z stop : ℕ) → vol .call (resets z) named (s .state) stop (s .memory) .answer ≢ Refused 14
-  pub write-not-full : (named : vol .Names) → NamesAll g vol s named → s .mode ≡ ready → (a count : ℕ) (buffer : List ℕ) (stop : ℕ) → vol .call (writes a count buffer) named (s .state) stop (s .memory) .answer ≢ Refused 14
+  pub write-not-full : (named : vol .Names) → NamesAll g vol s named → s .mode ≡ ready → (w : WriteAsked) (stop : ℕ) → vol .call (writes w) named (s .state) stop (s .memory) .answer ≢ Refused 14
 
 -- of the histories of which the promise is claimed (seen: the device that a memory stands for)
 abbrev pub NeverFills : (g : Geometry) (vol : Volume) → (vol .Memory → Device) → Type 0

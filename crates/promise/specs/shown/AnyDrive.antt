@@ -53,7 +53,7 @@ module _ (g : Geometry) (vol : Volume) where
 
   refused-notes : (l : Ledger) (c : Call) (k : Shown) → noted l (noteOf g c k isRefused) ≡ l
   refused-notes l mounts k = refl
-  refused-notes l (writes a count buffer) k = refl
+  refused-notes l (writes w) k = refl
   refused-notes l flushes k = refl
   refused-notes l (resets z) k = refl
   refused-notes l (formats array) k = refl

@@ -69,9 +69,9 @@ module _ (g : Geometry) (vol : Volume) (z : ℕ) (hz : z < g .zones) where
     call-among mounts k isRefused f = more []
     call-among mounts k isUnfinished f = more []
     call-among mounts k isFinished f = λ t m. mem-left new [] t (mounted-among (s .ledger) z new k h (f refl refl) t m)
-    call-among (writes a count buffer) k isRefused f = more []
-    call-among (writes a count buffer) k isUnfinished f = written (zoneOf g a) (sectorsIn g count buffer) (eqb z (zoneOf g a)) refl
-    call-among (writes a count buffer) k isFinished f = written (zoneOf g a) (sectorsIn g count buffer) (eqb z (zoneOf g a)) refl
+    call-among (writes w) k isRefused f = more []
+    call-among (writes w) k isUnfinished f = written (zoneOf g (w .address)) (sectorsIn g (w .count) (w .buffer)) (eqb z (zoneOf g (w .address))) refl
+    call-among (writes w) k isFinished f = written (zoneOf g (w .address)) (sectorsIn g (w .count) (w .buffer)) (eqb z (zoneOf g (w .address))) refl
     call-among flushes k isRefused f = more []
     call-among flushes k isUnfinished f = more []
     call-among flushes k isFinished f = more []
@@ -96,7 +96,7 @@ module _ (g : Geometry) (vol : Volume) (z : ℕ) (hz : z < g .zones) where
     where
       fit : (c : Call) → Duty g vol s (calls c named stop) → let q = vol .call c named (s .state) stop (s .memory) in replyTo (q .answer) ≡ isFinished → c ≡ mounts → FitsZone (s .ledger) z (vol .shows named (s .memory) (q .memory) .zone z)
       fit mounts (n, m, o) e i = p .mount-fits named n m stop (finished-answer (vol .call mounts named (s .state) stop (s .memory) .answer) e) .1 z hz
-      fit (writes a count buffer) o e i = absurd (let q : _≡_ {A = ℕ} 0 1 = cc in omega arith)
+      fit (writes w) o e i = absurd (let q : _≡_ {A = ℕ} 0 1 = cc in omega arith)
       fit flushes o e i = absurd (let q : _≡_ {A = ℕ} 0 1 = cc in omega arith)
       fit (resets y) o e i = absurd (let q : _≡_ {A = ℕ} 0 1 = cc in omega arith)
       fit (formats array) o e i = absurd (let q : _≡_ {A = ℕ} 0 1 = cc in omega arith)

@@ -30,12 +30,12 @@ use Rattle.volume.specs.meaning.Rules.{isPresent, lostDrive, showing}
 use Rattle.volume.specs.meaning.Roles.{Roles, roles, byRoles, claimOfKind, lacksKind}
 use Rattle.volume.specs.meaning.Emptying.{InForce, byLook, byState, spareWritten, reserve, mountGeneralLimit, resetLimit, emptiedFor, emptiedForWrite}
 use Rattle.volume.specs.meaning.Refusals.{Verdict, accept, TableLengths, firstRefusal, tablesFit, badPointers, kindLacks, badLabels, badLogs, twoLost, zoneOf, mountFull, resetFull, writeFull, mountRows, resetRows, writeRows}
-use Rattle.volume.specs.meaning.Answers.{CallResult, storing, mountCall, resetCall, writeCall}
+use Rattle.volume.specs.meaning.Answers.{CallResult, storing, mountCall, resetCall}
 use Rattle.volume.specs.laws.Refusals.{passed, conditionOfRow, refusalOrder}
 use Rattle.volume.specs.laws.LeastRefusal.{first-least}
 use Rattle.volume.specs.laws.RoomAfter.{RoomyGeneral, RoomyParity, cannotEmpty, mount-full-is, reset-full-is, write-full-is}
-use Rattle.promise.specs.meaning.Claim.{Volume, System, NamesAll, mounts, writes, resets, ready, allBut}
-use Rattle.promise.specs.meaning.OnDevice.{onDevice}
+use Rattle.promise.specs.meaning.Claim.{WriteAsked, Volume, System, NamesAll, mounts, writes, resets, ready, allBut}
+use Rattle.promise.specs.meaning.OnDevice.{callOf, onDevice}
 use Rattle.promise.specs.meaning.Caches.{Caches, withCaches, beneath, deviceCaches, onCachingDevice}
 use Rattle.promise.specs.meaning.Roomy.{BeforeLast, NeverFull, RoomyClaim}
 use Rattle.promise.specs.device.Looks.{LookFine}
@@ -134,12 +134,13 @@ module _ (g : Geometry) (t : TableLengths) (wb : isValid g ≡ true) (lf : table
       let r14 : conditionOfRow 14 (c .refusals) ≡ false = rw (drives-of-call g ok t s (k .ok) named names m) (reset-not-full g here (roles g (s .memory)) (byState g here u (s .state)) u (looked .kinds) young (k .blank m) general) in
       true≢false (sym (first-least refusalOrder (c .refusals) 14 refl refl (storing-refused (firstRefusal (c .refusals)) (c .stores) (c .state) (s .state) stop (s .memory) 14 e) .applies) ∙ r14)
 
-  write-law : RoomyParity g → s .mode ≡ ready → (a count : ℕ) (buffer : List ℕ) (stop : ℕ) → onDevice g t .call (writes a count buffer) named (s .state) stop (s .memory) .answer ≢ Refused 14
+  write-law : RoomyParity g → s .mode ≡ ready → (asked : WriteAsked) (stop : ℕ) → onDevice g t .call (writes asked) named (s .state) stop (s .memory) .answer ≢ Refused 14
   unfolding writeRows
-  write-law parity m a count buffer stop e =
-      let c = writeCall g t named (s .state) a count buffer (s .memory) in
+  write-law parity m asked stop e =
+      let z = zoneOf g (asked .address) in
+      let c = callOf g t (writes asked) named (s .state) (s .memory) in
       let r14 : conditionOfRow 14 (c .refusals) ≡ false = rw (drives-of-call g ok t s (k .ok) named names m)
-      (write-not-full g here (roles g (s .memory)) (byState g here u (s .state)) u (looked .kinds) young (k .blank m) parity (zoneOf g a) (pointerIn (s .state .condition (zoneOf g a)) + count)) in
+      (write-not-full g here (roles g (s .memory)) (byState g here u (s .state)) u (looked .kinds) young (k .blank m) parity z (pointerIn (s .state .condition z) + asked .count)) in
       true≢false (sym (first-least refusalOrder (c .refusals) 14 refl refl (storing-refused (firstRefusal (c .refusals)) (c .stores) (c .state) (s .state) stop (s .memory) 14 e) .applies) ∙ r14)
 
 pub never-full : (g : Geometry) (t : TableLengths) → RoomyGeneral g → RoomyParity g → isValid g ≡ true → tablesFit g t ≡ true → (s : System (onDevice g t)) → Known g t s → BeforeLast g (s .lost) (s .memory) → NeverFull g (onDevice g t) s

@@ -31,7 +31,7 @@ use Rattle.volume.specs.meaning.Answers.{CallResult, leftOut, namedDrives, look
 use Rattle.volume.specs.meaning.CallContracts.{viewState, isSet, lengthsOf, stateShown, freshState, formatVerdict, formatOn}
 use Rattle.volume.specs.laws.CallStoresFit.{format-stores-fit}
 use Rattle.promise.specs.meaning.Ledger.{freshLedger, noted}
-use Rattle.promise.specs.meaning.Claim.{Call, mounts, writes, flushes, resets, formats, System, Event, calls, looks, reads, peeks, reports, cuts, loses, next, modeAfter, noteOf, replyTo, Duty, Promise, ready, start}
+use Rattle.promise.specs.meaning.Claim.{Call, formats, System, Event, calls, looks, reads, peeks, reports, cuts, loses, next, modeAfter, noteOf, replyTo, Duty, Promise, ready, start}
 use Rattle.promise.specs.meaning.OnDevice.{callOf, onDevice, lookResult, shownBy}
 use Rattle.promise.specs.meaning.OnTables.{resultOn, onTables, shownIn, TablesClaim}
 use Rattle.promise.specs.meaning.Caches.{WithCaches, madeBy, madeStores, rememberedAfter, onCachingDevice, beneath}
@@ -48,8 +48,8 @@ use Rattle.promise.specs.device.CachedClaim.{caches-owed}
 use Rattle.promise.specs.device.OlderDrives.{OlderCuts, older-drives}
 use Rattle.promise.specs.tables.CallRefines.{Agrees, viewResult, answer-finished}
 use Rattle.promise.specs.tables.CallVerdicts.{format-verdict}
-use Rattle.promise.specs.tables.MountRefines.{shown-agrees, mount-refines}
-use Rattle.promise.specs.tables.TablesEvents.{names-seen, Refines, call-agrees, write-refines, flush-refines, reset-refines, format-refines, fresh-agrees}
+use Rattle.promise.specs.tables.MountRefines.{shown-agrees, call-refines}
+use Rattle.promise.specs.tables.TablesEvents.{names-seen, call-agrees, fresh-agrees}
 use Rattle.promise.specs.tables.TablesClaimProof.{promised, look-is, FormatPassed, format-passed, format-numbered-on, tables-promise, tables-event, tables-start}
 use Rattle.promise.specs.tables.CachedTables.{caching-cut-refines, agrees-cached, viewCached, TablesOkCached}
 
@@ -72,12 +72,12 @@ module _ (g : Geometry) (ok : Valid g) (wb : isValid g ≡ true) (owed : CachesO
   device-keeps = event-keeps-cached g ok (lengthsOf (s .memory .memory)) owed (viewCached g s) (o .holds)
 
   -- ---- calls
-  module _ (c : Call) (named : List Bool) (stop : ℕ) (r : Refines g (beneath (onTables g) (tablesCaches g) s) c named stop) (d : Duty g (onCachingTables g) s (calls c named stop)) where
+  module _ (c : Call) (named : List Bool) (stop : ℕ) (d : Duty g (onCachingTables g) s (calls c named stop)) where
     abbrev remembers : ℕ → ℕ → List ZoneView
     remembers = rememberedAfter (madeStores (callOf g (lengthsOf (s .memory .memory)) c (isSet named) (viewState (s .state)) (deviceOf g (s .memory .memory))) stop) (deviceOf g (s .memory .memory)) (s .memory .was)
 
     agrees : Agrees g (onDevice g (lengthsOf t) .call c (isSet named) (viewState (s .state)) stop (deviceOf g t)) (viewResult g (resultOn g c named (s .state) stop t))
-    agrees = call-agrees g ok s0 (o .plain) c named stop r
+    agrees = call-agrees g ok s0 (o .plain) c named stop (call-refines g ok s0 (o .plain) named (names-beneath g (onTables g) (tablesCaches g) s named (d .0)) c stop)
 
     kept : let a = onDevice g (lengthsOf t) .call c (isSet named) (viewState (s .state)) stop (deviceOf g t) in
         OkCached g (modeAfter (a .answer) (s .mode)) (s .lost) (record { now = a .memory; was = remembers }) (a .state) (noted (s .ledger) (noteOf g c (shownBy g (isSet named) (deviceOf g t) (a .memory)) (replyTo (a .answer))))
@@ -92,13 +92,6 @@ module _ (g : Geometry) (ok : Valid g) (wb : isValid g ≡ true) (owed : CachesO
           holds = agrees-cached g (modeAfter (b .answer) (s .mode)) (s .lost) (record { now = b .memory; was = remembers }) (a .state) (b .state)
               (noted (s .ledger) (noteOf g c (shownBy g (isSet named) (deviceOf g t) (b .memory)) (replyTo (b .answer)))) (agrees .state-agrees) (rw (agrees .answer-same, agrees .memory-same) at kept);
         }
-
-  call-keeps : (c : Call) (named : List Bool) (stop : ℕ) → Duty g (onCachingTables g) s (calls c named stop) → TablesOkCached g (next g (onCachingTables g) s (calls c named stop))
-  call-keeps mounts named stop d = call-cached mounts named stop (mount-refines g ok s0 (o .plain) named (names-beneath g (onTables g) (tablesCaches g) s named (d .0)) stop) d
-  call-keeps (writes a count buffer) named stop d = call-cached (writes a count buffer) named stop (write-refines g ok s0 (o .plain) named (names-beneath g (onTables g) (tablesCaches g) s named (d .0)) a count buffer stop) d
-  call-keeps flushes named stop d = call-cached flushes named stop (flush-refines g ok s0 (o .plain) named (names-beneath g (onTables g) (tablesCaches g) s named (d .0)) stop) d
-  call-keeps (resets z) named stop d = call-cached (resets z) named stop (reset-refines g ok s0 (o .plain) named (names-beneath g (onTables g) (tablesCaches g) s named (d .0)) z stop) d
-  call-keeps (formats array) named stop d = call-cached (formats array) named stop (format-refines g ok s0 (o .plain) named (names-beneath g (onTables g) (tablesCaches g) s named (d .0)) array stop) d
 
   -- ---- a look's state, handed on
   look-keeps : (named : List Bool) → Duty g (onCachingTables g) s (looks named true) → TablesOkCached g (next g (onCachingTables g) s (looks named true))
@@ -115,7 +108,7 @@ module _ (g : Geometry) (ok : Valid g) (wb : isValid g ≡ true) (owed : CachesO
 
   -- EVERY EVENT KEEPS IT
   pub tables-event-cached : (e : Event (onCachingTables g)) → Duty g (onCachingTables g) s e → TablesOkCached g (next g (onCachingTables g) s e)
-  tables-event-cached (calls c named stop) d = call-keeps c named stop d
+  tables-event-cached (calls c named stop) d = call-cached c named stop d
   tables-event-cached (looks named false) d = o
   tables-event-cached (looks named true) d = look-keeps named d
   tables-event-cached (reads named a count out) d = o

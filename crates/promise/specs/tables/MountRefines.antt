@@ -29,7 +29,7 @@ use Rattle.volume.specs.laws.BadPlaces.{told-plain, told-finished}
 use Rattle.volume.specs.meaning.Refusals.{Verdict, refuse, accept, firstRefusal, mountRows, badPointers}
 use Rattle.volume.specs.meaning.Mount.{mountStores, mountShows, mountState}
 use Rattle.promise.specs.meaning.Ledger.{Fits}
-use Rattle.promise.specs.meaning.Claim.{mounts, System, NamesAll, Promise, MayMount}
+use Rattle.promise.specs.meaning.Claim.{Call, mounts, writes, flushes, resets, formats, System, NamesAll, Promise, MayMount}
 use Rattle.promise.specs.meaning.OnDevice.{onDevice}
 use Rattle.promise.specs.meaning.OnTables.{onTables, shownIn}
 use Rattle.promise.specs.device.AcceptedCalls.{Applies, refused-applies}
@@ -38,7 +38,7 @@ use Rattle.promise.specs.tables.CallVerdicts.{mount-verdict, mount-numbe
 use Rattle.volume.specs.laws.MountStoresFit.{mount-stores-fit, mount-stores-are}
 use Rattle.volume.specs.looking.Looking.{state-shown-in, state-shown-lost}
 use Rattle.promise.specs.tables.CallRefines.{Agree, all-made, answer-finished}
-use Rattle.promise.specs.tables.TablesEvents.{viewSystem, TablesOk, Refines, names-seen, pointers-fine, call-agrees}
+use Rattle.promise.specs.tables.TablesEvents.{viewSystem, TablesOk, Refines, names-seen, pointers-fine, call-agrees, write-refines, flush-refines, reset-refines, format-refines}
 
 -- ---- the state that it leaves
 pub shown-records : (g : Geometry) → Valid g → (k : Shown) → length (stateShown g k .zones) ≡ 16
@@ -120,7 +120,18 @@ module _ (g : Geometry) (ok : Valid g) (s : System (onTables g)) (o : TablesOk g
     agree = λ p e. rw (shows-end stop p e) (shown-agrees g (mountShows g present lost w));
   }
 
-  -- its state is what is shown then
+  -- so every call is the rules'
+  pub call-refines : (c : Call) (stop : ℕ) → Refines g s c named stop
+  call-refines mounts stop = mount-refines stop
+  call-refines (writes asked) stop = write-refines g ok s o named n asked stop
+  call-refines flushes stop = flush-refines g ok s o named n stop
+  call-refines (resets z) stop = reset-refines g ok s o named n z stop
+  call-refines (formats array) stop = format-refines g ok s o named n array stop
+
+  pub answers-as : (c : Call) (stop : ℕ) → onDevice g (lengthsOf t) .call c (isSet named) (viewState (s .state)) stop w .answer ≡ onTables g .call c named (s .state) stop t .answer
+  answers-as c stop = call-agrees g ok s o c named stop (call-refines c stop) .answer-same
+
+  -- a mount's state is what is shown then
   state-is : (stop : ℕ) → mountOn g named (s .state) stop t .outcome .answer ≡ Finished → mountOn g named (s .state) stop t .outcome .state ≡ stateShown g (shownIn g named t (mountOn g named (s .state) stop t .tables))
   unfolding mountOn mountShownOn
   state-is stop e =
@@ -133,8 +144,8 @@ module _ (g : Geometry) (ok : Valid g) (s : System (onTables g)) (o : TablesOk g
       → (mountOn g named (s .state) stop t .outcome .state ≡ stateShown g (shownIn g named t (mountOn g named (s .state) stop t .tables))) × Fits g (s .ledger) (shownIn g named t (mountOn g named (s .state) stop t .tables))
   mount-claim promised m stop e =
       let k = call-agrees g ok s o mounts named stop (mount-refines stop) in
-      let (a, b) = promised .mount-fits (isSet named) (names-seen g s named n) m stop (k .answer-same ∙ e) in
+      let (a, b) = promised .mount-fits (isSet named) (names-seen g s named n) m stop (answers-as mounts stop ∙ e) in
       (state-is stop e, rw (k .memory-same) at b)
 
   pub mount-refusal : Promise g (onDevice g (lengthsOf t)) (viewSystem g s) → (stop k : ℕ) → mountOn g named (s .state) stop t .outcome .answer ≡ Refused k → k ≡ 14
-  mount-refusal promised stop k e = promised .mount-refused (isSet named) (names-seen g s named n) stop k (call-agrees g ok s o mounts named stop (mount-refines stop) .answer-same ∙ e)
+  mount-refusal promised stop k e = promised .mount-refused (isSet named) (names-seen g s named n) stop k (answers-as mounts stop ∙ e)

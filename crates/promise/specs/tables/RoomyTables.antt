@@ -15,7 +15,7 @@ use Rattle.tables.specs.meaning.GeometryTest.{isValid}
 use Rattle.tables.specs.laws.GeometryTest.{valid-if-test}
 use Rattle.volume.specs.meaning.CallContracts.{isSet, lengthsOf}
 use Rattle.volume.specs.laws.RoomAfter.{RoomyGeneral, RoomyParity}
-use Rattle.promise.specs.meaning.Claim.{Call, mounts, writes, flushes, resets, formats, ready, System, Event, calls, looks, reads, peeks, reports, cuts, loses, next, Duty, Dutiful, start}
+use Rattle.promise.specs.meaning.Claim.{Call, mounts, writes, resets, formats, ready, System, Event, calls, looks, reads, peeks, reports, cuts, loses, next, Duty, Dutiful, start}
 use Rattle.promise.specs.meaning.OnTables.{onTables}
 use Rattle.promise.specs.meaning.Caches.{beneath}
 use Rattle.promise.specs.meaning.CachesOnTables.{tablesCaches, onCachingTables}
@@ -24,8 +24,8 @@ use Rattle.promise.specs.meaning.Roomy.{BeforeLast, NeverFull, RoomyTabl
 use Rattle.promise.specs.emptying.BlankSpares.{BlankSpares}
 use Rattle.promise.specs.device.BlankAtRest.{event-blank}
 use Rattle.promise.specs.shown.RoomyCalls.{never-full, never-full-beneath}
-use Rattle.promise.specs.tables.MountRefines.{mount-refines}
-use Rattle.promise.specs.tables.TablesEvents.{viewSystem, TablesOk, names-seen, Refines, call-agrees, write-refines, flush-refines, reset-refines, format-refines}
+use Rattle.promise.specs.tables.MountRefines.{call-refines, answers-as}
+use Rattle.promise.specs.tables.TablesEvents.{viewSystem, TablesOk, names-seen, call-agrees}
 use Rattle.promise.specs.tables.TablesClaimProof.{tables-start-blank}
 use Rattle.promise.specs.device.CachedPromise.{names-beneath}
 use Rattle.promise.specs.device.CachedClaim.{caches-owed}
@@ -41,16 +41,9 @@ module _ (g : Geometry) (wb : isValid g ≡ true) (s : System (onTables g)) (k :
   ok : Valid g
   ok = valid-if-test g wb
 
-  refines : (c : Call) (named : List Bool) (stop : ℕ) → Duty g (onTables g) s (calls c named stop) → Refines g s c named stop
-  refines mounts named stop (n, m, q) = mount-refines g ok s (k .ok) named n stop
-  refines (writes a count buffer) named stop (n, m, q) = write-refines g ok s (k .ok) named n a count buffer stop
-  refines flushes named stop (n, m, q) = flush-refines g ok s (k .ok) named n stop
-  refines (resets z) named stop (n, m, q) = reset-refines g ok s (k .ok) named n z stop
-  refines (formats array) named stop (n, m, q) = format-refines g ok s (k .ok) named n array stop
-
   call-blank : (c : Call) (named : List Bool) (stop : ℕ) → Duty g (onTables g) s (calls c named stop) → let u = next g (onTables g) s (calls c named stop) in u .mode ≡ ready → BlankSpares g (u .lost) (deviceOf g (u .memory))
   call-blank c named stop (n, m, q) =
-      let a = call-agrees g ok s (k .ok) c named stop (refines c named stop (n, m, q)) in
+      let a = call-agrees g ok s (k .ok) c named stop (call-refines g ok s (k .ok) named n c stop) in
       let b = event-blank g ok (lengthsOf (s .memory)) (viewSystem g s) (k .ok .holds) (k .blank) (calls c (isSet named) stop) (names-seen g s named n, m, rw (a .answer-same) q) in
       rw (a .answer-same, a .memory-same) at b
 
@@ -62,10 +55,9 @@ module _ (g : Geometry) (wb : isValid g ≡ true) (s : System (onTables g)) (k :
   never-full-on general parity young =
       let p = never-full g (lengthsOf (s .memory)) general parity wb (sized-lengths g (s .memory) (k .ok .sized)) (viewSystem g s) (record { ok = k .ok .holds; blank = k .blank }) young in
       record {
-        mount-accepted = λ named n stop i e. p .mount-accepted (isSet named) (names-seen g s named n) stop i (call-agrees g ok s (k .ok) mounts named stop (mount-refines g ok s (k .ok) named n stop) .answer-same ∙ e);
-        reset-not-full = λ named n m z stop e. p .reset-not-full (isSet named) (names-seen g s named n) m z stop (call-agrees g ok s (k .ok) (resets z) named stop (reset-refines g ok s (k .ok) named n z stop) .answer-same ∙ e);
-        write-not-full = λ named n m a count buffer stop e. p .write-not-full (isSet named) (names-seen g s named n) m a count buffer stop
-            (call-agrees g ok s (k .ok) (writes a count buffer) named stop (write-refines g ok s (k .ok) named n a count buffer stop) .answer-same ∙ e);
+        mount-accepted = λ named n stop i e. p .mount-accepted (isSet named) (names-seen g s named n) stop i (answers-as g ok s (k .ok) named n mounts stop ∙ e);
+        reset-not-full = λ named n m z stop e. p .reset-not-full (isSet named) (names-seen g s named n) m z stop (answers-as g ok s (k .ok) named n (resets z) stop ∙ e);
+        write-not-full = λ named n m asked stop e. p .write-not-full (isSet named) (names-seen g s named n) m asked stop (answers-as g ok s (k .ok) named n (writes asked) stop ∙ e);
       }
 
 -- ---- on drives that cache resets

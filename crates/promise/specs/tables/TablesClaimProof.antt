@@ -58,8 +58,8 @@ use Rattle.promise.specs.tables.CallVerdicts.{numbered-accept, look-verd
 use Rattle.promise.specs.meaning.Claim.{mounts, writes, flushes, resets, formats, Call, System, Event, calls, looks, reads, peeks, reports, cuts, loses, next, NamesAll, Duty, SameZones, Promise, ready, start}
 use Rattle.promise.specs.meaning.OnDevice.{onDevice, lookResult, readResult, peekResult}
 use Rattle.promise.specs.meaning.OnTables.{callResult, resultOf, onTables, shownIn}
-use Rattle.promise.specs.tables.MountRefines.{shown-records, shown-agrees, mount-refines, mount-claim, mount-refusal}
-use Rattle.promise.specs.tables.TablesEvents.{viewSystem, TablesOk, names-seen, pointers-fine, fresh-records, fresh-agrees, call-agrees, call-event, write-refines, flush-refines, reset-refines, format-refines, cut-event, loss-event}
+use Rattle.promise.specs.tables.MountRefines.{shown-records, shown-agrees, call-refines, answers-as, mount-claim, mount-refusal}
+use Rattle.promise.specs.tables.TablesEvents.{viewSystem, TablesOk, names-seen, pointers-fine, fresh-records, fresh-agrees, call-event, cut-event, loss-event}
 use Rattle.volume.specs.laws.CallStoresFit.{format-stores-fit}
 use Rattle.promise.specs.invariant.Obligations.{neverEmptied, Rests}
 use Rattle.promise.specs.invariant.Invariant.{LogGenerations}
@@ -218,12 +218,12 @@ module _ (g : Geometry) (ok : Valid g) (wb : isValid g ≡ true) where
         look-fits = look-claim g ok wb s o;
         mount-fits = λ named n m stop e. mount-claim g ok s o named n promised m stop e;
         mount-refused = λ named n stop k e. mount-refusal g ok s o named n promised stop k e;
-        mount-logs-good = λ named n stop b e. promised .mount-logs-good (isSet named) (names-seen g s named n) stop b (call-agrees g ok s o mounts named stop (mount-refines g ok s o named n stop) .answer-same ∙ e);
+        mount-logs-good = λ named n stop b e. promised .mount-logs-good (isSet named) (names-seen g s named n) stop b (answers-as g ok s o named n mounts stop ∙ e);
         pointer-is = promised .pointer-is;
         look-holds = held-claim g ok wb s o;
-        flush-accepted = λ named n m stop k e. promised .flush-accepted (isSet named) (names-seen g s named n) m stop k (call-agrees g ok s o flushes named stop (flush-refines g ok s o named n stop) .answer-same ∙ e);
-        reset-refused = λ named n m z stop k e. promised .reset-refused (isSet named) (names-seen g s named n) m z stop k (call-agrees g ok s o (resets z) named stop (reset-refines g ok s o named n z stop) .answer-same ∙ e);
-        write-refused = λ named n m a count buffer stop k e. promised .write-refused (isSet named) (names-seen g s named n) m a count buffer stop k (call-agrees g ok s o (writes a count buffer) named stop (write-refines g ok s o named n a count buffer stop) .answer-same ∙ e);
+        flush-accepted = λ named n m stop k e. promised .flush-accepted (isSet named) (names-seen g s named n) m stop k (answers-as g ok s o named n flushes stop ∙ e);
+        reset-refused = λ named n m z stop k e. promised .reset-refused (isSet named) (names-seen g s named n) m z stop k (answers-as g ok s o named n (resets z) stop ∙ e);
+        write-refused = λ named n m asked stop k e. promised .write-refused (isSet named) (names-seen g s named n) m asked stop k (answers-as g ok s o named n (writes asked) stop ∙ e);
         read-gives = λ named n m a count out e.
             let r = read-same g ok wb s o named n a count out in
             let (p, q) = promised .read-gives (isSet named) (names-seen g s named n) m a count out (rw r at e) in
@@ -234,15 +234,8 @@ module _ (g : Geometry) (ok : Valid g) (wb : isValid g ≡ true) where
         report-gives = λ named n m list. promised .report-gives (isSet named) (names-seen g s named n) m list;
       }
 
-  call-keeps : (s : System (onTables g)) (o : TablesOk g s) (c : Call) (named : List Bool) (stop : ℕ) → Duty g (onTables g) s (calls c named stop) → TablesOk g (next g (onTables g) s (calls c named stop))
-  call-keeps s o mounts named stop (n, m, q) = call-event g ok s o mounts named stop (mount-refines g ok s o named n stop) (n, m, q)
-  call-keeps s o (writes a count buffer) named stop (n, m, q) = call-event g ok s o (writes a count buffer) named stop (write-refines g ok s o named n a count buffer stop) (n, m, q)
-  call-keeps s o flushes named stop (n, m, q) = call-event g ok s o flushes named stop (flush-refines g ok s o named n stop) (n, m, q)
-  call-keeps s o (resets z) named stop (n, m, q) = call-event g ok s o (resets z) named stop (reset-refines g ok s o named n z stop) (n, m, q)
-  call-keeps s o (formats array) named stop (n, m, q) = call-event g ok s o (formats array) named stop (format-refines g ok s o named n array stop) (n, m, q)
-
   pub tables-event : (s : System (onTables g)) → TablesOk g s → (e : Event (onTables g)) → Duty g (onTables g) s e → TablesOk g (next g (onTables g) s e)
-  tables-event s o (calls c named stop) d = call-keeps s o c named stop d
+  tables-event s o (calls c named stop) d = call-event g ok s o c named stop (call-refines g ok s o named (d .0) c stop) d
   tables-event s o (looks named false) d = o
   tables-event s o (looks named true) d = look-event g ok wb s o named (d .0) d
   tables-event s o (reads named a count out) d = o

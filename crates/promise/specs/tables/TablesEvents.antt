@@ -22,14 +22,14 @@ use Rattle.volume.specs.declared.State.{State}
 use Rattle.volume.specs.meaning.State.{StateView}
 use Rattle.volume.specs.meaning.Calls.{formatState}
 use Rattle.volume.specs.meaning.Refusals.{Verdict, accept, firstRefusal, TableLengths, zoneOf, writeRows, resetRows}
-use Rattle.volume.specs.meaning.Answers.{StoringCall, lostIn, leftOut, writeCall, resetCall}
+use Rattle.volume.specs.meaning.Answers.{StoringCall, lostIn, leftOut, resetCall}
 use Rattle.volume.specs.meaning.CallContracts.{blankRecord, freshRecord, viewState, isSet, verdictNumber, lengthsOf, Result, storingOn, withLost, flushOn, withReset, resetOn, writtenState, pointerOf, writeOn, freshState, formatOn}
 use Rattle.volume.specs.laws.Refusals.{accepted-row, Numbered}
 use Rattle.volume.specs.looking.DrivesLost.{fill-long}
 use Rattle.volume.specs.storing.Formatting.{format-views}
 use Rattle.volume.specs.storing.Resetting.{reset-views}
 use Rattle.volume.specs.writing.Writing.{written-state}
-use Rattle.promise.specs.meaning.Claim.{Call, writes, flushes, resets, formats, System, calls, cuts, loses, next, NamesAll, Duty, modeAfter, noteOf, replyTo}
+use Rattle.promise.specs.meaning.Claim.{WriteAsked, Call, writes, flushes, resets, formats, System, calls, cuts, loses, next, NamesAll, Duty, modeAfter, noteOf, replyTo}
 use Rattle.promise.specs.meaning.Ledger.{noted}
 use Rattle.promise.specs.meaning.OnDevice.{callOf, onDevice, shownBy}
 use Rattle.promise.specs.meaning.OnTables.{resultOn, onTables, shownIn}
@@ -124,9 +124,9 @@ fresh-agrees g ok x = record {
 }
 
 -- ---- an accepted write or reset is of a zone of the volume
-write-zone : (g : Geometry) (l : TableLengths) (named : ℕ → Bool) (state : StateView) (a count : ℕ) (buffer : List ℕ) (v : Device) → firstRefusal (writeCall g l named state a count buffer v .refusals) ≡ accept → zoneOf g a < g .zones
+write-zone : (g : Geometry) (l : TableLengths) (named : ℕ → Bool) (state : StateView) (asked : WriteAsked) (v : Device) → firstRefusal (callOf g l (writes asked) named state v .refusals) ≡ accept → zoneOf g (asked .address) < g .zones
 unfolding writeRows
-write-zone g l named state a count buffer v e = ltb-true (zoneOf g a) (g .zones) (not-not (ltb (zoneOf g a) (g .zones)) (accepted-row (writeCall g l named state a count buffer v .refusals) e 8))
+write-zone g l named state asked v e = let z = zoneOf g (asked .address) in ltb-true z (g .zones) (not-not (ltb z (g .zones)) (accepted-row (callOf g l (writes asked) named state v .refusals) e 8))
 
 reset-zone : (g : Geometry) (l : TableLengths) (named : ℕ → Bool) (state : StateView) (z : ℕ) (v : Device) → firstRefusal (resetCall g l named state z v .refusals) ≡ accept → z < g .zones
 unfolding resetRows
@@ -149,23 +149,25 @@ module _ (g : Geometry) (ok : Valid g) (s : System (onTables g)) (o : TablesOk g
   record-in : (z : ℕ) → z < g .zones → z < length (s .state .zones)
   record-in z h = omega (arith, h, ok .zones-most, o .records)
 
-  pub write-refines : (a count : ℕ) (buffer : List ℕ) (stop : ℕ) → Refines g s (writes a count buffer) named stop
+  pub write-refines : (asked : WriteAsked) (stop : ℕ) → Refines g s (writes asked) named stop
   unfolding writeOn
-  write-refines a count buffer stop =
-      let z = zoneOf g a in
-      let k = callOf g (lengthsOf t) (writes a count buffer) (isSet named) st w in
+  write-refines asked stop =
+      let z = zoneOf g (asked .address) in
+      let k = callOf g (lengthsOf t) (writes asked) (isSet named) st w in
       let y = lostIn g (isSet named) st in
+      let new = writtenState (s .state) y z (pointerOf (s .state) z + asked .count) in
+      let same = write-verdict g named t fine (s .state) (asked .address) (asked .count) (length (asked .buffer)) in
       record {
         verdict = firstRefusal (k .refusals);
         stores = k .stores;
-        new = writtenState (s .state) y z (pointerOf (s .state) z + count);
-        result-is = rw (write-verdict g named t fine (s .state) a count (length buffer)) refl;
+        new = new;
+        result-is = rw same refl;
         verdict-is = refl;
-        has-number = write-numbered g named t (s .state) a count (length buffer);
+        has-number = write-numbered g named t (s .state) (asked .address) (asked .count) (length (asked .buffer));
         same = λ p. refl;
-        fit = λ p. write-stores-fit g named (s .state) a count buffer t (write-verdict g named t fine (s .state) a count (length buffer) ∙ p);
+        fit = λ p. write-stores-fit g named (s .state) (asked .address) (asked .count) (asked .buffer) t (same ∙ p);
         long = λ p. rw length-set (o .records);
-        agree = λ p e. agree-refl g (k .state) (viewState (writtenState (s .state) y z (pointerOf (s .state) z + count))) (sym (written-state g (s .state) y z count buffer (record-in z (write-zone g (lengthsOf t) (isSet named) st a count buffer w p))));
+        agree = λ p e. agree-refl g (k .state) (viewState new) (sym (written-state g (s .state) y z (asked .count) (asked .buffer) (record-in z (write-zone g (lengthsOf t) (isSet named) st asked w p))));
       }
 
   pub flush-refines : (stop : ℕ) → Refines g s flushes named stop

@@ -105,7 +105,7 @@ module _ (g : Geometry) (ok : Valid g) (wb : isValid g ≡ true) (s : System (on
       -- each call is that on the tables
       call-on : (c : Call) (stop : ℕ) → (r : Result) × OnTheTables g m (edgeOf g c mask stop m) r (resultOn g c (namedOf mask) st stop t)
       call-on mounts stop = (_, mount-on g mask m (o .written-bytes) (o .durable-bytes) sizes stop (logs-good stop))
-      call-on (writes a k buffer) stop = (_, write-on g mask m (o .written-bytes) (o .durable-bytes) (o .taken) a k stop buffer)
+      call-on (writes w) stop = (_, write-on g mask m (o .written-bytes) (o .durable-bytes) (o .taken) w stop)
       call-on flushes stop = (_, flush-on g mask m (o .written-bytes) (o .durable-bytes) (o .taken) stop)
       call-on (resets z) stop = (_, reset-on g mask m (o .written-bytes) (o .durable-bytes) (o .taken) z stop)
       call-on (formats array) stop = (_, format-on g mask m (o .written-bytes) (o .durable-bytes) sizes array stop)
@@ -171,7 +171,7 @@ module _ (g : Geometry) (ok : Valid g) (wb : isValid g ≡ true) (s : System (on
         );
     flush-accepted = λ mask n r stop k e. promised .flush-accepted (namedOf mask) (names mask n) r stop k (sym (answers mask n flushes stop) ∙ e);
     reset-refused = λ mask n r z stop k e. promised .reset-refused (namedOf mask) (names mask n) r z stop k (sym (answers mask n (resets z) stop) ∙ e);
-    write-refused = λ mask n r a count buffer stop k e. promised .write-refused (namedOf mask) (names mask n) r a count buffer stop k (sym (answers mask n (writes a count buffer) stop) ∙ e);
+    write-refused = λ mask n r w stop k e. promised .write-refused (namedOf mask) (names mask n) r w stop k (sym (answers mask n (writes w) stop) ∙ e);
     read-gives = λ mask n r a count out e.
         let q = read-is g mask (s .memory) (s .state) (o .taken) a count out in
         let (x, y) = promised .read-gives (namedOf mask) (names mask n) r a count out (sym (ap (λ (u : ReadResult). u .answer) q) ∙ e) in

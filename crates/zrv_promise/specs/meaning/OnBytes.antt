@@ -42,7 +42,7 @@ answerOf n = pick (eqb n 0) Finished (pick (eqb n 255) Unfinished (Refused n))
 
 abbrev pub edgeOf : Geometry → Call → ℕ → ℕ → Ranges → Answered Ranges
 edgeOf g mounts mask count m = withoutPlace (mountEdge g mask count m)
-edgeOf g (writes a k buffer) mask count m = writeEdge g mask a k count buffer m
+edgeOf g (writes w) mask count m = writeEdge g mask (w .address) (w .count) count (w .buffer) m
 edgeOf g flushes mask count m = flushEdge g mask count m
 edgeOf g (resets z) mask count m = resetEdge g mask z count m
 edgeOf g (formats array) mask count m = formatEdge g mask array count m

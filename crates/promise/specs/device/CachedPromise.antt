@@ -4,7 +4,7 @@ use mathlib.Core.Path.{_≡_, ap}
 use Prim.Native.Nat.{ℕ}
 use Rattle.tables.specs.declared.Geometry.{Geometry}
 use Rattle.volume.specs.meaning.Answers.{CallResult}
-use Rattle.promise.specs.meaning.Claim.{Volume, System, NamesAll, SameZones, Promise}
+use Rattle.promise.specs.meaning.Claim.{Volume, System, NamesAll, Promise}
 use Rattle.promise.specs.meaning.Caches.{WithCaches, Caches, withCaches, beneath}
 
 module _ (g : Geometry) (vol : Volume) (k : Caches vol) (s : System (withCaches vol k)) where
@@ -21,7 +21,7 @@ module _ (g : Geometry) (vol : Volume) (k : Caches vol) (s : System (withCaches 
     mount-refused = λ named n stop i e. p .mount-refused named (names-beneath named n) stop i e;
     mount-logs-good = λ named n stop b e. p .mount-logs-good named (names-beneath named n) stop b e;
     pointer-is = p .pointer-is;
-    look-holds = λ named n m. let (e, z) = p .look-holds named (names-beneath named n) m in (e, record { generations = z .generations; conditions = z .conditions });
+    look-holds = λ named n. p .look-holds named (names-beneath named n);
     flush-accepted = λ named n m stop i e. p .flush-accepted named (names-beneath named n) m stop i e;
     reset-refused = λ named n m z stop i e. p .reset-refused named (names-beneath named n) m z stop i e;
     write-refused = λ named n m w stop i e. p .write-refused named (names-beneath named n) m w stop i e;

@@ -115,7 +115,7 @@ module _ (g : Geometry) (ok : Valid g) (t : TableLengths) (wb : isValid g ≡ tr
     look-claim = (rw look-accepted refl, rw (seen, lost) (looked .fits))
 
     -- its state is what the host holds
-    held-claim : s .mode ≡ ready → let looked = lookResult (lookCall g t named (s .memory)) (s .state) (s .memory) .state in (looked .lost ≡ s .lost) × SameZones g (onDevice g t) looked (s .state)
+    held-claim : s .mode ≡ ready → let looked = lookResult (lookCall g t named (s .memory)) (s .state) (s .memory) .state in (looked .lost ≡ s .lost) × SameZones g looked (s .state)
     unfolding showing
     held-claim m =
         let (marks, γ, r) = rest-of m in

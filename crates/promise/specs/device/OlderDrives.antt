@@ -39,7 +39,7 @@ module _ (g : Geometry) (vol : Volume) (k : Caches vol) where
       mount-refused = λ named n stop i e. p .mount-refused named (names named n) stop i e;
       mount-logs-good = λ named n stop b e. p .mount-logs-good named (names named n) stop b e;
       pointer-is = p .pointer-is;
-      look-holds = λ named n m. let (e, z) = p .look-holds named (names named n) m in (e, record { generations = z .generations; conditions = z .conditions });
+      look-holds = λ named n. p .look-holds named (names named n);
       flush-accepted = λ named n m stop i e. p .flush-accepted named (names named n) m stop i e;
       reset-refused = λ named n m z stop i e. p .reset-refused named (names named n) m z stop i e;
       write-refused = λ named n m w stop i e. p .write-refused named (names named n) m w stop i e;

@@ -131,7 +131,7 @@ wentSo =
     ∷ zonesTest small (a3 .memory .memory) (a3 .memory .was) (cut .memory) ∷ eqb (length (cut .memory .written)) (length (a3 .memory .memory .written))
     ∷ eqb (length (cut .memory .written)) (length (a3 .memory .memory .durable)) ∷ eqb (pointer a4 3) 1 ∷ isMode down (a4 .mode) ∷ eqb (vol .shows every (a4 .memory) (a4 .memory) .zone 0 .pointer) 0
     -- the mount resets the zone again and flushes, then raises the counters; the volume goes on
-    ∷ isMode ready (a6 .mode) ∷ isMode ready (a7 .mode) ∷ not (a6 .ledger .resetting 0) ∷ eqb (pointer a6 3) 0 ∷ eqb (length (a6 .memory .was 0 3)) 0 ∷ eqb (vol .generation (a6 .state) 0) 2
+    ∷ isMode ready (a6 .mode) ∷ isMode ready (a7 .mode) ∷ not (a6 .ledger .resetting 0) ∷ eqb (pointer a6 3) 0 ∷ eqb (length (a6 .memory .was 0 3)) 0 ∷ eqb (vol .view (a6 .state) .generation 0) 2
     ∷ eqb (length (a7 .ledger .content 0)) 2 ∷ []
 
 pub history-goes : T (all wentSo)

@@ -192,9 +192,9 @@ wentSo =
     -- written and flushed; refused
     isMode ready (a1 .mode) ∷ isMode ready (a2 .mode) ∷ isMode ready (a3 .mode) ∷ eqb (a2 .ledger .committed 0) 1 ∷ eqb (length (a3 .ledger .content 0)) 1
     -- the look's state is what the host held
-    ∷ eqb (pointerHeld vol (a4 .state) 0) 1 ∷ eqb (vol .generation (a4 .state) 0) 1 ∷ eqb (vol .peek every (a4 .state) 0 (a4 .memory) .number) 0
+    ∷ eqb (pointerHeld vol (a4 .state) 0) 1 ∷ eqb (vol .view (a4 .state) .generation 0) 1 ∷ eqb (vol .peek every (a4 .state) 0 (a4 .memory) .number) 0
     -- a reset that finishes
-    ∷ isMode ready (a6 .mode) ∷ isMode ready (a7 .mode) ∷ isMode ready (a8 .mode) ∷ eqb (length (a6 .ledger .content 0)) 0 ∷ eqb (vol .generation (a6 .state) 0) 2 ∷ eqb (a8 .ledger .committed 0) 3
+    ∷ isMode ready (a6 .mode) ∷ isMode ready (a7 .mode) ∷ isMode ready (a8 .mode) ∷ eqb (length (a6 .ledger .content 0)) 0 ∷ eqb (vol .view (a6 .state) .generation 0) 2 ∷ eqb (a8 .ledger .committed 0) 3
     -- one that is stopped: the flag is up, and what is committed is shown no more
     ∷ not (pointersBad small every (a9 .memory .written) (a9 .memory .durable)) ∷ eqb (length (a9 .memory .sectors)) 6912 ∷ eqb (length (a9 .memory .written)) 12 ∷ eqb (length (a9 .memory .durable)) 12
     ∷ isMode stopped (a9 .mode) ∷ a9 .ledger .resetting 0 ∷ eqb (a10 .ledger .committed 0) 3 ∷ isMode down (a10 .mode) ∷ eqb (vol .shows every (a10 .memory) (a10 .memory) .zone 0 .pointer) 0

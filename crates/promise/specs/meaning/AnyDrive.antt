@@ -35,7 +35,7 @@ module _ (g : Geometry) (vol : Volume) where
   -- at one moment, and tells and shows what the look that names all does: the state's zones; pointers and sectors
   pub record LooksAs (s : System vol) (all some : vol .Names) : Type 0 where
     pub accepted : LookAccepted s some
-    pub zones : SameZones g vol (vol .look some (s .state) (s .memory) .state) (vol .look all (s .state) (s .memory) .state)
+    pub zones : SameZones g (vol .view (vol .look some (s .state) (s .memory) .state)) (vol .view (vol .look all (s .state) (s .memory) .state))
     pub shown : ShowsAlike g (vol .shows all (s .memory) (s .memory)) (vol .shows some (s .memory) (s .memory))
 
   -- names of every drive but x (what they say of drives at or above D is free)

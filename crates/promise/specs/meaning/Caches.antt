@@ -74,9 +74,7 @@ module _ (vol : Volume) (k : Caches vol) where
     shows = λ named m n. vol .shows named (m .memory) (n .memory);
     stateOf = vol .stateOf;
     reportOf = vol .reportOf;
-    lostIn = vol .lostIn;
-    generation = vol .generation;
-    condition = vol .condition;
+    view = vol .view;
     CutTo = CachesCut;
     LossTo = CachesLoss;
   }

@@ -20,7 +20,7 @@ use Rattle.volume.specs.declared.Answer.{Answer}
 use Rattle.volume.specs.declared.Answer.the-variants.{Finished, Unfinished, Refused, BadLog}
 use Rattle.volume.specs.declared.BadPlace.{BadPlace}
 use Rattle.volume.specs.declared.Condition.{Condition}
-use Rattle.volume.specs.meaning.State.{pointerIn, isSealed, isWorn}
+use Rattle.volume.specs.meaning.State.{StateView, pointerIn, isSealed, isWorn}
 use Rattle.volume.specs.meaning.Content.{at}
 use Rattle.volume.specs.meaning.Rules.{Shown}
 use Rattle.volume.specs.meaning.Refusals.{zoneOf, offsetOf}
@@ -62,15 +62,13 @@ pub record Volume : Type 1 where
   pub shows : Names → Memory → Memory → Shown  -- what the drives that a look finds present in the first memory show in the second
   pub stateOf : Shown → State  -- the state that hands on what is shown
   pub reportOf : Shown → Listing → ReportResult Listing  -- the finished report that tells the conditions shown
-  pub lostIn : State → ℕ  -- the drive that is lost, or noDrive
-  pub generation : State → ℕ → ℕ  -- of a zone
-  pub condition : State → ℕ → Condition  -- of a zone
+  pub view : State → StateView  -- as the rules see it: the drive that is lost, the zones' generations and conditions
   pub CutTo : ℕ → Memory → Memory → Type 0  -- what a power cut may leave, while a drive is lost
   pub LossTo : ℕ → Memory → Memory → Type 0  -- what the loss of a drive may leave: of that drive anything
 
 -- a zone's write pointer, as the host holds it
 abbrev pub pointerHeld : (vol : Volume) → vol .State → ℕ → ℕ
-pointerHeld vol state z = pointerIn (vol .condition state z)
+pointerHeld vol state z = pointerIn (vol .view state .condition z)
 
 -- ==== the host, the volume and the ledger
 -- ready: the last call finished. stopped: it did not, and "only a cut may follow". down: after a cut, "looks and mounts" until a mount finishes.
@@ -193,9 +191,9 @@ abbrev pub contentBytes : Ledger → ℕ → ℕ → ℕ → List ℕ
 contentBytes l z offset count = concat (tabulateFrom (at (l .content z)) offset count)
 
 -- two states say the same of the volume's zones
-pub record SameZones (g : Geometry) (vol : Volume) (a b : vol .State) : Type 0 where
-  pub generations : (z : ℕ) → z < g .zones → vol .generation a z ≡ vol .generation b z
-  pub conditions : (z : ℕ) → z < g .zones → vol .condition a z ≡ vol .condition b z
+pub record SameZones (g : Geometry) (a b : StateView) : Type 0 where
+  pub generations : (z : ℕ) → z < g .zones → a .generation z ≡ b .generation z
+  pub conditions : (z : ℕ) → z < g .zones → a .condition z ≡ b .condition z
 
 -- why a reset of zone z may be refused, and by which number n (generation: the zone's, as the host holds it)
 pub data ResetRefusal (g : Geometry) (generation z n : ℕ) : Type 0 where
@@ -231,13 +229,13 @@ pub record Promise (g : Geometry) (vol : Volume) (s : System vol) : Type 0 where
   pub pointer-is : s .mode ≡ ready → (z : ℕ) → z < g .zones → pointerHeld vol (s .state) z ≡ length (s .ledger .content z)
   -- and a look's state says of every zone what the host's says, and the drive that is lost: either may be handed on
   pub look-holds : (named : vol .Names) → NamesAll g vol s named → s .mode ≡ ready
-      → let looked = vol .look named (s .state) (s .memory) .state in (vol .lostIn looked ≡ s .lost) × SameZones g vol looked (s .state)
+      → let looked = vol .view (vol .look named (s .state) (s .memory) .state) in (looked .lost ≡ s .lost) × SameZones g looked (vol .view (s .state))
   -- and no flush is refused, and a reset or write only for its cause: never by 1, 3, 4, 7 or 15
   pub flush-accepted : (named : vol .Names) → NamesAll g vol s named → s .mode ≡ ready → (stop n : ℕ) → vol .call flushes named (s .state) stop (s .memory) .answer ≢ Refused n
   pub reset-refused : (named : vol .Names) → NamesAll g vol s named → s .mode ≡ ready → (z stop n : ℕ) → vol .call (resets z) named (s .state) stop (s .memory) .answer ≡ Refused n
-      → ResetRefusal g (vol .generation (s .state) z) z n
+      → ResetRefusal g (vol .view (s .state) .generation z) z n
   pub write-refused : (named : vol .Names) → NamesAll g vol s named → s .mode ≡ ready → (w : WriteAsked) (stop n : ℕ) → vol .call (writes w) named (s .state) stop (s .memory) .answer ≡ Refused n
-      → WriteRefusal g (vol .condition (s .state) (zoneOf g (w .address))) w n
+      → WriteRefusal g (vol .view (s .state) .condition (zoneOf g (w .address))) w n
   -- an accepted read leaves the content in the buffer, and a read below the pointer is accepted
   pub read-gives : (named : vol .Names) → NamesAll g vol s named → s .mode ≡ ready → (a count : ℕ) (out : List ℕ) → vol .read named (s .state) a count out (s .memory) .answer ≡ Finished
       → (offsetOf g a + count ≤ length (s .ledger .content (zoneOf g a))) × (vol .read named (s .state) a count out (s .memory) .buffer ≡ contentBytes (s .ledger) (zoneOf g a) (offsetOf g a) count)

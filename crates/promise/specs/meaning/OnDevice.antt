@@ -61,9 +61,7 @@ onDevice g t = record {
   shows = shownBy g;
   stateOf = mountState;
   reportOf = reportShown g;
-  lostIn = λ state. state .lost;
-  generation = λ state. state .generation;
-  condition = λ state. state .condition;
+  view = λ state. state;
   CutTo = Cut;
   LossTo = Loss;
 }

@@ -10,7 +10,7 @@ use Rattle.volume.specs.declared.Outcome.{Outcome}
 use Rattle.volume.specs.declared.ZoneDescriptor.{ZoneDescriptor}
 use Rattle.volume.specs.meaning.Rules.{Shown}
 use Rattle.volume.specs.meaning.Answers.{CallResult}
-use Rattle.volume.specs.meaning.CallContracts.{recordAt, viewState, isSet, Result, flushOn, resetOn, writeOn, formatOn, lookOn, stateShown, mountOn, readOn, peekNumber, peekFrom, peekOn}
+use Rattle.volume.specs.meaning.CallContracts.{viewState, isSet, Result, flushOn, resetOn, writeOn, formatOn, lookOn, stateShown, mountOn, readOn, peekNumber, peekFrom, peekOn}
 use Rattle.volume.specs.meaning.Report.{reportOn}
 use Rattle.promise.specs.meaning.Claim.{Call, mounts, writes, flushes, resets, formats, Volume, KeepsPromise}
 use Rattle.promise.specs.meaning.OnDevice.{shownBy, reportShown}
@@ -47,9 +47,7 @@ onTables g = record {
   shows = shownIn g;
   stateOf = stateShown g;
   reportOf = reportShown g;
-  lostIn = λ state. state .lost;
-  generation = λ state z. recordAt state z .generation;
-  condition = λ state z. recordAt state z .condition;
+  view = viewState;
   CutTo = TablesCut g;
   LossTo = TablesLoss g;
 }

@@ -120,7 +120,7 @@ module _ (g : Geometry) (ok : Valid g) (wb : isValid g ≡ true) (s : System (on
     look-claim = (rw look-is refl, promised .look-fits (isSet named) names .1)
 
     -- its state says what the host's says
-    held-claim : s .mode ≡ ready → (lookOn g named (s .state) t .state .lost ≡ s .lost) × SameZones g (onTables g) (lookOn g named (s .state) t .state) (s .state)
+    held-claim : s .mode ≡ ready → let looked = viewState (lookOn g named (s .state) t .state) in (looked .lost ≡ s .lost) × SameZones g looked (viewState (s .state))
     held-claim m =
         let k = shownIn g named t t in
         let e : lookResult (lookCall g (lengthsOf t) (isSet named) w) (viewState (s .state)) w .state ≡ mountState k = ap (λ (r : CallResult Device StateView). r .state) (promised .look-fits (isSet named) names .0) in

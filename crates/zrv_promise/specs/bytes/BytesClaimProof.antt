@@ -161,14 +161,7 @@ module _ (g : Geometry) (ok : Valid g) (wb : isValid g ≡ true) (s : System (on
     mount-refused = λ mask n stop k e. promised .mount-refused (namedOf mask) (names mask n) stop k (sym (answers mask n mounts stop) ∙ e);
     mount-logs-good = λ mask n stop b e. promised .mount-logs-good (namedOf mask) (names mask n) stop b (sym (answers mask n mounts stop) ∙ e);
     pointer-is = promised .pointer-is;
-    look-holds = λ mask n r.
-        let (a, b) = promised .look-holds (namedOf mask) (names mask n) r in (
-          ap (λ (x : State). x .lost) (look-state mask n) ∙ a,
-          record {
-            generations = λ z h. ap (λ (x : State). recordAt x z .generation) (look-state mask n) ∙ b .generations z h;
-            conditions = λ z h. ap (λ (x : State). recordAt x z .condition) (look-state mask n) ∙ b .conditions z h;
-          },
-        );
+    look-holds = λ mask n r. rw (look-state mask n) (promised .look-holds (namedOf mask) (names mask n) r);
     flush-accepted = λ mask n r stop k e. promised .flush-accepted (namedOf mask) (names mask n) r stop k (sym (answers mask n flushes stop) ∙ e);
     reset-refused = λ mask n r z stop k e. promised .reset-refused (namedOf mask) (names mask n) r z stop k (sym (answers mask n (resets z) stop) ∙ e);
     write-refused = λ mask n r w stop k e. promised .write-refused (namedOf mask) (names mask n) r w stop k (sym (answers mask n (writes w) stop) ∙ e);

@@ -15,7 +15,7 @@ use Rattle.volume.specs.declared.Answer.the-variants.{Finished, Unfinished, Ref
 use Rattle.volume.specs.meaning.Answers.{CallResult}
 use Rattle.volume.specs.meaning.Report.{ReportResult, filledNumber}
 use Rattle.volume.specs.meaning.Rules.{Shown}
-use Rattle.volume.specs.meaning.CallContracts.{recordAt, isSet, stateShown, ReadResult}
+use Rattle.volume.specs.meaning.CallContracts.{viewState, isSet, stateShown, ReadResult}
 use Rattle.promise.specs.meaning.Claim.{Call, mounts, writes, flushes, resets, formats, Peeked, Volume, KeepsPromise}
 use Rattle.promise.specs.meaning.OnTables.{shownIn}
 use Rattle.zrv.specs.meaning.Bytes.{stateFrom, stateTo}
@@ -91,9 +91,7 @@ onBytes g = record {
   shows = λ mask m u. shownIn g (namedOf mask) (tablesAt g m) (tablesAt g u);
   stateOf = λ k. stateTo (g .zones) (stateShown g k);
   reportOf = shownBytes g;
-  lostIn = λ st. stateFrom (g .zones) st .lost;
-  generation = λ st z. recordAt (stateFrom (g .zones) st) z .generation;
-  condition = λ st z. recordAt (stateFrom (g .zones) st) z .condition;
+  view = λ st. viewState (stateFrom (g .zones) st);
   CutTo = λ x m u. StillBytes m u × TablesCut g x (tablesAt g m) (tablesAt g u);
   LossTo = λ x m u. StillBytes m u × TablesLoss g x (tablesAt g m) (tablesAt g u);
 }

@@ -25,9 +25,9 @@
  * zone L - 1 are all zero. A state that breaks this form or document 01's bounds is refusal 1, one of another length 2.
  *
  * The host's duties: no two ranges of a call overlap; an empty range has a pointer that is not null too; every call gets the geometry of the format and
- * the state that the last finished call left (after a look either its state or the one held before: unless a cut came between, they say the same of every
- * zone); after a power cut a mount is finished before anything but looks and mounts; every drive that is not lost is named, and a lost one never again;
- * after an unfinished call only a power cut, then a mount.
+ * the state that the last finished format, mount, write, flush or reset left; after a power cut a mount is finished before anything but looks and mounts;
+ * every drive that is not lost is named, and a lost one never again; after an unfinished call only a power cut, then a mount.
+ * A look's state is not handed on: give a look a buffer of its own. Between finished calls it serves reads, peeks and reports, which give the same by it.
  */
 #ifndef ZRV_H
 #define ZRV_H

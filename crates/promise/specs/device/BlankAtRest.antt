@@ -90,7 +90,7 @@ module _ (g : Geometry) (ok : Valid g) (t : TableLengths) (s : System (onDevice 
   -- EVERY EVENT KEEPS IT
   pub event-blank : (e : Event (onDevice g t)) → Duty g (onDevice g t) s e → BlankAtRest g t (next g (onDevice g t) s e)
   event-blank (calls c named stop) d = call-blank named (d .0) c stop d
-  event-blank (looks named taken) d = b
+  event-blank (looks named) d = b
   event-blank (reads named a count out) d = b
   event-blank (peeks named a) d = b
   event-blank (reports list) d = b

@@ -22,6 +22,7 @@ module _ (g : Geometry) (vol : Volume) (k : Caches vol) (s : System (withCaches 
     mount-logs-good = λ named n stop b e. p .mount-logs-good named (names-beneath named n) stop b e;
     pointer-is = p .pointer-is;
     look-holds = λ named n. p .look-holds named (names-beneath named n);
+    look-serves = λ named n m. let q = p .look-serves named (names-beneath named n) m in record { reads-same = λ by k. q .reads-same by (names-beneath by k); peeks-same = λ by k. q .peeks-same by (names-beneath by k); reports-same = q .reports-same };
     flush-accepted = λ named n m stop i e. p .flush-accepted named (names-beneath named n) m stop i e;
     reset-refused = λ named n m z stop i e. p .reset-refused named (names-beneath named n) m z stop i e;
     write-refused = λ named n m w stop i e. p .write-refused named (names-beneath named n) m w stop i e;

@@ -202,9 +202,9 @@ module _ (g : Geometry) (ok : Valid g) (t : TableLengths) where
           go (refuse k) n = o
           go accept n = cases (ltb stop (length xs)) n
 
-      look-event : (taken : Bool) → Ok g t (next g (onDevice g t) s (looks named taken))
-      look-event false = o
-      look-event true = go (firstRefusal (lookRows g t (badPointers g named (s .memory)) named (roles g (s .memory)) (byRoles g (s .memory))))
+      -- with a look's state in place of what the host holds
+      pub look-held : OkIn g (s .mode) (s .lost) (s .memory) (onDevice g t .look named (s .state) (s .memory) .state) (s .ledger)
+      look-held = go (firstRefusal (lookRows g t (badPointers g named (s .memory)) named (roles g (s .memory)) (byRoles g (s .memory))))
         where
           shown : OkIn g (s .mode) (s .lost) (s .memory) (mountState (shownBy g named (s .memory) (s .memory))) (s .ledger)
           shown = rw (drives-of-look, lost-of-look) (shown-in g ok (s .mode) (s .lost) (s .memory) (s .state) (s .ledger) o)
@@ -223,7 +223,7 @@ module _ (g : Geometry) (ok : Valid g) (t : TableLengths) where
     -- EVERY EVENT KEEPS IT
     pub event-keeps : (e : Event (onDevice g t)) → Duty g (onDevice g t) s e → Ok g t (next g (onDevice g t) s e)
     event-keeps (calls c named stop) d = call-keeps named (d .0) c stop d
-    event-keeps (looks named taken) d = look-event named (d .0) taken
+    event-keeps (looks named) d = o
     event-keeps (reads named a count out) d = o
     event-keeps (peeks named a) d = o
     event-keeps (reports list) d = o

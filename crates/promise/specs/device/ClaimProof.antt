@@ -42,7 +42,7 @@ use Rattle.volume.specs.declared.BadPlace.{BadPlace}
 use Rattle.volume.specs.declared.ZoneDescriptor.{ZoneDescriptor}
 use Rattle.volume.specs.meaning.Report.{reportOn}
 use Rattle.volume.specs.laws.Report.{report-finished, report-same}
-use Rattle.promise.specs.meaning.Claim.{WriteAsked, mounts, writes, flushes, resets, ready, System, NamesAll, MayMount, allBut, contentBytes, SameZones, ResetRefusal, noSuchZone, wornOut, generalLogFull, WriteRefusal, bufferLength, noSuchAddress, noSectors, pastTheEnd, notAtPointer, sealedZone, wornZone, parityLogFull, Promise}
+use Rattle.promise.specs.meaning.Claim.{WriteAsked, mounts, writes, flushes, resets, ready, System, NamesAll, MayMount, allBut, contentBytes, SameZones, Serves, ResetRefusal, noSuchZone, wornOut, generalLogFull, WriteRefusal, bufferLength, noSuchAddress, noSectors, pastTheEnd, notAtPointer, sealedZone, wornZone, parityLogFull, Promise}
 use Rattle.promise.specs.meaning.OnDevice.{callOf, lookResult, readResult, peekResult, reportShown, shownBy, onDevice}
 use Rattle.promise.specs.look.LookRest.{generation-held, condition-held}
 use Rattle.promise.specs.device.AtRestAnswers.{absent-fine, state-fine, stale-fine, gone-fine, before-fine, entry-fine, worn-last, rest-held, rest-sector}
@@ -50,10 +50,10 @@ use lib.Seq.{take-length}
 use Rattle.tables.specs.meaning.GeometryTest.{isValid}
 use Rattle.promise.specs.roles.ReadsSectors.{data-seen}
 use Rattle.promise.specs.device.Marks.{withMarks}
-use Rattle.promise.specs.device.Modes.{Halted}
+use Rattle.promise.specs.device.Modes.{Halted, OkIn}
 use Rattle.promise.specs.device.Looks.{LookFine, halted-look}
 use Rattle.promise.specs.device.CallsProved.{calls-owed}
-use Rattle.promise.specs.device.ClaimEvents.{Ok, rests-of, invs-of, fine, drives-of-call, drives-of-look, lost-of-look, mount-allowed}
+use Rattle.promise.specs.device.ClaimEvents.{Ok, rests-of, invs-of, fine, drives-of-call, drives-of-look, lost-of-look, mount-allowed, look-held}
 
 -- ---- what is promised of a system that is so (wb, lf: the format was accepted)
 module _ (g : Geometry) (ok : Valid g) (t : TableLengths) (wb : isValid g ≡ true) (lf : tablesFit g t ≡ true) (s : System (onDevice g t)) (o : Ok g t s) where
@@ -309,21 +309,72 @@ module _ (g : Geometry) (ok : Valid g) (t : TableLengths) (wb : isValid g ≡ tr
         let same : (z : ℕ) → z < g .zones → s .state .condition z ≡ k .zone z .condition = λ z h. sym (held-claim m .1 .conditions z h) ∙ ap (λ (r : StateView). r .condition z) e in
         report-finished g (s .state) (not-not (isValid g && stateWithin g (s .state)) (row-1 m)) list ∙ report-same g (s .state .condition) (λ z. k .zone z .condition) list same
 
-  -- every point of a history is as claimed
+-- ---- another state under which the system is so, and which says the same of the zones, serves reads, peeks and reports
+module _ (g : Geometry) (ok : Valid g) (t : TableLengths) (wb : isValid g ≡ true) (lf : tablesFit g t ≡ true) (s : System (onDevice g t)) (o : Ok g t s) (m : s .mode ≡ ready)
+    (state : StateView) (p : OkIn g (s .mode) (s .lost) (s .memory) state (s .ledger)) (same : SameZones g state (s .state)) (named : ℕ → Bool) (names : NamesAll g (onDevice g t) s named) where
+  abbrev held : System (onDevice g t)
+  held = record { memory = s .memory; lost = s .lost; mode = s .mode; state = state; ledger = s .ledger }
+
+  module _ (by : ℕ → Bool) (all : NamesAll g (onDevice g t) s by) where
+    there : NamesAll g (onDevice g t) held by
+    there = record { drives = all .drives }
+
+    drives-same : callPresent g by state ≡ callPresent g by (s .state)
+    drives-same = drives g ok t wb lf held p by there m ∙ sym (drives g ok t wb lf s o by all m)
+
+    -- the rows that speak of the state
+    row-1s : (not (isValid g && stateWithin g state) ≡ false) × (not (isValid g && stateWithin g (s .state)) ≡ false)
+    row-1s = (row-1 g ok t wb lf held p by there m, row-1 g ok t wb lf s o by all m)
+
+    row-4s : (twoAbsent g by state ≡ false) × (twoAbsent g by (s .state) ≡ false)
+    row-4s = (row-4 g ok t wb lf held p by there m, row-4 g ok t wb lf s o by all m)
+
+    row-7s : (z : ℕ) → let w = byRoles g (s .memory) in (stale g (callPresent g by state) w state z ≡ false) × (stale g (callPresent g by (s .state)) w (s .state) z ≡ false)
+    row-7s z = (row-7 g ok t wb lf held p by there m z, row-7 g ok t wb lf s o by all m z)
+
+    read-same : (a count : ℕ) (out : List ℕ) → onDevice g t .read by state a count out (s .memory) ≡ onDevice g t .read by (s .state) a count out (s .memory)
+    unfolding readRows
+    read-same a count out = go (ltb (zoneOf g a) (g .zones)) (bufferFits g count (length out)) refl refl
+      where
+        go : (i b : Bool) → ltb (zoneOf g a) (g .zones) ≡ i → bufferFits g count (length out) ≡ b → onDevice g t .read by state a count out (s .memory) ≡ onDevice g t .read by (s .state) a count out (s .memory)
+        go true b e f =
+            let z = zoneOf g a in
+            let h = ltb-true z (g .zones) e in
+            rw (row-1s .0, row-1s .1, row-4s .0, row-4s .1, row-7s z .0, row-7s z .1, drives-same, same .generations z h, same .conditions z h) refl
+        go false true e f = rw (row-1s .0, row-1s .1, lf, f, row-3 g ok t wb lf s o by all, row-4s .0, row-4s .1, row-7s (zoneOf g a) .0, row-7s (zoneOf g a) .1, e) refl
+        go false false e f = rw (row-1s .0, row-1s .1, lf, f) refl
+
+    peek-same : (a : ℕ) → onDevice g t .peek by state a (s .memory) ≡ onDevice g t .peek by (s .state) a (s .memory)
+    unfolding peekRows
+    peek-same a = go (ltb (zoneOf g a) (g .zones)) refl
+      where
+        go : (i : Bool) → ltb (zoneOf g a) (g .zones) ≡ i → onDevice g t .peek by state a (s .memory) ≡ onDevice g t .peek by (s .state) a (s .memory)
+        go true e =
+            let z = zoneOf g a in
+            let h = ltb-true z (g .zones) e in
+            rw (row-1s .0, row-1s .1, row-4s .0, row-4s .1, row-7s z .0, row-7s z .1, drives-same, same .generations z h, same .conditions z h) refl
+        go false e = rw (row-1s .0, row-1s .1, lf, row-3 g ok t wb lf s o by all, row-4s .0, row-4s .1, row-7s (zoneOf g a) .0, row-7s (zoneOf g a) .1, e) refl
+
+  pub serves : Serves g (onDevice g t) s state
+  serves = record { reads-same = read-same; peeks-same = peek-same; reports-same = λ list. report-claim g ok t wb lf held p named (there named names) m list ∙ sym (report-claim g ok t wb lf s o named names m list) }
+
+-- every point of a history is as claimed
+module _ (g : Geometry) (ok : Valid g) (t : TableLengths) (wb : isValid g ≡ true) (lf : tablesFit g t ≡ true) (s : System (onDevice g t)) (o : Ok g t s) where
   pub kept : Promise g (onDevice g t) s
   kept = record {
-    look-fits = look-claim;
-    mount-fits = mount-claim;
-    mount-refused = refused-claim;
-    mount-logs-good = logs-claim;
-    pointer-is = pointer-claim;
-    look-holds = held-claim;
-    flush-accepted = flush-claim;
-    reset-refused = reset-claim;
-    write-refused = write-claim;
-    read-gives = read-claim;
-    read-accepted = read-accepted;
-    peek-gives = peek-claim;
-    peek-accepted = peek-accepted;
-    report-gives = report-claim;
+    look-fits = look-claim g ok t wb lf s o;
+    mount-fits = mount-claim g ok t wb lf s o;
+    mount-refused = refused-claim g ok t wb lf s o;
+    mount-logs-good = logs-claim g ok t wb lf s o;
+    pointer-is = pointer-claim g ok t wb lf s o;
+    look-holds = held-claim g ok t wb lf s o;
+    look-serves = λ named names m. serves g ok t wb lf s o m (onDevice g t .look named (s .state) (s .memory) .state) (look-held g ok t s o named names) (held-claim g ok t wb lf s o named names m .1) named names;
+    flush-accepted = flush-claim g ok t wb lf s o;
+    reset-refused = reset-claim g ok t wb lf s o;
+    write-refused = write-claim g ok t wb lf s o;
+    read-gives = read-claim g ok t wb lf s o;
+    read-accepted = read-accepted g ok t wb lf s o;
+    peek-gives = peek-claim g ok t wb lf s o;
+    peek-accepted = peek-accepted g ok t wb lf s o;
+    report-gives = report-claim g ok t wb lf s o;
   }

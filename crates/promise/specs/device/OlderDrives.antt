@@ -40,6 +40,7 @@ module _ (g : Geometry) (vol : Volume) (k : Caches vol) where
       mount-logs-good = λ named n stop b e. p .mount-logs-good named (names named n) stop b e;
       pointer-is = p .pointer-is;
       look-holds = λ named n. p .look-holds named (names named n);
+      look-serves = λ named n m. let q = p .look-serves named (names named n) m in record { reads-same = λ by k. q .reads-same by (names by k); peeks-same = λ by k. q .peeks-same by (names by k); reports-same = q .reports-same };
       flush-accepted = λ named n m stop i e. p .flush-accepted named (names named n) m stop i e;
       reset-refused = λ named n m z stop i e. p .reset-refused named (names named n) m z stop i e;
       write-refused = λ named n m w stop i e. p .write-refused named (names named n) m w stop i e;
@@ -54,7 +55,7 @@ module _ (g : Geometry) (vol : Volume) (k : Caches vol) where
     -- ---- an event there: a cut brings nothing back
     abbrev there : Remembered → Event vol → Event (withCaches vol k)
     there was (calls c named stop) = calls c named stop
-    there was (looks named taken) = looks named taken
+    there was (looks named) = looks named
     there was (reads named a count out) = reads named a count out
     there was (peeks named a) = peeks named a
     there was (reports list) = reports list
@@ -67,7 +68,7 @@ module _ (g : Geometry) (vol : Volume) (k : Caches vol) where
 
     duty-there : (s : System vol) (was : Remembered) (e : Event vol) → Duty g vol s e → Duty g (withCaches vol k) (beside s was) (there was e)
     duty-there s was (calls c named stop) (n, d, f) = (names s was named n, d, f)
-    duty-there s was (looks named taken) (n, d) = (names s was named n, d)
+    duty-there s was (looks named) (n, d) = (names s was named n, d)
     duty-there s was (reads named a count out) (n, d) = (names s was named n, d)
     duty-there s was (peeks named a) (n, d) = (names s was named n, d)
     duty-there s was (reports list) d = d
@@ -76,7 +77,7 @@ module _ (g : Geometry) (vol : Volume) (k : Caches vol) where
 
     next-there : (s : System vol) (was : Remembered) (e : Event vol) → next g (withCaches vol k) (beside s was) (there was e) ≡ beside (next g vol s e) (left s was e)
     next-there s was (calls c named stop) = refl
-    next-there s was (looks named taken) = refl
+    next-there s was (looks named) = refl
     next-there s was (reads named a count out) = refl
     next-there s was (peeks named a) = refl
     next-there s was (reports list) = refl

@@ -81,7 +81,7 @@ abbrev mounted : System vol
 mounted = next geo vol s4 (calls mounts every noStop)
 
 abbrev f1 : Event vol
-f1 = looks every true
+f1 = looks every
 
 abbrev t1 : System vol
 t1 = next geo vol mounted f1

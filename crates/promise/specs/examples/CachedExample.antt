@@ -67,7 +67,7 @@ abbrev before : List (Event vol)
 before = calls (writing 0 5 9) every noStop ∷ calls flushes every noStop ∷ calls (resets 0) every 10 ∷ []
 
 abbrev after : WithCaches Device → List (Event vol)
-after m = cuts (cutTo m) ∷ looks every false ∷ calls mounts every noStop ∷ calls (writing 0 2 6) every noStop ∷ reads every 0 2 (bytes 2 0) ∷ []
+after m = cuts (cutTo m) ∷ looks every ∷ calls mounts every noStop ∷ calls (writing 0 2 6) every noStop ∷ reads every 0 2 (bytes 2 0) ∷ []
 
 abbrev history : List (Event vol)
 history = before ++ after (afterAll geo vol s0 before .memory)

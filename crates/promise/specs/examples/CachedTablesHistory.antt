@@ -102,7 +102,7 @@ abbrev cutTo : WithCaches Tables → WithCaches Tables
 cutTo m = let ws = overlay (m .memory .durable) 3 (1 ∷ []) in record { memory = record { sectors = m .memory .sectors; written = ws; durable = ws }; was = λ d z. [] }
 
 abbrev after : WithCaches Tables → List (Event vol)
-after m = cuts (cutTo m) ∷ looks every false ∷ calls mounts every noStop ∷ calls (writing 0 2 6) every noStop ∷ reads every 0 2 (bytes 2 0) ∷ []
+after m = cuts (cutTo m) ∷ looks every ∷ calls mounts every noStop ∷ calls (writing 0 2 6) every noStop ∷ reads every 0 2 (bytes 2 0) ∷ []
 
 abbrev history : List (Event vol)
 history = before ++ after (afterAll small vol s0 before .memory)

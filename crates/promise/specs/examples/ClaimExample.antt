@@ -54,7 +54,7 @@ s3 = next geo vol s2 e3
 
 -- its state is handed on
 abbrev e4 : Event vol
-e4 = looks every true
+e4 = looks every
 
 abbrev s4 : System vol
 s4 = next geo vol s3 e4
@@ -94,7 +94,7 @@ abbrev s9 : System vol
 s9 = next geo vol s8 e9
 
 abbrev e10 : Event vol
-e10 = looks every false
+e10 = looks every
 
 abbrev s10 : System vol
 s10 = next geo vol s9 e10

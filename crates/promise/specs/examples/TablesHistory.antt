@@ -81,7 +81,7 @@ s3 = next small vol s2 e3
 
 -- its state is handed on
 abbrev e4 : Event vol
-e4 = looks every true
+e4 = looks every
 
 abbrev s4 : System vol
 s4 = next small vol s3 e4
@@ -127,7 +127,7 @@ abbrev s10 : System vol
 s10 = next small vol s9 e10
 
 abbrev e11 : Event vol
-e11 = looks every false
+e11 = looks every
 
 abbrev s11 : System vol
 s11 = next small vol s10 e11

@@ -16,7 +16,7 @@ module _ (g : Geometry) (vol : Volume) where
   -- ---- events that store nothing
   abbrev pub StoresNothing : System vol → Event vol → Type 0
   StoresNothing s (calls c named stop) = (n : ℕ) × (vol .call c named (s .state) stop (s .memory) .answer ≡ Refused n)
-  StoresNothing s (looks named taken) = Unit {0}
+  StoresNothing s (looks named) = Unit {0}
   StoresNothing s (reads named a count out) = Unit {0}
   StoresNothing s (peeks named a) = Unit {0}
   StoresNothing s (reports list) = Unit {0}

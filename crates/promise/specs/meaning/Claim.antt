@@ -8,7 +8,6 @@ use Prim.Native.Nat.{ℕ, zero, _+_, _*_, _^_, _≤_, _<_}
 use mathlib.Core.List.{List, [], _∷_}
 use lib.ListN.{length}
 use lib.Dec.{eqb}
-use Rattle.tables.specs.meaning.Basics.{pick}
 use Rattle.tables.specs.meaning.Below.{tabulateFrom}
 use Rattle.tables.specs.meaning.Lists.{concat}
 use Rattle.tables.specs.meaning.Drives.{noDrive}
@@ -84,10 +83,11 @@ pub record System (vol : Volume) : Type 0 where
   pub state : vol .State  -- what the host holds
   pub ledger : Ledger
 
--- ==== events. Every call is handed the format's geometry, the drives that the host names, and the state that the host holds.
+-- ==== events. Every call is handed the format's geometry, the drives that the host names, and the state that the last finished storing call left: what the host
+-- holds. A look's state is not handed on; what it serves for is said below (Serves).
 pub data Event (vol : Volume) : Type 0 where
   calls : Call → vol .Names → ℕ → Event vol  -- count of stores
-  looks : vol .Names → Bool → Event vol  -- whether the host hands on the look's state from then on, or what it held
+  looks : vol .Names → Event vol
   reads : vol .Names → ℕ → ℕ → List ℕ → Event vol  -- address; count of sectors; buffer
   peeks : vol .Names → ℕ → Event vol  -- address
   reports : vol .Listing → Event vol  -- what is lent
@@ -126,7 +126,7 @@ module _ (g : Geometry) (vol : Volume) where
 
   abbrev pub next : System vol → Event vol → System vol
   next s (calls c named stop) = let r = vol .call c named (s .state) stop (s .memory) in settled s r (ledgerAfter s c named r)
-  next s (looks named taken) = record { memory = s .memory; lost = s .lost; mode = s .mode; state = pick taken (vol .look named (s .state) (s .memory) .state) (s .state); ledger = s .ledger }
+  next s (looks named) = s
   next s (reads named a count out) = s
   next s (peeks named a) = s
   next s (reports list) = s
@@ -174,7 +174,7 @@ module _ (g : Geometry) (vol : Volume) where
   -- (a cut does what document 01 says of it; no more than one drive is lost, and of its memory anything may become, then and later)
   abbrev pub Duty : System vol → Event vol → Type 0
   Duty s (calls c named stop) = NamesAll g vol s named × MayCome c (s .mode) × Completes c (vol .call c named (s .state) stop (s .memory) .answer)
-  Duty s (looks named taken) = NamesAll g vol s named × MayMount (s .mode)
+  Duty s (looks named) = NamesAll g vol s named × MayMount (s .mode)
   Duty s (reads named a count out) = NamesAll g vol s named × (s .mode ≡ ready)
   Duty s (peeks named a) = NamesAll g vol s named × (s .mode ≡ ready)
   Duty s (reports list) = s .mode ≡ ready
@@ -194,6 +194,12 @@ contentBytes l z offset count = concat (tabulateFrom (at (l .content z)) offset 
 pub record SameZones (g : Geometry) (a b : StateView) : Type 0 where
   pub generations : (z : ℕ) → z < g .zones → a .generation z ≡ b .generation z
   pub conditions : (z : ℕ) → z < g .zones → a .condition z ≡ b .condition z
+
+-- a state that serves reads, peeks and reports: they give what they give by the state that the host holds
+pub record Serves (g : Geometry) (vol : Volume) (s : System vol) (state : vol .State) : Type 0 where
+  pub reads-same : (named : vol .Names) → NamesAll g vol s named → (a count : ℕ) (out : List ℕ) → vol .read named state a count out (s .memory) ≡ vol .read named (s .state) a count out (s .memory)
+  pub peeks-same : (named : vol .Names) → NamesAll g vol s named → (a : ℕ) → vol .peek named state a (s .memory) ≡ vol .peek named (s .state) a (s .memory)
+  pub reports-same : (list : vol .Listing) → vol .report state list ≡ vol .report (s .state) list
 
 -- why a reset of zone z may be refused, and by which number n (generation: the zone's, as the host holds it)
 pub data ResetRefusal (g : Geometry) (generation z n : ℕ) : Type 0 where
@@ -227,9 +233,11 @@ pub record Promise (g : Geometry) (vol : Volume) (s : System vol) : Type 0 where
   pub mount-logs-good : (named : vol .Names) → NamesAll g vol s named → (stop : ℕ) (b : BadPlace) → vol .call mounts named (s .state) stop (s .memory) .answer ≢ BadLog b
   -- between finished calls the state's pointers are the lengths of the contents
   pub pointer-is : s .mode ≡ ready → (z : ℕ) → z < g .zones → pointerHeld vol (s .state) z ≡ length (s .ledger .content z)
-  -- and a look's state says of every zone what the host's says, and the drive that is lost: either may be handed on
+  -- and a look's state says of every zone what the host's says, and the drive that is lost
   pub look-holds : (named : vol .Names) → NamesAll g vol s named → s .mode ≡ ready
       → let looked = vol .view (vol .look named (s .state) (s .memory) .state) in (looked .lost ≡ s .lost) × SameZones g looked (vol .view (s .state))
+  -- so it serves for whatever stores nothing
+  pub look-serves : (named : vol .Names) → NamesAll g vol s named → s .mode ≡ ready → Serves g vol s (vol .look named (s .state) (s .memory) .state)
   -- and no flush is refused, and a reset or write only for its cause: never by 1, 3, 4, 7 or 15
   pub flush-accepted : (named : vol .Names) → NamesAll g vol s named → s .mode ≡ ready → (stop n : ℕ) → vol .call flushes named (s .state) stop (s .memory) .answer ≢ Refused n
   pub reset-refused : (named : vol .Names) → NamesAll g vol s named → s .mode ≡ ready → (z stop n : ℕ) → vol .call (resets z) named (s .state) stop (s .memory) .answer ≡ Refused n

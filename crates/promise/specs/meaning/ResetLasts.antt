@@ -31,7 +31,7 @@ module _ (g : Geometry) (vol : Volume) where
   -- the sectors that an event writes to zone z
   abbrev pub writtenIn : ℕ → System vol → Event vol → List (List ℕ)
   writtenIn z s (calls c named stop) = unlessRefused (replyTo (vol .call c named (s .state) stop (s .memory) .answer)) (handedTo g z c)
-  writtenIn z s (looks named taken) = []
+  writtenIn z s (looks named) = []
   writtenIn z s (reads named a count out) = []
   writtenIn z s (peeks named a) = []
   writtenIn z s (reports list) = []

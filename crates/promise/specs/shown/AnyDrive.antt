@@ -66,7 +66,7 @@ module _ (g : Geometry) (vol : Volume) where
       let r = vol .call c named (s .state) stop (s .memory) in
       let (m, b) = call-mounted s h c (vol .shows named (s .memory) (r .memory)) (r .answer) n e in
       record { is-ready = m; none-lost = h .none-lost; all-committed = b }
-  event-mounted s h (looks named taken) e = record { is-ready = h .is-ready; none-lost = h .none-lost; all-committed = h .all-committed }
+  event-mounted s h (looks named) e = record { is-ready = h .is-ready; none-lost = h .none-lost; all-committed = h .all-committed }
   event-mounted s h (reads named a count out) e = h
   event-mounted s h (peeks named a) e = h
   event-mounted s h (reports list) e = h

@@ -48,7 +48,7 @@ module _ (g : Geometry) (valid : Valid g) (t : TableLengths) (s : System (onCach
 
   event-blank-on : (e : Event (onCachingDevice g t)) → Duty g (onCachingDevice g t) s e → BlankAtRest g t (beneath (onDevice g t) (deviceCaches g t) (next g (onCachingDevice g t) s e))
   event-blank-on (calls c named stop) (n, m, q) = event-blank g valid t under (known .ok) (k .blank) (calls c named stop) (names-beneath g (onDevice g t) (deviceCaches g t) s named n, m, q)
-  event-blank-on (looks named taken) d = k .blank
+  event-blank-on (looks named) d = k .blank
   event-blank-on (reads named a count out) d = k .blank
   event-blank-on (peeks named a) d = k .blank
   event-blank-on (reports list) d = k .blank

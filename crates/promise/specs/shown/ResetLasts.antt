@@ -100,7 +100,7 @@ module _ (g : Geometry) (vol : Volume) (z : ℕ) (hz : z < g .zones) where
       fit flushes o e i = absurd (let q : _≡_ {A = ℕ} 0 1 = cc in omega arith)
       fit (resets y) o e i = absurd (let q : _≡_ {A = ℕ} 0 1 = cc in omega arith)
       fit (formats array) o e i = absurd (let q : _≡_ {A = ℕ} 0 1 = cc in omega arith)
-  event-among s (looks named taken) p d new h = more s new h []
+  event-among s (looks named) p d new h = more s new h []
   event-among s (reads named a count out) p d new h = more s new h []
   event-among s (peeks named a) p d new h = more s new h []
   event-among s (reports list) p d new h = more s new h []

@@ -21,19 +21,17 @@ use Rattle.tables.specs.declared.Geometry.{Geometry}
 use Rattle.tables.specs.meaning.Geometry.{Valid, physicalZones}
 use Rattle.tables.specs.meaning.GeometryTest.{isValid}
 use Rattle.tables.specs.laws.GeometryTest.{valid-if-test}
-use Rattle.volume.specs.meaning.State.{StateView}
 use Rattle.volume.specs.declared.State.{State}
 use Rattle.volume.specs.declared.Answer.the-variants.{Finished}
 use Rattle.volume.specs.meaning.Calls.{formatStores, formatState}
 use Rattle.volume.specs.meaning.Refusals.{Verdict, accept, firstRefusal}
-use Rattle.volume.specs.meaning.Mount.{mountState}
-use Rattle.volume.specs.meaning.Answers.{CallResult, leftOut, namedDrives, lookCall}
-use Rattle.volume.specs.meaning.CallContracts.{viewState, isSet, lengthsOf, stateShown, freshState, formatVerdict, formatOn}
+use Rattle.volume.specs.meaning.Answers.{leftOut, namedDrives}
+use Rattle.volume.specs.meaning.CallContracts.{viewState, isSet, lengthsOf, freshState, formatVerdict, formatOn}
 use Rattle.volume.specs.laws.CallStoresFit.{format-stores-fit}
 use Rattle.promise.specs.meaning.Ledger.{freshLedger, noted}
 use Rattle.promise.specs.meaning.Claim.{Call, formats, System, Event, calls, looks, reads, peeks, reports, cuts, loses, next, modeAfter, noteOf, replyTo, Duty, Promise, ready, start}
-use Rattle.promise.specs.meaning.OnDevice.{callOf, onDevice, lookResult, shownBy}
-use Rattle.promise.specs.meaning.OnTables.{resultOn, onTables, shownIn, TablesClaim}
+use Rattle.promise.specs.meaning.OnDevice.{callOf, onDevice, shownBy}
+use Rattle.promise.specs.meaning.OnTables.{resultOn, onTables, TablesClaim}
 use Rattle.promise.specs.meaning.Caches.{WithCaches, madeBy, madeStores, rememberedAfter, onCachingDevice, beneath}
 use Rattle.promise.specs.meaning.CachesOnTables.{ZoneKept, ZoneBack, TablesCachingCut, tablesCaches, onCachingTables, CachingTablesClaim}
 use Rattle.promise.specs.invariant.Throughout.{throughout}
@@ -48,9 +46,9 @@ use Rattle.promise.specs.device.CachedClaim.{caches-owed}
 use Rattle.promise.specs.device.OlderDrives.{OlderCuts, older-drives}
 use Rattle.promise.specs.tables.CallRefines.{Agrees, viewResult, answer-finished}
 use Rattle.promise.specs.tables.CallVerdicts.{format-verdict}
-use Rattle.promise.specs.tables.MountRefines.{shown-agrees, call-refines}
-use Rattle.promise.specs.tables.TablesEvents.{names-seen, call-agrees, fresh-agrees}
-use Rattle.promise.specs.tables.TablesClaimProof.{promised, look-is, FormatPassed, format-passed, format-numbered-on, tables-promise, tables-event, tables-start}
+use Rattle.promise.specs.tables.MountRefines.{call-refines}
+use Rattle.promise.specs.tables.TablesEvents.{call-agrees, fresh-agrees}
+use Rattle.promise.specs.tables.TablesClaimProof.{FormatPassed, format-passed, format-numbered-on, tables-promise, tables-event, tables-start}
 use Rattle.promise.specs.tables.CachedTables.{caching-cut-refines, agrees-cached, viewCached, TablesOkCached}
 
 -- ---- the pointers after a cut
@@ -93,24 +91,10 @@ module _ (g : Geometry) (ok : Valid g) (wb : isValid g ≡ true) (owed : CachesO
               (noted (s .ledger) (noteOf g c (shownBy g (isSet named) (deviceOf g t) (b .memory)) (replyTo (b .answer)))) (agrees .state-agrees) (rw (agrees .answer-same, agrees .memory-same) at kept);
         }
 
-  -- ---- a look's state, handed on
-  look-keeps : (named : List Bool) → Duty g (onCachingTables g) s (looks named true) → TablesOkCached g (next g (onCachingTables g) s (looks named true))
-  look-keeps named d =
-      let n = names-beneath g (onTables g) (tablesCaches g) s named (d .0) in
-      let k = shownIn g named t t in
-      let w = deviceOf g t in
-      let e : lookResult (lookCall g (lengthsOf t) (isSet named) w) (viewState (s .state)) w .state ≡ mountState k = ap (λ (r : CallResult Device StateView). r .state) (promised g ok wb s0 (o .plain) .look-fits (isSet named) (names-seen g s0 named n) .0) in
-      let i : OkCached g (s .mode) (s .lost) (record { now = w; was = s .memory .was }) (lookResult (lookCall g (lengthsOf t) (isSet named) w) (viewState (s .state)) w .state) (s .ledger) = device-keeps (looks (isSet named) true) (record { drives = d .0 .drives }, d .1) in
-      record {
-        plain = tables-event g ok wb s0 (o .plain) (looks named true) (n, d .1);
-        holds = rw (look-is g ok wb s0 (o .plain) named n) (agrees-cached g (s .mode) (s .lost) (record { now = w; was = s .memory .was }) (mountState k) (viewState (stateShown g k)) (s .ledger) (shown-agrees g k) (rw e at i));
-      }
-
   -- EVERY EVENT KEEPS IT
   pub tables-event-cached : (e : Event (onCachingTables g)) → Duty g (onCachingTables g) s e → TablesOkCached g (next g (onCachingTables g) s e)
   tables-event-cached (calls c named stop) d = call-cached c named stop d
-  tables-event-cached (looks named false) d = o
-  tables-event-cached (looks named true) d = look-keeps named d
+  tables-event-cached (looks named) d = o
   tables-event-cached (reads named a count out) d = o
   tables-event-cached (peeks named a) d = o
   tables-event-cached (reports list) d = o

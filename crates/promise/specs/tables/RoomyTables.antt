@@ -74,7 +74,7 @@ module _ (g : Geometry) (wb : isValid g ≡ true) (s : System (onCachingTables g
 
   blank-next : (e : Event (onCachingTables g)) → Duty g (onCachingTables g) s e → let u = next g (onCachingTables g) s e in u .mode ≡ ready → BlankSpares g (u .lost) (deviceOf g (u .memory .memory))
   blank-next (calls c named stop) (n, m, q) = call-blank g wb under known c named stop (names-beneath g (onTables g) (tablesCaches g) s named n, m, q)
-  blank-next (looks named taken) d = k .blank
+  blank-next (looks named) d = k .blank
   blank-next (reads named a count out) d = k .blank
   blank-next (peeks named a) d = k .blank
   blank-next (reports list) d = k .blank

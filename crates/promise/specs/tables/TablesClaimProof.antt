@@ -45,8 +45,8 @@ use Rattle.promise.specs.meaning.Ledger.{freshLedger, Fits, Ledger}
 use Rattle.volume.specs.laws.Refusals.{accepted-row, Numbered, numbered}
 use Rattle.promise.specs.device.Marks.{withMarks}
 use Rattle.promise.specs.device.Modes.{OkIn, own-rests}
-use Rattle.promise.specs.device.ClaimEvents.{rests-of, drives-of-call, event-keeps}
-use Rattle.promise.specs.device.ClaimProof.{kept}
+use Rattle.promise.specs.device.ClaimEvents.{rests-of, drives-of-call, look-held}
+use Rattle.promise.specs.device.ClaimProof.{serves, kept}
 use Rattle.promise.specs.device.AtRestAnswers.{left-out, drives-named}
 use Rattle.promise.specs.roles.RoledCalls.{roled-format}
 use Rattle.promise.specs.emptying.BlankSpares.{BlankSpares}
@@ -55,10 +55,10 @@ use Rattle.volume.specs.meaning.CallContracts.{viewState, isSet, verdictNumber,
 use Rattle.tables.specs.laws.StoresFit.{fits-all-placed}
 use Rattle.promise.specs.tables.CallRefines.{ok-agrees, answer-finished}
 use Rattle.promise.specs.tables.CallVerdicts.{numbered-accept, look-verdict, read-number, read-numbered, peek-number, peek-numbered}
-use Rattle.promise.specs.meaning.Claim.{mounts, writes, flushes, resets, formats, Call, System, Event, calls, looks, reads, peeks, reports, cuts, loses, next, NamesAll, Duty, SameZones, Promise, ready, start}
+use Rattle.promise.specs.meaning.Claim.{mounts, writes, flushes, resets, System, Event, calls, looks, reads, peeks, reports, cuts, loses, Peeked, next, NamesAll, Duty, SameZones, Serves, Promise, ready, start}
 use Rattle.promise.specs.meaning.OnDevice.{onDevice, lookResult, readResult, peekResult}
 use Rattle.promise.specs.meaning.OnTables.{callResult, resultOf, onTables, shownIn}
-use Rattle.promise.specs.tables.MountRefines.{shown-records, shown-agrees, call-refines, answers-as, mount-claim, mount-refusal}
+use Rattle.promise.specs.tables.MountRefines.{shown-agrees, call-refines, answers-as, mount-claim, mount-refusal}
 use Rattle.promise.specs.tables.TablesEvents.{viewSystem, TablesOk, names-seen, pointers-fine, fresh-records, fresh-agrees, call-event, cut-event, loss-event}
 use Rattle.volume.specs.laws.CallStoresFit.{format-stores-fit}
 use Rattle.promise.specs.invariant.Obligations.{neverEmptied, Rests}
@@ -134,40 +134,36 @@ module _ (g : Geometry) (ok : Valid g) (wb : isValid g ≡ true) (s : System (on
           },
         )
 
-    -- and may be handed on
-    look-event : Duty g (onTables g) s (looks named true) → TablesOk g (next g (onTables g) s (looks named true))
-    look-event d =
+    -- and in its place the rules' system is so
+    held-on : OkIn g (s .mode) (s .lost) w (viewState (lookOn g named (s .state) t .state)) (s .ledger)
+    held-on =
         let k = shownIn g named t t in
         let e : lookResult (lookCall g (lengthsOf t) (isSet named) w) (viewState (s .state)) w .state ≡ mountState k = ap (λ (r : CallResult Device StateView). r .state) (promised .look-fits (isSet named) names .0) in
-        let i : OkIn g (s .mode) (s .lost) w (lookResult (lookCall g (lengthsOf t) (isSet named) w) (viewState (s .state)) w .state) (s .ledger) = event-keeps g ok (lengthsOf t) (viewSystem g s) (o .holds) (looks (isSet named) true) (names, d .1) in
-        rw look-is (record {
-          sized = o .sized;
-          order = o .order;
-          records = shown-records g ok k;
-          holds = ok-agrees g (s .mode) (s .lost) w (mountState k) (viewState (stateShown g k)) (s .ledger) (shown-agrees g k) (rw e at i);
-        })
+        let i = look-held g ok (lengthsOf t) (viewSystem g s) (o .holds) (isSet named) names in
+        rw look-is (ok-agrees g (s .mode) (s .lost) w (mountState k) (viewState (stateShown g k)) (s .ledger) (shown-agrees g k) (rw e at i))
 
-    -- a read by the rules
-    abbrev sectors : ℕ → ℕ → List (List ℕ)
-    sectors a count = tabulateFrom (valueAt g (callPresent g (isSet named) (viewState (s .state))) (byRoles g w) (zoneOf g a) (viewState (s .state) .generation (zoneOf g a))) (offsetOf g a) count
+    -- reads and peeks are the rules', by any state
+    module _ (state : State) where
+      abbrev sectors : ℕ → ℕ → List (List ℕ)
+      sectors a count = tabulateFrom (valueAt g (callPresent g (isSet named) (viewState state)) (byRoles g w) (zoneOf g a) (viewState state .generation (zoneOf g a))) (offsetOf g a) count
 
-    abbrev readVerdict : ℕ → ℕ → List ℕ → Verdict
-    readVerdict a count out = firstRefusal (readRows g (lengthsOf t) (badPointers g (isSet named) w) (isSet named) (viewState (s .state)) a count (length out) (byRoles g w))
+      abbrev readVerdict : ℕ → ℕ → List ℕ → Verdict
+      readVerdict a count out = firstRefusal (readRows g (lengthsOf t) (badPointers g (isSet named) w) (isSet named) (viewState state) a count (length out) (byRoles g w))
 
-    read-same : (a count : ℕ) (out : List ℕ) → readOn g named (s .state) a count out t ≡ readResult (giving (readVerdict a count out) (sectors a count)) out
-    unfolding readOn valuesOn
-    read-same a count out = rw (read-number g named t fine (s .state) a count (length out)) (go (readVerdict a count out) (read-numbered g named t (s .state) a count (length out)))
-      where
-        go : (v : Verdict) → Numbered v → record { answer = pick (eqb (verdictNumber v) 0) Finished (Refused (verdictNumber v)); buffer = pick (eqb (verdictNumber v) 0) (concat (sectors a count)) out } ≡ readResult (giving v (sectors a count)) out
-        go accept h = refl
-        go (refuse k) h = rw (ne-eqb k 0 h) refl
+      read-same : (a count : ℕ) (out : List ℕ) → readOn g named state a count out t ≡ onDevice g (lengthsOf t) .read (isSet named) (viewState state) a count out w
+      unfolding readOn valuesOn
+      read-same a count out = rw (read-number g named t fine state a count (length out)) (go (readVerdict a count out) (read-numbered g named t state a count (length out)))
+        where
+          go : (v : Verdict) → Numbered v → record { answer = pick (eqb (verdictNumber v) 0) Finished (Refused (verdictNumber v)); buffer = pick (eqb (verdictNumber v) 0) (concat (sectors a count)) out } ≡ readResult (giving v (sectors a count)) out
+          go accept h = refl
+          go (refuse k) h = rw (ne-eqb k 0 h) refl
 
-    peek-number-same : (a : ℕ) → peekNumber g named (s .state) a t ≡ peekResult g (giving (firstRefusal (peekRows g (lengthsOf t) (badPointers g (isSet named) w) (isSet named) (viewState (s .state)) a (byRoles g w))) (placeOf g a)) w .number
-    peek-number-same a = peek-number g named t fine (s .state) a ∙ go (firstRefusal (peekRows g (lengthsOf t) (badPointers g (isSet named) w) (isSet named) (viewState (s .state)) a (byRoles g w)))
-      where
-        go : (v : Verdict) → verdictNumber v ≡ peekResult g (giving v (placeOf g a)) w .number
-        go accept = refl
-        go (refuse k) = refl
+      peek-number-same : (a : ℕ) → peekNumber g named state a t ≡ onDevice g (lengthsOf t) .peek (isSet named) (viewState state) a w .number
+      peek-number-same a = peek-number g named t fine state a ∙ go (firstRefusal (peekRows g (lengthsOf t) (badPointers g (isSet named) w) (isSet named) (viewState state) a (byRoles g w)))
+        where
+          go : (v : Verdict) → verdictNumber v ≡ peekResult g (giving v (placeOf g a)) w .number
+          go accept = refl
+          go (refuse k) = refl
 
     -- where a sector of the content sits in the device, it sits in the lent bytes
     place-holds : s .mode ≡ ready → (a : ℕ) → zoneOf g a < g .zones → offsetOf g a < length (s .ledger .content (zoneOf g a)) → driveOf (g .drives) (g .unit) (zoneOf g a) (offsetOf g a) ≢ s .lost
@@ -205,9 +201,33 @@ module _ (g : Geometry) (ok : Valid g) (wb : isValid g ≡ true) (s : System (on
         let hz : z < g .zones = ltb-true z (g .zones) (not-not (ltb z (g .zones)) (accepted-row rows p 8)) in
         let (here, held) = and-split (callPresent g (isSet named) (viewState (s .state)) d) (ltb x (length (byRoles g w d (dataZone z) .sectors))) (not-not (callPresent g (isSet named) (viewState (s .state)) d && ltb x (length (byRoles g w d (dataZone z) .sectors))) (accepted-row rows p 15)) in
         let there : d ≢ s .lost = present-not g (s .lost) d (sym (ap (λ (f : ℕ → Bool). f d) (drives-of-call g ok (lengthsOf t) (viewSystem g s) (o .holds) (isSet named) names m)) ∙ here) in
-        let (h, b, c) = promised .peek-gives (isSet named) names m a (sym (peek-number-same a) ∙ e) in
+        let (h, b, c) = promised .peek-gives (isSet named) names m a (sym (peek-number-same (s .state) a) ∙ e) in
         let n = eq-eqb (peekNumber g named (s .state) a t) 0 e in
         (h, rw n refl, rw n (place-holds m a hz h there (rw p at c)))
+
+-- ---- a look's state serves reads, peeks and reports
+module _ (g : Geometry) (ok : Valid g) (wb : isValid g ≡ true) (s : System (onTables g)) (o : TablesOk g s) (named : List Bool) (n : NamesAll g (onTables g) s named) (m : s .mode ≡ ready) where
+  abbrev looked : State
+  looked = lookOn g named (s .state) (s .memory) .state
+
+  by-rules : Serves g (onDevice g (lengthsOf (s .memory))) (viewSystem g s) (viewState (lookOn g named (s .state) (s .memory) .state))
+  by-rules =
+      serves g ok (lengthsOf (s .memory)) wb (sized-lengths g (s .memory) (o .sized)) (viewSystem g s) (o .holds) m (viewState looked) (held-on g ok wb s o named n) (held-claim g ok wb s o named n m .1) (isSet named) (names-seen g s named n)
+
+  peek-alike : (by : List Bool) → NamesAll g (onTables g) s by → (a : ℕ) → onTables g .peek by looked a (s .memory) ≡ onTables g .peek by (s .state) a (s .memory)
+  unfolding peekOn peekFrom
+  peek-alike by all a =
+      let q = by-rules .peeks-same (isSet by) (names-seen g s by all) a in
+      let e : peekNumber g by looked a (s .memory) ≡ peekNumber g by (s .state) a (s .memory) = peek-number-same g ok wb s o by all looked a ∙ ap (λ (k : Peeked). k .number) q ∙ sym (peek-number-same g ok wb s o by all (s .state) a) in
+      rw e refl
+
+  look-serves-on : Serves g (onTables g) s looked
+  look-serves-on = record {
+    reads-same = λ by all a count out.
+        read-same g ok wb s o by all looked a count out ∙ by-rules .reads-same (isSet by) (names-seen g s by all) a count out ∙ sym (read-same g ok wb s o by all (s .state) a count out);
+    peeks-same = peek-alike;
+    reports-same = by-rules .reports-same;
+  }
 
 module _ (g : Geometry) (ok : Valid g) (wb : isValid g ≡ true) where
   -- every point of a history is as promised
@@ -221,23 +241,23 @@ module _ (g : Geometry) (ok : Valid g) (wb : isValid g ≡ true) where
         mount-logs-good = λ named n stop b e. promised .mount-logs-good (isSet named) (names-seen g s named n) stop b (answers-as g ok s o named n mounts stop ∙ e);
         pointer-is = promised .pointer-is;
         look-holds = held-claim g ok wb s o;
+        look-serves = look-serves-on g ok wb s o;
         flush-accepted = λ named n m stop k e. promised .flush-accepted (isSet named) (names-seen g s named n) m stop k (answers-as g ok s o named n flushes stop ∙ e);
         reset-refused = λ named n m z stop k e. promised .reset-refused (isSet named) (names-seen g s named n) m z stop k (answers-as g ok s o named n (resets z) stop ∙ e);
         write-refused = λ named n m asked stop k e. promised .write-refused (isSet named) (names-seen g s named n) m asked stop k (answers-as g ok s o named n (writes asked) stop ∙ e);
         read-gives = λ named n m a count out e.
-            let r = read-same g ok wb s o named n a count out in
+            let r = read-same g ok wb s o named n (s .state) a count out in
             let (p, q) = promised .read-gives (isSet named) (names-seen g s named n) m a count out (rw r at e) in
             (p, rw r q);
-        read-accepted = λ named n m a count out hz pos len h. rw (read-same g ok wb s o named n a count out) (promised .read-accepted (isSet named) (names-seen g s named n) m a count out hz pos len h);
+        read-accepted = λ named n m a count out hz pos len h. rw (read-same g ok wb s o named n (s .state) a count out) (promised .read-accepted (isSet named) (names-seen g s named n) m a count out hz pos len h);
         peek-gives = peek-claim g ok wb s o;
-        peek-accepted = λ named n m a hz h there. peek-number-same g ok wb s o named n a ∙ promised .peek-accepted (isSet named) (names-seen g s named n) m a hz h there;
+        peek-accepted = λ named n m a hz h there. peek-number-same g ok wb s o named n (s .state) a ∙ promised .peek-accepted (isSet named) (names-seen g s named n) m a hz h there;
         report-gives = λ named n m list. promised .report-gives (isSet named) (names-seen g s named n) m list;
       }
 
   pub tables-event : (s : System (onTables g)) → TablesOk g s → (e : Event (onTables g)) → Duty g (onTables g) s e → TablesOk g (next g (onTables g) s e)
   tables-event s o (calls c named stop) d = call-event g ok s o c named stop (call-refines g ok s o named (d .0) c stop) d
-  tables-event s o (looks named false) d = o
-  tables-event s o (looks named true) d = look-event g ok wb s o named (d .0) d
+  tables-event s o (looks named) d = o
   tables-event s o (reads named a count out) d = o
   tables-event s o (peeks named a) d = o
   tables-event s o (reports list) d = o

@@ -28,7 +28,7 @@ use Rattle.volume.specs.meaning.CallContracts.{recordAt, isSet, answerNumber, v
 use Rattle.volume.specs.laws.AnswerNumbers.{mount-tells}
 use Rattle.volume.specs.laws.ByteLists.{Bytes}
 use Rattle.promise.specs.meaning.Ledger.{Fits}
-use Rattle.promise.specs.meaning.Claim.{Call, mounts, writes, flushes, resets, formats, Peeked, System, Event, calls, looks, reads, peeks, reports, cuts, loses, MayMount, ready, settled, ledgerAfter, next, NamesAll, Duty, Promise, start}
+use Rattle.promise.specs.meaning.Claim.{Call, mounts, writes, flushes, resets, formats, Peeked, System, Event, calls, looks, reads, peeks, reports, cuts, loses, MayMount, ready, settled, ledgerAfter, next, NamesAll, Duty, Serves, Promise, start}
 use Rattle.promise.specs.meaning.OnTables.{resultOn, callResult, shownIn, onTables}
 use Rattle.promise.specs.device.AtRestAnswers.{left-out}
 use Rattle.promise.specs.tables.TablesEvents.{TablesOk, loss-event}
@@ -133,14 +133,28 @@ module _ (g : Geometry) (ok : Valid g) (wb : isValid g ≡ true) (s : System (on
           look-hands .reads-back ∙ ap (λ (u : Outcome). u .state) (look-other g (namedOf mask) st unreadState x t look-on) ∙ ap (λ (u : Outcome). u .state) (sym look-on)
 
       -- ---- reports
+      conditions-looked : (z : ℕ) → z < g .zones → recordAt (stateFrom (g .zones) (onBytes g .look mask (s .state) (s .memory) .state)) z .condition ≡ shownIn g (namedOf mask) t t .zone z .condition
+      conditions-looked z h =
+          ap (λ (x : State). recordAt x z .condition) look-state ∙ ap (λ (u : Outcome). recordAt (u .state) z .condition) look-on ∙ sym (shown-agrees g (shownIn g (namedOf mask) t t) .condition-same z h)
+
       conditions-shown : s .mode ≡ ready → (z : ℕ) → z < g .zones → recordAt st z .condition ≡ shownIn g (namedOf mask) t t .zone z .condition
-      conditions-shown r z h =
-          let k = shownIn g (namedOf mask) t t in
-          sym (promised .look-holds (namedOf mask) names r .1 .conditions z h) ∙ ap (λ (u : Outcome). recordAt (u .state) z .condition) look-on ∙ sym (shown-agrees g k .condition-same z h)
+      conditions-shown r z h = sym (promised .look-holds (namedOf mask) names r .1 .conditions z h) ∙ sym (ap (λ (x : State). recordAt x z .condition) look-state) ∙ conditions-looked z h
 
       report-claim : s .mode ≡ ready → (list : List ℕ) → onBytes g .report (s .state) list ≡ shownBytes g (shownIn g (namedOf mask) t t) list
       report-claim r list =
           report-is g (s .state) list (input-reports g (s .state) (length (s .memory .written)) (length (s .memory .durable)) (o .taken)) (shownIn g (namedOf mask) t t) (conditions-shown r)
+
+      -- ---- a look's state serves reads, peeks and reports
+      look-serves-bytes : s .mode ≡ ready → Serves g (onBytes g) s (onBytes g .look mask (s .state) (s .memory) .state)
+      look-serves-bytes r =
+          let x = onBytes g .look mask (s .state) (s .memory) .state in
+          let q : Serves g (onTables g) (viewSystem g s) (stateFrom (g .zones) x) = rw look-state (promised .look-serves (namedOf mask) names r) in
+          record {
+            reads-same = λ by all a count out.
+                read-is g by (s .memory) x (look-hands .taken) a count out ∙ q .reads-same (namedOf by) (record { drives = all .drives }) a count out ∙ sym (read-is g by (s .memory) (s .state) (o .taken) a count out);
+            peeks-same = λ by all a. peek-is g by (s .memory) x (look-hands .taken) a ∙ q .peeks-same (namedOf by) (record { drives = all .drives }) a ∙ sym (peek-is g by (s .memory) (s .state) (o .taken) a);
+            reports-same = λ list. report-is g x list (input-reports g x (length (s .memory .written)) (length (s .memory .durable)) (look-hands .taken)) (shownIn g (namedOf mask) t t) conditions-looked ∙ sym (report-claim r list);
+          }
 
       -- ---- a finished mount
       mount-claim : MayMount (s .mode) → (stop : ℕ) → let r = onBytes g .call mounts mask (s .state) stop (s .memory) in r .answer ≡ Finished
@@ -161,6 +175,7 @@ module _ (g : Geometry) (ok : Valid g) (wb : isValid g ≡ true) (s : System (on
     mount-refused = λ mask n stop k e. promised .mount-refused (namedOf mask) (names mask n) stop k (sym (answers mask n mounts stop) ∙ e);
     mount-logs-good = λ mask n stop b e. promised .mount-logs-good (namedOf mask) (names mask n) stop b (sym (answers mask n mounts stop) ∙ e);
     pointer-is = promised .pointer-is;
+    look-serves = look-serves-bytes;
     look-holds = λ mask n r. rw (look-state mask n) (promised .look-holds (namedOf mask) (names mask n) r);
     flush-accepted = λ mask n r stop k e. promised .flush-accepted (namedOf mask) (names mask n) r stop k (sym (answers mask n flushes stop) ∙ e);
     reset-refused = λ mask n r z stop k e. promised .reset-refused (namedOf mask) (names mask n) r z stop k (sym (answers mask n (resets z) stop) ∙ e);
@@ -195,22 +210,13 @@ module _ (g : Geometry) (ok : Valid g) (wb : isValid g ≡ true) (s : System (on
             (tables-event g ok wb (viewSystem g s) (o .holds) (calls c (namedOf mask) stop) (names mask n, may, rw (answers mask n c stop) at comp));
       }
 
-  look-event : (mask : ℕ) → Duty g (onBytes g) s (looks mask true) → BytesOk g (next g (onBytes g) s (looks mask true))
-  look-event mask (n, may) = record {
-    written-bytes = o .written-bytes;
-    durable-bytes = o .durable-bytes;
-    taken = look-hands mask n .taken;
-    holds = rw (look-state mask n) (tables-event g ok wb (viewSystem g s) (o .holds) (looks (namedOf mask) true) (names mask n, may));
-  }
-
   -- memory that a cut or a loss leaves
   left-taken : (u : LentBytes) → StillBytes (s .memory) u → inputNumber g (s .state) (length (u .written)) (length (u .durable)) ≡ 0
   left-taken u b = rw (b .written-long, b .durable-long) (o .taken)
 
   pub bytes-event : (e : Event (onBytes g)) → Duty g (onBytes g) s e → BytesOk g (next g (onBytes g) s e)
   bytes-event (calls c mask stop) d = call-event c mask stop d
-  bytes-event (looks mask false) d = o
-  bytes-event (looks mask true) d = look-event mask d
+  bytes-event (looks mask) d = o
   bytes-event (reads mask a count out) d = o
   bytes-event (peeks mask a) d = o
   bytes-event (reports list) d = o

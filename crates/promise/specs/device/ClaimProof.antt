@@ -5,7 +5,7 @@ use mathlib.Core.Logic.{_≢_, inl, inr}
 use mathlib.Core.Bool.{_||_, Bool, true, false, _&&_, not}
 use Rattle.promise.specs.device.AcceptedCalls.{Applies, refused-applies, storing-finished, storing-no-place, storing-refused, two-same, pointers-same}
 use Rattle.volume.specs.laws.Refusals.{accepted-row, passed, Numbered, numbered}
-use mathlib.Core.Path.{_≡_, refl, sym, ap, _∙_}
+use mathlib.Core.Path.{_≡_, refl, sym, ap, ap₂, _∙_}
 use Prim.Native.Nat.{ℕ, zero, _+_, _-_, _*_, _≤_, _<_}
 use native.Mathlib.Nat.{le-of-eq}
 use native.Mathlib.Omega.{arith}
@@ -42,7 +42,7 @@ use Rattle.volume.specs.declared.BadPlace.{BadPlace}
 use Rattle.volume.specs.declared.ZoneDescriptor.{ZoneDescriptor}
 use Rattle.volume.specs.meaning.Report.{reportOn}
 use Rattle.volume.specs.laws.Report.{report-finished, report-same}
-use Rattle.promise.specs.meaning.Claim.{WriteAsked, mounts, writes, flushes, resets, ready, System, NamesAll, MayMount, allBut, contentBytes, SameZones, Serves, ResetRefusal, noSuchZone, wornOut, generalLogFull, WriteRefusal, bufferLength, noSuchAddress, noSectors, pastTheEnd, notAtPointer, sealedZone, wornZone, parityLogFull, Promise}
+use Rattle.promise.specs.meaning.Claim.{WriteAsked, mounts, writes, flushes, resets, ready, System, readOut, peekedAt, reported, NamesAll, MayMount, allBut, contentBytes, SameZones, Serves, ResetRefusal, noSuchZone, wornOut, generalLogFull, WriteRefusal, bufferLength, noSuchAddress, noSectors, pastTheEnd, notAtPointer, sealedZone, wornZone, parityLogFull, Promise}
 use Rattle.promise.specs.meaning.OnDevice.{callOf, lookResult, readResult, peekResult, reportShown, shownBy, onDevice}
 use Rattle.promise.specs.look.LookRest.{generation-held, condition-held}
 use Rattle.promise.specs.device.AtRestAnswers.{absent-fine, state-fine, stale-fine, gone-fine, before-fine, entry-fine, worn-last, rest-held, rest-sector}
@@ -51,6 +51,7 @@ use Rattle.tables.specs.meaning.GeometryTest.{isValid}
 use Rattle.promise.specs.roles.ReadsSectors.{data-seen}
 use Rattle.promise.specs.device.Marks.{withMarks}
 use Rattle.promise.specs.device.Modes.{Halted, OkIn}
+use Rattle.promise.specs.device.Heard.{answer-heard, read-heard, peek-heard}
 use Rattle.promise.specs.device.Looks.{LookFine, halted-look}
 use Rattle.promise.specs.device.CallsProved.{calls-owed}
 use Rattle.promise.specs.device.ClaimEvents.{Ok, rests-of, invs-of, fine, drives-of-call, drives-of-look, lost-of-look, mount-allowed, look-held}
@@ -363,18 +364,29 @@ module _ (g : Geometry) (ok : Valid g) (t : TableLengths) (wb : isValid g ≡ tr
   pub kept : Promise g (onDevice g t) s
   kept = record {
     look-fits = look-claim g ok t wb lf s o;
-    mount-fits = mount-claim g ok t wb lf s o;
-    mount-refused = refused-claim g ok t wb lf s o;
-    mount-logs-good = logs-claim g ok t wb lf s o;
+    mount-fits = λ named names m stop e. mount-claim g ok t wb lf s o named names m stop (answer-heard e);
+    mount-refused = λ named names stop n e. refused-claim g ok t wb lf s o named names stop n (answer-heard e);
+    mount-logs-good = λ named names stop b e. logs-claim g ok t wb lf s o named names stop b (answer-heard e);
     pointer-is = pointer-claim g ok t wb lf s o;
     look-holds = held-claim g ok t wb lf s o;
     look-serves = λ named names m. serves g ok t wb lf s o m (onDevice g t .look named (s .state) (s .memory) .state) (look-held g ok t s o named names) (held-claim g ok t wb lf s o named names m .1) named names;
-    flush-accepted = flush-claim g ok t wb lf s o;
-    reset-refused = reset-claim g ok t wb lf s o;
-    write-refused = write-claim g ok t wb lf s o;
-    read-gives = read-claim g ok t wb lf s o;
-    read-accepted = read-accepted g ok t wb lf s o;
-    peek-gives = peek-claim g ok t wb lf s o;
-    peek-accepted = peek-accepted g ok t wb lf s o;
-    report-gives = report-claim g ok t wb lf s o;
+    flush-accepted = λ named names m stop n e. flush-claim g ok t wb lf s o named names m stop n (answer-heard e);
+    reset-refused = λ named names m z stop n e. reset-claim g ok t wb lf s o named names m z stop n (answer-heard e);
+    write-refused = λ named names m w stop n e. write-claim g ok t wb lf s o named names m w stop n (answer-heard e);
+    read-gives = λ named names m a count out bytes e.
+        let (p, q) = read-heard e in
+        let (k, b) = read-claim g ok t wb lf s o named names m a count out p in
+        (k, sym q ∙ b);
+    read-accepted = λ named names m a count out h pos len k.
+        let p = read-accepted g ok t wb lf s o named names m a count out h pos len k in
+        ap₂ readOut p (read-claim g ok t wb lf s o named names m a count out p .1);
+    peek-gives = λ named names m a from part e.
+        let (p, q, r) = peek-heard e in
+        let (k, b, c) = peek-claim g ok t wb lf s o named names m a p in
+        (k, sym q ∙ b, sym r ∙ c);
+    peek-accepted = λ named names m a h k there.
+        let p = peek-accepted g ok t wb lf s o named names m a h k there in
+        let (i, b, c) = peek-claim g ok t wb lf s o named names m a p in
+        λ j. peekedAt (p j) (b j) (c j);
+    report-gives = λ named names m list. ap reported (report-claim g ok t wb lf s o named names m list);
   }

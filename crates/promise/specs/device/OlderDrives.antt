@@ -35,20 +35,20 @@ module _ (g : Geometry) (vol : Volume) (k : Caches vol) where
     older-promise : Promise g (withCaches vol k) (beside s was) → Promise g vol s
     older-promise p = record {
       look-fits = λ named n. let (e, f) = p .look-fits named (names named n) in (ap without e, f);
-      mount-fits = λ named n m stop e. p .mount-fits named (names named n) m stop e;
-      mount-refused = λ named n stop i e. p .mount-refused named (names named n) stop i e;
-      mount-logs-good = λ named n stop b e. p .mount-logs-good named (names named n) stop b e;
+      mount-fits = λ named n. p .mount-fits named (names named n);
+      mount-refused = λ named n. p .mount-refused named (names named n);
+      mount-logs-good = λ named n. p .mount-logs-good named (names named n);
       pointer-is = p .pointer-is;
       look-holds = λ named n. p .look-holds named (names named n);
       look-serves = λ named n m. let q = p .look-serves named (names named n) m in record { reads-same = λ by k. q .reads-same by (names by k); peeks-same = λ by k. q .peeks-same by (names by k); reports-same = q .reports-same };
-      flush-accepted = λ named n m stop i e. p .flush-accepted named (names named n) m stop i e;
-      reset-refused = λ named n m z stop i e. p .reset-refused named (names named n) m z stop i e;
-      write-refused = λ named n m w stop i e. p .write-refused named (names named n) m w stop i e;
-      read-gives = λ named n m a count out e. p .read-gives named (names named n) m a count out e;
-      read-accepted = λ named n m a count out h i j o. p .read-accepted named (names named n) m a count out h i j o;
-      peek-gives = λ named n m a e. p .peek-gives named (names named n) m a e;
-      peek-accepted = λ named n m a h i o. p .peek-accepted named (names named n) m a h i o;
-      report-gives = λ named n m list. p .report-gives named (names named n) m list;
+      flush-accepted = λ named n. p .flush-accepted named (names named n);
+      reset-refused = λ named n. p .reset-refused named (names named n);
+      write-refused = λ named n. p .write-refused named (names named n);
+      read-gives = λ named n. p .read-gives named (names named n);
+      read-accepted = λ named n. p .read-accepted named (names named n);
+      peek-gives = λ named n. p .peek-gives named (names named n);
+      peek-accepted = λ named n. p .peek-accepted named (names named n);
+      report-gives = λ named n. p .report-gives named (names named n);
     }
 
   module _ (older : OlderCuts vol k) where

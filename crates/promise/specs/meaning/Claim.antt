@@ -133,6 +133,24 @@ module _ (g : Geometry) (vol : Volume) where
   next s (cuts m) = record { memory = m; lost = s .lost; mode = down; state = s .state; ledger = s .ledger }
   next s (loses d m) = record { memory = m; lost = d; mode = s .mode; state = s .state; ledger = s .ledger }
 
+-- ---- what is heard of it: answers, bytes, numbers (S: what a state is; L: what is lent for a report)
+pub data Heard (S L : Type 0) : Type 0 where
+  answered : Answer → Heard S L  -- of a storing call
+  looked : Answer → S → Heard S L  -- with the state that tells what is shown
+  readOut : Answer → List ℕ → Heard S L  -- with what the buffer holds then
+  peekedAt : ℕ → ℕ → List ℕ → Heard S L  -- number; from; part (Peeked)
+  reported : ReportResult L → Heard S L
+  nothing : Heard S L  -- of a cut, and of the loss of a drive
+
+abbrev pub heard : {vol : Volume} → System vol → Event vol → Heard (vol .State) (vol .Listing)
+heard {vol} s (calls c named stop) = answered (vol .call c named (s .state) stop (s .memory) .answer)
+heard {vol} s (looks named) = let r = vol .look named (s .state) (s .memory) in looked (r .answer) (r .state)
+heard {vol} s (reads named a count out) = let r = vol .read named (s .state) a count out (s .memory) in readOut (r .answer) (r .buffer)
+heard {vol} s (peeks named a) = let r = vol .peek named (s .state) a (s .memory) in peekedAt (r .number) (r .from) (r .part)
+heard {vol} s (reports list) = reported (vol .report (s .state) list)
+heard {vol} s (cuts m) = nothing
+heard {vol} s (loses d m) = nothing
+
 -- ==== the host's duties
 -- every drive but x
 abbrev pub allBut : ℕ → ℕ → Bool
@@ -224,13 +242,12 @@ pub record Promise (g : Geometry) (vol : Volume) (s : System vol) : Type 0 where
       → (vol .look named (s .state) (s .memory) ≡ record { answer = Finished; memory = s .memory; state = vol .stateOf (vol .shows named (s .memory) (s .memory)) })
       × Fits g (s .ledger) (vol .shows named (s .memory) (s .memory))
   -- "Finished mount: the same"
-  pub mount-fits : (named : vol .Names) → NamesAll g vol s named → MayMount (s .mode) → (stop : ℕ)
-      → let r = vol .call mounts named (s .state) stop (s .memory) in
-      r .answer ≡ Finished → (r .state ≡ vol .stateOf (vol .shows named (s .memory) (r .memory))) × Fits g (s .ledger) (vol .shows named (s .memory) (r .memory))
+  pub mount-fits : (named : vol .Names) → NamesAll g vol s named → MayMount (s .mode) → (stop : ℕ) → heard s (calls mounts named stop) ≡ answered Finished
+      → let t = next g vol s (calls mounts named stop) in let k = vol .shows named (s .memory) (t .memory) in (t .state ≡ vol .stateOf k) × Fits g (s .ledger) k
   -- a mount is refused by 14, log full, alone
-  pub mount-refused : (named : vol .Names) → NamesAll g vol s named → (stop n : ℕ) → vol .call mounts named (s .state) stop (s .memory) .answer ≡ Refused n → n ≡ 14
+  pub mount-refused : (named : vol .Names) → NamesAll g vol s named → (stop n : ℕ) → heard s (calls mounts named stop) ≡ answered (Refused n) → n ≡ 14
   -- so it meets no bad place of a log: never 6, 16 or 17
-  pub mount-logs-good : (named : vol .Names) → NamesAll g vol s named → (stop : ℕ) (b : BadPlace) → vol .call mounts named (s .state) stop (s .memory) .answer ≢ BadLog b
+  pub mount-logs-good : (named : vol .Names) → NamesAll g vol s named → (stop : ℕ) (b : BadPlace) → heard s (calls mounts named stop) ≢ answered (BadLog b)
   -- between finished calls the state's pointers are the lengths of the contents
   pub pointer-is : s .mode ≡ ready → (z : ℕ) → z < g .zones → pointerHeld vol (s .state) z ≡ length (s .ledger .content z)
   -- and a look's state says of every zone what the host's says, and the drive that is lost
@@ -239,25 +256,24 @@ pub record Promise (g : Geometry) (vol : Volume) (s : System vol) : Type 0 where
   -- so it serves for whatever stores nothing
   pub look-serves : (named : vol .Names) → NamesAll g vol s named → s .mode ≡ ready → Serves g vol s (vol .look named (s .state) (s .memory) .state)
   -- and no flush is refused, and a reset or write only for its cause: never by 1, 3, 4, 7 or 15
-  pub flush-accepted : (named : vol .Names) → NamesAll g vol s named → s .mode ≡ ready → (stop n : ℕ) → vol .call flushes named (s .state) stop (s .memory) .answer ≢ Refused n
-  pub reset-refused : (named : vol .Names) → NamesAll g vol s named → s .mode ≡ ready → (z stop n : ℕ) → vol .call (resets z) named (s .state) stop (s .memory) .answer ≡ Refused n
+  pub flush-accepted : (named : vol .Names) → NamesAll g vol s named → s .mode ≡ ready → (stop n : ℕ) → heard s (calls flushes named stop) ≢ answered (Refused n)
+  pub reset-refused : (named : vol .Names) → NamesAll g vol s named → s .mode ≡ ready → (z stop n : ℕ) → heard s (calls (resets z) named stop) ≡ answered (Refused n)
       → ResetRefusal g (vol .view (s .state) .generation z) z n
-  pub write-refused : (named : vol .Names) → NamesAll g vol s named → s .mode ≡ ready → (w : WriteAsked) (stop n : ℕ) → vol .call (writes w) named (s .state) stop (s .memory) .answer ≡ Refused n
+  pub write-refused : (named : vol .Names) → NamesAll g vol s named → s .mode ≡ ready → (w : WriteAsked) (stop n : ℕ) → heard s (calls (writes w) named stop) ≡ answered (Refused n)
       → WriteRefusal g (vol .view (s .state) .condition (zoneOf g (w .address))) w n
   -- an accepted read leaves the content in the buffer, and a read below the pointer is accepted
-  pub read-gives : (named : vol .Names) → NamesAll g vol s named → s .mode ≡ ready → (a count : ℕ) (out : List ℕ) → vol .read named (s .state) a count out (s .memory) .answer ≡ Finished
-      → (offsetOf g a + count ≤ length (s .ledger .content (zoneOf g a))) × (vol .read named (s .state) a count out (s .memory) .buffer ≡ contentBytes (s .ledger) (zoneOf g a) (offsetOf g a) count)
+  pub read-gives : (named : vol .Names) → NamesAll g vol s named → s .mode ≡ ready → (a count : ℕ) (out bytes : List ℕ) → heard s (reads named a count out) ≡ readOut Finished bytes
+      → (offsetOf g a + count ≤ length (s .ledger .content (zoneOf g a))) × (bytes ≡ contentBytes (s .ledger) (zoneOf g a) (offsetOf g a) count)
   pub read-accepted : (named : vol .Names) → NamesAll g vol s named → s .mode ≡ ready → (a count : ℕ) (out : List ℕ) → zoneOf g a < g .zones → zero < count → length out ≡ count * g .sector
-      → offsetOf g a + count ≤ pointerHeld vol (s .state) (zoneOf g a) → vol .read named (s .state) a count out (s .memory) .answer ≡ Finished
+      → offsetOf g a + count ≤ pointerHeld vol (s .state) (zoneOf g a) → heard s (reads named a count out) ≡ readOut Finished (contentBytes (s .ledger) (zoneOf g a) (offsetOf g a) count)
   -- an accepted peek gives the place of the address, and there lies the content's sector; a peek below the pointer is accepted where the sector's drive is
   -- not lost
-  pub peek-gives : (named : vol .Names) → NamesAll g vol s named → s .mode ≡ ready → (a : ℕ) → vol .peek named (s .state) a (s .memory) .number ≡ 0
-      → (offsetOf g a < length (s .ledger .content (zoneOf g a))) × (vol .peek named (s .state) a (s .memory) .from ≡ byteOf g (placeOf g a))
-      × (vol .peek named (s .state) a (s .memory) .part ≡ at (s .ledger .content (zoneOf g a)) (offsetOf g a))
+  pub peek-gives : (named : vol .Names) → NamesAll g vol s named → s .mode ≡ ready → (a from : ℕ) (part : List ℕ) → heard s (peeks named a) ≡ peekedAt 0 from part
+      → (offsetOf g a < length (s .ledger .content (zoneOf g a))) × (from ≡ byteOf g (placeOf g a)) × (part ≡ at (s .ledger .content (zoneOf g a)) (offsetOf g a))
   pub peek-accepted : (named : vol .Names) → NamesAll g vol s named → s .mode ≡ ready → (a : ℕ) → zoneOf g a < g .zones → offsetOf g a < pointerHeld vol (s .state) (zoneOf g a)
-      → allBut (s .lost) (driveOf (g .drives) (g .unit) (zoneOf g a) (offsetOf g a)) ≡ true → vol .peek named (s .state) a (s .memory) .number ≡ 0
+      → allBut (s .lost) (driveOf (g .drives) (g .unit) (zoneOf g a) (offsetOf g a)) ≡ true → heard s (peeks named a) ≡ peekedAt 0 (byteOf g (placeOf g a)) (at (s .ledger .content (zoneOf g a)) (offsetOf g a))
   -- no report is refused, and it tells what a look of the same moment shows
-  pub report-gives : (named : vol .Names) → NamesAll g vol s named → s .mode ≡ ready → (list : vol .Listing) → vol .report (s .state) list ≡ vol .reportOf (vol .shows named (s .memory) (s .memory)) list
+  pub report-gives : (named : vol .Names) → NamesAll g vol s named → s .mode ≡ ready → (list : vol .Listing) → heard s (reports list) ≡ reported (vol .reportOf (vol .shows named (s .memory) (s .memory)) list)
 
 module _ (g : Geometry) (vol : Volume) where
   -- before each event, and after the last

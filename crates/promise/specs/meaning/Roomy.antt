@@ -15,7 +15,7 @@ use Rattle.volume.specs.declared.Answer.the-variants.{Finished, Refused}
 use Rattle.volume.specs.meaning.Roles.{roles, claimOfKind}
 use Rattle.volume.specs.meaning.Refusals.{TableLengths}
 use Rattle.volume.specs.laws.RoomAfter.{RoomyGeneral, RoomyParity}
-use Rattle.promise.specs.meaning.Claim.{WriteAsked, Volume, mounts, writes, resets, formats, System, NamesAll, Event, Dutiful, start, ready}
+use Rattle.promise.specs.meaning.Claim.{WriteAsked, Volume, mounts, writes, resets, formats, System, NamesAll, Event, calls, answered, heard, Dutiful, start, ready}
 use Rattle.promise.specs.meaning.Caches.{onCachingDevice}
 use Rattle.promise.specs.meaning.CachesOnTables.{onCachingTables}
 use Rattle.promise.specs.meaning.Emptied.{AtEveryPoint}
@@ -26,9 +26,9 @@ BeforeLast g x v = (par : Bool) (d : ℕ) → presentBut g x d ≡ true → clai
 
 -- ---- at a point of a history
 pub record NeverFull (g : Geometry) (vol : Volume) (s : System vol) : Type 0 where
-  pub mount-accepted : (named : vol .Names) → NamesAll g vol s named → (stop n : ℕ) → vol .call mounts named (s .state) stop (s .memory) .answer ≢ Refused n
-  pub reset-not-full : (named : vol .Names) → NamesAll g vol s named → s .mode ≡ ready → (z stop : ℕ) → vol .call (resets z) named (s .state) stop (s .memory) .answer ≢ Refused 14
-  pub write-not-full : (named : vol .Names) → NamesAll g vol s named → s .mode ≡ ready → (w : WriteAsked) (stop : ℕ) → vol .call (writes w) named (s .state) stop (s .memory) .answer ≢ Refused 14
+  pub mount-accepted : (named : vol .Names) → NamesAll g vol s named → (stop n : ℕ) → heard s (calls mounts named stop) ≢ answered (Refused n)
+  pub reset-not-full : (named : vol .Names) → NamesAll g vol s named → s .mode ≡ ready → (z stop : ℕ) → heard s (calls (resets z) named stop) ≢ answered (Refused 14)
+  pub write-not-full : (named : vol .Names) → NamesAll g vol s named → s .mode ≡ ready → (w : WriteAsked) (stop : ℕ) → heard s (calls (writes w) named stop) ≢ answered (Refused 14)
 
 -- of the histories of which the promise is claimed (seen: the device that a memory stands for)
 abbrev pub NeverFills : (g : Geometry) (vol : Volume) → (vol .Memory → Device) → Type 0

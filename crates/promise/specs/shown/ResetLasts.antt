@@ -21,7 +21,8 @@ use Rattle.volume.specs.meaning.Rules.{Shown}
 use Rattle.volume.specs.meaning.Refusals.{zoneOf, offsetOf}
 use Rattle.volume.specs.meaning.Answers.{sectorsIn}
 use Rattle.promise.specs.meaning.Ledger.{Ledger, Reply, isRefused, isUnfinished, isFinished, noted, FitsZone, afterMount}
-use Rattle.promise.specs.meaning.Claim.{Call, mounts, writes, flushes, resets, formats, Volume, System, Event, calls, looks, reads, peeks, reports, cuts, loses, replyTo, noteOf, next, Duty, Dutiful, Promise, Throughout, start, KeepsPromise}
+use Rattle.promise.specs.meaning.Claim.{Call, mounts, writes, flushes, resets, formats, Volume, System, Event, calls, looks, reads, peeks, reports, cuts, loses, replyTo, noteOf, next, answered, Duty, Dutiful, Promise, Throughout, start, KeepsPromise}
+use Rattle.promise.specs.device.Heard.{answer-heard}
 use Rattle.promise.specs.meaning.ResetLasts.{unlessRefused, handedTo, writtenIn, writtenTo, afterAll, OnlyOf, ResetsLast}
 
 -- ---- lists
@@ -95,7 +96,7 @@ module _ (g : Geometry) (vol : Volume) (z : ℕ) (hz : z < g .zones) where
       call-among s new h c (vol .shows named (s .memory) (r .memory)) (replyTo (r .answer)) (fit c d)
     where
       fit : (c : Call) → Duty g vol s (calls c named stop) → let q = vol .call c named (s .state) stop (s .memory) in replyTo (q .answer) ≡ isFinished → c ≡ mounts → FitsZone (s .ledger) z (vol .shows named (s .memory) (q .memory) .zone z)
-      fit mounts (n, m, o) e i = p .mount-fits named n m stop (finished-answer (vol .call mounts named (s .state) stop (s .memory) .answer) e) .1 z hz
+      fit mounts (n, m, o) e i = p .mount-fits named n m stop (ap answered (finished-answer (vol .call mounts named (s .state) stop (s .memory) .answer) e)) .1 z hz
       fit (writes w) o e i = absurd (let q : _≡_ {A = ℕ} 0 1 = cc in omega arith)
       fit flushes o e i = absurd (let q : _≡_ {A = ℕ} 0 1 = cc in omega arith)
       fit (resets y) o e i = absurd (let q : _≡_ {A = ℕ} 0 1 = cc in omega arith)
@@ -118,12 +119,12 @@ module _ (g : Geometry) (vol : Volume) (z : ℕ) (hz : z < g .zones) where
     only-of : OnlyOf g vol z new s
     only-of = record {
       look = λ named n a b. shown-among (s .ledger) z new (vol .shows named (s .memory) (s .memory)) h (p .look-fits named n .1 z hz) a b;
-      mount = λ named n m stop e a b. shown-among (s .ledger) z new (vol .shows named (s .memory) (vol .call mounts named (s .state) stop (s .memory) .memory)) h (p .mount-fits named n m stop e .1 z hz) a b;
-      read = λ named n m a count out e f.
-          let (fits, is) = p .read-gives named n m a count out f in
+      mount = λ named n m stop e a b. shown-among (s .ledger) z new (vol .shows named (s .memory) (next g vol s (calls mounts named stop) .memory)) h (p .mount-fits named n m stop e .1 z hz) a b;
+      read = λ named n m a count out bytes e f.
+          let (fits, is) = p .read-gives named n m a count out bytes f in
           (tabulateFrom (at (s .ledger .content (zoneOf g a))) (offsetOf g a) count, is, read-among (zoneOf g a) (offsetOf g a) count e fits);
-      peek = λ named n m a e f.
-          let (fits, place, is) = p .peek-gives named n m a f in
+      peek = λ named n m a from part e f.
+          let (fits, place, is) = p .peek-gives named n m a from part f in
           let l = s .ledger .content (zoneOf g a) in
           rw is (h (at l (offsetOf g a)) (subst (λ (y : ℕ). List·Memᴰ (at l (offsetOf g a)) (s .ledger .content y)) e (at-member l (offsetOf g a) fits)));
     }
@@ -151,7 +152,7 @@ resets-last g vol keeps named array old stop m small e before after z by count h
     let es = calls (resets z) by count ∷ after in
     let (o, ds) = dutiful-from g vol s0 before es d in
     let (p, ps) = throughout-from g vol s0 before es (keeps named array old stop m small e (before ++ es) d) in
-    along g vol z hz (next g vol (afterAll g vol s0 before) (calls (resets z) by count)) after [] (nothing (afterAll g vol s0 before) f) ds ps
+    along g vol z hz (next g vol (afterAll g vol s0 before) (calls (resets z) by count)) after [] (nothing (afterAll g vol s0 before) (answer-heard f)) ds ps
   where
     wiped-own : (l : Ledger) (r : Answer) → r ≡ Finished → (k : Shown) → noted l (noteOf g (resets z) k (replyTo r)) .content z ≡ []
     wiped-own l r q k = rw (q, eq-eqb z z refl) refl

@@ -40,6 +40,7 @@ use Rattle.promise.specs.meaning.Caches.{Caches, withCaches, beneath, de
 use Rattle.promise.specs.meaning.Roomy.{BeforeLast, NeverFull, RoomyClaim}
 use Rattle.promise.specs.device.Looks.{LookFine}
 use Rattle.promise.specs.device.AcceptedCalls.{two-same, pointers-same, storing-refused}
+use Rattle.promise.specs.device.Heard.{answer-heard}
 use Rattle.promise.specs.device.ClaimEvents.{fine, drives-of-call, drives-of-look}
 use Rattle.promise.specs.device.CachedPromise.{names-beneath}
 use Rattle.promise.specs.shown.EveryPoint.{Known, at-every-point}
@@ -145,9 +146,9 @@ module _ (g : Geometry) (t : TableLengths) (wb : isValid g ≡ true) (lf : table
 
 pub never-full : (g : Geometry) (t : TableLengths) → RoomyGeneral g → RoomyParity g → isValid g ≡ true → tablesFit g t ≡ true → (s : System (onDevice g t)) → Known g t s → BeforeLast g (s .lost) (s .memory) → NeverFull g (onDevice g t) s
 never-full g t general parity wb lf s k young = record {
-  mount-accepted = λ named names. mount-law g t wb lf s k young named names general parity;
-  reset-not-full = λ named names. reset-law g t wb lf s k young named names general;
-  write-not-full = λ named names. write-law g t wb lf s k young named names parity;
+  mount-accepted = λ named names stop n e. mount-law g t wb lf s k young named names general parity stop n (answer-heard e);
+  reset-not-full = λ named names m z stop e. reset-law g t wb lf s k young named names general m z stop (answer-heard e);
+  write-not-full = λ named names m w stop e. write-law g t wb lf s k young named names parity m w stop (answer-heard e);
 }
 
 -- with caches: a call's answer does not go by what they remember

@@ -21,7 +21,8 @@ use Rattle.tables.specs.laws.Counted.{run-covered}
 use Rattle.volume.specs.declared.State.{State}
 use Rattle.volume.specs.looking.DrivesLost.{fill-long}
 use Rattle.volume.specs.meaning.CallContracts.{zoneLookOf, blankRecord, viewState, isSet, lengthsOf, recordFrom, stateShown, mountStoresOn, mountShownOn, mountOn, verdictNumber, storingOn, badPlaceOn}
-use Rattle.volume.specs.declared.Answer.the-variants.{Finished, Refused}
+use Rattle.volume.specs.declared.Answer.{Answer}
+use Rattle.volume.specs.declared.Answer.the-variants.{Finished}
 use Rattle.volume.specs.meaning.Rules.{Shown, showing}
 use Rattle.volume.specs.meaning.Roles.{roles, byRoles}
 use Rattle.volume.specs.meaning.Answers.{presentIn, lostDriveIn, storing}
@@ -29,11 +30,12 @@ use Rattle.volume.specs.laws.BadPlaces.{told-plain, told-finished}
 use Rattle.volume.specs.meaning.Refusals.{Verdict, refuse, accept, firstRefusal, mountRows, badPointers}
 use Rattle.volume.specs.meaning.Mount.{mountStores, mountShows, mountState}
 use Rattle.promise.specs.meaning.Ledger.{Fits}
-use Rattle.promise.specs.meaning.Claim.{Call, mounts, writes, flushes, resets, formats, System, NamesAll, Promise, MayMount}
+use Rattle.promise.specs.meaning.Claim.{Call, mounts, writes, flushes, resets, formats, calls, answered, heard, System, NamesAll, Promise, MayMount}
 use Rattle.promise.specs.meaning.OnDevice.{onDevice}
 use Rattle.promise.specs.meaning.OnTables.{onTables, shownIn}
 use Rattle.promise.specs.device.AcceptedCalls.{Applies, refused-applies}
 use Rattle.promise.specs.device.ClaimProof.{kept}
+use Rattle.promise.specs.device.Heard.{answer-alike}
 use Rattle.promise.specs.tables.CallVerdicts.{mount-verdict, mount-numbered}
 use Rattle.volume.specs.laws.MountStoresFit.{mount-stores-fit, mount-stores-are}
 use Rattle.volume.specs.looking.Looking.{state-shown-in, state-shown-lost}
@@ -95,7 +97,7 @@ module _ (g : Geometry) (ok : Valid g) (s : System (onTables g)) (o : TablesOk g
       by (inl (k, b)) = absurd (omega (arith, k))
       by (inr (r1, rest)) =
           let promised = kept g ok (lengthsOf t) (not-not (isValid g) r1) (sized-lengths g t (o .sized)) (viewSystem g s) (o .holds) in
-          let z = promised .mount-refused (isSet named) (names-seen g s named n) 0 6 (ap (λ (r : Verdict). storing r xs (mountState (mountShows g present lost w)) (viewState (s .state)) 0 w .answer) e) in
+          let z = promised .mount-refused (isSet named) (names-seen g s named n) 0 6 (ap (λ (r : Verdict). answered (storing r xs (mountState (mountShows g present lost w)) (viewState (s .state)) 0 w .answer)) e) in
           absurd (omega (arith, z))
 
   number-not-six : verdictNumber verdict ≢ 6
@@ -131,6 +133,9 @@ module _ (g : Geometry) (ok : Valid g) (s : System (onTables g)) (o : TablesOk g
   pub answers-as : (c : Call) (stop : ℕ) → onDevice g (lengthsOf t) .call c (isSet named) (viewState (s .state)) stop w .answer ≡ onTables g .call c named (s .state) stop t .answer
   answers-as c stop = call-agrees g ok s o c named stop (call-refines c stop) .answer-same
 
+  pub heard-as : (c : Call) (stop : ℕ) (a : Answer) → heard s (calls c named stop) ≡ answered a → heard (viewSystem g s) (calls c (isSet named) stop) ≡ answered a
+  heard-as c stop a e = answer-alike (answers-as c stop) e
+
   -- a mount's state is what is shown then
   state-is : (stop : ℕ) → mountOn g named (s .state) stop t .outcome .answer ≡ Finished → mountOn g named (s .state) stop t .outcome .state ≡ stateShown g (shownIn g named t (mountOn g named (s .state) stop t .tables))
   unfolding mountOn mountShownOn
@@ -144,8 +149,5 @@ module _ (g : Geometry) (ok : Valid g) (s : System (onTables g)) (o : TablesOk g
       → (mountOn g named (s .state) stop t .outcome .state ≡ stateShown g (shownIn g named t (mountOn g named (s .state) stop t .tables))) × Fits g (s .ledger) (shownIn g named t (mountOn g named (s .state) stop t .tables))
   mount-claim promised m stop e =
       let k = call-agrees g ok s o mounts named stop (mount-refines stop) in
-      let (a, b) = promised .mount-fits (isSet named) (names-seen g s named n) m stop (answers-as mounts stop ∙ e) in
+      let (a, b) = promised .mount-fits (isSet named) (names-seen g s named n) m stop (ap answered (k .answer-same ∙ e)) in
       (state-is stop e, rw (k .memory-same) at b)
-
-  pub mount-refusal : Promise g (onDevice g (lengthsOf t)) (viewSystem g s) → (stop k : ℕ) → mountOn g named (s .state) stop t .outcome .answer ≡ Refused k → k ≡ 14
-  mount-refusal promised stop k e = promised .mount-refused (isSet named) (names-seen g s named n) stop k (answers-as mounts stop ∙ e)

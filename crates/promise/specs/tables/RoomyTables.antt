@@ -1,5 +1,5 @@
 -- NO DRIVE FILLS UP, of the code's calls on the tables: what they leave is, seen as a device, what the rules' calls leave (call-agrees), and they answer the same.
-use mathlib.Core.Path.{_≡_, _∙_}
+use mathlib.Core.Path.{_≡_}
 use mathlib.Core.Logic.{_⊎_}
 use mathlib.Core.Bool.{Bool, true}
 use Prim.Native.Nat.{ℕ, _<_}
@@ -13,6 +13,7 @@ use Rattle.tables.specs.declared.Geometry.{Geometry}
 use Rattle.tables.specs.meaning.Geometry.{Valid}
 use Rattle.tables.specs.meaning.GeometryTest.{isValid}
 use Rattle.tables.specs.laws.GeometryTest.{valid-if-test}
+use Rattle.volume.specs.declared.Answer.the-variants.{Refused}
 use Rattle.volume.specs.meaning.CallContracts.{isSet, lengthsOf}
 use Rattle.volume.specs.laws.RoomAfter.{RoomyGeneral, RoomyParity}
 use Rattle.promise.specs.meaning.Claim.{Call, mounts, writes, resets, formats, ready, System, Event, calls, looks, reads, peeks, reports, cuts, loses, next, Duty, Dutiful, start}
@@ -24,7 +25,7 @@ use Rattle.promise.specs.meaning.Roomy.{BeforeLast, NeverFull, RoomyTabl
 use Rattle.promise.specs.emptying.BlankSpares.{BlankSpares}
 use Rattle.promise.specs.device.BlankAtRest.{event-blank}
 use Rattle.promise.specs.shown.RoomyCalls.{never-full, never-full-beneath}
-use Rattle.promise.specs.tables.MountRefines.{call-refines, answers-as}
+use Rattle.promise.specs.tables.MountRefines.{call-refines, heard-as}
 use Rattle.promise.specs.tables.TablesEvents.{viewSystem, TablesOk, names-seen, call-agrees}
 use Rattle.promise.specs.tables.TablesClaimProof.{tables-start-blank}
 use Rattle.promise.specs.device.CachedPromise.{names-beneath}
@@ -55,9 +56,9 @@ module _ (g : Geometry) (wb : isValid g ≡ true) (s : System (onTables g)) (k :
   never-full-on general parity young =
       let p = never-full g (lengthsOf (s .memory)) general parity wb (sized-lengths g (s .memory) (k .ok .sized)) (viewSystem g s) (record { ok = k .ok .holds; blank = k .blank }) young in
       record {
-        mount-accepted = λ named n stop i e. p .mount-accepted (isSet named) (names-seen g s named n) stop i (answers-as g ok s (k .ok) named n mounts stop ∙ e);
-        reset-not-full = λ named n m z stop e. p .reset-not-full (isSet named) (names-seen g s named n) m z stop (answers-as g ok s (k .ok) named n (resets z) stop ∙ e);
-        write-not-full = λ named n m asked stop e. p .write-not-full (isSet named) (names-seen g s named n) m asked stop (answers-as g ok s (k .ok) named n (writes asked) stop ∙ e);
+        mount-accepted = λ named n stop i e. p .mount-accepted (isSet named) (names-seen g s named n) stop i (heard-as g ok s (k .ok) named n mounts stop (Refused i) e);
+        reset-not-full = λ named n m z stop e. p .reset-not-full (isSet named) (names-seen g s named n) m z stop (heard-as g ok s (k .ok) named n (resets z) stop (Refused 14) e);
+        write-not-full = λ named n m asked stop e. p .write-not-full (isSet named) (names-seen g s named n) m asked stop (heard-as g ok s (k .ok) named n (writes asked) stop (Refused 14) e);
       }
 
 -- ---- on drives that cache resets

@@ -32,7 +32,7 @@ use Rattle.tables.specs.laws.TablesRefine.{run-refines, run-sized}
 use Rattle.tables.specs.laws.TablesFrame.{lengths-sized, sized-lengths}
 use Rattle.tables.specs.laws.PointerOrder.{order-passed, run-order}
 use Rattle.volume.specs.declared.State.{State}
-use Rattle.volume.specs.declared.Answer.the-variants.{Finished, Refused}
+use Rattle.volume.specs.declared.Answer.the-variants.{Finished, Refused, BadLog}
 use Rattle.volume.specs.meaning.State.{StateView, callPresent}
 use Rattle.volume.specs.meaning.Content.{at}
 use Rattle.volume.specs.meaning.Mount.{mountState}
@@ -47,6 +47,7 @@ use Rattle.promise.specs.device.Marks.{withMarks}
 use Rattle.promise.specs.device.Modes.{OkIn, own-rests}
 use Rattle.promise.specs.device.ClaimEvents.{rests-of, drives-of-call, look-held}
 use Rattle.promise.specs.device.ClaimProof.{serves, kept}
+use Rattle.promise.specs.device.Heard.{answer-heard, peek-heard, report-heard, read-alike}
 use Rattle.promise.specs.device.AtRestAnswers.{left-out, drives-named}
 use Rattle.promise.specs.roles.RoledCalls.{roled-format}
 use Rattle.promise.specs.emptying.BlankSpares.{BlankSpares}
@@ -55,10 +56,10 @@ use Rattle.volume.specs.meaning.CallContracts.{viewState, isSet, verdictNumber,
 use Rattle.tables.specs.laws.StoresFit.{fits-all-placed}
 use Rattle.promise.specs.tables.CallRefines.{ok-agrees, answer-finished}
 use Rattle.promise.specs.tables.CallVerdicts.{numbered-accept, look-verdict, read-number, read-numbered, peek-number, peek-numbered}
-use Rattle.promise.specs.meaning.Claim.{mounts, writes, flushes, resets, System, Event, calls, looks, reads, peeks, reports, cuts, loses, Peeked, next, NamesAll, Duty, SameZones, Serves, Promise, ready, start}
+use Rattle.promise.specs.meaning.Claim.{mounts, writes, flushes, resets, System, Event, calls, looks, reads, peeks, reports, cuts, loses, Peeked, next, peekedAt, reported, NamesAll, Duty, SameZones, Serves, Promise, ready, start}
 use Rattle.promise.specs.meaning.OnDevice.{onDevice, lookResult, readResult, peekResult}
 use Rattle.promise.specs.meaning.OnTables.{callResult, resultOf, onTables, shownIn}
-use Rattle.promise.specs.tables.MountRefines.{shown-agrees, call-refines, answers-as, mount-claim, mount-refusal}
+use Rattle.promise.specs.tables.MountRefines.{shown-agrees, call-refines, heard-as, mount-claim}
 use Rattle.promise.specs.tables.TablesEvents.{viewSystem, TablesOk, names-seen, pointers-fine, fresh-records, fresh-agrees, call-event, cut-event, loss-event}
 use Rattle.volume.specs.laws.CallStoresFit.{format-stores-fit}
 use Rattle.promise.specs.invariant.Obligations.{neverEmptied, Rests}
@@ -201,7 +202,9 @@ module _ (g : Geometry) (ok : Valid g) (wb : isValid g ≡ true) (s : System (on
         let hz : z < g .zones = ltb-true z (g .zones) (not-not (ltb z (g .zones)) (accepted-row rows p 8)) in
         let (here, held) = and-split (callPresent g (isSet named) (viewState (s .state)) d) (ltb x (length (byRoles g w d (dataZone z) .sectors))) (not-not (callPresent g (isSet named) (viewState (s .state)) d && ltb x (length (byRoles g w d (dataZone z) .sectors))) (accepted-row rows p 15)) in
         let there : d ≢ s .lost = present-not g (s .lost) d (sym (ap (λ (f : ℕ → Bool). f d) (drives-of-call g ok (lengthsOf t) (viewSystem g s) (o .holds) (isSet named) names m)) ∙ here) in
-        let (h, b, c) = promised .peek-gives (isSet named) names m a (sym (peek-number-same (s .state) a) ∙ e) in
+        let q = sym (peek-number-same (s .state) a) ∙ e in
+        let k = onDevice g (lengthsOf t) .peek (isSet named) (viewState (s .state)) a w in
+        let (h, b, c) = promised .peek-gives (isSet named) names m a (k .from) (k .part) (ap (λ (i : ℕ). peekedAt i (k .from) (k .part)) q) in
         let n = eq-eqb (peekNumber g named (s .state) a t) 0 e in
         (h, rw n refl, rw n (place-holds m a hz h there (rw p at c)))
 
@@ -214,9 +217,9 @@ module _ (g : Geometry) (ok : Valid g) (wb : isValid g ≡ true) (s : System (on
   by-rules =
       serves g ok (lengthsOf (s .memory)) wb (sized-lengths g (s .memory) (o .sized)) (viewSystem g s) (o .holds) m (viewState looked) (held-on g ok wb s o named n) (held-claim g ok wb s o named n m .1) (isSet named) (names-seen g s named n)
 
-  peek-alike : (by : List Bool) → NamesAll g (onTables g) s by → (a : ℕ) → onTables g .peek by looked a (s .memory) ≡ onTables g .peek by (s .state) a (s .memory)
+  peek-serves : (by : List Bool) → NamesAll g (onTables g) s by → (a : ℕ) → onTables g .peek by looked a (s .memory) ≡ onTables g .peek by (s .state) a (s .memory)
   unfolding peekOn peekFrom
-  peek-alike by all a =
+  peek-serves by all a =
       let q = by-rules .peeks-same (isSet by) (names-seen g s by all) a in
       let e : peekNumber g by looked a (s .memory) ≡ peekNumber g by (s .state) a (s .memory) = peek-number-same g ok wb s o by all looked a ∙ ap (λ (k : Peeked). k .number) q ∙ sym (peek-number-same g ok wb s o by all (s .state) a) in
       rw e refl
@@ -225,7 +228,7 @@ module _ (g : Geometry) (ok : Valid g) (wb : isValid g ≡ true) (s : System (on
   look-serves-on = record {
     reads-same = λ by all a count out.
         read-same g ok wb s o by all looked a count out ∙ by-rules .reads-same (isSet by) (names-seen g s by all) a count out ∙ sym (read-same g ok wb s o by all (s .state) a count out);
-    peeks-same = peek-alike;
+    peeks-same = peek-serves;
     reports-same = by-rules .reports-same;
   }
 
@@ -236,23 +239,26 @@ module _ (g : Geometry) (ok : Valid g) (wb : isValid g ≡ true) where
       let promised = promised g ok wb s o in
       record {
         look-fits = look-claim g ok wb s o;
-        mount-fits = λ named n m stop e. mount-claim g ok s o named n promised m stop e;
-        mount-refused = λ named n stop k e. mount-refusal g ok s o named n promised stop k e;
-        mount-logs-good = λ named n stop b e. promised .mount-logs-good (isSet named) (names-seen g s named n) stop b (answers-as g ok s o named n mounts stop ∙ e);
+        mount-fits = λ named n m stop e. mount-claim g ok s o named n promised m stop (answer-heard e);
+        mount-refused = λ named n stop k e. promised .mount-refused (isSet named) (names-seen g s named n) stop k (heard-as g ok s o named n mounts stop (Refused k) e);
+        mount-logs-good = λ named n stop b e. promised .mount-logs-good (isSet named) (names-seen g s named n) stop b (heard-as g ok s o named n mounts stop (BadLog b) e);
         pointer-is = promised .pointer-is;
         look-holds = held-claim g ok wb s o;
         look-serves = look-serves-on g ok wb s o;
-        flush-accepted = λ named n m stop k e. promised .flush-accepted (isSet named) (names-seen g s named n) m stop k (answers-as g ok s o named n flushes stop ∙ e);
-        reset-refused = λ named n m z stop k e. promised .reset-refused (isSet named) (names-seen g s named n) m z stop k (answers-as g ok s o named n (resets z) stop ∙ e);
-        write-refused = λ named n m asked stop k e. promised .write-refused (isSet named) (names-seen g s named n) m asked stop k (answers-as g ok s o named n (writes asked) stop ∙ e);
-        read-gives = λ named n m a count out e.
-            let r = read-same g ok wb s o named n (s .state) a count out in
-            let (p, q) = promised .read-gives (isSet named) (names-seen g s named n) m a count out (rw r at e) in
-            (p, rw r q);
-        read-accepted = λ named n m a count out hz pos len h. rw (read-same g ok wb s o named n (s .state) a count out) (promised .read-accepted (isSet named) (names-seen g s named n) m a count out hz pos len h);
-        peek-gives = peek-claim g ok wb s o;
-        peek-accepted = λ named n m a hz h there. peek-number-same g ok wb s o named n (s .state) a ∙ promised .peek-accepted (isSet named) (names-seen g s named n) m a hz h there;
-        report-gives = λ named n m list. promised .report-gives (isSet named) (names-seen g s named n) m list;
+        flush-accepted = λ named n m stop k e. promised .flush-accepted (isSet named) (names-seen g s named n) m stop k (heard-as g ok s o named n flushes stop (Refused k) e);
+        reset-refused = λ named n m z stop k e. promised .reset-refused (isSet named) (names-seen g s named n) m z stop k (heard-as g ok s o named n (resets z) stop (Refused k) e);
+        write-refused = λ named n m asked stop k e. promised .write-refused (isSet named) (names-seen g s named n) m asked stop k (heard-as g ok s o named n (writes asked) stop (Refused k) e);
+        read-gives = λ named n m a count out bytes e. promised .read-gives (isSet named) (names-seen g s named n) m a count out bytes (read-alike (sym (read-same g ok wb s o named n (s .state) a count out)) e);
+        read-accepted = λ named n m a count out hz pos len h. read-alike (read-same g ok wb s o named n (s .state) a count out) (promised .read-accepted (isSet named) (names-seen g s named n) m a count out hz pos len h);
+        peek-gives = λ named n m a from part e.
+            let (p, q, r) = peek-heard e in
+            let (h, b, c) = peek-claim g ok wb s o named n m a p in
+            (h, sym q ∙ b, sym r ∙ c);
+        peek-accepted = λ named n m a hz h there.
+            let p = peek-number-same g ok wb s o named n (s .state) a ∙ peek-heard (promised .peek-accepted (isSet named) (names-seen g s named n) m a hz h there) .0 in
+            let (i, b, c) = peek-claim g ok wb s o named n m a p in
+            λ j. peekedAt (p j) (b j) (c j);
+        report-gives = λ named n m list. ap reported (report-heard (promised .report-gives (isSet named) (names-seen g s named n) m list));
       }
 
   pub tables-event : (s : System (onTables g)) → TablesOk g s → (e : Event (onTables g)) → Duty g (onTables g) s e → TablesOk g (next g (onTables g) s e)

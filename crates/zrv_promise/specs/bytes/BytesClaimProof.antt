@@ -22,15 +22,17 @@ use Rattle.tables.specs.laws.TablesRefine.{kept-sized, loss-refines}
 use Rattle.tables.specs.laws.PointerOrder.{loss-order}
 use Rattle.volume.specs.declared.State.{State}
 use Rattle.volume.specs.declared.Outcome.{Outcome}
-use Rattle.volume.specs.declared.Answer.the-variants.{Finished, Unfinished, Refused}
+use Rattle.volume.specs.declared.Answer.{Answer}
+use Rattle.volume.specs.declared.Answer.the-variants.{Finished, Unfinished, Refused, BadLog}
 use Rattle.volume.specs.meaning.Answers.{CallResult}
-use Rattle.volume.specs.meaning.CallContracts.{recordAt, isSet, answerNumber, verdictNumber, Result, stateShown, lookOn, mountVerdict, badPlaceOn, ReadResult}
+use Rattle.volume.specs.meaning.CallContracts.{recordAt, isSet, answerNumber, verdictNumber, Result, stateShown, lookOn, mountVerdict, badPlaceOn}
 use Rattle.volume.specs.laws.AnswerNumbers.{mount-tells}
 use Rattle.volume.specs.laws.ByteLists.{Bytes}
 use Rattle.promise.specs.meaning.Ledger.{Fits}
-use Rattle.promise.specs.meaning.Claim.{Call, mounts, writes, flushes, resets, formats, Peeked, System, Event, calls, looks, reads, peeks, reports, cuts, loses, MayMount, ready, settled, ledgerAfter, next, NamesAll, Duty, Serves, Promise, start}
+use Rattle.promise.specs.meaning.Claim.{Call, mounts, writes, flushes, resets, formats, System, answered, reported, heard, Event, calls, looks, reads, peeks, reports, cuts, loses, MayMount, ready, settled, ledgerAfter, next, NamesAll, Duty, Serves, Promise, start}
 use Rattle.promise.specs.meaning.OnTables.{resultOn, callResult, shownIn, onTables}
 use Rattle.promise.specs.device.AtRestAnswers.{left-out}
+use Rattle.promise.specs.device.Heard.{answer-heard, answer-alike, read-alike, peek-alike}
 use Rattle.promise.specs.tables.TablesEvents.{TablesOk, loss-event}
 use Rattle.promise.specs.tables.MountRefines.{shown-agrees}
 use Rattle.promise.specs.tables.TablesClaimProof.{tables-promise, tables-event, tables-start}
@@ -100,7 +102,7 @@ module _ (g : Geometry) (ok : Valid g) (wb : isValid g ≡ true) (s : System (on
 
       -- no mount is refused for a log
       logs-good : (stop : ℕ) → verdictNumber (mountVerdict g (namedOf mask) t) ≢ 6
-      logs-good stop e = promised .mount-logs-good (namedOf mask) names stop (badPlaceOn g (namedOf mask) t) (mount-tells g (namedOf mask) t st stop e)
+      logs-good stop e = promised .mount-logs-good (namedOf mask) names stop (badPlaceOn g (namedOf mask) t) (ap answered (mount-tells g (namedOf mask) t st stop e))
 
       -- each call is that on the tables
       call-on : (c : Call) (stop : ℕ) → (r : Result) × OnTheTables g m (edgeOf g c mask stop m) r (resultOn g c (namedOf mask) st stop t)
@@ -115,6 +117,9 @@ module _ (g : Geometry) (ok : Valid g) (wb : isValid g ≡ true) (s : System (on
 
       pub answers : (c : Call) (stop : ℕ) → onBytes g .call c mask (s .state) stop (s .memory) .answer ≡ onTables g .call c (namedOf mask) st stop t .answer
       answers c stop = ap (λ (r : CallResult Tables State). r .answer) (call-views c stop)
+
+      heard-as : (c : Call) (stop : ℕ) (a : Answer) → heard s (calls c mask stop) ≡ answered a → heard (viewSystem g s) (calls c (namedOf mask) stop) ≡ answered a
+      heard-as c stop a e = answer-alike (sym (answers c stop)) e
 
       -- ---- looks
       look-on : lookOn g (namedOf mask) st t ≡ record { answer = Finished; state = stateShown g (shownIn g (namedOf mask) t t) }
@@ -157,14 +162,14 @@ module _ (g : Geometry) (ok : Valid g) (wb : isValid g ≡ true) (s : System (on
           }
 
       -- ---- a finished mount
-      mount-claim : MayMount (s .mode) → (stop : ℕ) → let r = onBytes g .call mounts mask (s .state) stop (s .memory) in r .answer ≡ Finished
-          → (r .state ≡ onBytes g .stateOf (onBytes g .shows mask (s .memory) (r .memory))) × Fits g (s .ledger) (onBytes g .shows mask (s .memory) (r .memory))
+      mount-claim : MayMount (s .mode) → (stop : ℕ) → heard s (calls mounts mask stop) ≡ answered Finished
+          → let r = onBytes g .call mounts mask (s .state) stop (s .memory) in let k = onBytes g .shows mask (s .memory) (r .memory) in (r .state ≡ onBytes g .stateOf k) × Fits g (s .ledger) k
       mount-claim may stop e =
           let (r, q) = call-on mounts stop in
           let u = resultOn g mounts (namedOf mask) st stop t in
-          let h = finished-code (edgeOf g mounts mask stop m .code) e in
+          let h = finished-code (edgeOf g mounts mask stop m .code) (answer-heard e) in
           let k : tablesIn g (edgeOf g mounts mask stop m .left) ≡ u .tables = ap (λ (x : CallResult Tables State). x .memory) (call-views mounts stop) in
-          let (a, b) = promised .mount-fits (namedOf mask) names may stop (sym (answers mounts stop) ∙ e) in
+          let (a, b) = promised .mount-fits (namedOf mask) names may stop (heard-as mounts stop Finished e) in
           rw k (q .hands-on h .bytes-are ∙ ap (stateTo (g .zones)) (q .alike .new-same (sym (q .leaves .code-is) ∙ h) ∙ a), b)
 
   -- the promise
@@ -172,26 +177,19 @@ module _ (g : Geometry) (ok : Valid g) (wb : isValid g ≡ true) (s : System (on
   bytes-promise = record {
     look-fits = λ mask n. (looked mask n, promised .look-fits (namedOf mask) (names mask n) .1);
     mount-fits = mount-claim;
-    mount-refused = λ mask n stop k e. promised .mount-refused (namedOf mask) (names mask n) stop k (sym (answers mask n mounts stop) ∙ e);
-    mount-logs-good = λ mask n stop b e. promised .mount-logs-good (namedOf mask) (names mask n) stop b (sym (answers mask n mounts stop) ∙ e);
+    mount-refused = λ mask n stop k e. promised .mount-refused (namedOf mask) (names mask n) stop k (heard-as mask n mounts stop (Refused k) e);
+    mount-logs-good = λ mask n stop b e. promised .mount-logs-good (namedOf mask) (names mask n) stop b (heard-as mask n mounts stop (BadLog b) e);
     pointer-is = promised .pointer-is;
     look-serves = look-serves-bytes;
     look-holds = λ mask n r. rw (look-state mask n) (promised .look-holds (namedOf mask) (names mask n) r);
-    flush-accepted = λ mask n r stop k e. promised .flush-accepted (namedOf mask) (names mask n) r stop k (sym (answers mask n flushes stop) ∙ e);
-    reset-refused = λ mask n r z stop k e. promised .reset-refused (namedOf mask) (names mask n) r z stop k (sym (answers mask n (resets z) stop) ∙ e);
-    write-refused = λ mask n r w stop k e. promised .write-refused (namedOf mask) (names mask n) r w stop k (sym (answers mask n (writes w) stop) ∙ e);
-    read-gives = λ mask n r a count out e.
-        let q = read-is g mask (s .memory) (s .state) (o .taken) a count out in
-        let (x, y) = promised .read-gives (namedOf mask) (names mask n) r a count out (sym (ap (λ (u : ReadResult). u .answer) q) ∙ e) in
-        (x, ap (λ (u : ReadResult). u .buffer) q ∙ y);
-    read-accepted = λ mask n r a count out hz pos len h.
-        ap (λ (u : ReadResult). u .answer) (read-is g mask (s .memory) (s .state) (o .taken) a count out) ∙ promised .read-accepted (namedOf mask) (names mask n) r a count out hz pos len h;
-    peek-gives = λ mask n r a e.
-        let q = peek-is g mask (s .memory) (s .state) (o .taken) a in
-        let (x, y, z) = promised .peek-gives (namedOf mask) (names mask n) r a (sym (ap (λ (u : Peeked). u .number) q) ∙ e) in
-        (x, ap (λ (u : Peeked). u .from) q ∙ y, ap (λ (u : Peeked). u .part) q ∙ z);
-    peek-accepted = λ mask n r a hz h there. ap (λ (u : Peeked). u .number) (peek-is g mask (s .memory) (s .state) (o .taken) a) ∙ promised .peek-accepted (namedOf mask) (names mask n) r a hz h there;
-    report-gives = report-claim;
+    flush-accepted = λ mask n r stop k e. promised .flush-accepted (namedOf mask) (names mask n) r stop k (heard-as mask n flushes stop (Refused k) e);
+    reset-refused = λ mask n r z stop k e. promised .reset-refused (namedOf mask) (names mask n) r z stop k (heard-as mask n (resets z) stop (Refused k) e);
+    write-refused = λ mask n r w stop k e. promised .write-refused (namedOf mask) (names mask n) r w stop k (heard-as mask n (writes w) stop (Refused k) e);
+    read-gives = λ mask n r a count out bytes e. promised .read-gives (namedOf mask) (names mask n) r a count out bytes (read-alike (sym (read-is g mask (s .memory) (s .state) (o .taken) a count out)) e);
+    read-accepted = λ mask n r a count out hz pos len h. read-alike (read-is g mask (s .memory) (s .state) (o .taken) a count out) (promised .read-accepted (namedOf mask) (names mask n) r a count out hz pos len h);
+    peek-gives = λ mask n r a from part e. promised .peek-gives (namedOf mask) (names mask n) r a from part (peek-alike (sym (peek-is g mask (s .memory) (s .state) (o .taken) a)) e);
+    peek-accepted = λ mask n r a hz h there. peek-alike (peek-is g mask (s .memory) (s .state) (o .taken) a) (promised .peek-accepted (namedOf mask) (names mask n) r a hz h there);
+    report-gives = λ mask n r list. ap reported (report-claim mask n r list);
   }
 
   -- ---- events

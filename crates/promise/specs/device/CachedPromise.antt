@@ -19,7 +19,6 @@ module _ (g : Geometry) (vol : Volume) (k : Caches vol) (s : System (withCaches 
     look-fits = λ named n. let (e, f) = p .look-fits named (names-beneath named n) in (ap beside e, f);
     mount-fits = λ named n. p .mount-fits named (names-beneath named n);
     mount-refused = λ named n. p .mount-refused named (names-beneath named n);
-    mount-logs-good = λ named n. p .mount-logs-good named (names-beneath named n);
     pointer-is = p .pointer-is;
     look-holds = λ named n. p .look-holds named (names-beneath named n);
     look-serves = λ named n m. let q = p .look-serves named (names-beneath named n) m in record { reads-same = λ by k. q .reads-same by (names-beneath by k); peeks-same = λ by k. q .peeks-same by (names-beneath by k); reports-same = q .reports-same };

@@ -37,12 +37,12 @@ use Rattle.promise.specs.look.LookFits.{rest-known}
 use Rattle.tables.specs.meaning.Tables.{bufferFits}
 use Rattle.volume.specs.meaning.Answers.{CallResult, StoringCall, giving, Place, lookCall, placeOf, presentIn, lostDriveIn}
 use Rattle.volume.specs.meaning.CallContracts.{byteOf}
-use Rattle.volume.specs.declared.Answer.the-variants.{Finished, Refused, BadLog}
-use Rattle.volume.specs.declared.BadPlace.{BadPlace}
+use Rattle.volume.specs.declared.Answer.{Answer}
+use Rattle.volume.specs.declared.Answer.the-variants.{Finished, Unfinished, Refused, BadLog}
 use Rattle.volume.specs.declared.ZoneDescriptor.{ZoneDescriptor}
 use Rattle.volume.specs.meaning.Report.{reportOn}
 use Rattle.volume.specs.laws.Report.{report-finished, report-same}
-use Rattle.promise.specs.meaning.Claim.{WriteAsked, mounts, writes, flushes, resets, ready, System, readOut, peekedAt, reported, NamesAll, MayMount, allBut, contentBytes, SameZones, Serves, ResetRefusal, noSuchZone, wornOut, generalLogFull, WriteRefusal, bufferLength, noSuchAddress, noSectors, pastTheEnd, notAtPointer, sealedZone, wornZone, parityLogFull, Promise}
+use Rattle.promise.specs.meaning.Claim.{WriteAsked, Call, mounts, writes, flushes, resets, ready, System, calls, answered, readOut, peekedAt, reported, heard, NamesAll, MayMount, allBut, contentBytes, SameZones, Serves, RefusedOnly, ResetRefusal, noSuchZone, wornOut, generalLogFull, WriteRefusal, bufferLength, noSuchAddress, noSectors, pastTheEnd, notAtPointer, sealedZone, wornZone, parityLogFull, Promise}
 use Rattle.promise.specs.meaning.OnDevice.{callOf, lookResult, readResult, peekResult, reportShown, shownBy, onDevice}
 use Rattle.promise.specs.look.LookRest.{generation-held, condition-held}
 use Rattle.promise.specs.device.AtRestAnswers.{absent-fine, state-fine, stale-fine, gone-fine, before-fine, entry-fine, worn-last, rest-held, rest-sector}
@@ -150,9 +150,6 @@ module _ (g : Geometry) (ok : Valid g) (t : TableLengths) (wb : isValid g ≡ tr
         by (inr (r1, inr (r2, inr (r3, inr (r4, inr (r5, inl (k, b))))))) = not-both _ b row-6
         by (inr (r1, inr (r2, inr (r3, inr (r4, inr (r5, inr (r6, inl (k, b)))))))) = k
         by (inr (r1, inr (r2, inr (r3, inr (r4, inr (r5, inr (r6, inr (r14, none)))))))) = absurd none
-
-    logs-claim : (stop : ℕ) (b : BadPlace) → onDevice g t .call mounts named (s .state) stop (s .memory) .answer ≢ BadLog b
-    logs-claim stop b = storing-no-place (firstRefusal (mountCalled .refusals)) (mountCalled .stores) (mountCalled .state) (s .state) stop (s .memory) b
 
     -- ---- flushes, resets and writes
     flush-claim : s .mode ≡ ready → (stop n : ℕ) → onDevice g t .call flushes named (s .state) stop (s .memory) .answer ≢ Refused n
@@ -359,20 +356,30 @@ module _ (g : Geometry) (ok : Valid g) (t : TableLengths) (wb : isValid g ≡ tr
   pub serves : Serves g (onDevice g t) s state
   serves = record { reads-same = read-same; peeks-same = peek-same; reports-same = λ list. report-claim g ok t wb lf held p named (there named names) m list ∙ sym (report-claim g ok t wb lf s o named names m list) }
 
+-- no call of the rules tells a bad place of a log: a mount's is told at its contract
+only-for : (g : Geometry) (t : TableLengths) (s : System (onDevice g t)) (named : ℕ → Bool) (c : Call) (stop : ℕ) (Cause : ℕ → Type 0) → ((n : ℕ) → onDevice g t .call c named (s .state) stop (s .memory) .answer ≡ Refused n → Cause n)
+    → (a : Answer) → heard s (calls c named stop) ≡ answered a → RefusedOnly Cause a
+only-for g t s named c stop Cause h a e = cases a (answer-heard e)
+  where
+    cases : (a : Answer) → onDevice g t .call c named (s .state) stop (s .memory) .answer ≡ a → RefusedOnly Cause a
+    cases Finished e = tt
+    cases Unfinished e = tt
+    cases (Refused n) e = h n e
+    cases (BadLog b) e = let k = callOf g t c named (s .state) (s .memory) in storing-no-place (firstRefusal (k .refusals)) (k .stores) (k .state) (s .state) stop (s .memory) b e
+
 -- every point of a history is as claimed
 module _ (g : Geometry) (ok : Valid g) (t : TableLengths) (wb : isValid g ≡ true) (lf : tablesFit g t ≡ true) (s : System (onDevice g t)) (o : Ok g t s) where
   pub kept : Promise g (onDevice g t) s
   kept = record {
     look-fits = look-claim g ok t wb lf s o;
     mount-fits = λ named names m stop e. mount-claim g ok t wb lf s o named names m stop (answer-heard e);
-    mount-refused = λ named names stop n e. refused-claim g ok t wb lf s o named names stop n (answer-heard e);
-    mount-logs-good = λ named names stop b e. logs-claim g ok t wb lf s o named names stop b (answer-heard e);
+    mount-refused = λ named names stop. only-for g t s named mounts stop (λ n. n ≡ 14) (refused-claim g ok t wb lf s o named names stop);
     pointer-is = pointer-claim g ok t wb lf s o;
     look-holds = held-claim g ok t wb lf s o;
     look-serves = λ named names m. serves g ok t wb lf s o m (onDevice g t .look named (s .state) (s .memory) .state) (look-held g ok t s o named names) (held-claim g ok t wb lf s o named names m .1) named names;
-    flush-accepted = λ named names m stop n e. flush-claim g ok t wb lf s o named names m stop n (answer-heard e);
-    reset-refused = λ named names m z stop n e. reset-claim g ok t wb lf s o named names m z stop n (answer-heard e);
-    write-refused = λ named names m w stop n e. write-claim g ok t wb lf s o named names m w stop n (answer-heard e);
+    flush-accepted = λ named names m stop. only-for g t s named flushes stop (λ n. ⊥) (flush-claim g ok t wb lf s o named names m stop);
+    reset-refused = λ named names m z stop. only-for g t s named (resets z) stop (ResetRefusal g (s .state .generation z) z) (reset-claim g ok t wb lf s o named names m z stop);
+    write-refused = λ named names m w stop. only-for g t s named (writes w) stop (WriteRefusal g (s .state .condition (zoneOf g (w .address))) w) (write-claim g ok t wb lf s o named names m w stop);
     read-gives = λ named names m a count out bytes e.
         let (p, q) = read-heard e in
         let (k, b) = read-claim g ok t wb lf s o named names m a count out p in

@@ -37,7 +37,6 @@ module _ (g : Geometry) (vol : Volume) (k : Caches vol) where
       look-fits = λ named n. let (e, f) = p .look-fits named (names named n) in (ap without e, f);
       mount-fits = λ named n. p .mount-fits named (names named n);
       mount-refused = λ named n. p .mount-refused named (names named n);
-      mount-logs-good = λ named n. p .mount-logs-good named (names named n);
       pointer-is = p .pointer-is;
       look-holds = λ named n. p .look-holds named (names named n);
       look-serves = λ named n m. let q = p .look-serves named (names named n) m in record { reads-same = λ by k. q .reads-same by (names by k); peeks-same = λ by k. q .peeks-same by (names by k); reports-same = q .reports-same };

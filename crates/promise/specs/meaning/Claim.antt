@@ -17,7 +17,6 @@ use Rattle.tables.specs.meaning.Geometry.{zoneSectors}
 use Rattle.logs.specs.meaning.Entry.{wornGeneration}
 use Rattle.volume.specs.declared.Answer.{Answer}
 use Rattle.volume.specs.declared.Answer.the-variants.{Finished, Unfinished, Refused, BadLog}
-use Rattle.volume.specs.declared.BadPlace.{BadPlace}
 use Rattle.volume.specs.declared.Condition.{Condition}
 use Rattle.volume.specs.meaning.State.{StateView, pointerIn, isSealed, isWorn}
 use Rattle.volume.specs.meaning.Content.{at}
@@ -219,6 +218,13 @@ pub record Serves (g : Geometry) (vol : Volume) (s : System vol) (state : vol .S
   pub peeks-same : (named : vol .Names) → NamesAll g vol s named → (a : ℕ) → vol .peek named state a (s .memory) ≡ vol .peek named (s .state) a (s .memory)
   pub reports-same : (list : vol .Listing) → vol .report state list ≡ vol .report (s .state) list
 
+-- an answer that is a refusal for a cause alone, if it is one (Cause: of a refusal's number); and none for a bad log
+abbrev pub RefusedOnly : (ℕ → Type 0) → Answer → Type 0
+RefusedOnly Cause Finished = Unit {0}
+RefusedOnly Cause Unfinished = Unit {0}
+RefusedOnly Cause (Refused n) = Cause n
+RefusedOnly Cause (BadLog b) = ⊥
+
 -- why a reset of zone z may be refused, and by which number n (generation: the zone's, as the host holds it)
 pub data ResetRefusal (g : Geometry) (generation z n : ℕ) : Type 0 where
   noSuchZone : n ≡ 8 → g .zones ≤ z → ResetRefusal g generation z n
@@ -244,10 +250,8 @@ pub record Promise (g : Geometry) (vol : Volume) (s : System vol) : Type 0 where
   -- "Finished mount: the same"
   pub mount-fits : (named : vol .Names) → NamesAll g vol s named → MayMount (s .mode) → (stop : ℕ) → heard s (calls mounts named stop) ≡ answered Finished
       → let t = next g vol s (calls mounts named stop) in let k = vol .shows named (s .memory) (t .memory) in (t .state ≡ vol .stateOf k) × Fits g (s .ledger) k
-  -- a mount is refused by 14, log full, alone
-  pub mount-refused : (named : vol .Names) → NamesAll g vol s named → (stop n : ℕ) → heard s (calls mounts named stop) ≡ answered (Refused n) → n ≡ 14
-  -- so it meets no bad place of a log: never 6, 16 or 17
-  pub mount-logs-good : (named : vol .Names) → NamesAll g vol s named → (stop : ℕ) (b : BadPlace) → heard s (calls mounts named stop) ≢ answered (BadLog b)
+  -- a mount is refused by 14, log full, alone: it meets no bad place of a log, so never 6, 16 or 17
+  pub mount-refused : (named : vol .Names) → NamesAll g vol s named → (stop : ℕ) (a : Answer) → heard s (calls mounts named stop) ≡ answered a → RefusedOnly (λ n. n ≡ 14) a
   -- between finished calls the state's pointers are the lengths of the contents
   pub pointer-is : s .mode ≡ ready → (z : ℕ) → z < g .zones → pointerHeld vol (s .state) z ≡ length (s .ledger .content z)
   -- and a look's state says of every zone what the host's says, and the drive that is lost
@@ -255,12 +259,12 @@ pub record Promise (g : Geometry) (vol : Volume) (s : System vol) : Type 0 where
       → let looked = vol .view (vol .look named (s .state) (s .memory) .state) in (looked .lost ≡ s .lost) × SameZones g looked (vol .view (s .state))
   -- so it serves for whatever stores nothing
   pub look-serves : (named : vol .Names) → NamesAll g vol s named → s .mode ≡ ready → Serves g vol s (vol .look named (s .state) (s .memory) .state)
-  -- and no flush is refused, and a reset or write only for its cause: never by 1, 3, 4, 7 or 15
-  pub flush-accepted : (named : vol .Names) → NamesAll g vol s named → s .mode ≡ ready → (stop n : ℕ) → heard s (calls flushes named stop) ≢ answered (Refused n)
-  pub reset-refused : (named : vol .Names) → NamesAll g vol s named → s .mode ≡ ready → (z stop n : ℕ) → heard s (calls (resets z) named stop) ≡ answered (Refused n)
-      → ResetRefusal g (vol .view (s .state) .generation z) z n
-  pub write-refused : (named : vol .Names) → NamesAll g vol s named → s .mode ≡ ready → (w : WriteAsked) (stop n : ℕ) → heard s (calls (writes w) named stop) ≡ answered (Refused n)
-      → WriteRefusal g (vol .view (s .state) .condition (zoneOf g (w .address))) w n
+  -- and no flush is refused, and a reset or write only for its cause: never by 1, 3, 4, 7 or 15, and none of them for a bad log
+  pub flush-accepted : (named : vol .Names) → NamesAll g vol s named → s .mode ≡ ready → (stop : ℕ) (a : Answer) → heard s (calls flushes named stop) ≡ answered a → RefusedOnly (λ n. ⊥) a
+  pub reset-refused : (named : vol .Names) → NamesAll g vol s named → s .mode ≡ ready → (z stop : ℕ) (a : Answer) → heard s (calls (resets z) named stop) ≡ answered a
+      → RefusedOnly (ResetRefusal g (vol .view (s .state) .generation z) z) a
+  pub write-refused : (named : vol .Names) → NamesAll g vol s named → s .mode ≡ ready → (w : WriteAsked) (stop : ℕ) (a : Answer) → heard s (calls (writes w) named stop) ≡ answered a
+      → RefusedOnly (WriteRefusal g (vol .view (s .state) .condition (zoneOf g (w .address))) w) a
   -- an accepted read leaves the content in the buffer, and a read below the pointer is accepted
   pub read-gives : (named : vol .Names) → NamesAll g vol s named → s .mode ≡ ready → (a count : ℕ) (out bytes : List ℕ) → heard s (reads named a count out) ≡ readOut Finished bytes
       → (offsetOf g a + count ≤ length (s .ledger .content (zoneOf g a))) × (bytes ≡ contentBytes (s .ledger) (zoneOf g a) (offsetOf g a) count)

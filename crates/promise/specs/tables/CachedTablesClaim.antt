@@ -24,16 +24,16 @@ use Rattle.tables.specs.laws.GeometryTest.{valid-if-test}
 use Rattle.volume.specs.declared.State.{State}
 use Rattle.volume.specs.declared.Answer.the-variants.{Finished}
 use Rattle.volume.specs.meaning.Calls.{formatStores, formatState}
-use Rattle.volume.specs.meaning.Refusals.{Verdict, accept, firstRefusal}
+use Rattle.volume.specs.meaning.Refusals.{accept}
 use Rattle.volume.specs.meaning.Answers.{leftOut, namedDrives}
 use Rattle.volume.specs.meaning.CallContracts.{viewState, isSet, lengthsOf, freshState, formatVerdict, formatOn}
 use Rattle.volume.specs.laws.CallStoresFit.{format-stores-fit}
 use Rattle.promise.specs.meaning.Ledger.{freshLedger, noted}
 use Rattle.promise.specs.meaning.Claim.{Call, formats, System, Event, calls, looks, reads, peeks, reports, cuts, loses, next, modeAfter, noteOf, replyTo, Duty, Promise, ready, start}
-use Rattle.promise.specs.meaning.OnDevice.{callOf, onDevice, shownBy}
+use Rattle.promise.specs.meaning.OnDevice.{onDevice, shownBy}
 use Rattle.promise.specs.meaning.OnTables.{resultOn, onTables, TablesClaim}
-use Rattle.promise.specs.meaning.Caches.{WithCaches, madeBy, madeStores, rememberedAfter, onCachingDevice, beneath}
-use Rattle.promise.specs.meaning.CachesOnTables.{ZoneKept, ZoneBack, TablesCachingCut, tablesCaches, onCachingTables, CachingTablesClaim}
+use Rattle.promise.specs.meaning.Caches.{WithCaches, rememberedAfter, onCachingDevice, beneath}
+use Rattle.promise.specs.meaning.CachesOnTables.{ZoneKept, ZoneBack, TablesCachingCut, madeOn, tablesCaches, onCachingTables, CachingTablesClaim}
 use Rattle.promise.specs.invariant.Throughout.{throughout}
 use Rattle.promise.specs.device.AtRestAnswers.{left-out, drives-named}
 use Rattle.promise.specs.device.CachedModes.{RestsCached, OkCached}
@@ -45,9 +45,8 @@ use Rattle.promise.specs.device.CachedEvents.{CachesOwed, OkOn, event-ke
 use Rattle.promise.specs.device.CachedClaim.{caches-owed}
 use Rattle.promise.specs.device.OlderDrives.{OlderCuts, older-drives}
 use Rattle.promise.specs.tables.CallRefines.{Agrees, viewResult, answer-finished}
-use Rattle.promise.specs.tables.CallVerdicts.{format-verdict}
 use Rattle.promise.specs.tables.MountRefines.{call-refines}
-use Rattle.promise.specs.tables.TablesEvents.{call-agrees, fresh-agrees}
+use Rattle.promise.specs.tables.TablesEvents.{Refines, call-agrees, made-same, fresh-agrees}
 use Rattle.promise.specs.tables.TablesClaimProof.{FormatPassed, format-passed, format-numbered-on, tables-promise, tables-event, tables-start}
 use Rattle.promise.specs.tables.CachedTables.{caching-cut-refines, agrees-cached, viewCached, TablesOkCached}
 
@@ -72,14 +71,17 @@ module _ (g : Geometry) (ok : Valid g) (wb : isValid g ≡ true) (owed : CachesO
   -- ---- calls
   module _ (c : Call) (named : List Bool) (stop : ℕ) (d : Duty g (onCachingTables g) s (calls c named stop)) where
     abbrev remembers : ℕ → ℕ → List ZoneView
-    remembers = rememberedAfter (madeStores (callOf g (lengthsOf (s .memory .memory)) c (isSet named) (viewState (s .state)) (deviceOf g (s .memory .memory))) stop) (deviceOf g (s .memory .memory)) (s .memory .was)
+    remembers = rememberedAfter (madeOn g c named (s .state) stop (s .memory .memory)) (deviceOf g (s .memory .memory)) (s .memory .was)
+
+    refines : Refines g (beneath (onTables g) (tablesCaches g) s) c named stop
+    refines = call-refines g ok s0 (o .plain) named (names-beneath g (onTables g) (tablesCaches g) s named (d .0)) c stop
 
     agrees : Agrees g (onDevice g (lengthsOf t) .call c (isSet named) (viewState (s .state)) stop (deviceOf g t)) (viewResult g (resultOn g c named (s .state) stop t))
-    agrees = call-agrees g ok s0 (o .plain) c named stop (call-refines g ok s0 (o .plain) named (names-beneath g (onTables g) (tablesCaches g) s named (d .0)) c stop)
+    agrees = call-agrees g ok s0 (o .plain) c named stop refines
 
     kept : let a = onDevice g (lengthsOf t) .call c (isSet named) (viewState (s .state)) stop (deviceOf g t) in
         OkCached g (modeAfter (a .answer) (s .mode)) (s .lost) (record { now = a .memory; was = remembers }) (a .state) (noted (s .ledger) (noteOf g c (shownBy g (isSet named) (deviceOf g t) (a .memory)) (replyTo (a .answer))))
-    kept = device-keeps (calls c (isSet named) stop) (record { drives = d .0 .drives }, d .1, rw (agrees .answer-same) (d .2))
+    kept = rw (made-same g ok s0 (o .plain) c named stop refines) (device-keeps (calls c (isSet named) stop) (record { drives = d .0 .drives }, d .1, rw (agrees .answer-same) (d .2)))
 
     pub call-cached : TablesOkCached g (next g (onCachingTables g) s (calls c named stop))
     call-cached =
@@ -147,19 +149,13 @@ module _ (g : Geometry) (named : List Bool) (array : ℕ) (old : State) (stop : 
   device-is : deviceOf g (runStores g stop xs t) ≡ applyAllCaching xs c .now
   device-is = run-refines g stop xs t sized (format-stores-fit g named array t accepted) ∙ ap (λ (r : List Store). applyAll r (deviceOf g t)) made-all ∙ sym (now-is xs c)
 
-  verdict : firstRefusal (callOf g (lengthsOf t) (formats array) (isSet named) (viewState old) (deviceOf g t) .refusals) ≡ accept
-  verdict = sym (format-verdict g named t (passed .pointers-fit)) ∙ accepted
-
-  made-is : madeStores (callOf g (lengthsOf t) (formats array) (isSet named) (viewState old) (deviceOf g t)) stop ≡ xs
-  made-is = ap (λ (v : Verdict). madeBy v xs stop) verdict ∙ made-all
-
   device-rests : RestsCached g x (applyAllCaching xs c) (formatState x) freshLedger
   device-rests = rw (drives-named g ok (isSet named) (passed .one-unnamed)) (format-rests-cached g ok x array c (left-out g (isSet named)) small)
 
-  start-is : record { now = deviceOf g (runStores g stop xs t); was = rememberedAfter (madeStores (callOf g (lengthsOf t) (formats array) (isSet named) (viewState old) (deviceOf g t)) stop) (deviceOf g t) was } ≡ applyAllCaching xs c
-  start-is = ap₂ (λ (a : Device) (b : List Store). record { now = a; was = applyAllCaching b c .was }) device-is made-is
+  start-is : record { now = deviceOf g (runStores g stop xs t); was = rememberedAfter (take stop xs) (deviceOf g t) was } ≡ applyAllCaching xs c
+  start-is = ap₂ (λ (a : Device) (b : List Store). record { now = a; was = applyAllCaching b c .was }) device-is made-all
 
-  pub start-rests : RestsCached g x (record { now = deviceOf g (runStores g stop xs t); was = rememberedAfter (madeStores (callOf g (lengthsOf t) (formats array) (isSet named) (viewState old) (deviceOf g t)) stop) (deviceOf g t) was })
+  pub start-rests : RestsCached g x (record { now = deviceOf g (runStores g stop xs t); was = rememberedAfter (take stop xs) (deviceOf g t) was })
       (viewState (freshState g x)) freshLedger
   start-rests = agrees-cached g ready x _ (formatState x) (viewState (freshState g x)) freshLedger (fresh-agrees g ok x) (subst (λ (k : Caching). RestsCached g x k (formatState x) freshLedger) (sym start-is) device-rests)
 

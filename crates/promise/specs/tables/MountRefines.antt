@@ -22,7 +22,7 @@ use Rattle.volume.specs.declared.State.{State}
 use Rattle.volume.specs.looking.DrivesLost.{fill-long}
 use Rattle.volume.specs.meaning.CallContracts.{zoneLookOf, blankRecord, viewState, isSet, lengthsOf, recordFrom, stateShown, mountStoresOn, mountShownOn, mountOn, verdictNumber, storingOn, badPlaceOn}
 use Rattle.volume.specs.declared.Answer.{Answer}
-use Rattle.volume.specs.declared.Answer.the-variants.{Finished}
+use Rattle.volume.specs.declared.Answer.the-variants.{Finished, Refused}
 use Rattle.volume.specs.meaning.Rules.{Shown, showing}
 use Rattle.volume.specs.meaning.Roles.{roles, byRoles}
 use Rattle.volume.specs.meaning.Answers.{presentIn, lostDriveIn, storing}
@@ -97,7 +97,7 @@ module _ (g : Geometry) (ok : Valid g) (s : System (onTables g)) (o : TablesOk g
       by (inl (k, b)) = absurd (omega (arith, k))
       by (inr (r1, rest)) =
           let promised = kept g ok (lengthsOf t) (not-not (isValid g) r1) (sized-lengths g t (o .sized)) (viewSystem g s) (o .holds) in
-          let z = promised .mount-refused (isSet named) (names-seen g s named n) 0 6 (ap (λ (r : Verdict). answered (storing r xs (mountState (mountShows g present lost w)) (viewState (s .state)) 0 w .answer)) e) in
+          let z = promised .mount-refused (isSet named) (names-seen g s named n) 0 (Refused 6) (ap (λ (r : Verdict). answered (storing r xs (mountState (mountShows g present lost w)) (viewState (s .state)) 0 w .answer)) e) in
           absurd (omega (arith, z))
 
   number-not-six : verdictNumber verdict ≢ 6
@@ -114,6 +114,7 @@ module _ (g : Geometry) (ok : Valid g) (s : System (onTables g)) (o : TablesOk g
     stores = ss;
     new = new;
     result-is = rw (mount-verdict g named t (pointers-fine g s named n o)) (told-plain g (badPlaceOn g named t) (verdictNumber verdict) ss new (s .state) stop t number-not-six);
+    made-is = rw (mount-verdict g named t (pointers-fine g s named n o)) refl;
     verdict-is = refl;
     has-number = mount-numbered g named t;
     same = same;

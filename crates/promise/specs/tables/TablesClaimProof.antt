@@ -32,7 +32,7 @@ use Rattle.tables.specs.laws.TablesRefine.{run-refines, run-sized}
 use Rattle.tables.specs.laws.TablesFrame.{lengths-sized, sized-lengths}
 use Rattle.tables.specs.laws.PointerOrder.{order-passed, run-order}
 use Rattle.volume.specs.declared.State.{State}
-use Rattle.volume.specs.declared.Answer.the-variants.{Finished, Refused, BadLog}
+use Rattle.volume.specs.declared.Answer.the-variants.{Finished, Refused}
 use Rattle.volume.specs.meaning.State.{StateView, callPresent}
 use Rattle.volume.specs.meaning.Content.{at}
 use Rattle.volume.specs.meaning.Mount.{mountState}
@@ -240,14 +240,13 @@ module _ (g : Geometry) (ok : Valid g) (wb : isValid g ≡ true) where
       record {
         look-fits = look-claim g ok wb s o;
         mount-fits = λ named n m stop e. mount-claim g ok s o named n promised m stop (answer-heard e);
-        mount-refused = λ named n stop k e. promised .mount-refused (isSet named) (names-seen g s named n) stop k (heard-as g ok s o named n mounts stop (Refused k) e);
-        mount-logs-good = λ named n stop b e. promised .mount-logs-good (isSet named) (names-seen g s named n) stop b (heard-as g ok s o named n mounts stop (BadLog b) e);
+        mount-refused = λ named n stop a e. promised .mount-refused (isSet named) (names-seen g s named n) stop a (heard-as g ok s o named n mounts stop a e);
         pointer-is = promised .pointer-is;
         look-holds = held-claim g ok wb s o;
         look-serves = look-serves-on g ok wb s o;
-        flush-accepted = λ named n m stop k e. promised .flush-accepted (isSet named) (names-seen g s named n) m stop k (heard-as g ok s o named n flushes stop (Refused k) e);
-        reset-refused = λ named n m z stop k e. promised .reset-refused (isSet named) (names-seen g s named n) m z stop k (heard-as g ok s o named n (resets z) stop (Refused k) e);
-        write-refused = λ named n m asked stop k e. promised .write-refused (isSet named) (names-seen g s named n) m asked stop k (heard-as g ok s o named n (writes asked) stop (Refused k) e);
+        flush-accepted = λ named n m stop a e. promised .flush-accepted (isSet named) (names-seen g s named n) m stop a (heard-as g ok s o named n flushes stop a e);
+        reset-refused = λ named n m z stop a e. promised .reset-refused (isSet named) (names-seen g s named n) m z stop a (heard-as g ok s o named n (resets z) stop a e);
+        write-refused = λ named n m w stop a e. promised .write-refused (isSet named) (names-seen g s named n) m w stop a (heard-as g ok s o named n (writes w) stop a e);
         read-gives = λ named n m a count out bytes e. promised .read-gives (isSet named) (names-seen g s named n) m a count out bytes (read-alike (sym (read-same g ok wb s o named n (s .state) a count out)) e);
         read-accepted = λ named n m a count out hz pos len h. read-alike (read-same g ok wb s o named n (s .state) a count out) (promised .read-accepted (isSet named) (names-seen g s named n) m a count out hz pos len h);
         peek-gives = λ named n m a from part e.

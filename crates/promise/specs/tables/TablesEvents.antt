@@ -6,7 +6,7 @@ use mathlib.Core.Bool.{Bool, true, false, not, true≢false}
 use Prim.Native.Nat.{ℕ, _+_, _<_}
 use native.Mathlib.Omega.{arith}
 use mathlib.Core.List.{List}
-use lib.ListN.{length, length-set}
+use lib.ListN.{length, take, length-set}
 use lib.Dec.{ltb}
 use borrow.Author.Tests.{eq-eqb, ltb-true}
 use Rattle.tables.specs.declared.Geometry.{Geometry}
@@ -21,7 +21,7 @@ use Rattle.tables.specs.laws.PointerOrder.{InOrder, order-passes, cut-order, lo
 use Rattle.volume.specs.declared.State.{State}
 use Rattle.volume.specs.meaning.State.{StateView}
 use Rattle.volume.specs.meaning.Calls.{formatState}
-use Rattle.volume.specs.meaning.Refusals.{Verdict, accept, firstRefusal, TableLengths, zoneOf, writeRows, resetRows}
+use Rattle.volume.specs.meaning.Refusals.{Verdict, refuse, accept, firstRefusal, TableLengths, zoneOf, writeRows, resetRows}
 use Rattle.volume.specs.meaning.Answers.{StoringCall, lostIn, leftOut, resetCall}
 use Rattle.volume.specs.meaning.CallContracts.{blankRecord, freshRecord, viewState, isSet, verdictNumber, lengthsOf, Result, storingOn, withLost, flushOn, withReset, resetOn, writtenState, pointerOf, writeOn, freshState, formatOn}
 use Rattle.volume.specs.laws.Refusals.{accepted-row, Numbered}
@@ -33,6 +33,8 @@ use Rattle.promise.specs.meaning.Claim.{WriteAsked, Call, writes, flushe
 use Rattle.promise.specs.meaning.Ledger.{noted}
 use Rattle.promise.specs.meaning.OnDevice.{callOf, onDevice, shownBy}
 use Rattle.promise.specs.meaning.OnTables.{resultOn, onTables, shownIn}
+use Rattle.promise.specs.meaning.Caches.{madeBy, madeStores}
+use Rattle.promise.specs.meaning.CachesOnTables.{madeOn}
 use Rattle.promise.specs.device.Modes.{OkIn}
 use Rattle.promise.specs.device.ClaimEvents.{event-keeps}
 use Rattle.promise.specs.tables.CallRefines.{Agree, agree-refl, ok-agrees, Agrees, viewResult, storing-agrees, storing-sized, storing-order, storing-state}
@@ -69,6 +71,7 @@ pub record Refines (g : Geometry) (s : System (onTables g)) (c : Call) (named : 
   pub new : State  -- the code's state
   pub result-is : resultOn g c named (s .state) stop (s .memory) ≡ storingOn g (verdictNumber verdict) stores new (s .state) stop (s .memory)
   pub verdict-is : verdict ≡ firstRefusal (callOf g (lengthsOf (s .memory)) c (isSet named) (viewState (s .state)) (deviceOf g (s .memory)) .refusals)
+  pub made-is : madeOn g c named (s .state) stop (s .memory) ≡ madeBy verdict stores stop
   pub has-number : Numbered verdict
   pub same : verdict ≡ accept → stores ≡ callOf g (lengthsOf (s .memory)) c (isSet named) (viewState (s .state)) (deviceOf g (s .memory)) .stores
   pub fit : verdict ≡ accept → FitsAll g (callOf g (lengthsOf (s .memory)) c (isSet named) (viewState (s .state)) (deviceOf g (s .memory)) .stores) (deviceOf g (s .memory))
@@ -86,6 +89,14 @@ module _ (g : Geometry) (ok : Valid g) (s : System (onTables g)) (o : TablesOk g
   -- what it leaves is, as the rules see it, what their call leaves
   pub call-agrees : Agrees g (onDevice g (lengthsOf (s .memory)) .call c (isSet named) (viewState (s .state)) stop (deviceOf g (s .memory))) (viewResult g (resultOn g c named (s .state) stop (s .memory)))
   call-agrees = rw (r .result-is, ← r .verdict-is) (storing-agrees g (s .memory) (r .verdict) (r .has-number) (r .stores) (k .stores) (r .new) (s .state) (k .state) stop (o .sized) (r .same) (r .fit) (r .agree))
+
+  -- and the stores made are those of their call
+  pub made-same : madeOn g c named (s .state) stop (s .memory) ≡ madeStores (callOf g (lengthsOf (s .memory)) c (isSet named) (viewState (s .state)) (deviceOf g (s .memory))) stop
+  made-same = r .made-is ∙ go (r .verdict) refl ∙ ap (λ (v : Verdict). madeBy v (k .stores) stop) (r .verdict-is)
+    where
+      go : (v : Verdict) → r .verdict ≡ v → madeBy v (r .stores) stop ≡ madeBy v (k .stores) stop
+      go (refuse n) e = refl
+      go accept e = ap (take stop) (r .same e)
 
   -- so the event keeps the invariant
   pub call-event : Duty g (onTables g) s (calls c named stop) → TablesOk g (next g (onTables g) s (calls c named stop))
@@ -162,6 +173,7 @@ module _ (g : Geometry) (ok : Valid g) (s : System (onTables g)) (o : TablesOk g
         stores = k .stores;
         new = new;
         result-is = rw same refl;
+        made-is = rw same refl;
         verdict-is = refl;
         has-number = write-numbered g named t (s .state) (asked .address) (asked .count) (length (asked .buffer));
         same = λ p. refl;
@@ -179,6 +191,7 @@ module _ (g : Geometry) (ok : Valid g) (s : System (onTables g)) (o : TablesOk g
         stores = k .stores;
         new = withLost (s .state) (lostIn g (isSet named) st);
         result-is = rw (flush-verdict g named t fine (s .state)) refl;
+        made-is = rw (flush-verdict g named t fine (s .state)) refl;
         verdict-is = refl;
         has-number = flush-numbered g named t (s .state);
         same = λ p. refl;
@@ -197,6 +210,7 @@ module _ (g : Geometry) (ok : Valid g) (s : System (onTables g)) (o : TablesOk g
         stores = k .stores;
         new = withReset (s .state) z y;
         result-is = rw (reset-verdict g named t fine (s .state) z) refl;
+        made-is = rw (reset-verdict g named t fine (s .state) z) refl;
         verdict-is = refl;
         has-number = reset-numbered g named t (s .state) z;
         same = λ p. refl;
@@ -215,6 +229,7 @@ module _ (g : Geometry) (ok : Valid g) (s : System (onTables g)) (o : TablesOk g
         stores = k .stores;
         new = freshState g y;
         result-is = rw (format-verdict g named t fine) refl;
+        made-is = rw (format-verdict g named t fine) refl;
         verdict-is = refl;
         has-number = format-numbered g named t;
         same = λ p. refl;

@@ -102,7 +102,7 @@ module _ (g : Geometry) (ok : Valid g) (wb : isValid g ≡ true) (s : System (on
 
       -- no mount is refused for a log
       logs-good : (stop : ℕ) → verdictNumber (mountVerdict g (namedOf mask) t) ≢ 6
-      logs-good stop e = promised .mount-logs-good (namedOf mask) names stop (badPlaceOn g (namedOf mask) t) (ap answered (mount-tells g (namedOf mask) t st stop e))
+      logs-good stop e = promised .mount-refused (namedOf mask) names stop (BadLog (badPlaceOn g (namedOf mask) t)) (ap answered (mount-tells g (namedOf mask) t st stop e))
 
       -- each call is that on the tables
       call-on : (c : Call) (stop : ℕ) → (r : Result) × OnTheTables g m (edgeOf g c mask stop m) r (resultOn g c (namedOf mask) st stop t)
@@ -177,14 +177,13 @@ module _ (g : Geometry) (ok : Valid g) (wb : isValid g ≡ true) (s : System (on
   bytes-promise = record {
     look-fits = λ mask n. (looked mask n, promised .look-fits (namedOf mask) (names mask n) .1);
     mount-fits = mount-claim;
-    mount-refused = λ mask n stop k e. promised .mount-refused (namedOf mask) (names mask n) stop k (heard-as mask n mounts stop (Refused k) e);
-    mount-logs-good = λ mask n stop b e. promised .mount-logs-good (namedOf mask) (names mask n) stop b (heard-as mask n mounts stop (BadLog b) e);
+    mount-refused = λ mask n stop a e. promised .mount-refused (namedOf mask) (names mask n) stop a (heard-as mask n mounts stop a e);
     pointer-is = promised .pointer-is;
     look-serves = look-serves-bytes;
     look-holds = λ mask n r. rw (look-state mask n) (promised .look-holds (namedOf mask) (names mask n) r);
-    flush-accepted = λ mask n r stop k e. promised .flush-accepted (namedOf mask) (names mask n) r stop k (heard-as mask n flushes stop (Refused k) e);
-    reset-refused = λ mask n r z stop k e. promised .reset-refused (namedOf mask) (names mask n) r z stop k (heard-as mask n (resets z) stop (Refused k) e);
-    write-refused = λ mask n r w stop k e. promised .write-refused (namedOf mask) (names mask n) r w stop k (heard-as mask n (writes w) stop (Refused k) e);
+    flush-accepted = λ mask n r stop a e. promised .flush-accepted (namedOf mask) (names mask n) r stop a (heard-as mask n flushes stop a e);
+    reset-refused = λ mask n r z stop a e. promised .reset-refused (namedOf mask) (names mask n) r z stop a (heard-as mask n (resets z) stop a e);
+    write-refused = λ mask n r w stop a e. promised .write-refused (namedOf mask) (names mask n) r w stop a (heard-as mask n (writes w) stop a e);
     read-gives = λ mask n r a count out bytes e. promised .read-gives (namedOf mask) (names mask n) r a count out bytes (read-alike (sym (read-is g mask (s .memory) (s .state) (o .taken) a count out)) e);
     read-accepted = λ mask n r a count out hz pos len h. read-alike (read-is g mask (s .memory) (s .state) (o .taken) a count out) (promised .read-accepted (namedOf mask) (names mask n) r a count out hz pos len h);
     peek-gives = λ mask n r a from part e. promised .peek-gives (namedOf mask) (names mask n) r a from part (peek-alike (sym (peek-is g mask (s .memory) (s .state) (o .taken) a)) e);

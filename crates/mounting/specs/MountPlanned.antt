@@ -31,7 +31,7 @@ use Rattle.volume.specs.meaning.Mount.{countersDiffer}
 use Rattle.volume.specs.laws.RulesUnread.{showing-alike}
 use Rattle.volume.specs.laws.CallsUnread.{bad-labels-alike, counters-differ-alike}
 use Rattle.volume.specs.laws.MountPlaced.{present-is-named}
-use Rattle.volume.specs.looking.DrivesLost.{fill-past}
+use Rattle.volume.specs.laws.FilledArrays.{fill-past}
 use Rattle.volume.specs.looking.HiddenLogs.{placesOf, roles-durable}
 use Rattle.volume.specs.looking.Knowing.{readDevice}
 use Rattle.volume.specs.looking.SeenByRoles.{Seen, kindLacksOn, seen-geometry, seen-zone, seen-read, seen-lacks}

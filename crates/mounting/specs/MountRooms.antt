@@ -28,7 +28,7 @@ use Rattle.volume.specs.meaning.Emptying.{byLook, reserve, mountGeneralLimit, e
 use Rattle.volume.specs.meaning.Mount.{spareStep, countersDiffer}
 use Rattle.volume.specs.laws.LogPlaces.{withLogs}
 use Rattle.volume.specs.looking.DriveLogs.{zonePointer}
-use Rattle.volume.specs.looking.DrivesLost.{fill-at}
+use Rattle.volume.specs.laws.FilledArrays.{fill-at}
 use Rattle.volume.specs.looking.HiddenLogs.{placesOf, hiddenLogs}
 use Rattle.volume.specs.looking.MovedLogs.{movedLogs}
 use Rattle.volume.specs.looking.Looking.{lookOf}

@@ -17,7 +17,7 @@ use Rattle.volume.specs.meaning.State.{isEmpty}
 use Rattle.volume.specs.meaning.Rules.{Shown, resetSeen, pointerAt, generationOf, cleanAt, sealSeen, zoneAt, zoneShown, showing}
 use Rattle.volume.specs.meaning.CallContracts.{isSet, zoneLookOf}
 use Rattle.volume.specs.looking.Knowing.{readDevice}
-use Rattle.volume.specs.looking.DrivesLost.{fill-at}
+use Rattle.volume.specs.laws.FilledArrays.{fill-at}
 use Rattle.volume.specs.looking.ZoneLooking.{pointer-reset}
 use Rattle.volume.specs.looking.Looking.{looksFrom, lookOf, Lookable, lookable-zone}
 use Rattle.volume.specs.laws.GenerationRange.{generation-range, empty-fresh, worn-top}

@@ -16,9 +16,10 @@ ghost use Rattle.tables.specs.meaning.Geometry.{Valid, cells};
 ghost use Rattle.tables.specs.meaning.Tables.{tablesOf};
 ghost use Rattle.tables.specs.laws.Made.{Made};
 ghost use Rattle.volume.specs.meaning.Rules.{showing};
-ghost use Rattle.volume.specs.meaning.CallContracts.{isSet, stateShown, mountStoresOn, mountOn};
+ghost use Rattle.volume.specs.meaning.CallContracts.{isSet, mountStoresOn, mountOn, stateHeld};
 ghost use Rattle.volume.specs.looking.Knowing.{readDevice};
 ghost use Rattle.volume.specs.looking.Looking.{Lookable};
+ghost use Rattle.volume.specs.meaning.Mount.{mountState};
 ghost use Rattle.mounting.specs.MountRooms.{lostAmong, Planned};
 ghost use Rattle.mounting.specs.MountBetween.{Before};
 ghost use Rattle.mounting.specs.MountEnds.{courseOf};
@@ -28,7 +29,7 @@ ghost use Rattle.mounting.specs.Mounting.{mountedOn, ShownNow, MountEnde
 fn shown_state(sectors: &[u8], written: &[u32], g: Geometry, here: [bool; 8]) -> State
     requires { ⌜ Valid g ⌝ }
     requires { ⌜ Lookable g here (now sectors) (now written) ⌝ }
-    ensures { λ r. ⌜ r ≡ stateShown g (showing g (isSet here) (findBelow (λ (d : ℕ). not (isSet here d)) (g .drives)) (readDevice g (now (sectors .entry)) (now (written .entry)))) ⌝ }
+    ensures { λ r. ⌜ r ≡ stateHeld (g .zones) (mountState (showing g (isSet here) (findBelow (λ (d : ℕ). not (isSet here d)) (g .drives)) (readDevice g (now (sectors .entry)) (now (written .entry))))) ⌝ }
 {
     let shown = volume::looking::look_all(sectors, written, g, here);
     let lost = shown.lost;

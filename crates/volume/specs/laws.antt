@@ -22,6 +22,7 @@ pub mod EmptyingDepends
 pub mod EmptyingFits
 pub mod EmptyingStored
 pub mod EmptyingUnread
+pub mod FilledArrays
 pub mod FillStores
 pub mod Firm
 pub mod GenerationRange
@@ -32,8 +33,8 @@ pub mod LeastRefusal
 pub mod LogClaims
 pub mod LogPlaces
 pub mod LogRoom
-pub mod LogsUnread
 pub mod LogStrengths
+pub mod LogsUnread
 pub mod LookPointers
 pub mod LookRows
 pub mod MountAbsentDrives
@@ -62,5 +63,6 @@ pub mod RulesUnread
 pub mod SectorLengths
 pub mod SectorsStored
 pub mod SpareZone
+pub mod StateHeld
 pub mod StoreCounts
 pub mod TornRoom

@@ -12,8 +12,8 @@ ghost use Rattle.tables.specs.meaning.Geometry.{Valid, physicalZones, cells, to
 ghost use Rattle.tables.specs.meaning.Phases.{onPresent};
 ghost use Rattle.tables.specs.meaning.Tables.{tablesOf};
 ghost use Rattle.tables.specs.laws.Made.{Made, MadeAppends, MadePointers};
-ghost use Rattle.volume.specs.meaning.Calls.{formatStores};
-ghost use Rattle.volume.specs.meaning.CallContracts.{isSet, formatOn, freshState};
+ghost use Rattle.volume.specs.meaning.Calls.{formatStores, formatState};
+ghost use Rattle.volume.specs.meaning.CallContracts.{isSet, formatOn, stateHeld};
 ghost use Rattle.volume.specs.storing.Formatting.{formatNumber, driveResets, driveEntries, resetsIf, entriesIf};
 
 // Refusals 1 to 4, of a call that has no state yet; 0 if none applies.
@@ -156,7 +156,7 @@ fn format_stores(
 // The state that a finished format hands on: every zone empty, of generation 1; the records past the last zone blank.
 fn fresh_state(g: Geometry, lost: usize) -> State
     requires { ⌜ Valid g ⌝ }
-    ensures { λ r. ⌜ r ≡ freshState g lost ⌝ }
+    ensures { λ r. ⌜ r ≡ stateHeld (g .zones) (formatState lost) ⌝ }
 {
     let n = g.zones;
     let blank = ZoneRecord {

@@ -26,12 +26,14 @@ ghost use Rattle.tables.specs.laws.Made.{Made, MadeAppends, MadePointers};
 ghost use Rattle.logs.specs.meaning.Entry.{wornGeneration};
 ghost use Rattle.volume.specs.declared.Answer.the-variants.{Finished, Unfinished};
 ghost use Rattle.volume.specs.meaning.State.{pointerIn};
-ghost use Rattle.volume.specs.meaning.CallContracts.{recordAt, isSet, resetOn, resetRecord, withReset};
+ghost use Rattle.volume.specs.meaning.CallContracts.{recordAt, isSet, resetOn, stateHeld, viewState};
+ghost use Rattle.volume.specs.laws.StateHeld.{resetRecord};
 ghost use Rattle.volume.specs.looking.DriveLogs.{Sized};
 ghost use Rattle.volume.specs.checks.LogRoom.{SeenByRoles};
 ghost use Rattle.volume.specs.emptying.Emptyings.{EmptyingReady, emptiedOn, newGeneralOn};
 ghost use Rattle.volume.specs.storing.Resetting.{resetLateNumber, resetWith, resetEntry, zoneResetAt, countersAt, raisedList};
 ghost use Rattle.volume.specs.storing.ResetZone.{generationsIn, ResetReady, resetZoneOn};
+ghost use Rattle.volume.specs.meaning.Calls.{resetState};
 
 // Refusals 7 and 12 of a reset of a zone that there is, by the state's record of it; 0 if none applies.
 fn zone_refusal(written: &[u32], g: Geometry, here: [bool; 8], r: ZoneRecord, z: usize) -> u8
@@ -245,7 +247,7 @@ fn outcome(zone: Zone, state: State, rest: u64) -> Outcome
     requires { ⌜ Valid (zone .geometry) ⌝ }
     requires { ⌜ (zone .number < zone .geometry .zones) × (recordAt state (zone .number) .generation < wornGeneration) ⌝ }
     ensures { λ r. ⌜ r ≡ pick (eqb rest 0) (record { answer = Unfinished; state = state })
-        (record { answer = Finished; state = withReset state (zone .number) (findBelow (λ (d : ℕ). not (isSet (zone .here) d)) (zone .geometry .drives)) }) ⌝ }
+        (record { answer = Finished; state = stateHeld 16 (resetState (findBelow (λ (d : ℕ). not (isSet (zone .here) d)) (zone .geometry .drives)) (viewState state) (zone .number)) }) ⌝ }
 {
     let here = zone.here;
     let z = zone.number;

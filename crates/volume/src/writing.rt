@@ -23,7 +23,7 @@ ghost use Rattle.volume.specs.declared.Answer.the-variants.{Finished, Un
 ghost use Rattle.tables.specs.laws.Made.{Made};
 ghost use Rattle.volume.specs.meaning.Refusals.{goneBefore};
 ghost use Rattle.volume.specs.meaning.Emptying.{goneForCopies};
-ghost use Rattle.volume.specs.meaning.CallContracts.{recordAt, isSet, writtenState, writeOn};
+ghost use Rattle.volume.specs.meaning.CallContracts.{recordAt, isSet, writeOn, stateHeld, viewState};
 ghost use Rattle.volume.specs.looking.DriveLogs.{Sized};
 ghost use Rattle.volume.specs.looking.Knowing.{readDevice};
 ghost use Rattle.volume.specs.checks.LogRoom.{SeenByRoles};
@@ -34,6 +34,7 @@ ghost use Rattle.volume.specs.storing.ResetZone.{generationsIn};
 ghost use Rattle.volume.specs.writing.WriteRoom.{pointsIn};
 ghost use Rattle.volume.specs.writing.WriteStores.{WriteReady};
 ghost use Rattle.volume.specs.writing.WriteRun.{atPlaces, runStoresOf, RunReady, RunAsked, RunStated, writeZoneOn, writeAskedOn};
+ghost use Rattle.volume.specs.meaning.Calls.{openState};
 
 // What is written: so many sectors of a zone from its pointer on.
 pub struct Run {
@@ -47,7 +48,7 @@ fn outcome(zone: Zone, state: State, n: usize, rest: u64) -> Outcome
     requires { ⌜ Valid (zone .geometry) ⌝ }
     requires { ⌜ (zone .number < zone .geometry .zones) × (zone .generation ≡ recordAt state (zone .number) .generation) ⌝ }
     ensures { λ r. ⌜ r ≡ pick (eqb rest 0) (record { answer = Unfinished; state = state })
-        (record { answer = Finished; state = writtenState state (findBelow (λ (d : ℕ). not (isSet (zone .here) d)) (zone .geometry .drives)) (zone .number) n }) ⌝ }
+        (record { answer = Finished; state = stateHeld 16 (openState (findBelow (λ (d : ℕ). not (isSet (zone .here) d)) (zone .geometry .drives)) (viewState state) (zone .number) n) }) ⌝ }
 {
     if rest == 0 {
         return Outcome {

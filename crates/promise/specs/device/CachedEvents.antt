@@ -34,7 +34,7 @@ use Rattle.promise.specs.meaning.Caches.{WithCaches, madeBy, rememberedA
 use Rattle.promise.specs.invariant.Throughout.{throughout}
 use Rattle.promise.specs.invariant.RoomAsked.{WriteAccepted, ResetAccepted}
 use Rattle.promise.specs.invariant.Delayed.{PutBack}
-use Rattle.promise.specs.device.AcceptedCalls.{storing-finished, write-accepted, reset-accepted}
+use Rattle.promise.specs.device.AcceptedCalls.{storing-finished, sectors-length, write-accepted, reset-accepted}
 use Rattle.promise.specs.device.AtRestAnswers.{format-lost, format-drives, left-out, drives-named}
 use Rattle.promise.specs.device.Modes.{SomeInvs, OkIn, rests-invs}
 use Rattle.promise.specs.device.ClaimEvents.{Ok, drives-of-call, drives-of-look, lost-of-look, lost-of-call, mount-allowed}
@@ -149,7 +149,7 @@ module _ (g : Geometry) (ok : Valid g) (t : TableLengths) (owed : CachesOwed g) 
         → WriteAccepted g (presentBut g (s .lost)) (roles g v) (byRoles g v) (byState g (presentBut g (s .lost)) (byRoles g v) (s .state)) (s .state) z ss = λ p. rw (e m) at (write-accepted g t named (s .state) v (asked .address) (asked .count) (asked .buffer) p) in
         by-call (writes asked) stop (λ n. refl)
         (λ p. rw (e m) (owed .write (s .lost) c (s .state) (s .ledger) z ss (at-rest m) (accepted p) .0 stop))
-        (λ p. rw (e m, lost-of-call g ok t under ok-under named names-under m) (owed .write (s .lost) c (s .state) (s .ledger) z ss (at-rest m) (accepted p) .1))
+        (λ p. rw (e m, lost-of-call g ok t under ok-under named names-under m) (rw (sectors-length g (asked .count) (asked .buffer)) at (owed .write (s .lost) c (s .state) (s .ledger) z ss (at-rest m) (accepted p) .1)))
 
     flush-event : s .mode ≡ ready → (stop : ℕ) → Owed flushes stop
     flush-event m stop =

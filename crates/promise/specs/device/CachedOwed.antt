@@ -44,7 +44,7 @@ abbrev pub WriteOwesCached : Geometry → Type 0
 WriteOwesCached g = (x : ℕ) (c : Caching) (state : StateView) (l : Ledger) (z : ℕ) (ss : List (List ℕ)) → RestsCached g x c state l
     → WriteAccepted g (presentBut g x) (roles g (c .now)) (byRoles g (c .now)) (byState g (presentBut g x) (byRoles g (c .now)) state) state z ss
     → let xs = writeAll g (presentBut g x) (roles g (c .now)) (byRoles g (c .now)) state z ss in
-    ((n : ℕ) → HaltedCached g x (applyAllCaching (take n xs) c) (afterWrite l z ss)) × RestsCached g x (applyAllCaching xs c) (writeState x state z ss) (afterWrite l z ss)
+    ((n : ℕ) → HaltedCached g x (applyAllCaching (take n xs) c) (afterWrite l z ss)) × RestsCached g x (applyAllCaching xs c) (writeState x state z (length ss)) (afterWrite l z ss)
 
 abbrev pub ResetOwesCached : Geometry → Type 0
 ResetOwesCached g = (x : ℕ) (c : Caching) (state : StateView) (l : Ledger) (z : ℕ) → RestsCached g x c state l

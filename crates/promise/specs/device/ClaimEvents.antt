@@ -33,7 +33,7 @@ use Rattle.promise.specs.invariant.Obligations.{neverEmptied}
 use Rattle.promise.specs.invariant.RoomAsked.{WriteAccepted, ResetAccepted, MountAccepted}
 use Rattle.promise.specs.look.LookRest.{look-rests}
 use Rattle.promise.specs.roles.RoledCalls.{roled-format}
-use Rattle.promise.specs.device.AcceptedCalls.{present-same, call-same, found-same, write-accepted, reset-accepted, mount-accepted}
+use Rattle.promise.specs.device.AcceptedCalls.{present-same, call-same, found-same, sectors-length, write-accepted, reset-accepted, mount-accepted}
 use Rattle.promise.specs.device.AtRestAnswers.{lost-in, format-lost, format-drives}
 use Rattle.promise.specs.device.Marks.{withMarks}
 use Rattle.promise.specs.device.Modes.{SomeRests, SomeInvs, OkIn, own-rests, rests-invs, lose-in, cut-in}
@@ -147,7 +147,7 @@ module _ (g : Geometry) (ok : Valid g) (t : TableLengths) where
           → WriteAccepted g (presentBut g (s .lost)) (roles g v) (byRoles g v) (byState g (presentBut g (s .lost)) (byRoles g v) (s .state)) (s .state) z ss = λ p. rw e at (write-accepted g t named (s .state) v (asked .address) (asked .count) (asked .buffer) p) in
           by-call (writes asked) stop (λ n. refl)
           (λ p. rw e (owed .write (s .lost) v (s .state) (s .ledger) z ss (rests-of g t s o m) (accepted p) .0 stop))
-          (λ p. rw (e, lost-of-call m) (owed .write (s .lost) v (s .state) (s .ledger) z ss (rests-of g t s o m) (accepted p) .1))
+          (λ p. rw (e, lost-of-call m) (rw (sectors-length g count buffer) at (owed .write (s .lost) v (s .state) (s .ledger) z ss (rests-of g t s o m) (accepted p) .1)))
 
       flush-event : s .mode ≡ ready → (stop : ℕ) → Owed flushes stop
       flush-event m stop =

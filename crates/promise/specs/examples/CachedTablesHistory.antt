@@ -30,7 +30,7 @@ use borrow.Author.Tests.{ne-eqb, eqb-true, leb-true}
 use Rattle.promise.specs.tables.CachedTablesClaim.{caching-tables-keep-the-promise}
 use Rattle.promise.specs.examples.Example.{noStop, writing}
 use Rattle.promise.specs.examples.ClaimExample.{isMode, all, all-at, ready-is, done}
-use Rattle.promise.specs.examples.TablesHistory.{small, zeros, every, bytes, held, every-set}
+use Rattle.promise.specs.examples.TablesHistory.{small, zeros, every, bytes, oldState, every-set}
 use Rattle.promise.specs.examples.Opened.{tablesOpen}
 
 -- ---- a cut, found so by a test of every zone: its pointer lies between durable and written, or it is the view remembered last, whole or in part
@@ -91,7 +91,7 @@ abbrev zeroDrives : WithCaches Tables
 zeroDrives = record { memory = zeros; was = λ d z. [] }
 
 abbrev s0 : System vol
-s0 = start small vol every (vol .call (formats 7) every held noStop zeroDrives)
+s0 = start small vol every (vol .call (formats 7) every oldState noStop zeroDrives)
 
 -- the reset is stopped once the zone is reset on the three drives: two entries, three flushes, three resets
 abbrev before : List (Event vol)
@@ -143,7 +143,7 @@ none-lost : s0 .lost ≡ noDrive
 unfolding leftOut
 none-lost = refl
 
-format-finishes : vol .call (formats 7) every held noStop zeroDrives .answer ≡ Finished
+format-finishes : vol .call (formats 7) every oldState noStop zeroDrives .answer ≡ Finished
 unfolding tablesOpen
 format-finishes = refl
 
@@ -167,4 +167,4 @@ duties-done =
 
 -- ---- and what the promise says of it
 pub history-keeps-the-promise : Throughout small vol s0 history
-history-keeps-the-promise = caching-tables-keep-the-promise small every 7 held noStop zeroDrives (lit< tt) format-finishes history duties-done
+history-keeps-the-promise = caching-tables-keep-the-promise small every 7 oldState noStop zeroDrives (lit< tt) format-finishes history duties-done

@@ -15,7 +15,7 @@ use Rattle.volume.specs.meaning.Answers.{lostIn, leftOut, namedDrives, sectorsI
 use Rattle.volume.specs.meaning.Refusals.{badPointers, twoLost, badLabels, kindLacks, badLogs, stateWithin, twoAbsent, twoUnnamed, stale, mountFull, resetFull, writeFull, goneIn, goneBefore, goneForEntry, notHeld, formatRows, lookRows, mountRows, writeRows, flushRows, resetRows, readRows, peekRows}
 use Rattle.volume.specs.meaning.Calls.{formatStores, writeStores, zoneContent, writeWith, flushStores, resetStores}
 use Rattle.volume.specs.meaning.Mount.{mountStores, phasesOfLogs, phasesBeforeEntries, phasesOfParityLogs, phasesOfEntries, mountLook, mountShows, afterOpening, spareStep, labelStep, resetEntryStep, zoneResetStep, counterStep, countersDiffer, sealStep, tornRowStep, fillStep, entryStep}
-use Rattle.volume.specs.meaning.CallContracts.{formatVerdict, formatOn, freshState, flushVerdict, flushOn, writeVerdict, writeOn, resetVerdict, resetOn, stateShown, lookVerdict, lookOn, mountVerdict, storesBefore, parityLogStores, storesToParityLogs, mountStoresOn, mountShownOn, mountOn, readNumber, valuesOn, readOn, peekNumber, peekOn}
+use Rattle.volume.specs.meaning.CallContracts.{recordsBelow, formatVerdict, formatOn, flushVerdict, flushOn, writeVerdict, writeOn, resetVerdict, resetOn, lookVerdict, lookOn, mountVerdict, storesBefore, parityLogStores, storesToParityLogs, mountStoresOn, mountShownOn, mountOn, readNumber, valuesOn, readOn, peekNumber, peekOn}
 
 -- geometry and placement
 unfoldable pub placementOpen : Bool
@@ -66,7 +66,7 @@ unfolding placementOpen entriesOpen rulesOpen rolesOpen emptyingOpen refusalsOpe
 deviceOpen = true
 
 unfoldable pub contractsOpen : Bool
-unfolding formatVerdict formatOn freshState flushVerdict flushOn writeVerdict writeOn resetVerdict resetOn stateShown lookVerdict lookOn mountVerdict storesBefore parityLogStores storesToParityLogs mountStoresOn mountShownOn mountOn readNumber valuesOn readOn peekNumber peekOn
+unfolding recordsBelow formatVerdict formatOn flushVerdict flushOn writeVerdict writeOn resetVerdict resetOn lookVerdict lookOn mountVerdict storesBefore parityLogStores storesToParityLogs mountStoresOn mountShownOn mountOn readNumber valuesOn readOn peekNumber peekOn
 contractsOpen = true
 
 unfoldable pub tablesOpen : Bool

@@ -13,7 +13,8 @@ use Rattle.tables.specs.meaning.Geometry.{geometryOf}
 use Rattle.volume.specs.declared.State.{State}
 use Rattle.volume.specs.declared.Answer.the-variants.{Finished}
 use Rattle.volume.specs.meaning.Answers.{leftOut}
-use Rattle.volume.specs.meaning.CallContracts.{isSet, freshState}
+use Rattle.volume.specs.meaning.CallContracts.{isSet, stateHeld}
+use Rattle.volume.specs.meaning.Calls.{formatState}
 use Rattle.tables.specs.laws.Lists.{length-overlay, overlay-below}
 use Rattle.tables.specs.laws.Basics.{not-true}
 use Rattle.tables.specs.laws.Made.{WellSized}
@@ -53,12 +54,12 @@ without2 = true ∷ true ∷ []
 abbrev pub bytes : ℕ → ℕ → List ℕ
 bytes n b = replicate (n * 64) b
 
-abbrev pub held : State
-held = freshState small noDrive
+abbrev pub oldState : State
+oldState = stateHeld (small .zones) (formatState noDrive)
 
 -- ---- the history, point by point
 abbrev s0 : System vol
-s0 = start small vol every (vol .call (formats 7) every held noStop zeros)
+s0 = start small vol every (vol .call (formats 7) every oldState noStop zeros)
 
 abbrev e1 : Event vol
 e1 = calls (writing 0 1 9) every noStop
@@ -218,7 +219,7 @@ none-lost : s0 .lost ≡ noDrive
 unfolding leftOut
 none-lost = refl
 
-format-finishes : vol .call (formats 7) every held noStop zeros .answer ≡ Finished
+format-finishes : vol .call (formats 7) every oldState noStop zeros .answer ≡ Finished
 unfolding tablesOpen
 format-finishes = refl
 
@@ -293,4 +294,4 @@ duties-done =
 
 -- ---- and what the promise says of it
 pub history-keeps-the-promise : Throughout small vol s0 history
-history-keeps-the-promise = tables-keep-the-promise small every 7 held noStop zeros (lit< tt) format-finishes history duties-done
+history-keeps-the-promise = tables-keep-the-promise small every 7 oldState noStop zeros (lit< tt) format-finishes history duties-done

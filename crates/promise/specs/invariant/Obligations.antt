@@ -80,7 +80,7 @@ WriteKeeps g = (c : LogGenerations) (x : ℕ) (v : Device) (state : StateView) (
 
 abbrev pub WriteRests : Geometry → Type 0
 WriteRests g = (c : LogGenerations) (x : ℕ) (v : Device) (state : StateView) (l : Ledger) (z : ℕ) (ss : List (List ℕ)) → Rests c g x v state l → WriteOk g (presentBut g x) v state z ss
-    → Rests c g x (applyAll (writeStores g (presentBut g x) v state z ss) v) (writeState x state z ss) (afterWrite l z ss)
+    → Rests c g x (applyAll (writeStores g (presentBut g x) v state z ss) v) (writeState x state z (length ss)) (afterWrite l z ss)
 
 abbrev pub FlushKeeps : Geometry → Type 0
 FlushKeeps g = (c : LogGenerations) (x : ℕ) (v : Device) (l : Ledger) (n : ℕ) → Invs c g x v l → Invs c g x (applyAll (take n (flushStores g (presentBut g x))) v) l

@@ -9,8 +9,9 @@ use Rattle.volume.specs.declared.State.{State}
 use Rattle.volume.specs.declared.Outcome.{Outcome}
 use Rattle.volume.specs.declared.ZoneDescriptor.{ZoneDescriptor}
 use Rattle.volume.specs.meaning.Rules.{Shown}
+use Rattle.volume.specs.meaning.Mount.{mountState}
 use Rattle.volume.specs.meaning.Answers.{CallResult}
-use Rattle.volume.specs.meaning.CallContracts.{viewState, isSet, Result, flushOn, resetOn, writeOn, formatOn, lookOn, stateShown, mountOn, readOn, peekNumber, peekFrom, peekOn}
+use Rattle.volume.specs.meaning.CallContracts.{viewState, isSet, Result, flushOn, resetOn, writeOn, formatOn, lookOn, stateHeld, mountOn, readOn, peekNumber, peekFrom, peekOn}
 use Rattle.volume.specs.meaning.Report.{reportOn}
 use Rattle.promise.specs.meaning.Claim.{Call, mounts, writes, flushes, resets, formats, Volume, KeepsPromise}
 use Rattle.promise.specs.meaning.OnDevice.{shownBy, reportShown}
@@ -45,7 +46,7 @@ onTables g = record {
   Listing = List ZoneDescriptor;
   report = λ state list. reportOn g (viewState state) list;
   shows = shownIn g;
-  stateOf = stateShown g;
+  stateOf = λ k. stateHeld (g .zones) (mountState k);
   reportOf = reportShown g;
   view = viewState;
   CutTo = TablesCut g;

@@ -26,7 +26,7 @@ use Rattle.volume.specs.declared.Answer.the-variants.{Finished}
 use Rattle.volume.specs.meaning.Calls.{formatStores, formatState}
 use Rattle.volume.specs.meaning.Refusals.{accept}
 use Rattle.volume.specs.meaning.Answers.{leftOut, namedDrives}
-use Rattle.volume.specs.meaning.CallContracts.{viewState, isSet, lengthsOf, freshState, formatVerdict, formatOn}
+use Rattle.volume.specs.meaning.CallContracts.{viewState, isSet, lengthsOf, formatVerdict, formatOn, stateHeld}
 use Rattle.volume.specs.laws.CallStoresFit.{format-stores-fit}
 use Rattle.promise.specs.meaning.Ledger.{freshLedger, noted}
 use Rattle.promise.specs.meaning.Claim.{Call, formats, System, Event, calls, looks, reads, peeks, reports, cuts, loses, next, modeAfter, noteOf, replyTo, Duty, Promise, ready, start}
@@ -44,9 +44,9 @@ use Rattle.promise.specs.shown.ResetLasts.{resets-last}
 use Rattle.promise.specs.device.CachedEvents.{CachesOwed, OkOn, event-keeps-cached}
 use Rattle.promise.specs.device.CachedClaim.{caches-owed}
 use Rattle.promise.specs.device.OlderDrives.{OlderCuts, older-drives}
-use Rattle.promise.specs.tables.CallRefines.{Agrees, viewResult, answer-finished}
+use Rattle.promise.specs.tables.CallRefines.{held-agrees, Agrees, viewResult, answer-finished}
 use Rattle.promise.specs.tables.MountRefines.{call-refines}
-use Rattle.promise.specs.tables.TablesEvents.{Refines, call-agrees, made-same, fresh-agrees}
+use Rattle.promise.specs.tables.TablesEvents.{Refines, call-agrees, made-same}
 use Rattle.promise.specs.tables.TablesClaimProof.{FormatPassed, format-passed, format-numbered-on, tables-promise, tables-event, tables-start}
 use Rattle.promise.specs.tables.CachedTables.{caching-cut-refines, agrees-cached, viewCached, TablesOkCached}
 
@@ -156,8 +156,8 @@ module _ (g : Geometry) (named : List Bool) (array : ℕ) (old : State) (stop : 
   start-is = ap₂ (λ (a : Device) (b : List Store). record { now = a; was = applyAllCaching b c .was }) device-is made-all
 
   pub start-rests : RestsCached g x (record { now = deviceOf g (runStores g stop xs t); was = rememberedAfter (take stop xs) (deviceOf g t) was })
-      (viewState (freshState g x)) freshLedger
-  start-rests = agrees-cached g ready x _ (formatState x) (viewState (freshState g x)) freshLedger (fresh-agrees g ok x) (subst (λ (k : Caching). RestsCached g x k (formatState x) freshLedger) (sym start-is) device-rests)
+      (viewState (stateHeld (g .zones) (formatState x))) freshLedger
+  start-rests = agrees-cached g ready x _ (formatState x) (viewState (stateHeld (g .zones) (formatState x))) freshLedger (held-agrees g (g .zones) (formatState x) (omega arith)) (subst (λ (k : Caching). RestsCached g x k (formatState x) freshLedger) (sym start-is) device-rests)
 
 -- after it all is well
 pub tables-start-cached : (g : Geometry) (named : List Bool) (array : ℕ) (old : State) (stop : ℕ) (m : WithCaches Tables) → array < 256 ^ 8 → let r = onCachingTables g .call (formats array) named old stop m in
@@ -168,7 +168,7 @@ tables-start-cached g named array old stop m small e =
     let x = leftOut g (isSet named) in
     let ss = formatStores g (namedDrives g (isSet named)) x array in
     let (wb, plain) = tables-start g named array old stop t small e in
-    let (p, q) = answer-finished g (formatVerdict g named t) (format-numbered-on g named t) ss (freshState g x) old stop t e in
+    let (p, q) = answer-finished g (formatVerdict g named t) (format-numbered-on g named t) ss (stateHeld (g .zones) (formatState x)) old stop t e in
     let holds = start-rests g named array old stop t (m .was) small p q in
     (wb, record { plain = plain; holds = rw (p, q) holds })
 

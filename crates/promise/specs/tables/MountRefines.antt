@@ -19,11 +19,11 @@ use Rattle.tables.specs.meaning.Tables.{Tables, deviceOf, runStores}
 use Rattle.tables.specs.laws.Made.{FitsAll}
 use Rattle.tables.specs.laws.Counted.{run-covered}
 use Rattle.volume.specs.declared.State.{State}
-use Rattle.volume.specs.looking.DrivesLost.{fill-long}
-use Rattle.volume.specs.meaning.CallContracts.{zoneLookOf, blankRecord, viewState, isSet, lengthsOf, recordFrom, stateShown, mountStoresOn, mountShownOn, mountOn, verdictNumber, storingOn, badPlaceOn}
+use Rattle.volume.specs.laws.StateHeld.{held-long}
+use Rattle.volume.specs.meaning.CallContracts.{isSet, lengthsOf, mountStoresOn, mountShownOn, mountOn, verdictNumber, storingOn, badPlaceOn, stateHeld, viewState}
 use Rattle.volume.specs.declared.Answer.{Answer}
 use Rattle.volume.specs.declared.Answer.the-variants.{Finished, Refused}
-use Rattle.volume.specs.meaning.Rules.{Shown, showing}
+use Rattle.volume.specs.meaning.Rules.{showing}
 use Rattle.volume.specs.meaning.Roles.{roles, byRoles}
 use Rattle.volume.specs.meaning.Answers.{presentIn, lostDriveIn, storing}
 use Rattle.volume.specs.laws.BadPlaces.{told-plain, told-finished}
@@ -38,17 +38,8 @@ use Rattle.promise.specs.device.ClaimProof.{kept}
 use Rattle.promise.specs.device.Heard.{answer-alike}
 use Rattle.promise.specs.tables.CallVerdicts.{mount-verdict, mount-numbered}
 use Rattle.volume.specs.laws.MountStoresFit.{mount-stores-fit, mount-stores-are}
-use Rattle.volume.specs.looking.Looking.{state-shown-in, state-shown-lost}
-use Rattle.promise.specs.tables.CallRefines.{Agree, all-made, answer-finished}
+use Rattle.promise.specs.tables.CallRefines.{held-agrees, all-made, answer-finished}
 use Rattle.promise.specs.tables.TablesEvents.{viewSystem, TablesOk, Refines, names-seen, pointers-fine, call-agrees, write-refines, flush-refines, reset-refines, format-refines}
-
--- ---- the state that it leaves
-pub shown-records : (g : Geometry) → Valid g → (k : Shown) → length (stateShown g k .zones) ≡ 16
-unfolding stateShown
-shown-records g ok k = fill-long (λ z. recordFrom (zoneLookOf (k .zone z))) blankRecord 16 (g .zones) (ok .zones-most)
-
-pub shown-agrees : (g : Geometry) (k : Shown) → Agree g (mountState k) (viewState (stateShown g k))
-shown-agrees g k = record { lost-same = sym (state-shown-lost g k); generation-same = λ z h. sym (state-shown-in g k z h .0); condition-same = λ z h. sym (state-shown-in g k z h .1) }
 
 module _ (g : Geometry) (ok : Valid g) (s : System (onTables g)) (o : TablesOk g s) (named : List Bool) (n : NamesAll g (onTables g) s named) where
   abbrev t : Tables
@@ -73,7 +64,7 @@ module _ (g : Geometry) (ok : Valid g) (s : System (onTables g)) (o : TablesOk g
   ss = mountStoresOn g present lost t
 
   abbrev new : State
-  new = stateShown g (showing g present lost (byRoles g (deviceOf g (runStores g (length ss) ss t))))
+  new = stateHeld (g .zones) (mountState (showing g present lost (byRoles g (deviceOf g (runStores g (length ss) ss t)))))
 
   fits : verdict ≡ accept → FitsAll g xs w
   fits p = mount-stores-fit g named t (mount-verdict g named t (pointers-fine g s named n o) ∙ p)
@@ -119,8 +110,8 @@ module _ (g : Geometry) (ok : Valid g) (s : System (onTables g)) (o : TablesOk g
     has-number = mount-numbered g named t;
     same = same;
     fit = fits;
-    long = λ p. shown-records g ok (showing g present lost (byRoles g (deviceOf g (runStores g (length ss) ss t))));
-    agree = λ p e. rw (shows-end stop p e) (shown-agrees g (mountShows g present lost w));
+    long = λ p. held-long (g .zones) (mountState (showing g present lost (byRoles g (deviceOf g (runStores g (length ss) ss t))))) (ok .zones-most);
+    agree = λ p e. rw (shows-end stop p e) (held-agrees g (g .zones) (mountState (mountShows g present lost w)) (omega arith));
   }
 
   -- so every call is the rules'
@@ -138,16 +129,16 @@ module _ (g : Geometry) (ok : Valid g) (s : System (onTables g)) (o : TablesOk g
   heard-as c stop a e = answer-alike (answers-as c stop) e
 
   -- a mount's state is what is shown then
-  state-is : (stop : ℕ) → mountOn g named (s .state) stop t .outcome .answer ≡ Finished → mountOn g named (s .state) stop t .outcome .state ≡ stateShown g (shownIn g named t (mountOn g named (s .state) stop t .tables))
+  state-is : (stop : ℕ) → mountOn g named (s .state) stop t .outcome .answer ≡ Finished → mountOn g named (s .state) stop t .outcome .state ≡ stateHeld (g .zones) (mountState (shownIn g named t (mountOn g named (s .state) stop t .tables)))
   unfolding mountOn mountShownOn
   state-is stop e =
       let v = mount-verdict g named t (pointers-fine g s named n o) in
       let (p, q) = answer-finished g verdict (mount-numbered g named t) ss new (s .state) stop t (told-finished (badPlaceOn g named t) (storingOn g (verdictNumber verdict) ss new (s .state) stop t .outcome .answer) (rw v at e)) in
-      rw (v, p, q) (ap (λ (u : Tables). stateShown g (showing g present lost (byRoles g (deviceOf g u)))) (sym (run-covered g stop ss t (ltb-false stop (length ss) q))))
+      rw (v, p, q) (ap (λ (u : Tables). stateHeld (g .zones) (mountState (showing g present lost (byRoles g (deviceOf g u))))) (sym (run-covered g stop ss t (ltb-false stop (length ss) q))))
 
   -- a finished mount shows what fits
   pub mount-claim : Promise g (onDevice g (lengthsOf t)) (viewSystem g s) → MayMount (s .mode) → (stop : ℕ) → mountOn g named (s .state) stop t .outcome .answer ≡ Finished
-      → (mountOn g named (s .state) stop t .outcome .state ≡ stateShown g (shownIn g named t (mountOn g named (s .state) stop t .tables))) × Fits g (s .ledger) (shownIn g named t (mountOn g named (s .state) stop t .tables))
+      → (mountOn g named (s .state) stop t .outcome .state ≡ stateHeld (g .zones) (mountState (shownIn g named t (mountOn g named (s .state) stop t .tables)))) × Fits g (s .ledger) (shownIn g named t (mountOn g named (s .state) stop t .tables))
   mount-claim promised m stop e =
       let k = call-agrees g ok s o mounts named stop (mount-refines stop) in
       let (a, b) = promised .mount-fits (isSet named) (names-seen g s named n) m stop (ap answered (k .answer-same ∙ e)) in

@@ -52,15 +52,16 @@ use Rattle.promise.specs.device.AtRestAnswers.{left-out, drives-named}
 use Rattle.promise.specs.roles.RoledCalls.{roled-format}
 use Rattle.promise.specs.emptying.BlankSpares.{BlankSpares}
 use Rattle.promise.specs.device.BlankAtRest.{format-blank}
-use Rattle.volume.specs.meaning.CallContracts.{viewState, isSet, verdictNumber, lengthsOf, storingOn, formatVerdict, formatOn, freshState, lookOn, stateShown, readOn, valuesOn, peekNumber, peekOn, partAt, badIn, peekFrom, byteOf}
+use Rattle.volume.specs.meaning.CallContracts.{viewState, isSet, verdictNumber, lengthsOf, storingOn, formatVerdict, formatOn, lookOn, readOn, valuesOn, peekNumber, peekOn, partAt, badIn, peekFrom, byteOf, stateHeld}
 use Rattle.tables.specs.laws.StoresFit.{fits-all-placed}
-use Rattle.promise.specs.tables.CallRefines.{ok-agrees, answer-finished}
+use Rattle.volume.specs.laws.StateHeld.{held-long}
+use Rattle.promise.specs.tables.CallRefines.{held-agrees, ok-agrees, answer-finished}
 use Rattle.promise.specs.tables.CallVerdicts.{numbered-accept, look-verdict, read-number, read-numbered, peek-number, peek-numbered}
 use Rattle.promise.specs.meaning.Claim.{mounts, writes, flushes, resets, System, Event, calls, looks, reads, peeks, reports, cuts, loses, Peeked, next, peekedAt, reported, NamesAll, Duty, SameZones, Serves, Promise, ready, start}
 use Rattle.promise.specs.meaning.OnDevice.{onDevice, lookResult, readResult, peekResult}
 use Rattle.promise.specs.meaning.OnTables.{callResult, resultOf, onTables, shownIn}
-use Rattle.promise.specs.tables.MountRefines.{shown-agrees, call-refines, heard-as, mount-claim}
-use Rattle.promise.specs.tables.TablesEvents.{viewSystem, TablesOk, names-seen, pointers-fine, fresh-records, fresh-agrees, call-event, cut-event, loss-event}
+use Rattle.promise.specs.tables.MountRefines.{call-refines, heard-as, mount-claim}
+use Rattle.promise.specs.tables.TablesEvents.{viewSystem, TablesOk, names-seen, pointers-fine, call-event, cut-event, loss-event}
 use Rattle.volume.specs.laws.CallStoresFit.{format-stores-fit}
 use Rattle.promise.specs.invariant.Obligations.{neverEmptied, Rests}
 use Rattle.promise.specs.invariant.Invariant.{LogGenerations}
@@ -111,13 +112,13 @@ module _ (g : Geometry) (ok : Valid g) (wb : isValid g ≡ true) (s : System (on
     names = names-seen g s named n
 
     -- the refusals are the rules'
-    pub look-is : lookOn g named (s .state) t ≡ record { answer = Finished; state = stateShown g (shownIn g named t t) }
+    pub look-is : lookOn g named (s .state) t ≡ record { answer = Finished; state = stateHeld (g .zones) (mountState (shownIn g named t t)) }
     unfolding lookOn
     look-is =
         let p = look-accepted (firstRefusal (lookRows g (lengthsOf t) (badPointers g (isSet named) w) (isSet named) (roles g w) (byRoles g w))) (shownIn g named t t) (viewState (s .state)) (mountState (shownIn g named t t)) w (promised .look-fits (isSet named) names .0) in
         rw (look-verdict g named t fine, p) refl
 
-    look-claim : (resultOf (lookOn g named (s .state) t) t ≡ record { answer = Finished; memory = t; state = stateShown g (shownIn g named t t) }) × Fits g (s .ledger) (shownIn g named t t)
+    look-claim : (resultOf (lookOn g named (s .state) t) t ≡ record { answer = Finished; memory = t; state = stateHeld (g .zones) (mountState (shownIn g named t t)) }) × Fits g (s .ledger) (shownIn g named t t)
     look-claim = (rw look-is refl, promised .look-fits (isSet named) names .1)
 
     -- its state says what the host's says
@@ -126,7 +127,7 @@ module _ (g : Geometry) (ok : Valid g) (wb : isValid g ≡ true) (s : System (on
         let k = shownIn g named t t in
         let e : lookResult (lookCall g (lengthsOf t) (isSet named) w) (viewState (s .state)) w .state ≡ mountState k = ap (λ (r : CallResult Device StateView). r .state) (promised .look-fits (isSet named) names .0) in
         let (a, b) = promised .look-holds (isSet named) names m in
-        let f = shown-agrees g k in
+        let f = held-agrees g (g .zones) (mountState k) (omega arith) in
         rw look-is (
           sym (f .lost-same) ∙ sym (ap (λ (r : StateView). r .lost) e) ∙ a,
           record {
@@ -141,7 +142,7 @@ module _ (g : Geometry) (ok : Valid g) (wb : isValid g ≡ true) (s : System (on
         let k = shownIn g named t t in
         let e : lookResult (lookCall g (lengthsOf t) (isSet named) w) (viewState (s .state)) w .state ≡ mountState k = ap (λ (r : CallResult Device StateView). r .state) (promised .look-fits (isSet named) names .0) in
         let i = look-held g ok (lengthsOf t) (viewSystem g s) (o .holds) (isSet named) names in
-        rw look-is (ok-agrees g (s .mode) (s .lost) w (mountState k) (viewState (stateShown g k)) (s .ledger) (shown-agrees g k) (rw e at i))
+        rw look-is (ok-agrees g (s .mode) (s .lost) w (mountState k) (viewState (stateHeld (g .zones) (mountState k))) (s .ledger) (held-agrees g (g .zones) (mountState k) (omega arith)) (rw e at i))
 
     -- reads and peeks are the rules', by any state
     module _ (state : State) where
@@ -320,10 +321,10 @@ module _ (g : Geometry) (named : List Bool) (array : ℕ) (old : State) (stop : 
       let e′ : ltb stop (length stores) ≡ false = rw (← drives) e in
       run-refines g stop stores t sized stores-fit ∙ ap (λ (r : List Store). applyAll r (deviceOf g t)) (take-all stop stores (ltb-false stop (length stores) e′))
 
-  start-blank : ltb stop (length (formatStores g (namedDrives g (isSet named)) x array)) ≡ false → BlankSpares g x (deviceOf g (storingOn g 0 (formatStores g (namedDrives g (isSet named)) x array) (freshState g x) old stop t .tables))
+  start-blank : ltb stop (length (formatStores g (namedDrives g (isSet named)) x array)) ≡ false → BlankSpares g x (deviceOf g (storingOn g 0 (formatStores g (namedDrives g (isSet named)) x array) (stateHeld (g .zones) (formatState x)) old stop t .tables))
   start-blank e = rw (drives, left-is e) (format-blank g ok x array (deviceOf g t) (left-out g (isSet named)) small)
 
-  pub start-ok : ltb stop (length (formatStores g (namedDrives g (isSet named)) x array)) ≡ false → TablesOk g (start g (onTables g) named (callResult (storingOn g 0 (formatStores g (namedDrives g (isSet named)) x array) (freshState g x) old stop t)))
+  pub start-ok : ltb stop (length (formatStores g (namedDrives g (isSet named)) x array)) ≡ false → TablesOk g (start g (onTables g) named (callResult (storingOn g 0 (formatStores g (namedDrives g (isSet named)) x array) (stateHeld (g .zones) (formatState x)) old stop t)))
   start-ok e =
       let d = left-is e in
       let placed = fits-all-placed g stores (deviceOf g t) stores-fit in
@@ -331,8 +332,8 @@ module _ (g : Geometry) (named : List Bool) (array : ℕ) (old : State) (stop : 
       (record {
         sized = run-sized g stop stores t sized placed;
         order = λ k hk q. run-order g k stop stores t hk sized placed (order-passed g named (t .written) (t .durable) k (passed .pointers-fit) hk (named-in k hk q));
-        records = fresh-records g ok x;
-        holds = rw d (ok-agrees g ready x (applyAll stores (deviceOf g t)) (formatState x) (viewState (freshState g x)) freshLedger (fresh-agrees g ok x) (own-rests neverEmptied g x (applyAll stores (deviceOf g t)) (formatState x) freshLedger (roled-format g ok x array (deviceOf g t) (left-out g (isSet named)) small)));
+        records = held-long (g .zones) (formatState x) (ok .zones-most);
+        holds = rw d (ok-agrees g ready x (applyAll stores (deviceOf g t)) (formatState x) (viewState (stateHeld (g .zones) (formatState x))) freshLedger (held-agrees g (g .zones) (formatState x) (omega arith)) (own-rests neverEmptied g x (applyAll stores (deviceOf g t)) (formatState x) freshLedger (roled-format g ok x array (deviceOf g t) (left-out g (isSet named)) small)));
       })
 
 -- a finished format begins a history
@@ -342,7 +343,7 @@ unfolding formatOn
 tables-start g named array old stop t small e =
     let x = leftOut g (isSet named) in
     let ss = formatStores g (namedDrives g (isSet named)) x array in
-    let (p, q) = answer-finished g (formatVerdict g named t) (format-numbered-on g named t) ss (freshState g x) old stop t e in
+    let (p, q) = answer-finished g (formatVerdict g named t) (format-numbered-on g named t) ss (stateHeld (g .zones) (formatState x)) old stop t e in
     let passed = format-passed g named t p in
     (passed .valid-test, rw p (start-ok g named array old stop t small p q))
 
@@ -353,5 +354,5 @@ unfolding formatOn
 tables-start-blank g named array old stop t small e =
     let x = leftOut g (isSet named) in
     let ss = formatStores g (namedDrives g (isSet named)) x array in
-    let (p, q) = answer-finished g (formatVerdict g named t) (format-numbered-on g named t) ss (freshState g x) old stop t e in
+    let (p, q) = answer-finished g (formatVerdict g named t) (format-numbered-on g named t) ss (stateHeld (g .zones) (formatState x)) old stop t e in
     rw p (start-blank g named array old stop t small p q)

@@ -3,15 +3,14 @@
 use mathlib.Core.Path.{_≡_, refl, sym, ap, _∙_}
 use mathlib.Core.Logic.{_≢_, _⊎_, inl, inr}
 use mathlib.Core.Bool.{Bool, true, false, not, true≢false}
-use Prim.Native.Nat.{ℕ, _+_, _<_}
+use Prim.Native.Nat.{ℕ, _<_}
 use native.Mathlib.Omega.{arith}
 use mathlib.Core.List.{List}
-use lib.ListN.{length, take, length-set}
+use lib.ListN.{length, take}
 use lib.Dec.{ltb}
-use borrow.Author.Tests.{eq-eqb, ltb-true}
+use borrow.Author.Tests.{eq-eqb}
 use Rattle.tables.specs.declared.Geometry.{Geometry}
 use Rattle.tables.specs.meaning.Geometry.{Valid}
-use Rattle.tables.specs.laws.Basics.{not-not}
 use Rattle.tables.specs.meaning.Drives.{noDrive}
 use Rattle.tables.specs.meaning.Device.{Device, Store}
 use Rattle.tables.specs.meaning.Tables.{Tables, deviceOf, TablesCut, TablesLoss, pointersBad}
@@ -20,15 +19,11 @@ use Rattle.tables.specs.laws.TablesRefine.{cut-refines, loss-refines, kept-size
 use Rattle.tables.specs.laws.PointerOrder.{InOrder, order-passes, cut-order, loss-order}
 use Rattle.volume.specs.declared.State.{State}
 use Rattle.volume.specs.meaning.State.{StateView}
-use Rattle.volume.specs.meaning.Calls.{formatState}
-use Rattle.volume.specs.meaning.Refusals.{Verdict, refuse, accept, firstRefusal, TableLengths, zoneOf, writeRows, resetRows}
-use Rattle.volume.specs.meaning.Answers.{StoringCall, lostIn, leftOut, resetCall}
-use Rattle.volume.specs.meaning.CallContracts.{blankRecord, freshRecord, viewState, isSet, verdictNumber, lengthsOf, Result, storingOn, withLost, flushOn, withReset, resetOn, writtenState, pointerOf, writeOn, freshState, formatOn}
-use Rattle.volume.specs.laws.Refusals.{accepted-row, Numbered}
-use Rattle.volume.specs.looking.DrivesLost.{fill-long}
-use Rattle.volume.specs.storing.Formatting.{format-views}
-use Rattle.volume.specs.storing.Resetting.{reset-views}
-use Rattle.volume.specs.writing.Writing.{written-state}
+use Rattle.volume.specs.meaning.Refusals.{Verdict, refuse, accept, firstRefusal}
+use Rattle.volume.specs.meaning.Answers.{StoringCall}
+use Rattle.volume.specs.meaning.CallContracts.{viewState, isSet, verdictNumber, lengthsOf, Result, storingOn, flushOn, resetOn, writeOn, formatOn, stateHeld}
+use Rattle.volume.specs.laws.Refusals.{Numbered}
+use Rattle.volume.specs.laws.StateHeld.{held-long}
 use Rattle.promise.specs.meaning.Claim.{WriteAsked, Call, writes, flushes, resets, formats, System, calls, cuts, loses, next, NamesAll, Duty, modeAfter, noteOf, replyTo}
 use Rattle.promise.specs.meaning.Ledger.{noted}
 use Rattle.promise.specs.meaning.OnDevice.{callOf, onDevice, shownBy}
@@ -37,7 +32,7 @@ use Rattle.promise.specs.meaning.Caches.{madeBy, madeStores}
 use Rattle.promise.specs.meaning.CachesOnTables.{madeOn}
 use Rattle.promise.specs.device.Modes.{OkIn}
 use Rattle.promise.specs.device.ClaimEvents.{event-keeps}
-use Rattle.promise.specs.tables.CallRefines.{Agree, agree-refl, ok-agrees, Agrees, viewResult, storing-agrees, storing-sized, storing-order, storing-state}
+use Rattle.promise.specs.tables.CallRefines.{Agree, held-agrees, ok-agrees, Agrees, viewResult, storing-agrees, storing-sized, storing-order, storing-state}
 use Rattle.promise.specs.tables.CallVerdicts.{format-verdict, format-numbered, flush-verdict, flush-numbered, write-verdict, write-numbered, reset-verdict, reset-numbered}
 use Rattle.volume.specs.laws.CallStoresFit.{flush-stores-fit, reset-stores-fit, format-stores-fit, write-stores-fit}
 
@@ -122,26 +117,6 @@ module _ (g : Geometry) (ok : Valid g) (s : System (onTables g)) (o : TablesOk g
           ok-agrees g (modeAfter (b .answer) (s .mode)) (s .lost) (b .memory) (a .state) (b .state) (noted (s .ledger) (noteOf g c (shownBy g (isSet named) (deviceOf g (s .memory)) (b .memory)) (replyTo (b .answer)))) (call-agrees .state-agrees)
           (rw (call-agrees .answer-same, call-agrees .memory-same) at kept)
 
--- ---- a format's state
-pub fresh-records : (g : Geometry) → Valid g → (x : ℕ) → length (freshState g x .zones) ≡ 16
-unfolding freshState
-fresh-records g ok x = fill-long (λ z. freshRecord) blankRecord 16 (g .zones) (ok .zones-most)
-
-pub fresh-agrees : (g : Geometry) → Valid g → (x : ℕ) → Agree g (formatState x) (viewState (freshState g x))
-fresh-agrees g ok x = record {
-  lost-same = sym (format-views g x 0 (omega (arith, ok .zones-least)) .0);
-  generation-same = λ z h. sym (format-views g x z h .1);
-  condition-same = λ z h. sym (format-views g x z h .2);
-}
-
--- ---- an accepted write or reset is of a zone of the volume
-write-zone : (g : Geometry) (l : TableLengths) (named : ℕ → Bool) (state : StateView) (asked : WriteAsked) (v : Device) → firstRefusal (callOf g l (writes asked) named state v .refusals) ≡ accept → zoneOf g (asked .address) < g .zones
-unfolding writeRows
-write-zone g l named state asked v e = let z = zoneOf g (asked .address) in ltb-true z (g .zones) (not-not (ltb z (g .zones)) (accepted-row (callOf g l (writes asked) named state v .refusals) e 8))
-
-reset-zone : (g : Geometry) (l : TableLengths) (named : ℕ → Bool) (state : StateView) (z : ℕ) (v : Device) → firstRefusal (resetCall g l named state z v .refusals) ≡ accept → z < g .zones
-unfolding resetRows
-reset-zone g l named state z v e = ltb-true z (g .zones) (not-not (ltb z (g .zones)) (accepted-row (resetCall g l named state z v .refusals) e 8))
 
 -- ---- the calls but mount (MountRefines.antt)
 module _ (g : Geometry) (ok : Valid g) (s : System (onTables g)) (o : TablesOk g s) (named : List Bool) (n : NamesAll g (onTables g) s named) where
@@ -157,29 +132,23 @@ module _ (g : Geometry) (ok : Valid g) (s : System (onTables g)) (o : TablesOk g
   abbrev fine : pointersBad g named (t .written) (t .durable) ≡ false
   fine = pointers-fine g s named n o
 
-  record-in : (z : ℕ) → z < g .zones → z < length (s .state .zones)
-  record-in z h = omega (arith, h, ok .zones-most, o .records)
-
   pub write-refines : (asked : WriteAsked) (stop : ℕ) → Refines g s (writes asked) named stop
   unfolding writeOn
   write-refines asked stop =
-      let z = zoneOf g (asked .address) in
       let k = callOf g (lengthsOf t) (writes asked) (isSet named) st w in
-      let y = lostIn g (isSet named) st in
-      let new = writtenState (s .state) y z (pointerOf (s .state) z + asked .count) in
       let same = write-verdict g named t fine (s .state) (asked .address) (asked .count) (length (asked .buffer)) in
       record {
         verdict = firstRefusal (k .refusals);
         stores = k .stores;
-        new = new;
+        new = stateHeld 16 (k .state);
         result-is = rw same refl;
         made-is = rw same refl;
         verdict-is = refl;
         has-number = write-numbered g named t (s .state) (asked .address) (asked .count) (length (asked .buffer));
         same = λ p. refl;
         fit = λ p. write-stores-fit g named (s .state) (asked .address) (asked .count) (asked .buffer) t (same ∙ p);
-        long = λ p. rw length-set (o .records);
-        agree = λ p e. agree-refl g (k .state) (viewState new) (sym (written-state g (s .state) y z (asked .count) (asked .buffer) (record-in z (write-zone g (lengthsOf t) (isSet named) st asked w p))));
+        long = λ p. held-long 16 (k .state) (omega arith);
+        agree = λ p e. held-agrees g 16 (k .state) (ok .zones-most);
       }
 
   pub flush-refines : (stop : ℕ) → Refines g s flushes named stop
@@ -189,53 +158,51 @@ module _ (g : Geometry) (ok : Valid g) (s : System (onTables g)) (o : TablesOk g
       record {
         verdict = firstRefusal (k .refusals);
         stores = k .stores;
-        new = withLost (s .state) (lostIn g (isSet named) st);
+        new = stateHeld 16 (k .state);
         result-is = rw (flush-verdict g named t fine (s .state)) refl;
         made-is = rw (flush-verdict g named t fine (s .state)) refl;
         verdict-is = refl;
         has-number = flush-numbered g named t (s .state);
         same = λ p. refl;
         fit = λ p. flush-stores-fit g named (s .state) t (flush-verdict g named t fine (s .state) ∙ p);
-        long = λ p. o .records;
-        agree = λ p e. agree-refl g (k .state) (k .state) refl;
+        long = λ p. held-long 16 (k .state) (omega arith);
+        agree = λ p e. held-agrees g 16 (k .state) (ok .zones-most);
       }
 
   pub reset-refines : (z stop : ℕ) → Refines g s (resets z) named stop
   unfolding resetOn
   reset-refines z stop =
       let k = callOf g (lengthsOf t) (resets z) (isSet named) st w in
-      let y = lostIn g (isSet named) st in
       record {
         verdict = firstRefusal (k .refusals);
         stores = k .stores;
-        new = withReset (s .state) z y;
+        new = stateHeld 16 (k .state);
         result-is = rw (reset-verdict g named t fine (s .state) z) refl;
         made-is = rw (reset-verdict g named t fine (s .state) z) refl;
         verdict-is = refl;
         has-number = reset-numbered g named t (s .state) z;
         same = λ p. refl;
         fit = λ p. reset-stores-fit g named (s .state) z t (reset-verdict g named t fine (s .state) z ∙ p);
-        long = λ p. rw length-set (o .records);
-        agree = λ p e. agree-refl g (k .state) (viewState (withReset (s .state) z y)) (sym (reset-views (s .state) z y (record-in z (reset-zone g (lengthsOf t) (isSet named) st z w p))));
+        long = λ p. held-long 16 (k .state) (omega arith);
+        agree = λ p e. held-agrees g 16 (k .state) (ok .zones-most);
       }
 
   pub format-refines : (array stop : ℕ) → Refines g s (formats array) named stop
   unfolding formatOn
   format-refines array stop =
       let k = callOf g (lengthsOf t) (formats array) (isSet named) st w in
-      let y = leftOut g (isSet named) in
       record {
         verdict = firstRefusal (k .refusals);
         stores = k .stores;
-        new = freshState g y;
+        new = stateHeld (g .zones) (k .state);
         result-is = rw (format-verdict g named t fine) refl;
         made-is = rw (format-verdict g named t fine) refl;
         verdict-is = refl;
         has-number = format-numbered g named t;
         same = λ p. refl;
         fit = λ p. format-stores-fit g named array t (format-verdict g named t fine ∙ p);
-        long = λ p. fresh-records g ok y;
-        agree = λ p e. fresh-agrees g ok y;
+        long = λ p. held-long (g .zones) (k .state) (ok .zones-most);
+        agree = λ p e. held-agrees g (g .zones) (k .state) (omega arith);
       }
 
 -- ---- cuts and losses

@@ -35,7 +35,7 @@ use Rattle.volume.specs.meaning.Roles.{Roles, roles, claimOfKind, lacksK
 use Rattle.volume.specs.meaning.Emptying.{InForce, byState, newGeneralSize, newParitySize, unusedIn, staysFull, spareWritten, emptiedFor}
 use Rattle.volume.specs.laws.LogPlaces.{withLogs, withRoles, logsOf, valid-with-logs}
 use Rattle.volume.specs.looking.DriveLogs.{Sized, zonePointer}
-use Rattle.volume.specs.looking.DrivesLost.{fill-at, fill-more}
+use Rattle.volume.specs.laws.FilledArrays.{fill-at, fill-more}
 use Rattle.volume.specs.looking.HiddenLogs.{placesOf, lacking-at, hiddenLogs, hidden-all-long, hidden-tables, roles-durable, sized-with-logs}
 use Rattle.volume.specs.looking.KnowingLaws.{sectors-alike}
 use Rattle.volume.specs.laws.RulesUnread.{heads-alike}

@@ -28,7 +28,7 @@ use Rattle.volume.specs.declared.roles.LogZones.{LogZones}
 use Rattle.volume.specs.meaning.CallContracts.{isSet}
 use Rattle.volume.specs.meaning.Roles.{Roles, roles, rolesIn, zoneOfRole, placedBy, saysNothing, seenAs, driveByRoles, byRoles}
 use Rattle.volume.specs.laws.LogPlaces.{withLogs, withRoles, logsOf, Proper, roles-proper, cell-by-role, zone-by-role, role-of-other}
-use Rattle.volume.specs.looking.DrivesLost.{fill-at, fill-past, fill-more}
+use Rattle.volume.specs.laws.FilledArrays.{fill-at, fill-past, fill-more}
 use Rattle.volume.specs.looking.DriveLogs.{Sized}
 use Rattle.volume.specs.looking.Knowing.{readDevice}
 use Rattle.volume.specs.looking.KnowingLaws.{sectors-alike}

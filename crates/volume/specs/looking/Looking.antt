@@ -38,12 +38,12 @@ use Rattle.volume.specs.declared.Answer.the-variants.{Refused}
 use Rattle.logs.specs.meaning.Heads.{arrayIn, leastSeal}
 use Rattle.volume.specs.meaning.Rules.{sealLimitBelow, servingEntries, View, valueOf, Shown, ZoneShown, showing, isLost, isPresent, lostDrive, generalHeads, generalEnding, parityEntries, parityEnding, generationOf, resetSeen, sealSeen, sealLimit, viewOf, zoneView, valueAt, pointerAt, cleanAt, zoneAt, zoneShown}
 use Rattle.volume.specs.meaning.Mount.{mountState}
-use Rattle.volume.specs.meaning.CallContracts.{badPlaceOn, blankRecord, recordAt, viewState, isSet, verdictNumber, lengthsOf, rolesOf, seenIn, zoneLookOf, recordFrom, stateShown, lookVerdict, lookOn}
+use Rattle.volume.specs.meaning.CallContracts.{badPlaceOn, blankRecord, isSet, verdictNumber, lengthsOf, rolesOf, seenIn, zoneLookOf, lookVerdict, lookOn, recordSeen, recordsBelow, stateHeld}
 use Rattle.volume.specs.meaning.Roles.{Roles}
 use Rattle.volume.specs.declared.roles.LogPlaces.{LogPlaces}
 use Rattle.volume.specs.looking.Knowing.{Readable, readDevice}
 use Rattle.volume.specs.looking.SeenByRoles.{kindLacksOn}
-use Rattle.volume.specs.looking.DrivesLost.{fill-at, fill-past}
+use Rattle.volume.specs.laws.FilledArrays.{fill-at}
 
 -- ---- what is shown, as the code's record; zones past the last are blank
 abbrev pub blankLook : ZoneLook
@@ -55,29 +55,17 @@ looksFrom g f = tabulate (λ z. zoneLookOf (f z)) (g .zones) ++ replicate (16 - 
 abbrev pub lookOf : Geometry → Shown → Look
 lookOf g k = record { lost = k .lost; array = k .array; zones = looksFrom g (k .zone) }
 
-unfoldable pub recordsOf : Geometry → List ZoneLook → List ZoneRecord
-recordsOf g ls = tabulate (λ z. recordFrom (getD ls z blankLook)) (g .zones) ++ replicate (16 - g .zones) blankRecord
+-- and the records of the state that it leaves
+abbrev pub recordOf : ZoneLook → ZoneRecord
+recordOf s = record { generation = s .generation; condition = s .condition }
 
-pub state-of-look : (g : Geometry) (k : Shown) → _≡_ {A = State} (record { lost = k .lost; zones = recordsOf g (looksFrom g (k .zone)) }) (stateShown g k)
-unfolding looksFrom recordsOf stateShown
+abbrev pub recordsOf : Geometry → List ZoneLook → List ZoneRecord
+recordsOf g ls = recordsBelow (λ z. recordOf (getD ls z blankLook)) (g .zones)
+
+pub state-of-look : (g : Geometry) (k : Shown) → _≡_ {A = State} (record { lost = k .lost; zones = recordsOf g (looksFrom g (k .zone)) }) (stateHeld (g .zones) (mountState k))
+unfolding looksFrom recordsBelow
 state-of-look g k = ap (λ (rs : List ZoneRecord). record { lost = k .lost; zones = rs ++ replicate (16 - g .zones) blankRecord })
-    (tabulate-cong (λ z. recordFrom (getD (looksFrom g (k .zone)) z blankLook)) (λ z. recordFrom (zoneLookOf (k .zone z))) (g .zones) (λ z h. ap recordFrom (fill-at (λ z. zoneLookOf (k .zone z)) blankLook blankLook (g .zones) (16 - g .zones) z h)))
-
--- it is the state of the rules, in every zone of the volume
-pub state-shown-in : (g : Geometry) (k : Shown) (z : ℕ) → z < g .zones
-    → (viewState (stateShown g k) .generation z ≡ mountState k .generation z) × (viewState (stateShown g k) .condition z ≡ mountState k .condition z)
-unfolding stateShown
-state-shown-in g k z h =
-    let e = fill-at (λ y. recordFrom (zoneLookOf (k .zone y))) blankRecord blankRecord (g .zones) (16 - g .zones) z h in
-    (ap (λ (r : ZoneRecord). r .generation) e, ap (λ (r : ZoneRecord). r .condition) e)
-
-pub state-shown-past : (g : Geometry) (k : Shown) (z : ℕ) → g .zones ≤ z → recordAt (stateShown g k) z ≡ blankRecord
-unfolding stateShown
-state-shown-past g k z h = fill-past (λ y. recordFrom (zoneLookOf (k .zone y))) blankRecord (g .zones) (16 - g .zones) z h
-
-pub state-shown-lost : (g : Geometry) (k : Shown) → stateShown g k .lost ≡ mountState k .lost
-unfolding stateShown
-state-shown-lost g k = refl
+    (tabulate-cong (λ z. recordOf (getD (looksFrom g (k .zone)) z blankLook)) (recordSeen (mountState k)) (g .zones) (λ z h. ap recordOf (fill-at (λ z. zoneLookOf (k .zone z)) blankLook blankLook (g .zones) (16 - g .zones) z h)))
 
 -- ---- no rule of a look reads a durable pointer
 abbrev pub sectorsOnly : Device → Device

@@ -18,7 +18,7 @@ use Rattle.volume.specs.declared.State.{State}
 use Rattle.volume.specs.declared.Zone.{Zone}
 use Rattle.volume.specs.meaning.Refusals.{resetFull}
 use Rattle.volume.specs.meaning.Emptying.{byState, resetAll}
-use Rattle.volume.specs.meaning.CallContracts.{recordAt, viewState, isSet, verdictNumber, rolesOf, seenIn, Result, storingOn, resetVerdict, withReset, resetOn}
+use Rattle.volume.specs.meaning.CallContracts.{recordAt, viewState, isSet, verdictNumber, rolesOf, seenIn, Result, storingOn, resetVerdict, resetOn, stateHeld}
 use Rattle.tables.specs.meaning.Geometry.{Valid}
 use Rattle.tables.specs.meaning.Device.{Store}
 use Rattle.tables.specs.laws.Made.{Made}
@@ -26,7 +26,7 @@ use Rattle.logs.specs.meaning.Entry.{kindOfLog, Header, closing, encode}
 use Rattle.volume.specs.declared.roles.LogPlaces.{LogPlaces}
 use Rattle.volume.specs.declared.log_room.RoomAsked.{RoomAsked}
 use Rattle.volume.specs.declared.log_room.LogRoom.{LogRoom}
-use Rattle.volume.specs.meaning.Calls.{resetStores}
+use Rattle.volume.specs.meaning.Calls.{resetStores, resetState}
 use Rattle.volume.specs.meaning.Rules.{generalHeads}
 use Rattle.volume.specs.meaning.Roles.{roles, rolesAfter}
 use Rattle.volume.specs.meaning.Emptying.{InForce, generalCopies, newGeneral, newGeneralSize, staysFull, spareWritten, resetLimit, emptiedFor, emptyGeneral}
@@ -72,7 +72,7 @@ zoneFull zone s t = let g = zone .geometry in resetFull g (isSet (zone .here)) (
 unfoldable pub resetZoneOn : Zone → State → ℕ → Tables → Result
 resetZoneOn zone s count t =
     storingOn (zone .geometry) (pick (zoneFull zone s t) 14 0) (resetAll (zone .geometry) (isSet (zone .here)) (rolesOf (zone .geometry) t) (seenIn (zone .geometry) t) (viewState s) (zone .number))
-    (withReset s (zone .number) (findBelow (λ (d : ℕ). not (isSet (zone .here) d)) (zone .geometry .drives))) s count t
+    (stateHeld 16 (resetState (findBelow (λ (d : ℕ). not (isSet (zone .here) d)) (zone .geometry .drives)) (viewState s) (zone .number))) s count t
 
 -- ---- the copies by the tables with the logs where they lie are those of the rules (gs: the generations of f)
 pub copies-seen : (g : Geometry) (p : LogPlaces) (xs ws ps : List ℕ) → SeenByRoles g p xs ws ps → (ds gs : List ℕ) (f : InForce) → ((z : ℕ) → z < g .zones → getD gs z 0 ≡ f .generation z) → (d : ℕ)
@@ -167,5 +167,5 @@ reset-zone-on g named s z count xs ws ds begun hz late =
     let n : pick (zoneFull (zoneNow g (presentList g named (s .lost)) s z) s u) 14 0 ≡ verdictNumber (resetVerdict g named s z u) =
     ap (λ (here : ℕ → Bool). pick (resetFull g here (rolesOf g u) (byState g here (seenIn g u) (viewState s)) (seenIn g u)) 14 0) (present-is g named s)
     ∙ reset-room g named s z (resetFullIn g named s u) (length xs) ws ds begun hz late ∙ reset-refusal g named s z xs ws ds in
-    ap₂ (λ (m : ℕ) (here : ℕ → Bool). storingOn g m (resetAll g here (rolesOf g u) (seenIn g u) (viewState s) z) (withReset s z (findBelow (λ (d : ℕ). not (isSet (presentList g named (s .lost)) d)) (g .drives))) s count u) n (present-is g named s)
-    ∙ ap (λ (x : ℕ). storingOn g (verdictNumber (resetVerdict g named s z u)) (resetAll g (callPresent g (isSet named) (viewState s)) (rolesOf g u) (seenIn g u) (viewState s) z) (withReset s z x) s count u) (left-out-is g named s)
+    ap₂ (λ (m : ℕ) (here : ℕ → Bool). storingOn g m (resetAll g here (rolesOf g u) (seenIn g u) (viewState s) z) (stateHeld 16 (resetState (findBelow (λ (d : ℕ). not (isSet (presentList g named (s .lost)) d)) (g .drives)) (viewState s) z)) s count u) n (present-is g named s)
+    ∙ ap (λ (x : ℕ). storingOn g (verdictNumber (resetVerdict g named s z u)) (resetAll g (callPresent g (isSet named) (viewState s)) (rolesOf g u) (seenIn g u) (viewState s) z) (stateHeld 16 (resetState x (viewState s) z)) s count u) (left-out-is g named s)

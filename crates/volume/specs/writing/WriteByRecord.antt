@@ -22,13 +22,14 @@ use Rattle.volume.specs.declared.by_record.Recorded.{Recorded}
 use Rattle.volume.specs.declared.write_directly.Tried.{Tried}
 use Rattle.volume.specs.declared.writing.Run.{Run}
 use Rattle.volume.specs.meaning.Refusals.{zoneOf, offsetOf}
-use Rattle.volume.specs.meaning.CallContracts.{recordAt, isSet, Result, writtenState, writeOn}
+use Rattle.volume.specs.meaning.CallContracts.{isSet, Result, writeOn, stateHeld, viewState}
 use Rattle.volume.specs.checks.CheckLaws.{presentList, openedFrom, Opens, opens}
 use Rattle.volume.specs.checks.ByRecord.{RecordFits, SaysOf, present-named, opening-by}
 use Rattle.volume.specs.writing.WriteRun.{RunAsked, RunStated, writeAskedOn}
 use Rattle.volume.specs.writing.WriteDirectly.{TriedOn}
 use Rattle.volume.specs.writing.WriteTried.{endedWith, tried-made}
 use Rattle.volume.specs.writing.Writing.{buffer-is, runNow, write-asked-on}
+use Rattle.volume.specs.meaning.Calls.{openState}
 
 -- k sectors from address a, `count` stores at most
 pub record WrittenBy (by : ByRecord) (a k count : ℕ) (buffer xs ws xs′ ws′ : List ℕ) (r : Recorded) : Type 0 where
@@ -37,7 +38,7 @@ pub record WrittenBy (by : ByRecord) (a k count : ℕ) (buffer xs ws xs′ ws′
   pub done : r .made ≡ true → (s : State) (ds : List ℕ) → SaysOf by a s ws ds
       → writeOn (by .geometry) (by .named) s a k buffer count (tablesOf xs ws ds)
       ≡ record {
-        outcome = pick (eqb (r .rest) 0) (record { answer = Unfinished; state = s }) (record { answer = Finished; state = writtenState s (r .lost) (zoneOf (by .geometry) a) (r .pointer) });
+        outcome = pick (eqb (r .rest) 0) (record { answer = Unfinished; state = s }) (record { answer = Finished; state = stateHeld 16 (openState (r .lost) (viewState s) (zoneOf (by .geometry) a) (r .pointer)) });
         tables = tablesOf xs′ ws′ ds;
       }
 

@@ -11,7 +11,7 @@ use Rattle.volume.specs.declared.ZoneRecord.{ZoneRecord}
 use Rattle.volume.specs.declared.State.{State}
 use Rattle.volume.specs.declared.ZoneDescriptor.{ZoneDescriptor}
 use Rattle.volume.specs.meaning.State.{pointerIn, conditionNumber, conditionOfNumber}
-use Rattle.volume.specs.meaning.CallContracts.{blankRecord, recordAt}
+use Rattle.volume.specs.meaning.CallContracts.{recordAt, recordsBelow}
 use Rattle.volume.specs.meaning.Report.{toldNumber}
 
 -- ---- tables
@@ -53,7 +53,7 @@ stateTo zones s = recordsTo zones s ++ drop (8 + 16 * zones) noState
 
 -- the state that 264 bytes hold
 unfoldable pub stateFrom : ℕ → List ℕ → State
-stateFrom zones xs = record { lost = readLE 8 xs 0; zones = tabulate (λ z. recordFrom xs (8 + 16 * z)) zones ++ replicate (16 - zones) blankRecord }
+stateFrom zones xs = record { lost = readLE 8 xs 0; zones = recordsBelow (λ z. recordFrom xs (8 + 16 * z)) zones }
 
 -- whether bytes have the form: what is read from them, written again, is they
 unfoldable pub stateWellFormed : ℕ → List ℕ → Bool

@@ -25,16 +25,17 @@ use Rattle.volume.specs.declared.Outcome.{Outcome}
 use Rattle.volume.specs.declared.Answer.{Answer}
 use Rattle.volume.specs.declared.Answer.the-variants.{Finished, Unfinished, Refused, BadLog}
 use Rattle.volume.specs.meaning.Answers.{CallResult}
-use Rattle.volume.specs.meaning.CallContracts.{recordAt, isSet, answerNumber, verdictNumber, Result, stateShown, lookOn, mountVerdict, badPlaceOn}
+use Rattle.volume.specs.meaning.CallContracts.{recordAt, isSet, answerNumber, verdictNumber, Result, lookOn, mountVerdict, badPlaceOn, stateHeld}
 use Rattle.volume.specs.laws.AnswerNumbers.{mount-tells}
 use Rattle.volume.specs.laws.ByteLists.{Bytes}
+use Rattle.volume.specs.meaning.Mount.{mountState}
 use Rattle.promise.specs.meaning.Ledger.{Fits}
 use Rattle.promise.specs.meaning.Claim.{Call, mounts, writes, flushes, resets, formats, System, answered, reported, heard, Event, calls, looks, reads, peeks, reports, cuts, loses, MayMount, ready, settled, ledgerAfter, next, NamesAll, Duty, Serves, Promise, start}
 use Rattle.promise.specs.meaning.OnTables.{resultOn, callResult, shownIn, onTables}
 use Rattle.promise.specs.device.AtRestAnswers.{left-out}
 use Rattle.promise.specs.device.Heard.{answer-heard, answer-alike, read-alike, peek-alike}
 use Rattle.promise.specs.tables.TablesEvents.{TablesOk, loss-event}
-use Rattle.promise.specs.tables.MountRefines.{shown-agrees}
+use Rattle.promise.specs.tables.CallRefines.{held-agrees}
 use Rattle.promise.specs.tables.TablesClaimProof.{tables-promise, tables-event, tables-start}
 use Rattle.zrv.specs.meaning.Bytes.{tableFrom, tableTo, stateFrom, stateTo}
 use Rattle.zrv.specs.meaning.EdgeCalls.{namedOf, inputNumber, sizesNumber, Ranges, tablesIn, unreadState, Answered, storedAll, withoutPlace, lookOfBytes, lookEdge, formatOfBytes, formatEdge}
@@ -122,11 +123,11 @@ module _ (g : Geometry) (ok : Valid g) (wb : isValid g ≡ true) (s : System (on
       heard-as c stop a e = answer-alike (sym (answers c stop)) e
 
       -- ---- looks
-      look-on : lookOn g (namedOf mask) st t ≡ record { answer = Finished; state = stateShown g (shownIn g (namedOf mask) t t) }
+      look-on : lookOn g (namedOf mask) st t ≡ record { answer = Finished; state = stateHeld (g .zones) (mountState (shownIn g (namedOf mask) t t)) }
       look-on = ap (λ (r : CallResult Tables State). let u : Outcome = record { answer = r .answer; state = r .state } in u) (promised .look-fits (namedOf mask) names .0)
 
-      looked : onBytes g .look mask (s .state) (s .memory) ≡ record { answer = Finished; memory = s .memory; state = stateTo (g .zones) (stateShown g (shownIn g (namedOf mask) t t)) }
-      looked = look-is g mask (s .memory) (s .state) (o .taken) (stateShown g (shownIn g (namedOf mask) t t)) look-on
+      looked : onBytes g .look mask (s .state) (s .memory) ≡ record { answer = Finished; memory = s .memory; state = stateTo (g .zones) (stateHeld (g .zones) (mountState (shownIn g (namedOf mask) t t))) }
+      looked = look-is g mask (s .memory) (s .state) (o .taken) (stateHeld (g .zones) (mountState (shownIn g (namedOf mask) t t))) look-on
 
       -- its state's bytes are taken, and hold what the look on the tables hands on
       look-hands : HandsOn g (lookEdge g mask m .left .state) (lookOfBytes g mask m .state) (length (s .memory .written)) (length (s .memory .durable))
@@ -134,13 +135,13 @@ module _ (g : Geometry) (ok : Valid g) (wb : isValid g ≡ true) (s : System (on
 
       pub look-state : stateFrom (g .zones) (onBytes g .look mask (s .state) (s .memory) .state) ≡ lookOn g (namedOf mask) st t .state
       look-state =
-          let x = stateShown g (shownIn g (namedOf mask) t t) in
+          let x = stateHeld (g .zones) (mountState (shownIn g (namedOf mask) t t)) in
           look-hands .reads-back ∙ ap (λ (u : Outcome). u .state) (look-other g (namedOf mask) st unreadState x t look-on) ∙ ap (λ (u : Outcome). u .state) (sym look-on)
 
       -- ---- reports
       conditions-looked : (z : ℕ) → z < g .zones → recordAt (stateFrom (g .zones) (onBytes g .look mask (s .state) (s .memory) .state)) z .condition ≡ shownIn g (namedOf mask) t t .zone z .condition
       conditions-looked z h =
-          ap (λ (x : State). recordAt x z .condition) look-state ∙ ap (λ (u : Outcome). recordAt (u .state) z .condition) look-on ∙ sym (shown-agrees g (shownIn g (namedOf mask) t t) .condition-same z h)
+          ap (λ (x : State). recordAt x z .condition) look-state ∙ ap (λ (u : Outcome). recordAt (u .state) z .condition) look-on ∙ sym (held-agrees g (g .zones) (mountState (shownIn g (namedOf mask) t t)) (omega arith) .condition-same z h)
 
       conditions-shown : s .mode ≡ ready → (z : ℕ) → z < g .zones → recordAt st z .condition ≡ shownIn g (namedOf mask) t t .zone z .condition
       conditions-shown r z h = sym (promised .look-holds (namedOf mask) names r .1 .conditions z h) ∙ sym (ap (λ (x : State). recordAt x z .condition) look-state) ∙ conditions-looked z h

@@ -26,12 +26,13 @@ use Rattle.volume.specs.declared.Outcome.{Outcome}
 use Rattle.volume.specs.meaning.Rules.{Shown, showing}
 use Rattle.volume.specs.meaning.Answers.{presentIn, lostDriveIn, refusedAt}
 use Rattle.volume.specs.meaning.Refusals.{zoneOf, offsetOf}
-use Rattle.volume.specs.meaning.CallContracts.{recordAt, viewState, isSet, answerNumber, verdictNumber, seenIn, stateShown, lookVerdict, badPlaceOn, lookOn, ReadResult, readNumber, readOn, peekNumber, peekFrom, peekOn}
+use Rattle.volume.specs.meaning.CallContracts.{recordAt, viewState, isSet, answerNumber, verdictNumber, seenIn, lookVerdict, badPlaceOn, lookOn, ReadResult, readNumber, readOn, peekNumber, peekFrom, peekOn, stateHeld}
 use Rattle.volume.specs.meaning.Report.{ReportResult, filledNumber}
 use Rattle.volume.specs.laws.BadPlaces.{not-finished}
 use Rattle.volume.specs.laws.Report.{filled-most}
 use Rattle.volume.specs.looking.KnowingValues.{sector-within}
 use Rattle.volume.specs.reading.Peeking.{peek-accepted, peek-refused, peek-done}
+use Rattle.volume.specs.meaning.Mount.{mountState}
 use Rattle.zrv.specs.meaning.Bytes.{stateFrom, stateTo}
 use Rattle.zrv.specs.meaning.EdgeCalls.{namedOf, sizesFit, inputNumber, sizesNumber, stateAfter, Ranges, tablesIn, stateIn, unreadState, Answered, answered, handedBack, withoutPlace, lookOfBytes, lookEdge, readAnswer, readEdge, offsetAt, placeAnswer, placeSized, peekEdge, reportInput, descriptorsIn, filledBytes, withNumber, reportBytes, reportEdge}
 use Rattle.zrv.specs.laws.EdgeCalls.{Sized, input-passed, made, look-alone, place-right, place-refused, place-made}
@@ -54,7 +55,7 @@ look-other g named a b x t = go (eqb v 0)
 
     ended : Bool → State → Outcome
     ended c old =
-        pick c (record { answer = Finished; state = stateShown g (showing g (presentIn g (isSet named) (deviceOf g t)) (lostDriveIn g (isSet named) (deviceOf g t)) (seenIn g t)) })
+        pick c (record { answer = Finished; state = stateHeld (g .zones) (mountState (showing g (presentIn g (isSet named) (deviceOf g t)) (lostDriveIn g (isSet named) (deviceOf g t)) (seenIn g t))) })
         (record { answer = refusedAt (badPlaceOn g named t) v; state = old })
 
     go : (c : Bool) → ended c a ≡ record { answer = Finished; state = x } → ended c b ≡ record { answer = Finished; state = x }

@@ -15,7 +15,8 @@ use Rattle.volume.specs.declared.Answer.the-variants.{Finished, Unfinished, Ref
 use Rattle.volume.specs.meaning.Answers.{CallResult}
 use Rattle.volume.specs.meaning.Report.{ReportResult, filledNumber}
 use Rattle.volume.specs.meaning.Rules.{Shown}
-use Rattle.volume.specs.meaning.CallContracts.{viewState, isSet, stateShown, ReadResult}
+use Rattle.volume.specs.meaning.CallContracts.{viewState, isSet, ReadResult, stateHeld}
+use Rattle.volume.specs.meaning.Mount.{mountState}
 use Rattle.promise.specs.meaning.Claim.{Call, mounts, writes, flushes, resets, formats, Peeked, Volume, KeepsPromise}
 use Rattle.promise.specs.meaning.OnTables.{shownIn}
 use Rattle.zrv.specs.meaning.Bytes.{stateFrom, stateTo}
@@ -89,7 +90,7 @@ onBytes g = record {
   Listing = List ℕ;
   report = λ st list. reportedBytes (reportEdge g st list);
   shows = λ mask m u. shownIn g (namedOf mask) (tablesAt g m) (tablesAt g u);
-  stateOf = λ k. stateTo (g .zones) (stateShown g k);
+  stateOf = λ k. stateTo (g .zones) (stateHeld (g .zones) (mountState k));
   reportOf = shownBytes g;
   view = λ st. viewState (stateFrom (g .zones) st);
   CutTo = λ x m u. StillBytes m u × TablesCut g x (tablesAt g m) (tablesAt g u);

@@ -3,7 +3,7 @@ use mathlib.Core.Path.{refl}
 use native.Mathlib.Omega.{arith}
 use lib.ListN.{getD}
 use Rattle.mounting.specs.MountLook.{blankLook}
-use Rattle.volume.specs.looking.DrivesLost.{FilledTo, filled-turn, filled-end}
+use Rattle.volume.specs.laws.FilledArrays.{FilledTo, filled-turn, filled-end}
 use Rattle.mounting.proofs.rooms.pointers_of.Statement.{statement}
 use Rattle.mounting.proofs.rooms.pointers_of.Tie as tie
 

@@ -9,7 +9,7 @@ use Rattle.tables.specs.meaning.Below.{tabulate}
 use Rattle.volume.specs.meaning.CallContracts.{isSet, zoneLookOf}
 use Rattle.volume.specs.meaning.Rules.{zoneShown}
 use Rattle.volume.specs.looking.Looking.{blankLook, looksFrom, lookable-zone}
-use Rattle.volume.specs.looking.DrivesLost.{fill-more}
+use Rattle.volume.specs.laws.FilledArrays.{fill-more}
 use Rattle.volume.specs.looking.Knowing.{readDevice}
 use Rattle.volume.proofs.looking.look_zones.Statement.{statement}
 use Rattle.volume.proofs.looking.look_zones.Tie as tie

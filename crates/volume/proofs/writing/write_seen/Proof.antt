@@ -23,11 +23,11 @@ use Rattle.volume.specs.declared.log_room.LogRoom.{LogRoom}
 use Rattle.volume.specs.declared.write_room.EntryDrive.{EntryDrive}
 use Rattle.volume.specs.declared.writing.Run.{Run}
 use Rattle.volume.specs.meaning.Content.{parityDriveAt}
-use Rattle.volume.specs.meaning.Calls.{writeWith}
+use Rattle.volume.specs.meaning.Calls.{writeWith, openState}
 use Rattle.volume.specs.meaning.Answers.{sectorsIn}
 use Rattle.volume.specs.meaning.Refusals.{goneBefore}
 use Rattle.volume.specs.meaning.Emptying.{goneForCopies, writeAll}
-use Rattle.volume.specs.meaning.CallContracts.{recordAt, viewState, isSet, rolesOf, seenIn, writtenState}
+use Rattle.volume.specs.meaning.CallContracts.{recordAt, viewState, isSet, rolesOf, seenIn, stateHeld}
 use Rattle.volume.specs.laws.CallContracts.{storing-refused, storing-ends}
 use Rattle.volume.specs.looking.Knowing.{readDevice}
 use Rattle.volume.specs.checks.LogRoom.{Asking, SeenByRoles, emptyingsOf, parityRoomAt, roomOf, placed-is, placed-valid}
@@ -61,7 +61,7 @@ abbrev stores : tie.Start → List Store
 stores s = let z = s .args .run .zone in writeAll (z .geometry) (isSet (z .here)) (rolesOf (z .geometry) (given s)) (seenIn (z .geometry) (given s)) (viewState (s .args .state)) (z .number) (sectorsIn (z .geometry) (s .args .run .count) (now (s .args .buffer)))
 
 abbrev next : tie.Start → State
-next s = let z = s .args .run .zone in writtenState (s .args .state) (findBelow (λ (d : ℕ). not (isSet (z .here) d)) (z .geometry .drives)) (z .number) (s .args .run .pointer + s .args .run .count)
+next s = let z = s .args .run .zone in stateHeld 16 (openState (findBelow (λ (d : ℕ). not (isSet (z .here) d)) (z .geometry .drives)) (viewState (s .args .state)) (z .number) (s .args .run .pointer + s .args .run .count))
 
 abbrev asked : tie.Start → RoomAsked
 asked s = writeAsked (s .args .run .zone) (s .args .places) (s .args .run .pointer + s .args .run .count)

@@ -1,5 +1,6 @@
 pub mod AnyDrive
 pub mod AnyDriveCaching
+pub mod AnyDriveOlder
 pub mod AnyDriveProved
 pub mod BehindDelayed
 pub mod BehindFlush
@@ -8,5 +9,6 @@ pub mod EmptyingLooks
 pub mod EveryPoint
 pub mod MountLooks
 pub mod MountParityLooks
+pub mod MountSettles
 pub mod ResetLasts
 pub mod RoomyCalls

@@ -2,6 +2,7 @@ pub mod CachedTables
 pub mod CachedTablesClaim
 pub mod CallRefines
 pub mod CallVerdicts
+pub mod CallsSeen
 pub mod MadeOn
 pub mod MountRefines
 pub mod RoomyTables

@@ -38,7 +38,7 @@ use Rattle.zrv_promise.specs.meaning.CachesOnBytes.{bytesCaches, onCachi
 use Rattle.zrv_promise.specs.bytes.BytesClaimProof.{bytes-all, finished-code, viewSystem, BytesOk, call-views, answers, bytes-promise, bytes-event, none-changed, again, read-again, before, edge, made-on, sized, finished, began, begins, left-tables, left-state, bytes-start}
 
 -- ---- the system on the tables that the bytes hold
-abbrev viewCached : (g : Geometry) → System (onCachingBytes g) → System (onCachingTables g)
+abbrev pub viewCached : (g : Geometry) → System (onCachingBytes g) → System (onCachingTables g)
 viewCached g s = record { memory = record { memory = tablesAt g (s .memory .memory); was = s .memory .was }; lost = s .lost; mode = s .mode; state = stateFrom (g .zones) (s .state); ledger = s .ledger }
 
 -- what holds of tables in the bytes, with these caches
@@ -64,7 +64,7 @@ module _ (g : Geometry) (ok : Valid g) (wb : isValid g ≡ true) (s : System (on
   abbrev st : State
   st = stateFrom (g .zones) (s .state)
 
-  tables-ok : TablesOkCached g (viewCached g s)
+  pub tables-ok : TablesOkCached g (viewCached g s)
   tables-ok = record { plain = o .plain .holds; holds = o .holds }
 
   tables-keep : (e : Event (onCachingTables g)) → Duty g (onCachingTables g) (viewCached g s) e → TablesOkCached g (next g (onCachingTables g) (viewCached g s) e)
@@ -151,7 +151,7 @@ pub caching-bytes-resets-last : (g : Geometry) → ResetsLast g (onCachingBytes 
 caching-bytes-resets-last g = resets-last g (onCachingBytes g) (caching-bytes-keep-the-promise g)
 
 -- the older claim follows
-bytes-older-cuts : (g : Geometry) → OlderCuts (onBytes g) (bytesCaches g)
+pub bytes-older-cuts : (g : Geometry) → OlderCuts (onBytes g) (bytesCaches g)
 bytes-older-cuts g x m was u (b, c) = (b, tables-older-cuts g x (tablesAt g m) was (tablesAt g u) c)
 
 pub bytes-keep-the-promise : BytesClaim

@@ -1,5 +1,6 @@
 // The script language of the conformance vectors: a command line read, the host that carries it out over the tables that the caller lends, and
-// what its answer line shows. Every answer is a public call's own; no rule of the volume is written here a second time.
+// what its answer line shows. Every answer is a public call's own; no rule of the volume is written here a second time. The functions are proved to be safe
+// and to end, no more: what they show is compared line by line with the vectors.
 use tables::Geometry;
 use volume::BadPlace;
 use volume::State;

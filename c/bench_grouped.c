@@ -18,7 +18,7 @@ struct grouped {
     uint8_t *blocks, *metadata, *work, answer[BLOCK_BYTES], plain_answer[BLOCK_BYTES];
 };
 
-typedef uint32_t read_function(uint32_t, uint32_t, uint32_t, uint32_t, uint32_t, uint64_t, const uint8_t *, size_t, const uint8_t *, size_t, uint8_t *, size_t,
+typedef uint64_t read_function(uint32_t, uint32_t, uint32_t, uint32_t, uint32_t, uint64_t, const uint8_t *, size_t, const uint8_t *, size_t, uint8_t *, size_t,
                                uint8_t *, size_t);
 
 static uint64_t next_number(uint64_t *state) {

@@ -106,12 +106,12 @@ static uint32_t read_segment(struct segment *s, uint32_t named, uint64_t address
     const struct numbers *n = &s->handed;
     size_t answer_bytes = short_of(s->made.block_bytes, s->shortage[3]);
     memset(s->answer, PREFILL, answer_bytes);
-    uint32_t code = zrv_grouped_read(n->drives, n->block_bytes, n->group, n->blocks, named, address,
-                                     s->blocks, short_of((uint64_t)cells(s) * s->made.block_bytes, s->shortage[0]),
-                                     s->metadata, short_of((uint64_t)cells(s) * RECORD, s->shortage[1]),
-                                     s->work, short_of((uint64_t)cells(s) * 2 * 4, s->shortage[2]), s->answer, answer_bytes);
+    uint64_t returned = zrv_grouped_read(n->drives, n->block_bytes, n->group, n->blocks, named, address,
+                                         s->blocks, short_of((uint64_t)cells(s) * s->made.block_bytes, s->shortage[0]),
+                                         s->metadata, short_of((uint64_t)cells(s) * RECORD, s->shortage[1]),
+                                         s->work, short_of((uint64_t)cells(s) * 2 * 4, s->shortage[2]), s->answer, answer_bytes);
     *sum = adler(1, s->answer, answer_bytes);
-    return code;
+    return ZRV_ANSWER(returned);
 }
 
 static struct numbers numbers_of(const uint64_t *number) {

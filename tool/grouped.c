@@ -115,8 +115,9 @@ static int read_block(const struct command_option *option, const struct range *b
     if (work.bytes == NULL || answer.bytes == NULL) {
         fail(message, "memory ran out");
     } else {
-        uint32_t number = zrv_grouped_read(drives, bytes, (uint32_t)option[GROUP].number, count, named, option[AT].number, blocks->bytes, blocks->length,
-                                           metadata->bytes, metadata->length, work.bytes, work.length, answer.bytes, answer.length);
+        uint64_t returned = zrv_grouped_read(drives, bytes, (uint32_t)option[GROUP].number, count, named, option[AT].number, blocks->bytes, blocks->length,
+                                             metadata->bytes, metadata->length, work.bytes, work.length, answer.bytes, answer.length);
+        uint32_t number = ZRV_ANSWER(returned);
         struct segment segment = {drives, (uint32_t)option[GROUP].number, count, named, metadata->bytes};
         if (number == ZRV_FINISHED)
             code = put_block(&option[TO], &answer, message) ? EXIT_DONE : EXIT_FILES;

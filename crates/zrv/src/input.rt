@@ -74,7 +74,7 @@ pub fn state_bad(g: Geometry, bytes: &[u8]) -> bool
 }
 
 // What is refused before a call that reads the state; 0 if nothing is.
-pub fn input_refusal(g: Geometry, state: &[u8], written: usize, durable: usize) -> u32
+pub fn input_refusal(g: Geometry, state: &[u8], written: usize, durable: usize) -> u64
     ensures { λ r. ⌜ r ≡ inputNumber g (now (state .entry)) written durable ⌝ }
 {
     let ok = tables::bounds::valid(g);
@@ -90,7 +90,7 @@ pub fn input_refusal(g: Geometry, state: &[u8], written: usize, durable: usize) 
 }
 
 // What is refused before a call that only writes the state; 0 if nothing is.
-pub fn sizes_refusal(g: Geometry, state: usize, written: usize, durable: usize) -> u32
+pub fn sizes_refusal(g: Geometry, state: usize, written: usize, durable: usize) -> u64
     ensures { λ r. ⌜ r ≡ sizesNumber g state written durable ⌝ }
 {
     let ok = tables::bounds::valid(g);
@@ -114,14 +114,14 @@ pub fn unread_state() -> State
 }
 
 // The number of an answer, as C has it.
-pub fn number_of(a: Answer) -> u32
+pub fn number_of(a: Answer) -> u64
     ensures { λ r. ⌜ r ≡ answerNumber a ⌝ }
 {
-    volume::numbers::answer_number(a) as u32
+    volume::numbers::answer_number(a) as u64
 }
 
 // Hands an outcome back: its number, and the state's bytes where the call is finished.
-pub fn hand_back(g: Geometry, outcome: Outcome, bytes: &mut [u8]) -> u32
+pub fn hand_back(g: Geometry, outcome: Outcome, bytes: &mut [u8]) -> u64
     requires { ⌜ Valid g ⌝ }
     requires { ⌜ length (now bytes) ≡ 264 ⌝ }
     ensures { λ r. ⌜ (r ≡ answerNumber (outcome .answer)) × (now (bytes .exit) ≡ stateAfter g outcome (now (bytes .entry))) ⌝ }
@@ -162,7 +162,8 @@ pub fn hand_back_placed(g: Geometry, outcome: Outcome, bytes: &mut [u8]) -> u64
     ensures { λ r. ⌜ (r ≡ withNumber (answerNumber (outcome .answer)) (placeNumber (outcome .answer))) × (now (bytes .exit) ≡ stateAfter g outcome (now (bytes .entry))) ⌝ }
 {
     let answer = outcome.answer;
+    let n = volume::numbers::answer_number(answer);
     let place = place_number(answer);
-    let n = hand_back(g, outcome, bytes);
+    hand_back(g, outcome, bytes);
     (n as u64) + HIGH * place
 }

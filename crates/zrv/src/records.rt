@@ -24,7 +24,7 @@ pub struct WriteAsked {
 // Whether it was made, and then what it returns.
 pub struct WriteTried {
     pub made: bool,
-    pub code: u32,
+    pub code: u64,
 }
 
 // What a call takes of its input for the zone of an address.
@@ -54,7 +54,7 @@ pub fn record_of(
 }
 
 // What a write that was made returns; finished, it leaves the lost drive and the record of zone z in the state's bytes.
-fn hand_record(tried: Recorded, generation: u64, z: usize, state: &mut [u8]) -> u32
+fn hand_record(tried: Recorded, generation: u64, z: usize, state: &mut [u8]) -> u64
     requires { ⌜ (length (now state) ≡ 264) × (z < 16) ⌝ }
     ensures { λ r. ⌜ handedRecord tried generation z (now (state .entry)) r (now (state .exit)) ⌝ }
 {

@@ -3,7 +3,7 @@
 use mathlib.Core.Bool.{Bool, _&&_, not}
 use Prim.Native.Nat.{ℕ, zero, suc, _+_, _-_, _*_, _/_, _%_}
 use mathlib.Core.List.{List, [], _∷_, _++_}
-use lib.ListN.{length, drop, replicate}
+use lib.ListN.{length, getD, drop, replicate}
 use lib.Dec.{eqb}
 use Rattle.tables.specs.declared.Geometry.{Geometry}
 use Rattle.tables.specs.meaning.Basics.{pick}
@@ -13,15 +13,20 @@ use Rattle.tables.specs.meaning.GeometryTest.{isValid}
 use Rattle.tables.specs.meaning.Tables.{Tables, tablesOf}
 use Rattle.volume.specs.declared.Answer.{Answer}
 use Rattle.volume.specs.declared.Answer.the-variants.{Finished, Unfinished, Refused, BadLog}
-use Rattle.volume.specs.declared.Condition.{Condition}
 use Rattle.volume.specs.declared.State.{State}
 use Rattle.volume.specs.declared.Outcome.{Outcome}
 use Rattle.volume.specs.meaning.Refusals.{stateWithin}
 use Rattle.volume.specs.meaning.CallContracts.{blankRecord, viewState, answerNumber, Result, flushOn, lookOn, mountOn, formatOn, resetOn, writeOn, ReadResult, readOn, peekNumber, byteOf}
-use Rattle.volume.specs.meaning.Report.{descriptorOf, filledNumber}
+use Rattle.volume.specs.declared.ZoneDescriptor.{ZoneDescriptor}
+use Rattle.volume.specs.declared.ReportedCondition.the-variants as told
+use Rattle.volume.specs.meaning.Report.{ReportResult, reportOn}
 use Rattle.zrv.specs.meaning.Bytes.{tableFrom, tableTo, stateFrom, stateTo, stateWellFormed, descriptorTo}
 use Rattle.tables.specs.meaning.LittleEndian.{bytesLE}
 use Rattle.volume.specs.meaning.Answers.{placeOf}
+
+-- ---- the version of the interface: the major number times 65,536, and the minor one
+abbrev pub version : ℕ
+version = 65536
 
 -- ---- numbers
 -- the geometry of a call's first five numbers
@@ -203,13 +208,23 @@ reportInput g st = pick (isValid g) (pick (stateBad g st) 1 (pick (eqb (length s
 abbrev pub descriptorsIn : List ℕ → ℕ
 descriptorsIn list = length list / 32
 
--- the list with its first n descriptors filled; those past them, and bytes that are no whole descriptor, stay
-unfoldable pub filledBytes : Geometry → (ℕ → Condition) → ℕ → List ℕ → List ℕ
-filledBytes g condition n list = eachBelow (λ z. descriptorTo (descriptorOf g z (condition z))) n ++ drop (n * 32) list
+-- so many descriptors, lent to the call in place of the list's bytes: what they hold is never read
+abbrev pub unreadDescriptor : ZoneDescriptor
+unreadDescriptor = record { start = 0; capacity = 0; pointer = 0; condition = told.Empty }
 
--- a finished report of zones in these conditions, with the number of descriptors
-abbrev pub reportBytes : Geometry → (ℕ → Condition) → List ℕ → Answered (List ℕ)
-reportBytes g condition list = answered (withNumber 0 (filledNumber g (descriptorsIn list))) (filledBytes g condition (filledNumber g (descriptorsIn list)) list)
+abbrev pub lentFor : List ℕ → List ZoneDescriptor
+lentFor list = replicate (descriptorsIn list) unreadDescriptor
+
+-- the bytes of the first n descriptors in place of the list's; those past them, and bytes that are no whole descriptor, stay
+unfoldable pub filledBytes : List ZoneDescriptor → ℕ → List ℕ → List ℕ
+filledBytes ds n list = eachBelow (λ z. descriptorTo (getD ds z unreadDescriptor)) n ++ drop (n * 32) list
+
+-- a report's answer with the number of descriptors, and what it leaves of the list
+abbrev pub reportBytes : ReportResult (List ZoneDescriptor) → List ℕ → Answered (List ℕ)
+reportBytes r list = answered (withNumber (answerNumber (r .answer)) (r .number)) (filledBytes (r .list) (r .number) list)
+
+abbrev pub reportOfBytes : Geometry → List ℕ → List ℕ → ReportResult (List ZoneDescriptor)
+reportOfBytes g st list = reportOn g (viewState (stateFrom (g .zones) st)) (lentFor list)
 
 abbrev pub reportEdge : Geometry → List ℕ → List ℕ → Answered (List ℕ)
-reportEdge g st list = unlessRefused (reportInput g st) (reportBytes g (viewState (stateFrom (g .zones) st) .condition) list) list
+reportEdge g st list = unlessRefused (reportInput g st) (reportBytes (reportOfBytes g st list) list) list

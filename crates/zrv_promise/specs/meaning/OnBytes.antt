@@ -13,14 +13,15 @@ use Rattle.tables.specs.meaning.LittleEndian.{numberLE}
 use Rattle.volume.specs.declared.Answer.{Answer}
 use Rattle.volume.specs.declared.Answer.the-variants.{Finished, Unfinished, Refused}
 use Rattle.volume.specs.meaning.Answers.{CallResult}
-use Rattle.volume.specs.meaning.Report.{ReportResult, filledNumber}
+use Rattle.volume.specs.meaning.Report.{ReportResult}
 use Rattle.volume.specs.meaning.Rules.{Shown}
 use Rattle.volume.specs.meaning.CallContracts.{viewState, isSet, ReadResult, stateHeld}
 use Rattle.volume.specs.meaning.Mount.{mountState}
 use Rattle.promise.specs.meaning.Claim.{Call, mounts, writes, flushes, resets, formats, Peeked, Volume, KeepsPromise}
+use Rattle.promise.specs.meaning.OnDevice.{reportShown}
 use Rattle.promise.specs.meaning.OnTables.{shownIn}
 use Rattle.zrv.specs.meaning.Bytes.{stateFrom, stateTo}
-use Rattle.zrv.specs.meaning.EdgeCalls.{namedOf, Ranges, ranges, tablesIn, Answered, withoutPlace, formatEdge, lookEdge, mountEdge, writeEdge, flushEdge, resetEdge, readEdge, peekEdge, descriptorsIn, filledBytes, reportEdge}
+use Rattle.zrv.specs.meaning.EdgeCalls.{namedOf, Ranges, ranges, tablesIn, Answered, withoutPlace, formatEdge, lookEdge, mountEdge, writeEdge, flushEdge, resetEdge, readEdge, peekEdge, lentFor, reportBytes, reportEdge}
 
 -- the ranges of the sectors and of the two tables
 pub record LentBytes : Type 0 where
@@ -68,7 +69,7 @@ reportedBytes e = record { answer = answerOf (e .code % 4294967296); number = e 
 
 -- the bytes of a report of the conditions shown
 abbrev pub shownBytes : Geometry → Shown → List ℕ → ReportResult (List ℕ)
-shownBytes g k list = let n = filledNumber g (descriptorsIn list) in record { answer = Finished; number = n; list = filledBytes g (λ z. k .zone z .condition) n list }
+shownBytes g k list = reportedBytes (reportBytes (reportShown g k (lentFor list)) list)
 
 -- what a cut or a loss leaves is bytes, as many as before
 pub record StillBytes (m u : LentBytes) : Type 0 where

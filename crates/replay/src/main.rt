@@ -164,8 +164,9 @@ fn show_rest(
         return;
     }
     if letter == b'o' {
-        field(replaying::listing::report_filled(h, c));
-        field(replaying::listing::list_sum(h, c));
+        let l = replaying::listing::listed(h, c);
+        field(replaying::listing::report_filled(l));
+        field(replaying::listing::list_sum(l, c));
     }
 }
 

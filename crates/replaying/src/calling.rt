@@ -189,11 +189,11 @@ pub fn peek(sectors: &[u8], written: &[u32], durable: &[u32], h: Host, c: Comman
 }
 
 // Report: whether it is refused. What it fills is looked at when the answer is shown.
-pub fn report(h: Host) -> Reply {
-    let g = h.geometry;
+pub fn report(h: Host, c: Command) -> Reply {
     let s = h.state;
-    let o = volume::reporting::reported(g, s, 0);
-    let a = o.answer;
+    let l = super::listing::listed(h, c);
+    let r = l.reported;
+    let a = r.answer;
     let code = volume::numbers::answer_number(a);
     super::hosting::plain(h, code, s)
 }

@@ -3,7 +3,9 @@
 // and to end, no more: what they show is compared line by line with the vectors.
 use tables::Geometry;
 use volume::BadPlace;
+use volume::Reported;
 use volume::State;
+use volume::ZoneDescriptor;
 
 pub mod calling;
 pub mod checksum;
@@ -65,6 +67,12 @@ pub struct Reply {
 pub struct Glimpse {
     pub code: u8,
     pub sum: u64,
+}
+
+// What a report leaves: its answer and number, and the list.
+pub struct Listed {
+    pub reported: Reported,
+    pub list: [ZoneDescriptor; 16],
 }
 
 // The two sums of a checksum.

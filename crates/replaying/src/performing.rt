@@ -26,7 +26,7 @@ fn call_with_state(
         return super::calling::read(sectors, written, durable, buffer, h, c);
     }
     if letter == b'o' {
-        return super::calling::report(h);
+        return super::calling::report(h, c);
     }
     super::calling::peek(sectors, written, durable, h, c)
 }

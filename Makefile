@@ -1,5 +1,5 @@
 # explore: four drives, a write, a flush and two writes in succession: every moment at which power can go, times what the caches kept, times the drive that does not come back
-# test:  the layout, the worked values of log_walks and of docs/FORMAT.md, then everything proved from nothing, and beside it the wrong programs and the archive; the merge gate
+# test:  the layout, that meaning/ cites no laws, the worked values of log_walks and of docs/FORMAT.md, then everything proved from nothing, and beside it the wrong programs and the archive; the merge gate
 # check: prove every crate and run the programs (only what changed since the last time)
 # wrong: the wrong programs and wrong rules alone (`scripts/wrong_programs .` takes over this folder's target/, and need not check the crates from nothing)
 # archive: prove the C edge and write lib/libzrv.a anew, which C links with include/zrv.h
@@ -21,6 +21,7 @@ explore: target/zrv
 
 test: format-test
 	@rt fmt --check
+	@! grep -n '^use .*specs\.laws\.' crates/*/specs/meaning/*.antt
 	@python3 scripts/expect_log_walks.py | cmp - crates/log_walks/stdout
 	@scripts/gate
 

@@ -1,5 +1,6 @@
 pub mod AbsentDrives
 pub mod AnswerNumbers
+pub mod AnyInput
 pub mod ArrayNumbers
 pub mod BadPlaces
 pub mod ByteLists

@@ -17,7 +17,8 @@ use Rattle.tables.specs.laws.Phases.{flush-all-local, on-present-local, flush-a
 use Rattle.tables.specs.declared.Geometry.{Geometry}
 use Rattle.tables.specs.meaning.Geometry.{Valid, physicalZones, dataZone}
 use Rattle.logs.specs.meaning.Entry.{generalZone, parityZone, seal, closing}
-use Rattle.tables.specs.laws.Drives.{presentBut, present-below}
+use Rattle.tables.specs.meaning.Drives.{presentBut}
+use Rattle.tables.specs.laws.Drives.{present-below}
 use Rattle.logs.specs.laws.Walk.{cut-mono, cut-all, sectorsOfAll}
 use Rattle.volume.specs.declared.Condition.{Condition}
 use Rattle.volume.specs.declared.Condition.the-variants.{Empty, Open, Sealed, Worn}

@@ -24,8 +24,8 @@ use Rattle.tables.specs.meaning.Lists.{concat}
 use Rattle.tables.specs.declared.Geometry.{Geometry}
 use Rattle.tables.specs.meaning.Geometry.{Valid, physicalZones, dataZone}
 use Rattle.logs.specs.meaning.Entry.{generalZone, parityZone, wornGeneration, Header, label, counters, encode, closing}
-use Rattle.tables.specs.laws.Drives.{presentBut, present-below}
-use Rattle.tables.specs.meaning.Drives.{noDrive}
+use Rattle.tables.specs.laws.Drives.{present-below}
+use Rattle.tables.specs.meaning.Drives.{noDrive, presentBut}
 use Rattle.logs.specs.laws.Walk.{Reads}
 use Rattle.logs.specs.laws.Codec.{reads}
 use Rattle.logs.specs.meaning.Heads.{generationIn}

@@ -20,7 +20,7 @@ use Rattle.tables.specs.meaning.Basics.{pick}
 use Rattle.tables.specs.declared.Geometry.{Geometry}
 use Rattle.tables.specs.meaning.Geometry.{Valid, physicalZones, dataZone}
 use Rattle.logs.specs.meaning.Entry.{generalZone, parityZone, wornGeneration, Header, label, counters, zoneReset, encode, closing}
-use Rattle.tables.specs.laws.Drives.{presentBut}
+use Rattle.tables.specs.meaning.Drives.{presentBut}
 use Rattle.logs.specs.laws.Walk.{Reads, cut-mono}
 use Rattle.logs.specs.laws.Codec.{reads}
 use Rattle.logs.specs.meaning.Heads.{lastCounters, generationIn}

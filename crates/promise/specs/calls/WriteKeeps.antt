@@ -24,7 +24,8 @@ use Rattle.tables.specs.declared.Geometry.{Geometry}
 use Rattle.tables.specs.meaning.Geometry.{Valid, stripeSectors, zoneSectors, physicalZones, dataZone}
 use Rattle.logs.specs.meaning.Entry.{generalZone, parityZone, Header, partialParity, seal, Entry, rowsOf, fitsLog, closing}
 use Rattle.logs.specs.laws.Entry.{FieldsFit}
-use Rattle.tables.specs.laws.Drives.{presentBut, present-below}
+use Rattle.tables.specs.meaning.Drives.{presentBut}
+use Rattle.tables.specs.laws.Drives.{present-below}
 use Rattle.logs.specs.laws.Walk.{Whole, WellFormedLog, Reads, Left, cut-joins, sectorsOfAll, sectors-of-append, logExtent, extent-append, extent-whole, lawful-joins}
 use Rattle.logs.specs.meaning.Walk.{sectorsOf}
 use Rattle.logs.specs.laws.Codec.{reads}

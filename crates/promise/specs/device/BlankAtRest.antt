@@ -11,8 +11,8 @@ use lib.Dec.{ltb}
 use Rattle.tables.specs.meaning.Basics.{pick}
 use Rattle.tables.specs.meaning.Device.{ZoneView, Device, Store, applyAll, Loss}
 use Rattle.tables.specs.laws.Device.{loss-at}
-use Rattle.tables.specs.meaning.Drives.{noDrive}
-use Rattle.tables.specs.laws.Drives.{presentBut, present-below, present-not}
+use Rattle.tables.specs.meaning.Drives.{noDrive, presentBut}
+use Rattle.tables.specs.laws.Drives.{present-below, present-not}
 use Rattle.tables.specs.declared.Geometry.{Geometry}
 use Rattle.tables.specs.meaning.Geometry.{Valid}
 use Rattle.logs.specs.meaning.Entry.{spareZone}

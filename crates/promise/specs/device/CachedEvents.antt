@@ -13,7 +13,8 @@ use Rattle.tables.specs.laws.Basics.{not-not}
 use Rattle.tables.specs.meaning.Device.{Device, Store, applyAll}
 use Rattle.tables.specs.meaning.Cached.{Caching, applyAllCaching}
 use Rattle.tables.specs.laws.Cached.{now-is}
-use Rattle.tables.specs.laws.Drives.{presentBut, present-not}
+use Rattle.tables.specs.meaning.Drives.{presentBut}
+use Rattle.tables.specs.laws.Drives.{present-not}
 use Rattle.tables.specs.declared.Geometry.{Geometry}
 use Rattle.tables.specs.meaning.Geometry.{Valid}
 use Rattle.tables.specs.meaning.GeometryTest.{isValid}

@@ -15,10 +15,10 @@ use Rattle.tables.specs.laws.Lists.{mem-nil}
 use Rattle.tables.specs.meaning.Device.{ZoneView, Device, Store, flushed, applyAll, ZoneCut, Cut, Loss}
 use Rattle.tables.specs.laws.Device.{cut-at, loss-at, WellFormed, well-formed-apply-all}
 use Rattle.tables.specs.laws.Local.{localStores, applyAllHere, local-is}
-use Rattle.tables.specs.meaning.Cached.{Caching, uncached, applyAllCaching, CachingCut, CachingLoss}
-use Rattle.tables.specs.laws.Cached.{now-is, cutFrom, cut-from-back, cut-from-cut}
-use Rattle.tables.specs.meaning.Drives.{noDrive}
-use Rattle.tables.specs.laws.Drives.{presentBut, present-not}
+use Rattle.tables.specs.meaning.Cached.{Caching, uncached, applyAllCaching, CachingCut}
+use Rattle.tables.specs.laws.Cached.{now-is, cutFrom, cut-from-back, cut-from-cut, CachingLoss}
+use Rattle.tables.specs.meaning.Drives.{noDrive, presentBut}
+use Rattle.tables.specs.laws.Drives.{present-not}
 use Rattle.tables.specs.declared.Geometry.{Geometry}
 use Rattle.tables.specs.meaning.Geometry.{Valid, physicalZones}
 use Rattle.volume.specs.meaning.State.{StateView}

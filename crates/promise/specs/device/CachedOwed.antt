@@ -14,8 +14,7 @@ use Rattle.tables.specs.meaning.Device.{Device, Store, reset, applyAll}
 use Rattle.tables.specs.meaning.Cached.{Caching, uncached, applyAllCaching}
 use Rattle.tables.specs.laws.Cached.{caching-append, now-is, was-is, rememberHere}
 use Rattle.tables.specs.laws.Local.{LocalStore, flushHere, localStores, local-append}
-use Rattle.tables.specs.meaning.Drives.{noDrive}
-use Rattle.tables.specs.laws.Drives.{presentBut}
+use Rattle.tables.specs.meaning.Drives.{noDrive, presentBut}
 use Rattle.tables.specs.declared.Geometry.{Geometry}
 use Rattle.tables.specs.meaning.Geometry.{Valid, physicalZones}
 use Rattle.logs.specs.meaning.Entry.{label, counters}

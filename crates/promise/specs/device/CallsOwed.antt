@@ -5,7 +5,7 @@ use mathlib.Core.List.{List}
 use lib.ListN.{take, length}
 use Rattle.tables.specs.meaning.Device.{Device, applyAll}
 use Rattle.tables.specs.declared.Geometry.{Geometry}
-use Rattle.tables.specs.laws.Drives.{presentBut}
+use Rattle.tables.specs.meaning.Drives.{presentBut}
 use Rattle.volume.specs.meaning.State.{StateView}
 use Rattle.volume.specs.meaning.Rules.{showing}
 use Rattle.volume.specs.meaning.Calls.{writeState, resetState}

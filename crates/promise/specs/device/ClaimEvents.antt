@@ -15,8 +15,7 @@ use Rattle.tables.specs.meaning.Basics.{pick}
 use Rattle.tables.specs.meaning.Device.{Device, Store, applyAll}
 use Rattle.tables.specs.declared.Geometry.{Geometry}
 use Rattle.tables.specs.meaning.Geometry.{Valid}
-use Rattle.tables.specs.laws.Drives.{presentBut}
-use Rattle.tables.specs.meaning.Drives.{noDrive}
+use Rattle.tables.specs.meaning.Drives.{noDrive, presentBut}
 use Rattle.volume.specs.meaning.Rules.{showing}
 use Rattle.volume.specs.meaning.State.{StateView, callPresent}
 use Rattle.volume.specs.meaning.Roles.{roles, byRoles}

@@ -20,7 +20,7 @@ use Rattle.tables.specs.meaning.Placement.{driveOf}
 use Rattle.tables.specs.laws.Placement.{drive-below}
 use Rattle.tables.specs.declared.Geometry.{Geometry}
 use Rattle.tables.specs.meaning.Geometry.{Valid, zoneSectors}
-use Rattle.tables.specs.laws.Drives.{presentBut}
+use Rattle.tables.specs.meaning.Drives.{presentBut}
 use Rattle.tables.specs.meaning.Below.{tabulateFrom}
 use Rattle.tables.specs.meaning.Lists.{concat}
 use Rattle.logs.specs.meaning.Entry.{wornGeneration}

@@ -19,7 +19,8 @@ use Rattle.tables.specs.laws.Device.{cut-at, apply-all-append}
 use Rattle.tables.specs.laws.Local.{LocalStore, appendHere, resetHere, flushHere, applyAllHere, localStores, local-append, local-is, local-take, appends-here}
 use Rattle.tables.specs.meaning.Phases.{flushAll}
 use Rattle.tables.specs.laws.Phases.{on-present-local, flush-all-local}
-use Rattle.tables.specs.laws.Drives.{presentBut, present-below, present-not}
+use Rattle.tables.specs.meaning.Drives.{presentBut}
+use Rattle.tables.specs.laws.Drives.{present-below, present-not}
 use Rattle.tables.specs.declared.Geometry.{Geometry}
 use Rattle.volume.specs.meaning.Calls.{appendAll, flushStores}
 use Rattle.volume.specs.meaning.Emptying.{emptyingStores}

@@ -23,7 +23,8 @@ use Rattle.tables.specs.meaning.Cached.{Caching, uncached, applyAllCaching}
 use Rattle.tables.specs.laws.Cached.{caching-append, now-is, was-is, rememberHere}
 use Rattle.tables.specs.meaning.Phases.{flushAll}
 use Rattle.tables.specs.laws.Phases.{flush-all-local, on-present-local}
-use Rattle.tables.specs.laws.Drives.{presentBut, present-below}
+use Rattle.tables.specs.meaning.Drives.{presentBut}
+use Rattle.tables.specs.laws.Drives.{present-below}
 use Rattle.tables.specs.declared.Geometry.{Geometry}
 use Rattle.volume.specs.meaning.Calls.{appendAll, flushStores}
 use Rattle.volume.specs.meaning.Roles.{Roles, zoneOfKind}

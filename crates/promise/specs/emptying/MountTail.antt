@@ -13,7 +13,7 @@ use Rattle.tables.specs.meaning.Device.{ZoneView, Device, Store, applyAll, Cut}
 use Rattle.tables.specs.laws.Device.{apply-all-append}
 use Rattle.tables.specs.meaning.Phases.{onPresent}
 use Rattle.tables.specs.meaning.Through.{through, carry}
-use Rattle.tables.specs.laws.Drives.{presentBut}
+use Rattle.tables.specs.meaning.Drives.{presentBut}
 use Rattle.tables.specs.declared.Geometry.{Geometry}
 use Rattle.tables.specs.meaning.Geometry.{Valid}
 use Rattle.logs.specs.meaning.Entry.{parityZone, spareZone, wornGeneration, Entry}

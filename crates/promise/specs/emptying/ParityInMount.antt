@@ -11,7 +11,8 @@ use mathlib.Core.List.{List, []}
 use lib.ListN.{length, take}
 use borrow.Author.Tests.{eq-eqb}
 use Rattle.tables.specs.meaning.Device.{ZoneView, Device, Store, applyAll, Cut}
-use Rattle.tables.specs.laws.Drives.{presentBut, present-below}
+use Rattle.tables.specs.meaning.Drives.{presentBut}
+use Rattle.tables.specs.laws.Drives.{present-below}
 use Rattle.volume.specs.meaning.Calls.{flushStores}
 use Rattle.tables.specs.declared.Geometry.{Geometry}
 use Rattle.tables.specs.meaning.Geometry.{Valid}

@@ -19,7 +19,7 @@ use Rattle.tables.specs.meaning.Below.{anyBelow, eachBelow}
 use Rattle.tables.specs.meaning.Lists.{anyOf}
 use Rattle.tables.specs.meaning.Device.{ZoneView, Device, Store, applyAll, Cut}
 use Rattle.tables.specs.laws.Device.{apply-all-append}
-use Rattle.tables.specs.laws.Drives.{presentBut}
+use Rattle.tables.specs.meaning.Drives.{presentBut}
 use Rattle.tables.specs.declared.Geometry.{Geometry}
 use Rattle.tables.specs.meaning.Geometry.{Valid}
 use Rattle.logs.specs.meaning.Entry.{parityZone, spareZone, Header, Entry}

@@ -21,7 +21,8 @@ use Rattle.tables.specs.laws.Greatest.{greatest-all, greatest-max}
 use Rattle.tables.specs.meaning.Device.{ZoneView, Device}
 use Rattle.tables.specs.meaning.Placement.{stripeOf, needed}
 use Rattle.tables.specs.laws.Placement.{needed-mono}
-use Rattle.tables.specs.laws.Drives.{presentBut, present-below}
+use Rattle.tables.specs.meaning.Drives.{presentBut}
+use Rattle.tables.specs.laws.Drives.{present-below}
 use Rattle.tables.specs.declared.Geometry.{Geometry}
 use Rattle.tables.specs.meaning.Geometry.{Valid, stripeSectors, parityDriveOf, zoneSectors, dataZone}
 use Rattle.logs.specs.meaning.Entry.{generalZone, parityZone, Header, partialParity, closing, Entry}

@@ -10,7 +10,7 @@ use native.Mathlib.Omega.{arith}
 use mathlib.Core.List.{List, []}
 use lib.ListN.{length, take}
 use Rattle.tables.specs.meaning.Device.{ZoneView, Device, Store, applyAll, Cut}
-use Rattle.tables.specs.laws.Drives.{presentBut}
+use Rattle.tables.specs.meaning.Drives.{presentBut}
 use Rattle.tables.specs.declared.Geometry.{Geometry}
 use Rattle.tables.specs.meaning.Geometry.{Valid}
 use Rattle.logs.specs.meaning.Entry.{generalZone, parityZone, Entry}

@@ -11,7 +11,7 @@ use lib.ListN.{length, take}
 use Rattle.tables.specs.meaning.Below.{maxBelow}
 use Rattle.tables.specs.meaning.Lists.{anyOf}
 use Rattle.tables.specs.meaning.Device.{ZoneView, Device}
-use Rattle.tables.specs.laws.Drives.{presentBut}
+use Rattle.tables.specs.meaning.Drives.{presentBut}
 use Rattle.tables.specs.declared.Geometry.{Geometry}
 use Rattle.tables.specs.meaning.Geometry.{Valid, dataZone}
 use Rattle.logs.specs.meaning.Entry.{generalZone, parityZone, spareZone, Entry}

@@ -28,7 +28,7 @@ use Rattle.volume.specs.meaning.State.{StateView}
 use Rattle.volume.specs.meaning.Answers.{leftOut}
 use Rattle.promise.specs.meaning.Claim.{Volume, allBut, Call, mounts, flushes, resets, formats, Mode, ready, stopped, down, modeAfter, System, Event, calls, looks, reads, reports, cuts, next, NamesAll, Dutiful, start}
 use Rattle.promise.specs.meaning.OnDevice.{callOf, onDevice}
-use Rattle.promise.specs.meaning.ResetLasts.{afterAll}
+use Rattle.promise.specs.meaning.Histories.{afterAll}
 use Rattle.promise.specs.meaning.AnyDrive.{NoneStored, AllStoreNothing, AnyDriveMayGo}
 use Rattle.promise.specs.examples.Example.{every, noStop, blank, formattedState, bytes, writing}
 use Rattle.promise.specs.examples.Cases.{sameCondition}

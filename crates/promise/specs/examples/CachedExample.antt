@@ -2,7 +2,7 @@
 -- the claim says of it. Five sectors are written and flushed; the reset of their zone is stopped before its second flush; a cut brings the zone back on drives
 -- 0 and 2, and leaves it reset on 1 and 3; a look shows it empty; a mount by all drives finishes; two sectors are written and read.
 use Rattle.promise.specs.meaning.Claim.{Volume, allBut, mounts, flushes, resets, formats, ready, stopped, down, System, Event, calls, looks, reads, cuts, NamesAll, Dutiful, Throughout, start}
-use Rattle.promise.specs.meaning.ResetLasts.{afterAll}
+use Rattle.promise.specs.meaning.Histories.{afterAll}
 use Rattle.promise.specs.meaning.Caches.{WithCaches, onCachingDevice}
 use Rattle.volume.specs.meaning.Answers.{leftOut}
 use Rattle.volume.specs.declared.Answer.the-variants.{Finished}

@@ -2,7 +2,7 @@
 -- brought back. A sector is written and flushed; the reset of its zone is stopped before its second flush; a cut brings the sector back on drive 0; a look shows
 -- the zone empty; a mount by all drives finishes; two sectors are written and read.
 use Rattle.promise.specs.meaning.Claim.{Volume, mounts, flushes, resets, formats, ready, stopped, down, System, Event, calls, looks, reads, cuts, NamesAll, Dutiful, Throughout, start}
-use Rattle.promise.specs.meaning.ResetLasts.{afterAll}
+use Rattle.promise.specs.meaning.Histories.{afterAll}
 use Rattle.promise.specs.meaning.Caches.{WithCaches}
 use Rattle.promise.specs.meaning.CachesOnTables.{ZoneKept, ZoneBack, TablesCachingCut, onCachingTables}
 use Rattle.tables.specs.declared.Geometry.{Geometry}

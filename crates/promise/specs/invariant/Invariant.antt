@@ -14,8 +14,7 @@ use Rattle.tables.specs.meaning.Placement.{needed}
 use Rattle.tables.specs.declared.Geometry.{Geometry}
 use Rattle.tables.specs.meaning.Geometry.{stripeSectors, zoneSectors, parityDriveOf, firstDriveOf, physicalZones, dataZone}
 use Rattle.logs.specs.meaning.Entry.{generalZone, parityZone, wornGeneration, Header, label, counters, zoneReset, partialParity, seal, closing, Entry, encode}
-use Rattle.tables.specs.meaning.Drives.{noDrive}
-use Rattle.tables.specs.laws.Drives.{presentBut}
+use Rattle.tables.specs.meaning.Drives.{noDrive, presentBut}
 use Rattle.logs.specs.laws.Walk.{sectorsOfAll, Reads, Whole, WellFormedLog, logExtent, cutEntries}
 use Rattle.volume.specs.meaning.Content.{at, rowXorBelow, entryHeader, insideStripe, parityDriveAt}
 use Rattle.promise.specs.content.Columns.{column}

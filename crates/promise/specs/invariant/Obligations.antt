@@ -10,8 +10,7 @@ use lib.ListN.{length, take}
 use Rattle.tables.specs.meaning.Device.{Device, applyAll, Cut, Loss}
 use Rattle.tables.specs.declared.Geometry.{Geometry}
 use Rattle.tables.specs.meaning.Geometry.{zoneSectors}
-use Rattle.tables.specs.laws.Drives.{presentBut}
-use Rattle.tables.specs.meaning.Drives.{noDrive}
+use Rattle.tables.specs.meaning.Drives.{noDrive, presentBut}
 use Rattle.logs.specs.meaning.Entry.{generalZone, parityZone, wornGeneration}
 use Rattle.volume.specs.declared.Condition.{Condition}
 use Rattle.volume.specs.declared.Condition.the-variants.{Empty, Open, Sealed, Worn}

@@ -3,8 +3,8 @@
 use Rattle.logs.specs.code.Judge.{and-false}
 use Rattle.logs.specs.laws.HeadLaws.{reads-fits, general-no-rows}
 use Rattle.volume.specs.meaning.Rules.{lostDrive, generalHeads, generalEnding, parityEntries, parityEnding, isLost, isPresent}
-use Rattle.tables.specs.laws.Drives.{find-below-one, find-below-none, presentBut, present-other}
-use Rattle.tables.specs.meaning.Drives.{noDrive}
+use Rattle.tables.specs.laws.Drives.{find-below-one, find-below-none, present-other}
+use Rattle.tables.specs.meaning.Drives.{noDrive, presentBut}
 use Rattle.tables.specs.laws.Lists.{length-map}
 use mathlib.Core.Path.{_≡_, refl, sym, ap, _∙_, fun-ext}
 use mathlib.Core.Logic.{_≢_, _⊎_, inl, inr}

@@ -11,8 +11,7 @@ use Rattle.volume.specs.declared.Answer.{Answer}
 use Rattle.volume.specs.declared.Answer.the-variants.{Finished, Unfinished, Refused, BadLog}
 use Rattle.volume.specs.meaning.Rules.{Shown}
 use Rattle.promise.specs.meaning.Claim.{mounts, formats, Volume, System, Event, calls, looks, reads, peeks, reports, cuts, loses, next, allBut, Dutiful, SameZones, start}
-use Rattle.promise.specs.meaning.Emptied.{ShowsAlike}
-use Rattle.promise.specs.meaning.ResetLasts.{afterAll}
+use Rattle.promise.specs.meaning.Histories.{ShowsAlike, afterAll}
 
 -- a call with a count of stores, answered so, has stored nothing: it was refused, or stopped before its first store
 abbrev pub NoneStored : Answer → ℕ → Type 0

@@ -218,7 +218,7 @@ pub record Serves (g : Geometry) (vol : Volume) (s : System vol) (state : vol .S
   pub peeks-same : (named : vol .Names) → NamesAll g vol s named → (a : ℕ) → vol .peek named state a (s .memory) ≡ vol .peek named (s .state) a (s .memory)
   pub reports-same : (list : vol .Listing) → vol .report state list ≡ vol .report (s .state) list
 
--- an answer that is a refusal for a cause alone, if it is one (Cause: of a refusal's number); and none for a bad log
+-- an answer that is no refusal, or one for its cause (Cause: what a number is given for); and none for a bad log
 abbrev pub RefusedOnly : (ℕ → Type 0) → Answer → Type 0
 RefusedOnly Cause Finished = Unit {0}
 RefusedOnly Cause Unfinished = Unit {0}
@@ -256,7 +256,7 @@ pub record Promise (g : Geometry) (vol : Volume) (s : System vol) : Type 0 where
   pub pointer-is : s .mode ≡ ready → (z : ℕ) → z < g .zones → pointerHeld vol (s .state) z ≡ length (s .ledger .content z)
   -- and a look's state says of every zone what the host's says, and the drive that is lost
   pub look-holds : (named : vol .Names) → NamesAll g vol s named → s .mode ≡ ready
-      → let looked = vol .view (vol .look named (s .state) (s .memory) .state) in (looked .lost ≡ s .lost) × SameZones g looked (vol .view (s .state))
+      → let told = vol .view (vol .look named (s .state) (s .memory) .state) in (told .lost ≡ s .lost) × SameZones g told (vol .view (s .state))
   -- so it serves for whatever stores nothing
   pub look-serves : (named : vol .Names) → NamesAll g vol s named → s .mode ≡ ready → Serves g vol s (vol .look named (s .state) (s .memory) .state)
   -- and no flush is refused, and a reset or write only for its cause: never by 1, 3, 4, 7 or 15, and none of them for a bad log

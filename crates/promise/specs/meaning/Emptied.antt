@@ -9,8 +9,7 @@ use Prim.Native.Nat.{ℕ, _+_, _^_, _≤_, _<_}
 use mathlib.Core.List.{List, [], _∷_, map}
 use lib.ListN.{length, take}
 use Rattle.tables.specs.declared.Geometry.{Geometry}
-use Rattle.tables.specs.meaning.Drives.{noDrive}
-use Rattle.tables.specs.laws.Drives.{presentBut}
+use Rattle.tables.specs.meaning.Drives.{noDrive, presentBut}
 use Rattle.tables.specs.meaning.Lists.{concat}
 use Rattle.tables.specs.meaning.Phases.{onPresent}
 use Rattle.tables.specs.meaning.Below.{anyBelow}
@@ -27,6 +26,7 @@ use Rattle.volume.specs.meaning.Refusals.{TableLengths, firstRefusal, accept, z
 use Rattle.volume.specs.declared.Answer.the-variants.{Finished}
 use Rattle.volume.specs.meaning.Answers.{writeCall, resetCall, mountCall}
 use Rattle.promise.specs.meaning.Claim.{Volume, System, NamesAll, MayMount, Event, Dutiful, next, start, formats, allBut, ready}
+use Rattle.promise.specs.meaning.Histories.{AtEveryPoint, ShowsAlike}
 use Rattle.promise.specs.meaning.OnDevice.{shownBy, onDevice}
 use Rattle.promise.specs.meaning.Caches.{WithCaches, beneath, deviceCaches, onCachingDevice}
 
@@ -37,11 +37,6 @@ MayNameBut g x y = (y ≡ x) ⊎ ((x ≡ noDrive) × (y < g .drives))
 -- what a look shows that names every drive but y
 abbrev pub lookBut : Geometry → ℕ → Device → Shown
 lookBut g y v = shownBy g (allBut y) v v
-
--- the same pointers, and the same sectors below them
-pub record ShowsAlike (g : Geometry) (k j : Shown) : Type 0 where
-  pub pointers : (z : ℕ) → z < g .zones → j .zone z .pointer ≡ k .zone z .pointer
-  pub sectors : (z : ℕ) → z < g .zones → (a : ℕ) → a < k .zone z .pointer → j .zone z .value a ≡ k .zone z .value a
 
 abbrev pub LooksAlike : Geometry → ℕ → Device → Device → Type 0
 LooksAlike g x v w = (y : ℕ) → MayNameBut g x y → ShowsAlike g (lookBut g y v) (lookBut g y w)
@@ -119,11 +114,6 @@ pub record EmptyingsKeepLooks (g : Geometry) (t : TableLengths) (s : System (onD
   pub of-mount-parity : (named : ℕ → Bool) → NamesAll g (onDevice g t) s named → MayMount (s .mode)
       → firstRefusal (mountCall g t named (s .memory) .refusals) ≡ accept
       → KeepsLooksUpTo g (s .lost) (entryMade g (s .lost) (s .memory)) (lookPointer g (s .lost) (s .memory)) (afterFill g (presentBut g (s .lost)) (s .lost) (s .memory)) (parityEmptyingsOfMount g (s .lost) (s .memory))
-
--- ---- at every point of it
-abbrev pub AtEveryPoint : (g : Geometry) (vol : Volume) → (System vol → Type 0) → System vol → List (Event vol) → Type 0
-AtEveryPoint g vol P s [] = P s
-AtEveryPoint g vol P s (e ∷ es) = P s × AtEveryPoint g vol P (next g vol s e) es
 
 -- THE CLAIM, of the histories of which the promise is claimed
 abbrev pub EmptyingClaim : Type 0

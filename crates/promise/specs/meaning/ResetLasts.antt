@@ -12,6 +12,7 @@ use Rattle.volume.specs.meaning.Refusals.{zoneOf}
 use Rattle.volume.specs.meaning.Answers.{sectorsIn}
 use Rattle.promise.specs.meaning.Ledger.{Reply, isRefused, isUnfinished, isFinished}
 use Rattle.promise.specs.meaning.Claim.{Call, mounts, writes, flushes, resets, formats, Volume, System, Event, calls, looks, reads, peeks, reports, cuts, loses, ready, replyTo, next, answered, readOut, peekedAt, heard, NamesAll, MayMount, Dutiful, start}
+use Rattle.promise.specs.meaning.Histories.{afterAll}
 
 -- sectors handed to a call, unless it is refused
 abbrev pub unlessRefused : Reply → List (List ℕ) → List (List ℕ)
@@ -43,10 +44,6 @@ module _ (g : Geometry) (vol : Volume) where
   writtenTo z s [] = []
   writtenTo z s (e ∷ es) = writtenIn z s e ++ writtenTo z (next g vol s e) es
 
-  abbrev pub afterAll : System vol → List (Event vol) → System vol
-  afterAll s [] = s
-  afterAll s (e ∷ es) = afterAll (next g vol s e) es
-
   -- every sector of zone z that is shown or read is one of these
   pub record OnlyOf (z : ℕ) (new : List (List ℕ)) (s : System vol) : Type 0 where
     pub look : (named : vol .Names) → NamesAll g vol s named → let k = vol .shows named (s .memory) (s .memory) in (a : ℕ) → a < k .zone z .pointer → List·Memᴰ (k .zone z .value a) new
@@ -61,5 +58,5 @@ module _ (g : Geometry) (vol : Volume) where
   ResetsLast = (named : vol .Names) (array : ℕ) (old : vol .State) (stop : ℕ) (m : vol .Memory) → array < 256 ^ 8
       → let r = vol .call (formats array) named old stop m in let s0 = start g vol named r in
       r .answer ≡ Finished → (before after : List (Event vol)) (z : ℕ) (by : vol .Names) (count : ℕ) → z < g .zones → Dutiful g vol s0 (before ++ (calls (resets z) by count ∷ after))
-      → let s = afterAll s0 before in let t = next g vol s (calls (resets z) by count) in
-      heard s (calls (resets z) by count) ≡ answered Finished → OnlyOf z (writtenTo z t after) (afterAll t after)
+      → let s = afterAll g vol s0 before in let t = next g vol s (calls (resets z) by count) in
+      heard s (calls (resets z) by count) ≡ answered Finished → OnlyOf z (writtenTo z t after) (afterAll g vol t after)

@@ -1,5 +1,5 @@
 -- WHAT IS PROMISED OF GEOMETRIES WHOSE LOGS LEAVE ROOM, beyond the claim (Claim.antt): no drive fills up any more. Where the zones are so long that a log made anew always
--- has the room that a call asks for (volume's laws/RoomAfter says how long), no mount is refused, and no reset and no write by 14, log full, at any point of any
+-- has the room that a call asks for (RoomyGeneral and RoomyParity, volume's Emptying, say how long), no mount is refused, and no reset and no write by 14, log full, at any point of any
 -- history, as long as no log of a drive that is not lost has the last generation.
 use mathlib.Core.Path.{_≡_}
 use mathlib.Core.Logic.{_≢_}
@@ -7,18 +7,18 @@ use mathlib.Core.Bool.{Bool, true}
 use Prim.Native.Nat.{ℕ, _^_, _≤_, _<_}
 use mathlib.Core.List.{List}
 use Rattle.tables.specs.declared.Geometry.{Geometry}
-use Rattle.tables.specs.laws.Drives.{presentBut}
+use Rattle.tables.specs.meaning.Drives.{presentBut}
 use Rattle.tables.specs.meaning.Device.{Device}
 use Rattle.tables.specs.meaning.Tables.{deviceOf}
 use Rattle.logs.specs.meaning.Entry.{wornGeneration}
 use Rattle.volume.specs.declared.Answer.the-variants.{Finished, Refused}
 use Rattle.volume.specs.meaning.Roles.{roles, claimOfKind}
 use Rattle.volume.specs.meaning.Refusals.{TableLengths}
-use Rattle.volume.specs.laws.RoomAfter.{RoomyGeneral, RoomyParity}
+use Rattle.volume.specs.meaning.Emptying.{RoomyGeneral, RoomyParity}
 use Rattle.promise.specs.meaning.Claim.{WriteAsked, Volume, mounts, writes, resets, formats, System, NamesAll, Event, calls, answered, heard, Dutiful, start, ready}
 use Rattle.promise.specs.meaning.Caches.{onCachingDevice}
 use Rattle.promise.specs.meaning.CachesOnTables.{onCachingTables}
-use Rattle.promise.specs.meaning.Emptied.{AtEveryPoint}
+use Rattle.promise.specs.meaning.Histories.{AtEveryPoint}
 
 -- no log of a drive but x has the last generation (a log's claim is its generation plus 1)
 abbrev pub BeforeLast : Geometry → ℕ → Device → Type 0

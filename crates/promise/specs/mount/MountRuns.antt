@@ -22,7 +22,8 @@ use Rattle.tables.specs.laws.Local.{LocalStore, appendHere, flushHere, applyHer
 use Rattle.tables.specs.meaning.Phases.{flushAll, onPresent}
 use Rattle.tables.specs.laws.Phases.{flush-all-local, on-present-local}
 use Rattle.tables.specs.declared.Geometry.{Geometry}
-use Rattle.tables.specs.laws.Drives.{presentBut, present-below}
+use Rattle.tables.specs.meaning.Drives.{presentBut}
+use Rattle.tables.specs.laws.Drives.{present-below}
 use Rattle.promise.specs.meaning.Ledger.{Ledger}
 use Rattle.volume.specs.meaning.Mount.{withFlush}
 use Rattle.promise.specs.invariant.Obligations.{Invs}

@@ -9,8 +9,7 @@ use lib.ListN.{take, length}
 use Rattle.tables.specs.laws.Lists.{take-map}
 use Rattle.tables.specs.meaning.Device.{Device, Store, applyAll, Loss}
 use Rattle.tables.specs.meaning.Through.{carry}
-use Rattle.tables.specs.meaning.Drives.{noDrive}
-use Rattle.tables.specs.laws.Drives.{presentBut}
+use Rattle.tables.specs.meaning.Drives.{noDrive, presentBut}
 use Rattle.tables.specs.declared.Geometry.{Geometry}
 use Rattle.tables.specs.meaning.Geometry.{Valid}
 use Rattle.logs.specs.meaning.Entry.{spareZone}

@@ -22,8 +22,7 @@ use Rattle.volume.specs.meaning.Roles.{byRoles}
 use Rattle.volume.specs.meaning.Answers.{CallResult}
 use Rattle.promise.specs.meaning.Ledger.{Ledger, FitsZone, Fits, noted, afterMount}
 use Rattle.promise.specs.meaning.Claim.{Call, mounts, Volume, ready, System, Event, calls, looks, reads, peeks, reports, cuts, loses, replyTo, modeAfter, noteOf, next, NamesAll, Duty, Dutiful, SameZones, Promise}
-use Rattle.promise.specs.meaning.Emptied.{ShowsAlike}
-use Rattle.promise.specs.meaning.ResetLasts.{afterAll}
+use Rattle.promise.specs.meaning.Histories.{ShowsAlike, afterAll}
 use Rattle.promise.specs.meaning.AnyDrive.{NoneStored, StoresNothing, AllStoreNothing, LooksAs, NamesBut, AnyDriveMayGo, AnyDriveFrom}
 use Rattle.promise.specs.invariant.Invariant.{Here}
 use Rattle.promise.specs.invariant.CrashKeeps.{present-before}

@@ -15,7 +15,7 @@ use Rattle.tables.specs.laws.Local.{LocalStore, localStores}
 use Rattle.tables.specs.laws.StoresFit.{AllOn}
 use Rattle.tables.specs.meaning.Cached.{Caching, uncached, applyAllCaching, CachingCut}
 use Rattle.tables.specs.laws.Cached.{was-is, rememberHere, uncached-cut, cutFrom, cut-from-back, cut-from-cut}
-use Rattle.tables.specs.laws.Drives.{presentBut}
+use Rattle.tables.specs.meaning.Drives.{presentBut}
 use Rattle.tables.specs.declared.Geometry.{Geometry}
 use Rattle.volume.specs.meaning.Calls.{flushStores}
 use Rattle.volume.specs.meaning.Roles.{Roles}

@@ -7,7 +7,7 @@ use Prim.Native.Nat.{ℕ, _≤_, _<_}
 use mathlib.Core.List.{List, [], map}
 use lib.ListN.{length, take}
 use Rattle.tables.specs.meaning.Device.{Device, Store, ZoneView, applyAll, Cut}
-use Rattle.tables.specs.laws.Drives.{presentBut}
+use Rattle.tables.specs.meaning.Drives.{presentBut}
 use Rattle.tables.specs.declared.Geometry.{Geometry}
 use Rattle.tables.specs.meaning.Geometry.{Valid}
 use Rattle.logs.specs.meaning.Entry.{Header, Entry, generalZone, parityZone}

@@ -16,7 +16,7 @@ use Rattle.tables.specs.meaning.Through.{through}
 use Rattle.tables.specs.declared.Geometry.{Geometry}
 use Rattle.tables.specs.meaning.Geometry.{Valid}
 use Rattle.tables.specs.laws.GeometryTest.{valid-if-test}
-use Rattle.tables.specs.laws.Drives.{presentBut}
+use Rattle.tables.specs.meaning.Drives.{presentBut}
 use Rattle.volume.specs.meaning.State.{StateView, pointerIn}
 use Rattle.volume.specs.meaning.Content.{insideStripe, parityDriveAt}
 use Rattle.volume.specs.meaning.Rules.{generalHeads, parityEntries, showing, zoneShown, zoneAt}
@@ -31,7 +31,8 @@ use Rattle.promise.specs.meaning.Ledger.{Ledger, afterFlush}
 use Rattle.promise.specs.meaning.Claim.{System}
 use Rattle.promise.specs.meaning.OnDevice.{onDevice}
 use Rattle.promise.specs.meaning.Caches.{beneath, deviceCaches}
-use Rattle.promise.specs.meaning.Emptied.{MayNameBut, lookBut, ShowsAlike, AlikeUpTo, LooksAlike, LooksAlikeUpTo, flushOf, KeepsLooks, KeepsLooksUpTo, emptyingsOfWrite, emptyingsOfReset, afterSpareResets, emptyingsOfMount, filledView, entryMade, lookPointer, parityEmptyingsOfMount, EmptyingsKeepLooks, EmptyingClaim}
+use Rattle.promise.specs.meaning.Histories.{ShowsAlike}
+use Rattle.promise.specs.meaning.Emptied.{MayNameBut, lookBut, AlikeUpTo, LooksAlike, LooksAlikeUpTo, flushOf, KeepsLooks, KeepsLooksUpTo, emptyingsOfWrite, emptyingsOfReset, afterSpareResets, emptyingsOfMount, filledView, entryMade, lookPointer, parityEmptyingsOfMount, EmptyingsKeepLooks, EmptyingClaim}
 use Rattle.promise.specs.invariant.Invariant.{Here, LogGenerations, rest-inv}
 use Rattle.promise.specs.invariant.RoomAsked.{WriteAccepted, ResetAccepted, MountAccepted}
 use Rattle.promise.specs.roles.RoledCalls.{RoledInvs, RoledRests}

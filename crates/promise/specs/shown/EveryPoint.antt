@@ -19,7 +19,7 @@ use Rattle.volume.specs.laws.Refusals.{accepted-row}
 use Rattle.promise.specs.meaning.Claim.{System, Event, calls, looks, reads, peeks, reports, cuts, loses, Duty, Dutiful, next, start, formats}
 use Rattle.promise.specs.meaning.OnDevice.{onDevice}
 use Rattle.promise.specs.meaning.Caches.{WithCaches, beneath, deviceCaches, onCachingDevice}
-use Rattle.promise.specs.meaning.Emptied.{AtEveryPoint}
+use Rattle.promise.specs.meaning.Histories.{AtEveryPoint}
 use Rattle.promise.specs.emptying.BlankSpares.{BlankSpares}
 use Rattle.promise.specs.device.AcceptedCalls.{storing-finished}
 use Rattle.promise.specs.device.AtRestAnswers.{left-out, drives-named}

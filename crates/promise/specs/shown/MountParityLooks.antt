@@ -12,7 +12,7 @@ use Rattle.tables.specs.laws.Below.{none-any-below, any-below-false}
 use Rattle.tables.specs.meaning.Device.{Device, Store, applyAll, Cut}
 use Rattle.tables.specs.meaning.Phases.{onPresent}
 use Rattle.tables.specs.meaning.Through.{through}
-use Rattle.tables.specs.laws.Drives.{presentBut}
+use Rattle.tables.specs.meaning.Drives.{presentBut}
 use Rattle.tables.specs.declared.Geometry.{Geometry}
 use Rattle.tables.specs.meaning.Geometry.{Valid}
 use Rattle.volume.specs.meaning.Rules.{Shown}

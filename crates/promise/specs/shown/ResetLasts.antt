@@ -23,7 +23,8 @@ use Rattle.volume.specs.meaning.Answers.{sectorsIn}
 use Rattle.promise.specs.meaning.Ledger.{Ledger, Reply, isRefused, isUnfinished, isFinished, noted, FitsZone, afterMount}
 use Rattle.promise.specs.meaning.Claim.{Call, mounts, writes, flushes, resets, formats, Volume, System, Event, calls, looks, reads, peeks, reports, cuts, loses, replyTo, noteOf, next, answered, Duty, Dutiful, Promise, Throughout, start, KeepsPromise}
 use Rattle.promise.specs.device.Heard.{answer-heard}
-use Rattle.promise.specs.meaning.ResetLasts.{unlessRefused, handedTo, writtenIn, writtenTo, afterAll, OnlyOf, ResetsLast}
+use Rattle.promise.specs.meaning.Histories.{afterAll}
+use Rattle.promise.specs.meaning.ResetLasts.{unlessRefused, handedTo, writtenIn, writtenTo, OnlyOf, ResetsLast}
 
 -- ---- lists
 at-member : (l : List (List ℕ)) (a : ℕ) → a < length l → List·Memᴰ (at l a) l

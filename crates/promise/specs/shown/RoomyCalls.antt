@@ -1,4 +1,4 @@
--- NO DRIVE FILLS UP in a geometry whose logs always have room after copying (volume's RoomAfter), as long as no log of a present drive has the last generation: no mount
+-- NO DRIVE FILLS UP in a geometry whose logs always have room after copying (volume's Emptying and RoomAfter), as long as no log of a present drive has the last generation: no mount
 -- is refused, and no reset and no write by 14, at any point of any history (meaning/Roomy.antt). A reset and a write find the spares blank (BlankAtRest).
 use mathlib.Core.Path.{_≡_, refl, sym, ap, _∙_}
 use mathlib.Core.Logic.{_≢_, _⊎_}
@@ -15,11 +15,10 @@ use Rattle.tables.specs.meaning.Geometry.{Valid}
 use Rattle.tables.specs.meaning.GeometryTest.{isValid}
 use Rattle.tables.specs.laws.GeometryTest.{valid-if-test}
 use Rattle.tables.specs.laws.Below.{none-any-below, any-below-false}
-use Rattle.tables.specs.laws.Drives.{presentBut}
 use Rattle.tables.specs.meaning.Device.{Device, Store, applyAll}
 use Rattle.logs.specs.meaning.Entry.{spareZone, wornGeneration}
 use Rattle.logs.specs.laws.Entry.{worn-is}
-use Rattle.tables.specs.meaning.Drives.{noDrive}
+use Rattle.tables.specs.meaning.Drives.{noDrive, presentBut}
 use Rattle.volume.specs.meaning.Calls.{formatStores}
 use Rattle.volume.specs.laws.Firm.{firm-roles}
 use Rattle.promise.specs.roles.FormatRoles.{format-standing}
@@ -28,12 +27,12 @@ use Rattle.volume.specs.meaning.State.{StateView, pointerIn}
 use Rattle.volume.specs.meaning.Content.{insideStripe, parityDriveAt}
 use Rattle.volume.specs.meaning.Rules.{isPresent, lostDrive, showing}
 use Rattle.volume.specs.meaning.Roles.{Roles, roles, byRoles, claimOfKind, lacksKind}
-use Rattle.volume.specs.meaning.Emptying.{InForce, byLook, byState, spareWritten, reserve, mountGeneralLimit, resetLimit, emptiedFor, emptiedForWrite}
+use Rattle.volume.specs.meaning.Emptying.{InForce, byLook, byState, spareWritten, reserve, mountGeneralLimit, resetLimit, emptiedFor, emptiedForWrite, RoomyGeneral, RoomyParity}
 use Rattle.volume.specs.meaning.Refusals.{Verdict, accept, TableLengths, firstRefusal, tablesFit, badPointers, kindLacks, badLabels, badLogs, twoLost, zoneOf, mountFull, resetFull, writeFull, mountRows, resetRows, writeRows}
 use Rattle.volume.specs.meaning.Answers.{CallResult, storing, mountCall, resetCall}
 use Rattle.volume.specs.laws.Refusals.{passed, conditionOfRow, refusalOrder}
 use Rattle.volume.specs.laws.LeastRefusal.{first-least}
-use Rattle.volume.specs.laws.RoomAfter.{RoomyGeneral, RoomyParity, cannotEmpty, mount-full-is, reset-full-is, write-full-is}
+use Rattle.volume.specs.laws.RoomAfter.{cannotEmpty, mount-full-is, reset-full-is, write-full-is}
 use Rattle.promise.specs.meaning.Claim.{WriteAsked, Volume, System, NamesAll, mounts, writes, resets, ready, allBut}
 use Rattle.promise.specs.meaning.OnDevice.{callOf, onDevice}
 use Rattle.promise.specs.meaning.Caches.{Caches, withCaches, beneath, deviceCaches, onCachingDevice}

@@ -15,12 +15,12 @@ use Rattle.tables.specs.meaning.GeometryTest.{isValid}
 use Rattle.tables.specs.laws.GeometryTest.{valid-if-test}
 use Rattle.volume.specs.declared.Answer.the-variants.{Refused}
 use Rattle.volume.specs.meaning.CallContracts.{isSet, lengthsOf}
-use Rattle.volume.specs.laws.RoomAfter.{RoomyGeneral, RoomyParity}
+use Rattle.volume.specs.meaning.Emptying.{RoomyGeneral, RoomyParity}
 use Rattle.promise.specs.meaning.Claim.{Call, mounts, writes, resets, formats, ready, System, Event, calls, looks, reads, peeks, reports, cuts, loses, next, Duty, Dutiful, start}
 use Rattle.promise.specs.meaning.OnTables.{onTables}
 use Rattle.promise.specs.meaning.Caches.{beneath}
 use Rattle.promise.specs.meaning.CachesOnTables.{tablesCaches, onCachingTables}
-use Rattle.promise.specs.meaning.Emptied.{AtEveryPoint}
+use Rattle.promise.specs.meaning.Histories.{AtEveryPoint}
 use Rattle.promise.specs.meaning.Roomy.{BeforeLast, NeverFull, RoomyTablesClaim}
 use Rattle.promise.specs.emptying.BlankSpares.{BlankSpares}
 use Rattle.promise.specs.device.BlankAtRest.{event-blank}

@@ -14,7 +14,8 @@ use borrow.Author.Tests.{ne-eqb, eq-eqb, eqb-true, ltb-false, ltb-true}
 use Rattle.tables.specs.declared.Geometry.{Geometry}
 use Rattle.tables.specs.meaning.Basics.{pick}
 use Rattle.tables.specs.laws.Basics.{and-split, not-not}
-use Rattle.tables.specs.laws.Drives.{presentBut, present-not, present-other}
+use Rattle.tables.specs.meaning.Drives.{presentBut}
+use Rattle.tables.specs.laws.Drives.{present-not, present-other}
 use Rattle.tables.specs.meaning.Below.{tabulateFrom}
 use Rattle.tables.specs.laws.Below.{getD-tabulate}
 use Rattle.tables.specs.meaning.Lists.{concat}

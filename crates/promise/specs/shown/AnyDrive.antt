@@ -11,8 +11,7 @@ use mathlib.Core.List.{List, [], _∷_, _++_, append-nil}
 use Rattle.tables.specs.laws.Below.{length-tabulate-from, getD-tabulate-from}
 use Rattle.tables.specs.declared.Geometry.{Geometry}
 use Rattle.tables.specs.meaning.Geometry.{Valid}
-use Rattle.tables.specs.meaning.Drives.{noDrive}
-use Rattle.tables.specs.laws.Drives.{presentBut}
+use Rattle.tables.specs.meaning.Drives.{noDrive, presentBut}
 use Rattle.tables.specs.meaning.Device.{Device}
 use Rattle.tables.specs.meaning.Cached.{Caching, CachingCut}
 use Rattle.volume.specs.declared.Answer.{Answer}

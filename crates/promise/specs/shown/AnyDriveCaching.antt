@@ -16,7 +16,8 @@ use Rattle.tables.specs.declared.Geometry.{Geometry}
 use Rattle.tables.specs.meaning.Geometry.{Valid}
 use Rattle.tables.specs.meaning.GeometryTest.{isValid}
 use Rattle.tables.specs.laws.GeometryTest.{valid-if-test}
-use Rattle.tables.specs.laws.Drives.{presentBut, present-not}
+use Rattle.tables.specs.meaning.Drives.{presentBut}
+use Rattle.tables.specs.laws.Drives.{present-not}
 use Rattle.tables.specs.laws.PointerOrder.{loss-none}
 use Rattle.tables.specs.meaning.Tables.{deviceOf}
 use Rattle.volume.specs.declared.Answer.the-variants.{Finished, Unfinished}

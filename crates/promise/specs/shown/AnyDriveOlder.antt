@@ -8,7 +8,7 @@ use Rattle.tables.specs.meaning.Drives.{noDrive}
 use Rattle.volume.specs.declared.Answer.the-variants.{Finished}
 use Rattle.promise.specs.meaning.Claim.{mounts, formats, Volume, System, Event, calls, looks, reads, peeks, reports, cuts, loses, next, Dutiful, start}
 use Rattle.promise.specs.meaning.Caches.{Remembered, Caches, withCaches}
-use Rattle.promise.specs.meaning.ResetLasts.{afterAll}
+use Rattle.promise.specs.meaning.Histories.{afterAll}
 use Rattle.promise.specs.meaning.AnyDrive.{StoresNothing, AllStoreNothing, LooksAs, AnyDriveMayGo, AnyDriveClaim}
 use Rattle.promise.specs.device.OlderDrives.{OlderCuts, beside, without, there, left, next-there, allThere, dutiful-there}
 

@@ -86,7 +86,7 @@ pub fn read_zone(
     }
     let r = shown.zones[z];
     let condition = r.condition;
-    let n = volume::checks::pointer_of(condition);
+    let n = volume::records::pointer_of(condition);
     if n == 0 {
         return Glimpse { code: 0, sum: 1 };
     }

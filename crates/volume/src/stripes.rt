@@ -3,6 +3,7 @@
 // them would not be made, the stripe is written sector by sector.
 use super::rows::Extent;
 use tables::Geometry;
+use tables::MAX_DRIVES;
 use tables::units;
 use tables::units::Parts;
 ghost use mathlib.Core.Path.{_≡_};
@@ -139,7 +140,7 @@ fn pass_units(written: &mut [u32], s: Stripe)
 }
 
 // Whether every drive is present and has room for a unit in a zone.
-fn room_for_units(written: &[u32], g: Geometry, here: [bool; 8], zone: usize) -> bool
+fn room_for_units(written: &[u32], g: Geometry, here: [bool; MAX_DRIVES], zone: usize) -> bool
     requires { ⌜ Valid g ⌝ }
     requires { ⌜ (zone < physicalZones g) × (length (now written) ≡ cells g) ⌝ }
     ensures { λ r. ⌜ r ≡ allBelow (roomFor g here (now (written .entry)) zone) (g .drives) ⌝ }

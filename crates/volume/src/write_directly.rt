@@ -5,6 +5,7 @@ use super::Condition;
 use super::Zone;
 use super::writing::Run;
 use tables::Geometry;
+use tables::MAX_CELLS;
 ghost use mathlib.Core.Path.{_≡_};
 ghost use Prim.Native.Nat.{_+_, _≤_, _<_};
 ghost use lib.ListN.{length};
@@ -115,7 +116,7 @@ fn write_directly(
     ensures { λ r. ⌜ MadeAppends to budget r (runStoresOf run (now (sectors .entry)) (now (written .entry)) (now (buffer .entry))) (now (sectors .entry)) (now (written .entry)) (now (sectors .exit)) (now (written .exit)) ⌝ }
 {
     let cells = written.len();
-    let mut pointers = [0u32; 152];
+    let mut pointers = [0u32; MAX_CELLS];
     tables::sectors::copy_pointers(&mut pointers[..cells], 0, written);
     super::write_stores::write_all(
         sectors,

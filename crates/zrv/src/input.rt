@@ -1,15 +1,14 @@
 // What the C edge makes of a call's numbers and bytes before the call, and of its outcome after it.
 use tables::Geometry;
 use volume::Answer;
-use volume::Condition;
 use volume::Outcome;
 use volume::State;
-use volume::ZoneRecord;
 ghost use mathlib.Core.Path.{_≡_};
 ghost use Prim.Native.Nat.{_+_, _*_, _<_};
 ghost use lib.ListN.{length};
 ghost use Rattle.tables.specs.meaning.Geometry.{Valid};
 ghost use Rattle.volume.specs.meaning.CallContracts.{answerNumber};
+ghost use Rattle.zrv.specs.meaning.Bytes.{stateBytes};
 ghost use Rattle.zrv.specs.meaning.EdgeCalls.{shapeOf, namedOf, sizesFit, stateBad, inputNumber, sizesNumber, unreadState, stateAfter, withNumber, placeNumber};
 
 // What a number in the high 32 bits is multiplied by.
@@ -58,7 +57,7 @@ fn sizes_fit(g: Geometry, state: usize, written: usize, durable: usize) -> bool
 {
     let n = tables::bounds::table_cells(g);
     let m = n * 4;
-    (state == 264) & ((written == m) & (durable == m))
+    (state == super::state::STATE_BYTES) & ((written == m) & (durable == m))
 }
 
 // Refusal 1, of the state's bytes.
@@ -66,7 +65,7 @@ pub fn state_bad(g: Geometry, bytes: &[u8]) -> bool
     requires { ⌜ Valid g ⌝ }
     ensures { λ r. ⌜ r ≡ stateBad g (now (bytes .entry)) ⌝ }
 {
-    if bytes.len() != 264 {
+    if bytes.len() != super::state::STATE_BYTES {
         return false;
     }
     let fits = super::state::state_fits(g, bytes);
@@ -105,11 +104,8 @@ pub fn sizes_refusal(g: Geometry, state: usize, written: usize, durable: usize) 
 pub fn unread_state() -> State
     ensures { λ r. ⌜ r ≡ unreadState ⌝ }
 {
-    let blank = ZoneRecord {
-        generation: 0,
-        condition: Condition::Empty,
-    };
-    let zones = [blank; 16];
+    let blank = volume::records::blank_record();
+    let zones = [blank; tables::MAX_ZONES];
     State { lost: 0, zones }
 }
 
@@ -123,7 +119,7 @@ pub fn number_of(a: Answer) -> u64
 // Hands an outcome back: its number, and the state's bytes where the call is finished.
 pub fn hand_back(g: Geometry, outcome: Outcome, bytes: &mut [u8]) -> u64
     requires { ⌜ Valid g ⌝ }
-    requires { ⌜ length (now bytes) ≡ 264 ⌝ }
+    requires { ⌜ length (now bytes) ≡ stateBytes ⌝ }
     ensures { λ r. ⌜ (r ≡ answerNumber (outcome .answer)) × (now (bytes .exit) ≡ stateAfter g outcome (now (bytes .entry))) ⌝ }
 {
     let answer = outcome.answer;
@@ -158,7 +154,7 @@ fn place_number(a: Answer) -> u64
 // Hands the outcome of a look or a mount back: its number, with the place that it tells, and the state's bytes where the call is finished.
 pub fn hand_back_placed(g: Geometry, outcome: Outcome, bytes: &mut [u8]) -> u64
     requires { ⌜ Valid g ⌝ }
-    requires { ⌜ length (now bytes) ≡ 264 ⌝ }
+    requires { ⌜ length (now bytes) ≡ stateBytes ⌝ }
     ensures { λ r. ⌜ (r ≡ withNumber (answerNumber (outcome .answer)) (placeNumber (outcome .answer))) × (now (bytes .exit) ≡ stateAfter g outcome (now (bytes .entry))) ⌝ }
 {
     let answer = outcome.answer;

@@ -27,7 +27,11 @@ fn report_refusal(g: Geometry, state: &[u8]) -> u64
     if bad {
         return 1;
     }
-    if state.len() == 264 { 0 } else { 2 }
+    if state.len() == super::state::STATE_BYTES {
+        0
+    } else {
+        2
+    }
 }
 
 // Writes a descriptor as the 32 bytes from `at`.

@@ -284,5 +284,3 @@ labelled-of-append (seal z p n ∷ hs) ks e = absurd (true≢false (sym e))
 labelled-of-append (closing kind gen ∷ hs) ks e = absurd (true≢false (sym e))
 
 -- ---- the least seal: no seal of that zone and generation is below it
-eqb-same : (n : ℕ) → eqb n n ≡ true
-eqb-same n = eq-eqb n n refl

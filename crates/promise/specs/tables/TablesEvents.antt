@@ -10,7 +10,7 @@ use lib.ListN.{length, take}
 use lib.Dec.{ltb}
 use borrow.Author.Tests.{eq-eqb}
 use Rattle.tables.specs.declared.Geometry.{Geometry}
-use Rattle.tables.specs.meaning.Geometry.{Valid}
+use Rattle.tables.specs.meaning.Geometry.{Valid, maxZones}
 use Rattle.tables.specs.meaning.Drives.{noDrive}
 use Rattle.tables.specs.meaning.Device.{Device, Store}
 use Rattle.tables.specs.meaning.Tables.{Tables, deviceOf, TablesCut, TablesLoss, pointersBad}
@@ -140,7 +140,7 @@ module _ (g : Geometry) (ok : Valid g) (s : System (onTables g)) (o : TablesOk g
       record {
         verdict = firstRefusal (k .refusals);
         stores = k .stores;
-        new = stateHeld 16 (k .state);
+        new = stateHeld maxZones (k .state);
         result-is = rw same refl;
         made-is = rw same refl;
         verdict-is = refl;
@@ -158,7 +158,7 @@ module _ (g : Geometry) (ok : Valid g) (s : System (onTables g)) (o : TablesOk g
       record {
         verdict = firstRefusal (k .refusals);
         stores = k .stores;
-        new = stateHeld 16 (k .state);
+        new = stateHeld maxZones (k .state);
         result-is = rw (flush-verdict g named t fine (s .state)) refl;
         made-is = rw (flush-verdict g named t fine (s .state)) refl;
         verdict-is = refl;
@@ -176,7 +176,7 @@ module _ (g : Geometry) (ok : Valid g) (s : System (onTables g)) (o : TablesOk g
       record {
         verdict = firstRefusal (k .refusals);
         stores = k .stores;
-        new = stateHeld 16 (k .state);
+        new = stateHeld maxZones (k .state);
         result-is = rw (reset-verdict g named t fine (s .state) z) refl;
         made-is = rw (reset-verdict g named t fine (s .state) z) refl;
         verdict-is = refl;

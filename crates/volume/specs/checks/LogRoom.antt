@@ -15,7 +15,7 @@ use Rattle.tables.specs.declared.Geometry.{Geometry}
 use Rattle.tables.specs.meaning.Basics.{pick}
 use Rattle.tables.specs.meaning.Below.{anyBelow, tabulate}
 use Rattle.tables.specs.laws.Below.{any-below-cong, any-below-false}
-use Rattle.tables.specs.meaning.Geometry.{Valid, physicalZones, cells}
+use Rattle.tables.specs.meaning.Geometry.{Valid, physicalZones, cells, maxDrives}
 use Rattle.tables.specs.meaning.Device.{Device}
 use Rattle.tables.specs.meaning.Tables.{Tables, tablesOf, deviceOf}
 use Rattle.tables.specs.laws.Tables.{device-length}
@@ -49,7 +49,7 @@ driveRoomOf lacks full claim = record { lacks = lacks; full = lacks && full; gen
 
 -- that of the drives below n
 abbrev pub roomOf : (ℕ → DriveRoom) → ℕ → LogRoom
-roomOf f n = record { full = anyBelow (λ d. f d .full) n; emptied = tabulate (λ d. f d .lacks) n ++ replicate (8 - n) false; generations = tabulate (λ d. f d .generation) n ++ replicate (8 - n) 0 }
+roomOf f n = record { full = anyBelow (λ d. f d .full) n; emptied = tabulate (λ d. f d .lacks) n ++ replicate (maxDrives - n) false; generations = tabulate (λ d. f d .generation) n ++ replicate (maxDrives - n) 0 }
 
 -- ---- on the tables
 -- what is in force, by the state that a call on a zone is handed
@@ -164,8 +164,8 @@ withAnswer x d a = record { full = x .full || a .full; emptied = set (x .emptied
 pub answered : (f : ℕ → DriveRoom) (d : ℕ) (x : LogRoom) (a : DriveRoom) → d < 8 → a ≡ f d → x ≡ roomOf f d → withAnswer x d a ≡ roomOf f (d + 1)
 answered f d x a h e q = rw (e, q, add-one) (more (fill-more (λ e. f e .lacks) false 8 d h) (fill-more (λ e. f e .generation) 0 8 d h))
   where
-    more : set (tabulate (λ e. f e .lacks) d ++ replicate (8 - d) false) d (f d .lacks) ≡ tabulate (λ e. f e .lacks) (suc d) ++ replicate (8 - suc d) false
-        → set (tabulate (λ e. f e .generation) d ++ replicate (8 - d) 0) d (f d .generation) ≡ tabulate (λ e. f e .generation) (suc d) ++ replicate (8 - suc d) 0
+    more : set (tabulate (λ e. f e .lacks) d ++ replicate (maxDrives - d) false) d (f d .lacks) ≡ tabulate (λ e. f e .lacks) (suc d) ++ replicate (maxDrives - suc d) false
+        → set (tabulate (λ e. f e .generation) d ++ replicate (maxDrives - d) 0) d (f d .generation) ≡ tabulate (λ e. f e .generation) (suc d) ++ replicate (maxDrives - suc d) 0
         → withAnswer (roomOf f d) d (f d) ≡ roomOf f (suc d)
     more p r = λ i. record { full = anyBelow (λ e. f e .full) d || f d .full; emptied = p i; generations = r i }
 
@@ -290,7 +290,7 @@ module _ (f : ℕ → DriveRoom) (n : ℕ) (emptied stays : ℕ → Bool) (claim
   rooms-full = any-below-cong (λ d. f d .full) (λ d. emptied d && stays d) n (λ d hd. ap (λ (x : DriveRoom). x .full) (are d hd))
 
   pub rooms-emptied : (d : ℕ) → d < n → isSet (roomOf f n .emptied) d ≡ emptied d
-  rooms-emptied d hd = fill-at (λ e. f e .lacks) false false n (8 - n) d hd ∙ ap (λ (x : DriveRoom). x .lacks) (are d hd)
+  rooms-emptied d hd = fill-at (λ e. f e .lacks) false false n (maxDrives - n) d hd ∙ ap (λ (x : DriveRoom). x .lacks) (are d hd)
 
   pub rooms-stay : roomOf f n .full ≡ false → (d : ℕ) → d < n → emptied d ≡ true → stays d ≡ false
   rooms-stay full d hd e = go (emptied d) e (any-below-false (λ i. emptied i && stays i) n d (sym rooms-full ∙ full) hd)
@@ -301,5 +301,5 @@ module _ (f : ℕ → DriveRoom) (n : ℕ) (emptied stays : ℕ → Bool) (claim
 
   pub rooms-generation : roomOf f n .full ≡ false → (d : ℕ) → d < n → emptied d ≡ true → getD (roomOf f n .generations) d 0 ≡ claim d
   rooms-generation full d hd e =
-      fill-at (λ i. f i .generation) 0 0 n (8 - n) d hd ∙ ap (λ (x : DriveRoom). x .generation) (are d hd)
+      fill-at (λ i. f i .generation) 0 0 n (maxDrives - n) d hd ∙ ap (λ (x : DriveRoom). x .generation) (are d hd)
       ∙ ap₂ (λ (a b : Bool). pick (a && not b) (claim d) 0) e (rooms-stay full d hd e)

@@ -2,7 +2,7 @@
 -- they are what the rules say of the device that the tables stand for.
 use mathlib.Core.Path.{_≡_, refl, ap}
 use mathlib.Core.Bool.{Bool, true, false, _&&_, _||_, not}
-use Prim.Native.Nat.{ℕ, _-_, _*_, _≤_, _<_}
+use Prim.Native.Nat.{ℕ, _*_, _≤_, _<_}
 use native.Mathlib.Omega.{arith}
 use mathlib.Core.List.{List}
 use lib.ListN.{length, getD}
@@ -28,10 +28,6 @@ use Rattle.volume.specs.meaning.CallContracts.{viewState, recordAt, isSe
 -- refusal 7 of a zone that there is
 unfoldable pub staleOn : Geometry → (ℕ → Bool) → List ℕ → Condition → ℕ → Bool
 staleOn g present ws c z = anyBelow (λ d. present d && staleIn c (getD ws (cell g d (dataZone z)) 0) (needed (g .drives) (g .unit) z (pointerIn c) d)) (g .drives)
-
--- some present drive has fewer than n sectors of that log unused
-unfoldable pub unusedOn : Geometry → (ℕ → Bool) → List ℕ → ℕ → ℕ → Bool
-unusedOn g present ws log n = anyBelow (λ d. present d && ltb (g .capacity - getD ws (cell g d log) 0) n) (g .drives)
 
 -- reading below `end`, which is at or below pointer n, needs the logs: a drive is absent, and the pointer's own stripe is read
 unfoldable pub needsLog : Geometry → List Bool → ℕ → ℕ → Bool

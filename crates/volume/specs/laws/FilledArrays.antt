@@ -3,7 +3,7 @@ use mathlib.Core.Path.{_≡_, refl, sym, ap, _∙_}
 use Prim.Native.Nat.{ℕ, zero, suc, _+_, _-_, _≤_, _<_}
 use native.Mathlib.Numerals.{add-one}
 use native.Mathlib.Omega.{arith}
-use mathlib.Core.List.{List, [], _∷_, _++_}
+use mathlib.Core.List.{List, [], _∷_, _++_, append-nil}
 use lib.ListN.{length, getD, set, replicate, length-set, length-append, length-replicate, List·getD-append}
 use lib.Seq.{getD-append-add}
 use Rattle.tables.specs.meaning.Below.{tabulate}
@@ -26,8 +26,8 @@ FilledTo f n z xs = (z ≤ n) × (length xs ≡ n) × (xs ≡ tabulate f z ++ re
 pub filled-turn : (f : ℕ → ℕ) (n z : ℕ) (xs : List ℕ) → z < n → FilledTo f n z xs → FilledTo f n (z + 1) (set xs z (f z))
 filled-turn f n z xs h (a, l, e) = (omega (arith, h), simp length-set l, rw (e, add-one) (fill-more f 0 n z h))
 
-pub filled-end : (f : ℕ → ℕ) (n z : ℕ) (xs : List ℕ) → n ≤ z → FilledTo f n z xs → xs ≡ tabulate f n ++ replicate (n - n) 0
-filled-end f n z xs h (a, l, e) = let q : z ≡ n = omega (arith, h, a) in e ∙ rw q refl
+pub filled-end : (f : ℕ → ℕ) (n z : ℕ) (xs : List ℕ) → n ≤ z → FilledTo f n z xs → xs ≡ tabulate f n
+filled-end f n z xs h (a, l, e) = let q : z ≡ n = omega (arith, h, a) in let k : n - n ≡ 0 = omega arith in e ∙ rw (q, k) (append-nil (tabulate f n))
 
 pub fill-long : {A : Type 0} (f : ℕ → A) (x : A) (m n : ℕ) → n ≤ m → length (tabulate f n ++ replicate (m - n) x) ≡ m
 fill-long f x m n h = length-append (tabulate f n) (replicate (m - n) x) ∙ omega (arith, length-tabulate f n, length-replicate (m - n) x, h)

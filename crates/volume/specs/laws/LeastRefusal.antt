@@ -3,7 +3,7 @@
 use mathlib.Core.Path.{_≡_, refl, sym, ap, _∙_}
 use mathlib.Core.Logic.{_≢_}
 use mathlib.Core.Bool.{Bool, true, false, _&&_, _||_, not, true≢false}
-use Prim.Native.Nat.{ℕ, _+_}
+use Prim.Native.Nat.{ℕ}
 use native.Mathlib.Omega.{arith}
 use mathlib.Core.List.{List, [], _∷_}
 use lib.ListN.{length}
@@ -14,6 +14,7 @@ use Rattle.tables.specs.meaning.Basics.{pick}
 use Rattle.tables.specs.meaning.Device.{Store}
 use Rattle.tables.specs.meaning.Tables.{Tables, deviceOf}
 use Rattle.tables.specs.declared.Geometry.{Geometry}
+use Rattle.tables.specs.meaning.Geometry.{maxZones}
 use Rattle.volume.specs.declared.State.{State}
 use Rattle.volume.specs.declared.Outcome.{Outcome}
 use Rattle.volume.specs.declared.Answer.{Answer}
@@ -168,20 +169,20 @@ module _ (g : Geometry) (named : List Bool) (s : State) (t : Tables) where
   unfolding flushOn flushVerdict flushRows
   flush-by-rows count =
       storing-by-rows _ (refl, refl) g (flushStores g (callPresent g (isSet named) (viewState s)))
-      (stateHeld 16 (flushState (lostIn g (isSet named) (viewState s)) (viewState s))) s count t
+      (stateHeld maxZones (flushState (lostIn g (isSet named) (viewState s)) (viewState s))) s count t
 
   pub reset-by-rows : (z count : ℕ) → ByRows (resetRows g (lengthsOf t) (badIn g named t) (isSet named) (viewState s) z (rolesOf g t) (seenIn g t)) (resetOn g named s z count t .outcome .answer)
   unfolding resetOn resetVerdict resetRows
   reset-by-rows z count =
       storing-by-rows _ (refl, refl) g (resetAll g (callPresent g (isSet named) (viewState s)) (rolesOf g t) (seenIn g t) (viewState s) z)
-      (stateHeld 16 (resetState (lostIn g (isSet named) (viewState s)) (viewState s) z)) s count t
+      (stateHeld maxZones (resetState (lostIn g (isSet named) (viewState s)) (viewState s) z)) s count t
 
   pub write-by-rows : (a k count : ℕ) (buffer : List ℕ)
       → ByRows (writeRows g (lengthsOf t) (badIn g named t) (isSet named) (viewState s) a k (length buffer) (rolesOf g t) (seenIn g t)) (writeOn g named s a k buffer count t .outcome .answer)
   unfolding writeOn writeVerdict writeRows
   write-by-rows a k count buffer =
       storing-by-rows _ (refl, refl) g (writeAll g (callPresent g (isSet named) (viewState s)) (rolesOf g t) (seenIn g t) (viewState s) (zoneOf g a) (sectorsIn g k buffer))
-      (stateHeld 16 (writeState (lostIn g (isSet named) (viewState s)) (viewState s) (zoneOf g a) k)) s count t
+      (stateHeld maxZones (writeState (lostIn g (isSet named) (viewState s)) (viewState s) (zoneOf g a) k)) s count t
 
   -- (row 6 is answered by the first bad place)
   pub mount-by-rows : (count : ℕ) → AnsweredBy (refusedAt (badPlaceOn g named t)) (mountRows g (lengthsOf t) (badIn g named t) (isSet named) (rolesOf g t) (seenIn g t)) (mountOn g named s count t .outcome .answer)

@@ -8,6 +8,7 @@ use mathlib.Core.List.{List, map}
 use lib.ListN.{length, getD, set, replicate, length-set, length-map}
 use lib.Seq.{ext-getD, getD-set-same, getD-set-other}
 use borrow.Author.Tests.{eq-eqb, ne-eqb}
+use Rattle.tables.specs.meaning.Geometry.{maxZones}
 use Rattle.volume.specs.declared.Condition.the-variants.{Open}
 use Rattle.volume.specs.declared.State.{State}
 use Rattle.volume.specs.declared.ZoneRecord.{ZoneRecord}
@@ -22,29 +23,29 @@ mapped-long f xs n e = sym (length-map xs f) ∙ e
 
 -- ---- 16 records of which the first n are f's
 module _ (f : ℕ → ZoneRecord) where
-  pub records-long : (n : ℕ) → n ≤ 16 → length (recordsBelow f n) ≡ 16
+  pub records-long : (n : ℕ) → n ≤ maxZones → length (recordsBelow f n) ≡ maxZones
   unfolding recordsBelow
-  records-long n h = fill-long f blankRecord 16 n h
+  records-long n h = fill-long f blankRecord maxZones n h
 
   pub records-at : (n z : ℕ) → z < n → getD (recordsBelow f n) z blankRecord ≡ f z
   unfolding recordsBelow
-  records-at n z h = fill-at f blankRecord blankRecord n (16 - n) z h
+  records-at n z h = fill-at f blankRecord blankRecord n (maxZones - n) z h
 
   pub records-past : (n z : ℕ) → n ≤ z → getD (recordsBelow f n) z blankRecord ≡ blankRecord
   unfolding recordsBelow
-  records-past n z h = fill-past f blankRecord n (16 - n) z h
+  records-past n z h = fill-past f blankRecord n (maxZones - n) z h
 
   -- as a loop fills them
-  pub records-none : replicate 16 blankRecord ≡ recordsBelow f zero
+  pub records-none : replicate maxZones blankRecord ≡ recordsBelow f zero
   unfolding recordsBelow
   records-none = refl
 
-  pub records-more : (n : ℕ) → n < 16 → set (recordsBelow f n) n (f n) ≡ recordsBelow f (suc n)
+  pub records-more : (n : ℕ) → n < maxZones → set (recordsBelow f n) n (f n) ≡ recordsBelow f (suc n)
   unfolding recordsBelow
-  records-more n h = fill-more f blankRecord 16 n h
+  records-more n h = fill-more f blankRecord maxZones n h
 
 -- ---- what a struct says that was made of a view
-pub held-long : (n : ℕ) (v : StateView) → n ≤ 16 → length (stateHeld n v .zones) ≡ 16
+pub held-long : (n : ℕ) (v : StateView) → n ≤ maxZones → length (stateHeld n v .zones) ≡ maxZones
 held-long n v h = records-long (recordSeen v) n h
 
 pub held-at : (n : ℕ) (v : StateView) (z : ℕ) → z < n → recordAt (stateHeld n v) z ≡ recordSeen v z
@@ -54,29 +55,29 @@ pub held-past : (n : ℕ) (v : StateView) (z : ℕ) → n ≤ z → recordAt (st
 held-past n v z h = records-past (recordSeen v) n z h
 
 -- ---- 16 records that say what a view says are the view's
-pub records-held : (rs : List ZoneRecord) (v : StateView) → length rs ≡ 16 → ((z : ℕ) → z < 16 → getD rs z blankRecord ≡ recordSeen v z) → _≡_ {A = State} (record { lost = v .lost; zones = rs }) (stateHeld 16 v)
+pub records-held : (rs : List ZoneRecord) (v : StateView) → length rs ≡ maxZones → ((z : ℕ) → z < maxZones → getD rs z blankRecord ≡ recordSeen v z) → _≡_ {A = State} (record { lost = v .lost; zones = rs }) (stateHeld maxZones v)
 records-held rs v long says =
     ap (λ (l : List ZoneRecord). record { lost = v .lost; zones = l })
-    (ext-getD blankRecord rs (stateHeld 16 v .zones) (long ∙ sym (held-long 16 v (omega arith))) (λ z h. let k : z < 16 = rw long at h in says z k ∙ sym (held-at 16 v z k)))
+    (ext-getD blankRecord rs (stateHeld maxZones v .zones) (long ∙ sym (held-long maxZones v (omega arith))) (λ z h. let k : z < maxZones = rw long at h in says z k ∙ sym (held-at maxZones v z k)))
 
-pub held-view : (s : State) → length (s .zones) ≡ 16 → s ≡ stateHeld 16 (viewState s)
+pub held-view : (s : State) → length (s .zones) ≡ maxZones → s ≡ stateHeld maxZones (viewState s)
 held-view s long = records-held (s .zones) (viewState s) long (λ z h. refl)
 
 -- with another drive lost
-pub held-lost : (s : State) (x : ℕ) → length (s .zones) ≡ 16 → _≡_ {A = State} (record { lost = x; zones = s .zones }) (stateHeld 16 (flushState x (viewState s)))
+pub held-lost : (s : State) (x : ℕ) → length (s .zones) ≡ maxZones → _≡_ {A = State} (record { lost = x; zones = s .zones }) (stateHeld maxZones (flushState x (viewState s)))
 held-lost s x long = records-held (s .zones) (flushState x (viewState s)) long (λ z h. refl)
 
 -- with one record set: a view that differs from the struct's own in that zone alone
-pub held-set : (s : State) (v : StateView) (z : ℕ) (r : ZoneRecord) → length (s .zones) ≡ 16 → z < 16 → recordSeen v z ≡ r → ((y : ℕ) → y ≢ z → recordSeen v y ≡ recordAt s y)
-    → _≡_ {A = State} (record { lost = v .lost; zones = set (s .zones) z r }) (stateHeld 16 v)
+pub held-set : (s : State) (v : StateView) (z : ℕ) (r : ZoneRecord) → length (s .zones) ≡ maxZones → z < maxZones → recordSeen v z ≡ r → ((y : ℕ) → y ≢ z → recordSeen v y ≡ recordAt s y)
+    → _≡_ {A = State} (record { lost = v .lost; zones = set (s .zones) z r }) (stateHeld maxZones v)
 held-set s v z r long h here others = records-held (set (s .zones) z r) v (length-set (s .zones) z r ∙ long) (λ y k. at y (ℕ-discrete y z))
   where
     at : (y : ℕ) → Dec (y ≡ z) → getD (set (s .zones) z r) y blankRecord ≡ recordSeen v y
     at y (yes e) = let k : z < length (s .zones) = rw long h in rw e (getD-set-same (s .zones) z r blankRecord k ∙ sym here)
     at y (no n) = getD-set-other (s .zones) z y r blankRecord n ∙ sym (others y n)
 
-pub held-open : (s : State) (x z n : ℕ) → length (s .zones) ≡ 16 → z < 16
-    → _≡_ {A = State} (record { lost = x; zones = set (s .zones) z (record { generation = recordAt s z .generation; condition = Open n }) }) (stateHeld 16 (openState x (viewState s) z n))
+pub held-open : (s : State) (x z n : ℕ) → length (s .zones) ≡ maxZones → z < maxZones
+    → _≡_ {A = State} (record { lost = x; zones = set (s .zones) z (record { generation = recordAt s z .generation; condition = Open n }) }) (stateHeld maxZones (openState x (viewState s) z n))
 held-open s x z n long h =
     held-set s (openState x (viewState s) z n) z (record { generation = recordAt s z .generation; condition = Open n }) long h (rw (eq-eqb z z refl) refl) (λ y ne. rw (ne-eqb y z ne) refl)
 
@@ -84,6 +85,6 @@ held-open s x z n long h =
 abbrev pub resetRecord : ZoneRecord → ZoneRecord
 resetRecord r = record { generation = suc (r .generation); condition = emptyCondition (suc (r .generation)) }
 
-pub held-reset : (s : State) (x z : ℕ) → length (s .zones) ≡ 16 → z < 16
-    → _≡_ {A = State} (record { lost = x; zones = set (s .zones) z (resetRecord (recordAt s z)) }) (stateHeld 16 (resetState x (viewState s) z))
+pub held-reset : (s : State) (x z : ℕ) → length (s .zones) ≡ maxZones → z < maxZones
+    → _≡_ {A = State} (record { lost = x; zones = set (s .zones) z (resetRecord (recordAt s z)) }) (stateHeld maxZones (resetState x (viewState s) z))
 held-reset s x z long h = held-set s (resetState x (viewState s) z) z (resetRecord (recordAt s z)) long h (rw (eq-eqb z z refl) refl) (λ y ne. rw (ne-eqb y z ne) refl)

@@ -15,7 +15,7 @@ use Rattle.tables.specs.meaning.Below.{anyBelow, countBelow, tabulate}
 use Rattle.tables.specs.laws.Below.{any-below-cong, count-below-cong}
 use Rattle.tables.specs.meaning.Drives.{findBelow, noDrive}
 use Rattle.tables.specs.laws.Drives.{find-below-cong}
-use Rattle.tables.specs.meaning.Geometry.{Valid}
+use Rattle.tables.specs.meaning.Geometry.{Valid, maxDrives}
 use Rattle.tables.specs.meaning.Device.{Device, ZoneView, blankZone}
 use Rattle.tables.specs.meaning.Tables.{tablesOf}
 use Rattle.tables.specs.laws.Tables.{device-outside}
@@ -36,7 +36,7 @@ abbrev pub saidBy : Geometry → List Bool → Device → ℕ → ℕ
 saidBy g named v e = pick (isSet named e) (saysLost (generalHeads g v e)) noDrive
 
 unfoldable pub saidList : Geometry → List Bool → Device → List ℕ
-saidList g named v = tabulate (saidBy g named v) (g .drives) ++ replicate (8 - g .drives) noDrive
+saidList g named v = tabulate (saidBy g named v) (g .drives) ++ replicate (maxDrives - g .drives) noDrive
 
 -- whether some drive says that d is lost
 abbrev pub saidOf : Geometry → List ℕ → ℕ → Bool
@@ -51,7 +51,7 @@ pub said-is : (g : Geometry) (named : List Bool) (v : Device) (d : ℕ) → d < 
     → saidOf g (saidList g named v) d ≡ anyBelow (λ e. isSet named e && (labelled (generalHeads g v e) && eqb (lastLost noDrive (generalHeads g v e)) d)) (g .drives)
 unfolding saidList
 said-is g named v d h = any-below-cong (λ (e : ℕ). eqb (getD (saidList g named v) e 0) d) (λ e. isSet named e && (labelled (generalHeads g v e) && eqb (lastLost noDrive (generalHeads g v e)) d)) (g .drives)
-    (λ e l. ap (λ (x : ℕ). eqb x d) (fill-at (saidBy g named v) noDrive 0 (g .drives) (8 - g .drives) e l) ∙ said-one (isSet named e) (labelled (generalHeads g v e)) (lastLost noDrive (generalHeads g v e)) d h)
+    (λ e l. ap (λ (x : ℕ). eqb x d) (fill-at (saidBy g named v) noDrive 0 (g .drives) (maxDrives - g .drives) e l) ∙ said-one (isSet named e) (labelled (generalHeads g v e)) (lastLost noDrive (generalHeads g v e)) d h)
 
 -- the drives present: named, and said to be lost by none
 abbrev pub presentOf : Geometry → List Bool → List ℕ → ℕ → Bool
@@ -61,16 +61,16 @@ not-or : (a b : Bool) → a && not b ≡ not (not a || b)
 not-or true b = refl
 not-or false b = refl
 
-pub look-present-is : (g : Geometry) (named : List Bool) (v : Device) → Valid g → isSet (tabulate (presentOf g named (saidList g named v)) (g .drives) ++ replicate (8 - g .drives) false) ≡ isPresent g (isSet named) v
+pub look-present-is : (g : Geometry) (named : List Bool) (v : Device) → Valid g → isSet (tabulate (presentOf g named (saidList g named v)) (g .drives) ++ replicate (maxDrives - g .drives) false) ≡ isPresent g (isSet named) v
 unfolding isPresent isLost
 look-present-is g named v ok = fun-ext λ d. go d (decLt d (g .drives))
   where
-    go : (d : ℕ) → Dec (d < g .drives) → isSet (tabulate (presentOf g named (saidList g named v)) (g .drives) ++ replicate (8 - g .drives) false) d ≡ isPresent g (isSet named) v d
+    go : (d : ℕ) → Dec (d < g .drives) → isSet (tabulate (presentOf g named (saidList g named v)) (g .drives) ++ replicate (maxDrives - g .drives) false) d ≡ isPresent g (isSet named) v d
     go d (yes h) =
         let k : d < noDrive = omega (arith, ok .drives-most) in
-        fill-at (presentOf g named (saidList g named v)) false false (g .drives) (8 - g .drives) d h
+        fill-at (presentOf g named (saidList g named v)) false false (g .drives) (maxDrives - g .drives) d h
         ∙ ap (λ (b : Bool). isSet named d && not b) (said-is g named v d k) ∙ not-or (isSet named d) _ ∙ sym (ap (λ (b : Bool). b && not (isLost g (isSet named) v d)) (lt-ltb d (g .drives) h))
-    go d (no h) = fill-past (presentOf g named (saidList g named v)) false (g .drives) (8 - g .drives) d (omega arith) ∙ sym (ap (λ (b : Bool). b && not (isLost g (isSet named) v d)) (le-ltb d (g .drives) (omega arith)))
+    go d (no h) = fill-past (presentOf g named (saidList g named v)) false (g .drives) (maxDrives - g .drives) d (omega arith) ∙ sym (ap (λ (b : Bool). b && not (isLost g (isSet named) v d)) (le-ltb d (g .drives) (omega arith)))
 
 -- lost, below the last drive, is not present
 absent-lost : (g : Geometry) (named : List Bool) (v : Device) (d : ℕ) → d < g .drives → not (isPresent g (isSet named) v d) ≡ isLost g (isSet named) v d

@@ -23,7 +23,7 @@ use Rattle.volume.specs.declared.looking.Survey.{Survey}
 use Rattle.volume.specs.meaning.Rules.{Shown, showing, isPresent, lostDrive}
 use Rattle.volume.specs.meaning.Refusals.{firstRefusal, twoLost, kindLacks, badLabels, badLogs, firstBadPlace}
 use Rattle.volume.specs.meaning.Answers.{presentIn, lostDriveIn}
-use Rattle.volume.specs.meaning.Roles.{Roles, roles, zoneOfRole, placedBy}
+use Rattle.volume.specs.meaning.Roles.{Roles, zoneOfRole, placedBy}
 use Rattle.volume.specs.meaning.CallContracts.{isSet, verdictNumber, rolesOf, seenIn, lookVerdict, lookOn, badPlaceOn, stateHeld}
 use Rattle.volume.specs.laws.LogPlaces.{withLogs}
 use Rattle.volume.specs.laws.RulesUnread.{is-present-alike, lost-drive-alike, showing-alike}

@@ -3,7 +3,7 @@
 use Rattle.volume.specs.meaning.Rules.{lostDrive, Shown, isPresent, showing, valueAt}
 use Rattle.volume.specs.meaning.Refusals.{firstBadPlace, firstRefusal, Verdict, refuse, accept, TableLengths, zoneOf, offsetOf, formatRows, lookRows, mountRows, writeRows, flushRows, resetRows, readRows, peekRows, badPointers}
 use mathlib.Core.Bool.{Bool, _&&_, not}
-use Prim.Native.Nat.{ℕ, zero, _+_, _-_, _*_}
+use Prim.Native.Nat.{ℕ, zero, _*_}
 use mathlib.Core.List.{List}
 use lib.ListN.{length, take, drop}
 use lib.Dec.{ltb, eqb}

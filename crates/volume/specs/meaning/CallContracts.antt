@@ -27,6 +27,7 @@ use Rattle.tables.specs.meaning.Below.{tabulate, tabulateFrom}
 use Rattle.volume.specs.meaning.Rules.{valueAt, ZoneShown, showing}
 use Rattle.volume.specs.declared.ZoneLook.{ZoneLook}
 use Rattle.tables.specs.meaning.Lists.{concat}
+use Rattle.tables.specs.meaning.Geometry.{maxZones}
 use Rattle.volume.specs.meaning.Mount.{phasesBeforeEntries, phasesOfParityLogs, phasesOfEntries, mountState}
 
 -- ---- the state. What a call makes of it is defined once, as the rules see it (Calls, Mount); `stateHeld` brings it back into the code's struct.
@@ -42,12 +43,12 @@ abbrev pub viewState : State → StateView
 viewState s = record { lost = s .lost; generation = λ z. recordAt s z .generation; condition = λ z. recordAt s z .condition }
 
 -- and back: of the first n zones what the rules see, blank past them. A format and a look hand on what is so of the volume's zones; a write, a flush and a
--- reset leave records past the last zone as they were (n = 16).
+-- reset leave records past the last zone as they were (n = maxZones).
 abbrev pub recordSeen : StateView → ℕ → ZoneRecord
 recordSeen v z = record { generation = v .generation z; condition = v .condition z }
 
 unfoldable pub recordsBelow : (ℕ → ZoneRecord) → ℕ → List ZoneRecord
-recordsBelow f n = tabulate f n ++ replicate (16 - n) blankRecord
+recordsBelow f n = tabulate f n ++ replicate (maxZones - n) blankRecord
 
 abbrev pub stateHeld : ℕ → StateView → State
 stateHeld n v = record { lost = v .lost; zones = recordsBelow (recordSeen v) n }
@@ -102,7 +103,7 @@ flushVerdict g named s t = firstRefusal (flushRows g (lengthsOf t) (badIn g name
 
 unfoldable pub flushOn : Geometry → List Bool → State → ℕ → Tables → Result
 flushOn g named s count t =
-    storingOn g (verdictNumber (flushVerdict g named s t)) (flushStores g (callPresent g (isSet named) (viewState s))) (stateHeld 16 (flushState (lostIn g (isSet named) (viewState s)) (viewState s))) s count t
+    storingOn g (verdictNumber (flushVerdict g named s t)) (flushStores g (callPresent g (isSet named) (viewState s))) (stateHeld maxZones (flushState (lostIn g (isSet named) (viewState s)) (viewState s))) s count t
 
 -- ==== reset
 unfoldable pub resetVerdict : Geometry → List Bool → State → ℕ → Tables → Verdict
@@ -111,7 +112,7 @@ resetVerdict g named s z t = firstRefusal (resetRows g (lengthsOf t) (badIn g na
 unfoldable pub resetOn : Geometry → List Bool → State → ℕ → ℕ → Tables → Result
 resetOn g named s z count t =
     storingOn g (verdictNumber (resetVerdict g named s z t)) (resetAll g (callPresent g (isSet named) (viewState s)) (rolesOf g t) (seenIn g t) (viewState s) z)
-    (stateHeld 16 (resetState (lostIn g (isSet named) (viewState s)) (viewState s) z)) s count t
+    (stateHeld maxZones (resetState (lostIn g (isSet named) (viewState s)) (viewState s) z)) s count t
 
 -- ==== write: k sectors from address a
 unfoldable pub writeVerdict : Geometry → List Bool → State → ℕ → ℕ → ℕ → Tables → Verdict
@@ -124,7 +125,7 @@ pointerOf s z = pointerIn (recordAt s z .condition)
 unfoldable pub writeOn : Geometry → List Bool → State → ℕ → ℕ → List ℕ → ℕ → Tables → Result
 writeOn g named s a k buffer count t =
     storingOn g (verdictNumber (writeVerdict g named s a k (length buffer) t)) (writeAll g (callPresent g (isSet named) (viewState s)) (rolesOf g t) (seenIn g t) (viewState s) (zoneOf g a) (sectorsIn g k buffer))
-    (stateHeld 16 (writeState (lostIn g (isSet named) (viewState s)) (viewState s) (zoneOf g a) k)) s count t
+    (stateHeld maxZones (writeState (lostIn g (isSet named) (viewState s)) (viewState s) (zoneOf g a) k)) s count t
 
 -- ==== format
 unfoldable pub formatVerdict : Geometry → List Bool → Tables → Verdict

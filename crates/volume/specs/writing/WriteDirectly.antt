@@ -15,7 +15,7 @@ use Rattle.tables.specs.meaning.Basics.{pick}
 use Rattle.tables.specs.laws.Basics.{and-split, or-left}
 use Rattle.tables.specs.meaning.Below.{eachBelow}
 use Rattle.tables.specs.laws.Below.{none-any-below, all-below-all}
-use Rattle.tables.specs.meaning.Geometry.{Valid, physicalZones, cells, stripeSectors, dataZone}
+use Rattle.tables.specs.meaning.Geometry.{Valid, stripeSectors, dataZone, maxZones}
 use Rattle.tables.specs.meaning.Device.{Device, ZoneView, Store}
 use Rattle.tables.specs.meaning.Phases.{onPresent}
 use Rattle.tables.specs.meaning.Placement.{stripeOf}
@@ -29,7 +29,6 @@ use Rattle.tables.specs.laws.Made.{Made, MadeAppends}
 use Rattle.logs.specs.meaning.Entry.{parityZone}
 use Rattle.volume.specs.declared.Zone.{Zone}
 use Rattle.volume.specs.declared.State.{State}
-use Rattle.volume.specs.declared.Outcome.{Outcome}
 use Rattle.volume.specs.declared.Answer.the-variants.{Finished, Unfinished}
 use Rattle.volume.specs.declared.writing.Run.{Run}
 use Rattle.volume.specs.declared.write_directly.EntryPlace.{EntryPlace}
@@ -37,7 +36,7 @@ use Rattle.volume.specs.declared.write_directly.Tried.{Tried}
 use Rattle.volume.specs.declared.Condition.{Condition}
 use Rattle.volume.specs.meaning.Content.{at, insideStripe, fillOf, parityDriveAt}
 use Rattle.volume.specs.meaning.Rules.{known, zoneView, valueAt, parityEntries}
-use Rattle.volume.specs.meaning.Roles.{Roles, strongest, otherThan, rolesIn, roles, zoneOfRole, zoneOfKind, placedBy, driveByRoles, emptiedRoles, rolesAfter}
+use Rattle.volume.specs.meaning.Roles.{Roles, strongest, otherThan, rolesIn, zoneOfRole, zoneOfKind, placedBy, driveByRoles, emptiedRoles, rolesAfter}
 use Rattle.volume.specs.meaning.Refusals.{writeFull, goneIn, goneBefore, goneForEntry}
 use Rattle.volume.specs.meaning.Calls.{writeWith, zoneContent, writeStores, openState}
 use Rattle.volume.specs.meaning.Answers.{sectorsIn}
@@ -312,7 +311,7 @@ module _ (run : Run) (xs ws buffer : List ℕ) (ok : Valid (run .zone .geometry)
     cells-are = cells-write g (place .geometry .logs) r z (runContent g present (readDevice g xs ws) z (run .zone .generation) n ss) present data-at (run .zone .generation) n (run .count) log-at
 
     pub directly-ends : (count rest : ℕ) (xs′ ws′ : List ℕ) → MadeAppends (placeOf run xs ws .geometry) (suc count) rest (runStoresOf run xs ws buffer) xs ws xs′ ws′
-        → (pick (eqb rest 0) (record { answer = Unfinished; state = s }) (record { answer = Finished; state = stateHeld 16 (openState (findBelow (λ (d : ℕ). not (isSet (run .zone .here) d)) (run .zone .geometry .drives)) (viewState s) (run .zone .number) (run .pointer + run .count)) })
+        → (pick (eqb rest 0) (record { answer = Unfinished; state = s }) (record { answer = Finished; state = stateHeld maxZones (openState (findBelow (λ (d : ℕ). not (isSet (run .zone .here) d)) (run .zone .geometry .drives)) (viewState s) (run .zone .number) (run .pointer + run .count)) })
         ≡ writeZoneOn run s buffer count (tablesOf xs ws ds) .outcome) × (tablesOf xs′ ws′ ds ≡ writeZoneOn run s buffer count (tablesOf xs ws ds) .tables)
     unfolding writeZoneOn
     directly-ends count rest xs′ ws′ m =
@@ -320,5 +319,5 @@ module _ (run : Run) (xs ws buffer : List ℕ) (ok : Valid (run .zone .geometry)
         let number : _≡_ {A = ℕ} (pick (runFull run s t) 14 (pick (runGone run s t) 15 0)) 0 = ap₂ (λ (a b : Bool). pick a 14 (pick b 15 0)) full-none gone-none in
         let by-place = subst (λ (k : Geometry). Made k (suc count) rest (runStoresOf run xs ws buffer) t u) place-is (m .made ds) in
         let made = made-at g (place .geometry .logs) r (suc count) rest (runStoresOf run xs ws buffer) t u cells-are by-place in
-        storing-ends g (pick (runFull run s t) 14 (pick (runGone run s t) 15 0)) (writeAll g present r w (viewState s) z ss) (stateHeld 16 (openState (findBelow (λ (d : ℕ). not (present d)) (g .drives)) (viewState s) z end)) s count t rest u number
+        storing-ends g (pick (runFull run s t) 14 (pick (runGone run s t) 15 0)) (writeAll g present r w (viewState s) z ss) (stateHeld maxZones (openState (findBelow (λ (d : ℕ). not (present d)) (g .drives)) (viewState s) z end)) s count t rest u number
         (subst (λ (l : List Store). Made g (suc count) rest l t u) (sym all-stores) made)

@@ -9,7 +9,7 @@ use Rattle.tables.specs.declared.Geometry.{Geometry}
 use Rattle.tables.specs.meaning.Basics.{pick}
 use Rattle.tables.specs.meaning.Below.{countBelow}
 use Rattle.tables.specs.meaning.Drives.{findBelow}
-use Rattle.tables.specs.meaning.Geometry.{cells, totalBytes, zoneSectors, physicalZones}
+use Rattle.tables.specs.meaning.Geometry.{cells, totalBytes, zoneSectors, physicalZones, maxZones}
 use Rattle.tables.specs.meaning.Device.{Device, Store}
 use Rattle.tables.specs.meaning.Phases.{onPresent}
 use Rattle.tables.specs.meaning.Tables.{Tables, cell}
@@ -111,7 +111,7 @@ writeZoneOn run s buffer count t =
     let z = run .zone in
     storingOn (z .geometry) (pick (runFull run s t) 14 (pick (runGone run s t) 15 0))
     (writeAll (z .geometry) (isSet (z .here)) (rolesOf (z .geometry) t) (seenIn (z .geometry) t) (viewState s) (z .number) (sectorsIn (z .geometry) (run .count) buffer))
-    (stateHeld 16 (openState (findBelow (λ (d : ℕ). not (isSet (z .here) d)) (z .geometry .drives)) (viewState s) (z .number) (run .pointer + run .count))) s count t
+    (stateHeld maxZones (openState (findBelow (λ (d : ℕ). not (isSet (z .here) d)) (z .geometry .drives)) (viewState s) (z .number) (run .pointer + run .count))) s count t
 
 -- the same with refusals 7 and 9 to 12 before it
 abbrev pub askedNumber : Run → State → List ℕ → ℕ

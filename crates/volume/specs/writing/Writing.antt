@@ -10,7 +10,7 @@ use lib.Dec.{eqb}
 use borrow.Author.Tests.{eq-eqb, ne-eqb, lt-ltb, le-ltb, eqb-true}
 use Rattle.tables.specs.declared.Geometry.{Geometry}
 use Rattle.tables.specs.meaning.Basics.{pick}
-use Rattle.tables.specs.meaning.Geometry.{zoneSectors}
+use Rattle.tables.specs.meaning.Geometry.{zoneSectors, maxZones}
 use Rattle.tables.specs.meaning.GeometryTest.{isValid}
 use Rattle.tables.specs.meaning.Drives.{findBelow}
 use Rattle.tables.specs.meaning.Tables.{Tables, tablesOf, deviceOf, bufferFits, lengthsFit, pointersBad}
@@ -144,7 +144,7 @@ write-zone-on g named s a k count buffer xs ws ds o h n =
     let here = presentList g named (s .lost) in
     let lost : ℕ = findBelow (λ (d : ℕ). not (isSet here d)) (g .drives) in
     let fits = zone-passed g (isSet here) ws (recordAt s z .condition) z (offsetOf g a) k n in
-    let on : (ℕ → Bool) → ℕ → ℕ → ℕ → Result = λ p m x q. storingOn g m (writeAll g p (rolesOf g t) (seenIn g t) (viewState s) z ss) (stateHeld 16 (openState x (viewState s) z (q + k))) s count t in
+    let on : (ℕ → Bool) → ℕ → ℕ → ℕ → Result = λ p m x q. storingOn g m (writeAll g p (rolesOf g t) (seenIn g t) (viewState s) z ss) (stateHeld maxZones (openState x (viewState s) z (q + k))) s count t in
     let last : (ℕ → Bool) → ℕ → ℕ = λ p q. pick (writeFull g p (rolesOf g t) (byState g p (seenIn g t) (viewState s)) (seenIn g t) z (q + k)) 14
     (pick (goneForEntry g p (rolesOf g t) (byState g p (seenIn g t) (viewState s)) (seenIn g t) z (q + k) || goneBefore g p (seenIn g t) z (recordAt s z .generation) q) 15 0) in
     let verdict : last (callPresent g (isSet named) (viewState s)) (pointerOf s z) ≡ verdictNumber (writeVerdict g named s a k (length buffer) t) = number-last g named s a k (length buffer) xs ws ds o h n in
@@ -174,6 +174,6 @@ write-asked-on g named s a k count buffer xs ws ds o h = go (ℕ-discrete late 0
     go (yes e) = ap (λ (b : Bool). pick b (writeZoneOn run s buffer count t) refused) (eq-eqb late 0 e) ∙ write-zone-on g named s a k count buffer xs ws ds o h e
     go (no ne) =
         let stores : List Store = writeAll g (callPresent g (isSet named) (viewState s)) (rolesOf g t) (seenIn g t) (viewState s) (zoneOf g a) (sectorsIn g k buffer) in
-        let on : ℕ → Result = λ n. storingOn g n stores (stateHeld 16 (writeState (lostIn g (isSet named) (viewState s)) (viewState s) (zoneOf g a) k)) s count t in
+        let on : ℕ → Result = λ n. storingOn g n stores (stateHeld maxZones (writeState (lostIn g (isSet named) (viewState s)) (viewState s) (zoneOf g a) k)) s count t in
         let same : on late ≡ refused = rw (ne-eqb late 0 ne) refl in
         ap (λ (b : Bool). pick b (writeZoneOn run s buffer count t) refused) (ne-eqb late 0 ne) ∙ sym same ∙ ap on (number-zone g named s a k (length buffer) xs ws ds o h ne)

@@ -1,36 +1,34 @@
 -- A write and a read by the record of one zone (src/records.rt): what they take of the input's bytes, and what they make of it.
 use mathlib.Core.Path.{_≡_, refl, sym, ap, ap₂, _∙_}
 use mathlib.Core.Bool.{Bool, true, false, _&&_, _||_, not, true≢false}
-use Prim.Native.Nat.{ℕ, _+_, _-_, _*_, _%_, _≤_, _<_}
+use Prim.Native.Nat.{ℕ, _+_, _*_, _%_, _≤_, _<_}
 use native.Mathlib.Decide.{decLt}
 use native.Mathlib.Omega.{arith}
 use mathlib.Core.List.{List}
-use lib.ListN.{length, getD, set}
+use lib.ListN.{length, getD}
 use lib.Dec.{eqb, ltb}
 use borrow.Author.Tests.{eqb-true}
 use Rattle.tables.specs.declared.Geometry.{Geometry}
-use Rattle.tables.specs.laws.Basics.{and-split}
 use Rattle.tables.specs.meaning.Basics.{pick}
 use Rattle.tables.specs.meaning.Below.{anyBelow, tabulate}
 use Rattle.tables.specs.laws.Below.{any-below-cong, getD-tabulate}
-use Rattle.tables.specs.meaning.Geometry.{Valid, physicalZones, cells, zoneSectors}
+use Rattle.tables.specs.meaning.Geometry.{physicalZones, cells, zoneSectors, maxZones}
 use Rattle.tables.specs.meaning.GeometryTest.{isValid}
 use Rattle.tables.specs.meaning.Lists.{overlay}
 use Rattle.tables.specs.meaning.LittleEndian.{readLE}
 use Rattle.tables.specs.laws.LittleEndian.{writeLE}
 use Rattle.volume.specs.laws.ByteLists.{Bytes}
-use Rattle.tables.specs.meaning.Tables.{Tables, tablesOf, firstCell, cell, pointerBad, pointersBad}
+use Rattle.tables.specs.meaning.Tables.{tablesOf, firstCell, cell, pointerBad, pointersBad}
 use Rattle.tables.specs.laws.TablesFrame.{pointers-good}
 use Rattle.volume.specs.declared.Answer.the-variants.{Finished, Unfinished, Refused}
 use Rattle.volume.specs.declared.Condition.the-variants.{Open}
-use Rattle.volume.specs.declared.Outcome.{Outcome}
 use Rattle.volume.specs.declared.State.{State}
 use Rattle.volume.specs.declared.ZoneRecord.{ZoneRecord}
 use Rattle.volume.specs.declared.by_record.ByRecord.{ByRecord}
 use Rattle.volume.specs.declared.by_record.Recorded.{Recorded}
 use Rattle.volume.specs.meaning.State.{pointerIn}
 use Rattle.volume.specs.meaning.Refusals.{stateWithin, zoneOf}
-use Rattle.volume.specs.meaning.CallContracts.{blankRecord, recordAt, viewState, answerNumber, Result, writeOn, readNumber, readOn, stateHeld}
+use Rattle.volume.specs.meaning.CallContracts.{recordAt, viewState, answerNumber, Result, writeOn, readNumber, readOn, stateHeld}
 use Rattle.volume.specs.laws.LogPlaces.{zone-at-first}
 use Rattle.volume.specs.laws.StateHeld.{records-long, records-past, held-open}
 use Rattle.volume.specs.checks.ByRecord.{RecordFits, SaysOf}
@@ -147,7 +145,7 @@ module _ (k : WriteAsked) (buffer : List ℕ) (m : Ranges) (q : InputTaken (k .g
   -- made by the record, it is the write by the whole state
   pub made-whole : (t : Recorded) (xs′ ws′ wb′ st′ : List ℕ) (n : ℕ) → z < g .zones
       → writeOn g (k .named) s (k .address) (k .run) buffer (k .count) (tablesIn g m) ≡ record {
-        outcome = pick (eqb (t .rest) 0) (record { answer = Unfinished; state = s }) (record { answer = Finished; state = stateHeld 16 (openState (t .lost) (viewState s) z (t .pointer)) });
+        outcome = pick (eqb (t .rest) 0) (record { answer = Unfinished; state = s }) (record { answer = Finished; state = stateHeld maxZones (openState (t .lost) (viewState s) z (t .pointer)) });
         tables = tablesOf xs′ ws′ (tableFrom (cells g) (m .durable));
       }
       → wb′ ≡ tableTo ws′ → handedRecord t (recordAt s z .generation) z (m .state) n st′ → answered n (ranges xs′ wb′ (m .durable) st′) ≡ wholeWrite k buffer m
@@ -155,7 +153,7 @@ module _ (k : WriteAsked) (buffer : List ℕ) (m : Ranges) (q : InputTaken (k .g
   made-whole t xs′ ws′ wb′ st′ n h e w hand = go (eqb (t .rest) 0) refl
     where
       new : State
-      new = stateHeld 16 (openState (t .lost) (viewState s) z (t .pointer))
+      new = stateHeld maxZones (openState (t .lost) (viewState s) z (t .pointer))
 
       result : Bool → Result
       result b = record { outcome = pick b (record { answer = Unfinished; state = s }) (record { answer = Finished; state = new }); tables = tablesOf xs′ ws′ (tableFrom (cells g) (m .durable)) }

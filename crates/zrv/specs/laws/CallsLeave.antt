@@ -8,7 +8,7 @@ use lib.ListN.{length}
 use lib.Dec.{ltb, eqb}
 use Rattle.tables.specs.declared.Geometry.{Geometry}
 use Rattle.tables.specs.meaning.Basics.{pick}
-use Rattle.tables.specs.meaning.Geometry.{Valid, cells}
+use Rattle.tables.specs.meaning.Geometry.{Valid, cells, maxZones}
 use Rattle.tables.specs.meaning.Device.{Store, append, reset, flush}
 use Rattle.tables.specs.meaning.Phases.{onPresent, flushAll}
 use Rattle.tables.specs.meaning.Tables.{Tables, tablesOf, deviceOf, makeStore, runStores}
@@ -136,11 +136,11 @@ module _ (g : Geometry) (t : Tables) (named : List Bool) (count : ℕ) where
 
     unfoldable pub flush-stored : Stored g t (flushOn g named s count t)
     unfolding flushOn
-    flush-stored = record { told = Refused; number = verdictNumber (flushVerdict g named s t); stores = flushStores g here; new = stateHeld 16 (flushState lost (viewState s)); old = s; count = count; is = refl }
+    flush-stored = record { told = Refused; number = verdictNumber (flushVerdict g named s t); stores = flushStores g here; new = stateHeld maxZones (flushState lost (viewState s)); old = s; count = count; is = refl }
 
     unfoldable pub reset-stored : (z : ℕ) → Stored g t (resetOn g named s z count t)
     unfolding resetOn
-    reset-stored z = record { told = Refused; number = verdictNumber (resetVerdict g named s z t); stores = resetAll g here (rolesOf g t) (seenIn g t) (viewState s) z; new = stateHeld 16 (resetState lost (viewState s) z); old = s; count = count; is = refl }
+    reset-stored z = record { told = Refused; number = verdictNumber (resetVerdict g named s z t); stores = resetAll g here (rolesOf g t) (seenIn g t) (viewState s) z; new = stateHeld maxZones (resetState lost (viewState s) z); old = s; count = count; is = refl }
 
     unfoldable pub write-stored : (a k : ℕ) (buffer : List ℕ) → Stored g t (writeOn g named s a k buffer count t)
     unfolding writeOn
@@ -148,7 +148,7 @@ module _ (g : Geometry) (t : Tables) (named : List Bool) (count : ℕ) where
       told = Refused;
       number = verdictNumber (writeVerdict g named s a k (length buffer) t);
       stores = writeAll g here (rolesOf g t) (seenIn g t) (viewState s) (zoneOf g a) (sectorsIn g k buffer);
-      new = stateHeld 16 (writeState lost (viewState s) (zoneOf g a) k);
+      new = stateHeld maxZones (writeState lost (viewState s) (zoneOf g a) k);
       old = s;
       count = count;
       is = refl;

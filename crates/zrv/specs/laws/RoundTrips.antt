@@ -6,7 +6,7 @@ use native.Mathlib.Decide.{decLt}
 use native.Mathlib.Nat.{mod-lt, mod-eq-of-lt}
 use native.Mathlib.Omega.{arith}
 use mathlib.Core.List.{append-assoc, List, _++_}
-use lib.ListN.{length, getD, take, drop, replicate, length-append, length-drop}
+use lib.ListN.{length, getD, take, drop, length-append, length-drop}
 use lib.Seq.{drop-at, drop-drop, take-add, take-length, take-append-le, drop-append-le, length-take-le, ext-getD}
 use Rattle.tables.specs.meaning.Below.{tabulate}
 use Rattle.tables.specs.laws.Below.{length-tabulate, getD-tabulate}

@@ -26,11 +26,10 @@ use Rattle.volume.specs.declared.ZoneRecord.{ZoneRecord}
 use Rattle.volume.specs.declared.State.{State}
 use Rattle.volume.specs.meaning.State.{pointerIn, conditionNumber, conditionOfNumber}
 use Rattle.volume.specs.meaning.Refusals.{stateWithin}
-use Rattle.volume.specs.meaning.CallContracts.{blankRecord, recordAt, viewState}
+use Rattle.volume.specs.meaning.CallContracts.{recordAt, viewState}
 use Rattle.volume.specs.laws.StateHeld.{records-at}
 use Rattle.volume.specs.looking.KnowingLaws.{all-below-cong}
 use Rattle.volume.specs.laws.ByteLists.{number-small, bytes-take}
-use Rattle.volume.specs.laws.ByteLists.{Bytes as ByteList}
 use Rattle.mounting.specs.MountGenerations.{same-numbers}
 use Rattle.zrv.specs.meaning.Bytes.{recordTo, recordFrom, recordsTo, noState, stateTo, stateFrom, stateWellFormed}
 

@@ -3,7 +3,7 @@
 use mathlib.Core.Path.{_≡_, refl, sym, ap, subst, _∙_}
 use mathlib.Core.Logic.{_≢_, _⊎_, inl, inr}
 use mathlib.Core.Bool.{Bool, true, false, _&&_, _||_, not}
-use Prim.Native.Nat.{ℕ, zero, suc, _+_, _-_, _*_, _^_, _≤_, _<_, zero-le}
+use Prim.Native.Nat.{ℕ, zero, suc, _+_, _*_, _^_, _≤_, _<_, zero-le}
 use native.Mathlib.Decide.{ℕ-discrete}
 use native.Mathlib.Omega.{arith}
 use mathlib.Core.List.{List}
@@ -18,7 +18,7 @@ use Rattle.tables.specs.meaning.Below.{allBelow}
 use Rattle.tables.specs.laws.Below.{all-all-below}
 use Rattle.tables.specs.meaning.Drives.{findBelow, noDrive}
 use Rattle.tables.specs.laws.Drives.{find-below-is}
-use Rattle.tables.specs.meaning.Geometry.{Valid, cells, zoneSectors}
+use Rattle.tables.specs.meaning.Geometry.{Valid, cells, zoneSectors, maxZones}
 use Rattle.tables.specs.meaning.GeometryTest.{isValid}
 use Rattle.tables.specs.laws.GeometryTest.{test-if-valid}
 use Rattle.tables.specs.laws.Sizes.{zone-small}
@@ -45,7 +45,6 @@ use Rattle.volume.specs.laws.Refusals.{accepted-row}
 use Rattle.volume.specs.laws.PassedRows.{reset-number-accepts, reset-passed, write-number-accepts, write-passed}
 use Rattle.volume.specs.laws.AnswerNumbers.{refused-numbered, look-told, mount-told}
 use Rattle.volume.specs.laws.GenerationRange.{generation-range, worn-top}
-use Rattle.volume.specs.laws.LookPointers.{pointer-within as pointer-at-within}
 use Rattle.volume.specs.meaning.Mount.{mountState}
 use Rattle.zrv.specs.meaning.Bytes.{stateFrom, stateTo, stateWellFormed}
 use Rattle.zrv.specs.meaning.EdgeCalls.{namedOf, sizesFit, stateBad, inputNumber, sizesNumber, Ranges, tablesIn, stateIn, unreadState, stateAfter, Answered, unlessRefused, handedBack, storedAll, storedFlushes, withoutPlace, flushOfBytes, flushEdge, lookOfBytes, lookEdge, mountOfBytes, mountEdge, formatOfBytes, formatEdge, resetOfBytes, resetEdge, writeOfBytes, writeEdge}
@@ -267,7 +266,7 @@ module _ (g : Geometry) (named : List Bool) (s : State) (b : Bounded g s) (count
   flush-bounded : (t : Tables) → answerNumber (flushOn g named s count t .outcome .answer) ≡ 0 → Bounded g (flushOn g named s count t .outcome .state)
   unfolding flushOn
   flush-bounded t =
-      finished-new (Bounded g) g (verdictNumber (flushVerdict g named s t)) (flushStores g (callPresent g (isSet named) (viewState s))) (stateHeld 16 (flushState (lostIn g (isSet named) (viewState s)) (viewState s))) s count t
+      finished-new (Bounded g) g (verdictNumber (flushVerdict g named s t)) (flushStores g (callPresent g (isSet named) (viewState s))) (stateHeld maxZones (flushState (lostIn g (isSet named) (viewState s)) (viewState s))) s count t
       (λ v.
       subst (Bounded g) (held-lost s (lostIn g (isSet named) (viewState s)) (b .sixteen))
       (record { lost-drive = lost-found g named s; sixteen = b .sixteen; generations = b .generations; pointers = b .pointers; past = b .past }))
@@ -275,7 +274,7 @@ module _ (g : Geometry) (named : List Bool) (s : State) (b : Bounded g s) (count
   reset-bounded : (z : ℕ) (t : Tables) → Valid g → answerNumber (resetOn g named s z count t .outcome .answer) ≡ 0 → Bounded g (resetOn g named s z count t .outcome .state)
   unfolding resetOn
   reset-bounded z t ok =
-      finished-new (Bounded g) g (verdictNumber (resetVerdict g named s z t)) (resetAll g (callPresent g (isSet named) (viewState s)) (rolesOf g t) (seenIn g t) (viewState s) z) (stateHeld 16 (resetState (lostIn g (isSet named) (viewState s)) (viewState s) z)) s count t
+      finished-new (Bounded g) g (verdictNumber (resetVerdict g named s z t)) (resetAll g (callPresent g (isSet named) (viewState s)) (rolesOf g t) (seenIn g t) (viewState s) z) (stateHeld maxZones (resetState (lostIn g (isSet named) (viewState s)) (viewState s) z)) s count t
       (λ v.
       let a = reset-number-accepts g named t s z v in
       let hz : z < g .zones = reset-passed g named s z t a .zone in
@@ -291,7 +290,7 @@ module _ (g : Geometry) (named : List Bool) (s : State) (b : Bounded g s) (count
   unfolding writeOn
   write-bounded a k buffer t ok =
       finished-new (Bounded g) g (verdictNumber (writeVerdict g named s a k (length buffer) t)) (writeAll g (callPresent g (isSet named) (viewState s)) (rolesOf g t) (seenIn g t) (viewState s) (zoneOf g a) (sectorsIn g k buffer))
-      (stateHeld 16 (writeState (lostIn g (isSet named) (viewState s)) (viewState s) (zoneOf g a) k)) s count t
+      (stateHeld maxZones (writeState (lostIn g (isSet named) (viewState s)) (viewState s) (zoneOf g a) k)) s count t
       (λ v.
       let w = write-passed g named s a k (length buffer) t (write-number-accepts g named t s a k (length buffer) v) in
       subst (Bounded g) (held-open s (lostIn g (isSet named) (viewState s)) (zoneOf g a) (pointerOf s (zoneOf g a) + k) (b .sixteen) (omega (arith, w .zone, ok .zones-most)))

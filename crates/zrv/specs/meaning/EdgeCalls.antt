@@ -8,7 +8,7 @@ use lib.Dec.{eqb}
 use Rattle.tables.specs.declared.Geometry.{Geometry}
 use Rattle.tables.specs.meaning.Basics.{pick}
 use Rattle.tables.specs.meaning.Below.{eachBelow}
-use Rattle.tables.specs.meaning.Geometry.{geometryOf, cells}
+use Rattle.tables.specs.meaning.Geometry.{geometryOf, cells, maxZones}
 use Rattle.tables.specs.meaning.GeometryTest.{isValid}
 use Rattle.tables.specs.meaning.Tables.{Tables, tablesOf}
 use Rattle.volume.specs.declared.Answer.{Answer}
@@ -20,7 +20,7 @@ use Rattle.volume.specs.meaning.CallContracts.{blankRecord, viewState, answerNu
 use Rattle.volume.specs.declared.ZoneDescriptor.{ZoneDescriptor}
 use Rattle.volume.specs.declared.ReportedCondition.the-variants as told
 use Rattle.volume.specs.meaning.Report.{ReportResult, reportOn}
-use Rattle.zrv.specs.meaning.Bytes.{tableFrom, tableTo, stateFrom, stateTo, stateWellFormed, descriptorTo}
+use Rattle.zrv.specs.meaning.Bytes.{stateBytes, tableFrom, tableTo, stateFrom, stateTo, stateWellFormed, descriptorTo}
 use Rattle.tables.specs.meaning.LittleEndian.{bytesLE}
 use Rattle.volume.specs.meaning.Answers.{placeOf}
 
@@ -45,11 +45,11 @@ namedOf m = bitsOf 8 m
 -- ---- what is refused before the call
 -- the lengths of the state and of the two tables, in bytes
 unfoldable pub sizesFit : Geometry → ℕ → ℕ → ℕ → Bool
-sizesFit g n w d = eqb n 264 && (eqb w (cells g * 4) && eqb d (cells g * 4))
+sizesFit g n w d = eqb n stateBytes && (eqb w (cells g * 4) && eqb d (cells g * 4))
 
--- a state of 264 bytes that has not its form, or is out of document 01's bounds
+-- a state of its length that has not its form, or is out of document 01's bounds
 unfoldable pub stateBad : Geometry → List ℕ → Bool
-stateBad g st = eqb (length st) 264 && not (stateWellFormed (g .zones) st && stateWithin g (viewState (stateFrom (g .zones) st)))
+stateBad g st = eqb (length st) stateBytes && not (stateWellFormed (g .zones) st && stateWithin g (viewState (stateFrom (g .zones) st)))
 
 -- a call that reads the state
 unfoldable pub inputNumber : Geometry → List ℕ → ℕ → ℕ → ℕ
@@ -80,7 +80,7 @@ stateIn g m = stateFrom (g .zones) (m .state)
 
 -- in place of the state that a format, look or mount never reads
 unfoldable pub unreadState : State
-unreadState = record { lost = 0; zones = replicate 16 blankRecord }
+unreadState = record { lost = 0; zones = replicate maxZones blankRecord }
 
 -- ---- what a call leaves
 -- what a call returns, and what it leaves of what it may change
@@ -202,7 +202,7 @@ peekEdge g mask a m place = readingState g m (placeSized place (placeAnswer g a 
 
 -- report, from the state alone: what is refused before it
 unfoldable pub reportInput : Geometry → List ℕ → ℕ
-reportInput g st = pick (isValid g) (pick (stateBad g st) 1 (pick (eqb (length st) 264) 0 2)) 1
+reportInput g st = pick (isValid g) (pick (stateBad g st) 1 (pick (eqb (length st) stateBytes) 0 2)) 1
 
 -- a list of so many bytes has room for so many descriptors
 abbrev pub descriptorsIn : List ℕ → ℕ

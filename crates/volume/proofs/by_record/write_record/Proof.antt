@@ -12,7 +12,7 @@ use Rattle.tables.specs.laws.Basics.{or-none, not-not}
 use Rattle.tables.specs.laws.Sizes.{zone-small}
 use Rattle.tables.specs.meaning.Basics.{pick}
 use Rattle.tables.specs.meaning.Drives.{findBelow}
-use Rattle.tables.specs.meaning.Geometry.{zoneSectors}
+use Rattle.tables.specs.meaning.Geometry.{zoneSectors, maxZones}
 use Rattle.tables.specs.meaning.Tables.{tablesOf}
 use Rattle.volume.specs.declared.Answer.the-variants.{Finished, Unfinished}
 use Rattle.volume.specs.declared.State.{State}
@@ -91,7 +91,7 @@ returns-2 c =
     let lost : findBelow (λ (d : ℕ). not (isSet (presentList (a .by .geometry) (a .by .named) (a .by .lost)) d)) (a .by .geometry .drives) ≡ c .left-out .result = sym (c .left-out .ensures ∙ ap (λ (h : List Bool). findBelow (λ (d : ℕ). not (isSet h d)) (a .by .geometry .drives)) (n .before .present-drives .ensures)) in
     let end : offsetOf (a .by .geometry) (a .address) + a .run ≡ n .offset-of .result + a .run = ap (λ (m : ℕ). m + a .run) (sym (n .offset-of .ensures .0)) in
     let ended : State → List ℕ → ℕ → ℕ → Result = λ t ds x m. record {
-      outcome = pick (eqb (w .result .rest) 0) (record { answer = Unfinished; state = t }) (record { answer = Finished; state = stateHeld 16 (openState x (viewState t) (zoneOf (a .by .geometry) (a .address)) m) });
+      outcome = pick (eqb (w .result .rest) 0) (record { answer = Unfinished; state = t }) (record { answer = Finished; state = stateHeld maxZones (openState x (viewState t) (zoneOf (a .by .geometry) (a .address)) m) });
       tables = tablesOf (w .last .0) (w .last .1 .0) ds;
     } in
     record { kept = λ m. tried .kept m .0; in-zone = λ m. h; done = λ m t ds q. done m t ds q ∙ ap₂ (ended t ds) lost end }

@@ -4,6 +4,7 @@ use Rattle.tables.specs.meaning.Basics.{pick}
 use Rattle.tables.specs.meaning.Device.{Store}
 use Rattle.tables.specs.meaning.Drives.{findBelow}
 use Rattle.tables.specs.meaning.Tables.{Tables, tablesOf}
+use Rattle.tables.specs.meaning.Geometry.{maxZones}
 use Prim.Native.Nat.{ℕ, suc, _+_}
 use mathlib.Core.Path.{_≡_, sym, ap, subst, _∙_}
 use mathlib.Core.Bool.{Bool, not}
@@ -54,7 +55,7 @@ abbrev refusal : tie.Start → ℕ
 refusal s = verdictNumber (flushVerdict (s .args .g) (s .args .named) (s .args .state) (given s))
 
 abbrev handed-on : tie.Start → State
-handed-on s = stateHeld 16 (flushState (lostIn (s .args .g) (isSet (s .args .named)) (viewState (s .args .state))) (viewState (s .args .state)))
+handed-on s = stateHeld maxZones (flushState (lostIn (s .args .g) (isSet (s .args .named)) (viewState (s .args .state))) (viewState (s .args .state)))
 
 returns : tie.Need-returns
 unfolding flushOn
@@ -112,7 +113,7 @@ returns-2 c =
     let ending : State → Outcome = λ y. pick (eqb (f .flush-all .result) 0) (record { answer = Unfinished; state = a .state }) (record { answer = Finished; state = y }) in
     let (p, q) = storing-ends (a .g) (refusal s) (stores s) (handed-on s) (a .state) (a .count) (given s) (f .flush-all .result) (left f) n (made f) in
     let long : length (a .state .zones) ≡ 16 = mapped-long _ (a .state .zones) 16 (s .good .1 .1 .1 .1 .1 .0 .1 .1 .1 .0 .1 .0 .1) in
-    (c .ended .ensures ∙ ap ending (held-lost (a .state) (l .left-out .result) long ∙ ap (λ (y : ℕ). stateHeld 16 (flushState y (viewState (a .state)))) x) ∙ p, q)
+    (c .ended .ensures ∙ ap ending (held-lost (a .state) (l .left-out .result) long ∙ ap (λ (y : ℕ). stateHeld maxZones (flushState y (viewState (a .state)))) x) ∙ p, q)
 
 pub flush-spec : {M : Type 1} → statement M
 flush-spec =

@@ -4,6 +4,7 @@ use native.Mathlib.Omega.{arith}
 use lib.ListN.{length}
 use lib.Dec.{eqb}
 use Rattle.tables.specs.meaning.Basics.{pick}
+use Rattle.tables.specs.meaning.Geometry.{maxZones}
 use Rattle.volume.specs.declared.Answer.the-variants.{Finished, Unfinished}
 use Rattle.volume.specs.declared.Outcome.{Outcome}
 use Rattle.volume.specs.declared.State.{State}
@@ -22,7 +23,7 @@ returns c =
     let long : length (a .state .zones) ≡ 16 = mapped-long _ (a .state .zones) 16 (s .good .1 .0 .1 .1 .1 .0 .1 .0 .1) in
     let h : a .zone .number < 16 = omega (arith, s .pre .1 .0, s .pre .0 .zones-most) in
     let ending : State → Outcome = λ t. pick (eqb (a .rest) 0) (record { answer = Unfinished; state = a .state }) (record { answer = Finished; state = t }) in
-    c .ended .ensures ∙ ap ending (rw (c .before .reset-record .ensures) (held-reset (a .state) (x .result) (a .zone .number) long h) ∙ ap (λ (y : ℕ). stateHeld 16 (resetState y (viewState (a .state)) (a .zone .number))) (x .ensures))
+    c .ended .ensures ∙ ap ending (rw (c .before .reset-record .ensures) (held-reset (a .state) (x .result) (a .zone .number) long h) ∙ ap (λ (y : ℕ). stateHeld maxZones (resetState y (viewState (a .state)) (a .zone .number))) (x .ensures))
 
 pub outcome-spec : {M : Type 1} → statement M
 outcome-spec =

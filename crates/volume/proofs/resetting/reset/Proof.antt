@@ -14,6 +14,7 @@ use Rattle.tables.specs.meaning.Drives.{findBelow}
 use Rattle.tables.specs.meaning.Tables.{Tables, tablesOf}
 use Rattle.tables.specs.laws.Made.{Made}
 use Rattle.tables.specs.laws.TablesFrame.{lengths-are}
+use Rattle.tables.specs.meaning.Geometry.{maxZones}
 use Rattle.volume.specs.declared.State.{State}
 use Rattle.volume.specs.declared.Outcome.{Outcome}
 use Rattle.volume.specs.declared.Answer.the-variants.{Finished, Unfinished, Refused}
@@ -41,7 +42,7 @@ abbrev stores : tie.Start → List Store
 stores s = resetAll (s .args .g) (callPresent (s .args .g) (isSet (s .args .named)) (viewState (s .args .state))) (rolesOf (s .args .g) (given s)) (seenIn (s .args .g) (given s)) (viewState (s .args .state)) (s .args .zone)
 
 abbrev next : tie.Start → State
-next s = stateHeld 16 (resetState (lostIn (s .args .g) (isSet (s .args .named)) (viewState (s .args .state))) (viewState (s .args .state)) (s .args .zone))
+next s = stateHeld maxZones (resetState (lostIn (s .args .g) (isSet (s .args .named)) (viewState (s .args .state))) (viewState (s .args .state)) (s .args .zone))
 
 abbrev opening : tie.Start → ℕ
 opening s = let a = s .args in openingNumber (a .g) (a .named) (a .state) 0 0 (length (now (a .sectors))) (now (a .written)) (now (a .durable))

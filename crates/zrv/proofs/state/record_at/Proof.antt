@@ -10,7 +10,7 @@ use Rattle.zrv.proofs.state.record_at.Tie as tie
 
 returns : tie.Need-returns
 unfolding stateFrom
-returns c = let a = c .before .before .args in sym (records-past (λ (y : ℕ). recordFrom (now (a .bytes)) (8 + 16 * y)) (a .g .zones) (a .z) (omega arith))
+returns c = let a = c .before .before .before .args in c .blank-record .ensures ∙ sym (records-past (λ (y : ℕ). recordFrom (now (a .bytes)) (8 + 16 * y)) (a .g .zones) (a .z) (omega arith))
 
 returns-2 : tie.Need-returns-2
 unfolding stateFrom
@@ -19,4 +19,4 @@ returns-2 c =
     c .record-from .ensures ∙ sym (records-at (λ (y : ℕ). recordFrom (now (a .bytes)) (8 + 16 * y)) (a .g .zones) (a .z) (omega arith))
 
 pub record-at-spec : {M : Type 1} → statement M
-record-at-spec = tie.close (tie.spec returns (λ c. search needs) (λ c. search needs) (λ c κs. search needs) returns-2)
+record-at-spec = tie.close (tie.spec (λ c κs. search needs) returns (λ c. search needs) (λ c. search needs) (λ c κs. search needs) returns-2)

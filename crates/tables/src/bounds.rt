@@ -8,7 +8,7 @@ ghost use Prim.Native.Nat.{_≤_, _<_};
 ghost use lib.ListN.{length};
 ghost use Rattle.tables.specs.meaning.Below.{anyBelow};
 ghost use Rattle.tables.specs.meaning.Geometry.{Valid, geometryOf, log2, zoneSectors, stripeSectors, physicalZones, cells, totalBytes};
-ghost use Rattle.tables.specs.meaning.GeometryTest.{isValid, all, ranges, sectorSize};
+ghost use Rattle.tables.specs.meaning.GeometryTest.{isValid, all, boundTests, sectorSize};
 ghost use Rattle.tables.specs.meaning.Tables.{lengthsFit, bufferFits, pointerBad, pointersBad};
 
 // The geometry of document 01's five numbers, with each drive's logs at their first places.
@@ -38,7 +38,7 @@ fn size_ok(b: usize) -> bool
 }
 
 fn in_ranges(g: Geometry) -> bool
-    ensures { λ r. ⌜ r ≡ all (ranges g) ⌝ }
+    ensures { λ r. ⌜ r ≡ all (boundTests g) ⌝ }
 {
     let b = g.sector;
     let size = size_ok(b);

@@ -15,7 +15,7 @@ ghost use Rattle.logs.specs.code.WalkCode.{InLog};
 ghost use Rattle.logs.specs.code.Query.{logHeads};
 ghost use Rattle.logs.specs.meaning.Heads.{firstClosing};
 ghost use Rattle.volume.specs.meaning.CallContracts.{isSet};
-ghost use Rattle.volume.specs.meaning.Roles.{claim, claimOfKind, otherThan, roles, byRoles};
+ghost use Rattle.volume.specs.meaning.Roles.{zoneClaim, claimOfKind, otherThan, roles, byRoles};
 ghost use Rattle.volume.specs.laws.LogPlaces.{withLogs, withParity};
 ghost use Rattle.volume.specs.laws.LogClaims.{strengths};
 ghost use Rattle.volume.specs.looking.DriveLogs.{Sized};
@@ -70,7 +70,7 @@ fn claim_of(
 ) -> u64
     requires { ⌜ Valid g ⌝ }
     requires { ⌜ Sized g (now sectors) (now written) × (drive < g .drives) × (zone < 3) ⌝ }
-    ensures { λ r. ⌜ r ≡ claim g drive parity (zonesRead g (now (sectors .entry)) (now (written .entry)) drive zone) ⌝ }
+    ensures { λ r. ⌜ r ≡ zoneClaim g drive parity (zonesRead g (now (sectors .entry)) (now (written .entry)) drive zone) ⌝ }
 {
     let log = super::drive_logs::log_in(written, g, drive, zone);
     logs::folds::first_closing(sectors, g, log, parity)

@@ -25,7 +25,7 @@ ghost use Rattle.tables.specs.laws.Within.{Apart};
 ghost use Rattle.volume.specs.meaning.Calls.{dataStores};
 ghost use Rattle.volume.specs.meaning.CallContracts.{isSet};
 ghost use Rattle.volume.specs.stripes.UnitStores.{unitsPassed};
-ghost use Rattle.volume.specs.stripes.WholeStripe.{placeOf};
+ghost use Rattle.volume.specs.stripes.WholeStripe.{stripeUnitPlace};
 ghost use Rattle.volume.specs.stripes.StripeDue.{Fitting, laidOf, roomFor, stripeDue, stripeAt, StripeReady, NewFrom};
 
 // Such a stripe: the geometry that its stores go by, its physical zone, the drive of its parity, and where its bytes begin in the write's buffer.
@@ -41,7 +41,7 @@ fn place_of(written: &[u32], s: Stripe, j: usize) -> usize
     requires { ⌜ Valid (s .geometry) ⌝ }
     requires { ⌜ (s .zone < physicalZones (s .geometry)) × (s .parity < s .geometry .drives) × (j < s .geometry .drives) × (length (now written) ≡ cells (s .geometry))
         × (getD (now written) (cell (s .geometry) (unitDrive (s .geometry .drives) (s .parity) j) (s .zone)) 0 < s .geometry .capacity) ⌝ }
-    ensures { λ r. ⌜ r ≡ placeOf (s .geometry) (s .zone) (s .parity) (now (written .entry)) j ⌝ }
+    ensures { λ r. ⌜ r ≡ stripeUnitPlace (s .geometry) (s .zone) (s .parity) (now (written .entry)) j ⌝ }
 {
     let d = tables::placement::unit_drive(s.geometry.drives, s.parity, j);
     tables::stores::next_byte(written, s.geometry, d, s.zone)

@@ -22,7 +22,7 @@ use Rattle.logs.specs.laws.Copies.{Copied, copied-open}
 use Rattle.volume.specs.meaning.Calls.{appendAll, generationsFrom, flushStores}
 use Rattle.volume.specs.meaning.State.{StateView}
 use Rattle.volume.specs.meaning.Rules.{generalHeads}
-use Rattle.volume.specs.meaning.Roles.{claim, Roles, roles, byRoles, emptiedRoles, rolesAfter}
+use Rattle.volume.specs.meaning.Roles.{zoneClaim, Roles, roles, byRoles, emptiedRoles, rolesAfter}
 use Rattle.volume.specs.meaning.Emptying.{InForce, generalCopies, newGeneral, newGeneralSize}
 use Rattle.volume.specs.laws.Firm.{proper-apart, firm-roles}
 use Rattle.promise.specs.meaning.Ledger.{Ledger}
@@ -119,7 +119,7 @@ module _ (g : Geometry) (ok : Valid g) (x : ℕ) (v : Device) (γ : Ghost) (s : 
       let n : length ss ≡ length front + 1 = length-map (encode g d) copy ∙ length-append front (closing 0 (s .roles d .generalClaim) ∷ []) in
       take-map (encode g d) m copy ∙ ap (map (encode g d)) (take-append-le m front (closing 0 (s .roles d .generalClaim) ∷ []) (omega (arith, n, h)))
 
-  part-silent : (m k : ℕ) (par : Bool) → claim g d par (take k (map (encode g d) (take m front))) ≡ 0
+  part-silent : (m k : ℕ) (par : Bool) → zoneClaim g d par (take k (map (encode g d) (take m front))) ≡ 0
   part-silent m k par = open-claims g d (take m front) (λ h o. copy-reads g ok x d hd (byRoles g v) γ (i .logs) gens small h (of h o)) (rw length-take (omega (arith, long))) unclosed k par
     where
       of : (h : Header) → List·Memᴰ h (take m front) → Copied g gens (generationsFrom gens zero (g .zones)) (γ .general d) h

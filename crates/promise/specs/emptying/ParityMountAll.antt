@@ -213,31 +213,31 @@ module _ (g : Geometry) (ok : Valid g) (x : ℕ) (c : LogGenerations) (v : Devic
     u3-is : applyAll (one m) u ≡ u3
     u3-is = ap (λ (xs : List Store). applyAll xs u) one-is ∙ emptying-whole g x m (roles g v m .parity) (roles g v m .spare) (newSectors g (byLook k) v m) u ∙ ap (λ (xs : List Store). applyAll xs u1) (sym rest-are)
 
-    abbrev claim : ℕ
-    claim = st1 .roles m .parityClaim
+    abbrev parityClaimed : ℕ
+    parityClaimed = st1 .roles m .parityClaim
 
     abbrev copy : List Entry
     copy = newLog g (byLook k) m (parityEntries g (byRoles g u1) m) (st1 .roles m .parityClaim)
 
-    by-copy : ByCopy g x (p .generations) u1 u3 m copy claim
+    by-copy : ByCopy g x (p .generations) u1 u3 m copy parityClaimed
     by-copy = mount-one-done g ok x (p .generations) u1 st1 (flush-solid g x u) (withMarks l (p .marks)) (p .ghost) k fd1 (p .closed-are) m here can1
 
     other : (e y : ℕ) → Here g x e → e ≢ m → u3 e y ≡ u e y
     other e y a h = mount-one-other g ok x (p .generations) u1 st1 (flush-solid g x u) (withMarks l (p .marks)) (p .ghost) k fd1 (p .closed-are) m here can1 e y a h ∙ flush-still e y a
 
-    claim-is : claim ≡ roles g v m .parityClaim
+    claim-is : parityClaimed ≡ roles g v m .parityClaim
     claim-is = ap (λ (r : Roles). r .parityClaim) (sym (firm-roles g u1 m (st1 .roles m) (st1 .firm m here)) ∙ same-roles)
 
     next : MountProgress (suc m) u3
     next = record {
-      generations = parityClosed (p .generations) m claim;
+      generations = parityClosed (p .generations) m parityClaimed;
       marks = marksByCopy g k (withMarks l (p .marks)) m;
       above = λ z. le-trans (p .above z) (marks-by-copy-above g k (withMarks l (p .marks)) m z);
-      ghost = parityGhost (p .ghost) m copy claim;
+      ghost = parityGhost (p .ghost) m copy parityClaimed;
       standing = by-copy .standing;
       lasts = mount-one-solid g ok x (p .generations) u1 st1 (flush-solid g x u) (withMarks l (p .marks)) (p .ghost) k fd1 (p .closed-are) m here can1;
       filled = mount-one-filled g ok x (p .generations) u1 st1 (flush-solid g x u) (withMarks l (p .marks)) (p .ghost) k fd1 (p .closed-are) m here can1;
-      closed-are = ap (λ (h : LogGenerations). parityClosed h m claim) (p .closed-are);
+      closed-are = ap (λ (h : LogGenerations). parityClosed h m parityClaimed) (p .closed-are);
       shown = mount-one-shown g ok x (p .generations) u1 st1 (flush-solid g x u) (withMarks l (p .marks)) (p .ghost) k fd1 (p .closed-are) m here can1 sh1;
       looks = then-looks u3 (mount-one-shows g ok x (p .generations) u1 st1 (flush-solid g x u) (withMarks l (p .marks)) (p .ghost) k fd1 (p .closed-are) m here can1 sh1);
       same = record { laid = p .same .laid; generation = p .same .generation; general = p .same .general; array = p .same .array };

@@ -9,7 +9,7 @@ use Rattle.volume.specs.meaning.Content.{rowXor, contentAt, rowXorBelow, entryA
 use Rattle.volume.specs.meaning.Rules.{viewOf, generalHeads, generalEnding, parityEntries, parityEnding, isLost, isPresent, generationOf, resetSeen, sealSeen, sealLimit, zoneView, valueAt, pointerAt, cleanAt, zoneAt, zoneShown, showing}
 use Rattle.volume.specs.meaning.State.{callPresent}
 use Rattle.logs.specs.meaning.Copies.{copiedGeneral}
-use Rattle.volume.specs.meaning.Roles.{claim, strength, rolesIn, driveByRoles}
+use Rattle.volume.specs.meaning.Roles.{zoneClaim, strength, rolesIn, driveByRoles}
 use Rattle.volume.specs.meaning.Emptying.{generalCopies, parityCopies, newGeneral, newParity, newGeneralSize, newParitySize, unusedIn, staysFull, emptiedFor, emptiedForWrite, emptyingStores, emptyings, emptyGeneral, emptyParity, writeAll, resetAll, goneForCopies}
 use Rattle.volume.specs.meaning.Answers.{lostIn, leftOut, namedDrives, sectorsIn}
 use Rattle.volume.specs.meaning.Refusals.{badPointers, twoLost, badLabels, kindLacks, badLogs, stateWithin, twoAbsent, twoUnnamed, stale, mountFull, resetFull, writeFull, goneIn, goneBefore, goneForEntry, notHeld, formatRows, lookRows, mountRows, writeRows, flushRows, resetRows, readRows, peekRows}
@@ -34,7 +34,7 @@ rulesOpen = true
 
 -- where the logs lie, and how they are emptied
 unfoldable pub rolesOpen : Bool
-unfolding claim strength rolesIn driveByRoles
+unfolding zoneClaim strength rolesIn driveByRoles
 rolesOpen = true
 
 unfoldable pub emptyingOpen : Bool

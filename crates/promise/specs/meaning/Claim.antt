@@ -59,7 +59,7 @@ pub record Volume : Type 1 where
   pub report : State → Listing → ReportResult Listing
   pub shows : Names → Memory → Memory → Shown  -- what the drives that a look finds present in the first memory show in the second
   pub stateOf : Shown → State  -- the state that hands on what is shown
-  pub reportOf : Shown → Listing → ReportResult Listing  -- the finished report that tells the conditions shown
+  pub finishedReport : Shown → Listing → ReportResult Listing  -- the finished report that tells the conditions shown
   pub view : State → StateView  -- as the rules see it: the drive that is lost, the zones' generations and conditions
   pub CutTo : ℕ → Memory → Memory → Type 0  -- what a power cut may leave, while a drive is lost
   pub LossTo : ℕ → Memory → Memory → Type 0  -- what the loss of a drive may leave: of that drive anything
@@ -277,7 +277,7 @@ pub record Promise (g : Geometry) (vol : Volume) (s : System vol) : Type 0 where
   pub peek-accepted : (named : vol .Names) → NamesAll g vol s named → s .mode ≡ ready → (a : ℕ) → zoneOf g a < g .zones → offsetOf g a < pointerHeld vol (s .state) (zoneOf g a)
       → allBut (s .lost) (driveOf (g .drives) (g .unit) (zoneOf g a) (offsetOf g a)) ≡ true → heard s (peeks named a) ≡ peekedAt 0 (byteOf g (placeOf g a)) (at (s .ledger .content (zoneOf g a)) (offsetOf g a))
   -- no report is refused, and it tells what a look of the same moment shows
-  pub report-gives : (named : vol .Names) → NamesAll g vol s named → s .mode ≡ ready → (list : vol .Listing) → heard s (reports list) ≡ reported (vol .reportOf (vol .shows named (s .memory) (s .memory)) list)
+  pub report-gives : (named : vol .Names) → NamesAll g vol s named → s .mode ≡ ready → (list : vol .Listing) → heard s (reports list) ≡ reported (vol .finishedReport (vol .shows named (s .memory) (s .memory)) list)
 
 module _ (g : Geometry) (vol : Volume) where
   -- before each event, and after the last

@@ -15,10 +15,10 @@ use Rattle.promise.specs.meaning.Claim.{Call, mounts, writes, flushes, r
 use Rattle.promise.specs.meaning.Histories.{afterAll}
 
 -- sectors handed to a call, unless it is refused
-abbrev pub unlessRefused : Reply → List (List ℕ) → List (List ℕ)
-unlessRefused isRefused ss = []
-unlessRefused isUnfinished ss = ss
-unlessRefused isFinished ss = ss
+abbrev pub takenUnlessRefused : Reply → List (List ℕ) → List (List ℕ)
+takenUnlessRefused isRefused ss = []
+takenUnlessRefused isUnfinished ss = ss
+takenUnlessRefused isFinished ss = ss
 
 -- the sectors that a call is handed for zone z
 abbrev pub handedTo : Geometry → ℕ → Call → List (List ℕ)
@@ -31,7 +31,7 @@ handedTo g z (formats array) = []
 module _ (g : Geometry) (vol : Volume) where
   -- the sectors that an event writes to zone z
   abbrev pub writtenIn : ℕ → System vol → Event vol → List (List ℕ)
-  writtenIn z s (calls c named stop) = unlessRefused (replyTo (vol .call c named (s .state) stop (s .memory) .answer)) (handedTo g z c)
+  writtenIn z s (calls c named stop) = takenUnlessRefused (replyTo (vol .call c named (s .state) stop (s .memory) .answer)) (handedTo g z c)
   writtenIn z s (looks named) = []
   writtenIn z s (reads named a count out) = []
   writtenIn z s (peeks named a) = []

@@ -47,7 +47,7 @@ module _ (g : Geometry) (vol : Volume) (k : Caches vol) (older : OlderCuts vol k
   )
 
   pub older-any-drive : AnyDriveClaim g (withCaches vol k) → AnyDriveClaim g vol
-  older-any-drive claim named array old stop m small e before after by count d none done q x one some names =
+  older-any-drive zoneClaim named array old stop m small e before after by count d none done q x one some names =
       let C = withCaches vol k in
       let r = C .call (formats array) named old stop (record { memory = m; was = λ e z. [] }) in
       let s0 = start g vol named (vol .call (formats array) named old stop m) in
@@ -60,7 +60,7 @@ module _ (g : Geometry) (vol : Volume) (k : Caches vol) (older : OlderCuts vol k
       let duties = subst (λ (es : List (Event (withCaches vol k))). Dutiful g (withCaches vol k) (beside g vol k s0 was0) es) (all-append s0 was0 before (mount ∷ after)) (dutiful-there g vol k older s0 was0 (before ++ (mount ∷ after)) d) in
       let at : System (withCaches vol k) → Type 0 = λ a. a .lost ≡ noDrive → C .call mounts by (a .state) count (a .memory) .answer ≡ Finished → AllStoreNothing g C (next g C a (calls mounts by count)) (there-all t was1 after)
       → AnyDriveMayGo g C (C .shows by (a .memory) (next g C a (calls mounts by count) .memory)) (next g C a (calls mounts by count) .state) (afterAll g C (next g C a (calls mounts by count)) (there-all t was1 after)) in
-      let claimed : at (beside g vol k s was) = subst at (after-there s0 was0 before) (claim named array old stop (record { memory = m; was = λ e z. [] }) small e (there-all s0 was0 before) (there-all t was1 after) by count duties) in
+      let claimed : at (beside g vol k s was) = subst at (after-there s0 was0 before) (zoneClaim named array old stop (record { memory = m; was = λ e z. [] }) small e (there-all s0 was0 before) (there-all t was1 after) by count duties) in
       let p = subst (λ (a : System (withCaches vol k)). LooksAs g (withCaches vol k) (vol .shows by (s .memory) (t .memory)) (t .state) a some) (after-there t was1 after) (claimed none done (all-nothing t was1 after q) x one some names) in
       record {
         accepted = ap (without g vol k s0 was0) (p .accepted);

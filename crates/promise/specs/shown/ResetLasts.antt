@@ -24,7 +24,7 @@ use Rattle.promise.specs.meaning.Ledger.{Ledger, Reply, isRefused, isUnf
 use Rattle.promise.specs.meaning.Claim.{Call, mounts, writes, flushes, resets, formats, Volume, System, Event, calls, looks, reads, peeks, reports, cuts, loses, replyTo, noteOf, next, answered, Duty, Dutiful, Promise, Throughout, start, KeepsPromise}
 use Rattle.promise.specs.device.Heard.{answer-heard}
 use Rattle.promise.specs.meaning.Histories.{afterAll}
-use Rattle.promise.specs.meaning.ResetLasts.{unlessRefused, handedTo, writtenIn, writtenTo, OnlyOf, ResetsLast}
+use Rattle.promise.specs.meaning.ResetLasts.{takenUnlessRefused, handedTo, writtenIn, writtenTo, OnlyOf, ResetsLast}
 
 -- ---- lists
 at-member : (l : List (List ℕ)) (a : ℕ) → a < length l → List·Memᴰ (at l a) l
@@ -67,7 +67,7 @@ module _ (g : Geometry) (vol : Volume) (z : ℕ) (hz : z < g .zones) where
     wiped true t m = mem-nil t m
     wiped false t m = mem-left new [] t (h t m)
 
-    call-among : (c : Call) (k : Shown) (r : Reply) → (r ≡ isFinished → c ≡ mounts → FitsZone (s .ledger) z (k .zone z)) → Among (noted (s .ledger) (noteOf g c k r)) z (new ++ unlessRefused r (handedTo g z c))
+    call-among : (c : Call) (k : Shown) (r : Reply) → (r ≡ isFinished → c ≡ mounts → FitsZone (s .ledger) z (k .zone z)) → Among (noted (s .ledger) (noteOf g c k r)) z (new ++ takenUnlessRefused r (handedTo g z c))
     call-among mounts k isRefused f = more []
     call-among mounts k isUnfinished f = more []
     call-among mounts k isFinished f = λ t m. mem-left new [] t (mounted-among (s .ledger) z new k h (f refl refl) t m)

@@ -17,8 +17,8 @@ abbrev pub sectorSize : ℕ → Bool
 sectorSize b = eqb b 64 || eqb b 128 || eqb b 256 || eqb b 512 || eqb b 1024 || eqb b 2048 || eqb b 4096
 
 -- each field lies in its range
-abbrev pub ranges : Geometry → List Bool
-ranges g =
+abbrev pub boundTests : Geometry → List Bool
+boundTests g =
     leb 3 (g .drives) ∷ leb (g .drives) maxDrives
     ∷ sectorSize (g .sector)
     ∷ leb 1 (g .unit) ∷ leb (g .unit) 16
@@ -35,4 +35,4 @@ fits g =
     ∷ leb (g .zones + 6) (g .capacity) ∷ []
 
 unfoldable pub isValid : Geometry → Bool
-isValid g = all (ranges g) && all (fits g)
+isValid g = all (boundTests g) && all (fits g)

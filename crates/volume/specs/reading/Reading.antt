@@ -32,7 +32,7 @@ use Rattle.volume.specs.declared.Answer.the-variants.{Refused}
 use Rattle.volume.specs.meaning.State.{pointerIn, StateView, callPresent}
 use Rattle.volume.specs.meaning.Rules.{View, valueOf, known, valueAt}
 use Rattle.volume.specs.meaning.Roles.{byRoles}
-use Rattle.volume.specs.checks.ZoneChecks.{staleOn, Reached}
+use Rattle.volume.specs.checks.ZoneChecks.{staleOn, PointersReach}
 use Rattle.volume.specs.meaning.Refusals.{stateWithin, twoAbsent, firstRefusal, staleIn, stale, noZone, badRun, goneIn, zoneOf, offsetOf, readRows}
 use Rattle.tables.specs.meaning.GeometryTest.{isValid}
 use Rattle.tables.specs.laws.TablesFrame.{lengths-are, pointers-good}
@@ -82,7 +82,7 @@ pub record RunReady (zone : Zone) (xs ws : List ℕ) (pointer offset count : ℕ
   pub first : zone .geometry .logs ≡ 0
   pub run-in : offset + count ≤ zoneSectors (zone .geometry)
   pub buffer : length out ≡ count * zone .geometry .sector
-  pub reaches : Reached (zone .geometry) (zone .here) ws (zone .number) pointer
+  pub reaches : PointersReach (zone .geometry) (zone .here) ws (zone .number) pointer
   pub below : offset + count ≤ pointer
 
 -- refusal 15, and what it leaves in the buffer: else the values

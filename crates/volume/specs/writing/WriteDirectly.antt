@@ -73,8 +73,8 @@ entryPlace zone xs ws end =
     (entryLog (zone .geometry) xs ws (parityDriveAt (zone .geometry) (zone .number) end) (writeLimit (zone .geometry) end)) (record { alone = true; geometry = zone .geometry })
 
 -- of a write from its zone's pointer on
-unfoldable pub placeOf : Run → List ℕ → List ℕ → EntryPlace
-placeOf run xs ws = pick (earlierHeld (run .zone .geometry) (run .zone .here) ws (run .zone .number) (run .pointer)) (entryPlace (run .zone) xs ws (run .pointer + run .count)) (record { alone = false; geometry = run .zone .geometry })
+unfoldable pub directPlace : Run → List ℕ → List ℕ → EntryPlace
+directPlace run xs ws = pick (earlierHeld (run .zone .geometry) (run .zone .here) ws (run .zone .number) (run .pointer)) (entryPlace (run .zone) xs ws (run .pointer + run .count)) (record { alone = false; geometry = run .zone .geometry })
 
 and-false : (b : Bool) → b && false ≡ false
 and-false true = refl
@@ -83,11 +83,11 @@ and-false false = refl
 -- what trying a write came to: refused, or made, or neither, and then nothing has changed
 pub record TriedOn (run : Run) (c : Condition) (count : ℕ) (buffer xs ws xs′ ws′ : List ℕ) (r : Tried) : Type 0 where
   pub refusal-is : r .refusal ≡ zoneNumber (run .zone .geometry) (isSet (run .zone .here)) ws c (run .zone .number) (run .pointer) (run .count)
-  pub alone : r .made ≡ true → (r .refusal ≡ 0) × (placeOf run xs ws .alone ≡ true)
-  pub stores : r .made ≡ true → MadeAppends (placeOf run xs ws .geometry) (suc count) (r .rest) (runStoresOf run xs ws buffer) xs ws xs′ ws′
+  pub alone : r .made ≡ true → (r .refusal ≡ 0) × (directPlace run xs ws .alone ≡ true)
+  pub stores : r .made ≡ true → MadeAppends (directPlace run xs ws .geometry) (suc count) (r .rest) (runStoresOf run xs ws buffer) xs ws xs′ ws′
   pub kept : r .made ≡ false → (xs′ ≡ xs) × (ws′ ≡ ws)
 
-module _ (run : Run) (xs ws buffer : List ℕ) (ok : Valid (run .zone .geometry)) (logs-first : run .zone .geometry .logs ≡ 0) (sized : Sized (run .zone .geometry) xs ws) (p : RunPlaced run ws buffer) (alone : placeOf run xs ws .alone ≡ true) where
+module _ (run : Run) (xs ws buffer : List ℕ) (ok : Valid (run .zone .geometry)) (logs-first : run .zone .geometry .logs ≡ 0) (sized : Sized (run .zone .geometry) xs ws) (p : RunPlaced run ws buffer) (alone : directPlace run xs ws .alone ≡ true) where
   abbrev g : Geometry
   g = run .zone .geometry
 
@@ -114,14 +114,14 @@ module _ (run : Run) (xs ws buffer : List ℕ) (ok : Valid (run .zone .geometry)
   q = strongest asParity
 
   abbrev place : EntryPlace
-  place = placeOf run xs ws
+  place = directPlace run xs ws
 
   own-below : own < g .drives
   own-below = parity-drive-below (g .drives) (g .unit) z (omega (arith, ok .drives-least)) (ok .unit-least) (stripeOf (g .drives) (g .unit) end)
 
   -- ---- the sectors that it reads are held
   held : earlierHeld g (run .zone .here) ws z n ≡ true
-  unfolding placeOf
+  unfolding directPlace
   held = go (earlierHeld g (run .zone .here) ws z n) alone
     where
       go : (b : Bool) → pick b (entryPlace (run .zone) xs ws end) (record { alone = false; geometry = g }) .alone ≡ true → b ≡ true
@@ -155,12 +155,12 @@ module _ (run : Run) (xs ws buffer : List ℕ) (ok : Valid (run .zone .geometry)
 
   -- ---- so the place is its entry's
   placed : place ≡ entryPlace (run .zone) xs ws end
-  unfolding placeOf
+  unfolding directPlace
   placed = ap (λ (b : Bool). pick b (entryPlace (run .zone) xs ws end) (record { alone = false; geometry = g })) held
 
   -- by a geometry that differs from its own in where logs lie
   place-is : place .geometry ≡ withLogs g (place .geometry .logs)
-  unfolding placeOf entryPlace entryLog
+  unfolding directPlace entryPlace entryLog
   place-is = go (earlierHeld g (run .zone .here) ws z n) (insideStripe g end && present own)
     where
       found : EntryPlace
@@ -310,7 +310,7 @@ module _ (run : Run) (xs ws buffer : List ℕ) (ok : Valid (run .zone .geometry)
     unfolding runStoresOf
     cells-are = cells-write g (place .geometry .logs) r z (runContent g present (readDevice g xs ws) z (run .zone .generation) n ss) present data-at (run .zone .generation) n (run .count) log-at
 
-    pub directly-ends : (count rest : ℕ) (xs′ ws′ : List ℕ) → MadeAppends (placeOf run xs ws .geometry) (suc count) rest (runStoresOf run xs ws buffer) xs ws xs′ ws′
+    pub directly-ends : (count rest : ℕ) (xs′ ws′ : List ℕ) → MadeAppends (directPlace run xs ws .geometry) (suc count) rest (runStoresOf run xs ws buffer) xs ws xs′ ws′
         → (pick (eqb rest 0) (record { answer = Unfinished; state = s }) (record { answer = Finished; state = stateHeld maxZones (openState (findBelow (λ (d : ℕ). not (isSet (run .zone .here) d)) (run .zone .geometry .drives)) (viewState s) (run .zone .number) (run .pointer + run .count)) })
         ≡ writeZoneOn run s buffer count (tablesOf xs ws ds) .outcome) × (tablesOf xs′ ws′ ds ≡ writeZoneOn run s buffer count (tablesOf xs ws ds) .tables)
     unfolding writeZoneOn

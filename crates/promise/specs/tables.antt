@@ -3,6 +3,7 @@ pub mod CachedTablesClaim
 pub mod CallRefines
 pub mod CallVerdicts
 pub mod CallsSeen
+pub mod EmptyingTables
 pub mod MadeOn
 pub mod MountRefines
 pub mod RoomyTables

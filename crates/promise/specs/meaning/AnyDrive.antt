@@ -10,8 +10,9 @@ use Rattle.tables.specs.meaning.Drives.{noDrive}
 use Rattle.volume.specs.declared.Answer.{Answer}
 use Rattle.volume.specs.declared.Answer.the-variants.{Finished, Unfinished, Refused, BadLog}
 use Rattle.volume.specs.meaning.Rules.{Shown}
-use Rattle.promise.specs.meaning.Claim.{mounts, formats, Volume, System, Event, calls, looks, reads, peeks, reports, cuts, loses, next, allBut, Dutiful, SameZones, start}
+use Rattle.promise.specs.meaning.Claim.{mounts, formats, Volume, System, Event, calls, looks, reads, peeks, reports, cuts, loses, next, Dutiful, SameZones, start}
 use Rattle.promise.specs.meaning.Histories.{ShowsAlike, afterAll}
+use Rattle.promise.specs.meaning.Emptied.{NamesBut}
 
 -- a call with a count of stores, answered so, has stored nothing: it was refused, or stopped before its first store
 abbrev pub NoneStored : Answer → ℕ → Type 0
@@ -41,13 +42,9 @@ module _ (g : Geometry) (vol : Volume) where
     pub zones : SameZones g (vol .view (vol .look some (s .state) (s .memory) .state)) (vol .view handed)
     pub shown : ShowsAlike g k (vol .shows some (s .memory) (s .memory))
 
-  -- names of every drive but x (what they say of drives at or above D is free)
-  abbrev pub NamesBut : ℕ → vol .Names → Type 0
-  NamesBut x named = (d : ℕ) → d < g .drives → vol .isNamed named d ≡ allBut x d
-
   -- ANY ONE DRIVE MAY BE LEFT OUT, or none
   abbrev pub AnyDriveMayGo : Shown → vol .State → System vol → Type 0
-  AnyDriveMayGo k handed s = (x : ℕ) → (x ≡ noDrive) ⊎ (x < g .drives) → (some : vol .Names) → NamesBut x some → LooksAs k handed s some
+  AnyDriveMayGo k handed s = (x : ℕ) → (x ≡ noDrive) ⊎ (x < g .drives) → (some : vol .Names) → NamesBut g vol x some → LooksAs k handed s some
 
   -- THE STATEMENT: of any history, as in the claim, with a finished mount in it where no drive is lost, and what follows that
   abbrev pub AnyDriveFrom : System vol → Type 0

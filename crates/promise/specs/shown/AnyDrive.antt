@@ -4,10 +4,10 @@
 -- nothing is remembered (MountSettles), so a cut leaves it as it was.
 use mathlib.Core.Path.{_≡_, refl, sym, ap, _∙_, subst}
 use mathlib.Core.Logic.{_⊎_, inl, inr}
-use mathlib.Core.Bool.{true, false, true≢false}
+use mathlib.Core.Bool.{true≢false}
 use Prim.Native.Nat.{ℕ, zero, _+_, _<_}
 use native.Mathlib.Omega.{arith}
-use mathlib.Core.List.{List, [], _∷_, _++_, append-nil}
+use mathlib.Core.List.{List, [], _∷_, _++_}
 use Rattle.tables.specs.laws.Below.{length-tabulate-from, getD-tabulate-from}
 use Rattle.tables.specs.declared.Geometry.{Geometry}
 use Rattle.tables.specs.meaning.Geometry.{Valid}
@@ -22,7 +22,8 @@ use Rattle.volume.specs.meaning.Answers.{CallResult}
 use Rattle.promise.specs.meaning.Ledger.{Ledger, FitsZone, Fits, noted, afterMount}
 use Rattle.promise.specs.meaning.Claim.{Call, mounts, Volume, ready, System, Event, calls, looks, reads, peeks, reports, cuts, loses, replyTo, modeAfter, noteOf, next, NamesAll, Duty, Dutiful, SameZones, Promise}
 use Rattle.promise.specs.meaning.Histories.{ShowsAlike, afterAll}
-use Rattle.promise.specs.meaning.AnyDrive.{NoneStored, StoresNothing, AllStoreNothing, LooksAs, NamesBut, AnyDriveMayGo, AnyDriveFrom}
+use Rattle.promise.specs.meaning.Emptied.{NamesBut}
+use Rattle.promise.specs.meaning.AnyDrive.{NoneStored, StoresNothing, AllStoreNothing, LooksAs, AnyDriveFrom}
 use Rattle.promise.specs.invariant.Invariant.{Here}
 use Rattle.promise.specs.invariant.CrashKeeps.{present-before}
 use Rattle.promise.specs.device.CachedModes.{Forgotten}

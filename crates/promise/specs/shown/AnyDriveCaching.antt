@@ -1,9 +1,8 @@
 -- Any drive may go after a mount, on drives that cache resets (meaning/Caches): of the rules' calls, and of the code's on the tables. Both stand for a device with caches.
-use mathlib.Core.Path.{_≡_, refl, sym, ap, ap₂, _∙_, subst}
+use mathlib.Core.Path.{_≡_, refl, sym, ap, _∙_, subst}
 use mathlib.Core.Bool.{Bool, true, false}
-use Prim.Native.Nat.{ℕ, zero, _<_}
-use native.Mathlib.Omega.{arith}
-use mathlib.Core.List.{List, []}
+use Prim.Native.Nat.{ℕ}
+use mathlib.Core.List.{List}
 use lib.ListN.{length, take}
 use lib.Seq.{take-all}
 use lib.Dec.{ltb}
@@ -14,7 +13,6 @@ use Rattle.tables.specs.meaning.Cached.{Caching, applyAllCaching}
 use Rattle.tables.specs.laws.Cached.{now-is}
 use Rattle.tables.specs.declared.Geometry.{Geometry}
 use Rattle.tables.specs.meaning.Geometry.{Valid}
-use Rattle.tables.specs.meaning.GeometryTest.{isValid}
 use Rattle.tables.specs.laws.GeometryTest.{valid-if-test}
 use Rattle.tables.specs.meaning.Drives.{presentBut}
 use Rattle.tables.specs.laws.Drives.{present-not}
@@ -28,7 +26,7 @@ use Rattle.volume.specs.meaning.Mount.{mountStores}
 use Rattle.volume.specs.meaning.Refusals.{Verdict, refuse, accept, TableLengths, firstRefusal}
 use Rattle.volume.specs.meaning.Answers.{CallResult, StoringCall, storing, carriedOut, presentIn, lostDriveIn}
 use Rattle.volume.specs.meaning.CallContracts.{viewState, isSet, lengthsOf}
-use Rattle.promise.specs.meaning.Claim.{Volume, Call, mounts, formats, System, calls, NamesAll, Duty, start}
+use Rattle.promise.specs.meaning.Claim.{Volume, mounts, formats, System, NamesAll, start}
 use Rattle.promise.specs.meaning.OnDevice.{callOf, onDevice, shownBy}
 use Rattle.promise.specs.meaning.OnTables.{onTables}
 use Rattle.promise.specs.meaning.Caches.{Remembered, WithCaches, Caches, CachesLoss, madeBy, madeStores, rememberedAfter, beneath, deviceCaches, onCachingDevice}

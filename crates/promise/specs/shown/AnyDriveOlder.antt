@@ -1,7 +1,6 @@
 -- Any drive may go after a mount on drives whose resets last at once, if it may on drives that cache them: a history of theirs is one of these, in which nothing comes back
 -- (device/OlderDrives).
 use mathlib.Core.Path.{_≡_, refl, sym, ap, _∙_, subst}
-use Prim.Native.Nat.{ℕ}
 use mathlib.Core.List.{List, [], _∷_, _++_}
 use Rattle.tables.specs.declared.Geometry.{Geometry}
 use Rattle.tables.specs.meaning.Drives.{noDrive}

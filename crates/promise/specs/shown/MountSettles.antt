@@ -2,16 +2,16 @@
 -- a cut leaves then is what was there, and a look shows the same.
 use mathlib.Core.Path.{_≡_, refl, sym, ap, _∙_, subst}
 use mathlib.Core.Logic.{_⊎_, inl, inr}
-use mathlib.Core.Bool.{Bool, true, false}
+use mathlib.Core.Bool.{Bool, true}
 use Prim.Native.Nat.{ℕ, _<_}
 use native.Mathlib.Decide.{ℕ-discrete}
 use native.Mathlib.Omega.{arith}
-use mathlib.Core.List.{List, [], _∷_, _++_, append-assoc, append-nil, map, List·Memᴰ}
+use mathlib.Core.List.{List, [], _∷_, _++_, append-assoc, append-nil, map}
 use lib.ListN.{length}
 use Rattle.tables.specs.meaning.Basics.{pick}
 use Rattle.tables.specs.meaning.Lists.{isNil, concat}
-use Rattle.tables.specs.laws.Lists.{is-nil, concat-append, mem-nil}
-use Rattle.tables.specs.meaning.Device.{ZoneView, Device, Store, applyAll}
+use Rattle.tables.specs.laws.Lists.{concat-append, mem-nil}
+use Rattle.tables.specs.meaning.Device.{ZoneView, Device, Store}
 use Rattle.tables.specs.laws.Local.{LocalStore, flushHere, applyAllHere, localStores, local-append, local-is, apply-here-append}
 use Rattle.tables.specs.meaning.Cached.{Caching, applyAllCaching, LeftOf, CachingCut}
 use Rattle.tables.specs.laws.Cached.{now-is, was-is, rememberHere, remember-append, caching-cut-at}
@@ -23,7 +23,6 @@ use Rattle.tables.specs.meaning.Drives.{findBelow, presentBut}
 use Rattle.tables.specs.laws.Drives.{present-below, present-not, present-other, find-below-some}
 use Rattle.tables.specs.declared.Geometry.{Geometry}
 use Rattle.tables.specs.meaning.Geometry.{Valid}
-use Rattle.logs.specs.meaning.Entry.{Header}
 use Rattle.logs.specs.meaning.Heads.{arrayIn}
 use Rattle.volume.specs.meaning.Rules.{generalHeads, showing}
 use Rattle.volume.specs.meaning.Roles.{byRoles, placedBy}

@@ -1,5 +1,5 @@
 -- What a call on the tables leaves stands for what the rules' call leaves, with what the caches remember; and it answers the same.
-use mathlib.Core.Path.{_≡_, refl, sym}
+use mathlib.Core.Path.{_≡_, sym}
 use mathlib.Core.Bool.{Bool}
 use Prim.Native.Nat.{ℕ}
 use mathlib.Core.List.{List}

@@ -4,7 +4,7 @@ use mathlib.Core.Logic.{_⊎_}
 use mathlib.Core.Bool.{Bool, true}
 use Prim.Native.Nat.{ℕ, _<_}
 use native.Mathlib.Omega.{arith}
-use mathlib.Core.List.{List, [], _∷_}
+use mathlib.Core.List.{List}
 use Rattle.tables.specs.meaning.Tables.{Tables, TablesLoss, deviceOf}
 use Rattle.tables.specs.meaning.Drives.{noDrive}
 use Rattle.tables.specs.laws.TablesRefine.{loss-refines}
@@ -16,12 +16,12 @@ use Rattle.tables.specs.laws.GeometryTest.{valid-if-test}
 use Rattle.volume.specs.declared.Answer.the-variants.{Refused}
 use Rattle.volume.specs.meaning.CallContracts.{isSet, lengthsOf}
 use Rattle.volume.specs.meaning.Emptying.{RoomyGeneral, RoomyParity}
-use Rattle.promise.specs.meaning.Claim.{Call, mounts, writes, resets, formats, ready, System, Event, calls, looks, reads, peeks, reports, cuts, loses, next, Duty, Dutiful, start}
+use Rattle.promise.specs.meaning.Claim.{Call, mounts, writes, resets, formats, ready, System, Event, calls, looks, reads, peeks, reports, cuts, loses, next, Duty, start}
 use Rattle.promise.specs.meaning.OnTables.{onTables}
 use Rattle.promise.specs.meaning.Caches.{beneath}
 use Rattle.promise.specs.meaning.CachesOnTables.{tablesCaches, onCachingTables}
-use Rattle.promise.specs.meaning.Histories.{AtEveryPoint}
 use Rattle.promise.specs.meaning.Roomy.{BeforeLast, NeverFull, RoomyTablesClaim}
+use Rattle.promise.specs.invariant.Throughout.{every-point}
 use Rattle.promise.specs.emptying.BlankSpares.{BlankSpares}
 use Rattle.promise.specs.device.BlankAtRest.{event-blank}
 use Rattle.promise.specs.shown.RoomyCalls.{never-full, never-full-beneath}
@@ -85,16 +85,11 @@ module _ (g : Geometry) (wb : isValid g ≡ true) (s : System (onCachingTables g
   cached-next : (e : Event (onCachingTables g)) → Duty g (onCachingTables g) s e → CachedTablesKnown g (next g (onCachingTables g) s e)
   cached-next e d = let valid = valid-if-test g wb in record { ok = tables-event-cached g valid wb (caches-owed g valid) s (k .ok) e d; blank = blank-next e d }
 
-along : (g : Geometry) → isValid g ≡ true → (P : System (onCachingTables g) → Type 0) → ((s : System (onCachingTables g)) → CachedTablesKnown g s → P s)
-    → (s : System (onCachingTables g)) → CachedTablesKnown g s → (es : List (Event (onCachingTables g))) → Dutiful g (onCachingTables g) s es → AtEveryPoint g (onCachingTables g) P s es
-along g wb P gives s k [] d = gives s k
-along g wb P gives s k (e ∷ es) (d, ds) = (gives s k, along g wb P gives (next g (onCachingTables g) s e) (cached-next g wb s k e d) es ds)
-
 -- THE THEOREM
 pub tables-never-full : RoomyTablesClaim
 tables-never-full g general parity named array old stop m small e es d =
     let (wb, o) = tables-start-cached g named array old stop m small e in
     let s = start g (onCachingTables g) named (onCachingTables g .call (formats array) named old stop m) in
-    along g wb (λ s. BeforeLast g (s .lost) (deviceOf g (s .memory .memory)) → NeverFull g (onCachingTables g) s)
-    (λ s k young. never-full-beneath g (onTables g) (tablesCaches g) s (never-full-on g wb (under g wb s k) (known g wb s k) general parity young)) s
+    every-point g (onCachingTables g) (CachedTablesKnown g) (λ s. BeforeLast g (s .lost) (deviceOf g (s .memory .memory)) → NeverFull g (onCachingTables g) s)
+    (λ s k young. never-full-beneath g (onTables g) (tablesCaches g) s (never-full-on g wb (under g wb s k) (known g wb s k) general parity young)) (cached-next g wb) s
     (record { ok = o; blank = λ i. tables-start-blank g named array old stop (m .memory) small e }) es d

@@ -30,6 +30,7 @@ use Rattle.zrv.specs.meaning.EdgeCalls.{namedOf, formatEdge}
 use Rattle.zrv_promise.specs.meaning.OnBytes.{LentBytes, rangesOf, tablesAt, onBytes}
 use Rattle.zrv_promise.specs.meaning.CachesOnBytes.{bytesCaches, onCachingBytes}
 use Rattle.zrv_promise.specs.bytes.BytesClaimProof.{byte-at, finished-code, BytesOk, call-views, answers, begins}
+use Rattle.zrv_promise.specs.bytes.CallsHeld.{heldBy, answer-held, call-held}
 use Rattle.zrv_promise.specs.bytes.CachedBytesClaim.{viewCached, BytesOkCached, tables-ok, bytes-promise-cached, bytes-event-cached, bytes-start-cached, bytes-older-cuts}
 
 -- ---- the loss of a drive that keeps its memory
@@ -45,27 +46,9 @@ bytes-stay g s o x = (
 )
 
 -- ---- the device that bytes stand for: that of the tables which they hold
-abbrev heldBy : (g : Geometry) → WithCaches LentBytes → WithCaches Tables
-heldBy g m = record { memory = tablesAt g (m .memory); was = m .was }
-
 module _ (g : Geometry) (ok : Valid g) (wb : isValid g ≡ true) (s : System (onCachingBytes g)) (o : BytesOkCached g s) (c : Call) (mask stop : ℕ) (d : Duty g (onCachingBytes g) s (calls c mask stop)) where
-  abbrev s0 : System (onBytes g)
-  s0 = beneath (onBytes g) (bytesCaches g) s
-
-  abbrev here : CallResult (WithCaches LentBytes) (List ℕ)
-  here = onCachingBytes g .call c mask (s .state) stop (s .memory)
-
-  abbrev there : CallResult (WithCaches Tables) State
-  there = onCachingTables g .call c (namedOf mask) (stateFrom (g .zones) (s .state)) stop (heldBy g (s .memory))
-
-  answer-is : here .answer ≡ there .answer
-  answer-is = answers g ok wb s0 (o .plain) mask (names-beneath g (onBytes g) (bytesCaches g) s mask (d .0)) c stop
-
-  memory-is : heldBy g (here .memory) ≡ there .memory
-  memory-is = let e = ap (λ (r : CallResult Tables State). r .memory) (call-views g ok wb s0 (o .plain) mask (names-beneath g (onBytes g) (bytesCaches g) s mask (d .0)) c stop) in λ i. record { memory = e i; was = there .memory .was }
-
   duty-there : Duty g (onCachingTables g) (viewCached g s) (calls c (namedOf mask) stop)
-  duty-there = (record { drives = d .0 .drives }, d .1, rw answer-is at (d .2))
+  duty-there = (record { drives = d .0 .drives }, d .1, rw (answer-held g ok wb s o c mask (d .0) stop) at (d .2))
 
 bytesSeen : (g : Geometry) (ok : Valid g) → isValid g ≡ true → StandsFor g (onCachingBytes g) (λ m. seenAs g (heldBy g m)) (BytesOkCached g)
 bytesSeen g ok wb =
@@ -73,10 +56,10 @@ bytesSeen g ok wb =
     record {
       shows-is = λ s o mask n. t .shows-is (viewCached g s) (tables-ok g ok wb s o) (namedOf mask) (record { drives = n .drives });
       mount-settled = λ s o mask count d e.
-          subst (λ (m : WithCaches Tables). Settled g (s .lost) (seenAs g m)) (sym (memory-is g ok wb s o mounts mask count d))
-          (t .mount-settled (viewCached g s) (tables-ok g ok wb s o) (namedOf mask) count (duty-there g ok wb s o mounts mask count d) (sym (answer-is g ok wb s o mounts mask count d) ∙ e));
+          subst (λ (m : WithCaches Tables). Settled g (s .lost) (seenAs g m)) (sym (call-held g ok wb s o mounts mask (d .0) count))
+          (t .mount-settled (viewCached g s) (tables-ok g ok wb s o) (namedOf mask) count (duty-there g ok wb s o mounts mask count d) (sym (answer-held g ok wb s o mounts mask (d .0) count) ∙ e));
       none-stored = λ s o c mask stop d h.
-          ap (seenAs g) (memory-is g ok wb s o c mask stop d) ∙ t .none-stored (viewCached g s) (tables-ok g ok wb s o) c (namedOf mask) stop (duty-there g ok wb s o c mask stop d) (rw (answer-is g ok wb s o c mask stop d) at h);
+          ap (seenAs g) (call-held g ok wb s o c mask (d .0) stop) ∙ t .none-stored (viewCached g s) (tables-ok g ok wb s o) c (namedOf mask) stop (duty-there g ok wb s o c mask stop d) (rw (answer-held g ok wb s o c mask (d .0) stop) at h);
       cut-is = λ s o m d. t .cut-is (viewCached g s) (tables-ok g ok wb s o) (heldBy g m) (record { left = d .left .1; forgotten = d .forgotten });
     }
 

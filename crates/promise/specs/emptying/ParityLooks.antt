@@ -57,8 +57,8 @@ module _ (g : Geometry) (ok : Valid g) (x : ℕ) (u : Device) (c : LogGeneration
       let filled = fd g ok x u c l k fa d hd can in
       let some = n-some g ok x u c l k fa d hd can in
       let less = n-lt g ok x u c l k fa d hd can in
-      let zoneClaim = n g ok x u c l k fa d hd can in
+      let claimed = n g ok x u c l k fa d hd can in
       record {
-        up-to = copy-shows-up-to g ok x d hd (byRoles g u) l (fa .ghosts) k filled zoneClaim some less (can .room) log-lasts (byRoles g w) (b .seen) shown z hz y by;
-        same = copy-shows-same g ok x d hd (byRoles g u) l (fa .ghosts) k filled zoneClaim some less (can .room) log-lasts (byRoles g w) (b .seen) shown z hz y by;
+        up-to = copy-shows-up-to g ok x d hd (byRoles g u) l (fa .ghosts) k filled claimed some less (can .room) log-lasts (byRoles g w) (b .seen) shown z hz y by;
+        same = copy-shows-same g ok x d hd (byRoles g u) l (fa .ghosts) k filled claimed some less (can .room) log-lasts (byRoles g w) (b .seen) shown z hz y by;
       }

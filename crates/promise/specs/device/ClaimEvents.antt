@@ -146,7 +146,7 @@ module _ (g : Geometry) (ok : Valid g) (t : TableLengths) where
           → WriteAccepted g (presentBut g (s .lost)) (roles g v) (byRoles g v) (byState g (presentBut g (s .lost)) (byRoles g v) (s .state)) (s .state) z ss = λ p. rw e at (write-accepted g t named (s .state) v (asked .address) (asked .count) (asked .buffer) p) in
           by-call (writes asked) stop (λ n. refl)
           (λ p. rw e (owed .write (s .lost) v (s .state) (s .ledger) z ss (rests-of g t s o m) (accepted p) .0 stop))
-          (λ p. rw (e, lost-of-call m) (rw (sectors-length g count buffer) at (owed .write (s .lost) v (s .state) (s .ledger) z ss (rests-of g t s o m) (accepted p) .1)))
+          (λ p. rw (e, lost-of-call m) (rw (sectors-length g (asked .count) (asked .buffer)) at (owed .write (s .lost) v (s .state) (s .ledger) z ss (rests-of g t s o m) (accepted p) .1)))
 
       flush-event : s .mode ≡ ready → (stop : ℕ) → Owed flushes stop
       flush-event m stop =

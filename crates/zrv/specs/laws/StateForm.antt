@@ -21,6 +21,7 @@ use Rattle.tables.specs.meaning.LittleEndian.{bytesLE, readLE, sameBytes}
 use Rattle.tables.specs.laws.LittleEndian.{Bytes, bytes-drop, same-number}
 use Rattle.logs.specs.code.Lays.{same-append, and-true}
 use Rattle.volume.specs.declared.Condition.{Condition}
+use Rattle.volume.specs.laws.ByteLists.{Bytes as ByteList}
 use Rattle.volume.specs.declared.Condition.the-variants.{Empty, Open, Sealed, Worn}
 use Rattle.volume.specs.declared.ZoneRecord.{ZoneRecord}
 use Rattle.volume.specs.declared.State.{State}

@@ -45,6 +45,7 @@ use Rattle.volume.specs.laws.Refusals.{accepted-row}
 use Rattle.volume.specs.laws.PassedRows.{reset-number-accepts, reset-passed, write-number-accepts, write-passed}
 use Rattle.volume.specs.laws.AnswerNumbers.{refused-numbered, look-told, mount-told}
 use Rattle.volume.specs.laws.GenerationRange.{generation-range, worn-top}
+use Rattle.volume.specs.laws.LookPointers.{pointer-within as pointer-at-within}
 use Rattle.volume.specs.meaning.Mount.{mountState}
 use Rattle.zrv.specs.meaning.Bytes.{stateFrom, stateTo, stateWellFormed}
 use Rattle.zrv.specs.meaning.EdgeCalls.{namedOf, sizesFit, stateBad, inputNumber, sizesNumber, Ranges, tablesIn, stateIn, unreadState, stateAfter, Answered, unlessRefused, handedBack, storedAll, storedFlushes, withoutPlace, flushOfBytes, flushEdge, lookOfBytes, lookEdge, mountOfBytes, mountEdge, formatOfBytes, formatEdge, resetOfBytes, resetEdge, writeOfBytes, writeEdge}

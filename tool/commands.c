@@ -110,7 +110,7 @@ static uint32_t drives_named(const struct driver *driver) {
 int flush_main(int argc, char **argv) {
     struct command_option option[] = {STORES_OPTION};
     struct driver driver;
-    int code = begin_command(argc, argv, option, COUNT(option), &driver);
+    int code = begin_call(CALL_FLUSH, argc, argv, option, COUNT(option), &driver);
     if (code == EXIT_DONE) {
         struct call call = {.kind = CALL_FLUSH, .count = (uint32_t)option[0].number};
         code = store_and_save(&driver, &call);
@@ -124,7 +124,7 @@ int flush_main(int argc, char **argv) {
 int reset_main(int argc, char **argv) {
     struct command_option option[] = {STORES_OPTION, {.name = "zone", .kind = OPTION_NUMBER, .needed = true, .most = UINT32_MAX}};
     struct driver driver;
-    int code = begin_command(argc, argv, option, COUNT(option), &driver);
+    int code = begin_call(CALL_RESET, argc, argv, option, COUNT(option), &driver);
     if (code == EXIT_DONE) {
         struct call call = {.kind = CALL_RESET, .zone = (uint32_t)option[1].number, .count = (uint32_t)option[0].number};
         code = store_and_save(&driver, &call);
@@ -140,7 +140,7 @@ int reset_main(int argc, char **argv) {
 int mount_main(int argc, char **argv) {
     struct command_option option[] = {STORES_OPTION};
     struct driver driver;
-    int code = begin_command(argc, argv, option, COUNT(option), &driver);
+    int code = begin_call(CALL_MOUNT, argc, argv, option, COUNT(option), &driver);
     if (code == EXIT_DONE) {
         struct call call = {.kind = CALL_MOUNT, .count = (uint32_t)option[0].number};
         code = store_and_save(&driver, &call);
@@ -167,7 +167,7 @@ int look_main(int argc, char **argv) {
     struct command_option option[] = {{.name = "json", .kind = OPTION_FLAG}};
     struct driver driver;
     struct message message;
-    int code = begin_reading(argc, argv, option, COUNT(option), &driver);
+    int code = begin_call(CALL_LOOK, argc, argv, option, COUNT(option), &driver);
     if (code == EXIT_DONE) {
         struct call call = {.kind = CALL_LOOK};
         uint32_t answer = driver_call(&driver, call, &message);
@@ -289,7 +289,7 @@ int cut_main(int argc, char **argv) {
     struct power_loss loss;
     struct driver driver;
     struct message message;
-    int code = begin_command(argc, argv, option, COUNT(option), &driver);
+    int code = begin_change(argc, argv, option, COUNT(option), &driver);
     if (code == EXIT_DONE && (!parse_power_loss(&option[KEEP], &option[SEED], &loss, &list, &message) ||
                               !parse_undone(&option[UNDO], option[CACHED_RESETS].given, &loss, &undone, &message)))
         code = usage_error(argv[0], "%s", message.text);

@@ -107,7 +107,7 @@ int write_main(int argc, char **argv) {
         [PAD] = {.name = "pad", .kind = OPTION_FLAG},
     };
     struct driver driver;
-    int code = begin_command(argc, argv, option, WRITE_OPTIONS, &driver);
+    int code = begin_call(CALL_WRITE, argc, argv, option, WRITE_OPTIONS, &driver);
     if (code == EXIT_DONE && option[AT].given == option[ZONE].given)
         code = usage_error(argv[0], "one of --at and --zone is wanted");
     if (code == EXIT_DONE)
@@ -187,7 +187,7 @@ int read_main(int argc, char **argv) {
         [SECTOR_COUNT] = {.name = "count", .kind = OPTION_NUMBER, .most = UINT32_MAX},
     };
     struct driver driver;
-    int code = begin_reading(argc, argv, option, READ_OPTIONS, &driver);
+    int code = begin_call(CALL_READ, argc, argv, option, READ_OPTIONS, &driver);
     if (code == EXIT_DONE && (option[AT].given == option[ZONE].given || option[AT].given != option[SECTOR_COUNT].given))
         code = usage_error(argv[0], "--at with --count, or --zone, is wanted");
     if (code == EXIT_DONE)
@@ -215,7 +215,7 @@ int peek_main(int argc, char **argv) {
     struct driver driver;
     struct message message;
     uint8_t place[ZRV_PLACE_BYTES];
-    int code = begin_reading(argc, argv, option, COUNT(option), &driver);
+    int code = begin_call(CALL_PEEK, argc, argv, option, COUNT(option), &driver);
     if (code == EXIT_DONE) {
         struct call call = {.kind = CALL_PEEK, .address = option[0].number, .range[BUFFER] = {place, sizeof place}};
         code = tell_answer(&driver, &call, driver_call(&driver, call, &message), &message);

@@ -6,7 +6,8 @@
 # zrv: the command-line tool over a shelf kept as files, target/zrv (`target/zrv help`)
 # from-c: all tests of the archive and of the tool:
 #   edge-test: the conformance vectors replayed, and bad input; then both once more with the C side's sanitizers
-#   tool-test: the tool used as a person would, with the exact words and exit codes; then once more with the sanitizers; then commands killed while they save
+#   tool-test: the tool used as a person would, with the exact words and exit codes; then once more with the sanitizers; then commands killed while they save.
+#   Before it stores read by the patterns of their calls, and commands without memory
 #   explore-test: explore's counts, its histories that do not fit, its messages and its picture; a part of it once more with the sanitizers
 #   example: the program of docs/USING.md, built and run
 # kill-test: the last of these in full: kills before every change of a file, 400 at drawn moments, and full disks (part of no test)
@@ -80,6 +81,10 @@ edge-test:
 	@$(EDGE)/grouped_replay_sanitized < c/vectors/grouped.txt | cmp - c/vectors/grouped.out && echo "grouped replay, sanitized: $$(wc -l < c/vectors/grouped.out) lines equal"
 	@$(EDGE)/bad_input_sanitized
 
+target/no_memory.so: tool/test/no_memory.c
+	@mkdir -p target
+	@$(COMPILE) -O2 -shared -fPIC $< -o $@
+
 target/stop: tool/test/stop.c
 	@mkdir -p target
 	@$(COMPILE) -O2 $< -o $@
@@ -90,8 +95,9 @@ target/stores: $(STORES_C) $(ZRV_H)
 	@mkdir -p target
 	@$(COMPILE) $(SANITIZE) $(STORES_C) -o $@
 
-tool-test: target/zrv target/zrv_sanitized target/stop target/stores
+tool-test: target/zrv target/zrv_sanitized target/stop target/stores target/no_memory.so
 	@target/stores
+	@tool/test/memory target/zrv target/no_memory.so
 	@tool/test/tool target/zrv
 	@tool/test/tool target/zrv_sanitized
 	@tool/test/kills target/zrv target/stop 4 4

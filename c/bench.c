@@ -10,6 +10,7 @@
 
 #include "bench_grouped.h"
 #include "bytes.h"
+#include "needed.h"
 #include "plain_logs.h"
 #include "shelf.h"
 
@@ -82,7 +83,7 @@ static void format_both(struct bench *b) {
 
 static struct bench new_bench(struct geometry g) {
     size_t cells = shelf_cells(g), zone = zone_addresses(g) * g.sector_bytes;
-    struct bench b = {.shelf = new_shelf(g), .all = (1u << g.drives) - 1, .named = (1u << g.drives) - 1, .run = stripe_sectors(g), .end = zone_addresses(g)};
+    struct bench b = {.shelf = needed_shelf(g), .all = (1u << g.drives) - 1, .named = (1u << g.drives) - 1, .run = stripe_sectors(g), .end = zone_addresses(g)};
     b.data = memory(zone);
     b.answer = memory(zone);
     b.plain_answer = memory(zone);

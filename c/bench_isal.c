@@ -9,6 +9,7 @@
 #include <string.h>
 #include <time.h>
 
+#include "needed.h"
 #include "shelf.h"
 
 enum { PASSES = 301, ALIGNMENT = 64, ZONE_SECTORS = 128 };
@@ -97,7 +98,7 @@ static double time_isal(struct stripe *s, bool copies) {
 
 static void row(uint32_t drives, uint32_t unit) {
     struct geometry g = {drives, ZRV_MOST_SECTOR_BYTES, unit, 1, ZONE_SECTORS};
-    struct stripe s = {.shelf = new_shelf(g), .data = aligned_range((size_t)stripe_sectors(g) * g.sector_bytes)};
+    struct stripe s = {.shelf = needed_shelf(g), .data = aligned_range((size_t)stripe_sectors(g) * g.sector_bytes)};
     double whole[PASSES], both[PASSES], isal[PASSES];
     free(s.shelf.sectors.bytes);
     s.shelf.sectors = aligned_range(s.shelf.sectors.length);

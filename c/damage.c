@@ -6,6 +6,7 @@
 
 #include "bytes.h"
 #include "journal.h"
+#include "needed.h"
 
 static struct geometry geometry_in(const struct command *command) {
     const uint64_t *number = command->number;
@@ -17,7 +18,7 @@ static void renew(struct host *host, struct geometry geometry) {
     free_shelf(&host->shelf);
     memset(host, 0, sizeof *host);
     host->geometry = geometry;
-    host->shelf = new_shelf(geometry);
+    host->shelf = needed_shelf(geometry);
 }
 
 static void put_pointers(struct host *host, uint64_t index, uint32_t written, uint32_t durable) {

@@ -128,8 +128,7 @@ bool assemble_drives(struct drives *drives, const struct opening *opening, uint3
     *drives = (struct drives){.directory = -1};
     if (!open_and_lock(drives, opening, message) || !has_no_record(drives, message))
         return false;
-    find_drives(drives, found);
-    if (!has_no_open_format(drives, message) || !judge_drives(drives, found, without, message))
+    if (!find_drives(drives, found, message) || !has_no_open_format(drives, message) || !judge_drives(drives, found, without, message))
         return false;
     if (without != LEAVE_OUT_NONE && without >= drives->record.geometry.drives)
         return fail(message, "%s: there is no drive %u to leave out", drives->folder, without);

@@ -29,7 +29,9 @@ static void forget_named(struct shelf *shelf, uint32_t named) {
 struct shelf shelf_before(const struct shelf *shelf, const struct call *call) {
     if (call->count != ZRV_ALL_STORES)
         return copy_shelf(shelf);
-    struct shelf pointers = {.geometry = shelf->geometry, .written = new_range(shelf->written.length), .durable = new_range(shelf->durable.length)};
+    struct shelf pointers = new_pointers(shelf->geometry);
+    if (!has_memory(&pointers))
+        return pointers;
     memcpy(pointers.written.bytes, shelf->written.bytes, shelf->written.length);
     memcpy(pointers.durable.bytes, shelf->durable.bytes, shelf->durable.length);
     return pointers;
@@ -82,10 +84,14 @@ static bool see_stores(struct store_list *list, const struct shelf *before, cons
     struct shelf last = copy_shelf(before);
     uint8_t state_before[ZRV_STATE_BYTES];
     uint32_t answer = ZRV_UNFINISHED;
-    bool good = true;
+    bool good = has_memory(&last) || no_memory(message, shelf_bytes(before->geometry));
     memcpy(state_before, state, ZRV_STATE_BYTES);
     for (uint32_t count = 1; good && answer == ZRV_UNFINISHED; count++) {
         struct shelf next = copy_shelf(before);
+        if (!has_memory(&next)) {
+            good = no_memory(message, shelf_bytes(before->geometry));
+            break;
+        }
         memcpy(state, state_before, ZRV_STATE_BYTES);
         answer = make_again(&next, call, state, count);
         good = note_store(list, &last, &next, message);

@@ -7,7 +7,8 @@
 #include "message.h"
 #include "shelf.h"
 
-/* What has to be kept of a shelf before a call that stores, so that note_resets can tell; of any but a format. free_shelf frees it. */
+/* What has to be kept of a shelf before a call that stores, so that note_resets can tell; of any but a format. free_shelf frees it; has_memory tells whether there
+ * is memory for it. */
 struct shelf shelf_before(const struct shelf *shelf, const struct call *call);
 
 /* A call that has stored: what it answered, and the state from before it. */

@@ -2,6 +2,7 @@
 #define _POSIX_C_SOURCE 200809L
 #include "drive_file.h"
 
+#include <fcntl.h>
 #include <string.h>
 #include <unistd.h>
 
@@ -66,14 +67,14 @@ bool same_geometry(struct geometry a, struct geometry b) {
 
 static struct drive_tag tag_in(const uint8_t *head) { return (struct drive_tag){get64(head + ARRAY), get64(head + SAVE)}; }
 
+/* Without memory of its own: a file is taken for no drive's only for what it holds. */
 static bool read_start(const struct file_place *place, uint8_t head[HEAD_BYTES]) {
-    uint64_t length;
     struct message unused;
-    FILE *file = open_file(place, &length);
-    if (file == NULL)
+    int descriptor = openat(place->directory, place->name, O_RDONLY);
+    if (descriptor < 0)
         return false;
-    bool good = fread(head, 1, HEAD_BYTES, file) == HEAD_BYTES && head_fits(head, MAGIC, place, &unused);
-    fclose(file);
+    bool good = read_at(descriptor, head, HEAD_BYTES, 0) && head_fits(head, MAGIC, place, &unused);
+    close(descriptor);
     return good;
 }
 
@@ -170,6 +171,8 @@ static bool head_is_whole(FILE *file, uint64_t length, const struct file_place *
     if (!geometry_is_taken(g) || drive >= g.drives)
         return fail(message, "%s/%s: damaged: its head tells of no drive that there can be", place->folder, place->name);
     struct shelf tables = new_pointers(g);
+    if (!has_memory(&tables))
+        return no_memory(message, 4 * row_bytes(g) * g.drives);
     bool good = has_whole_length(head, length, place, message) && read_pointers(file, head, place, &tables, drive, message);
     free_shelf(&tables);
     return good;

@@ -86,8 +86,12 @@ static void note_stored(struct drives *drives, const struct shelf *before, enum 
 }
 
 /* What has to be kept of the drives before a call that stores. */
-static struct shelf keep_before(const struct drives *drives, const struct call *call) {
-    return traits_of(call->kind)->makes_drives ? (struct shelf){.geometry = call->geometry} : shelf_before(&drives->shelf, call);
+static bool keep_before(const struct drives *drives, const struct call *call, struct shelf *before, struct message *message) {
+    *before = (struct shelf){.geometry = call->geometry};
+    if (traits_of(call->kind)->makes_drives)
+        return true;
+    *before = shelf_before(&drives->shelf, call);
+    return has_memory(before) || no_memory(message, shelf_bytes(call->geometry));
 }
 
 /* After a call that stored: what the drives' caches hold, and what the files do not. Drives that it made are new as a whole. */
@@ -102,7 +106,9 @@ static bool note_stores(struct drives *drives, const struct shelf *before, const
 /* A call that stores, and what it left. Nothing is taken over from one whose stores cannot be told: the files keep what they hold. */
 static uint32_t make_storing_call(struct driver *driver, const struct call *call, struct message *message) {
     struct drives *drives = &driver->drives;
-    struct shelf before = keep_before(drives, call);
+    struct shelf before;
+    if (!keep_before(drives, call, &before, message))
+        return ANSWER_FAILED;
     uint32_t answer = make_call(call);
     if ((answer == ZRV_FINISHED || answer == ZRV_UNFINISHED) && !note_stores(drives, &before, call, answer, message))
         answer = ANSWER_FAILED;

@@ -178,11 +178,14 @@ static void remember_pointers(struct drives *drives) {
     memcpy(drives->old_before.bytes, drives->shelf.old_written.bytes, drives->shelf.old_written.length);
 }
 
-static void new_memory(struct drives *drives, struct shelf shelf) {
+/* Takes a new shelf, and memory for what its files hold. */
+static bool new_memory(struct drives *drives, struct shelf shelf, struct message *message) {
     drives->shelf = shelf;
     drives->written_before = new_range(drives->shelf.written.length);
     drives->durable_before = new_range(drives->shelf.durable.length);
     drives->old_before = new_range(drives->shelf.old_written.length);
+    bool good = has_memory(&shelf) && drives->written_before.bytes != NULL && drives->durable_before.bytes != NULL && drives->old_before.bytes != NULL;
+    return good || no_memory(message, shelf_bytes(shelf.geometry));
 }
 
 /* Whether a given-up drive's file is in the folder. */
@@ -209,14 +212,19 @@ static bool load_drive(struct drives *drives, uint32_t drive, struct progress *p
 
 bool load_drives(struct drives *drives, struct message *message) {
     uint32_t count = drives->record.geometry.drives;
-    new_memory(drives, new_pointers(drives->record.geometry));
-    map_sectors(&drives->shelf, drive_file_sectors(drives->record.geometry));
+    if (!new_memory(drives, new_pointers(drives->record.geometry), message))
+        return false;
+    if (!map_sectors(&drives->shelf, drive_file_sectors(drives->record.geometry)))
+        return no_memory(message, shelf_bytes(drives->record.geometry));
     struct progress progress = start_progress("reading the drives", shelf_cells(drives->record.geometry));
-    struct message later;
-    for (uint32_t d = 0; d < count; d++) {
+    struct message why = {.text = ""};
+    for (uint32_t d = 0; d < count && !why.lacks_memory; d++) {
         drives->returned |= (uint32_t)has_returned(drives, d) << d;
-        if ((drives->record.given_up >> d & 1) == 0 && !load_drive(drives, d, &progress, drives->unreadable == 0 ? message : &later))
-            drives->unreadable |= 1u << d;
+        if ((drives->record.given_up >> d & 1) != 0 || load_drive(drives, d, &progress, &why))
+            continue;
+        if (drives->unreadable == 0 || why.lacks_memory)
+            *message = why;
+        drives->unreadable |= 1u << d;
     }
     end_progress(&progress);
     remember_pointers(drives);
@@ -276,8 +284,7 @@ static bool take_folder(struct drives *drives, const struct opening *opening, bo
 /* Memory comes first: where there is none, nothing has been made. */
 bool new_drives(struct drives *drives, const struct opening *opening, struct geometry geometry, bool replace, struct message *message) {
     *drives = (struct drives){.folder = opening->folder, .directory = -1, .record.geometry = geometry, .present = (1u << geometry.drives) - 1};
-    new_memory(drives, new_shelf(geometry));
-    if (take_folder(drives, opening, replace, message))
+    if (new_memory(drives, new_shelf(geometry), message) && take_folder(drives, opening, replace, message))
         return true;
     if (drives->made_folder)
         rmdir(drives->folder);

@@ -58,7 +58,8 @@ struct drives {
 /* Opens a folder, ends a save that was stopped, and reads the host's record. After either answer close_drives is due. */
 bool open_folder(struct drives *drives, const struct opening *opening, struct message *message);
 
-/* Reads every drive that is there. False, with a message of the first, where one cannot be read; the others are there all the same. */
+/* Reads every drive that is there. False, with a message of the first, where one cannot be read; the others are there all the same. Where
+ * memory runs out, which the message tells, they are not to be used. */
 bool load_drives(struct drives *drives, struct message *message);
 
 /* Makes the folder, if it is not there, and a shelf of new drives in memory. Drives that are in the folder already are in the way unless `replace`. */

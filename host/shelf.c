@@ -1,7 +1,6 @@
 /* The memory that a host lends, and the stream of a seed. */
 #include "shelf.h"
 
-#include <stdio.h>
 #include <stdlib.h>
 #include <string.h>
 
@@ -15,11 +14,19 @@ size_t shelf_cells(struct geometry geometry) { return geometry.drives * physical
 
 struct range new_range(size_t length) {
     struct range range = {calloc(length + 1, 1), length};
-    if (range.bytes == NULL) {
-        fprintf(stderr, "no memory for %zu bytes\n", length);
-        exit(3);
-    }
-    return range;
+    return range.bytes == NULL ? (struct range){NULL, 0} : range;
+}
+
+size_t shelf_bytes(struct geometry geometry) { return shelf_cells(geometry) * geometry.zone_sectors * geometry.sector_bytes; }
+
+bool has_memory(const struct shelf *shelf) { return shelf->written.bytes != NULL; }
+
+/* A shelf whole, or nothing of it. */
+static struct shelf all_or_none(struct shelf shelf, bool good) {
+    if (good)
+        return shelf;
+    free_shelf(&shelf);
+    return (struct shelf){.geometry = shelf.geometry};
 }
 
 struct shelf new_pointers(struct geometry geometry) {
@@ -31,18 +38,22 @@ struct shelf new_pointers(struct geometry geometry) {
         .old_written = new_range(cells * sizeof(uint32_t)),
         .old_durable = new_range(cells * sizeof(uint32_t)),
     };
-    return shelf;
+    return all_or_none(shelf, shelf.written.bytes != NULL && shelf.durable.bytes != NULL && shelf.old_written.bytes != NULL && shelf.old_durable.bytes != NULL);
 }
 
 struct shelf new_shelf(struct geometry geometry) {
     struct shelf shelf = new_pointers(geometry);
-    shelf.sectors = new_range(shelf_cells(geometry) * geometry.zone_sectors * geometry.sector_bytes);
-    return shelf;
+    if (!has_memory(&shelf))
+        return shelf;
+    shelf.sectors = new_range(shelf_bytes(geometry));
+    return all_or_none(shelf, shelf.sectors.bytes != NULL);
 }
 
 struct shelf copy_shelf(const struct shelf *shelf) {
     struct geometry g = shelf->geometry;
     struct shelf copy = new_shelf(g);
+    if (!has_memory(&copy))
+        return copy;
     memcpy(copy.written.bytes, shelf->written.bytes, shelf->written.length);
     memcpy(copy.durable.bytes, shelf->durable.bytes, shelf->durable.length);
     for (size_t cell = 0; cell < shelf_cells(g); cell++) {

@@ -90,6 +90,8 @@ static bool load(const char *name, struct range *data, struct message *message) 
     *data = (struct range){length < 0 ? NULL : malloc((size_t)length + 1), (size_t)length};
     bool good = data->bytes != NULL && fread(data->bytes, 1, data->length, file) == data->length;
     fclose(file);
+    if (length >= 0 && data->bytes == NULL)
+        return no_memory(message, (size_t)length);
     return good || fail(message, "%s: it cannot be read", name);
 }
 
@@ -113,7 +115,7 @@ static int read_block(const struct command_option *option, const struct range *b
     struct range work = {malloc(ZRV_GROUPED_WORK_BYTES(drives, count) + 1), ZRV_GROUPED_WORK_BYTES(drives, count)}, answer = {malloc((size_t)bytes + 1), bytes};
     int code = EXIT_FILES;
     if (work.bytes == NULL || answer.bytes == NULL) {
-        fail(message, "memory ran out");
+        no_memory(message, work.length + answer.length);
     } else {
         uint32_t number = zrv_grouped_read(drives, bytes, (uint32_t)option[GROUP].number, count, named, option[AT].number, blocks->bytes, blocks->length,
                                            metadata->bytes, metadata->length, work.bytes, work.length, answer.bytes, answer.length);

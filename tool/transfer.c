@@ -164,6 +164,10 @@ static struct call read_call(const struct driver *driver, const struct command_o
 static int read_data(struct driver *driver, const struct command_option *option) {
     struct message message;
     struct call call = read_call(driver, option);
+    if (call.range[BUFFER].bytes == NULL) {
+        no_memory(&message, (size_t)call.run * driver->drives.record.geometry.sector_bytes);
+        return file_error(&message);
+    }
     uint32_t answer = driver_call(driver, call, &message);
     if (answer == ZRV_UNWRITTEN && option[ZONE].given) {
         answer = ZRV_FINISHED;

@@ -3,12 +3,14 @@
 
 #include <string.h>
 
+#include "explore/ending.h"
 #include "journal.h"
 
 enum { ARRAY_NUMBER = 1 };
 
 struct world new_world(struct geometry geometry) {
     struct world world = {.shelf = new_shelf(geometry), .named = (1u << geometry.drives) - 1, .oracle = new_oracle(geometry)};
+    must_have_memory(world.shelf.written.bytes, shelf_bytes(geometry));
     return world;
 }
 
@@ -137,7 +139,7 @@ uint32_t send_request(struct world *world, const struct request *request, uint32
 
 void remember_in_world(struct world *world, const struct world *before, const struct store *store, struct old_zone **pool) {
     world->old = before->old;
-    remember_store(&world->old, &before->shelf, store, pool);
+    must_have_memory(remember_store(&world->old, &before->shelf, store, pool) ? pool : NULL, shelf_bytes(before->shelf.geometry));
 }
 
 void forget_old_zones(struct world *world) { memset(&world->old, 0, sizeof world->old); }

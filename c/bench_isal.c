@@ -117,8 +117,8 @@ int main(void) {
     printf("the write of a whole stripe (4,096-byte sectors), beside memcpy of its units and ISA-L's xor_gen of its rows; microseconds,\n");
     printf("and the archive's speed as a share of theirs\n");
     printf("%6s %5s %16s %16s %16s %16s\n", "drives", "unit", "stripe write", "both", "xor_gen alone", "share");
-    for (uint32_t drives = 4; drives <= 8; drives += 4)
-        for (uint32_t unit = 1; unit <= 16; unit *= 4)
+    for (uint32_t drives = 4; drives <= ZRV_MOST_DRIVES; drives += 4)
+        for (uint32_t unit = 1; unit <= ZRV_MOST_UNIT; unit *= 4)
             row(drives, unit);
     return 0;
 }

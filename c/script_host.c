@@ -17,8 +17,8 @@ static struct call call_of(const struct host *host, const struct shortage *short
     struct call call = {
         .geometry = host->geometry,
         .range[SECTORS] = shortened(host->shelf.sectors, shortage->sectors),
-        .range[WRITTEN] = shortened(host->shelf.written, shortage->written * sizeof(uint32_t)),
-        .range[DURABLE] = shortened(host->shelf.durable, shortage->durable * sizeof(uint32_t)),
+        .range[WRITTEN] = shortened(host->shelf.written, shortage->written * POINTER_BYTES),
+        .range[DURABLE] = shortened(host->shelf.durable, shortage->durable * POINTER_BYTES),
         .range[STATE] = {state, ZRV_STATE_BYTES},
     };
     return call;

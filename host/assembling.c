@@ -119,7 +119,8 @@ static bool has_no_record(const struct drives *drives, struct message *message) 
     if (was_there)
         return fail(message, "%s/%s: it is there: nothing to assemble; where it cannot be read, move it away first", drives->folder, RECORD_NAME);
     if (is_taken(drives, RECORD_NAME))
-        return fail(message, "%s/%s: it is there again, from the %s of a command that was stopped: nothing to assemble", drives->folder, RECORD_NAME, REDO_NAME);
+        return fail(message, "%s/%s: it is there again, from the %s of a command that was stopped: nothing to assemble", drives->folder, RECORD_NAME,
+                    REDO_NAME);
     return true;
 }
 

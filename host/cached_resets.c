@@ -7,11 +7,9 @@
 #include "bytes.h"
 #include "stores.h"
 
-static uint32_t pointer_in(struct range table, size_t cell) { return get32(table.bytes + cell * sizeof(uint32_t)); }
-
 static void remember_pointers(struct shelf *shelf, size_t cell, uint32_t written, uint32_t durable) {
-    put32(shelf->old_written.bytes + cell * sizeof(uint32_t), written);
-    put32(shelf->old_durable.bytes + cell * sizeof(uint32_t), durable);
+    put_pointer(shelf->old_written, cell, written);
+    put_pointer(shelf->old_durable, cell, durable);
 }
 
 static void forget_drive(struct shelf *shelf, uint32_t drive) {
@@ -151,8 +149,8 @@ size_t cached_resets(const struct shelf *shelf) {
 }
 
 void undo_reset(struct shelf *shelf, size_t cell) {
-    put32(shelf->written.bytes + cell * sizeof(uint32_t), pointer_in(shelf->old_written, cell));
-    put32(shelf->durable.bytes + cell * sizeof(uint32_t), pointer_in(shelf->old_durable, cell));
+    put_pointer(shelf->written, cell, pointer_in(shelf->old_written, cell));
+    put_pointer(shelf->durable, cell, pointer_in(shelf->old_durable, cell));
 }
 
 size_t undo_all_resets(struct shelf *shelf) {

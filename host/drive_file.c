@@ -18,7 +18,7 @@ const char *drive_name(char name[DRIVE_NAME_BYTES], uint32_t drive, const char *
     return name;
 }
 
-static size_t row_bytes(struct geometry g) { return physical_zones(g) * sizeof(uint32_t); }
+static size_t row_bytes(struct geometry g) { return ZRV_TABLE_BYTES(1, g.zones); }
 
 uint64_t drive_file_sectors(struct geometry g) { return HEAD_BYTES + 2 * row_bytes(g); }
 
@@ -29,7 +29,7 @@ static uint64_t whole_length(struct geometry g, bool has_old) { return drive_fil
 
 /* A pointer past the zone's end is the volume's to refuse. */
 uint32_t kept_sectors(struct geometry g, struct range written, struct range old_written, size_t cell) {
-    uint32_t pointer = get32(written.bytes + 4 * cell), old = get32(old_written.bytes + 4 * cell);
+    uint32_t pointer = pointer_in(written, cell), old = pointer_in(old_written, cell);
     pointer = pointer < old ? old : pointer;
     return pointer < g.zone_sectors ? pointer : g.zone_sectors;
 }
@@ -56,7 +56,7 @@ static uint64_t head_checksum(const uint8_t *head, const struct shelf *shelf, ui
 
 static bool has_old(const struct shelf *shelf, uint32_t drive) {
     for (uint32_t zone = 0; zone < physical_zones(shelf->geometry); zone++)
-        if (get32(shelf->old_written.bytes + 4 * cell(shelf->geometry, drive, zone)) != 0)
+        if (pointer_in(shelf->old_written, cell(shelf->geometry, drive, zone)) != 0)
             return true;
     return false;
 }

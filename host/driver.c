@@ -78,8 +78,8 @@ static void take_unfinished(struct driver *driver) {
 static void note_stored(struct drives *drives, const struct shelf *before, enum call_kind kind) {
     struct geometry g = drives->record.geometry;
     for (size_t at = 0; at < shelf_cells(g); at++) {
-        uint32_t from = get32(before->written.bytes + 4 * at);
-        if (get32(drives->shelf.written.bytes + 4 * at) < from || (traits_of(kind)->refills_logs && at % physical_zones(g) < ZRV_LOG_ZONES))
+        uint32_t from = pointer_in(before->written, at);
+        if (pointer_in(drives->shelf.written, at) < from || (traits_of(kind)->refills_logs && at % physical_zones(g) < ZRV_LOG_ZONES))
             from = 0;
         drives->stored_from[at] = from < drives->stored_from[at] ? from : drives->stored_from[at];
     }
@@ -169,7 +169,7 @@ static bool can_keep(const struct driver *driver, const struct kept_zone *kept, 
     size_t at = 0;
     if (!find_cell(driver, kept->drive, kept->zone, &at, message))
         return false;
-    uint32_t durable = get32(shelf->durable.bytes + 4 * at), written = get32(shelf->written.bytes + 4 * at);
+    uint32_t durable = pointer_in(shelf->durable, at), written = pointer_in(shelf->written, at);
     if (kept->sectors < durable || kept->sectors > written)
         return fail(message, "zone %u of drive %u can keep %u to %u sectors, not %u", kept->zone, kept->drive, durable, written, kept->sectors);
     return true;
@@ -184,7 +184,7 @@ bool lose_power(struct driver *driver, const struct power_loss *loss, struct mes
         lose_power_at_random(shelf, loss->seed);
     else
         for (size_t at = 0; at < shelf_cells(shelf->geometry); at++)
-            keep_sectors(shelf, at, get32((loss->keeps == KEEP_ALL ? shelf->written.bytes : shelf->durable.bytes) + 4 * at));
+            keep_sectors(shelf, at, pointer_in(loss->keeps == KEEP_ALL ? shelf->written : shelf->durable, at));
     for (size_t i = 0; i < loss->given_count; i++)
         keep_sectors(shelf, cell(shelf->geometry, loss->given[i].drive, loss->given[i].zone), loss->given[i].sectors);
     forget_resets(shelf);

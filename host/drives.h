@@ -27,7 +27,12 @@
 #include "shelf.h"
 
 #define RECORD_NAME "state.zrv"
-enum { RECORD_BYTES = 384 };
+enum {
+    RECORD_SAVES = 48,
+    RECORD_STATE = RECORD_SAVES + ZRV_MOST_DRIVES * sizeof(uint64_t),
+    RECORD_CHECKSUM = RECORD_STATE + ZRV_STATE_BYTES,
+    RECORD_BYTES = RECORD_CHECKSUM + sizeof(uint64_t)
+};
 
 /* What may come next: any call; looks and mounts, after a power cut; a power cut, after an unfinished call. */
 enum phase { PHASE_READY = 0, PHASE_MOUNT_DUE = 1, PHASE_POWER_LOSS_DUE = 2 };

@@ -9,14 +9,14 @@
 /* A zone without sectors is not remembered: it could only come back as what it is. */
 static bool remember_zone(struct old_zones *old, const struct shelf *before, size_t cell, struct old_zone **pool) {
     struct geometry g = before->geometry;
-    uint32_t written = get32(before->written.bytes + cell * sizeof(uint32_t));
+    uint32_t written = pointer_in(before->written, cell);
     if (written == 0)
         return true;
     size_t bytes = (size_t)written * g.sector_bytes;
     struct old_zone *zone = malloc(sizeof *zone + bytes);
     if (zone == NULL)
         return false;
-    *zone = (struct old_zone){old->cell[cell], *pool, written, get32(before->durable.bytes + cell * sizeof(uint32_t))};
+    *zone = (struct old_zone){old->cell[cell], *pool, written, pointer_in(before->durable, cell)};
     memcpy(zone->bytes, before->sectors.bytes + cell * g.zone_sectors * g.sector_bytes, bytes);
     old->cell[cell] = *pool = zone;
     return true;

@@ -13,7 +13,8 @@
 
 #define MAGIC "zrv-redo"
 
-enum { RANGES_AT = HEAD_OWN, ARRAY = 40, SAVES = 48, LENGTH = SAVES + 8 * ZRV_MOST_DRIVES, CHECKSUM = LENGTH + 8, REDO_HEAD_BYTES = CHECKSUM + 8 };
+enum { RANGES_AT = HEAD_OWN, ARRAY = 40, SAVES = 48, LENGTH = SAVES + ZRV_MOST_DRIVES * sizeof(uint64_t), CHECKSUM = LENGTH + sizeof(uint64_t),
+       REDO_HEAD_BYTES = CHECKSUM + sizeof(uint64_t) };
 
 /* Where the fields of a range are. */
 enum { RANGE_FILE = 0, RANGE_LENGTH = 4, RANGE_OFFSET = 8, RANGE_HEAD_BYTES = 16 };
@@ -66,7 +67,7 @@ static void fill_head(struct range bytes, const struct host_record *record) {
     put_head(bytes.bytes, MAGIC, record->geometry);
     put64(bytes.bytes + ARRAY, record->array);
     for (uint32_t d = 0; d < ZRV_MOST_DRIVES; d++)
-        put64(bytes.bytes + SAVES + 8 * d, record->save[d]);
+        put64(bytes.bytes + SAVES + sizeof(uint64_t) * d, record->save[d]);
     put64(bytes.bytes + LENGTH, bytes.length);
     put64(bytes.bytes + CHECKSUM, redo_checksum(bytes));
 }
@@ -110,7 +111,7 @@ static bool has_ranges(const struct redo *redo, uint32_t file) {
 /* Whether a drive's file is the one that the save was made for: as it was before it, or afterwards. */
 static bool is_wanted(const struct redo *redo, const struct file_place *place, uint32_t drive) {
     const uint8_t *head = redo->bytes.bytes;
-    uint64_t save = get64(head + SAVES + 8 * drive);
+    uint64_t save = get64(head + SAVES + sizeof(uint64_t) * drive);
     struct drive_tag tag;
     return is_drive_file(place, get_geometry(head), drive, &tag) && tag.array == get64(head + ARRAY) && (tag.save == save || tag.save + 1 == save);
 }

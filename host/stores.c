@@ -16,14 +16,13 @@ struct reading {
 static struct store seen_store(const struct shelf *before, const struct shelf *after) {
     size_t zones = physical_zones(before->geometry);
     for (size_t cell = 0; cell < shelf_cells(before->geometry); cell++) {
-        size_t at = cell * sizeof(uint32_t);
         struct store store = {.kind = STORE_UNSEEN, .drive = (uint32_t)(cell / zones), .zone = (uint32_t)(cell % zones)};
-        uint32_t from = get32(before->written.bytes + at), to = get32(after->written.bytes + at);
+        uint32_t from = pointer_in(before->written, cell), to = pointer_in(after->written, cell);
         store.written = from;
-        store.durable = get32(before->durable.bytes + at);
+        store.durable = pointer_in(before->durable, cell);
         if (from != to)
             store.kind = from < to ? STORE_APPEND : STORE_RESET;
-        else if (store.durable != get32(after->durable.bytes + at))
+        else if (store.durable != pointer_in(after->durable, cell))
             store.kind = STORE_FLUSH;
         if (store.kind != STORE_UNSEEN)
             return store;

@@ -30,7 +30,8 @@ bool note_store(struct store_list *list, const struct shelf *before, const struc
  * stores do not fit the pattern of its kind. Present, by bit, are the drives that were named less the one that is lost in the state that the call hands on. */
 bool settle_stores(struct store_list *list, enum call_kind kind, uint32_t present, struct message *message);
 
-/* Whether a finished call of a kind has flushed every drive after its last reset; whether it flushes and resets nothing but in emptying logs, which come first. */
+/* Of a finished call by its kind's pattern: whether every drive is flushed after its last reset; whether it flushes and resets only in emptying logs, which
+ * come first. */
 bool ends_flushed(enum call_kind kind);
 bool only_empties(enum call_kind kind);
 

@@ -45,7 +45,7 @@ static bool is_present(const struct driver *driver, uint32_t drive) { return (dr
 static const uint8_t *shown_zone(const struct driver *driver, uint32_t zone) { return zone_record(driver->shown, zone); }
 
 static uint32_t written_in(const struct driver *driver, uint32_t drive, uint32_t physical_zone) {
-    return get32(driver->drives.shelf.written.bytes + 4 * cell(driver->drives.record.geometry, drive, physical_zone));
+    return pointer_in(driver->drives.shelf.written, cell(driver->drives.record.geometry, drive, physical_zone));
 }
 
 static struct journal_reader reader_of(const struct driver *driver, uint32_t drive, uint32_t log) {

@@ -238,7 +238,8 @@ static bool parse_power_loss(const struct command_option *keep, const struct com
             is_word = true;
         }
     if (!is_word && (loss->given_count = parse_zones(keep->text, read_kept_zone, list)) == 0)
-        return *list == NULL ? no_memory(message, strlen(keep->text)) : fail(message, "--keep: \"%s\" is not none, all, random or DRIVE:ZONE=SECTORS,..", keep->text);
+        return *list == NULL ? no_memory(message, strlen(keep->text))
+                             : fail(message, "--keep: \"%s\" is not none, all, random or DRIVE:ZONE=SECTORS,..", keep->text);
     loss->given = *list;
     if (seed->given != (loss->keeps == KEEP_RANDOM))
         return fail(message, "--seed goes with --keep random, and only with it");

@@ -6,6 +6,7 @@
 
 #include "bytes.h"
 #include "commands.h"
+#include "grouped_record.h"
 #include "tool.h"
 #include "zrv.h"
 
@@ -28,14 +29,14 @@ struct segment {
     const uint8_t *metadata;
 };
 
-enum { RECORD_ID = 16, MOST_GROUP = 256 };
+enum { MOST_GROUP = 256 };
 
 /* The first stripe ID that a drive lacks in a group; G where it has each. */
 static uint32_t lacking_id(const struct segment *segment, uint32_t drive, uint32_t group) {
     bool has[MOST_GROUP] = {false};
     for (uint32_t i = 0; i < segment->group; i++) {
         size_t block = (size_t)drive * segment->per_drive + (size_t)group * segment->group + i;
-        uint32_t id = get32(segment->metadata + block * ZRV_GROUPED_RECORD_BYTES + RECORD_ID);
+        uint32_t id = get32(segment->metadata + block * ZRV_GROUPED_RECORD_BYTES + GROUPED_STRIPE_ID);
         if (id < segment->group)
             has[id] = true;
     }
@@ -135,10 +136,10 @@ int grouped_main(int argc, char **argv) {
         [BLOCKS] = {.name = "blocks", .kind = OPTION_TEXT, .needed = true},
         [METADATA] = {.name = "metadata", .kind = OPTION_TEXT, .needed = true},
         [AT] = {.name = "at", .kind = OPTION_NUMBER, .needed = true, .most = UINT64_MAX},
-        [DRIVES] = {.name = "drives", .kind = OPTION_NUMBER, .most = 8, .number = 4},
-        [BLOCK_BYTES] = {.name = "block-bytes", .kind = OPTION_NUMBER, .most = 4096, .number = 4096},
-        [GROUP] = {.name = "group", .kind = OPTION_NUMBER, .most = 256, .number = 256},
-        [WITHOUT] = {.name = "without", .kind = OPTION_NUMBER, .most = 7},
+        [DRIVES] = {.name = "drives", .kind = OPTION_NUMBER, .most = ZRV_MOST_DRIVES, .number = 4},
+        [BLOCK_BYTES] = {.name = "block-bytes", .kind = OPTION_NUMBER, .most = ZRV_MOST_SECTOR_BYTES, .number = ZRV_MOST_SECTOR_BYTES},
+        [GROUP] = {.name = "group", .kind = OPTION_NUMBER, .most = MOST_GROUP, .number = MOST_GROUP},
+        [WITHOUT] = {.name = "without", .kind = OPTION_NUMBER, .most = ZRV_MOST_DRIVES - 1},
         [TO] = {.name = "to", .kind = OPTION_TEXT},
     };
     struct message message;

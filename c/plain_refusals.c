@@ -3,6 +3,8 @@
 #include "journal.h"
 #include "plain_emptying.h"
 
+#include "journal.h"
+
 static uint32_t larger(uint32_t a, uint32_t b) { return a > b ? a : b; }
 
 bool geometry_fits(struct geometry g) {
@@ -10,7 +12,7 @@ bool geometry_fits(struct geometry g) {
         return false;
     if (g.sector_bytes < ZRV_LEAST_SECTOR_BYTES || g.sector_bytes > ZRV_MOST_SECTOR_BYTES || (g.sector_bytes & (g.sector_bytes - 1)) != 0)
         return false;
-    if (g.unit < 1 || g.unit > ZRV_MOST_UNIT || g.zones < 1 || g.zones > ZRV_MOST_ZONES || ENTRY_HEAD_BYTES + 8 * g.zones > g.sector_bytes)
+    if (g.unit < 1 || g.unit > ZRV_MOST_UNIT || g.zones < 1 || g.zones > ZRV_MOST_ZONES || counters_bytes(g.zones) > g.sector_bytes)
         return false;
     if (g.zone_sectors > ZRV_MOST_ZONE_SECTORS || g.zone_sectors % g.unit != 0)
         return false;

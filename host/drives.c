@@ -47,8 +47,8 @@ static bool read_record_bytes(FILE *file, uint64_t length, const struct file_pla
         return fail(message, "%s/%s: short: %llu bytes where %d are due; " MAKE_ANEW, place->folder, place->name, (unsigned long long)length, RECORD_BYTES);
     if (!head_fits(bytes, RECORD_MAGIC, place, message))
         return false;
-    if (length != RECORD_BYTES || checksum(CHECKSUM_START, bytes, RECORD_CHECKSUM) != get64(bytes + RECORD_CHECKSUM) || !geometry_is_taken(get_geometry(bytes)) ||
-        get32(bytes + PHASE) > PHASE_POWER_LOSS_DUE)
+    if (length != RECORD_BYTES || checksum(CHECKSUM_START, bytes, RECORD_CHECKSUM) != get64(bytes + RECORD_CHECKSUM) ||
+        !geometry_is_taken(get_geometry(bytes)) || get32(bytes + PHASE) > PHASE_POWER_LOSS_DUE)
         return fail(message, "%s/%s: damaged: its checksum does not match; " MAKE_ANEW, place->folder, place->name);
     return true;
 }

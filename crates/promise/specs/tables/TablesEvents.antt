@@ -117,7 +117,6 @@ module _ (g : Geometry) (ok : Valid g) (s : System (onTables g)) (o : TablesOk g
           ok-agrees g (modeAfter (b .answer) (s .mode)) (s .lost) (b .memory) (a .state) (b .state) (noted (s .ledger) (noteOf g c (shownBy g (isSet named) (deviceOf g (s .memory)) (b .memory)) (replyTo (b .answer)))) (call-agrees .state-agrees)
           (rw (call-agrees .answer-same, call-agrees .memory-same) at kept)
 
-
 -- ---- the calls but mount (MountRefines.antt)
 module _ (g : Geometry) (ok : Valid g) (s : System (onTables g)) (o : TablesOk g s) (named : List Bool) (n : NamesAll g (onTables g) s named) where
   abbrev t : Tables

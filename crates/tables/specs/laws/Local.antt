@@ -6,12 +6,12 @@ use Prim.Native.Nat.{ℕ, _≤_}
 use native.Mathlib.Nat.{le-refl, le-trans}
 use native.Mathlib.Omega.{arith}
 use mathlib.Core.List.{List, [], _∷_, _++_, append-assoc, append-nil, map}
-use lib.ListN.{length, take, drop, length-append, take-append-drop}
+use lib.ListN.{length, take, drop, length-append, length-take, take-append-drop}
 use lib.Dec.{eqb}
 use borrow.Author.Tests.{eqb-true}
 use Rattle.tables.specs.meaning.Basics.{pick}
-use Rattle.tables.specs.laws.Lists.{Prefix, prefix-refl, prefix-trans, prefix-append}
-use Rattle.tables.specs.meaning.Device.{ZoneView, Device, Store, append, reset, flush, appended, blankZone, flushed, putZone, apply, applyAll}
+use Rattle.tables.specs.laws.Lists.{Prefix, prefix-refl, prefix-trans, prefix-take, prefix-append}
+use Rattle.tables.specs.meaning.Device.{ZoneView, Device, Store, append, reset, flush, appended, blankZone, flushed, putZone, apply, applyAll, ZoneCut}
 
 -- ---- definitions
 -- a store, seen from its place
@@ -128,3 +128,11 @@ front-part column least a os all w m n p q =
     let e = extends-here os a (no-reset-front os (p .rest) n′) w in
     let f : Extends (applyAllHere os a) (applyAllHere all a) = rw (← p .is, apply-here-append os (p .rest) a) (extends-here (p .rest) (applyAllHere os a) (no-reset-back os (p .rest) n′) (e .wf)) in
     record { pre = prefix-trans (f .pre) q; wf = e .wf; dur = le-trans m (e .keeps) }
+
+-- and after a cut
+pub front-cut : (column : List (List ℕ)) (least : ℕ) (a b : ZoneView) → FrontOf column least a → ZoneCut a b → FrontOf column least b
+front-cut column least a b g c = rw (c .is) (record {
+  pre = prefix-trans (prefix-take (c .kept) (a .sectors)) (g .pre);
+  wf = simp length-take (omega (arith, c .most));
+  dur = omega (arith, c .least, g .dur);
+})

@@ -1,12 +1,13 @@
 # explore: four drives, a write, a flush and two writes in succession: every moment at which power can go, times what the caches kept, times the drive that does not come back
-# test:  the layout, the worked values of log_walks and of docs/FORMAT.md, then everything proved from nothing, and beside it the wrong programs and the archive; the merge gate
+# test:  the layout, that meaning/ cites no laws, the worked values of log_walks and of docs/FORMAT.md, then everything proved from nothing, and beside it the wrong programs and the archive; the merge gate
 # check: prove every crate and run the programs (only what changed since the last time)
 # wrong: the wrong programs and wrong rules alone (`scripts/wrong_programs .` takes over this folder's target/, and need not check the crates from nothing)
 # archive: prove the C edge and write lib/libzrv.a anew, which C links with include/zrv.h
 # zrv: the command-line tool over a shelf kept as files, target/zrv (`target/zrv help`)
 # from-c: all tests of the archive and of the tool:
 #   edge-test: the conformance vectors replayed, and bad input; then both once more with the C side's sanitizers
-#   tool-test: the tool used as a person would, with the exact words and exit codes; then once more with the sanitizers; then commands killed while they save
+#   tool-test: the tool used as a person would, with the exact words and exit codes; then once more with the sanitizers; then commands killed while they save.
+#   Before it stores read by the patterns of their calls, and commands without memory
 #   explore-test: explore's counts, its histories that do not fit, its messages and its picture; a part of it once more with the sanitizers
 #   example: the program of docs/USING.md, built and run
 # kill-test: the last of these in full: kills before every change of a file, 400 at drawn moments, and full disks (part of no test)
@@ -21,6 +22,7 @@ explore: target/zrv
 
 test: format-test
 	@rt fmt --check
+	@! grep -n '^use .*specs\.laws\.' crates/*/specs/meaning/*.antt
 	@python3 scripts/expect_log_walks.py | cmp - crates/log_walks/stdout
 	@scripts/gate
 
@@ -46,8 +48,8 @@ BAD_INPUT_C = c/bad_input.c c/fixture.c c/expected.c $(PLAIN_C) host/shelf.c hos
 GROUPED_REPLAY_C = c/grouped_replay.c c/script.c host/shelf.c host/call.c
 BENCH_C = c/bench.c c/bench_grouped.c c/plain_grouped.c $(PLAIN_C) host/shelf.c host/call.c
 BENCH_ISAL_C = c/bench_isal.c host/shelf.c host/call.c
-HOST_C = host/driver.c host/drives.c host/saving.c host/redo.c host/lock.c host/drive_file.c host/mapped_sectors.c host/files.c host/folder.c host/assembling.c host/bounds.c host/journal.c host/cached_resets.c host/old_zones.c host/stores.c host/progress.c host/message.c host/shelf.c host/call.c
-EXPLORE_C = tool/explore/explore.c tool/explore/options.c tool/explore/oracle.c tool/explore/caches.c tool/explore/world.c tool/explore/story.c \
+HOST_C = host/driver.c host/call_kinds.c host/drives.c host/saving.c host/redo.c host/lock.c host/drive_file.c host/mapped_sectors.c host/files.c host/folder.c host/assembling.c host/bounds.c host/journal.c host/cached_resets.c host/old_zones.c host/stores.c host/progress.c host/message.c host/shelf.c host/call.c
+EXPLORE_C = tool/explore/explore.c tool/explore/ending.c tool/explore/options.c tool/explore/oracle.c tool/explore/caches.c tool/explore/world.c tool/explore/story.c \
 	tool/explore/check.c tool/explore/engine.c tool/explore/report.c tool/explore/picture.c
 ZRV_C = tool/zrv.c tool/commands.c tool/pull.c tool/assemble.c tool/info.c tool/transfer.c tool/report.c tool/grouped.c tool/look_json.c tool/checklist.c tool/bad_log.c tool/left_out.c tool/tool.c tool/options.c tool/words.c tool/refusals.c $(EXPLORE_C) $(HOST_C)
 ZRV_H = include/zrv.h $(wildcard host/*.h tool/*.h tool/explore/*.h)
@@ -80,11 +82,23 @@ edge-test:
 	@$(EDGE)/grouped_replay_sanitized < c/vectors/grouped.txt | cmp - c/vectors/grouped.out && echo "grouped replay, sanitized: $$(wc -l < c/vectors/grouped.out) lines equal"
 	@$(EDGE)/bad_input_sanitized
 
+target/no_memory.so: tool/test/no_memory.c
+	@mkdir -p target
+	@$(COMPILE) -O2 -shared -fPIC $< -o $@
+
 target/stop: tool/test/stop.c
 	@mkdir -p target
 	@$(COMPILE) -O2 $< -o $@
 
-tool-test: target/zrv target/zrv_sanitized target/stop
+STORES_C = tool/test/stores.c host/stores.c host/call_kinds.c host/shelf.c host/message.c
+
+target/stores: $(STORES_C) $(ZRV_H)
+	@mkdir -p target
+	@$(COMPILE) $(SANITIZE) $(STORES_C) -o $@
+
+tool-test: target/zrv target/zrv_sanitized target/stop target/stores target/no_memory.so
+	@target/stores
+	@tool/test/memory target/zrv target/no_memory.so
 	@tool/test/tool target/zrv
 	@tool/test/tool target/zrv_sanitized
 	@tool/test/kills target/zrv target/stop 4 4

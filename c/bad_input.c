@@ -150,8 +150,8 @@ static void masks(struct fixture *f) {
 static void one_pointer(struct fixture *f, enum call_kind kind, size_t index, uint32_t named, uint32_t written, uint32_t durable) {
     struct call call = usual_call(f, kind);
     call.named = named;
-    put32(f->range[WRITTEN].bytes + 4 * index, written);
-    put32(f->range[DURABLE].bytes + 4 * index, durable);
+    put_pointer(f->range[WRITTEN], index, written);
+    put_pointer(f->range[DURABLE], index, durable);
     judge(f, "write pointer", &call, ZRV_FINISHED);
 }
 
@@ -162,7 +162,7 @@ static void pointers(struct fixture *f) {
     for (int k = 0; k < KINDS; k++)
         for (size_t index = 0; index < g.drives * zones; index++)
             for (int unnamed = 0; unnamed < 2; unnamed++) {
-                uint32_t all = (1u << g.drives) - 1, c = g.zone_sectors, had = get32(f->range[WRITTEN].bytes + 4 * index);
+                uint32_t all = (1u << g.drives) - 1, c = g.zone_sectors, had = pointer_in(f->range[WRITTEN], index);
                 uint32_t named = unnamed ? all & ~(1u << index / zones) : all;
                 const uint32_t pair[][2] = {
                     {c, c}, {c, 0}, {c + 1, c}, {c + 1, c + 1}, {1u << 31, 0}, {UINT32_MAX, 0}, {UINT32_MAX, UINT32_MAX}, {had, had + 1}, {had, UINT32_MAX}, {c, c + 1},
@@ -214,7 +214,7 @@ static void wrapping_runs(struct fixture *f) {
 
 static void zones(struct fixture *f) {
     uint32_t l = f->geometry.zones;
-    const uint32_t zone[] = {0, 1, l - 1, l, l + 1, 16, 17, 255, 256, 1u << 16, 1u << 31, UINT32_MAX - 1, UINT32_MAX};
+    const uint32_t zone[] = {0, 1, l - 1, l, l + 1, ZRV_MOST_ZONES, ZRV_MOST_ZONES + 1, 255, 256, 1u << 16, 1u << 31, UINT32_MAX - 1, UINT32_MAX};
     for (size_t i = 0; i < sizeof zone / sizeof *zone; i++) {
         struct call call = usual_call(f, CALL_RESET);
         call.zone = zone[i];
@@ -285,7 +285,7 @@ static void log_bytes(struct fixture *f) {
     struct geometry g = f->geometry;
     for (uint32_t d = 0; d < g.drives; d++)
         for (uint32_t y = 0; y < ZRV_LOG_ZONES; y++) {
-            size_t bytes = (size_t)get32(f->range[WRITTEN].bytes + 4 * cell(g, d, y)) * g.sector_bytes;
+            size_t bytes = (size_t)pointer_in(f->range[WRITTEN], cell(g, d, y)) * g.sector_bytes;
             for (size_t i = 0; i < 4 * bytes; i++) {
                 struct call call = usual_call(f, walking[i % 2]);
                 sector_in(f, d, y, 0)[i / 4] ^= i / 2 % 2 == 0 ? 0x01 : 0x80;
@@ -302,7 +302,7 @@ static void append_bad(struct fixture *f, uint32_t drive, uint32_t log, bool mar
     memset(sector, 0, f->geometry.sector_bytes);
     if (marked)
         closing_header(sector, f->geometry, log, 0);
-    put32(f->range[WRITTEN].bytes + 4 * cell(f->geometry, drive, y), at + 1);
+    put_pointer(f->range[WRITTEN], cell(f->geometry, drive, y), at + 1);
 }
 
 /* Two bad logs, every pair of them: the earlier drive and zone decides. */
@@ -327,7 +327,7 @@ static void append_rows(struct fixture *f, uint32_t drive, uint32_t of, uint32_t
         closing_header(sector_in(f, drive, y, at), g, PARITY_LOG, 1);
     uint64_t start = (uint64_t)((of + 1) % g.drives) * stripe_sectors(g);
     partial_header(sector_in(f, drive, y, at), g, start, start + rows, 1);
-    put32(f->range[WRITTEN].bytes + 4 * cell(g, drive, y), at + 1);
+    put_pointer(f->range[WRITTEN], cell(g, drive, y), at + 1);
 }
 
 /* A header whose rows would just pass the zone's end, on every drive and of every drive's stripes: only where it is legal that is what is wrong. */

@@ -10,6 +10,7 @@
 
 #include "bench_grouped.h"
 #include "bytes.h"
+#include "needed.h"
 #include "plain_logs.h"
 #include "shelf.h"
 
@@ -82,7 +83,7 @@ static void format_both(struct bench *b) {
 
 static struct bench new_bench(struct geometry g) {
     size_t cells = shelf_cells(g), zone = zone_addresses(g) * g.sector_bytes;
-    struct bench b = {.shelf = new_shelf(g), .all = (1u << g.drives) - 1, .named = (1u << g.drives) - 1, .run = stripe_sectors(g), .end = zone_addresses(g)};
+    struct bench b = {.shelf = needed_shelf(g), .all = (1u << g.drives) - 1, .named = (1u << g.drives) - 1, .run = stripe_sectors(g), .end = zone_addresses(g)};
     b.data = memory(zone);
     b.answer = memory(zone);
     b.plain_answer = memory(zone);
@@ -164,7 +165,7 @@ static uint64_t copy_bytes(struct bench *b) {
 static void must_agree(struct bench *b, const char *what) {
     bool same = memcmp(b->shelf.sectors.bytes, b->plain.sectors, b->plain.sectors_bytes) == 0;
     for (size_t i = 0; i < b->plain.written_cells; i++)
-        same &= get32(b->shelf.written.bytes + 4 * i) == b->plain.written[i] && get32(b->shelf.durable.bytes + 4 * i) == b->plain.durable[i];
+        same &= pointer_in(b->shelf.written, i) == b->plain.written[i] && pointer_in(b->shelf.durable, i) == b->plain.durable[i];
     same &= memcmp(b->answer, b->plain_answer, zone_addresses(b->shelf.geometry) * b->shelf.geometry.sector_bytes) == 0;
     must_be(same, true, what);
 }

@@ -9,16 +9,18 @@
 #include <time.h>
 
 #include "bytes.h"
+#include "grouped_record.h"
 #include "plain_grouped.h"
 #include "zrv.h"
 
-enum { DRIVES = 8, BLOCK_BYTES = 64, GROUP = 256, BLOCKS = 65536, CELLS = DRIVES * BLOCKS, RECORD = 20, TIMESTAMP = 8, STRIPE_ID = 16, ADDRESSES = 100000, TURNS = 3 };
+enum { DRIVES = ZRV_MOST_DRIVES, BLOCK_BYTES = ZRV_LEAST_SECTOR_BYTES, GROUP = 256, BLOCKS = 65536, CELLS = DRIVES * BLOCKS };
+enum { RECORD = ZRV_GROUPED_RECORD_BYTES, ADDRESSES = 100000, TURNS = 3 };
 
 struct grouped {
     uint8_t *blocks, *metadata, *work, answer[BLOCK_BYTES], plain_answer[BLOCK_BYTES];
 };
 
-typedef uint32_t read_function(uint32_t, uint32_t, uint32_t, uint32_t, uint32_t, uint64_t, const uint8_t *, size_t, const uint8_t *, size_t, uint8_t *, size_t,
+typedef uint64_t read_function(uint32_t, uint32_t, uint32_t, uint32_t, uint32_t, uint64_t, const uint8_t *, size_t, const uint8_t *, size_t, uint8_t *, size_t,
                                uint8_t *, size_t);
 
 static uint64_t next_number(uint64_t *state) {
@@ -33,15 +35,15 @@ static void fill(struct grouped *g) {
     for (size_t cell = 0; cell < CELLS; cell++) {
         uint8_t *record = g->metadata + cell * RECORD;
         put64(record, next_number(&chance) % ADDRESSES);
-        put64(record + TIMESTAMP, next_number(&chance));
-        put32(record + STRIPE_ID, cell % GROUP);
+        put64(record + GROUPED_TIMESTAMP, next_number(&chance));
+        put32(record + GROUPED_STRIPE_ID, cell % GROUP);
         put64(g->blocks + cell * BLOCK_BYTES, cell);
     }
     for (size_t cell = CELLS; cell-- > 0;) {
         size_t other = cell - cell % GROUP + next_number(&chance) % (cell % GROUP + 1);
-        uint32_t id = get32(g->metadata + cell * RECORD + STRIPE_ID);
-        put32(g->metadata + cell * RECORD + STRIPE_ID, get32(g->metadata + other * RECORD + STRIPE_ID));
-        put32(g->metadata + other * RECORD + STRIPE_ID, id);
+        uint32_t id = get32(g->metadata + cell * RECORD + GROUPED_STRIPE_ID);
+        put32(g->metadata + cell * RECORD + GROUPED_STRIPE_ID, get32(g->metadata + other * RECORD + GROUPED_STRIPE_ID));
+        put32(g->metadata + other * RECORD + GROUPED_STRIPE_ID, id);
     }
 }
 
@@ -79,7 +81,7 @@ static void row(struct grouped *g, const char *what, uint32_t named) {
 }
 
 void grouped_rows(void) {
-    struct grouped g = {calloc(CELLS, BLOCK_BYTES), calloc(CELLS, RECORD), calloc(CELLS, 8), {0}, {0}};
+    struct grouped g = {calloc(CELLS, BLOCK_BYTES), calloc(CELLS, RECORD), calloc(1, ZRV_GROUPED_WORK_BYTES(DRIVES, BLOCKS)), {0}, {0}};
     if (g.blocks == NULL || g.metadata == NULL || g.work == NULL)
         exit(2);
     fill(&g);

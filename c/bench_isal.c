@@ -9,6 +9,7 @@
 #include <string.h>
 #include <time.h>
 
+#include "needed.h"
 #include "shelf.h"
 
 enum { PASSES = 301, ALIGNMENT = 64, ZONE_SECTORS = 128 };
@@ -97,7 +98,7 @@ static double time_isal(struct stripe *s, bool copies) {
 
 static void row(uint32_t drives, uint32_t unit) {
     struct geometry g = {drives, ZRV_MOST_SECTOR_BYTES, unit, 1, ZONE_SECTORS};
-    struct stripe s = {.shelf = new_shelf(g), .data = aligned_range((size_t)stripe_sectors(g) * g.sector_bytes)};
+    struct stripe s = {.shelf = needed_shelf(g), .data = aligned_range((size_t)stripe_sectors(g) * g.sector_bytes)};
     double whole[PASSES], both[PASSES], isal[PASSES];
     free(s.shelf.sectors.bytes);
     s.shelf.sectors = aligned_range(s.shelf.sectors.length);
@@ -116,8 +117,8 @@ int main(void) {
     printf("the write of a whole stripe (4,096-byte sectors), beside memcpy of its units and ISA-L's xor_gen of its rows; microseconds,\n");
     printf("and the archive's speed as a share of theirs\n");
     printf("%6s %5s %16s %16s %16s %16s\n", "drives", "unit", "stripe write", "both", "xor_gen alone", "share");
-    for (uint32_t drives = 4; drives <= 8; drives += 4)
-        for (uint32_t unit = 1; unit <= 16; unit *= 4)
+    for (uint32_t drives = 4; drives <= ZRV_MOST_DRIVES; drives += 4)
+        for (uint32_t unit = 1; unit <= ZRV_MOST_UNIT; unit *= 4)
             row(drives, unit);
     return 0;
 }

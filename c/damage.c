@@ -6,6 +6,7 @@
 
 #include "bytes.h"
 #include "journal.h"
+#include "needed.h"
 
 static struct geometry geometry_in(const struct command *command) {
     const uint64_t *number = command->number;
@@ -17,14 +18,14 @@ static void renew(struct host *host, struct geometry geometry) {
     free_shelf(&host->shelf);
     memset(host, 0, sizeof *host);
     host->geometry = geometry;
-    host->shelf = new_shelf(geometry);
+    host->shelf = needed_shelf(geometry);
 }
 
 static void put_pointers(struct host *host, uint64_t index, uint32_t written, uint32_t durable) {
     if (index >= shelf_cells(host->shelf.geometry))
         return;
-    put32(host->shelf.written.bytes + index * sizeof(uint32_t), written);
-    put32(host->shelf.durable.bytes + index * sizeof(uint32_t), durable);
+    put_pointer(host->shelf.written, index, written);
+    put_pointer(host->shelf.durable, index, durable);
 }
 
 static void put_record(struct host *host, const uint64_t *number) {
@@ -42,7 +43,7 @@ static void append_odd(struct host *host, uint64_t drive, uint64_t zone, const u
     uint64_t zones = (uint64_t)geometry.zones + ZRV_LOG_ZONES;
     if (drive >= geometry.drives || zone >= zones)
         return;
-    uint8_t *pointer = host->shelf.written.bytes + (drive * zones + zone) * sizeof(uint32_t);
+    uint8_t *pointer = host->shelf.written.bytes + (drive * zones + zone) * POINTER_BYTES;
     uint32_t at = get32(pointer);
     if (at >= geometry.zone_sectors)
         return;

@@ -57,9 +57,9 @@ static bool state_form(const uint8_t *bytes, uint32_t zones) {
 
 /* A table's cells; a length that is no whole number of them is none that fits. */
 static size_t cells_in(struct range range, uint32_t *table) {
-    size_t cells = range.length / 4;
+    size_t cells = range.length / POINTER_BYTES;
     for (size_t i = 0; i < cells && i < MOST_CELLS; i++)
-        table[i] = get32(range.bytes + 4 * i);
+        table[i] = pointer_in(range, i);
     return range.length % 4 == 0 ? cells : SIZE_MAX;
 }
 
@@ -130,8 +130,8 @@ void expect(struct expected *e, const struct call *call) {
 }
 
 static bool table_is(const uint32_t *table, struct range range) {
-    for (size_t i = 0; i < range.length / 4; i++)
-        if (table[i] != get32(range.bytes + 4 * i))
+    for (size_t i = 0; i < range.length / POINTER_BYTES; i++)
+        if (table[i] != pointer_in(range, i))
             return false;
     return true;
 }

@@ -33,7 +33,7 @@ static uint8_t *new_memory(size_t length) {
 }
 
 static void lay_out(struct fixture *f, struct geometry g) {
-    size_t table = shelf_cells(g) * 4, buffer = (zone_addresses(g) + 2) * g.sector_bytes;
+    size_t table = ZRV_TABLE_BYTES(g.drives, g.zones), buffer = (zone_addresses(g) + 2) * g.sector_bytes;
     size_t length[RANGES] = {shelf_cells(g) * g.zone_sectors * g.sector_bytes, table, table, ZRV_STATE_BYTES, buffer};
     f->memory_bytes = GUARD_BYTES;
     for (int i = 0; i < RANGES; i++)
@@ -84,7 +84,7 @@ static void cut_and_mount(struct fixture *f) {
     struct geometry g = f->geometry;
     size_t zones = (size_t)g.zones + ZRV_LOG_ZONES;
     for (uint32_t d = 0; d < g.drives; d++)
-        put32(f->range[WRITTEN].bytes + 4 * (d * zones + ZRV_LOG_ZONES), d == 0 ? 1 : 0);
+        put_pointer(f->range[WRITTEN], d * zones + ZRV_LOG_ZONES, d == 0 ? 1 : 0);
     memcpy(f->range[DURABLE].bytes, f->range[WRITTEN].bytes, f->range[WRITTEN].length);
     struct call call = usual_call(f, CALL_MOUNT);
     must_finish(&call);

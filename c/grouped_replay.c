@@ -7,11 +7,12 @@
 
 #include "adler.h"
 #include "bytes.h"
+#include "grouped_record.h"
 #include "script.h"
 #include "shelf.h"
 #include "zrv.h"
 
-enum { RECORD = 20, TIMESTAMP = 8, STRIPE_ID = 16, PREFILL = 0xEE };
+enum { RECORD = ZRV_GROUPED_RECORD_BYTES, PREFILL = 0xEE };
 
 struct numbers {
     uint32_t drives, block_bytes, group, blocks;
@@ -60,8 +61,8 @@ static uint32_t shown(const struct segment *s, size_t cell) {
 static uint32_t set_record(const struct segment *s, const uint64_t *number) {
     size_t cell = number[0] * s->made.blocks + number[1];
     put64(record_at(s, cell), number[2]);
-    put64(record_at(s, cell) + TIMESTAMP, number[3]);
-    put32(record_at(s, cell) + STRIPE_ID, (uint32_t)number[4]);
+    put64(record_at(s, cell) + GROUPED_TIMESTAMP, number[3]);
+    put32(record_at(s, cell) + GROUPED_STRIPE_ID, (uint32_t)number[4]);
     return shown(s, cell);
 }
 
@@ -75,7 +76,7 @@ static uint32_t set_block(const struct segment *s, const uint64_t *number) {
 static size_t find(const struct segment *s, uint32_t drive, uint64_t group, uint64_t id) {
     size_t first = (size_t)drive * s->made.blocks + group * s->made.group;
     for (size_t cell = first; cell < first + s->made.group; cell++)
-        if (get32(record_at(s, cell) + STRIPE_ID) == id)
+        if (get32(record_at(s, cell) + GROUPED_STRIPE_ID) == id)
             return cell;
     return cells(s);
 }
@@ -92,11 +93,11 @@ static uint32_t set_parity(const struct segment *s, uint64_t group, uint64_t id)
     uint32_t parity = (uint32_t)((group * s->made.group + id) % s->made.drives);
     size_t to = find(s, parity, group, id);
     memset(block_at(s, to), 0, s->made.block_bytes);
-    memset(record_at(s, to), 0, STRIPE_ID);
+    memset(record_at(s, to), 0, GROUPED_STRIPE_ID);
     for (uint32_t d = 0; d < s->made.drives; d++) {
         if (d != parity) {
             add(block_at(s, to), block_at(s, find(s, d, group, id)), s->made.block_bytes);
-            add(record_at(s, to), record_at(s, find(s, d, group, id)), STRIPE_ID);
+            add(record_at(s, to), record_at(s, find(s, d, group, id)), GROUPED_STRIPE_ID);
         }
     }
     return shown(s, to);
@@ -106,12 +107,12 @@ static uint32_t read_segment(struct segment *s, uint32_t named, uint64_t address
     const struct numbers *n = &s->handed;
     size_t answer_bytes = short_of(s->made.block_bytes, s->shortage[3]);
     memset(s->answer, PREFILL, answer_bytes);
-    uint32_t code = zrv_grouped_read(n->drives, n->block_bytes, n->group, n->blocks, named, address,
-                                     s->blocks, short_of((uint64_t)cells(s) * s->made.block_bytes, s->shortage[0]),
-                                     s->metadata, short_of((uint64_t)cells(s) * RECORD, s->shortage[1]),
-                                     s->work, short_of((uint64_t)cells(s) * 2 * 4, s->shortage[2]), s->answer, answer_bytes);
+    uint64_t returned = zrv_grouped_read(n->drives, n->block_bytes, n->group, n->blocks, named, address,
+                                         s->blocks, short_of((uint64_t)cells(s) * s->made.block_bytes, s->shortage[0]),
+                                         s->metadata, short_of((uint64_t)cells(s) * RECORD, s->shortage[1]),
+                                         s->work, short_of((uint64_t)cells(s) * 2 * 4, s->shortage[2]), s->answer, answer_bytes);
     *sum = adler(1, s->answer, answer_bytes);
-    return code;
+    return ZRV_ANSWER(returned);
 }
 
 static struct numbers numbers_of(const uint64_t *number) {

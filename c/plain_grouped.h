@@ -5,7 +5,7 @@
 #include <stddef.h>
 #include <stdint.h>
 
-uint32_t plain_grouped_read(uint32_t drives, uint32_t block_bytes, uint32_t group, uint32_t blocks_per_drive, uint32_t named, uint64_t address,
+uint64_t plain_grouped_read(uint32_t drives, uint32_t block_bytes, uint32_t group, uint32_t blocks_per_drive, uint32_t named, uint64_t address,
                             const uint8_t *blocks, size_t blocks_bytes, const uint8_t *metadata, size_t metadata_bytes,
                             uint8_t *work, size_t work_bytes, uint8_t *answer, size_t answer_bytes);
 

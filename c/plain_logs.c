@@ -31,7 +31,7 @@ void label_header(uint8_t *sector, struct geometry g, uint32_t drive, uint32_t l
 void counters_header(uint8_t *sector, struct geometry g, const struct volume_state *state) {
     header(sector, g, ENTRY_COUNTERS, 0, 0, 0);
     for (uint32_t z = 0; z < g.zones; z++)
-        put64(sector + ENTRY_HEAD_BYTES + 8 * z, state->zone[z].generation);
+        put64(sector + counters_bytes(z), state->zone[z].generation);
 }
 
 void partial_header(uint8_t *sector, struct geometry g, uint64_t start, uint64_t end, uint64_t generation) {

@@ -1,6 +1,9 @@
 /* The refusals of document 01's table, least number first: 1 to 4 of every call, then those of each call from 7 on. Those of look and mount are in
  * plain_look.c; 14 of a write is found with its log, 15 of a read and a write where the sectors are sought. */
+#include "journal.h"
 #include "plain_emptying.h"
+
+#include "journal.h"
 
 static uint32_t larger(uint32_t a, uint32_t b) { return a > b ? a : b; }
 
@@ -9,7 +12,7 @@ bool geometry_fits(struct geometry g) {
         return false;
     if (g.sector_bytes < ZRV_LEAST_SECTOR_BYTES || g.sector_bytes > ZRV_MOST_SECTOR_BYTES || (g.sector_bytes & (g.sector_bytes - 1)) != 0)
         return false;
-    if (g.unit < 1 || g.unit > ZRV_MOST_UNIT || g.zones < 1 || g.zones > ZRV_MOST_ZONES || 32 + 8 * g.zones > g.sector_bytes)
+    if (g.unit < 1 || g.unit > ZRV_MOST_UNIT || g.zones < 1 || g.zones > ZRV_MOST_ZONES || counters_bytes(g.zones) > g.sector_bytes)
         return false;
     if (g.zone_sectors > ZRV_MOST_ZONE_SECTORS || g.zone_sectors % g.unit != 0)
         return false;

@@ -7,6 +7,7 @@
 
 #include "adler.h"
 #include "bytes.h"
+#include "needed.h"
 #include "script_host.h"
 
 static void show_state(const uint8_t *state, uint32_t zones) {
@@ -71,7 +72,7 @@ static void show(const struct host *host, const struct command *command, struct 
 }
 
 int main(void) {
-    struct host host = {.shelf = new_shelf((struct geometry){0})};
+    struct host host = {.shelf = needed_shelf((struct geometry){0})};
     struct command command;
     while (next_command(stdin, &command)) {
         struct reply reply = perform(&host, &command);

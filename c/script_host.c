@@ -4,6 +4,7 @@
 #include <string.h>
 
 #include "damage.h"
+#include "needed.h"
 
 enum { UNTOUCHED = 0xee }; /* every byte of a list that is lent for a report */
 
@@ -16,8 +17,8 @@ static struct call call_of(const struct host *host, const struct shortage *short
     struct call call = {
         .geometry = host->geometry,
         .range[SECTORS] = shortened(host->shelf.sectors, shortage->sectors),
-        .range[WRITTEN] = shortened(host->shelf.written, shortage->written * sizeof(uint32_t)),
-        .range[DURABLE] = shortened(host->shelf.durable, shortage->durable * sizeof(uint32_t)),
+        .range[WRITTEN] = shortened(host->shelf.written, shortage->written * POINTER_BYTES),
+        .range[DURABLE] = shortened(host->shelf.durable, shortage->durable * POINTER_BYTES),
         .range[STATE] = {state, ZRV_STATE_BYTES},
     };
     return call;
@@ -47,15 +48,15 @@ static void take_numbers(struct call *call, const struct command *command) {
 
 static struct range buffer_for(const struct host *host, const struct command *command) {
     if (command->letter == CALL_PEEK)
-        return new_range(ZRV_PLACE_BYTES);
+        return needed_range(ZRV_PLACE_BYTES);
     if (command->letter == CALL_REPORT) {
-        struct range list = new_range((size_t)narrowed(command->number[0]) * ZRV_DESCRIPTOR_BYTES);
+        struct range list = needed_range((size_t)narrowed(command->number[0]) * ZRV_DESCRIPTOR_BYTES);
         memset(list.bytes, UNTOUCHED, list.length);
         return list;
     }
     if (command->letter != CALL_WRITE && command->letter != CALL_READ)
-        return new_range(0);
-    struct range buffer = new_range((size_t)narrowed(command->number[2]) * host->geometry.sector_bytes);
+        return needed_range(0);
+    struct range buffer = needed_range((size_t)narrowed(command->number[2]) * host->geometry.sector_bytes);
     if (command->letter == CALL_WRITE)
         fill_from_stream(buffer.bytes, buffer.length, command->number[3]);
     return shortened(buffer, host->shortage.buffer);

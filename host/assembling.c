@@ -119,7 +119,8 @@ static bool has_no_record(const struct drives *drives, struct message *message) 
     if (was_there)
         return fail(message, "%s/%s: it is there: nothing to assemble; where it cannot be read, move it away first", drives->folder, RECORD_NAME);
     if (is_taken(drives, RECORD_NAME))
-        return fail(message, "%s/%s: it is there again, from the %s of a command that was stopped: nothing to assemble", drives->folder, RECORD_NAME, REDO_NAME);
+        return fail(message, "%s/%s: it is there again, from the %s of a command that was stopped: nothing to assemble", drives->folder, RECORD_NAME,
+                    REDO_NAME);
     return true;
 }
 
@@ -128,8 +129,7 @@ bool assemble_drives(struct drives *drives, const struct opening *opening, uint3
     *drives = (struct drives){.directory = -1};
     if (!open_and_lock(drives, opening, message) || !has_no_record(drives, message))
         return false;
-    find_drives(drives, found);
-    if (!has_no_open_format(drives, message) || !judge_drives(drives, found, without, message))
+    if (!find_drives(drives, found, message) || !has_no_open_format(drives, message) || !judge_drives(drives, found, without, message))
         return false;
     if (without != LEAVE_OUT_NONE && without >= drives->record.geometry.drives)
         return fail(message, "%s: there is no drive %u to leave out", drives->folder, without);

@@ -1,12 +1,11 @@
 /* The volume itself judges a geometry; here is why. */
 #include "bounds.h"
 
+#include "journal.h"
+
 static uint32_t larger(uint32_t a, uint32_t b) { return a > b ? a : b; }
 
 static uint32_t whole_units(uint32_t sectors, uint32_t unit) { return (sectors + unit - 1) / unit * unit; }
-
-/* The bytes of a sector that a counters entry needs: a head, and a generation for each zone. */
-static uint32_t counters_bytes(uint32_t zones) { return 32 + 8 * zones; }
 
 uint32_t least_zone_sectors(struct geometry g) { return whole_units(larger(g.zones * (1 + g.unit) + 2 * g.unit + 1, g.zones + 6), g.unit); }
 
@@ -29,7 +28,8 @@ bool geometry_fits(struct geometry g, struct message *message) {
         is_outside(g.unit, 1, ZRV_MOST_UNIT, "unit", message) || is_outside(g.zones, 1, ZRV_MOST_ZONES, "zones", message))
         return false;
     if ((g.sector_bytes & (g.sector_bytes - 1)) != 0)
-        return fail(message, "--sector-bytes: %u is not 64 and so on by doubling to 4096", g.sector_bytes);
+        return fail(message, "--sector-bytes: %u is not %u and so on by doubling to %u", g.sector_bytes, ZRV_LEAST_SECTOR_BYTES,
+                    ZRV_MOST_SECTOR_BYTES);
     if (counters_bytes(g.zones) > g.sector_bytes)
         return fail(message, "--zones: %u zones need sectors of at least %u bytes, these have %u", g.zones, counters_bytes(g.zones), g.sector_bytes);
     if (is_outside(g.zone_sectors, least_zone_sectors(g), ZRV_MOST_ZONE_SECTORS, "zone-sectors", message))

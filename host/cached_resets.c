@@ -7,11 +7,9 @@
 #include "bytes.h"
 #include "stores.h"
 
-static uint32_t pointer_in(struct range table, size_t cell) { return get32(table.bytes + cell * sizeof(uint32_t)); }
-
 static void remember_pointers(struct shelf *shelf, size_t cell, uint32_t written, uint32_t durable) {
-    put32(shelf->old_written.bytes + cell * sizeof(uint32_t), written);
-    put32(shelf->old_durable.bytes + cell * sizeof(uint32_t), durable);
+    put_pointer(shelf->old_written, cell, written);
+    put_pointer(shelf->old_durable, cell, durable);
 }
 
 static void forget_drive(struct shelf *shelf, uint32_t drive) {
@@ -29,7 +27,9 @@ static void forget_named(struct shelf *shelf, uint32_t named) {
 struct shelf shelf_before(const struct shelf *shelf, const struct call *call) {
     if (call->count != ZRV_ALL_STORES)
         return copy_shelf(shelf);
-    struct shelf pointers = {.geometry = shelf->geometry, .written = new_range(shelf->written.length), .durable = new_range(shelf->durable.length)};
+    struct shelf pointers = new_pointers(shelf->geometry);
+    if (!has_memory(&pointers))
+        return pointers;
     memcpy(pointers.written.bytes, shelf->written.bytes, shelf->written.length);
     memcpy(pointers.durable.bytes, shelf->durable.bytes, shelf->durable.length);
     return pointers;
@@ -47,50 +47,73 @@ static bool any_went_down(const struct shelf *shelf, const struct shelf *before)
     return false;
 }
 
-/* A finished write ends with its own stores. If it emptied a log, the flushes of that came before the reset, and nothing is flushed after it. */
-static void note_finished_write(struct shelf *shelf, const struct shelf *before, uint32_t named) {
-    if (!any_went_down(shelf, before))
-        return;
-    forget_named(shelf, named);
+/* A call that flushes nothing but in emptying logs: of the log that it emptied last the old zone's reset came after every flush. Of several that went down it
+ * could be either. */
+static bool note_emptied(struct shelf *shelf, const struct shelf *before, const struct call *call, struct message *message) {
+    size_t emptied = 0, count = 0;
     for (size_t at = 0; at < shelf_cells(shelf->geometry); at++)
-        if (went_down(shelf, before, at))
-            remember_pointers(shelf, at, pointer_in(before->written, at), pointer_in(before->written, at));
+        if (went_down(shelf, before, at)) {
+            emptied = at;
+            count++;
+        }
+    if (count == 0)
+        return true;
+    if (count > 1 || emptied % physical_zones(shelf->geometry) >= ZRV_LOG_ZONES)
+        return fail(message, "this %s has reset %zu zones, other than by emptying one log: which of them its drives have still in their caches cannot be told",
+                    traits_of(call->kind)->name, count);
+    forget_named(shelf, call->named);
+    remember_pointers(shelf, emptied, pointer_in(before->written, emptied), pointer_in(before->written, emptied));
+    return true;
 }
 
-/* The call made again from what was before it, stopped after so many stores. */
-static uint32_t make_again(struct shelf *shelf, const struct call *call, const uint8_t *state, uint32_t count) {
-    uint8_t own_state[ZRV_STATE_BYTES];
+/* The call made again from what was before it, with a copy of the state from before it, and stopped after so many stores. */
+static uint32_t make_again(struct shelf *shelf, const struct call *call, uint8_t *state, uint32_t count) {
     struct call again = *call;
-    memcpy(own_state, state, ZRV_STATE_BYTES);
     again.count = count;
     again.range[SECTORS] = shelf->sectors;
     again.range[WRITTEN] = shelf->written;
     again.range[DURABLE] = shelf->durable;
-    again.range[STATE] = (struct range){own_state, ZRV_STATE_BYTES};
+    again.range[STATE] = (struct range){state, ZRV_STATE_BYTES};
     return make_call(&again);
 }
 
-static struct store_list list_stores(const struct shelf *before, const struct call *call, const uint8_t *state) {
-    struct store_list list = {0};
+/* The stores of a call from its first to its last, as they are seen; the state is in the end the one that the call hands on. */
+static bool see_stores(struct store_list *list, const struct shelf *before, const struct call *call, uint8_t *state, struct message *message) {
     struct shelf last = copy_shelf(before);
+    uint8_t state_before[ZRV_STATE_BYTES];
     uint32_t answer = ZRV_UNFINISHED;
-    for (uint32_t count = 1; answer == ZRV_UNFINISHED; count++) {
+    bool good = has_memory(&last) || no_memory(message, shelf_bytes(before->geometry));
+    memcpy(state_before, state, ZRV_STATE_BYTES);
+    for (uint32_t count = 1; good && answer == ZRV_UNFINISHED; count++) {
         struct shelf next = copy_shelf(before);
+        if (!has_memory(&next)) {
+            good = no_memory(message, shelf_bytes(before->geometry));
+            break;
+        }
+        memcpy(state, state_before, ZRV_STATE_BYTES);
         answer = make_again(&next, call, state, count);
-        note_store(&list, &last, &next);
+        good = note_store(list, &last, &next, message);
         free_shelf(&last);
         last = next;
     }
     free_shelf(&last);
-    settle_stores(&list, call->geometry.drives, call->named);
-    return list;
+    return good;
 }
 
-static void note_unfinished(struct shelf *shelf, const struct shelf *before, const struct call *call, const uint8_t *state) {
+static bool list_stores(struct store_list *list, const struct shelf *before, const struct call *call, const uint8_t *state, struct message *message) {
+    uint8_t handed_on[ZRV_STATE_BYTES];
+    memcpy(handed_on, state, ZRV_STATE_BYTES);
+    if (!see_stores(list, before, call, handed_on, message))
+        return false;
+    return settle_stores(list, call->kind, present_in(call->named, handed_on), message);
+}
+
+static bool note_unfinished(struct shelf *shelf, const struct shelf *before, const struct call *call, const uint8_t *state, struct message *message) {
+    struct store_list list = {0};
     if (cached_resets(shelf) == 0 && !any_went_down(shelf, before))
-        return;
-    struct store_list list = list_stores(before, call, state);
-    for (size_t i = 0; i < call->count; i++) {
+        return true;
+    bool good = list_stores(&list, before, call, state, message);
+    for (size_t i = 0; good && i < call->count; i++) {
         struct store store = list.store[i];
         if (store.kind == STORE_RESET)
             remember_pointers(shelf, cell(shelf->geometry, store.drive, store.zone), store.written, store.durable);
@@ -98,15 +121,22 @@ static void note_unfinished(struct shelf *shelf, const struct shelf *before, con
             forget_drive(shelf, store.drive);
     }
     free(list.store);
+    return good;
 }
 
-void note_resets(struct shelf *shelf, const struct shelf *before, const struct call *call, uint32_t answer, const uint8_t *state) {
-    if (answer == ZRV_UNFINISHED)
-        note_unfinished(shelf, before, call, state);
-    else if (call->kind == CALL_WRITE)
-        note_finished_write(shelf, before, call->named);
-    else
-        forget_named(shelf, call->named); /* a mount, a flush and a reset end with a flush */
+static bool note_finished(struct shelf *shelf, const struct shelf *before, const struct call *call, struct message *message) {
+    if (only_empties(call->kind))
+        return note_emptied(shelf, before, call, message);
+    if (!ends_flushed(call->kind))
+        return fail(message, "what a %s leaves in the drives' caches cannot be told: it does not end with a flush", traits_of(call->kind)->name);
+    forget_named(shelf, call->named);
+    return true;
+}
+
+bool note_resets(struct shelf *shelf, const struct shelf *before, const struct stored_call *stored, struct message *message) {
+    if (stored->answer == ZRV_UNFINISHED)
+        return note_unfinished(shelf, before, stored->call, stored->state, message);
+    return note_finished(shelf, before, stored->call, message);
 }
 
 bool reset_is_cached(const struct shelf *shelf, size_t cell) { return pointer_in(shelf->old_written, cell) > 0; }
@@ -119,8 +149,8 @@ size_t cached_resets(const struct shelf *shelf) {
 }
 
 void undo_reset(struct shelf *shelf, size_t cell) {
-    put32(shelf->written.bytes + cell * sizeof(uint32_t), pointer_in(shelf->old_written, cell));
-    put32(shelf->durable.bytes + cell * sizeof(uint32_t), pointer_in(shelf->old_durable, cell));
+    put_pointer(shelf->written, cell, pointer_in(shelf->old_written, cell));
+    put_pointer(shelf->durable, cell, pointer_in(shelf->old_durable, cell));
 }
 
 size_t undo_all_resets(struct shelf *shelf) {

@@ -4,15 +4,22 @@
 #ifndef CACHED_RESETS_H
 #define CACHED_RESETS_H
 
-#include <stdbool.h>
-
+#include "message.h"
 #include "shelf.h"
 
-/* What has to be kept of a shelf before a call that stores, so that note_resets can tell; of any but a format. free_shelf frees it. */
+/* What has to be kept of a shelf before a call that stores, so that note_resets can tell; of any but a format. free_shelf frees it; has_memory tells whether there
+ * is memory for it. */
 struct shelf shelf_before(const struct shelf *shelf, const struct call *call);
 
-/* After the call: what it reset and did not flush, and what it flushed. The state is the one before the call. */
-void note_resets(struct shelf *shelf, const struct shelf *before, const struct call *call, uint32_t answer, const uint8_t *state);
+/* A call that has stored: what it answered, and the state from before it. */
+struct stored_call {
+    const struct call *call;
+    uint32_t answer;
+    const uint8_t *state;
+};
+
+/* After the call: what it reset and did not flush, and what it flushed. False, with a message, where that cannot be told (stores.h). */
+bool note_resets(struct shelf *shelf, const struct shelf *before, const struct stored_call *stored, struct message *message);
 
 /* Whether a zone's reset is in its drive's cache; how many are. */
 bool reset_is_cached(const struct shelf *shelf, size_t cell);

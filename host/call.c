@@ -11,7 +11,7 @@ static uint32_t make_report(const struct call *call) {
     uint64_t returned = zrv_report(g.drives, g.sector_bytes, g.unit, g.zones, g.zone_sectors, RANGE(call, STATE), RANGE(call, BUFFER));
     if (call->filled != NULL)
         *call->filled = ZRV_REPORT_NUMBER(returned);
-    return ZRV_REPORT_ANSWER(returned);
+    return ZRV_ANSWER(returned);
 }
 
 static uint32_t answer_with_place(const struct call *call, uint64_t returned) {
@@ -23,21 +23,21 @@ static uint32_t answer_with_place(const struct call *call, uint64_t returned) {
 uint32_t make_call(const struct call *call) {
     switch (call->kind) {
     case CALL_FORMAT:
-        return zrv_format(NUMBERS(call), call->array, call->count, TABLES(call));
+        return ZRV_ANSWER(zrv_format(NUMBERS(call), call->array, call->count, TABLES(call)));
     case CALL_LOOK:
         return answer_with_place(call, zrv_look(NUMBERS(call), TABLES(call)));
     case CALL_MOUNT:
         return answer_with_place(call, zrv_mount(NUMBERS(call), call->count, TABLES(call)));
     case CALL_WRITE:
-        return zrv_write(NUMBERS(call), call->address, call->run, call->count, TABLES(call), RANGE(call, BUFFER));
+        return ZRV_ANSWER(zrv_write(NUMBERS(call), call->address, call->run, call->count, TABLES(call), RANGE(call, BUFFER)));
     case CALL_FLUSH:
-        return zrv_flush(NUMBERS(call), call->count, TABLES(call));
+        return ZRV_ANSWER(zrv_flush(NUMBERS(call), call->count, TABLES(call)));
     case CALL_RESET:
-        return zrv_reset(NUMBERS(call), call->zone, call->count, TABLES(call));
+        return ZRV_ANSWER(zrv_reset(NUMBERS(call), call->zone, call->count, TABLES(call)));
     case CALL_READ:
-        return zrv_read(NUMBERS(call), call->address, call->run, TABLES(call), RANGE(call, BUFFER));
+        return ZRV_ANSWER(zrv_read(NUMBERS(call), call->address, call->run, TABLES(call), RANGE(call, BUFFER)));
     case CALL_PEEK:
-        return zrv_peek(NUMBERS(call), call->address, TABLES(call), RANGE(call, BUFFER));
+        return ZRV_ANSWER(zrv_peek(NUMBERS(call), call->address, TABLES(call), RANGE(call, BUFFER)));
     case CALL_REPORT:
         return make_report(call);
     }

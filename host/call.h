@@ -58,6 +58,11 @@ static inline bool has_place(uint32_t answer) { return answer == ZRV_LOG || answ
 /* Whether a geometry is inside document 01's bounds, asked of the volume itself. */
 bool geometry_is_taken(struct geometry geometry);
 
+/* Of the drives that a call names, those present by the state that it hands on: all but the lost one. */
+static inline uint32_t present_in(uint32_t named, const uint8_t *state) {
+    return state[ZRV_STATE_LOST] == ZRV_NO_DRIVE ? named : named & ~(1u << state[ZRV_STATE_LOST]);
+}
+
 /* The record of a zone in a state: to read, and to change. */
 static inline const uint8_t *zone_record(const uint8_t *state, uint32_t zone) {
     return state + ZRV_STATE_HEAD_BYTES + (size_t)zone * ZRV_STATE_RECORD_BYTES;

@@ -2,6 +2,7 @@
 #define _POSIX_C_SOURCE 200809L
 #include "drive_file.h"
 
+#include <fcntl.h>
 #include <string.h>
 #include <unistd.h>
 
@@ -17,7 +18,7 @@ const char *drive_name(char name[DRIVE_NAME_BYTES], uint32_t drive, const char *
     return name;
 }
 
-static size_t row_bytes(struct geometry g) { return physical_zones(g) * sizeof(uint32_t); }
+static size_t row_bytes(struct geometry g) { return ZRV_TABLE_BYTES(1, g.zones); }
 
 uint64_t drive_file_sectors(struct geometry g) { return HEAD_BYTES + 2 * row_bytes(g); }
 
@@ -28,7 +29,7 @@ static uint64_t whole_length(struct geometry g, bool has_old) { return drive_fil
 
 /* A pointer past the zone's end is the volume's to refuse. */
 uint32_t kept_sectors(struct geometry g, struct range written, struct range old_written, size_t cell) {
-    uint32_t pointer = get32(written.bytes + 4 * cell), old = get32(old_written.bytes + 4 * cell);
+    uint32_t pointer = pointer_in(written, cell), old = pointer_in(old_written, cell);
     pointer = pointer < old ? old : pointer;
     return pointer < g.zone_sectors ? pointer : g.zone_sectors;
 }
@@ -55,7 +56,7 @@ static uint64_t head_checksum(const uint8_t *head, const struct shelf *shelf, ui
 
 static bool has_old(const struct shelf *shelf, uint32_t drive) {
     for (uint32_t zone = 0; zone < physical_zones(shelf->geometry); zone++)
-        if (get32(shelf->old_written.bytes + 4 * cell(shelf->geometry, drive, zone)) != 0)
+        if (pointer_in(shelf->old_written, cell(shelf->geometry, drive, zone)) != 0)
             return true;
     return false;
 }
@@ -66,14 +67,14 @@ bool same_geometry(struct geometry a, struct geometry b) {
 
 static struct drive_tag tag_in(const uint8_t *head) { return (struct drive_tag){get64(head + ARRAY), get64(head + SAVE)}; }
 
+/* Without memory of its own: a file is taken for no drive's only for what it holds. */
 static bool read_start(const struct file_place *place, uint8_t head[HEAD_BYTES]) {
-    uint64_t length;
     struct message unused;
-    FILE *file = open_file(place, &length);
-    if (file == NULL)
+    int descriptor = openat(place->directory, place->name, O_RDONLY);
+    if (descriptor < 0)
         return false;
-    bool good = fread(head, 1, HEAD_BYTES, file) == HEAD_BYTES && head_fits(head, MAGIC, place, &unused);
-    fclose(file);
+    bool good = read_at(descriptor, head, HEAD_BYTES, 0) && head_fits(head, MAGIC, place, &unused);
+    close(descriptor);
     return good;
 }
 
@@ -170,6 +171,8 @@ static bool head_is_whole(FILE *file, uint64_t length, const struct file_place *
     if (!geometry_is_taken(g) || drive >= g.drives)
         return fail(message, "%s/%s: damaged: its head tells of no drive that there can be", place->folder, place->name);
     struct shelf tables = new_pointers(g);
+    if (!has_memory(&tables))
+        return no_memory(message, 4 * row_bytes(g) * g.drives);
     bool good = has_whole_length(head, length, place, message) && read_pointers(file, head, place, &tables, drive, message);
     free_shelf(&tables);
     return good;

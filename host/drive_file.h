@@ -11,7 +11,7 @@ struct drive_tag {
     uint64_t array, save;
 };
 
-enum { DRIVE_NAME_BYTES = 32, DRIVE_HEAD_BYTES = 64, DRIVE_ROWS_BYTES = 2 * 4 * (ZRV_MOST_ZONES + ZRV_LOG_ZONES) };
+enum { DRIVE_NAME_BYTES = 32, DRIVE_HEAD_BYTES = 64, DRIVE_ROWS_BYTES = 2 * ZRV_TABLE_BYTES(1, ZRV_MOST_ZONES) };
 
 /* "drive-2.zrv" */
 const char *drive_name(char name[DRIVE_NAME_BYTES], uint32_t drive, const char *ending);

@@ -5,12 +5,11 @@
 
 #include "bytes.h"
 #include "cached_resets.h"
+#include "call_kinds.h"
 
 bool open_driver(struct driver *driver, const struct opening *opening, struct message *message) {
     return open_folder(&driver->drives, opening, message) && load_drives(&driver->drives, message);
 }
-
-bool is_storing(enum call_kind kind) { return kind != CALL_LOOK && kind != CALL_READ && kind != CALL_PEEK && kind != CALL_REPORT; }
 
 uint32_t strange_drive(const struct driver *driver, struct message *message) {
     for (uint32_t d = 0; d < driver->drives.record.geometry.drives; d++)
@@ -36,11 +35,11 @@ static uint32_t may_call(const struct driver *driver, enum call_kind kind, struc
     const struct host_record *record = &driver->drives.record;
     if (power_loss_is_due(record, message))
         return ANSWER_NOT_NOW;
-    if (record->phase == PHASE_MOUNT_DUE && kind != CALL_LOOK && kind != CALL_MOUNT) {
+    if (record->phase == PHASE_MOUNT_DUE && !traits_of(kind)->after_cut) {
         fail(message, "not now: power was cut; a finished mount comes first");
         return ANSWER_NOT_NOW;
     }
-    return kind == CALL_LOOK || kind == CALL_REPORT ? ZRV_FINISHED : strange_drive(driver, message);
+    return traits_of(kind)->any_drives ? ZRV_FINISHED : strange_drive(driver, message);
 }
 
 uint32_t find_address_to_write(const struct driver *driver, uint32_t zone, uint64_t *address, struct message *message) {
@@ -75,24 +74,50 @@ static void take_unfinished(struct driver *driver) {
     give_up_absent(driver);
 }
 
-/* From where on a call may have stored: from the pointer of before; from a zone's beginning where it was reset. A mount may reset a log's zone or the spare
- * and fill it again, past where it was: nothing is known of these. */
+/* From where on a call may have stored: from the pointer of before; from a zone's beginning where it was reset, or may have been. */
 static void note_stored(struct drives *drives, const struct shelf *before, enum call_kind kind) {
     struct geometry g = drives->record.geometry;
     for (size_t at = 0; at < shelf_cells(g); at++) {
-        uint32_t from = get32(before->written.bytes + 4 * at);
-        if (get32(drives->shelf.written.bytes + 4 * at) < from || (kind == CALL_MOUNT && at % physical_zones(g) < ZRV_LOG_ZONES))
+        uint32_t from = pointer_in(before->written, at);
+        if (pointer_in(drives->shelf.written, at) < from || (traits_of(kind)->refills_logs && at % physical_zones(g) < ZRV_LOG_ZONES))
             from = 0;
         drives->stored_from[at] = from < drives->stored_from[at] ? from : drives->stored_from[at];
     }
 }
 
-/* After a call that stored: what the drives' caches hold, and what the files do not. A format's drives are new as a whole. */
-static void note_stores(struct drives *drives, const struct shelf *before, const struct call *call, uint32_t answer) {
-    if (call->kind == CALL_FORMAT)
-        return;
-    note_resets(&drives->shelf, before, call, answer, drives->record.state);
+/* What has to be kept of the drives before a call that stores. */
+static bool keep_before(const struct drives *drives, const struct call *call, struct shelf *before, struct message *message) {
+    *before = (struct shelf){.geometry = call->geometry};
+    if (traits_of(call->kind)->makes_drives)
+        return true;
+    *before = shelf_before(&drives->shelf, call);
+    return has_memory(before) || no_memory(message, shelf_bytes(call->geometry));
+}
+
+/* After a call that stored: what the drives' caches hold, and what the files do not. Drives that it made are new as a whole. */
+static bool note_stores(struct drives *drives, const struct shelf *before, const struct call *call, uint32_t answer, struct message *message) {
+    struct stored_call stored = {call, answer, drives->record.state};
+    if (traits_of(call->kind)->makes_drives)
+        return true;
     note_stored(drives, before, call->kind);
+    return note_resets(&drives->shelf, before, &stored, message);
+}
+
+/* A call that stores, and what it left. Nothing is taken over from one whose stores cannot be told: the files keep what they hold. */
+static uint32_t make_storing_call(struct driver *driver, const struct call *call, struct message *message) {
+    struct drives *drives = &driver->drives;
+    struct shelf before;
+    if (!keep_before(drives, call, &before, message))
+        return ANSWER_FAILED;
+    uint32_t answer = make_call(call);
+    if ((answer == ZRV_FINISHED || answer == ZRV_UNFINISHED) && !note_stores(drives, &before, call, answer, message))
+        answer = ANSWER_FAILED;
+    free_shelf(&before);
+    if (answer == ZRV_FINISHED)
+        take_finished(driver);
+    if (answer == ZRV_UNFINISHED)
+        take_unfinished(driver);
+    return answer;
 }
 
 uint32_t driver_call(struct driver *driver, struct call call, struct message *message) {
@@ -108,18 +133,7 @@ uint32_t driver_call(struct driver *driver, struct call call, struct message *me
     call.range[DURABLE] = drives->shelf.durable;
     call.range[STATE] = (struct range){driver->shown, ZRV_STATE_BYTES};
     call.bad = &driver->bad;
-    if (!is_storing(call.kind))
-        return make_call(&call);
-    struct shelf before = call.kind == CALL_FORMAT ? (struct shelf){.geometry = call.geometry} : shelf_before(&drives->shelf, &call);
-    answer = make_call(&call);
-    if (answer == ZRV_FINISHED || answer == ZRV_UNFINISHED)
-        note_stores(drives, &before, &call, answer);
-    free_shelf(&before);
-    if (answer == ZRV_FINISHED)
-        take_finished(driver);
-    if (answer == ZRV_UNFINISHED)
-        take_unfinished(driver);
-    return answer;
+    return traits_of(call.kind)->stores ? make_storing_call(driver, &call, message) : make_call(&call);
 }
 
 /* The cell of a zone that a power cut is given; false, with a message, where a present drive has none such. */
@@ -155,7 +169,7 @@ static bool can_keep(const struct driver *driver, const struct kept_zone *kept, 
     size_t at = 0;
     if (!find_cell(driver, kept->drive, kept->zone, &at, message))
         return false;
-    uint32_t durable = get32(shelf->durable.bytes + 4 * at), written = get32(shelf->written.bytes + 4 * at);
+    uint32_t durable = pointer_in(shelf->durable, at), written = pointer_in(shelf->written, at);
     if (kept->sectors < durable || kept->sectors > written)
         return fail(message, "zone %u of drive %u can keep %u to %u sectors, not %u", kept->zone, kept->drive, durable, written, kept->sectors);
     return true;
@@ -170,7 +184,7 @@ bool lose_power(struct driver *driver, const struct power_loss *loss, struct mes
         lose_power_at_random(shelf, loss->seed);
     else
         for (size_t at = 0; at < shelf_cells(shelf->geometry); at++)
-            keep_sectors(shelf, at, get32((loss->keeps == KEEP_ALL ? shelf->written.bytes : shelf->durable.bytes) + 4 * at));
+            keep_sectors(shelf, at, pointer_in(loss->keeps == KEEP_ALL ? shelf->written : shelf->durable, at));
     for (size_t i = 0; i < loss->given_count; i++)
         keep_sectors(shelf, cell(shelf->geometry, loss->given[i].drive, loss->given[i].zone), loss->given[i].sectors);
     forget_resets(shelf);

@@ -13,8 +13,9 @@ struct driver {
     struct log_place bad;           /* where the last look or mount found a log bad, if it answered so */
 };
 
-/* Answers of the driver's own, beside the volume's and ANSWER_ZONE_FULL: a duty stands against the call; a drive is not the one that this shelf was left with. */
-enum { ANSWER_NOT_NOW = 256, ANSWER_STRANGE_DRIVE = 257 };
+/* Answers of the driver's own, beside the volume's and ANSWER_ZONE_FULL: a duty stands against the call; a drive is not the one that this shelf was left with;
+ * memory ran out, or what the call left in the drives' caches cannot be told. After the last the shelf in memory is not to be saved or used. */
+enum { ANSWER_NOT_NOW = 256, ANSWER_STRANGE_DRIVE = 257, ANSWER_FAILED = 259 };
 
 /* After either answer close_drives is due. */
 bool open_driver(struct driver *driver, const struct opening *opening, struct message *message);
@@ -25,8 +26,6 @@ uint32_t driver_call(struct driver *driver, struct call call, struct message *me
 /* Where a write to a zone goes: its pointer's address, by the state held. Refused as the write would be, with 8 where there is no such zone, and where it is
  * full. */
 uint32_t find_address_to_write(const struct driver *driver, uint32_t zone, uint64_t *address, struct message *message);
-
-bool is_storing(enum call_kind kind);
 
 /* A drive's physical zone and the sectors that it keeps in a power cut. */
 struct kept_zone {

@@ -20,16 +20,8 @@
 #define RECORD_NEW "state.new"
 #define RECORD_MAGIC "zrvstate"
 
-/* Where the record's fields are. */
-enum {
-    PHASE = HEAD_OWN,
-    GIVEN_UP = 36,
-    ARRAY = 40,
-    SAVES = 48,
-    STATE_AT = SAVES + 8 * ZRV_MOST_DRIVES,
-    CHECKSUM = STATE_AT + ZRV_STATE_BYTES
-};
-_Static_assert(RECORD_BYTES == CHECKSUM + 8, "the record ends with its checksum");
+/* Where the record's other fields are. */
+enum { PHASE = HEAD_OWN, GIVEN_UP = 36, ARRAY = 40 };
 
 /* The seconds for which a command that only reads waits to be alone, where it finds a save that was stopped: others of its kind are at the same. */
 enum { RECOVERY_WAIT = 1 };
@@ -55,8 +47,8 @@ static bool read_record_bytes(FILE *file, uint64_t length, const struct file_pla
         return fail(message, "%s/%s: short: %llu bytes where %d are due; " MAKE_ANEW, place->folder, place->name, (unsigned long long)length, RECORD_BYTES);
     if (!head_fits(bytes, RECORD_MAGIC, place, message))
         return false;
-    if (length != RECORD_BYTES || checksum(CHECKSUM_START, bytes, CHECKSUM) != get64(bytes + CHECKSUM) || !geometry_is_taken(get_geometry(bytes)) ||
-        get32(bytes + PHASE) > PHASE_POWER_LOSS_DUE)
+    if (length != RECORD_BYTES || checksum(CHECKSUM_START, bytes, RECORD_CHECKSUM) != get64(bytes + RECORD_CHECKSUM) ||
+        !geometry_is_taken(get_geometry(bytes)) || get32(bytes + PHASE) > PHASE_POWER_LOSS_DUE)
         return fail(message, "%s/%s: damaged: its checksum does not match; " MAKE_ANEW, place->folder, place->name);
     return true;
 }
@@ -79,8 +71,8 @@ bool read_record(const struct drives *drives, struct host_record *record, struct
     record->given_up = get32(bytes + GIVEN_UP);
     record->array = get64(bytes + ARRAY);
     for (uint32_t d = 0; d < ZRV_MOST_DRIVES; d++)
-        record->save[d] = get64(bytes + SAVES + 8 * d);
-    memcpy(record->state, bytes + STATE_AT, ZRV_STATE_BYTES);
+        record->save[d] = get64(bytes + RECORD_SAVES + sizeof(uint64_t) * d);
+    memcpy(record->state, bytes + RECORD_STATE, ZRV_STATE_BYTES);
     return true;
 }
 
@@ -91,9 +83,9 @@ void put_record(const struct host_record *record, uint8_t bytes[RECORD_BYTES]) {
     put32(bytes + GIVEN_UP, record->given_up);
     put64(bytes + ARRAY, record->array);
     for (uint32_t d = 0; d < ZRV_MOST_DRIVES; d++)
-        put64(bytes + SAVES + 8 * d, record->save[d]);
-    memcpy(bytes + STATE_AT, record->state, ZRV_STATE_BYTES);
-    put64(bytes + CHECKSUM, checksum(CHECKSUM_START, bytes, CHECKSUM));
+        put64(bytes + RECORD_SAVES + sizeof(uint64_t) * d, record->save[d]);
+    memcpy(bytes + RECORD_STATE, record->state, ZRV_STATE_BYTES);
+    put64(bytes + RECORD_CHECKSUM, checksum(CHECKSUM_START, bytes, RECORD_CHECKSUM));
 }
 
 bool write_record(const struct drives *drives, struct message *message) {
@@ -178,11 +170,14 @@ static void remember_pointers(struct drives *drives) {
     memcpy(drives->old_before.bytes, drives->shelf.old_written.bytes, drives->shelf.old_written.length);
 }
 
-static void new_memory(struct drives *drives, struct shelf shelf) {
+/* Takes a new shelf, and memory for what its files hold. */
+static bool new_memory(struct drives *drives, struct shelf shelf, struct message *message) {
     drives->shelf = shelf;
     drives->written_before = new_range(drives->shelf.written.length);
     drives->durable_before = new_range(drives->shelf.durable.length);
     drives->old_before = new_range(drives->shelf.old_written.length);
+    bool good = has_memory(&shelf) && drives->written_before.bytes != NULL && drives->durable_before.bytes != NULL && drives->old_before.bytes != NULL;
+    return good || no_memory(message, shelf_bytes(shelf.geometry));
 }
 
 /* Whether a given-up drive's file is in the folder. */
@@ -209,14 +204,19 @@ static bool load_drive(struct drives *drives, uint32_t drive, struct progress *p
 
 bool load_drives(struct drives *drives, struct message *message) {
     uint32_t count = drives->record.geometry.drives;
-    new_memory(drives, new_pointers(drives->record.geometry));
-    map_sectors(&drives->shelf, drive_file_sectors(drives->record.geometry));
+    if (!new_memory(drives, new_pointers(drives->record.geometry), message))
+        return false;
+    if (!map_sectors(&drives->shelf, drive_file_sectors(drives->record.geometry)))
+        return no_memory(message, shelf_bytes(drives->record.geometry));
     struct progress progress = start_progress("reading the drives", shelf_cells(drives->record.geometry));
-    struct message later;
-    for (uint32_t d = 0; d < count; d++) {
+    struct message why = {.text = ""};
+    for (uint32_t d = 0; d < count && !why.lacks_memory; d++) {
         drives->returned |= (uint32_t)has_returned(drives, d) << d;
-        if ((drives->record.given_up >> d & 1) == 0 && !load_drive(drives, d, &progress, drives->unreadable == 0 ? message : &later))
-            drives->unreadable |= 1u << d;
+        if ((drives->record.given_up >> d & 1) != 0 || load_drive(drives, d, &progress, &why))
+            continue;
+        if (drives->unreadable == 0 || why.lacks_memory)
+            *message = why;
+        drives->unreadable |= 1u << d;
     }
     end_progress(&progress);
     remember_pointers(drives);
@@ -276,8 +276,7 @@ static bool take_folder(struct drives *drives, const struct opening *opening, bo
 /* Memory comes first: where there is none, nothing has been made. */
 bool new_drives(struct drives *drives, const struct opening *opening, struct geometry geometry, bool replace, struct message *message) {
     *drives = (struct drives){.folder = opening->folder, .directory = -1, .record.geometry = geometry, .present = (1u << geometry.drives) - 1};
-    new_memory(drives, new_shelf(geometry));
-    if (take_folder(drives, opening, replace, message))
+    if (new_memory(drives, new_shelf(geometry), message) && take_folder(drives, opening, replace, message))
         return true;
     if (drives->made_folder)
         rmdir(drives->folder);

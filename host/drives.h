@@ -27,7 +27,12 @@
 #include "shelf.h"
 
 #define RECORD_NAME "state.zrv"
-enum { RECORD_BYTES = 384 };
+enum {
+    RECORD_SAVES = 48,
+    RECORD_STATE = RECORD_SAVES + ZRV_MOST_DRIVES * sizeof(uint64_t),
+    RECORD_CHECKSUM = RECORD_STATE + ZRV_STATE_BYTES,
+    RECORD_BYTES = RECORD_CHECKSUM + sizeof(uint64_t)
+};
 
 /* What may come next: any call; looks and mounts, after a power cut; a power cut, after an unfinished call. */
 enum phase { PHASE_READY = 0, PHASE_MOUNT_DUE = 1, PHASE_POWER_LOSS_DUE = 2 };
@@ -58,7 +63,8 @@ struct drives {
 /* Opens a folder, ends a save that was stopped, and reads the host's record. After either answer close_drives is due. */
 bool open_folder(struct drives *drives, const struct opening *opening, struct message *message);
 
-/* Reads every drive that is there. False, with a message of the first, where one cannot be read; the others are there all the same. */
+/* Reads every drive that is there. False, with a message of the first, where one cannot be read; the others are there all the same. Where
+ * memory runs out, which the message tells, they are not to be used. */
 bool load_drives(struct drives *drives, struct message *message);
 
 /* Makes the folder, if it is not there, and a shelf of new drives in memory. Drives that are in the folder already are in the way unless `replace`. */

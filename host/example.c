@@ -21,10 +21,10 @@ static const struct geometry geometry = {DRIVES, SECTOR_BYTES, UNIT, ZONES, ZONE
 #define BYTES(v) (v)->sectors, sizeof(v)->sectors, (v)->written, sizeof(v)->written, (v)->durable, sizeof(v)->durable, (v)->state, sizeof(v)->state
 
 /* Says what a call answered and where zone 0 stands by the state; leaves on anything but finished. */
-static void report(const char *call, uint32_t answer, struct volume *v) {
+static void report(const char *call, uint64_t returned, struct volume *v) {
     static const char *const condition[] = {[ZRV_EMPTY] = "empty", [ZRV_OPEN] = "open", [ZRV_SEALED] = "sealed", [ZRV_WORN] = "worn"};
-    if (answer != ZRV_FINISHED) {
-        fprintf(stderr, "%s: answer %u\n", call, (unsigned)answer);
+    if (ZRV_ANSWER(returned) != ZRV_FINISHED) {
+        fprintf(stderr, "%s: answer %u\n", call, (unsigned)ZRV_ANSWER(returned));
         exit(1);
     }
     const uint8_t *record = zone_record(v->state, 0);
@@ -55,7 +55,7 @@ int main(void) {
 
     memcpy(v.written, v.durable, sizeof v.written);
     memset(v.state, 0, sizeof v.state); /* the host's memory is gone too: a mount reads no state */
-    report("mount", ZRV_ANSWER(zrv_mount(NUMBERS, ZRV_ALL_STORES, BYTES(&v))), &v);
+    report("mount", zrv_mount(NUMBERS, ZRV_ALL_STORES, BYTES(&v)), &v);
     report("read", zrv_read(NUMBERS, 0, FLUSHED, BYTES(&v), answer, sizeof answer), &v);
     int differs = memcmp(answer, data, sizeof answer) != 0;
     printf("the flushed sectors are %s\n", differs ? "different" : "as written");

@@ -119,5 +119,8 @@ bool sync_names(const struct file_place *place, struct message *message) {
 }
 
 bool fail_by_errno(struct message *message, const struct file_place *place) {
-    return fail(message, "%s/%s: %s", place->folder, place->name, strerror(errno));
+    int why = errno;
+    fail(message, "%s/%s: %s", place->folder, place->name, strerror(why));
+    message->lacks_memory = why == ENOMEM;
+    return false;
 }

@@ -12,13 +12,18 @@ bool is_taken(const struct drives *drives, const char *name) {
     return fstatat(drives->directory, name, &status, AT_SYMLINK_NOFOLLOW) == 0;
 }
 
-void find_drives(const struct drives *drives, struct found_drive found[ZRV_MOST_DRIVES]) {
+bool find_drives(const struct drives *drives, struct found_drive found[ZRV_MOST_DRIVES], struct message *message) {
     for (uint32_t d = 0; d < ZRV_MOST_DRIVES; d++) {
         char name[DRIVE_NAME_BYTES];
         struct file_place place = file_of(drives, drive_name(name, d, "zrv"));
         found[d] = (struct found_drive){.there = is_taken(drives, name)};
         found[d].is_drive = found[d].there && read_drive_head(&place, &found[d].head, &found[d].why);
+        if (found[d].why.lacks_memory) {
+            *message = found[d].why;
+            return false;
+        }
     }
+    return true;
 }
 
 static unsigned long long array_of(const struct found_drive *found) { return found->head.tag.array; }
@@ -40,7 +45,8 @@ bool name_drives(const struct found_drive found[ZRV_MOST_DRIVES], const char *se
 bool folder_is_free(const struct drives *drives, struct message *message) {
     struct found_drive found[ZRV_MOST_DRIVES];
     bool has_record = is_taken(drives, RECORD_NAME), is_free = !has_record;
-    find_drives(drives, found);
+    if (!find_drives(drives, found, message))
+        return false;
     for (uint32_t d = 0; d < ZRV_MOST_DRIVES; d++)
         is_free = is_free && !found[d].there;
     if (is_free)
@@ -58,7 +64,8 @@ bool folder_is_free(const struct drives *drives, struct message *message) {
 bool fail_without_record(const struct drives *drives, struct message *message) {
     struct found_drive found[ZRV_MOST_DRIVES];
     struct message names = {.text = ""};
-    find_drives(drives, found);
+    if (!find_drives(drives, found, message))
+        return false;
     if (!name_drives(found, "", &names))
         return fail(message, "%s/%s: not there: this folder holds no shelf", drives->folder, RECORD_NAME);
     return fail(message, "%s/%s: not there; zrv assemble makes it anew from %s", drives->folder, RECORD_NAME, names.text);

@@ -16,8 +16,8 @@ struct found_drive {
 /* Whether anything in the folder has a name, a broken link too. */
 bool is_taken(const struct drives *drives, const char *name);
 
-/* What the folder has for each N, from the eight names that there may be. */
-void find_drives(const struct drives *drives, struct found_drive found[ZRV_MOST_DRIVES]);
+/* What the folder has for each N, from the eight names that there may be. False, with a message, where there is no memory to read them. */
+bool find_drives(const struct drives *drives, struct found_drive found[ZRV_MOST_DRIVES], struct message *message);
 
 /* Names what was found, each after the separator and then a comma. Whether there are drives among it. */
 bool name_drives(const struct found_drive found[ZRV_MOST_DRIVES], const char *separator, struct message *message);

@@ -19,7 +19,7 @@ static bool is_label(struct geometry g, uint32_t drive, const uint8_t *s) {
 }
 
 static bool is_counters(struct geometry g, const uint8_t *s) {
-    return zeros(s, ENTRY_START, ENTRY_HEAD_BYTES) && zeros(s, ENTRY_HEAD_BYTES + 8 * g.zones, g.sector_bytes);
+    return zeros(s, ENTRY_START, ENTRY_HEAD_BYTES) && zeros(s, counters_bytes(g.zones), g.sector_bytes);
 }
 
 static bool is_reset(struct geometry g, uint32_t drive, const uint8_t *s) {
@@ -142,7 +142,7 @@ struct log_zones log_zones_of(const struct shelf *shelf, uint32_t drive) {
     struct geometry g = shelf->geometry;
     struct log_zones zones = {.geometry = g, .drive = drive};
     for (uint32_t y = 0; y < ZRV_LOG_ZONES; y++)
-        zones.zone[y] = (struct zone_bytes){shelf->sectors.bytes + sector_offset(g, drive, y, 0), get32(shelf->written.bytes + 4 * cell(g, drive, y))};
+        zones.zone[y] = (struct zone_bytes){shelf->sectors.bytes + sector_offset(g, drive, y, 0), pointer_in(shelf->written, cell(g, drive, y))};
     return zones;
 }
 

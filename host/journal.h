@@ -39,6 +39,10 @@ enum {
     LABEL_END = 56
 };
 
+/* The bytes of a counters entry: a head, and a generation of eight bytes for each zone. That of a zone begins where those of the zones before it end. */
+enum { COUNTER_BYTES = 8 };
+static inline uint32_t counters_bytes(uint32_t zones) { return ENTRY_HEAD_BYTES + COUNTER_BYTES * zones; }
+
 /* Whether a sector has an entry's mark and version; whether it is a legal header of that drive and kind of log. */
 bool entry_is_marked(const uint8_t *header);
 bool entry_is_legal(struct geometry geometry, uint32_t drive, uint32_t log, const uint8_t *header);

@@ -3,8 +3,6 @@
 #include "mapped_sectors.h"
 
 #include <signal.h>
-#include <stdio.h>
-#include <stdlib.h>
 #include <sys/mman.h>
 #include <unistd.h>
 
@@ -12,17 +10,15 @@
 
 static size_t page_bytes(void) { return (size_t)sysconf(_SC_PAGESIZE); }
 
-static size_t drive_bytes(struct geometry g) { return physical_zones(g) * g.zone_sectors * g.sector_bytes; }
-
 /* The first drive's sectors begin as far into a page as they do in its file. */
-void map_sectors(struct shelf *shelf, uint64_t offset) {
-    size_t length = shelf->geometry.drives * drive_bytes(shelf->geometry), inside = (size_t)(offset % page_bytes());
-    shelf->pages = (struct range){mmap(NULL, inside + length, PROT_READ | PROT_WRITE, MAP_PRIVATE | MAP_ANONYMOUS | MAP_NORESERVE, -1, 0), inside + length};
-    if (shelf->pages.bytes == MAP_FAILED) {
-        fprintf(stderr, "no memory for %zu bytes\n", length);
-        exit(3);
-    }
+bool map_sectors(struct shelf *shelf, uint64_t offset) {
+    size_t length = shelf_bytes(shelf->geometry), inside = (size_t)(offset % page_bytes());
+    void *pages = mmap(NULL, inside + length, PROT_READ | PROT_WRITE, MAP_PRIVATE | MAP_ANONYMOUS | MAP_NORESERVE, -1, 0);
+    if (pages == MAP_FAILED)
+        return false;
+    shelf->pages = (struct range){pages, inside + length};
     shelf->sectors = (struct range){shelf->pages.bytes + inside, length};
+    return true;
 }
 
 void unmap_sectors(struct shelf *shelf) {

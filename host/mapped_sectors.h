@@ -5,8 +5,8 @@
 
 #include "shelf.h"
 
-/* Memory for the sectors of a shelf that has none yet; files whose sectors begin at this offset can be laid over it. Leaves the program where there is none. */
-void map_sectors(struct shelf *shelf, uint64_t offset);
+/* Memory for the sectors of a shelf that has none yet; files whose sectors begin at this offset can be laid over it. False where there is none. */
+bool map_sectors(struct shelf *shelf, uint64_t offset);
 void unmap_sectors(struct shelf *shelf);
 
 /* Brings bytes of a file to their place among a shelf's sectors: whole pages are laid over it, where memory and file have the same pages; the rest is read.

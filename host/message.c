@@ -10,7 +10,7 @@ bool fail(struct message *message, const char *format, ...) {
     va_start(words, format);
     vsnprintf(message->text, sizeof message->text, format, words);
     va_end(words);
-    message->busy = false;
+    message->busy = message->lacks_memory = false;
     return false;
 }
 
@@ -20,5 +20,11 @@ bool add_words(struct message *message, const char *format, ...) {
     va_start(words, format);
     vsnprintf(message->text + length, sizeof message->text - length, format, words);
     va_end(words);
+    return false;
+}
+
+bool no_memory(struct message *message, size_t bytes) {
+    fail(message, "no memory for %zu bytes", bytes);
+    message->lacks_memory = true;
     return false;
 }

@@ -1,35 +1,34 @@
 /* What drives remember of zones that were reset. */
 #include "old_zones.h"
 
-#include <stdio.h>
 #include <stdlib.h>
 #include <string.h>
 
 #include "bytes.h"
 
 /* A zone without sectors is not remembered: it could only come back as what it is. */
-static void remember_zone(struct old_zones *old, const struct shelf *before, size_t cell, struct old_zone **pool) {
+static bool remember_zone(struct old_zones *old, const struct shelf *before, size_t cell, struct old_zone **pool) {
     struct geometry g = before->geometry;
-    uint32_t written = get32(before->written.bytes + cell * sizeof(uint32_t));
+    uint32_t written = pointer_in(before->written, cell);
     if (written == 0)
-        return;
+        return true;
     size_t bytes = (size_t)written * g.sector_bytes;
     struct old_zone *zone = malloc(sizeof *zone + bytes);
-    if (zone == NULL) {
-        fprintf(stderr, "no memory for a zone of %zu bytes\n", bytes);
-        exit(3);
-    }
-    *zone = (struct old_zone){old->cell[cell], *pool, written, get32(before->durable.bytes + cell * sizeof(uint32_t))};
+    if (zone == NULL)
+        return false;
+    *zone = (struct old_zone){old->cell[cell], *pool, written, pointer_in(before->durable, cell)};
     memcpy(zone->bytes, before->sectors.bytes + cell * g.zone_sectors * g.sector_bytes, bytes);
     old->cell[cell] = *pool = zone;
+    return true;
 }
 
-void remember_store(struct old_zones *old, const struct shelf *before, const struct store *store, struct old_zone **pool) {
+bool remember_store(struct old_zones *old, const struct shelf *before, const struct store *store, struct old_zone **pool) {
     struct geometry g = before->geometry;
     if (store->kind == STORE_RESET)
-        remember_zone(old, before, cell(g, store->drive, store->zone), pool);
-    else if (store->kind == STORE_FLUSH)
+        return remember_zone(old, before, cell(g, store->drive, store->zone), pool);
+    if (store->kind == STORE_FLUSH)
         memset(old->cell + cell(g, store->drive, 0), 0, physical_zones(g) * sizeof *old->cell);
+    return true;
 }
 
 void empty_pool(struct old_zone **pool, const struct old_zone *back_to) {

@@ -19,8 +19,8 @@ struct old_zones {
     struct old_zone *cell[MOST_CELLS];
 };
 
-/* Takes one store into account; `before` is the shelf just before it, and the pool gets what is made. */
-void remember_store(struct old_zones *old, const struct shelf *before, const struct store *store, struct old_zone **pool);
+/* Takes one store into account; `before` is the shelf just before it, and the pool gets what is made. False where there is no memory for it. */
+bool remember_store(struct old_zones *old, const struct shelf *before, const struct store *store, struct old_zone **pool);
 
 /* Frees what was made since the pool had this one as its newest; all of it with NULL. */
 void empty_pool(struct old_zone **pool, const struct old_zone *back_to);

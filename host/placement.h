@@ -3,6 +3,7 @@
 #ifndef PLACEMENT_H
 #define PLACEMENT_H
 
+#include "bytes.h"
 #include "call.h"
 
 /* The kinds of log; each is also the number of the zone that is that log after a format. */
@@ -15,6 +16,11 @@ static inline uint32_t stripe_sectors(struct geometry g) { return (g.drives - 1)
 static inline uint64_t zone_addresses(struct geometry g) { return (uint64_t)(g.drives - 1) * g.zone_sectors; }
 static inline size_t physical_zones(struct geometry g) { return (size_t)g.zones + ZRV_LOG_ZONES; }
 static inline size_t cell(struct geometry g, uint32_t drive, uint32_t physical_zone) { return drive * physical_zones(g) + physical_zone; }
+
+/* The pointer of a cell in a table of pointers, of four bytes each: to read, and to change. */
+enum { POINTER_BYTES = 4 };
+static inline uint32_t pointer_in(struct range table, size_t cell) { return get32(table.bytes + POINTER_BYTES * cell); }
+static inline void put_pointer(struct range table, size_t cell, uint32_t pointer) { put32(table.bytes + POINTER_BYTES * cell, pointer); }
 
 /* Where a sector's bytes begin in the memory that holds all sectors. */
 static inline size_t sector_offset(struct geometry g, uint32_t drive, uint32_t physical_zone, uint32_t sector) {

@@ -13,29 +13,34 @@
 
 #define MAGIC "zrv-redo"
 
-enum { RANGES_AT = HEAD_OWN, ARRAY = 40, SAVES = 48, LENGTH = SAVES + 8 * ZRV_MOST_DRIVES, CHECKSUM = LENGTH + 8, REDO_HEAD_BYTES = CHECKSUM + 8 };
+enum { RANGES_AT = HEAD_OWN, ARRAY = 40, SAVES = 48, LENGTH = SAVES + ZRV_MOST_DRIVES * sizeof(uint64_t), CHECKSUM = LENGTH + sizeof(uint64_t),
+       REDO_HEAD_BYTES = CHECKSUM + sizeof(uint64_t) };
 
 /* Where the fields of a range are. */
 enum { RANGE_FILE = 0, RANGE_LENGTH = 4, RANGE_OFFSET = 8, RANGE_HEAD_BYTES = 16 };
 
 enum { FIRST_ROOM = 1 << 12 };
 
+/* Room for more bytes at the end; NULL from then on where there is no memory. */
 static uint8_t *more_bytes(struct redo *redo, size_t length) {
     size_t at = redo->bytes.length;
+    if (redo->lacks_memory)
+        return NULL;
     while (redo->room - at <= length)
         redo->room = redo->room == 0 ? FIRST_ROOM : 2 * redo->room;
     uint8_t *bytes = realloc(redo->bytes.bytes, redo->room);
-    if (bytes == NULL) {
-        fprintf(stderr, "no memory for %zu bytes\n", redo->room);
-        exit(3);
-    }
+    redo->lacks_memory = bytes == NULL;
+    if (bytes == NULL)
+        return NULL;
     redo->bytes = (struct range){bytes, at + length};
     return bytes + at;
 }
 
 struct redo new_redo(void) {
     struct redo redo = {.room = 0};
-    memset(more_bytes(&redo, REDO_HEAD_BYTES), 0, REDO_HEAD_BYTES);
+    uint8_t *head = more_bytes(&redo, REDO_HEAD_BYTES);
+    if (head != NULL)
+        memset(head, 0, REDO_HEAD_BYTES);
     return redo;
 }
 
@@ -43,6 +48,8 @@ void free_redo(struct redo *redo) { free(redo->bytes.bytes); }
 
 void add_range(struct redo *redo, uint32_t file, uint64_t offset, const uint8_t *bytes, size_t length) {
     uint8_t *range = more_bytes(redo, RANGE_HEAD_BYTES + length);
+    if (range == NULL)
+        return;
     put32(range + RANGE_FILE, file);
     put32(range + RANGE_LENGTH, (uint32_t)length);
     put64(range + RANGE_OFFSET, offset);
@@ -60,13 +67,15 @@ static void fill_head(struct range bytes, const struct host_record *record) {
     put_head(bytes.bytes, MAGIC, record->geometry);
     put64(bytes.bytes + ARRAY, record->array);
     for (uint32_t d = 0; d < ZRV_MOST_DRIVES; d++)
-        put64(bytes.bytes + SAVES + 8 * d, record->save[d]);
+        put64(bytes.bytes + SAVES + sizeof(uint64_t) * d, record->save[d]);
     put64(bytes.bytes + LENGTH, bytes.length);
     put64(bytes.bytes + CHECKSUM, redo_checksum(bytes));
 }
 
 bool commit_redo(struct redo *redo, const struct drives *drives, struct message *message) {
     struct file_place place = file_of(drives, REDO_NEW);
+    if (redo->lacks_memory)
+        return no_memory(message, redo->room);
     fill_head(redo->bytes, &drives->record);
     if (write_file(&place, redo->bytes.bytes, redo->bytes.length, message) && rename_file(&place, REDO_NAME, message))
         return true;
@@ -102,7 +111,7 @@ static bool has_ranges(const struct redo *redo, uint32_t file) {
 /* Whether a drive's file is the one that the save was made for: as it was before it, or afterwards. */
 static bool is_wanted(const struct redo *redo, const struct file_place *place, uint32_t drive) {
     const uint8_t *head = redo->bytes.bytes;
-    uint64_t save = get64(head + SAVES + 8 * drive);
+    uint64_t save = get64(head + SAVES + sizeof(uint64_t) * drive);
     struct drive_tag tag;
     return is_drive_file(place, get_geometry(head), drive, &tag) && tag.array == get64(head + ARRAY) && (tag.save == save || tag.save + 1 == save);
 }
@@ -169,7 +178,8 @@ bool recover_redo(const struct drives *drives, struct message *message) {
     FILE *file = open_file(&place, &length);
     if (file == NULL)
         return errno == ENOENT || fail_by_errno(message, &place);
-    bool good = fread(more_bytes(&redo, length), 1, length, file) == length || fail_by_errno(message, &place);
+    uint8_t *bytes = more_bytes(&redo, length);
+    bool good = bytes == NULL ? no_memory(message, length) : fread(bytes, 1, length, file) == length || fail_by_errno(message, &place);
     fclose(file);
     good = good && redo_fits(redo.bytes, &place, message);
     if (good && is_of_another(&redo, drives))

@@ -22,13 +22,14 @@ enum { REDO_STATE = ZRV_MOST_DRIVES }; /* the file of a range that is of no driv
 struct redo {
     struct range bytes;
     size_t room;
+    bool lacks_memory; /* it has not all that was added */
 };
 
 /* An empty one; free_redo is due. */
 struct redo new_redo(void);
 void free_redo(struct redo *redo);
 
-/* One more range; without bytes the file's end. */
+/* One more range; without bytes the file's end. Where there is no memory for it, commit_redo fails. */
 void add_range(struct redo *redo, uint32_t file, uint64_t offset, const uint8_t *bytes, size_t length);
 
 /* Brings it to the disk under its name: from here on the save counts. The record is as it is after the save. */

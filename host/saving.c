@@ -35,7 +35,7 @@ static uint32_t counting(const struct drives *drives, size_t at) {
 }
 
 static bool pointers_moved(const struct drives *drives, uint32_t drive) {
-    size_t row = physical_zones(drives->record.geometry) * sizeof(uint32_t), at = drive * row;
+    size_t row = ZRV_TABLE_BYTES(1, drives->record.geometry.zones), at = drive * row;
     return memcmp(drives->shelf.written.bytes + at, drives->written_before.bytes + at, row) != 0 ||
            memcmp(drives->shelf.durable.bytes + at, drives->durable_before.bytes + at, row) != 0 ||
            memcmp(drives->shelf.old_written.bytes + at, drives->old_before.bytes + at, row) != 0;

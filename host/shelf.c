@@ -1,7 +1,6 @@
 /* The memory that a host lends, and the stream of a seed. */
 #include "shelf.h"
 
-#include <stdio.h>
 #include <stdlib.h>
 #include <string.h>
 
@@ -15,38 +14,50 @@ size_t shelf_cells(struct geometry geometry) { return geometry.drives * physical
 
 struct range new_range(size_t length) {
     struct range range = {calloc(length + 1, 1), length};
-    if (range.bytes == NULL) {
-        fprintf(stderr, "no memory for %zu bytes\n", length);
-        exit(3);
-    }
-    return range;
+    return range.bytes == NULL ? (struct range){NULL, 0} : range;
+}
+
+size_t shelf_bytes(struct geometry geometry) { return shelf_cells(geometry) * geometry.zone_sectors * geometry.sector_bytes; }
+
+bool has_memory(const struct shelf *shelf) { return shelf->written.bytes != NULL; }
+
+/* A shelf whole, or nothing of it. */
+static struct shelf all_or_none(struct shelf shelf, bool good) {
+    if (good)
+        return shelf;
+    free_shelf(&shelf);
+    return (struct shelf){.geometry = shelf.geometry};
 }
 
 struct shelf new_pointers(struct geometry geometry) {
-    size_t cells = shelf_cells(geometry);
+    size_t table = ZRV_TABLE_BYTES(geometry.drives, geometry.zones);
     struct shelf shelf = {
         .geometry = geometry,
-        .written = new_range(cells * sizeof(uint32_t)),
-        .durable = new_range(cells * sizeof(uint32_t)),
-        .old_written = new_range(cells * sizeof(uint32_t)),
-        .old_durable = new_range(cells * sizeof(uint32_t)),
+        .written = new_range(table),
+        .durable = new_range(table),
+        .old_written = new_range(table),
+        .old_durable = new_range(table),
     };
-    return shelf;
+    return all_or_none(shelf, shelf.written.bytes != NULL && shelf.durable.bytes != NULL && shelf.old_written.bytes != NULL && shelf.old_durable.bytes != NULL);
 }
 
 struct shelf new_shelf(struct geometry geometry) {
     struct shelf shelf = new_pointers(geometry);
-    shelf.sectors = new_range(shelf_cells(geometry) * geometry.zone_sectors * geometry.sector_bytes);
-    return shelf;
+    if (!has_memory(&shelf))
+        return shelf;
+    shelf.sectors = new_range(shelf_bytes(geometry));
+    return all_or_none(shelf, shelf.sectors.bytes != NULL);
 }
 
 struct shelf copy_shelf(const struct shelf *shelf) {
     struct geometry g = shelf->geometry;
     struct shelf copy = new_shelf(g);
+    if (!has_memory(&copy))
+        return copy;
     memcpy(copy.written.bytes, shelf->written.bytes, shelf->written.length);
     memcpy(copy.durable.bytes, shelf->durable.bytes, shelf->durable.length);
     for (size_t cell = 0; cell < shelf_cells(g); cell++) {
-        uint32_t written = get32(shelf->written.bytes + cell * sizeof(uint32_t));
+        uint32_t written = pointer_in(shelf->written, cell);
         size_t at = cell * g.zone_sectors * g.sector_bytes, sectors = written < g.zone_sectors ? written : g.zone_sectors;
         memcpy(copy.sectors.bytes + at, shelf->sectors.bytes + at, sectors * g.sector_bytes);
     }
@@ -62,15 +73,15 @@ void free_shelf(struct shelf *shelf) {
 }
 
 void keep_sectors(struct shelf *shelf, size_t cell, uint32_t kept) {
-    put32(shelf->written.bytes + cell * sizeof(uint32_t), kept);
-    put32(shelf->durable.bytes + cell * sizeof(uint32_t), kept);
+    put_pointer(shelf->written, cell, kept);
+    put_pointer(shelf->durable, cell, kept);
 }
 
 void lose_power_at_random(struct shelf *shelf, uint64_t seed) {
     uint32_t draw = first_draw(seed);
     for (size_t cell = 0; cell < shelf_cells(shelf->geometry); cell++) {
-        uint32_t written = get32(shelf->written.bytes + cell * sizeof(uint32_t));
-        uint32_t kept = get32(shelf->durable.bytes + cell * sizeof(uint32_t));
+        uint32_t written = pointer_in(shelf->written, cell);
+        uint32_t kept = pointer_in(shelf->durable, cell);
         draw = next_draw(draw);
         if (kept < written)
             kept += (uint32_t)(draw / STREAM_UNUSED % ((uint64_t)(written - kept) + 1));
@@ -80,8 +91,8 @@ void lose_power_at_random(struct shelf *shelf, uint64_t seed) {
 
 uint64_t table_sum(struct range table) {
     uint64_t sum = 0;
-    for (size_t at = 0; at < table.length; at += sizeof(uint32_t))
-        sum += get32(table.bytes + at);
+    for (size_t cell = 0; cell < table.length / POINTER_BYTES; cell++)
+        sum += pointer_in(table, cell);
     return sum;
 }
 

@@ -12,12 +12,17 @@ struct shelf {
     struct range old_written, old_durable; /* the drives' own: of a zone whose reset they have only in their cache the pointers before it; written 0: of none */
 };
 
-/* All zero. Each leaves the program where there is no memory. */
+/* All zero; without bytes where there is no memory. */
 struct range new_range(size_t length);
+
+/* All zero. Where there is no memory for all of it, has_memory is false, and nothing is to be freed. */
 struct shelf new_pointers(struct geometry geometry); /* a shelf without sectors */
 struct shelf new_shelf(struct geometry geometry);
 struct shelf copy_shelf(const struct shelf *shelf); /* below the written pointers; zero past them */
+bool has_memory(const struct shelf *shelf);
 void free_shelf(struct shelf *shelf);
+
+size_t shelf_bytes(struct geometry geometry); /* of the sectors of all drives */
 
 /* The power is lost (document 01: a cut): of what is not durable each zone keeps as much as the stream of the seed says. */
 void lose_power_at_random(struct shelf *shelf, uint64_t seed);

@@ -1,29 +1,28 @@
 /* The stores of a call told from the tables. */
 #include "stores.h"
 
-#include <stdbool.h>
-#include <stdio.h>
 #include <stdlib.h>
 
 #include "bytes.h"
 
-/* The present drives, ascending. */
-struct present {
+/* A list, read by a pattern as far as `at`; and the present drives, ascending. */
+struct reading {
+    struct store *store;
+    size_t length, at;
     uint32_t drive[ZRV_MOST_DRIVES];
-    size_t count;
+    size_t drives;
 };
 
 static struct store seen_store(const struct shelf *before, const struct shelf *after) {
     size_t zones = physical_zones(before->geometry);
     for (size_t cell = 0; cell < shelf_cells(before->geometry); cell++) {
-        size_t at = cell * sizeof(uint32_t);
         struct store store = {.kind = STORE_UNSEEN, .drive = (uint32_t)(cell / zones), .zone = (uint32_t)(cell % zones)};
-        uint32_t from = get32(before->written.bytes + at), to = get32(after->written.bytes + at);
+        uint32_t from = pointer_in(before->written, cell), to = pointer_in(after->written, cell);
         store.written = from;
-        store.durable = get32(before->durable.bytes + at);
+        store.durable = pointer_in(before->durable, cell);
         if (from != to)
             store.kind = from < to ? STORE_APPEND : STORE_RESET;
-        else if (store.durable != get32(after->durable.bytes + at))
+        else if (store.durable != pointer_in(after->durable, cell))
             store.kind = STORE_FLUSH;
         if (store.kind != STORE_UNSEEN)
             return store;
@@ -31,54 +30,152 @@ static struct store seen_store(const struct shelf *before, const struct shelf *a
     return (struct store){.kind = STORE_UNSEEN};
 }
 
-void note_store(struct store_list *list, const struct shelf *before, const struct shelf *after) {
+bool note_store(struct store_list *list, const struct shelf *before, const struct shelf *after, struct message *message) {
     if (list->length == list->room) {
-        list->room = 2 * list->room + 64;
-        list->store = realloc(list->store, list->room * sizeof *list->store);
-        if (list->store == NULL) {
-            fprintf(stderr, "no memory for a list of %zu stores\n", list->room);
-            exit(3);
-        }
+        size_t room = 2 * list->room + 64;
+        struct store *store = realloc(list->store, room * sizeof *store);
+        if (store == NULL)
+            return fail(message, "no memory for a list of %zu stores", room);
+        list->store = store;
+        list->room = room;
     }
     list->store[list->length++] = seen_store(before, after);
+    return true;
 }
 
-/* Takes the stores from a place on for a flush of all present drives, if none of them is seen to be something else. Where the next one begins. */
-static size_t take_flush(struct store_list *list, size_t at, size_t end, const struct present *present) {
-    if (end - at < present->count)
-        return end;
-    for (size_t i = 0; i < present->count; i++) {
-        const struct store *store = &list->store[at + i];
-        if (store->kind != STORE_UNSEEN && (store->kind != STORE_FLUSH || store->drive != present->drive[i]))
-            return at;
-    }
-    for (size_t i = 0; i < present->count; i++)
-        list->store[at + i] = (struct store){.kind = STORE_FLUSH, .drive = present->drive[i]};
-    return at + present->count;
+static bool is_append(const struct reading *r, size_t at) { return at < r->length && r->store[at].kind == STORE_APPEND; }
+
+static bool resets_log(const struct reading *r, size_t at) {
+    return at < r->length && r->store[at].kind == STORE_RESET && r->store[at].zone < ZRV_LOG_ZONES;
 }
 
-static bool resets_log(const struct store *store) { return store->kind == STORE_RESET && store->zone < ZRV_LOG_ZONES; }
-
-/* Stores without an append among them: a flush; resets of logs or spares, with a flush after them; zone resets, with a flush at the end. */
-static void settle_block(struct store_list *list, size_t at, size_t end, const struct present *present) {
-    at = take_flush(list, at, end, present);
-    while (at < end && resets_log(&list->store[at])) {
-        while (at < end && resets_log(&list->store[at]))
-            at++;
-        at = take_flush(list, at, end, present);
-    }
-    if (end - at >= present->count)
-        take_flush(list, end - present->count, end, present);
+/* Where the next append is, or the end. */
+static size_t next_append(const struct reading *r, size_t at) {
+    while (at < r->length && r->store[at].kind != STORE_APPEND)
+        at++;
+    return at;
 }
 
-void settle_stores(struct store_list *list, uint32_t drives, uint32_t named) {
-    struct present present = {.count = 0};
-    for (uint32_t d = 0; d < drives; d++)
-        if ((named >> d & 1) != 0)
-            present.drive[present.count++] = d;
-    for (size_t from = 0, end; from < list->length; from = end + 1) {
-        for (end = from; end < list->length && list->store[end].kind != STORE_APPEND; end++)
-            ;
-        settle_block(list, from, end, &present);
+/* Whether nothing that was seen from a place on stands against a flush of all present drives. */
+static bool may_be_flush(const struct reading *r, size_t at) {
+    if (r->length - at < r->drives)
+        return false;
+    for (size_t i = 0; i < r->drives; i++) {
+        const struct store *store = &r->store[at + i];
+        if (store->kind != STORE_UNSEEN && (store->kind != STORE_FLUSH || store->drive != r->drive[i]))
+            return false;
     }
+    return true;
+}
+
+static bool read_flush(struct reading *r) {
+    if (!may_be_flush(r, r->at))
+        return false;
+    for (size_t i = 0; i < r->drives; i++)
+        r->store[r->at++] = (struct store){.kind = STORE_FLUSH, .drive = r->drive[i]};
+    return true;
+}
+
+static bool read_appends(struct reading *r) {
+    size_t from = r->at;
+    while (is_append(r, r->at))
+        r->at++;
+    return r->at > from;
+}
+
+/* Whether a log is emptied from here on: a flush, appends to one zone of logs, a flush, and the reset of another on that drive. */
+static bool is_emptying(const struct reading *r) {
+    size_t from = r->at + r->drives, to = from;
+    if (!may_be_flush(r, r->at))
+        return false;
+    while (is_append(r, to) && r->store[to].drive == r->store[from].drive && r->store[to].zone == r->store[from].zone)
+        to++;
+    if (to == from || r->store[from].zone >= ZRV_LOG_ZONES || !may_be_flush(r, to))
+        return false;
+    const struct store *reset = &r->store[to + r->drives];
+    return resets_log(r, to + r->drives) && reset->drive == r->store[from].drive && reset->zone != r->store[from].zone;
+}
+
+static bool read_emptyings(struct reading *r) {
+    while (is_emptying(r)) {
+        read_flush(r);
+        read_appends(r);
+        read_flush(r);
+        r->at++;
+    }
+    return true;
+}
+
+static bool read_log_resets(struct reading *r) {
+    while (resets_log(r, r->at))
+        r->at++;
+    return true;
+}
+
+/* All stores but a flush before the next append: as many on each drive, in the order of the drives, seen ones of zones of data. */
+static bool read_zone_resets(struct reading *r) {
+    size_t from = r->at, stores = next_append(r, from) - from;
+    if (stores < 2 * r->drives || stores % r->drives != 0)
+        return false;
+    size_t zones = stores / r->drives - 1;
+    for (; r->at < from + zones * r->drives; r->at++) {
+        const struct store *store = &r->store[r->at];
+        bool is_reset = store->kind == STORE_RESET && store->zone >= ZRV_LOG_ZONES && store->drive == r->drive[(r->at - from) / zones];
+        if (!is_reset && store->kind != STORE_UNSEEN)
+            return false;
+    }
+    return true;
+}
+
+static bool read_step(struct reading *r) {
+    if (is_append(r, r->at))
+        return read_appends(r);
+    if (resets_log(r, r->at))
+        return read_log_resets(r);
+    return is_emptying(r) ? read_emptyings(r) : read_zone_resets(r);
+}
+
+static bool read_steps(struct reading *r) {
+    while (r->at < r->length)
+        if (!read_step(r) || !read_flush(r))
+            return false;
+    return true;
+}
+
+static bool (*const read_part[])(struct reading *) = {
+    [PART_APPENDS] = read_appends,
+    [PART_FLUSH] = read_flush,
+    [PART_EMPTYINGS] = read_emptyings,
+    [PART_ZONE_RESETS] = read_zone_resets,
+    [PART_STEPS] = read_steps,
+};
+
+bool settle_stores(struct store_list *list, enum call_kind kind, uint32_t present, struct message *message) {
+    const struct call_traits *traits = traits_of(kind);
+    struct reading reading = {.store = list->store, .length = list->length};
+    bool fits = traits->pattern[0] != PART_NONE;
+    for (uint32_t d = 0; d < ZRV_MOST_DRIVES; d++)
+        if ((present >> d & 1) != 0)
+            reading.drive[reading.drives++] = d;
+    for (const enum store_part *part = traits->pattern; fits && *part != PART_NONE; part++)
+        fits = read_part[*part](&reading);
+    if (fits && reading.at == reading.length)
+        return true;
+    return fail(message, "the stores of this %s are not those of such a call, from store %zu of %zu on: which flushes it made cannot be told", traits->name,
+                reading.at + 1, reading.length);
+}
+
+/* The last part of a pattern; PART_NONE where there is no pattern. */
+static enum store_part last_part(enum call_kind kind) {
+    enum store_part last = PART_NONE;
+    for (const enum store_part *part = traits_of(kind)->pattern; *part != PART_NONE; part++)
+        last = *part;
+    return last;
+}
+
+bool ends_flushed(enum call_kind kind) { return last_part(kind) == PART_FLUSH || last_part(kind) == PART_STEPS; }
+
+bool only_empties(enum call_kind kind) {
+    const enum store_part *pattern = traits_of(kind)->pattern;
+    return pattern[0] == PART_EMPTYINGS && pattern[1] == PART_APPENDS && pattern[2] == PART_NONE;
 }

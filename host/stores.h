@@ -1,13 +1,13 @@
 /* The stores of a call, one by one, as they are told by what each leaves in the tables: the call is made again and again, with a store more each time.
  *
- * An append, the reset of a zone with sectors and a flush that makes something durable are seen. The others leave no trace: the reset of an empty zone, and a flush
- * of a drive on which everything was durable, which makes its zone resets last all the same. These are told by their places, from what documents 01 and 02 say of
- * every call: a flush is of all present drives, ascending; the first stores after an append that are none are a flush; so are those after the reset of a log or
- * of a spare zone; and zones of data that are reset are followed by a flush before the next append. (Where a volume leaves out that last flush, the zone resets
- * stand in its place, and it is not taken for one.) */
+ * An append, the reset of a zone with sectors and a flush that makes something durable are seen. The others leave no trace: the reset of an empty zone, and a
+ * flush of a drive on which everything was durable, which makes its zone resets last all the same. These are told by their places in the pattern of the call's
+ * kind (call_kinds.h). What was seen must fit that pattern, or nothing is told: a call that makes its stores in another order is not guessed at. */
 #ifndef STORES_H
 #define STORES_H
 
+#include "call_kinds.h"
+#include "message.h"
 #include "shelf.h"
 
 enum store_kind { STORE_APPEND, STORE_RESET, STORE_FLUSH, STORE_UNSEEN };
@@ -23,10 +23,16 @@ struct store_list {
     size_t length, room;
 };
 
-/* One more store, by the shelf before it and after it. */
-void note_store(struct store_list *list, const struct shelf *before, const struct shelf *after);
+/* One more store, by the shelf before it and after it. False, with a message, where there is no memory. */
+bool note_store(struct store_list *list, const struct shelf *before, const struct shelf *after, struct message *message);
 
-/* When all are noted: finds the flushes that were not seen. What stays unseen is the reset of an empty zone, or a flush that nothing is left for. */
-void settle_stores(struct store_list *list, uint32_t drives, uint32_t present);
+/* When all stores of a call are noted: finds the flushes that were not seen. What stays unseen is the reset of an empty zone. False, with a message, where the
+ * stores do not fit the pattern of its kind. Present, by bit, are the drives that were named less the one that is lost in the state that the call hands on. */
+bool settle_stores(struct store_list *list, enum call_kind kind, uint32_t present, struct message *message);
+
+/* Of a finished call by its kind's pattern: whether every drive is flushed after its last reset; whether it flushes and resets only in emptying logs, which
+ * come first. */
+bool ends_flushed(enum call_kind kind);
+bool only_empties(enum call_kind kind);
 
 #endif

@@ -16,18 +16,19 @@
  *   durable   the same, of those that a power cut keeps
  *   state     ZRV_STATE_BYTES bytes: what the host keeps between calls (below)
  *
- * Each (zrv_look and zrv_mount beside the place of a bad log, zrv_report beside its number of descriptors) returns 0 (finished), 1 to 17 (refused: of those
- * that apply the first in the order 1 to 5, then 6, 16 and 17 together, then 7 to 15) or 255 (unfinished: stores were left when the count ran out). On anything
- * but 0 every byte range keeps what it held, but for the stores that an unfinished call has made in sectors, written and durable.
+ * Each returns its answer in the low 32 bits, ZRV_ANSWER: 0 (finished), 1 to 17 (refused: of those that apply the first in the order 1 to 5, then 6, 16 and 17
+ * together, then 7 to 15) or 255 (unfinished: stores were left when the count ran out). The high 32 bits are 0 where nothing is said to stand there: a look and
+ * a mount put the place of a bad log there, a report its number of descriptors. On any answer but 0 every byte range keeps what it held, but for the stores that
+ * an unfinished call has made in sectors, written and durable.
  *
  * The state: byte 0 the lost drive or 255, bytes 1 to 7 zero; then 16 records of 16 bytes, one a zone: the generation (8 bytes), the condition (1 byte:
  * 0 empty, 1 open, 2 sealed, 3 worn), three zeros, the zone's pointer (4 bytes), all little-endian. An empty zone's pointer field is 0. The records past
  * zone L - 1 are all zero. A state that breaks this form or document 01's bounds is refusal 1, one of another length 2.
  *
  * The host's duties: no two ranges of a call overlap; an empty range has a pointer that is not null too; every call gets the geometry of the format and
- * the state that the last finished call left (after a look either its state or the one held before: unless a cut came between, they say the same of every
- * zone); after a power cut a mount is finished before anything but looks and mounts; every drive that is not lost is named, and a lost one never again;
- * after an unfinished call only a power cut, then a mount.
+ * the state that the last finished format, mount, write, flush or reset left; after a power cut a mount is finished before anything but looks and mounts;
+ * every drive that is not lost is named, and a lost one never again; after an unfinished call only a power cut, then a mount.
+ * A look's state is not handed on: give a look a buffer of its own. Between finished calls it serves reads, peeks and reports, which give the same by it.
  */
 #ifndef ZRV_H
 #define ZRV_H
@@ -38,6 +39,14 @@
 #ifdef __cplusplus
 extern "C" {
 #endif
+
+/* The version of this interface. A change that a caller must follow moves the first number, any other change the second. zrv_version tells that of the
+ * archive which is linked, as major * 65536 + minor. */
+#define ZRV_VERSION_MAJOR 1u
+#define ZRV_VERSION_MINOR 0u
+#define ZRV_VERSION (ZRV_VERSION_MAJOR * 65536u + ZRV_VERSION_MINOR)
+
+uint32_t zrv_version(void);
 
 /* Bounds of the geometry. */
 #define ZRV_LEAST_DRIVES 3u
@@ -68,15 +77,16 @@ extern "C" {
 #define ZRV_REPORTED_OPEN 1u         /* also where it is written to its end */
 #define ZRV_REPORTED_READ_ONLY 2u    /* sealed or worn */
 
-/* What zrv_look and zrv_mount return: the answer and, with 6, 16 and 17, the sector of a log for which they are refused: its drive, its physical zone (0 to 2)
- * and its number in that zone. With every other answer these are 0. */
+/* The answer in what a function returns. */
 #define ZRV_ANSWER(returned) ((uint32_t)((returned)&UINT32_MAX))
+
+/* What zrv_look and zrv_mount return with 6, 16 and 17: the sector of a log for which they are refused, its drive, its physical zone (0 to 2) and its number
+ * in that zone. With every other answer these are 0. */
 #define ZRV_BAD_DRIVE(returned) ((uint32_t)((returned) >> 56))
 #define ZRV_BAD_ZONE(returned) ((uint32_t)((returned) >> 48 & 0xffu))
 #define ZRV_BAD_SECTOR(returned) ((uint32_t)((returned) >> 32 & 0xffffu))
 
-/* What zrv_report returns. */
-#define ZRV_REPORT_ANSWER(returned) ((uint32_t)((returned)&UINT32_MAX))
+/* What zrv_report returns: how many descriptors it filled. */
 #define ZRV_REPORT_NUMBER(returned) ((uint32_t)((returned) >> 32))
 
 /* Sizes. */
@@ -121,7 +131,7 @@ extern "C" {
 
 /* Format: an empty volume. array: the number that every label carries. Finished, `state` is the first state; what it held is never read.
  * Refusals 1 to 4. */
-uint32_t zrv_format(uint32_t drives, uint32_t sector_bytes, uint32_t unit, uint32_t zones, uint32_t zone_sectors, uint32_t named,
+uint64_t zrv_format(uint32_t drives, uint32_t sector_bytes, uint32_t unit, uint32_t zones, uint32_t zone_sectors, uint32_t named,
                     uint64_t array, uint32_t count,
                     uint8_t *sectors, size_t sectors_bytes, uint8_t *written, size_t written_bytes,
                     uint8_t *durable, size_t durable_bytes, uint8_t *state, size_t state_bytes);
@@ -142,7 +152,7 @@ uint64_t zrv_mount(uint32_t drives, uint32_t sector_bytes, uint32_t unit, uint32
 
 /* Write: sectors_to_write sectors, the bytes of `data` (sectors_to_write * B of them), at an address that is its zone's pointer. Finished, `state` has
  * the zone open at its new pointer. Refusals 1 to 4, 7 to 12, 14 and 15. */
-uint32_t zrv_write(uint32_t drives, uint32_t sector_bytes, uint32_t unit, uint32_t zones, uint32_t zone_sectors, uint32_t named,
+uint64_t zrv_write(uint32_t drives, uint32_t sector_bytes, uint32_t unit, uint32_t zones, uint32_t zone_sectors, uint32_t named,
                    uint64_t address, uint32_t sectors_to_write, uint32_t count,
                    uint8_t *sectors, size_t sectors_bytes, uint8_t *written, size_t written_bytes,
                    uint8_t *durable, size_t durable_bytes, uint8_t *state, size_t state_bytes,
@@ -150,19 +160,19 @@ uint32_t zrv_write(uint32_t drives, uint32_t sector_bytes, uint32_t unit, uint32
 
 /* Flush: every present drive is flushed: what is written becomes durable. Finished, a drive that is not named is lost in `state`.
  * Refusals 1 to 4. */
-uint32_t zrv_flush(uint32_t drives, uint32_t sector_bytes, uint32_t unit, uint32_t zones, uint32_t zone_sectors, uint32_t named,
+uint64_t zrv_flush(uint32_t drives, uint32_t sector_bytes, uint32_t unit, uint32_t zones, uint32_t zone_sectors, uint32_t named,
                    uint32_t count,
                    const uint8_t *sectors, size_t sectors_bytes, const uint8_t *written, size_t written_bytes,
                    uint8_t *durable, size_t durable_bytes, uint8_t *state, size_t state_bytes);
 
 /* Reset of a logical zone: finished, it is empty, or worn where its generation is now 2^64 - 1. Refusals 1 to 4, 7, 8, 12 and 14. */
-uint32_t zrv_reset(uint32_t drives, uint32_t sector_bytes, uint32_t unit, uint32_t zones, uint32_t zone_sectors, uint32_t named,
+uint64_t zrv_reset(uint32_t drives, uint32_t sector_bytes, uint32_t unit, uint32_t zones, uint32_t zone_sectors, uint32_t named,
                    uint32_t zone, uint32_t count,
                    uint8_t *sectors, size_t sectors_bytes, uint8_t *written, size_t written_bytes,
                    uint8_t *durable, size_t durable_bytes, uint8_t *state, size_t state_bytes);
 
 /* Read: sectors_to_read sectors from an address, into `answer` (sectors_to_read * B bytes). Refusals 1 to 4, 7 to 9, 13 and 15. */
-uint32_t zrv_read(uint32_t drives, uint32_t sector_bytes, uint32_t unit, uint32_t zones, uint32_t zone_sectors, uint32_t named,
+uint64_t zrv_read(uint32_t drives, uint32_t sector_bytes, uint32_t unit, uint32_t zones, uint32_t zone_sectors, uint32_t named,
                   uint64_t address, uint32_t sectors_to_read,
                   const uint8_t *sectors, size_t sectors_bytes, const uint8_t *written, size_t written_bytes,
                   const uint8_t *durable, size_t durable_bytes, const uint8_t *state, size_t state_bytes,
@@ -170,7 +180,7 @@ uint32_t zrv_read(uint32_t drives, uint32_t sector_bytes, uint32_t unit, uint32_
 
 /* Peek: where the sector of an address sits in `sectors`, without copying it: its offset, little-endian, in the ZRV_PLACE_BYTES bytes of `place` (another
  * length is refusal 2). Refusals 1 to 4, 7, 8, 13 and 15. */
-uint32_t zrv_peek(uint32_t drives, uint32_t sector_bytes, uint32_t unit, uint32_t zones, uint32_t zone_sectors, uint32_t named,
+uint64_t zrv_peek(uint32_t drives, uint32_t sector_bytes, uint32_t unit, uint32_t zones, uint32_t zone_sectors, uint32_t named,
                   uint64_t address,
                   const uint8_t *sectors, size_t sectors_bytes, const uint8_t *written, size_t written_bytes,
                   const uint8_t *durable, size_t durable_bytes, const uint8_t *state, size_t state_bytes,
@@ -194,7 +204,7 @@ uint64_t zrv_report(uint32_t drives, uint32_t sector_bytes, uint32_t unit, uint3
 #define ZRV_GROUPED_FILLER UINT64_MAX
 #define ZRV_GROUPED_WORK_BYTES(drives, blocks_per_drive) ((size_t)(drives) * (size_t)(blocks_per_drive) * 8u)
 
-uint32_t zrv_grouped_read(uint32_t drives, uint32_t block_bytes, uint32_t group, uint32_t blocks_per_drive, uint32_t named, uint64_t address,
+uint64_t zrv_grouped_read(uint32_t drives, uint32_t block_bytes, uint32_t group, uint32_t blocks_per_drive, uint32_t named, uint64_t address,
                           const uint8_t *blocks, size_t blocks_bytes, const uint8_t *metadata, size_t metadata_bytes,
                           uint8_t *work, size_t work_bytes, uint8_t *answer, size_t answer_bytes);
 

@@ -41,12 +41,16 @@ class Told(IntEnum):
 
 
 LOGS = GENERAL_LOG, PARITY_LOG = 0, 1       # the kinds of log; each is also the zone that is that log by default, and the start of its closing entry
-FIRST_DATA_ZONE = 3
+FIRST_DATA_ZONE = 3                         # the zones before it are the logs and a spare
 LABEL, COUNTERS, RESET, PARTIAL_PARITY, SEAL, CLOSING = 1, 2, 3, 4, 5, 6
 NO_DRIVE = 255
 LAST_GENERATION = 2**64 - 1
 ALL_STORES = 2**32 - 1
+LEAST_DRIVES, MOST_DRIVES = 3, 8
+MOST_UNIT = 16
+MOST_ZONES = 16
 SECTOR_SIZES = (64, 128, 256, 512, 1024, 2048, 4096)
 MOST_ZONE_SECTORS = 65536
-STATE_RECORDS, STATE_RECORD_BYTES = 16, 16
+HEADER_BYTES = 32                           # of an entry; the generations of counters come after them
+STATE_RECORDS, STATE_RECORD_BYTES = MOST_ZONES, 16
 DESCRIPTOR_BYTES = 32

@@ -5,8 +5,9 @@ Written along that page, to be read beside it, not to be fast. Each part names i
 import struct
 from collections import namedtuple
 
-from format_numbers import (CLOSING, COUNTERS, FIRST_DATA_ZONE, GENERAL_LOG, LABEL, LAST_GENERATION, LOGS, MOST_ZONE_SECTORS, NO_DRIVE,
-                            PARITY_LOG, PARTIAL_PARITY, RESET, SEAL, SECTOR_SIZES, STATE_RECORD_BYTES, STATE_RECORDS, Answer, Condition, Told)
+from format_numbers import (CLOSING, COUNTERS, FIRST_DATA_ZONE, GENERAL_LOG, HEADER_BYTES, LABEL, LAST_GENERATION, LEAST_DRIVES, LOGS, MOST_DRIVES,
+                            MOST_UNIT, MOST_ZONE_SECTORS, MOST_ZONES, NO_DRIVE, PARITY_LOG, PARTIAL_PARITY, RESET, SEAL, SECTOR_SIZES,
+                            STATE_RECORD_BYTES, STATE_RECORDS, Answer, Condition, Told)
 
 Place = namedtuple("Place", "drive sector parity_drive stripe unit row")
 Store = namedtuple("Store", "kind drive zone data sector", defaults=(None,) * 3)     # kind: append, reset or flush
@@ -44,15 +45,15 @@ class Geometry:
 
     def __init__(self, D, B, U, L, C):
         self.D, self.B, self.U, self.L, self.C = D, B, U, L, C
-        self.Z = L + 3
+        self.Z = L + FIRST_DATA_ZONE
         self.K = (D - 1) * U
         self.Q = (D - 1) * C
         self.R = L * (1 + U) + U
 
     def in_bounds(self):
         D, B, U, L, C = self.D, self.B, self.U, self.L, self.C
-        return (3 <= D <= 8 and B in SECTOR_SIZES and 1 <= U <= 16 and 1 <= L <= 16 and 32 + 8 * L <= B
-                and C % U == 0 and max(L * (1 + U) + 2 * U + 1, L + 6) <= C <= MOST_ZONE_SECTORS)
+        return (LEAST_DRIVES <= D <= MOST_DRIVES and B in SECTOR_SIZES and 1 <= U <= MOST_UNIT and 1 <= L <= MOST_ZONES
+                and HEADER_BYTES + 8 * L <= B and C % U == 0 and max(L * (1 + U) + 2 * U + 1, L + 6) <= C <= MOST_ZONE_SECTORS)
 
     def lengths(self):
         """Section 2: bytes of the sectors, numbers of written and of durable."""
@@ -202,7 +203,7 @@ def read_label(g, d, sector):
 
 
 def read_counters(g, sector):
-    generations = struct.unpack_from("<%dQ" % g.L, sector, 32)
+    generations = struct.unpack_from("<%dQ" % g.L, sector, HEADER_BYTES)
     return Entry(COUNTERS, generations=generations) if sector == counters(g, generations) else None
 
 

@@ -45,7 +45,7 @@ static bool is_present(const struct driver *driver, uint32_t drive) { return (dr
 static const uint8_t *shown_zone(const struct driver *driver, uint32_t zone) { return zone_record(driver->shown, zone); }
 
 static uint32_t written_in(const struct driver *driver, uint32_t drive, uint32_t physical_zone) {
-    return get32(driver->drives.shelf.written.bytes + 4 * cell(driver->drives.record.geometry, drive, physical_zone));
+    return pointer_in(driver->drives.shelf.written, cell(driver->drives.record.geometry, drive, physical_zone));
 }
 
 static struct journal_reader reader_of(const struct driver *driver, uint32_t drive, uint32_t log) {
@@ -235,19 +235,20 @@ static void tell_left_out(void *listener, const struct difference *d) {
         found(line, "zone %u was not compared with drive %u left out: a read is refused: %u %s", d->zone, d->drive, d->answer, refusal_word(d->answer));
 }
 
-static void check_left_out(const struct driver *driver, bool shown) {
+static bool check_left_out(const struct driver *driver, bool shown, struct message *message) {
     struct line line = {driver, "each drive left out", "parity older than the data beside it", 0};
     uint32_t every = (1u << driver->drives.record.geometry.drives) - 1;
     bool whole = driver->drives.present == every && driver->shown[ZRV_STATE_LOST] == ZRV_NO_DRIVE;
     bool ready = driver->drives.record.phase == PHASE_READY;
     const char *same = ready ? "ok, every zone shows the same condition and sectors with any one drive left out, as is proved of it after a mount"
                              : "ok, every zone shows the same sectors with any one drive left out";
-    if (shown && whole)
-        compare_left_out(driver, tell_left_out, &line);
+    if (shown && whole && !compare_left_out(driver, tell_left_out, &line))
+        return no_memory(message, shelf_bytes(driver->drives.record.geometry));
     if (shown && !whole)
         end_line(&line, "not judged: a drive is missing, and a second one cannot be left out");
     else
         end_line(&line, "%s", shown ? same : NO_LOOK);
+    return true;
 }
 
 static void print_log(const struct log_zones *zones, uint32_t log, const char *name) {
@@ -277,11 +278,11 @@ void print_logs(const struct driver *driver) {
     }
 }
 
-void print_checklist(const struct driver *driver, uint32_t answer) {
+bool print_checklist(const struct driver *driver, uint32_t answer, struct message *message) {
     bool shown = answer == ZRV_FINISHED;
     check_labels(driver);
     check_pointers(driver, shown);
     check_parity_log(driver);
     check_reset_log(driver, shown);
-    check_left_out(driver, shown);
+    return check_left_out(driver, shown, message);
 }

@@ -110,7 +110,7 @@ static uint32_t drives_named(const struct driver *driver) {
 int flush_main(int argc, char **argv) {
     struct command_option option[] = {STORES_OPTION};
     struct driver driver;
-    int code = begin_command(argc, argv, option, COUNT(option), &driver);
+    int code = begin_call(CALL_FLUSH, argc, argv, option, COUNT(option), &driver);
     if (code == EXIT_DONE) {
         struct call call = {.kind = CALL_FLUSH, .count = (uint32_t)option[0].number};
         code = store_and_save(&driver, &call);
@@ -124,7 +124,7 @@ int flush_main(int argc, char **argv) {
 int reset_main(int argc, char **argv) {
     struct command_option option[] = {STORES_OPTION, {.name = "zone", .kind = OPTION_NUMBER, .needed = true, .most = UINT32_MAX}};
     struct driver driver;
-    int code = begin_command(argc, argv, option, COUNT(option), &driver);
+    int code = begin_call(CALL_RESET, argc, argv, option, COUNT(option), &driver);
     if (code == EXIT_DONE) {
         struct call call = {.kind = CALL_RESET, .zone = (uint32_t)option[1].number, .count = (uint32_t)option[0].number};
         code = store_and_save(&driver, &call);
@@ -140,7 +140,7 @@ int reset_main(int argc, char **argv) {
 int mount_main(int argc, char **argv) {
     struct command_option option[] = {STORES_OPTION};
     struct driver driver;
-    int code = begin_command(argc, argv, option, COUNT(option), &driver);
+    int code = begin_call(CALL_MOUNT, argc, argv, option, COUNT(option), &driver);
     if (code == EXIT_DONE) {
         struct call call = {.kind = CALL_MOUNT, .count = (uint32_t)option[0].number};
         code = store_and_save(&driver, &call);
@@ -154,27 +154,32 @@ int mount_main(int argc, char **argv) {
 }
 
 /* What a look found, for a person. */
-static void print_look(const struct driver *driver, uint32_t answer) {
-    print_checklist(driver, answer);
+static bool print_look(const struct driver *driver, uint32_t answer, struct message *message) {
+    if (!print_checklist(driver, answer, message))
+        return false;
     if (answer == ZRV_FINISHED)
         print_zones(driver->drives.record.geometry, driver->shown);
     print_logs(driver);
     if (driver->drives.record.phase == PHASE_MOUNT_DUE)
         printf("power was cut: a mount comes next\n");
+    return true;
 }
 
 int look_main(int argc, char **argv) {
     struct command_option option[] = {{.name = "json", .kind = OPTION_FLAG}};
     struct driver driver;
     struct message message;
-    int code = begin_reading(argc, argv, option, COUNT(option), &driver);
+    int code = begin_call(CALL_LOOK, argc, argv, option, COUNT(option), &driver);
     if (code == EXIT_DONE) {
         struct call call = {.kind = CALL_LOOK};
         uint32_t answer = driver_call(&driver, call, &message);
-        if (answer != ANSWER_NOT_NOW)
-            (option[0].given ? print_look_json : print_look)(&driver, answer);
+        bool good = true;
+        if (answer != ANSWER_NOT_NOW && option[0].given)
+            print_look_json(&driver, answer);
+        else if (answer != ANSWER_NOT_NOW)
+            good = print_look(&driver, answer, &message);
         fflush(stdout);
-        code = tell_answer(&driver, &call, answer, &message);
+        code = good ? tell_answer(&driver, &call, answer, &message) : file_error(&message);
     }
     close_drives(&driver.drives);
     return code;
@@ -207,7 +212,8 @@ static const char *read_zone(const char *text, struct kept_zone *named) {
     return text;
 }
 
-/* Reads a list of either, which is the caller's to free; its length, or 0 where the text has another form. */
+/* Reads a list of either, which is the caller's to free; its length, or 0 where the text has another form, and without a list where there
+ * is no memory for it. */
 static size_t parse_zones(const char *text, const char *read_one(const char *, struct kept_zone *), struct kept_zone **list) {
     *list = calloc(strlen(text) + 1, sizeof **list);
     for (size_t count = 0; *list != NULL; count++) {
@@ -232,7 +238,8 @@ static bool parse_power_loss(const struct command_option *keep, const struct com
             is_word = true;
         }
     if (!is_word && (loss->given_count = parse_zones(keep->text, read_kept_zone, list)) == 0)
-        return fail(message, "--keep: \"%s\" is not none, all, random or DRIVE:ZONE=SECTORS,..", keep->text);
+        return *list == NULL ? no_memory(message, strlen(keep->text))
+                             : fail(message, "--keep: \"%s\" is not none, all, random or DRIVE:ZONE=SECTORS,..", keep->text);
     loss->given = *list;
     if (seed->given != (loss->keeps == KEEP_RANDOM))
         return fail(message, "--seed goes with --keep random, and only with it");
@@ -250,7 +257,7 @@ static bool parse_undone(const struct command_option *undo, bool cached_resets, 
         return true;
     loss->undoes = strcmp(undo->text, "all") == 0 ? UNDO_ALL : UNDO_GIVEN;
     if (loss->undoes == UNDO_GIVEN && (loss->undone_count = parse_zones(undo->text, read_zone, list)) == 0)
-        return fail(message, "--undo: \"%s\" is not all or DRIVE:ZONE,..", undo->text);
+        return *list == NULL ? no_memory(message, strlen(undo->text)) : fail(message, "--undo: \"%s\" is not all or DRIVE:ZONE,..", undo->text);
     loss->undone = *list;
     return true;
 }
@@ -289,10 +296,10 @@ int cut_main(int argc, char **argv) {
     struct power_loss loss;
     struct driver driver;
     struct message message;
-    int code = begin_command(argc, argv, option, COUNT(option), &driver);
+    int code = begin_change(argc, argv, option, COUNT(option), &driver);
     if (code == EXIT_DONE && (!parse_power_loss(&option[KEEP], &option[SEED], &loss, &list, &message) ||
                               !parse_undone(&option[UNDO], option[CACHED_RESETS].given, &loss, &undone, &message)))
-        code = usage_error(argv[0], "%s", message.text);
+        code = message.lacks_memory ? file_error(&message) : usage_error(argv[0], "%s", message.text);
     if (code == EXIT_DONE)
         code = lose_power_and_save(&driver, &loss);
     free(list);

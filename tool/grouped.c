@@ -6,6 +6,7 @@
 
 #include "bytes.h"
 #include "commands.h"
+#include "grouped_record.h"
 #include "tool.h"
 #include "zrv.h"
 
@@ -28,14 +29,14 @@ struct segment {
     const uint8_t *metadata;
 };
 
-enum { RECORD_ID = 16, MOST_GROUP = 256 };
+enum { MOST_GROUP = 256 };
 
 /* The first stripe ID that a drive lacks in a group; G where it has each. */
 static uint32_t lacking_id(const struct segment *segment, uint32_t drive, uint32_t group) {
     bool has[MOST_GROUP] = {false};
     for (uint32_t i = 0; i < segment->group; i++) {
         size_t block = (size_t)drive * segment->per_drive + (size_t)group * segment->group + i;
-        uint32_t id = get32(segment->metadata + block * ZRV_GROUPED_RECORD_BYTES + RECORD_ID);
+        uint32_t id = get32(segment->metadata + block * ZRV_GROUPED_RECORD_BYTES + GROUPED_STRIPE_ID);
         if (id < segment->group)
             has[id] = true;
     }
@@ -90,6 +91,8 @@ static bool load(const char *name, struct range *data, struct message *message) 
     *data = (struct range){length < 0 ? NULL : malloc((size_t)length + 1), (size_t)length};
     bool good = data->bytes != NULL && fread(data->bytes, 1, data->length, file) == data->length;
     fclose(file);
+    if (length >= 0 && data->bytes == NULL)
+        return no_memory(message, (size_t)length);
     return good || fail(message, "%s: it cannot be read", name);
 }
 
@@ -113,10 +116,11 @@ static int read_block(const struct command_option *option, const struct range *b
     struct range work = {malloc(ZRV_GROUPED_WORK_BYTES(drives, count) + 1), ZRV_GROUPED_WORK_BYTES(drives, count)}, answer = {malloc((size_t)bytes + 1), bytes};
     int code = EXIT_FILES;
     if (work.bytes == NULL || answer.bytes == NULL) {
-        fail(message, "memory ran out");
+        no_memory(message, work.length + answer.length);
     } else {
-        uint32_t number = zrv_grouped_read(drives, bytes, (uint32_t)option[GROUP].number, count, named, option[AT].number, blocks->bytes, blocks->length,
-                                           metadata->bytes, metadata->length, work.bytes, work.length, answer.bytes, answer.length);
+        uint64_t returned = zrv_grouped_read(drives, bytes, (uint32_t)option[GROUP].number, count, named, option[AT].number, blocks->bytes, blocks->length,
+                                             metadata->bytes, metadata->length, work.bytes, work.length, answer.bytes, answer.length);
+        uint32_t number = ZRV_ANSWER(returned);
         struct segment segment = {drives, (uint32_t)option[GROUP].number, count, named, metadata->bytes};
         if (number == ZRV_FINISHED)
             code = put_block(&option[TO], &answer, message) ? EXIT_DONE : EXIT_FILES;
@@ -133,10 +137,10 @@ int grouped_main(int argc, char **argv) {
         [BLOCKS] = {.name = "blocks", .kind = OPTION_TEXT, .needed = true},
         [METADATA] = {.name = "metadata", .kind = OPTION_TEXT, .needed = true},
         [AT] = {.name = "at", .kind = OPTION_NUMBER, .needed = true, .most = UINT64_MAX},
-        [DRIVES] = {.name = "drives", .kind = OPTION_NUMBER, .most = 8, .number = 4},
-        [BLOCK_BYTES] = {.name = "block-bytes", .kind = OPTION_NUMBER, .most = 4096, .number = 4096},
-        [GROUP] = {.name = "group", .kind = OPTION_NUMBER, .most = 256, .number = 256},
-        [WITHOUT] = {.name = "without", .kind = OPTION_NUMBER, .most = 7},
+        [DRIVES] = {.name = "drives", .kind = OPTION_NUMBER, .most = ZRV_MOST_DRIVES, .number = 4},
+        [BLOCK_BYTES] = {.name = "block-bytes", .kind = OPTION_NUMBER, .most = ZRV_MOST_SECTOR_BYTES, .number = ZRV_MOST_SECTOR_BYTES},
+        [GROUP] = {.name = "group", .kind = OPTION_NUMBER, .most = MOST_GROUP, .number = MOST_GROUP},
+        [WITHOUT] = {.name = "without", .kind = OPTION_NUMBER, .most = ZRV_MOST_DRIVES - 1},
         [TO] = {.name = "to", .kind = OPTION_TEXT},
     };
     struct message message;

@@ -70,8 +70,7 @@ int info_main(int argc, char **argv) {
         return usage_error(argv[0], "%s", message.text);
     struct opening opening = opening_for(LOCK_TO_READ, folder, &option[WAIT]);
     int code = EXIT_DONE;
-    if (open_folder(&drives, &opening, &message)) {
-        find_drives(&drives, found);
+    if (open_folder(&drives, &opening, &message) && find_drives(&drives, found, &message)) {
         (option[JSON].given ? print_info_json : print_info)(&drives, found);
     } else {
         code = file_error(&message);

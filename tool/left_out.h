@@ -11,6 +11,7 @@
 #include "driver.h"
 
 enum difference_kind {
+    NO_DIFFERENCE,
     NOT_COMPARED,     /* the look, or a read of what one of the looks shows, is refused */
     DIFFERENT_LENGTH, /* another count of sectors is shown */
     DIFFERENT_RECORD, /* as many sectors, another condition or generation */
@@ -28,7 +29,7 @@ struct difference {
 
 typedef void (*tell_difference)(void *listener, const struct difference *difference);
 
-/* Tells each difference. The look with all drives must be one that is not refused, with every drive present. */
-void compare_left_out(const struct driver *driver, tell_difference tell, void *listener);
+/* Tells each difference. The look with all drives must be one that is not refused, with every drive present. False where there is no memory for the copies. */
+bool compare_left_out(const struct driver *driver, tell_difference tell, void *listener);
 
 #endif

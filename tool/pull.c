@@ -8,11 +8,9 @@
 
 enum { DRIVE, FORCE, WAIT, PULL_OPTIONS };
 
-/* What a mount without the drive would answer: made in memory, of which nothing is saved, with the drives that a mount would name. */
+/* What a mount without the drive would answer: made in memory, of which nothing is saved, with the drives that a mount would name. They are loaded. */
 static uint32_t try_mount_without(struct drives *drives, uint32_t drive) {
-    struct message unused;
     uint8_t state[ZRV_STATE_BYTES];
-    load_drives(drives, &unused);
     struct call call = {
         .kind = CALL_MOUNT,
         .geometry = drives->record.geometry,
@@ -62,6 +60,8 @@ static int pull(struct drives *drives, uint32_t drive, bool force) {
     if (drive >= drives->record.geometry.drives)
         return usage_error("pull", "--drive: there is no drive %u", drive);
     if (!force && (drives->record.given_up >> drive & 1) == 0 && is_taken(drives, drive_name(name, drive, "zrv"))) {
+        if (!load_drives(drives, &message) && message.lacks_memory)
+            return file_error(&message);
         uint32_t answer = try_mount_without(drives, drive);
         if (answer != ZRV_FINISHED)
             return refuse_to_pull(drives, drive, answer);

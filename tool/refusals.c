@@ -36,11 +36,12 @@ static const char *const order_when_full = "the zone is full; reset it or write 
 /* The sentences of refusal 14, by the call: what helps is another thing for each. */
 #define TOO_LITTLE_ROOM "what has to be kept of a log leaves too little room"
 #define FORMAT_ANEW "copy the data out and format anew with --zone-sectors {roomy} or more"
-static const char *const log_full_write = TOO_LITTLE_ROOM "; write on to the stripe's end, below address {stripe}, in one call, which needs no log; "
-                                                          "for good: " FORMAT_ANEW;
-static const char *const log_full_reset = TOO_LITTLE_ROOM ", and may do so for good; what is written can still be read: " FORMAT_ANEW;
-static const char *const log_full_mount = TOO_LITTLE_ROOM "; nothing is changed, zrv look still shows the zones; keep the drives' files as they are, and give "
-                                                          "the next volume --zone-sectors {roomy} or more";
+static const char *const log_full[] = {
+    [CALL_WRITE] = TOO_LITTLE_ROOM "; write on to the stripe's end, below address {stripe}, in one call, which needs no log; for good: " FORMAT_ANEW,
+    [CALL_RESET] = TOO_LITTLE_ROOM ", and may do so for good; what is written can still be read: " FORMAT_ANEW,
+    [CALL_MOUNT] = TOO_LITTLE_ROOM "; nothing is changed, zrv look still shows the zones; keep the drives' files as they are, and give the next volume "
+                                   "--zone-sectors {roomy} or more",
+};
 
 const char *refusal_word(uint32_t number) { return number >= ZRV_GEOMETRY && number <= LAST_REFUSAL ? refusals[number].word : "no refusal"; }
 
@@ -85,7 +86,7 @@ static const char *sentence_of(uint32_t number, enum call_kind kind, bool zone_i
     if (number == ZRV_ORDER && zone_is_full)
         return order_when_full;
     if (number == ZRV_LOG_FULL)
-        return kind == CALL_WRITE ? log_full_write : kind == CALL_RESET ? log_full_reset : log_full_mount;
+        return log_full[kind];
     return refusals[number].sentence;
 }
 

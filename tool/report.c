@@ -47,7 +47,7 @@ int report_main(int argc, char **argv) {
     struct message message;
     uint8_t list[ZRV_MOST_ZONES * ZRV_DESCRIPTOR_BYTES];
     uint32_t filled = 0;
-    int code = begin_reading(argc, argv, option, REPORT_OPTIONS, &driver);
+    int code = begin_call(CALL_REPORT, argc, argv, option, REPORT_OPTIONS, &driver);
     if (code == EXIT_DONE) {
         struct call call = {.kind = CALL_REPORT, .filled = &filled, .range[BUFFER] = {list, sizeof list}};
         code = tell_answer(&driver, &call, driver_call(&driver, call, &message), &message);

@@ -7,6 +7,7 @@
 
 #include "bad_log.h"
 #include "bytes.h"
+#include "call_kinds.h"
 #include "refusals.h"
 
 int usage_error(const char *command, const char *format, ...) {
@@ -34,7 +35,7 @@ struct opening opening_for(enum lock_kind lock, const char *folder, const struct
 }
 
 /* The command's own options are read together with --wait. */
-static int begin(int argc, char **argv, struct command_option *options, size_t count, struct driver *driver, enum lock_kind lock) {
+static int begin(enum lock_kind lock, int argc, char **argv, struct command_option *options, size_t count, struct driver *driver) {
     struct command_option all[count + 1];
     struct message message;
     const char *folder;
@@ -48,19 +49,19 @@ static int begin(int argc, char **argv, struct command_option *options, size_t c
     return open_driver(driver, &opening, &message) ? EXIT_DONE : file_error(&message);
 }
 
-int begin_command(int argc, char **argv, struct command_option *options, size_t count, struct driver *driver) {
-    return begin(argc, argv, options, count, driver, LOCK_TO_CHANGE);
+int begin_change(int argc, char **argv, struct command_option *options, size_t count, struct driver *driver) {
+    return begin(LOCK_TO_CHANGE, argc, argv, options, count, driver);
 }
 
-int begin_reading(int argc, char **argv, struct command_option *options, size_t count, struct driver *driver) {
-    return begin(argc, argv, options, count, driver, LOCK_TO_READ);
+int begin_call(enum call_kind kind, int argc, char **argv, struct command_option *options, size_t count, struct driver *driver) {
+    return begin(traits_of(kind)->stores ? LOCK_TO_CHANGE : LOCK_TO_READ, argc, argv, options, count, driver);
 }
 
 int tell_answer(const struct driver *driver, const struct call *call, uint32_t answer, const struct message *message) {
     const struct host_record *record = &driver->drives.record;
     if (answer == ZRV_FINISHED)
         return EXIT_DONE;
-    if (answer == ANSWER_STRANGE_DRIVE)
+    if (answer == ANSWER_STRANGE_DRIVE || answer == ANSWER_FAILED)
         return file_error(message);
     if (answer == ANSWER_NOT_NOW)
         return not_now(message);
@@ -84,7 +85,7 @@ int store_and_save(struct driver *driver, const struct call *call) {
     struct message message;
     uint32_t answer = driver_call(driver, *call, &message);
     bool stored = answer == ZRV_FINISHED || answer == ZRV_UNFINISHED;
-    if (stored && !save_drives(&driver->drives, call->kind == CALL_FORMAT, &message))
+    if (stored && !save_drives(&driver->drives, traits_of(call->kind)->makes_drives, &message))
         return file_error(&message);
     return tell_answer(driver, call, answer, &message);
 }

@@ -12,9 +12,9 @@ enum { EXIT_DONE = 0, EXIT_REFUSED = 1, EXIT_USAGE = 2, EXIT_FILES = 3, EXIT_BUS
 #define WAIT_OPTION {.name = "wait", .kind = OPTION_MAYBE_NUMBER, .most = UINT32_MAX, .number = WAIT_FOREVER}
 
 /* The words of a command read, its own and --wait, and its shelf opened; 0, or the exit code after the reason was told. After any of them close_drives is due.
- * A command that only reads shares the shelf with others of its kind. */
-int begin_command(int argc, char **argv, struct command_option *options, size_t count, struct driver *driver);
-int begin_reading(int argc, char **argv, struct command_option *options, size_t count, struct driver *driver);
+ * A command whose call only reads shares the shelf with others of that sort; one that changes it by no call excludes them. */
+int begin_call(enum call_kind kind, int argc, char **argv, struct command_option *options, size_t count, struct driver *driver);
+int begin_change(int argc, char **argv, struct command_option *options, size_t count, struct driver *driver);
 
 /* How a shelf is opened, with --wait as it was given. */
 struct opening opening_for(enum lock_kind lock, const char *folder, const struct command_option *wait);

@@ -107,7 +107,7 @@ int write_main(int argc, char **argv) {
         [PAD] = {.name = "pad", .kind = OPTION_FLAG},
     };
     struct driver driver;
-    int code = begin_command(argc, argv, option, WRITE_OPTIONS, &driver);
+    int code = begin_call(CALL_WRITE, argc, argv, option, WRITE_OPTIONS, &driver);
     if (code == EXIT_DONE && option[AT].given == option[ZONE].given)
         code = usage_error(argv[0], "one of --at and --zone is wanted");
     if (code == EXIT_DONE)
@@ -164,6 +164,10 @@ static struct call read_call(const struct driver *driver, const struct command_o
 static int read_data(struct driver *driver, const struct command_option *option) {
     struct message message;
     struct call call = read_call(driver, option);
+    if (call.range[BUFFER].bytes == NULL) {
+        no_memory(&message, (size_t)call.run * driver->drives.record.geometry.sector_bytes);
+        return file_error(&message);
+    }
     uint32_t answer = driver_call(driver, call, &message);
     if (answer == ZRV_UNWRITTEN && option[ZONE].given) {
         answer = ZRV_FINISHED;
@@ -187,7 +191,7 @@ int read_main(int argc, char **argv) {
         [SECTOR_COUNT] = {.name = "count", .kind = OPTION_NUMBER, .most = UINT32_MAX},
     };
     struct driver driver;
-    int code = begin_reading(argc, argv, option, READ_OPTIONS, &driver);
+    int code = begin_call(CALL_READ, argc, argv, option, READ_OPTIONS, &driver);
     if (code == EXIT_DONE && (option[AT].given == option[ZONE].given || option[AT].given != option[SECTOR_COUNT].given))
         code = usage_error(argv[0], "--at with --count, or --zone, is wanted");
     if (code == EXIT_DONE)
@@ -215,7 +219,7 @@ int peek_main(int argc, char **argv) {
     struct driver driver;
     struct message message;
     uint8_t place[ZRV_PLACE_BYTES];
-    int code = begin_reading(argc, argv, option, COUNT(option), &driver);
+    int code = begin_call(CALL_PEEK, argc, argv, option, COUNT(option), &driver);
     if (code == EXIT_DONE) {
         struct call call = {.kind = CALL_PEEK, .address = option[0].number, .range[BUFFER] = {place, sizeof place}};
         code = tell_answer(&driver, &call, driver_call(&driver, call, &message), &message);

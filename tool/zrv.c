@@ -6,8 +6,6 @@
 #include "explore/explore.h"
 #include "tool.h"
 
-#define VERSION "1.0"
-
 #define STORES_HELP "  --stores N        stop after N stores, with the call unfinished; only a power cut can follow\n"
 
 struct command {
@@ -158,7 +156,7 @@ static int run_command(int argc, char **argv) {
     if (is_help(argv[0]))
         return help_main(argc, argv);
     if (strcmp(argv[0], "--version") == 0) {
-        printf("zrv " VERSION "\n");
+        printf("zrv %u.%u\n", zrv_version() / 65536, zrv_version() % 65536);
         return EXIT_DONE;
     }
     const struct command *command = find_command(argv[0]);

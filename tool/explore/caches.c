@@ -22,8 +22,8 @@ struct caches new_caches(const struct shelf *shelf, const struct old_zones *old,
     caches.old = *old;
     caches.contents = 1;
     for (size_t cell = 0; cell < caches.cells; cell++) {
-        caches.durable[cell] = get32(shelf->durable.bytes + 4 * cell);
-        caches.written[cell] = get32(shelf->written.bytes + 4 * cell);
+        caches.durable[cell] = pointer_in(shelf->durable, cell);
+        caches.written[cell] = pointer_in(shelf->written, cell);
         caches.choices[cell] = choices_of(&caches, cell);
         caches.contents = product(caches.contents, caches.choices[cell]);
     }

@@ -5,6 +5,8 @@
 
 #include <stdlib.h>
 
+#include "explore/ending.h"
+
 struct event *push_event(struct explorer *explorer, struct event event) {
     struct event *place = &explorer->trail.event[explorer->trail.length++];
     *place = event;
@@ -14,10 +16,7 @@ struct event *push_event(struct explorer *explorer, struct event event) {
 static void keep_story(struct explorer *explorer, const struct world *world, const struct verdict *verdict) {
     free(explorer->story);
     FILE *out = open_memstream(&explorer->story, &explorer->story_bytes);
-    if (out == NULL) {
-        fputs("no memory for a history that does not fit\n", stderr);
-        exit(3);
-    }
+    must_have_memory(out, sizeof *out);
     tell_story(out, &explorer->trail, world, verdict);
     fclose(out);
 }

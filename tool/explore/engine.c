@@ -16,6 +16,7 @@
 #include <string.h>
 
 #include "explore/check.h"
+#include "explore/ending.h"
 
 /* LEAST_SHARE: where the budget leaves fewer final states than this to each return of power, some returns get as many and the others none.
  * MOST_SHARES: a return that can be gone through whole may take so many times its share, as long as that is not below half of what it was at first. */
@@ -25,10 +26,7 @@ typedef void moment_step(struct explorer *explorer, struct level *level);
 
 static void *grown(void *memory, size_t bytes) {
     void *larger = realloc(memory, bytes);
-    if (larger == NULL) {
-        fprintf(stderr, "no memory for %zu bytes\n", bytes);
-        exit(3);
-    }
+    must_have_memory(larger, bytes);
     return larger;
 }
 
@@ -41,6 +39,8 @@ static uint64_t saturated_sum(uint64_t a, uint64_t b) { return a > UINT64_MAX - 
 
 /* The stores that a request makes on a world, or a mount where there is none; an empty list where it is refused. */
 static void list_stores(struct explorer *explorer, struct store_list *list, const struct world *base, const struct request *request) {
+    struct message message;
+    const uint8_t *state = base->state;
     list->length = 0;
     if (!explorer->options->cached_resets)
         return;
@@ -50,9 +50,11 @@ static void list_stores(struct explorer *explorer, struct store_list *list, cons
         copy_world(after, base);
         answer = request == NULL ? mount_world(after, count, BREAK_NOTHING) : send_request(after, request, count, BREAK_NOTHING);
         if (answer == ZRV_UNFINISHED || answer == ZRV_FINISHED)
-            note_store(list, &before->shelf, &after->shelf);
+            must(note_store(list, &before->shelf, &after->shelf, &message), &message);
+        state = after->state;
     }
-    settle_stores(list, base->shelf.geometry.drives, base->named);
+    if (list->length > 0)
+        must(settle_stores(list, request == NULL ? CALL_MOUNT : request->kind, present_in(base->named, state), &message), &message);
 }
 
 /* What the drives remember after so many stores of a list; `last` is the world one store before, and becomes this one. */

@@ -1,20 +1,17 @@
 /* Document 01's book: of each zone what was written, how far it was flushed, and whether a reset was begun. */
 #include "explore/oracle.h"
 
-#include <stdio.h>
 #include <stdlib.h>
 #include <string.h>
 
+#include "explore/ending.h"
 #include "shelf.h"
 
 struct oracle new_oracle(struct geometry geometry) {
     struct oracle oracle = {.zones = geometry.zones, .sector_bytes = geometry.sector_bytes};
     for (uint32_t z = 0; z < geometry.zones; z++) {
         oracle.zone[z].content = calloc(zone_addresses(geometry), sizeof *oracle.zone[z].content);
-        if (oracle.zone[z].content == NULL) {
-            fprintf(stderr, "no memory for what zone %u holds\n", z);
-            exit(3);
-        }
+        must_have_memory(oracle.zone[z].content, zone_addresses(geometry) * sizeof *oracle.zone[z].content);
     }
     return oracle;
 }

@@ -49,16 +49,12 @@ static uint32_t largest_pointer(const struct explorer *explorer, uint32_t zone) 
 /* Of the format there is no request: power goes only when it is done. */
 static void draw_call_name(const struct panel *panel, const struct request *request, double x) {
     fprintf(panel->out, "<text class=\"call\" text-anchor=\"middle\" x=\"%.1f\" y=\"%.1f\">", x, plot_top(panel) - 9);
-    if (request == NULL)
-        fputs("format", panel->out);
-    else if (request->kind == CALL_FLUSH || request->kind == CALL_MOUNT)
-        fputs(request->kind == CALL_FLUSH ? "flush" : "mount", panel->out);
-    else if (request->kind == CALL_RESET)
-        fprintf(panel->out, "reset z%u", request->zone);
-    else if (request->zone == panel->zone)
-        fprintf(panel->out, "write %u", request->sectors);
-    else
-        fprintf(panel->out, "write %u z%u", request->sectors, request->zone);
+    const struct call_traits *traits = traits_of(request == NULL ? CALL_FORMAT : request->kind);
+    fputs(traits->name, panel->out);
+    if (traits->in_zone && request->sectors > 0)
+        fprintf(panel->out, " %u", request->sectors);
+    if (traits->in_zone && (request->sectors == 0 || request->zone != panel->zone))
+        fprintf(panel->out, " z%u", request->zone);
     fputs("</text>\n", panel->out);
 }
 
@@ -201,7 +197,7 @@ static void draw_legend(FILE *out, double y, bool misfits) {
 
 static bool is_touched(const struct request_list *list, uint32_t zone) {
     for (size_t i = 0; i < list->length; i++)
-        if ((list->request[i].kind == CALL_WRITE || list->request[i].kind == CALL_RESET) && list->request[i].zone == zone)
+        if (traits_of(list->request[i].kind)->in_zone && list->request[i].zone == zone)
             return true;
     return false;
 }

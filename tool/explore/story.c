@@ -16,17 +16,17 @@ void tell_answer_of_call(FILE *out, uint32_t answer) {
 }
 
 void tell_request(FILE *out, const struct request *request) {
-    if (request->kind == CALL_WRITE)
-        fprintf(out, "write of %u sector%s to zone %u", request->sectors, request->sectors == 1 ? "" : "s", request->zone);
-    else if (request->kind == CALL_RESET)
-        fprintf(out, "reset of zone %u", request->zone);
-    else
-        fputs(request->kind == CALL_MOUNT ? "mount" : "flush", out);
+    const struct call_traits *traits = traits_of(request->kind);
+    fputs(traits->name, out);
+    if (request->sectors > 0)
+        fprintf(out, " of %u sector%s to zone %u", request->sectors, request->sectors == 1 ? "" : "s", request->zone);
+    else if (traits->in_zone)
+        fprintf(out, " of zone %u", request->zone);
 }
 
 static void tell_call(FILE *out, const struct event *event) {
     tell_request(out, event->request);
-    if (event->request->kind == CALL_WRITE)
+    if (event->request->sectors > 0)
         fprintf(out, " at %u", event->pointer);
     fprintf(out, ": %u store%s, ", event->stores, event->stores == 1 ? "" : "s");
     tell_answer_of_call(out, event->answer);

@@ -3,12 +3,14 @@
 
 #include <string.h>
 
+#include "explore/ending.h"
 #include "journal.h"
 
 enum { ARRAY_NUMBER = 1 };
 
 struct world new_world(struct geometry geometry) {
     struct world world = {.shelf = new_shelf(geometry), .named = (1u << geometry.drives) - 1, .oracle = new_oracle(geometry)};
+    must_have_memory(world.shelf.written.bytes, shelf_bytes(geometry));
     return world;
 }
 
@@ -48,17 +50,17 @@ static struct call call_on(struct world *world, enum call_kind kind, uint8_t *st
 }
 
 /* Durable goes back to what it was, but for zones that were reset: a flush that kept nothing. */
-static void take_flush_back(struct shelf *shelf, const uint8_t *before) {
-    for (size_t at = 0; at < shelf->durable.length; at += 4) {
-        uint32_t durable = get32(before + at), written = get32(shelf->written.bytes + at);
-        put32(shelf->durable.bytes + at, durable < written ? durable : written);
+static void take_flush_back(struct shelf *shelf, struct range before) {
+    for (size_t cell = 0; cell < shelf_cells(shelf->geometry); cell++) {
+        uint32_t durable = pointer_in(before, cell), written = pointer_in(shelf->written, cell);
+        put_pointer(shelf->durable, cell, durable < written ? durable : written);
     }
 }
 
 /* After a call before which a cell had so many sectors written. A log that is emptied may have been appended to before its zone was reset. */
 static void touch(struct world *world, size_t cell, uint32_t before) {
     struct geometry g = world->shelf.geometry;
-    uint32_t written = get32(world->shelf.written.bytes + 4 * cell);
+    uint32_t written = pointer_in(world->shelf.written, cell);
     bool was_emptied = cell % physical_zones(g) < ZRV_LOG_ZONES && written < before;
     uint32_t touched = was_emptied ? g.zone_sectors : written;
     world->touched[cell] = touched > world->touched[cell] ? touched : world->touched[cell];
@@ -66,12 +68,13 @@ static void touch(struct world *world, size_t cell, uint32_t before) {
 
 /* A call that stores, on drives that keep the duties less the broken one. */
 static uint32_t store_by(struct world *world, const struct call *call, enum breakage breakage) {
-    uint8_t durable[MOST_CELLS * 4], written[MOST_CELLS * 4];
-    memcpy(durable, world->shelf.durable.bytes, world->shelf.durable.length);
-    memcpy(written, world->shelf.written.bytes, world->shelf.written.length);
+    uint8_t durable_bytes[MOST_CELLS * POINTER_BYTES], written_bytes[MOST_CELLS * POINTER_BYTES];
+    struct range durable = {durable_bytes, world->shelf.durable.length}, written = {written_bytes, world->shelf.written.length};
+    memcpy(durable.bytes, world->shelf.durable.bytes, durable.length);
+    memcpy(written.bytes, world->shelf.written.bytes, written.length);
     uint32_t answer = make_call(call);
     for (size_t cell = 0; cell < shelf_cells(world->shelf.geometry); cell++)
-        touch(world, cell, get32(written + 4 * cell));
+        touch(world, cell, pointer_in(written, cell));
     if (breakage == BREAK_FLUSH)
         take_flush_back(&world->shelf, durable);
     return answer;
@@ -137,7 +140,7 @@ uint32_t send_request(struct world *world, const struct request *request, uint32
 
 void remember_in_world(struct world *world, const struct world *before, const struct store *store, struct old_zone **pool) {
     world->old = before->old;
-    remember_store(&world->old, &before->shelf, store, pool);
+    must_have_memory(remember_store(&world->old, &before->shelf, store, pool) ? pool : NULL, shelf_bytes(before->shelf.geometry));
 }
 
 void forget_old_zones(struct world *world) { memset(&world->old, 0, sizeof world->old); }
@@ -156,8 +159,8 @@ void world_loses_power(struct world *world, const struct caches *caches, const s
         uint32_t kept = caches->kept[cell], durable = back == NULL ? caches->durable[cell] : back->durable;
         if (back != NULL)
             bring_back(world, cell, back);
-        put32(world->shelf.written.bytes + 4 * cell, kept);
-        put32(world->shelf.durable.bytes + 4 * cell, kept);
+        put_pointer(world->shelf.written, cell, kept);
+        put_pointer(world->shelf.durable, cell, kept);
         if (torn_from != NULL && kept > durable) {
             size_t second_half = (cell * cell_sectors + kept - 1) * sector + sector / 2;
             memcpy(world->shelf.sectors.bytes + second_half, torn_from->sectors.bytes + second_half, sector / 2);

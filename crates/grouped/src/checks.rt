@@ -6,7 +6,7 @@ ghost use Prim.Native.Nat.{_≤_};
 ghost use Rattle.tables.specs.meaning.Basics.{pick};
 ghost use Rattle.tables.specs.meaning.Below.{countBelow};
 ghost use Rattle.tables.specs.meaning.GeometryTest.{all, sectorSize};
-ghost use Rattle.grouped.specs.meaning.Segment.{ranges, isValid, totalBlocks, lengthsFit, isMissing, twoMissing, missingDrive};
+ghost use Rattle.grouped.specs.meaning.Segment.{segmentBounds, isSegment, totalBlocks, rangesFit, isMissing, twoMissing, missingDrive};
 ghost use Rattle.grouped.specs.laws.Segment.{Valid};
 
 fn size_ok(b: usize) -> bool
@@ -16,7 +16,7 @@ fn size_ok(b: usize) -> bool
 }
 
 fn in_ranges(s: Segment) -> bool
-    ensures { λ r. ⌜ r ≡ all (ranges s) ⌝ }
+    ensures { λ r. ⌜ r ≡ all (segmentBounds s) ⌝ }
 {
     let b = s.block;
     let size = size_ok(b);
@@ -28,7 +28,7 @@ fn in_ranges(s: Segment) -> bool
 
 // Whether every bound holds and the segment is whole groups.
 pub fn valid(s: Segment) -> bool
-    ensures { λ r. ⌜ r ≡ isValid s ⌝ }
+    ensures { λ r. ⌜ r ≡ isSegment s ⌝ }
 {
     let ok = in_ranges(s);
     if !ok {
@@ -52,7 +52,7 @@ pub fn total_blocks(s: Segment) -> usize
 // Refusal 2: whether everything lent has its length, in bytes.
 pub fn lengths_fit(s: Segment, blocks: usize, metadata: usize, work: usize, answer: usize) -> bool
     requires { ⌜ Valid s ⌝ }
-    ensures { λ r. ⌜ r ≡ lengthsFit s blocks metadata work answer ⌝ }
+    ensures { λ r. ⌜ r ≡ rangesFit s blocks metadata work answer ⌝ }
 {
     let cells = total_blocks(s);
     let b = s.block;

@@ -4,7 +4,7 @@ ghost use mathlib.Core.Path.{_≡_};
 ghost use Prim.Native.Nat.{_*_, _≤_, _<_};
 ghost use lib.ListN.{length};
 ghost use Rattle.grouped.specs.meaning.Segment.{totalBlocks};
-ghost use Rattle.grouped.specs.meaning.Reading.{laterOf, newest, inputNumber, metadataNumber, request, groupedNumber, groupedLeft};
+ghost use Rattle.grouped.specs.meaning.Reading.{laterOf, newest, numbersRefused, metadataNumber, request, groupedNumber, groupedLeft};
 ghost use Rattle.grouped.specs.laws.Segment.{Valid, Sized};
 ghost use Rattle.grouped.specs.places.Placed.{Placed, Found};
 ghost use Rattle.grouped.specs.reading.Blocks.{addBlock, rebuiltBlock, blockNotedAt, MetadataRead};
@@ -141,7 +141,7 @@ fn input_refusal(
     work: usize,
     answer: usize,
 ) -> u32
-    ensures { λ r. ⌜ r ≡ inputNumber s named blocks metadata work answer ⌝ }
+    ensures { λ r. ⌜ r ≡ numbersRefused s named blocks metadata work answer ⌝ }
 {
     let ok = super::checks::valid(s);
     if !ok {

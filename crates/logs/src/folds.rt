@@ -17,7 +17,7 @@ ghost use Rattle.tables.specs.meaning.LittleEndian.{readLE};
 ghost use Rattle.tables.specs.meaning.Geometry.{Valid};
 ghost use Rattle.logs.specs.code.WalkCode.{InLog, logSectors};
 ghost use Rattle.logs.specs.meaning.Walk.{walkLog};
-ghost use Rattle.logs.specs.meaning.Heads.{lastLost, labelled, arrayIn, generationIn, isReset, isSeal, isSealAt, leastSeal, endsPast, endsAt, firstClosing};
+ghost use Rattle.logs.specs.meaning.Heads.{lastLost, labelled, arrayIn, generationIn, isReset, isSeal, isSealAt, leastSeal, endsAt, firstClosing};
 ghost use Rattle.logs.specs.laws.Heads.{isCounters, endsWithin};
 ghost use Rattle.logs.specs.code.Query.{logHeads, firstSeen, labelSeen, arraySeen, tornSeen, closingSeen};
 ghost use Rattle.logs.specs.declared.Found.the-variants.{Bad};
@@ -117,23 +117,6 @@ pub fn last_partial(
 {
     let query = Query::LastPartial(z, generation, low, high);
     ask_log(query, sectors, g, log, true, 0)
-}
-
-// Whether there is a whole partial parity entry of a zone and generation that ends past a pointer.
-pub fn has_partial_past(
-    sectors: &[u8],
-    g: Geometry,
-    log: Log,
-    z: usize,
-    generation: u64,
-    pointer: usize,
-) -> bool
-    requires { ⌜ Valid g ⌝ }
-    requires { ⌜ InLog g (log .drive) (log .zone) (log .written) (now sectors) ⌝ }
-    ensures { λ r. ⌜ r ≡ anyOf (endsPast g z generation pointer) (logHeads g (log .drive) true (log .zone) (log .written) (now (sectors .entry))) ⌝ }
-{
-    let q = tables::bounds::zone_sectors(g);
-    0 < last_partial(sectors, g, log, z, generation, pointer, q)
 }
 
 // Whether there is one that ends just at a pointer.

@@ -40,17 +40,18 @@ use Rattle.volume.specs.looking.HiddenLogs.{hiddenLogs, hidden-all-long}
 use Rattle.volume.specs.emptying.Carried.{on-drives-append, made-by-roles}
 use Rattle.volume.specs.emptying.RoomMoves.{hidden-least}
 use Rattle.volume.specs.emptying.ParityTurns.{ParitiesReady}
+use Rattle.volume.specs.checks.Records.{generationsShown, pointsShown}
 use Rattle.mounting.specs.MountLook.{shownWith}
 use Rattle.mounting.specs.MountValues.{shownAt, shownIn}
 use Rattle.mounting.specs.MountRestoring.{below-kept}
 use Rattle.mounting.specs.MountLastEntries.{Entering, entryDue, entryStoresBelow}
 use Rattle.mounting.specs.RestoreAgrees.{entries-told}
-use Rattle.mounting.specs.MountRooms.{lostAmong, generationsIn, pointersIn, Planned}
+use Rattle.mounting.specs.MountRooms.{lostAmong, Planned}
 use Rattle.mounting.specs.MountBetween.{middlePlaces, Between, Before}
 use Rattle.mounting.specs.MountOpened.{made-spent}
 use Rattle.mounting.specs.MountJoined.{with-flush-on, entry-phases, parity-joined, mount-joined}
 use Rattle.mounting.specs.MountEnds.{endPlaces, parityEmptyings, courseOf, ParityStepMade, EndsReady, EndsMade}
-use Rattle.mounting.specs.PlannedPlaces.{middleOf, middle-geometry, places-valid, middle-valid, middle-cells}
+use Rattle.mounting.specs.PlannedPlaces.{middleOf, middle-geometry, middle-valid, middle-cells}
 use Rattle.mounting.specs.ParityLogsMade.{role-read, endOf, end-proper, end-kinds, end-is, to-is, startsOf, parities-ready, parity-step-made}
 
 -- ---- the step's stores are on the drives of the geometry
@@ -202,9 +203,6 @@ module _ (p : Plan) (q : Course) (e : q ≡ courseOf p) (ws ss : List ℕ) (h : 
   from-code P x = subst (P (courseOf p)) starts-of (subst (λ (y : Course). P y ss) e x)
 
 module _ (g : Geometry) (ok : Valid g) (p : Plan) (ps : List ℕ) (u : Tables) (r : EndsReady g p ps u) where
-  pub valid-places : Valid (p .places .geometry)
-  valid-places = places-valid g ok (r .met) p (r .start) (r .planned)
-
   valid-middle : Valid (middlePlaces p .geometry)
   valid-middle = middle-valid g ok (r .met) p (r .start) (r .planned)
 
@@ -219,7 +217,7 @@ module _ (g : Geometry) (ok : Valid g) (p : Plan) (ps : List ℕ) (u : Tables) (
 
     module _ (ss : List ℕ) (h : ss ≡ hiddenLogs (q .middle) (u .written) (q .middle .geometry .drives)) where
       abbrev asked : Course → List ℕ → Type 0
-      asked x zs = Valid (x .parity .from) × ParitiesReady (x .parity) (generationsIn (p .look)) (pointersIn (p .look)) ps zs (u .sectors) (u .written) (u .durable)
+      asked x zs = Valid (x .parity .from) × ParitiesReady (x .parity) (generationsShown (p .look)) (pointsShown (p .look)) ps zs (u .sectors) (u .written) (u .durable)
 
       -- STEP 10
       pub ready-at : asked q ss

@@ -24,9 +24,10 @@ use Rattle.volume.specs.meaning.Rules.{Shown, ZoneShown, generalHeads}
 use Rattle.volume.specs.meaning.Calls.{appendGeneral, generationsFrom}
 use Rattle.volume.specs.meaning.Mount.{labelStep, resetEntryStep, zoneResetStep, counterStep, sealStep, nextGeneration, countersDiffer}
 use Rattle.volume.specs.laws.EachBelow.{each-below-cong}
-use Rattle.mounting.specs.MountLook.{zoneLook, shownBy, LookShows}
+use Rattle.mounting.specs.MountLook.{shownBy, LookShows}
 use Rattle.mounting.specs.MountTables.{seen-sectors}
 use Rattle.volume.specs.looking.Knowing.{readDevice}
+use Rattle.volume.specs.checks.Records.{zoneLook}
 
 generations-cong : (f h : ℕ → ℕ) (i n : ℕ) → ((k : ℕ) → i + k < i + n → f (i + k) ≡ h (i + k)) → generationsFrom f i n ≡ generationsFrom h i n
 generations-cong f h i zero e = refl

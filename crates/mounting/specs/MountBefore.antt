@@ -12,7 +12,7 @@ use Rattle.tables.specs.meaning.Basics.{pick}
 use Rattle.tables.specs.meaning.Below.{tabulate}
 use Rattle.tables.specs.meaning.Lists.{concat}
 use Rattle.tables.specs.laws.Lists.{concat-append}
-use Rattle.tables.specs.meaning.Geometry.{cells}
+use Rattle.tables.specs.meaning.Geometry.{cells, maxDrives}
 use Rattle.tables.specs.meaning.Device.{Device, Store}
 use Rattle.tables.specs.meaning.Tables.{Tables, tablesOf, deviceOf}
 use Rattle.tables.specs.laws.Made.{Made}
@@ -84,7 +84,7 @@ module _ (g : Geometry) (r : ℕ → Roles) (proper : (d : ℕ) → Proper (r d)
       let r′ = rolesAfter par (isSet emptied) r in
       let one : tabulate (λ d. eqb (r d .generalClaim) 0) (g .drives) ≡ tabulate (λ d. eqb (r′ d .generalClaim) 0) (g .drives) = tabulate-alike _ _ (λ d. claims-are d .0) (g .drives) in
       let two : tabulate (λ d. eqb (r d .parityClaim) 0) (g .drives) ≡ tabulate (λ d. eqb (r′ d .parityClaim) 0) (g .drives) = tabulate-alike _ _ (λ d. claims-are d .1) (g .drives) in
-      let build : Geometry → List Bool → List Bool → LogPlaces = λ h x y. record { geometry = h; «no_general» = x ++ replicate (8 - g .drives) false; «no_parity» = y ++ replicate (8 - g .drives) false } in
+      let build : Geometry → List Bool → List Bool → LogPlaces = λ h x y. record { geometry = h; «no_general» = x ++ replicate (maxDrives - g .drives) false; «no_parity» = y ++ replicate (maxDrives - g .drives) false } in
       ap₂ (λ (h : Geometry) (x : List Bool). build h x (tabulate (λ d. eqb (r d .parityClaim) 0) (g .drives))) (moved-by-roles g r proper par (isSet emptied)) one
       ∙ ap (build (withRoles g r′) (tabulate (λ d. eqb (r′ d .generalClaim) 0) (g .drives))) two
 

@@ -24,7 +24,8 @@ use Rattle.volume.specs.looking.Knowing.{readDevice}
 use Rattle.volume.specs.rows.KeptBelow.{Behind}
 use Rattle.volume.specs.emptying.Emptyings.{emptiedOn}
 use Rattle.volume.specs.emptying.ParityTurns.{parityCopiesOn}
-use Rattle.mounting.specs.MountRooms.{lostAmong, generationsIn, pointersIn, placesAfter, Planned}
+use Rattle.volume.specs.checks.Records.{generationsShown, pointsShown}
+use Rattle.mounting.specs.MountRooms.{lostAmong, placesAfter, Planned}
 use Rattle.mounting.specs.MountBetween.{middlePlaces, Between, Before}
 
 -- ---- where the logs lie after step 10 (before it: `middlePlaces`)
@@ -47,7 +48,7 @@ courseOf p = record {
 
 -- ---- step 10 with its flush, where the logs lie (ps: the look's pointers; ss: those of the moment)
 abbrev pub parityStores : Emptyings → Look → List ℕ → List ℕ → List ℕ → List Store
-parityStores a k ps ss xs = eachBelow (λ d. emptiedOn a true (parityCopiesOn a (generationsIn k) (pointersIn k) ps ss xs d) d) (a .from .drives)
+parityStores a k ps ss xs = eachBelow (λ d. emptiedOn a true (parityCopiesOn a (generationsShown k) (pointsShown k) ps ss xs d) d) (a .from .drives)
 
 -- (a flush follows the stores on present drives: these are)
 pub record ParityStepMade (a : Emptyings) (k : Look) (ps ss : List ℕ) (budget rest : ℕ) (t u : Tables) : Type 0 where

@@ -27,9 +27,10 @@ use Rattle.volume.specs.rows.RowStores.{present-all, rowsIf, rows-in}
 use Rattle.volume.specs.rows.KeptBelow.{StoresIn, each-in, on-present-in}
 use Rattle.volume.specs.looking.Knowing.{readDevice}
 use Rattle.volume.specs.laws.FillStores.{missing, fillZone, row-all, content-parity, content-data, parity-complete, parity-first, data-below}
+use Rattle.volume.specs.checks.Records.{zoneLook}
 use Rattle.mounting.specs.declared.Basis.{Basis}
 use Rattle.mounting.specs.declared.fill.Missing.{Missing}
-use Rattle.mounting.specs.MountLook.{zoneLook, stays, pointed-stays}
+use Rattle.mounting.specs.MountLook.{stays, pointed-stays}
 use Rattle.mounting.specs.MountRows.{KnownBelow, valuesOf, known-long, known-row-long}
 use Rattle.mounting.specs.MountValues.{shownAt, limitAt}
 use Rattle.mounting.specs.MountRestoring.{Filling}

@@ -19,7 +19,7 @@ use Rattle.tables.specs.laws.Below.{all-below-all, all-all-below, length-tabula
 use Rattle.tables.specs.laws.Lists.{numbers-same}
 use Rattle.tables.specs.meaning.LittleEndian.{sameBytes, readLE}
 use Rattle.tables.specs.laws.LittleEndian.{same-bytes-eq, same-bytes-refl}
-use Rattle.tables.specs.meaning.Geometry.{Valid}
+use Rattle.tables.specs.meaning.Geometry.{Valid, maxZones}
 use Rattle.tables.specs.meaning.Device.{Store}
 use Rattle.logs.specs.meaning.Entry.{generalZone, counters}
 use Rattle.logs.specs.meaning.Walk.{walkLog}
@@ -33,7 +33,8 @@ use Rattle.volume.specs.meaning.State.{isEmpty}
 use Rattle.volume.specs.meaning.Calls.{appendGeneral, generationsFrom}
 use Rattle.volume.specs.meaning.Mount.{nextGeneration, counterStep}
 use Rattle.volume.specs.rows.KeptBelow.{StoresIn, each-in}
-use Rattle.mounting.specs.MountLook.{zoneLook, shownBy, stays, log-stays}
+use Rattle.volume.specs.checks.Records.{zoneLook}
+use Rattle.mounting.specs.MountLook.{shownBy, stays, log-stays}
 
 -- ---- two lists of one length, compared number by number
 pub same-numbers : (xs ys : List ℕ) (n : ℕ) → length xs ≡ n → length ys ≡ n → sameBytes xs ys ≡ allBelow (λ z. eqb (getD xs z 0) (getD ys z 0)) n
@@ -79,7 +80,7 @@ generations-list f i (suc n) = front f i n (generations-list f (suc i) n)
         same p q (suc m) h = ap₂ (λ (l : List ℕ) (x : ℕ). l ++ (x ∷ [])) (same p q m h) (h m)
 
 abbrev pub filled : (ℕ → ℕ) → ℕ → List ℕ
-filled f n = tabulate f n ++ replicate (16 - n) 0
+filled f n = tabulate f n ++ replicate (maxZones - n) 0
 
 set-at-end : (xs : List ℕ) (n x : ℕ) → set (xs ++ replicate (suc n) 0) (length xs) x ≡ xs ++ (x ∷ []) ++ replicate n 0
 set-at-end [] n x = refl
@@ -87,12 +88,12 @@ set-at-end (y ∷ xs) n x = ap (λ (r : List ℕ). y ∷ r) (set-at-end xs n x)
 
 pub filled-more : (f : ℕ → ℕ) (d : ℕ) → d < 16 → set (filled f d) d (f d) ≡ filled f (suc d)
 filled-more f d h =
-    let e : 16 - d ≡ suc (16 - suc d) = omega arith in
+    let e : 16 - d ≡ suc (maxZones - suc d) = omega arith in
     let l : length (tabulate f d) ≡ d = length-tabulate f d in
-    rw e (ap (λ (i : ℕ). set (tabulate f d ++ replicate (suc (16 - suc d)) 0) i (f d)) (sym l) ∙ set-at-end (tabulate f d) (16 - suc d) (f d))
+    rw e (ap (λ (i : ℕ). set (tabulate f d ++ replicate (suc (maxZones - suc d)) 0) i (f d)) (sym l) ∙ set-at-end (tabulate f d) (maxZones - suc d) (f d))
 
 pub filled-take : (f : ℕ → ℕ) (n : ℕ) → take n (filled f n) ≡ generationsFrom f zero n
-filled-take f n = take-at (tabulate f n) (replicate (16 - n) 0) n (length-tabulate f n) ∙ shown ∙ sym (generations-list f zero n)
+filled-take f n = take-at (tabulate f n) (replicate (maxZones - n) 0) n (length-tabulate f n) ∙ shown ∙ sym (generations-list f zero n)
   where
     shown : tabulate f n ≡ tabulate (λ k. f (zero + k)) n
     shown = same f (λ k. f (zero + k)) n (λ k. let e : zero + k ≡ k = omega arith in rw e refl)
@@ -138,4 +139,4 @@ module _ (g : Geometry) (d e : ℕ) (ss ts : List (List ℕ)) (some : 1 ≤ g .z
       ∙ sym (same-numbers (lastCounters [] (headsOf (walkLog g d false ss))) (lastCounters [] (headsOf (walkLog g e false ts))) (g .zones) (counters-long g d ss (omega arith)) (counters-long g e ts (omega arith)))
 
 pub filled-long : (f : ℕ → ℕ) (n : ℕ) → n ≤ length (filled f n)
-filled-long f n = rw (length-append (tabulate f n) (replicate (16 - n) 0), length-tabulate f n) (omega arith)
+filled-long f n = rw (length-append (tabulate f n) (replicate (maxZones - n) 0), length-tabulate f n) (omega arith)

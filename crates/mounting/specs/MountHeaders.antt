@@ -33,8 +33,9 @@ use Rattle.volume.specs.meaning.Calls.{appendGeneral, logsReset}
 use Rattle.volume.specs.meaning.Mount.{labelStep, resetEntryStep, sealStep}
 use Rattle.volume.specs.rows.KeptBelow.{StoresIn, each-in, on-present-in, pick-in, Behind, made-keeps, kept-device}
 use Rattle.mounting.specs.MountTables.{seen-sectors}
-use Rattle.mounting.specs.MountLook.{zoneLook, shownBy, LookWithin, stays, log-stays}
+use Rattle.mounting.specs.MountLook.{shownBy, LookWithin, stays, log-stays}
 use Rattle.volume.specs.looking.Knowing.{readDevice}
+use Rattle.volume.specs.checks.Records.{zoneLook}
 
 -- the general log of a drive, as the look found it
 pub seen-heads : (g : Geometry) (xs ps : List ℕ) (d : ℕ) → d < g .drives → generalHeads g (readDevice g xs ps) d ≡ headsOf (walkLog g d false (logSectors g d generalZone xs (min (getD ps (cell g d generalZone) 0) (g .capacity))))

@@ -36,11 +36,12 @@ use Rattle.volume.specs.laws.LogPlaces.{withLogs}
 use Rattle.volume.specs.rows.SameShape.{SameShape, shape-refl, by-shape, shape-valid, shape-cells, shape-bytes}
 use Rattle.volume.specs.rows.KeptBelow.{StoresIn, each-in, pick-in, Behind, stores-in-same, stored-keeps}
 use Rattle.mounting.specs.MountTables.{seen-sectors}
-use Rattle.mounting.specs.MountLook.{zoneLook, LookWithin}
+use Rattle.mounting.specs.MountLook.{LookWithin}
 use Rattle.mounting.specs.MountValues.{shownAt, limitAt}
 use Rattle.mounting.specs.MountRows.{known-row-long, KnownBelow}
 use Rattle.mounting.specs.MountReady.{Appending, appending-kept}
 use Rattle.volume.specs.looking.Knowing.{readDevice}
+use Rattle.volume.specs.checks.Records.{zoneLook}
 
 -- the zones to which the step stores
 abbrev pub onParity : ℕ → Bool

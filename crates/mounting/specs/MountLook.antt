@@ -7,22 +7,14 @@ use native.Mathlib.Omega.{arith}
 use borrow.Author.Tests.{lt-ltb, le-ltb, ne-eqb}
 use lib.Dec.{ltb, eqb}
 use mathlib.Core.List.{List, []}
-use lib.ListN.{getD}
 use Rattle.tables.specs.declared.Geometry.{Geometry}
 use Rattle.tables.specs.meaning.Geometry.{zoneSectors, dataZone}
-use Rattle.volume.specs.declared.Condition.the-variants.{Empty}
 use Rattle.volume.specs.declared.ZoneLook.{ZoneLook}
 use Rattle.volume.specs.declared.Look.{Look}
 use Rattle.volume.specs.meaning.State.{isEmpty, isWorn}
 use Rattle.volume.specs.meaning.Rules.{Shown, ZoneShown}
 use Rattle.volume.specs.meaning.Mount.{needsReset}
-
--- past its end the array of zones is blank
-abbrev pub blankLook : ZoneLook
-blankLook = record { generation = 0; condition = Empty; pointer = 0; «by_reset» = false; clean = false }
-
-abbrev pub zoneLook : Look → ℕ → ZoneLook
-zoneLook k z = getD (k .zones) z blankLook
+use Rattle.volume.specs.checks.Records.{zoneLook}
 
 -- a look with values is what is shown
 abbrev pub zoneWith : ZoneLook → (ℕ → List ℕ) → ZoneShown

@@ -12,7 +12,7 @@ use Rattle.tables.specs.declared.Geometry.{Geometry}
 use Rattle.tables.specs.meaning.Below.{anyBelow, countBelow}
 use Rattle.tables.specs.laws.Below.{any-below-false}
 use Rattle.tables.specs.meaning.Drives.{findBelow}
-use Rattle.tables.specs.meaning.Geometry.{Valid, physicalZones, zoneSectors}
+use Rattle.tables.specs.meaning.Geometry.{Valid, physicalZones, zoneSectors, maxDrives}
 use Rattle.tables.specs.meaning.Device.{Device}
 use Rattle.tables.specs.meaning.Tables.{Tables, tablesOf, cell, deviceOf}
 use Rattle.tables.specs.laws.TablesFrame.{pointers-good}
@@ -25,13 +25,13 @@ use Rattle.volume.specs.declared.log_room.DriveRoom.{DriveRoom}
 use Rattle.volume.specs.meaning.CallContracts.{isSet, verdictNumber, rolesOf, seenIn}
 use Rattle.volume.specs.meaning.Rules.{Shown, showing, generalHeads}
 use Rattle.volume.specs.meaning.Refusals.{firstRefusal, kindLacks, badLabels, badLogs, mountFull}
-use Rattle.volume.specs.meaning.Roles.{Roles, roles, claimOfKind, lacksKind}
+use Rattle.volume.specs.meaning.Roles.{Roles, claimOfKind, lacksKind}
 use Rattle.volume.specs.meaning.Emptying.{byLook, reserve, mountGeneralLimit, lacksRoom, emptiedFor, staysFull, newGeneralSize, newParitySize}
 use Rattle.volume.specs.meaning.Mount.{countersDiffer}
 use Rattle.volume.specs.laws.RulesUnread.{showing-alike}
 use Rattle.volume.specs.laws.CallsUnread.{bad-labels-alike, counters-differ-alike}
 use Rattle.volume.specs.laws.MountPlaced.{present-is-named}
-use Rattle.volume.specs.looking.DrivesLost.{fill-past}
+use Rattle.volume.specs.laws.FilledArrays.{fill-past}
 use Rattle.volume.specs.looking.HiddenLogs.{placesOf, roles-durable}
 use Rattle.volume.specs.looking.Knowing.{readDevice}
 use Rattle.volume.specs.looking.SeenByRoles.{Seen, kindLacksOn, seen-geometry, seen-zone, seen-read, seen-lacks}
@@ -42,9 +42,9 @@ use Rattle.volume.specs.emptying.ParityCopies.{byPointers, PointersWithin}
 use Rattle.volume.specs.storing.ResetZone.{size-seen}
 use Rattle.volume.specs.writing.WriteZone.{size-agree}
 use Rattle.mounting.specs.LookAgrees.{differ-same, seen-same}
-use Rattle.mounting.specs.MountLook.{zoneLook}
+use Rattle.volume.specs.checks.Records.{zoneLook, generationsShown, pointsShown, generations-shown-at, points-shown-long, points-shown-at}
 use Rattle.mounting.specs.MountStart.{look-of-zone, look-within}
-use Rattle.mounting.specs.MountRooms.{generationsIn, pointersIn, generation-in, pointer-in, lostAmong, Rooms, Planned}
+use Rattle.mounting.specs.MountRooms.{lostAmong, Rooms, Planned}
 use Rattle.mounting.specs.MountPlan.{Passed, Planning, PlanMade}
 
 -- ---- as the code goes
@@ -60,19 +60,19 @@ planBy g v xs ws ps = record {
   here = v .here;
   look = lookBy v xs ps;
   differ = countersDiffer (v .places .geometry) (isSet (v .here)) (readDevice (v .places .geometry) xs ps);
-  general = roomOf (generalRoomAt (mountAsked g v false (mountGeneralLimit g)) (generationsIn (lookBy v xs ps)) xs ws ps) (g .drives);
-  parity = roomOf (parityRoomAt (mountAsked g v true (reserve g)) (pointersIn (lookBy v xs ps)) xs ws ps) (g .drives);
+  general = roomOf (generalRoomAt (mountAsked g v false (mountGeneralLimit g)) (generationsShown (lookBy v xs ps)) xs ws ps) (g .drives);
+  parity = roomOf (parityRoomAt (mountAsked g v true (reserve g)) (pointsShown (lookBy v xs ps)) xs ws ps) (g .drives);
 }
 
 -- its pointers are within their zones
-pub points-of-look : (g : Geometry) (v : Survey) (xs ws ps : List ℕ) → Valid g → SeenByRoles g (v .places) xs ws ps → PointersWithin g (pointersIn (lookBy v xs ps))
-points-of-look g v xs ws ps ok k = record { long = ok .zones-most; most = within }
+pub points-of-look : (g : Geometry) (v : Survey) (xs ws ps : List ℕ) → Valid g → SeenByRoles g (v .places) xs ws ps → PointersWithin g (pointsShown (lookBy v xs ps))
+points-of-look g v xs ws ps ok k = record { long = rw (points-shown-long (lookBy v xs ps)) (ok .zones-most); most = within }
   where
-    within : (z : ℕ) → z < g .zones → getD (pointersIn (lookBy v xs ps)) z 0 ≤ zoneSectors g
+    within : (z : ℕ) → z < g .zones → getD (pointsShown (lookBy v xs ps)) z 0 ≤ zoneSectors g
     within z hz =
         let same = seen-zone g xs ws (v .places) ps (record { first = k .logs-first; sized = k .sized; places = k .places-are; hidden = k .hidden }) in
         let most = look-within (v .places .geometry) (placed-valid g (v .places) xs ws ps k ok) (v .here) xs ps .pointer-most z (subst (λ (n : ℕ). z < n) (sym (placed-zones g (v .places) xs ws ps k)) hz) in
-        subst (λ (n : ℕ). n ≤ zoneSectors g) (sym (pointer-in (lookBy v xs ps) z (omega (arith, hz, ok .zones-most)))) (subst (λ (n : ℕ). zoneLook (lookBy v xs ps) z .pointer ≤ n) same most)
+        subst (λ (n : ℕ). n ≤ zoneSectors g) (sym (points-shown-at (lookBy v xs ps) z (omega (arith, hz, ok .zones-most)))) (subst (λ (n : ℕ). zoneLook (lookBy v xs ps) z .pointer ≤ n) same most)
 
 -- ---- what passing refusals 4 to 6 gives
 rows-none : (two kind labels logs : Bool) → verdictNumber (firstRefusal ((4, two) ∷ (5, kind || labels) ∷ (6, logs) ∷ [])) ≡ 0 → (kind ≡ false) × (labels ≡ false)
@@ -163,11 +163,11 @@ module _ (g : Geometry) (named : List Bool) (xs ws ds : List ℕ) (v : Survey) (
   differ-is = sym (seen-read g xs ws (v .places) ps seen (λ (k : Geometry) (x : Device). countersDiffer k here x) (λ n x. counters-differ-alike g n here x) ds
       (differ-same h (deviceOf h (tablesOf xs ps ds)) (readDevice h xs ps) (λ d z. sym (seen-same h xs ps ds d z)) here))
 
-  generations : (z : ℕ) → z < g .zones → getD (generationsIn (lookBy v xs ps)) z 0 ≡ byLook shown .generation z
-  generations z hz = generation-in (lookBy v xs ps) z (omega (arith, hz, ok .zones-most)) ∙ ap (λ (k : Look). zoneLook k z .generation) look-is ∙ ap (λ (l : ZoneLook). l .generation) (look-of-zone g shown z hz)
+  generations : (z : ℕ) → z < g .zones → getD (generationsShown (lookBy v xs ps)) z 0 ≡ byLook shown .generation z
+  generations z hz = generations-shown-at (lookBy v xs ps) z (omega (arith, hz, ok .zones-most)) ∙ ap (λ (k : Look). zoneLook k z .generation) look-is ∙ ap (λ (l : ZoneLook). l .generation) (look-of-zone g shown z hz)
 
-  pointers : (z : ℕ) → z < g .zones → getD (pointersIn (lookBy v xs ps)) z 0 ≡ byLook shown .pointer z
-  pointers z hz = pointer-in (lookBy v xs ps) z (omega (arith, hz, ok .zones-most)) ∙ ap (λ (k : Look). zoneLook k z .pointer) look-is ∙ ap (λ (l : ZoneLook). l .pointer) (look-of-zone g shown z hz)
+  pointers : (z : ℕ) → z < g .zones → getD (pointsShown (lookBy v xs ps)) z 0 ≡ byLook shown .pointer z
+  pointers z hz = points-shown-at (lookBy v xs ps) z (omega (arith, hz, ok .zones-most)) ∙ ap (λ (k : Look). zoneLook k z .pointer) look-is ∙ ap (λ (l : ZoneLook). l .pointer) (look-of-zone g shown z hz)
 
   -- ---- the room of the logs
   abbrev generalSize : ℕ → ℕ
@@ -180,19 +180,19 @@ module _ (g : Geometry) (named : List Bool) (xs ws ds : List ℕ) (v : Survey) (
   stays par limit size d = staysFull g par r limit (size d) d
 
   general-room : (d : ℕ) → d < g .drives
-      → generalRoomAt (mountAsked g v false (mountGeneralLimit g)) (generationsIn (lookBy v xs ps)) xs ws ps d ≡ driveRoomOf (emptiedFor g here false r w (mountGeneralLimit g) d) (stays false (mountGeneralLimit g) generalSize d) (claimOfKind false (r d))
+      → generalRoomAt (mountAsked g v false (mountGeneralLimit g)) (generationsShown (lookBy v xs ps)) xs ws ps d ≡ driveRoomOf (emptiedFor g here false r w (mountGeneralLimit g) d) (stays false (mountGeneralLimit g) generalSize d) (claimOfKind false (r d))
   unfolding generalRoomAt
   general-room d hd =
-      room-is (mountAsked g v false (mountGeneralLimit g)) xs ws ps by-roles ds d hd (newGeneralSize h (byGenerations (generationsIn (lookBy v xs ps))) (generalHeads h (readDevice h xs ps) d))
-      ∙ ap (λ (n : ℕ). driveRoomOf (emptiedFor g here false r w (mountGeneralLimit g) d) (staysFull g false r (mountGeneralLimit g) n d || false) (claimOfKind false (r d))) (size-seen g (v .places) xs ws ps by-roles ds (generationsIn (lookBy v xs ps)) (byLook shown) generations d)
+      room-is (mountAsked g v false (mountGeneralLimit g)) xs ws ps by-roles ds d hd (newGeneralSize h (byGenerations (generationsShown (lookBy v xs ps))) (generalHeads h (readDevice h xs ps) d))
+      ∙ ap (λ (n : ℕ). driveRoomOf (emptiedFor g here false r w (mountGeneralLimit g) d) (staysFull g false r (mountGeneralLimit g) n d || false) (claimOfKind false (r d))) (size-seen g (v .places) xs ws ps by-roles ds (generationsShown (lookBy v xs ps)) (byLook shown) generations d)
       ∙ ap (λ (b : Bool). driveRoomOf (emptiedFor g here false r w (mountGeneralLimit g) d) b (claimOfKind false (r d))) (or-false (stays false (mountGeneralLimit g) generalSize d))
 
   parity-room : (d : ℕ) → d < g .drives
-      → parityRoomAt (mountAsked g v true (reserve g)) (pointersIn (lookBy v xs ps)) xs ws ps d ≡ driveRoomOf (emptiedFor g here true r w (reserve g) d) (stays true (reserve g) paritySize d) (claimOfKind true (r d))
+      → parityRoomAt (mountAsked g v true (reserve g)) (pointsShown (lookBy v xs ps)) xs ws ps d ≡ driveRoomOf (emptiedFor g here true r w (reserve g) d) (stays true (reserve g) paritySize d) (claimOfKind true (r d))
   unfolding parityRoomAt
   parity-room d hd =
-      room-is (mountAsked g v true (reserve g)) xs ws ps by-roles ds d hd (newParitySize g (byPointers (pointersIn (lookBy v xs ps))) d)
-      ∙ ap (λ (n : ℕ). driveRoomOf (emptiedFor g here true r w (reserve g) d) (staysFull g true r (reserve g) n d || false) (claimOfKind true (r d))) (size-agree g (byPointers (pointersIn (lookBy v xs ps))) (byLook shown) d pointers)
+      room-is (mountAsked g v true (reserve g)) xs ws ps by-roles ds d hd (newParitySize g (byPointers (pointsShown (lookBy v xs ps))) d)
+      ∙ ap (λ (n : ℕ). driveRoomOf (emptiedFor g here true r w (reserve g) d) (staysFull g true r (reserve g) n d || false) (claimOfKind true (r d))) (size-agree g (byPointers (pointsShown (lookBy v xs ps))) (byLook shown) d pointers)
       ∙ ap (λ (b : Bool). driveRoomOf (emptiedFor g here true r w (reserve g) d) b (claimOfKind true (r d))) (or-false (stays true (reserve g) paritySize d))
 
   -- of a kind whose answers are those of the rules
@@ -215,7 +215,7 @@ module _ (g : Geometry) (named : List Bool) (xs ws ds : List ℕ) (v : Survey) (
 
       at : (d : ℕ) → Dec (d < g .drives) → isSet (roomOf f (g .drives) .emptied) d ≡ emptiedFor g here par r w limit d
       at d (yes hd) = rooms-emptied f (g .drives) (emptiedFor g here par r w limit) (stays par limit size) (λ i. claimOfKind par (r i)) are d hd
-      at d (no n) = fill-past (λ e. f e .lacks) false (g .drives) (8 - g .drives) d (omega arith) ∙ sym (absent d (omega arith) (here d) refl)
+      at d (no n) = fill-past (λ e. f e .lacks) false (g .drives) (maxDrives - g .drives) d (omega arith) ∙ sym (absent d (omega arith) (here d) refl)
 
       same : isSet (roomOf f (g .drives) .emptied) ≡ emptiedFor g here par r w limit
       same = fun-ext λ d. at d (decLt d (g .drives))
@@ -225,15 +225,15 @@ module _ (g : Geometry) (named : List Bool) (xs ws ds : List ℕ) (v : Survey) (
         where
           go : Dec (d < g .drives) → d < g .drives
           go (yes hd) = hd
-          go (no n) = absurd (true≢false (sym e ∙ fill-past (λ i. f i .lacks) false (g .drives) (8 - g .drives) d (omega arith)))
+          go (no n) = absurd (true≢false (sym e ∙ fill-past (λ i. f i .lacks) false (g .drives) (maxDrives - g .drives) d (omega arith)))
 
   -- ---- refusal 14
   full-is : planBy g v xs ws ps .general .full || planBy g v xs ws ps .parity .full ≡ mountFull g here r (byLook shown) w
   unfolding mountFull
   full-is =
       ap₂ (λ (a b : Bool). a || b)
-      (rooms-full (generalRoomAt (mountAsked g v false (mountGeneralLimit g)) (generationsIn (lookBy v xs ps)) xs ws ps) (g .drives) (emptiedFor g here false r w (mountGeneralLimit g)) (stays false (mountGeneralLimit g) generalSize) (λ d. claimOfKind false (r d)) general-room)
-      (rooms-full (parityRoomAt (mountAsked g v true (reserve g)) (pointersIn (lookBy v xs ps)) xs ws ps) (g .drives) (emptiedFor g here true r w (reserve g)) (stays true (reserve g) paritySize) (λ d. claimOfKind true (r d)) parity-room)
+      (rooms-full (generalRoomAt (mountAsked g v false (mountGeneralLimit g)) (generationsShown (lookBy v xs ps)) xs ws ps) (g .drives) (emptiedFor g here false r w (mountGeneralLimit g)) (stays false (mountGeneralLimit g) generalSize) (λ d. claimOfKind false (r d)) general-room)
+      (rooms-full (parityRoomAt (mountAsked g v true (reserve g)) (pointsShown (lookBy v xs ps)) xs ws ps) (g .drives) (emptiedFor g here true r w (reserve g)) (stays true (reserve g) paritySize) (λ d. claimOfKind true (r d)) parity-room)
       ∙ any-either (λ d. emptiedFor g here false r w (mountGeneralLimit g) d && stays false (mountGeneralLimit g) generalSize d) (λ d. emptiedFor g here true r w (reserve g) d && stays true (reserve g) paritySize d) (g .drives)
 
   planned : planBy g v xs ws ps .general .full || planBy g v xs ws ps .parity .full ≡ false → Planned g t (planBy g v xs ws ps) ps
@@ -251,8 +251,8 @@ module _ (g : Geometry) (named : List Bool) (xs ws ds : List ℕ) (v : Survey) (
         labelled = labels-good;
         look = look-is;
         differ = differ-is;
-        general = rooms-are false (mountGeneralLimit g) generalSize (generalRoomAt (mountAsked g v false (mountGeneralLimit g)) (generationsIn (lookBy v xs ps)) xs ws ps) general-room a;
-        parity = rooms-are true (reserve g) paritySize (parityRoomAt (mountAsked g v true (reserve g)) (pointersIn (lookBy v xs ps)) xs ws ps) parity-room b;
+        general = rooms-are false (mountGeneralLimit g) generalSize (generalRoomAt (mountAsked g v false (mountGeneralLimit g)) (generationsShown (lookBy v xs ps)) xs ws ps) general-room a;
+        parity = rooms-are true (reserve g) paritySize (parityRoomAt (mountAsked g v true (reserve g)) (pointsShown (lookBy v xs ps)) xs ws ps) parity-room b;
       }
 
   planning : Planning g t v (planBy g v xs ws ps) ps

@@ -21,7 +21,8 @@ use Rattle.volume.specs.looking.Knowing.{readDevice}
 use Rattle.volume.specs.rows.SameShape.{SameShape, shape-refl}
 use Rattle.volume.specs.rows.KeptBelow.{StoresIn, Behind, stored-keeps}
 use Rattle.volume.specs.rows.RowsInPlace.{contentOf, row-of-known, RowsReady, ready-kept}
-use Rattle.mounting.specs.MountLook.{zoneLook, LookWithin, stays}
+use Rattle.volume.specs.checks.Records.{zoneLook}
+use Rattle.mounting.specs.MountLook.{LookWithin, stays}
 use Rattle.mounting.specs.MountRows.{KnownBelow, valuesOf, known-kept, known-lower}
 use Rattle.mounting.specs.MountValues.{limitAt}
 use Rattle.mounting.specs.MountRestoring.{below-kept, Filling}

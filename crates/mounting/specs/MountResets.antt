@@ -13,7 +13,8 @@ use Rattle.tables.specs.laws.Made.{storeIf}
 use Rattle.volume.specs.declared.Look.{Look}
 use Rattle.volume.specs.meaning.Mount.{zoneResetStep}
 use Rattle.volume.specs.rows.KeptBelow.{StoresIn, each-in, pick-in}
-use Rattle.mounting.specs.MountLook.{zoneLook, shownBy, resetNeeded, stays, data-stays}
+use Rattle.volume.specs.checks.Records.{zoneLook}
+use Rattle.mounting.specs.MountLook.{shownBy, resetNeeded, stays, data-stays}
 use Rattle.tables.specs.meaning.Geometry.{dataZone}
 
 -- the resets of drive d's zones below n

@@ -12,11 +12,12 @@ use Rattle.tables.specs.meaning.Tables.{Tables, tablesOf}
 use Rattle.tables.specs.laws.Made.{Made, MadeAppends}
 use Rattle.volume.specs.declared.Look.{Look}
 use Rattle.volume.specs.rows.KeptBelow.{StoresIn, made-keeps, kept-device}
-use Rattle.mounting.specs.MountLook.{zoneLook, stays}
+use Rattle.mounting.specs.MountLook.{stays}
 use Rattle.mounting.specs.MountHeaders.{Logging}
 use Rattle.mounting.specs.MountRows.{KnownBelow, known-kept}
 use Rattle.mounting.specs.MountValues.{limitAt, Restoring}
 use Rattle.volume.specs.looking.Knowing.{readDevice}
+use Rattle.volume.specs.checks.Records.{zoneLook}
 
 -- what is known stays known where the device of the look is the same
 pub below-kept : (g : Geometry) (here : List Bool) (k : Look) (ps xs ys : List ℕ) (z : ℕ) → length ys ≡ totalBytes g → readDevice g ys ps ≡ readDevice g xs ps

@@ -1,13 +1,13 @@
 -- The room of the logs in a mount (src/rooms.rt): what its steps 1, 2 and 10 go by.
 use mathlib.Core.Path.{_≡_, refl}
 use mathlib.Core.Bool.{Bool, true, false, not}
-use Prim.Native.Nat.{ℕ, _-_, _<_, _≤_}
-use mathlib.Core.List.{List, [], _∷_, _++_}
-use lib.ListN.{length, getD, replicate}
+use Prim.Native.Nat.{ℕ, _<_, _≤_}
+use mathlib.Core.List.{List, [], _∷_}
+use lib.ListN.{length, getD}
 use lib.Dec.{ltb}
 use Rattle.tables.specs.declared.Geometry.{Geometry}
 use Rattle.tables.specs.meaning.Basics.{pick}
-use Rattle.tables.specs.meaning.Below.{eachBelow, tabulate}
+use Rattle.tables.specs.meaning.Below.{eachBelow}
 use Rattle.tables.specs.meaning.Drives.{findBelow}
 use Rattle.tables.specs.meaning.Geometry.{physicalZones}
 use Rattle.tables.specs.meaning.Device.{Device, Store, reset}
@@ -15,7 +15,6 @@ use Rattle.tables.specs.meaning.Phases.{onPresent}
 use Rattle.tables.specs.meaning.Tables.{Tables, cell}
 use Rattle.tables.specs.laws.Made.{WellSized, MadePointers}
 use Rattle.logs.specs.meaning.Entry.{spareZone}
-use Rattle.volume.specs.declared.Look.{Look}
 use Rattle.volume.specs.declared.roles.LogPlaces.{LogPlaces}
 use Rattle.volume.specs.declared.log_room.LogRoom.{LogRoom}
 use Rattle.mounting.specs.declared.rooms.Plan.{Plan}
@@ -28,12 +27,10 @@ use Rattle.volume.specs.meaning.Emptying.{byLook, reserve, mountGeneralLimit, e
 use Rattle.volume.specs.meaning.Mount.{spareStep, countersDiffer}
 use Rattle.volume.specs.laws.LogPlaces.{withLogs}
 use Rattle.volume.specs.looking.DriveLogs.{zonePointer}
-use Rattle.volume.specs.looking.DrivesLost.{fill-at}
 use Rattle.volume.specs.looking.HiddenLogs.{placesOf, hiddenLogs}
 use Rattle.volume.specs.looking.MovedLogs.{movedLogs}
 use Rattle.volume.specs.looking.Looking.{lookOf}
 use Rattle.volume.specs.laws.EachBelow.{each-below-cong}
-use Rattle.mounting.specs.MountLook.{zoneLook}
 use Rattle.mounting.specs.MountTables.{FlushedAfter}
 
 -- the reset of drive d's spare, if it has sectors below the pointers ps
@@ -55,19 +52,6 @@ pub record SparesCleared (g from : Geometry) (here : List Bool) (budget rest : �
 pub spare-resets : (g : Geometry) (ps : List ℕ) (w : Device) → ((d : ℕ) → d < g .drives → zonePointer g ps d spareZone ≡ length (w d spareZone .sectors)) → eachBelow (spareReset g ps) (g .drives) ≡ spareStep g w
 unfolding spareStep
 spare-resets g ps w e = each-below-cong _ _ (g .drives) (λ d h. rw (e d h) refl)
-
--- ---- generations and pointers of a look, as arrays
-abbrev pub generationsIn : Look → List ℕ
-generationsIn k = tabulate (λ z. zoneLook k z .generation) 16 ++ replicate (16 - 16) 0
-
-abbrev pub pointersIn : Look → List ℕ
-pointersIn k = tabulate (λ z. zoneLook k z .pointer) 16 ++ replicate (16 - 16) 0
-
-pub generation-in : (k : Look) (z : ℕ) → z < 16 → getD (generationsIn k) z 0 ≡ zoneLook k z .generation
-generation-in k z h = fill-at (λ y. zoneLook k y .generation) 0 0 16 (16 - 16) z h
-
-pub pointer-in : (k : Look) (z : ℕ) → z < 16 → getD (pointersIn k) z 0 ≡ zoneLook k z .pointer
-pointer-in k z h = fill-at (λ y. zoneLook k y .pointer) 0 0 16 (16 - 16) z h
 
 -- ---- the places of the logs after those of a kind were emptied
 abbrev pub placesAfter : LogPlaces → Bool → List Bool → LogPlaces

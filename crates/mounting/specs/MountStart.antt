@@ -9,7 +9,7 @@ use lib.ListN.{length}
 use Rattle.tables.specs.declared.Geometry.{Geometry}
 use Rattle.tables.specs.meaning.Drives.{findBelow, noDrive}
 use Rattle.tables.specs.laws.Drives.{find-below-is}
-use Rattle.tables.specs.meaning.Geometry.{Valid, cells}
+use Rattle.tables.specs.meaning.Geometry.{Valid, cells, maxZones}
 use Rattle.tables.specs.meaning.Tables.{tablesOf}
 use Rattle.logs.specs.meaning.Entry.{wornGeneration}
 use Rattle.volume.specs.declared.ZoneLook.{ZoneLook}
@@ -17,13 +17,14 @@ use Rattle.volume.specs.meaning.State.{isEmpty}
 use Rattle.volume.specs.meaning.Rules.{Shown, resetSeen, pointerAt, generationOf, cleanAt, sealSeen, zoneAt, zoneShown, showing}
 use Rattle.volume.specs.meaning.CallContracts.{isSet, zoneLookOf}
 use Rattle.volume.specs.looking.Knowing.{readDevice}
-use Rattle.volume.specs.looking.DrivesLost.{fill-at}
+use Rattle.volume.specs.laws.FilledArrays.{fill-at}
 use Rattle.volume.specs.looking.ZoneLooking.{pointer-reset}
 use Rattle.volume.specs.looking.Looking.{looksFrom, lookOf, Lookable, lookable-zone}
 use Rattle.volume.specs.laws.GenerationRange.{generation-range, empty-fresh, worn-top}
 use Rattle.volume.specs.rows.KeptBelow.{Behind}
 use Rattle.volume.specs.laws.LookPointers.{pointer-within, below-known}
-use Rattle.mounting.specs.MountLook.{blankLook, zoneLook, zoneWith, LookShows, LookWithin, stays}
+use Rattle.volume.specs.checks.Records.{blankLook, zoneLook}
+use Rattle.mounting.specs.MountLook.{zoneWith, LookShows, LookWithin, stays}
 use Rattle.mounting.specs.MountRows.{valuesOf}
 use Rattle.mounting.specs.MountValues.{shownAt, Restoring}
 
@@ -38,7 +39,7 @@ lost-small p n h = go (find-below-is p n)
 module _ (g : Geometry) (s : Shown) where
   pub look-of-zone : (z : ℕ) → z < g .zones → zoneLook (lookOf g s) z ≡ zoneLookOf (s .zone z)
   unfolding looksFrom
-  look-of-zone z h = fill-at (λ y. zoneLookOf (s .zone y)) blankLook blankLook (g .zones) (16 - g .zones) z h
+  look-of-zone z h = fill-at (λ y. zoneLookOf (s .zone y)) blankLook blankLook (g .zones) (maxZones - g .zones) z h
 
   pub look-tells : LookShows g (lookOf g s) s
   look-tells = record { lost-is = refl; array-is = refl; zone-is = λ z h. ap (λ (l : ZoneLook). zoneWith l (s .zone z .value)) (look-of-zone z h) }

@@ -36,12 +36,13 @@ use Rattle.volume.specs.meaning.Mount.{rowFor, missingRows, tornRowStep}
 use Rattle.volume.specs.rows.RowStores.{present-all, rowsIf, rows-in}
 use Rattle.volume.specs.rows.KeptBelow.{StoresIn, each-in}
 use Rattle.mounting.specs.MountTables.{seen-sectors}
-use Rattle.mounting.specs.MountLook.{zoneLook, stays, log-stays}
+use Rattle.mounting.specs.MountLook.{stays, log-stays}
 use Rattle.mounting.specs.MountRows.{known-lower, known-row-long}
 use Rattle.mounting.specs.MountValues.{shownAt, limitAt}
 use Rattle.mounting.specs.MountRestoring.{Filling}
 use Rattle.logs.specs.code.Judge as judge
 use Rattle.volume.specs.looking.Knowing.{readDevice}
+use Rattle.volume.specs.checks.Records.{zoneLook}
 
 -- ---- the rows missing, by what the code has found: the torn entry's header, and how many of its rows are there
 abbrev pub missingSeen : Geometry → Shown → Found → ℕ → List (List ℕ)

@@ -14,7 +14,8 @@ use Rattle.volume.specs.declared.Look.{Look}
 use Rattle.volume.specs.meaning.CallContracts.{isSet}
 use Rattle.volume.specs.meaning.Rules.{Shown, sealLimit, valueAt}
 use Rattle.volume.specs.looking.Knowing.{readDevice}
-use Rattle.mounting.specs.MountLook.{zoneLook, shownWith}
+use Rattle.volume.specs.checks.Records.{zoneLook}
+use Rattle.mounting.specs.MountLook.{shownWith}
 use Rattle.mounting.specs.MountRows.{KnownBelow}
 use Rattle.mounting.specs.MountHeaders.{Logging}
 

@@ -45,9 +45,9 @@ use Rattle.volume.specs.looking.MovedLogs.{movedLogs, moved-by-roles}
 use Rattle.volume.specs.emptying.Carried.{new-place}
 use Rattle.volume.specs.emptying.Emptyings.{EmptyingReady, emptiedOn, newGeneralOn}
 use Rattle.volume.specs.emptying.RoomMoves.{hidden-least}
-use Rattle.mounting.specs.MountRooms.{spareReset, spare-resets, generationsIn, generation-in, lostAmong, Planned}
+use Rattle.mounting.specs.MountRooms.{spareReset, spare-resets, lostAmong, Planned}
 use Rattle.mounting.specs.MountStart.{look-of-zone}
-use Rattle.mounting.specs.MountLook.{zoneLook}
+use Rattle.volume.specs.checks.Records.{generationsShown, generations-shown-at, zoneLook}
 use Rattle.mounting.specs.MountTables.{FlushedAfter}
 use Rattle.mounting.specs.MountOpening.{emptyings-present}
 use Rattle.mounting.specs.MountBefore.{middle-read}
@@ -55,9 +55,6 @@ use Rattle.mounting.specs.MountOpened.{spares-made, general-made, openin
 use Rattle.mounting.specs.MountSpares.{stage, stage-seen}
 use Rattle.mounting.specs.MountEmptied.{made-device}
 use Rattle.mounting.specs.PlannedPlaces.{general-here, planned-long, places-are, places-valid}
-
-pub generations-long : (k : Look) → length (generationsIn k) ≡ 16
-generations-long k = refl
 
 -- a general log's heads are those of its sectors
 heads-by : (g : Geometry) (v w : Device) (d : ℕ) → v d generalZone .sectors ≡ w d generalZone .sectors → generalHeads g v d ≡ generalHeads g w d
@@ -171,19 +168,19 @@ module _ (g : Geometry) (ok : Valid g) (p : Plan) (xs ws ds ps : List ℕ) (k : 
       ∙ heads-by g (readDevice (withRoles g r) xs qs) (seenIn g t) d
       (middle-read g (k .first) r proper xs us fs qs lu (q ∙ hidden-is us) (stage g a v) there d generalZone ∙ stage-seen g a v d generalZone (λ i. omega (arith, i)))
 
-  opened-force : (z : ℕ) → z < g .zones → getD (generationsIn (p .look)) z 0 ≡ byLook (showing g a (lostAmong g (p .here)) (seenIn g (tablesOf xs ws ds))) .generation z
+  opened-force : (z : ℕ) → z < g .zones → getD (generationsShown (p .look)) z 0 ≡ byLook (showing g a (lostAmong g (p .here)) (seenIn g (tablesOf xs ws ds))) .generation z
   opened-force z h =
       let s = showing g a (lostAmong g (p .here)) (seenIn g t) in
-      generation-in (p .look) z (omega (arith, ok .zones-most)) ∙ ap (λ (l : Look). zoneLook l z .generation) (k .look) ∙ ap (λ (l : ZoneLook). l .generation) (look-of-zone g s z h)
+      generations-shown-at (p .look) z (omega (arith, ok .zones-most)) ∙ ap (λ (l : Look). zoneLook l z .generation) (k .look) ∙ ap (λ (l : ZoneLook). l .generation) (look-of-zone g s z h)
 
   -- their emptying, and the flush after it
   general-stored : (us fs qs : List ℕ) → length us ≡ cells g → qs ≡ hiddenLogs (p .places) us (p .places .geometry .drives) → deviceOf g (tablesOf xs us fs) ≡ stage g (isSet (p .here)) (deviceOf g (tablesOf xs ws ds))
-      → (n m : ℕ) (t₃ : Tables) → Made (openedAll .to) n m (eachBelow (λ d. emptiedOn openedAll false (newGeneralOn openedAll (generationsIn (p .look)) xs qs d) d) (p .places .geometry .drives)) (tablesOf xs us fs) t₃
+      → (n m : ℕ) (t₃ : Tables) → Made (openedAll .to) n m (eachBelow (λ d. emptiedOn openedAll false (newGeneralOn openedAll (generationsShown (p .look)) xs qs d) d) (p .places .geometry .drives)) (tablesOf xs us fs) t₃
       → Made g n m (onPresent (isSet (p .here)) (emptyGeneral g (isSet (p .here)) (rolesOf g (tablesOf xs ws ds)) (byLook (showing g (isSet (p .here)) (lostAmong g (p .here)) (seenIn g (tablesOf xs ws ds)))) (isSet (p .general .emptied)) (seenIn g (tablesOf xs ws ds)))) (tablesOf xs us fs) t₃
   general-stored us fs qs lu q there n m t₃ made =
       let f = byLook (showing g a (lostAmong g (p .here)) (seenIn g t)) in
       subst (λ (ss : List Store). Made g n m ss (tablesOf xs us fs) t₃) (sym (general-present g a r f e (seenIn g t) (general-here g t p ps k)))
-      (general-made g (k .first) a r proper openedAll from-is refl to-is (generationsIn (p .look)) xs qs f (seenIn g t) (λ d hd h. opened-heads us fs qs lu q there d) opened-force (k .general .generations-are) n m (tablesOf xs us fs) t₃ made)
+      (general-made g (k .first) a r proper openedAll from-is refl to-is (generationsShown (p .look)) xs qs f (seenIn g t) (λ d hd h. opened-heads us fs qs lu q there d) opened-force (k .general .generations-are) n m (tablesOf xs us fs) t₃ made)
 
   -- ---- ONE AFTER THE OTHER
   abbrev pub sparesAt : List Store
@@ -204,7 +201,7 @@ module _ (g : Geometry) (ok : Valid g) (p : Plan) (xs ws ds ps : List ℕ) (k : 
 
   pub logs-opened : (budget n m : ℕ) (t₁ : Tables) (us fs qs : List ℕ) → length us ≡ cells g → qs ≡ hiddenLogs (p .places) us (p .places .geometry .drives) → Made g budget n (onPresent (isSet (p .here)) (flushAll (g .drives))) (tablesOf xs ws ds) t₁
       → Made g n m (concat (withFlush g (isSet (p .here)) sparesAt)) t₁ (tablesOf xs us fs) → m ≢ 0 → (l o : ℕ) (ys vs hs zs : List ℕ)
-      → Made (openedAll .to) m l (eachBelow (λ d. emptiedOn openedAll false (newGeneralOn openedAll (generationsIn (p .look)) xs qs d) d) (p .places .geometry .drives)) (tablesOf xs us fs) (tablesOf ys vs hs)
+      → Made (openedAll .to) m l (eachBelow (λ d. emptiedOn openedAll false (newGeneralOn openedAll (generationsShown (p .look)) xs qs d) d) (p .places .geometry .drives)) (tablesOf xs us fs) (tablesOf ys vs hs)
       → FlushedAfter g (isSet (p .here)) m l o vs hs zs → Made g budget o (concat (phasesOfLogs g (isSet (p .here)) (lostAmong g (p .here)) (deviceOf g (tablesOf xs ws ds)))) (tablesOf xs ws ds) (tablesOf ys vs zs)
   logs-opened budget n m t₁ us fs qs lu q m₁ m₂ h l o ys vs hs zs made flushed =
       let x = lostAmong g (p .here) in

@@ -34,8 +34,9 @@ use Rattle.volume.specs.looking.HiddenLogs.{placesOf, hiddenLogs, hidden-all-lo
 use Rattle.volume.specs.emptying.Carried.{new-place}
 use Rattle.volume.specs.emptying.RoomMoves.{hidden-least}
 use Rattle.volume.specs.emptying.ParityTurns.{ParitiesReady}
-use Rattle.mounting.specs.MountLook.{zoneLook, log-stays}
-use Rattle.mounting.specs.MountRooms.{lostAmong, generationsIn, pointersIn, generation-in, pointer-in, placesAfter, Planned}
+use Rattle.volume.specs.checks.Records.{zoneLook, generationsShown, pointsShown, generations-shown-long, generations-shown-at, points-shown-long, points-shown-at}
+use Rattle.mounting.specs.MountLook.{log-stays}
+use Rattle.mounting.specs.MountRooms.{lostAmong, placesAfter, Planned}
 use Rattle.mounting.specs.MountBetween.{middlePlaces, Between}
 use Rattle.mounting.specs.MountBefore.{places-after, middle-read}
 use Rattle.mounting.specs.MountJoined.{parity-phases, parity-flushed, parity-present}
@@ -148,15 +149,15 @@ module _ (g : Geometry) (t : Tables) (p : Plan) (start : List ℕ) (k : Planned 
         go true = omega arith
         go false = omega arith
 
-    stripe-known : (z : ℕ) → z < h1 .zones → (i : ℕ) → i < fillOf h1 (getD (pointersIn (p .look)) z 0)
-        → known (h1 .drives) (h1 .unit) z (zoneView h1 a (readDevice h1 (u .sectors) ps) z (getD (generationsIn (p .look)) z 0)) (stripeOf (h1 .drives) (h1 .unit) (getD (pointersIn (p .look)) z 0) * stripeSectors h1 + i) ≡ true
+    stripe-known : (z : ℕ) → z < h1 .zones → (i : ℕ) → i < fillOf h1 (getD (pointsShown (p .look)) z 0)
+        → known (h1 .drives) (h1 .unit) z (zoneView h1 a (readDevice h1 (u .sectors) ps) z (getD (generationsShown (p .look)) z 0)) (stripeOf (h1 .drives) (h1 .unit) (getD (pointsShown (p .look)) z 0) * stripeSectors h1 + i) ≡ true
     stripe-known z hz i hi =
         let n = zoneLook (p .look) z .pointer in
-        let below : i < fillOf h1 n = rw (pointer-in (p .look) z (small z hz)) at hi in
-        rw (generation-in (p .look) z (small z hz), pointer-in (p .look) z (small z hz)) (b .restoring .known-below z hz .all-known (stripeOf (h1 .drives) (h1 .unit) n * stripeSectors h1 + i) (omega arith))
+        let below : i < fillOf h1 n = rw (points-shown-at (p .look) z (small z hz)) at hi in
+        rw (generations-shown-at (p .look) z (small z hz), points-shown-at (p .look) z (small z hz)) (b .restoring .known-below z hz .all-known (stripeOf (h1 .drives) (h1 .unit) n * stripeSectors h1 + i) (omega arith))
 
     -- WHAT STEP 10 RELIES ON
-    pub parities-ready : ParitiesReady (parityEmptyings p) (generationsIn (p .look)) (pointersIn (p .look)) ps startsOf (u .sectors) (u .written) (u .durable)
+    pub parities-ready : ParitiesReady (parityEmptyings p) (generationsShown (p .look)) (pointsShown (p .look)) ps startsOf (u .sectors) (u .written) (u .durable)
     parities-ready =
         let l = b .restoring .logging in
         record {
@@ -174,8 +175,8 @@ module _ (g : Geometry) (t : Tables) (p : Plan) (start : List ℕ) (k : Planned 
           starts-behind = record { least = λ d y hd hy q. hidden-least (middlePlaces p) (u .written) (h1 .drives) (cell h1 d y) };
           logs-behind = record { least = λ d y hd hy q. logs-least d y hd q };
           in-zones = λ d y hd q hy. le-trans (b .in-zones d y (rw drives-are at hd) q (omega (arith, hy, zones-are))) (le-of-eq (sym (ap (λ (h : Geometry). h .capacity) from-is)));
-          generations-long = omega (arith, zones-are, ok .zones-most);
-          pointers-within = record { long = omega (arith, zones-are, ok .zones-most); most = λ z hz. rw (pointer-in (p .look) z (small z hz)) (l .within .pointer-most z hz) };
+          generations-long = omega (arith, zones-are, ok .zones-most, generations-shown-long (p .look));
+          pointers-within = record { long = omega (arith, zones-are, ok .zones-most, points-shown-long (p .look)); most = λ z hz. rw (points-shown-at (p .look) z (small z hz)) (l .within .pointer-most z hz) };
           known-if-made = λ d z hd q hz. record { stripe-known = λ c n i hi. stripe-known z hz i hi };
         }
 
@@ -191,13 +192,13 @@ module _ (g : Geometry) (t : Tables) (p : Plan) (start : List ℕ) (k : Planned 
         subst (λ (x : LogPlaces). parityEntries (x .geometry) (readDevice (x .geometry) (u .sectors) (hiddenLogs x (u .written) (x .geometry .drives))) d ≡ parityEntries g (through (placedBy middle) (deviceOf g u)) d) (sym (middle-is g t p start k))
         (entries-alike g (logsOf middle (g .drives)) v d ∙ entries-at g v w d (role-read g (k .first) middle proper u long d parityZone (middle-kinds d (emptied-in d q))))
 
-    force : (z : ℕ) → z < g .zones → (getD (generationsIn (p .look)) z 0 ≡ shown .zone z .generation) × (getD (pointersIn (p .look)) z 0 ≡ shown .zone z .pointer)
-        × (valueAt h1 a (readDevice h1 (u .sectors) ps) z (getD (generationsIn (p .look)) z 0) ≡ shown .zone z .value)
+    force : (z : ℕ) → z < g .zones → (getD (generationsShown (p .look)) z 0 ≡ shown .zone z .generation) × (getD (pointsShown (p .look)) z 0 ≡ shown .zone z .pointer)
+        × (valueAt h1 a (readDevice h1 (u .sectors) ps) z (getD (generationsShown (p .look)) z 0) ≡ shown .zone z .value)
     force z hz =
         let low : z < 16 = omega (arith, hz, ok .zones-most) in
         let s = b .shown z hz in
-        let n = generation-in (p .look) z low in
-        (n ∙ ap (λ (x : ZoneShown). x .generation) s, pointer-in (p .look) z low ∙ ap (λ (x : ZoneShown). x .pointer) s, ap (valueAt h1 a (readDevice h1 (u .sectors) ps) z) n ∙ ap (λ (x : ZoneShown). x .value) s)
+        let n = generations-shown-at (p .look) z low in
+        (n ∙ ap (λ (x : ZoneShown). x .generation) s, points-shown-at (p .look) z low ∙ ap (λ (x : ZoneShown). x .pointer) s, ap (valueAt h1 a (readDevice h1 (u .sectors) ps) z) n ∙ ap (λ (x : ZoneShown). x .value) s)
 
     claims : (d : ℕ) → isSet (p .parity .emptied) d ≡ true → getD (p .parity .generations) d 0 ≡ claimOfKind true (middle d)
     claims d q = k .parity .generations-are d q ∙ go (isSet (p .general .emptied) d)
@@ -210,8 +211,8 @@ module _ (g : Geometry) (t : Tables) (p : Plan) (start : List ℕ) (k : Planned 
     pub parity-step-made : (mid rest : ℕ) (v : Tables) → ParityStepMade (parityEmptyings p) (p .look) ps startsOf mid rest u v → Made g mid rest (concat (phasesOfParityLogs g (isSet (p .here)) (lostAmong g (p .here)) (deviceOf g t) (deviceOf g u))) u v
     parity-step-made mid rest v s =
         let all = parityEmptyings p in
-        let gs = generationsIn (p .look) in
-        let qs = pointersIn (p .look) in
+        let gs = generationsShown (p .look) in
+        let qs = pointsShown (p .look) in
         let w = through (placedBy middle) (deviceOf g u) in
         let on = parity-present g (k .first) a middle proper all from-is refl to-is gs qs (u .sectors) ps startsOf (byLook shown) w (λ d hd q. entries d q) force claims emptied-in in
         subst (λ (l : List (List Store)). Made g mid rest (concat l) u v) (sym (parity-phases g a (lostAmong g (p .here)) t (isSet (p .general .emptied)) (isSet (p .parity .emptied)) (k .general .emptied-are) (k .parity .emptied-are) (deviceOf g u)))

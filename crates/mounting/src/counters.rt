@@ -3,7 +3,8 @@
 use super::Basis;
 use logs::Log;
 use tables::Geometry;
-use volume::Condition;
+use tables::MAX_DRIVES;
+use tables::MAX_ZONES;
 use volume::Look;
 ghost use mathlib.Core.Path.{_≡_};
 ghost use mathlib.Core.Bool.{_&&_, not};
@@ -22,21 +23,11 @@ ghost use Rattle.volume.specs.meaning.State.{isEmpty};
 ghost use Rattle.volume.specs.meaning.Rules.{generalHeads};
 ghost use Rattle.volume.specs.meaning.Mount.{nextGeneration, countersDiffer, counterStep};
 ghost use Rattle.volume.specs.meaning.CallContracts.{isSet};
-ghost use Rattle.mounting.specs.MountLook.{zoneLook, shownBy, LookWithin};
+ghost use Rattle.mounting.specs.MountLook.{shownBy, LookWithin};
 ghost use Rattle.mounting.specs.MountGenerations.{filled, countersDue};
 ghost use Rattle.mounting.specs.MountSteps.{CountersReady};
 ghost use Rattle.volume.specs.looking.Knowing.{readDevice};
-
-fn is_empty(c: Condition) -> bool
-    ensures { λ r. ⌜ r ≡ isEmpty c ⌝ }
-{
-    match c {
-        Condition::Empty => true,
-        Condition::Open(_) => false,
-        Condition::Sealed(_) => false,
-        Condition::Worn(_) => false,
-    }
-}
+ghost use Rattle.volume.specs.checks.Records.{zoneLook};
 
 // Whether a zone is shown empty.
 fn zone_empty(g: Geometry, look: Look, z: usize) -> bool
@@ -47,7 +38,7 @@ fn zone_empty(g: Geometry, look: Look, z: usize) -> bool
     let zones = look.zones;
     let zone = zones[z];
     let condition = zone.condition;
-    is_empty(condition)
+    volume::records::is_empty(condition)
 }
 
 fn any_empty(g: Geometry, look: Look) -> bool
@@ -81,13 +72,13 @@ fn next_generation(g: Geometry, look: Look, z: usize) -> u64
     generation + 1
 }
 
-fn next_generations(g: Geometry, look: Look) -> [u64; 16]
+fn next_generations(g: Geometry, look: Look) -> [u64; MAX_ZONES]
     requires { ⌜ Valid g ⌝ }
     requires { ⌜ LookWithin g look ⌝ }
     ensures { λ r. ⌜ r ≡ filled (nextGeneration (shownBy look)) (g .zones) ⌝ }
 {
     let n = g.zones;
-    let mut next = [0u64; 16];
+    let mut next = [0u64; MAX_ZONES];
     let mut z = 0;
     while z < n {
         next[z] = next_generation(g, look, z);
@@ -148,7 +139,7 @@ fn differs_from(
     sectors: &[u8],
     pointers: &[u32],
     g: Geometry,
-    here: [bool; 8],
+    here: [bool; MAX_DRIVES],
     d: usize,
     e: usize,
 ) -> bool
@@ -164,7 +155,13 @@ fn differs_from(
     !same
 }
 
-fn any_differs(sectors: &[u8], pointers: &[u32], g: Geometry, here: [bool; 8], d: usize) -> bool
+fn any_differs(
+    sectors: &[u8],
+    pointers: &[u32],
+    g: Geometry,
+    here: [bool; MAX_DRIVES],
+    d: usize,
+) -> bool
     requires { ⌜ Valid g ⌝ }
     requires { ⌜ (d < g .drives) × (length (now sectors) ≡ totalBytes g) × (length (now pointers) ≡ cells g) ⌝ }
     ensures { λ r. ⌜ r ≡ anyBelow (λ (e : ℕ). isSet here e && not (sameBytes (lastCounters [] (generalHeads g (readDevice g (now (sectors .entry)) (now (pointers .entry))) d)) (lastCounters [] (generalHeads g (readDevice g (now (sectors .entry)) (now (pointers .entry))) e)))) (g .drives) ⌝ }
@@ -181,7 +178,13 @@ fn any_differs(sectors: &[u8], pointers: &[u32], g: Geometry, here: [bool; 8], d
 }
 
 // Whether drive d is here and some drive's last counters are not its.
-fn differs_at(sectors: &[u8], pointers: &[u32], g: Geometry, here: [bool; 8], d: usize) -> bool
+fn differs_at(
+    sectors: &[u8],
+    pointers: &[u32],
+    g: Geometry,
+    here: [bool; MAX_DRIVES],
+    d: usize,
+) -> bool
     requires { ⌜ Valid g ⌝ }
     requires { ⌜ (d < g .drives) × (length (now sectors) ≡ totalBytes g) × (length (now pointers) ≡ cells g) ⌝ }
     ensures { λ r. ⌜ r ≡ isSet here d && anyBelow (λ (e : ℕ). isSet here e && not (sameBytes (lastCounters [] (generalHeads g (readDevice g (now (sectors .entry)) (now (pointers .entry))) d)) (lastCounters [] (generalHeads g (readDevice g (now (sectors .entry)) (now (pointers .entry))) e)))) (g .drives) ⌝ }
@@ -194,7 +197,12 @@ fn differs_at(sectors: &[u8], pointers: &[u32], g: Geometry, here: [bool; 8], d:
 }
 
 // Whether the last counters of the drives that are here differ.
-pub fn counters_differ(sectors: &[u8], pointers: &[u32], g: Geometry, here: [bool; 8]) -> bool
+pub fn counters_differ(
+    sectors: &[u8],
+    pointers: &[u32],
+    g: Geometry,
+    here: [bool; MAX_DRIVES],
+) -> bool
     requires { ⌜ Valid g ⌝ }
     requires { ⌜ (length (now sectors) ≡ totalBytes g) × (length (now pointers) ≡ cells g) ⌝ }
     ensures { λ r. ⌜ r ≡ countersDiffer g (isSet here) (readDevice g (now (sectors .entry)) (now (pointers .entry))) ⌝ }

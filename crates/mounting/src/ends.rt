@@ -10,7 +10,7 @@ ghost use lib.ListN.{length};
 ghost use Rattle.tables.specs.meaning.Geometry.{Valid, cells};
 ghost use Rattle.tables.specs.meaning.Tables.{tablesOf};
 ghost use Rattle.mounting.specs.MountEnds.{courseOf, ParityStepMade, EndsReady, EndsMade};
-ghost use Rattle.mounting.specs.MountRooms.{generationsIn, pointersIn};
+ghost use Rattle.volume.specs.checks.Records.{generationsShown, pointsShown};
 ghost use Rattle.volume.specs.emptying.ParityTurns.{ParitiesReady};
 
 // 10. The emptying of those parity logs, as they stand by now.
@@ -25,12 +25,12 @@ fn parity_step(
     budget: u64,
 ) -> u64
     requires { ⌜ Valid (all .from) ⌝ }
-    requires { ⌜ ParitiesReady all (generationsIn look) (pointersIn look) (now pointers) (now starts) (now sectors) (now written) (now durable) ⌝ }
+    requires { ⌜ ParitiesReady all (generationsShown look) (pointsShown look) (now pointers) (now starts) (now sectors) (now written) (now durable) ⌝ }
     ensures { λ r. ⌜ ParityStepMade all look (now (pointers .entry)) (now (starts .entry)) budget r
         (tablesOf (now (sectors .entry)) (now (written .entry)) (now (durable .entry))) (tablesOf (now (sectors .exit)) (now (written .exit)) (now (durable .exit))) ⌝ }
 {
-    let generations = super::rooms::generations_of(look);
-    let points = super::rooms::pointers_of(look);
+    let generations = volume::records::generations_shown(look);
+    let points = volume::records::points_shown(look);
     let here = all.here;
     let rest = volume::emptyings::empty_parities(
         sectors,

@@ -20,11 +20,12 @@ ghost use Rattle.volume.specs.meaning.Content.{rowXorBelow};
 ghost use Rattle.volume.specs.meaning.Rules.{parityEntries};
 ghost use Rattle.volume.specs.meaning.CallContracts.{isSet};
 ghost use Rattle.volume.specs.rows.RowStores.{rowsIf};
-ghost use Rattle.mounting.specs.MountLook.{zoneLook, LookWithin};
+ghost use Rattle.mounting.specs.MountLook.{LookWithin};
 ghost use Rattle.mounting.specs.MountValues.{shownBy};
 ghost use Rattle.mounting.specs.MountReady.{Appending};
 ghost use Rattle.mounting.specs.MountLastEntries.{Entering, entryDue, newEntry, zoneEntryStores, entryStoresBelow};
 ghost use Rattle.volume.specs.looking.Knowing.{readDevice};
+ghost use Rattle.volume.specs.checks.Records.{zoneLook};
 
 // Whether an entry at a zone's pointer is due on a drive: the pointer lies inside a stripe, the drive holds the stripe's parity, and its log had no
 // whole current entry that ends there.

@@ -1,5 +1,6 @@
 // Mount: the call that brings a volume up, over the calls and the rules of `volume`.
 use tables::Geometry;
+use tables::MAX_DRIVES;
 use volume::Look;
 
 pub mod counters;
@@ -18,7 +19,7 @@ pub mod zones;
 // What the steps of a mount go by: the geometry, the drives that are here, the look, and whether the drives' last counters differed then.
 pub struct Basis {
     pub geometry: Geometry,
-    pub here: [bool; 8],
+    pub here: [bool; MAX_DRIVES],
     pub look: Look,
     pub differ: bool,
 }

@@ -3,7 +3,6 @@
 // steps differ in the header and in where it is due, and share their loops. A log is read below the pointers of the mount's look.
 use super::Basis;
 use tables::Geometry;
-use volume::Condition;
 use volume::Look;
 ghost use mathlib.Core.Path.{_≡_};
 ghost use Prim.Native.Nat.{_≤_, _<_, min};
@@ -14,7 +13,6 @@ ghost use Rattle.tables.specs.meaning.Phases.{onPresent};
 ghost use Rattle.tables.specs.meaning.Tables.{cell};
 ghost use Rattle.tables.specs.laws.Made.{MadeAppends};
 ghost use Rattle.logs.specs.meaning.Entry.{encode};
-ghost use Rattle.volume.specs.meaning.State.{isSealed};
 ghost use Rattle.volume.specs.meaning.CallContracts.{isSet};
 ghost use Rattle.mounting.specs.MountLook.{LookWithin};
 ghost use Rattle.mounting.specs.MountHeaders.{labelDue, resetDue, sealDue, headerZones, headerDue, headerFor, headerStores, headerSteps, Logging};
@@ -47,17 +45,6 @@ pub fn sectors_then(pointers: &[u32], g: Geometry, drive: usize, zone: usize) ->
     let at = tables::stores::cell_of(g, drive, zone);
     let n = tables::bounds::widen(pointers[at]);
     tables::placement::min(n, g.capacity)
-}
-
-fn is_sealed(c: Condition) -> bool
-    ensures { λ r. ⌜ r ≡ isSealed c ⌝ }
-{
-    match c {
-        Condition::Empty => false,
-        Condition::Open(_) => false,
-        Condition::Sealed(_) => true,
-        Condition::Worn(_) => false,
-    }
 }
 
 // Whether a drive is due a new label: its last does not name the lost drive.
@@ -102,7 +89,7 @@ fn seal_due(sectors: &[u8], pointers: &[u32], basis: Basis, drive: usize, z: usi
     let zones = basis.look.zones;
     let zone = zones[z];
     let condition = zone.condition;
-    let sealed = is_sealed(condition);
+    let sealed = volume::records::is_sealed(condition);
     let n = sectors_then(pointers, basis.geometry, drive, logs::GENERAL_LOG);
     let log = logs::Log {
         drive,

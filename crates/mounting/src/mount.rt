@@ -4,6 +4,8 @@
 use super::plan::Course;
 use super::rooms::Plan;
 use tables::Geometry;
+use tables::MAX_CELLS;
+use tables::MAX_DRIVES;
 use volume::Answer;
 use volume::Outcome;
 use volume::State;
@@ -16,19 +18,20 @@ ghost use Rattle.tables.specs.meaning.Geometry.{Valid, cells};
 ghost use Rattle.tables.specs.meaning.Tables.{tablesOf};
 ghost use Rattle.tables.specs.laws.Made.{Made};
 ghost use Rattle.volume.specs.meaning.Rules.{showing};
-ghost use Rattle.volume.specs.meaning.CallContracts.{isSet, stateShown, mountStoresOn, mountOn};
+ghost use Rattle.volume.specs.meaning.CallContracts.{isSet, mountStoresOn, mountOn, stateHeld};
 ghost use Rattle.volume.specs.looking.Knowing.{readDevice};
 ghost use Rattle.volume.specs.looking.Looking.{Lookable};
+ghost use Rattle.volume.specs.meaning.Mount.{mountState};
 ghost use Rattle.mounting.specs.MountRooms.{lostAmong, Planned};
 ghost use Rattle.mounting.specs.MountBetween.{Before};
 ghost use Rattle.mounting.specs.MountEnds.{courseOf};
 ghost use Rattle.mounting.specs.Mounting.{mountedOn, ShownNow, MountEnded};
 
 // The state that the drives that are here show.
-fn shown_state(sectors: &[u8], written: &[u32], g: Geometry, here: [bool; 8]) -> State
+fn shown_state(sectors: &[u8], written: &[u32], g: Geometry, here: [bool; MAX_DRIVES]) -> State
     requires { ⌜ Valid g ⌝ }
     requires { ⌜ Lookable g here (now sectors) (now written) ⌝ }
-    ensures { λ r. ⌜ r ≡ stateShown g (showing g (isSet here) (findBelow (λ (d : ℕ). not (isSet here d)) (g .drives)) (readDevice g (now (sectors .entry)) (now (written .entry)))) ⌝ }
+    ensures { λ r. ⌜ r ≡ stateHeld (g .zones) (mountState (showing g (isSet here) (findBelow (λ (d : ℕ). not (isSet here d)) (g .drives)) (readDevice g (now (sectors .entry)) (now (written .entry))))) ⌝ }
 {
     let shown = volume::looking::look_all(sectors, written, g, here);
     let lost = shown.lost;
@@ -110,7 +113,7 @@ fn shown_now(
     written: &[u32],
     pointers: &mut [u32],
     g: Geometry,
-    here: [bool; 8],
+    here: [bool; MAX_DRIVES],
 ) -> State
     requires { ⌜ Valid g ⌝ }
     requires { ⌜ Lookable g here (now sectors) (now written) × (length (now pointers) ≡ cells g) × (g .logs ≡ 0) ⌝ }
@@ -126,7 +129,7 @@ fn outcome(
     written: &[u32],
     pointers: &mut [u32],
     g: Geometry,
-    here: [bool; 8],
+    here: [bool; MAX_DRIVES],
     old: State,
     rest: u64,
 ) -> Outcome
@@ -166,7 +169,7 @@ fn mount_planned(
 {
     let here = plan.here;
     let cells = written.len();
-    let mut starts = [0u32; 152];
+    let mut starts = [0u32; MAX_CELLS];
     let budget = volume::checks::budget_of(count);
     let rest = restore(
         sectors,
@@ -187,7 +190,7 @@ pub fn mount(
     written: &mut [u32],
     durable: &mut [u32],
     g: Geometry,
-    named: [bool; 8],
+    named: [bool; MAX_DRIVES],
     old: State,
     count: u32,
 ) -> Outcome
@@ -199,7 +202,7 @@ pub fn mount(
         return volume::checks::refused(shape, old);
     }
     let cells = written.len();
-    let mut pointers = [0u32; 152];
+    let mut pointers = [0u32; MAX_CELLS];
     let found = volume::looking::survey_drives(sectors, written, &mut pointers[..cells], g, named);
     let refusal = found.refusal;
     if refusal != 0 {

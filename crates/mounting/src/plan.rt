@@ -48,8 +48,8 @@ pub fn plan_mount(
     let here = found.here;
     let look = volume::looking::look_all(sectors, pointers, places.geometry, here);
     let differ = super::counters::counters_differ(sectors, pointers, places.geometry, here);
-    let generations = super::rooms::generations_of(look);
-    let points = super::rooms::pointers_of(look);
+    let generations = volume::records::generations_shown(look);
+    let points = volume::records::points_shown(look);
     let l = g.zones;
     let u = g.unit;
     let reserve = l * (1 + u) + u;

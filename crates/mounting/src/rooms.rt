@@ -2,6 +2,7 @@
 // empties general logs; parity logs it empties just before its last step, with all missing sectors stored".
 use super::plan::Course;
 use tables::Geometry;
+use tables::MAX_DRIVES;
 use volume::Look;
 use volume::log_room::LogRoom;
 use volume::roles::LogPlaces;
@@ -16,7 +17,7 @@ ghost use Rattle.tables.specs.laws.Made.{Made, MadePointers};
 ghost use Rattle.volume.specs.meaning.Mount.{phasesOfLogs};
 ghost use Rattle.volume.specs.meaning.CallContracts.{isSet};
 ghost use Rattle.mounting.specs.MountEnds.{courseOf};
-ghost use Rattle.mounting.specs.MountRooms.{spareReset, generationsIn, pointersIn, lostAmong, placesAfter, SparesCleared, Planned};
+ghost use Rattle.mounting.specs.MountRooms.{spareReset, lostAmong, placesAfter, SparesCleared, Planned};
 
 // 1. The reset of the spare zone on each drive that is here where that zone has sectors written, by the pointers of the start.
 pub fn reset_spares(
@@ -24,7 +25,7 @@ pub fn reset_spares(
     durable: &mut [u32],
     pointers: &[u32],
     g: Geometry,
-    here: [bool; 8],
+    here: [bool; MAX_DRIVES],
     budget: u64,
 ) -> u64
     requires { ⌜ Valid g ⌝ }
@@ -55,47 +56,15 @@ pub fn reset_spares(
 // differ, and which logs lack room.
 pub struct Plan {
     pub places: LogPlaces,
-    pub here: [bool; 8],
+    pub here: [bool; MAX_DRIVES],
     pub look: Look,
     pub differ: bool,
     pub general: LogRoom,
     pub parity: LogRoom,
 }
 
-// The generations that a look shows.
-pub fn generations_of(look: Look) -> [u64; 16]
-    ensures { λ r. ⌜ r ≡ generationsIn look ⌝ }
-{
-    let zones = look.zones;
-    let mut generations = [0u64; 16];
-    let mut z = 0;
-    while z < 16 {
-        let zone = zones[z];
-        let generation = zone.generation;
-        generations[z] = generation;
-        z += 1;
-    }
-    generations
-}
-
-// The pointers that it shows.
-pub fn pointers_of(look: Look) -> [usize; 16]
-    ensures { λ r. ⌜ r ≡ pointersIn look ⌝ }
-{
-    let zones = look.zones;
-    let mut points = [0usize; 16];
-    let mut z = 0;
-    while z < 16 {
-        let zone = zones[z];
-        let pointer = zone.pointer;
-        points[z] = pointer;
-        z += 1;
-    }
-    points
-}
-
 // Where the logs lie after those of a kind were emptied on some drives. None of these drives lacks a kind.
-pub fn places_after(places: LogPlaces, parity: bool, emptied: [bool; 8]) -> LogPlaces
+pub fn places_after(places: LogPlaces, parity: bool, emptied: [bool; MAX_DRIVES]) -> LogPlaces
     requires { ⌜ Valid (places .geometry) ⌝ }
     ensures { λ r. ⌜ r ≡ placesAfter places parity emptied ⌝ }
 {
@@ -116,7 +85,7 @@ fn clear_spares(
     pointers: &[u32],
     g: Geometry,
     places: LogPlaces,
-    here: [bool; 8],
+    here: [bool; MAX_DRIVES],
     budget: u64,
 ) -> u64
     requires { ⌜ Valid g × Valid (places .geometry) ⌝ }
@@ -150,7 +119,7 @@ pub fn open_logs(
         return 0;
     }
     volume::roles::hide_lacking(written, pointers, plan.places);
-    let current = generations_of(plan.look);
+    let current = volume::records::generations_shown(plan.look);
     let copied = volume::emptyings::empty_generals(
         sectors,
         written,

@@ -6,6 +6,7 @@ use super::counters::store_counters;
 use super::log_headers::HeaderKind;
 use super::log_headers::log_headers;
 use tables::Geometry;
+use tables::MAX_DRIVES;
 use volume::roles::LogPlaces;
 ghost use mathlib.Core.Path.{_≡_};
 ghost use lib.ListN.{length};
@@ -29,7 +30,7 @@ pub fn flush_after(
     written: &[u32],
     durable: &mut [u32],
     g: Geometry,
-    here: [bool; 8],
+    here: [bool; MAX_DRIVES],
     before: u64,
     rest: u64,
 ) -> u64

@@ -1,6 +1,6 @@
 // A mount's resets: of zones emptied by rule 3 "and of unclean ones with pointer 0, worn zones excepted".
 use tables::Geometry;
-use volume::Condition;
+use tables::MAX_DRIVES;
 use volume::Look;
 ghost use mathlib.Core.Path.{_≡_};
 ghost use Prim.Native.Nat.{_<_};
@@ -8,22 +8,11 @@ ghost use lib.ListN.{length};
 ghost use Rattle.tables.specs.meaning.Geometry.{Valid, cells};
 ghost use Rattle.tables.specs.meaning.Phases.{onPresent};
 ghost use Rattle.tables.specs.laws.Made.{MadePointers};
-ghost use Rattle.volume.specs.meaning.State.{isWorn};
 ghost use Rattle.volume.specs.meaning.Mount.{zoneResetStep};
 ghost use Rattle.volume.specs.meaning.CallContracts.{isSet};
-ghost use Rattle.mounting.specs.MountLook.{zoneLook, shownBy, resetNeeded};
+ghost use Rattle.volume.specs.checks.Records.{zoneLook};
+ghost use Rattle.mounting.specs.MountLook.{shownBy, resetNeeded};
 ghost use Rattle.mounting.specs.MountResets.{zoneResets};
-
-fn is_worn(c: Condition) -> bool
-    ensures { λ r. ⌜ r ≡ isWorn c ⌝ }
-{
-    match c {
-        Condition::Empty => false,
-        Condition::Open(_) => false,
-        Condition::Sealed(_) => false,
-        Condition::Worn(_) => true,
-    }
-}
 
 // Whether a zone is to be reset.
 fn reset_needed(g: Geometry, look: Look, z: usize) -> bool
@@ -34,7 +23,7 @@ fn reset_needed(g: Geometry, look: Look, z: usize) -> bool
     let zones = look.zones;
     let zone = zones[z];
     let condition = zone.condition;
-    let worn = is_worn(condition);
+    let worn = volume::records::is_worn(condition);
     let emptied = zone.by_reset;
     let clean = zone.clean;
     let pointer = zone.pointer;
@@ -46,7 +35,7 @@ fn reset_drive(
     written: &mut [u32],
     durable: &mut [u32],
     g: Geometry,
-    here: [bool; 8],
+    here: [bool; MAX_DRIVES],
     look: Look,
     drive: usize,
     budget: u64,
@@ -80,7 +69,7 @@ pub fn reset_zones(
     written: &mut [u32],
     durable: &mut [u32],
     g: Geometry,
-    here: [bool; 8],
+    here: [bool; MAX_DRIVES],
     look: Look,
     budget: u64,
 ) -> u64

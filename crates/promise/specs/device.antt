@@ -13,6 +13,7 @@ pub mod CallsOwed
 pub mod CallsProved
 pub mod ClaimEvents
 pub mod ClaimProof
+pub mod Heard
 pub mod Looks
 pub mod Marks
 pub mod Modes

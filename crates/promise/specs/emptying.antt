@@ -25,7 +25,6 @@ pub mod GeneralEmptyings
 pub mod GeneralReset
 pub mod GeneralStores
 pub mod Marked
-pub mod MountFilled
 pub mod MountLogs
 pub mod MountTail
 pub mod MountWhole
@@ -37,10 +36,9 @@ pub mod ParityFilled
 pub mod ParityInMount
 pub mod ParityKeeps
 pub mod ParityLogs
+pub mod ParityLooks
 pub mod ParityMount
-pub mod ParityMountAll
 pub mod ParityMountShows
-pub mod ParityMounts
 pub mod ParityRests
 pub mod ParityWrite
 pub mod RestShows

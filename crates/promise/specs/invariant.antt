@@ -4,6 +4,7 @@ pub mod EmptiedZone
 pub mod HoldsLess
 pub mod HoldsMore
 pub mod Invariant
+pub mod LastLabels
 pub mod Obligations
 pub mod RoomAsked
 pub mod SaidMoves

@@ -3,6 +3,7 @@ pub mod Caches
 pub mod CachesOnTables
 pub mod Claim
 pub mod Emptied
+pub mod Histories
 pub mod Ledger
 pub mod OnDevice
 pub mod OnTables

@@ -1,12 +1,13 @@
 pub mod AnyDrive
 pub mod AnyDriveCaching
+pub mod AnyDriveOlder
 pub mod AnyDriveProved
-pub mod BehindDelayed
 pub mod BehindFlush
-pub mod BehindLooks
 pub mod EmptyingLooks
+pub mod EmptyingsClaimed
 pub mod EveryPoint
 pub mod MountLooks
 pub mod MountParityLooks
+pub mod MountSettles
 pub mod ResetLasts
 pub mod RoomyCalls

@@ -2,6 +2,9 @@ pub mod CachedTables
 pub mod CachedTablesClaim
 pub mod CallRefines
 pub mod CallVerdicts
+pub mod CallsSeen
+pub mod EmptyingTables
+pub mod MadeOn
 pub mod MountRefines
 pub mod RoomyTables
 pub mod TablesClaimProof

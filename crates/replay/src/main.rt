@@ -46,7 +46,7 @@ fn show_record(s: State, z: usize) {
     }
     let r = s.zones[z];
     let c = r.condition;
-    let p = volume::checks::pointer_of(c);
+    let p = volume::records::pointer_of(c);
     field(r.generation);
     text(b":");
     number(volume::numbers::condition_number(c) as u64);
@@ -164,8 +164,9 @@ fn show_rest(
         return;
     }
     if letter == b'o' {
-        field(replaying::listing::report_filled(h, c));
-        field(replaying::listing::list_sum(h, c));
+        let l = replaying::listing::listed(h, c);
+        field(replaying::listing::report_filled(l));
+        field(replaying::listing::list_sum(l, c));
     }
 }
 

@@ -1,36 +1,20 @@
--- The tables changed by no call: a byte, a pair of pointers, sectors that no call stored.
+-- When a sector that no call stored may be appended, and what that test gives.
 use mathlib.Core.Bool.{Bool, true, false, _&&_}
-use mathlib.Core.List.{List, [], _∷_}
 use mathlib.Core.Path.{_≡_, refl}
-use Prim.Native.Nat.{ℕ, _+_, _%_, _<_}
+use Prim.Native.Nat.{ℕ, _+_, _<_}
 use native.Mathlib.Omega.{arith}
 use borrow.Author.Tests.{ltb-true, eqb-true}
 use lib.Dec.{eqb, ltb}
-use lib.ListN.{length, set}
 use Rattle.tables.specs.declared.Geometry.{Geometry}
 use Rattle.tables.specs.meaning.Basics.{pick}
 use Rattle.tables.specs.meaning.Geometry.{Valid, physicalZones}
 use Rattle.tables.specs.meaning.GeometryTest.{isValid}
 use Rattle.tables.specs.laws.GeometryTest.{valid-if-test}
-use Rattle.tables.specs.meaning.Device.{append}
-use Rattle.tables.specs.laws.LittleEndian.{writeLE}
-use Rattle.tables.specs.meaning.Tables.{Tables, tablesOf, lengthsFit, runStores}
-use Rattle.logs.specs.meaning.Entry.{encode, seal}
+use Rattle.tables.specs.meaning.Tables.{lengthsFit}
 
--- ---- sectors that no call stored
 -- the tables are the geometry's, the sector one of its sectors, the drive and its zone are there
 unfoldable pub mayAppend : Geometry → ℕ → ℕ → ℕ → ℕ → ℕ → Bool
 mayAppend g xs ws b drive zone = pick (isValid g) (lengthsFit g xs ws ws && (eqb b (g .sector) && (ltb drive (g .drives) && ltb zone (g .zones + 3)))) false
-
--- one append, which a full zone refuses
-unfoldable pub appendOdd : Geometry → ℕ → ℕ → List ℕ → List ℕ → List ℕ → Tables
-appendOdd g drive zone src xs ws =
-    pick (mayAppend g (length xs) (length ws) (length src) drive zone) (runStores g 1 (append drive zone src ∷ []) (tablesOf xs ws [])) (tablesOf xs ws [])
-
--- a seal's header with another type, start and end; nothing where the buffer is no sector of the geometry
-unfoldable pub oddHeader : Geometry → ℕ → ℕ → ℕ → ℕ → List ℕ → List ℕ
-oddHeader g kind start end generation out =
-    pick (isValid g) (pick (eqb (length out) (g .sector)) (writeLE 8 (writeLE 8 (set (encode g 0 (seal 0 0 generation)) 3 (kind % 256)) 8 start) 16 end) out) out
 
 -- ---- what the test gives
 pub record MayAppend (g : Geometry) (xs ws b drive zone : ℕ) : Type 0 where

@@ -1,9 +1,2 @@
-pub mod Decimal
 pub mod Adler
-pub mod Stream
-pub mod Hosting
-pub mod Listing
-pub mod Calling
 pub mod Damaging
-pub mod Performing
-pub mod Showing

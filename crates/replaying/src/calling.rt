@@ -5,23 +5,15 @@ use super::Reply;
 use volume::Answer;
 use volume::BadPlace;
 use volume::Outcome;
-ghost use mathlib.Core.Path.{_≡_};
-ghost use Rattle.tables.specs.meaning.Tables.{tablesOf};
-ghost use Rattle.replaying.specs.Hosting.{plainReply};
-ghost use Rattle.replaying.specs.Calling.{placeTold, toldReply, statelessReply, keptReply, lookReply, readReply, writeBuffer, formatMade, mountMade, lookMade, writeMade, flushMade, resetMade, readMade, peekMade, reportMade};
 
 // A call while there is no state.
-pub fn stateless(h: Host) -> Reply
-    ensures { λ r. ⌜ r ≡ statelessReply h ⌝ }
-{
+pub fn stateless(h: Host) -> Reply {
     let shown = h.state;
     super::hosting::plain(h, 254, shown)
 }
 
 // The bad place that an answer tells.
-fn place_told(a: Answer) -> BadPlace
-    ensures { λ r. ⌜ r ≡ placeTold a ⌝ }
-{
+fn place_told(a: Answer) -> BadPlace {
     match a {
         Answer::Finished => volume::bad_places::no_place(),
         Answer::Unfinished => volume::bad_places::no_place(),
@@ -31,9 +23,7 @@ fn place_told(a: Answer) -> BadPlace
 }
 
 // What a call leaves that hands nothing on.
-fn told(h: Host, o: Outcome) -> Reply
-    ensures { λ r. ⌜ r ≡ toldReply h o ⌝ }
-{
+fn told(h: Host, o: Outcome) -> Reply {
     let a = o.answer;
     let shown = o.state;
     let code = volume::numbers::answer_number(a);
@@ -47,9 +37,7 @@ fn told(h: Host, o: Outcome) -> Reply
 }
 
 // The host keeps the state that a finished call left.
-fn kept(h: Host, o: Outcome) -> Reply
-    ensures { λ r. ⌜ r ≡ keptReply h o ⌝ }
-{
+fn kept(h: Host, o: Outcome) -> Reply {
     let a = o.answer;
     let s = o.state;
     let code = volume::numbers::answer_number(a);
@@ -72,10 +60,7 @@ pub fn format(
     durable: &mut [u32],
     h: Host,
     c: Command,
-) -> Reply
-    ensures { λ r. ⌜ (r ≡ keptReply h (formatMade h c (tablesOf (now (sectors .entry)) (now (written .entry)) (now (durable .entry))) .outcome))
-        × (tablesOf (now (sectors .exit)) (now (written .exit)) (now (durable .exit)) ≡ formatMade h c (tablesOf (now (sectors .entry)) (now (written .entry)) (now (durable .entry))) .tables) ⌝ }
-{
+) -> Reply {
     let g = h.geometry;
     let s = h.state;
     let named = super::hosting::named_in(c.first);
@@ -91,10 +76,7 @@ pub fn mount(
     durable: &mut [u32],
     h: Host,
     c: Command,
-) -> Reply
-    ensures { λ r. ⌜ (r ≡ keptReply h (mountMade h c (tablesOf (now (sectors .entry)) (now (written .entry)) (now (durable .entry))) .outcome))
-        × (tablesOf (now (sectors .exit)) (now (written .exit)) (now (durable .exit)) ≡ mountMade h c (tablesOf (now (sectors .entry)) (now (written .entry)) (now (durable .entry))) .tables) ⌝ }
-{
+) -> Reply {
     let g = h.geometry;
     let s = h.state;
     let named = super::hosting::named_in(c.first);
@@ -104,9 +86,7 @@ pub fn mount(
 }
 
 // Look: its state is shown and not kept.
-pub fn look(sectors: &[u8], written: &[u32], durable: &[u32], h: Host, c: Command) -> Reply
-    ensures { λ r. ⌜ r ≡ lookReply h (lookMade h c (tablesOf (now (sectors .entry)) (now (written .entry)) (now (durable .entry)))) ⌝ }
-{
+pub fn look(sectors: &[u8], written: &[u32], durable: &[u32], h: Host, c: Command) -> Reply {
     let g = h.geometry;
     let s = h.state;
     let named = super::hosting::named_in(c.first);
@@ -122,11 +102,7 @@ pub fn write(
     buffer: &mut [u8],
     h: Host,
     c: Command,
-) -> Reply
-    ensures { λ r. ⌜ (r ≡ keptReply h (writeMade h c (now (buffer .entry)) (tablesOf (now (sectors .entry)) (now (written .entry)) (now (durable .entry))) .outcome))
-        × (tablesOf (now (sectors .exit)) (now (written .exit)) (now (durable .exit)) ≡ writeMade h c (now (buffer .entry)) (tablesOf (now (sectors .entry)) (now (written .entry)) (now (durable .entry))) .tables)
-        × (now (buffer .exit) ≡ writeBuffer c (now (buffer .entry))) ⌝ }
-{
+) -> Reply {
     let g = h.geometry;
     let s = h.state;
     let named = super::hosting::named_in(c.first);
@@ -149,10 +125,7 @@ pub fn write(
 }
 
 // Flush.
-pub fn flush(sectors: &[u8], written: &[u32], durable: &mut [u32], h: Host, c: Command) -> Reply
-    ensures { λ r. ⌜ (r ≡ keptReply h (flushMade h c (tablesOf (now (sectors .entry)) (now (written .entry)) (now (durable .entry))) .outcome))
-        × (tablesOf (now (sectors .entry)) (now (written .entry)) (now (durable .exit)) ≡ flushMade h c (tablesOf (now (sectors .entry)) (now (written .entry)) (now (durable .entry))) .tables) ⌝ }
-{
+pub fn flush(sectors: &[u8], written: &[u32], durable: &mut [u32], h: Host, c: Command) -> Reply {
     let g = h.geometry;
     let s = h.state;
     let named = super::hosting::named_in(c.first);
@@ -168,10 +141,7 @@ pub fn reset(
     durable: &mut [u32],
     h: Host,
     c: Command,
-) -> Reply
-    ensures { λ r. ⌜ (r ≡ keptReply h (resetMade h c (tablesOf (now (sectors .entry)) (now (written .entry)) (now (durable .entry))) .outcome))
-        × (tablesOf (now (sectors .exit)) (now (written .exit)) (now (durable .exit)) ≡ resetMade h c (tablesOf (now (sectors .entry)) (now (written .entry)) (now (durable .entry))) .tables) ⌝ }
-{
+) -> Reply {
     let g = h.geometry;
     let s = h.state;
     let named = super::hosting::named_in(c.first);
@@ -189,10 +159,7 @@ pub fn read(
     buffer: &mut [u8],
     h: Host,
     c: Command,
-) -> Reply
-    ensures { λ r. ⌜ (r ≡ readReply h (readMade h c (now (buffer .entry)) (tablesOf (now (sectors .entry)) (now (written .entry)) (now (durable .entry)))))
-        × (now (buffer .exit) ≡ readMade h c (now (buffer .entry)) (tablesOf (now (sectors .entry)) (now (written .entry)) (now (durable .entry))) .buffer) ⌝ }
-{
+) -> Reply {
     let g = h.geometry;
     let s = h.state;
     let named = super::hosting::named_in(c.first);
@@ -213,9 +180,7 @@ pub fn read(
 }
 
 // Peek: whether it is refused. What it gives is looked at when the answer is shown.
-pub fn peek(sectors: &[u8], written: &[u32], durable: &[u32], h: Host, c: Command) -> Reply
-    ensures { λ r. ⌜ r ≡ plainReply h (peekMade h c (tablesOf (now (sectors .entry)) (now (written .entry)) (now (durable .entry)))) (h .state) ⌝ }
-{
+pub fn peek(sectors: &[u8], written: &[u32], durable: &[u32], h: Host, c: Command) -> Reply {
     let g = h.geometry;
     let s = h.state;
     let named = super::hosting::named_in(c.first);
@@ -224,13 +189,11 @@ pub fn peek(sectors: &[u8], written: &[u32], durable: &[u32], h: Host, c: Comman
 }
 
 // Report: whether it is refused. What it fills is looked at when the answer is shown.
-pub fn report(h: Host) -> Reply
-    ensures { λ r. ⌜ r ≡ plainReply h (reportMade h) (h .state) ⌝ }
-{
-    let g = h.geometry;
+pub fn report(h: Host, c: Command) -> Reply {
     let s = h.state;
-    let o = volume::reporting::reported(g, s, 0);
-    let a = o.answer;
+    let l = super::listing::listed(h, c);
+    let r = l.reported;
+    let a = r.answer;
     let code = volume::numbers::answer_number(a);
     super::hosting::plain(h, code, s)
 }

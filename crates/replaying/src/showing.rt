@@ -4,25 +4,15 @@ use super::Glimpse;
 use super::Host;
 use volume::Answer;
 use volume::State;
-ghost use mathlib.Core.Path.{_≡_};
-ghost use lib.ListN.{length, take};
-ghost use Rattle.tables.specs.meaning.Tables.{tablesOf};
-ghost use Rattle.replaying.specs.Adler.{adlerOfBytes, adlerOfTables};
-ghost use Rattle.replaying.specs.Hosting.{handedLength, runBytes};
-ghost use Rattle.replaying.specs.Showing.{mayKeep, allSectors, allPointers, glimpseBy, glimpseOf, runRead, zoneStart, zoneRead, markedAll, placeIn, partShown};
 
 // Whether a command's line shows the host's state whole: those of format, mount, write, flush and reset do.
-pub fn may_keep(letter: u8) -> bool
-    ensures { λ r. ⌜ r ≡ mayKeep letter ⌝ }
-{
+pub fn may_keep(letter: u8) -> bool {
     (letter == b'f')
         | ((letter == b'm') | ((letter == b'w') | ((letter == b'u') | (letter == b'r'))))
 }
 
 // A read's checksum, if it was finished.
-fn glimpse_of(a: Answer, buffer: &[u8]) -> Glimpse
-    ensures { λ r. ⌜ r ≡ glimpseBy a (now (buffer .entry)) ⌝ }
-{
+fn glimpse_of(a: Answer, buffer: &[u8]) -> Glimpse {
     match a {
         Answer::Finished => Glimpse {
             code: 0,
@@ -48,10 +38,7 @@ fn read_run(
     shown: State,
     address: u64,
     n: usize,
-) -> Glimpse
-    ensures { λ r. ⌜ (r ≡ glimpseOf (runRead h c shown address n (now (buffer .entry)) (tablesOf (now (sectors .entry)) (now (written .entry)) (now (durable .entry)))))
-        × (now (buffer .exit) ≡ runRead h c shown address n (now (buffer .entry)) (tablesOf (now (sectors .entry)) (now (written .entry)) (now (durable .entry))) .buffer) ⌝ }
-{
+) -> Glimpse {
     let g = h.geometry;
     let named = super::hosting::named_in(c.first);
     let run = super::hosting::narrow(n as u64);
@@ -70,9 +57,7 @@ fn read_run(
 }
 
 // The first address of a zone; 0 where the geometry is none.
-fn zone_start(h: Host, z: usize) -> u64
-    ensures { λ r. ⌜ r ≡ zoneStart h z ⌝ }
-{
+fn zone_start(h: Host, z: usize) -> u64 {
     let g = h.geometry;
     let ok = tables::bounds::valid(g);
     if !ok {
@@ -95,15 +80,13 @@ pub fn read_zone(
     c: Command,
     shown: State,
     z: usize,
-) -> Glimpse
-    ensures { λ r. ⌜ r ≡ zoneRead h c shown z (now (buffer .entry)) (tablesOf (now (space .entry)) (now (written .entry)) (now (durable .entry))) ⌝ }
-{
+) -> Glimpse {
     if 16 <= z {
         return Glimpse { code: 8, sum: 0 };
     }
     let r = shown.zones[z];
     let condition = r.condition;
-    let n = volume::checks::pointer_of(condition);
+    let n = volume::records::pointer_of(condition);
     if n == 0 {
         return Glimpse { code: 0, sum: 1 };
     }
@@ -127,9 +110,7 @@ pub fn read_zone(
 }
 
 // Sectors that tell their own place: the bytes from 4 i on are the number 4 i.
-pub fn mark_places(places: &mut [u8])
-    ensures { λ _. ⌜ now (places .exit) ≡ markedAll (now (places .entry)) ⌝ }
-{
+pub fn mark_places(places: &mut [u8]) {
     let n = places.len() / 4;
     if 1048576 < n {
         return;
@@ -143,9 +124,7 @@ pub fn mark_places(places: &mut [u8])
 }
 
 // The number at the beginning of a part; 0 if there is none.
-fn place_in(part: &[u8]) -> u64
-    ensures { λ r. ⌜ r ≡ placeIn (now (part .entry)) ⌝ }
-{
+fn place_in(part: &[u8]) -> u64 {
     if part.len() < 4 {
         return 0;
     }
@@ -160,9 +139,7 @@ fn part_shown<'a>(
     durable: &[u32],
     h: Host,
     c: Command,
-) -> &'a [u8]
-    ensures { λ r. ⌜ now r ≡ partShown h c (now (space .entry)) (now (written .entry)) (now (durable .entry)) ⌝ }
-{
+) -> &'a [u8] {
     let a = super::hosting::lend(h.bytes, 0, space.len());
     let w = super::hosting::lend(h.cells, 0, written.len());
     let d = super::hosting::lend(h.cells, 0, durable.len());
@@ -181,25 +158,19 @@ fn part_shown<'a>(
 }
 
 // Where in the lent sectors the part lies that a peek gives: the same peek of sectors that tell their own place.
-pub fn peek_place(places: &[u8], written: &[u32], durable: &[u32], h: Host, c: Command) -> u64
-    ensures { λ r. ⌜ r ≡ placeIn (partShown h c (now (places .entry)) (now (written .entry)) (now (durable .entry))) ⌝ }
-{
+pub fn peek_place(places: &[u8], written: &[u32], durable: &[u32], h: Host, c: Command) -> u64 {
     let part = part_shown(places, written, durable, h, c);
     place_in(part)
 }
 
 // The checksum of the part that a peek gives.
-pub fn peek_sum(space: &[u8], written: &[u32], durable: &[u32], h: Host, c: Command) -> u64
-    ensures { λ r. ⌜ r ≡ adlerOfBytes (partShown h c (now (space .entry)) (now (written .entry)) (now (durable .entry))) ⌝ }
-{
+pub fn peek_sum(space: &[u8], written: &[u32], durable: &[u32], h: Host, c: Command) -> u64 {
     let part = part_shown(space, written, durable, h, c);
     super::checksum::adler_of(part)
 }
 
 // The checksum of what a finished read left in the buffer.
-pub fn read_sum(buffer: &[u8], h: Host, c: Command) -> u64
-    ensures { λ r. ⌜ r ≡ adlerOfBytes (take (handedLength (runBytes (h .geometry) (c .third)) 0 (length (now (buffer .entry)))) (now (buffer .entry))) ⌝ }
-{
+pub fn read_sum(buffer: &[u8], h: Host, c: Command) -> u64 {
     let g = h.geometry;
     let run = super::hosting::run_bytes(g, c.third);
     let b = super::hosting::lend(run, 0, buffer.len());
@@ -207,17 +178,13 @@ pub fn read_sum(buffer: &[u8], h: Host, c: Command) -> u64
 }
 
 // The checksum of the shelf's sectors.
-pub fn sectors_sum(space: &[u8], h: Host) -> u64
-    ensures { λ r. ⌜ r ≡ adlerOfBytes (allSectors h (now (space .entry))) ⌝ }
-{
+pub fn sectors_sum(space: &[u8], h: Host) -> u64 {
     let a = super::hosting::lend(h.bytes, 0, space.len());
     super::checksum::adler_of(&space[..a])
 }
 
 // The checksum of the shelf's pointers.
-pub fn pointers_sum(written: &[u32], durable: &[u32], h: Host) -> u64
-    ensures { λ r. ⌜ r ≡ adlerOfTables (allPointers h (now (written .entry))) (allPointers h (now (durable .entry))) ⌝ }
-{
+pub fn pointers_sum(written: &[u32], durable: &[u32], h: Host) -> u64 {
     let w = super::hosting::lend(h.cells, 0, written.len());
     let d = super::hosting::lend(h.cells, 0, durable.len());
     super::checksum::adler_of_tables(&written[..w], &durable[..d])

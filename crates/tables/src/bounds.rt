@@ -1,12 +1,14 @@
 // The bounds of a geometry, its sizes, and refusals 1 to 3 as far as they speak of the geometry and the tables.
 use super::Geometry;
+use super::MAX_DRIVES;
+use super::MAX_ZONES;
 ghost use mathlib.Core.Path.{_≡_};
 ghost use mathlib.Core.Bool.{_&&_};
 ghost use Prim.Native.Nat.{_≤_, _<_};
 ghost use lib.ListN.{length};
 ghost use Rattle.tables.specs.meaning.Below.{anyBelow};
 ghost use Rattle.tables.specs.meaning.Geometry.{Valid, geometryOf, log2, zoneSectors, stripeSectors, physicalZones, cells, totalBytes};
-ghost use Rattle.tables.specs.meaning.GeometryTest.{isValid, all, ranges, sectorSize};
+ghost use Rattle.tables.specs.meaning.GeometryTest.{isValid, all, boundTests, sectorSize};
 ghost use Rattle.tables.specs.meaning.Tables.{lengthsFit, bufferFits, pointerBad, pointersBad};
 
 // The geometry of document 01's five numbers, with each drive's logs at their first places.
@@ -36,7 +38,7 @@ fn size_ok(b: usize) -> bool
 }
 
 fn in_ranges(g: Geometry) -> bool
-    ensures { λ r. ⌜ r ≡ all (ranges g) ⌝ }
+    ensures { λ r. ⌜ r ≡ all (boundTests g) ⌝ }
 {
     let b = g.sector;
     let size = size_ok(b);
@@ -46,10 +48,11 @@ fn in_ranges(g: Geometry) -> bool
     let c = g.capacity;
     let logs = g.logs;
     (3 <= d)
-        & ((d <= 8)
+        & ((d <= MAX_DRIVES)
             & (size
                 & ((1 <= u)
-                    & ((u <= 16) & ((1 <= l) & ((l <= 16) & ((c <= 65536) & (logs == 0))))))))
+                    & ((u <= 16)
+                        & ((1 <= l) & ((l <= MAX_ZONES) & ((c <= 65536) & (logs == 0))))))))
 }
 
 // Whether every bound of document 01 holds.
@@ -195,7 +198,12 @@ fn named_bad(written: &[u32], durable: &[u32], g: Geometry, named: bool, d: usiz
 }
 
 // Refusal 3: whether a named drive has a pointer that no drive can have.
-pub fn pointers_bad(written: &[u32], durable: &[u32], g: Geometry, named: [bool; 8]) -> bool
+pub fn pointers_bad(
+    written: &[u32],
+    durable: &[u32],
+    g: Geometry,
+    named: [bool; MAX_DRIVES],
+) -> bool
     requires { ⌜ Valid g ⌝ }
     requires { ⌜ (length (now written) ≡ cells g) × (length (now durable) ≡ cells g) ⌝ }
     ensures { λ r. ⌜ r ≡ pointersBad g named (now (written .entry)) (now (durable .entry)) ⌝ }

@@ -1,5 +1,6 @@
 pub mod AbsentDrives
 pub mod AnswerNumbers
+pub mod AnyInput
 pub mod ArrayNumbers
 pub mod BadPlaces
 pub mod ByteLists
@@ -22,6 +23,7 @@ pub mod EmptyingDepends
 pub mod EmptyingFits
 pub mod EmptyingStored
 pub mod EmptyingUnread
+pub mod FilledArrays
 pub mod FillStores
 pub mod Firm
 pub mod GenerationRange
@@ -32,8 +34,8 @@ pub mod LeastRefusal
 pub mod LogClaims
 pub mod LogPlaces
 pub mod LogRoom
-pub mod LogsUnread
 pub mod LogStrengths
+pub mod LogsUnread
 pub mod LookPointers
 pub mod LookRows
 pub mod MountAbsentDrives
@@ -62,5 +64,6 @@ pub mod RulesUnread
 pub mod SectorLengths
 pub mod SectorsStored
 pub mod SpareZone
+pub mod StateHeld
 pub mod StoreCounts
 pub mod TornRoom

@@ -4,6 +4,7 @@ use super::BadPlace;
 use logs::Fault;
 use logs::WalkEnd;
 use tables::Geometry;
+use tables::MAX_DRIVES;
 ghost use mathlib.Core.Path.{_≡_};
 ghost use Prim.Native.Nat.{_<_};
 ghost use Rattle.tables.specs.meaning.Basics.{pick};
@@ -118,7 +119,7 @@ fn present_place(sectors: &[u8], written: &[u32], g: Geometry, present: bool, d:
 }
 
 // The first of all.
-pub fn first_bad(sectors: &[u8], written: &[u32], g: Geometry, here: [bool; 8]) -> BadPlace
+pub fn first_bad(sectors: &[u8], written: &[u32], g: Geometry, here: [bool; MAX_DRIVES]) -> BadPlace
     requires { ⌜ Valid g ⌝ }
     requires { ⌜ Sized g (now sectors) (now written) ⌝ }
     ensures { λ r. ⌜ r ≡ firstBadPlace g (isSet here) (zonePlace g) (readDevice g (now (sectors .entry)) (now (written .entry))) ⌝ }

@@ -5,6 +5,7 @@ use super::ZoneRecord;
 use super::checks::Sizes;
 use super::writing::Run;
 use tables::Geometry;
+use tables::MAX_DRIVES;
 ghost use mathlib.Core.Path.{_≡_};
 ghost use Rattle.tables.specs.meaning.Geometry.{Valid};
 ghost use Rattle.volume.specs.checks.ByRecord.{RecordFits};
@@ -15,7 +16,7 @@ ghost use Rattle.volume.specs.reading.ReadByRecord.{ReadBy};
 // address's zone, and whether refusal 3 applies.
 pub struct ByRecord {
     pub geometry: Geometry,
-    pub named: [bool; 8],
+    pub named: [bool; MAX_DRIVES],
     pub lost: usize,
     pub record: ZoneRecord,
     pub bad: bool,

@@ -1,10 +1,10 @@
 // What every call checks of its input before it looks at a zone: refusals 1 to 4, and the drives that are present.
 use super::Answer;
 use super::BadPlace;
-use super::Condition;
 use super::Outcome;
 use super::State;
 use tables::Geometry;
+use tables::MAX_DRIVES;
 ghost use mathlib.Core.Path.{_≡_};
 ghost use mathlib.Core.Bool.{not, _&&_};
 ghost use Prim.Native.Nat.{suc, ℕ, _≤_, _<_};
@@ -21,18 +21,6 @@ ghost use Rattle.volume.specs.meaning.Answers.{refusedAt};
 ghost use Rattle.volume.specs.meaning.CallContracts.{recordAt, viewState, isSet};
 ghost use Rattle.volume.specs.checks.CheckLaws.{presentList, openingFrom, openedFrom, Tested};
 
-// The pointer that a condition carries.
-pub fn pointer_of(c: Condition) -> usize
-    ensures { λ r. ⌜ r ≡ pointerIn c ⌝ }
-{
-    match c {
-        Condition::Empty => 0,
-        Condition::Open(n) => n,
-        Condition::Sealed(n) => n,
-        Condition::Worn(n) => n,
-    }
-}
-
 // Whether no pointer of the state is past its zone's end.
 fn pointers_within(g: Geometry, state: State) -> bool
     requires { ⌜ Valid g ⌝ }
@@ -46,7 +34,7 @@ fn pointers_within(g: Geometry, state: State) -> bool
     while z < n {
         let r = zones[z];
         let c = r.condition;
-        let p = pointer_of(c);
+        let p = super::records::pointer_of(c);
         ok = ok & (p <= most);
         z += 1;
     }
@@ -65,7 +53,7 @@ pub fn state_within(g: Geometry, state: State) -> bool
 }
 
 // The drives of a call: named, and not lost in the state.
-pub fn present_drives(g: Geometry, named: [bool; 8], lost: usize) -> [bool; 8]
+pub fn present_drives(g: Geometry, named: [bool; MAX_DRIVES], lost: usize) -> [bool; MAX_DRIVES]
     requires { ⌜ Valid g ⌝ }
     ensures { λ r. ⌜ r ≡ presentList g named lost ⌝ }
 {
@@ -89,7 +77,7 @@ fn one_unless(b: bool) -> usize
 }
 
 // How many drives are absent.
-pub fn count_absent(g: Geometry, here: [bool; 8]) -> usize
+pub fn count_absent(g: Geometry, here: [bool; MAX_DRIVES]) -> usize
     requires { ⌜ Valid g ⌝ }
     ensures { λ r. ⌜ r ≡ countBelow (λ (d : ℕ). not (isSet here d)) (g .drives) ⌝ }
 {
@@ -119,7 +107,7 @@ pub fn choose_generation(b: bool, x: u64, y: u64) -> u64
 }
 
 // The drive that is absent, or 255.
-pub fn left_out(g: Geometry, here: [bool; 8]) -> usize
+pub fn left_out(g: Geometry, here: [bool; MAX_DRIVES]) -> usize
     requires { ⌜ Valid g ⌝ }
     ensures { λ r. ⌜ r ≡ findBelow (λ (d : ℕ). not (isSet here d)) (g .drives) ⌝ }
 {
@@ -154,7 +142,7 @@ pub struct Sizes {
 }
 
 // Refusals 2 to 4 of a call that passed 1, with tables of pointers of the right lengths; 0 if none applies. `bad`: what refusal 3 found.
-pub fn opened(g: Geometry, named: [bool; 8], lost: usize, sizes: Sizes, bad: bool) -> u8
+pub fn opened(g: Geometry, named: [bool; MAX_DRIVES], lost: usize, sizes: Sizes, bad: bool) -> u8
     requires { ⌜ Valid g ⌝ }
     ensures { λ r. ⌜ r ≡ openedFrom g named lost (sizes .count) (sizes .bytes) (sizes .sectors) bad ⌝ }
 {
@@ -185,7 +173,7 @@ pub fn opening(
     written: &[u32],
     durable: &[u32],
     g: Geometry,
-    named: [bool; 8],
+    named: [bool; MAX_DRIVES],
     lost: usize,
 ) -> u8
     requires { ⌜ Tested within g ⌝ }

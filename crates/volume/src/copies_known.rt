@@ -1,6 +1,7 @@
 // Refusal 15 where a parity log is emptied: "an entry that has to be made needs the sectors of its stripe below the pointer".
 use super::Zone;
 use tables::Geometry;
+use tables::MAX_DRIVES;
 ghost use mathlib.Core.Path.{_≡_};
 ghost use Prim.Native.Nat.{_≤_, _<_};
 ghost use Rattle.tables.specs.meaning.Geometry.{Valid, zoneSectors};
@@ -48,7 +49,7 @@ pub fn copies_gone(
     sectors: &[u8],
     pointers: &[u32],
     g: Geometry,
-    here: [bool; 8],
+    here: [bool; MAX_DRIVES],
     drive: usize,
     generations: &[u64],
     points: &[usize],

@@ -1,6 +1,7 @@
 // Rule 1: which drives are lost by what the named drives' logs say, and which are present. And refusal 5, which looks at the general logs of
 // the present drives.
 use tables::Geometry;
+use tables::MAX_DRIVES;
 ghost use mathlib.Core.Path.{_≡_};
 ghost use mathlib.Core.Bool.{_&&_, _||_, not};
 ghost use Prim.Native.Nat.{ℕ, _<_};
@@ -30,13 +31,18 @@ fn said_by(sectors: &[u8], written: &[u32], g: Geometry, named: bool, drive: usi
 }
 
 // What each drive says.
-fn said_lost(sectors: &[u8], written: &[u32], g: Geometry, named: [bool; 8]) -> [usize; 8]
+fn said_lost(
+    sectors: &[u8],
+    written: &[u32],
+    g: Geometry,
+    named: [bool; MAX_DRIVES],
+) -> [usize; MAX_DRIVES]
     requires { ⌜ Valid g ⌝ }
     requires { ⌜ Sized g (now sectors) (now written) ⌝ }
     ensures { λ r. ⌜ r ≡ saidList g named (readDevice g (now (sectors .entry)) (now (written .entry))) ⌝ }
 {
     let n = g.drives;
-    let mut said = [255usize; 8];
+    let mut said = [255usize; MAX_DRIVES];
     let mut d = 0;
     while d < n {
         let x = said_by(sectors, written, g, named[d], d);
@@ -47,7 +53,7 @@ fn said_lost(sectors: &[u8], written: &[u32], g: Geometry, named: [bool; 8]) -> 
 }
 
 // Whether some drive says that drive d is lost.
-fn is_said(g: Geometry, said: [usize; 8], d: usize) -> bool
+fn is_said(g: Geometry, said: [usize; MAX_DRIVES], d: usize) -> bool
     requires { ⌜ Valid g ⌝ }
     ensures { λ r. ⌜ r ≡ saidOf g said d ⌝ }
 {
@@ -62,14 +68,19 @@ fn is_said(g: Geometry, said: [usize; 8], d: usize) -> bool
 }
 
 // The drives present: named, and said to be lost by no named drive.
-pub fn look_present(sectors: &[u8], written: &[u32], g: Geometry, named: [bool; 8]) -> [bool; 8]
+pub fn look_present(
+    sectors: &[u8],
+    written: &[u32],
+    g: Geometry,
+    named: [bool; MAX_DRIVES],
+) -> [bool; MAX_DRIVES]
     requires { ⌜ Valid g ⌝ }
     requires { ⌜ Sized g (now sectors) (now written) ⌝ }
     ensures { λ r. ⌜ isSet r ≡ isPresent g (isSet named) (readDevice g (now (sectors .entry)) (now (written .entry))) ⌝ }
 {
     let n = g.drives;
     let said = said_lost(sectors, written, g, named);
-    let mut here = [false; 8];
+    let mut here = [false; MAX_DRIVES];
     let mut d = 0;
     while d < n {
         let lost = is_said(g, said, d);
@@ -100,7 +111,13 @@ fn array_differs(
 }
 
 // Whether some present drive's log begins with another array number.
-fn other_array(sectors: &[u8], written: &[u32], g: Geometry, here: [bool; 8], array: u64) -> bool
+fn other_array(
+    sectors: &[u8],
+    written: &[u32],
+    g: Geometry,
+    here: [bool; MAX_DRIVES],
+    array: u64,
+) -> bool
     requires { ⌜ Valid g ⌝ }
     requires { ⌜ Sized g (now sectors) (now written) ⌝ }
     ensures { λ r. ⌜ r ≡ anyBelow (λ (e : ℕ). isSet here e && not (eqb array (arrayIn (generalHeads g (readDevice g (now (sectors .entry)) (now (written .entry))) e)))) (g .drives) ⌝ }
@@ -117,7 +134,13 @@ fn other_array(sectors: &[u8], written: &[u32], g: Geometry, here: [bool; 8], ar
 }
 
 // Refusal 5 for one drive: present, but its log does not begin with a label, or another begins with another array number.
-fn label_bad(sectors: &[u8], written: &[u32], g: Geometry, here: [bool; 8], d: usize) -> bool
+fn label_bad(
+    sectors: &[u8],
+    written: &[u32],
+    g: Geometry,
+    here: [bool; MAX_DRIVES],
+    d: usize,
+) -> bool
     requires { ⌜ Valid g ⌝ }
     requires { ⌜ Sized g (now sectors) (now written) × (d < g .drives) ⌝ }
     ensures { λ r. ⌜ r ≡ labelBad g (isSet here) (readDevice g (now (sectors .entry)) (now (written .entry))) d ⌝ }
@@ -133,7 +156,7 @@ fn label_bad(sectors: &[u8], written: &[u32], g: Geometry, here: [bool; 8], d: u
 }
 
 // Refusal 5.
-pub fn labels_bad(sectors: &[u8], written: &[u32], g: Geometry, here: [bool; 8]) -> bool
+pub fn labels_bad(sectors: &[u8], written: &[u32], g: Geometry, here: [bool; MAX_DRIVES]) -> bool
     requires { ⌜ Valid g ⌝ }
     requires { ⌜ Sized g (now sectors) (now written) ⌝ }
     ensures { λ r. ⌜ r ≡ badLabels g (isSet here) (readDevice g (now (sectors .entry)) (now (written .entry))) ⌝ }
@@ -150,7 +173,7 @@ pub fn labels_bad(sectors: &[u8], written: &[u32], g: Geometry, here: [bool; 8])
 }
 
 // The last present drive, or 255.
-fn last_present(g: Geometry, here: [bool; 8]) -> usize
+fn last_present(g: Geometry, here: [bool; MAX_DRIVES]) -> usize
     requires { ⌜ Valid g ⌝ }
     ensures { λ r. ⌜ r ≡ findBelow (isSet here) (g .drives) ⌝ }
 {
@@ -165,7 +188,7 @@ fn last_present(g: Geometry, here: [bool; 8]) -> usize
 }
 
 // The array number with which the present drives' logs begin: that of the last present one, 0 if none is present.
-pub fn look_array(sectors: &[u8], written: &[u32], g: Geometry, here: [bool; 8]) -> u64
+pub fn look_array(sectors: &[u8], written: &[u32], g: Geometry, here: [bool; MAX_DRIVES]) -> u64
     requires { ⌜ Valid g ⌝ }
     requires { ⌜ Sized g (now sectors) (now written) ⌝ }
     ensures { λ r. ⌜ r ≡ arrayIn (generalHeads g (readDevice g (now (sectors .entry)) (now (written .entry))) (findBelow (isSet here) (g .drives))) ⌝ }

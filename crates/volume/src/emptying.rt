@@ -5,6 +5,7 @@
 use logs::Found;
 use logs::Log;
 use tables::Geometry;
+use tables::MAX_DRIVES;
 ghost use mathlib.Core.Path.{_≡_};
 ghost use mathlib.Core.Bool.{true, false};
 ghost use Prim.Native.Nat.{_≤_, _<_};
@@ -36,7 +37,7 @@ pub const SPARE_ZONE: usize = 2;
 pub struct Emptying {
     pub from: Geometry,
     pub to: Geometry,
-    pub here: [bool; 8],
+    pub here: [bool; MAX_DRIVES],
     pub drive: usize,
     pub generation: u64,
 }

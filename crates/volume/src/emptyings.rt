@@ -2,6 +2,7 @@
 // of the written pointers of then, and stored where they lie once all are emptied: each store is on one drive.
 use super::emptying::Emptying;
 use tables::Geometry;
+use tables::MAX_DRIVES;
 ghost use mathlib.Core.Path.{_≡_};
 ghost use mathlib.Core.Bool.{true, false};
 ghost use Prim.Native.Nat.{_≤_, _<_};
@@ -19,9 +20,9 @@ ghost use Rattle.volume.specs.emptying.ParityTurns.{ParitiesReady, parit
 pub struct Emptyings {
     pub from: Geometry,
     pub to: Geometry,
-    pub here: [bool; 8],
-    pub emptied: [bool; 8],
-    pub generations: [u64; 8],
+    pub here: [bool; MAX_DRIVES],
+    pub emptied: [bool; MAX_DRIVES],
+    pub generations: [u64; MAX_DRIVES],
 }
 
 // A drive's general log, if it is one of them.

@@ -4,6 +4,7 @@ use super::Outcome;
 use super::State;
 use super::checks::Sizes;
 use tables::Geometry;
+use tables::MAX_DRIVES;
 ghost use mathlib.Core.Path.{_≡_};
 ghost use Prim.Native.Nat.{_<_};
 ghost use lib.ListN.{length};
@@ -21,7 +22,7 @@ pub fn flush_all(
     written: &[u32],
     durable: &mut [u32],
     g: Geometry,
-    here: [bool; 8],
+    here: [bool; MAX_DRIVES],
     budget: u64,
 ) -> u64
     requires { ⌜ Valid g ⌝ }
@@ -61,7 +62,7 @@ pub fn flush(
     written: &[u32],
     durable: &mut [u32],
     g: Geometry,
-    named: [bool; 8],
+    named: [bool; MAX_DRIVES],
     state: State,
     count: u32,
 ) -> Outcome

@@ -4,6 +4,8 @@ use super::Outcome;
 use super::State;
 use super::ZoneRecord;
 use tables::Geometry;
+use tables::MAX_DRIVES;
+use tables::MAX_ZONES;
 ghost use mathlib.Core.Path.{_≡_};
 ghost use Prim.Native.Nat.{_<_};
 ghost use lib.ListN.{length};
@@ -12,8 +14,8 @@ ghost use Rattle.tables.specs.meaning.Geometry.{Valid, physicalZones, cells, to
 ghost use Rattle.tables.specs.meaning.Phases.{onPresent};
 ghost use Rattle.tables.specs.meaning.Tables.{tablesOf};
 ghost use Rattle.tables.specs.laws.Made.{Made, MadeAppends, MadePointers};
-ghost use Rattle.volume.specs.meaning.Calls.{formatStores};
-ghost use Rattle.volume.specs.meaning.CallContracts.{isSet, formatOn, freshState};
+ghost use Rattle.volume.specs.meaning.Calls.{formatStores, formatState};
+ghost use Rattle.volume.specs.meaning.CallContracts.{isSet, formatOn, stateHeld};
 ghost use Rattle.volume.specs.storing.Formatting.{formatNumber, driveResets, driveEntries, resetsIf, entriesIf};
 
 // Refusals 1 to 4, of a call that has no state yet; 0 if none applies.
@@ -22,7 +24,7 @@ fn format_refusal(
     written: &[u32],
     durable: &[u32],
     g: Geometry,
-    named: [bool; 8],
+    named: [bool; MAX_DRIVES],
 ) -> u8
     ensures { λ r. ⌜ r ≡ formatNumber g named sectors (now (written .entry)) (now (durable .entry)) ⌝ }
 {
@@ -69,7 +71,7 @@ fn reset_drives(
     written: &mut [u32],
     durable: &mut [u32],
     g: Geometry,
-    here: [bool; 8],
+    here: [bool; MAX_DRIVES],
     budget: u64,
 ) -> u64
     requires { ⌜ Valid g ⌝ }
@@ -103,7 +105,7 @@ fn label_drive(
     ensures { λ r. ⌜ MadeAppends g budget r (entriesIf g here lost array drive) (now (sectors .entry)) (now (written .entry)) (now (sectors .exit)) (now (written .exit)) ⌝ }
 {
     let rest = super::logging::append_label(sectors, written, g, here, drive, lost, array, budget);
-    let ones = [1u64; 16];
+    let ones = [1u64; MAX_ZONES];
     super::logging::append_counters(sectors, written, g, here, drive, &ones, rest)
 }
 
@@ -112,7 +114,7 @@ fn label_drives(
     sectors: &mut [u8],
     written: &mut [u32],
     g: Geometry,
-    here: [bool; 8],
+    here: [bool; MAX_DRIVES],
     lost: usize,
     array: u64,
     budget: u64,
@@ -138,7 +140,7 @@ fn format_stores(
     written: &mut [u32],
     durable: &mut [u32],
     g: Geometry,
-    here: [bool; 8],
+    here: [bool; MAX_DRIVES],
     lost: usize,
     array: u64,
     budget: u64,
@@ -156,14 +158,11 @@ fn format_stores(
 // The state that a finished format hands on: every zone empty, of generation 1; the records past the last zone blank.
 fn fresh_state(g: Geometry, lost: usize) -> State
     requires { ⌜ Valid g ⌝ }
-    ensures { λ r. ⌜ r ≡ freshState g lost ⌝ }
+    ensures { λ r. ⌜ r ≡ stateHeld (g .zones) (formatState lost) ⌝ }
 {
     let n = g.zones;
-    let blank = ZoneRecord {
-        generation: 0,
-        condition: Condition::Empty,
-    };
-    let mut zones = [blank; 16];
+    let blank = super::records::blank_record();
+    let mut zones = [blank; MAX_ZONES];
     let mut z = 0;
     while z < n {
         zones[z] = ZoneRecord {
@@ -181,7 +180,7 @@ pub fn format(
     written: &mut [u32],
     durable: &mut [u32],
     g: Geometry,
-    named: [bool; 8],
+    named: [bool; MAX_DRIVES],
     array: u64,
     old: State,
     count: u32,

@@ -4,9 +4,10 @@
 // row below its end are held. The more an entry covers, the more sectors it needs: so the entries that serve are those that end past the sector
 // and at most at its row's first other sector that is not held. A sector that is held costs no walk of a log.
 use super::Zone;
-use super::rebuilding::RowPlace;
+use super::row_others::RowPlace;
 use logs::Found;
 use tables::Geometry;
+use tables::MAX_DRIVES;
 ghost use mathlib.Core.Path.{_≡_};
 ghost use mathlib.Core.Bool.{true};
 ghost use Prim.Native.Nat.{_+_, _-_, _≤_, _<_, min};
@@ -66,7 +67,7 @@ pub fn seal_limit(
     sectors: &[u8],
     written: &[u32],
     g: Geometry,
-    here: [bool; 8],
+    here: [bool; MAX_DRIVES],
     z: usize,
     generation: u64,
 ) -> usize
@@ -91,7 +92,14 @@ pub fn seal_limit(
 }
 
 // Whether sector x of a zone is held by drive d.
-pub fn is_held(written: &[u32], g: Geometry, here: [bool; 8], z: usize, d: usize, x: usize) -> bool
+pub fn is_held(
+    written: &[u32],
+    g: Geometry,
+    here: [bool; MAX_DRIVES],
+    z: usize,
+    d: usize,
+    x: usize,
+) -> bool
     requires { ⌜ Valid g ⌝ }
     requires { ⌜ (z < g .zones) × (d < g .drives) × (length (now written) ≡ cells g) ⌝ }
     ensures { λ r. ⌜ r ≡ heldOn g here (now (written .entry)) z d x ⌝ }
@@ -106,7 +114,7 @@ pub fn is_held(written: &[u32], g: Geometry, here: [bool; 8], z: usize, d: usize
 }
 
 // Whether the drive of address a holds it.
-pub fn own_held(written: &[u32], g: Geometry, here: [bool; 8], z: usize, a: usize) -> bool
+pub fn own_held(written: &[u32], g: Geometry, here: [bool; MAX_DRIVES], z: usize, a: usize) -> bool
     requires { ⌜ Valid g ⌝ }
     requires { ⌜ (z < g .zones) × (length (now written) ≡ cells g) × (a < zoneSectors g) ⌝ }
     ensures { λ r. ⌜ r ≡ ownHeld g here (now (written .entry)) z a ⌝ }
@@ -120,7 +128,7 @@ pub fn own_held(written: &[u32], g: Geometry, here: [bool; 8], z: usize, a: usiz
 pub fn all_held(
     written: &[u32],
     g: Geometry,
-    here: [bool; 8],
+    here: [bool; MAX_DRIVES],
     z: usize,
     offset: usize,
     count: usize,
@@ -184,7 +192,7 @@ fn unit_index(g: Geometry, a: usize) -> usize
 }
 
 // The first address in the row of a, its own left out, that is not held; the stripe's end if all are held.
-fn reach_of(written: &[u32], g: Geometry, here: [bool; 8], z: usize, a: usize) -> usize
+fn reach_of(written: &[u32], g: Geometry, here: [bool; MAX_DRIVES], z: usize, a: usize) -> usize
     requires { ⌜ Valid g ⌝ }
     requires { ⌜ (z < g .zones) × (a < zoneSectors g) × (length (now written) ≡ cells g) ⌝ }
     ensures { λ r. ⌜ r ≡ reachOf g here (now (written .entry)) z a ⌝ }
@@ -203,7 +211,7 @@ fn reach_of(written: &[u32], g: Geometry, here: [bool; 8], z: usize, a: usize) -
 fn reach_past(
     written: &[u32],
     g: Geometry,
-    here: [bool; 8],
+    here: [bool; MAX_DRIVES],
     z: usize,
     a: usize,
     k: usize,
@@ -258,7 +266,7 @@ fn serving_place(sectors: &[u8], written: &[u32], zone: Zone, limit: usize, a: u
 }
 
 // Whether the row's parity is in place with all its other data.
-fn row_complete(written: &[u32], g: Geometry, here: [bool; 8], z: usize, a: usize) -> bool
+fn row_complete(written: &[u32], g: Geometry, here: [bool; MAX_DRIVES], z: usize, a: usize) -> bool
     requires { ⌜ Valid g ⌝ }
     requires { ⌜ (z < g .zones) × (a < zoneSectors g) × (length (now written) ≡ cells g) ⌝ }
     ensures { λ r. ⌜ r ≡ rowComplete g here (now (written .entry)) z a ⌝ }
@@ -317,7 +325,7 @@ pub fn is_known(sectors: &[u8], written: &[u32], zone: Zone, limit: usize, a: us
 
 // The exclusive or of the other sectors in the row of a below an end with sector n of a zone of the parity drive: the row's parity in place, or a row
 // of an entry.
-fn rebuild(
+fn value_of_row(
     sectors: &[u8],
     g: Geometry,
     z: usize,
@@ -341,7 +349,7 @@ fn rebuild(
         end,
     };
     tables::sectors::read_sector(sectors, g, p, zone, n, out);
-    super::rebuilding::xor_row(sectors, g, row, out);
+    super::row_others::xor_row(sectors, g, row, out);
 }
 
 // The end of a partial parity entry.
@@ -384,18 +392,18 @@ pub fn read_own(sectors: &[u8], g: Geometry, z: usize, a: usize, out: &mut [u8])
 }
 
 // A sector by its row's parity in place.
-fn rebuild_by_row(sectors: &[u8], g: Geometry, z: usize, a: usize, out: &mut [u8])
+fn value_by_row(sectors: &[u8], g: Geometry, z: usize, a: usize, out: &mut [u8])
     requires { ⌜ Valid g ⌝ }
     requires { ⌜ (z < g .zones) × (a < zoneSectors g) × (length (now sectors) ≡ totalBytes g) × (length (now out) ≡ g .sector) ⌝ }
     ensures { λ _. ⌜ now (out .exit) ≡ wayValue g (now (sectors .entry)) z a Row ⌝ }
 {
     let end = stripe_end(g, a);
     let x = tables::placement::sector_of(g, a);
-    rebuild(sectors, g, z, a, end, tables::DATA_ZONES + z, x, out);
+    value_of_row(sectors, g, z, a, end, tables::DATA_ZONES + z, x, out);
 }
 
 // A sector by the entry at a place of its parity drive's log.
-fn rebuild_by_entry(sectors: &[u8], g: Geometry, z: usize, a: usize, place: usize, out: &mut [u8])
+fn value_by_entry(sectors: &[u8], g: Geometry, z: usize, a: usize, place: usize, out: &mut [u8])
     requires { ⌜ Valid g ⌝ }
     requires { ⌜ (z < g .zones) × (a < zoneSectors g) × (length (now sectors) ≡ totalBytes g) × (length (now out) ≡ g .sector) × SourceFits g (now sectors) z a (Entry place) ⌝ }
     ensures { λ _. ⌜ now (out .exit) ≡ wayValue g (now (sectors .entry)) z a (Entry place) ⌝ }
@@ -404,7 +412,7 @@ fn rebuild_by_entry(sectors: &[u8], g: Geometry, z: usize, a: usize, place: usiz
     let end = entry_end(sectors, g, p, place);
     let k = tables::bounds::stripe_sectors(g);
     let u = g.unit;
-    rebuild(sectors, g, z, a, end, 1, place + a % k % u, out);
+    value_of_row(sectors, g, z, a, end, 1, place + a % k % u, out);
 }
 
 // The value by a way; without one the buffer stays as it is.
@@ -416,8 +424,8 @@ fn value_by(sectors: &[u8], g: Geometry, z: usize, a: usize, way: Source, out: &
     match way {
         Source::Unknown => {}
         Source::Held => read_own(sectors, g, z, a, out),
-        Source::Row => rebuild_by_row(sectors, g, z, a, out),
-        Source::Entry(place) => rebuild_by_entry(sectors, g, z, a, place, out),
+        Source::Row => value_by_row(sectors, g, z, a, out),
+        Source::Entry(place) => value_by_entry(sectors, g, z, a, place, out),
     }
 }
 
@@ -446,7 +454,7 @@ pub fn sector_value(
     sectors: &[u8],
     written: &[u32],
     g: Geometry,
-    here: [bool; 8],
+    here: [bool; MAX_DRIVES],
     z: usize,
     generation: u64,
     limit: usize,

@@ -1,5 +1,7 @@
 // The volume: the calls over the tables that the host lends and the state that it keeps between calls, all but mount (crate `mounting`).
 use tables::Geometry;
+use tables::MAX_DRIVES;
+use tables::MAX_ZONES;
 
 pub mod bad_places;
 pub mod by_record;
@@ -18,10 +20,11 @@ pub mod logging;
 pub mod looking;
 pub mod numbers;
 pub mod reading;
-pub mod rebuilding;
+pub mod records;
 pub mod reporting;
 pub mod resetting;
 pub mod roles;
+pub mod row_others;
 pub mod rows;
 pub mod stripes;
 pub mod write_checks;
@@ -49,13 +52,13 @@ pub struct ZoneRecord {
 // What the host keeps between calls: the lost drive or 255, and a record for each zone. Records past the volume's last zone say nothing.
 pub struct State {
     pub lost: usize,
-    pub zones: [ZoneRecord; 16],
+    pub zones: [ZoneRecord; MAX_ZONES],
 }
 
 // A zone as a call reads it: the geometry, the drives that are present, the zone's number, and the generation under which it is read.
 pub struct Zone {
     pub geometry: Geometry,
-    pub here: [bool; 8],
+    pub here: [bool; MAX_DRIVES],
     pub number: usize,
     pub generation: u64,
 }
@@ -96,7 +99,7 @@ pub struct ZoneLook {
 pub struct Look {
     pub lost: usize,
     pub array: u64,
-    pub zones: [ZoneLook; 16],
+    pub zones: [ZoneLook; MAX_ZONES],
 }
 
 // A zone's condition as a report tells it: sealed and worn zones are read-only.

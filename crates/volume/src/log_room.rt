@@ -4,6 +4,7 @@
 use super::emptyings::Emptyings;
 use super::roles::LogPlaces;
 use tables::Geometry;
+use tables::MAX_DRIVES;
 ghost use mathlib.Core.Path.{_≡_};
 ghost use mathlib.Core.Bool.{_&&_, true, false};
 ghost use Prim.Native.Nat.{_≤_, _<_, _-_};
@@ -20,8 +21,8 @@ ghost use Rattle.volume.specs.emptying.ParityCopies.{PointersWithin};
 pub struct RoomAsked {
     pub first: Geometry,
     pub places: LogPlaces,
-    pub here: [bool; 8],
-    pub due: [bool; 8],
+    pub here: [bool; MAX_DRIVES],
+    pub due: [bool; MAX_DRIVES],
     pub parity: bool,
     pub limit: usize,
     pub clears_spares: bool,
@@ -37,8 +38,8 @@ pub struct DriveRoom {
 // That of all drives: whether one stays full, which are emptied, and the generations of the new logs.
 pub struct LogRoom {
     pub full: bool,
-    pub emptied: [bool; 8],
-    pub generations: [u64; 8],
+    pub emptied: [bool; MAX_DRIVES],
+    pub generations: [u64; MAX_DRIVES],
 }
 
 // Whether a drive lacks a kind.
@@ -173,8 +174,8 @@ fn no_answers() -> LogRoom
 {
     LogRoom {
         full: false,
-        emptied: [false; 8],
-        generations: [0u64; 8],
+        emptied: [false; MAX_DRIVES],
+        generations: [0u64; MAX_DRIVES],
     }
 }
 

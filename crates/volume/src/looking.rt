@@ -9,6 +9,9 @@ use super::ZoneLook;
 use super::ZoneRecord;
 use super::roles::LogPlaces;
 use tables::Geometry;
+use tables::MAX_CELLS;
+use tables::MAX_DRIVES;
+use tables::MAX_ZONES;
 ghost use mathlib.Core.Path.{_≡_};
 ghost use mathlib.Core.Bool.{not};
 ghost use Prim.Native.Nat.{ℕ};
@@ -28,7 +31,7 @@ ghost use Rattle.volume.specs.looking.Surveying.{Surveyed};
 // What a look goes by: where the logs lie, which drives are present, the refusal by their logs (4 to 6; 0 if none applies), and the first bad place.
 pub struct Survey {
     pub places: LogPlaces,
-    pub here: [bool; 8],
+    pub here: [bool; MAX_DRIVES],
     pub refusal: u8,
     pub bad: BadPlace,
 }
@@ -39,7 +42,7 @@ pub fn shape_refusal(
     written: &[u32],
     durable: &[u32],
     g: Geometry,
-    named: [bool; 8],
+    named: [bool; MAX_DRIVES],
 ) -> u8
     ensures { λ r. ⌜ r ≡ shapeNumber g named sectors (now (written .entry)) (now (durable .entry)) ⌝ }
 {
@@ -56,7 +59,7 @@ pub fn shape_refusal(
 }
 
 // Whether a present drive lacks a kind of log.
-fn kind_lacks(places: LogPlaces, here: [bool; 8]) -> bool
+fn kind_lacks(places: LogPlaces, here: [bool; MAX_DRIVES]) -> bool
     requires { ⌜ Valid (places .geometry) ⌝ }
     ensures { λ r. ⌜ r ≡ kindLacksOn places here ⌝ }
 {
@@ -77,7 +80,7 @@ fn log_refusal(
     sectors: &[u8],
     written: &[u32],
     places: LogPlaces,
-    here: [bool; 8],
+    here: [bool; MAX_DRIVES],
     bad: BadPlace,
 ) -> u8
     requires { ⌜ Valid (places .geometry) ⌝ }
@@ -107,7 +110,7 @@ pub fn survey_drives(
     written: &[u32],
     pointers: &mut [u32],
     g: Geometry,
-    named: [bool; 8],
+    named: [bool; MAX_DRIVES],
 ) -> Survey
     requires { ⌜ Valid g ⌝ }
     requires { ⌜ Sized g (now sectors) (now written) × (length (now pointers) ≡ cells g) × (g .logs ≡ 0) ⌝ }
@@ -126,7 +129,12 @@ pub fn survey_drives(
 }
 
 // What is shown of every zone; those past the last are blank.
-fn look_zones(sectors: &[u8], written: &[u32], g: Geometry, here: [bool; 8]) -> [ZoneLook; 16]
+fn look_zones(
+    sectors: &[u8],
+    written: &[u32],
+    g: Geometry,
+    here: [bool; MAX_DRIVES],
+) -> [ZoneLook; MAX_ZONES]
     requires { ⌜ Valid g ⌝ }
     requires { ⌜ Lookable g here (now sectors) (now written) ⌝ }
     ensures { λ r. ⌜ r ≡ looksFrom g (zoneShown g (isSet here) (readDevice g (now (sectors .entry)) (now (written .entry)))) ⌝ }
@@ -139,7 +147,7 @@ fn look_zones(sectors: &[u8], written: &[u32], g: Geometry, here: [bool; 8]) -> 
         by_reset: false,
         clean: false,
     };
-    let mut zones = [blank; 16];
+    let mut zones = [blank; MAX_ZONES];
     let mut z = 0;
     while z < n {
         let shown = super::zone_looking::look_zone(sectors, written, g, here, z);
@@ -150,7 +158,7 @@ fn look_zones(sectors: &[u8], written: &[u32], g: Geometry, here: [bool; 8]) -> 
 }
 
 // What the drives that are here show.
-pub fn look_all(sectors: &[u8], written: &[u32], g: Geometry, here: [bool; 8]) -> Look
+pub fn look_all(sectors: &[u8], written: &[u32], g: Geometry, here: [bool; MAX_DRIVES]) -> Look
     requires { ⌜ Valid g ⌝ }
     requires { ⌜ Lookable g here (now sectors) (now written) ⌝ }
     ensures { λ r. ⌜ r ≡ lookOf g (showing g (isSet here) (findBelow (λ (d : ℕ). not (isSet here d)) (g .drives)) (readDevice g (now (sectors .entry)) (now (written .entry)))) ⌝ }
@@ -162,16 +170,13 @@ pub fn look_all(sectors: &[u8], written: &[u32], g: Geometry, here: [bool; 8]) -
 }
 
 // The records of the zones that a look shows.
-pub fn records_of(g: Geometry, shown: [ZoneLook; 16]) -> [ZoneRecord; 16]
+pub fn records_of(g: Geometry, shown: [ZoneLook; MAX_ZONES]) -> [ZoneRecord; MAX_ZONES]
     requires { ⌜ Valid g ⌝ }
     ensures { λ r. ⌜ r ≡ recordsOf g shown ⌝ }
 {
     let n = g.zones;
-    let blank = ZoneRecord {
-        generation: 0,
-        condition: Condition::Empty,
-    };
-    let mut zones = [blank; 16];
+    let blank = super::records::blank_record();
+    let mut zones = [blank; MAX_ZONES];
     let mut z = 0;
     while z < n {
         let s = shown[z];
@@ -192,7 +197,7 @@ pub fn look(
     written: &[u32],
     durable: &[u32],
     g: Geometry,
-    named: [bool; 8],
+    named: [bool; MAX_DRIVES],
     old: State,
 ) -> Outcome
     ensures { λ r. ⌜ r ≡ lookOn g named old (tablesOf (now (sectors .entry)) (now (written .entry)) (now (durable .entry))) ⌝ }
@@ -202,7 +207,7 @@ pub fn look(
         return super::checks::refused(shape, old);
     }
     let cells = written.len();
-    let mut pointers = [0u32; 152];
+    let mut pointers = [0u32; MAX_CELLS];
     let found = survey_drives(sectors, written, &mut pointers[..cells], g, named);
     let refusal = found.refusal;
     if refusal != 0 {

@@ -7,6 +7,8 @@ use super::State;
 use super::Zone;
 use super::checks::Sizes;
 use tables::Geometry;
+use tables::MAX_CELLS;
+use tables::MAX_DRIVES;
 ghost use mathlib.Core.Path.{_≡_};
 ghost use mathlib.Core.Bool.{false};
 ghost use Prim.Native.Nat.{_+_, _*_, _≤_, _<_};
@@ -70,7 +72,7 @@ fn copy_run(sectors: &[u8], g: Geometry, z: usize, offset: usize, count: usize, 
 }
 
 // The values of a run that is known, sector after sector; limit serves it as the zone's least current seal does.
-fn rebuild_run(
+fn read_values(
     sectors: &[u8],
     written: &[u32],
     zone: Zone,
@@ -131,7 +133,7 @@ fn read_by_roles(
     if gone {
         return true;
     }
-    rebuild_run(sectors, pointers, seen, limit, offset, count, out);
+    read_values(sectors, pointers, seen, limit, offset, count, out);
     false
 }
 
@@ -150,7 +152,7 @@ fn read_logged(
     ensures { λ r. ⌜ RunRead zone (now (sectors .entry)) (now (written .entry)) offset count (now (out .entry)) r (now (out .exit)) ⌝ }
 {
     let cells = written.len();
-    let mut pointers = [0u32; 152];
+    let mut pointers = [0u32; MAX_CELLS];
     read_by_roles(
         sectors,
         written,
@@ -186,7 +188,7 @@ fn read_run(
     if logged {
         return read_logged(sectors, written, zone, offset, count, out);
     }
-    rebuild_run(sectors, written, zone, 0, offset, count, out);
+    read_values(sectors, written, zone, 0, offset, count, out);
     false
 }
 
@@ -224,7 +226,7 @@ fn run_refusal(written: &[u32], zone: Zone, c: Condition, offset: usize, count: 
     if (count == 0) | (most < end) {
         return 9;
     }
-    let pointer = super::checks::pointer_of(c);
+    let pointer = super::records::pointer_of(c);
     if pointer < end {
         return 13;
     }
@@ -249,7 +251,7 @@ pub fn read_zone(
     if late != 0 {
         return late;
     }
-    let pointer = super::checks::pointer_of(c);
+    let pointer = super::records::pointer_of(c);
     let gone = read_run(sectors, written, zone, pointer, offset, count, out);
     if gone {
         return 15;
@@ -273,7 +275,7 @@ pub fn read(
     written: &[u32],
     durable: &[u32],
     g: Geometry,
-    named: [bool; 8],
+    named: [bool; MAX_DRIVES],
     state: State,
     address: u64,
     count: u32,
@@ -317,7 +319,7 @@ pub fn read(
 fn place_refusal(
     written: &[u32],
     g: Geometry,
-    here: [bool; 8],
+    here: [bool; MAX_DRIVES],
     c: Condition,
     z: usize,
     offset: usize,
@@ -330,7 +332,7 @@ fn place_refusal(
     if stale {
         return 7;
     }
-    let pointer = super::checks::pointer_of(c);
+    let pointer = super::records::pointer_of(c);
     if pointer < offset + 1 {
         return 13;
     }
@@ -347,7 +349,7 @@ pub fn peek_refusal(
     written: &[u32],
     durable: &[u32],
     g: Geometry,
-    named: [bool; 8],
+    named: [bool; MAX_DRIVES],
     state: State,
     address: u64,
 ) -> u8
@@ -383,7 +385,7 @@ pub fn peek<'a>(
     written: &[u32],
     durable: &[u32],
     g: Geometry,
-    named: [bool; 8],
+    named: [bool; MAX_DRIVES],
     state: State,
     address: u64,
 ) -> &'a [u8]

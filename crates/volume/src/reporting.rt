@@ -60,7 +60,7 @@ pub fn describe(g: Geometry, state: State, z: usize) -> ZoneDescriptor
     let sectors = tables::bounds::zone_sectors(g);
     let r = state.zones[z];
     let c = r.condition;
-    let pointer = super::checks::pointer_of(c);
+    let pointer = super::records::pointer_of(c);
     let told = told_of(c);
     let start = z * sectors;
     ZoneDescriptor {

@@ -10,6 +10,9 @@ use super::emptyings::Emptyings;
 use super::log_room::RoomAsked;
 use super::roles::LogPlaces;
 use tables::Geometry;
+use tables::MAX_CELLS;
+use tables::MAX_DRIVES;
+use tables::MAX_ZONES;
 ghost use mathlib.Core.Path.{_≡_};
 ghost use mathlib.Core.Bool.{false, not};
 ghost use Prim.Native.Nat.{ℕ, _≤_, _<_};
@@ -19,22 +22,31 @@ ghost use lib.Dec.{eqb};
 ghost use Rattle.tables.specs.meaning.Basics.{pick};
 ghost use Rattle.tables.specs.meaning.Drives.{findBelow};
 ghost use Rattle.tables.specs.meaning.Below.{eachBelow};
-ghost use Rattle.tables.specs.meaning.Geometry.{Valid, zoneSectors, cells, totalBytes};
+ghost use Rattle.tables.specs.meaning.Geometry.{Valid, zoneSectors, cells, totalBytes, maxZones};
 ghost use Rattle.tables.specs.meaning.Phases.{onPresent};
 ghost use Rattle.tables.specs.meaning.Tables.{tablesOf};
 ghost use Rattle.tables.specs.laws.Made.{Made, MadeAppends, MadePointers};
 ghost use Rattle.logs.specs.meaning.Entry.{wornGeneration};
 ghost use Rattle.volume.specs.declared.Answer.the-variants.{Finished, Unfinished};
 ghost use Rattle.volume.specs.meaning.State.{pointerIn};
-ghost use Rattle.volume.specs.meaning.CallContracts.{recordAt, isSet, resetOn, resetRecord, withReset};
+ghost use Rattle.volume.specs.meaning.CallContracts.{recordAt, isSet, resetOn, stateHeld, viewState};
+ghost use Rattle.volume.specs.laws.StateHeld.{resetRecord};
 ghost use Rattle.volume.specs.looking.DriveLogs.{Sized};
 ghost use Rattle.volume.specs.checks.LogRoom.{SeenByRoles};
 ghost use Rattle.volume.specs.emptying.Emptyings.{EmptyingReady, emptiedOn, newGeneralOn};
 ghost use Rattle.volume.specs.storing.Resetting.{resetLateNumber, resetWith, resetEntry, zoneResetAt, countersAt, raisedList};
-ghost use Rattle.volume.specs.storing.ResetZone.{generationsIn, ResetReady, resetZoneOn};
+ghost use Rattle.volume.specs.storing.ResetZone.{ResetReady, resetZoneOn};
+ghost use Rattle.volume.specs.meaning.Calls.{resetState};
+ghost use Rattle.volume.specs.checks.Records.{generationsIn};
 
 // Refusals 7 and 12 of a reset of a zone that there is, by the state's record of it; 0 if none applies.
-fn zone_refusal(written: &[u32], g: Geometry, here: [bool; 8], r: ZoneRecord, z: usize) -> u8
+fn zone_refusal(
+    written: &[u32],
+    g: Geometry,
+    here: [bool; MAX_DRIVES],
+    r: ZoneRecord,
+    z: usize,
+) -> u8
     requires { ⌜ Valid g ⌝ }
     requires { ⌜ (length (now written) ≡ cells g) × (z < g .zones) × (pointerIn (r .condition) ≤ zoneSectors g) ⌝ }
     ensures { λ n. ⌜ n ≡ resetLateNumber g (isSet here) r z (now (written .entry)) ⌝ }
@@ -44,7 +56,7 @@ fn zone_refusal(written: &[u32], g: Geometry, here: [bool; 8], r: ZoneRecord, z:
         return 7;
     }
     let generation = r.generation;
-    if super::zone_checks::is_worn(condition) | (logs::WORN_GENERATION <= generation) {
+    if super::records::is_worn(condition) | (logs::WORN_GENERATION <= generation) {
         return 12;
     }
     0
@@ -55,7 +67,7 @@ fn log_resets(
     sectors: &mut [u8],
     written: &mut [u32],
     g: Geometry,
-    here: [bool; 8],
+    here: [bool; MAX_DRIVES],
     z: usize,
     generation: u64,
     budget: u64,
@@ -82,7 +94,7 @@ fn reset_zones(
     written: &mut [u32],
     durable: &mut [u32],
     g: Geometry,
-    here: [bool; 8],
+    here: [bool; MAX_DRIVES],
     z: usize,
     budget: u64,
 ) -> u64
@@ -114,7 +126,7 @@ pub fn log_counters(
     sectors: &mut [u8],
     written: &mut [u32],
     g: Geometry,
-    here: [bool; 8],
+    here: [bool; MAX_DRIVES],
     generations: &[u64],
     budget: u64,
 ) -> u64
@@ -133,32 +145,17 @@ pub fn log_counters(
     rest
 }
 
-// The state's generations.
-pub fn generations_of(state: State) -> [u64; 16]
-    ensures { λ r. ⌜ r ≡ generationsIn state ⌝ }
-{
-    let zones = state.zones;
-    let mut out = [0u64; 16];
-    let mut i = 0;
-    while i < 16 {
-        let r = zones[i];
-        out[i] = r.generation;
-        i += 1;
-    }
-    out
-}
-
 // The state's generations, that of zone z raised by one.
-fn raised_generations(state: State, z: usize) -> [u64; 16]
+fn raised_generations(state: State, z: usize) -> [u64; MAX_ZONES]
     requires { ⌜ (z < 16) × (recordAt state z .generation < wornGeneration) ⌝ }
     ensures { λ r. ⌜ r ≡ raisedList state z ⌝ }
 {
     let zones = state.zones;
     let old = zones[z];
     let next = old.generation + 1;
-    let mut out = [0u64; 16];
+    let mut out = [0u64; MAX_ZONES];
     let mut i = 0;
-    while i < 16 {
+    while i < MAX_ZONES {
         let r = zones[i];
         let own = r.generation;
         out[i] = super::checks::choose_generation(i == z, next, own);
@@ -208,7 +205,7 @@ fn reset_from(
         (tablesOf (now (sectors .entry)) (now (written .entry)) (now (durable .entry))) (tablesOf (now (sectors .exit)) (now (written .exit)) (now (durable .exit))) ⌝ }
 {
     let z = zone.number;
-    let current = generations_of(state);
+    let current = super::records::generations_of(state);
     let raised = raised_generations(state, z);
     let rest = super::emptyings::empty_generals(
         sectors,
@@ -245,7 +242,7 @@ fn outcome(zone: Zone, state: State, rest: u64) -> Outcome
     requires { ⌜ Valid (zone .geometry) ⌝ }
     requires { ⌜ (zone .number < zone .geometry .zones) × (recordAt state (zone .number) .generation < wornGeneration) ⌝ }
     ensures { λ r. ⌜ r ≡ pick (eqb rest 0) (record { answer = Unfinished; state = state })
-        (record { answer = Finished; state = withReset state (zone .number) (findBelow (λ (d : ℕ). not (isSet (zone .here) d)) (zone .geometry .drives)) }) ⌝ }
+        (record { answer = Finished; state = stateHeld maxZones (resetState (findBelow (λ (d : ℕ). not (isSet (zone .here) d)) (zone .geometry .drives)) (viewState state) (zone .number)) }) ⌝ }
 {
     let here = zone.here;
     let z = zone.number;
@@ -285,7 +282,7 @@ fn reset_seen(
         limit: zones + 4,
         clears_spares: false,
     };
-    let current = generations_of(state);
+    let current = super::records::generations_of(state);
     let room = super::log_room::general_room(sectors, written, pointers, asked, &current);
     let full = room.full;
     if full {
@@ -319,7 +316,7 @@ fn reset_zone(
         × (tablesOf (now (sectors .exit)) (now (written .exit)) (now (durable .exit)) ≡ resetZoneOn zone state count (tablesOf (now (sectors .entry)) (now (written .entry)) (now (durable .entry))) .tables) ⌝ }
 {
     let cells = written.len();
-    let mut pointers = [0u32; 152];
+    let mut pointers = [0u32; MAX_CELLS];
     let places = super::roles::see_by_roles(
         sectors,
         written,
@@ -344,7 +341,7 @@ pub fn reset(
     written: &mut [u32],
     durable: &mut [u32],
     g: Geometry,
-    named: [bool; 8],
+    named: [bool; MAX_DRIVES],
     state: State,
     zone: usize,
     count: u32,

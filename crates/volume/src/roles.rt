@@ -3,6 +3,7 @@
 // its first place is walked up to that entry, and one that is, only where another zone claims its kind too: what the logs hold does not count.
 use logs::Log;
 use tables::Geometry;
+use tables::MAX_DRIVES;
 ghost use mathlib.Core.Path.{_≡_};
 ghost use mathlib.Core.Logic.{_≢_};
 ghost use mathlib.Core.Bool.{true, false};
@@ -14,7 +15,7 @@ ghost use Rattle.logs.specs.code.WalkCode.{InLog};
 ghost use Rattle.logs.specs.code.Query.{logHeads};
 ghost use Rattle.logs.specs.meaning.Heads.{firstClosing};
 ghost use Rattle.volume.specs.meaning.CallContracts.{isSet};
-ghost use Rattle.volume.specs.meaning.Roles.{claim, claimOfKind, otherThan, roles, byRoles};
+ghost use Rattle.volume.specs.meaning.Roles.{zoneClaim, claimOfKind, otherThan, roles, byRoles};
 ghost use Rattle.volume.specs.laws.LogPlaces.{withLogs, withParity};
 ghost use Rattle.volume.specs.laws.LogClaims.{strengths};
 ghost use Rattle.volume.specs.looking.DriveLogs.{Sized};
@@ -54,8 +55,8 @@ pub struct LogZones {
 // Where the logs of all drives lie, as the geometry that places them there; and for each drive whether it lacks a kind.
 pub struct LogPlaces {
     pub geometry: Geometry,
-    pub no_general: [bool; 8],
-    pub no_parity: [bool; 8],
+    pub no_general: [bool; MAX_DRIVES],
+    pub no_parity: [bool; MAX_DRIVES],
 }
 
 // The generation of a zone's first closing entry in a walk for a kind; 0 if there is none.
@@ -69,7 +70,7 @@ fn claim_of(
 ) -> u64
     requires { ⌜ Valid g ⌝ }
     requires { ⌜ Sized g (now sectors) (now written) × (drive < g .drives) × (zone < 3) ⌝ }
-    ensures { λ r. ⌜ r ≡ claim g drive parity (zonesRead g (now (sectors .entry)) (now (written .entry)) drive zone) ⌝ }
+    ensures { λ r. ⌜ r ≡ zoneClaim g drive parity (zonesRead g (now (sectors .entry)) (now (written .entry)) drive zone) ⌝ }
 {
     let log = super::drive_logs::log_in(written, g, drive, zone);
     logs::folds::first_closing(sectors, g, log, parity)
@@ -327,8 +328,8 @@ pub fn place_logs(sectors: &[u8], written: &[u32], g: Geometry) -> LogPlaces
 {
     let n = g.drives;
     let mut logs = 0u64;
-    let mut no_general = [false; 8];
-    let mut no_parity = [false; 8];
+    let mut no_general = [false; MAX_DRIVES];
+    let mut no_parity = [false; MAX_DRIVES];
     let mut d = 0;
     while d < n {
         let zones = find_logs(sectors, written, g, d);
@@ -364,7 +365,7 @@ fn zones_after(g: Geometry, parity: bool, emptied: bool, drive: usize) -> LogZon
 }
 
 // Where the logs lie after those of a kind were emptied on some drives.
-pub fn move_logs(g: Geometry, parity: bool, emptied: [bool; 8]) -> Geometry
+pub fn move_logs(g: Geometry, parity: bool, emptied: [bool; MAX_DRIVES]) -> Geometry
     requires { ⌜ Valid g ⌝ }
     ensures { λ r. ⌜ r ≡ withLogs g (movedLogs g parity (isSet emptied) (g .drives)) ⌝ }
 {

@@ -2,6 +2,7 @@
 // when its store is due, so an unfinished call has changed nothing but what its stores say; and past the pointers below which sectors are read, so
 // no sector that is read changes meanwhile.
 use tables::Geometry;
+use tables::MAX_DRIVES;
 ghost use mathlib.Core.Path.{_≡_};
 ghost use mathlib.Core.Bool.{true};
 ghost use mathlib.Core.List.{List, []};
@@ -27,7 +28,7 @@ ghost use Rattle.volume.specs.rows.RowsInPlace.{withMember, withTwo, wit
 pub struct Extent {
     pub geometry: Geometry,
     pub to: Geometry,
-    pub here: [bool; 8],
+    pub here: [bool; MAX_DRIVES],
     pub zone: usize,
     pub generation: u64,
     pub limit: usize,

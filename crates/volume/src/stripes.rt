@@ -3,6 +3,7 @@
 // them would not be made, the stripe is written sector by sector.
 use super::rows::Extent;
 use tables::Geometry;
+use tables::MAX_DRIVES;
 use tables::units;
 use tables::units::Parts;
 ghost use mathlib.Core.Path.{_≡_};
@@ -24,7 +25,7 @@ ghost use Rattle.tables.specs.laws.Within.{Apart};
 ghost use Rattle.volume.specs.meaning.Calls.{dataStores};
 ghost use Rattle.volume.specs.meaning.CallContracts.{isSet};
 ghost use Rattle.volume.specs.stripes.UnitStores.{unitsPassed};
-ghost use Rattle.volume.specs.stripes.WholeStripe.{placeOf};
+ghost use Rattle.volume.specs.stripes.WholeStripe.{stripeUnitPlace};
 ghost use Rattle.volume.specs.stripes.StripeDue.{Fitting, laidOf, roomFor, stripeDue, stripeAt, StripeReady, NewFrom};
 
 // Such a stripe: the geometry that its stores go by, its physical zone, the drive of its parity, and where its bytes begin in the write's buffer.
@@ -40,7 +41,7 @@ fn place_of(written: &[u32], s: Stripe, j: usize) -> usize
     requires { ⌜ Valid (s .geometry) ⌝ }
     requires { ⌜ (s .zone < physicalZones (s .geometry)) × (s .parity < s .geometry .drives) × (j < s .geometry .drives) × (length (now written) ≡ cells (s .geometry))
         × (getD (now written) (cell (s .geometry) (unitDrive (s .geometry .drives) (s .parity) j) (s .zone)) 0 < s .geometry .capacity) ⌝ }
-    ensures { λ r. ⌜ r ≡ placeOf (s .geometry) (s .zone) (s .parity) (now (written .entry)) j ⌝ }
+    ensures { λ r. ⌜ r ≡ stripeUnitPlace (s .geometry) (s .zone) (s .parity) (now (written .entry)) j ⌝ }
 {
     let d = tables::placement::unit_drive(s.geometry.drives, s.parity, j);
     tables::stores::next_byte(written, s.geometry, d, s.zone)
@@ -139,7 +140,7 @@ fn pass_units(written: &mut [u32], s: Stripe)
 }
 
 // Whether every drive is present and has room for a unit in a zone.
-fn room_for_units(written: &[u32], g: Geometry, here: [bool; 8], zone: usize) -> bool
+fn room_for_units(written: &[u32], g: Geometry, here: [bool; MAX_DRIVES], zone: usize) -> bool
     requires { ⌜ Valid g ⌝ }
     requires { ⌜ (zone < physicalZones g) × (length (now written) ≡ cells g) ⌝ }
     ensures { λ r. ⌜ r ≡ allBelow (roomFor g here (now (written .entry)) zone) (g .drives) ⌝ }

@@ -6,23 +6,11 @@ ghost use mathlib.Core.Path.{_≡_};
 ghost use Prim.Native.Nat.{_≤_, _<_};
 ghost use lib.ListN.{length};
 ghost use Rattle.tables.specs.meaning.Geometry.{Valid, zoneSectors, cells};
-ghost use Rattle.volume.specs.meaning.State.{pointerIn, isSealed};
+ghost use Rattle.volume.specs.meaning.State.{pointerIn};
 ghost use Rattle.volume.specs.meaning.Refusals.{goneBefore};
 ghost use Rattle.volume.specs.meaning.CallContracts.{isSet};
 ghost use Rattle.volume.specs.looking.Knowing.{Readable, readDevice};
 ghost use Rattle.volume.specs.writing.WriteChecks.{runNumber, zoneNumber};
-
-// Whether a zone's condition is sealed.
-fn is_sealed(c: Condition) -> bool
-    ensures { λ r. ⌜ r ≡ isSealed c ⌝ }
-{
-    match c {
-        Condition::Empty => false,
-        Condition::Open(n) => false,
-        Condition::Sealed(n) => true,
-        Condition::Worn(n) => false,
-    }
-}
 
 // Refusals 9 to 12 of a write of `count` sectors from `offset` of a zone; 0 if none applies.
 fn run_refusal(g: Geometry, c: Condition, offset: usize, count: usize) -> u8
@@ -34,15 +22,15 @@ fn run_refusal(g: Geometry, c: Condition, offset: usize, count: usize) -> u8
     if (count == 0) | (most < offset + count) {
         return 9;
     }
-    let n = super::checks::pointer_of(c);
+    let n = super::records::pointer_of(c);
     if offset != n {
         return 10;
     }
-    let sealed = is_sealed(c);
+    let sealed = super::records::is_sealed(c);
     if sealed {
         return 11;
     }
-    let worn = super::zone_checks::is_worn(c);
+    let worn = super::records::is_worn(c);
     if worn {
         return 12;
     }

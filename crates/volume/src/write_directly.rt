@@ -5,16 +5,17 @@ use super::Condition;
 use super::Zone;
 use super::writing::Run;
 use tables::Geometry;
+use tables::MAX_CELLS;
 ghost use mathlib.Core.Path.{_≡_};
 ghost use Prim.Native.Nat.{_+_, _≤_, _<_};
 ghost use lib.ListN.{length};
 ghost use Rattle.tables.specs.meaning.Geometry.{Valid, zoneSectors, cells};
 ghost use Rattle.tables.specs.laws.Made.{MadeAppends};
-ghost use Rattle.volume.specs.checks.ZoneChecks.{Reached};
+ghost use Rattle.volume.specs.checks.ZoneChecks.{PointersReach};
 ghost use Rattle.volume.specs.looking.DriveLogs.{Sized};
 ghost use Rattle.volume.specs.writing.WriteStores.{earlierHeld, WriteReady, StoresPast};
 ghost use Rattle.volume.specs.writing.WriteRun.{runStoresOf, RunAsked};
-ghost use Rattle.volume.specs.writing.WriteDirectly.{entryLog, entryPlace, placeOf, TriedOn};
+ghost use Rattle.volume.specs.writing.WriteDirectly.{entryLog, entryPlace, directPlace, TriedOn};
 
 // What a write that is asked of its zone came to: refused by 7 or 9 to 12 (0 if by none); made, with what is left of the budget of stores; or neither,
 // for it needs other logs.
@@ -71,7 +72,7 @@ fn entry_place(sectors: &[u8], written: &[u32], zone: Zone, end: usize) -> Entry
 // Whether the earlier sectors of a pointer's stripe are held. With every drive present they are: no drive has less than the pointer needs.
 fn earlier_held(written: &[u32], zone: Zone, n: usize) -> bool
     requires { ⌜ Valid (zone .geometry) ⌝ }
-    requires { ⌜ (zone .number < zone .geometry .zones) × (length (now written) ≡ cells (zone .geometry)) × (n ≤ zoneSectors (zone .geometry)) × Reached (zone .geometry) (zone .here) (now written) (zone .number) n ⌝ }
+    requires { ⌜ (zone .number < zone .geometry .zones) × (length (now written) ≡ cells (zone .geometry)) × (n ≤ zoneSectors (zone .geometry)) × PointersReach (zone .geometry) (zone .here) (now written) (zone .number) n ⌝ }
     ensures { λ r. ⌜ r ≡ earlierHeld (zone .geometry) (zone .here) (now (written .entry)) (zone .number) n ⌝ }
 {
     let here = zone.here;
@@ -85,8 +86,8 @@ fn earlier_held(written: &[u32], zone: Zone, n: usize) -> bool
 // That of a write from its zone's pointer on.
 fn place_of(sectors: &[u8], written: &[u32], run: Run) -> EntryPlace
     requires { ⌜ Valid (run .zone .geometry) ⌝ }
-    requires { ⌜ Sized (run .zone .geometry) (now sectors) (now written) × (run .zone .number < run .zone .geometry .zones) × (run .pointer + run .count ≤ zoneSectors (run .zone .geometry)) × Reached (run .zone .geometry) (run .zone .here) (now written) (run .zone .number) (run .pointer) ⌝ }
-    ensures { λ r. ⌜ r ≡ placeOf run (now (sectors .entry)) (now (written .entry)) ⌝ }
+    requires { ⌜ Sized (run .zone .geometry) (now sectors) (now written) × (run .zone .number < run .zone .geometry .zones) × (run .pointer + run .count ≤ zoneSectors (run .zone .geometry)) × PointersReach (run .zone .geometry) (run .zone .here) (now written) (run .zone .number) (run .pointer) ⌝ }
+    ensures { λ r. ⌜ r ≡ directPlace run (now (sectors .entry)) (now (written .entry)) ⌝ }
 {
     let g = run.zone.geometry;
     let n = run.pointer;
@@ -115,7 +116,7 @@ fn write_directly(
     ensures { λ r. ⌜ MadeAppends to budget r (runStoresOf run (now (sectors .entry)) (now (written .entry)) (now (buffer .entry))) (now (sectors .entry)) (now (written .entry)) (now (sectors .exit)) (now (written .exit)) ⌝ }
 {
     let cells = written.len();
-    let mut pointers = [0u32; 152];
+    let mut pointers = [0u32; MAX_CELLS];
     tables::sectors::copy_pointers(&mut pointers[..cells], 0, written);
     super::write_stores::write_all(
         sectors,

@@ -1,36 +1,20 @@
 // What a write asks of the parity logs: "write ending inside a stripe, the parity drive's log, if present, below its entry plus L × (1 + U) + U". A log that lacks
 // this is emptied, with the entries of all zones at their pointers in the state.
-use super::State;
 use super::Zone;
 use super::log_room::RoomAsked;
 use super::roles::LogPlaces;
 use tables::Geometry;
+use tables::MAX_DRIVES;
 ghost use mathlib.Core.Path.{_≡_};
 ghost use Prim.Native.Nat.{_≤_, _<_};
 ghost use Rattle.tables.specs.meaning.Geometry.{Valid, zoneSectors};
 ghost use Rattle.volume.specs.meaning.Emptying.{writeLimit};
-ghost use Rattle.volume.specs.writing.WriteRoom.{pointsIn, entryDriveOf, onlyAt, writeAsked};
+ghost use Rattle.volume.specs.writing.WriteRoom.{entryDriveOf, onlyAt, writeAsked};
 
 // The drive that gets a write's entry, if the write ends inside a stripe.
 pub struct EntryDrive {
     pub inside: bool,
     pub drive: usize,
-}
-
-// The pointers of the state's zones.
-pub fn points_of(state: State) -> [usize; 16]
-    ensures { λ r. ⌜ r ≡ pointsIn state ⌝ }
-{
-    let zones = state.zones;
-    let mut out = [0usize; 16];
-    let mut i = 0;
-    while i < 16 {
-        let r = zones[i];
-        let condition = r.condition;
-        out[i] = super::checks::pointer_of(condition);
-        i += 1;
-    }
-    out
 }
 
 // Which drive gets the entry of a write that ends at a pointer of a zone.
@@ -59,11 +43,11 @@ pub fn write_limit(g: Geometry, end: usize) -> usize
 }
 
 // That drive alone, if it is here and there is an entry.
-fn only_drive(here: [bool; 8], entry: EntryDrive) -> [bool; 8]
+fn only_drive(here: [bool; MAX_DRIVES], entry: EntryDrive) -> [bool; MAX_DRIVES]
     requires { ⌜ entry .drive < 8 ⌝ }
     ensures { λ r. ⌜ r ≡ onlyAt here entry ⌝ }
 {
-    let mut out = [false; 8];
+    let mut out = [false; MAX_DRIVES];
     let drive = entry.drive;
     out[drive] = entry.inside & here[drive];
     out

@@ -10,6 +10,8 @@ use super::checks::Sizes;
 use super::emptyings::Emptyings;
 use super::roles::LogPlaces;
 use tables::Geometry;
+use tables::MAX_CELLS;
+use tables::MAX_DRIVES;
 ghost use mathlib.Core.Path.{_≡_};
 ghost use mathlib.Core.Bool.{true, _&&_, _||_, not};
 ghost use mathlib.Core.List.{_++_};
@@ -17,23 +19,23 @@ ghost use Prim.Native.Nat.{ℕ, _≤_, _<_};
 ghost use lib.Dec.{eqb};
 ghost use Rattle.tables.specs.meaning.Basics.{pick};
 ghost use Rattle.tables.specs.meaning.Drives.{findBelow};
-ghost use Rattle.tables.specs.meaning.Geometry.{Valid, zoneSectors};
+ghost use Rattle.tables.specs.meaning.Geometry.{Valid, zoneSectors, maxZones};
 ghost use Rattle.tables.specs.meaning.Tables.{tablesOf};
 ghost use Rattle.volume.specs.declared.Answer.the-variants.{Finished, Unfinished};
 ghost use Rattle.tables.specs.laws.Made.{Made};
 ghost use Rattle.volume.specs.meaning.Refusals.{goneBefore};
 ghost use Rattle.volume.specs.meaning.Emptying.{goneForCopies};
-ghost use Rattle.volume.specs.meaning.CallContracts.{recordAt, isSet, writtenState, writeOn};
+ghost use Rattle.volume.specs.meaning.CallContracts.{recordAt, isSet, writeOn, stateHeld, viewState};
 ghost use Rattle.volume.specs.looking.DriveLogs.{Sized};
 ghost use Rattle.volume.specs.looking.Knowing.{readDevice};
 ghost use Rattle.volume.specs.checks.LogRoom.{SeenByRoles};
 ghost use Rattle.volume.specs.emptying.CopiesKnown.{inForceOf, CopiesReady};
 ghost use Rattle.volume.specs.emptying.Emptyings.{EmptyingReady, emptiedOn};
 ghost use Rattle.volume.specs.emptying.ParityEmptyings.{ParityKnown, newParityOn};
-ghost use Rattle.volume.specs.storing.ResetZone.{generationsIn};
-ghost use Rattle.volume.specs.writing.WriteRoom.{pointsIn};
+ghost use Rattle.volume.specs.checks.Records.{generationsIn, pointsIn};
 ghost use Rattle.volume.specs.writing.WriteStores.{WriteReady};
 ghost use Rattle.volume.specs.writing.WriteRun.{atPlaces, runStoresOf, RunReady, RunAsked, RunStated, writeZoneOn, writeAskedOn};
+ghost use Rattle.volume.specs.meaning.Calls.{openState};
 
 // What is written: so many sectors of a zone from its pointer on.
 pub struct Run {
@@ -47,7 +49,7 @@ fn outcome(zone: Zone, state: State, n: usize, rest: u64) -> Outcome
     requires { ⌜ Valid (zone .geometry) ⌝ }
     requires { ⌜ (zone .number < zone .geometry .zones) × (zone .generation ≡ recordAt state (zone .number) .generation) ⌝ }
     ensures { λ r. ⌜ r ≡ pick (eqb rest 0) (record { answer = Unfinished; state = state })
-        (record { answer = Finished; state = writtenState state (findBelow (λ (d : ℕ). not (isSet (zone .here) d)) (zone .geometry .drives)) (zone .number) n }) ⌝ }
+        (record { answer = Finished; state = stateHeld maxZones (openState (findBelow (λ (d : ℕ). not (isSet (zone .here) d)) (zone .geometry .drives)) (viewState state) (zone .number) n) }) ⌝ }
 {
     if rest == 0 {
         return Outcome {
@@ -122,8 +124,8 @@ fn write_from(
         ++ runStoresOf run (now (sectors .entry)) (now (pointers .entry)) (now (buffer .entry)))
         (tablesOf (now (sectors .entry)) (now (written .entry)) (now (durable .entry))) (tablesOf (now (sectors .exit)) (now (written .exit)) (now (durable .exit))) ⌝ }
 {
-    let generations = super::resetting::generations_of(state);
-    let points = super::write_room::points_of(state);
+    let generations = super::records::generations_of(state);
+    let points = super::records::points_of(state);
     let rest = super::emptyings::empty_parity_on(
         sectors,
         written,
@@ -167,12 +169,12 @@ fn write_seen(
 {
     let end = run.pointer + run.count;
     let asked = super::write_room::write_asks(run.zone, places, end);
-    let points = super::write_room::points_of(state);
+    let points = super::records::points_of(state);
     let room = super::log_room::parity_room(sectors, written, pointers, asked, &points);
     if room.full {
         return super::checks::refused(14, state);
     }
-    let generations = super::resetting::generations_of(state);
+    let generations = super::records::generations_of(state);
     let entry = super::write_room::entry_drive(run.zone.geometry, run.zone.number, end);
     let drive = entry.drive;
     let emptied = room.emptied;
@@ -241,7 +243,7 @@ fn write_by_roles(
         × (tablesOf (now (sectors .exit)) (now (written .exit)) (now (durable .exit)) ≡ writeZoneOn run state (now (buffer .entry)) count (tablesOf (now (sectors .entry)) (now (written .entry)) (now (durable .entry))) .tables) ⌝ }
 {
     let cells = written.len();
-    let mut pointers = [0u32; 152];
+    let mut pointers = [0u32; MAX_CELLS];
     let places = super::roles::see_by_roles(
         sectors,
         written,
@@ -297,7 +299,7 @@ pub fn write(
     written: &mut [u32],
     durable: &mut [u32],
     g: Geometry,
-    named: [bool; 8],
+    named: [bool; MAX_DRIVES],
     state: State,
     address: u64,
     run: u32,

@@ -2,19 +2,19 @@
 // drives are looked at.
 use super::Condition;
 use tables::Geometry;
+use tables::MAX_DRIVES;
 use tables::placement::StripeAt;
 ghost use mathlib.Core.Path.{_≡_};
 ghost use mathlib.Core.Bool.{_&&_};
 ghost use Prim.Native.Nat.{_+_, _-_, _≤_, _<_};
-ghost use lib.Dec.{ltb};
 ghost use lib.ListN.{length, getD};
 ghost use Rattle.tables.specs.meaning.Geometry.{Valid, zoneSectors, physicalZones, cells, dataZone};
 ghost use Rattle.tables.specs.laws.StripeAt.{neededOf};
 ghost use Rattle.tables.specs.meaning.Tables.{cell};
-ghost use Rattle.volume.specs.meaning.State.{pointerIn, isWorn};
+ghost use Rattle.volume.specs.meaning.State.{pointerIn};
 ghost use Rattle.volume.specs.meaning.Refusals.{staleIn};
 ghost use Rattle.volume.specs.meaning.CallContracts.{isSet};
-ghost use Rattle.volume.specs.checks.ZoneChecks.{staleOn, unusedOn, needsLog};
+ghost use Rattle.volume.specs.checks.ZoneChecks.{staleOn, needsLog};
 
 // The written pointer of a drive's physical zone.
 pub fn written_at(written: &[u32], g: Geometry, drive: usize, zone: usize) -> usize
@@ -24,18 +24,6 @@ pub fn written_at(written: &[u32], g: Geometry, drive: usize, zone: usize) -> us
 {
     let at = tables::stores::cell_of(g, drive, zone);
     tables::bounds::widen(written[at])
-}
-
-// Whether a zone's condition is worn.
-pub fn is_worn(c: Condition) -> bool
-    ensures { λ r. ⌜ r ≡ isWorn c ⌝ }
-{
-    match c {
-        Condition::Empty => false,
-        Condition::Open(n) => false,
-        Condition::Sealed(n) => false,
-        Condition::Worn(n) => true,
-    }
 }
 
 // Whether a written pointer is not what a condition allows, if its pointer needs so many sectors.
@@ -76,7 +64,7 @@ fn drive_stale(
 pub fn is_stale(
     written: &[u32],
     g: Geometry,
-    here: [bool; 8],
+    here: [bool; MAX_DRIVES],
     condition: Condition,
     z: usize,
 ) -> bool
@@ -84,7 +72,7 @@ pub fn is_stale(
     requires { ⌜ (length (now written) ≡ cells g) × (z < g .zones) × (pointerIn condition ≤ zoneSectors g) ⌝ }
     ensures { λ r. ⌜ r ≡ staleOn g (isSet here) (now (written .entry)) condition z ⌝ }
 {
-    let pointer = super::checks::pointer_of(condition);
+    let pointer = super::records::pointer_of(condition);
     let at = tables::placement::stripe_at(g, z, pointer);
     let n = g.drives;
     let mut stale = false;
@@ -97,40 +85,8 @@ pub fn is_stale(
     stale
 }
 
-// Whether a drive has fewer than n sectors of a log unused.
-fn drive_below(written: &[u32], g: Geometry, here: bool, log: usize, n: usize, drive: usize) -> bool
-    requires { ⌜ Valid g ⌝ }
-    requires { ⌜ (length (now written) ≡ cells g) × (log < physicalZones g) × (drive < g .drives) ⌝ }
-    ensures { λ r. ⌜ r ≡ here && ltb (g .capacity - getD (now (written .entry)) (cell g drive log) 0) n ⌝ }
-{
-    if !here {
-        return false;
-    }
-    let c = g.capacity;
-    let w = written_at(written, g, drive, log);
-    let unused = tables::placement::saturating_sub(c, w);
-    unused < n
-}
-
-// Refusal 14, "where unused is the least over present drives": whether some present drive has fewer than n sectors of that log unused.
-pub fn unused_below(written: &[u32], g: Geometry, here: [bool; 8], log: usize, n: usize) -> bool
-    requires { ⌜ Valid g ⌝ }
-    requires { ⌜ (length (now written) ≡ cells g) × (log < physicalZones g) ⌝ }
-    ensures { λ r. ⌜ r ≡ unusedOn g (isSet here) (now (written .entry)) log n ⌝ }
-{
-    let drives = g.drives;
-    let mut below = false;
-    let mut d = 0;
-    while d < drives {
-        let less = drive_below(written, g, here[d], log, n, d);
-        below = below | less;
-        d += 1;
-    }
-    below
-}
-
 // Whether reading below `end`, which is at or below the pointer, needs the logs: a drive is absent, and the pointer's own stripe is read.
-pub fn needs_log(g: Geometry, here: [bool; 8], pointer: usize, end: usize) -> bool
+pub fn needs_log(g: Geometry, here: [bool; MAX_DRIVES], pointer: usize, end: usize) -> bool
     requires { ⌜ Valid g ⌝ }
     ensures { λ r. ⌜ r ≡ needsLog g here pointer end ⌝ }
 {

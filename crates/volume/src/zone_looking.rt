@@ -4,6 +4,7 @@ use super::Zone;
 use super::ZoneLook;
 use logs::Query;
 use tables::Geometry;
+use tables::MAX_DRIVES;
 ghost use mathlib.Core.Path.{_≡_};
 ghost use mathlib.Core.Bool.{_&&_};
 ghost use Prim.Native.Nat.{_≤_, _<_, min};
@@ -46,7 +47,13 @@ fn drive_generation(
 }
 
 // Rule 2: the greatest generation that the present drives' last counters give a zone.
-pub fn generation_of(sectors: &[u8], written: &[u32], g: Geometry, here: [bool; 8], z: usize) -> u64
+pub fn generation_of(
+    sectors: &[u8],
+    written: &[u32],
+    g: Geometry,
+    here: [bool; MAX_DRIVES],
+    z: usize,
+) -> u64
     requires { ⌜ Valid g ⌝ }
     requires { ⌜ Sized g (now sectors) (now written) × (z < g .zones) ⌝ }
     ensures { λ r. ⌜ r ≡ generationOf g (isSet here) (readDevice g (now (sectors .entry)) (now (written .entry))) z ⌝ }
@@ -82,7 +89,13 @@ fn drive_tells(
 }
 
 // Whether a present drive's general log does: has a reset entry of the current generation (rule 3), or a current seal.
-fn is_told(query: Query, sectors: &[u8], written: &[u32], g: Geometry, here: [bool; 8]) -> bool
+fn is_told(
+    query: Query,
+    sectors: &[u8],
+    written: &[u32],
+    g: Geometry,
+    here: [bool; MAX_DRIVES],
+) -> bool
     requires { ⌜ Valid g ⌝ }
     requires { ⌜ Sized g (now sectors) (now written) ⌝ }
     ensures { λ r. ⌜ r ≡ toldBy g (isSet here) (readDevice g (now (sectors .entry)) (now (written .entry))) query ⌝ }
@@ -196,7 +209,7 @@ pub fn look_zone(
     sectors: &[u8],
     written: &[u32],
     g: Geometry,
-    here: [bool; 8],
+    here: [bool; MAX_DRIVES],
     z: usize,
 ) -> ZoneLook
     requires { ⌜ Valid g ⌝ }

@@ -1,15 +1,14 @@
 // What the C edge makes of a call's numbers and bytes before the call, and of its outcome after it.
 use tables::Geometry;
 use volume::Answer;
-use volume::Condition;
 use volume::Outcome;
 use volume::State;
-use volume::ZoneRecord;
 ghost use mathlib.Core.Path.{_≡_};
 ghost use Prim.Native.Nat.{_+_, _*_, _<_};
 ghost use lib.ListN.{length};
 ghost use Rattle.tables.specs.meaning.Geometry.{Valid};
 ghost use Rattle.volume.specs.meaning.CallContracts.{answerNumber};
+ghost use Rattle.zrv.specs.meaning.Bytes.{stateBytes};
 ghost use Rattle.zrv.specs.meaning.EdgeCalls.{shapeOf, namedOf, sizesFit, stateBad, inputNumber, sizesNumber, unreadState, stateAfter, withNumber, placeNumber};
 
 // What a number in the high 32 bits is multiplied by.
@@ -58,7 +57,7 @@ fn sizes_fit(g: Geometry, state: usize, written: usize, durable: usize) -> bool
 {
     let n = tables::bounds::table_cells(g);
     let m = n * 4;
-    (state == 264) & ((written == m) & (durable == m))
+    (state == super::state::STATE_BYTES) & ((written == m) & (durable == m))
 }
 
 // Refusal 1, of the state's bytes.
@@ -66,7 +65,7 @@ pub fn state_bad(g: Geometry, bytes: &[u8]) -> bool
     requires { ⌜ Valid g ⌝ }
     ensures { λ r. ⌜ r ≡ stateBad g (now (bytes .entry)) ⌝ }
 {
-    if bytes.len() != 264 {
+    if bytes.len() != super::state::STATE_BYTES {
         return false;
     }
     let fits = super::state::state_fits(g, bytes);
@@ -74,7 +73,7 @@ pub fn state_bad(g: Geometry, bytes: &[u8]) -> bool
 }
 
 // What is refused before a call that reads the state; 0 if nothing is.
-pub fn input_refusal(g: Geometry, state: &[u8], written: usize, durable: usize) -> u32
+pub fn input_refusal(g: Geometry, state: &[u8], written: usize, durable: usize) -> u64
     ensures { λ r. ⌜ r ≡ inputNumber g (now (state .entry)) written durable ⌝ }
 {
     let ok = tables::bounds::valid(g);
@@ -90,7 +89,7 @@ pub fn input_refusal(g: Geometry, state: &[u8], written: usize, durable: usize) 
 }
 
 // What is refused before a call that only writes the state; 0 if nothing is.
-pub fn sizes_refusal(g: Geometry, state: usize, written: usize, durable: usize) -> u32
+pub fn sizes_refusal(g: Geometry, state: usize, written: usize, durable: usize) -> u64
     ensures { λ r. ⌜ r ≡ sizesNumber g state written durable ⌝ }
 {
     let ok = tables::bounds::valid(g);
@@ -105,25 +104,22 @@ pub fn sizes_refusal(g: Geometry, state: usize, written: usize, durable: usize) 
 pub fn unread_state() -> State
     ensures { λ r. ⌜ r ≡ unreadState ⌝ }
 {
-    let blank = ZoneRecord {
-        generation: 0,
-        condition: Condition::Empty,
-    };
-    let zones = [blank; 16];
+    let blank = volume::records::blank_record();
+    let zones = [blank; tables::MAX_ZONES];
     State { lost: 0, zones }
 }
 
 // The number of an answer, as C has it.
-pub fn number_of(a: Answer) -> u32
+pub fn number_of(a: Answer) -> u64
     ensures { λ r. ⌜ r ≡ answerNumber a ⌝ }
 {
-    volume::numbers::answer_number(a) as u32
+    volume::numbers::answer_number(a) as u64
 }
 
 // Hands an outcome back: its number, and the state's bytes where the call is finished.
-pub fn hand_back(g: Geometry, outcome: Outcome, bytes: &mut [u8]) -> u32
+pub fn hand_back(g: Geometry, outcome: Outcome, bytes: &mut [u8]) -> u64
     requires { ⌜ Valid g ⌝ }
-    requires { ⌜ length (now bytes) ≡ 264 ⌝ }
+    requires { ⌜ length (now bytes) ≡ stateBytes ⌝ }
     ensures { λ r. ⌜ (r ≡ answerNumber (outcome .answer)) × (now (bytes .exit) ≡ stateAfter g outcome (now (bytes .entry))) ⌝ }
 {
     let answer = outcome.answer;
@@ -158,11 +154,12 @@ fn place_number(a: Answer) -> u64
 // Hands the outcome of a look or a mount back: its number, with the place that it tells, and the state's bytes where the call is finished.
 pub fn hand_back_placed(g: Geometry, outcome: Outcome, bytes: &mut [u8]) -> u64
     requires { ⌜ Valid g ⌝ }
-    requires { ⌜ length (now bytes) ≡ 264 ⌝ }
+    requires { ⌜ length (now bytes) ≡ stateBytes ⌝ }
     ensures { λ r. ⌜ (r ≡ withNumber (answerNumber (outcome .answer)) (placeNumber (outcome .answer))) × (now (bytes .exit) ≡ stateAfter g outcome (now (bytes .entry))) ⌝ }
 {
     let answer = outcome.answer;
+    let n = volume::numbers::answer_number(answer);
     let place = place_number(answer);
-    let n = hand_back(g, outcome, bytes);
+    hand_back(g, outcome, bytes);
     (n as u64) + HIGH * place
 }

@@ -22,7 +22,7 @@ pub extern "C" fn zrv_read(
     durable: &[u8],
     state: &[u8],
     answer: &mut [u8],
-) -> u32
+) -> u64
     ensures { λ r. ⌜ answered r (now (answer .exit))
         ≡ readEdge (shapeOf drives «sector_bytes» unit zones «zone_sectors») named address «sectors_to_read» (ranges (now (sectors .entry)) (now (written .entry)) (now (durable .entry)) (now (state .entry))) (now (answer .entry)) ⌝ }
 {
@@ -38,7 +38,7 @@ pub extern "C" fn zrv_read(
     super::words::table_from(written, ws);
     let by = super::records::record_of(g, here, state, ws, durable, address);
     let number = volume::by_record::read_record(sectors, ws, by, address, sectors_to_read, answer);
-    number as u32
+    number as u64
 }
 
 // The offset in `sectors` of the sector at an address.
@@ -69,7 +69,7 @@ pub extern "C" fn zrv_peek(
     durable: &[u8],
     state: &[u8],
     place: &mut [u8],
-) -> u32
+) -> u64
     ensures { λ r. ⌜ answered r (now (place .exit))
         ≡ peekEdge (shapeOf drives «sector_bytes» unit zones «zone_sectors») named address (ranges (now (sectors .entry)) (now (written .entry)) (now (durable .entry)) (now (state .entry))) (now (place .entry)) ⌝ }
 {
@@ -91,7 +91,7 @@ pub extern "C" fn zrv_peek(
     super::words::tables_from(g, written, durable, ws, ds);
     let number = volume::reading::peek_refusal(sectors, ws, ds, g, here, old, address);
     if number != 0 {
-        return number as u32;
+        return number as u64;
     }
     let at = offset_at(g, address);
     tables::bytes::write_u64(place, 0, at as u64);

@@ -10,6 +10,7 @@ ghost use Prim.Native.Nat.{_*_, _<_};
 ghost use lib.ListN.{length};
 ghost use Rattle.tables.specs.meaning.Geometry.{Valid, cells};
 ghost use Rattle.zrv.specs.meaning.EdgeCalls.{ranges};
+ghost use Rattle.zrv.specs.meaning.Bytes.{stateBytes};
 ghost use Rattle.zrv.specs.laws.ByRecord.{recordIn, InputTaken, handedRecord, WrittenAs};
 
 // What is asked of a write beside its ranges.
@@ -24,7 +25,7 @@ pub struct WriteAsked {
 // Whether it was made, and then what it returns.
 pub struct WriteTried {
     pub made: bool,
-    pub code: u32,
+    pub code: u64,
 }
 
 // What a call takes of its input for the zone of an address.
@@ -37,7 +38,7 @@ pub fn record_of(
     address: u64,
 ) -> ByRecord
     requires { ⌜ Valid g ⌝ }
-    requires { ⌜ (g .logs ≡ 0) × (length (now state) ≡ 264) × (length (now written) ≡ cells g) × (length (now durable) ≡ cells g * 4) ⌝ }
+    requires { ⌜ (g .logs ≡ 0) × (length (now state) ≡ stateBytes) × (length (now written) ≡ cells g) × (length (now durable) ≡ cells g * 4) ⌝ }
     ensures { λ r. ⌜ r ≡ recordIn g named (now (state .entry)) (now (written .entry)) (now (durable .entry)) address ⌝ }
 {
     let bad = super::words::pointers_bad(g, named, written, durable);
@@ -54,8 +55,8 @@ pub fn record_of(
 }
 
 // What a write that was made returns; finished, it leaves the lost drive and the record of zone z in the state's bytes.
-fn hand_record(tried: Recorded, generation: u64, z: usize, state: &mut [u8]) -> u32
-    requires { ⌜ (length (now state) ≡ 264) × (z < 16) ⌝ }
+fn hand_record(tried: Recorded, generation: u64, z: usize, state: &mut [u8]) -> u64
+    requires { ⌜ (length (now state) ≡ stateBytes) × (z < 16) ⌝ }
     ensures { λ r. ⌜ handedRecord tried generation z (now (state .entry)) r (now (state .exit)) ⌝ }
 {
     let rest = tried.rest;

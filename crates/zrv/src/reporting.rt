@@ -9,13 +9,14 @@ ghost use Rattle.tables.specs.meaning.Geometry.{Valid};
 ghost use Rattle.tables.specs.meaning.Lists.{overlay};
 ghost use Rattle.volume.specs.meaning.CallContracts.{viewState};
 ghost use Rattle.zrv.specs.meaning.Bytes.{descriptorTo};
-ghost use Rattle.zrv.specs.meaning.EdgeCalls.{shapeOf, answered, reportInput, filledBytes, reportEdge};
+ghost use Rattle.zrv.specs.meaning.EdgeCalls.{shapeOf, answered, reportInput, reportEdge};
+ghost use Rattle.zrv.specs.laws.Report.{toldBytes};
 
 // The bytes of a descriptor.
 const DESCRIPTOR: usize = 32;
 
 // What is refused before a report; 0 if nothing is.
-fn report_refusal(g: Geometry, state: &[u8]) -> u32
+fn report_refusal(g: Geometry, state: &[u8]) -> u64
     ensures { λ r. ⌜ r ≡ reportInput g (now (state .entry)) ⌝ }
 {
     let ok = tables::bounds::valid(g);
@@ -26,7 +27,11 @@ fn report_refusal(g: Geometry, state: &[u8]) -> u32
     if bad {
         return 1;
     }
-    if state.len() == 264 { 0 } else { 2 }
+    if state.len() == super::state::STATE_BYTES {
+        0
+    } else {
+        2
+    }
 }
 
 // Writes a descriptor as the 32 bytes from `at`.
@@ -49,7 +54,7 @@ fn descriptor_to(d: ZoneDescriptor, bytes: &mut [u8], at: usize)
 fn fill_list(g: Geometry, state: State, n: usize, list: &mut [u8])
     requires { ⌜ Valid g ⌝ }
     requires { ⌜ (n ≤ g .zones) × (n * 32 ≤ length (now list)) ⌝ }
-    ensures { λ _. ⌜ now (list .exit) ≡ filledBytes g (viewState state .condition) n (now (list .entry)) ⌝ }
+    ensures { λ _. ⌜ now (list .exit) ≡ toldBytes g (viewState state .condition) n (now (list .entry)) ⌝ }
 {
     let mut z = 0;
     while z < n {
@@ -76,7 +81,7 @@ pub extern "C" fn zrv_report(
     let g = super::input::shape(drives, sector_bytes, unit, zones, zone_sectors);
     let refusal = report_refusal(g, state);
     if refusal != 0 {
-        return refusal as u64;
+        return refusal;
     }
     let held = super::state::state_from(g, state);
     let n = volume::reporting::report_number(g, held, list.len() / DESCRIPTOR);

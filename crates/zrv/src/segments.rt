@@ -31,11 +31,12 @@ pub extern "C" fn zrv_grouped_read(
     metadata: &[u8],
     work: &mut [u8],
     answer: &mut [u8],
-) -> u32
+) -> u64
     ensures { λ r. ⌜ answered r (now (answer .exit))
         ≡ groupedEdge (segmentOf drives «block_bytes» group «blocks_per_drive») named address (now (blocks .entry)) (now (metadata .entry)) (length (now (work .entry))) (now (answer .entry)) ⌝ }
 {
     let s = segment(drives, block_bytes, group, blocks_per_drive);
     let here = super::input::named_drives(named);
-    grouped::reading::read_grouped(blocks, metadata, work, s, here, address, answer)
+    let number = grouped::reading::read_grouped(blocks, metadata, work, s, here, address, answer);
+    number as u64
 }

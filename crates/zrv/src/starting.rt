@@ -17,7 +17,7 @@ pub extern "C" fn zrv_format(
     written: &mut [u8],
     durable: &mut [u8],
     state: &mut [u8],
-) -> u32
+) -> u64
     ensures { λ r. ⌜ answered r (ranges (now (sectors .exit)) (now (written .exit)) (now (durable .exit)) (now (state .exit)))
         ≡ formatEdge (shapeOf drives «sector_bytes» unit zones «zone_sectors») named array count (ranges (now (sectors .entry)) (now (written .entry)) (now (durable .entry)) (now (state .entry))) ⌝ }
 {
@@ -60,7 +60,7 @@ pub extern "C" fn zrv_look(
     let g = super::input::shape(drives, sector_bytes, unit, zones, zone_sectors);
     let refusal = super::input::sizes_refusal(g, state.len(), written.len(), durable.len());
     if refusal != 0 {
-        return refusal as u64;
+        return refusal;
     }
     let n = tables::bounds::table_cells(g);
     let here = super::input::named_drives(named);
@@ -95,7 +95,7 @@ pub extern "C" fn zrv_mount(
     let g = super::input::shape(drives, sector_bytes, unit, zones, zone_sectors);
     let refusal = super::input::sizes_refusal(g, state.len(), written.len(), durable.len());
     if refusal != 0 {
-        return refusal as u64;
+        return refusal;
     }
     let n = tables::bounds::table_cells(g);
     let here = super::input::named_drives(named);

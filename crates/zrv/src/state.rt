@@ -1,6 +1,6 @@
-// The C edge's state: 264 bytes, read, written, and tested for their form.
+// The C edge's state: so many bytes, read, written, and tested for their form.
 use tables::Geometry;
-use volume::Condition;
+use tables::MAX_ZONES;
 use volume::State;
 use volume::ZoneRecord;
 ghost use mathlib.Core.Path.{_≡_};
@@ -13,8 +13,15 @@ ghost use Rattle.tables.specs.meaning.Below.{allBelow};
 ghost use Rattle.tables.specs.laws.LittleEndian.{writeLE};
 ghost use Rattle.volume.specs.meaning.Refusals.{stateWithin};
 ghost use Rattle.volume.specs.meaning.CallContracts.{recordAt, viewState};
-ghost use Rattle.zrv.specs.meaning.Bytes.{recordTo, recordFrom, stateTo, stateFrom, stateWellFormed};
+ghost use Rattle.zrv.specs.meaning.Bytes.{stateBytes, recordTo, recordFrom, stateTo, stateFrom, stateWellFormed};
 ghost use Rattle.zrv.specs.laws.StateForm.{recordFits, zerosFrom};
+
+// The bytes of a state: those of its head, and of each zone's record.
+pub const STATE_BYTES: usize = 264;
+
+const HEAD_BYTES: usize = 8;
+
+const RECORD_BYTES: usize = 16;
 
 // Writes a zone's record as the sixteen bytes from `at`.
 fn record_to(r: ZoneRecord, bytes: &mut [u8], at: usize)
@@ -24,7 +31,7 @@ fn record_to(r: ZoneRecord, bytes: &mut [u8], at: usize)
     let generation = r.generation;
     let condition = r.condition;
     let kind = volume::numbers::condition_number(condition);
-    let pointer = volume::checks::pointer_of(condition);
+    let pointer = volume::records::pointer_of(condition);
     let low = (pointer % 4294967296) as u32;
     tables::bytes::write_u64(bytes, at, generation);
     tables::bytes::write_u32(bytes, at + 8, kind);
@@ -49,32 +56,29 @@ fn record_from(bytes: &[u8], at: usize) -> ZoneRecord
 // The record of a zone; of one that there is not, a blank one.
 pub fn record_at(g: Geometry, bytes: &[u8], z: usize) -> ZoneRecord
     requires { ⌜ Valid g ⌝ }
-    requires { ⌜ length (now bytes) ≡ 264 ⌝ }
+    requires { ⌜ length (now bytes) ≡ stateBytes ⌝ }
     ensures { λ r. ⌜ r ≡ recordAt (stateFrom (g .zones) (now (bytes .entry))) z ⌝ }
 {
     let n = g.zones;
     if n <= z {
-        return ZoneRecord {
-            generation: 0,
-            condition: Condition::Empty,
-        };
+        return volume::records::blank_record();
     }
-    record_from(bytes, 8 + 16 * z)
+    record_from(bytes, HEAD_BYTES + RECORD_BYTES * z)
 }
 
 // Puts the lost drive and the record of zone z into the bytes of a state. The other records stay.
 pub fn put_record(bytes: &mut [u8], lost: usize, z: usize, r: ZoneRecord)
-    requires { ⌜ (length (now bytes) ≡ 264) × (z < 16) ⌝ }
+    requires { ⌜ (length (now bytes) ≡ stateBytes) × (z < 16) ⌝ }
     ensures { λ _. ⌜ now (bytes .exit) ≡ overlay (writeLE 8 (now (bytes .entry)) 0 (lost % 256)) (8 + 16 * z) (recordTo r) ⌝ }
 {
     tables::bytes::write_u64(bytes, 0, (lost % 256) as u64);
-    record_to(r, bytes, 8 + 16 * z);
+    record_to(r, bytes, HEAD_BYTES + RECORD_BYTES * z);
 }
 
 // The bytes of a state.
 pub fn state_to(g: Geometry, state: State, bytes: &mut [u8])
     requires { ⌜ Valid g ⌝ }
-    requires { ⌜ length (now bytes) ≡ 264 ⌝ }
+    requires { ⌜ length (now bytes) ≡ stateBytes ⌝ }
     ensures { λ _. ⌜ now (bytes .exit) ≡ stateTo (g .zones) state ⌝ }
 {
     let n = g.zones;
@@ -85,7 +89,7 @@ pub fn state_to(g: Geometry, state: State, bytes: &mut [u8])
     let mut z = 0;
     while z < n {
         let r = zones[z];
-        record_to(r, bytes, 8 + 16 * z);
+        record_to(r, bytes, HEAD_BYTES + RECORD_BYTES * z);
         z += 1;
     }
 }
@@ -93,19 +97,16 @@ pub fn state_to(g: Geometry, state: State, bytes: &mut [u8])
 // The state that the bytes hold.
 pub fn state_from(g: Geometry, bytes: &[u8]) -> State
     requires { ⌜ Valid g ⌝ }
-    requires { ⌜ length (now bytes) ≡ 264 ⌝ }
+    requires { ⌜ length (now bytes) ≡ stateBytes ⌝ }
     ensures { λ r. ⌜ r ≡ stateFrom (g .zones) (now (bytes .entry)) ⌝ }
 {
     let n = g.zones;
     let lost = tables::bytes::read_u64(bytes, 0) as usize;
-    let blank = ZoneRecord {
-        generation: 0,
-        condition: Condition::Empty,
-    };
-    let mut zones = [blank; 16];
+    let blank = volume::records::blank_record();
+    let mut zones = [blank; MAX_ZONES];
     let mut z = 0;
     while z < n {
-        let r = record_from(bytes, 8 + 16 * z);
+        let r = record_from(bytes, HEAD_BYTES + RECORD_BYTES * z);
         zones[z] = r;
         z += 1;
     }
@@ -126,13 +127,13 @@ fn record_fits(bytes: &[u8], at: usize, most: usize) -> bool
 
 // Whether the records of the first n zones are so.
 fn records_fit(bytes: &[u8], n: usize, most: usize) -> bool
-    requires { ⌜ (n ≤ 16) × (length (now bytes) ≡ 264) ⌝ }
+    requires { ⌜ (n ≤ 16) × (length (now bytes) ≡ stateBytes) ⌝ }
     ensures { λ r. ⌜ r ≡ allBelow (λ (z : ℕ). recordFits most (now (bytes .entry)) (8 + 16 * z)) n ⌝ }
 {
     let mut ok = true;
     let mut z = 0;
     while z < n {
-        let fits = record_fits(bytes, 8 + 16 * z, most);
+        let fits = record_fits(bytes, HEAD_BYTES + RECORD_BYTES * z, most);
         ok = ok & fits;
         z += 1;
     }
@@ -158,7 +159,7 @@ fn zeros_from(bytes: &[u8], at: usize) -> bool
 // as they stand: neither is the state read for it nor written.
 pub fn state_fits(g: Geometry, bytes: &[u8]) -> bool
     requires { ⌜ Valid g ⌝ }
-    requires { ⌜ length (now bytes) ≡ 264 ⌝ }
+    requires { ⌜ length (now bytes) ≡ stateBytes ⌝ }
     ensures { λ r. ⌜ r ≡ stateWellFormed (g .zones) (now (bytes .entry)) && stateWithin g (viewState (stateFrom (g .zones) (now (bytes .entry)))) ⌝ }
 {
     let d = g.drives;
@@ -166,6 +167,6 @@ pub fn state_fits(g: Geometry, bytes: &[u8]) -> bool
     let most = tables::bounds::zone_sectors(g);
     let lost = tables::bytes::read_u64(bytes, 0) as usize;
     let records = records_fit(bytes, n, most);
-    let rest = zeros_from(bytes, 8 + 16 * n);
+    let rest = zeros_from(bytes, HEAD_BYTES + RECORD_BYTES * n);
     ((lost < d) | (lost == 255)) & (records & rest)
 }

@@ -13,7 +13,7 @@ fn write_whole(
     durable: &mut [u8],
     state: &mut [u8],
     buffer: &[u8],
-) -> u32
+) -> u64
     requires { ⌜ InputTaken (asked .geometry) (now state) (length (now written)) (length (now durable)) ⌝ }
     ensures { λ r. ⌜ answered r (ranges (now (sectors .exit)) (now (written .exit)) (now (durable .exit)) (now (state .exit)))
         ≡ wholeWrite asked (now (buffer .entry)) (ranges (now (sectors .entry)) (now (written .entry)) (now (durable .entry)) (now (state .entry))) ⌝ }
@@ -64,7 +64,7 @@ pub extern "C" fn zrv_write(
     durable: &mut [u8],
     state: &mut [u8],
     buffer: &[u8],
-) -> u32
+) -> u64
     ensures { λ r. ⌜ answered r (ranges (now (sectors .exit)) (now (written .exit)) (now (durable .exit)) (now (state .exit)))
         ≡ writeEdge (shapeOf drives «sector_bytes» unit zones «zone_sectors») named address «sectors_to_write» count (now (buffer .entry)) (ranges (now (sectors .entry)) (now (written .entry)) (now (durable .entry)) (now (state .entry))) ⌝ }
 {
@@ -103,7 +103,7 @@ pub extern "C" fn zrv_flush(
     written: &[u8],
     durable: &mut [u8],
     state: &mut [u8],
-) -> u32
+) -> u64
     ensures { λ r. ⌜ answered r (ranges (now (sectors .entry)) (now (written .entry)) (now (durable .exit)) (now (state .exit)))
         ≡ flushEdge (shapeOf drives «sector_bytes» unit zones «zone_sectors») named count (ranges (now (sectors .entry)) (now (written .entry)) (now (durable .entry)) (now (state .entry))) ⌝ }
 {
@@ -140,7 +140,7 @@ pub extern "C" fn zrv_reset(
     written: &mut [u8],
     durable: &mut [u8],
     state: &mut [u8],
-) -> u32
+) -> u64
     ensures { λ r. ⌜ answered r (ranges (now (sectors .exit)) (now (written .exit)) (now (durable .exit)) (now (state .exit)))
         ≡ resetEdge (shapeOf drives «sector_bytes» unit zones «zone_sectors») named zone count (ranges (now (sectors .entry)) (now (written .entry)) (now (durable .entry)) (now (state .entry))) ⌝ }
 {

@@ -21,8 +21,8 @@ use Rattle.tables.specs.laws.Below.{any-below-false, none-any-below}
 use Rattle.tables.specs.laws.Xor.{xor-assoc, xor-bytes-comm, xor-zeros, xor-bytes-cancel, xor-below-split, xor-below-length, without-self, without-other}
 use Rattle.grouped.specs.declared.Segment.{Segment}
 use Rattle.grouped.specs.meaning.Segment.{totalBlocks, twoMissing, missingDrive}
-use Rattle.grouped.specs.meaning.Stripes.{addressAt, timestampAt, wrongDrive, wrongIDs, placeOf, parityOf, xorNumbers, except, addressOf, timestampOf, blockOf}
-use Rattle.grouped.specs.meaning.Reading.{request, inputNumber, groupedNumber, groupedLeft}
+use Rattle.grouped.specs.meaning.Stripes.{blockAddress, timestampAt, wrongDrive, wrongIDs, blockPlace, stripeParity, xorNumbers, except, addressOf, timestampOf, blockOf}
+use Rattle.grouped.specs.meaning.Reading.{request, numbersRefused, groupedNumber, groupedLeft}
 use Rattle.grouped.specs.laws.Segment.{cell-in}
 use Rattle.grouped.specs.laws.Holdings.{SameHeld}
 use Rattle.grouped.specs.places.Placed.{place-within}
@@ -31,9 +31,9 @@ use Rattle.grouped.specs.reading.SameCall.{same-call}
 
 -- the parity block of every stripe is the exclusive or of its others, as are its address and timestamp
 pub record TrueToParity (s : Segment) (xs ms : List ℕ) : Type 0 where
-  pub address : (n : ℕ) → n < s .blocks → addressAt ms (placeOf s ms (parityOf s n) n) ≡ xorNumbers (except (parityOf s n) (λ e. addressAt ms (placeOf s ms e n))) (s .drives)
-  pub timestamp : (n : ℕ) → n < s .blocks → timestampAt ms (placeOf s ms (parityOf s n) n) ≡ xorNumbers (except (parityOf s n) (λ e. timestampAt ms (placeOf s ms e n))) (s .drives)
-  pub block : (n : ℕ) → n < s .blocks → sectorNo (s .block) xs (placeOf s ms (parityOf s n) n) ≡ xorBelow (without (λ e. sectorNo (s .block) xs (placeOf s ms e n)) (parityOf s n)) (s .drives)
+  pub address : (n : ℕ) → n < s .blocks → blockAddress ms (blockPlace s ms (stripeParity s n) n) ≡ xorNumbers (except (stripeParity s n) (λ e. blockAddress ms (blockPlace s ms e n))) (s .drives)
+  pub timestamp : (n : ℕ) → n < s .blocks → timestampAt ms (blockPlace s ms (stripeParity s n) n) ≡ xorNumbers (except (stripeParity s n) (λ e. timestampAt ms (blockPlace s ms e n))) (s .drives)
+  pub block : (n : ℕ) → n < s .blocks → sectorNo (s .block) xs (blockPlace s ms (stripeParity s n) n) ≡ xorBelow (without (λ e. sectorNo (s .block) xs (blockPlace s ms e n)) (stripeParity s n)) (s .drives)
 
 -- ---- numbers: the exclusive or of all is that of all but one, and that one
 except-self : (f : ℕ → ℕ) (i : ℕ) → except i f i ≡ 0
@@ -119,30 +119,30 @@ module _ (s : Segment) (xs ms : List ℕ) (x : ℕ) (many : 3 ≤ s .drives) (fe
       go d h false = whole d h
 
   -- the place of a block that is there
-  inside : (d n : ℕ) → d < s .drives → n < s .blocks → placeOf s ms d n < totalBlocks s
+  inside : (d n : ℕ) → d < s .drives → n < s .blocks → blockPlace s ms d n < totalBlocks s
   inside d n h l =
       let (p, q) = place-within s ms noDrive d n right h (present d h) l in
-      let c = cell-in s d (placeOf s ms d n - d * s .blocks) h (omega arith) in
+      let c = cell-in s d (blockPlace s ms d n - d * s .blocks) h (omega arith) in
       omega arith
 
   pick-all : (A : Type 0) (d : ℕ) → d < s .drives → (u v : A) → pick (eqb d noDrive) u v ≡ v
   pick-all A d h u v = rw (ne-eqb d noDrive (present d h)) refl
 
-  by-number : (f : ℕ → ℕ) (n d : ℕ) → n < s .blocks → d < s .drives → f (parityOf s n) ≡ xorNumbers (except (parityOf s n) f) (s .drives) → pick (eqb d x) (xorNumbers (except x f) (s .drives)) (f d) ≡ f d
+  by-number : (f : ℕ → ℕ) (n d : ℕ) → n < s .blocks → d < s .drives → f (stripeParity s n) ≡ xorNumbers (except (stripeParity s n) f) (s .drives) → pick (eqb d x) (xorNumbers (except x f) (s .drives)) (f d) ≡ f d
   by-number f n d l h e = go (eqb d x) refl
     where
       go : (t : Bool) → eqb d x ≡ t → pick t (xorNumbers (except x f) (s .drives)) (f d) ≡ f d
-      go true q = numbers-rebuild f (s .drives) (parityOf s n) x (mod-lt n (omega arith)) hx e ∙ ap f (sym (eqb-true d x q))
+      go true q = numbers-rebuild f (s .drives) (stripeParity s n) x (mod-lt n (omega arith)) hx e ∙ ap f (sym (eqb-true d x q))
       go false q = refl
 
-  by-block : (n d : ℕ) → n < s .blocks → d < s .drives → pick (eqb d x) (xorBelow (without (λ e. sectorNo (s .block) xs (placeOf s ms e n)) x) (s .drives)) (sectorNo (s .block) xs (placeOf s ms d n)) ≡ sectorNo (s .block) xs (placeOf s ms d n)
+  by-block : (n d : ℕ) → n < s .blocks → d < s .drives → pick (eqb d x) (xorBelow (without (λ e. sectorNo (s .block) xs (blockPlace s ms e n)) x) (s .drives)) (sectorNo (s .block) xs (blockPlace s ms d n)) ≡ sectorNo (s .block) xs (blockPlace s ms d n)
   by-block n d l h = go (eqb d x) refl (ℕ-discrete x 0)
     where
       f : ℕ → List ℕ
-      f e = sectorNo (s .block) xs (placeOf s ms e n)
+      f e = sectorNo (s .block) xs (blockPlace s ms e n)
 
       rebuilt : (e : ℕ) → e < s .drives → e ≢ x → xorBelow (without f x) (s .drives) ≡ f x
-      rebuilt e he ne = blocks-rebuild (s .block) f (s .drives) (parityOf s n) x e (λ k m. held-length s xs (placeOf s ms k n) (inside k n m l) long) (mod-lt n (omega arith)) hx he ne (parity .block n l)
+      rebuilt e he ne = blocks-rebuild (s .block) f (s .drives) (stripeParity s n) x e (λ k m. held-length s xs (blockPlace s ms k n) (inside k n m l) long) (mod-lt n (omega arith)) hx he ne (parity .block n l)
 
       go : (t : Bool) → eqb d x ≡ t → Dec (x ≡ 0) → pick t (xorBelow (without f x) (s .drives)) (f d) ≡ f d
       go true q (yes z) = rebuilt 1 (omega arith) (omega arith) ∙ ap f (sym (eqb-true d x q))
@@ -152,8 +152,8 @@ module _ (s : Segment) (xs ms : List ℕ) (x : ℕ) (many : 3 ≤ s .drives) (fe
   pub same-without : SameHeld s xs ms x xs ms noDrive
   unfolding addressOf timestampOf blockOf
   same-without = record {
-    address = λ d n h l. by-number (λ e. addressAt ms (placeOf s ms e n)) n d l h (parity .address n l) ∙ sym (pick-all ℕ d h _ _);
-    timestamp = λ d n h l. by-number (λ e. timestampAt ms (placeOf s ms e n)) n d l h (parity .timestamp n l) ∙ sym (pick-all ℕ d h _ _);
+    address = λ d n h l. by-number (λ e. blockAddress ms (blockPlace s ms e n)) n d l h (parity .address n l) ∙ sym (pick-all ℕ d h _ _);
+    timestamp = λ d n h l. by-number (λ e. timestampAt ms (blockPlace s ms e n)) n d l h (parity .timestamp n l) ∙ sym (pick-all ℕ d h _ _);
     block = λ d n h l. by-block n d l h ∙ sym (pick-all (List ℕ) d h _ _);
   }
 
@@ -161,6 +161,6 @@ module _ (s : Segment) (xs ms : List ℕ) (x : ℕ) (many : 3 ≤ s .drives) (fe
   pub any-drive-may-be-missing : (all rest : List Bool) (work a : ℕ) (out : List ℕ) → missingDrive s all ≡ noDrive → missingDrive s rest ≡ x → twoMissing s all ≡ false → twoMissing s rest ≡ false
       → (groupedNumber (request s rest xs ms work a) out ≡ groupedNumber (request s all xs ms work a) out)
       × (groupedLeft (request s rest xs ms work a) out ≡ groupedLeft (request s all xs ms work a) out)
-  unfolding inputNumber
+  unfolding numbersRefused
   any-drive-may-be-missing all rest work a out p q f g =
       same-call s rest xs ms all xs ms work a out (rw (f, g) refl) (rw (p, q) (right-without ∙ sym right)) (λ r. rw (p, q) same-without)

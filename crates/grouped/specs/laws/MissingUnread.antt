@@ -19,8 +19,8 @@ use Rattle.tables.specs.laws.Below.{any-below-cong, count-below-cong}
 use Rattle.tables.specs.laws.Xor.{xor-below-cong, without-self, without-other}
 use Rattle.grouped.specs.declared.Segment.{Segment}
 use Rattle.grouped.specs.meaning.Segment.{totalBlocks, recordBytes, missingDrive}
-use Rattle.grouped.specs.meaning.Stripes.{addressAt, timestampAt, idAt, ofStripe, wrongDrive, wrongIDs, lastBelow, placeOf, xorNumbers, except, addressOf, timestampOf, blockOf}
-use Rattle.grouped.specs.meaning.Reading.{request, inputNumber, metadataNumber, newest, groupedNumber, groupedLeft, blockIn}
+use Rattle.grouped.specs.meaning.Stripes.{blockAddress, timestampAt, idAt, ofStripe, wrongDrive, wrongIDs, lastBelow, blockPlace, xorNumbers, except, addressOf, timestampOf, blockOf}
+use Rattle.grouped.specs.meaning.Reading.{request, numbersRefused, metadataNumber, newest, groupedNumber, groupedLeft, blockIn}
 use Rattle.grouped.specs.places.Placed.{place-within, last-there}
 use Rattle.grouped.specs.laws.Pigeonhole.{last-most}
 use Rattle.grouped.specs.laws.Holdings.{SameHeld}
@@ -51,8 +51,8 @@ module _ (s : Segment) (x : ℕ) (ms ns : List ℕ) (r : SameBut s x recordBytes
   unfolding idAt
   same-id d i h ne l = told 4 16 d i (omega arith) h ne l
 
-  same-address : (d i : ℕ) → d < s .drives → d ≢ x → i < s .blocks → addressAt ms (d * s .blocks + i) ≡ addressAt ns (d * s .blocks + i)
-  unfolding addressAt
+  same-address : (d i : ℕ) → d < s .drives → d ≢ x → i < s .blocks → blockAddress ms (d * s .blocks + i) ≡ blockAddress ns (d * s .blocks + i)
+  unfolding blockAddress
   same-address d i h ne l =
       let z : (d * s .blocks + i) * 20 + 0 ≡ (d * s .blocks + i) * 20 = omega arith in
       ap (λ (n : ℕ). numberLE (take 8 (drop n ms))) (sym z) ∙ told 8 0 d i (omega arith) h ne l ∙ ap (λ (n : ℕ). numberLE (take 8 (drop n ns))) z
@@ -81,48 +81,48 @@ module _ (s : Segment) (x : ℕ) (ms ns : List ℕ) (r : SameBut s x recordBytes
   last-cong d n zero h ne l = refl
   last-cong d n (suc m) h ne l = rw (same-of d n m h ne (omega arith), last-cong d n m h ne (omega arith)) refl
 
-  same-place : (d n : ℕ) → d < s .drives → d ≢ x → placeOf s ms d n ≡ placeOf s ns d n
-  unfolding placeOf
+  same-place : (d n : ℕ) → d < s .drives → d ≢ x → blockPlace s ms d n ≡ blockPlace s ns d n
+  unfolding blockPlace
   same-place d n h ne = ap (λ (k : ℕ). d * s .blocks + k - 1) (last-cong d n (s .blocks) h ne (omega arith))
 
   module _ (right : wrongIDs s ms x ≡ false) where
     -- what lies in a place of the drive is the same, so what lies at the stripe's block is
     at-place : (A : Type 0) (f g : ℕ → A) → ((d i : ℕ) → d < s .drives → d ≢ x → i < s .blocks → f (d * s .blocks + i) ≡ g (d * s .blocks + i))
-        → (d n : ℕ) → d < s .drives → d ≢ x → n < s .blocks → f (placeOf s ms d n) ≡ g (placeOf s ns d n)
+        → (d n : ℕ) → d < s .drives → d ≢ x → n < s .blocks → f (blockPlace s ms d n) ≡ g (blockPlace s ns d n)
     at-place A f g same d n h ne l =
         let (p, q) = place-within s ms x d n right h ne l in
-        let e : d * s .blocks + (placeOf s ms d n - d * s .blocks) ≡ placeOf s ms d n = omega arith in
-        ap f (sym e) ∙ same d (placeOf s ms d n - d * s .blocks) h ne (omega arith) ∙ ap g (e ∙ same-place d n h ne)
+        let e : d * s .blocks + (blockPlace s ms d n - d * s .blocks) ≡ blockPlace s ms d n = omega arith in
+        ap f (sym e) ∙ same d (blockPlace s ms d n - d * s .blocks) h ne (omega arith) ∙ ap g (e ∙ same-place d n h ne)
 
     numbers : (f g : ℕ → ℕ) → ((d i : ℕ) → d < s .drives → d ≢ x → i < s .blocks → f (d * s .blocks + i) ≡ g (d * s .blocks + i))
-        → (n m : ℕ) → n < s .blocks → m ≤ s .drives → xorNumbers (except x (λ e. f (placeOf s ms e n))) m ≡ xorNumbers (except x (λ e. g (placeOf s ns e n))) m
+        → (n m : ℕ) → n < s .blocks → m ≤ s .drives → xorNumbers (except x (λ e. f (blockPlace s ms e n))) m ≡ xorNumbers (except x (λ e. g (blockPlace s ns e n))) m
     numbers f g same n zero l k = refl
     numbers f g same n (suc m) l k = rw (numbers f g same n m l (omega arith), one (ℕ-discrete m x)) refl
       where
-        one : Dec (m ≡ x) → except x (λ e. f (placeOf s ms e n)) m ≡ except x (λ e. g (placeOf s ns e n)) m
+        one : Dec (m ≡ x) → except x (λ e. f (blockPlace s ms e n)) m ≡ except x (λ e. g (blockPlace s ns e n)) m
         one (yes e) = rw (eq-eqb m x e) refl
         one (no e) = ap (pick (eqb m x) 0) (at-place ℕ f g same m n (omega arith) e l)
 
     pub unread-held : (xs ys : List ℕ) → SameBut s x (s .block) xs ys → SameHeld s xs ms x ys ns x
     unfolding addressOf timestampOf blockOf
     unread-held xs ys b = record {
-      address = λ d n h l. choose ℕ (addressAt ms) (addressAt ns) same-address d n h l _ _ (numbers (addressAt ms) (addressAt ns) same-address n (s .drives) l (omega arith));
+      address = λ d n h l. choose ℕ (blockAddress ms) (blockAddress ns) same-address d n h l _ _ (numbers (blockAddress ms) (blockAddress ns) same-address n (s .drives) l (omega arith));
       timestamp = λ d n h l. choose ℕ (timestampAt ms) (timestampAt ns) same-timestamp d n h l _ _ (numbers (timestampAt ms) (timestampAt ns) same-timestamp n (s .drives) l (omega arith));
       block = λ d n h l. choose (List ℕ) (sectorNo (s .block) xs) (sectorNo (s .block) ys) (b .same) d n h l _ _ (xor-below-cong _ _ (s .drives) (λ e k. member n l e k (ℕ-discrete e x)));
     }
       where
         choose : (A : Type 0) (f g : ℕ → A) → ((d i : ℕ) → d < s .drives → d ≢ x → i < s .blocks → f (d * s .blocks + i) ≡ g (d * s .blocks + i))
-            → (d n : ℕ) → d < s .drives → n < s .blocks → (u v : A) → u ≡ v → pick (eqb d x) u (f (placeOf s ms d n)) ≡ pick (eqb d x) v (g (placeOf s ns d n))
+            → (d n : ℕ) → d < s .drives → n < s .blocks → (u v : A) → u ≡ v → pick (eqb d x) u (f (blockPlace s ms d n)) ≡ pick (eqb d x) v (g (blockPlace s ns d n))
         choose A f g same d n h l u v e = by (eqb d x) refl
           where
-            by : (t : Bool) → eqb d x ≡ t → pick t u (f (placeOf s ms d n)) ≡ pick t v (g (placeOf s ns d n))
+            by : (t : Bool) → eqb d x ≡ t → pick t u (f (blockPlace s ms d n)) ≡ pick t v (g (blockPlace s ns d n))
             by true q = e
             by false q = at-place A f g same d n h (eqb-false d x q) l
 
-        member : (n : ℕ) → n < s .blocks → (e : ℕ) → e < s .drives → Dec (e ≡ x) → without (λ e. sectorNo (s .block) xs (placeOf s ms e n)) x e ≡ without (λ e. sectorNo (s .block) ys (placeOf s ns e n)) x e
-        member n l e k (yes q) = rw q (without-self (λ e. sectorNo (s .block) xs (placeOf s ms e n)) x ∙ sym (without-self (λ e. sectorNo (s .block) ys (placeOf s ns e n)) x))
+        member : (n : ℕ) → n < s .blocks → (e : ℕ) → e < s .drives → Dec (e ≡ x) → without (λ e. sectorNo (s .block) xs (blockPlace s ms e n)) x e ≡ without (λ e. sectorNo (s .block) ys (blockPlace s ns e n)) x e
+        member n l e k (yes q) = rw q (without-self (λ e. sectorNo (s .block) xs (blockPlace s ms e n)) x ∙ sym (without-self (λ e. sectorNo (s .block) ys (blockPlace s ns e n)) x))
         member n l e k (no q) =
-            without-other (λ e. sectorNo (s .block) xs (placeOf s ms e n)) x e q ∙ at-place (List ℕ) (sectorNo (s .block) xs) (sectorNo (s .block) ys) (b .same) e n k q l ∙ sym (without-other (λ e. sectorNo (s .block) ys (placeOf s ns e n)) x e q)
+            without-other (λ e. sectorNo (s .block) xs (blockPlace s ms e n)) x e q ∙ at-place (List ℕ) (sectorNo (s .block) xs) (sectorNo (s .block) ys) (b .same) e n k q l ∙ sym (without-other (λ e. sectorNo (s .block) ys (blockPlace s ns e n)) x e q)
 
 -- THE LAW
 pub missing-unread : (s : Segment) (named : List Bool) (xs ys ms ns : List ℕ) (work a : ℕ) (out : List ℕ)

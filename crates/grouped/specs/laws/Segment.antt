@@ -16,7 +16,7 @@ use Rattle.tables.specs.meaning.Basics.{pick}
 use Rattle.tables.specs.meaning.Drives.{findBelow}
 use Rattle.tables.specs.meaning.GeometryTest.{all, sectorSize}
 use Rattle.grouped.specs.declared.Segment.{Segment}
-use Rattle.grouped.specs.meaning.Segment.{ranges, isValid, lengthsFit, totalBlocks}
+use Rattle.grouped.specs.meaning.Segment.{segmentBounds, isSegment, rangesFit, totalBlocks}
 
 pub record Valid (s : Segment) : Type 0 where
   pub drives-least : 3 ≤ s .drives
@@ -35,9 +35,9 @@ size-most b h = go (decLt 4096 b)
         absurd (true≢false (sym h ∙ e))
     go (no k) = omega arith
 
-pub ranged : (s : Segment) → all (ranges s) ≡ true → Valid s
+pub ranged : (s : Segment) → all (segmentBounds s) ≡ true → Valid s
 ranged s h =
-    let at = all-at (ranges s) h in
+    let at = all-at (segmentBounds s) h in
     record {
       drives-least = leb-true _ _ (at 0);
       drives-most = leb-true _ _ (at 1);

@@ -8,8 +8,8 @@ use lib.Dec.{ltb, eqb}
 use Rattle.tables.specs.meaning.Basics.{pick}
 use Rattle.tables.specs.meaning.Below.{anyBelow}
 use Rattle.grouped.specs.declared.Segment.{Segment}
-use Rattle.grouped.specs.meaning.Segment.{isValid, lengthsFit, twoMissing, missingDrive, totalBlocks}
-use Rattle.grouped.specs.meaning.Stripes.{wrongIDs, parityOf, addressOf, timestampOf, blockOf}
+use Rattle.grouped.specs.meaning.Segment.{isSegment, rangesFit, twoMissing, missingDrive, totalBlocks}
+use Rattle.grouped.specs.meaning.Stripes.{wrongIDs, stripeParity, addressOf, timestampOf, blockOf}
 
 -- the address of a filler block, 2^64 − 1
 abbrev pub filler : ℕ
@@ -23,7 +23,7 @@ timestampIn s ms x c = timestampOf s ms x (c / s .blocks) (c % s .blocks)
 
 -- a data block that is no filler
 unfoldable pub isData : Segment → ℕ → Bool
-isData s c = not (eqb (c / s .blocks) (parityOf s (c % s .blocks)))
+isData s c = not (eqb (c / s .blocks) (stripeParity s (c % s .blocks)))
 
 unfoldable pub counts : Segment → List ℕ → ℕ → ℕ → Bool
 counts s ms x c = isData s c && not (eqb (addressIn s ms x c) filler)
@@ -63,9 +63,9 @@ abbrev pub request : Segment → List Bool → List ℕ → List ℕ → ℕ →
 request s named xs ms w a = record { segment = s; named = named; blocks = xs; metadata = ms; work = w; address = a }
 
 -- what the numbers, the lengths and the drives named refuse, 0 if nothing; what the metadata refuse; then the address
-unfoldable pub inputNumber : Segment → List Bool → ℕ → ℕ → ℕ → ℕ → ℕ
-inputNumber s named blocks metadata work answer =
-    pick (isValid s) (pick (lengthsFit s blocks metadata work answer) (pick (twoMissing s named) 4 0) 2) 1
+unfoldable pub numbersRefused : Segment → List Bool → ℕ → ℕ → ℕ → ℕ → ℕ
+numbersRefused s named blocks metadata work answer =
+    pick (isSegment s) (pick (rangesFit s blocks metadata work answer) (pick (twoMissing s named) 4 0) 2) 1
 
 unfoldable pub metadataNumber : Segment → List ℕ → ℕ → ℕ
 metadataNumber s ms x = pick (wrongIDs s ms x) 23 (pick (someAlike s ms x) 24 0)
@@ -74,15 +74,15 @@ unfoldable pub addressNumber : Segment → List ℕ → ℕ → ℕ → ℕ
 addressNumber s ms x a = pick (eqb (newest s ms x a) 0) 13 0
 
 -- the first that refuses
-abbrev pub orElse : ℕ → ℕ → ℕ
-orElse n m = pick (eqb n 0) m n
+abbrev pub numberOr : ℕ → ℕ → ℕ
+numberOr n m = pick (eqb n 0) m n
 
 unfoldable pub groupedNumber : Request → List ℕ → ℕ
 groupedNumber r out =
     let s = r .segment in
     let x = missingDrive s (r .named) in
-    orElse (inputNumber s (r .named) (length (r .blocks)) (length (r .metadata)) (r .work) (length out))
-    (orElse (metadataNumber s (r .metadata) x) (addressNumber s (r .metadata) x (r .address)))
+    numberOr (numbersRefused s (r .named) (length (r .blocks)) (length (r .metadata)) (r .work) (length out))
+    (numberOr (metadataNumber s (r .metadata) x) (addressNumber s (r .metadata) x (r .address)))
 
 -- the bytes of what is counted by c
 unfoldable pub blockIn : Segment → List ℕ → List ℕ → ℕ → ℕ → List ℕ

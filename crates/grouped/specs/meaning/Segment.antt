@@ -10,15 +10,15 @@ use Rattle.tables.specs.meaning.GeometryTest.{all, sectorSize}
 use Rattle.grouped.specs.declared.Segment.{Segment}
 
 -- ---- 1: D, B and G in their bounds, at most 65,536 blocks a drive, whole groups
-abbrev pub ranges : Segment → List Bool
-ranges s =
+abbrev pub segmentBounds : Segment → List Bool
+segmentBounds s =
     leb 3 (s .drives) ∷ leb (s .drives) 8
     ∷ sectorSize (s .block)
     ∷ leb 1 (s .group) ∷ leb (s .group) 256
     ∷ leb (s .blocks) 65536 ∷ []
 
-unfoldable pub isValid : Segment → Bool
-isValid s = all (ranges s) && eqb (s .blocks % s .group) 0
+unfoldable pub isSegment : Segment → Bool
+isSegment s = all (segmentBounds s) && eqb (s .blocks % s .group) 0
 
 -- ---- 2: every lent length is exact, in bytes
 -- the blocks of all drives
@@ -33,8 +33,8 @@ recordBytes = 20
 abbrev pub workBytes : ℕ
 workBytes = 8
 
-unfoldable pub lengthsFit : Segment → ℕ → ℕ → ℕ → ℕ → Bool
-lengthsFit s blocks metadata work answer =
+unfoldable pub rangesFit : Segment → ℕ → ℕ → ℕ → ℕ → Bool
+rangesFit s blocks metadata work answer =
     eqb blocks (totalBlocks s * s .block) && (eqb metadata (totalBlocks s * recordBytes) && (eqb work (totalBlocks s * workBytes) && eqb answer (s .block)))
 
 -- ---- 4: one drive at most is not named

@@ -15,8 +15,8 @@ use Rattle.grouped.specs.declared.Segment.{Segment}
 use Rattle.grouped.specs.meaning.Segment.{recordBytes}
 
 -- ---- the metadata of block k
-unfoldable pub addressAt : List ℕ → ℕ → ℕ
-addressAt ms k = readLE 8 ms (k * recordBytes)
+unfoldable pub blockAddress : List ℕ → ℕ → ℕ
+blockAddress ms k = readLE 8 ms (k * recordBytes)
 
 unfoldable pub timestampAt : List ℕ → ℕ → ℕ
 timestampAt ms k = readLE 8 ms (k * recordBytes + 8)
@@ -42,12 +42,12 @@ lastBelow p zero = zero
 lastBelow p (suc n) = pick (p n) (suc n) (lastBelow p n)
 
 -- the block of drive d in stripe n
-unfoldable pub placeOf : Segment → List ℕ → ℕ → ℕ → ℕ
-placeOf s ms d n = d * s .blocks + lastBelow (ofStripe s ms d n) (s .blocks) - 1
+unfoldable pub blockPlace : Segment → List ℕ → ℕ → ℕ → ℕ
+blockPlace s ms d n = d * s .blocks + lastBelow (ofStripe s ms d n) (s .blocks) - 1
 
 -- the drive of a stripe's parity; the others hold data
-abbrev pub parityOf : Segment → ℕ → ℕ
-parityOf s n = n % s .drives
+abbrev pub stripeParity : Segment → ℕ → ℕ
+stripeParity s n = n % s .drives
 
 -- ---- what drive d holds of stripe n; of the missing drive it is the exclusive or of what the others hold
 abbrev pub xorNumbers : (ℕ → ℕ) → ℕ → ℕ
@@ -59,11 +59,11 @@ abbrev pub except : ℕ → (ℕ → ℕ) → ℕ → ℕ
 except x f d = pick (eqb d x) 0 (f d)
 
 unfoldable pub addressOf : Segment → List ℕ → ℕ → ℕ → ℕ → ℕ
-addressOf s ms x d n = pick (eqb d x) (xorNumbers (except x (λ e. addressAt ms (placeOf s ms e n))) (s .drives)) (addressAt ms (placeOf s ms d n))
+addressOf s ms x d n = pick (eqb d x) (xorNumbers (except x (λ e. blockAddress ms (blockPlace s ms e n))) (s .drives)) (blockAddress ms (blockPlace s ms d n))
 
 unfoldable pub timestampOf : Segment → List ℕ → ℕ → ℕ → ℕ → ℕ
-timestampOf s ms x d n = pick (eqb d x) (xorNumbers (except x (λ e. timestampAt ms (placeOf s ms e n))) (s .drives)) (timestampAt ms (placeOf s ms d n))
+timestampOf s ms x d n = pick (eqb d x) (xorNumbers (except x (λ e. timestampAt ms (blockPlace s ms e n))) (s .drives)) (timestampAt ms (blockPlace s ms d n))
 
 unfoldable pub blockOf : Segment → List ℕ → List ℕ → ℕ → ℕ → ℕ → List ℕ
 blockOf s xs ms x d n =
-    pick (eqb d x) (xorBelow (without (λ e. sectorNo (s .block) xs (placeOf s ms e n)) x) (s .drives)) (sectorNo (s .block) xs (placeOf s ms d n))
+    pick (eqb d x) (xorBelow (without (λ e. sectorNo (s .block) xs (blockPlace s ms e n)) x) (s .drives)) (sectorNo (s .block) xs (blockPlace s ms d n))

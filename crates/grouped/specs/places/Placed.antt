@@ -13,7 +13,7 @@ use Rattle.tables.specs.meaning.Below.{anyBelow}
 use Rattle.tables.specs.laws.Below.{any-below-false}
 use Rattle.grouped.specs.declared.Segment.{Segment}
 use Rattle.grouped.specs.meaning.Segment.{totalBlocks}
-use Rattle.grouped.specs.meaning.Stripes.{ofStripe, wrongDrive, wrongIDs, lastBelow, placeOf}
+use Rattle.grouped.specs.meaning.Stripes.{ofStripe, wrongDrive, wrongIDs, lastBelow, blockPlace}
 use Rattle.grouped.specs.laws.Segment.{Sized, cell-in}
 use Rattle.grouped.specs.laws.Words.{word}
 use Rattle.grouped.specs.laws.Pigeonhole.{last-most}
@@ -35,8 +35,8 @@ last-there s ms x d n e h ne k =
     omega (arith, eqb-false (lastBelow (ofStripe s ms d n) (s .blocks)) 0 (any-below-false (λ n. eqb (lastBelow (ofStripe s ms d n) (s .blocks)) 0) (s .blocks) n c k))
 
 -- the block lies on its drive
-pub place-within : (s : Segment) (ms : List ℕ) (x d n : ℕ) → wrongIDs s ms x ≡ false → d < s .drives → d ≢ x → n < s .blocks → (d * s .blocks ≤ placeOf s ms d n) × (placeOf s ms d n < d * s .blocks + s .blocks)
-unfolding placeOf
+pub place-within : (s : Segment) (ms : List ℕ) (x d n : ℕ) → wrongIDs s ms x ≡ false → d < s .drives → d ≢ x → n < s .blocks → (d * s .blocks ≤ blockPlace s ms d n) × (blockPlace s ms d n < d * s .blocks + s .blocks)
+unfolding blockPlace
 place-within s ms x d n e h ne k = let l = last-there s ms x d n e h ne k in let m = last-most (ofStripe s ms d n) (s .blocks) in (omega arith, omega arith)
 
 -- ---- as the work table has it, whatever it was made from
@@ -69,8 +69,8 @@ placed-found s ms x w p = record {
   most = λ d n h ne k. rw (p .noted .here d n h ne k) (last-most (ofStripe s ms d n) (s .blocks));
 }
 
-pub place-is : (s : Segment) (ms : List ℕ) (x : ℕ) (w : List ℕ) (d n : ℕ) → Placed s ms x w → d < s .drives → d ≢ x → n < s .blocks → placeIn s w d n ≡ placeOf s ms d n
-unfolding placeIn placeOf
+pub place-is : (s : Segment) (ms : List ℕ) (x : ℕ) (w : List ℕ) (d n : ℕ) → Placed s ms x w → d < s .drives → d ≢ x → n < s .blocks → placeIn s w d n ≡ blockPlace s ms d n
+unfolding placeIn blockPlace
 place-is s ms x w d n p h ne k = rw (p .noted .here d n h ne k) refl
 
 pub place-in-total : (s : Segment) (x : ℕ) (w : List ℕ) (d n : ℕ) → Found s x w → d < s .drives → d ≢ x → n < s .blocks → placeIn s w d n < totalBlocks s

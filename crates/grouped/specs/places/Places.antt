@@ -19,7 +19,7 @@ use Rattle.tables.specs.laws.Basics.{and-split, and-join}
 use Rattle.tables.specs.laws.Below.{count-below-one, any-below-cong, any-below-false}
 use Rattle.grouped.specs.declared.Segment.{Segment}
 use Rattle.grouped.specs.meaning.Segment.{totalBlocks}
-use Rattle.grouped.specs.meaning.Stripes.{idAt, ofStripe, wrongDrive, wrongIDs, lastBelow, placeOf}
+use Rattle.grouped.specs.meaning.Stripes.{idAt, ofStripe, wrongDrive, wrongIDs, lastBelow, blockPlace}
 use Rattle.grouped.specs.laws.Segment.{Valid, Sized, stripe-in, cell-in, total-small}
 use Rattle.grouped.specs.laws.Words.{word, setWord, length-set-word, word-set, word-set-other, word-cleared}
 use Rattle.grouped.specs.laws.Pigeonhole.{wrong-is-lacking, last-count, last-most}

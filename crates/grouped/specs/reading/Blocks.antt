@@ -17,7 +17,7 @@ use Rattle.tables.specs.meaning.Xor.{xorBytes, xorBelow, without}
 use Rattle.tables.specs.laws.Xor.{xor-nil, xor-row-suc, xor-zeros, xor-below-cong, xor-below-length, length-xor, xor-bytes-comm, without-self, without-other}
 use Rattle.grouped.specs.declared.Segment.{Segment}
 use Rattle.grouped.specs.meaning.Segment.{totalBlocks}
-use Rattle.grouped.specs.meaning.Stripes.{placeOf, wrongIDs, blockOf}
+use Rattle.grouped.specs.meaning.Stripes.{blockPlace, wrongIDs, blockOf}
 use Rattle.grouped.specs.meaning.Reading.{blockIn, metadataNumber}
 use Rattle.grouped.specs.places.Placed.{Placed, Found, placeIn, place-is, place-in-total, Cell, cell}
 
@@ -114,7 +114,7 @@ block-noted-is s xs ms x w c p h = go (eqb (c / s .blocks) x) refl (cell s c h)
     n = c % s .blocks
 
     f : ℕ → List ℕ
-    f e = sectorNo (s .block) xs (placeOf s ms e n)
+    f e = sectorNo (s .block) xs (blockPlace s ms e n)
 
     same : Cell s c → (d : ℕ) → d < s .drives → d ≢ x → heldBlock s xs w n d ≡ f d
     same k d l ne = ap (sectorNo (s .block) xs) (place-is s ms x w d n p l ne (k .stripe))

@@ -12,13 +12,13 @@ use Rattle.tables.specs.meaning.Basics.{pick}
 use Rattle.grouped.specs.declared.Segment.{Segment}
 use Rattle.grouped.specs.meaning.Segment.{missingDrive, totalBlocks}
 use Rattle.grouped.specs.meaning.Stripes.{wrongIDs}
-use Rattle.grouped.specs.meaning.Reading.{request, inputNumber, metadataNumber, addressNumber, newest, newestBelow, someAlike, groupedNumber, groupedLeft, blockIn}
+use Rattle.grouped.specs.meaning.Reading.{request, numbersRefused, metadataNumber, addressNumber, newest, newestBelow, someAlike, groupedNumber, groupedLeft, blockIn}
 use Rattle.grouped.specs.laws.Holdings.{SameHeld, same-some-alike, same-newest, same-blocks}
 use Rattle.grouped.specs.reading.Later.{newest-most}
 use Rattle.grouped.specs.reading.Call.{refused-left, finished-left, by-input, by-metadata, by-address}
 
 module _ (s : Segment) (named : List Bool) (xs ms : List ℕ) (other : List Bool) (ys ns : List ℕ) (work a : ℕ) (out : List ℕ)
-    (inputs : inputNumber s named (length xs) (length ms) work (length out) ≡ inputNumber s other (length ys) (length ns) work (length out))
+    (inputs : numbersRefused s named (length xs) (length ms) work (length out) ≡ numbersRefused s other (length ys) (length ns) work (length out))
     (ids : wrongIDs s ms (missingDrive s named) ≡ wrongIDs s ns (missingDrive s other))
     (held : wrongIDs s ms (missingDrive s named) ≡ false → SameHeld s xs ms (missingDrive s named) ys ns (missingDrive s other)) where
   abbrev pub Same : Type 0
@@ -57,7 +57,7 @@ module _ (s : Segment) (named : List Bool) (xs ms : List ℕ) (other : List Bool
   unfolding newest
   most = newest-most s ms x a (totalBlocks s)
 
-  found : inputNumber s named (length xs) (length ms) work (length out) ≡ 0 → metadataNumber s ms x ≡ 0 → Same
+  found : numbersRefused s named (length xs) (length ms) work (length out) ≡ 0 → metadataNumber s ms x ≡ 0 → Same
   found i m =
       let h = held (right m) in
       let n = newest s ms x a in
@@ -76,11 +76,11 @@ module _ (s : Segment) (named : List Bool) (xs ms : List ℕ) (other : List Bool
       inside (suc n) z k = omega arith
 
   pub same-call : Same
-  same-call = go (ℕ-discrete (inputNumber s named (length xs) (length ms) work (length out)) 0) (ℕ-discrete (metadataNumber s ms x) 0)
+  same-call = go (ℕ-discrete (numbersRefused s named (length xs) (length ms) work (length out)) 0) (ℕ-discrete (metadataNumber s ms x) 0)
     where
-      go : Dec (inputNumber s named (length xs) (length ms) work (length out) ≡ 0) → Dec (metadataNumber s ms x ≡ 0) → Same
+      go : Dec (numbersRefused s named (length xs) (length ms) work (length out) ≡ 0) → Dec (metadataNumber s ms x ≡ 0) → Same
       go (no i) m =
-          let n = inputNumber s named (length xs) (length ms) work (length out) in
+          let n = numbersRefused s named (length xs) (length ms) work (length out) in
           both n (by-input (request s named xs ms work a) out n refl i) (by-input (request s other ys ns work a) out n (sym inputs) i) (no i) (λ z. absurd (i z))
       go (yes i) (no m) =
           let n = metadataNumber s ms x in

@@ -11,31 +11,18 @@ use lib.Dec.{ltb, leb, eqb}
 use borrow.Author.Tests.{le-leb, lt-leb, lt-ltb, le-ltb, eq-eqb, ne-eqb}
 use Rattle.tables.specs.meaning.Lists.{anyOf}
 use Rattle.tables.specs.declared.Geometry.{Geometry}
-use Rattle.tables.specs.meaning.Geometry.{Valid, stripeSectors, zoneSectors}
+use Rattle.tables.specs.meaning.Geometry.{stripeSectors}
 use Rattle.logs.specs.meaning.Entry.{Header, label, counters, zoneReset, partialParity, seal, closing, Entry, rowsOf, fitsLog}
 use Rattle.logs.specs.laws.Entry.{decode-legal}
 use Rattle.logs.specs.meaning.Walk.{walkLog}
 use Rattle.logs.specs.laws.Heads.{endsWithin}
-use Rattle.logs.specs.meaning.Heads.{endsPast, endsAt}
-use Rattle.logs.specs.code.Judge.{partial-small, and-false}
-use Rattle.logs.specs.code.Lays.{and-true}
-use Rattle.logs.specs.laws.Legal.{stripe-ends}
+use Rattle.logs.specs.meaning.Heads.{endsAt}
+use Rattle.logs.specs.code.Judge.{and-false}
 use Rattle.logs.specs.code.Query.{headOf, headsOf}
 use Rattle.logs.specs.code.Steps.{Placed}
 use Rattle.logs.specs.laws.Places.{lastPlace, walk-places, last-place, LastSuch}
 
 -- ---- one header
-pub within-is-past : (g : Geometry) (d : ℕ) (par : Bool) (z n q : ℕ) (h : Header) → Valid g → fitsLog g d par h ≡ true → endsWithin g z n q (zoneSectors g) h ≡ endsPast g z n q h
-within-is-past g d par z n q (label x a) ok f = refl
-within-is-past g d par z n q (counters cs) ok f = refl
-within-is-past g d par z n q (zoneReset y m) ok f = refl
-within-is-past g d par z n q (partialParity y s v m) ok f =
-    let k = partial-small g d par y s v m f in
-    let e = s * stripeSectors g + v in
-    let l : leb e (zoneSectors g) ≡ true = le-leb e (zoneSectors g) (stripe-ends g s v ok (k .1) (omega (arith, k .2))) in
-    ap (λ (b : Bool). eqb y z && (eqb m n && b)) (ap (λ (b : Bool). ltb q e && b) l ∙ and-true (ltb q e))
-within-is-past g d par z n q (seal y p m) ok f = refl
-within-is-past g d par z n q (closing kind gen) ok f = refl
 
 between-is : (q e : ℕ) → ltb q e && leb e (suc q) ≡ eqb e (suc q)
 between-is q e = go (ℕ-discrete e (suc q)) (decLt q e)
@@ -82,10 +69,6 @@ module _ (g : Geometry) (d : ℕ) (par : Bool) (ss : List (List ℕ)) where
           → anyOf t (headsOf (walkLog g d par ss)) ≡ ltb zero (lastPlace g t zero zero (headsOf (walkLog g d par ss)))
       go (inl (n, m)) = n ∙ sym (ap (ltb zero) m)
       go (inr (q, s, m)) = any-there t (walkLog g d par ss .entries) zero q s ∙ sym (lt-ltb zero (lastPlace g t zero zero (headsOf (walkLog g d par ss))) (omega (arith, m)))
-
-  pub past-by-place : (z n q : ℕ) → Valid g → ltb zero (lastPlace g (endsWithin g z n q (zoneSectors g)) zero zero (headsOf (walkLog g d par ss))) ≡ anyOf (endsPast g z n q) (headsOf (walkLog g d par ss))
-  past-by-place z n q ok = sym (any-by-place (endsWithin g z n q (zoneSectors g)))
-      ∙ any-placed (endsWithin g z n q (zoneSectors g)) (endsPast g z n q) (walkLog g d par ss .entries) zero (walk-places g d par ss .placed) (λ h f. within-is-past g d par z n q h ok f)
 
   pub at-by-place : (z n q : ℕ) → ltb zero (lastPlace g (endsWithin g z n q (suc q)) zero zero (headsOf (walkLog g d par ss))) ≡ anyOf (endsAt g z n (suc q)) (headsOf (walkLog g d par ss))
   at-by-place z n q = sym (any-by-place (endsWithin g z n q (suc q))) ∙ any-like (endsWithin g z n q (suc q)) (endsAt g z n (suc q)) (headsOf (walkLog g d par ss)) (λ h. within-is-at g z n q h)

@@ -18,7 +18,6 @@ use Rattle.logs.specs.declared.Found.{Found}
 use Rattle.logs.specs.declared.Found.the-variants.{Bad, Label, Counters, Resets, Partial, Seal, Closing}
 use Rattle.tables.specs.meaning.LittleEndian.{numberLE, sameBytes}
 use Rattle.logs.specs.meaning.Entry.{Header, label, counters, zoneReset, partialParity, seal, closing, Decoded, legal, bad, faultOf, encode, readFields, kindOf, startOf, endOf, genOf, kindOfLog, fitsLog, decode}
-use Rattle.logs.specs.laws.Entry.{typeOf}
 use Rattle.tables.specs.laws.Placement.{stripe-of-sum}
 use Rattle.tables.specs.laws.Sizes.{stripe-small, stripes-most, zone-small}
 
@@ -33,24 +32,6 @@ seen (closing kind gen) = Closing gen
 abbrev pub found : Decoded → Found
 found (legal h) = seen h
 found (bad f) = Bad
-
--- document 01's type of each case; 0 for none
-abbrev pub foundType : Found → ℕ
-foundType Bad = 0
-foundType (Label x a) = 1
-foundType Counters = 2
-foundType (Resets z n) = 3
-foundType (Partial z s f n) = 4
-foundType (Seal z p n) = 5
-foundType (Closing gen) = 6
-
-pub found-type : (h : Header) → foundType (seen h) ≡ typeOf h
-found-type (label x a) = refl
-found-type (counters cs) = refl
-found-type (zoneReset z n) = refl
-found-type (partialParity z s f n) = refl
-found-type (seal z p n) = refl
-found-type (closing kind gen) = refl
 
 found-pick : (b : Bool) (h : Header) (f : Fault) → found (pick b (legal h) (bad f)) ≡ pick b (seen h) Bad
 found-pick true h f = refl

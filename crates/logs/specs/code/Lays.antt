@@ -71,10 +71,6 @@ zero-stop s i h e =
 pub zero-end : (s : List ℕ) (i : ℕ) → i ≡ length s → sameBytes (replicate (length s - i) 0) (drop i s) ≡ true
 zero-end s i e = let m : length s - length s ≡ 0 = omega arith in rw (e, m, drop-length s) refl
 
-and-assoc : (a b c : Bool) → a && (b && c) ≡ (a && b) && c
-and-assoc true b c = refl
-and-assoc false b c = refl
-
 -- the first 32 bytes say so
 unfoldable pub headSame : ℕ → ℕ → ℕ → ℕ → List ℕ → Bool
 headSame k s e n sec = sameBytes (markBytes k) (take 8 sec) && (sameBytes (bytesLE 8 s) (take 8 (drop 8 sec)) && (sameBytes (bytesLE 8 e) (take 8 (drop 16 sec)) && sameBytes (bytesLE 8 n) (take 8 (drop 24 sec))))

@@ -1,17 +1,17 @@
 -- Closing entries: a header is of one kind of log, so a walk for the other kind stops at it; the first closing entry where all are of one generation.
-use mathlib.Core.Path.{_≡_, refl, sym, ap}
+use mathlib.Core.Path.{_≡_, refl, sym}
 use mathlib.Core.Bool.{Bool, true, false, _&&_, not, true≢false}
 use Prim.Native.Nat.{ℕ, zero, suc, _<_}
 use native.Mathlib.Omega.{arith}
 use mathlib.Core.List.{List, [], _∷_, List·Memᴰ, List·Memᴰ·head, List·Memᴰ·tail}
 use lib.Dec.{eqb, ltb}
-use borrow.Author.Tests.{ne-eqb, eqb-true, ltb-true}
+use borrow.Author.Tests.{ne-eqb, eqb-true}
 use Rattle.tables.specs.meaning.Basics.{pick}
 use Rattle.tables.specs.laws.Basics.{and-split}
 use Rattle.tables.specs.laws.Lists.{mem-nil}
 use Rattle.tables.specs.meaning.LittleEndian.{sameBytes}
 use Rattle.tables.specs.declared.Geometry.{Geometry}
-use Rattle.logs.specs.meaning.Entry.{Header, label, counters, zoneReset, partialParity, seal, closing, Decoded, legal, bad, faultOf, encode, readFields, decode, fitsLog, kindOfLog}
+use Rattle.logs.specs.meaning.Entry.{Header, label, counters, zoneReset, partialParity, seal, closing, legal, bad, faultOf, encode, readFields, decode, fitsLog}
 use Rattle.logs.specs.meaning.Heads.{firstClosing}
 use Rattle.logs.specs.laws.Walk.{Reads}
 use Rattle.logs.specs.laws.HeadLaws.{reads-fits}
@@ -48,10 +48,6 @@ and-none false = refl
 
 pub other-bad : (g : Geometry) (d : ℕ) (par : Bool) (h : Header) → Reads g d par h → decode g d (not par) (encode g d h) ≡ bad (faultOf (encode g d h))
 other-bad g d par h r = rw (fields-of g d par (encode g d h) h r, one-kind g d par h (reads-fits g d par h r), and-none (sameBytes (encode g d h) (encode g d h))) refl
-
--- a legal closing entry names its log's kind, and no generation 0
-pub closing-legal : (g : Geometry) (d : ℕ) (par : Bool) (kind gen : ℕ) → Reads g d par (closing kind gen) → (kind ≡ kindOfLog par) × (0 < gen)
-closing-legal g d par kind gen r = let (a, b) = and-split (eqb kind (kindOfLog par)) (ltb 0 gen) (reads-fits g d par (closing kind gen) r) in (eqb-true kind (kindOfLog par) a, ltb-true 0 gen b)
 
 -- ---- the first closing entry, where all are of generation c, and there is one unless c is 0
 abbrev pub Closes : ℕ → List Header → Type 0

@@ -1,6 +1,6 @@
 -- Laws of what is copied of a general log (copiedGeneral): it holds nothing but what the log held and the counters in force, no closing entry, and each
 -- zone's least current seal and current reset; its label and its counters say what those of the log do.
-use mathlib.Core.Path.{_≡_, refl, sym, ap, ap₂, _∙_}
+use mathlib.Core.Path.{_≡_, refl, sym, ap₂, _∙_}
 use mathlib.Core.Logic.{_⊎_, inl, inr}
 use mathlib.Core.Bool.{Bool, true, false, _&&_, true≢false}
 use Prim.Native.Nat.{ℕ, zero, suc, _≤_, _<_, min}
@@ -12,7 +12,6 @@ use lib.Dec.{eqb}
 use borrow.Author.Tests.{eqb-true}
 use Rattle.tables.specs.meaning.Basics.{pick}
 use Rattle.tables.specs.laws.Basics.{and-split, eqb-same}
-use Rattle.tables.specs.meaning.Below.{eachBelow}
 use Rattle.tables.specs.meaning.Lists.{anyOf}
 use Rattle.tables.specs.laws.Lists.{any-of-some, some-any-of, mem-left, mem-right, mem-append, mem-nil}
 use Rattle.tables.specs.declared.Geometry.{Geometry}
@@ -21,7 +20,7 @@ use Rattle.logs.specs.meaning.Entry.{Header, label, counters, zoneReset,
 use Rattle.logs.specs.meaning.Heads.{labelled, arrayIn, lastLost, lastCounters, isReset, isSeal, leastSeal}
 use Rattle.logs.specs.meaning.Copies.{lastLabel, arrayFor, keptLabel, zonewise, keptSeals, keptResets, copiedGeneral}
 use Rattle.logs.specs.laws.Heads.{zoneGen}
-use Rattle.logs.specs.laws.HeadLaws.{lost-of-append, last-lost-is, reset-is, least-seal-below, last-counters-append, last-counters-of, LastOf, old, new}
+use Rattle.logs.specs.laws.HeadLaws.{reset-is, least-seal-below, last-counters-append, last-counters-of, LastOf, old, new}
 
 -- ---- zones ascending
 pub zonewise-mem : (b : ℕ → Bool) (h : ℕ → Header) (n : ℕ) (e : Header) → List·Memᴰ e (zonewise b h n) → (z : ℕ) × (z < n) × (b z ≡ true) × (e ≡ h z)
@@ -174,21 +173,6 @@ module _ (g : Geometry) (gens : ℕ → ℕ) (cs : List ℕ) (hs : List Header) 
       go : LastOf cs tail → lastCounters cs tail ≡ cs
       go (old e) = e
       go (new bs m e) = absurd (no-counters bs m)
-
-  -- its last label says what the log's did
-  pub copied-lost : (x y a : ℕ) → keptLabel hs ≡ label y a ∷ [] → lastLost x (copiedGeneral g gens cs hs) ≡ y
-  unfolding copiedGeneral
-  copied-lost x y a e =
-      let p : lastLost x (keptLabel hs) ≡ y = rw e refl in
-      lost-of-append x (keptLabel hs) (counters cs ∷ tail) ∙ last-lost-is (λ t. t ≡ y) (counters cs ∷ tail) (lastLost x (keptLabel hs)) p (λ u b m. absurd (no-label u b m))
-    where
-      behind : (u b : ℕ) → ((z : ℕ) × (z < g .zones) × (sealed z ≡ true) × (label u b ≡ leastOf z)) ⊎ ((z : ℕ) × (z < g .zones) × (hasReset z ≡ true) × (label u b ≡ resetOf z)) → ⊥
-      behind u b (inl (z, l, c, q)) = let o : _≡_ {A = ℕ} 0 1 = cc in omega arith
-      behind u b (inr (z, l, c, q)) = let o : _≡_ {A = ℕ} 0 1 = cc in omega arith
-
-      no-label : (u b : ℕ) → List·Memᴰ (label u b) (counters cs ∷ tail) → ⊥
-      no-label u b (List·Memᴰ·head q) = let o : _≡_ {A = ℕ} 0 1 = cc in omega arith
-      no-label u b (List·Memᴰ·tail m) = behind u b (tail-of (label u b) m)
 
   -- an entry of the copy: the log's, or the counters; it closes nothing
   pub data Copied (h : Header) : Type 0 where

@@ -12,15 +12,6 @@ use Rattle.tables.specs.laws.LittleEndian.{Small, same-bytes-refl, same-bytes-e
 use Rattle.tables.specs.meaning.LittleEndian.{sameBytes}
 use Rattle.logs.specs.meaning.Entry.{wornGeneration, Header, label, counters, zoneReset, partialParity, seal, closing, encode, fitsLog, readFields, legal, bad, faultOf, decode}
 
--- document 01's number of each type, byte 3 of its header
-abbrev pub typeOf : Header → ℕ
-typeOf (label x a) = 1
-typeOf (counters cs) = 2
-typeOf (zoneReset z n) = 3
-typeOf (partialParity z s f n) = 4
-typeOf (seal z p n) = 5
-typeOf (closing kind gen) = 6
-
 -- 2^64 − 1 as the code writes it
 pub worn-is : wornGeneration ≡ 18446744073709551615
 unfolding wornGeneration

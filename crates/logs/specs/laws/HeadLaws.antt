@@ -252,6 +252,10 @@ lost-of-append x (partialParity z s f n ∷ hs) ks = lost-of-append x hs ks
 lost-of-append x (seal z p n ∷ hs) ks = lost-of-append x hs ks
 lost-of-append x (closing kind gen ∷ hs) ks = lost-of-append x hs ks
 
+-- the last label is one of before, or one that joined
+pub lost-append : (P : ℕ → Type 0) (x : ℕ) (hs ks : List Header) → P (lastLost x hs) → ((y a : ℕ) → List·Memᴰ (label y a) ks → P y) → P (lastLost x (hs ++ ks))
+lost-append P x hs ks p h = rw (lost-of-append x hs ks) (last-lost-is P ks (lastLost x hs) p h)
+
 pub least-of-append : (z n q : ℕ) (hs ks : List Header) → leastSeal z n q (hs ++ ks) ≡ leastSeal z n (leastSeal z n q hs) ks
 least-of-append z n q [] ks = refl
 least-of-append z n q (label y a ∷ hs) ks = least-of-append z n q hs ks
@@ -280,5 +284,3 @@ labelled-of-append (seal z p n ∷ hs) ks e = absurd (true≢false (sym e))
 labelled-of-append (closing kind gen ∷ hs) ks e = absurd (true≢false (sym e))
 
 -- ---- the least seal: no seal of that zone and generation is below it
-eqb-same : (n : ℕ) → eqb n n ≡ true
-eqb-same n = eq-eqb n n refl

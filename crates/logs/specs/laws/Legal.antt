@@ -1,5 +1,5 @@
 -- Headers and their bytes, both ways: what is legal reads back as it was written, and what was read, written again, is the same bytes.
-use mathlib.Core.Path.{_≡_, refl, ap, _∙_}
+use mathlib.Core.Path.{_≡_, ap, _∙_}
 use mathlib.Core.Bool.{Bool, true, not}
 use Prim.Native.Nat.{ℕ, suc, _+_, _-_, _*_, _^_, _≤_, _<_}
 use native.Mathlib.Nat.{mul-le-mul-right, lt-of-mul-lt-mul-right}
@@ -14,8 +14,8 @@ use Rattle.tables.specs.meaning.Geometry.{Valid, stripeSectors, zoneSectors}
 use Rattle.tables.specs.laws.Sizes.{zone-stripes}
 use Rattle.tables.specs.laws.LittleEndian.{Small}
 use Rattle.tables.specs.meaning.LittleEndian.{wordsLE}
-use Rattle.logs.specs.meaning.Entry.{Header, label, counters, zoneReset, partialParity, seal, closing, encode, frame, labelBytes, kindOf, decode, legal, fitsLog}
-use Rattle.logs.specs.laws.Entry.{typeOf, decode-legal, FieldsFit}
+use Rattle.logs.specs.meaning.Entry.{Header, label, counters, zoneReset, partialParity, seal, closing, encode, frame, labelBytes, decode, legal, fitsLog}
+use Rattle.logs.specs.laws.Entry.{decode-legal, FieldsFit}
 use Rattle.logs.specs.code.Lays.{length-words}
 use Rattle.logs.specs.code.Judge.{reset-small, seal-small, partial-small, closing-fits, kind-small}
 use Rattle.logs.specs.laws.Codec.{reads}
@@ -81,13 +81,3 @@ header-long g d (zoneReset z n) ok r = rw (length-replicate {A = ℕ} (g .sector
 header-long g d (partialParity z s f n) ok r = rw (length-replicate {A = ℕ} (g .sector - 32) 0) (omega (arith, ok .sector-least))
 header-long g d (seal z p n) ok r = rw (length-replicate {A = ℕ} (g .sector - 32) 0) (omega (arith, ok .sector-least))
 header-long g d (closing kind gen) ok r = rw (length-replicate {A = ℕ} (g .sector - 32) 0) (omega (arith, ok .sector-least))
-
--- byte 3 is its type
-pub type-written : (g : Geometry) (d : ℕ) (h : Header) → kindOf (encode g d h) ≡ typeOf h
-unfolding encode frame kindOf
-type-written g d (label x a) = refl
-type-written g d (counters cs) = refl
-type-written g d (zoneReset z n) = refl
-type-written g d (partialParity z s f n) = refl
-type-written g d (seal z p n) = refl
-type-written g d (closing kind gen) = refl

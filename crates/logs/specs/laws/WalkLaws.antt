@@ -1,22 +1,17 @@
 -- What a walk makes of a log that grows, or of which only a beginning is left.
 use mathlib.Core.Path.{_≡_, refl, sym, ap, ap₂, _∙_}
 use mathlib.Core.Bool.{Bool}
-use Prim.Native.Nat.{ℕ, zero, suc, _+_, _-_, _≤_, _<_}
+use Prim.Native.Nat.{ℕ, zero, suc, _+_, _≤_}
 use native.Mathlib.Nat.{add-zero}
 use native.Mathlib.Omega.{arith}
 use mathlib.Core.List.{List, [], _∷_, _++_, append-nil, List·Memᴰ, List·Memᴰ·head, List·Memᴰ·tail}
-use lib.ListN.{length, getD, take}
+use lib.ListN.{length}
 use borrow.Author.Tests.{eq-eqb}
 use Rattle.tables.specs.declared.Geometry.{Geometry}
-use Rattle.tables.specs.meaning.Geometry.{physicalZones}
-use Rattle.tables.specs.laws.Below.{tabulate-cong}
-use Rattle.tables.specs.meaning.Tables.{Tables, cell, sectorAt, deviceOf}
-use Rattle.tables.specs.laws.Tables.{device-sectors}
-use Rattle.logs.specs.meaning.Entry.{Header, Entry, Decoded, legal, bad, rowsOf, encode}
+use Rattle.logs.specs.meaning.Entry.{Header, Entry, Decoded, legal, bad, rowsOf}
 use Rattle.logs.specs.declared.Fault.{Fault}
 use Rattle.logs.specs.meaning.Walk.{Walked, withEntry, atPointer, noEntry, torn, WalkState, between, inEntry, walk, walkLog, decodeAt, sectorsOf}
-use Rattle.logs.specs.laws.Walk.{sectorsOfAll, Reads, Whole, WellFormedLog, logExtent, wholeEntries, endingOf, cutEntries, cut-flat, cut-lawful, cut-extent, walk-lawful, walk-one, read-at, walk-torn, step-zero, step-suc}
-use Rattle.logs.specs.code.WalkCode.{logSectors}
+use Rattle.logs.specs.laws.Walk.{sectorsOfAll, Reads, Whole, WellFormedLog, logExtent, wholeEntries, endingOf, walk-lawful, walk-one, step-zero, step-suc}
 use Rattle.logs.specs.laws.Places.{walk-places}
 
 -- entries in front of a walk
@@ -93,16 +88,6 @@ module _ (g : Geometry) (d : ℕ) (par : Bool) where
         ∙ ap (λ (n : ℕ). withEntries (walkLog g d par ss .entries) (walk g d par n between (sectorsOf g d par e))) z
         ∙ ap (withEntries (walkLog g d par ss .entries)) (ap (λ (t : List (List ℕ)). walk g d par (length ss) between t) (sym (append-nil (sectorsOf g d par e))) ∙ walk-one g d par e (length ss) [] r w h)
 
-    -- part of an entry: its header and too few rows
-    pub walk-of-part : (h : Header) (rs : List (List ℕ)) → Reads g d par h → length rs < rowsOf g h → length ss + suc (rowsOf g h) ≤ g .capacity
-        → walkLog g d par (ss ++ (encode g d h ∷ rs)) ≡ withEntries (walkLog g d par ss .entries) (record { entries = []; last = torn h rs; position = length ss })
-    walk-of-part h rs r w l =
-        let k : rowsOf g h ≡ suc (rowsOf g h - 1) = omega (arith, w) in
-        let z : zero + length ss ≡ length ss = omega arith in
-        walk-goes-on ss (encode g d h ∷ rs) zero between ends
-        ∙ ap (λ (n : ℕ). withEntries (walkLog g d par ss .entries) (walk g d par n between (encode g d h ∷ rs))) z
-        ∙ ap (withEntries (walkLog g d par ss .entries)) (step-suc g d par (length ss) (encode g d h) h (rowsOf g h - 1) rs (read-at g d par (length ss) h r l) k ∙ walk-torn g d par (length ss) h rs [] (suc (length ss)) (rowsOf g h - 1) (omega (arith, w)))
-
   -- ---- the walk of a log made by known stores, and of any beginning of it
   abbrev pub AllWhole : List Entry → Type 0
   AllWhole es = (e : Entry) → List·Memᴰ e es → Whole g d par e
@@ -122,22 +107,3 @@ module _ (g : Geometry) (d : ℕ) (par : Bool) where
       let z : zero + logExtent g d par es ≡ logExtent g d par es = omega arith in
       let p = walk-places g d par (sectorsOfAll g d par es) .position-is ∙ ap (λ (r : List Entry). zero + logExtent g d par r) (a ∙ u) ∙ z in
       λ i. record { entries = (a ∙ u) i; last = (b ∙ v) i; position = p i }
-
-  -- a beginning: a beginning of the entries, then perhaps a torn one
-  pub walk-of-beginning : (es : List Entry) (n : ℕ) → WellFormedLog g d par es → logExtent g d par es ≤ g .capacity
-      → (walkLog g d par (take n (sectorsOfAll g d par es)) .entries ≡ wholeEntries g d par (cutEntries g d par es n))
-      × (walkLog g d par (take n (sectorsOfAll g d par es)) .last ≡ endingOf g d par (cutEntries g d par es n))
-  walk-of-beginning es n l h =
-      let c = cut-flat g d par es n in
-      let (a, b) = walk-lawful g d par (cutEntries g d par es n) zero (cut-lawful g d par es n l) (omega (arith, h, cut-extent g d par es n)) in
-      (ap (λ (t : List (List ℕ)). walkLog g d par t .entries) c ∙ a, ap (λ (t : List (List ℕ)). walkLog g d par t .last) c ∙ b)
-
--- ---- a walk never sees past the written pointer: logs that are the same below it are walked alike
-pub walk-below-pointer : (g : Geometry) (d : ℕ) (par : Bool) (z n : ℕ) (xs ys : List ℕ) → ((i : ℕ) → i < n → sectorAt g xs d z i ≡ sectorAt g ys d z i)
-    → walkLog g d par (logSectors g d z xs n) ≡ walkLog g d par (logSectors g d z ys n)
-walk-below-pointer g d par z n xs ys h = ap (walkLog g d par) (tabulate-cong (sectorAt g xs d z) (sectorAt g ys d z) n h)
-
--- ---- what code walks is the device's zone
-pub log-of-device : (g : Geometry) (t : Tables) (d z : ℕ) → d < g .drives → z < physicalZones g → getD (t .written) (cell g d z) 0 ≤ g .capacity
-    → deviceOf g t d z .sectors ≡ logSectors g d z (t .sectors) (getD (t .written) (cell g d z) 0)
-log-of-device g t d z h k l = device-sectors g t d z h k l

@@ -17,7 +17,8 @@ use Rattle.tables.specs.laws.Phases.{flush-all-local, on-present-local, flush-a
 use Rattle.tables.specs.declared.Geometry.{Geometry}
 use Rattle.tables.specs.meaning.Geometry.{Valid, physicalZones, dataZone}
 use Rattle.logs.specs.meaning.Entry.{generalZone, parityZone, seal, closing}
-use Rattle.tables.specs.laws.Drives.{presentBut, present-below}
+use Rattle.tables.specs.meaning.Drives.{presentBut}
+use Rattle.tables.specs.laws.Drives.{present-below}
 use Rattle.logs.specs.laws.Walk.{cut-mono, cut-all, sectorsOfAll}
 use Rattle.volume.specs.declared.Condition.{Condition}
 use Rattle.volume.specs.declared.Condition.the-variants.{Empty, Open, Sealed, Worn}
@@ -30,6 +31,7 @@ use Rattle.promise.specs.invariant.SaidMoves.{live-mark}
 use Rattle.promise.specs.invariant.HoldsLess.{Less, less-live, less-capped}
 use Rattle.promise.specs.invariant.StoppedCall.{Parts, inv-part}
 use Rattle.promise.specs.invariant.Obligations.{FlushKeeps, FlushRests}
+use Rattle.promise.specs.invariant.LastLabels.{names-later}
 
 -- a place that was flushed, or not
 pub record MoreDurable (a b : ZoneView) : Type 0 where
@@ -77,7 +79,8 @@ module _ (g : Geometry) (x : ℕ) (v w : Device) (γ : Ghost) (lg : LogsOk g x v
     general-reads = lg .general-reads;
     first = lg .first;
     first-lasts = λ d a. le-trans (lg .first-lasts d a) (k d generalZone a (omega arith) .least);
-    labels = lg .labels;
+    arrays = lg .arrays;
+    labels = λ d a. names-later x (v d generalZone .durable) (γ .general d) (lg .labels d a) (w d generalZone .durable) (k d generalZone a (omega arith) .least);
     general-closes = lg .general-closes;
     general-closed = λ d a p. mem-more (v d generalZone .durable) (w d generalZone .durable) (γ .general d) (closing 0 (γ .closed d .0)) (k d generalZone a (omega arith) .least) (lg .general-closed d a p);
     parity-closes = lg .parity-closes;

@@ -24,15 +24,15 @@ use Rattle.tables.specs.meaning.Lists.{concat}
 use Rattle.tables.specs.declared.Geometry.{Geometry}
 use Rattle.tables.specs.meaning.Geometry.{Valid, physicalZones, dataZone}
 use Rattle.logs.specs.meaning.Entry.{generalZone, parityZone, wornGeneration, Header, label, counters, encode, closing}
-use Rattle.tables.specs.laws.Drives.{presentBut, present-below}
-use Rattle.tables.specs.meaning.Drives.{noDrive}
+use Rattle.tables.specs.laws.Drives.{present-below}
+use Rattle.tables.specs.meaning.Drives.{noDrive, presentBut}
 use Rattle.logs.specs.laws.Walk.{Reads}
 use Rattle.logs.specs.laws.Codec.{reads}
 use Rattle.logs.specs.meaning.Heads.{generationIn}
 use Rattle.logs.specs.laws.Heads.{zoneGen}
 use Rattle.volume.specs.meaning.Calls.{generationsFrom, appendGeneral, formatPhases, formatStores, formatState}
 use Rattle.promise.specs.meaning.Ledger.{freshLedger}
-use Rattle.promise.specs.invariant.Invariant.{Ghost, Here, LogsOk, Rest, LabelFits}
+use Rattle.promise.specs.invariant.Invariant.{Ghost, Here, LogsOk, Rest}
 use Rattle.promise.specs.invariant.EmptiedZone.{MadeEmpty, made-empty-rest}
 use Rattle.volume.specs.laws.Counters.{generations-length, generations-at, generations-small}
 use Rattle.promise.specs.invariant.Obligations.{FormatRests, neverEmptied}
@@ -148,10 +148,10 @@ module _ (g : Geometry) (ok : Valid g) (x a : ℕ) (v : Device) (lost : (x ≡ n
       rw q (reads g ok d false (counters ones) (n, generations-small (λ z. 1) zero (g .zones) (λ k b. omega arith)) (eq-eqb (length ones) (g .zones) n))
   heads-read d h (List·Memᴰ·tail (List·Memᴰ·tail m)) = mem-nil h m
 
-  heads-labels : (y b : ℕ) → List·Memᴰ (label y b) heads → LabelFits x a y b
-  heads-labels y b (List·Memᴰ·head q) = (inr cc, cc)
-  heads-labels y b (List·Memᴰ·tail (List·Memᴰ·head q)) = absurd (let n : _≡_ {A = ℕ} 0 1 = cc in omega arith)
-  heads-labels y b (List·Memᴰ·tail (List·Memᴰ·tail m)) = mem-nil (label y b) m
+  heads-arrays : (y b : ℕ) → List·Memᴰ (label y b) heads → b ≡ a
+  heads-arrays y b (List·Memᴰ·head q) = cc
+  heads-arrays y b (List·Memᴰ·tail (List·Memᴰ·head q)) = absurd (let n : _≡_ {A = ℕ} 0 1 = cc in omega arith)
+  heads-arrays y b (List·Memᴰ·tail (List·Memᴰ·tail m)) = mem-nil (label y b) m
 
   heads-closes : (j n : ℕ) → List·Memᴰ (closing j n) heads → n ≡ zero
   heads-closes j n (List·Memᴰ·head q) = absurd (let n : _≡_ {A = ℕ} 0 1 = cc in omega arith)
@@ -172,7 +172,8 @@ module _ (g : Geometry) (ok : Valid g) (x a : ℕ) (v : Device) (lost : (x ≡ n
     general-reads = λ d h. heads-read d;
     first = λ d h. (x, counters ones ∷ [], refl);
     first-lasts = λ d h. rw (log-is d h) (omega arith);
-    labels = λ d h. heads-labels;
+    arrays = λ d h. heads-arrays;
+    labels = λ d h. rw (log-is d h) (λ j q. rw (take-all j heads q) (inr refl));
     general-closes = λ d h. heads-closes;
     general-closed = λ d h p. absurd (omega (arith, p));
     parity-closes = λ d h e m k n q. mem-nil e m;

@@ -20,7 +20,7 @@ use Rattle.tables.specs.meaning.Basics.{pick}
 use Rattle.tables.specs.declared.Geometry.{Geometry}
 use Rattle.tables.specs.meaning.Geometry.{Valid, physicalZones, dataZone}
 use Rattle.logs.specs.meaning.Entry.{generalZone, parityZone, wornGeneration, Header, label, counters, zoneReset, encode, closing}
-use Rattle.tables.specs.laws.Drives.{presentBut}
+use Rattle.tables.specs.meaning.Drives.{presentBut}
 use Rattle.logs.specs.laws.Walk.{Reads, cut-mono}
 use Rattle.logs.specs.laws.Codec.{reads}
 use Rattle.logs.specs.meaning.Heads.{lastCounters, generationIn}
@@ -28,9 +28,10 @@ use Rattle.volume.specs.meaning.State.{StateView}
 use Rattle.promise.specs.invariant.Obligations.{ResetOk}
 use Rattle.volume.specs.meaning.Calls.{generationsFrom, raisedAt, logsReset}
 use Rattle.promise.specs.meaning.Ledger.{Ledger}
-use Rattle.promise.specs.invariant.Invariant.{Ghost, Here, LogsOk, Rest, RestZone, LabelFits, closingEntry}
+use Rattle.promise.specs.invariant.Invariant.{Ghost, Here, LogsOk, Rest, RestZone, closingEntry}
 use Rattle.promise.specs.invariant.UntouchedZone.{Other, Joins, other, itsReset, Untouched}
 use Rattle.promise.specs.calls.FlushKeeps.{MoreDurable}
+use Rattle.promise.specs.invariant.LastLabels.{names-later, names-join}
 
 -- ---- a device that reset of z may pass through: the general log of drive d has grown by T d
 module _ (g : Geometry) (ok : Valid g) (x : ℕ) (v : Device) (state : StateView) (l : Ledger) (γ : Ghost) (r : Rest g x v state l γ) (z : ℕ) (rk : ResetOk g (presentBut g x) v state z) where
@@ -83,7 +84,8 @@ module _ (g : Geometry) (ok : Valid g) (x : ℕ) (v : Device) (state : StateView
       general-reads = λ d a h m. old d a h (mem-append (γ .general d) (T d) h m);
       first = λ d a. let (y, hs, e) = r .logs .first d a in (y, hs ++ T d, ap (λ (t : List Header). t ++ T d) e);
       first-lasts = λ d a. le-trans (r .logs .first-lasts d a) (k .log-least d a);
-      labels = λ d a y b m. lab d a y b (mem-append (γ .general d) (T d) (label y b) m);
+      arrays = λ d a y b m. carries d a y b (mem-append (γ .general d) (T d) (label y b) m);
+      labels = λ d a. names-join x (w d generalZone .durable) (γ .general d) (names-later x (v d generalZone .durable) (γ .general d) (r .logs .labels d a) (w d generalZone .durable) (k .log-least d a)) (T d) (λ y b m. absurd (no-label d a y b m));
       general-closes = λ d a j n m. close d a j n (mem-append (γ .general d) (T d) (closing j n) m);
       general-closed = λ d a p. mem-front d a (closing 0 (γ .closed d .0)) (r .logs .general-closed d a p);
       parity-closes = r .logs .parity-closes;
@@ -99,13 +101,16 @@ module _ (g : Geometry) (ok : Valid g) (x : ℕ) (v : Device) (state : StateView
         old d a h (inl m) = r .logs .general-reads d a h m
         old d a h (inr m) = new-reads d a h (k .new d a h m)
 
-        lab : (d : ℕ) → Here g x d → (y b : ℕ) → List·Memᴰ (label y b) (γ .general d) ⊎ List·Memᴰ (label y b) (T d) → LabelFits x (γ .array) y b
-        lab d a y b (inl m) = r .logs .labels d a y b m
-        lab d a y b (inr m) = absurd (no (k .new d a (label y b) m))
+        no-label : (d : ℕ) → Here g x d → (y b : ℕ) → List·Memᴰ (label y b) (T d) → ⊥
+        no-label d a y b m = no (k .new d a (label y b) m)
           where
             no : New d (label y b) → ⊥
             no (inl e) = let q : label y b ≡ zoneReset z (γ .generation z) = e .0 in let n : _≡_ {A = ℕ} 0 1 = cc in omega arith
             no (inr e) = let n : _≡_ {A = ℕ} 0 1 = cc in omega arith
+
+        carries : (d : ℕ) → Here g x d → (y b : ℕ) → List·Memᴰ (label y b) (γ .general d) ⊎ List·Memᴰ (label y b) (T d) → b ≡ γ .array
+        carries d a y b (inl m) = r .logs .arrays d a y b m
+        carries d a y b (inr m) = absurd (no-label d a y b m)
 
         close : (d : ℕ) → Here g x d → (j n : ℕ) → List·Memᴰ (closing j n) (γ .general d) ⊎ List·Memᴰ (closing j n) (T d) → n ≡ γ .closed d .0
         close d a j n (inl m) = r .logs .general-closes d a j n m

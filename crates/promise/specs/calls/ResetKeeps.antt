@@ -23,7 +23,7 @@ use Rattle.tables.specs.meaning.Cached.{uncached}
 use Rattle.tables.specs.declared.Geometry.{Geometry}
 use Rattle.tables.specs.meaning.Geometry.{Valid, physicalZones, dataZone}
 use Rattle.logs.specs.meaning.Entry.{generalZone, wornGeneration, Header, counters, encode}
-use Rattle.tables.specs.laws.Drives.{presentBut}
+use Rattle.tables.specs.meaning.Drives.{presentBut}
 use Rattle.logs.specs.meaning.Heads.{lastCounters, generationIn}
 use Rattle.volume.specs.declared.Condition.the-variants.{Empty, Worn}
 use Rattle.volume.specs.meaning.State.{StateView, setAt}

@@ -16,7 +16,8 @@ use Rattle.tables.specs.meaning.Phases.{eachOnPresent, flushAll}
 use Rattle.tables.specs.declared.Geometry.{Geometry}
 use Rattle.tables.specs.meaning.Geometry.{Valid, dataZone}
 use Rattle.logs.specs.meaning.Entry.{generalZone, Header, counters, zoneReset, encode}
-use Rattle.tables.specs.laws.Drives.{presentBut, present-below}
+use Rattle.tables.specs.meaning.Drives.{presentBut}
+use Rattle.tables.specs.laws.Drives.{present-below}
 use Rattle.volume.specs.meaning.State.{StateView}
 use Rattle.promise.specs.invariant.Obligations.{ResetOk}
 use Rattle.volume.specs.meaning.Calls.{logsReset, appendGeneral, resetPhases}

@@ -20,7 +20,7 @@ use Rattle.tables.specs.laws.Lists.{mem-nil, mem-right, mem-append, map-append,
 use Rattle.tables.specs.declared.Geometry.{Geometry}
 use Rattle.tables.specs.meaning.Geometry.{Valid, parityDriveOf, firstDriveOf, dataZone}
 use Rattle.logs.specs.meaning.Entry.{generalZone, wornGeneration, Header, counters, zoneReset, encode}
-use Rattle.tables.specs.laws.Drives.{presentBut}
+use Rattle.tables.specs.meaning.Drives.{presentBut}
 use Rattle.logs.specs.meaning.Heads.{generationIn}
 use Rattle.logs.specs.laws.Heads.{zoneGen}
 use Rattle.volume.specs.meaning.State.{StateView}

@@ -24,7 +24,8 @@ use Rattle.tables.specs.declared.Geometry.{Geometry}
 use Rattle.tables.specs.meaning.Geometry.{Valid, stripeSectors, zoneSectors, physicalZones, dataZone}
 use Rattle.logs.specs.meaning.Entry.{generalZone, parityZone, Header, partialParity, seal, Entry, rowsOf, fitsLog, closing}
 use Rattle.logs.specs.laws.Entry.{FieldsFit}
-use Rattle.tables.specs.laws.Drives.{presentBut, present-below}
+use Rattle.tables.specs.meaning.Drives.{presentBut}
+use Rattle.tables.specs.laws.Drives.{present-below}
 use Rattle.logs.specs.laws.Walk.{Whole, WellFormedLog, Reads, Left, cut-joins, sectorsOfAll, sectors-of-append, logExtent, extent-append, extent-whole, lawful-joins}
 use Rattle.logs.specs.meaning.Walk.{sectorsOf}
 use Rattle.logs.specs.laws.Codec.{reads}
@@ -293,7 +294,8 @@ module _ (g : Geometry) (ok : Valid g) (x : ℕ) (v : Device) (state : StateView
     general-reads = r .logs .general-reads;
     first = r .logs .first;
     first-lasts = λ d a. rw (keep-now d generalZone a) (r .logs .first-lasts d a);
-    labels = r .logs .labels;
+    arrays = r .logs .arrays;
+    labels = λ d a. rw (keep-now d generalZone a) (r .logs .labels d a);
     general-closes = r .logs .general-closes;
     general-closed = λ d a. rw (keep-now d generalZone a) (r .logs .general-closed d a);
     parity-closes = λ d a e m j n q. close d a e j n q (in-next d e m);
@@ -396,7 +398,7 @@ module _ (g : Geometry) (ok : Valid g) (x : ℕ) (v : Device) (state : StateView
       let q : logged drive ≡ entry ∷ [] = rw (i, eq-eqb drive drive refl) refl in
       (entry, mem-right (γ .parity drive) (logged drive) entry (rw q (List·Memᴰ·head refl)), entry-whole drive, entry-head)
 
-  zone-now : RestZone g x after (writeState x state z ss) (afterWrite l z ss) next z
+  zone-now : RestZone g x after (writeState x state z (length ss)) (afterWrite l z ss) next z
   unfolding next
   zone-now = record {
     live = live-now;
@@ -417,9 +419,9 @@ module _ (g : Geometry) (ok : Valid g) (x : ℕ) (v : Device) (state : StateView
   }
 
   -- ---- any other zone
-  others : (y : ℕ) → y < g .zones → y ≢ z → RestZone g x after (writeState x state z ss) (afterWrite l z ss) next y
+  others : (y : ℕ) → y < g .zones → y ≢ z → RestZone g x after (writeState x state z (length ss)) (afterWrite l z ss) next y
   unfolding next
-  others y h n = untouched-rest g x v after γ next l (afterWrite l z ss) y (r .logs) k state (writeState x state z ss) refl (rw (ne-eqb y z n) refl) refl same (λ d a e m. mem-left (γ .parity d) (logged d) e m) (r .zones y h)
+  others y h n = untouched-rest g x v after γ next l (afterWrite l z ss) y (r .logs) k state (writeState x state z (length ss)) refl (rw (ne-eqb y z n) refl) refl same (λ d a e m. mem-left (γ .parity d) (logged d) e m) (r .zones y h)
     where
       same : (d : ℕ) → Here g x d → after d (dataZone y) .sectors ≡ v d (dataZone y) .sectors
       same d a = sectors-other d (dataZone y) a (λ e. n (omega arith)) (λ e. omega arith)
@@ -444,7 +446,7 @@ module _ (g : Geometry) (ok : Valid g) (x : ℕ) (v : Device) (state : StateView
         data-lasts = λ d a. le-of-eq (sym (keep-now d (dataZone y) a));
       }
 
-  rest-now : Rest g x after (writeState x state z ss) (afterWrite l z ss) next
+  rest-now : Rest g x after (writeState x state z (length ss)) (afterWrite l z ss) next
   unfolding next
   rest-now = record {
     logs = logs-now;
@@ -453,17 +455,17 @@ module _ (g : Geometry) (ok : Valid g) (x : ℕ) (v : Device) (state : StateView
     lost-is = inr refl;
   }
     where
-      zone : (y : ℕ) → y < g .zones → Dec (y ≡ z) → RestZone g x after (writeState x state z ss) (afterWrite l z ss) next y
+      zone : (y : ℕ) → y < g .zones → Dec (y ≡ z) → RestZone g x after (writeState x state z (length ss)) (afterWrite l z ss) next y
       zone y h (yes e) = rw e zone-now
       zone y h (no n) = others y h n
 
-  pub finished : (δ : Ghost) × Rest g x (applyAll (writeStores g (presentBut g x) v state z ss) v) (writeState x state z ss) (afterWrite l z ss) δ × (δ .closed ≡ γ .closed)
+  pub finished : (δ : Ghost) × Rest g x (applyAll (writeStores g (presentBut g x) v state z ss) v) (writeState x state z (length ss)) (afterWrite l z ss) δ × (δ .closed ≡ γ .closed)
   unfolding after next
   finished = (next, rest-now, refl)
 
   pub stopped : (n : ℕ) → (δ : Ghost) × Inv g x (applyAll (take n (writeStores g (presentBut g x) v state z ss)) v) (afterWrite l z ss) δ × (δ .closed ≡ γ .closed)
   unfolding next
-  stopped n = inv-part g x after (applyAll (take n (writeStores g (presentBut g x) v state z ss)) v) (afterWrite l z ss) next (rest-inv g x after (writeState x state z ss) (afterWrite l z ss) next rest-now) (stop-parts n)
+  stopped n = inv-part g x after (applyAll (take n (writeStores g (presentBut g x) v state z ss)) v) (afterWrite l z ss) next (rest-inv g x after (writeState x state z (length ss)) (afterWrite l z ss) next rest-now) (stop-parts n)
 
 pub write-keeps : (g : Geometry) → Valid g → WriteKeeps g
 write-keeps g ok c x v state l z ss n (γ, r, e) w = let (δ, j, p) = stopped g ok x v state l γ r z ss w n in (δ, j, p ∙ e)

@@ -1,7 +1,7 @@
 -- Between finished calls: the state is within its bounds, no zone is stale, every sector of a content is known, and it is held where its
 -- drive is not lost. So the refusals 1, 4, 7 and 15 cannot meet a read or peek below the pointer. And the drives of a format.
-use Rattle.tables.specs.laws.Drives.{find-below-is, presentBut, find-below-cong}
-use Rattle.tables.specs.meaning.Drives.{noDrive, findBelow}
+use Rattle.tables.specs.laws.Drives.{find-below-is, find-below-cong}
+use Rattle.tables.specs.meaning.Drives.{noDrive, findBelow, presentBut}
 use Rattle.tables.specs.laws.Below.{two-count-below, none-any-below, all-all-below, count-below-cong}
 use Rattle.tables.specs.meaning.Below.{anyBelow, countBelow, allBelow}
 use mathlib.Core.Path.{_≡_, refl, sym, ap, _∙_, subst, fun-ext}

@@ -11,8 +11,8 @@ use lib.Dec.{ltb}
 use Rattle.tables.specs.meaning.Basics.{pick}
 use Rattle.tables.specs.meaning.Device.{ZoneView, Device, Store, applyAll, Loss}
 use Rattle.tables.specs.laws.Device.{loss-at}
-use Rattle.tables.specs.meaning.Drives.{noDrive}
-use Rattle.tables.specs.laws.Drives.{presentBut, present-below, present-not}
+use Rattle.tables.specs.meaning.Drives.{noDrive, presentBut}
+use Rattle.tables.specs.laws.Drives.{present-below, present-not}
 use Rattle.tables.specs.declared.Geometry.{Geometry}
 use Rattle.tables.specs.meaning.Geometry.{Valid}
 use Rattle.logs.specs.meaning.Entry.{spareZone}
@@ -70,10 +70,10 @@ module _ (g : Geometry) (ok : Valid g) (t : TableLengths) (s : System (onDevice 
     call-leaves mounts stop (n, m, q) p =
         let (k, c, above, ri) = invs-of g t s o m in
         rw (drives-of-look g ok t s o named names, lost-of-look g ok t s o named names) (mount-blank g ok (s .lost) (s .memory) (withMarks (s .ledger) c) k ri (mount-allowed g ok t s o named names p))
-    call-leaves (writes a count buffer) stop (n, m, q) p =
+    call-leaves (writes asked) stop (n, m, q) p =
         let e = drives-of-call g ok t s o named names m in
-        let wa = write-accepted g t named (s .state) (s .memory) a count buffer p in
-        rw e (write-blank g ok (s .lost) (s .memory) (s .state) (s .ledger) (zoneOf g a) (sectorsIn g count buffer) (rests-of g t s o m) (rw e at wa) (b m))
+        let wa = write-accepted g t named (s .state) (s .memory) (asked .address) (asked .count) (asked .buffer) p in
+        rw e (write-blank g ok (s .lost) (s .memory) (s .state) (s .ledger) (zoneOf g (asked .address)) (sectorsIn g (asked .count) (asked .buffer)) (rests-of g t s o m) (rw e at wa) (b m))
     call-leaves flushes stop (n, m, q) p = rw (drives-of-call g ok t s o named names m) (blank-same g (s .lost) (s .memory) _ (flush-sectors g (s .lost) (s .memory)) (b m))
     call-leaves (resets z) stop (n, m, q) p =
         let e = drives-of-call g ok t s o named names m in
@@ -90,7 +90,7 @@ module _ (g : Geometry) (ok : Valid g) (t : TableLengths) (s : System (onDevice 
   -- EVERY EVENT KEEPS IT
   pub event-blank : (e : Event (onDevice g t)) → Duty g (onDevice g t) s e → BlankAtRest g t (next g (onDevice g t) s e)
   event-blank (calls c named stop) d = call-blank named (d .0) c stop d
-  event-blank (looks named taken) d = b
+  event-blank (looks named) d = b
   event-blank (reads named a count out) d = b
   event-blank (peeks named a) d = b
   event-blank (reports list) d = b

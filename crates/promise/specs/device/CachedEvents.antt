@@ -1,7 +1,6 @@
 -- THE CLAIM ON DRIVES THAT CACHE RESETS: every event of a history keeps what holds in its mode (CachedModes), so what is promised holds at every point of it;
 -- from what the calls that may empty logs owe there (CachesOwed).
 use mathlib.Core.Path.{_≡_, refl, sym, ap, _∙_, subst}
-use mathlib.Core.Logic.{_⊎_, inr}
 use mathlib.Core.Bool.{Bool, true, false, not}
 use Prim.Native.Nat.{ℕ, _^_, _<_}
 use mathlib.Core.List.{List}
@@ -14,37 +13,31 @@ use Rattle.tables.specs.laws.Basics.{not-not}
 use Rattle.tables.specs.meaning.Device.{Device, Store, applyAll}
 use Rattle.tables.specs.meaning.Cached.{Caching, applyAllCaching}
 use Rattle.tables.specs.laws.Cached.{now-is}
-use Rattle.tables.specs.meaning.Drives.{noDrive}
-use Rattle.tables.specs.laws.Drives.{presentBut, present-not}
+use Rattle.tables.specs.meaning.Drives.{presentBut}
+use Rattle.tables.specs.laws.Drives.{present-not}
 use Rattle.tables.specs.declared.Geometry.{Geometry}
 use Rattle.tables.specs.meaning.Geometry.{Valid}
 use Rattle.tables.specs.meaning.GeometryTest.{isValid}
 use Rattle.tables.specs.laws.GeometryTest.{valid-if-test}
-use Rattle.volume.specs.meaning.State.{pointerIn, StateView, callPresent}
-use Rattle.volume.specs.declared.Condition.{Condition}
-use Rattle.volume.specs.meaning.Rules.{showing}
+use Rattle.volume.specs.meaning.State.{StateView, callPresent}
 use Rattle.volume.specs.meaning.Roles.{roles, byRoles}
 use Rattle.volume.specs.meaning.Emptying.{byState}
 use Rattle.volume.specs.meaning.Calls.{formatStores, formatState}
-use Rattle.volume.specs.meaning.Mount.{mountShows, mountState}
-use Rattle.volume.specs.meaning.Refusals.{Verdict, refuse, accept, TableLengths, zoneOf, tablesFit, formatRows, writeRows, resetRows, lookRows, firstRefusal, badPointers}
-use Rattle.volume.specs.meaning.Answers.{CallResult, storing, leftOut, namedDrives, sectorsIn, giving}
+use Rattle.volume.specs.meaning.Mount.{mountShows}
+use Rattle.volume.specs.meaning.Refusals.{Verdict, refuse, accept, TableLengths, zoneOf, tablesFit, formatRows, writeRows, resetRows, firstRefusal, badPointers}
+use Rattle.volume.specs.meaning.Answers.{CallResult, storing, leftOut, namedDrives, sectorsIn}
 use Rattle.volume.specs.declared.Answer.the-variants.{Finished, Unfinished, Refused}
 use Rattle.volume.specs.laws.Refusals.{accepted-row}
 use Rattle.promise.specs.meaning.Ledger.{Ledger, freshLedger}
-use Rattle.promise.specs.meaning.Claim.{Call, mounts, writes, flushes, resets, formats, Mode, ready, stopped, down, System, Event, calls, looks, reads, peeks, reports, cuts, loses, settled, ledgerAfter, next, MayMount, NotStopped, NamesAll, Duty, Promise, start}
-use Rattle.promise.specs.meaning.OnDevice.{callOf, onDevice, lookResult, shownBy}
+use Rattle.promise.specs.meaning.Claim.{WriteAsked, Call, mounts, writes, flushes, resets, formats, Mode, ready, stopped, down, System, Event, calls, looks, reads, peeks, reports, cuts, loses, settled, ledgerAfter, next, MayMount, NotStopped, NamesAll, Duty, Promise, start}
+use Rattle.promise.specs.meaning.OnDevice.{callOf, onDevice}
 use Rattle.promise.specs.meaning.Caches.{WithCaches, madeBy, rememberedAfter, deviceCaches, onCachingDevice, CachingDeviceClaim, beneath}
 use Rattle.promise.specs.invariant.Throughout.{throughout}
-use Rattle.promise.specs.invariant.Invariant.{LogGenerations, Shape, HasSectors}
-use Rattle.promise.specs.invariant.Obligations.{Rests}
 use Rattle.promise.specs.invariant.RoomAsked.{WriteAccepted, ResetAccepted}
 use Rattle.promise.specs.invariant.Delayed.{PutBack}
-use Rattle.promise.specs.look.LookRest.{generation-held, condition-held}
-use Rattle.promise.specs.device.AcceptedCalls.{storing-finished, write-accepted, reset-accepted}
+use Rattle.promise.specs.device.AcceptedCalls.{storing-finished, sectors-length, write-accepted, reset-accepted}
 use Rattle.promise.specs.device.AtRestAnswers.{format-lost, format-drives, left-out, drives-named}
-use Rattle.promise.specs.device.Marks.{withMarks}
-use Rattle.promise.specs.device.Modes.{SomeRests, SomeInvs, OkIn, rests-invs}
+use Rattle.promise.specs.device.Modes.{SomeInvs, OkIn, rests-invs}
 use Rattle.promise.specs.device.ClaimEvents.{Ok, drives-of-call, drives-of-look, lost-of-look, lost-of-call, mount-allowed}
 use Rattle.promise.specs.device.ClaimProof.{kept}
 use Rattle.promise.specs.device.CachedModes.{now-back, forgotten-is, RestsCached, HaltedCached, OkCached, halted-in, cached-cut, lose-cached}
@@ -80,45 +73,6 @@ ok-beneath g t s o = go (s .mode) o
     go ready o = o .rests (s .memory .memory) (now-back g (s .lost) (cachingOf (s .memory)))
     go stopped o = o (s .memory .memory) (now-back g (s .lost) (cachingOf (s .memory)))
     go down o = o .0
-
--- rest reads no more of the state than which drive is lost, and the generations and conditions of the volume's zones
-rests-agree : (e : LogGenerations) (g : Geometry) (x : ℕ) (v : Device) (a b : StateView) (l : Ledger) → (b .lost ≡ noDrive) ⊎ (b .lost ≡ x) → ((z : ℕ) → z < g .zones → a .generation z ≡ b .generation z)
-    → ((z : ℕ) → z < g .zones → a .condition z ≡ b .condition z) → Rests e g x v a l → Rests e g x v b l
-rests-agree e g x v a b l h gs cs (γ, r, q) = (
-  γ,
-  record {
-    logs = r .logs;
-    zones = λ z hz. let k = r .zones z hz in record {
-      live = k .live;
-      generation-is = k .generation-is ∙ gs z hz;
-      pointer-is = k .pointer-is ∙ ap pointerIn (cs z hz);
-      strong-now = k .strong-now;
-      shape = subst (λ (t : Condition). Shape g x v γ l z t) (cs z hz) (k .shape);
-      sectors = subst (λ (t : Condition). HasSectors t) (cs z hz) (k .sectors);
-      no-flag = k .no-flag;
-    };
-    whole = r .whole;
-    lost-is = h;
-  },
-  q,
-)
-
--- a look's state says what the host's says, of a device with spares put back too
-shown-cached : (g : Geometry) → Valid g → (x : ℕ) (c : Caching) (state : StateView) (l : Ledger) → RestsCached g x c state l → RestsCached g x c (mountState (showing g (presentBut g x) x (byRoles g (c .now)))) l
-unfolding showing
-shown-cached g ok x c state l r = record { rests = λ u k. looked u (r .rests (c .now) (now-back g x c)) (r .rests u k); roles-are = r .roles-are; spares = r .spares }
-  where
-    looked : (u : Device) → SomeRests g x (c .now) state l → SomeRests g x u state l → SomeRests g x u (mountState (showing g (presentBut g x) x (byRoles g (c .now)))) l
-    looked u (a, b, p, (st, (γ, q, w))) (e, m, above, (sd, i)) = (
-      e,
-      m,
-      above,
-      (
-        sd,
-        rests-agree e g x (byRoles g u) state (mountState (showing g (presentBut g x) x (byRoles g (c .now)))) (withMarks l m) (inr refl)
-            (λ z hz. sym (generation-held g ok x (byRoles g (c .now)) state (withMarks l b) γ q z hz)) (λ z hz. sym (condition-held g ok x (byRoles g (c .now)) state (withMarks l b) γ q z hz)) i,
-      ),
-    )
 
 module _ (g : Geometry) (ok : Valid g) (t : TableLengths) (owed : CachesOwed g) (s : System (onCachingDevice g t)) (o : OkOn g t s) where
   abbrev c : Caching
@@ -188,15 +142,15 @@ module _ (g : Geometry) (ok : Valid g) (t : TableLengths) (owed : CachesOwed g) 
     e : s .mode ≡ ready → callPresent g named (s .state) ≡ presentBut g (s .lost)
     e m = drives-of-call g ok t (beneath (onDevice g t) (deviceCaches g t) s) ok-under named names-under m
 
-    write-event : s .mode ≡ ready → (a count : ℕ) (buffer : List ℕ) (stop : ℕ) → Owed (writes a count buffer) stop
-    write-event m a count buffer stop =
-        let z = zoneOf g a in
-        let ss = sectorsIn g count buffer in
-        let accepted : firstRefusal (writeRows g t (badPointers g named v) named (s .state) a count (length buffer) (roles g v) (byRoles g v)) ≡ accept
-        → WriteAccepted g (presentBut g (s .lost)) (roles g v) (byRoles g v) (byState g (presentBut g (s .lost)) (byRoles g v) (s .state)) (s .state) z ss = λ p. rw (e m) at (write-accepted g t named (s .state) v a count buffer p) in
-        by-call (writes a count buffer) stop (λ n. refl)
+    write-event : s .mode ≡ ready → (asked : WriteAsked) (stop : ℕ) → Owed (writes asked) stop
+    write-event m asked stop =
+        let z = zoneOf g (asked .address) in
+        let ss = sectorsIn g (asked .count) (asked .buffer) in
+        let accepted : firstRefusal (writeRows g t (badPointers g named v) named (s .state) (asked .address) (asked .count) (length (asked .buffer)) (roles g v) (byRoles g v)) ≡ accept
+        → WriteAccepted g (presentBut g (s .lost)) (roles g v) (byRoles g v) (byState g (presentBut g (s .lost)) (byRoles g v) (s .state)) (s .state) z ss = λ p. rw (e m) at (write-accepted g t named (s .state) v (asked .address) (asked .count) (asked .buffer) p) in
+        by-call (writes asked) stop (λ n. refl)
         (λ p. rw (e m) (owed .write (s .lost) c (s .state) (s .ledger) z ss (at-rest m) (accepted p) .0 stop))
-        (λ p. rw (e m, lost-of-call g ok t under ok-under named names-under m) (owed .write (s .lost) c (s .state) (s .ledger) z ss (at-rest m) (accepted p) .1))
+        (λ p. rw (e m, lost-of-call g ok t under ok-under named names-under m) (rw (sectors-length g (asked .count) (asked .buffer)) at (owed .write (s .lost) c (s .state) (s .ledger) z ss (at-rest m) (accepted p) .1)))
 
     flush-event : s .mode ≡ ready → (stop : ℕ) → Owed flushes stop
     flush-event m stop =
@@ -246,26 +200,9 @@ module _ (g : Geometry) (ok : Valid g) (t : TableLengths) (owed : CachesOwed g) 
         go (refuse k) n = o
         go accept n = cases (ltb stop (length xs)) refl n
 
-    -- with a look's state in place of what the host held
-    look-event : (taken : Bool) → OkOn g t (next g (onCachingDevice g t) s (looks named taken))
-    look-event false = o
-    look-event true = go (firstRefusal (lookRows g t (badPointers g named v) named (roles g v) (byRoles g v)))
-      where
-        in-mode : (m : Mode) → OkCached g m (s .lost) c (s .state) (s .ledger) → OkCached g m (s .lost) c (mountState (showing g (presentBut g (s .lost)) (s .lost) (byRoles g v))) (s .ledger)
-        in-mode ready r = shown-cached g ok (s .lost) c (s .state) (s .ledger) r
-        in-mode stopped r = r
-        in-mode down r = r
-
-        shown : OkCached g (s .mode) (s .lost) c (mountState (shownBy g named v v)) (s .ledger)
-        shown = rw (drives-of-look g ok t under ok-under named names-under, lost-of-look g ok t under ok-under named names-under) (in-mode (s .mode) o)
-
-        go : (q : Verdict) → OkCached g (s .mode) (s .lost) c (lookResult (giving q (shownBy g named v v)) (s .state) v .state) (s .ledger)
-        go (refuse n) = o
-        go accept = shown
-
     call-keeps : (k : Call) (stop : ℕ) → Duty g (onCachingDevice g t) s (calls k named stop) → Owed k stop
     call-keeps mounts stop (b, m, q) = mount-event m stop
-    call-keeps (writes a count buffer) stop (b, m, q) = write-event m a count buffer stop
+    call-keeps (writes asked) stop (b, m, q) = write-event m asked stop
     call-keeps flushes stop (b, m, q) = flush-event m stop
     call-keeps (resets z) stop (b, m, q) = reset-event m z stop
     call-keeps (formats array) stop (b, m, (h, n)) = format-event m array stop h n
@@ -273,7 +210,7 @@ module _ (g : Geometry) (ok : Valid g) (t : TableLengths) (owed : CachesOwed g) 
   -- EVERY EVENT KEEPS IT
   pub event-keeps-cached : (a : Event (onCachingDevice g t)) → Duty g (onCachingDevice g t) s a → OkOn g t (next g (onCachingDevice g t) s a)
   event-keeps-cached (calls k named stop) d = call-keeps named (d .0) k stop d
-  event-keeps-cached (looks named taken) d = look-event named (d .0) taken
+  event-keeps-cached (looks named) d = o
   event-keeps-cached (reads named a count out) d = o
   event-keeps-cached (peeks named a) d = o
   event-keeps-cached (reports list) d = o

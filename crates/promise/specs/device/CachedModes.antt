@@ -6,7 +6,7 @@ use mathlib.Core.Bool.{Bool, true, false, _&&_}
 use Prim.Native.Nat.{ℕ, _≤_, _<_}
 use native.Mathlib.Decide.{ℕ-discrete}
 use mathlib.Core.List.{List, [], List·Memᴰ}
-use lib.ListN.{length, take}
+use lib.ListN.{length}
 use lib.Dec.{ltb, eqb}
 use borrow.Author.Tests.{lt-ltb, ltb-true, eq-eqb, ne-eqb}
 use Rattle.tables.specs.meaning.Basics.{pick}
@@ -14,11 +14,11 @@ use Rattle.tables.specs.laws.Basics.{and-join, and-split}
 use Rattle.tables.specs.laws.Lists.{mem-nil}
 use Rattle.tables.specs.meaning.Device.{ZoneView, Device, Store, flushed, applyAll, ZoneCut, Cut, Loss}
 use Rattle.tables.specs.laws.Device.{cut-at, loss-at, WellFormed, well-formed-apply-all}
-use Rattle.tables.specs.laws.Local.{localStores, applyAllHere, local-is}
-use Rattle.tables.specs.meaning.Cached.{Caching, uncached, applyAllCaching, CachingCut, CachingLoss}
-use Rattle.tables.specs.laws.Cached.{now-is, cutFrom, cut-from-back, cut-from-cut}
-use Rattle.tables.specs.meaning.Drives.{noDrive}
-use Rattle.tables.specs.laws.Drives.{presentBut, present-not}
+use Rattle.tables.specs.laws.Local.{localStores}
+use Rattle.tables.specs.meaning.Cached.{Caching, uncached, applyAllCaching, CachingCut}
+use Rattle.tables.specs.laws.Cached.{now-is, cutFrom, cut-from-back, cut-from-cut, CachingLoss}
+use Rattle.tables.specs.meaning.Drives.{noDrive, presentBut}
+use Rattle.tables.specs.laws.Drives.{present-not}
 use Rattle.tables.specs.declared.Geometry.{Geometry}
 use Rattle.tables.specs.meaning.Geometry.{Valid, physicalZones}
 use Rattle.volume.specs.meaning.State.{StateView}
@@ -32,6 +32,7 @@ use Rattle.promise.specs.invariant.CrashKeeps.{present-before}
 use Rattle.promise.specs.invariant.Delayed.{PutBack, Delayed, BackHere, back-here, back-part, delayed-at}
 use Rattle.promise.specs.roles.Kept.{Lasting, Kept, whole-cut, here-lasting}
 use Rattle.promise.specs.roles.SamePlaces.{SamePlaces, inOrder, order-same, order-well, placed-invs}
+use Rattle.promise.specs.emptying.EmptyingStops.{CutHere}
 use Rattle.promise.specs.emptying.FlushedRests.{roles-same}
 use Rattle.promise.specs.device.Marks.{withMarks}
 use Rattle.promise.specs.device.Modes.{SomeRests, SomeInvs, Halted, rests-invs, invs-halted, loss-some-rests, loss-some-invs, loss-halted}
@@ -105,14 +106,14 @@ halted-in g down x c state l o = down-halted g x c l o
 
 -- ---- A CUT leaves the invariant
 module _ (g : Geometry) (x : ℕ) (c : Caching) (w : Device) (h : CachingCut x c w) where
-  chosen : Device
+  pub chosen : Device
   chosen d y = pick (presentBut g x d) (cutFrom x c w h d y) (c .now d y)
 
   chosen-here : (d y : ℕ) → Here g x d → chosen d y ≡ cutFrom x c w h d y
   unfolding chosen
   chosen-here d y a = rw a refl
 
-  chosen-back : PutBack g x c chosen
+  pub chosen-back : PutBack g x c chosen
   unfolding chosen
   chosen-back = record { at = λ d y. go d y (presentBut g x d) refl }
     where
@@ -124,11 +125,11 @@ module _ (g : Geometry) (x : ℕ) (c : Caching) (w : Device) (h : CachingCut x c
       go d y true a = side d y a (cut-from-back x c w h .at d y)
       go d y false a = inl refl
 
-  chosen-kept : Kept g x chosen w
-  chosen-kept d y a k = rw (chosen-here d y a) (cut-at x (cutFrom x c w h) w (cut-from-cut x c w h) d y (present-not g x d a))
+  pub chosen-cut : CutHere g x chosen w
+  chosen-cut d y a = rw (chosen-here d y a) (cut-at x (cutFrom x c w h) w (cut-from-cut x c w h) d y (present-not g x d a))
 
   pub cached-cut : (l : Ledger) → HaltedCached g x c l → SomeInvs g x w l
-  cached-cut l o = o chosen chosen-back .1 w chosen-kept
+  cached-cut l o = o chosen chosen-back .1 w (λ d y a k. chosen-cut d y a)
 
 -- ---- A LOSS of drive y (x: lost before, if any)
 module _ (g : Geometry) (ok : Valid g) (x y : ℕ) (c k : Caching) (hy : y < g .drives) (one : (x ≡ noDrive) ⊎ (x ≡ y)) (lo : CachingLoss y c k) where

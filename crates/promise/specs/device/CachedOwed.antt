@@ -14,8 +14,7 @@ use Rattle.tables.specs.meaning.Device.{Device, Store, reset, applyAll}
 use Rattle.tables.specs.meaning.Cached.{Caching, uncached, applyAllCaching}
 use Rattle.tables.specs.laws.Cached.{caching-append, now-is, was-is, rememberHere}
 use Rattle.tables.specs.laws.Local.{LocalStore, flushHere, localStores, local-append}
-use Rattle.tables.specs.meaning.Drives.{noDrive}
-use Rattle.tables.specs.laws.Drives.{presentBut}
+use Rattle.tables.specs.meaning.Drives.{noDrive, presentBut}
 use Rattle.tables.specs.declared.Geometry.{Geometry}
 use Rattle.tables.specs.meaning.Geometry.{Valid, physicalZones}
 use Rattle.logs.specs.meaning.Entry.{label, counters}
@@ -44,7 +43,7 @@ abbrev pub WriteOwesCached : Geometry → Type 0
 WriteOwesCached g = (x : ℕ) (c : Caching) (state : StateView) (l : Ledger) (z : ℕ) (ss : List (List ℕ)) → RestsCached g x c state l
     → WriteAccepted g (presentBut g x) (roles g (c .now)) (byRoles g (c .now)) (byState g (presentBut g x) (byRoles g (c .now)) state) state z ss
     → let xs = writeAll g (presentBut g x) (roles g (c .now)) (byRoles g (c .now)) state z ss in
-    ((n : ℕ) → HaltedCached g x (applyAllCaching (take n xs) c) (afterWrite l z ss)) × RestsCached g x (applyAllCaching xs c) (writeState x state z ss) (afterWrite l z ss)
+    ((n : ℕ) → HaltedCached g x (applyAllCaching (take n xs) c) (afterWrite l z ss)) × RestsCached g x (applyAllCaching xs c) (writeState x state z (length ss)) (afterWrite l z ss)
 
 abbrev pub ResetOwesCached : Geometry → Type 0
 ResetOwesCached g = (x : ℕ) (c : Caching) (state : StateView) (l : Ledger) (z : ℕ) → RestsCached g x c state l

@@ -18,7 +18,7 @@ use Rattle.tables.specs.laws.Cached.{now-is, was-is, rememberHere}
 use Rattle.tables.specs.meaning.Phases.{onPresent}
 use Rattle.tables.specs.meaning.Placement.{stripeLength, stripeOf, parityDrive}
 use Rattle.tables.specs.meaning.Through.{carry}
-use Rattle.tables.specs.laws.Drives.{presentBut}
+use Rattle.tables.specs.meaning.Drives.{presentBut}
 use Rattle.tables.specs.declared.Geometry.{Geometry}
 use Rattle.tables.specs.meaning.Geometry.{Valid, dataZone}
 use Rattle.logs.specs.meaning.Entry.{parityZone, spareZone, zoneReset, counters}
@@ -274,10 +274,10 @@ module _ (g : Geometry) (ok : Valid g) (x : ℕ) (c : Caching) (state : StateVie
     is-whole : u ≡ applyAll (map (carry (places g v0)) (ws v0)) v0
     is-whole = is-stopped (length wown) u whole ∙ ap (λ (a : List Store). applyAll a v0) all-of
 
-    whole-rests : SomeRests g x u (writeState x state z ss) (afterWrite l z ss)
+    whole-rests : SomeRests g x u (writeState x state z (length ss)) (afterWrite l z ss)
     whole-rests = go (r .rests v0 b0)
       where
-        go : SomeRests g x v0 state l → SomeRests g x u (writeState x state z ss) (afterWrite l z ss)
+        go : SomeRests g x v0 state l → SomeRests g x u (writeState x state z (length ss)) (afterWrite l z ss)
         go (e, m, above, rs) = (e, m, above, rw is-whole (roled-write-rests g ok e x v0 state (withMarks l m) z ss rs (wok v0 b0)))
 
     whole-roles : (d : ℕ) → Here g x d → roles g u d ≡ roles g (c .now) d
@@ -288,7 +288,7 @@ module _ (g : Geometry) (ok : Valid g) (x : ℕ) (c : Caching) (state : StateVie
             let (δ, q, same) = write-rests g ok e x (byRoles g v0) state (withMarks l m) z ss rs (wok v0 b0) in
             ap (λ (w : Device). roles g w d) is-whole ∙ ordinary-roles g x v0 e s (ws v0) (write-ordinary g x (byRoles g v0) state z ss) δ (q .logs) same d a ∙ r .roles-are v0 b0 d a
 
-  pub own-write-rests : RestsCached g x (applyAllCaching (map (carry (places g (c .now))) (writeStores g (presentBut g x) (byRoles g (c .now)) state z ss)) c) (writeState x state z ss) (afterWrite l z ss)
+  pub own-write-rests : RestsCached g x (applyAllCaching (map (carry (places g (c .now))) (writeStores g (presentBut g x) (byRoles g (c .now)) state z ss)) c) (writeState x state z (length ss)) (afterWrite l z ss)
   own-write-rests = record {
     rests = whole-rests;
     roles-are = λ u k d a. whole-roles u k d a ∙ sym (whole-roles (applyAllCaching wown c .now) (now-back g x (applyAllCaching wown c)) d a);

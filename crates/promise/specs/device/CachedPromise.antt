@@ -4,7 +4,7 @@ use mathlib.Core.Path.{_≡_, ap}
 use Prim.Native.Nat.{ℕ}
 use Rattle.tables.specs.declared.Geometry.{Geometry}
 use Rattle.volume.specs.meaning.Answers.{CallResult}
-use Rattle.promise.specs.meaning.Claim.{Volume, System, NamesAll, SameZones, Promise}
+use Rattle.promise.specs.meaning.Claim.{Volume, System, NamesAll, Promise}
 use Rattle.promise.specs.meaning.Caches.{WithCaches, Caches, withCaches, beneath}
 
 module _ (g : Geometry) (vol : Volume) (k : Caches vol) (s : System (withCaches vol k)) where
@@ -17,17 +17,17 @@ module _ (g : Geometry) (vol : Volume) (k : Caches vol) (s : System (withCaches 
   pub cached-promise : Promise g vol (beneath vol k s) → Promise g (withCaches vol k) s
   cached-promise p = record {
     look-fits = λ named n. let (e, f) = p .look-fits named (names-beneath named n) in (ap beside e, f);
-    mount-fits = λ named n m stop e. p .mount-fits named (names-beneath named n) m stop e;
-    mount-refused = λ named n stop i e. p .mount-refused named (names-beneath named n) stop i e;
-    mount-logs-good = λ named n stop b e. p .mount-logs-good named (names-beneath named n) stop b e;
+    mount-fits = λ named n. p .mount-fits named (names-beneath named n);
+    mount-refused = λ named n. p .mount-refused named (names-beneath named n);
     pointer-is = p .pointer-is;
-    look-holds = λ named n m. let (e, z) = p .look-holds named (names-beneath named n) m in (e, record { generations = z .generations; conditions = z .conditions });
-    flush-accepted = λ named n m stop i e. p .flush-accepted named (names-beneath named n) m stop i e;
-    reset-refused = λ named n m z stop i e. p .reset-refused named (names-beneath named n) m z stop i e;
-    write-refused = λ named n m a count buffer stop i e. p .write-refused named (names-beneath named n) m a count buffer stop i e;
-    read-gives = λ named n m a count out e. p .read-gives named (names-beneath named n) m a count out e;
-    read-accepted = λ named n m a count out h i j o. p .read-accepted named (names-beneath named n) m a count out h i j o;
-    peek-gives = λ named n m a e. p .peek-gives named (names-beneath named n) m a e;
-    peek-accepted = λ named n m a h i o. p .peek-accepted named (names-beneath named n) m a h i o;
-    report-gives = λ named n m list. p .report-gives named (names-beneath named n) m list;
+    look-holds = λ named n. p .look-holds named (names-beneath named n);
+    look-serves = λ named n m. let q = p .look-serves named (names-beneath named n) m in record { reads-same = λ by k. q .reads-same by (names-beneath by k); peeks-same = λ by k. q .peeks-same by (names-beneath by k); reports-same = q .reports-same };
+    flush-accepted = λ named n. p .flush-accepted named (names-beneath named n);
+    reset-refused = λ named n. p .reset-refused named (names-beneath named n);
+    write-refused = λ named n. p .write-refused named (names-beneath named n);
+    read-gives = λ named n. p .read-gives named (names-beneath named n);
+    read-accepted = λ named n. p .read-accepted named (names-beneath named n);
+    peek-gives = λ named n. p .peek-gives named (names-beneath named n);
+    peek-accepted = λ named n. p .peek-accepted named (names-beneath named n);
+    report-gives = λ named n. p .report-gives named (names-beneath named n);
   }

@@ -3,7 +3,7 @@
 use mathlib.Core.Path.{_≡_, refl, sym, ap, _∙_, subst}
 use mathlib.Core.Logic.{_⊎_, inl, inr}
 use mathlib.Core.Bool.{Bool, true}
-use Prim.Native.Nat.{ℕ, _+_, _-_}
+use Prim.Native.Nat.{ℕ, _+_}
 use native.Mathlib.Omega.{arith}
 use mathlib.Core.List.{List, [], _++_, map}
 use lib.ListN.{length, take}
@@ -12,7 +12,8 @@ use Rattle.tables.specs.meaning.Device.{Device, Store, applyAll}
 use Rattle.tables.specs.meaning.Cached.{Caching, applyAllCaching}
 use Rattle.tables.specs.laws.Cached.{caching-append, now-is}
 use Rattle.tables.specs.meaning.Through.{carry}
-use Rattle.tables.specs.laws.Drives.{presentBut, present-below}
+use Rattle.tables.specs.meaning.Drives.{presentBut}
+use Rattle.tables.specs.laws.Drives.{present-below}
 use Rattle.tables.specs.declared.Geometry.{Geometry}
 use Rattle.tables.specs.meaning.Geometry.{Valid}
 use Rattle.logs.specs.meaning.Entry.{parityZone}
@@ -98,10 +99,10 @@ module _ (g : Geometry) (ok : Valid g) (x : ℕ) (c : Caching) (state : StateVie
       record { zone-ok = q .zone-ok; writable = q .writable; some = q .some; run = q .run; sizes = q .sizes; room = λ i a. rw (back-seen g x cE state l rests-E t k _ a parityZone (λ j. omega (arith, j)), now-E) (q .room i a) }
 
   -- FINISHED
-  write-done : RestsCached g x (applyAllCaching (writeAll g (presentBut g x) (roles g (c .now)) (byRoles g (c .now)) state z ss) c) (writeState x state z ss) (afterWrite l z ss)
+  write-done : RestsCached g x (applyAllCaching (writeAll g (presentBut g x) (roles g (c .now)) (byRoles g (c .now)) state z ss) c) (writeState x state z (length ss)) (afterWrite l z ss)
   write-done =
       let q = own-write-rests g ok x cE state l rests-E z ss wok in
-      subst (λ (k : Caching). RestsCached g x k (writeState x state z ss) (afterWrite l z ss)) (sym (ap (λ (ys : List Store). applyAllCaching ys c) all-are ∙ caching-append E own c ∙ ap (λ (ys : List Store). applyAllCaching ys cE) own-is)) q
+      subst (λ (k : Caching). RestsCached g x k (writeState x state z (length ss)) (afterWrite l z ss)) (sym (ap (λ (ys : List Store). applyAllCaching ys c) all-are ∙ caching-append E own c ∙ ap (λ (ys : List Store). applyAllCaching ys cE) own-is)) q
 
   -- STOPPED
   begun : (u : Device) → PutBack g x c u → SomeInvs g x u (afterWrite l z ss)
@@ -128,5 +129,5 @@ pub write-owes-cached : (g : Geometry) → Valid g → WriteOwesCached g
 write-owes-cached g ok x c state l z ss r wa = go (r .rests (c .now) (now-back g x c))
   where
     go : SomeRests g x (c .now) state l → let xs = writeAll g (presentBut g x) (roles g (c .now)) (byRoles g (c .now)) state z ss in
-        ((n : ℕ) → HaltedCached g x (applyAllCaching (take n xs) c) (afterWrite l z ss)) × RestsCached g x (applyAllCaching xs c) (writeState x state z ss) (afterWrite l z ss)
+        ((n : ℕ) → HaltedCached g x (applyAllCaching (take n xs) c) (afterWrite l z ss)) × RestsCached g x (applyAllCaching xs c) (writeState x state z (length ss)) (afterWrite l z ss)
     go (e, m, above, rr) = (write-stopped g ok x c state l z ss r wa e m above rr, write-done g ok x c state l z ss r wa e m above rr)

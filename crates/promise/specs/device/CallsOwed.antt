@@ -2,10 +2,10 @@
 -- finished, that all is at rest.
 use Prim.Native.Nat.{ℕ}
 use mathlib.Core.List.{List}
-use lib.ListN.{take}
+use lib.ListN.{take, length}
 use Rattle.tables.specs.meaning.Device.{Device, applyAll}
 use Rattle.tables.specs.declared.Geometry.{Geometry}
-use Rattle.tables.specs.laws.Drives.{presentBut}
+use Rattle.tables.specs.meaning.Drives.{presentBut}
 use Rattle.volume.specs.meaning.State.{StateView}
 use Rattle.volume.specs.meaning.Rules.{showing}
 use Rattle.volume.specs.meaning.Calls.{writeState, resetState}
@@ -20,7 +20,7 @@ abbrev pub WriteOwes : Geometry → Type 0
 WriteOwes g = (x : ℕ) (v : Device) (state : StateView) (l : Ledger) (z : ℕ) (ss : List (List ℕ)) → SomeRests g x v state l
     → WriteAccepted g (presentBut g x) (roles g v) (byRoles g v) (byState g (presentBut g x) (byRoles g v) state) state z ss
     → let xs = writeAll g (presentBut g x) (roles g v) (byRoles g v) state z ss in
-    ((n : ℕ) → Halted g x (applyAll (take n xs) v) (afterWrite l z ss)) × SomeRests g x (applyAll xs v) (writeState x state z ss) (afterWrite l z ss)
+    ((n : ℕ) → Halted g x (applyAll (take n xs) v) (afterWrite l z ss)) × SomeRests g x (applyAll xs v) (writeState x state z (length ss)) (afterWrite l z ss)
 
 abbrev pub ResetOwes : Geometry → Type 0
 ResetOwes g = (x : ℕ) (v : Device) (state : StateView) (l : Ledger) (z : ℕ) → SomeRests g x v state l

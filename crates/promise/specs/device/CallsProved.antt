@@ -1,7 +1,7 @@
 -- The calls that may empty logs owe nothing more.
 use lib.ListN.{take}
 use Rattle.tables.specs.meaning.Device.{applyAll}
-use Rattle.tables.specs.laws.Drives.{presentBut}
+use Rattle.tables.specs.meaning.Drives.{presentBut}
 use Rattle.tables.specs.declared.Geometry.{Geometry}
 use Rattle.tables.specs.meaning.Geometry.{Valid}
 use Rattle.volume.specs.meaning.Mount.{mountStores}

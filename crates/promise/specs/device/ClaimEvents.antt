@@ -15,8 +15,7 @@ use Rattle.tables.specs.meaning.Basics.{pick}
 use Rattle.tables.specs.meaning.Device.{Device, Store, applyAll}
 use Rattle.tables.specs.declared.Geometry.{Geometry}
 use Rattle.tables.specs.meaning.Geometry.{Valid}
-use Rattle.tables.specs.laws.Drives.{presentBut}
-use Rattle.tables.specs.meaning.Drives.{noDrive}
+use Rattle.tables.specs.meaning.Drives.{noDrive, presentBut}
 use Rattle.volume.specs.meaning.Rules.{showing}
 use Rattle.volume.specs.meaning.State.{StateView, callPresent}
 use Rattle.volume.specs.meaning.Roles.{roles, byRoles}
@@ -27,13 +26,13 @@ use Rattle.volume.specs.meaning.Refusals.{Verdict, refuse, accept, TableLengths
 use Rattle.volume.specs.meaning.Answers.{CallResult, storing, lostIn, leftOut, namedDrives, sectorsIn, giving, presentIn, lostDriveIn}
 use Rattle.volume.specs.declared.Answer.the-variants.{Finished, Unfinished, Refused}
 use Rattle.promise.specs.meaning.Ledger.{Ledger, freshLedger, afterFlush}
-use Rattle.promise.specs.meaning.Claim.{Call, mounts, writes, flushes, resets, formats, Mode, ready, stopped, down, System, Event, calls, looks, reads, peeks, reports, cuts, loses, settled, ledgerAfter, next, NotStopped, NamesAll, MayMount, Duty, allBut}
+use Rattle.promise.specs.meaning.Claim.{WriteAsked, Call, mounts, writes, flushes, resets, formats, Mode, ready, stopped, down, System, Event, calls, looks, reads, peeks, reports, cuts, loses, settled, ledgerAfter, next, NotStopped, NamesAll, MayMount, Duty, allBut}
 use Rattle.promise.specs.meaning.OnDevice.{callOf, onDevice, lookResult, shownBy}
 use Rattle.promise.specs.invariant.Obligations.{neverEmptied}
 use Rattle.promise.specs.invariant.RoomAsked.{WriteAccepted, ResetAccepted, MountAccepted}
 use Rattle.promise.specs.look.LookRest.{look-rests}
 use Rattle.promise.specs.roles.RoledCalls.{roled-format}
-use Rattle.promise.specs.device.AcceptedCalls.{present-same, call-same, found-same, write-accepted, reset-accepted, mount-accepted}
+use Rattle.promise.specs.device.AcceptedCalls.{present-same, call-same, found-same, sectors-length, write-accepted, reset-accepted, mount-accepted}
 use Rattle.promise.specs.device.AtRestAnswers.{lost-in, format-lost, format-drives}
 use Rattle.promise.specs.device.Marks.{withMarks}
 use Rattle.promise.specs.device.Modes.{SomeRests, SomeInvs, OkIn, own-rests, rests-invs, lose-in, cut-in}
@@ -137,17 +136,17 @@ module _ (g : Geometry) (ok : Valid g) (t : TableLengths) where
           → (firstRefusal (k .refusals) ≡ accept → OkIn g ready (s .lost) (applyAll (k .stores) (s .memory)) (k .state) (l (finishedResult (k .stores) (k .state)))) → Owed c stop
       by-call c stop = let k = callOf g t c named (s .state) (s .memory) in by-answer (firstRefusal (k .refusals)) (k .stores) (k .state) stop (ledgerAfter g (onDevice g t) s c named)
 
-      write-event : s .mode ≡ ready → (a count : ℕ) (buffer : List ℕ) (stop : ℕ) → Owed (writes a count buffer) stop
-      write-event m a count buffer stop =
+      write-event : s .mode ≡ ready → (asked : WriteAsked) (stop : ℕ) → Owed (writes asked) stop
+      write-event m asked stop =
           let v = s .memory in
-          let z = zoneOf g a in
-          let ss = sectorsIn g count buffer in
+          let z = zoneOf g (asked .address) in
+          let ss = sectorsIn g (asked .count) (asked .buffer) in
           let e = drives-of-call m in
-          let accepted : firstRefusal (writeRows g t (badPointers g named v) named (s .state) a count (length buffer) (roles g v) (byRoles g v)) ≡ accept
-          → WriteAccepted g (presentBut g (s .lost)) (roles g v) (byRoles g v) (byState g (presentBut g (s .lost)) (byRoles g v) (s .state)) (s .state) z ss = λ p. rw e at (write-accepted g t named (s .state) v a count buffer p) in
-          by-call (writes a count buffer) stop (λ n. refl)
+          let accepted : firstRefusal (writeRows g t (badPointers g named v) named (s .state) (asked .address) (asked .count) (length (asked .buffer)) (roles g v) (byRoles g v)) ≡ accept
+          → WriteAccepted g (presentBut g (s .lost)) (roles g v) (byRoles g v) (byState g (presentBut g (s .lost)) (byRoles g v) (s .state)) (s .state) z ss = λ p. rw e at (write-accepted g t named (s .state) v (asked .address) (asked .count) (asked .buffer) p) in
+          by-call (writes asked) stop (λ n. refl)
           (λ p. rw e (owed .write (s .lost) v (s .state) (s .ledger) z ss (rests-of g t s o m) (accepted p) .0 stop))
-          (λ p. rw (e, lost-of-call m) (owed .write (s .lost) v (s .state) (s .ledger) z ss (rests-of g t s o m) (accepted p) .1))
+          (λ p. rw (e, lost-of-call m) (rw (sectors-length g (asked .count) (asked .buffer)) at (owed .write (s .lost) v (s .state) (s .ledger) z ss (rests-of g t s o m) (accepted p) .1)))
 
       flush-event : s .mode ≡ ready → (stop : ℕ) → Owed flushes stop
       flush-event m stop =
@@ -202,9 +201,9 @@ module _ (g : Geometry) (ok : Valid g) (t : TableLengths) where
           go (refuse k) n = o
           go accept n = cases (ltb stop (length xs)) n
 
-      look-event : (taken : Bool) → Ok g t (next g (onDevice g t) s (looks named taken))
-      look-event false = o
-      look-event true = go (firstRefusal (lookRows g t (badPointers g named (s .memory)) named (roles g (s .memory)) (byRoles g (s .memory))))
+      -- with a look's state in place of what the host holds
+      pub look-held : OkIn g (s .mode) (s .lost) (s .memory) (onDevice g t .look named (s .state) (s .memory) .state) (s .ledger)
+      look-held = go (firstRefusal (lookRows g t (badPointers g named (s .memory)) named (roles g (s .memory)) (byRoles g (s .memory))))
         where
           shown : OkIn g (s .mode) (s .lost) (s .memory) (mountState (shownBy g named (s .memory) (s .memory))) (s .ledger)
           shown = rw (drives-of-look, lost-of-look) (shown-in g ok (s .mode) (s .lost) (s .memory) (s .state) (s .ledger) o)
@@ -215,7 +214,7 @@ module _ (g : Geometry) (ok : Valid g) (t : TableLengths) where
 
       call-keeps : (c : Call) (stop : ℕ) → Duty g (onDevice g t) s (calls c named stop) → Owed c stop
       call-keeps mounts stop (b, m, q) = mount-event m stop
-      call-keeps (writes a count buffer) stop (b, m, q) = write-event m a count buffer stop
+      call-keeps (writes asked) stop (b, m, q) = write-event m asked stop
       call-keeps flushes stop (b, m, q) = flush-event m stop
       call-keeps (resets z) stop (b, m, q) = reset-event m z stop
       call-keeps (formats array) stop (b, m, (h, n)) = format-event m array stop h n
@@ -223,7 +222,7 @@ module _ (g : Geometry) (ok : Valid g) (t : TableLengths) where
     -- EVERY EVENT KEEPS IT
     pub event-keeps : (e : Event (onDevice g t)) → Duty g (onDevice g t) s e → Ok g t (next g (onDevice g t) s e)
     event-keeps (calls c named stop) d = call-keeps named (d .0) c stop d
-    event-keeps (looks named taken) d = look-event named (d .0) taken
+    event-keeps (looks named) d = o
     event-keeps (reads named a count out) d = o
     event-keeps (peeks named a) d = o
     event-keeps (reports list) d = o

@@ -5,7 +5,7 @@ use mathlib.Core.Logic.{_≢_, inl, inr}
 use mathlib.Core.Bool.{_||_, Bool, true, false, _&&_, not}
 use Rattle.promise.specs.device.AcceptedCalls.{Applies, refused-applies, storing-finished, storing-no-place, storing-refused, two-same, pointers-same}
 use Rattle.volume.specs.laws.Refusals.{accepted-row, passed, Numbered, numbered}
-use mathlib.Core.Path.{_≡_, refl, sym, ap, _∙_}
+use mathlib.Core.Path.{_≡_, refl, sym, ap, ap₂, _∙_}
 use Prim.Native.Nat.{ℕ, zero, _+_, _-_, _*_, _≤_, _<_}
 use native.Mathlib.Nat.{le-of-eq}
 use native.Mathlib.Omega.{arith}
@@ -20,7 +20,7 @@ use Rattle.tables.specs.meaning.Placement.{driveOf}
 use Rattle.tables.specs.laws.Placement.{drive-below}
 use Rattle.tables.specs.declared.Geometry.{Geometry}
 use Rattle.tables.specs.meaning.Geometry.{Valid, zoneSectors}
-use Rattle.tables.specs.laws.Drives.{presentBut}
+use Rattle.tables.specs.meaning.Drives.{presentBut}
 use Rattle.tables.specs.meaning.Below.{tabulateFrom}
 use Rattle.tables.specs.meaning.Lists.{concat}
 use Rattle.logs.specs.meaning.Entry.{wornGeneration}
@@ -37,12 +37,12 @@ use Rattle.promise.specs.look.LookFits.{rest-known}
 use Rattle.tables.specs.meaning.Tables.{bufferFits}
 use Rattle.volume.specs.meaning.Answers.{CallResult, StoringCall, giving, Place, lookCall, placeOf, presentIn, lostDriveIn}
 use Rattle.volume.specs.meaning.CallContracts.{byteOf}
-use Rattle.volume.specs.declared.Answer.the-variants.{Finished, Refused, BadLog}
-use Rattle.volume.specs.declared.BadPlace.{BadPlace}
+use Rattle.volume.specs.declared.Answer.{Answer}
+use Rattle.volume.specs.declared.Answer.the-variants.{Finished, Unfinished, Refused, BadLog}
 use Rattle.volume.specs.declared.ZoneDescriptor.{ZoneDescriptor}
 use Rattle.volume.specs.meaning.Report.{reportOn}
 use Rattle.volume.specs.laws.Report.{report-finished, report-same}
-use Rattle.promise.specs.meaning.Claim.{mounts, writes, flushes, resets, ready, System, NamesAll, MayMount, allBut, contentBytes, SameZones, ResetRefusal, noSuchZone, wornOut, generalLogFull, WriteRefusal, bufferLength, noSuchAddress, noSectors, pastTheEnd, notAtPointer, sealedZone, wornZone, parityLogFull, Promise}
+use Rattle.promise.specs.meaning.Claim.{WriteAsked, Call, mounts, writes, flushes, resets, ready, System, calls, answered, readOut, peekedAt, reported, heard, NamesAll, MayMount, allBut, contentBytes, SameZones, Serves, RefusedOnly, ResetRefusal, noSuchZone, wornOut, generalLogFull, WriteRefusal, bufferLength, noSuchAddress, noSectors, pastTheEnd, notAtPointer, sealedZone, wornZone, parityLogFull, Promise}
 use Rattle.promise.specs.meaning.OnDevice.{callOf, lookResult, readResult, peekResult, reportShown, shownBy, onDevice}
 use Rattle.promise.specs.look.LookRest.{generation-held, condition-held}
 use Rattle.promise.specs.device.AtRestAnswers.{absent-fine, state-fine, stale-fine, gone-fine, before-fine, entry-fine, worn-last, rest-held, rest-sector}
@@ -50,10 +50,11 @@ use lib.Seq.{take-length}
 use Rattle.tables.specs.meaning.GeometryTest.{isValid}
 use Rattle.promise.specs.roles.ReadsSectors.{data-seen}
 use Rattle.promise.specs.device.Marks.{withMarks}
-use Rattle.promise.specs.device.Modes.{Halted}
+use Rattle.promise.specs.device.Modes.{Halted, OkIn}
+use Rattle.promise.specs.device.Heard.{answer-heard, read-heard, peek-heard}
 use Rattle.promise.specs.device.Looks.{LookFine, halted-look}
 use Rattle.promise.specs.device.CallsProved.{calls-owed}
-use Rattle.promise.specs.device.ClaimEvents.{Ok, rests-of, invs-of, fine, drives-of-call, drives-of-look, lost-of-look, mount-allowed}
+use Rattle.promise.specs.device.ClaimEvents.{Ok, rests-of, invs-of, fine, drives-of-call, drives-of-look, lost-of-look, mount-allowed, look-held}
 
 -- ---- what is promised of a system that is so (wb, lf: the format was accepted)
 module _ (g : Geometry) (ok : Valid g) (t : TableLengths) (wb : isValid g ≡ true) (lf : tablesFit g t ≡ true) (s : System (onDevice g t)) (o : Ok g t s) where
@@ -115,7 +116,7 @@ module _ (g : Geometry) (ok : Valid g) (t : TableLengths) (wb : isValid g ≡ tr
     look-claim = (rw look-accepted refl, rw (seen, lost) (looked .fits))
 
     -- its state is what the host holds
-    held-claim : s .mode ≡ ready → let looked = lookResult (lookCall g t named (s .memory)) (s .state) (s .memory) .state in (looked .lost ≡ s .lost) × SameZones g (onDevice g t) looked (s .state)
+    held-claim : s .mode ≡ ready → let looked = lookResult (lookCall g t named (s .memory)) (s .state) (s .memory) .state in (looked .lost ≡ s .lost) × SameZones g looked (s .state)
     unfolding showing
     held-claim m =
         let (marks, γ, r) = rest-of m in
@@ -149,9 +150,6 @@ module _ (g : Geometry) (ok : Valid g) (t : TableLengths) (wb : isValid g ≡ tr
         by (inr (r1, inr (r2, inr (r3, inr (r4, inr (r5, inl (k, b))))))) = not-both _ b row-6
         by (inr (r1, inr (r2, inr (r3, inr (r4, inr (r5, inr (r6, inl (k, b)))))))) = k
         by (inr (r1, inr (r2, inr (r3, inr (r4, inr (r5, inr (r6, inr (r14, none)))))))) = absurd none
-
-    logs-claim : (stop : ℕ) (b : BadPlace) → onDevice g t .call mounts named (s .state) stop (s .memory) .answer ≢ BadLog b
-    logs-claim stop b = storing-no-place (firstRefusal (mountCalled .refusals)) (mountCalled .stores) (mountCalled .state) (s .state) stop (s .memory) b
 
     -- ---- flushes, resets and writes
     flush-claim : s .mode ≡ ready → (stop n : ℕ) → onDevice g t .call flushes named (s .state) stop (s .memory) .answer ≢ Refused n
@@ -188,42 +186,43 @@ module _ (g : Geometry) (ok : Valid g) (t : TableLengths) (wb : isValid g ≡ tr
         by (inr (r1, inr (r2, inr (r3, inr (r4, inr (r7, inr (r8, inr (r12, inl (k, b))))))))) = generalLogFull k
         by (inr (r1, inr (r2, inr (r3, inr (r4, inr (r7, inr (r8, inr (r12, inr (r14, none))))))))) = absurd none
 
-    write-claim : s .mode ≡ ready → (a count : ℕ) (buffer : List ℕ) (stop n : ℕ) → onDevice g t .call (writes a count buffer) named (s .state) stop (s .memory) .answer ≡ Refused n
-        → WriteRefusal g (s .state .condition (zoneOf g a)) a count buffer n
+    write-claim : s .mode ≡ ready → (w : WriteAsked) (stop n : ℕ) → onDevice g t .call (writes w) named (s .state) stop (s .memory) .answer ≡ Refused n → WriteRefusal g (s .state .condition (zoneOf g (w .address))) w n
     unfolding writeRows bufferFits
-    write-claim m a count buffer stop n e =
-        let c = callOf g t (writes a count buffer) named (s .state) (s .memory) in
+    write-claim m w stop n e =
+        let c = callOf g t (writes w) named (s .state) (s .memory) in
         by (refused-applies (c .refusals) n (storing-refused (firstRefusal (c .refusals)) (c .stores) (c .state) (s .state) stop (s .memory) n e))
       where
-        no-gone : ltb (zoneOf g a) (g .zones) ≡ true → (end : ℕ) → let here = callPresent g named (s .state) in let z = zoneOf g a in
+        no-gone : (z : ℕ) → ltb z (g .zones) ≡ true → (end : ℕ) → let here = callPresent g named (s .state) in
             goneForEntry g here (roles g (s .memory)) (byState g here u (s .state)) u z end || goneBefore g here u z (s .state .generation z) (pointerIn (s .state .condition z)) ≡ false
-        no-gone h end =
+        no-gone z h end =
             let (marks, γ, r) = rest-of m in
-            let z = zoneOf g a in
             let p = entry-fine g ok (s .lost) u (s .state) (withMarks (s .ledger) marks) γ r (roles g (s .memory)) z end in
             let q = before-fine g ok (s .lost) u (s .state) (withMarks (s .ledger) marks) γ r z (ltb-true z (g .zones) h) in
             rw (drives m, p, q) refl
 
-        run : n ≡ 9 → eqb count 0 || ltb (zoneSectors g) (offsetOf g a + count) ≡ true → WriteRefusal g (s .state .condition (zoneOf g a)) a count buffer n
-        run k b = go (eqb count 0) refl b
+        run : n ≡ 9 → eqb (w .count) 0 || ltb (zoneSectors g) (offsetOf g (w .address) + w .count) ≡ true → WriteRefusal g (s .state .condition (zoneOf g (w .address))) w n
+        run k b = go (eqb (w .count) 0) refl b
           where
-            go : (w : Bool) → eqb count 0 ≡ w → w || ltb (zoneSectors g) (offsetOf g a + count) ≡ true → WriteRefusal g (s .state .condition (zoneOf g a)) a count buffer n
-            go true p b = noSectors k (eqb-true count 0 p)
-            go false p b = pastTheEnd k (ltb-true (zoneSectors g) (offsetOf g a + count) b)
+            go : (q : Bool) → eqb (w .count) 0 ≡ q → q || ltb (zoneSectors g) (offsetOf g (w .address) + w .count) ≡ true → WriteRefusal g (s .state .condition (zoneOf g (w .address))) w n
+            go true p b = noSectors k (eqb-true (w .count) 0 p)
+            go false p b = pastTheEnd k (ltb-true (zoneSectors g) (offsetOf g (w .address) + w .count) b)
 
-        by : Applies (writeRows g t (badPointers g named (s .memory)) named (s .state) a count (length buffer) (roles g (s .memory)) u) n → WriteRefusal g (s .state .condition (zoneOf g a)) a count buffer n
+        by : Applies (callOf g t (writes w) named (s .state) (s .memory) .refusals) n → let z = zoneOf g (w .address) in WriteRefusal g (s .state .condition z) w n
         by (inl (k, b)) = not-both _ b (row-1 m)
-        by (inr (r1, inl (k, b))) = bufferLength k (eqb-false (length buffer) (count * g .sector) (rw lf at (not-true (tablesFit g t && eqb (length buffer) (count * g .sector)) b)))
+        by (inr (r1, inl (k, b))) = let fits = eqb (length (w .buffer)) (w .count * g .sector) in bufferLength k (eqb-false (length (w .buffer)) (w .count * g .sector) (rw lf at (not-true (tablesFit g t && fits) b)))
         by (inr (r1, inr (r2, inl (k, b)))) = not-both _ b row-3
         by (inr (r1, inr (r2, inr (r3, inl (k, b))))) = not-both _ b (row-4 m)
-        by (inr (r1, inr (r2, inr (r3, inr (r4, inl (k, b)))))) = not-both _ b (row-7 m (zoneOf g a))
-        by (inr (r1, inr (r2, inr (r3, inr (r4, inr (r7, inl (k, b))))))) = noSuchAddress k (ltb-false (zoneOf g a) (g .zones) (not-true (ltb (zoneOf g a) (g .zones)) b))
+        by (inr (r1, inr (r2, inr (r3, inr (r4, inl (k, b)))))) = not-both _ b (row-7 m (zoneOf g (w .address)))
+        by (inr (r1, inr (r2, inr (r3, inr (r4, inr (r7, inl (k, b))))))) = let z = zoneOf g (w .address) in noSuchAddress k (ltb-false z (g .zones) (not-true (ltb z (g .zones)) b))
         by (inr (r1, inr (r2, inr (r3, inr (r4, inr (r7, inr (r8, inl (k, b)))))))) = run k b
-        by (inr (r1, inr (r2, inr (r3, inr (r4, inr (r7, inr (r8, inr (r9, inl (k, b))))))))) = notAtPointer k (eqb-false (offsetOf g a) (pointerIn (s .state .condition (zoneOf g a))) (not-true (eqb (offsetOf g a) (pointerIn (s .state .condition (zoneOf g a)))) b))
+        by (inr (r1, inr (r2, inr (r3, inr (r4, inr (r7, inr (r8, inr (r9, inl (k, b))))))))) =
+            let a = offsetOf g (w .address) in
+            let p = pointerIn (s .state .condition (zoneOf g (w .address))) in notAtPointer k (eqb-false a p (not-true (eqb a p) b))
         by (inr (r1, inr (r2, inr (r3, inr (r4, inr (r7, inr (r8, inr (r9, inr (r10, inl (k, b)))))))))) = sealedZone k b
         by (inr (r1, inr (r2, inr (r3, inr (r4, inr (r7, inr (r8, inr (r9, inr (r10, inr (r11, inl (k, b))))))))))) = wornZone k b
         by (inr (r1, inr (r2, inr (r3, inr (r4, inr (r7, inr (r8, inr (r9, inr (r10, inr (r11, inr (r12, inl (k, b)))))))))))) = parityLogFull k
-        by (inr (r1, inr (r2, inr (r3, inr (r4, inr (r7, inr (r8, inr (r9, inr (r10, inr (r11, inr (r12, inr (r14, inl (k, b))))))))))))) = not-both _ b (no-gone (not-not (ltb (zoneOf g a) (g .zones)) r8) (pointerIn (s .state .condition (zoneOf g a)) + count))
+        by (inr (r1, inr (r2, inr (r3, inr (r4, inr (r7, inr (r8, inr (r9, inr (r10, inr (r11, inr (r12, inr (r14, inl (k, b))))))))))))) =
+            let z = zoneOf g (w .address) in not-both _ b (no-gone z (not-not (ltb z (g .zones)) r8) (pointerIn (s .state .condition z) + w .count))
         by (inr (r1, inr (r2, inr (r3, inr (r4, inr (r7, inr (r8, inr (r9, inr (r10, inr (r11, inr (r12, inr (r14, inr (r15, none))))))))))))) = absurd none
 
     -- ---- reads
@@ -308,21 +307,93 @@ module _ (g : Geometry) (ok : Valid g) (t : TableLengths) (wb : isValid g ≡ tr
         let same : (z : ℕ) → z < g .zones → s .state .condition z ≡ k .zone z .condition = λ z h. sym (held-claim m .1 .conditions z h) ∙ ap (λ (r : StateView). r .condition z) e in
         report-finished g (s .state) (not-not (isValid g && stateWithin g (s .state)) (row-1 m)) list ∙ report-same g (s .state .condition) (λ z. k .zone z .condition) list same
 
-  -- every point of a history is as claimed
+-- ---- another state under which the system is so, and which says the same of the zones, serves reads, peeks and reports
+module _ (g : Geometry) (ok : Valid g) (t : TableLengths) (wb : isValid g ≡ true) (lf : tablesFit g t ≡ true) (s : System (onDevice g t)) (o : Ok g t s) (m : s .mode ≡ ready)
+    (state : StateView) (p : OkIn g (s .mode) (s .lost) (s .memory) state (s .ledger)) (same : SameZones g state (s .state)) (named : ℕ → Bool) (names : NamesAll g (onDevice g t) s named) where
+  abbrev held : System (onDevice g t)
+  held = record { memory = s .memory; lost = s .lost; mode = s .mode; state = state; ledger = s .ledger }
+
+  module _ (by : ℕ → Bool) (all : NamesAll g (onDevice g t) s by) where
+    there : NamesAll g (onDevice g t) held by
+    there = record { drives = all .drives }
+
+    drives-same : callPresent g by state ≡ callPresent g by (s .state)
+    drives-same = drives g ok t wb lf held p by there m ∙ sym (drives g ok t wb lf s o by all m)
+
+    -- the rows that speak of the state
+    row-1s : (not (isValid g && stateWithin g state) ≡ false) × (not (isValid g && stateWithin g (s .state)) ≡ false)
+    row-1s = (row-1 g ok t wb lf held p by there m, row-1 g ok t wb lf s o by all m)
+
+    row-4s : (twoAbsent g by state ≡ false) × (twoAbsent g by (s .state) ≡ false)
+    row-4s = (row-4 g ok t wb lf held p by there m, row-4 g ok t wb lf s o by all m)
+
+    row-7s : (z : ℕ) → let w = byRoles g (s .memory) in (stale g (callPresent g by state) w state z ≡ false) × (stale g (callPresent g by (s .state)) w (s .state) z ≡ false)
+    row-7s z = (row-7 g ok t wb lf held p by there m z, row-7 g ok t wb lf s o by all m z)
+
+    read-same : (a count : ℕ) (out : List ℕ) → onDevice g t .read by state a count out (s .memory) ≡ onDevice g t .read by (s .state) a count out (s .memory)
+    unfolding readRows
+    read-same a count out = go (ltb (zoneOf g a) (g .zones)) (bufferFits g count (length out)) refl refl
+      where
+        go : (i b : Bool) → ltb (zoneOf g a) (g .zones) ≡ i → bufferFits g count (length out) ≡ b → onDevice g t .read by state a count out (s .memory) ≡ onDevice g t .read by (s .state) a count out (s .memory)
+        go true b e f =
+            let z = zoneOf g a in
+            let h = ltb-true z (g .zones) e in
+            rw (row-1s .0, row-1s .1, row-4s .0, row-4s .1, row-7s z .0, row-7s z .1, drives-same, same .generations z h, same .conditions z h) refl
+        go false true e f = rw (row-1s .0, row-1s .1, lf, f, row-3 g ok t wb lf s o by all, row-4s .0, row-4s .1, row-7s (zoneOf g a) .0, row-7s (zoneOf g a) .1, e) refl
+        go false false e f = rw (row-1s .0, row-1s .1, lf, f) refl
+
+    peek-same : (a : ℕ) → onDevice g t .peek by state a (s .memory) ≡ onDevice g t .peek by (s .state) a (s .memory)
+    unfolding peekRows
+    peek-same a = go (ltb (zoneOf g a) (g .zones)) refl
+      where
+        go : (i : Bool) → ltb (zoneOf g a) (g .zones) ≡ i → onDevice g t .peek by state a (s .memory) ≡ onDevice g t .peek by (s .state) a (s .memory)
+        go true e =
+            let z = zoneOf g a in
+            let h = ltb-true z (g .zones) e in
+            rw (row-1s .0, row-1s .1, row-4s .0, row-4s .1, row-7s z .0, row-7s z .1, drives-same, same .generations z h, same .conditions z h) refl
+        go false e = rw (row-1s .0, row-1s .1, lf, row-3 g ok t wb lf s o by all, row-4s .0, row-4s .1, row-7s (zoneOf g a) .0, row-7s (zoneOf g a) .1, e) refl
+
+  pub serves : Serves g (onDevice g t) s state
+  serves = record { reads-same = read-same; peeks-same = peek-same; reports-same = λ list. report-claim g ok t wb lf held p named (there named names) m list ∙ sym (report-claim g ok t wb lf s o named names m list) }
+
+-- no call of the rules tells a bad place of a log: a mount's is told at its contract
+only-for : (g : Geometry) (t : TableLengths) (s : System (onDevice g t)) (named : ℕ → Bool) (c : Call) (stop : ℕ) (Cause : ℕ → Type 0) → ((n : ℕ) → onDevice g t .call c named (s .state) stop (s .memory) .answer ≡ Refused n → Cause n)
+    → (a : Answer) → heard s (calls c named stop) ≡ answered a → RefusedOnly Cause a
+only-for g t s named c stop Cause h a e = cases a (answer-heard e)
+  where
+    cases : (a : Answer) → onDevice g t .call c named (s .state) stop (s .memory) .answer ≡ a → RefusedOnly Cause a
+    cases Finished e = tt
+    cases Unfinished e = tt
+    cases (Refused n) e = h n e
+    cases (BadLog b) e = let k = callOf g t c named (s .state) (s .memory) in storing-no-place (firstRefusal (k .refusals)) (k .stores) (k .state) (s .state) stop (s .memory) b e
+
+-- every point of a history is as claimed
+module _ (g : Geometry) (ok : Valid g) (t : TableLengths) (wb : isValid g ≡ true) (lf : tablesFit g t ≡ true) (s : System (onDevice g t)) (o : Ok g t s) where
   pub kept : Promise g (onDevice g t) s
   kept = record {
-    look-fits = look-claim;
-    mount-fits = mount-claim;
-    mount-refused = refused-claim;
-    mount-logs-good = logs-claim;
-    pointer-is = pointer-claim;
-    look-holds = held-claim;
-    flush-accepted = flush-claim;
-    reset-refused = reset-claim;
-    write-refused = write-claim;
-    read-gives = read-claim;
-    read-accepted = read-accepted;
-    peek-gives = peek-claim;
-    peek-accepted = peek-accepted;
-    report-gives = report-claim;
+    look-fits = look-claim g ok t wb lf s o;
+    mount-fits = λ named names m stop e. mount-claim g ok t wb lf s o named names m stop (answer-heard e);
+    mount-refused = λ named names stop. only-for g t s named mounts stop (λ n. n ≡ 14) (refused-claim g ok t wb lf s o named names stop);
+    pointer-is = pointer-claim g ok t wb lf s o;
+    look-holds = held-claim g ok t wb lf s o;
+    look-serves = λ named names m. serves g ok t wb lf s o m (onDevice g t .look named (s .state) (s .memory) .state) (look-held g ok t s o named names) (held-claim g ok t wb lf s o named names m .1) named names;
+    flush-accepted = λ named names m stop. only-for g t s named flushes stop (λ n. ⊥) (flush-claim g ok t wb lf s o named names m stop);
+    reset-refused = λ named names m z stop. only-for g t s named (resets z) stop (ResetRefusal g (s .state .generation z) z) (reset-claim g ok t wb lf s o named names m z stop);
+    write-refused = λ named names m w stop. only-for g t s named (writes w) stop (WriteRefusal g (s .state .condition (zoneOf g (w .address))) w) (write-claim g ok t wb lf s o named names m w stop);
+    read-gives = λ named names m a count out bytes e.
+        let (p, q) = read-heard e in
+        let (k, b) = read-claim g ok t wb lf s o named names m a count out p in
+        (k, sym q ∙ b);
+    read-accepted = λ named names m a count out h pos len k.
+        let p = read-accepted g ok t wb lf s o named names m a count out h pos len k in
+        ap₂ readOut p (read-claim g ok t wb lf s o named names m a count out p .1);
+    peek-gives = λ named names m a from part e.
+        let (p, q, r) = peek-heard e in
+        let (k, b, c) = peek-claim g ok t wb lf s o named names m a p in
+        (k, sym q ∙ b, sym r ∙ c);
+    peek-accepted = λ named names m a h k there.
+        let p = peek-accepted g ok t wb lf s o named names m a h k there in
+        let (i, b, c) = peek-claim g ok t wb lf s o named names m a p in
+        λ j. peekedAt (p j) (b j) (c j);
+    report-gives = λ named names m list. ap reported (report-claim g ok t wb lf s o named names m list);
   }

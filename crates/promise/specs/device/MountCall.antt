@@ -4,7 +4,7 @@ use Prim.Native.Nat.{ℕ}
 use mathlib.Core.List.{List}
 use lib.ListN.{take}
 use Rattle.tables.specs.meaning.Device.{Device, Store, applyAll, Cut}
-use Rattle.tables.specs.laws.Drives.{presentBut}
+use Rattle.tables.specs.meaning.Drives.{presentBut}
 use Rattle.tables.specs.declared.Geometry.{Geometry}
 use Rattle.volume.specs.meaning.Rules.{showing}
 use Rattle.volume.specs.meaning.Roles.{roles, byRoles}

@@ -21,40 +21,40 @@ module _ (g : Geometry) (vol : Volume) (k : Caches vol) where
   caching = withCaches vol k
 
   -- the same system, with caches that remember this
-  abbrev beside : System vol → Remembered → System (withCaches vol k)
+  abbrev pub beside : System vol → Remembered → System (withCaches vol k)
   beside s was = record { memory = record { memory = s .memory; was = was }; lost = s .lost; mode = s .mode; state = s .state; ledger = s .ledger }
 
   -- ---- what is promised there is promised here: no clause speaks of what is remembered
   module _ (s : System vol) (was : Remembered) where
-    names : (named : vol .Names) → NamesAll g vol s named → NamesAll g (withCaches vol k) (beside s was) named
+    pub names : (named : vol .Names) → NamesAll g vol s named → NamesAll g (withCaches vol k) (beside s was) named
     names named n = record { drives = n .drives }
 
-    abbrev without : CallResult (WithCaches (vol .Memory)) (vol .State) → CallResult (vol .Memory) (vol .State)
+    abbrev pub without : CallResult (WithCaches (vol .Memory)) (vol .State) → CallResult (vol .Memory) (vol .State)
     without r = record { answer = r .answer; memory = r .memory .memory; state = r .state }
 
     older-promise : Promise g (withCaches vol k) (beside s was) → Promise g vol s
     older-promise p = record {
       look-fits = λ named n. let (e, f) = p .look-fits named (names named n) in (ap without e, f);
-      mount-fits = λ named n m stop e. p .mount-fits named (names named n) m stop e;
-      mount-refused = λ named n stop i e. p .mount-refused named (names named n) stop i e;
-      mount-logs-good = λ named n stop b e. p .mount-logs-good named (names named n) stop b e;
+      mount-fits = λ named n. p .mount-fits named (names named n);
+      mount-refused = λ named n. p .mount-refused named (names named n);
       pointer-is = p .pointer-is;
-      look-holds = λ named n m. let (e, z) = p .look-holds named (names named n) m in (e, record { generations = z .generations; conditions = z .conditions });
-      flush-accepted = λ named n m stop i e. p .flush-accepted named (names named n) m stop i e;
-      reset-refused = λ named n m z stop i e. p .reset-refused named (names named n) m z stop i e;
-      write-refused = λ named n m a count buffer stop i e. p .write-refused named (names named n) m a count buffer stop i e;
-      read-gives = λ named n m a count out e. p .read-gives named (names named n) m a count out e;
-      read-accepted = λ named n m a count out h i j o. p .read-accepted named (names named n) m a count out h i j o;
-      peek-gives = λ named n m a e. p .peek-gives named (names named n) m a e;
-      peek-accepted = λ named n m a h i o. p .peek-accepted named (names named n) m a h i o;
-      report-gives = λ named n m list. p .report-gives named (names named n) m list;
+      look-holds = λ named n. p .look-holds named (names named n);
+      look-serves = λ named n m. let q = p .look-serves named (names named n) m in record { reads-same = λ by k. q .reads-same by (names by k); peeks-same = λ by k. q .peeks-same by (names by k); reports-same = q .reports-same };
+      flush-accepted = λ named n. p .flush-accepted named (names named n);
+      reset-refused = λ named n. p .reset-refused named (names named n);
+      write-refused = λ named n. p .write-refused named (names named n);
+      read-gives = λ named n. p .read-gives named (names named n);
+      read-accepted = λ named n. p .read-accepted named (names named n);
+      peek-gives = λ named n. p .peek-gives named (names named n);
+      peek-accepted = λ named n. p .peek-accepted named (names named n);
+      report-gives = λ named n. p .report-gives named (names named n);
     }
 
   module _ (older : OlderCuts vol k) where
     -- ---- an event there: a cut brings nothing back
-    abbrev there : Remembered → Event vol → Event (withCaches vol k)
+    abbrev pub there : Remembered → Event vol → Event (withCaches vol k)
     there was (calls c named stop) = calls c named stop
-    there was (looks named taken) = looks named taken
+    there was (looks named) = looks named
     there was (reads named a count out) = reads named a count out
     there was (peeks named a) = peeks named a
     there was (reports list) = reports list
@@ -62,21 +62,21 @@ module _ (g : Geometry) (vol : Volume) (k : Caches vol) where
     there was (loses d m) = loses d (record { memory = m; was = was })
 
     -- what is remembered after it
-    abbrev left : System vol → Remembered → Event vol → Remembered
+    abbrev pub left : System vol → Remembered → Event vol → Remembered
     left s was e = next g (withCaches vol k) (beside s was) (there was e) .memory .was
 
     duty-there : (s : System vol) (was : Remembered) (e : Event vol) → Duty g vol s e → Duty g (withCaches vol k) (beside s was) (there was e)
     duty-there s was (calls c named stop) (n, d, f) = (names s was named n, d, f)
-    duty-there s was (looks named taken) (n, d) = (names s was named n, d)
+    duty-there s was (looks named) (n, d) = (names s was named n, d)
     duty-there s was (reads named a count out) (n, d) = (names s was named n, d)
     duty-there s was (peeks named a) (n, d) = (names s was named n, d)
     duty-there s was (reports list) d = d
     duty-there s was (cuts m) d = record { left = older (s .lost) (s .memory) was m d; forgotten = λ e z n. refl }
     duty-there s was (loses y m) (h, o, d) = (h, o, record { left = d; same = λ e z n. refl })
 
-    next-there : (s : System vol) (was : Remembered) (e : Event vol) → next g (withCaches vol k) (beside s was) (there was e) ≡ beside (next g vol s e) (left s was e)
+    pub next-there : (s : System vol) (was : Remembered) (e : Event vol) → next g (withCaches vol k) (beside s was) (there was e) ≡ beside (next g vol s e) (left s was e)
     next-there s was (calls c named stop) = refl
-    next-there s was (looks named taken) = refl
+    next-there s was (looks named) = refl
     next-there s was (reads named a count out) = refl
     next-there s was (peeks named a) = refl
     next-there s was (reports list) = refl
@@ -84,11 +84,11 @@ module _ (g : Geometry) (vol : Volume) (k : Caches vol) where
     next-there s was (loses y m) = refl
 
     -- ---- histories
-    abbrev allThere : System vol → Remembered → List (Event vol) → List (Event (withCaches vol k))
+    abbrev pub allThere : System vol → Remembered → List (Event vol) → List (Event (withCaches vol k))
     allThere s was [] = []
     allThere s was (e ∷ es) = there was e ∷ allThere (next g vol s e) (left s was e) es
 
-    dutiful-there : (s : System vol) (was : Remembered) (es : List (Event vol)) → Dutiful g vol s es → Dutiful g (withCaches vol k) (beside s was) (allThere s was es)
+    pub dutiful-there : (s : System vol) (was : Remembered) (es : List (Event vol)) → Dutiful g vol s es → Dutiful g (withCaches vol k) (beside s was) (allThere s was es)
     dutiful-there s was [] d = tt
     dutiful-there s was (e ∷ es) (d, ds) = (
       duty-there s was e d,
@@ -111,7 +111,7 @@ module _ (g : Geometry) (vol : Volume) (k : Caches vol) where
         throughout-here s (c .memory .was) es (keeps named array old stop (record { memory = m; was = λ e z. [] }) small e (allThere s (c .memory .was) es) (dutiful-there s (c .memory .was) es d))
 
 -- on the device
-device-older-cuts : (g : Geometry) (t : TableLengths) → OlderCuts (onDevice g t) (deviceCaches g t)
+pub device-older-cuts : (g : Geometry) (t : TableLengths) → OlderCuts (onDevice g t) (deviceCaches g t)
 device-older-cuts g t x v was w h = older-cut x (record { now = v; was = was }) w h
 
 pub device-keeps-the-promise : DeviceClaim

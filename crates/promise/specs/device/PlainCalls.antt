@@ -7,7 +7,7 @@ use Rattle.tables.specs.meaning.Device.{Device, applyAll}
 use Rattle.tables.specs.meaning.Phases.{onPresent, flushAll}
 use Rattle.tables.specs.meaning.Through.{carry}
 use Rattle.tables.specs.laws.Through.{carry-on-present, carry-flush-all}
-use Rattle.tables.specs.laws.Drives.{presentBut}
+use Rattle.tables.specs.meaning.Drives.{presentBut}
 use Rattle.tables.specs.declared.Geometry.{Geometry}
 use Rattle.tables.specs.meaning.Geometry.{Valid}
 use Rattle.volume.specs.meaning.State.{StateView}

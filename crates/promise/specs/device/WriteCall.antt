@@ -11,7 +11,7 @@ use Rattle.tables.specs.meaning.Basics.{pick}
 use Rattle.tables.specs.laws.Basics.{and-split}
 use Rattle.tables.specs.meaning.Device.{Device, Store, applyAll, Cut}
 use Rattle.tables.specs.meaning.Through.{carry}
-use Rattle.tables.specs.laws.Drives.{presentBut}
+use Rattle.tables.specs.meaning.Drives.{presentBut}
 use Rattle.tables.specs.declared.Geometry.{Geometry}
 use Rattle.tables.specs.meaning.Geometry.{Valid}
 use Rattle.logs.specs.meaning.Entry.{parityZone}
@@ -85,10 +85,10 @@ module _ (g : Geometry) (ok : Valid g) (x : ℕ) (v : Device) (state : StateView
     abbrev stores : List Store
     stores = writeAll g (presentBut g x) (roles g v) (byRoles g v) state z ss
 
-    write-done : SomeRests g x (applyAll stores v) (writeState x state z ss) (afterWrite l z ss)
+    write-done : SomeRests g x (applyAll stores v) (writeState x state z (length ss)) (afterWrite l z ss)
     write-done =
-        let k = kept-rests g x _ (writeState x state z ss) (afterWrite (withMarks l m) z ss) (write-emptied-rests g ok x c v state (withMarks l m) rr emptied z ss (write-empties v (λ d y. refl) rr)) in
-        rw (stores-are v (λ d y. refl)) (less-rests g x _ (writeState x state z ss) (afterWrite l z ss) m above k)
+        let k = kept-rests g x _ (writeState x state z (length ss)) (afterWrite (withMarks l m) z ss) (write-emptied-rests g ok x c v state (withMarks l m) rr emptied z ss (write-empties v (λ d y. refl) rr)) in
+        rw (stores-are v (λ d y. refl)) (less-rests g x _ (writeState x state z (length ss)) (afterWrite l z ss) m above k)
 
     write-leaves-blank : BlankSpares g x v → BlankSpares g x (applyAll stores v)
     write-leaves-blank b = rw (stores-are v (λ d y. refl)) (write-emptied-blank g ok x c v state (withMarks l m) rr emptied z ss (write-empties v (λ d y. refl) rr) b)

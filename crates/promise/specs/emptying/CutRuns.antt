@@ -16,7 +16,7 @@ use Rattle.tables.specs.laws.Device.{apply-all-append}
 use Rattle.tables.specs.laws.Local.{LocalStore, flushHere, localStores, local-append}
 use Rattle.tables.specs.meaning.Cached.{Caching, uncached, applyAllCaching}
 use Rattle.tables.specs.laws.Cached.{caching-append, rememberHere}
-use Rattle.tables.specs.laws.Drives.{presentBut}
+use Rattle.tables.specs.meaning.Drives.{presentBut}
 use Rattle.tables.specs.declared.Geometry.{Geometry}
 use Rattle.volume.specs.meaning.Calls.{flushStores}
 use Rattle.promise.specs.invariant.Invariant.{Here}

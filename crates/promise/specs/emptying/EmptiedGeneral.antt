@@ -32,9 +32,12 @@ use Rattle.volume.specs.meaning.State.{setAt, StateView}
 use Rattle.volume.specs.declared.Condition.{Condition}
 use Rattle.volume.specs.declared.Condition.the-variants.{Empty, Open, Sealed, Worn}
 use Rattle.promise.specs.meaning.Ledger.{Ledger}
-use Rattle.promise.specs.invariant.Invariant.{Ghost, Here, LogsOk, LabelFits, LogGenerations, Live, Dying, Inv, Plain, Shape, Rest, said, factsOf, Said, LoggedIn, resetLasts, countsPast, SealSpent, survives-still}
+use Rattle.promise.specs.invariant.Invariant.{Ghost, Here, LogsOk, LastNames, LogGenerations, Live, Dying, Inv, Plain, Shape, Rest, said, factsOf, Said, LoggedIn, resetLasts, countsPast, SealSpent, survives-still}
 use Rattle.promise.specs.invariant.SaidMoves.{Moves, HeadJoins, EntryJoins, Was, was-self, always-of, live-moves, dying-moves, moves-capped, said-sure}
 use Rattle.promise.specs.look.InForce.{InForce}
+use Rattle.promise.specs.invariant.LastLabels.{last-names}
+use Rattle.logs.specs.laws.CopiesSay.{copy-lost}
+use Rattle.tables.specs.meaning.Drives.{noDrive}
 
 -- the new log of a drive whose general log held hs: the copies, and the closing entry of generation n
 abbrev pub generalLog : Geometry → (ℕ → ℕ) → List Header → ℕ → List Header
@@ -78,8 +81,7 @@ module _ (g : Geometry) (ok : Valid g) (x d : ℕ) (hd : Here g x d) (v : Device
   label-array : (y a : ℕ) → List·Memᴰ (label y a) hs → arrayFor hs a ≡ a
   label-array y a m =
       let (u, t, q) = lg .first d hd in
-      let (p, e) = lg .labels d hd y a m in
-      array-for hs a (rw q refl) (rw (q, ← e) refl)
+      array-for hs a (rw q refl) (rw (q, ← lg .arrays d hd y a m) refl)
 
   pub copy-of : (h : Header) → List·Memᴰ h (copiedGeneral g gens cs hs) → Copied g gens cs hs h
   copy-of = copied-of g gens cs hs seal-most label-array
@@ -101,8 +103,7 @@ module _ (g : Geometry) (ok : Valid g) (x d : ℕ) (hd : Here g x d) (v : Device
           let b : lastLost y t ≡ 1 = rw q at (f 1) in
           absurd (omega (arith, a, b))
       go (aLabel y c e m f) q =
-          let (p, r) = lg .labels d hd y c m in
-          let s : arrayFor hs c ≡ γ .array = label-array y c m ∙ r in
+          let s : arrayFor hs c ≡ γ .array = label-array y c m ∙ lg .arrays d hd y c m in
           (y, counters cs ∷ (keptSeals g gens hs ++ keptResets g gens hs), rw (e, s) refl)
 
   -- its counters are those in force
@@ -154,10 +155,17 @@ module _ (g : Geometry) (ok : Valid g) (x d : ℕ) (v w : Device) (γ : Ghost) (
   copied-reads h (inl c) = copy-reads g ok x d (cp .present) v γ lg gens (cp .small) h c
   copied-reads h (inr e) = rw e (reads g ok d false (closing 0 n) (omega arith, generation-small n (cp .top)) (rw (lt-ltb 0 n (cp .some)) refl))
 
-  copied-labels : (y a : ℕ) → CopiedHere (label y a) → LabelFits x (γ .array) y a
-  copied-labels y a (inl (kept m c)) = lg .labels d (cp .present) y a m
-  copied-labels y a (inl (counted e)) = absurd (let o : _≡_ {A = ℕ} 0 1 = cc in omega arith)
-  copied-labels y a (inr e) = absurd (let o : _≡_ {A = ℕ} 0 1 = cc in omega arith)
+  copied-arrays : (y a : ℕ) → CopiedHere (label y a) → a ≡ γ .array
+  copied-arrays y a (inl (kept m c)) = lg .arrays d (cp .present) y a m
+  copied-arrays y a (inl (counted e)) = absurd (let o : _≡_ {A = ℕ} 0 1 = cc in omega arith)
+  copied-arrays y a (inr e) = absurd (let o : _≡_ {A = ℕ} 0 1 = cc in omega arith)
+
+  -- its last label is the log's
+  copied-names : LastNames x (length copy) copy
+  copied-names j q =
+      let t : take j copy ≡ copy = take-all j copy q in
+      let e : lastLost noDrive copy ≡ lastLost noDrive (γ .general d) = copy-lost g gens (generationsFrom gens zero (g .zones)) (γ .general d) n noDrive in
+      rw (t, e) (last-names x (v d generalZone .durable) (γ .general d) (lg .labels d (cp .present)))
 
   copied-closes : (k m : ℕ) → CopiedHere (closing k m) → m ≡ n
   copied-closes k m (inl (kept o c)) = absurd (c k m refl)
@@ -182,7 +190,8 @@ module _ (g : Geometry) (ok : Valid g) (x d : ℕ) (v w : Device) (γ : Ghost) (
     general-reads = λ e a. by-drive e (λ hs z. (h : Header) → List·Memᴰ h hs → Reads g e false h) a (λ r h m. rw r (copied-reads h (of h m))) (λ r. lg .general-reads e a);
     first = λ e a. by-drive e (λ hs z. (y : ℕ) × (t : List Header) × (hs ≡ label y (γ .array) ∷ t)) a (λ r. begins) (λ r. lg .first e a);
     first-lasts = λ e a. by-drive e (λ hs z. 1 ≤ z .durable) a (λ r. begins-long) (λ r. lg .first-lasts e a);
-    labels = λ e a. by-drive e (λ hs z. (y b : ℕ) → List·Memᴰ (label y b) hs → LabelFits x (γ .array) y b) a (λ r y b m. copied-labels y b (of (label y b) m)) (λ r. lg .labels e a);
+    arrays = λ e a. by-drive e (λ hs z. (y b : ℕ) → List·Memᴰ (label y b) hs → b ≡ γ .array) a (λ r y b m. copied-arrays y b (of (label y b) m)) (λ r. lg .arrays e a);
+    labels = λ e a. by-drive e (λ hs z. LastNames x (z .durable) hs) a (λ r. copied-names) (λ r. lg .labels e a);
     general-closes = λ e a k m. closes e a k m (ℕ-discrete e d);
     general-closed = λ e a. shut e a (ℕ-discrete e d);
     parity-closes = lg .parity-closes;

@@ -12,7 +12,7 @@ use borrow.Author.Tests.{eq-eqb, ne-eqb}
 use Rattle.tables.specs.meaning.Lists.{anyOf}
 use Rattle.tables.specs.laws.Lists.{any-of-some, some-any-of, mem-left, mem-append, mem-nil}
 use Rattle.tables.specs.meaning.Device.{Device}
-use Rattle.tables.specs.laws.Drives.{presentBut}
+use Rattle.tables.specs.meaning.Drives.{presentBut}
 use Rattle.tables.specs.declared.Geometry.{Geometry}
 use Rattle.tables.specs.meaning.Geometry.{Valid, dataZone}
 use Rattle.logs.specs.meaning.Entry.{parityZone, Header, counters, zoneReset, seal, closing}

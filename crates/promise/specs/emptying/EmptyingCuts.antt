@@ -19,7 +19,7 @@ use Rattle.logs.specs.meaning.Entry.{Header, label, counters, zoneReset, partia
 use Rattle.logs.specs.meaning.Heads.{firstClosing}
 use Rattle.logs.specs.laws.Walk.{Reads}
 use Rattle.logs.specs.laws.Closing.{first-closing-is}
-use Rattle.volume.specs.meaning.Roles.{claim, strength, Roles, zoneOfRole, emptiedRoles}
+use Rattle.volume.specs.meaning.Roles.{zoneClaim, strength, Roles, zoneOfRole, emptiedRoles}
 use Rattle.volume.specs.laws.Claims.{Claims, blank-strength}
 use Rattle.volume.specs.laws.Firm.{Proper, Firm, proper-apart}
 use Rattle.promise.specs.invariant.Invariant.{Ghost, Here, LogsOk}
@@ -56,20 +56,20 @@ module _ (g : Geometry) (d : ℕ) (hs : List Header) (rd : (h : Header) → List
   reads-of : (k : ℕ) (h : Header) → List·Memᴰ h (take k hs) → Reads g d false h
   reads-of k h o = rd h (mem-take k hs h o)
 
-  front-general : (k : ℕ) → claim g d false (take k (map (encode g d) hs)) ≡ firstClosing (take k hs)
+  front-general : (k : ℕ) → zoneClaim g d false (take k (map (encode g d) hs)) ≡ firstClosing (take k hs)
   front-general k = rw (take-map (encode g d) k hs) (general-claims g d (take k hs) (reads-of k) (few k))
 
-  front-parity : (k : ℕ) → claim g d true (take k (map (encode g d) hs)) ≡ 0
+  front-parity : (k : ℕ) → zoneClaim g d true (take k (map (encode g d) hs)) ≡ 0
   front-parity k = rw (take-map (encode g d) k hs) (general-claims-none g d (take k hs) (reads-of k))
 
   -- without closing entries: nothing
-  pub open-claims : ((k n : ℕ) → List·Memᴰ (closing k n) hs → ⊥) → (k : ℕ) (par : Bool) → claim g d par (take k (map (encode g d) hs)) ≡ 0
+  pub open-claims : ((k n : ℕ) → List·Memᴰ (closing k n) hs → ⊥) → (k : ℕ) (par : Bool) → zoneClaim g d par (take k (map (encode g d) hs)) ≡ 0
   open-claims c k true = front-parity k
   open-claims c k false = front-general k ∙ first-closing-is (take k hs) 0 (λ j n m. absurd (c j n (mem-take k hs (closing j n) m))) (λ e. absurd (omega (arith, e)))
 
 -- UNTIL THE CLOSING ENTRY: whatever the spare holds claims nothing (w: v with that there)
 pub old-firm : (g : Geometry) (v w : Device) (d : ℕ) (r : Roles) → Firm g v d r → w d (r .general) ≡ v d (r .general) → w d (r .parity) ≡ v d (r .parity)
-    → ((k : ℕ) (par : Bool) → claim g d par (take k (w d (r .spare) .sectors)) ≡ 0) → Firm g w d r
+    → ((k : ℕ) (par : Bool) → zoneClaim g d par (take k (w d (r .spare) .sectors)) ≡ 0) → Firm g w d r
 unfolding strength
 old-firm g v w d r f eg ep none = record {
   proper = f .proper;

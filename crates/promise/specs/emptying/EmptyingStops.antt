@@ -1,7 +1,7 @@
 -- The stores of an emptying, of either log, stopped after any number of them, then any cut. Inside its first flush nothing has changed but what is
 -- durable. From that flush on a cut leaves all as it was but a beginning of the new log in drive d's spare; or all of the new log, and the old zone
 -- as it was or blank (LeftBy). (v: the device at the first flush's end, so all on the present drives is durable; ss: the new log's sectors.)
-use mathlib.Core.Path.{_≡_, refl, sym, ap, _∙_}
+use mathlib.Core.Path.{_≡_, refl, sym, ap, _∙_, subst}
 use mathlib.Core.Logic.{_≢_, _⊎_, inl, inr}
 use mathlib.Core.Bool.{Bool, true, false, _&&_}
 use Prim.Native.Nat.{ℕ, suc, _+_, _-_, _≤_, _<_, min}
@@ -19,7 +19,8 @@ use Rattle.tables.specs.laws.Device.{cut-at, apply-all-append}
 use Rattle.tables.specs.laws.Local.{LocalStore, appendHere, resetHere, flushHere, applyAllHere, localStores, local-append, local-is, local-take, appends-here}
 use Rattle.tables.specs.meaning.Phases.{flushAll}
 use Rattle.tables.specs.laws.Phases.{on-present-local, flush-all-local}
-use Rattle.tables.specs.laws.Drives.{presentBut, present-below, present-not}
+use Rattle.tables.specs.meaning.Drives.{presentBut}
+use Rattle.tables.specs.laws.Drives.{present-below, present-not}
 use Rattle.tables.specs.declared.Geometry.{Geometry}
 use Rattle.volume.specs.meaning.Calls.{appendAll, flushStores}
 use Rattle.volume.specs.meaning.Emptying.{emptyingStores}
@@ -39,6 +40,13 @@ solid-cut a b c h =
 -- all of the present drives is durable
 abbrev pub Solid : Geometry → ℕ → Device → Type 0
 Solid g x v = (e y : ℕ) → Here g x e → v e y .durable ≡ length (v e y .sectors)
+
+-- what a cut leaves of the present drives
+abbrev pub CutHere : Geometry → ℕ → Device → Device → Type 0
+CutHere g x v w = (e y : ℕ) → Here g x e → ZoneCut (v e y) (w e y)
+
+pub cut-here : (g : Geometry) (x : ℕ) (v w : Device) → Cut x v w → CutHere g x v w
+cut-here g x v w c e y a = cut-at x v w c e y (present-not g x e a)
 
 -- ---- what a zone sees of appends to one
 appends-elsewhere : (d y e z : ℕ) (ss : List (List ℕ)) → (e ≢ d) ⊎ (z ≢ y) → localStores e z (appendAll d y ss) ≡ []
@@ -101,22 +109,19 @@ module _ (g : Geometry) (x : ℕ) (v : Device) (solid : Solid g x v) (d : ℕ) (
   weaken e y (inr o) = (inr (o .0), inr (o .1))
 
   -- no more than the second flush was reached
-  module _ (k : ℕ) (w : Device) (c : Cut x (applyAll (take k (A ++ B)) v) w) where
-    cut-of : (e y : ℕ) → Here g x e → ZoneCut (applyAll (take k (A ++ B)) v e y) (w e y)
-    cut-of e y a = cut-at x (applyAll (take k (A ++ B)) v) w c e y (present-not g x e a)
-
+  module _ (k : ℕ) (w : Device) (c : CutHere g x (applyAll (take k (A ++ B)) v) w) where
     others : (e y : ℕ) → Here g x e → (e ≢ d) ⊎ (y ≢ spare) → w e y ≡ v e y
     others e y a n =
         let p : Prefix (localStores e y (take k (A ++ B))) (flushHere ∷ []) = rw (sees-AB e y a n) at (local-take e y k (A ++ B)) in
         let s : applyAll (take k (A ++ B)) v e y ≡ v e y = local-is e y (take k (A ++ B)) v ∙ still e y a (localStores e y (take k (A ++ B))) (prefix-one flushHere (localStores e y (take k (A ++ B))) p) in
-        solid-cut (v e y) (w e y) (rw s at (cut-of e y a)) (solid e y a)
+        solid-cut (v e y) (w e y) (rw s at (c e y a)) (solid e y a)
 
     left-early : LeftBy g x v w d old spare ss
     left-early =
         let p : Prefix (localStores d spare (take k (A ++ B))) (map appendHere ss ++ (flushHere ∷ [])) = rw own-AB at (local-take d spare k (A ++ B)) in
         let (m, t) = part-of ss (localStores d spare (take k (A ++ B))) (v d spare) p in
         let s : applyAll (take k (A ++ B)) v d spare .sectors ≡ take m ss = ap (λ (z : ZoneView). z .sectors) (local-is d spare (take k (A ++ B)) v) ∙ t ∙ rw blank refl in
-        go m s (cut-of d spare hd)
+        go m s (c d spare hd)
       where
         go : (m : ℕ) → applyAll (take k (A ++ B)) v d spare .sectors ≡ take m ss → ZoneCut (applyAll (take k (A ++ B)) v d spare) (w d spare) → LeftBy g x v w d old spare ss
         go m s z =
@@ -183,20 +188,20 @@ module _ (g : Geometry) (x : ℕ) (v : Device) (solid : Solid g x v) (d : ℕ) (
       go (yes p) (no q) (yes r) = rw (p, r, whole-old) refl
       go (yes p) (no q) (no r) = rw (whole-other e y a (inr (q, r))) (solid e y a)
 
-  module _ (w : Device) (c : Cut x (applyAll ((A ++ B) ++ C) v) w) where
+  module _ (w : Device) (c : CutHere g x (applyAll ((A ++ B) ++ C) v) w) where
     left-late : LeftBy g x v w d old spare ss
     left-late = all (λ e y a o. at e y a (v e y) (whole-other e y a o) (solid e y a)) (at d spare hd (record { sectors = ss; durable = length ss }) whole-spare refl) (inr (at d old hd blankZone whole-old refl))
       where
         at : (e y : ℕ) → Here g x e → (b : ZoneView) → applyAll ((A ++ B) ++ C) v e y ≡ b → b .durable ≡ length (b .sectors) → w e y ≡ b
-        at e y a b s h = solid-cut b (w e y) (rw s at (cut-at x (applyAll ((A ++ B) ++ C) v) w c e y (present-not g x e a))) h
+        at e y a b s h = solid-cut b (w e y) (rw s at (c e y a)) h
 
   -- WHEREVER IT IS STOPPED, WHATEVER A CUT KEEPS
-  pub emptying-left : (k : ℕ) (w : Device) → Cut x (applyAll (take k (afterFirstFlush g x d old spare ss)) v) w → LeftBy g x v w d old spare ss
+  pub emptying-left : (k : ℕ) (w : Device) → CutHere g x (applyAll (take k (afterFirstFlush g x d old spare ss)) v) w → LeftBy g x v w d old spare ss
   emptying-left k w c = go (decLt (length (A ++ B)) k)
     where
       go : Dec (length (A ++ B) < k) → LeftBy g x v w d old spare ss
-      go (no h) = left-early k w (rw (take-append-le k (A ++ B) C (omega (arith, h))) at c)
-      go (yes h) = left-late w (rw (take-all k ((A ++ B) ++ C) (rw length-append (omega (arith, h)))) at c)
+      go (no h) = left-early k w (subst (λ (xs : List Store). CutHere g x (applyAll xs v) w) (take-append-le k (A ++ B) C (omega (arith, h))) c)
+      go (yes h) = left-late w (subst (λ (xs : List Store). CutHere g x (applyAll xs v) w) (take-all k ((A ++ B) ++ C) (rw length-append (omega (arith, h)))) c)
 
 -- ---- where the first flush ends
 pub emptying-is : (g : Geometry) (x d old spare : ℕ) (ss : List (List ℕ)) → emptyingStores g (presentBut g x) d old spare ss ≡ flushStores g (presentBut g x) ++ afterFirstFlush g x d old spare ss

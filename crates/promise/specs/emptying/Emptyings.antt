@@ -15,11 +15,11 @@ use Rattle.tables.specs.meaning.Basics.{pick}
 use Rattle.tables.specs.meaning.Below.{eachBelow}
 use Rattle.tables.specs.meaning.Device.{ZoneView, Device, Store, applyAll, Cut}
 use Rattle.tables.specs.laws.Device.{apply-all-append}
-use Rattle.tables.specs.laws.Drives.{presentBut}
+use Rattle.tables.specs.meaning.Drives.{presentBut}
 use Rattle.tables.specs.declared.Geometry.{Geometry}
 use Rattle.logs.specs.meaning.Entry.{spareZone, kindOfLog}
 use Rattle.volume.specs.meaning.Calls.{flushStores}
-use Rattle.volume.specs.meaning.Roles.{roles, byRoles, zoneOfKind, emptiedRoles, rolesAfter}
+use Rattle.volume.specs.meaning.Roles.{Roles, roles, byRoles, zoneOfKind, emptiedRoles, rolesAfter}
 use Rattle.volume.specs.meaning.Emptying.{emptyingStores, emptyings}
 use Rattle.promise.specs.invariant.Invariant.{Here}
 use Rattle.promise.specs.emptying.EmptyingStops.{Solid, afterFirstFlush, StoppedAt, inFlush, behindFlush, stopped-at, emptying-whole}
@@ -32,6 +32,14 @@ SameSectors v w d = (y : ℕ) → w d y .sectors ≡ v d y .sectors
 -- of one drive, behind the first flush: the stores, by the roles at the call's start
 abbrev pub restOf : Geometry → ℕ → Bool → Device → (ℕ → List (List ℕ)) → ℕ → List Store
 restOf g x par v ss d = afterFirstFlush g x d (zoneOfKind par (roles g v d)) (roles g v d .spare) (ss d)
+
+-- of each drive, its emptying, or none (r: the drives' roles)
+abbrev pub emptyingOf : Geometry → ℕ → Bool → (ℕ → Roles) → (ℕ → Bool) → (ℕ → List (List ℕ)) → ℕ → List Store
+emptyingOf g x par r emptied ss d = pick (emptied d) (emptyingStores g (presentBut g x) d (zoneOfKind par (r d)) (r d .spare) (ss d)) []
+
+-- the device at the end of the first flush of drive d's emptying
+abbrev pub atFlush : Geometry → ℕ → Bool → (ℕ → Roles) → (ℕ → Bool) → (ℕ → List (List ℕ)) → Device → ℕ → Device
+atFlush g x par r emptied ss v d = flushedAll g x (applyAll (eachBelow (emptyingOf g x par r emptied ss) d) v)
 
 -- what is known of it (u: the device at that flush's end; new: the new log's sectors; xs: these stores)
 pub record OneDrive (g : Geometry) (x : ℕ) (par : Bool) (v : Device) (Held Left : Device → Type 0) (d : ℕ) (u : Device) (new : List (List ℕ)) (xs : List Store) : Type 0 where
@@ -169,6 +177,13 @@ module _ (g : Geometry) (x : ℕ) (par : Bool) (v : Device) (ss : ℕ → List (
       go : (b : Bool) → emptied m ≡ b → Below m (applyAll (eachBelow one m) v) → Below (suc m) (applyAll (one m) (applyAll (eachBelow one m) v))
       go true b p = drive-done m h b (applyAll (eachBelow one m) v) p
       go false b p = subst (λ (xs : List Store). Below (suc m) (applyAll xs (applyAll (eachBelow one m) v))) (sym (one-none m b)) (skip m (applyAll (eachBelow one m) v) b p)
+
+  -- AT THE END OF THE FIRST FLUSH OF DRIVE d's
+  pub flush-held : (d : ℕ) → d < g .drives → emptied d ≡ true → Held (atFlush g x par (roles g v) emptied ss v d) × SameSectors v (atFlush g x par (roles g v) emptied ss v d) d
+  flush-held d hd b =
+      let u = applyAll (eachBelow one d) v in
+      let p = below d (omega (arith, hd)) in
+      (begun d hd b u p, λ y. flush-sectors g x u d y (here d hd b u p) ∙ p .left d (here d hd b u p) (inl (le-refl d)) y)
 
   stopped-below : (m : ℕ) → m ≤ g .drives → (k : ℕ) (w : Device) → Cut x (applyAll (take k (eachBelow one m)) v) w → Left w
   stopped-below zero h k w cut = in-first 0 w (subst (λ (xs : List Store). Cut x (applyAll xs v) w) (take-nil k) cut)

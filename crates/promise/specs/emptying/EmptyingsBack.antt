@@ -19,7 +19,7 @@ use Rattle.tables.specs.laws.Device.{apply-all-append}
 use Rattle.tables.specs.meaning.Cached.{Caching, applyAllCaching}
 use Rattle.tables.specs.laws.Cached.{caching-append, now-is, was-is, rememberHere, remember-append}
 use Rattle.tables.specs.laws.Local.{LocalStore, resetHere, localStores, local-append, local-is, applyAllHere}
-use Rattle.tables.specs.laws.Drives.{presentBut}
+use Rattle.tables.specs.meaning.Drives.{presentBut}
 use Rattle.tables.specs.declared.Geometry.{Geometry}
 use Rattle.volume.specs.meaning.Calls.{appendAll, flushStores}
 use Rattle.volume.specs.meaning.Roles.{Roles, roles, zoneOfKind, emptiedRoles}

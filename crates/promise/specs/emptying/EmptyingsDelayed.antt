@@ -16,14 +16,15 @@ use Rattle.tables.specs.meaning.Basics.{pick}
 use Rattle.tables.specs.laws.Basics.{and-split}
 use Rattle.tables.specs.meaning.Below.{eachBelow}
 use Rattle.tables.specs.laws.Lists.{Prefix, prefix-refl, prefix-trans, prefix-take, prefix-append, prefix-under, prefix-one, prefix-is-take, mem-nil}
-use Rattle.tables.specs.meaning.Device.{ZoneView, Device, Store, reset, flush, blankZone, applyAll, Cut}
+use Rattle.tables.specs.meaning.Device.{ZoneView, Device, Store, reset, blankZone, applyAll, Cut}
 use Rattle.tables.specs.laws.Device.{apply-all-append}
 use Rattle.tables.specs.laws.Local.{LocalStore, appendHere, resetHere, flushHere, applyAllHere, localStores, local-is, local-append, local-take, NoReset}
 use Rattle.tables.specs.meaning.Cached.{Caching, uncached, applyAllCaching}
 use Rattle.tables.specs.laws.Cached.{caching-append, now-is, was-is, rememberHere}
 use Rattle.tables.specs.meaning.Phases.{flushAll}
 use Rattle.tables.specs.laws.Phases.{flush-all-local, on-present-local}
-use Rattle.tables.specs.laws.Drives.{presentBut, present-below}
+use Rattle.tables.specs.meaning.Drives.{presentBut}
+use Rattle.tables.specs.laws.Drives.{present-below}
 use Rattle.tables.specs.declared.Geometry.{Geometry}
 use Rattle.volume.specs.meaning.Calls.{appendAll, flushStores}
 use Rattle.volume.specs.meaning.Roles.{Roles, zoneOfKind}
@@ -198,7 +199,7 @@ module _ (g : Geometry) (x : ℕ) (d old spare : ℕ) (ss : List (List ℕ)) whe
     pub is : t ≡ applyAll part u
     pub solid : Solid g x t
 
-  late-is : (u t : Device) → Delayed g x u ((A ++ B) ++ C) t → LateIs u t
+  pub late-is : (u t : Device) → Delayed g x u ((A ++ B) ++ C) t → LateIs u t
   late-is u t k =
       let f = no-resets-forget g x u (A ++ B) no-reset-AB in
       go (reset-delayed g x (applyAll (A ++ B) u) d old t (delayed-append g x u (A ++ B) C t f k))
@@ -208,7 +209,7 @@ module _ (g : Geometry) (x : ℕ) (d old spare : ℕ) (ss : List (List ℕ)) whe
       go (inr q) = record { part = (A ++ B) ++ C; of = prefix-refl ((A ++ B) ++ C); is = q ∙ sym (apply-all-append (A ++ B) C u); solid = rw q (solid-reset (applyAll (A ++ B) u) (solid-AB u)) }
 
   -- any part of it
-  behind-is : (u : Device) (j : ℕ) (t : Device) → Delayed g x u (take j (afterFirstFlush g x d old spare ss)) t → (zs : List Store) × Prefix zs (afterFirstFlush g x d old spare ss) × (t ≡ applyAll zs u)
+  pub behind-is : (u : Device) (j : ℕ) (t : Device) → Delayed g x u (take j (afterFirstFlush g x d old spare ss)) t → (zs : List Store) × Prefix zs (afterFirstFlush g x d old spare ss) × (t ≡ applyAll zs u)
   behind-is u j t k = go (decLt (length (A ++ B)) j)
     where
       go : Dec (length (A ++ B) < j) → (zs : List Store) × Prefix zs ((A ++ B) ++ C) × (t ≡ applyAll zs u)

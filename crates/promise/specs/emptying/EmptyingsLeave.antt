@@ -16,7 +16,7 @@ use Rattle.tables.specs.meaning.Below.{eachBelow}
 use Rattle.tables.specs.meaning.Device.{ZoneView, Device, Store, reset, blankZone, applyAll}
 use Rattle.tables.specs.laws.Device.{apply-all-append, put-zone-same}
 use Rattle.tables.specs.laws.Local.{LocalStore, resetHere, applyAllHere, localStores, local-is}
-use Rattle.tables.specs.laws.Drives.{presentBut}
+use Rattle.tables.specs.meaning.Drives.{presentBut}
 use Rattle.tables.specs.declared.Geometry.{Geometry}
 use Rattle.volume.specs.meaning.Calls.{appendAll, flushStores}
 use Rattle.volume.specs.meaning.Roles.{Roles, zoneOfKind}

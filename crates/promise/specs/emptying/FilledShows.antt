@@ -14,7 +14,8 @@ use Rattle.tables.specs.laws.Lists.{prefix-length}
 use Rattle.tables.specs.laws.Greatest.{greatest-all, greatest-max}
 use Rattle.tables.specs.meaning.Device.{Device}
 use Rattle.tables.specs.meaning.Placement.{needed}
-use Rattle.tables.specs.laws.Drives.{presentBut, present-below}
+use Rattle.tables.specs.meaning.Drives.{presentBut}
+use Rattle.tables.specs.laws.Drives.{present-below}
 use Rattle.tables.specs.declared.Geometry.{Geometry}
 use Rattle.tables.specs.meaning.Geometry.{Valid, stripeSectors, zoneSectors, dataZone}
 use Rattle.logs.specs.meaning.Entry.{Header, partialParity, seal, zoneReset, Entry}

@@ -18,8 +18,8 @@ use Rattle.tables.specs.meaning.Phases.{onPresent, flushAll}
 use Rattle.tables.specs.laws.Phases.{on-present-local, flush-all-local}
 use Rattle.tables.specs.meaning.Through.{carry}
 use Rattle.tables.specs.laws.Through.{carry-on-present, carry-flush-all}
-use Rattle.tables.specs.meaning.Drives.{noDrive}
-use Rattle.tables.specs.laws.Drives.{presentBut, present-below, present-not}
+use Rattle.tables.specs.meaning.Drives.{noDrive, presentBut}
+use Rattle.tables.specs.laws.Drives.{present-below, present-not}
 use Rattle.tables.specs.declared.Geometry.{Geometry}
 use Rattle.tables.specs.meaning.Geometry.{Valid}
 use Rattle.logs.specs.meaning.Entry.{spareZone}

@@ -13,7 +13,7 @@ use lib.Dec.{eqb}
 use Rattle.tables.specs.meaning.Basics.{pick}
 use Rattle.tables.specs.laws.Lists.{take-map, length-map, map-append, mem-take}
 use Rattle.tables.specs.meaning.Device.{ZoneView, Device, Store, applyAll, Cut}
-use Rattle.tables.specs.laws.Drives.{presentBut}
+use Rattle.tables.specs.meaning.Drives.{presentBut}
 use Rattle.tables.specs.declared.Geometry.{Geometry}
 use Rattle.tables.specs.meaning.Geometry.{Valid}
 use Rattle.logs.specs.meaning.Entry.{generalZone, spareZone, wornGeneration, Header, closing, encode}
@@ -22,7 +22,7 @@ use Rattle.logs.specs.laws.Copies.{Copied, copied-open}
 use Rattle.volume.specs.meaning.Calls.{appendAll, generationsFrom, flushStores}
 use Rattle.volume.specs.meaning.State.{StateView}
 use Rattle.volume.specs.meaning.Rules.{generalHeads}
-use Rattle.volume.specs.meaning.Roles.{claim, Roles, roles, byRoles, emptiedRoles, rolesAfter}
+use Rattle.volume.specs.meaning.Roles.{zoneClaim, Roles, roles, byRoles, emptiedRoles, rolesAfter}
 use Rattle.volume.specs.meaning.Emptying.{InForce, generalCopies, newGeneral, newGeneralSize}
 use Rattle.volume.specs.laws.Firm.{proper-apart, firm-roles}
 use Rattle.promise.specs.meaning.Ledger.{Ledger}
@@ -31,7 +31,7 @@ use Rattle.promise.specs.look.LookReads.{general-heads}
 use Rattle.promise.specs.roles.Roled.{Standing}
 use Rattle.promise.specs.roles.RoledCalls.{RoledInvs, RoledRests}
 use Rattle.promise.specs.emptying.AskedSame.{NamedBut, ShowsSame}
-use Rattle.promise.specs.emptying.EmptyingStops.{LeftBy, part, all, Solid, afterFirstFlush, emptying-left, emptying-solid, whole-other, whole-spare, whole-old, early-other, early-spare}
+use Rattle.promise.specs.emptying.EmptyingStops.{LeftBy, part, all, Solid, afterFirstFlush, emptying-left, emptying-solid, whole-other, whole-spare, whole-old, early-other, early-spare, cut-here}
 use Rattle.promise.specs.emptying.CanEmpty.{CanEmptyLog}
 use Rattle.promise.specs.emptying.Forced.{Forced, forced-force, force-forced, forced-small}
 use Rattle.promise.specs.emptying.EmptiedGeneral.{generalLog, newGeneration, emptiedGhost, Copyable, copy-of, copy-reads, emptied-logs}
@@ -119,7 +119,7 @@ module _ (g : Geometry) (ok : Valid g) (x : ℕ) (v : Device) (γ : Ghost) (s : 
       let n : length ss ≡ length front + 1 = length-map (encode g d) copy ∙ length-append front (closing 0 (s .roles d .generalClaim) ∷ []) in
       take-map (encode g d) m copy ∙ ap (map (encode g d)) (take-append-le m front (closing 0 (s .roles d .generalClaim) ∷ []) (omega (arith, n, h)))
 
-  part-silent : (m k : ℕ) (par : Bool) → claim g d par (take k (map (encode g d) (take m front))) ≡ 0
+  part-silent : (m k : ℕ) (par : Bool) → zoneClaim g d par (take k (map (encode g d) (take m front))) ≡ 0
   part-silent m k par = open-claims g d (take m front) (λ h o. copy-reads g ok x d hd (byRoles g v) γ (i .logs) gens small h (of h o)) (rw length-take (omega (arith, long))) unclosed k par
     where
       of : (h : Header) → List·Memᴰ h (take m front) → Copied g gens (generationsFrom gens zero (g .zones)) (γ .general d) h
@@ -159,9 +159,13 @@ module _ (g : Geometry) (ok : Valid g) (x : ℕ) (v : Device) (γ : Ghost) (s : 
     left-shows (inl k) y by z hz = filling-shows g ok x v (γ .closed) s d hd w k γ (i .logs) y by z
     left-shows (inr k) y by z hz = swapped-shows g ok x v γ s (i .logs) d gens copyable w k l (i .zones) y by z hz
 
+  -- WHAT IS LEFT of the drive's two zones, the others being as they were: the invariant, and every look shows the same
+  pub general-left : (w : Device) → LeftBy g x v w d (roles g v d .general) (roles g v d .spare) (newGeneralOf g f v d) → ((e : LogGenerations) × RoledInvs e g x w l) × ((y : ℕ) → NamedBut g x y → (z : ℕ) → z < g .zones → ShowsSame g (presentBut g y) (byRoles g v) (byRoles g w) z)
+  general-left w h = let k = left-by w (rw (sectors-are, roles-is d hd) at h) in (by-left w k, left-shows w k)
+
   -- STOPPED AND CUT
   stopped-left : (k : ℕ) (w : Device) → Cut x (applyAll (take k (generalRest g x f v d)) v) w → Left w
-  stopped-left k w c = left-by w (emptying-left g x v solid d hd (s .roles d .general) (s .roles d .spare) apart blank ss k w (rw stores-are at c))
+  stopped-left k w c = left-by w (emptying-left g x v solid d hd (s .roles d .general) (s .roles d .spare) apart blank ss k w (cut-here g x (applyAll (take k stores) v) w (rw stores-are at c)))
 
   pub general-stopped : (k : ℕ) (w : Device) → Cut x (applyAll (take k (generalRest g x f v d)) v) w → (e : LogGenerations) × RoledInvs e g x w l
   general-stopped k w c = by-left w (stopped-left k w c)

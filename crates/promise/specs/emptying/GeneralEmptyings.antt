@@ -11,7 +11,8 @@ use lib.ListN.{take}
 use borrow.Author.Tests.{eq-eqb}
 use Rattle.tables.specs.meaning.Device.{ZoneView, Device, Store, applyAll, Cut}
 use Rattle.tables.specs.meaning.Cached.{applyAllCaching}
-use Rattle.tables.specs.laws.Drives.{presentBut, present-below}
+use Rattle.tables.specs.meaning.Drives.{presentBut}
+use Rattle.tables.specs.laws.Drives.{present-below}
 use Rattle.tables.specs.declared.Geometry.{Geometry}
 use Rattle.tables.specs.meaning.Geometry.{Valid}
 use Rattle.logs.specs.meaning.Entry.{generalZone, spareZone, Header, Entry}
@@ -27,16 +28,16 @@ use Rattle.promise.specs.invariant.Delayed.{PutBack}
 use Rattle.promise.specs.roles.Roled.{Standing}
 use Rattle.promise.specs.roles.RoledCalls.{RoledInvs, RoledRests}
 use Rattle.promise.specs.emptying.AskedSame.{NamedBut, ShowsSame, shows-trans}
-use Rattle.promise.specs.emptying.EmptyingStops.{Solid, afterFirstFlush}
-use Rattle.promise.specs.emptying.FlushedRests.{roles-same, sectors-seen, flushedAll, flush-sectors, flushed-rests, flushed-invs, flushed-cut, same-invs}
+use Rattle.promise.specs.emptying.EmptyingStops.{Solid, afterFirstFlush, LeftBy}
+use Rattle.promise.specs.emptying.FlushedRests.{roles-same, sectors-seen, flushedAll, flush-sectors, flushed-rests, flushed-invs, flushed-cut, same-invs, flush-solid}
 use Rattle.promise.specs.emptying.SpareFills.{SameRead, generation-read, read-shows}
-use Rattle.promise.specs.emptying.Marked.{KeptBy, RestsBy, marked-rests, flushMarks, flush-above, flush-marks}
+use Rattle.promise.specs.emptying.Marked.{RestsBy, marked-rests, flushMarks, flush-above, flush-marks}
 use Rattle.promise.specs.emptying.Forced.{Forced}
 use Rattle.promise.specs.emptying.EmptiedGeneral.{newGeneration}
 use Rattle.promise.specs.emptying.CanEmpty.{CanEmptyLog}
-use Rattle.promise.specs.emptying.GeneralEmptying.{newGeneralOf, generalSizeOf, generalRest, general-stopped, general-stopped-shows, general-finished, general-finished-rests, general-finished-roles, general-finished-log, general-finished-kept, general-finished-solid, general-finished-other, general-finished-forced, general-finished-shows}
+use Rattle.promise.specs.emptying.GeneralEmptying.{newGeneralOf, generalSizeOf, generalRest, general-stopped, general-stopped-shows, general-finished, general-finished-rests, general-finished-roles, general-finished-log, general-finished-kept, general-finished-solid, general-finished-other, general-finished-forced, general-finished-shows, general-left}
 use Rattle.promise.specs.emptying.GeneralEmptying.{unreset, general-before-rests, general-before-roles, general-before-forced, general-before-shows}
-use Rattle.promise.specs.emptying.Emptyings.{SameSectors, restOf, OneDrive, Mode, Progress, emptyings-stopped, emptyings-done}
+use Rattle.promise.specs.emptying.Emptyings.{SameSectors, restOf, OneDrive, Mode, Progress, emptyings-stopped, emptyings-done, atFlush, flush-held}
 use Rattle.promise.specs.emptying.EmptyingsBack.{Finished, emptyings-back}
 
 -- a look of every set of drives that may be named shows the same
@@ -98,10 +99,6 @@ pub data GeneralLeft (g : Geometry) (x : ℕ) (c : LogGenerations) (v : Device) 
 pub left-invs : (g : Geometry) (x : ℕ) (c : LogGenerations) (v : Device) (l : Ledger) (w : Device) → GeneralLeft g x c v l w → (e : LogGenerations) × RoledInvs e g x w l
 left-invs g x c v l w (inFirstFlush n k r) = (c, r)
 left-invs g x c v l w (beyondFlush e r k) = (e, r)
-
--- with the ledger's own marks
-pub left-kept : (g : Geometry) (x : ℕ) (c : LogGenerations) (v : Device) (l : Ledger) (w : Device) → GeneralLeft g x c v l w → KeptBy g x w l
-left-kept g x c v l w k = let (e, r) = left-invs g x c v l w k in record { generations = e; marks = l .committed; above = λ z. le-refl (l .committed z); holds = r }
 
 -- ---- what they leave when they are finished (Q: what holds then): new roles and new logs; nothing else changed but spares, and every look shows the same
 pub record EmptiedAll (g : Geometry) (x : ℕ) (v : Device) (f : InForce) (emptied : ℕ → Bool) (Q : Device → Type 0) (u : Device) : Type 0 where
@@ -244,6 +241,23 @@ module _ (g : Geometry) (ok : Valid g) (x : ℕ) (c : LogGenerations) (v : Devic
       let (s, i) = b .holds in
       let r = same-invs g e x u w s h l i in
       beyondFlush e r (looks-trans g x v1 u w (b .looks) (looks-same g ok x u w (λ d a y. ap (λ z. z .sectors) (h d y a))))
+
+  -- OF ONE DRIVE, behind its first flush: the invariant holds there, and with whatever is left of its two zones, and every look shows the same
+  abbrev flushEndOf : ℕ → Device
+  flushEndOf d = atFlush g x false (roles g v) emptied (newGeneralOf g f v) v d
+
+  pub general-at-flush : (d : ℕ) → d < g .drives → emptied d ≡ true → Then Inside (flushEndOf d) × SameSectors v (flushEndOf d) d
+  general-at-flush = flush-held g x false v (newGeneralOf g f v) emptied (Then Inside) (GeneralLeft g x c v l) (first Inside invs1) (λ u s b. more Inside (λ e t q. flushed-invs g ok e x t l q) u b) in-first unchanged
+      (λ d hd b. let (a, k) = can d hd b in (a, λ u s h q. drive-inside d a k u s q h))
+
+  pub general-drive-left : (d : ℕ) (hd : d < g .drives) (b : emptied d ≡ true) (w : Device) → LeftBy g x (flushEndOf d) w d (roles g v d .general) (roles g v d .spare) (newGeneralOf g f v d) → ((e : LogGenerations) × RoledInvs e g x w l) × LooksSame g x (flushEndOf d) w
+  general-drive-left d hd b w h =
+      let (a, k) = can d hd b in
+      let (held, same) = general-at-flush d hd b in
+      let (s, (γ, i, q)) = held .holds in
+      let u = flushEndOf d in
+      let t : Standing g x u (γ .closed) = subst (λ (e : LogGenerations). Standing g x u e) (sym q) s in
+      general-left g ok x u γ t l i (flush-solid g x _) d a f (held .force) (can-same g ok x v u f d same k) w (rw (new-same g ok x v u f d same, roles-same g v u d same) h)
 
   -- THE THEOREM, stopped and cut
   pub general-emptyings-stopped : (k : ℕ) (w : Device) → Cut x (applyAll (take k stores) v) w → GeneralLeft g x c v l w

@@ -17,7 +17,7 @@ use Rattle.tables.specs.meaning.Cached.{uncached, applyAllCaching}
 use Rattle.tables.specs.meaning.Phases.{onPresent, flushAll}
 use Rattle.tables.specs.laws.StoresFit.{AllOn, on-present-on, on-append}
 use Rattle.tables.specs.meaning.Through.{carry}
-use Rattle.tables.specs.laws.Drives.{presentBut}
+use Rattle.tables.specs.meaning.Drives.{presentBut}
 use Rattle.tables.specs.declared.Geometry.{Geometry}
 use Rattle.tables.specs.meaning.Geometry.{Valid}
 use Rattle.logs.specs.meaning.Entry.{generalZone, spareZone, wornGeneration, Header}

@@ -5,15 +5,14 @@ use mathlib.Core.Bool.{Bool, true, false}
 use Prim.Native.Nat.{ℕ, _+_, _*_, _≤_, _<_}
 use native.Mathlib.Omega.{arith}
 use mathlib.Core.List.{List, [], _++_, append-nil, map}
-use lib.ListN.{length, take}
-use lib.Seq.{take-nil, take-length}
+use lib.ListN.{length}
 use Rattle.tables.specs.meaning.Basics.{pick}
 use Rattle.tables.specs.meaning.Lists.{concat, isNil}
-use Rattle.tables.specs.meaning.Device.{ZoneView, Device, Store, applyAll, Cut}
+use Rattle.tables.specs.meaning.Device.{ZoneView, Device, Store, applyAll}
 use Rattle.tables.specs.laws.Device.{apply-all-append}
 use Rattle.tables.specs.meaning.Phases.{onPresent}
 use Rattle.tables.specs.meaning.Through.{through, carry}
-use Rattle.tables.specs.laws.Drives.{presentBut}
+use Rattle.tables.specs.meaning.Drives.{presentBut}
 use Rattle.tables.specs.declared.Geometry.{Geometry}
 use Rattle.tables.specs.meaning.Geometry.{Valid}
 use Rattle.logs.specs.meaning.Entry.{parityZone, spareZone, wornGeneration, Entry}
@@ -238,14 +237,15 @@ module _ (g : Geometry) (ok : Valid g) (x : ℕ) (l : Ledger) (v v2 : Device) (r
     unfolding parityEntries
     entries-through d a = ap (λ (z : ZoneView). walkLog g d true (z .sectors) .entries) (seen-through d parityZone a)
 
-    pub emptyings-are : emptyParity g present middle (byLook k) emptied (through (placedBy middle) u) ≡ emptyParity g present (roles g u) (byLook k) emptied (byRoles g u)
+    -- the emptyings of all of them, or of some
+    pub emptyings-are : (some : ℕ → Bool) → ((d : ℕ) → some d ≡ true → emptied d ≡ true) → emptyParity g present middle (byLook k) some (through (placedBy middle) u) ≡ emptyParity g present (roles g u) (byLook k) some (byRoles g u)
     unfolding emptyParity
-    emptyings-are = emptyings-same g present true middle (roles g u) emptied _ _
-        (λ d hd b. let a = r .emptied-here d b in (sym (middle-is d a), ap₂ (λ (t : Roles) (es : List Entry). newParity g (byLook k) t d es) (sym (middle-is d a)) (entries-through d a)))
+    emptyings-are some of = emptyings-same g present true middle (roles g u) some _ _
+        (λ d hd b. let a = r .emptied-here d (of d b) in (sym (middle-is d a), ap₂ (λ (t : Roles) (es : List Entry). newParity g (byLook k) t d es) (sym (middle-is d a)) (entries-through d a)))
 
     second-are : phasesOfParityLogs g present x v u ≡ withFlush g present (emptyParity g present (roles g u) (byLook k) emptied (byRoles g u))
     unfolding phasesOfParityLogs
-    second-are = ap (withFlush g present) emptyings-are
+    second-are = ap (withFlush g present) (emptyings-are emptied (λ d b. b))
 
     pub known : (d : ℕ) → d < g .drives → emptied d ≡ true → EmptiedInMount g x u k d
     known d hd b =

@@ -18,7 +18,8 @@ use Rattle.tables.specs.laws.Device.{apply-all-append}
 use Rattle.tables.specs.meaning.Phases.{onPresent, flushAll}
 use Rattle.tables.specs.laws.Phases.{absent-frame}
 use Rattle.tables.specs.meaning.Through.{carry}
-use Rattle.tables.specs.laws.Drives.{presentBut, present-below}
+use Rattle.tables.specs.meaning.Drives.{presentBut}
+use Rattle.tables.specs.laws.Drives.{present-below}
 use Rattle.tables.specs.declared.Geometry.{Geometry}
 use Rattle.tables.specs.meaning.Geometry.{Valid}
 use Rattle.logs.specs.meaning.Entry.{generalZone, parityZone, spareZone, wornGeneration}
@@ -327,7 +328,7 @@ module _ (g : Geometry) (ok : Valid g) (x : ℕ) (c : LogGenerations) (l : Ledge
   mount-part = subst (λ (xs : List Store). Part g x l v xs (AtRest g x)) (sym stores-are) (cut-runs-then g x v begun (fromStep3 (applyAll begun v)) (λ w. KeptBy g x w l) (LogsReady g x l (byLook K) lacking opened) (AtRest g x) begin-part rest-part)
 
 -- the same, accepted by what the device was before the first flush, which leaves all sectors
-opened-sectors : (g : Geometry) (x : ℕ) (v : Device) (d y : ℕ) → v d y .sectors ≡ flushedAll g x v d y .sectors
+pub opened-sectors : (g : Geometry) (x : ℕ) (v : Device) (d y : ℕ) → v d y .sectors ≡ flushedAll g x v d y .sectors
 unfolding flushStores
 opened-sectors g x v d y = sym (go (presentBut g x d) refl)
   where

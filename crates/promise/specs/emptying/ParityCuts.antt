@@ -19,7 +19,7 @@ use Rattle.logs.specs.meaning.Entry.{Header, closing, Entry}
 use Rattle.logs.specs.meaning.Heads.{firstClosing}
 use Rattle.logs.specs.laws.Walk.{WellFormedLog, wholeEntries, sectorsOfAll, logExtent, cutEntries, cut-flat, cut-lawful, cut-extent, cut-left}
 use Rattle.logs.specs.laws.LogLaws.{whole-entries-mem}
-use Rattle.volume.specs.meaning.Roles.{claim, strength, strengthBy, Roles, zoneOfRole, emptiedRoles}
+use Rattle.volume.specs.meaning.Roles.{zoneClaim, strength, strengthBy, Roles, zoneOfRole, emptiedRoles}
 use Rattle.volume.specs.laws.Claims.{Claims}
 use Rattle.volume.specs.laws.Firm.{Proper, Firm, proper-apart}
 use Rattle.promise.specs.invariant.Invariant.{Ghost, Here, LogsOk}
@@ -33,11 +33,11 @@ heads-mem (p ∷ es) h (List·Memᴰ·tail m) = let (e, o, q) = heads-mem es h m
 -- ---- what any beginning of a parity log claims, whose closing entries are of generations at most n
 module _ (g : Geometry) (d : ℕ) (es : List Entry) (lw : WellFormedLog g d true es) (room : logExtent g d true es ≤ g .capacity) where
   pub front-claims : (n : ℕ) → ((e : Entry) → List·Memᴰ e es → (k i : ℕ) → e .head ≡ closing k i → i ≤ n) → (k : ℕ)
-      → (claim g d true (take k (sectorsOfAll g d true es)) ≤ n) × (claim g d false (take k (sectorsOfAll g d true es)) ≡ 0)
+      → (zoneClaim g d true (take k (sectorsOfAll g d true es)) ≤ n) × (zoneClaim g d false (take k (sectorsOfAll g d true es)) ≡ 0)
   front-claims n most k =
       let fs = cutEntries g d true es k in
       let fl = cut-lawful g d true es k lw in
-      let p : claim g d true (sectorsOfAll g d true fs) ≡ firstClosing (map (λ (e : Entry). e .head) (wholeEntries g d true fs)) = parity-claims g d fs fl (le-trans (cut-extent g d true es k) room) in
+      let p : zoneClaim g d true (sectorsOfAll g d true fs) ≡ firstClosing (map (λ (e : Entry). e .head) (wholeEntries g d true fs)) = parity-claims g d fs fl (le-trans (cut-extent g d true es k) room) in
       let q : firstClosing (map (λ (e : Entry). e .head) (wholeEntries g d true fs)) ≤ n = closing-most (map (λ (e : Entry). e .head) (wholeEntries g d true fs)) n (λ j i m.
       let (e, o, h) = heads-mem (wholeEntries g d true fs) (closing j i) m in
       let l = cut-left g d true es k e (whole-entries-mem g d fs e o .0) in most (l .of) (l .isSet) j i (sym (l .heads) ∙ h)) in
@@ -45,7 +45,7 @@ module _ (g : Geometry) (d : ℕ) (es : List Entry) (lw : WellFormedLog g d true
 
 -- ---- SECTORS THAT CLAIM NOTHING, whatever a cut keeps of them
 pub record Silent (g : Geometry) (d : ℕ) (ss : List (List ℕ)) : Type 0 where
-  pub claims : (k : ℕ) (par : Bool) → claim g d par (take k ss) ≡ 0
+  pub claims : (k : ℕ) (par : Bool) → zoneClaim g d par (take k ss) ≡ 0
 
 -- the copies, without the closing entry
 pub copies-silent : (g : Geometry) (d : ℕ) (es : List Entry) → WellFormedLog g d true es → logExtent g d true es ≤ g .capacity → ((e : Entry) → List·Memᴰ e es → (k i : ℕ) → e .head ≡ closing k i → ⊥)
@@ -55,10 +55,10 @@ copies-silent g d es lw room none m = rw (cut-flat g d true es m) (record { clai
     old : (e : Entry) → List·Memᴰ e (cutEntries g d true es m) → (k i : ℕ) → e .head ≡ closing k i → i ≤ 0
     old e o k i h = let l = cut-left g d true es m e o in absurd (none (l .of) (l .isSet) k i (sym (l .heads) ∙ h))
 
-    both : (k : ℕ) → (claim g d true (take k (sectorsOfAll g d true (cutEntries g d true es m))) ≤ 0) × (claim g d false (take k (sectorsOfAll g d true (cutEntries g d true es m))) ≡ 0)
+    both : (k : ℕ) → (zoneClaim g d true (take k (sectorsOfAll g d true (cutEntries g d true es m))) ≤ 0) × (zoneClaim g d false (take k (sectorsOfAll g d true (cutEntries g d true es m))) ≡ 0)
     both k = front-claims g d (cutEntries g d true es m) (cut-lawful g d true es m lw) (le-trans (cut-extent g d true es m) room) 0 old k
 
-    go : (k : ℕ) (par : Bool) → claim g d par (take k (sectorsOfAll g d true (cutEntries g d true es m))) ≡ 0
+    go : (k : ℕ) (par : Bool) → zoneClaim g d par (take k (sectorsOfAll g d true (cutEntries g d true es m))) ≡ 0
     go k true = let b = both k .0 in omega (arith, b)
     go k false = both k .1
 
@@ -89,7 +89,7 @@ module _ (g : Geometry) (x : ℕ) (w u : Device) (δ : Ghost) (lg : LogsOk g x u
   unfolding strength
   new-firm c p cg cp q old m is = firm-of-logs g x w u δ lg d a (emptiedRoles true r) seen (emptied-proper r p) cg (ap suc (sym q), inl (rw q (omega (arith, cp .0)))) (λ k. rw is (general k, parity k))
     where
-      both : (k : ℕ) → (claim g d true (take k (take m (sectorsOfAll g d true es))) ≤ c) × (claim g d false (take k (take m (sectorsOfAll g d true es))) ≡ 0)
+      both : (k : ℕ) → (zoneClaim g d true (take k (take m (sectorsOfAll g d true es))) ≤ c) × (zoneClaim g d false (take k (take m (sectorsOfAll g d true es))) ≡ 0)
       both k = rw (cut-flat g d true es m) (front-claims g d (cutEntries g d true es m) (cut-lawful g d true es m lw) (le-trans (cut-extent g d true es m) room) c
           (λ e o j i h. let l = cut-left g d true es m e o in old (l .of) (l .isSet) j i (sym (l .heads) ∙ h)) k)
 
@@ -97,16 +97,16 @@ module _ (g : Geometry) (x : ℕ) (w u : Device) (δ : Ghost) (lg : LogsOk g x u
       default-most true = le-refl 1
       default-most false = omega arith
 
-      parity : (k : ℕ) → strengthBy (claim g d true (take k (take m (sectorsOfAll g d true es)))) (claim g d false (take k (take m (sectorsOfAll g d true es)))) true (r .parity) < suc (r .parityClaim)
-      parity k = let (s, t) = both k in rw t (go (claim g d true (take k (take m (sectorsOfAll g d true es)))) s (ltb 0 (claim g d true (take k (take m (sectorsOfAll g d true es))))))
+      parity : (k : ℕ) → strengthBy (zoneClaim g d true (take k (take m (sectorsOfAll g d true es)))) (zoneClaim g d false (take k (take m (sectorsOfAll g d true es)))) true (r .parity) < suc (r .parityClaim)
+      parity k = let (s, t) = both k in rw t (go (zoneClaim g d true (take k (take m (sectorsOfAll g d true es)))) s (ltb 0 (zoneClaim g d true (take k (take m (sectorsOfAll g d true es))))))
         where
           go : (i : ℕ) → i ≤ c → (b : Bool) → pick b (suc i) (pick (eqb (r .parity) 1) 1 0) < suc (r .parityClaim)
           go i h true = omega (arith, h, cp .0)
           go i h false = omega (arith, default-most (eqb (r .parity) 1), cp .0)
 
       -- where the old log lies in zone 0, the general log has a closing entry
-      general : (k : ℕ) → strengthBy (claim g d false (take k (take m (sectorsOfAll g d true es)))) (claim g d true (take k (take m (sectorsOfAll g d true es)))) false (r .parity) < r .generalClaim
-      general k = let (s, t) = both k in rw t (go (ltb 0 (claim g d true (take k (take m (sectorsOfAll g d true es))))) (ℕ-discrete (r .parity) 0) (cg .1))
+      general : (k : ℕ) → strengthBy (zoneClaim g d false (take k (take m (sectorsOfAll g d true es)))) (zoneClaim g d true (take k (take m (sectorsOfAll g d true es)))) false (r .parity) < r .generalClaim
+      general k = let (s, t) = both k in rw t (go (ltb 0 (zoneClaim g d true (take k (take m (sectorsOfAll g d true es))))) (ℕ-discrete (r .parity) 0) (cg .1))
         where
           go : (b : Bool) → Dec (r .parity ≡ 0) → (0 < δ .closed d .0) ⊎ (r .general ≡ 0) → pick b 0 (pick (eqb (r .parity) 0) 1 0) < r .generalClaim
           go true e h = omega (arith, cg .0)

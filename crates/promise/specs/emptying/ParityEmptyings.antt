@@ -9,7 +9,7 @@ use mathlib.Core.List.{List, [], _++_}
 use lib.ListN.{length, take}
 use borrow.Author.Tests.{eq-eqb}
 use Rattle.tables.specs.meaning.Device.{ZoneView, Device, Store, applyAll, Cut}
-use Rattle.tables.specs.laws.Drives.{presentBut}
+use Rattle.tables.specs.meaning.Drives.{presentBut}
 use Rattle.tables.specs.declared.Geometry.{Geometry}
 use Rattle.tables.specs.meaning.Geometry.{Valid}
 use Rattle.logs.specs.meaning.Entry.{parityZone, Entry}
@@ -22,14 +22,12 @@ use Rattle.volume.specs.meaning.Emptying.{InForce, newParity, newParitySize, em
 use Rattle.promise.specs.meaning.Ledger.{Ledger, afterFlush}
 use Rattle.promise.specs.invariant.Invariant.{Here, LogGenerations}
 use Rattle.promise.specs.roles.RoledCalls.{RoledRests}
-use Rattle.promise.specs.emptying.AskedSame.{NamedBut, ShowsSame}
-use Rattle.promise.specs.emptying.EmptyingStops.{Solid, afterFirstFlush}
-use Rattle.promise.specs.emptying.Emptyings.{SameSectors, restOf, OneDrive, Progress, emptyings-stopped, emptyings-done}
+use Rattle.promise.specs.emptying.EmptyingStops.{Solid, afterFirstFlush, LeftBy}
+use Rattle.promise.specs.emptying.Emptyings.{SameSectors, restOf, OneDrive, Progress, emptyings-stopped, emptyings-done, atFlush, flush-held}
 use Rattle.promise.specs.emptying.EmptyingsBack.{Finished, emptyings-back}
-use Rattle.promise.specs.emptying.FlushedRests.{roles-same, sectors-seen, flushedAll, flushed-rests, same-rests}
+use Rattle.promise.specs.emptying.FlushedRests.{roles-same, sectors-seen, flushedAll, flushed-rests, same-rests, flush-solid}
 use Rattle.promise.specs.emptying.ParityAtRest.{ByState}
-use Rattle.promise.specs.emptying.RestShows.{rests-show-same}
-use Rattle.promise.specs.emptying.ParityRests.{CanEmpty, newSectors, emptyingRest, parity-stopped, parity-finished, parity-finished-roles, parity-finished-solid, parity-finished-log, parity-finished-kept, parity-finished-other, parity-before, parity-before-roles}
+use Rattle.promise.specs.emptying.ParityRests.{CanEmpty, newSectors, emptyingRest, parity-stopped, parity-finished, parity-finished-roles, parity-finished-solid, parity-finished-log, parity-finished-kept, parity-finished-other, parity-before, parity-before-roles, parity-left-rests}
 
 -- the log, and so what is copied of it, goes by the sectors
 pub entries-same : (g : Geometry) (v w : Device) (d : ℕ) → w d parityZone .sectors ≡ v d parityZone .sectors → parityEntries g w d ≡ parityEntries g v d
@@ -109,6 +107,22 @@ module _ (g : Geometry) (ok : Valid g) (x : ℕ) (c : LogGenerations) (v : Devic
   drives : (d : ℕ) → d < g .drives → emptied d ≡ true → Here g x d × ((u : Device) → Solid g x u → Resting u → SameSectors v u d → OneDrive g x true v Resting ParityStopped d u (newSectors g f v d) (restOf g x true v (newSectors g f v) d))
   drives d hd b = let (a, k) = can d hd b in (a, λ u s q h. one-drive d a k u s q h)
 
+  -- OF ONE DRIVE, behind its first flush: at rest there, and at rest with whatever is left of its two zones
+  abbrev flushEndOf : ℕ → Device
+  flushEndOf d = atFlush g x true (roles g v) emptied (newSectors g f v) v d
+
+  pub parity-at-flush : (d : ℕ) → d < g .drives → emptied d ≡ true → Resting (flushEndOf d) × SameSectors v (flushEndOf d) d
+  parity-at-flush = flush-held g x true v (newSectors g f v) emptied Resting ParityStopped first more (λ n w k. inFirstFlush n k) unchanged drives
+
+  pub parity-drive-left : (d : ℕ) (hd : d < g .drives) (b : emptied d ≡ true) (w : Device) → LeftBy g x (flushEndOf d) w d (roles g v d .parity) (roles g v d .spare) (newSectors g f v d) → Resting w
+  parity-drive-left d hd b w h =
+      let (a, k) = can d hd b in
+      let (held, same) = parity-at-flush d hd b in
+      let (e, r) = held in
+      let u = flushEndOf d in
+      let s : Solid g x u = flush-solid g x _ in
+      parity-left-rests g ok x e u state (afterFlush l) r (λ z hz. refl) s d a f by (can-now d a k u s held same) w (rw (same-new d a k u s held same, same-roles d a k u s held same) h)
+
   -- THE THEOREM, stopped and cut
   pub parity-emptyings-stopped : (k : ℕ) (w : Device) → Cut x (applyAll (take k stores-all) v) w → ParityStopped w
   parity-emptyings-stopped k w cut =
@@ -123,7 +137,3 @@ module _ (g : Geometry) (ok : Valid g) (x : ℕ) (c : LogGenerations) (v : Devic
   pub parity-emptyings-back : (was : ℕ → ℕ → List ZoneView) → (stores-all ≡ []) ⊎ Finished g x v was (λ w. (e : LogGenerations) × RoledRests e g x w state (afterFlush l)) stores-all
   unfolding emptyParity
   parity-emptyings-back was = emptyings-back g x true v (newSectors g f v) emptied Resting ParityStopped first more (λ n w k. inFirstFlush n k) unchanged drives (λ d hd b u s q h. let (a, k) = can d hd b in drive-before d a k u s q h) was
-
-  -- READING 15: at rest with every content committed a look shows what it showed at the first flush's end, whichever drives are named
-  pub at-rest-shows : (e : LogGenerations) (w : Device) → RoledRests e g x w state (afterFlush l) → (y : ℕ) → NamedBut g x y → (z : ℕ) → z < g .zones → ShowsSame g (presentBut g y) (byRoles g (flushedAll g x v)) (byRoles g w) z
-  at-rest-shows e w r y named z hz = rests-show-same g ok x y named c e (byRoles g (flushedAll g x v)) (byRoles g w) state (afterFlush l) (flushed-rests g ok c x v state l rr .1) (r .1) z hz refl

@@ -11,7 +11,8 @@ use mathlib.Core.List.{List, []}
 use lib.ListN.{length, take}
 use borrow.Author.Tests.{eq-eqb}
 use Rattle.tables.specs.meaning.Device.{ZoneView, Device, Store, applyAll, Cut}
-use Rattle.tables.specs.laws.Drives.{presentBut, present-below}
+use Rattle.tables.specs.meaning.Drives.{presentBut}
+use Rattle.tables.specs.laws.Drives.{present-below}
 use Rattle.volume.specs.meaning.Calls.{flushStores}
 use Rattle.tables.specs.declared.Geometry.{Geometry}
 use Rattle.tables.specs.meaning.Geometry.{Valid}
@@ -33,12 +34,12 @@ use Rattle.promise.specs.mount.MountParityEntries.{EntryRoom}
 use Rattle.promise.specs.roles.Roled.{Standing}
 use Rattle.promise.specs.roles.Spares.{spare-inv}
 use Rattle.promise.specs.emptying.Marked.{KeptBy}
-use Rattle.promise.specs.emptying.CallParts.{Part, FilledAt, filled-solid, filled-at-same, filled-roled, kept-as-is, kept-less, solid-seen}
-use Rattle.promise.specs.emptying.Emptyings.{SameSectors, restOf, OneDrive, Progress, emptyings-stopped, emptyings-done}
+use Rattle.promise.specs.emptying.CallParts.{FilledAt, filled-solid, filled-at-same, filled-roled, kept-as-is, kept-less, solid-seen}
+use Rattle.promise.specs.emptying.Emptyings.{SameSectors, restOf, OneDrive, Progress, emptyings-stopped, emptyings-done, atFlush, flush-held}
 use Rattle.promise.specs.emptying.FlushedRests.{roles-same, sectors-seen, seen-same, flushedAll, still-flushed, same-invs}
 use Rattle.promise.specs.calls.FlushKeeps.{flush-all}
 use Rattle.promise.specs.emptying.CopiedParity.{newLog, new-log-sectors, new-log-extent}
-use Rattle.promise.specs.emptying.EmptyingStops.{Solid, solid-flushed, afterFirstFlush, emptying-left, emptying-solid, whole-other, whole-spare, whole-old}
+use Rattle.promise.specs.emptying.EmptyingStops.{Solid, solid-flushed, afterFirstFlush, emptying-left, emptying-solid, whole-other, whole-spare, whole-old, LeftBy, cut-here}
 use Rattle.promise.specs.emptying.FilledCopied.{filled-before, copied-filled}
 use Rattle.promise.specs.emptying.ParityFilled.{Filled, MadeFor, es-read, filled-copies, filled-copy}
 use Rattle.promise.specs.emptying.ParityMount.{marksByCopy, marks-by-copy-above, filled-copy-inv}
@@ -58,28 +59,28 @@ module _ (g : Geometry) (ok : Valid g) (x : ℕ) (u : Device) (c : LogGeneration
   abbrev fi : FilledNow g x (byRoles g u) (fa .ghosts) l k
   fi = fa .filled
 
-  fd : Filled g x (byRoles g u) l (fa .ghosts) k
+  pub fd : Filled g x (byRoles g u) l (fa .ghosts) k
   fd = filled-before g ok x (byRoles g u) (fa .ghosts) l k (fa .filled)
 
-  solid : Solid g x u
+  pub solid : Solid g x u
   solid = filled-solid g x u c l k fa
 
   roles-is : roles g u d ≡ st .roles d
   roles-is = firm-roles g u d (st .roles d) (st .firm d hd)
 
-  abbrev n : ℕ
+  abbrev pub n : ℕ
   n = fa .standing .roles d .parityClaim
 
   abbrev es : List Entry
   es = parityEntries g (byRoles g u) d
 
-  abbrev copy : List Entry
+  abbrev pub copy : List Entry
   copy = newLog g (byLook k) d es n
 
-  n-some : 0 < n
+  pub n-some : 0 < n
   n-some = omega (arith, st .parity-claim d hd .0)
 
-  n-lt : n < 256 ^ 8
+  pub n-lt : n < 256 ^ 8
   n-lt = generation-small n (rw roles-is at (can .top))
 
   sectors-are : newSectors g (byLook k) u d ≡ sectorsOfAll g d true copy
@@ -108,14 +109,25 @@ module _ (g : Geometry) (ok : Valid g) (x : ℕ) (u : Device) (c : LogGeneration
     holds = (b .standing, (parityGhost δ d copy n, filled-copy-inv g ok x d hd (byRoles g u) l δ k fd n n-some n-lt (can .room) (byRoles g w) (b .seen), ap (λ (h : LogGenerations). parityClosed h d n) (fa .closed-is)));
   }
 
+  -- WHAT IS LEFT of the drive's two zones, the others being as they were: by the old log, or by the copy
+  abbrev pub LeftEither : Device → Type 0
+  LeftEither w = ByOld g x c u w ⊎ ByCopy g x c u w d copy n
+
+  either : (w : Device) → LeftBy g x u w d (st .roles d .parity) (st .roles d .spare) (sectorsOfAll g d true copy) → LeftEither w
+  either w h = parity-left g ok x c u st δ (fi .logs) (fa .closed-is) d hd (MadeFor g ok x d hd (byRoles g u) l δ k fd) (parityCopies g (byLook k) d es) (filled-copies g ok x d hd (byRoles g u) l δ k fd) n-lt (filled-copy g ok x d hd (byRoles g u) l δ k fd n (can .room)) w solid h
+
+  pub mount-parity-either : (w : Device) → LeftBy g x u w d (roles g u d .parity) (roles g u d .spare) (newSectors g (byLook k) u d) → LeftEither w
+  mount-parity-either w h = either w (rw (sectors-are, roles-is) at h)
+
+  -- the invariant holds by it
+  pub either-kept : (w : Device) → LeftEither w → KeptBy g x w l
+  either-kept w (inl b) = by-old-kept w b
+  either-kept w (inr b) = by-copy-kept w b
+
   -- STOPPED AND CUT
   pub mount-parity-stopped : (j : ℕ) (w : Device) → Cut x (applyAll (take j (emptyingRest g x (byLook k) u d)) u) w → KeptBy g x w l
-  mount-parity-stopped j w cut = go (parity-left g ok x c u st δ (fi .logs) (fa .closed-is) d hd (MadeFor g ok x d hd (byRoles g u) l δ k fd) (parityCopies g (byLook k) d es) (filled-copies g ok x d hd (byRoles g u) l δ k fd) n-lt
-      (filled-copy g ok x d hd (byRoles g u) l δ k fd n (can .room)) w solid (emptying-left g x u solid d hd (st .roles d .parity) (st .roles d .spare) apart blank (sectorsOfAll g d true copy) j w (rw stores-are at cut)))
-    where
-      go : ByOld g x c u w ⊎ ByCopy g x c u w d copy n → KeptBy g x w l
-      go (inl b) = by-old-kept w b
-      go (inr b) = by-copy-kept w b
+  mount-parity-stopped j w cut =
+      either-kept w (either w (emptying-left g x u solid d hd (st .roles d .parity) (st .roles d .spare) apart blank (sectorsOfAll g d true copy) j w (cut-here g x (applyAll (take j stores) u) w (rw stores-are at cut))))
 
   -- FINISHED
   abbrev after : Device
@@ -223,13 +235,13 @@ module _ (g : Geometry) (ok : Valid g) (x : ℕ) (v : Device) (c : LogGeneration
     abbrev l1 : Ledger
     l1 = withMarks l (f .marks)
 
-    same-roles : roles g u d ≡ roles g v d
+    pub same-roles : roles g u d ≡ roles g v d
     same-roles = roles-same g v u d s
 
-    can-now : CanEmptyLog g true u d (newParitySize g (byLook k) d)
+    pub can-now : CanEmptyLog g true u d (newParitySize g (byLook k) d)
     can-now = record { room = kn .can .room; top = rw same-roles (kn .can .top); blank = s (roles g u d .spare) ∙ ap (λ (r : Roles). v d (r .spare) .sectors) same-roles ∙ kn .can .blank }
 
-    same-new : newSectors g (byLook k) u d ≡ newSectors g (byLook k) v d
+    pub same-new : newSectors g (byLook k) u d ≡ newSectors g (byLook k) v d
     same-new = ap₂ (λ (r : Roles) (es : List Entry). newParity g (byLook k) r d es) same-roles (entries-same g (byRoles g v) (byRoles g u) d (seen-same g x c (f .generations) v u (fa .standing) (f .at .standing) d (kn .here) s parityZone))
 
     rest-are : emptyingRest g x (byLook k) u d ≡ restOf g x true v (newSectors g (byLook k) v) d
@@ -292,6 +304,10 @@ module _ (g : Geometry) (ok : Valid g) (x : ℕ) (v : Device) (c : LogGeneration
           let hd = present-below g x e a in
           let kn = known e hd b in
           rw (progress .logs e a hd b) (let t = mount-parity-size g ok x v c l k fa e (kn .here) (kn .can) in omega (arith, t, kn .room))
+
+  -- AT THE END OF THE FIRST FLUSH OF DRIVE d's: filled
+  pub parity-logs-at-flush : (d : ℕ) → d < g .drives → emptied d ≡ true → let u = atFlush g x true (roles g v) emptied (newSectors g (byLook k) v) v d in FilledSome g x l k u × SameSectors v u d
+  parity-logs-at-flush = flush-held g x true v (newSectors g (byLook k) v) emptied Held Left first more in-first same one-of
 
   -- STEP 10
   pub parity-logs-stopped : (n : ℕ) (w : Device) → Cut x (applyAll (take n (emptyings g (presentBut g x) true (roles g v) emptied (newSectors g (byLook k) v))) v) w → KeptBy g x w l

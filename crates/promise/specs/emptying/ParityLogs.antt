@@ -117,7 +117,8 @@ module _ (g : Geometry) (ok : Valid g) (x d : ℕ) (hd : Here g x d) (v w : Devi
       general-reads = lg .general-reads;
       first = lg .first;
       first-lasts = λ e a. rw (general-on e a) (lg .first-lasts e a);
-      labels = lg .labels;
+      arrays = lg .arrays;
+      labels = λ e a. rw (general-on e a) (lg .labels e a);
       general-closes = lg .general-closes;
       general-closed = λ e a. rw (general-on e a) (lg .general-closed e a);
       parity-closes = λ e a p m k i q. closes e a p m k i q (ℕ-discrete e d);

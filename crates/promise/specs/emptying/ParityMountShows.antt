@@ -1,19 +1,18 @@
 -- READING 15 INSIDE A MOUNT, for the emptying of drive d's parity log: by the copy a look, whichever drives are named, shows what it showed by the old log; of a zone
 -- whose entry was made it may show more, up to the pointer of the mount's look. (u: the device by its roles, filled; w: by the copy.)
-use mathlib.Core.Path.{_≡_, refl, sym, ap, ap₂, _∙_, subst}
+use mathlib.Core.Path.{_≡_, refl, sym, ap, ap₂, _∙_}
 use mathlib.Core.Logic.{_≢_, _⊎_, inl, inr}
-use mathlib.Core.Bool.{Bool, true, false, _&&_, not, true≢false}
-use Prim.Native.Nat.{ℕ, zero, suc, _+_, _-_, _*_, _^_, _≤_, _<_, min}
-use native.Mathlib.Nat.{le-refl, le-trans, not-suc-le-zero}
+use mathlib.Core.Bool.{Bool, true, false, true≢false}
+use Prim.Native.Nat.{ℕ, zero, _+_, _-_, _*_, _^_, _≤_, _<_, min}
+use native.Mathlib.Nat.{le-refl, le-trans}
 use native.Mathlib.Decide.{decLt, ℕ-discrete}
 use native.Mathlib.Omega.{arith}
-use mathlib.Core.List.{List, [], _∷_, _++_, map, List·Memᴰ}
-use lib.ListN.{length, take, getD}
+use mathlib.Core.List.{List, [], map, List·Memᴰ}
+use lib.ListN.{length, getD}
 use lib.Dec.{eqb}
-use borrow.Author.Tests.{eq-eqb, eqb-true, ne-eqb, ltb-true, lt-ltb, le-leb}
+use borrow.Author.Tests.{eq-eqb, eqb-true, ne-eqb, lt-ltb, le-leb}
 use Rattle.tables.specs.meaning.Basics.{pick}
 use Rattle.tables.specs.laws.Basics.{and-split}
-use Rattle.tables.specs.meaning.Below.{larger}
 use Rattle.tables.specs.laws.Below.{larger-right}
 use Rattle.tables.specs.meaning.Lists.{anyOf}
 use Rattle.tables.specs.laws.Lists.{any-of-some}
@@ -21,20 +20,21 @@ use Rattle.tables.specs.laws.Greatest.{greatest-all, greatest-max}
 use Rattle.tables.specs.meaning.Device.{ZoneView, Device}
 use Rattle.tables.specs.meaning.Placement.{stripeOf, needed}
 use Rattle.tables.specs.laws.Placement.{needed-mono}
-use Rattle.tables.specs.laws.Drives.{presentBut, present-below}
+use Rattle.tables.specs.meaning.Drives.{presentBut}
+use Rattle.tables.specs.laws.Drives.{present-below}
 use Rattle.tables.specs.declared.Geometry.{Geometry}
 use Rattle.tables.specs.meaning.Geometry.{Valid, stripeSectors, parityDriveOf, zoneSectors, dataZone}
-use Rattle.logs.specs.meaning.Entry.{generalZone, parityZone, Header, partialParity, closing, Entry}
+use Rattle.logs.specs.meaning.Entry.{generalZone, parityZone, partialParity, closing, Entry}
 use Rattle.logs.specs.meaning.Heads.{leastSeal}
 use Rattle.logs.specs.meaning.Walk.{walkLog}
 use Rattle.logs.specs.laws.Walk.{sectorsOfAll, cutEntries, cut-all}
 use Rattle.volume.specs.meaning.Content.{at, insideStripe, fillOf, parityDriveAt, entryHeader}
-use Rattle.volume.specs.meaning.Rules.{View, ParityEntry, known, knownPrefix, parityOf, Shown, generalHeads, parityEntries, servingEntries, generationOf, sealLimit, viewOf, zoneView, zoneShown, zoneAt, valueAt, pointerAt}
+use Rattle.volume.specs.meaning.Rules.{View, known, knownPrefix, parityOf, Shown, generalHeads, parityEntries, servingEntries, generationOf, sealLimit, viewOf, zoneView, zoneShown, zoneAt, valueAt, pointerAt}
 use Rattle.volume.specs.laws.Depends.{known-same}
 use Rattle.volume.specs.meaning.Emptying.{InForce, byLook, isCopied, isAtPointer, isMade, newParitySize}
 use Rattle.promise.specs.meaning.Ledger.{Ledger, FitsZone}
 use Rattle.promise.specs.device.Marks.{withMarks}
-use Rattle.promise.specs.invariant.Invariant.{Ghost, Here, LogsOk, Live, Dying, Capped, said, factsOf, closingEntry}
+use Rattle.promise.specs.invariant.Invariant.{Ghost, Here, LogsOk, Live, Dying, said, factsOf}
 use Rattle.promise.specs.invariant.SaidMoves.{live-mark}
 use Rattle.promise.specs.look.LookLive.{live-fits}
 use Rattle.promise.specs.mount.MountEntryAt.{fill-parts}
@@ -52,9 +52,6 @@ pub record ShowsUpTo (g : Geometry) (present : ℕ → Bool) (v w : Device) (z t
   pub least : pointerAt g present v z (generationOf g present v z) ≤ pointerAt g present w z (generationOf g present w z)
   pub most : pointerAt g present w z (generationOf g present w z) ≤ top
   pub values : (a : ℕ) → a < pointerAt g present v z (generationOf g present v z) → valueAt g present w z (generationOf g present w z) a ≡ valueAt g present v z (generationOf g present v z) a
-
-pub up-to-trans : (g : Geometry) (present : ℕ → Bool) (u v w : Device) (z top : ℕ) → ShowsUpTo g present u v z top → ShowsUpTo g present v w z top → ShowsUpTo g present u w z top
-up-to-trans g present u v w z top p q = record { least = le-trans (p .least) (q .least); most = q .most; values = λ a h. q .values a (le-trans h (p .least)) ∙ p .values a h }
 
 pub same-up-to : (g : Geometry) (present : ℕ → Bool) (u w : Device) (z top : ℕ) → ShowsSame g present u w z → pointerAt g present w z (generationOf g present w z) ≤ top → ShowsUpTo g present u w z top
 same-up-to g present u w z top s t = record { least = let e = s .pointer in omega (arith, e); most = t; values = s .values }
@@ -335,7 +332,3 @@ module _ (g : Geometry) (ok : Valid g) (x d : ℕ) (hd : Here g x d) (u : Device
         go : (zero < k .zone z .pointer) ⊎ (k .zone z .pointer ≡ zero) → ShowsSame g (presentBut g y) u w z
         go (inl h) = some-same z hz h y by m
         go (inr h) = none-same h
-
-  -- of w too
-  pub all-shown : AllShown g x w ε k
-  all-shown z hz h = shown-w z hz h

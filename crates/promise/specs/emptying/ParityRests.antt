@@ -10,7 +10,7 @@ use mathlib.Core.List.{List, [], _++_}
 use lib.ListN.{length, take}
 use lib.Dec.{eqb}
 use Rattle.tables.specs.meaning.Device.{ZoneView, Device, Store, applyAll, Cut}
-use Rattle.tables.specs.laws.Drives.{presentBut}
+use Rattle.tables.specs.meaning.Drives.{presentBut}
 use Rattle.tables.specs.declared.Geometry.{Geometry}
 use Rattle.tables.specs.meaning.Geometry.{Valid}
 use Rattle.logs.specs.meaning.Entry.{parityZone, spareZone, Entry}
@@ -29,14 +29,12 @@ use Rattle.promise.specs.roles.Roled.{Standing}
 use Rattle.promise.specs.roles.RoledCalls.{RoledRests}
 use Rattle.promise.specs.roles.Spares.{spare-rest}
 use Rattle.promise.specs.emptying.CanEmpty.{CanEmptyLog}
-use Rattle.promise.specs.emptying.AskedSame.{NamedBut, ShowsSame}
 use Rattle.promise.specs.emptying.CopiedParity.{newLog, new-log-sectors}
-use Rattle.promise.specs.emptying.EmptyingStops.{Solid, afterFirstFlush, emptying-left, emptying-solid, whole-other, whole-spare, whole-old, early-other, early-spare}
+use Rattle.promise.specs.emptying.EmptyingStops.{Solid, afterFirstFlush, emptying-left, emptying-solid, whole-other, whole-spare, whole-old, early-other, early-spare, LeftBy, cut-here}
 use Rattle.promise.specs.emptying.ParityLogs.{parityGhost, parityClosed}
 use Rattle.promise.specs.emptying.EmptiedParity.{NoneMade, parity-emptied-rest}
 use Rattle.promise.specs.emptying.ParityKeeps.{ByOld, ByCopy, parity-left, parity-done}
 use Rattle.promise.specs.emptying.ParityAtRest.{ByState, copies-old, rest-copy, rest-pointers}
-use Rattle.promise.specs.emptying.RestShows.{rests-show-same}
 
 -- all contents are committed
 abbrev pub Committed : Geometry → Ledger → Type 0
@@ -116,20 +114,20 @@ module _ (g : Geometry) (ok : Valid g) (x : ℕ) (c : LogGenerations) (v : Devic
     ),
   )
 
-  -- STOPPED AND CUT
-  pub parity-stopped : (k : ℕ) (w : Device) → Cut x (applyAll (take k (emptyingRest g x f v d)) v) w → (e : LogGenerations) × RoledRests e g x w state l
-  parity-stopped k w cut = go (parity-left g ok x c v st γ (rest .logs) closings d hd NoneMade (parityCopies g f d es) (λ e m. copies-old g ok x d hd (byRoles g v) state l γ rest f by e m .1) n-lt
-      (rest-copy g ok x d hd (byRoles g v) state l γ rest f by n (can .room)) w solid (emptying-left g x v solid d hd (st .roles d .parity) (st .roles d .spare) apart blank (sectorsOfAll g d true copy) k w (rw stores-are at cut)))
+  -- WHAT IS LEFT of the drive's two zones, the others being as they were: at rest
+  left-rests : (w : Device) → LeftBy g x v w d (st .roles d .parity) (st .roles d .spare) (sectorsOfAll g d true copy) → (e : LogGenerations) × RoledRests e g x w state l
+  left-rests w h = go (parity-left g ok x c v st γ (rest .logs) closings d hd NoneMade (parityCopies g f d es) (λ e m. copies-old g ok x d hd (byRoles g v) state l γ rest f by e m .1) n-lt (rest-copy g ok x d hd (byRoles g v) state l γ rest f by n (can .room)) w solid h)
     where
       go : ByOld g x c v w ⊎ ByCopy g x c v w d copy n → (e : LogGenerations) × RoledRests e g x w state l
       go (inl b) = (c, by-old-rests w b)
       go (inr b) = (parityClosed c d n, by-copy-rests w b)
 
-  -- and every look shows the same
-  pub parity-stopped-shows : (k : ℕ) (w : Device) → Cut x (applyAll (take k (emptyingRest g x f v d)) v) w → (y : ℕ) → NamedBut g x y → (z : ℕ) → z < g .zones → ShowsSame g (presentBut g y) (byRoles g v) (byRoles g w) z
-  parity-stopped-shows k w cut y named z hz =
-      let (e, r) = parity-stopped k w cut in
-      rests-show-same g ok x y named c e (byRoles g v) (byRoles g w) state l (rr .1) (r .1) z hz (marks z hz)
+  pub parity-left-rests : (w : Device) → LeftBy g x v w d (roles g v d .parity) (roles g v d .spare) (newSectors g f v d) → (e : LogGenerations) × RoledRests e g x w state l
+  parity-left-rests w h = left-rests w (rw (sectors-are, roles-is) at h)
+
+  -- STOPPED AND CUT
+  pub parity-stopped : (k : ℕ) (w : Device) → Cut x (applyAll (take k (emptyingRest g x f v d)) v) w → (e : LogGenerations) × RoledRests e g x w state l
+  parity-stopped k w cut = left-rests w (emptying-left g x v solid d hd (st .roles d .parity) (st .roles d .spare) apart blank (sectorsOfAll g d true copy) k w (cut-here g x (applyAll (take k stores) v) w (rw stores-are at cut)))
 
   -- FINISHED
   abbrev after : Device

@@ -19,7 +19,8 @@ use Rattle.tables.specs.laws.Device.{apply-all-append}
 use Rattle.tables.specs.meaning.Phases.{onPresent}
 use Rattle.tables.specs.laws.StoresFit.{AllOn}
 use Rattle.tables.specs.meaning.Through.{carry}
-use Rattle.tables.specs.laws.Drives.{presentBut, present-below}
+use Rattle.tables.specs.meaning.Drives.{presentBut}
+use Rattle.tables.specs.laws.Drives.{present-below}
 use Rattle.tables.specs.declared.Geometry.{Geometry}
 use Rattle.tables.specs.meaning.Geometry.{Valid}
 use Rattle.logs.specs.meaning.Entry.{parityZone}
@@ -168,7 +169,7 @@ module _ (g : Geometry) (ok : Valid g) (x : ℕ) (c : LogGenerations) (v : Devic
     whole-is = apply-all-append writeEmptying writeCarried v ∙ ap (λ (xs : List Store). applyAll xs u) carried-are
 
     -- FINISHED
-    pub write-emptied-rests : RestsBy g x (applyAll (writeEmptying ++ writeCarried) v) (writeState x state z ss) (afterWrite l z ss)
+    pub write-emptied-rests : RestsBy g x (applyAll (writeEmptying ++ writeCarried) v) (writeState x state z (length ss)) (afterWrite l z ss)
     write-emptied-rests =
         let k = roled-write-rests g ok (rests-then .generations) x u state m z ss (rests-then .holds) write-ok in
         record { generations = rests-then .generations; marks = rests-then .marks; above = rests-then .above; holds = rw whole-is k }
@@ -177,7 +178,7 @@ module _ (g : Geometry) (ok : Valid g) (x : ℕ) (c : LogGenerations) (v : Devic
     unfolding emptyParity
     write-emptied-blank b =
         let (γ, r, q) = write-rests g ok (rests-then .generations) x (byRoles g u) state m z ss (rests-then .holds .1) write-ok in
-        let i = rest-inv g x (applyAll own (byRoles g u)) (writeState x state z ss) (afterWrite m z ss) γ r in
+        let i = rest-inv g x (applyAll own (byRoles g u)) (writeState x state z (length ss)) (afterWrite m z ss) γ r in
         let c1 = blank-emptied g x true emptied (newSectors g atState v) v (λ e a. done .done e a (present-below g x e a)) b in
         rw whole-is (blank-ordinary g x (rests-then .generations) u (rests-then .holds .0) own (write-ordinary g x (byRoles g u) state z ss) (afterWrite m z ss) (γ, i, q) c1)
 

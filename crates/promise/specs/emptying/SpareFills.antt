@@ -11,14 +11,14 @@ use lib.ListN.{length, take}
 use Rattle.tables.specs.meaning.Below.{maxBelow}
 use Rattle.tables.specs.meaning.Lists.{anyOf}
 use Rattle.tables.specs.meaning.Device.{ZoneView, Device}
-use Rattle.tables.specs.laws.Drives.{presentBut}
+use Rattle.tables.specs.meaning.Drives.{presentBut}
 use Rattle.tables.specs.declared.Geometry.{Geometry}
 use Rattle.tables.specs.meaning.Geometry.{Valid, dataZone}
 use Rattle.logs.specs.meaning.Entry.{generalZone, parityZone, spareZone, Entry}
 use Rattle.logs.specs.meaning.Walk.{walkLog}
 use Rattle.logs.specs.meaning.Heads.{isReset, leastSeal, generationIn}
 use Rattle.volume.specs.meaning.Rules.{generalHeads, parityEntries, generationOf}
-use Rattle.volume.specs.meaning.Roles.{claim, Roles, zoneOfRole, byRoles}
+use Rattle.volume.specs.meaning.Roles.{zoneClaim, Roles, zoneOfRole, byRoles}
 use Rattle.volume.specs.laws.Depends.{pick-same}
 use Rattle.volume.specs.laws.Firm.{Firm, proper-apart, role-one-to-one, firm-seen, firm-same}
 use Rattle.promise.specs.meaning.Ledger.{Ledger}
@@ -68,7 +68,7 @@ module _ (g : Geometry) (ok : Valid g) (x : ℕ) (u w : Device) (same : SameRead
 -- ---- the spare of drive d, of roles r, fills; nothing else changed
 pub record SpareFills (g : Geometry) (x d : ℕ) (r : Roles) (v w : Device) : Type 0 where
   pub others : (e y : ℕ) → Here g x e → (e ≢ d) ⊎ (y ≢ r .spare) → w e y ≡ v e y
-  pub silent : (k : ℕ) (par : Bool) → claim g d par (take k (w d (r .spare) .sectors)) ≡ 0
+  pub silent : (k : ℕ) (par : Bool) → zoneClaim g d par (take k (w d (r .spare) .sectors)) ≡ 0
   pub lasts : w d (r .spare) .durable ≤ length (w d (r .spare) .sectors)
   pub fits : length (w d (r .spare) .sectors) ≤ g .capacity
 

@@ -21,7 +21,8 @@ use Rattle.tables.specs.laws.Local.{LocalStore, appendHere, resetHere, flushHer
 use Rattle.tables.specs.meaning.Cached.{uncached}
 use Rattle.tables.specs.meaning.Phases.{onPresent}
 use Rattle.tables.specs.meaning.Through.{carry}
-use Rattle.tables.specs.laws.Drives.{presentBut, present-below}
+use Rattle.tables.specs.meaning.Drives.{presentBut}
+use Rattle.tables.specs.laws.Drives.{present-below}
 use Rattle.tables.specs.declared.Geometry.{Geometry}
 use Rattle.logs.specs.meaning.Entry.{spareZone}
 use Rattle.volume.specs.meaning.Roles.{strength, Roles, roles, zoneOfRole, placedBy, byRoles}

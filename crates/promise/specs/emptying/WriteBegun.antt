@@ -110,6 +110,7 @@ module _ (g : Geometry) (ok : Valid g) (x : ℕ) (v : Device) (state : StateView
     general-reads = lg .general-reads;
     first = lg .first;
     first-lasts = lg .first-lasts;
+    arrays = lg .arrays;
     labels = lg .labels;
     general-closes = lg .general-closes;
     general-closed = lg .general-closed;

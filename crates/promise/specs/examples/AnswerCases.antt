@@ -14,6 +14,7 @@ use Rattle.tables.specs.meaning.LittleEndian.{sameBytes}
 use Rattle.volume.specs.declared.Condition.{Condition}
 use Rattle.volume.specs.declared.Condition.the-variants.{Empty, Open, Sealed, Worn}
 use Rattle.volume.specs.meaning.State.{StateView}
+use Rattle.volume.specs.meaning.Calls.{formatState}
 use Rattle.volume.specs.meaning.Answers.{Given, refused, given, formatCall, lookCall, mountCall, writeCall, flushCall, resetCall, readCall, peekCall}
 use Rattle.promise.specs.examples.Example.{geo, lengths, every, noStop, does, numberOf, givenNumber, blank, formatted, formattedState, bytes, writtenState, writtenDevice, filled}
 use Rattle.promise.specs.meaning.Claim.{allBut}
@@ -57,7 +58,7 @@ answered =
     ∷ (numberOf (does (flushCall geo lengths (allBut 2) formattedState) formattedState 3 formatted), 0)
     ∷ (numberOf (does (resetCall geo lengths every formattedState 1) formattedState noStop formatted), 0)
     -- 1
-    ∷ (numberOf (does (flushCall geo lengths every (record { lost = 4; generation = λ z. 1; condition = λ z. Empty })) (record { lost = 4; generation = λ z. 1; condition = λ z. Empty }) noStop formatted), 1)
+    ∷ (numberOf (does (flushCall geo lengths every (formatState 4)) (formatState 4) noStop formatted), 1)
     ∷ (numberOf (does (flushCall geo lengths every (being (Open 97) 1)) (being (Open 97) 1) noStop formatted), 1)
     ∷ (numberOf (does (flushCall geo lengths every (being (Open 96) 1)) (being (Open 96) 1) noStop formatted), 0)
     -- 2
@@ -69,8 +70,8 @@ answered =
     ∷ (givenNumber (lookCall geo lengths (allBut 3) (filled 3 2 33 zeroSector)), 0)
     -- 4
     ∷ (givenNumber (lookCall geo lengths (λ d. ltb d 2) formatted), 4)
-    ∷ (numberOf (does (flushCall geo lengths (allBut 1) (record { lost = 2; generation = λ z. 1; condition = λ z. Empty })) (record { lost = 2; generation = λ z. 1; condition = λ z. Empty }) noStop formatted), 4)
-    ∷ (numberOf (does (flushCall geo lengths (allBut 2) (record { lost = 2; generation = λ z. 1; condition = λ z. Empty })) (record { lost = 2; generation = λ z. 1; condition = λ z. Empty }) noStop formatted), 0)
+    ∷ (numberOf (does (flushCall geo lengths (allBut 1) (formatState 2)) (formatState 2) noStop formatted), 4)
+    ∷ (numberOf (does (flushCall geo lengths (allBut 2) (formatState 2)) (formatState 2) noStop formatted), 0)
     -- 5, 6
     ∷ (givenNumber (lookCall geo lengths every blank), 5)
     ∷ (givenNumber (lookCall geo lengths every (filled 2 1 1 zeroSector)), 6)

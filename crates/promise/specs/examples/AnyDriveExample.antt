@@ -1,11 +1,13 @@
--- Any drive may go after a mount: a history that meets the hypotheses, with a sealed zone, an open one inside a stripe and an empty one, computed; and why nothing may
--- be stored since the mount: five sectors written, not flushed, and a cut that loses their parity entry. All drives show them still; without drive 0 there is nothing.
+-- Any drive may go after a mount: a history that meets the hypotheses, with a sealed zone, an open one inside a stripe and an empty one, a reset that is stopped before
+-- its first store, and a cut, computed; and why nothing may be stored since the mount: five sectors written, not flushed, and a cut that loses their parity entry. All
+-- drives show them still; without drive 0 there is nothing.
 use mathlib.Core.Path.{_≡_, refl, sym}
+use mathlib.Core.Logic.{inl, inr}
 use mathlib.Core.Bool.{Bool, true, false, _&&_, true≢false}
 use Prim.Native.Nat.{ℕ, _+_, _≤_, _<_, min}
 use native.Mathlib.Omega.{arith}
 use mathlib.Core.List.{List, [], _∷_, _++_}
-use lib.ListN.{length, getD}
+use lib.ListN.{length, getD, length-take}
 use lib.Dec.{eqb, T, lit<}
 use borrow.Author.Tests.{ne-eqb, eqb-true}
 use Rattle.tables.specs.meaning.Basics.{pick}
@@ -24,11 +26,11 @@ use Rattle.volume.specs.meaning.Refusals.{TableLengths, firstRefusal}
 use Rattle.volume.specs.meaning.Rules.{Shown, ZoneShown}
 use Rattle.volume.specs.meaning.State.{StateView}
 use Rattle.volume.specs.meaning.Answers.{leftOut}
-use Rattle.promise.specs.meaning.Claim.{Volume, allBut, Call, mounts, writes, flushes, formats, ready, down, modeAfter, System, Event, calls, looks, reads, reports, cuts, next, NamesAll, Dutiful, start}
+use Rattle.promise.specs.meaning.Claim.{Volume, allBut, Call, mounts, flushes, resets, formats, Mode, ready, stopped, down, modeAfter, System, Event, calls, looks, reads, reports, cuts, next, NamesAll, Dutiful, start}
 use Rattle.promise.specs.meaning.OnDevice.{callOf, onDevice}
-use Rattle.promise.specs.meaning.ResetLasts.{afterAll}
-use Rattle.promise.specs.meaning.AnyDrive.{AllStoreNothing, AnyDriveMayGo}
-use Rattle.promise.specs.examples.Example.{every, noStop, blank, formattedState, bytes}
+use Rattle.promise.specs.meaning.Histories.{afterAll}
+use Rattle.promise.specs.meaning.AnyDrive.{NoneStored, AllStoreNothing, AnyDriveMayGo}
+use Rattle.promise.specs.examples.Example.{every, noStop, blank, formattedState, bytes, writing}
 use Rattle.promise.specs.examples.Cases.{sameCondition}
 use Rattle.promise.specs.examples.ClaimExample.{isMode, all, all-at, ready-is, may-mount, answer-well-formed, blank-well-formed, done}
 use Rattle.promise.specs.examples.Opened.{deviceOpen}
@@ -48,13 +50,13 @@ vol = onDevice geo lengths
 abbrev cutTo : List ℕ → Device → Device
 cutTo ks v d y = keepFirst (min (length (v d y .sectors)) (v d y .durable + pick (eqb y 3) (getD ks d 0) 0)) (v d y)
 
--- ---- the history: zone 1 is written inside a stripe and flushed; zone 0 is written; a cut leaves three sectors of it, and one past them; a mount; a look that is
--- handed on, a read, a write that is refused and a report
+-- ---- the history: zone 1 is written inside a stripe and flushed; zone 0 is written; a cut leaves three sectors of it, and one past them; a mount; a look,
+-- a read, a write that is refused, a report, a reset that is stopped before its first store; a cut; a look
 abbrev s0 : System vol
 s0 = start geo vol every (vol .call (formats 7) every formattedState noStop blank)
 
 abbrev e1 : Event vol
-e1 = calls (writes 48 3 (bytes 3 7)) every noStop
+e1 = calls (writing 48 3 7) every noStop
 
 abbrev s1 : System vol
 s1 = next geo vol s0 e1
@@ -66,7 +68,7 @@ abbrev s2 : System vol
 s2 = next geo vol s1 e2
 
 abbrev e3 : Event vol
-e3 = calls (writes 0 5 (bytes 5 9)) every noStop
+e3 = calls (writing 0 5 9) every noStop
 
 abbrev s3 : System vol
 s3 = next geo vol s2 e3
@@ -81,7 +83,7 @@ abbrev mounted : System vol
 mounted = next geo vol s4 (calls mounts every noStop)
 
 abbrev f1 : Event vol
-f1 = looks every true
+f1 = looks every
 
 abbrev t1 : System vol
 t1 = next geo vol mounted f1
@@ -90,7 +92,7 @@ abbrev f2 : Event vol
 f2 = reads every 48 3 (bytes 3 0)
 
 abbrev f3 : Event vol
-f3 = calls (writes 0 1 (bytes 1 5)) every noStop
+f3 = calls (writing 0 1 5) every noStop
 
 abbrev t3 : System vol
 t3 = next geo vol t1 f3
@@ -98,11 +100,26 @@ t3 = next geo vol t1 f3
 abbrev f4 : Event vol
 f4 = reports []
 
+abbrev f5 : Event vol
+f5 = calls (resets 0) every 0
+
+abbrev t5 : System vol
+t5 = next geo vol t3 f5
+
+abbrev f6 : Event vol
+f6 = cuts (cutTo [] (t5 .memory))
+
+abbrev t6 : System vol
+t6 = next geo vol t5 f6
+
+abbrev f7 : Event vol
+f7 = looks every
+
 abbrev before : List (Event vol)
 before = e1 ∷ e2 ∷ e3 ∷ e4 ∷ []
 
 abbrev after : List (Event vol)
-after = f1 ∷ f2 ∷ f3 ∷ f4 ∷ []
+after = f1 ∷ f2 ∷ f3 ∷ f4 ∷ f5 ∷ f6 ∷ f7 ∷ []
 
 -- zone 0 of the other history, behind the same write: a cut that keeps its sectors, without their entry
 abbrev torn : System vol
@@ -132,14 +149,18 @@ wentSo =
     let m = next geo vol a4 (calls mounts every noStop) in
     let b1 = next geo vol m f1 in
     let b3 = next geo vol b1 f3 in
+    let b5 = next geo vol b3 f5 in
+    let b6 = next geo vol b5 (cuts (cutTo [] (b5 .memory))) in
     let c = next geo vol a3 (cuts (cutTo (2 ∷ 2 ∷ 1 ∷ 0 ∷ []) (a3 .memory))) in
     isMode ready (a1 .mode) ∷ isMode ready (a2 .mode) ∷ isMode ready (a3 .mode) ∷ isMode ready (m .mode) ∷ isMode ready (b1 .mode) ∷ isMode ready (b3 .mode)
     -- the write is refused: not at the pointer
-    ∷ refusedBy 10 (vol .call (writes 0 1 (bytes 1 5)) every (b1 .state) noStop (b1 .memory) .answer)
+    ∷ refusedBy 10 (vol .call (writing 0 1 5) every (b1 .state) noStop (b1 .memory) .answer)
     -- with all drives, and without any one
     ∷ showsThree (vol .shows every (b3 .memory) (b3 .memory)) ∷ allBelow (λ x. showsThree (vol .shows (allBut x) (b3 .memory) (b3 .memory))) 4
     -- not after the other cut: with all drives five sectors, without drive 0 none
-    ∷ eqb (vol .shows every (c .memory) (c .memory) .zone 0 .pointer) 5 ∷ eqb (vol .shows (allBut 0) (c .memory) (c .memory) .zone 0 .pointer) 0 ∷ []
+    ∷ eqb (vol .shows every (c .memory) (c .memory) .zone 0 .pointer) 5 ∷ eqb (vol .shows (allBut 0) (c .memory) (c .memory) .zone 0 .pointer) 0
+    -- the reset is not finished; after the cut a look shows the same
+    ∷ isMode stopped (b5 .mode) ∷ showsThree (vol .shows every (b6 .memory) (b6 .memory)) ∷ allBelow (λ x. showsThree (vol .shows (allBut x) (b6 .memory) (b6 .memory))) 4 ∷ []
 
 pub history-goes : T (all wentSo)
 unfolding deviceOpen wentSo
@@ -165,15 +186,25 @@ ready-t3 : t3 .mode ≡ ready
 unfolding wentSo
 ready-t3 = ready-is (t3 .mode) (all-at wentSo history-goes 5)
 
-refused-with : (a : Answer) → refusedBy 10 a ≡ true → (n : ℕ) × (a ≡ Refused n)
-refused-with Finished e = absurd (true≢false (sym e))
-refused-with Unfinished e = absurd (true≢false (sym e))
-refused-with (Refused n) e = (n, refl)
-refused-with (BadLog b) e = absurd (true≢false (sym e))
+refused-stores : (a : Answer) (stop : ℕ) → refusedBy 10 a ≡ true → NoneStored a stop
+refused-stores Finished stop e = absurd (true≢false (sym e))
+refused-stores Unfinished stop e = absurd (true≢false (sym e))
+refused-stores (Refused n) stop e = tt
+refused-stores (BadLog b) stop e = absurd (true≢false (sym e))
 
-write-refused : (n : ℕ) × (vol .call (writes 0 1 (bytes 1 5)) every (t1 .state) noStop (t1 .memory) .answer ≡ Refused n)
+write-stores : NoneStored (vol .call (writing 0 1 5) every (t1 .state) noStop (t1 .memory) .answer) noStop
 unfolding wentSo
-write-refused = refused-with (vol .call (writes 0 1 (bytes 1 5)) every (t1 .state) noStop (t1 .memory) .answer) (all-at wentSo history-goes 6)
+write-stores = refused-stores (vol .call (writing 0 1 5) every (t1 .state) noStop (t1 .memory) .answer) noStop (all-at wentSo history-goes 6)
+
+stopped-stores : (a : Answer) (m : Mode) → isMode stopped (modeAfter a m) ≡ true → m ≡ ready → NoneStored a 0
+stopped-stores Finished m e q = absurd (true≢false (sym e))
+stopped-stores Unfinished m e q = refl
+stopped-stores (Refused n) m e q = tt
+stopped-stores (BadLog b) m e q = tt
+
+reset-stores : NoneStored (vol .call (resets 0) every (t3 .state) 0 (t3 .memory) .answer) 0
+unfolding wentSo
+reset-stores = stopped-stores (vol .call (resets 0) every (t3 .state) 0 (t3 .memory) .answer) (t3 .mode) (all-at wentSo history-goes 11) ready-t3
 
 -- a call after a cut that leaves the volume ready has finished
 finished-since : (a : Answer) → modeAfter a down ≡ ready → a ≡ Finished
@@ -202,29 +233,42 @@ unfolding Cut WellFormed
 cut-keeps ks x v h d y n = let k = pick (eqb y 3) (getD ks d 0) 0 in let a = v d y .durable in let b = length (v d y .sectors) in let w : a ≤ b = h d y in
     record { kept = min b (a + k); least = omega (arith, w); most = omega arith; is = refl }
 
-call-well-formed : (c : Call) (old : StateView) (v : Device) → WellFormed v → WellFormed (vol .call c every old noStop v .memory)
-call-well-formed c old v h = let k = callOf geo lengths c every old v in answer-well-formed (firstRefusal (k .refusals)) (k .stores) (k .state) old noStop v h
+cut-well-formed : (ks : List ℕ) (v : Device) → WellFormed (cutTo ks v)
+unfolding WellFormed
+cut-well-formed ks v d y = let k = pick (eqb y 3) (getD ks d 0) 0 in let n = min (length (v d y .sectors)) (v d y .durable + k) in rw (length-take n (v d y .sectors)) (omega arith)
+
+call-well-formed : (c : Call) (old : StateView) (stop : ℕ) (v : Device) → WellFormed v → WellFormed (vol .call c every old stop v .memory)
+call-well-formed c old stop v h = let k = callOf geo lengths c every old v in answer-well-formed (firstRefusal (k .refusals)) (k .stores) (k .state) old stop v h
 
 well-formed-3 : WellFormed (s3 .memory)
-well-formed-3 = call-well-formed (writes 0 5 (bytes 5 9)) (s2 .state) (s2 .memory) (call-well-formed flushes (s1 .state) (s1 .memory) (call-well-formed (writes 48 3 (bytes 3 7)) (s0 .state) (s0 .memory) (call-well-formed (formats 7) formattedState blank blank-well-formed)))
+well-formed-3 =
+    call-well-formed (writing 0 5 9) (s2 .state) noStop (s2 .memory) (call-well-formed flushes (s1 .state) noStop (s1 .memory)
+    (call-well-formed (writing 48 3 7) (s0 .state) noStop (s0 .memory) (call-well-formed (formats 7) formattedState noStop blank blank-well-formed)))
+
+well-formed-t5 : WellFormed (t5 .memory)
+well-formed-t5 =
+    call-well-formed (resets 0) (t3 .state) 0 (t3 .memory) (call-well-formed (writing 0 1 5) (t1 .state) noStop (t1 .memory)
+    (call-well-formed mounts (s4 .state) noStop (s4 .memory) (cut-well-formed (2 ∷ 1 ∷ 1 ∷ 0 ∷ []) (s3 .memory))))
 
 pub duties-done : Dutiful geo vol s0 (before ++ (calls mounts every noStop ∷ after))
 duties-done =
     done (names-all s0 none-lost, refl, tt) (done (names-all s1 none-lost, ready-1, tt) (done (names-all s2 none-lost, ready-2, tt) (done (cut-keeps (2 ∷ 1 ∷ 1 ∷ 0 ∷ []) (s3 .lost) (s3 .memory) well-formed-3)
-    (done (names-all s4 none-lost, tt, tt) (done (names-all mounted none-lost, may-mount (mounted .mode) ready-mounted) (done (names-all t1 none-lost, ready-t1) (done (names-all t1 none-lost, ready-t1, tt) (done ready-t3 tt))))))))
+    (done (names-all s4 none-lost, tt, tt) (done (names-all mounted none-lost, may-mount (mounted .mode) ready-mounted) (done (names-all t1 none-lost, ready-t1) (done (names-all t1 none-lost, ready-t1, tt) (done ready-t3
+    (done (names-all t3 none-lost, ready-t3, tt) (done (cut-keeps [] (t5 .lost) (t5 .memory) well-formed-t5) (done (names-all t6 none-lost, tt) tt)))))))))))
 
 nothing-stored : AllStoreNothing geo vol mounted after
-nothing-stored = done tt (done tt (done write-refused (done tt tt)))
+nothing-stored = done tt (done tt (done write-stores (done tt (done reset-stores (done tt (done tt tt))))))
 
 -- ---- and what the theorem says of it
-pub any-drive-here : AnyDriveMayGo geo vol (afterAll geo vol mounted after)
+pub any-drive-here : AnyDriveMayGo geo vol (vol .shows every (s4 .memory) (mounted .memory)) (mounted .state) (afterAll geo vol mounted after)
 any-drive-here = any-drive-on-device geo lengths every 7 formattedState noStop blank (lit< tt) format-finishes before after every noStop duties-done none-lost (finished-since (vol .call mounts every (s4 .state) noStop (s4 .memory) .answer) ready-mounted) nothing-stored
 
 -- ---- of the other one it would not hold
-pub not-after-a-write : AnyDriveMayGo geo vol torn → ⊥
-unfolding wentSo
-not-after-a-write h =
-    let q = h .looks-as 0 (lit< tt) every (allBut 0) (names-all torn none-lost) (λ d b. refl) .shown .pointers 0 (lit< tt) in
+pub not-after-a-write : (k : Shown) (handed : StateView) → AnyDriveMayGo geo vol k handed torn → ⊥
+unfolding wentSo leftOut
+not-after-a-write k handed h =
+    let p = h noDrive (inl refl) every (names-all torn none-lost .drives) .shown .pointers 0 (lit< tt) in
+    let q = h 0 (inr (lit< tt)) (allBut 0) (λ d b. refl) .shown .pointers 0 (lit< tt) in
     let five : vol .shows every (torn .memory) (torn .memory) .zone 0 .pointer ≡ 5 = eqb-true _ 5 (all-at wentSo history-goes 9) in
     let none : vol .shows (allBut 0) (torn .memory) (torn .memory) .zone 0 .pointer ≡ 0 = eqb-true _ 0 (all-at wentSo history-goes 10) in
-    omega (arith, q, five, none)
+    omega (arith, p, q, five, none)

@@ -1,8 +1,8 @@
 -- The claim of drives that cache resets is not empty: a history on document 01's example in which an unflushed reset is brought back, with its duties done, and what
 -- the claim says of it. Five sectors are written and flushed; the reset of their zone is stopped before its second flush; a cut brings the zone back on drives
 -- 0 and 2, and leaves it reset on 1 and 3; a look shows it empty; a mount by all drives finishes; two sectors are written and read.
-use Rattle.promise.specs.meaning.Claim.{Volume, allBut, mounts, writes, flushes, resets, formats, ready, stopped, down, System, Event, calls, looks, reads, cuts, NamesAll, Dutiful, Throughout, start}
-use Rattle.promise.specs.meaning.ResetLasts.{afterAll}
+use Rattle.promise.specs.meaning.Claim.{Volume, allBut, mounts, flushes, resets, formats, ready, stopped, down, System, Event, calls, looks, reads, cuts, NamesAll, Dutiful, Throughout, start}
+use Rattle.promise.specs.meaning.Histories.{afterAll}
 use Rattle.promise.specs.meaning.Caches.{WithCaches, onCachingDevice}
 use Rattle.volume.specs.meaning.Answers.{leftOut}
 use Rattle.volume.specs.declared.Answer.the-variants.{Finished}
@@ -23,7 +23,7 @@ use borrow.Author.Tests.{ne-eqb, leb-true}
 use Rattle.tables.specs.meaning.Basics.{pick}
 use Rattle.tables.specs.meaning.Drives.{noDrive}
 use Rattle.promise.specs.device.CachedClaim.{caching-device-keeps-the-promise}
-use Rattle.promise.specs.examples.Example.{geo, lengths, every, noStop, blank, formattedState, bytes}
+use Rattle.promise.specs.examples.Example.{geo, lengths, every, noStop, blank, formattedState, bytes, writing}
 use Rattle.promise.specs.examples.ClaimExample.{isMode, all, all-at, ready-is, done, call-well-formed, blank-well-formed}
 use Rattle.promise.specs.examples.Opened.{deviceOpen}
 
@@ -64,10 +64,10 @@ s0 = start geo vol every (vol .call (formats 7) every formattedState noStop blan
 
 -- the reset is stopped once the zone is reset on the four drives: two entries, four flushes, four resets
 abbrev before : List (Event vol)
-before = calls (writes 0 5 (bytes 5 9)) every noStop ∷ calls flushes every noStop ∷ calls (resets 0) every 10 ∷ []
+before = calls (writing 0 5 9) every noStop ∷ calls flushes every noStop ∷ calls (resets 0) every 10 ∷ []
 
 abbrev after : WithCaches Device → List (Event vol)
-after m = cuts (cutTo m) ∷ looks every false ∷ calls mounts every noStop ∷ calls (writes 0 2 (bytes 2 6)) every noStop ∷ reads every 0 2 (bytes 2 0) ∷ []
+after m = cuts (cutTo m) ∷ looks every ∷ calls mounts every noStop ∷ calls (writing 0 2 6) every noStop ∷ reads every 0 2 (bytes 2 0) ∷ []
 
 abbrev history : List (Event vol)
 history = before ++ after (afterAll geo vol s0 before .memory)
@@ -124,7 +124,7 @@ names-all s e = record { drives = λ d h. sym (not-lost d h) }
 well-formed-3 : WellFormed (point 3 .memory .memory)
 well-formed-3 =
     call-well-formed (resets 0) every (point 2 .state) 10 (point 2 .memory .memory) (call-well-formed flushes every (point 1 .state) noStop (point 1 .memory .memory)
-    (call-well-formed (writes 0 5 (bytes 5 9)) every (s0 .state) noStop (s0 .memory .memory) (call-well-formed (formats 7) every formattedState noStop blank blank-well-formed)))
+    (call-well-formed (writing 0 5 9) every (s0 .state) noStop (s0 .memory .memory) (call-well-formed (formats 7) every formattedState noStop blank blank-well-formed)))
 
 pub duties-done : Dutiful geo vol s0 history
 unfolding wentSo

@@ -1,8 +1,8 @@
 -- The promise on the tables of drives that cache resets is not empty: a history on small tables, computed on the lent bytes, in which an unflushed reset is
 -- brought back. A sector is written and flushed; the reset of its zone is stopped before its second flush; a cut brings the sector back on drive 0; a look shows
 -- the zone empty; a mount by all drives finishes; two sectors are written and read.
-use Rattle.promise.specs.meaning.Claim.{Volume, mounts, writes, flushes, resets, formats, ready, stopped, down, System, Event, calls, looks, reads, cuts, NamesAll, Dutiful, Throughout, start}
-use Rattle.promise.specs.meaning.ResetLasts.{afterAll}
+use Rattle.promise.specs.meaning.Claim.{Volume, mounts, flushes, resets, formats, ready, stopped, down, System, Event, calls, looks, reads, cuts, NamesAll, Dutiful, Throughout, start}
+use Rattle.promise.specs.meaning.Histories.{afterAll}
 use Rattle.promise.specs.meaning.Caches.{WithCaches}
 use Rattle.promise.specs.meaning.CachesOnTables.{ZoneKept, ZoneBack, TablesCachingCut, onCachingTables}
 use Rattle.tables.specs.declared.Geometry.{Geometry}
@@ -28,9 +28,9 @@ use lib.ListN.{length, getD, take, drop}
 use lib.Dec.{eqb, leb, T, lit<}
 use borrow.Author.Tests.{ne-eqb, eqb-true, leb-true}
 use Rattle.promise.specs.tables.CachedTablesClaim.{caching-tables-keep-the-promise}
-use Rattle.promise.specs.examples.Example.{noStop}
+use Rattle.promise.specs.examples.Example.{noStop, writing}
 use Rattle.promise.specs.examples.ClaimExample.{isMode, all, all-at, ready-is, done}
-use Rattle.promise.specs.examples.TablesHistory.{small, zeros, every, bytes, held, every-set}
+use Rattle.promise.specs.examples.TablesHistory.{small, zeros, every, bytes, oldState, every-set}
 use Rattle.promise.specs.examples.Opened.{tablesOpen}
 
 -- ---- a cut, found so by a test of every zone: its pointer lies between durable and written, or it is the view remembered last, whole or in part
@@ -91,18 +91,18 @@ abbrev zeroDrives : WithCaches Tables
 zeroDrives = record { memory = zeros; was = λ d z. [] }
 
 abbrev s0 : System vol
-s0 = start small vol every (vol .call (formats 7) every held noStop zeroDrives)
+s0 = start small vol every (vol .call (formats 7) every oldState noStop zeroDrives)
 
 -- the reset is stopped once the zone is reset on the three drives: two entries, three flushes, three resets
 abbrev before : List (Event vol)
-before = calls (writes 0 1 (bytes 1 9)) every noStop ∷ calls flushes every noStop ∷ calls (resets 0) every 8 ∷ []
+before = calls (writing 0 1 9) every noStop ∷ calls flushes every noStop ∷ calls (resets 0) every 8 ∷ []
 
 -- drive 0's zone has its sector again
 abbrev cutTo : WithCaches Tables → WithCaches Tables
 cutTo m = let ws = overlay (m .memory .durable) 3 (1 ∷ []) in record { memory = record { sectors = m .memory .sectors; written = ws; durable = ws }; was = λ d z. [] }
 
 abbrev after : WithCaches Tables → List (Event vol)
-after m = cuts (cutTo m) ∷ looks every false ∷ calls mounts every noStop ∷ calls (writes 0 2 (bytes 2 6)) every noStop ∷ reads every 0 2 (bytes 2 0) ∷ []
+after m = cuts (cutTo m) ∷ looks every ∷ calls mounts every noStop ∷ calls (writing 0 2 6) every noStop ∷ reads every 0 2 (bytes 2 0) ∷ []
 
 abbrev history : List (Event vol)
 history = before ++ after (afterAll small vol s0 before .memory)
@@ -131,7 +131,7 @@ wentSo =
     ∷ zonesTest small (a3 .memory .memory) (a3 .memory .was) (cut .memory) ∷ eqb (length (cut .memory .written)) (length (a3 .memory .memory .written))
     ∷ eqb (length (cut .memory .written)) (length (a3 .memory .memory .durable)) ∷ eqb (pointer a4 3) 1 ∷ isMode down (a4 .mode) ∷ eqb (vol .shows every (a4 .memory) (a4 .memory) .zone 0 .pointer) 0
     -- the mount resets the zone again and flushes, then raises the counters; the volume goes on
-    ∷ isMode ready (a6 .mode) ∷ isMode ready (a7 .mode) ∷ not (a6 .ledger .resetting 0) ∷ eqb (pointer a6 3) 0 ∷ eqb (length (a6 .memory .was 0 3)) 0 ∷ eqb (vol .generation (a6 .state) 0) 2
+    ∷ isMode ready (a6 .mode) ∷ isMode ready (a7 .mode) ∷ not (a6 .ledger .resetting 0) ∷ eqb (pointer a6 3) 0 ∷ eqb (length (a6 .memory .was 0 3)) 0 ∷ eqb (vol .view (a6 .state) .generation 0) 2
     ∷ eqb (length (a7 .ledger .content 0)) 2 ∷ []
 
 pub history-goes : T (all wentSo)
@@ -143,7 +143,7 @@ none-lost : s0 .lost ≡ noDrive
 unfolding leftOut
 none-lost = refl
 
-format-finishes : vol .call (formats 7) every held noStop zeroDrives .answer ≡ Finished
+format-finishes : vol .call (formats 7) every oldState noStop zeroDrives .answer ≡ Finished
 unfolding tablesOpen
 format-finishes = refl
 
@@ -167,4 +167,4 @@ duties-done =
 
 -- ---- and what the promise says of it
 pub history-keeps-the-promise : Throughout small vol s0 history
-history-keeps-the-promise = caching-tables-keep-the-promise small every 7 held noStop zeroDrives (lit< tt) format-finishes history duties-done
+history-keeps-the-promise = caching-tables-keep-the-promise small every 7 oldState noStop zeroDrives (lit< tt) format-finishes history duties-done

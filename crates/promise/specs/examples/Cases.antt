@@ -11,8 +11,7 @@ use lib.ListN.{length, getD, take, replicate}
 use lib.Dec.{eqb, T}
 use Rattle.tables.specs.meaning.Device.{Device, applyAll}
 use Rattle.tables.specs.meaning.Placement.{needed}
-use Rattle.tables.specs.meaning.Drives.{noDrive}
-use Rattle.tables.specs.laws.Drives.{presentBut}
+use Rattle.tables.specs.meaning.Drives.{noDrive, presentBut}
 use Rattle.volume.specs.meaning.Rules.{Shown}
 use Rattle.volume.specs.declared.Condition.{Condition}
 use Rattle.volume.specs.declared.Condition.the-variants.{Empty, Open, Sealed, Worn}

@@ -2,7 +2,7 @@
 -- and flushed; a write at the wrong address is refused; a look is handed on; a peek; another zone is written and reset; the reset of the first one is
 -- stopped; a cut leaves just what is durable; a look shows that zone empty; drive 1 is lost, its memory gone; a mount by the others finishes; a write, a
 -- read and a peek.
-use Rattle.promise.specs.meaning.Claim.{Volume, pointerHeld, allBut, Call, mounts, writes, flushes, resets, formats, Mode, ready, stopped, down, System, Event, calls, looks, reads, peeks, cuts, loses, next, NamesAll, MayMount, Dutiful, Throughout, start}
+use Rattle.promise.specs.meaning.Claim.{Volume, pointerHeld, allBut, Call, mounts, flushes, resets, formats, Mode, ready, stopped, down, System, Event, calls, looks, reads, peeks, cuts, loses, next, NamesAll, MayMount, Dutiful, Throughout, start}
 use Rattle.promise.specs.meaning.OnDevice.{callOf, onDevice}
 use Rattle.volume.specs.meaning.Answers.{CallResult, storing, leftOut}
 use Rattle.volume.specs.declared.Answer.the-variants.{Finished, Unfinished}
@@ -10,7 +10,7 @@ use Rattle.volume.specs.meaning.Refusals.{refuse, accept, firstRefusal, Verdict
 use Rattle.tables.specs.laws.Device.{well-formed-apply-all, WellFormed}
 use Rattle.tables.specs.meaning.Device.{Store, applyAll, Device, blankZone, keepFirst, Cut, Loss}
 use native.Mathlib.Nat.{le-refl}
-use Rattle.promise.specs.examples.Example.{geo, lengths, every, noStop, blank, formattedState, bytes}
+use Rattle.promise.specs.examples.Example.{geo, lengths, every, noStop, blank, formattedState, bytes, writing}
 use mathlib.Core.Path.{_≡_, refl, sym}
 use mathlib.Core.Logic.{inl}
 use mathlib.Core.Bool.{Bool, true, false, _&&_, not, true≢false}
@@ -34,7 +34,7 @@ abbrev s0 : System vol
 s0 = start geo vol every (vol .call (formats 7) every formattedState noStop blank)
 
 abbrev e1 : Event vol
-e1 = calls (writes 0 5 (bytes 5 9)) every noStop
+e1 = calls (writing 0 5 9) every noStop
 
 abbrev s1 : System vol
 s1 = next geo vol s0 e1
@@ -47,14 +47,14 @@ s2 = next geo vol s1 e2
 
 -- refused: not at the pointer
 abbrev e3 : Event vol
-e3 = calls (writes 7 1 (bytes 1 8)) every noStop
+e3 = calls (writing 7 1 8) every noStop
 
 abbrev s3 : System vol
 s3 = next geo vol s2 e3
 
 -- its state is handed on
 abbrev e4 : Event vol
-e4 = looks every true
+e4 = looks every
 
 abbrev s4 : System vol
 s4 = next geo vol s3 e4
@@ -66,7 +66,7 @@ abbrev s5 : System vol
 s5 = next geo vol s4 e5
 
 abbrev e6 : Event vol
-e6 = calls (writes 96 3 (bytes 3 7)) every noStop
+e6 = calls (writing 96 3 7) every noStop
 
 abbrev s6 : System vol
 s6 = next geo vol s5 e6
@@ -94,7 +94,7 @@ abbrev s9 : System vol
 s9 = next geo vol s8 e9
 
 abbrev e10 : Event vol
-e10 = looks every false
+e10 = looks every
 
 abbrev s10 : System vol
 s10 = next geo vol s9 e10
@@ -116,7 +116,7 @@ abbrev s12 : System vol
 s12 = next geo vol s11 e12
 
 abbrev e13 : Event vol
-e13 = calls (writes 0 2 (bytes 2 6)) (allBut 1) noStop
+e13 = calls (writing 0 2 6) (allBut 1) noStop
 
 abbrev s13 : System vol
 s13 = next geo vol s12 e13
@@ -273,8 +273,8 @@ blank-well-formed d y = le-refl 0
 well-formed-8 : WellFormed (s8 .memory)
 well-formed-8 =
     call-well-formed (resets 0) every (s7 .state) 6 (s7 .memory) (call-well-formed (resets 1) every (s6 .state) noStop (s6 .memory)
-    (call-well-formed (writes 96 3 (bytes 3 7)) every (s5 .state) noStop (s5 .memory) (call-well-formed (writes 7 1 (bytes 1 8)) every (s2 .state) noStop (s2 .memory)
-    (call-well-formed flushes every (s1 .state) noStop (s1 .memory) (call-well-formed (writes 0 5 (bytes 5 9)) every (s0 .state) noStop (s0 .memory) (call-well-formed (formats 7) every formattedState noStop blank blank-well-formed))))))
+    (call-well-formed (writing 96 3 7) every (s5 .state) noStop (s5 .memory) (call-well-formed (writing 7 1 8) every (s2 .state) noStop (s2 .memory)
+    (call-well-formed flushes every (s1 .state) noStop (s1 .memory) (call-well-formed (writing 0 5 9) every (s0 .state) noStop (s0 .memory) (call-well-formed (formats 7) every formattedState noStop blank blank-well-formed))))))
 
 lose-1 : (v : Device) → Loss 1 v (λ d y. pick (eqb d 1) blankZone (v d y))
 unfolding Loss

@@ -15,6 +15,7 @@ use Rattle.volume.specs.meaning.Refusals.{TableLengths}
 use Rattle.volume.specs.meaning.Calls.{formatState}
 use Rattle.volume.specs.meaning.Answers.{CallResult, StoringCall, carriedOut, Given, refused, given, formatCall, writeCall}
 use Rattle.volume.specs.meaning.CallContracts.{answerNumber}
+use Rattle.promise.specs.meaning.Claim.{Call, writes}
 
 abbrev pub geo : Geometry
 geo = geometryOf 4 64 2 2 32
@@ -53,6 +54,10 @@ formatted = does (formatCall geo lengths every 7) formattedState noStop blank .m
 -- n sectors of bytes b
 abbrev pub bytes : ℕ → ℕ → List ℕ
 bytes n b = replicate (n * 64) b
+
+-- a write of them at address a
+abbrev pub writing : ℕ → ℕ → ℕ → Call
+writing a n b = writes (record { address = a; count = n; buffer = bytes n b })
 
 -- after a write of the first n sectors of zone 0
 abbrev pub writtenState : ℕ → StateView

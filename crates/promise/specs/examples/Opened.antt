@@ -9,13 +9,13 @@ use Rattle.volume.specs.meaning.Content.{rowXor, contentAt, rowXorBelow, entryA
 use Rattle.volume.specs.meaning.Rules.{viewOf, generalHeads, generalEnding, parityEntries, parityEnding, isLost, isPresent, generationOf, resetSeen, sealSeen, sealLimit, zoneView, valueAt, pointerAt, cleanAt, zoneAt, zoneShown, showing}
 use Rattle.volume.specs.meaning.State.{callPresent}
 use Rattle.logs.specs.meaning.Copies.{copiedGeneral}
-use Rattle.volume.specs.meaning.Roles.{claim, strength, rolesIn, driveByRoles}
+use Rattle.volume.specs.meaning.Roles.{zoneClaim, strength, rolesIn, driveByRoles}
 use Rattle.volume.specs.meaning.Emptying.{generalCopies, parityCopies, newGeneral, newParity, newGeneralSize, newParitySize, unusedIn, staysFull, emptiedFor, emptiedForWrite, emptyingStores, emptyings, emptyGeneral, emptyParity, writeAll, resetAll, goneForCopies}
 use Rattle.volume.specs.meaning.Answers.{lostIn, leftOut, namedDrives, sectorsIn}
 use Rattle.volume.specs.meaning.Refusals.{badPointers, twoLost, badLabels, kindLacks, badLogs, stateWithin, twoAbsent, twoUnnamed, stale, mountFull, resetFull, writeFull, goneIn, goneBefore, goneForEntry, notHeld, formatRows, lookRows, mountRows, writeRows, flushRows, resetRows, readRows, peekRows}
 use Rattle.volume.specs.meaning.Calls.{formatStores, writeStores, zoneContent, writeWith, flushStores, resetStores}
 use Rattle.volume.specs.meaning.Mount.{mountStores, phasesOfLogs, phasesBeforeEntries, phasesOfParityLogs, phasesOfEntries, mountLook, mountShows, afterOpening, spareStep, labelStep, resetEntryStep, zoneResetStep, counterStep, countersDiffer, sealStep, tornRowStep, fillStep, entryStep}
-use Rattle.volume.specs.meaning.CallContracts.{formatVerdict, formatOn, freshState, flushVerdict, flushOn, writeVerdict, writeOn, resetVerdict, resetOn, stateShown, lookVerdict, lookOn, mountVerdict, storesBefore, parityLogStores, storesToParityLogs, mountStoresOn, mountShownOn, mountOn, readNumber, valuesOn, readOn, peekNumber, peekOn}
+use Rattle.volume.specs.meaning.CallContracts.{recordsBelow, formatVerdict, formatOn, flushVerdict, flushOn, writeVerdict, writeOn, resetVerdict, resetOn, lookVerdict, lookOn, mountVerdict, storesBefore, parityLogStores, storesToParityLogs, mountStoresOn, mountShownOn, mountOn, readNumber, valuesOn, readOn, peekNumber, peekOn}
 
 -- geometry and placement
 unfoldable pub placementOpen : Bool
@@ -34,7 +34,7 @@ rulesOpen = true
 
 -- where the logs lie, and how they are emptied
 unfoldable pub rolesOpen : Bool
-unfolding claim strength rolesIn driveByRoles
+unfolding zoneClaim strength rolesIn driveByRoles
 rolesOpen = true
 
 unfoldable pub emptyingOpen : Bool
@@ -66,7 +66,7 @@ unfolding placementOpen entriesOpen rulesOpen rolesOpen emptyingOpen refusalsOpe
 deviceOpen = true
 
 unfoldable pub contractsOpen : Bool
-unfolding formatVerdict formatOn freshState flushVerdict flushOn writeVerdict writeOn resetVerdict resetOn stateShown lookVerdict lookOn mountVerdict storesBefore parityLogStores storesToParityLogs mountStoresOn mountShownOn mountOn readNumber valuesOn readOn peekNumber peekOn
+unfolding recordsBelow formatVerdict formatOn flushVerdict flushOn writeVerdict writeOn resetVerdict resetOn lookVerdict lookOn mountVerdict storesBefore parityLogStores storesToParityLogs mountStoresOn mountShownOn mountOn readNumber valuesOn readOn peekNumber peekOn
 contractsOpen = true
 
 unfoldable pub tablesOpen : Bool

@@ -2,7 +2,7 @@
 -- done, and what the promise says of it. A sector is written and flushed; a write at the wrong address is refused; a look is handed on; a peek; the zone is
 -- reset, and three sectors written and flushed; its reset is stopped; a cut leaves just what is durable; a look shows the zone empty; drive 2 is lost, its
 -- memory overwritten; a mount by the others finishes; a write, a read and a peek. (For every valid geometry: TablesExample.)
-use Rattle.promise.specs.meaning.Claim.{Volume, pointerHeld, allBut, mounts, writes, flushes, resets, formats, ready, stopped, down, System, Event, calls, looks, reads, peeks, cuts, loses, next, NamesAll, Dutiful, Throughout, start}
+use Rattle.promise.specs.meaning.Claim.{Volume, pointerHeld, allBut, mounts, flushes, resets, formats, ready, stopped, down, System, Event, calls, looks, reads, peeks, cuts, loses, next, NamesAll, Dutiful, Throughout, start}
 use Rattle.promise.specs.meaning.OnTables.{onTables}
 use Rattle.tables.specs.declared.Geometry.{Geometry}
 use Rattle.tables.specs.meaning.Lists.{overlay}
@@ -13,13 +13,14 @@ use Rattle.tables.specs.meaning.Geometry.{geometryOf}
 use Rattle.volume.specs.declared.State.{State}
 use Rattle.volume.specs.declared.Answer.the-variants.{Finished}
 use Rattle.volume.specs.meaning.Answers.{leftOut}
-use Rattle.volume.specs.meaning.CallContracts.{isSet, freshState}
+use Rattle.volume.specs.meaning.CallContracts.{isSet, stateHeld}
+use Rattle.volume.specs.meaning.Calls.{formatState}
 use Rattle.tables.specs.laws.Lists.{length-overlay, overlay-below}
 use Rattle.tables.specs.laws.Basics.{not-true}
 use Rattle.tables.specs.laws.Made.{WellSized}
 use Rattle.tables.specs.laws.PointerOrder.{order-passed, cut-to-durable}
 use Rattle.promise.specs.tables.CachedTablesClaim.{tables-keep-the-promise}
-use Rattle.promise.specs.examples.Example.{noStop}
+use Rattle.promise.specs.examples.Example.{noStop, writing}
 use Rattle.promise.specs.examples.ClaimExample.{isMode, all, all-at, ready-is, may-mount, done}
 use mathlib.Core.Bool.{Bool, true, false, not}
 use mathlib.Core.Path.{_≡_, refl, sym, ap, _∙_}
@@ -53,15 +54,15 @@ without2 = true ∷ true ∷ []
 abbrev pub bytes : ℕ → ℕ → List ℕ
 bytes n b = replicate (n * 64) b
 
-abbrev pub held : State
-held = freshState small noDrive
+abbrev pub oldState : State
+oldState = stateHeld (small .zones) (formatState noDrive)
 
 -- ---- the history, point by point
 abbrev s0 : System vol
-s0 = start small vol every (vol .call (formats 7) every held noStop zeros)
+s0 = start small vol every (vol .call (formats 7) every oldState noStop zeros)
 
 abbrev e1 : Event vol
-e1 = calls (writes 0 1 (bytes 1 9)) every noStop
+e1 = calls (writing 0 1 9) every noStop
 
 abbrev s1 : System vol
 s1 = next small vol s0 e1
@@ -74,14 +75,14 @@ s2 = next small vol s1 e2
 
 -- refused: not at the pointer
 abbrev e3 : Event vol
-e3 = calls (writes 3 1 (bytes 1 8)) every noStop
+e3 = calls (writing 3 1 8) every noStop
 
 abbrev s3 : System vol
 s3 = next small vol s2 e3
 
 -- its state is handed on
 abbrev e4 : Event vol
-e4 = looks every true
+e4 = looks every
 
 abbrev s4 : System vol
 s4 = next small vol s3 e4
@@ -99,7 +100,7 @@ abbrev s6 : System vol
 s6 = next small vol s5 e6
 
 abbrev e7 : Event vol
-e7 = calls (writes 0 3 (bytes 3 7)) every noStop
+e7 = calls (writing 0 3 7) every noStop
 
 abbrev s7 : System vol
 s7 = next small vol s6 e7
@@ -127,7 +128,7 @@ abbrev s10 : System vol
 s10 = next small vol s9 e10
 
 abbrev e11 : Event vol
-e11 = looks every false
+e11 = looks every
 
 abbrev s11 : System vol
 s11 = next small vol s10 e11
@@ -149,7 +150,7 @@ abbrev s13 : System vol
 s13 = next small vol s12 e13
 
 abbrev e14 : Event vol
-e14 = calls (writes 0 2 (bytes 2 6)) without2 noStop
+e14 = calls (writing 0 2 6) without2 noStop
 
 abbrev s14 : System vol
 s14 = next small vol s13 e14
@@ -192,9 +193,9 @@ wentSo =
     -- written and flushed; refused
     isMode ready (a1 .mode) ∷ isMode ready (a2 .mode) ∷ isMode ready (a3 .mode) ∷ eqb (a2 .ledger .committed 0) 1 ∷ eqb (length (a3 .ledger .content 0)) 1
     -- the look's state is what the host held
-    ∷ eqb (pointerHeld vol (a4 .state) 0) 1 ∷ eqb (vol .generation (a4 .state) 0) 1 ∷ eqb (vol .peek every (a4 .state) 0 (a4 .memory) .number) 0
+    ∷ eqb (pointerHeld vol (a4 .state) 0) 1 ∷ eqb (vol .view (a4 .state) .generation 0) 1 ∷ eqb (vol .peek every (a4 .state) 0 (a4 .memory) .number) 0
     -- a reset that finishes
-    ∷ isMode ready (a6 .mode) ∷ isMode ready (a7 .mode) ∷ isMode ready (a8 .mode) ∷ eqb (length (a6 .ledger .content 0)) 0 ∷ eqb (vol .generation (a6 .state) 0) 2 ∷ eqb (a8 .ledger .committed 0) 3
+    ∷ isMode ready (a6 .mode) ∷ isMode ready (a7 .mode) ∷ isMode ready (a8 .mode) ∷ eqb (length (a6 .ledger .content 0)) 0 ∷ eqb (vol .view (a6 .state) .generation 0) 2 ∷ eqb (a8 .ledger .committed 0) 3
     -- one that is stopped: the flag is up, and what is committed is shown no more
     ∷ not (pointersBad small every (a9 .memory .written) (a9 .memory .durable)) ∷ eqb (length (a9 .memory .sectors)) 6912 ∷ eqb (length (a9 .memory .written)) 12 ∷ eqb (length (a9 .memory .durable)) 12
     ∷ isMode stopped (a9 .mode) ∷ a9 .ledger .resetting 0 ∷ eqb (a10 .ledger .committed 0) 3 ∷ isMode down (a10 .mode) ∷ eqb (vol .shows every (a10 .memory) (a10 .memory) .zone 0 .pointer) 0
@@ -218,7 +219,7 @@ none-lost : s0 .lost ≡ noDrive
 unfolding leftOut
 none-lost = refl
 
-format-finishes : vol .call (formats 7) every held noStop zeros .answer ≡ Finished
+format-finishes : vol .call (formats 7) every oldState noStop zeros .answer ≡ Finished
 unfolding tablesOpen
 format-finishes = refl
 
@@ -293,4 +294,4 @@ duties-done =
 
 -- ---- and what the promise says of it
 pub history-keeps-the-promise : Throughout small vol s0 history
-history-keeps-the-promise = tables-keep-the-promise small every 7 held noStop zeros (lit< tt) format-finishes history duties-done
+history-keeps-the-promise = tables-keep-the-promise small every 7 oldState noStop zeros (lit< tt) format-finishes history duties-done

@@ -11,19 +11,20 @@ use Prim.Native.Nat.{ℕ, _+_, _-_, _<_}
 use native.Mathlib.Nat.{le-refl, le-of-eq}
 use native.Mathlib.Omega.{arith}
 use mathlib.Core.List.{List·Memᴰ}
-use lib.ListN.{length}
+use lib.ListN.{length, take}
 use lib.Seq.{length-take-le, take-length}
 use Rattle.tables.specs.meaning.Device.{ZoneView, Device, ZoneCut, Loss}
 use Rattle.tables.specs.laws.Device.{cut-at, loss-at}
 use Rattle.tables.specs.declared.Geometry.{Geometry}
 use Rattle.tables.specs.meaning.Geometry.{Valid, dataZone}
 use Rattle.logs.specs.meaning.Entry.{generalZone, parityZone, Entry}
+use Rattle.logs.specs.meaning.Heads.{lastLost}
 use Rattle.logs.specs.laws.Walk.{Left}
 use Rattle.volume.specs.meaning.Content.{parityDriveAt}
 use Rattle.volume.specs.declared.Condition.{Condition}
 use Rattle.volume.specs.declared.Condition.the-variants.{Empty, Open, Sealed, Worn}
 use Rattle.promise.specs.meaning.Ledger.{Ledger}
-use Rattle.promise.specs.invariant.Invariant.{Ghost, Here, LogsOk, Plain, Shape}
+use Rattle.promise.specs.invariant.Invariant.{Ghost, Here, LogsOk, Names, Plain, Shape}
 use Rattle.promise.specs.invariant.HoldsLess.{withLogs, Less, less-zone, less-live}
 use Rattle.promise.specs.invariant.Obligations.{CutKeeps, LossKeeps, LossRests}
 
@@ -49,11 +50,11 @@ module _ (g : Geometry) (ok : Valid g) (x y : ℕ) (hy : y < g .drives) (one : (
   same : (d z : ℕ) → Here g y d → w d z ≡ v d z
   same d z a = loss-at y v w lo d z (present-not g y d a)
 
-  named-before : (n : ℕ) → (n ≡ noDrive) ⊎ (n ≡ x) → (n ≡ noDrive) ⊎ (n ≡ y)
+  named-before : (n : ℕ) → Names x n → Names y n
   named-before n (inl e) = inl e
   named-before n (inr e) = go one
     where
-      go : (x ≡ noDrive) ⊎ (x ≡ y) → (n ≡ noDrive) ⊎ (n ≡ y)
+      go : (x ≡ noDrive) ⊎ (x ≡ y) → Names y n
       go (inl q) = inl (e ∙ q)
       go (inr q) = inr (e ∙ q)
 
@@ -65,7 +66,8 @@ module _ (g : Geometry) (ok : Valid g) (x y : ℕ) (hy : y < g .drives) (one : (
     general-reads = λ d a. lg .general-reads d (here-before d a);
     first = λ d a. lg .first d (here-before d a);
     first-lasts = λ d a. rw (same d generalZone a) (lg .first-lasts d (here-before d a));
-    labels = λ d a n b m. let (p, q) = lg .labels d (here-before d a) n b m in (named-before n p, q);
+    arrays = λ d a. lg .arrays d (here-before d a);
+    labels = λ d a. rw (same d generalZone a) (λ j h. named-before (lastLost noDrive (take j (γ .general d))) (lg .labels d (here-before d a) j h));
     general-closes = λ d a. lg .general-closes d (here-before d a);
     general-closed = λ d a. rw (same d generalZone a) (lg .general-closed d (here-before d a));
     parity-closes = λ d a. lg .parity-closes d (here-before d a);

@@ -10,7 +10,7 @@ use Rattle.tables.specs.meaning.Device.{ZoneView, Device, Store, applyAll}
 use Rattle.tables.specs.laws.Local.{LocalStore, appendHere, resetHere, flushHere, applyHere, applyAllHere, localStores, local-is, local-append, NoReset, no-reset-front}
 use Rattle.tables.specs.meaning.Cached.{Caching, uncached, applyAllCaching}
 use Rattle.tables.specs.laws.Cached.{caching-append, now-is, was-is, rememberHere, remember-append}
-use Rattle.tables.specs.laws.Drives.{presentBut}
+use Rattle.tables.specs.meaning.Drives.{presentBut}
 use Rattle.tables.specs.declared.Geometry.{Geometry}
 use Rattle.promise.specs.invariant.Invariant.{Here}
 

@@ -14,12 +14,11 @@ use Rattle.tables.specs.meaning.Placement.{needed}
 use Rattle.tables.specs.declared.Geometry.{Geometry}
 use Rattle.tables.specs.meaning.Geometry.{stripeSectors, zoneSectors, parityDriveOf, firstDriveOf, physicalZones, dataZone}
 use Rattle.logs.specs.meaning.Entry.{generalZone, parityZone, wornGeneration, Header, label, counters, zoneReset, partialParity, seal, closing, Entry, encode}
-use Rattle.tables.specs.meaning.Drives.{noDrive}
-use Rattle.tables.specs.laws.Drives.{presentBut}
+use Rattle.tables.specs.meaning.Drives.{noDrive, presentBut}
 use Rattle.logs.specs.laws.Walk.{sectorsOfAll, Reads, Whole, WellFormedLog, logExtent, cutEntries}
 use Rattle.volume.specs.meaning.Content.{at, rowXorBelow, entryHeader, insideStripe, parityDriveAt}
 use Rattle.promise.specs.content.Columns.{column}
-use Rattle.logs.specs.meaning.Heads.{generationIn}
+use Rattle.logs.specs.meaning.Heads.{generationIn, lastLost}
 use Rattle.logs.specs.laws.Heads.{zoneGen}
 use Rattle.volume.specs.declared.Condition.{Condition}
 use Rattle.volume.specs.declared.Condition.the-variants.{Empty, Open, Sealed, Worn}
@@ -47,9 +46,17 @@ abbrev pub closingEntry : ℕ → ℕ → Entry
 closingEntry k n = record { head = closing k n; rows = [] }
 
 -- ---- the logs
--- every label names no drive or the lost one, and carries the array's number, so a log may begin with any of them
+-- a label names no drive or the lost one
+abbrev pub Names : ℕ → ℕ → Type 0
+Names x y = (y ≡ noDrive) ⊎ (y ≡ x)
+
+-- so does a log's last one, whatever a cut keeps (n: how much of the log is durable). Earlier ones may name a drive that has been rebuilt
+abbrev pub LastNames : ℕ → ℕ → List Header → Type 0
+LastNames x n hs = (j : ℕ) → n ≤ j → Names x (lastLost noDrive (take j hs))
+
+-- a label that may join: it also carries the array's number, as every label does, so a log may begin with any of them
 abbrev pub LabelFits : ℕ → ℕ → ℕ → ℕ → Type 0
-LabelFits x array y a = ((y ≡ noDrive) ⊎ (y ≡ x)) × (a ≡ array)
+LabelFits x array y a = Names x y × (a ≡ array)
 
 pub record LogsIn (g : Geometry) (x : ℕ) (v : Device) (general : ℕ → List Header) (parity : ℕ → List Entry) (array : ℕ) (closed : LogGenerations) : Type 0 where
   pub lost-ok : (x ≡ noDrive) ⊎ (x < g .drives)
@@ -58,7 +65,8 @@ pub record LogsIn (g : Geometry) (x : ℕ) (v : Device) (general : ℕ → List 
   pub general-reads : (d : ℕ) → Here g x d → (h : Header) → List·Memᴰ h (general d) → Reads g d false h
   pub first : (d : ℕ) → Here g x d → (y : ℕ) × (hs : List Header) × (general d ≡ label y array ∷ hs)
   pub first-lasts : (d : ℕ) → Here g x d → 1 ≤ v d generalZone .durable
-  pub labels : (d : ℕ) → Here g x d → (y a : ℕ) → List·Memᴰ (label y a) (general d) → LabelFits x array y a
+  pub arrays : (d : ℕ) → Here g x d → (y a : ℕ) → List·Memᴰ (label y a) (general d) → a ≡ array
+  pub labels : (d : ℕ) → Here g x d → LastNames x (v d generalZone .durable) (general d)
   -- closing entries: all of one generation, and one lasts; or none
   pub general-closes : (d : ℕ) → Here g x d → (k n : ℕ) → List·Memᴰ (closing k n) (general d) → n ≡ closed d .0
   pub general-closed : (d : ℕ) → Here g x d → 0 < closed d .0 → List·Memᴰ (closing 0 (closed d .0)) (take (v d generalZone .durable) (general d))
@@ -280,7 +288,7 @@ pub record Rest (g : Geometry) (x : ℕ) (v : Device) (state : StateView) (l : L
   pub logs : LogsOk g x v γ
   pub zones : (z : ℕ) → z < g .zones → RestZone g x v state l γ z
   pub whole : (d : ℕ) → Here g x d → (e : Entry) → List·Memᴰ e (γ .parity d) → Whole g d true e
-  pub lost-is : (state .lost ≡ noDrive) ⊎ (state .lost ≡ x)
+  pub lost-is : Names x (state .lost)
 
 pub rest-inv : (g : Geometry) (x : ℕ) (v : Device) (state : StateView) (l : Ledger) (γ : Ghost) → Rest g x v state l γ → Inv g x v l γ
 rest-inv g x v state l γ r = record { logs = r .logs; zones = λ z h. inl (r .zones z h .live) }

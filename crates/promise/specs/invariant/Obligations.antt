@@ -10,8 +10,7 @@ use lib.ListN.{length, take}
 use Rattle.tables.specs.meaning.Device.{Device, applyAll, Cut, Loss}
 use Rattle.tables.specs.declared.Geometry.{Geometry}
 use Rattle.tables.specs.meaning.Geometry.{zoneSectors}
-use Rattle.tables.specs.laws.Drives.{presentBut}
-use Rattle.tables.specs.meaning.Drives.{noDrive}
+use Rattle.tables.specs.meaning.Drives.{noDrive, presentBut}
 use Rattle.logs.specs.meaning.Entry.{generalZone, parityZone, wornGeneration}
 use Rattle.volume.specs.declared.Condition.{Condition}
 use Rattle.volume.specs.declared.Condition.the-variants.{Empty, Open, Sealed, Worn}
@@ -80,7 +79,7 @@ WriteKeeps g = (c : LogGenerations) (x : ℕ) (v : Device) (state : StateView) (
 
 abbrev pub WriteRests : Geometry → Type 0
 WriteRests g = (c : LogGenerations) (x : ℕ) (v : Device) (state : StateView) (l : Ledger) (z : ℕ) (ss : List (List ℕ)) → Rests c g x v state l → WriteOk g (presentBut g x) v state z ss
-    → Rests c g x (applyAll (writeStores g (presentBut g x) v state z ss) v) (writeState x state z ss) (afterWrite l z ss)
+    → Rests c g x (applyAll (writeStores g (presentBut g x) v state z ss) v) (writeState x state z (length ss)) (afterWrite l z ss)
 
 abbrev pub FlushKeeps : Geometry → Type 0
 FlushKeeps g = (c : LogGenerations) (x : ℕ) (v : Device) (l : Ledger) (n : ℕ) → Invs c g x v l → Invs c g x (applyAll (take n (flushStores g (presentBut g x))) v) l

@@ -19,6 +19,7 @@ use Rattle.logs.specs.laws.Walk.{cutEntries, cut-mono, cut-flat, cut-lawful, cu
 use Rattle.promise.specs.meaning.Ledger.{Ledger}
 use Rattle.promise.specs.invariant.Invariant.{Ghost, Here, LogsOk, Inv, closingEntry}
 use Rattle.promise.specs.invariant.HoldsLess.{withLogs, Less, less-zone}
+use Rattle.promise.specs.invariant.LastLabels.{names-later, names-front}
 
 -- b after a part of what makes a
 pub record Part (a b : ZoneView) : Type 0 where
@@ -67,7 +68,9 @@ module _ (g : Geometry) (x : ℕ) (v w : Device) (γ : Ghost) (lg : LogsOk g x v
     general-reads = λ d a h m. lg .general-reads d a h (mem-take (length (w d generalZone .sectors)) (γ .general d) h m);
     first = λ d a. let (y, hs, e) = lg .first d a in cut-first (length (w d generalZone .sectors)) (γ .general d) y (γ .array) (omega (arith, lg .first-lasts d a, k d generalZone a g0 .least, k d generalZone a g0 .most)) hs e;
     first-lasts = λ d a. omega (arith, lg .first-lasts d a, k d generalZone a g0 .least);
-    labels = λ d a y b m. lg .labels d a y b (mem-take (length (w d generalZone .sectors)) (γ .general d) (label y b) m);
+    arrays = λ d a y b m. lg .arrays d a y b (mem-take (length (w d generalZone .sectors)) (γ .general d) (label y b) m);
+    labels = λ d a. let q = k d generalZone a g0 in let t = take (length (w d generalZone .sectors)) (γ .general d) in
+        names-later x (v d generalZone .durable) t (names-front x (v d generalZone .durable) (γ .general d) (lg .labels d a) (length (w d generalZone .sectors)) (le-trans (q .least) (q .most))) (w d generalZone .durable) (q .least);
     general-closes = λ d a j n m. lg .general-closes d a j n (mem-take (length (w d generalZone .sectors)) (γ .general d) (closing j n) m);
     general-closed = λ d a p. let q = k d generalZone a g0 in
         rw (take-take (w d generalZone .durable) (length (w d generalZone .sectors)) (γ .general d) (q .most)) (mem-more (v d generalZone .durable) (w d generalZone .durable) (γ .general d) (closing 0 (γ .closed d .0)) (q .least) (lg .general-closed d a p));

@@ -25,7 +25,8 @@ use Rattle.tables.specs.laws.Greatest.{greatest-is}
 use Rattle.tables.specs.declared.Geometry.{Geometry}
 use Rattle.tables.specs.meaning.Geometry.{Valid, stripeSectors, zoneSectors, parityDriveOf, firstDriveOf, dataZone}
 use Rattle.logs.specs.meaning.Entry.{generalZone, wornGeneration, zoneReset, partialParity, Entry}
-use Rattle.tables.specs.laws.Drives.{presentBut, present-other}
+use Rattle.tables.specs.meaning.Drives.{presentBut}
+use Rattle.tables.specs.laws.Drives.{present-other}
 use Rattle.logs.specs.laws.Walk.{Whole, wholeEntries}
 use Rattle.logs.specs.meaning.Heads.{generationIn}
 use Rattle.logs.specs.laws.Heads.{zoneGen}

@@ -9,7 +9,7 @@ use Rattle.tables.specs.meaning.Device.{Device}
 use Rattle.tables.specs.laws.Lists.{prefix-length}
 use Rattle.tables.specs.declared.Geometry.{Geometry}
 use Rattle.tables.specs.meaning.Geometry.{Valid, zoneSectors}
-use Rattle.tables.specs.laws.Drives.{presentBut}
+use Rattle.tables.specs.meaning.Drives.{presentBut}
 use Rattle.volume.specs.meaning.Content.{at}
 use Rattle.volume.specs.meaning.Rules.{showing, zoneShown, valueAt, sealLimit, known, zoneView}
 use Rattle.volume.specs.declared.Condition.{Condition}

@@ -24,7 +24,8 @@ use Rattle.tables.specs.laws.Greatest.{greatest-all, greatest-max}
 use Rattle.tables.specs.declared.Geometry.{Geometry}
 use Rattle.tables.specs.meaning.Geometry.{Valid, stripeSectors, zoneSectors, dataZone}
 use Rattle.logs.specs.meaning.Entry.{generalZone, parityZone, zoneReset, partialParity, seal, Entry}
-use Rattle.tables.specs.laws.Drives.{presentBut, present-below, present-other}
+use Rattle.tables.specs.meaning.Drives.{presentBut}
+use Rattle.tables.specs.laws.Drives.{present-below, present-other}
 use Rattle.logs.specs.laws.Walk.{Whole, wholeEntries}
 use Rattle.logs.specs.meaning.Heads.{generationIn, isReset, leastSeal}
 use Rattle.volume.specs.meaning.Content.{rowXorBelow, at, parityDriveAt, fillOf}

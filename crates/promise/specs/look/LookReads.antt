@@ -1,10 +1,10 @@
 -- What a look reads under the invariant: the walked logs are the ghosts' logs, the drives present by rule 1 are those not lost, and none of
 -- the refusals 3 to 6 applies.
 use Rattle.logs.specs.code.Judge.{and-false}
-use Rattle.logs.specs.laws.HeadLaws.{reads-fits, general-no-rows, last-lost-is}
+use Rattle.logs.specs.laws.HeadLaws.{reads-fits, general-no-rows}
 use Rattle.volume.specs.meaning.Rules.{lostDrive, generalHeads, generalEnding, parityEntries, parityEnding, isLost, isPresent}
-use Rattle.tables.specs.laws.Drives.{find-below-one, find-below-none, presentBut, present-other}
-use Rattle.tables.specs.meaning.Drives.{noDrive}
+use Rattle.tables.specs.laws.Drives.{find-below-one, find-below-none, present-other}
+use Rattle.tables.specs.meaning.Drives.{noDrive, presentBut}
 use Rattle.tables.specs.laws.Lists.{length-map}
 use mathlib.Core.Path.{_≡_, refl, sym, ap, _∙_, fun-ext}
 use mathlib.Core.Logic.{_≢_, _⊎_, inl, inr}
@@ -27,7 +27,8 @@ use Rattle.logs.specs.laws.Walk.{Reads, WellFormedLog, logExtent, sectorsOfAll,
 use Rattle.logs.specs.meaning.Heads.{labelled, arrayIn, lastLost}
 use Rattle.volume.specs.meaning.Refusals.{isNoEntry, twoLost, badLabels, badLogs}
 use Rattle.promise.specs.meaning.Claim.{allBut}
-use Rattle.promise.specs.invariant.Invariant.{Ghost, Here, LogsOk}
+use Rattle.promise.specs.invariant.Invariant.{Ghost, Here, LogsOk, Names}
+use Rattle.promise.specs.invariant.LastLabels.{last-names}
 
 -- ---- a general log as entries without rows
 abbrev pub bareEntry : Header → Entry
@@ -109,9 +110,9 @@ module _ (g : Geometry) (ok : Valid g) (x : ℕ) (v : Device) (γ : Ghost) (lg :
   says-none d hd n e he = go (ℕ-discrete e x)
     where
       other : Here g x e → eqb (lastLost noDrive (γ .general e)) d ≡ false
-      other a = ne-eqb (lastLost noDrive (γ .general e)) d (last-lost-is (λ y. y ≢ d) (γ .general e) noDrive (λ q. omega (arith, ok .drives-most)) (λ y b m q. neither (lg .labels e a y b m .0) q))
+      other a = ne-eqb (lastLost noDrive (γ .general e)) d (neither (last-names x (v e generalZone .durable) (γ .general e) (lg .labels e a)))
         where
-          neither : {y : ℕ} → (y ≡ noDrive) ⊎ (y ≡ x) → y ≡ d → ⊥
+          neither : {y : ℕ} → Names x y → y ≡ d → ⊥
           neither (inl p) q = omega (arith, ok .drives-most)
           neither (inr p) q = n (sym q ∙ p)
 

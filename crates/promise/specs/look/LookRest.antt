@@ -19,7 +19,8 @@ use Rattle.tables.specs.meaning.Device.{Device}
 use Rattle.tables.specs.meaning.Placement.{needed}
 use Rattle.tables.specs.declared.Geometry.{Geometry}
 use Rattle.tables.specs.meaning.Geometry.{Valid, stripeSectors, dataZone}
-use Rattle.tables.specs.laws.Drives.{presentBut, present-below}
+use Rattle.tables.specs.meaning.Drives.{presentBut}
+use Rattle.tables.specs.laws.Drives.{present-below}
 use Rattle.logs.specs.meaning.Entry.{generalZone, wornGeneration, Header, label, counters, partialParity, seal, closing, zoneReset, Entry}
 use Rattle.logs.specs.meaning.Heads.{endsPast, isSeal}
 use Rattle.logs.specs.meaning.Walk.{atPointer}

@@ -73,10 +73,8 @@ module _ (vol : Volume) (k : Caches vol) where
     report = vol .report;
     shows = λ named m n. vol .shows named (m .memory) (n .memory);
     stateOf = vol .stateOf;
-    reportOf = vol .reportOf;
-    lostIn = vol .lostIn;
-    generation = vol .generation;
-    condition = vol .condition;
+    finishedReport = vol .finishedReport;
+    view = vol .view;
     CutTo = CachesCut;
     LossTo = CachesLoss;
   }

@@ -8,7 +8,6 @@ use Prim.Native.Nat.{ℕ, zero, _+_, _*_, _^_, _≤_, _<_}
 use mathlib.Core.List.{List, [], _∷_}
 use lib.ListN.{length}
 use lib.Dec.{eqb}
-use Rattle.tables.specs.meaning.Basics.{pick}
 use Rattle.tables.specs.meaning.Below.{tabulateFrom}
 use Rattle.tables.specs.meaning.Lists.{concat}
 use Rattle.tables.specs.meaning.Drives.{noDrive}
@@ -18,9 +17,8 @@ use Rattle.tables.specs.meaning.Geometry.{zoneSectors}
 use Rattle.logs.specs.meaning.Entry.{wornGeneration}
 use Rattle.volume.specs.declared.Answer.{Answer}
 use Rattle.volume.specs.declared.Answer.the-variants.{Finished, Unfinished, Refused, BadLog}
-use Rattle.volume.specs.declared.BadPlace.{BadPlace}
 use Rattle.volume.specs.declared.Condition.{Condition}
-use Rattle.volume.specs.meaning.State.{pointerIn, isSealed, isWorn}
+use Rattle.volume.specs.meaning.State.{StateView, pointerIn, isSealed, isWorn}
 use Rattle.volume.specs.meaning.Content.{at}
 use Rattle.volume.specs.meaning.Rules.{Shown}
 use Rattle.volume.specs.meaning.Refusals.{zoneOf, offsetOf}
@@ -30,9 +28,14 @@ use Rattle.volume.specs.meaning.Report.{ReportResult}
 use Rattle.promise.specs.meaning.Ledger.{Ledger, freshLedger, Reply, isRefused, isUnfinished, isFinished, LedgerNote, noteWrite, noteFlush, noteReset, noteMount, noteFormat, noted, Fits}
 
 -- ==== the calls that store
+pub record WriteAsked : Type 0 where
+  pub address : ℕ
+  pub count : ℕ  -- of sectors
+  pub buffer : List ℕ
+
 pub data Call : Type 0 where
   mounts : Call
-  writes : ℕ → ℕ → List ℕ → Call  -- address; count of sectors; buffer
+  writes : WriteAsked → Call
   flushes : Call
   resets : ℕ → Call  -- zone
   formats : ℕ → Call  -- array number
@@ -56,16 +59,14 @@ pub record Volume : Type 1 where
   pub report : State → Listing → ReportResult Listing
   pub shows : Names → Memory → Memory → Shown  -- what the drives that a look finds present in the first memory show in the second
   pub stateOf : Shown → State  -- the state that hands on what is shown
-  pub reportOf : Shown → Listing → ReportResult Listing  -- the finished report that tells the conditions shown
-  pub lostIn : State → ℕ  -- the drive that is lost, or noDrive
-  pub generation : State → ℕ → ℕ  -- of a zone
-  pub condition : State → ℕ → Condition  -- of a zone
+  pub finishedReport : Shown → Listing → ReportResult Listing  -- the finished report that tells the conditions shown
+  pub view : State → StateView  -- as the rules see it: the drive that is lost, the zones' generations and conditions
   pub CutTo : ℕ → Memory → Memory → Type 0  -- what a power cut may leave, while a drive is lost
   pub LossTo : ℕ → Memory → Memory → Type 0  -- what the loss of a drive may leave: of that drive anything
 
 -- a zone's write pointer, as the host holds it
 abbrev pub pointerHeld : (vol : Volume) → vol .State → ℕ → ℕ
-pointerHeld vol state z = pointerIn (vol .condition state z)
+pointerHeld vol state z = pointerIn (vol .view state .condition z)
 
 -- ==== the host, the volume and the ledger
 -- ready: the last call finished. stopped: it did not, and "only a cut may follow". down: after a cut, "looks and mounts" until a mount finishes.
@@ -81,10 +82,11 @@ pub record System (vol : Volume) : Type 0 where
   pub state : vol .State  -- what the host holds
   pub ledger : Ledger
 
--- ==== events. Every call is handed the format's geometry, the drives that the host names, and the state that the host holds.
+-- ==== events. Every call is handed the format's geometry, the drives that the host names, and the state that the last finished storing call left: what the host
+-- holds. A look's state is not handed on; what it serves for is said below (Serves).
 pub data Event (vol : Volume) : Type 0 where
   calls : Call → vol .Names → ℕ → Event vol  -- count of stores
-  looks : vol .Names → Bool → Event vol  -- whether the host hands on the look's state from then on, or what it held
+  looks : vol .Names → Event vol
   reads : vol .Names → ℕ → ℕ → List ℕ → Event vol  -- address; count of sectors; buffer
   peeks : vol .Names → ℕ → Event vol  -- address
   reports : vol .Listing → Event vol  -- what is lent
@@ -107,7 +109,7 @@ modeAfter (BadLog b) m = m
 -- what the ledger is told of a call that shows k when it has finished
 abbrev pub noteOf : Geometry → Call → Shown → Reply → LedgerNote
 noteOf g mounts k r = noteMount k r
-noteOf g (writes a count buffer) k r = noteWrite (zoneOf g a) (sectorsIn g count buffer) r
+noteOf g (writes w) k r = noteWrite (zoneOf g (w .address)) (sectorsIn g (w .count) (w .buffer)) r
 noteOf g flushes k r = noteFlush r
 noteOf g (resets z) k r = noteReset z r
 noteOf g (formats array) k r = noteFormat r
@@ -123,12 +125,30 @@ module _ (g : Geometry) (vol : Volume) where
 
   abbrev pub next : System vol → Event vol → System vol
   next s (calls c named stop) = let r = vol .call c named (s .state) stop (s .memory) in settled s r (ledgerAfter s c named r)
-  next s (looks named taken) = record { memory = s .memory; lost = s .lost; mode = s .mode; state = pick taken (vol .look named (s .state) (s .memory) .state) (s .state); ledger = s .ledger }
+  next s (looks named) = s
   next s (reads named a count out) = s
   next s (peeks named a) = s
   next s (reports list) = s
   next s (cuts m) = record { memory = m; lost = s .lost; mode = down; state = s .state; ledger = s .ledger }
   next s (loses d m) = record { memory = m; lost = d; mode = s .mode; state = s .state; ledger = s .ledger }
+
+-- ---- what is heard of it: answers, bytes, numbers (S: what a state is; L: what is lent for a report)
+pub data Heard (S L : Type 0) : Type 0 where
+  answered : Answer → Heard S L  -- of a storing call
+  looked : Answer → S → Heard S L  -- with the state that tells what is shown
+  readOut : Answer → List ℕ → Heard S L  -- with what the buffer holds then
+  peekedAt : ℕ → ℕ → List ℕ → Heard S L  -- number; from; part (Peeked)
+  reported : ReportResult L → Heard S L
+  nothing : Heard S L  -- of a cut, and of the loss of a drive
+
+abbrev pub heard : {vol : Volume} → System vol → Event vol → Heard (vol .State) (vol .Listing)
+heard {vol} s (calls c named stop) = answered (vol .call c named (s .state) stop (s .memory) .answer)
+heard {vol} s (looks named) = let r = vol .look named (s .state) (s .memory) in looked (r .answer) (r .state)
+heard {vol} s (reads named a count out) = let r = vol .read named (s .state) a count out (s .memory) in readOut (r .answer) (r .buffer)
+heard {vol} s (peeks named a) = let r = vol .peek named (s .state) a (s .memory) in peekedAt (r .number) (r .from) (r .part)
+heard {vol} s (reports list) = reported (vol .report (s .state) list)
+heard {vol} s (cuts m) = nothing
+heard {vol} s (loses d m) = nothing
 
 -- ==== the host's duties
 -- every drive but x
@@ -148,7 +168,7 @@ MayMount down = Unit {0}
 -- when a call may come: "finishes a mount after each cut before anything but looks and mounts"
 abbrev pub MayCome : Call → Mode → Type 0
 MayCome mounts m = MayMount m
-MayCome (writes a count buffer) m = m ≡ ready
+MayCome (writes w) m = m ≡ ready
 MayCome flushes m = m ≡ ready
 MayCome (resets z) m = m ≡ ready
 MayCome (formats array) m = m ≡ ready
@@ -162,7 +182,7 @@ NotStopped (BadLog b) = Unit {0}
 -- a later format is not stopped half way: the ledger says nothing of a volume that is half gone; and its array number has 64 bits
 abbrev pub Completes : Call → Answer → Type 0
 Completes mounts a = Unit {0}
-Completes (writes a′ count buffer) a = Unit {0}
+Completes (writes w) a = Unit {0}
 Completes flushes a = Unit {0}
 Completes (resets z) a = Unit {0}
 Completes (formats array) a = (array < 256 ^ 8) × NotStopped a
@@ -171,7 +191,7 @@ module _ (g : Geometry) (vol : Volume) where
   -- (a cut does what document 01 says of it; no more than one drive is lost, and of its memory anything may become, then and later)
   abbrev pub Duty : System vol → Event vol → Type 0
   Duty s (calls c named stop) = NamesAll g vol s named × MayCome c (s .mode) × Completes c (vol .call c named (s .state) stop (s .memory) .answer)
-  Duty s (looks named taken) = NamesAll g vol s named × MayMount (s .mode)
+  Duty s (looks named) = NamesAll g vol s named × MayMount (s .mode)
   Duty s (reads named a count out) = NamesAll g vol s named × (s .mode ≡ ready)
   Duty s (peeks named a) = NamesAll g vol s named × (s .mode ≡ ready)
   Duty s (reports list) = s .mode ≡ ready
@@ -188,9 +208,22 @@ abbrev pub contentBytes : Ledger → ℕ → ℕ → ℕ → List ℕ
 contentBytes l z offset count = concat (tabulateFrom (at (l .content z)) offset count)
 
 -- two states say the same of the volume's zones
-pub record SameZones (g : Geometry) (vol : Volume) (a b : vol .State) : Type 0 where
-  pub generations : (z : ℕ) → z < g .zones → vol .generation a z ≡ vol .generation b z
-  pub conditions : (z : ℕ) → z < g .zones → vol .condition a z ≡ vol .condition b z
+pub record SameZones (g : Geometry) (a b : StateView) : Type 0 where
+  pub generations : (z : ℕ) → z < g .zones → a .generation z ≡ b .generation z
+  pub conditions : (z : ℕ) → z < g .zones → a .condition z ≡ b .condition z
+
+-- a state that serves reads, peeks and reports: they give what they give by the state that the host holds
+pub record Serves (g : Geometry) (vol : Volume) (s : System vol) (state : vol .State) : Type 0 where
+  pub reads-same : (named : vol .Names) → NamesAll g vol s named → (a count : ℕ) (out : List ℕ) → vol .read named state a count out (s .memory) ≡ vol .read named (s .state) a count out (s .memory)
+  pub peeks-same : (named : vol .Names) → NamesAll g vol s named → (a : ℕ) → vol .peek named state a (s .memory) ≡ vol .peek named (s .state) a (s .memory)
+  pub reports-same : (list : vol .Listing) → vol .report state list ≡ vol .report (s .state) list
+
+-- an answer that is no refusal, or one for its cause (Cause: what a number is given for); and none for a bad log
+abbrev pub RefusedOnly : (ℕ → Type 0) → Answer → Type 0
+RefusedOnly Cause Finished = Unit {0}
+RefusedOnly Cause Unfinished = Unit {0}
+RefusedOnly Cause (Refused n) = Cause n
+RefusedOnly Cause (BadLog b) = ⊥
 
 -- why a reset of zone z may be refused, and by which number n (generation: the zone's, as the host holds it)
 pub data ResetRefusal (g : Geometry) (generation z n : ℕ) : Type 0 where
@@ -198,16 +231,16 @@ pub data ResetRefusal (g : Geometry) (generation z n : ℕ) : Type 0 where
   wornOut : n ≡ 12 → wornGeneration ≤ generation → ResetRefusal g generation z n
   generalLogFull : n ≡ 14 → ResetRefusal g generation z n
 
--- and a write of count sectors at address a (held: the zone's condition, as the host holds it)
-pub data WriteRefusal (g : Geometry) (held : Condition) (a count : ℕ) (buffer : List ℕ) (n : ℕ) : Type 0 where
-  bufferLength : n ≡ 2 → length buffer ≢ count * g .sector → WriteRefusal g held a count buffer n
-  noSuchAddress : n ≡ 8 → g .zones ≤ zoneOf g a → WriteRefusal g held a count buffer n
-  noSectors : n ≡ 9 → count ≡ zero → WriteRefusal g held a count buffer n
-  pastTheEnd : n ≡ 9 → zoneSectors g < offsetOf g a + count → WriteRefusal g held a count buffer n
-  notAtPointer : n ≡ 10 → offsetOf g a ≢ pointerIn held → WriteRefusal g held a count buffer n
-  sealedZone : n ≡ 11 → isSealed held ≡ true → WriteRefusal g held a count buffer n
-  wornZone : n ≡ 12 → isWorn held ≡ true → WriteRefusal g held a count buffer n
-  parityLogFull : n ≡ 14 → WriteRefusal g held a count buffer n
+-- and a write (held: the zone's condition, as the host holds it)
+pub data WriteRefusal (g : Geometry) (held : Condition) (w : WriteAsked) (n : ℕ) : Type 0 where
+  bufferLength : n ≡ 2 → length (w .buffer) ≢ w .count * g .sector → WriteRefusal g held w n
+  noSuchAddress : n ≡ 8 → g .zones ≤ zoneOf g (w .address) → WriteRefusal g held w n
+  noSectors : n ≡ 9 → w .count ≡ zero → WriteRefusal g held w n
+  pastTheEnd : n ≡ 9 → zoneSectors g < offsetOf g (w .address) + w .count → WriteRefusal g held w n
+  notAtPointer : n ≡ 10 → offsetOf g (w .address) ≢ pointerIn held → WriteRefusal g held w n
+  sealedZone : n ≡ 11 → isSealed held ≡ true → WriteRefusal g held w n
+  wornZone : n ≡ 12 → isWorn held ≡ true → WriteRefusal g held w n
+  parityLogFull : n ≡ 14 → WriteRefusal g held w n
 
 pub record Promise (g : Geometry) (vol : Volume) (s : System vol) : Type 0 where
   -- "Look: the zones it shows must fit." No look is refused; its state is what is shown; and what is shown fits
@@ -215,38 +248,36 @@ pub record Promise (g : Geometry) (vol : Volume) (s : System vol) : Type 0 where
       → (vol .look named (s .state) (s .memory) ≡ record { answer = Finished; memory = s .memory; state = vol .stateOf (vol .shows named (s .memory) (s .memory)) })
       × Fits g (s .ledger) (vol .shows named (s .memory) (s .memory))
   -- "Finished mount: the same"
-  pub mount-fits : (named : vol .Names) → NamesAll g vol s named → MayMount (s .mode) → (stop : ℕ)
-      → let r = vol .call mounts named (s .state) stop (s .memory) in
-      r .answer ≡ Finished → (r .state ≡ vol .stateOf (vol .shows named (s .memory) (r .memory))) × Fits g (s .ledger) (vol .shows named (s .memory) (r .memory))
-  -- a mount is refused by 14, log full, alone
-  pub mount-refused : (named : vol .Names) → NamesAll g vol s named → (stop n : ℕ) → vol .call mounts named (s .state) stop (s .memory) .answer ≡ Refused n → n ≡ 14
-  -- so it meets no bad place of a log: never 6, 16 or 17
-  pub mount-logs-good : (named : vol .Names) → NamesAll g vol s named → (stop : ℕ) (b : BadPlace) → vol .call mounts named (s .state) stop (s .memory) .answer ≢ BadLog b
+  pub mount-fits : (named : vol .Names) → NamesAll g vol s named → MayMount (s .mode) → (stop : ℕ) → heard s (calls mounts named stop) ≡ answered Finished
+      → let t = next g vol s (calls mounts named stop) in let k = vol .shows named (s .memory) (t .memory) in (t .state ≡ vol .stateOf k) × Fits g (s .ledger) k
+  -- a mount is refused by 14, log full, alone: it meets no bad place of a log, so never 6, 16 or 17
+  pub mount-refused : (named : vol .Names) → NamesAll g vol s named → (stop : ℕ) (a : Answer) → heard s (calls mounts named stop) ≡ answered a → RefusedOnly (λ n. n ≡ 14) a
   -- between finished calls the state's pointers are the lengths of the contents
   pub pointer-is : s .mode ≡ ready → (z : ℕ) → z < g .zones → pointerHeld vol (s .state) z ≡ length (s .ledger .content z)
-  -- and a look's state says of every zone what the host's says, and the drive that is lost: either may be handed on
+  -- and a look's state says of every zone what the host's says, and the drive that is lost
   pub look-holds : (named : vol .Names) → NamesAll g vol s named → s .mode ≡ ready
-      → let looked = vol .look named (s .state) (s .memory) .state in (vol .lostIn looked ≡ s .lost) × SameZones g vol looked (s .state)
-  -- and no flush is refused, and a reset or write only for its cause: never by 1, 3, 4, 7 or 15
-  pub flush-accepted : (named : vol .Names) → NamesAll g vol s named → s .mode ≡ ready → (stop n : ℕ) → vol .call flushes named (s .state) stop (s .memory) .answer ≢ Refused n
-  pub reset-refused : (named : vol .Names) → NamesAll g vol s named → s .mode ≡ ready → (z stop n : ℕ) → vol .call (resets z) named (s .state) stop (s .memory) .answer ≡ Refused n
-      → ResetRefusal g (vol .generation (s .state) z) z n
-  pub write-refused : (named : vol .Names) → NamesAll g vol s named → s .mode ≡ ready → (a count : ℕ) (buffer : List ℕ) (stop n : ℕ)
-      → vol .call (writes a count buffer) named (s .state) stop (s .memory) .answer ≡ Refused n → WriteRefusal g (vol .condition (s .state) (zoneOf g a)) a count buffer n
+      → let told = vol .view (vol .look named (s .state) (s .memory) .state) in (told .lost ≡ s .lost) × SameZones g told (vol .view (s .state))
+  -- so it serves for whatever stores nothing
+  pub look-serves : (named : vol .Names) → NamesAll g vol s named → s .mode ≡ ready → Serves g vol s (vol .look named (s .state) (s .memory) .state)
+  -- and no flush is refused, and a reset or write only for its cause: never by 1, 3, 4, 7 or 15, and none of them for a bad log
+  pub flush-accepted : (named : vol .Names) → NamesAll g vol s named → s .mode ≡ ready → (stop : ℕ) (a : Answer) → heard s (calls flushes named stop) ≡ answered a → RefusedOnly (λ n. ⊥) a
+  pub reset-refused : (named : vol .Names) → NamesAll g vol s named → s .mode ≡ ready → (z stop : ℕ) (a : Answer) → heard s (calls (resets z) named stop) ≡ answered a
+      → RefusedOnly (ResetRefusal g (vol .view (s .state) .generation z) z) a
+  pub write-refused : (named : vol .Names) → NamesAll g vol s named → s .mode ≡ ready → (w : WriteAsked) (stop : ℕ) (a : Answer) → heard s (calls (writes w) named stop) ≡ answered a
+      → RefusedOnly (WriteRefusal g (vol .view (s .state) .condition (zoneOf g (w .address))) w) a
   -- an accepted read leaves the content in the buffer, and a read below the pointer is accepted
-  pub read-gives : (named : vol .Names) → NamesAll g vol s named → s .mode ≡ ready → (a count : ℕ) (out : List ℕ) → vol .read named (s .state) a count out (s .memory) .answer ≡ Finished
-      → (offsetOf g a + count ≤ length (s .ledger .content (zoneOf g a))) × (vol .read named (s .state) a count out (s .memory) .buffer ≡ contentBytes (s .ledger) (zoneOf g a) (offsetOf g a) count)
+  pub read-gives : (named : vol .Names) → NamesAll g vol s named → s .mode ≡ ready → (a count : ℕ) (out bytes : List ℕ) → heard s (reads named a count out) ≡ readOut Finished bytes
+      → (offsetOf g a + count ≤ length (s .ledger .content (zoneOf g a))) × (bytes ≡ contentBytes (s .ledger) (zoneOf g a) (offsetOf g a) count)
   pub read-accepted : (named : vol .Names) → NamesAll g vol s named → s .mode ≡ ready → (a count : ℕ) (out : List ℕ) → zoneOf g a < g .zones → zero < count → length out ≡ count * g .sector
-      → offsetOf g a + count ≤ pointerHeld vol (s .state) (zoneOf g a) → vol .read named (s .state) a count out (s .memory) .answer ≡ Finished
+      → offsetOf g a + count ≤ pointerHeld vol (s .state) (zoneOf g a) → heard s (reads named a count out) ≡ readOut Finished (contentBytes (s .ledger) (zoneOf g a) (offsetOf g a) count)
   -- an accepted peek gives the place of the address, and there lies the content's sector; a peek below the pointer is accepted where the sector's drive is
   -- not lost
-  pub peek-gives : (named : vol .Names) → NamesAll g vol s named → s .mode ≡ ready → (a : ℕ) → vol .peek named (s .state) a (s .memory) .number ≡ 0
-      → (offsetOf g a < length (s .ledger .content (zoneOf g a))) × (vol .peek named (s .state) a (s .memory) .from ≡ byteOf g (placeOf g a))
-      × (vol .peek named (s .state) a (s .memory) .part ≡ at (s .ledger .content (zoneOf g a)) (offsetOf g a))
+  pub peek-gives : (named : vol .Names) → NamesAll g vol s named → s .mode ≡ ready → (a from : ℕ) (part : List ℕ) → heard s (peeks named a) ≡ peekedAt 0 from part
+      → (offsetOf g a < length (s .ledger .content (zoneOf g a))) × (from ≡ byteOf g (placeOf g a)) × (part ≡ at (s .ledger .content (zoneOf g a)) (offsetOf g a))
   pub peek-accepted : (named : vol .Names) → NamesAll g vol s named → s .mode ≡ ready → (a : ℕ) → zoneOf g a < g .zones → offsetOf g a < pointerHeld vol (s .state) (zoneOf g a)
-      → allBut (s .lost) (driveOf (g .drives) (g .unit) (zoneOf g a) (offsetOf g a)) ≡ true → vol .peek named (s .state) a (s .memory) .number ≡ 0
+      → allBut (s .lost) (driveOf (g .drives) (g .unit) (zoneOf g a) (offsetOf g a)) ≡ true → heard s (peeks named a) ≡ peekedAt 0 (byteOf g (placeOf g a)) (at (s .ledger .content (zoneOf g a)) (offsetOf g a))
   -- no report is refused, and it tells what a look of the same moment shows
-  pub report-gives : (named : vol .Names) → NamesAll g vol s named → s .mode ≡ ready → (list : vol .Listing) → vol .report (s .state) list ≡ vol .reportOf (vol .shows named (s .memory) (s .memory)) list
+  pub report-gives : (named : vol .Names) → NamesAll g vol s named → s .mode ≡ ready → (list : vol .Listing) → heard s (reports list) ≡ reported (vol .finishedReport (vol .shows named (s .memory) (s .memory)) list)
 
 module _ (g : Geometry) (vol : Volume) where
   -- before each event, and after the last

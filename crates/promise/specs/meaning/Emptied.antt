@@ -1,133 +1,159 @@
--- WHAT IS PROMISED OF EMPTYINGS, beyond the claim (Claim.antt): from an emptying's first flush on, wherever it is stopped and whatever a cut keeps or brings back, a look that names
--- the drives that are not lost, or these but one, shows the same pointers and the same sectors as a look naming the same drives at that flush's end. So at
--- no moment does an emptying depend on the one log that it replaces. The one exception: where a mount empties parity logs, a zone whose entry was made there may
--- show more, up to the pointer of the mount's look.
+-- WHAT IS PROMISED OF EMPTYINGS, beyond the claim (Claim.antt), of any volume that stands for a device: let a call that empties logs be stopped after any number of stores, from the
+-- end of an emptying's first flush on, and then power go. Whatever the cut keeps or brings back, a look that names the drives that are not lost, or these but one,
+-- shows the same pointers and the same sectors as a look naming the same drives at that flush's end. So at no moment does an emptying depend on the one log that it
+-- replaces. The one exception: where a mount empties a parity log, a zone whose entry is made there may show more, up to the pointer of the mount's look.
 use mathlib.Core.Path.{_≡_}
-use mathlib.Core.Logic.{_≢_, _⊎_}
-use mathlib.Core.Bool.{Bool, false, _&&_}
+use mathlib.Core.Logic.{_⊎_}
+use mathlib.Core.Bool.{Bool, true, false, _&&_}
 use Prim.Native.Nat.{ℕ, _+_, _^_, _≤_, _<_}
-use mathlib.Core.List.{List, [], _∷_, map}
-use lib.ListN.{length, take}
+use mathlib.Core.List.{List, [], _++_, map}
+use lib.ListN.{length}
+use lib.Dec.{ltb}
 use Rattle.tables.specs.declared.Geometry.{Geometry}
-use Rattle.tables.specs.meaning.Drives.{noDrive}
-use Rattle.tables.specs.laws.Drives.{presentBut}
+use Rattle.tables.specs.meaning.Drives.{noDrive, presentBut}
 use Rattle.tables.specs.meaning.Lists.{concat}
 use Rattle.tables.specs.meaning.Phases.{onPresent}
-use Rattle.tables.specs.meaning.Below.{anyBelow}
 use Rattle.tables.specs.meaning.Through.{through, carry}
-use Rattle.tables.specs.meaning.Device.{Device, Store, applyAll}
-use Rattle.tables.specs.meaning.Cached.{uncached, applyAllCaching, CachingCut}
+use Rattle.tables.specs.meaning.Device.{Device, Store}
+use Rattle.tables.specs.meaning.Tables.{deviceOf}
 use Rattle.volume.specs.meaning.State.{StateView, pointerIn}
 use Rattle.volume.specs.meaning.Rules.{Shown}
 use Rattle.volume.specs.meaning.Calls.{flushStores}
 use Rattle.volume.specs.meaning.Roles.{roles, byRoles, placedBy}
-use Rattle.volume.specs.meaning.Mount.{withFlush, spareStep, afterOpening, mountView, mountLook, startRoles, emptiedGeneral, emptiedParity, middleRoles, afterFill}
+use Rattle.volume.specs.meaning.Mount.{withFlush, spareStep, mountView, mountLook, startRoles, emptiedGeneral, emptiedParity, middleRoles, phasesBeforeEntries, afterFill}
 use Rattle.volume.specs.meaning.Emptying.{byLook, byState, resetLimit, emptiedFor, emptiedForWrite, emptyGeneral, emptyParity, isMade}
-use Rattle.volume.specs.meaning.Refusals.{TableLengths, firstRefusal, accept, zoneOf}
-use Rattle.volume.specs.declared.Answer.the-variants.{Finished}
-use Rattle.volume.specs.meaning.Answers.{writeCall, resetCall, mountCall}
-use Rattle.promise.specs.meaning.Claim.{Volume, System, NamesAll, MayMount, Event, Dutiful, next, start, formats, allBut, ready}
-use Rattle.promise.specs.meaning.OnDevice.{shownBy, onDevice}
-use Rattle.promise.specs.meaning.Caches.{WithCaches, beneath, deviceCaches, onCachingDevice}
+use Rattle.volume.specs.meaning.Refusals.{TableLengths, zoneOf}
+use Rattle.volume.specs.declared.Answer.the-variants.{Finished, Unfinished}
+use Rattle.promise.specs.meaning.Claim.{Call, WriteAsked, mounts, writes, resets, formats, Volume, System, NamesAll, MayMount, Event, Dutiful, start, allBut, ready}
+use Rattle.promise.specs.meaning.Histories.{AtEveryPoint, ShowsAlike}
+use Rattle.promise.specs.meaning.Caches.{onCachingDevice}
+use Rattle.promise.specs.meaning.CachesOnTables.{onCachingTables}
 
--- ---- looks. The drives that may be named: all but the lost one (x); all but any one where none is lost
-abbrev pub MayNameBut : Geometry → ℕ → ℕ → Type 0
-MayNameBut g x y = (y ≡ x) ⊎ ((x ≡ noDrive) × (y < g .drives))
-
--- what a look shows that names every drive but y
-abbrev pub lookBut : Geometry → ℕ → Device → Shown
-lookBut g y v = shownBy g (allBut y) v v
-
--- the same pointers, and the same sectors below them
-pub record ShowsAlike (g : Geometry) (k j : Shown) : Type 0 where
-  pub pointers : (z : ℕ) → z < g .zones → j .zone z .pointer ≡ k .zone z .pointer
-  pub sectors : (z : ℕ) → z < g .zones → (a : ℕ) → a < k .zone z .pointer → j .zone z .value a ≡ k .zone z .value a
-
-abbrev pub LooksAlike : Geometry → ℕ → Device → Device → Type 0
-LooksAlike g x v w = (y : ℕ) → MayNameBut g x y → ShowsAlike g (lookBut g y v) (lookBut g y w)
-
--- the same sectors, and the same pointers but of zones whose entry was made, which may show more (made: of each zone, whether it was; top: its pointer at most)
+-- ---- looks. The same sectors, and the same pointers but of zones whose entry was made, which may show more (made: of each zone, whether it was; top: its pointer at most)
 pub record AlikeUpTo (g : Geometry) (made : ℕ → Bool) (top : ℕ → ℕ) (k j : Shown) : Type 0 where
   pub pointers : (z : ℕ) → z < g .zones → made z ≡ false → j .zone z .pointer ≡ k .zone z .pointer
   pub least : (z : ℕ) → z < g .zones → k .zone z .pointer ≤ j .zone z .pointer
   pub most : (z : ℕ) → z < g .zones → j .zone z .pointer ≤ top z
   pub sectors : (z : ℕ) → z < g .zones → (a : ℕ) → a < k .zone z .pointer → j .zone z .value a ≡ k .zone z .value a
 
-abbrev pub LooksAlikeUpTo : Geometry → ℕ → (ℕ → Bool) → (ℕ → ℕ) → Device → Device → Type 0
-LooksAlikeUpTo g x made top v w = (y : ℕ) → MayNameBut g x y → AlikeUpTo g made top (lookBut g y v) (lookBut g y w)
+-- the drives that may be named: all but the lost one (x); all but any one where none is lost
+abbrev pub MayNameBut : Geometry → ℕ → ℕ → Type 0
+MayNameBut g x y = (y ≡ x) ⊎ ((x ≡ noDrive) × (y < g .drives))
 
--- ---- stores that begin with a flush of the drives that are not lost: stopped behind it and cut. (Behind it the caches remember nothing of before.)
+-- names of every drive but y (what they say of drives at or above D is free)
+abbrev pub NamesBut : (g : Geometry) (vol : Volume) → ℕ → vol .Names → Type 0
+NamesBut g vol y named = (d : ℕ) → d < g .drives → vol .isNamed named d ≡ allBut y d
+
+-- ---- the emptyings of one kind that a call makes, one drive after the other, and where they stand among its stores
+pub record Emptyings : Type 0 where
+  pub before : List Store  -- the call's stores before them
+  pub emptied : ℕ → Bool  -- the drives whose log is emptied
+  pub storesOf : (ℕ → Bool) → List Store  -- the stores of the emptyings of some drives
+
+-- the flush of all drives that are not lost, with which each begins
 abbrev pub flushOf : Geometry → ℕ → List Store
 flushOf g x = flushStores g (presentBut g x)
 
-abbrev pub KeepsLooks : Geometry → ℕ → Device → List Store → Type 0
-KeepsLooks g x v xs = (n : ℕ) → length (flushOf g x) ≤ n → (w : Device) → CachingCut x (applyAllCaching (take n xs) (uncached v)) w → LooksAlike g x (applyAll (flushOf g x) v) w
+-- how many stores the call has made when drive d's emptying has ended its first flush; and when all of them are done
+abbrev pub flushEnd : Geometry → ℕ → Emptyings → ℕ → ℕ
+flushEnd g x E d = length (E .before) + (length (E .storesOf (λ e. ltb e d && E .emptied e)) + length (flushOf g x))
 
-abbrev pub KeepsLooksUpTo : Geometry → ℕ → (ℕ → Bool) → (ℕ → ℕ) → Device → List Store → Type 0
-KeepsLooksUpTo g x made top v xs = (n : ℕ) → length (flushOf g x) ≤ n → (w : Device) → CachingCut x (applyAllCaching (take n xs) (uncached v)) w → LooksAlikeUpTo g x made top (applyAll (flushOf g x) v) w
+abbrev pub emptyingsEnd : Emptyings → ℕ
+emptyingsEnd E = length (E .before) + length (E .storesOf (E .emptied))
 
--- ---- the emptyings with which a write and a reset begin (Emptying's writeAll, resetAll; x: the lost drive)
-abbrev pub emptyingsOfWrite : Geometry → ℕ → Device → StateView → ℕ → ℕ → List Store
-emptyingsOfWrite g x v state z count =
-    let w = byRoles g v in
-    emptyParity g (presentBut g x) (roles g v) (byState g (presentBut g x) w state) (emptiedForWrite g (presentBut g x) (roles g v) w z (pointerIn (state .condition z) + count)) w
+-- after n stores drive d's is the emptying whose first flush ended last
+pub record UnderWay (g : Geometry) (x : ℕ) (E : Emptyings) (d n : ℕ) : Type 0 where
+  pub drive : d < g .drives
+  pub is-emptied : E .emptied d ≡ true
+  pub flushed : flushEnd g x E d ≤ n
+  pub not-next : (e : ℕ) → e < g .drives → d < e → E .emptied e ≡ true → n ≤ flushEnd g x E e
+  pub not-done : n ≤ emptyingsEnd E
 
-abbrev pub emptyingsOfReset : Geometry → ℕ → Device → StateView → List Store
+-- ---- those of each call (x: the lost drive; v: the device at its start). A write, of the parity log that its entry goes to, and a reset, of general logs: their first
+-- stores (Emptying's writeAll, resetAll)
+abbrev pub emptyingsOfWrite : Geometry → ℕ → Device → StateView → WriteAsked → Emptyings
+emptyingsOfWrite g x v state w =
+    let here = presentBut g x in
+    let u = byRoles g v in
+    let z = zoneOf g (w .address) in
+    record {
+      before = [];
+      emptied = emptiedForWrite g here (roles g v) u z (pointerIn (state .condition z) + w .count);
+      storesOf = λ some. emptyParity g here (roles g v) (byState g here u state) some u;
+    }
+
+abbrev pub emptyingsOfReset : Geometry → ℕ → Device → StateView → Emptyings
 emptyingsOfReset g x v state =
-    let w = byRoles g v in
-    emptyGeneral g (presentBut g x) (roles g v) (byState g (presentBut g x) w state) (emptiedFor g (presentBut g x) false (roles g v) w (resetLimit g)) w
+    let here = presentBut g x in
+    let u = byRoles g v in
+    record {
+      before = [];
+      emptied = emptiedFor g here false (roles g v) u (resetLimit g);
+      storesOf = λ some. emptyGeneral g here (roles g v) (byState g here u state) some u;
+    }
 
--- ---- the emptyings of general logs in a mount, its step 2 (Mount's phasesOfLogs), and the device that they begin with: flushed, its spares reset
+-- a mount, of general logs, its step 2, after its first flush and the spares' resets (Mount's phasesOfLogs)
 abbrev pub spareResetsOf : Geometry → ℕ → Device → List Store
 spareResetsOf g x v = concat (withFlush g (presentBut g x) (map (carry (placedBy (startRoles g (presentBut g x) x v))) (spareStep g (mountView g (presentBut g x) x v))))
 
-abbrev pub afterSpareResets : Geometry → ℕ → Device → Device
-afterSpareResets g x v = applyAll (spareResetsOf g x v) (afterOpening g (presentBut g x) v)
-
-abbrev pub emptyingsOfMount : Geometry → ℕ → Device → List Store
+abbrev pub emptyingsOfMount : Geometry → ℕ → Device → Emptyings
 emptyingsOfMount g x v =
-    let present = presentBut g x in
-    onPresent present (emptyGeneral g present (startRoles g present x v) (byLook (mountLook g present x v)) (emptiedGeneral g present x v) (mountView g present x v))
+    let here = presentBut g x in
+    record {
+      before = flushOf g x ++ spareResetsOf g x v;
+      emptied = emptiedGeneral g here x v;
+      storesOf = λ some. onPresent here (emptyGeneral g here (startRoles g here x v) (byLook (mountLook g here x v)) some (mountView g here x v));
+    }
 
--- ---- the emptyings of parity logs in a mount, its step 10 (Mount's phasesOfParityLogs): of the device after its step 9 (afterFill), by the roles that it has then
+-- and of parity logs, its step 10, of the device after step 9 (afterFill) by the roles that it has then (Mount's phasesOfParityLogs)
 abbrev pub filledView : Geometry → ℕ → Device → Device
 filledView g x v = through (placedBy (middleRoles g (presentBut g x) x v)) (afterFill g (presentBut g x) x v)
 
-abbrev pub parityEmptyingsOfMount : Geometry → ℕ → Device → List Store
+abbrev pub parityEmptyingsOfMount : Geometry → ℕ → Device → Emptyings
 parityEmptyingsOfMount g x v =
-    let present = presentBut g x in
-    onPresent present (emptyParity g present (middleRoles g present x v) (byLook (mountLook g present x v)) (emptiedParity g present x v) (filledView g x v))
+    let here = presentBut g x in
+    record {
+      before = concat (phasesBeforeEntries g here x v);
+      emptied = emptiedParity g here x v;
+      storesOf = λ some. onPresent here (emptyParity g here (middleRoles g here x v) (byLook (mountLook g here x v)) some (filledView g x v));
+    }
 
--- some of them makes an entry of zone z
-abbrev pub entryMade : Geometry → ℕ → Device → ℕ → Bool
-entryMade g x v z = anyBelow (λ d. emptiedParity g (presentBut g x) x v d && isMade g (byLook (mountLook g (presentBut g x) x v)) (filledView g x v) d z) (g .drives)
+-- drive d's makes an entry of zone z: there was none at the pointer
+abbrev pub entryMade : Geometry → ℕ → Device → ℕ → ℕ → Bool
+entryMade g x v d z = isMade g (byLook (mountLook g (presentBut g x) x v)) (filledView g x v) d z
 
-abbrev pub lookPointer : Geometry → ℕ → Device → ℕ → ℕ
-lookPointer g x v z = mountLook g (presentBut g x) x v .zone z .pointer
+-- ---- at a point of a history
+module _ (g : Geometry) (vol : Volume) where
+  -- what a call leaves that is stopped after n stores
+  abbrev pub stoppedAt : System vol → Call → vol .Names → ℕ → vol .Memory
+  stoppedAt s c named n = vol .call c named (s .state) n (s .memory) .memory
 
--- ---- at a point of a history: accepted calls that empty a log
-pub record EmptyingsKeepLooks (g : Geometry) (t : TableLengths) (s : System (onDevice g t)) : Type 0 where
-  pub of-write : (named : ℕ → Bool) → NamesAll g (onDevice g t) s named → s .mode ≡ ready → (a count : ℕ) (buffer : List ℕ)
-      → firstRefusal (writeCall g t named (s .state) a count buffer (s .memory) .refusals) ≡ accept
-      → let xs = emptyingsOfWrite g (s .lost) (s .memory) (s .state) (zoneOf g a) count in xs ≢ [] → KeepsLooks g (s .lost) (s .memory) xs
-  pub of-reset : (named : ℕ → Bool) → NamesAll g (onDevice g t) s named → s .mode ≡ ready → (z : ℕ)
-      → firstRefusal (resetCall g t named (s .state) z (s .memory) .refusals) ≡ accept
-      → let xs = emptyingsOfReset g (s .lost) (s .memory) (s .state) in xs ≢ [] → KeepsLooks g (s .lost) (s .memory) xs
-  pub of-mount : (named : ℕ → Bool) → NamesAll g (onDevice g t) s named → MayMount (s .mode)
-      → firstRefusal (mountCall g t named (s .memory) .refusals) ≡ accept
-      → let xs = emptyingsOfMount g (s .lost) (s .memory) in xs ≢ [] → KeepsLooks g (s .lost) (afterSpareResets g (s .lost) (s .memory)) xs
-  pub of-mount-parity : (named : ℕ → Bool) → NamesAll g (onDevice g t) s named → MayMount (s .mode)
-      → firstRefusal (mountCall g t named (s .memory) .refusals) ≡ accept
-      → KeepsLooksUpTo g (s .lost) (entryMade g (s .lost) (s .memory)) (lookPointer g (s .lost) (s .memory)) (afterFill g (presentBut g (s .lost)) (s .lost) (s .memory)) (parityEmptyingsOfMount g (s .lost) (s .memory))
+  -- a call's emptyings keep what looks show, alike (Alike: of drive d's emptying, what is shown at its first flush's end, and after the cut)
+  abbrev pub KeepsLooks : System vol → Call → vol .Names → Emptyings → (ℕ → Shown → Shown → Type 0) → Type 0
+  KeepsLooks s c named E Alike = (d n : ℕ) → UnderWay g (s .lost) E d n → vol .call c named (s .state) n (s .memory) .answer ≡ Unfinished
+      → (m : vol .Memory) → vol .CutTo (s .lost) (stoppedAt s c named n) m → (y : ℕ) → MayNameBut g (s .lost) y → (some : vol .Names) → NamesBut g vol y some
+      → let flushed = stoppedAt s c named (flushEnd g (s .lost) E d) in Alike d (vol .shows some flushed flushed) (vol .shows some m m)
 
--- ---- at every point of it
-abbrev pub AtEveryPoint : (g : Geometry) (vol : Volume) → (System vol → Type 0) → System vol → List (Event vol) → Type 0
-AtEveryPoint g vol P s [] = P s
-AtEveryPoint g vol P s (e ∷ es) = P s × AtEveryPoint g vol P (next g vol s e) es
+-- (seen: the device that a memory stands for)
+pub record EmptyingsKeepLooks (g : Geometry) (vol : Volume) (seen : vol .Memory → Device) (s : System vol) : Type 0 where
+  pub of-write : (named : vol .Names) → NamesAll g vol s named → s .mode ≡ ready → (w : WriteAsked)
+      → KeepsLooks g vol s (writes w) named (emptyingsOfWrite g (s .lost) (seen (s .memory)) (vol .view (s .state)) w) (λ d. ShowsAlike g)
+  pub of-reset : (named : vol .Names) → NamesAll g vol s named → s .mode ≡ ready → (z : ℕ)
+      → KeepsLooks g vol s (resets z) named (emptyingsOfReset g (s .lost) (seen (s .memory)) (vol .view (s .state))) (λ d. ShowsAlike g)
+  pub of-mount : (named : vol .Names) → NamesAll g vol s named → MayMount (s .mode) → KeepsLooks g vol s mounts named (emptyingsOfMount g (s .lost) (seen (s .memory))) (λ d. ShowsAlike g)
+  -- (the mount's look shows what a look shows at the mount's start)
+  pub of-mount-parity : (named : vol .Names) → NamesAll g vol s named → MayMount (s .mode)
+      → KeepsLooks g vol s mounts named (parityEmptyingsOfMount g (s .lost) (seen (s .memory))) (λ d. AlikeUpTo g (entryMade g (s .lost) (seen (s .memory)) d) (λ z. vol .shows named (s .memory) (s .memory) .zone z .pointer))
 
--- THE CLAIM, of the histories of which the promise is claimed
+-- at every point of the histories of which the promise is claimed
+abbrev pub EmptyingsShowAlike : (g : Geometry) (vol : Volume) → (vol .Memory → Device) → Type 0
+EmptyingsShowAlike g vol seen = (named : vol .Names) (array : ℕ) (old : vol .State) (stop : ℕ) (m : vol .Memory) → array < 256 ^ 8
+    → let r = vol .call (formats array) named old stop m in
+    r .answer ≡ Finished → (es : List (Event vol)) → Dutiful g vol (start g vol named r) es → AtEveryPoint g vol (EmptyingsKeepLooks g vol seen) (start g vol named r) es
+
+-- THE CLAIMS, of the rules' calls and of the code's
 abbrev pub EmptyingClaim : Type 0
-EmptyingClaim = (g : Geometry) (t : TableLengths) (named : ℕ → Bool) (array : ℕ) (old : StateView) (stop : ℕ) (m : WithCaches Device) → array < 256 ^ 8
-    → let vol = onCachingDevice g t in let r = vol .call (formats array) named old stop m in
-    r .answer ≡ Finished → (es : List (Event vol)) → Dutiful g vol (start g vol named r) es
-    → AtEveryPoint g vol (λ s. EmptyingsKeepLooks g t (beneath (onDevice g t) (deviceCaches g t) s)) (start g vol named r) es
+EmptyingClaim = (g : Geometry) (t : TableLengths) → EmptyingsShowAlike g (onCachingDevice g t) (λ m. m .memory)
+
+abbrev pub EmptyingTablesClaim : Type 0
+EmptyingTablesClaim = (g : Geometry) → EmptyingsShowAlike g (onCachingTables g) (λ m. deviceOf g (m .memory))

@@ -20,7 +20,7 @@ use Rattle.promise.specs.meaning.Claim.{Call, mounts, writes, flushes, r
 
 abbrev pub callOf : Geometry → TableLengths → Call → (ℕ → Bool) → StateView → Device → StoringCall
 callOf g t mounts named state v = mountCall g t named v
-callOf g t (writes a count buffer) named state v = writeCall g t named state a count buffer v
+callOf g t (writes w) named state v = writeCall g t named state (w .address) (w .count) (w .buffer) v
 callOf g t flushes named state v = flushCall g t named state v
 callOf g t (resets z) named state v = resetCall g t named state z v
 callOf g t (formats array) named state v = formatCall g t named array v
@@ -60,10 +60,8 @@ onDevice g t = record {
   report = reportOn g;
   shows = shownBy g;
   stateOf = mountState;
-  reportOf = reportShown g;
-  lostIn = λ state. state .lost;
-  generation = λ state. state .generation;
-  condition = λ state. state .condition;
+  finishedReport = reportShown g;
+  view = λ state. state;
   CutTo = Cut;
   LossTo = Loss;
 }

@@ -9,15 +9,16 @@ use Rattle.volume.specs.declared.State.{State}
 use Rattle.volume.specs.declared.Outcome.{Outcome}
 use Rattle.volume.specs.declared.ZoneDescriptor.{ZoneDescriptor}
 use Rattle.volume.specs.meaning.Rules.{Shown}
+use Rattle.volume.specs.meaning.Mount.{mountState}
 use Rattle.volume.specs.meaning.Answers.{CallResult}
-use Rattle.volume.specs.meaning.CallContracts.{recordAt, viewState, isSet, Result, flushOn, resetOn, writeOn, formatOn, lookOn, stateShown, mountOn, readOn, peekNumber, peekFrom, peekOn}
+use Rattle.volume.specs.meaning.CallContracts.{viewState, isSet, Result, flushOn, resetOn, writeOn, formatOn, lookOn, stateHeld, mountOn, readOn, peekNumber, peekFrom, peekOn}
 use Rattle.volume.specs.meaning.Report.{reportOn}
 use Rattle.promise.specs.meaning.Claim.{Call, mounts, writes, flushes, resets, formats, Volume, KeepsPromise}
 use Rattle.promise.specs.meaning.OnDevice.{shownBy, reportShown}
 
 abbrev pub resultOn : Geometry → Call → List Bool → State → ℕ → Tables → Result
 resultOn g mounts named state stop t = mountOn g named state stop t
-resultOn g (writes a count buffer) named state stop t = writeOn g named state a count buffer stop t
+resultOn g (writes w) named state stop t = writeOn g named state (w .address) (w .count) (w .buffer) stop t
 resultOn g flushes named state stop t = flushOn g named state stop t
 resultOn g (resets z) named state stop t = resetOn g named state z stop t
 resultOn g (formats array) named state stop t = formatOn g named array state stop t
@@ -45,11 +46,9 @@ onTables g = record {
   Listing = List ZoneDescriptor;
   report = λ state list. reportOn g (viewState state) list;
   shows = shownIn g;
-  stateOf = stateShown g;
-  reportOf = reportShown g;
-  lostIn = λ state. state .lost;
-  generation = λ state z. recordAt state z .generation;
-  condition = λ state z. recordAt state z .condition;
+  stateOf = λ k. stateHeld (g .zones) (mountState k);
+  finishedReport = reportShown g;
+  view = viewState;
   CutTo = TablesCut g;
   LossTo = TablesLoss g;
 }

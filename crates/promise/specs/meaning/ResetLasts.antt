@@ -11,18 +11,19 @@ use Rattle.volume.specs.declared.Answer.the-variants.{Finished}
 use Rattle.volume.specs.meaning.Refusals.{zoneOf}
 use Rattle.volume.specs.meaning.Answers.{sectorsIn}
 use Rattle.promise.specs.meaning.Ledger.{Reply, isRefused, isUnfinished, isFinished}
-use Rattle.promise.specs.meaning.Claim.{Call, mounts, writes, flushes, resets, formats, Volume, System, Event, calls, looks, reads, peeks, reports, cuts, loses, ready, replyTo, next, NamesAll, MayMount, Dutiful, start}
+use Rattle.promise.specs.meaning.Claim.{Call, mounts, writes, flushes, resets, formats, Volume, System, Event, calls, looks, reads, peeks, reports, cuts, loses, ready, replyTo, next, answered, readOut, peekedAt, heard, NamesAll, MayMount, Dutiful, start}
+use Rattle.promise.specs.meaning.Histories.{afterAll}
 
 -- sectors handed to a call, unless it is refused
-abbrev pub unlessRefused : Reply → List (List ℕ) → List (List ℕ)
-unlessRefused isRefused ss = []
-unlessRefused isUnfinished ss = ss
-unlessRefused isFinished ss = ss
+abbrev pub takenUnlessRefused : Reply → List (List ℕ) → List (List ℕ)
+takenUnlessRefused isRefused ss = []
+takenUnlessRefused isUnfinished ss = ss
+takenUnlessRefused isFinished ss = ss
 
 -- the sectors that a call is handed for zone z
 abbrev pub handedTo : Geometry → ℕ → Call → List (List ℕ)
 handedTo g z mounts = []
-handedTo g z (writes a count buffer) = pick (eqb z (zoneOf g a)) (sectorsIn g count buffer) []
+handedTo g z (writes w) = pick (eqb z (zoneOf g (w .address))) (sectorsIn g (w .count) (w .buffer)) []
 handedTo g z flushes = []
 handedTo g z (resets y) = []
 handedTo g z (formats array) = []
@@ -30,8 +31,8 @@ handedTo g z (formats array) = []
 module _ (g : Geometry) (vol : Volume) where
   -- the sectors that an event writes to zone z
   abbrev pub writtenIn : ℕ → System vol → Event vol → List (List ℕ)
-  writtenIn z s (calls c named stop) = unlessRefused (replyTo (vol .call c named (s .state) stop (s .memory) .answer)) (handedTo g z c)
-  writtenIn z s (looks named taken) = []
+  writtenIn z s (calls c named stop) = takenUnlessRefused (replyTo (vol .call c named (s .state) stop (s .memory) .answer)) (handedTo g z c)
+  writtenIn z s (looks named) = []
   writtenIn z s (reads named a count out) = []
   writtenIn z s (peeks named a) = []
   writtenIn z s (reports list) = []
@@ -43,23 +44,19 @@ module _ (g : Geometry) (vol : Volume) where
   writtenTo z s [] = []
   writtenTo z s (e ∷ es) = writtenIn z s e ++ writtenTo z (next g vol s e) es
 
-  abbrev pub afterAll : System vol → List (Event vol) → System vol
-  afterAll s [] = s
-  afterAll s (e ∷ es) = afterAll (next g vol s e) es
-
   -- every sector of zone z that is shown or read is one of these
   pub record OnlyOf (z : ℕ) (new : List (List ℕ)) (s : System vol) : Type 0 where
     pub look : (named : vol .Names) → NamesAll g vol s named → let k = vol .shows named (s .memory) (s .memory) in (a : ℕ) → a < k .zone z .pointer → List·Memᴰ (k .zone z .value a) new
-    pub mount : (named : vol .Names) → NamesAll g vol s named → MayMount (s .mode) → (stop : ℕ) → let r = vol .call mounts named (s .state) stop (s .memory) in r .answer ≡ Finished
-        → let k = vol .shows named (s .memory) (r .memory) in (a : ℕ) → a < k .zone z .pointer → List·Memᴰ (k .zone z .value a) new
-    pub read : (named : vol .Names) → NamesAll g vol s named → s .mode ≡ ready → (a count : ℕ) (out : List ℕ) → zoneOf g a ≡ z → let r = vol .read named (s .state) a count out (s .memory) in r .answer ≡ Finished
-        → (ss : List (List ℕ)) × (r .buffer ≡ concat ss) × ((sector : List ℕ) → List·Memᴰ sector ss → List·Memᴰ sector new)
-    pub peek : (named : vol .Names) → NamesAll g vol s named → s .mode ≡ ready → (a : ℕ) → zoneOf g a ≡ z → let r = vol .peek named (s .state) a (s .memory) in r .number ≡ 0 → List·Memᴰ (r .part) new
+    pub mount : (named : vol .Names) → NamesAll g vol s named → MayMount (s .mode) → (stop : ℕ) → heard s (calls mounts named stop) ≡ answered Finished
+        → let k = vol .shows named (s .memory) (next g vol s (calls mounts named stop) .memory) in (a : ℕ) → a < k .zone z .pointer → List·Memᴰ (k .zone z .value a) new
+    pub read : (named : vol .Names) → NamesAll g vol s named → s .mode ≡ ready → (a count : ℕ) (out bytes : List ℕ) → zoneOf g a ≡ z → heard s (reads named a count out) ≡ readOut Finished bytes
+        → (ss : List (List ℕ)) × (bytes ≡ concat ss) × ((sector : List ℕ) → List·Memᴰ sector ss → List·Memᴰ sector new)
+    pub peek : (named : vol .Names) → NamesAll g vol s named → s .mode ≡ ready → (a from : ℕ) (part : List ℕ) → zoneOf g a ≡ z → heard s (peeks named a) ≡ peekedAt 0 from part → List·Memᴰ part new
 
   -- THE STATEMENT: of any history, as in the claim, with a finished reset of zone z in it, and what follows that
   abbrev pub ResetsLast : Type 0
   ResetsLast = (named : vol .Names) (array : ℕ) (old : vol .State) (stop : ℕ) (m : vol .Memory) → array < 256 ^ 8
       → let r = vol .call (formats array) named old stop m in let s0 = start g vol named r in
       r .answer ≡ Finished → (before after : List (Event vol)) (z : ℕ) (by : vol .Names) (count : ℕ) → z < g .zones → Dutiful g vol s0 (before ++ (calls (resets z) by count ∷ after))
-      → let s = afterAll s0 before in let t = next g vol s (calls (resets z) by count) in
-      vol .call (resets z) by (s .state) count (s .memory) .answer ≡ Finished → OnlyOf z (writtenTo z t after) (afterAll t after)
+      → let s = afterAll g vol s0 before in let t = next g vol s (calls (resets z) by count) in
+      heard s (calls (resets z) by count) ≡ answered Finished → OnlyOf z (writtenTo z t after) (afterAll g vol t after)

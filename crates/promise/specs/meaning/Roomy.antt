@@ -1,5 +1,5 @@
 -- WHAT IS PROMISED OF GEOMETRIES WHOSE LOGS LEAVE ROOM, beyond the claim (Claim.antt): no drive fills up any more. Where the zones are so long that a log made anew always
--- has the room that a call asks for (volume's laws/RoomAfter says how long), no mount is refused, and no reset and no write by 14, log full, at any point of any
+-- has the room that a call asks for (RoomyGeneral and RoomyParity, volume's Emptying, say how long), no mount is refused, and no reset and no write by 14, log full, at any point of any
 -- history, as long as no log of a drive that is not lost has the last generation.
 use mathlib.Core.Path.{_≡_}
 use mathlib.Core.Logic.{_≢_}
@@ -7,18 +7,18 @@ use mathlib.Core.Bool.{Bool, true}
 use Prim.Native.Nat.{ℕ, _^_, _≤_, _<_}
 use mathlib.Core.List.{List}
 use Rattle.tables.specs.declared.Geometry.{Geometry}
-use Rattle.tables.specs.laws.Drives.{presentBut}
+use Rattle.tables.specs.meaning.Drives.{presentBut}
 use Rattle.tables.specs.meaning.Device.{Device}
 use Rattle.tables.specs.meaning.Tables.{deviceOf}
 use Rattle.logs.specs.meaning.Entry.{wornGeneration}
 use Rattle.volume.specs.declared.Answer.the-variants.{Finished, Refused}
 use Rattle.volume.specs.meaning.Roles.{roles, claimOfKind}
 use Rattle.volume.specs.meaning.Refusals.{TableLengths}
-use Rattle.volume.specs.laws.RoomAfter.{RoomyGeneral, RoomyParity}
-use Rattle.promise.specs.meaning.Claim.{Volume, mounts, writes, resets, formats, System, NamesAll, Event, Dutiful, start, ready}
+use Rattle.volume.specs.meaning.Emptying.{RoomyGeneral, RoomyParity}
+use Rattle.promise.specs.meaning.Claim.{WriteAsked, Volume, mounts, writes, resets, formats, System, NamesAll, Event, calls, answered, heard, Dutiful, start, ready}
 use Rattle.promise.specs.meaning.Caches.{onCachingDevice}
 use Rattle.promise.specs.meaning.CachesOnTables.{onCachingTables}
-use Rattle.promise.specs.meaning.Emptied.{AtEveryPoint}
+use Rattle.promise.specs.meaning.Histories.{AtEveryPoint}
 
 -- no log of a drive but x has the last generation (a log's claim is its generation plus 1)
 abbrev pub BeforeLast : Geometry → ℕ → Device → Type 0
@@ -26,9 +26,9 @@ BeforeLast g x v = (par : Bool) (d : ℕ) → presentBut g x d ≡ true → clai
 
 -- ---- at a point of a history
 pub record NeverFull (g : Geometry) (vol : Volume) (s : System vol) : Type 0 where
-  pub mount-accepted : (named : vol .Names) → NamesAll g vol s named → (stop n : ℕ) → vol .call mounts named (s .state) stop (s .memory) .answer ≢ Refused n
-  pub reset-not-full : (named : vol .Names) → NamesAll g vol s named → s .mode ≡ ready → (z stop : ℕ) → vol .call (resets z) named (s .state) stop (s .memory) .answer ≢ Refused 14
-  pub write-not-full : (named : vol .Names) → NamesAll g vol s named → s .mode ≡ ready → (a count : ℕ) (buffer : List ℕ) (stop : ℕ) → vol .call (writes a count buffer) named (s .state) stop (s .memory) .answer ≢ Refused 14
+  pub mount-accepted : (named : vol .Names) → NamesAll g vol s named → (stop n : ℕ) → heard s (calls mounts named stop) ≢ answered (Refused n)
+  pub reset-not-full : (named : vol .Names) → NamesAll g vol s named → s .mode ≡ ready → (z stop : ℕ) → heard s (calls (resets z) named stop) ≢ answered (Refused 14)
+  pub write-not-full : (named : vol .Names) → NamesAll g vol s named → s .mode ≡ ready → (w : WriteAsked) (stop : ℕ) → heard s (calls (writes w) named stop) ≢ answered (Refused 14)
 
 -- of the histories of which the promise is claimed (seen: the device that a memory stands for)
 abbrev pub NeverFills : (g : Geometry) (vol : Volume) → (vol .Memory → Device) → Type 0

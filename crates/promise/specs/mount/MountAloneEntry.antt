@@ -23,7 +23,8 @@ use Rattle.tables.specs.laws.Placement.{stripe-at, unit-at, row-at, address-sum
 use Rattle.tables.specs.laws.Greatest.{greatest-max}
 use Rattle.tables.specs.declared.Geometry.{Geometry}
 use Rattle.tables.specs.meaning.Geometry.{Valid, stripeSectors, zoneSectors, parityDriveOf}
-use Rattle.tables.specs.laws.Drives.{presentBut, present-below}
+use Rattle.tables.specs.meaning.Drives.{presentBut}
+use Rattle.tables.specs.laws.Drives.{present-below}
 use Rattle.logs.specs.meaning.Entry.{Header, label, counters, zoneReset, partialParity, seal, closing, Entry}
 use Rattle.logs.specs.laws.Walk.{Whole, wholeEntries}
 use Rattle.tables.specs.laws.Below.{all-all-below}

@@ -18,7 +18,8 @@ use Rattle.tables.specs.meaning.Device.{Device}
 use Rattle.tables.specs.declared.Geometry.{Geometry}
 use Rattle.tables.specs.meaning.Geometry.{Valid, dataZone}
 use Rattle.logs.specs.meaning.Entry.{generalZone, wornGeneration, Header, label, counters, encode, closing}
-use Rattle.tables.specs.laws.Drives.{presentBut, present-below}
+use Rattle.tables.specs.meaning.Drives.{presentBut}
+use Rattle.tables.specs.laws.Drives.{present-below}
 use Rattle.tables.specs.meaning.Lists.{concat}
 use Rattle.tables.specs.laws.Lists.{length-map}
 use Rattle.promise.specs.meaning.Ledger.{Ledger}

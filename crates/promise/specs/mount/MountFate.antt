@@ -15,7 +15,8 @@ use Rattle.tables.specs.meaning.Device.{Device}
 use Rattle.tables.specs.declared.Geometry.{Geometry}
 use Rattle.tables.specs.meaning.Geometry.{Valid, stripeSectors, zoneSectors, dataZone}
 use Rattle.logs.specs.meaning.Entry.{generalZone, wornGeneration, partialParity, seal, zoneReset, Entry, rowsOf}
-use Rattle.tables.specs.laws.Drives.{presentBut, present-below}
+use Rattle.tables.specs.meaning.Drives.{presentBut}
+use Rattle.tables.specs.laws.Drives.{present-below}
 use Rattle.promise.specs.meaning.Ledger.{Ledger}
 use Rattle.volume.specs.meaning.Rules.{Shown, showing, generalHeads, parityEntries, parityEnding, cleanAt, endingPast, sealSeen, resetSeen, generationOf, pointerAt, sealLimit, zoneView, conditionOf, zoneShown, zoneAt, knownPrefix}
 use Rattle.volume.specs.declared.Condition.the-variants.{Empty, Open, Sealed, Worn}

@@ -32,6 +32,7 @@ use Rattle.promise.specs.invariant.HoldsLess.{withLogs}
 use Rattle.promise.specs.mount.MountRuns.{AllDurable, Between, Done, Joined, joinedBy, between-still, between-adds}
 use Rattle.logs.specs.laws.HeadLaws.{generation-append, last-counters-append, LastOf, old, new, last-counters-of}
 use Rattle.promise.specs.invariant.HoldsMore.{NewHead, live-more, why-logged, why-bare}
+use Rattle.promise.specs.invariant.LastLabels.{names-later, names-join}
 
 -- what a step adds to the general logs: hs d on drive d, and nothing elsewhere
 pub record Logs (g : Geometry) (x : ℕ) (xs : List Store) (hs : ℕ → List Header) : Type 0 where
@@ -117,7 +118,9 @@ module _ (g : Geometry) (x : ℕ) (u : Device) (γ : Ghost) (xs : List Store) (h
     general-reads = λ d a h m. reads d a h (grown-new d a h m);
     first = first′;
     first-lasts = λ d a. le-trans (lg .first-lasts d a) (joined-at d a .keeps);
-    labels = λ d a y c m. named d a y c (grown-new d a (label y c) m);
+    arrays = λ d a y c m. carries d a y c (grown-new d a (label y c) m);
+    labels = λ d a. names-join x (w d generalZone .durable) (γ .general d) (names-later x (u d generalZone .durable) (γ .general d) (lg .labels d a) (w d generalZone .durable) (joined-at d a .keeps))
+        (take (joinedBy (u d generalZone) (w d generalZone)) (hs d)) (λ y c m. f .labels d a y c (mem-take (joinedBy (u d generalZone) (w d generalZone)) (hs d) (label y c) m) .0);
     general-closes = λ d a j n m. close d a j n (grown-new d a (closing j n) m);
     general-closed = λ d a p. grown-lasts d a (closing 0 (γ .closed d .0)) (lg .general-closed d a p);
     parity-closes = lg .parity-closes;
@@ -133,9 +136,9 @@ module _ (g : Geometry) (x : ℕ) (u : Device) (γ : Ghost) (xs : List Store) (h
       reads d a h (inl m) = lg .general-reads d a h m
       reads d a h (inr m) = f .reads d a h m
 
-      named : (d : ℕ) → Here g x d → (y c : ℕ) → List·Memᴰ (label y c) (γ .general d) ⊎ List·Memᴰ (label y c) (hs d) → LabelFits x (γ .array) y c
-      named d a y c (inl m) = lg .labels d a y c m
-      named d a y c (inr m) = f .labels d a y c m
+      carries : (d : ℕ) → Here g x d → (y c : ℕ) → List·Memᴰ (label y c) (γ .general d) ⊎ List·Memᴰ (label y c) (hs d) → c ≡ γ .array
+      carries d a y c (inl m) = lg .arrays d a y c m
+      carries d a y c (inr m) = f .labels d a y c m .1
 
       close : (d : ℕ) → Here g x d → (j n : ℕ) → List·Memᴰ (closing j n) (γ .general d) ⊎ List·Memᴰ (closing j n) (hs d) → n ≡ γ .closed d .0
       close d a j n (inl m) = lg .general-closes d a j n m

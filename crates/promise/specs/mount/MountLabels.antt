@@ -1,6 +1,6 @@
 -- Step 3 of a mount: new labels that name the lost drive. Labels speak of no zone, so every zone stays as it is.
-use Rattle.tables.specs.laws.Drives.{find-below-some, presentBut, present-below}
-use Rattle.tables.specs.meaning.Drives.{noDrive, findBelow}
+use Rattle.tables.specs.laws.Drives.{find-below-some, present-below}
+use Rattle.tables.specs.meaning.Drives.{noDrive, findBelow, presentBut}
 use mathlib.Core.Path.{_≡_, refl, ap, _∙_}
 use mathlib.Core.Logic.{_≢_, _⊎_, inl, inr}
 use mathlib.Core.Bool.{Bool, true, false, _&&_, not}

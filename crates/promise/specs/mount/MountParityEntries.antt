@@ -19,7 +19,8 @@ use Rattle.tables.specs.laws.Basics.{and-split}
 use Rattle.tables.specs.declared.Geometry.{Geometry}
 use Rattle.tables.specs.meaning.Geometry.{Valid, stripeSectors, zoneSectors, dataZone}
 use Rattle.logs.specs.meaning.Entry.{generalZone, parityZone, wornGeneration, Header, label, counters, partialParity, seal, closing, zoneReset, Entry, rowsOf}
-use Rattle.tables.specs.laws.Drives.{presentBut, present-below}
+use Rattle.tables.specs.meaning.Drives.{presentBut}
+use Rattle.tables.specs.laws.Drives.{present-below}
 use Rattle.promise.specs.meaning.Ledger.{Ledger}
 use Rattle.volume.specs.meaning.Rules.{Shown, parityEntries}
 use Rattle.volume.specs.meaning.Mount.{withFlush, entryStep}

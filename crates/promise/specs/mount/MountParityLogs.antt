@@ -47,7 +47,8 @@ parity-logs-on g x u w′ δ P′ lg still ch = record {
   general-reads = lg .general-reads;
   first = lg .first;
   first-lasts = λ d a. rw (general d a) (lg .first-lasts d a);
-  labels = lg .labels;
+  arrays = lg .arrays;
+  labels = λ d a. rw (general d a) (lg .labels d a);
   general-closes = lg .general-closes;
   general-closed = λ d a. rw (general d a) (lg .general-closed d a);
   parity-closes = λ d a e m j n q. let (f, o, p) = ch .closes d a e m j n q in lg .parity-closes d a f o j n p;

@@ -13,7 +13,7 @@ use Rattle.tables.specs.meaning.Placement.{needed}
 use Rattle.tables.specs.declared.Geometry.{Geometry}
 use Rattle.tables.specs.meaning.Geometry.{stripeSectors, dataZone}
 use Rattle.logs.specs.meaning.Entry.{parityZone, wornGeneration, Header, zoneReset, partialParity, seal, Entry}
-use Rattle.tables.specs.laws.Drives.{presentBut}
+use Rattle.tables.specs.meaning.Drives.{presentBut}
 use Rattle.logs.specs.laws.Walk.{Whole, logExtent}
 use Rattle.logs.specs.meaning.Heads.{lastCounters, generationIn}
 use Rattle.volume.specs.meaning.Content.{at}

@@ -12,7 +12,7 @@ use Rattle.tables.specs.meaning.Device.{Device}
 use Rattle.tables.specs.declared.Geometry.{Geometry}
 use Rattle.tables.specs.meaning.Geometry.{Valid, parityDriveOf, firstDriveOf, dataZone}
 use Rattle.logs.specs.meaning.Entry.{wornGeneration, Header, label, counters, zoneReset, closing}
-use Rattle.tables.specs.laws.Drives.{presentBut}
+use Rattle.tables.specs.meaning.Drives.{presentBut}
 use Rattle.tables.specs.meaning.Lists.{concat}
 use Rattle.tables.specs.laws.Lists.{mem-right}
 use Rattle.promise.specs.meaning.Ledger.{Ledger}

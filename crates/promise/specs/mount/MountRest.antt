@@ -14,7 +14,7 @@ use Rattle.tables.specs.meaning.Device.{Device}
 use Rattle.tables.specs.declared.Geometry.{Geometry}
 use Rattle.tables.specs.meaning.Geometry.{Valid, dataZone}
 use Rattle.logs.specs.meaning.Entry.{wornGeneration, partialParity, seal, zoneReset}
-use Rattle.tables.specs.laws.Drives.{presentBut}
+use Rattle.tables.specs.meaning.Drives.{presentBut}
 use Rattle.promise.specs.meaning.Ledger.{Ledger, afterMount}
 use Rattle.volume.specs.meaning.Rules.{Shown, showing, zoneShown, zoneAt, generationOf, pointerAt, valueAt, resetSeen, sealSeen, cleanAt, conditionOf}
 use Rattle.volume.specs.declared.Condition.{Condition}

@@ -22,7 +22,8 @@ use Rattle.tables.specs.laws.Local.{LocalStore, appendHere, flushHere, applyHer
 use Rattle.tables.specs.meaning.Phases.{flushAll, onPresent}
 use Rattle.tables.specs.laws.Phases.{flush-all-local, on-present-local}
 use Rattle.tables.specs.declared.Geometry.{Geometry}
-use Rattle.tables.specs.laws.Drives.{presentBut, present-below}
+use Rattle.tables.specs.meaning.Drives.{presentBut}
+use Rattle.tables.specs.laws.Drives.{present-below}
 use Rattle.promise.specs.meaning.Ledger.{Ledger}
 use Rattle.volume.specs.meaning.Mount.{withFlush}
 use Rattle.promise.specs.invariant.Obligations.{Invs}
@@ -139,7 +140,8 @@ logs-untouched g x u w γ lg still lasts fits = record {
   general-reads = lg .general-reads;
   first = lg .first;
   first-lasts = λ d a. rw (still d generalZone a (omega arith)) (lg .first-lasts d a);
-  labels = lg .labels;
+  arrays = lg .arrays;
+  labels = λ d a. rw (still d generalZone a (omega arith)) (lg .labels d a);
   general-closes = lg .general-closes;
   general-closed = λ d a. rw (still d generalZone a (omega arith)) (lg .general-closed d a);
   parity-closes = lg .parity-closes;

@@ -14,7 +14,7 @@ use Rattle.tables.specs.meaning.Device.{Device}
 use Rattle.tables.specs.declared.Geometry.{Geometry}
 use Rattle.tables.specs.meaning.Geometry.{Valid, zoneSectors, dataZone}
 use Rattle.logs.specs.meaning.Entry.{wornGeneration, Header, label, counters, seal, closing}
-use Rattle.tables.specs.laws.Drives.{presentBut}
+use Rattle.tables.specs.meaning.Drives.{presentBut}
 use Rattle.tables.specs.meaning.Lists.{concat, anyOf}
 use Rattle.tables.specs.laws.Lists.{any-of-some, mem-left, mem-right}
 use Rattle.promise.specs.meaning.Ledger.{Ledger}

@@ -13,7 +13,8 @@ use Rattle.tables.specs.meaning.Device.{ZoneView, Device, flushed}
 use Rattle.tables.specs.declared.Geometry.{Geometry}
 use Rattle.tables.specs.meaning.Geometry.{Valid, stripeSectors}
 use Rattle.logs.specs.meaning.Entry.{generalZone, parityZone, wornGeneration, Header, label, counters, partialParity, seal, closing, zoneReset, Entry, encode, rowsOf}
-use Rattle.tables.specs.laws.Drives.{presentBut, present-below}
+use Rattle.tables.specs.meaning.Drives.{presentBut}
+use Rattle.tables.specs.laws.Drives.{present-below}
 use Rattle.tables.specs.meaning.Lists.{concat}
 use Rattle.tables.specs.laws.Lists.{mem-take}
 use Rattle.promise.specs.meaning.Ledger.{Ledger}

@@ -15,30 +15,30 @@ use Rattle.logs.specs.meaning.Heads.{firstClosing}
 use Rattle.logs.specs.laws.Walk.{Reads, WellFormedLog, wholeEntries, cutEntries, cut-flat, cut-lawful, cut-extent, cut-left, cut-mono, sectorsOfAll, logExtent, walk-lawful}
 use Rattle.logs.specs.laws.LogLaws.{whole-entries-mem, mem-whole-entries}
 use Rattle.logs.specs.laws.Closing.{Closes, first-closing-is}
-use Rattle.volume.specs.meaning.Roles.{claim, strength, Roles, zoneOfRole}
+use Rattle.volume.specs.meaning.Roles.{zoneClaim, strength, Roles, zoneOfRole}
 use Rattle.volume.specs.laws.Claims.{Claims, none-claims-none, other-claims-none, own-strength, other-strength}
 use Rattle.volume.specs.laws.Firm.{Proper, Firm}
 use Rattle.promise.specs.invariant.Invariant.{Ghost, Here, LogsOk, closingEntry}
 use Rattle.promise.specs.look.LookReads.{bareEntry, heads-flat, heads-back, heads-lawful, heads-extent, heads-whole}
 
 -- ---- a general log
-pub general-claims : (g : Geometry) (d : ℕ) (hs : List Header) → ((h : Header) → List·Memᴰ h hs → Reads g d false h) → length hs ≤ g .capacity → claim g d false (map (encode g d) hs) ≡ firstClosing hs
-unfolding claim
+pub general-claims : (g : Geometry) (d : ℕ) (hs : List Header) → ((h : Header) → List·Memᴰ h hs → Reads g d false h) → length hs ≤ g .capacity → zoneClaim g d false (map (encode g d) hs) ≡ firstClosing hs
+unfolding zoneClaim
 general-claims g d hs rd n =
     let (p, q) = walk-lawful g d false (map bareEntry hs) zero (heads-lawful g d hs rd) (omega (arith, heads-extent g d hs rd)) in
     let (e, f) = heads-whole g d hs rd in
     rw (← heads-flat g d hs) (ap (λ (es : List Entry). firstClosing (map (λ (e : Entry). e .head) es)) (p ∙ e) ∙ ap firstClosing (heads-back g d hs))
 
-pub general-claims-none : (g : Geometry) (d : ℕ) (hs : List Header) → ((h : Header) → List·Memᴰ h hs → Reads g d false h) → claim g d true (map (encode g d) hs) ≡ 0
+pub general-claims-none : (g : Geometry) (d : ℕ) (hs : List Header) → ((h : Header) → List·Memᴰ h hs → Reads g d false h) → zoneClaim g d true (map (encode g d) hs) ≡ 0
 general-claims-none g d [] rd = none-claims-none g d true
 general-claims-none g d (h ∷ hs) rd = other-claims-none g d false h (map (encode g d) hs) (rd h (List·Memᴰ·head refl))
 
 -- ---- a parity log
-pub parity-claims : (g : Geometry) (d : ℕ) (es : List Entry) → WellFormedLog g d true es → logExtent g d true es ≤ g .capacity → claim g d true (sectorsOfAll g d true es) ≡ firstClosing (map (λ (e : Entry). e .head) (wholeEntries g d true es))
-unfolding claim
+pub parity-claims : (g : Geometry) (d : ℕ) (es : List Entry) → WellFormedLog g d true es → logExtent g d true es ≤ g .capacity → zoneClaim g d true (sectorsOfAll g d true es) ≡ firstClosing (map (λ (e : Entry). e .head) (wholeEntries g d true es))
+unfolding zoneClaim
 parity-claims g d es lw n = ap (λ (es : List Entry). firstClosing (map (λ (e : Entry). e .head) es)) (walk-lawful g d true es zero lw (omega (arith, n)) .0)
 
-pub parity-claims-none : (g : Geometry) (d : ℕ) (es : List Entry) → WellFormedLog g d true es → claim g d false (sectorsOfAll g d true es) ≡ 0
+pub parity-claims-none : (g : Geometry) (d : ℕ) (es : List Entry) → WellFormedLog g d true es → zoneClaim g d false (sectorsOfAll g d true es) ≡ 0
 parity-claims-none g d [] lw = none-claims-none g d false
 parity-claims-none g d (e ∷ es) lw = other-claims-none g d true (e .head) _ (lw .0)
 
@@ -53,7 +53,7 @@ head-mem (p ∷ es) h (List·Memᴰ·tail m) = let (e, o, q) = head-mem es h m i
 -- THE LINK: a device v whose logs, seen (u) by the roles r of drive d, are in order, has these roles firmly
 module _ (g : Geometry) (x : ℕ) (v u : Device) (γ : Ghost) (lg : LogsOk g x u γ) (d : ℕ) (a : Here g x d) (r : Roles) (seen : (y : ℕ) → u d y ≡ v d (zoneOfRole r y)) where
   -- whatever a cut keeps of the general log
-  general-at : (k : ℕ) → v d (r .general) .durable ≤ k → (claim g d false (take k (v d (r .general) .sectors)) ≡ γ .closed d .0) × (claim g d true (take k (v d (r .general) .sectors)) ≡ 0)
+  general-at : (k : ℕ) → v d (r .general) .durable ≤ k → (zoneClaim g d false (take k (v d (r .general) .sectors)) ≡ γ .closed d .0) × (zoneClaim g d true (take k (v d (r .general) .sectors)) ≡ 0)
   general-at k h =
       let hs = take k (γ .general d) in
       let s : take k (v d (r .general) .sectors) ≡ map (encode g d) hs = ap (λ (z : ZoneView). take k (z .sectors)) (sym (seen 0)) ∙ ap (take k) (lg .general-is d a) ∙ take-map (encode g d) k (γ .general d) in
@@ -68,7 +68,7 @@ module _ (g : Geometry) (x : ℕ) (v u : Device) (γ : Ghost) (lg : LogsOk g x u
       low h = rw (seen 0) h
 
   -- and of the parity log
-  parity-at : (k : ℕ) → v d (r .parity) .durable ≤ k → (claim g d true (take k (v d (r .parity) .sectors)) ≡ γ .closed d .1) × (claim g d false (take k (v d (r .parity) .sectors)) ≡ 0)
+  parity-at : (k : ℕ) → v d (r .parity) .durable ≤ k → (zoneClaim g d true (take k (v d (r .parity) .sectors)) ≡ γ .closed d .1) × (zoneClaim g d false (take k (v d (r .parity) .sectors)) ≡ 0)
   parity-at k h =
       let es = cutEntries g d true (γ .parity d) k in
       let s : take k (v d (r .parity) .sectors) ≡ sectorsOfAll g d true es = ap (λ (z : ZoneView). take k (z .sectors)) (sym (seen 1)) ∙ ap (take k) (lg .parity-is d a) ∙ cut-flat g d true (γ .parity d) k in

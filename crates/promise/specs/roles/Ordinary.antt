@@ -14,7 +14,7 @@ use Rattle.tables.specs.laws.Local.{applyAllHere, localStores, local-is}
 use Rattle.tables.specs.laws.StoresFit.{AllOn}
 use Rattle.tables.specs.meaning.Through.{through, carry}
 use Rattle.tables.specs.laws.Through.{OneToOne, through-apply-all}
-use Rattle.tables.specs.laws.Drives.{presentBut}
+use Rattle.tables.specs.meaning.Drives.{presentBut}
 use Rattle.tables.specs.declared.Geometry.{Geometry}
 use Rattle.logs.specs.meaning.Entry.{spareZone}
 use Rattle.volume.specs.meaning.Roles.{Roles, zoneOfRole, byRoles}

@@ -7,7 +7,7 @@ use Rattle.tables.specs.meaning.Lists.{concat}
 use Rattle.tables.specs.meaning.Device.{Device, Store}
 use Rattle.tables.specs.meaning.Phases.{onPresent, eachOnPresent, flushAll}
 use Rattle.tables.specs.laws.StoresFit.{AllOn, on-present-on, on-append}
-use Rattle.tables.specs.laws.Drives.{presentBut}
+use Rattle.tables.specs.meaning.Drives.{presentBut}
 use Rattle.tables.specs.declared.Geometry.{Geometry}
 use Rattle.volume.specs.meaning.State.{StateView, pointerIn}
 use Rattle.volume.specs.meaning.Calls.{zoneContent, writeWith, writeStores, flushStores, resetPhases, resetStores}

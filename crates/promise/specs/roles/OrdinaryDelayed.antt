@@ -17,7 +17,7 @@ use Rattle.tables.specs.meaning.Cached.{uncached, applyAllCaching}
 use Rattle.tables.specs.laws.Cached.{now-is, rememberHere}
 use Rattle.tables.specs.meaning.Through.{carry}
 use Rattle.tables.specs.laws.Through.{OneToOne}
-use Rattle.tables.specs.laws.Drives.{presentBut}
+use Rattle.tables.specs.meaning.Drives.{presentBut}
 use Rattle.tables.specs.declared.Geometry.{Geometry}
 use Rattle.logs.specs.meaning.Entry.{spareZone}
 use Rattle.volume.specs.meaning.Roles.{Roles, zoneOfRole, byRoles}

@@ -5,12 +5,11 @@ use mathlib.Core.Logic.{_⊎_}
 use Prim.Native.Nat.{ℕ, _<_, _^_}
 use native.Mathlib.Omega.{arith}
 use mathlib.Core.List.{List, map}
-use lib.ListN.{take}
+use lib.ListN.{take, length}
 use Rattle.tables.specs.laws.Lists.{take-map}
 use Rattle.tables.specs.meaning.Device.{Device, Store, applyAll, Loss}
 use Rattle.tables.specs.meaning.Through.{carry}
-use Rattle.tables.specs.meaning.Drives.{noDrive}
-use Rattle.tables.specs.laws.Drives.{presentBut}
+use Rattle.tables.specs.meaning.Drives.{noDrive, presentBut}
 use Rattle.tables.specs.declared.Geometry.{Geometry}
 use Rattle.tables.specs.meaning.Geometry.{Valid}
 use Rattle.logs.specs.meaning.Entry.{spareZone}
@@ -55,9 +54,9 @@ module _ (g : Geometry) (ok : Valid g) (c : LogGenerations) (x : ℕ) (v : Devic
       roled-part s (writeStores g (presentBut g x) (byRoles g v) state z ss) (write-ordinary g x (byRoles g v) state z ss) n (afterWrite l z ss) (write-keeps g ok c x (byRoles g v) state l z ss n r w)
 
   pub roled-write-rests : (state : StateView) (l : Ledger) (z : ℕ) (ss : List (List ℕ)) → RoledRests c g x v state l → WriteOk g (presentBut g x) (byRoles g v) state z ss
-      → RoledRests c g x (carriedTo g v (writeStores g (presentBut g x) (byRoles g v) state z ss)) (writeState x state z ss) (afterWrite l z ss)
+      → RoledRests c g x (carriedTo g v (writeStores g (presentBut g x) (byRoles g v) state z ss)) (writeState x state z (length ss)) (afterWrite l z ss)
   roled-write-rests state l z ss (s, r) w =
-      ordinary-rests g x v c s (writeStores g (presentBut g x) (byRoles g v) state z ss) (write-ordinary g x (byRoles g v) state z ss) (writeState x state z ss) (afterWrite l z ss) (write-rests g ok c x (byRoles g v) state l z ss r w)
+      ordinary-rests g x v c s (writeStores g (presentBut g x) (byRoles g v) state z ss) (write-ordinary g x (byRoles g v) state z ss) (writeState x state z (length ss)) (afterWrite l z ss) (write-rests g ok c x (byRoles g v) state l z ss r w)
 
   -- ---- flush
   pub roled-flush-keeps : (l : Ledger) (n : ℕ) → RoledInvs c g x v l → RoledInvs c g x (stoppedTo g v n (flushStores g (presentBut g x))) l

@@ -13,7 +13,7 @@ use Rattle.tables.specs.laws.Basics.{and-join, and-split}
 use Rattle.tables.specs.meaning.Device.{Device, Store, flushed, applyAll, ZoneCut, Cut}
 use Rattle.tables.specs.laws.Device.{WellFormed, well-formed-apply-all}
 use Rattle.tables.specs.laws.Local.{applyAllHere, localStores, local-is}
-use Rattle.tables.specs.laws.Drives.{presentBut}
+use Rattle.tables.specs.meaning.Drives.{presentBut}
 use Rattle.tables.specs.declared.Geometry.{Geometry}
 use Rattle.tables.specs.meaning.Geometry.{physicalZones, dataZone}
 use Rattle.logs.specs.meaning.Entry.{generalZone, parityZone}

@@ -52,7 +52,8 @@ module _ (g : Geometry) (x : ℕ) (u w : Device) (k : SameZones g x u w) (γ : G
       general-reads = lg .general-reads;
       first = lg .first;
       first-lasts = λ d a. rw (k .general d a) (lg .first-lasts d a);
-      labels = lg .labels;
+      arrays = lg .arrays;
+      labels = λ d a. rw (k .general d a) (lg .labels d a);
       general-closes = lg .general-closes;
       general-closed = λ d a. rw (k .general d a) (lg .general-closed d a);
       parity-closes = lg .parity-closes;

@@ -1,113 +1,195 @@
--- THE CLAIM ABOUT EMPTYINGS HOLDS: in every history, of every accepted write, reset and mount that empties logs (meaning/Emptied.antt).
-use mathlib.Core.Path.{_≡_, refl, sym, subst}
+-- What looks show while a call empties logs: from what is known of each emptied drive behind its first flush (Behind), what is claimed of the call stopped anywhere and
+-- cut, on drives that cache resets (meaning/Emptied); and that the emptyings of a write and of a reset are so.
+use mathlib.Core.Path.{_≡_, refl, ap, _∙_, subst}
 use mathlib.Core.Logic.{_≢_, inl, inr}
 use mathlib.Core.Bool.{Bool, true, false, _&&_}
-use Prim.Native.Nat.{ℕ, zero, _+_, _<_}
+use Prim.Native.Nat.{ℕ, zero, suc, _+_, _≤_, _<_}
+use native.Mathlib.Nat.{le-refl}
+use native.Mathlib.Decide.{ℕ-discrete}
 use native.Mathlib.Omega.{arith}
-use mathlib.Core.List.{List, []}
-use lib.ListN.{length}
-use lib.Dec.{eqb}
+use mathlib.Core.List.{List, [], _++_, append-nil, map}
+use lib.ListN.{length, take}
+use lib.Dec.{ltb, eqb}
+use borrow.Author.Tests.{lt-ltb, le-ltb}
+use Rattle.tables.specs.meaning.Basics.{pick}
 use Rattle.tables.specs.laws.Basics.{and-split}
-use Rattle.tables.specs.laws.Below.{length-tabulate-from}
+use Rattle.tables.specs.meaning.Below.{eachBelow}
 use Rattle.tables.specs.meaning.Device.{Device, Store, applyAll}
-use Rattle.tables.specs.meaning.Below.{anyBelow}
-use Rattle.tables.specs.meaning.Phases.{onPresent}
-use Rattle.tables.specs.meaning.Through.{through}
+use Rattle.tables.specs.meaning.Cached.{Caching, applyAllCaching, CachingCut}
 use Rattle.tables.specs.declared.Geometry.{Geometry}
 use Rattle.tables.specs.meaning.Geometry.{Valid}
-use Rattle.tables.specs.laws.GeometryTest.{valid-if-test}
-use Rattle.tables.specs.laws.Drives.{presentBut}
+use Rattle.tables.specs.meaning.Drives.{presentBut}
 use Rattle.volume.specs.meaning.State.{StateView, pointerIn}
 use Rattle.volume.specs.meaning.Content.{insideStripe, parityDriveAt}
-use Rattle.volume.specs.meaning.Rules.{generalHeads, parityEntries, showing, zoneShown, zoneAt}
-use Rattle.volume.specs.meaning.Roles.{driveByRoles, roles, byRoles, placedBy}
-use Rattle.volume.specs.meaning.Calls.{flushStores}
-use Rattle.volume.specs.meaning.Emptying.{byState, byLook, lacksRoom, newGeneral, newParity, newParitySize, resetLimit, writeLimit, emptiedFor, emptiedForWrite, emptyings, emptyGeneral, emptyParity, isMade}
-use Rattle.volume.specs.laws.OpeningFlush.{opening-sectors}
-use Rattle.volume.specs.meaning.Mount.{spareStep, afterOpening, afterFill, mountView, mountLook, startRoles, emptiedGeneral, emptiedParity, middleRoles}
-use Rattle.volume.specs.meaning.Refusals.{TableLengths, zoneOf}
-use Rattle.volume.specs.meaning.Answers.{sectorsIn}
+use Rattle.volume.specs.meaning.Rules.{Shown, showing, zoneShown, zoneAt}
+use Rattle.volume.specs.meaning.Roles.{Roles, driveByRoles, roles, byRoles, zoneOfKind, placedBy, rolesAfter}
+use Rattle.volume.specs.meaning.Emptying.{InForce, byState, lacksRoom, newParitySize, resetLimit, writeLimit, emptiedFor, emptiedForWrite, emptyings, emptyGeneral, emptyParity, writeAll, resetAll}
+use Rattle.volume.specs.laws.Firm.{firm-roles, proper-apart}
+use Rattle.tables.specs.meaning.Through.{carry}
+use Rattle.volume.specs.meaning.Calls.{writeStores}
+use Rattle.volume.specs.meaning.Refusals.{zoneOf}
 use Rattle.promise.specs.meaning.Ledger.{Ledger, afterFlush}
-use Rattle.promise.specs.meaning.Claim.{System}
-use Rattle.promise.specs.meaning.OnDevice.{onDevice}
-use Rattle.promise.specs.meaning.Caches.{beneath, deviceCaches}
-use Rattle.promise.specs.meaning.Emptied.{MayNameBut, lookBut, ShowsAlike, AlikeUpTo, LooksAlike, LooksAlikeUpTo, flushOf, KeepsLooks, KeepsLooksUpTo, emptyingsOfWrite, emptyingsOfReset, afterSpareResets, emptyingsOfMount, filledView, entryMade, lookPointer, parityEmptyingsOfMount, EmptyingsKeepLooks, EmptyingClaim}
+use Rattle.promise.specs.meaning.Claim.{WriteAsked, allBut}
+use Rattle.promise.specs.meaning.OnDevice.{shownBy}
+use Rattle.promise.specs.meaning.Histories.{ShowsAlike}
+use Rattle.promise.specs.meaning.Emptied.{AlikeUpTo, MayNameBut, Emptyings, flushOf, flushEnd, UnderWay, emptyingsOfWrite, emptyingsOfReset}
 use Rattle.promise.specs.invariant.Invariant.{Here, LogGenerations, rest-inv}
-use Rattle.promise.specs.invariant.RoomAsked.{WriteAccepted, ResetAccepted, MountAccepted}
+use Rattle.promise.specs.invariant.RoomAsked.{WriteAccepted, ResetAccepted}
+use Rattle.promise.specs.roles.Roled.{Standing}
 use Rattle.promise.specs.roles.RoledCalls.{RoledInvs, RoledRests}
-use Rattle.promise.specs.roles.MountReads.{mount-accepted-same}
 use Rattle.promise.specs.emptying.AskedSame.{ShowsSame}
 use Rattle.promise.specs.emptying.CanEmpty.{CanEmptyLog}
-use Rattle.promise.specs.emptying.RestShows.{none-lost}
+use Rattle.promise.specs.emptying.RestShows.{none-lost, rests-show-same}
 use Rattle.promise.specs.emptying.Forced.{Forced, rest-forced}
 use Rattle.promise.specs.emptying.ParityAtRest.{ByState}
-use Rattle.promise.specs.emptying.FlushedRests.{flushedAll, flush-sectors, flushed-invs, flushed-rests}
-use Rattle.promise.specs.emptying.MountLogs.{spareStepOf}
-use Rattle.promise.specs.emptying.ParityMounts.{Looks, looks-before}
-use Rattle.promise.specs.emptying.CallParts.{filled-roled}
-use Rattle.promise.specs.emptying.GeneralEmptyings.{LooksSame, looks-same}
-use Rattle.promise.specs.emptying.MountTail.{MountReady, filledDevice, stepped}
-use Rattle.promise.specs.emptying.MountWhole.{reached, ready-there, fill-is}
-use Rattle.promise.specs.shown.MountParityLooks.{parity-behind}
-use Rattle.promise.specs.emptying.GeneralEmptying.{generalSizeOf}
-use Rattle.promise.specs.device.Marks.{withMarks}
+use Rattle.promise.specs.emptying.EmptyingStops.{LeftBy}
+use Rattle.promise.specs.emptying.Emptyings.{emptyingOf, atFlush}
+use Rattle.promise.specs.emptying.DriveStores.{each-below-cong}
+use Rattle.promise.specs.emptying.ParityRests.{newSectors}
+use Rattle.promise.specs.emptying.ParityEmptyings.{parity-at-flush, parity-drive-left}
+use Rattle.promise.specs.emptying.GeneralEmptying.{newGeneralOf, generalSizeOf}
+use Rattle.promise.specs.emptying.GeneralEmptyings.{general-at-flush, general-drive-left}
+use Rattle.promise.specs.emptying.ParityLooks.{Looks}
 use Rattle.promise.specs.device.Modes.{SomeInvs, loss-some-invs}
 use Rattle.promise.specs.device.Looks.{invs-look}
-use Rattle.promise.specs.device.AcceptedCalls.{write-accepted, reset-accepted}
-use Rattle.promise.specs.device.ClaimEvents.{Ok, rests-of, invs-of, drives-of-call, mount-allowed}
-use Rattle.promise.specs.emptying.DriveStores.{emptyings-on}
-use Rattle.promise.specs.emptying.OnPresent.{on-present-all}
-use Rattle.promise.specs.shown.EveryPoint.{at-every-point}
-use Rattle.promise.specs.shown.BehindDelayed.{Behind, behind-cached}
-use Rattle.promise.specs.shown.MountLooks.{u-invs, mount-behind}
-use Rattle.promise.specs.shown.BehindLooks.{parity-behind-rests, parity-behind-shows, general-behind}
+use Rattle.promise.specs.shown.BehindFlush.{stopped-there, flushed-is, stopped-left}
 
--- ---- a look is by the drives named
-abbrev Invs : Geometry → ℕ → Device → Ledger → Type 0
-Invs g x w l = (c : LogGenerations) × RoledInvs c g x w l
+-- ---- a look is by the drives named (y: the one that is not)
+abbrev pub lookBut : Geometry → ℕ → Device → Shown
+lookBut g y v = shownBy g (allBut y) v v
 
-some-invs : (g : Geometry) (x : ℕ) (w : Device) (l : Ledger) → Invs g x w l → SomeInvs g x w l
-some-invs g x w l (c, i) = (c, l .committed, (λ z. omega arith), i)
+abbrev pub SomeInv : Geometry → ℕ → Device → Type 0
+SomeInv g x w = (l : Ledger) × (c : LogGenerations) × RoledInvs c g x w l
 
 module _ (g : Geometry) (ok : Valid g) (x y : ℕ) (by : MayNameBut g x y) where
-  named-invs : (w : Device) (l : Ledger) → Invs g x w l → SomeInvs g y w l
-  named-invs w l i = go by
+  named-invs : (w : Device) (i : SomeInv g x w) → SomeInvs g y w (i .0)
+  named-invs w (l, c, i) = go by
     where
+      some : SomeInvs g x w l
+      some = (c, l .committed, (λ z. le-refl (l .committed z)), i)
+
       go : MayNameBut g x y → SomeInvs g y w l
-      go (inl e) = rw e (some-invs g x w l i)
-      go (inr (e, h)) = loss-some-invs g ok x y w w h (inl e) (none-lost y w) l (some-invs g x w l i)
+      go (inl e) = rw e some
+      go (inr (e, h)) = loss-some-invs g ok x y w w h (inl e) (none-lost y w) l some
 
   -- by the rules' drives and by the look's
-  alike : (v w : Device) (l m : Ledger) → Invs g x v l → Invs g x w m → ((z : ℕ) → z < g .zones → ShowsSame g (presentBut g y) (byRoles g v) (byRoles g w) z) → ShowsAlike g (lookBut g y v) (lookBut g y w)
+  pub alike : (v w : Device) → SomeInv g x v → SomeInv g x w → ((z : ℕ) → z < g .zones → ShowsSame g (presentBut g y) (byRoles g v) (byRoles g w) z) → ShowsAlike g (lookBut g y v) (lookBut g y w)
   unfolding showing zoneShown zoneAt
-  alike v w l m i j s =
-      let a = invs-look g ok y v l (named-invs v l i) in
-      let b = invs-look g ok y w m (named-invs w m j) in
+  alike v w i j s =
+      let a = invs-look g ok y v (i .0) (named-invs v i) in
+      let b = invs-look g ok y w (j .0) (named-invs w j) in
       rw (a .present, a .lost, b .present, b .lost) (record { pointers = λ z hz. s z hz .pointer; sectors = λ z hz. s z hz .values })
 
   -- where a zone whose entry was made may show more
-  alike-up-to : (v w : Device) (l m : Ledger) (made : ℕ → Bool) (top : ℕ → ℕ) → Invs g x v l → Invs g x w m
-      → ((z : ℕ) → z < g .zones → Looks g (presentBut g y) (byRoles g v) (byRoles g w) z (top z) (made z)) → AlikeUpTo g made top (lookBut g y v) (lookBut g y w)
+  pub alike-up-to : (v w : Device) (made : ℕ → Bool) (top : ℕ → ℕ) → SomeInv g x v → SomeInv g x w → ((z : ℕ) → z < g .zones → Looks g (presentBut g y) (byRoles g v) (byRoles g w) z (top z) (made z)) → AlikeUpTo g made top (lookBut g y v) (lookBut g y w)
   unfolding showing zoneShown zoneAt
-  alike-up-to v w l m made top i j s =
-      let a = invs-look g ok y v l (named-invs v l i) in
-      let b = invs-look g ok y w m (named-invs w m j) in
+  alike-up-to v w made top i j s =
+      let a = invs-look g ok y v (i .0) (named-invs v i) in
+      let b = invs-look g ok y w (j .0) (named-invs w j) in
       rw (a .present, a .lost, b .present, b .lost) (record { pointers = λ z hz e. s z hz .same e .pointer; least = λ z hz. s z hz .up-to .least; most = λ z hz. s z hz .up-to .most; sectors = λ z hz. s z hz .up-to .values })
 
-rests-invs : (g : Geometry) (x : ℕ) (c : LogGenerations) (v : Device) (state : StateView) (l : Ledger) → RoledRests c g x v state l → Invs g x v l
-rests-invs g x c v state l (s, (γ, r, q)) = (c, (s, (γ, rest-inv g x (byRoles g v) state l γ r, q)))
+-- ---- what is known of one emptied drive, behind its first flush (v: the device where the emptyings begin)
+pub record Behind (g : Geometry) (x : ℕ) (par : Bool) (r : ℕ → Roles) (emptied : ℕ → Bool) (ss : ℕ → List (List ℕ)) (v : Device) (Alike : Shown → Shown → Type 0) (d : ℕ) : Type 0 where
+  pub here : Here g x d
+  pub apart : zoneOfKind par (r d) ≢ r d .spare
+  pub blank : atFlush g x par r emptied ss v d d (r d .spare) .sectors ≡ []
+  pub looks : (w : Device) → LeftBy g x (atFlush g x par r emptied ss v d) w d (zoneOfKind par (r d)) (r d .spare) (ss d) → (y : ℕ) → MayNameBut g x y → Alike (lookBut g y (atFlush g x par r emptied ss v d)) (lookBut g y w)
 
--- ---- a write at rest (z: its zone; count: its sectors)
+-- ---- the emptyings of a call, as its stores have them
+pub record Within (g : Geometry) (x : ℕ) (E : Emptyings) (stores : List Store) (par : Bool) (r : ℕ → Roles) (ss : ℕ → List (List ℕ)) : Type 0 where
+  pub rest : List Store
+  pub of : (some : ℕ → Bool) → ((e : ℕ) → some e ≡ true → E .emptied e ≡ true) → E .storesOf some ≡ emptyings g (presentBut g x) par r some ss
+  pub are : stores ≡ E .before ++ (E .storesOf (E .emptied) ++ rest)
+
+-- of the drives below d alone
+only-below : (f : ℕ → List Store) (emptied : ℕ → Bool) (d n : ℕ) → d ≤ n → eachBelow (λ e. pick (ltb e d && emptied e) (f e) []) n ≡ eachBelow (λ e. pick (emptied e) (f e) []) d
+only-below f emptied d zero h = let e : d ≡ 0 = omega (arith, h) in rw e refl
+only-below f emptied d (suc n) h = go (ℕ-discrete d (suc n)) (λ k. only-below f emptied d n k)
+  where
+    go : Dec (d ≡ suc n) → (d ≤ n → eachBelow (λ e. pick (ltb e d && emptied e) (f e) []) n ≡ eachBelow (λ e. pick (emptied e) (f e) []) d) → eachBelow (λ e. pick (ltb e d && emptied e) (f e) []) (suc n) ≡ eachBelow (λ e. pick (emptied e) (f e) []) d
+    go (yes q) ih = rw q (each-below-cong (λ e. pick (ltb e (suc n) && emptied e) (f e) []) (λ e. pick (emptied e) (f e) []) (suc n) (λ e k. rw (lt-ltb e (suc n) k) refl))
+    go (no q) ih = rw (le-ltb n d (omega (arith, h, q))) (append-nil _ ∙ ih (omega (arith, h, q)))
+
+module _ (g : Geometry) (x : ℕ) (c : Caching) (stores : List Store) (E : Emptyings) (par : Bool) (r : ℕ → Roles) (ss : ℕ → List (List ℕ)) (wi : Within g x E stores par r ss) (Alike : ℕ → Shown → Shown → Type 0)
+    (known : (d : ℕ) → d < g .drives → E .emptied d ≡ true → Behind g x par r (E .emptied) ss (applyAll (E .before) (c .now)) (Alike d) d) where
+  abbrev one : ℕ → List Store
+  one = emptyingOf g x par r (E .emptied) ss
+
+  upto-is : (d : ℕ) → d ≤ g .drives → E .storesOf (λ e. ltb e d && E .emptied e) ≡ eachBelow one d
+  unfolding emptyings
+  upto-is d h = wi .of (λ e. ltb e d && E .emptied e) (λ e b. and-split (ltb e d) (E .emptied e) b .1) ∙ only-below _ (E .emptied) d (g .drives) h
+
+  all-is : E .storesOf (E .emptied) ≡ eachBelow one (g .drives)
+  unfolding emptyings
+  all-is = wi .of (E .emptied) (λ e b. b)
+
+  end-is : (d : ℕ) → d ≤ g .drives → flushEnd g x E d ≡ length (E .before) + (length (eachBelow one d) + length (flushOf g x))
+  end-is d h = ap (λ (ys : List Store). length (E .before) + (length ys + length (flushOf g x))) (upto-is d h)
+
+  stores-are : stores ≡ E .before ++ (eachBelow one (g .drives) ++ wi .rest)
+  stores-are = wi .are ∙ ap (λ (ys : List Store). E .before ++ (ys ++ wi .rest)) all-is
+
+  module _ (d n : ℕ) (u : UnderWay g x E d n) where
+    k : Behind g x par r (E .emptied) ss (applyAll (E .before) (c .now)) (Alike d) d
+    k = known d (u .drive) (u .is-emptied)
+
+    -- at the flush's end
+    there : applyAllCaching (take (flushEnd g x E d) stores) c .now ≡ atFlush g x par r (E .emptied) ss (applyAll (E .before) (c .now)) d
+    there =
+        let h = u .drive in
+        ap (λ (ys : List Store). applyAllCaching ys c .now) (ap (take (flushEnd g x E d)) stores-are ∙ ap (λ (i : ℕ). take i (E .before ++ (eachBelow one (g .drives) ++ wi .rest))) (end-is d (omega (arith, h))) ∙ stopped-there g x par r (E .emptied) ss (E .before) (wi .rest) d (u .drive) (u .is-emptied))
+        ∙ flushed-is g x par r (E .emptied) ss (E .before) (wi .rest) d (u .drive) (u .is-emptied) c
+
+    -- BEHIND IT, stopped and cut
+    pub kept : (w : Device) → CachingCut x (applyAllCaching (take n stores) c) w → (y : ℕ) → MayNameBut g x y → Alike d (lookBut g y (applyAllCaching (take (flushEnd g x E d) stores) c .now)) (lookBut g y w)
+    kept w cut y by =
+        let h = u .drive in
+        let l = stopped-left g x par r (E .emptied) ss (E .before) (wi .rest) d (u .drive) (u .is-emptied) n (rw (← end-is d (omega (arith, h))) (u .flushed))
+        (λ e he de be. rw (← end-is e (omega (arith, he))) (u .not-next e he de be)) (rw (← all-is) (u .not-done)) c (k .here) (k .apart) (k .blank) w
+        (subst (λ (ys : List Store). CachingCut x (applyAllCaching (take n ys) c) w) stores-are cut) in
+        rw there (k .looks w l y by)
+
+-- ---- a drive's log of either kind is not its spare
+pub kinds-apart : (g : Geometry) (x : ℕ) (v : Device) (c : LogGenerations) → Standing g x v c → (par : Bool) (d : ℕ) → Here g x d → zoneOfKind par (roles g v d) ≢ roles g v d .spare
+kinds-apart g x v c s par d a = rw (firm-roles g v d (s .roles d) (s .firm d a)) (go par)
+  where
+    go : (b : Bool) → zoneOfKind b (s .roles d) ≢ s .roles d .spare
+    go true = proper-apart (s .roles d) (s .firm d a .proper) .2
+    go false = proper-apart (s .roles d) (s .firm d a .proper) .1
+
+-- ==== general logs, of a reset or of a mount
+pub general-behind : (g : Geometry) (ok : Valid g) (x : ℕ) (c : LogGenerations) (v : Device) (l : Ledger) (ri : RoledInvs c g x v l) (f : InForce) (forced : Forced g x (byRoles g v) (f .generation)) (emptied : ℕ → Bool)
+    (can : (d : ℕ) → d < g .drives → emptied d ≡ true → Here g x d × CanEmptyLog g false v d (generalSizeOf g f v d)) (d : ℕ) → d < g .drives → emptied d ≡ true → Behind g x false (roles g v) emptied (newGeneralOf g f v) v (ShowsAlike g) d
+general-behind g ok x c v l ri f forced emptied can d hd b =
+    let (a, k) = can d hd b in
+    let (held, same) = general-at-flush g ok x c v l ri f forced emptied can d hd b in
+    let u = atFlush g x false (roles g v) emptied (newGeneralOf g f v) v d in
+    record {
+      here = a;
+      apart = kinds-apart g x v c (ri .0) false d a;
+      blank = same (roles g v d .spare) ∙ k .blank;
+      looks = λ w h y by.
+          let ((e, i), shows) = general-drive-left g ok x c v l ri f forced emptied can d hd b w h in
+          alike g ok x y by u w (l, held .generations, held .holds) (l, e, i) (shows y by);
+    }
+
+-- ==== a write at rest (z: its zone; ss: its sectors)
 module _ (g : Geometry) (ok : Valid g) (x : ℕ) (c : LogGenerations) (v : Device) (state : StateView) (l : Ledger) (rr : RoledRests c g x v state l) (z : ℕ) (ss : List (List ℕ))
     (wa : WriteAccepted g (presentBut g x) (roles g v) (byRoles g v) (byState g (presentBut g x) (byRoles g v) state) state z ss) where
   abbrev end : ℕ
   end = pointerIn (state .condition z) + length ss
 
-  emptied : ℕ → Bool
+  abbrev writeForce : InForce
+  writeForce = byState g (presentBut g x) (byRoles g v) state
+
+  abbrev emptied : ℕ → Bool
   emptied = emptiedForWrite g (presentBut g x) (roles g v) (byRoles g v) z end
 
-  write-can : (d : ℕ) → d < g .drives → emptied d ≡ true → Here g x d × CanEmptyLog g true v d (newParitySize g (byState g (presentBut g x) (byRoles g v) state) d)
-  unfolding emptied emptiedForWrite emptiedFor driveByRoles
+  by-state : ByState g writeForce state
+  by-state = record { generations = λ y h. refl; pointers = λ y h. refl }
+
+  write-can : (d : ℕ) → d < g .drives → emptied d ≡ true → Here g x d × CanEmptyLog g true v d (newParitySize g writeForce d)
+  unfolding emptiedForWrite emptiedFor driveByRoles
   write-can d hd e =
       let (p, q) = and-split (insideStripe g end && eqb d (parityDriveAt g z end)) (presentBut g x d && lacksRoom g true (roles g v) (byRoles g v) (writeLimit g end) d) e in
       let k = wa .logs .emptiable d e in (
@@ -115,30 +197,39 @@ module _ (g : Geometry) (ok : Valid g) (x : ℕ) (c : LogGenerations) (v : Devic
         record { room = let r = k .room in omega (arith, r); top = k .top; blank = wa .blank d e },
       )
 
-  write-behind : emptyingsOfWrite g x v state z (length ss) ≢ [] → Behind g x v (emptyingsOfWrite g x v state z (length ss)) (LooksAlike g x (flushedAll g x v))
-  unfolding emptied
-  write-behind some n h w cut y by =
-      let f = byState g (presentBut g x) (byRoles g v) state in
-      let at : ByState g f state = record { generations = λ y h. refl; pointers = λ y h. refl } in
-      let (e, r) = parity-behind-rests g ok x c v state l rr f at emptied write-can some n h w cut in
-      alike g ok x y by (flushedAll g x v) w (afterFlush l) (afterFlush l) (rests-invs g x c (flushedAll g x v) state (afterFlush l) (flushed-rests g ok c x v state l rr)) (rests-invs g x e w state (afterFlush l) r)
-      (parity-behind-shows g ok x c v state l rr f at emptied write-can e w r y by)
+  rest-some : (e : LogGenerations) (w : Device) → RoledRests e g x w state (afterFlush l) → SomeInv g x w
+  rest-some e w (s, (γ, r, q)) = (afterFlush l, e, (s, (γ, rest-inv g x (byRoles g w) state (afterFlush l) γ r, q)))
 
-  pub write-keeps : emptyingsOfWrite g x v state z (length ss) ≢ [] → KeepsLooks g x v (emptyingsOfWrite g x v state z (length ss))
-  unfolding emptied emptiedForWrite emptiedFor emptyParity
-  write-keeps some =
-      let f = byState g (presentBut g x) (byRoles g v) state in
-      behind-cached g x true (roles g v) emptied (λ d. newParity g f (roles g v d) d (parityEntries g (byRoles g v) d)) v
-      (λ d e. and-split (presentBut g x d) _ (and-split (insideStripe g end && eqb d (parityDriveAt g z end)) _ e .1) .0) (LooksAlike g x (flushedAll g x v)) (emptyingsOfWrite g x v state z (length ss)) refl (write-behind some)
+  pub write-behind : (d : ℕ) → d < g .drives → emptied d ≡ true → Behind g x true (roles g v) emptied (newSectors g writeForce v) v (ShowsAlike g) d
+  write-behind d hd b =
+      let (a, k) = write-can d hd b in
+      let ((e, r), same) = parity-at-flush g ok x c v state l rr writeForce by-state emptied write-can d hd b in
+      let u = atFlush g x true (roles g v) emptied (newSectors g writeForce v) v d in
+      record {
+        here = a;
+        apart = kinds-apart g x v c (rr .0) true d a;
+        blank = same (roles g v d .spare) ∙ k .blank;
+        looks = λ w h y by.
+            let (e2, r2) = parity-drive-left g ok x c v state l rr writeForce by-state emptied write-can d hd b w h in
+            alike g ok x y by u w (rest-some e u r) (rest-some e2 w r2) (λ i hi. rests-show-same g ok x y by e e2 (byRoles g u) (byRoles g w) state (afterFlush l) (r .1) (r2 .1) i hi refl);
+      }
 
--- ---- a reset at rest
+  pub write-within : (w : WriteAsked) → zoneOf g (w .address) ≡ z → length ss ≡ w .count
+      → Within g x (emptyingsOfWrite g x v state w) (writeAll g (presentBut g x) (roles g v) (byRoles g v) state z ss) true (roles g v) (newSectors g writeForce v)
+  unfolding writeAll emptyParity
+  write-within w e n = record { rest = map (carry (placedBy (rolesAfter true emptied (roles g v)))) (writeStores g (presentBut g x) (byRoles g v) state z ss); of = λ some h. refl; are = rw (e, ← n) refl }
+
+-- ==== a reset at rest
 module _ (g : Geometry) (ok : Valid g) (x : ℕ) (c : LogGenerations) (v : Device) (state : StateView) (l : Ledger) (rr : RoledRests c g x v state l) (z : ℕ)
     (ra : ResetAccepted g (presentBut g x) (roles g v) (byRoles g v) (byState g (presentBut g x) (byRoles g v) state) state z) where
-  emptiedToo : ℕ → Bool
+  abbrev resetForce : InForce
+  resetForce = byState g (presentBut g x) (byRoles g v) state
+
+  abbrev emptiedToo : ℕ → Bool
   emptiedToo = emptiedFor g (presentBut g x) false (roles g v) (byRoles g v) (resetLimit g)
 
-  reset-can : (d : ℕ) → d < g .drives → emptiedToo d ≡ true → Here g x d × CanEmptyLog g false v d (generalSizeOf g (byState g (presentBut g x) (byRoles g v) state) v d)
-  unfolding emptiedToo emptiedFor driveByRoles
+  reset-can : (d : ℕ) → d < g .drives → emptiedToo d ≡ true → Here g x d × CanEmptyLog g false v d (generalSizeOf g resetForce v d)
+  unfolding emptiedFor driveByRoles
   reset-can d hd e =
       let k = ra .logs .emptiable d e in (
         and-split (presentBut g x d) (lacksRoom g false (roles g v) (byRoles g v) (resetLimit g) d) e .0,
@@ -148,120 +239,12 @@ module _ (g : Geometry) (ok : Valid g) (x : ℕ) (c : LogGenerations) (v : Devic
   reset-forced : Forced g x (byRoles g v) (state .generation)
   reset-forced = let (s, (γ, r, q)) = rr in rest-forced g ok x (byRoles g v) state l γ r
 
-  reset-behind : emptyingsOfReset g x v state ≢ [] → Behind g x v (emptyingsOfReset g x v state) (LooksAlike g x (flushedAll g x v))
-  unfolding emptiedToo
-  reset-behind some n h w cut y by =
-      let f = byState g (presentBut g x) (byRoles g v) state in
-      let (c0, i) = rests-invs g x c v state l rr in
-      let (e, r, looks) = general-behind g ok x c0 v l i f reset-forced emptiedToo reset-can some n h w cut in
-      alike g ok x y by (flushedAll g x v) w l l (c0, flushed-invs g ok c0 x v l i) (e, r) (looks y by)
+  reset-invs : RoledInvs c g x v l
+  reset-invs = let (s, (γ, r, q)) = rr in (s, (γ, rest-inv g x (byRoles g v) state l γ r, q))
 
-  pub reset-keeps : emptyingsOfReset g x v state ≢ [] → KeepsLooks g x v (emptyingsOfReset g x v state)
-  unfolding emptiedToo emptiedFor emptyGeneral
-  reset-keeps some =
-      let f = byState g (presentBut g x) (byRoles g v) state in
-      behind-cached g x false (roles g v) emptiedToo (λ d. newGeneral g f (roles g v d) d (generalHeads g (byRoles g v) d)) v (λ d e. and-split (presentBut g x d) _ e .0) (LooksAlike g x (flushedAll g x v)) (emptyingsOfReset g x v state) refl (reset-behind some)
+  pub reset-behind : (d : ℕ) → d < g .drives → emptiedToo d ≡ true → Behind g x false (roles g v) emptiedToo (newGeneralOf g resetForce v) v (ShowsAlike g) d
+  reset-behind = general-behind g ok x c v l reset-invs resetForce reset-forced emptiedToo reset-can
 
--- ---- a mount
-opened-sectors : (g : Geometry) (x : ℕ) (v : Device) (d y : ℕ) → v d y .sectors ≡ flushedAll g x v d y .sectors
-unfolding afterOpening flushStores
-opened-sectors g x v d y = sym (opening-sectors g (presentBut g x) v d y)
-
-module _ (g : Geometry) (ok : Valid g) (x : ℕ) (c : LogGenerations) (v : Device) (l : Ledger) (ri : RoledInvs c g x v l)
-    (ma : MountAccepted g (presentBut g x) (roles g v) (byRoles g v) (byLook (showing g (presentBut g x) x (byRoles g v)))) where
-  abbrev v1 : Device
-  v1 = flushedAll g x v
-
-  ri1 : RoledInvs c g x v1 l
-  ri1 = flushed-invs g ok c x v l ri
-
-  ma1 : MountAccepted g (presentBut g x) (roles g v1) (byRoles g v1) (byLook (showing g (presentBut g x) x (byRoles g v1)))
-  ma1 = mount-accepted-same g (presentBut g x) x v v1 (opened-sectors g x v) ma
-
-  mount-behind-looks : emptyingsOfMount g x v ≢ [] → Behind g x (afterSpareResets g x v) (emptyingsOfMount g x v) (LooksAlike g x (applyAll (flushOf g x) (afterSpareResets g x v)))
-  unfolding mountLook afterOpening flushStores spareStep
-  mount-behind-looks some n h w cut y by =
-      let u = applyAll (spareStepOf g x v1) v1 in
-      let i = u-invs g ok x c l v1 ri1 ma1 in
-      let (e, r, looks) = mount-behind g ok x c l v1 ri1 ma1 some n h w cut in
-      alike g ok x y by (flushedAll g x u) w l l (c, flushed-invs g ok c x u l i) (e, r) (looks y by)
-
-  pub mount-keeps : emptyingsOfMount g x v ≢ [] → KeepsLooks g x (afterSpareResets g x v) (emptyingsOfMount g x v)
-  unfolding emptiedFor emptyGeneral
-  mount-keeps some =
-      let here = presentBut g x in
-      let r = startRoles g here x v in
-      let ss : ℕ → List (List ℕ) = λ d. newGeneral g (byLook (mountLook g here x v)) (r d) d (generalHeads g (mountView g here x v) d) in
-      let on : (d : ℕ) → emptiedGeneral g here x v d ≡ true → Here g x d = λ d e. and-split (here d) _ e .0 in
-      behind-cached g x false r (emptiedGeneral g here x v) ss (afterSpareResets g x v) on (LooksAlike g x (applyAll (flushOf g x) (afterSpareResets g x v))) (emptyingsOfMount g x v)
-      (on-present-all here (emptyings g here false r (emptiedGeneral g here x v) ss) (emptyings-on g here false r (emptiedGeneral g here x v) ss on)) (mount-behind-looks some)
-
-  -- its parity logs (u: the device after its step 9, which a flush leaves as it is)
-  abbrev u9 : Device
-  u9 = filledDevice g ok x l v (reached g ok x c l v ri ma1) (ready-there g ok x c l v ri ma1)
-
-  abbrev BehindFrom : Device → Type 0
-  BehindFrom u =
-      let here = presentBut g x in
-      let f = byLook (mountLook g here x v) in
-      let view = through (placedBy (middleRoles g here x v)) u in
-      Behind g x u (onPresent here (emptyParity g here (middleRoles g here x v) f (emptiedParity g here x v) view))
-      (LooksAlikeUpTo g x (λ z. anyBelow (λ d. emptiedParity g here x v d && isMade g f view d z) (g .drives)) (lookPointer g x v) (applyAll (flushOf g x) u))
-
-  mount-parity-behind : Behind g x (afterFill g (presentBut g x) x v) (parityEmptyingsOfMount g x v) (LooksAlikeUpTo g x (entryMade g x v) (lookPointer g x v) (applyAll (flushOf g x) (afterFill g (presentBut g x) x v)))
-  mount-parity-behind = subst BehindFrom (sym (fill-is g ok x c l v ri ma1)) go
-    where
-      r : MountReady g x l v (reached g ok x c l v ri ma1)
-      r = ready-there g ok x c l v ri ma1
-
-      flushed-same : LooksSame g x (flushedAll g x u9) u9
-      flushed-same = looks-same g ok x (flushedAll g x u9) u9 (λ e a y. sym (flush-sectors g x u9 e y a))
-
-      there : RoledInvs (r .generations) g x u9 l
-      there = filled-roled g x u9 (r .generations) l (mountLook g (presentBut g x) x v) (stepped g ok x l v (reached g ok x c l v ri ma1) r .filled)
-
-      go : BehindFrom u9
-      go n h w cut y by =
-          let (kept, looks) = parity-behind g ok x l v (reached g ok x c l v ri ma1) r n w cut in
-          alike-up-to g ok x y by (flushedAll g x u9) w l (withMarks l (kept .marks)) _ (lookPointer g x v) (r .generations, flushed-invs g ok (r .generations) x u9 l there) (kept .generations, kept .holds)
-          (λ z hz. looks-before g (presentBut g y) (byRoles g (flushedAll g x u9)) (byRoles g u9) (byRoles g w) z (lookPointer g x v z) _ (flushed-same y by z hz) (looks y by z hz))
-
-  pub mount-parity-keeps : KeepsLooksUpTo g x (entryMade g x v) (lookPointer g x v) (afterFill g (presentBut g x) x v) (parityEmptyingsOfMount g x v)
-  unfolding emptiedFor emptyParity
-  mount-parity-keeps =
-      let here = presentBut g x in
-      let r = middleRoles g here x v in
-      let u = afterFill g here x v in
-      let ss : ℕ → List (List ℕ) = λ d. newParity g (byLook (mountLook g here x v)) (r d) d (parityEntries g (filledView g x v) d) in
-      let on : (d : ℕ) → emptiedParity g here x v d ≡ true → Here g x d = λ d e. and-split (here d) _ e .0 in
-      behind-cached g x true r (emptiedParity g here x v) ss u on (LooksAlikeUpTo g x (entryMade g x v) (lookPointer g x v) (applyAll (flushOf g x) u)) (parityEmptyingsOfMount g x v)
-      (on-present-all here (emptyings g here true r (emptiedParity g here x v) ss) (emptyings-on g here true r (emptiedParity g here x v) ss on)) mount-parity-behind
-
--- ---- at a point of a history
-module _ (g : Geometry) (ok : Valid g) (t : TableLengths) (s : System (onDevice g t)) (o : Ok g t s) where
-  pub emptyings-keep : EmptyingsKeepLooks g t s
-  unfolding sectorsIn
-  emptyings-keep = record {
-    of-write = λ named names m a count buffer p some.
-        let (k, c, above, rr) = rests-of g t s o m in
-        let e = drives-of-call g ok t s o named names m in
-        let n : length (sectorsIn g count buffer) ≡ count = length-tabulate-from _ zero count in
-        let wa = write-accepted g t named (s .state) (s .memory) a count buffer p in
-        let xs : ℕ → List Store = emptyingsOfWrite g (s .lost) (s .memory) (s .state) (zoneOf g a) in
-        subst (λ (i : ℕ). xs i ≢ [] → KeepsLooks g (s .lost) (s .memory) (xs i)) n (write-keeps g ok (s .lost) k (s .memory) (s .state) (withMarks (s .ledger) c) rr (zoneOf g a) (sectorsIn g count buffer) (rw e at wa)) some;
-    of-reset = λ named names m z p some.
-        let (k, c, above, rr) = rests-of g t s o m in
-        let e = drives-of-call g ok t s o named names m in
-        let ra = reset-accepted g t named (s .state) (s .memory) z p in
-        reset-keeps g ok (s .lost) k (s .memory) (s .state) (withMarks (s .ledger) c) rr z (rw e at ra) some;
-    of-mount = λ named names m p some.
-        let (k, c, above, ri) = invs-of g t s o m in
-        mount-keeps g ok (s .lost) k (s .memory) (withMarks (s .ledger) c) ri (mount-allowed g ok t s o named names p) some;
-    of-mount-parity = λ named names m p.
-        let (k, c, above, ri) = invs-of g t s o m in
-        mount-parity-keeps g ok (s .lost) k (s .memory) (withMarks (s .ledger) c) ri (mount-allowed g ok t s o named names p);
-  }
-
--- THE THEOREM
-pub emptyings-keep-looks : EmptyingClaim
-emptyings-keep-looks g t = at-every-point g t (λ s. EmptyingsKeepLooks g t (beneath (onDevice g t) (deviceCaches g t) s)) (λ wb lf s k. emptyings-keep g (valid-if-test g wb) t (beneath (onDevice g t) (deviceCaches g t) s) (k .ok))
+  pub reset-within : Within g x (emptyingsOfReset g x v state) (resetAll g (presentBut g x) (roles g v) (byRoles g v) state z) false (roles g v) (newGeneralOf g resetForce v)
+  unfolding resetAll emptyGeneral
+  reset-within = record { rest = _; of = λ some h. refl; are = refl }

@@ -4,7 +4,7 @@ use mathlib.Core.Path.{_≡_}
 use mathlib.Core.Bool.{Bool, true}
 use Prim.Native.Nat.{ℕ, _^_, _<_}
 use native.Mathlib.Omega.{arith}
-use mathlib.Core.List.{List, [], _∷_}
+use mathlib.Core.List.{List}
 use Rattle.tables.specs.meaning.Device.{Device, applyAll}
 use Rattle.tables.specs.declared.Geometry.{Geometry}
 use Rattle.tables.specs.meaning.Geometry.{Valid}
@@ -19,7 +19,8 @@ use Rattle.volume.specs.laws.Refusals.{accepted-row}
 use Rattle.promise.specs.meaning.Claim.{System, Event, calls, looks, reads, peeks, reports, cuts, loses, Duty, Dutiful, next, start, formats}
 use Rattle.promise.specs.meaning.OnDevice.{onDevice}
 use Rattle.promise.specs.meaning.Caches.{WithCaches, beneath, deviceCaches, onCachingDevice}
-use Rattle.promise.specs.meaning.Emptied.{AtEveryPoint}
+use Rattle.promise.specs.meaning.Histories.{AtEveryPoint}
+use Rattle.promise.specs.invariant.Throughout.{every-point}
 use Rattle.promise.specs.emptying.BlankSpares.{BlankSpares}
 use Rattle.promise.specs.device.AcceptedCalls.{storing-finished}
 use Rattle.promise.specs.device.AtRestAnswers.{left-out, drives-named}
@@ -48,7 +49,7 @@ module _ (g : Geometry) (valid : Valid g) (t : TableLengths) (s : System (onCach
 
   event-blank-on : (e : Event (onCachingDevice g t)) → Duty g (onCachingDevice g t) s e → BlankAtRest g t (beneath (onDevice g t) (deviceCaches g t) (next g (onCachingDevice g t) s e))
   event-blank-on (calls c named stop) (n, m, q) = event-blank g valid t under (known .ok) (k .blank) (calls c named stop) (names-beneath g (onDevice g t) (deviceCaches g t) s named n, m, q)
-  event-blank-on (looks named taken) d = k .blank
+  event-blank-on (looks named) d = k .blank
   event-blank-on (reads named a count out) d = k .blank
   event-blank-on (peeks named a) d = k .blank
   event-blank-on (reports list) d = k .blank
@@ -57,11 +58,6 @@ module _ (g : Geometry) (valid : Valid g) (t : TableLengths) (s : System (onCach
 
   known-next : (e : Event (onCachingDevice g t)) → Duty g (onCachingDevice g t) s e → CachedKnown g t (next g (onCachingDevice g t) s e)
   known-next e d = record { ok = event-keeps-cached g valid t (caches-owed g valid) s (k .ok) e d; blank = event-blank-on e d }
-
-along : (g : Geometry) → Valid g → (t : TableLengths) (P : System (onCachingDevice g t) → Type 0) → ((s : System (onCachingDevice g t)) → CachedKnown g t s → P s)
-    → (s : System (onCachingDevice g t)) → CachedKnown g t s → (es : List (Event (onCachingDevice g t))) → Dutiful g (onCachingDevice g t) s es → AtEveryPoint g (onCachingDevice g t) P s es
-along g valid t P gives s k [] d = gives s k
-along g valid t P gives s k (e ∷ es) (d, ds) = (gives s k, along g valid t P gives (next g (onCachingDevice g t) s e) (known-next g valid t s k e d) es ds)
 
 -- the spares are blank after the format at the head
 start-blank : (g : Geometry) → Valid g → (t : TableLengths) (named : ℕ → Bool) (array : ℕ) (old : StateView) (stop : ℕ) (v : Device) → array < 256 ^ 8 → onDevice g t .call (formats array) named old stop v .answer ≡ Finished
@@ -83,5 +79,5 @@ pub at-every-point : (g : Geometry) (t : TableLengths) (P : System (onCachingDev
 at-every-point g t P gives named array old stop m h e es d =
     let (wb, lf, o) = caching-start g t named array old stop m h e in
     let valid = valid-if-test g wb in
-    along g valid t P (λ s k. gives wb lf s (known g valid t s k)) (start g (onCachingDevice g t) named (onCachingDevice g t .call (formats array) named old stop m))
+    every-point g (onCachingDevice g t) (CachedKnown g t) P (λ s k. gives wb lf s (known g valid t s k)) (known-next g valid t) (start g (onCachingDevice g t) named (onCachingDevice g t .call (formats array) named old stop m))
     (record { ok = o; blank = λ i. start-blank g valid t named array old stop (m .memory) h e }) es d

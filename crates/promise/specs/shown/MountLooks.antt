@@ -1,26 +1,31 @@
--- The emptyings of general logs in a mount, from the end of their first flush on: wherever they are stopped and whatever a cut keeps, every look shows what it
--- showed there. (v1: the device after the mount's first flush, whose look decides; u: after its step 1, with blank spares.)
+-- What looks show while a mount empties logs, of each emptied drive behind its first flush (Behind, EmptyingLooks): of general logs every look shows the same; of parity
+-- logs a zone whose entry is made may show more, up to the pointer of the mount's look. (v1: the device after the mount's first flush, whose look decides; u: after
+-- its step 1, with blank spares.)
 use mathlib.Core.Path.{_≡_, refl, sym, ap, _∙_, subst}
-use mathlib.Core.Logic.{_≢_, inl}
+use mathlib.Core.Logic.{inl}
 use mathlib.Core.Bool.{Bool, true, false}
-use Prim.Native.Nat.{ℕ, _+_, _≤_, _<_}
+use Prim.Native.Nat.{ℕ, _+_, _<_}
 use native.Mathlib.Omega.{arith}
-use mathlib.Core.List.{List, [], _++_, append-nil}
-use lib.ListN.{length, take}
+use mathlib.Core.List.{List, [], _++_, append-nil, append-assoc, map}
 use Rattle.tables.specs.meaning.Basics.{pick}
 use Rattle.tables.specs.laws.Basics.{and-split}
-use Rattle.tables.specs.meaning.Lists.{isNil}
-use Rattle.tables.specs.meaning.Device.{ZoneView, Device, Store, applyAll, Cut}
+use Rattle.tables.specs.meaning.Lists.{isNil, concat}
+use Rattle.tables.specs.laws.Lists.{concat-append}
+use Rattle.tables.specs.meaning.Device.{ZoneView, Device, Store, applyAll}
 use Rattle.tables.specs.laws.Device.{apply-all-append}
 use Rattle.tables.specs.meaning.Phases.{flushAll, onPresent}
-use Rattle.tables.specs.laws.Drives.{presentBut}
+use Rattle.tables.specs.meaning.Through.{carry}
+use Rattle.tables.specs.meaning.Drives.{presentBut}
 use Rattle.tables.specs.declared.Geometry.{Geometry}
 use Rattle.tables.specs.meaning.Geometry.{Valid}
 use Rattle.volume.specs.meaning.Rules.{generalHeads, showing, zoneShown, zoneAt}
 use Rattle.volume.specs.meaning.Calls.{flushStores}
-use Rattle.volume.specs.meaning.Roles.{Roles, roles, byRoles}
+use Rattle.volume.specs.meaning.Roles.{Roles, roles, byRoles, placedBy}
+use Rattle.volume.specs.meaning.Mount.{withFlush, withFlushes, spareStep, stepsBeforeEntries, carryPhases, afterOpening, mountView, mountLook, startRoles, emptiedGeneral, middleRoles, phasesOfLogs, phasesBeforeEntries, phasesOfParityLogs, phasesOfEntries, afterFill, afterParityLogs, mountStores}
 use Rattle.volume.specs.meaning.Emptying.{InForce, byLook, lacksRoom, mountGeneralLimit, emptiedFor, emptyGeneral}
 use Rattle.promise.specs.meaning.Ledger.{Ledger}
+use Rattle.promise.specs.meaning.Histories.{ShowsAlike}
+use Rattle.promise.specs.meaning.Emptied.{flushOf, spareResetsOf, emptyingsOfMount}
 use Rattle.promise.specs.invariant.Invariant.{Here, LogGenerations}
 use Rattle.promise.specs.invariant.RoomAsked.{MountAccepted}
 use Rattle.promise.specs.roles.RoledCalls.{RoledInvs}
@@ -29,12 +34,11 @@ use Rattle.promise.specs.emptying.FlushedRests.{roles-same, sectors-seen
 use Rattle.promise.specs.emptying.SpareFills.{SameRead, heads-read, generation-read}
 use Rattle.promise.specs.emptying.SparesReset.{carriedResets, blanked-roles, blanked-seen, blanked-invs, spares-done, spares-blank}
 use Rattle.promise.specs.emptying.Forced.{Forced}
-use Rattle.promise.specs.emptying.GeneralEmptying.{generalSizeOf}
-use Rattle.promise.specs.emptying.GeneralEmptyings.{LooksSame}
 use Rattle.promise.specs.emptying.OnPresent.{on-present-all}
 use Rattle.promise.specs.emptying.GeneralStores.{general-on, general-same}
+use Rattle.promise.specs.emptying.GeneralEmptying.{newGeneralOf, generalSizeOf}
 use Rattle.promise.specs.emptying.MountLogs.{spareStepOf}
-use Rattle.promise.specs.shown.BehindLooks.{general-behind}
+use Rattle.promise.specs.shown.EmptyingLooks.{Behind, Within, general-behind}
 
 module _ (g : Geometry) (ok : Valid g) (x : ℕ) (c : LogGenerations) (l : Ledger) (v1 : Device) (ri : RoledInvs c g x v1 l)
     (ma : MountAccepted g (presentBut g x) (roles g v1) (byRoles g v1) (byLook (showing g (presentBut g x) x (byRoles g v1)))) where
@@ -105,15 +109,63 @@ module _ (g : Geometry) (ok : Valid g) (x : ℕ) (c : LogGenerations) (l : Ledge
         },
       )
 
-  abbrev stores : List Store
-  stores = emptyGeneral g (presentBut g x) (roles g v1) f emptied (byRoles g v1)
+  pub logs-behind : (d : ℕ) → d < g .drives → emptied d ≡ true → Behind g x false (roles g u) emptied (newGeneralOf g f u) u (ShowsAlike g) d
+  logs-behind = general-behind g ok x c u l u-invs f u-forced emptied can
 
-  stores-are : onPresent (presentBut g x) stores ≡ emptyGeneral g (presentBut g x) (roles g u) f emptied (byRoles g u)
-  stores-are =
-      on-present-all present stores (general-on g present (roles g v1) f emptied (byRoles g v1) (λ d hd b. emptied-here d b))
-      ∙ general-same g present (roles g v1) (roles g u) f emptied (byRoles g v1) (byRoles g u) (λ d hd b. let a = emptied-here d b in (sym (u-roles d a), u-heads d a))
+  -- by the roles at the mount's start and by those of u they are the same stores
+  pub logs-are : (some : ℕ → Bool) → ((d : ℕ) → some d ≡ true → emptied d ≡ true) → onPresent (presentBut g x) (emptyGeneral g (presentBut g x) (roles g v1) f some (byRoles g v1)) ≡ emptyGeneral g (presentBut g x) (roles g u) f some (byRoles g u)
+  logs-are some of =
+      on-present-all present (emptyGeneral g (presentBut g x) (roles g v1) f some (byRoles g v1)) (general-on g present (roles g v1) f some (byRoles g v1) (λ d hd b. emptied-here d (of d b)))
+      ∙ general-same g present (roles g v1) (roles g u) f some (byRoles g v1) (byRoles g u) (λ d hd b. let a = emptied-here d (of d b) in (sym (u-roles d a), u-heads d a))
 
-  pub mount-behind : onPresent (presentBut g x) stores ≢ [] → (k : ℕ) → length (flushStores g (presentBut g x)) ≤ k → (w : Device) → Cut x (applyAll (take k (onPresent (presentBut g x) stores)) u) w
-      → (e : LogGenerations) × RoledInvs e g x w l × LooksSame g x (flushedAll g x u) w
-  mount-behind some k h w cut =
-      general-behind g ok x c u l u-invs f u-forced emptied can (λ q. some (stores-are ∙ q)) k h w (subst (λ (xs : List Store). Cut x (applyAll (take k xs) u) w) stores-are cut)
+-- ==== the general logs of a mount of v, its step 2
+module _ (g : Geometry) (ok : Valid g) (x : ℕ) (c : LogGenerations) (v : Device) (l : Ledger) (ri : RoledInvs c g x v l)
+    (ma1 : MountAccepted g (presentBut g x) (roles g (flushedAll g x v)) (byRoles g (flushedAll g x v)) (byLook (showing g (presentBut g x) x (byRoles g (flushedAll g x v))))) where
+  abbrev opened : Device
+  opened = flushedAll g x v
+
+  ri1 : RoledInvs c g x opened l
+  ri1 = flushed-invs g ok c x v l ri
+
+  abbrev begins : Device
+  begins = applyAll (emptyingsOfMount g x v .before) v
+
+  begins-is : begins ≡ applyAll (spareStepOf g x opened) opened
+  unfolding spareStep afterOpening flushStores
+  begins-is = apply-all-append (flushOf g x) (spareResetsOf g x v) v
+
+  abbrev lookForce : InForce
+  lookForce = byLook (mountLook g (presentBut g x) x v)
+
+  pub mount-behind : (d : ℕ) → d < g .drives → emptyingsOfMount g x v .emptied d ≡ true → Behind g x false (roles g begins) (emptyingsOfMount g x v .emptied) (newGeneralOf g lookForce begins) begins (ShowsAlike g) d
+  unfolding mountLook afterOpening flushStores spareStep
+  mount-behind d hd b = subst (λ (u : Device). Behind g x false (roles g u) (emptyingsOfMount g x v .emptied) (newGeneralOf g lookForce u) u (ShowsAlike g) d) (sym begins-is) (logs-behind g ok x c l opened ri1 ma1 d hd b)
+
+  -- its stores after them
+  abbrev itsFlush : List Store
+  itsFlush = pick (isNil (emptyingsOfMount g x v .storesOf (emptyingsOfMount g x v .emptied))) [] (onPresent (presentBut g x) (flushAll (g .drives))) ++ []
+
+  abbrev steps : List Store
+  steps = concat (carryPhases (placedBy (middleRoles g (presentBut g x) x v)) (withFlushes g (presentBut g x) (stepsBeforeEntries g (presentBut g x) x (mountLook g (presentBut g x) x v) (mountView g (presentBut g x) x v))))
+
+  abbrev lasts : List Store
+  lasts = concat (phasesOfParityLogs g (presentBut g x) x v (afterFill g (presentBut g x) x v)) ++ concat (phasesOfEntries g (presentBut g x) x v (afterParityLogs g (presentBut g x) x v))
+
+  joined : (a b e f h i : List Store) → ((a ++ (b ++ (e ++ f))) ++ h) ++ i ≡ (a ++ b) ++ (e ++ ((f ++ h) ++ i))
+  joined a b e f h i =
+      ap (λ (t : List Store). (t ++ h) ++ i) (sym (append-assoc a b (e ++ f))) ∙ ap (λ (t : List Store). t ++ i) (append-assoc (a ++ b) (e ++ f) h) ∙ append-assoc (a ++ b) ((e ++ f) ++ h) i
+      ∙ ap (λ (t : List Store). (a ++ b) ++ t) (ap (λ (t : List Store). t ++ i) (append-assoc e f h) ∙ append-assoc e (f ++ h) i)
+
+  pub mount-within : Within g x (emptyingsOfMount g x v) (mountStores g (presentBut g x) x v) false (roles g begins) (newGeneralOf g lookForce begins)
+  unfolding mountStores phasesBeforeEntries phasesOfLogs mountLook afterOpening flushStores spareStep emptyGeneral
+  mount-within = record {
+    rest = (itsFlush ++ steps) ++ lasts;
+    of = λ some h. subst (λ (u : Device). emptyingsOfMount g x v .storesOf some ≡ emptyGeneral g (presentBut g x) (roles g u) lookForce some (byRoles g u)) (sym begins-is) (logs-are g ok x c l opened ri1 ma1 some h);
+    are =
+        let F = onPresent (presentBut g x) (flushAll (g .drives)) in
+        let spares = map (carry (placedBy (startRoles g (presentBut g x) x v))) (spareStep g (mountView g (presentBut g x) x v)) in
+        let generals = emptyGeneral g (presentBut g x) (startRoles g (presentBut g x) x v) lookForce (emptiedGeneral g (presentBut g x) x v) (mountView g (presentBut g x) x v) in
+        ap (λ (t : List Store). t ++ lasts) (concat-append (phasesOfLogs g (presentBut g x) x v) (carryPhases (placedBy (middleRoles g (presentBut g x) x v)) (withFlushes g (presentBut g x) (stepsBeforeEntries g (presentBut g x) x (mountLook g (presentBut g x) x v) (mountView g (presentBut g x) x v)))))
+        ∙ ap (λ (t : List Store). ((F ++ t) ++ steps) ++ lasts) (concat-append (withFlush g (presentBut g x) spares) (withFlush g (presentBut g x) generals))
+        ∙ joined F (spareResetsOf g x v) (emptyingsOfMount g x v .storesOf (emptyingsOfMount g x v .emptied)) itsFlush steps lasts;
+  }

@@ -21,8 +21,10 @@ use Rattle.volume.specs.meaning.Rules.{Shown}
 use Rattle.volume.specs.meaning.Refusals.{zoneOf, offsetOf}
 use Rattle.volume.specs.meaning.Answers.{sectorsIn}
 use Rattle.promise.specs.meaning.Ledger.{Ledger, Reply, isRefused, isUnfinished, isFinished, noted, FitsZone, afterMount}
-use Rattle.promise.specs.meaning.Claim.{Call, mounts, writes, flushes, resets, formats, Volume, System, Event, calls, looks, reads, peeks, reports, cuts, loses, replyTo, noteOf, next, Duty, Dutiful, Promise, Throughout, start, KeepsPromise}
-use Rattle.promise.specs.meaning.ResetLasts.{unlessRefused, handedTo, writtenIn, writtenTo, afterAll, OnlyOf, ResetsLast}
+use Rattle.promise.specs.meaning.Claim.{Call, mounts, writes, flushes, resets, formats, Volume, System, Event, calls, looks, reads, peeks, reports, cuts, loses, replyTo, noteOf, next, answered, Duty, Dutiful, Promise, Throughout, start, KeepsPromise}
+use Rattle.promise.specs.device.Heard.{answer-heard}
+use Rattle.promise.specs.meaning.Histories.{afterAll}
+use Rattle.promise.specs.meaning.ResetLasts.{takenUnlessRefused, handedTo, writtenIn, writtenTo, OnlyOf, ResetsLast}
 
 -- ---- lists
 at-member : (l : List (List ℕ)) (a : ℕ) → a < length l → List·Memᴰ (at l a) l
@@ -65,13 +67,13 @@ module _ (g : Geometry) (vol : Volume) (z : ℕ) (hz : z < g .zones) where
     wiped true t m = mem-nil t m
     wiped false t m = mem-left new [] t (h t m)
 
-    call-among : (c : Call) (k : Shown) (r : Reply) → (r ≡ isFinished → c ≡ mounts → FitsZone (s .ledger) z (k .zone z)) → Among (noted (s .ledger) (noteOf g c k r)) z (new ++ unlessRefused r (handedTo g z c))
+    call-among : (c : Call) (k : Shown) (r : Reply) → (r ≡ isFinished → c ≡ mounts → FitsZone (s .ledger) z (k .zone z)) → Among (noted (s .ledger) (noteOf g c k r)) z (new ++ takenUnlessRefused r (handedTo g z c))
     call-among mounts k isRefused f = more []
     call-among mounts k isUnfinished f = more []
     call-among mounts k isFinished f = λ t m. mem-left new [] t (mounted-among (s .ledger) z new k h (f refl refl) t m)
-    call-among (writes a count buffer) k isRefused f = more []
-    call-among (writes a count buffer) k isUnfinished f = written (zoneOf g a) (sectorsIn g count buffer) (eqb z (zoneOf g a)) refl
-    call-among (writes a count buffer) k isFinished f = written (zoneOf g a) (sectorsIn g count buffer) (eqb z (zoneOf g a)) refl
+    call-among (writes w) k isRefused f = more []
+    call-among (writes w) k isUnfinished f = written (zoneOf g (w .address)) (sectorsIn g (w .count) (w .buffer)) (eqb z (zoneOf g (w .address))) refl
+    call-among (writes w) k isFinished f = written (zoneOf g (w .address)) (sectorsIn g (w .count) (w .buffer)) (eqb z (zoneOf g (w .address))) refl
     call-among flushes k isRefused f = more []
     call-among flushes k isUnfinished f = more []
     call-among flushes k isFinished f = more []
@@ -95,12 +97,12 @@ module _ (g : Geometry) (vol : Volume) (z : ℕ) (hz : z < g .zones) where
       call-among s new h c (vol .shows named (s .memory) (r .memory)) (replyTo (r .answer)) (fit c d)
     where
       fit : (c : Call) → Duty g vol s (calls c named stop) → let q = vol .call c named (s .state) stop (s .memory) in replyTo (q .answer) ≡ isFinished → c ≡ mounts → FitsZone (s .ledger) z (vol .shows named (s .memory) (q .memory) .zone z)
-      fit mounts (n, m, o) e i = p .mount-fits named n m stop (finished-answer (vol .call mounts named (s .state) stop (s .memory) .answer) e) .1 z hz
-      fit (writes a count buffer) o e i = absurd (let q : _≡_ {A = ℕ} 0 1 = cc in omega arith)
+      fit mounts (n, m, o) e i = p .mount-fits named n m stop (ap answered (finished-answer (vol .call mounts named (s .state) stop (s .memory) .answer) e)) .1 z hz
+      fit (writes w) o e i = absurd (let q : _≡_ {A = ℕ} 0 1 = cc in omega arith)
       fit flushes o e i = absurd (let q : _≡_ {A = ℕ} 0 1 = cc in omega arith)
       fit (resets y) o e i = absurd (let q : _≡_ {A = ℕ} 0 1 = cc in omega arith)
       fit (formats array) o e i = absurd (let q : _≡_ {A = ℕ} 0 1 = cc in omega arith)
-  event-among s (looks named taken) p d new h = more s new h []
+  event-among s (looks named) p d new h = more s new h []
   event-among s (reads named a count out) p d new h = more s new h []
   event-among s (peeks named a) p d new h = more s new h []
   event-among s (reports list) p d new h = more s new h []
@@ -118,12 +120,12 @@ module _ (g : Geometry) (vol : Volume) (z : ℕ) (hz : z < g .zones) where
     only-of : OnlyOf g vol z new s
     only-of = record {
       look = λ named n a b. shown-among (s .ledger) z new (vol .shows named (s .memory) (s .memory)) h (p .look-fits named n .1 z hz) a b;
-      mount = λ named n m stop e a b. shown-among (s .ledger) z new (vol .shows named (s .memory) (vol .call mounts named (s .state) stop (s .memory) .memory)) h (p .mount-fits named n m stop e .1 z hz) a b;
-      read = λ named n m a count out e f.
-          let (fits, is) = p .read-gives named n m a count out f in
+      mount = λ named n m stop e a b. shown-among (s .ledger) z new (vol .shows named (s .memory) (next g vol s (calls mounts named stop) .memory)) h (p .mount-fits named n m stop e .1 z hz) a b;
+      read = λ named n m a count out bytes e f.
+          let (fits, is) = p .read-gives named n m a count out bytes f in
           (tabulateFrom (at (s .ledger .content (zoneOf g a))) (offsetOf g a) count, is, read-among (zoneOf g a) (offsetOf g a) count e fits);
-      peek = λ named n m a e f.
-          let (fits, place, is) = p .peek-gives named n m a f in
+      peek = λ named n m a from part e f.
+          let (fits, place, is) = p .peek-gives named n m a from part f in
           let l = s .ledger .content (zoneOf g a) in
           rw is (h (at l (offsetOf g a)) (subst (λ (y : ℕ). List·Memᴰ (at l (offsetOf g a)) (s .ledger .content y)) e (at-member l (offsetOf g a) fits)));
     }
@@ -151,7 +153,7 @@ resets-last g vol keeps named array old stop m small e before after z by count h
     let es = calls (resets z) by count ∷ after in
     let (o, ds) = dutiful-from g vol s0 before es d in
     let (p, ps) = throughout-from g vol s0 before es (keeps named array old stop m small e (before ++ es) d) in
-    along g vol z hz (next g vol (afterAll g vol s0 before) (calls (resets z) by count)) after [] (nothing (afterAll g vol s0 before) f) ds ps
+    along g vol z hz (next g vol (afterAll g vol s0 before) (calls (resets z) by count)) after [] (nothing (afterAll g vol s0 before) (answer-heard f)) ds ps
   where
     wiped-own : (l : Ledger) (r : Answer) → r ≡ Finished → (k : Shown) → noted l (noteOf g (resets z) k (replyTo r)) .content z ≡ []
     wiped-own l r q k = rw (q, eq-eqb z z refl) refl

@@ -1,4 +1,4 @@
--- NO DRIVE FILLS UP in a geometry whose logs always have room after copying (volume's RoomAfter), as long as no log of a present drive has the last generation: no mount
+-- NO DRIVE FILLS UP in a geometry whose logs always have room after copying (volume's Emptying and RoomAfter), as long as no log of a present drive has the last generation: no mount
 -- is refused, and no reset and no write by 14, at any point of any history (meaning/Roomy.antt). A reset and a write find the spares blank (BlankAtRest).
 use mathlib.Core.Path.{_≡_, refl, sym, ap, _∙_}
 use mathlib.Core.Logic.{_≢_, _⊎_}
@@ -15,11 +15,10 @@ use Rattle.tables.specs.meaning.Geometry.{Valid}
 use Rattle.tables.specs.meaning.GeometryTest.{isValid}
 use Rattle.tables.specs.laws.GeometryTest.{valid-if-test}
 use Rattle.tables.specs.laws.Below.{none-any-below, any-below-false}
-use Rattle.tables.specs.laws.Drives.{presentBut}
 use Rattle.tables.specs.meaning.Device.{Device, Store, applyAll}
 use Rattle.logs.specs.meaning.Entry.{spareZone, wornGeneration}
 use Rattle.logs.specs.laws.Entry.{worn-is}
-use Rattle.tables.specs.meaning.Drives.{noDrive}
+use Rattle.tables.specs.meaning.Drives.{noDrive, presentBut}
 use Rattle.volume.specs.meaning.Calls.{formatStores}
 use Rattle.volume.specs.laws.Firm.{firm-roles}
 use Rattle.promise.specs.roles.FormatRoles.{format-standing}
@@ -28,18 +27,19 @@ use Rattle.volume.specs.meaning.State.{StateView, pointerIn}
 use Rattle.volume.specs.meaning.Content.{insideStripe, parityDriveAt}
 use Rattle.volume.specs.meaning.Rules.{isPresent, lostDrive, showing}
 use Rattle.volume.specs.meaning.Roles.{Roles, roles, byRoles, claimOfKind, lacksKind}
-use Rattle.volume.specs.meaning.Emptying.{InForce, byLook, byState, spareWritten, reserve, mountGeneralLimit, resetLimit, emptiedFor, emptiedForWrite}
+use Rattle.volume.specs.meaning.Emptying.{InForce, byLook, byState, spareWritten, reserve, mountGeneralLimit, resetLimit, emptiedFor, emptiedForWrite, RoomyGeneral, RoomyParity}
 use Rattle.volume.specs.meaning.Refusals.{Verdict, accept, TableLengths, firstRefusal, tablesFit, badPointers, kindLacks, badLabels, badLogs, twoLost, zoneOf, mountFull, resetFull, writeFull, mountRows, resetRows, writeRows}
-use Rattle.volume.specs.meaning.Answers.{CallResult, storing, mountCall, resetCall, writeCall}
+use Rattle.volume.specs.meaning.Answers.{CallResult, storing, mountCall, resetCall}
 use Rattle.volume.specs.laws.Refusals.{passed, conditionOfRow, refusalOrder}
 use Rattle.volume.specs.laws.LeastRefusal.{first-least}
-use Rattle.volume.specs.laws.RoomAfter.{RoomyGeneral, RoomyParity, cannotEmpty, mount-full-is, reset-full-is, write-full-is}
-use Rattle.promise.specs.meaning.Claim.{Volume, System, NamesAll, mounts, writes, resets, ready, allBut}
-use Rattle.promise.specs.meaning.OnDevice.{onDevice}
+use Rattle.volume.specs.laws.RoomAfter.{cannotEmpty, mount-full-is, reset-full-is, write-full-is}
+use Rattle.promise.specs.meaning.Claim.{WriteAsked, Volume, System, NamesAll, mounts, writes, resets, ready, allBut}
+use Rattle.promise.specs.meaning.OnDevice.{callOf, onDevice}
 use Rattle.promise.specs.meaning.Caches.{Caches, withCaches, beneath, deviceCaches, onCachingDevice}
 use Rattle.promise.specs.meaning.Roomy.{BeforeLast, NeverFull, RoomyClaim}
 use Rattle.promise.specs.device.Looks.{LookFine}
 use Rattle.promise.specs.device.AcceptedCalls.{two-same, pointers-same, storing-refused}
+use Rattle.promise.specs.device.Heard.{answer-heard}
 use Rattle.promise.specs.device.ClaimEvents.{fine, drives-of-call, drives-of-look}
 use Rattle.promise.specs.device.CachedPromise.{names-beneath}
 use Rattle.promise.specs.shown.EveryPoint.{Known, at-every-point}
@@ -134,19 +134,20 @@ module _ (g : Geometry) (t : TableLengths) (wb : isValid g ≡ true) (lf : table
       let r14 : conditionOfRow 14 (c .refusals) ≡ false = rw (drives-of-call g ok t s (k .ok) named names m) (reset-not-full g here (roles g (s .memory)) (byState g here u (s .state)) u (looked .kinds) young (k .blank m) general) in
       true≢false (sym (first-least refusalOrder (c .refusals) 14 refl refl (storing-refused (firstRefusal (c .refusals)) (c .stores) (c .state) (s .state) stop (s .memory) 14 e) .applies) ∙ r14)
 
-  write-law : RoomyParity g → s .mode ≡ ready → (a count : ℕ) (buffer : List ℕ) (stop : ℕ) → onDevice g t .call (writes a count buffer) named (s .state) stop (s .memory) .answer ≢ Refused 14
+  write-law : RoomyParity g → s .mode ≡ ready → (asked : WriteAsked) (stop : ℕ) → onDevice g t .call (writes asked) named (s .state) stop (s .memory) .answer ≢ Refused 14
   unfolding writeRows
-  write-law parity m a count buffer stop e =
-      let c = writeCall g t named (s .state) a count buffer (s .memory) in
+  write-law parity m asked stop e =
+      let z = zoneOf g (asked .address) in
+      let c = callOf g t (writes asked) named (s .state) (s .memory) in
       let r14 : conditionOfRow 14 (c .refusals) ≡ false = rw (drives-of-call g ok t s (k .ok) named names m)
-      (write-not-full g here (roles g (s .memory)) (byState g here u (s .state)) u (looked .kinds) young (k .blank m) parity (zoneOf g a) (pointerIn (s .state .condition (zoneOf g a)) + count)) in
+      (write-not-full g here (roles g (s .memory)) (byState g here u (s .state)) u (looked .kinds) young (k .blank m) parity z (pointerIn (s .state .condition z) + asked .count)) in
       true≢false (sym (first-least refusalOrder (c .refusals) 14 refl refl (storing-refused (firstRefusal (c .refusals)) (c .stores) (c .state) (s .state) stop (s .memory) 14 e) .applies) ∙ r14)
 
 pub never-full : (g : Geometry) (t : TableLengths) → RoomyGeneral g → RoomyParity g → isValid g ≡ true → tablesFit g t ≡ true → (s : System (onDevice g t)) → Known g t s → BeforeLast g (s .lost) (s .memory) → NeverFull g (onDevice g t) s
 never-full g t general parity wb lf s k young = record {
-  mount-accepted = λ named names. mount-law g t wb lf s k young named names general parity;
-  reset-not-full = λ named names. reset-law g t wb lf s k young named names general;
-  write-not-full = λ named names. write-law g t wb lf s k young named names parity;
+  mount-accepted = λ named names stop n e. mount-law g t wb lf s k young named names general parity stop n (answer-heard e);
+  reset-not-full = λ named names m z stop e. reset-law g t wb lf s k young named names general m z stop (answer-heard e);
+  write-not-full = λ named names m w stop e. write-law g t wb lf s k young named names parity m w stop (answer-heard e);
 }
 
 -- with caches: a call's answer does not go by what they remember

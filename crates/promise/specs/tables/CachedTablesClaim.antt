@@ -21,21 +21,19 @@ use Rattle.tables.specs.declared.Geometry.{Geometry}
 use Rattle.tables.specs.meaning.Geometry.{Valid, physicalZones}
 use Rattle.tables.specs.meaning.GeometryTest.{isValid}
 use Rattle.tables.specs.laws.GeometryTest.{valid-if-test}
-use Rattle.volume.specs.meaning.State.{StateView}
 use Rattle.volume.specs.declared.State.{State}
 use Rattle.volume.specs.declared.Answer.the-variants.{Finished}
 use Rattle.volume.specs.meaning.Calls.{formatStores, formatState}
-use Rattle.volume.specs.meaning.Refusals.{Verdict, accept, firstRefusal}
-use Rattle.volume.specs.meaning.Mount.{mountState}
-use Rattle.volume.specs.meaning.Answers.{CallResult, leftOut, namedDrives, lookCall}
-use Rattle.volume.specs.meaning.CallContracts.{viewState, isSet, lengthsOf, stateShown, freshState, formatVerdict, formatOn}
+use Rattle.volume.specs.meaning.Refusals.{accept}
+use Rattle.volume.specs.meaning.Answers.{leftOut, namedDrives}
+use Rattle.volume.specs.meaning.CallContracts.{viewState, isSet, lengthsOf, formatVerdict, formatOn, stateHeld}
 use Rattle.volume.specs.laws.CallStoresFit.{format-stores-fit}
 use Rattle.promise.specs.meaning.Ledger.{freshLedger, noted}
-use Rattle.promise.specs.meaning.Claim.{Call, mounts, writes, flushes, resets, formats, System, Event, calls, looks, reads, peeks, reports, cuts, loses, next, modeAfter, noteOf, replyTo, Duty, Promise, ready, start}
-use Rattle.promise.specs.meaning.OnDevice.{callOf, onDevice, lookResult, shownBy}
-use Rattle.promise.specs.meaning.OnTables.{resultOn, onTables, shownIn, TablesClaim}
-use Rattle.promise.specs.meaning.Caches.{WithCaches, madeBy, madeStores, rememberedAfter, onCachingDevice, beneath}
-use Rattle.promise.specs.meaning.CachesOnTables.{ZoneKept, ZoneBack, TablesCachingCut, tablesCaches, onCachingTables, CachingTablesClaim}
+use Rattle.promise.specs.meaning.Claim.{Call, formats, System, Event, calls, looks, reads, peeks, reports, cuts, loses, next, modeAfter, noteOf, replyTo, Duty, Promise, ready, start}
+use Rattle.promise.specs.meaning.OnDevice.{onDevice, shownBy}
+use Rattle.promise.specs.meaning.OnTables.{resultOn, onTables, TablesClaim}
+use Rattle.promise.specs.meaning.Caches.{WithCaches, rememberedAfter, onCachingDevice, beneath}
+use Rattle.promise.specs.meaning.CachesOnTables.{ZoneKept, ZoneBack, TablesCachingCut, madeOn, tablesCaches, onCachingTables, CachingTablesClaim}
 use Rattle.promise.specs.invariant.Throughout.{throughout}
 use Rattle.promise.specs.device.AtRestAnswers.{left-out, drives-named}
 use Rattle.promise.specs.device.CachedModes.{RestsCached, OkCached}
@@ -46,11 +44,10 @@ use Rattle.promise.specs.shown.ResetLasts.{resets-last}
 use Rattle.promise.specs.device.CachedEvents.{CachesOwed, OkOn, event-keeps-cached}
 use Rattle.promise.specs.device.CachedClaim.{caches-owed}
 use Rattle.promise.specs.device.OlderDrives.{OlderCuts, older-drives}
-use Rattle.promise.specs.tables.CallRefines.{Agrees, viewResult, answer-finished}
-use Rattle.promise.specs.tables.CallVerdicts.{format-verdict}
-use Rattle.promise.specs.tables.MountRefines.{shown-agrees, mount-refines}
-use Rattle.promise.specs.tables.TablesEvents.{names-seen, Refines, call-agrees, write-refines, flush-refines, reset-refines, format-refines, fresh-agrees}
-use Rattle.promise.specs.tables.TablesClaimProof.{promised, look-is, FormatPassed, format-passed, format-numbered-on, tables-promise, tables-event, tables-start}
+use Rattle.promise.specs.tables.CallRefines.{held-agrees, Agrees, viewResult, answer-finished}
+use Rattle.promise.specs.tables.MountRefines.{call-refines}
+use Rattle.promise.specs.tables.TablesEvents.{Refines, call-agrees, made-same}
+use Rattle.promise.specs.tables.TablesClaimProof.{FormatPassed, format-passed, format-numbered-on, tables-promise, tables-event, tables-start}
 use Rattle.promise.specs.tables.CachedTables.{caching-cut-refines, agrees-cached, viewCached, TablesOkCached}
 
 -- ---- the pointers after a cut
@@ -72,16 +69,19 @@ module _ (g : Geometry) (ok : Valid g) (wb : isValid g ≡ true) (owed : CachesO
   device-keeps = event-keeps-cached g ok (lengthsOf (s .memory .memory)) owed (viewCached g s) (o .holds)
 
   -- ---- calls
-  module _ (c : Call) (named : List Bool) (stop : ℕ) (r : Refines g (beneath (onTables g) (tablesCaches g) s) c named stop) (d : Duty g (onCachingTables g) s (calls c named stop)) where
+  module _ (c : Call) (named : List Bool) (stop : ℕ) (d : Duty g (onCachingTables g) s (calls c named stop)) where
     abbrev remembers : ℕ → ℕ → List ZoneView
-    remembers = rememberedAfter (madeStores (callOf g (lengthsOf (s .memory .memory)) c (isSet named) (viewState (s .state)) (deviceOf g (s .memory .memory))) stop) (deviceOf g (s .memory .memory)) (s .memory .was)
+    remembers = rememberedAfter (madeOn g c named (s .state) stop (s .memory .memory)) (deviceOf g (s .memory .memory)) (s .memory .was)
+
+    refines : Refines g (beneath (onTables g) (tablesCaches g) s) c named stop
+    refines = call-refines g ok s0 (o .plain) named (names-beneath g (onTables g) (tablesCaches g) s named (d .0)) c stop
 
     agrees : Agrees g (onDevice g (lengthsOf t) .call c (isSet named) (viewState (s .state)) stop (deviceOf g t)) (viewResult g (resultOn g c named (s .state) stop t))
-    agrees = call-agrees g ok s0 (o .plain) c named stop r
+    agrees = call-agrees g ok s0 (o .plain) c named stop refines
 
     kept : let a = onDevice g (lengthsOf t) .call c (isSet named) (viewState (s .state)) stop (deviceOf g t) in
         OkCached g (modeAfter (a .answer) (s .mode)) (s .lost) (record { now = a .memory; was = remembers }) (a .state) (noted (s .ledger) (noteOf g c (shownBy g (isSet named) (deviceOf g t) (a .memory)) (replyTo (a .answer))))
-    kept = device-keeps (calls c (isSet named) stop) (record { drives = d .0 .drives }, d .1, rw (agrees .answer-same) (d .2))
+    kept = rw (made-same g ok s0 (o .plain) c named stop refines) (device-keeps (calls c (isSet named) stop) (record { drives = d .0 .drives }, d .1, rw (agrees .answer-same) (d .2)))
 
     pub call-cached : TablesOkCached g (next g (onCachingTables g) s (calls c named stop))
     call-cached =
@@ -93,31 +93,10 @@ module _ (g : Geometry) (ok : Valid g) (wb : isValid g ≡ true) (owed : CachesO
               (noted (s .ledger) (noteOf g c (shownBy g (isSet named) (deviceOf g t) (b .memory)) (replyTo (b .answer)))) (agrees .state-agrees) (rw (agrees .answer-same, agrees .memory-same) at kept);
         }
 
-  call-keeps : (c : Call) (named : List Bool) (stop : ℕ) → Duty g (onCachingTables g) s (calls c named stop) → TablesOkCached g (next g (onCachingTables g) s (calls c named stop))
-  call-keeps mounts named stop d = call-cached mounts named stop (mount-refines g ok s0 (o .plain) named (names-beneath g (onTables g) (tablesCaches g) s named (d .0)) stop) d
-  call-keeps (writes a count buffer) named stop d = call-cached (writes a count buffer) named stop (write-refines g ok s0 (o .plain) named (names-beneath g (onTables g) (tablesCaches g) s named (d .0)) a count buffer stop) d
-  call-keeps flushes named stop d = call-cached flushes named stop (flush-refines g ok s0 (o .plain) named (names-beneath g (onTables g) (tablesCaches g) s named (d .0)) stop) d
-  call-keeps (resets z) named stop d = call-cached (resets z) named stop (reset-refines g ok s0 (o .plain) named (names-beneath g (onTables g) (tablesCaches g) s named (d .0)) z stop) d
-  call-keeps (formats array) named stop d = call-cached (formats array) named stop (format-refines g ok s0 (o .plain) named (names-beneath g (onTables g) (tablesCaches g) s named (d .0)) array stop) d
-
-  -- ---- a look's state, handed on
-  look-keeps : (named : List Bool) → Duty g (onCachingTables g) s (looks named true) → TablesOkCached g (next g (onCachingTables g) s (looks named true))
-  look-keeps named d =
-      let n = names-beneath g (onTables g) (tablesCaches g) s named (d .0) in
-      let k = shownIn g named t t in
-      let w = deviceOf g t in
-      let e : lookResult (lookCall g (lengthsOf t) (isSet named) w) (viewState (s .state)) w .state ≡ mountState k = ap (λ (r : CallResult Device StateView). r .state) (promised g ok wb s0 (o .plain) .look-fits (isSet named) (names-seen g s0 named n) .0) in
-      let i : OkCached g (s .mode) (s .lost) (record { now = w; was = s .memory .was }) (lookResult (lookCall g (lengthsOf t) (isSet named) w) (viewState (s .state)) w .state) (s .ledger) = device-keeps (looks (isSet named) true) (record { drives = d .0 .drives }, d .1) in
-      record {
-        plain = tables-event g ok wb s0 (o .plain) (looks named true) (n, d .1);
-        holds = rw (look-is g ok wb s0 (o .plain) named n) (agrees-cached g (s .mode) (s .lost) (record { now = w; was = s .memory .was }) (mountState k) (viewState (stateShown g k)) (s .ledger) (shown-agrees g k) (rw e at i));
-      }
-
   -- EVERY EVENT KEEPS IT
   pub tables-event-cached : (e : Event (onCachingTables g)) → Duty g (onCachingTables g) s e → TablesOkCached g (next g (onCachingTables g) s e)
-  tables-event-cached (calls c named stop) d = call-keeps c named stop d
-  tables-event-cached (looks named false) d = o
-  tables-event-cached (looks named true) d = look-keeps named d
+  tables-event-cached (calls c named stop) d = call-cached c named stop d
+  tables-event-cached (looks named) d = o
   tables-event-cached (reads named a count out) d = o
   tables-event-cached (peeks named a) d = o
   tables-event-cached (reports list) d = o
@@ -170,21 +149,15 @@ module _ (g : Geometry) (named : List Bool) (array : ℕ) (old : State) (stop : 
   device-is : deviceOf g (runStores g stop xs t) ≡ applyAllCaching xs c .now
   device-is = run-refines g stop xs t sized (format-stores-fit g named array t accepted) ∙ ap (λ (r : List Store). applyAll r (deviceOf g t)) made-all ∙ sym (now-is xs c)
 
-  verdict : firstRefusal (callOf g (lengthsOf t) (formats array) (isSet named) (viewState old) (deviceOf g t) .refusals) ≡ accept
-  verdict = sym (format-verdict g named t (passed .pointers-fit)) ∙ accepted
-
-  made-is : madeStores (callOf g (lengthsOf t) (formats array) (isSet named) (viewState old) (deviceOf g t)) stop ≡ xs
-  made-is = ap (λ (v : Verdict). madeBy v xs stop) verdict ∙ made-all
-
   device-rests : RestsCached g x (applyAllCaching xs c) (formatState x) freshLedger
   device-rests = rw (drives-named g ok (isSet named) (passed .one-unnamed)) (format-rests-cached g ok x array c (left-out g (isSet named)) small)
 
-  start-is : record { now = deviceOf g (runStores g stop xs t); was = rememberedAfter (madeStores (callOf g (lengthsOf t) (formats array) (isSet named) (viewState old) (deviceOf g t)) stop) (deviceOf g t) was } ≡ applyAllCaching xs c
-  start-is = ap₂ (λ (a : Device) (b : List Store). record { now = a; was = applyAllCaching b c .was }) device-is made-is
+  start-is : record { now = deviceOf g (runStores g stop xs t); was = rememberedAfter (take stop xs) (deviceOf g t) was } ≡ applyAllCaching xs c
+  start-is = ap₂ (λ (a : Device) (b : List Store). record { now = a; was = applyAllCaching b c .was }) device-is made-all
 
-  pub start-rests : RestsCached g x (record { now = deviceOf g (runStores g stop xs t); was = rememberedAfter (madeStores (callOf g (lengthsOf t) (formats array) (isSet named) (viewState old) (deviceOf g t)) stop) (deviceOf g t) was })
-      (viewState (freshState g x)) freshLedger
-  start-rests = agrees-cached g ready x _ (formatState x) (viewState (freshState g x)) freshLedger (fresh-agrees g ok x) (subst (λ (k : Caching). RestsCached g x k (formatState x) freshLedger) (sym start-is) device-rests)
+  pub start-rests : RestsCached g x (record { now = deviceOf g (runStores g stop xs t); was = rememberedAfter (take stop xs) (deviceOf g t) was })
+      (viewState (stateHeld (g .zones) (formatState x))) freshLedger
+  start-rests = agrees-cached g ready x _ (formatState x) (viewState (stateHeld (g .zones) (formatState x))) freshLedger (held-agrees g (g .zones) (formatState x) (omega arith)) (subst (λ (k : Caching). RestsCached g x k (formatState x) freshLedger) (sym start-is) device-rests)
 
 -- after it all is well
 pub tables-start-cached : (g : Geometry) (named : List Bool) (array : ℕ) (old : State) (stop : ℕ) (m : WithCaches Tables) → array < 256 ^ 8 → let r = onCachingTables g .call (formats array) named old stop m in
@@ -195,7 +168,7 @@ tables-start-cached g named array old stop m small e =
     let x = leftOut g (isSet named) in
     let ss = formatStores g (namedDrives g (isSet named)) x array in
     let (wb, plain) = tables-start g named array old stop t small e in
-    let (p, q) = answer-finished g (formatVerdict g named t) (format-numbered-on g named t) ss (freshState g x) old stop t e in
+    let (p, q) = answer-finished g (formatVerdict g named t) (format-numbered-on g named t) ss (stateHeld (g .zones) (formatState x)) old stop t e in
     let holds = start-rests g named array old stop t (m .was) small p q in
     (wb, record { plain = plain; holds = rw (p, q) holds })
 

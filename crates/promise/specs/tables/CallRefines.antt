@@ -3,7 +3,7 @@
 -- the tables.
 use mathlib.Core.Path.{_≡_, refl, sym, ap, _∙_}
 use mathlib.Core.Bool.{Bool, true, false, _&&_, _||_}
-use Prim.Native.Nat.{ℕ, _<_}
+use Prim.Native.Nat.{ℕ, _<_, _≤_}
 use native.Mathlib.Omega.{arith}
 use mathlib.Core.List.{List}
 use lib.ListN.{length, take}
@@ -24,13 +24,15 @@ use Rattle.tables.specs.laws.StoresFit.{fits-all-placed}
 use Rattle.tables.specs.laws.PointerOrder.{InOrder, run-order}
 use Rattle.tables.specs.laws.TablesFrame.{pointers-good}
 use Rattle.volume.specs.declared.State.{State}
+use Rattle.volume.specs.declared.ZoneRecord.{ZoneRecord}
 use Rattle.volume.specs.declared.Outcome.{Outcome}
 use Rattle.volume.specs.declared.Answer.the-variants.{Finished, Unfinished, Refused}
 use Rattle.volume.specs.meaning.State.{StateView, pointerIn}
 use Rattle.volume.specs.meaning.Roles.{byRoles}
 use Rattle.volume.specs.meaning.Refusals.{Verdict, refuse, accept, badPointers}
 use Rattle.volume.specs.meaning.Answers.{CallResult, storing}
-use Rattle.volume.specs.meaning.CallContracts.{viewState, isSet, verdictNumber, Result, storingOn}
+use Rattle.volume.specs.meaning.CallContracts.{viewState, stateHeld, isSet, verdictNumber, Result, storingOn}
+use Rattle.volume.specs.laws.StateHeld.{held-at}
 use Rattle.volume.specs.laws.Refusals.{Numbered}
 use Rattle.promise.specs.meaning.Ledger.{Ledger}
 use Rattle.promise.specs.meaning.Claim.{Mode, ready, stopped, down}
@@ -46,6 +48,14 @@ pub record Agree (g : Geometry) (a b : StateView) : Type 0 where
 
 pub agree-refl : (g : Geometry) (a b : StateView) → a ≡ b → Agree g a b
 agree-refl g a b e = record { lost-same = ap (λ (s : StateView). s .lost) e; generation-same = λ z h. ap (λ (s : StateView). s .generation z) e; condition-same = λ z h. ap (λ (s : StateView). s .condition z) e }
+
+-- so does the code's state that is made of one
+pub held-agrees : (g : Geometry) (n : ℕ) (v : StateView) → g .zones ≤ n → Agree g v (viewState (stateHeld n v))
+held-agrees g n v h = record {
+  lost-same = refl;
+  generation-same = λ z k. let l : z < n = omega arith in ap (λ (r : ZoneRecord). r .generation) (sym (held-at n v z l));
+  condition-same = λ z k. let l : z < n = omega arith in ap (λ (r : ZoneRecord). r .condition) (sym (held-at n v z l));
+}
 
 -- the invariant between calls asks no more of a state
 rest-agrees : (g : Geometry) (x : ℕ) (v : Device) (a b : StateView) (l : Ledger) (γ : Ghost) → Agree g a b → Rest g x v a l γ → Rest g x v b l γ

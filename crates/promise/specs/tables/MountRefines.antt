@@ -19,34 +19,27 @@ use Rattle.tables.specs.meaning.Tables.{Tables, deviceOf, runStores}
 use Rattle.tables.specs.laws.Made.{FitsAll}
 use Rattle.tables.specs.laws.Counted.{run-covered}
 use Rattle.volume.specs.declared.State.{State}
-use Rattle.volume.specs.looking.DrivesLost.{fill-long}
-use Rattle.volume.specs.meaning.CallContracts.{zoneLookOf, blankRecord, viewState, isSet, lengthsOf, recordFrom, stateShown, mountStoresOn, mountShownOn, mountOn, verdictNumber, storingOn, badPlaceOn}
+use Rattle.volume.specs.laws.StateHeld.{held-long}
+use Rattle.volume.specs.meaning.CallContracts.{isSet, lengthsOf, mountStoresOn, mountShownOn, mountOn, verdictNumber, storingOn, badPlaceOn, stateHeld, viewState}
+use Rattle.volume.specs.declared.Answer.{Answer}
 use Rattle.volume.specs.declared.Answer.the-variants.{Finished, Refused}
-use Rattle.volume.specs.meaning.Rules.{Shown, showing}
+use Rattle.volume.specs.meaning.Rules.{showing}
 use Rattle.volume.specs.meaning.Roles.{roles, byRoles}
 use Rattle.volume.specs.meaning.Answers.{presentIn, lostDriveIn, storing}
 use Rattle.volume.specs.laws.BadPlaces.{told-plain, told-finished}
 use Rattle.volume.specs.meaning.Refusals.{Verdict, refuse, accept, firstRefusal, mountRows, badPointers}
 use Rattle.volume.specs.meaning.Mount.{mountStores, mountShows, mountState}
 use Rattle.promise.specs.meaning.Ledger.{Fits}
-use Rattle.promise.specs.meaning.Claim.{mounts, System, NamesAll, Promise, MayMount}
+use Rattle.promise.specs.meaning.Claim.{Call, mounts, writes, flushes, resets, formats, calls, answered, heard, System, NamesAll, Promise, MayMount}
 use Rattle.promise.specs.meaning.OnDevice.{onDevice}
 use Rattle.promise.specs.meaning.OnTables.{onTables, shownIn}
 use Rattle.promise.specs.device.AcceptedCalls.{Applies, refused-applies}
 use Rattle.promise.specs.device.ClaimProof.{kept}
+use Rattle.promise.specs.device.Heard.{answer-alike}
 use Rattle.promise.specs.tables.CallVerdicts.{mount-verdict, mount-numbered}
 use Rattle.volume.specs.laws.MountStoresFit.{mount-stores-fit, mount-stores-are}
-use Rattle.volume.specs.looking.Looking.{state-shown-in, state-shown-lost}
-use Rattle.promise.specs.tables.CallRefines.{Agree, all-made, answer-finished}
-use Rattle.promise.specs.tables.TablesEvents.{viewSystem, TablesOk, Refines, names-seen, pointers-fine, call-agrees}
-
--- ---- the state that it leaves
-pub shown-records : (g : Geometry) → Valid g → (k : Shown) → length (stateShown g k .zones) ≡ 16
-unfolding stateShown
-shown-records g ok k = fill-long (λ z. recordFrom (zoneLookOf (k .zone z))) blankRecord 16 (g .zones) (ok .zones-most)
-
-pub shown-agrees : (g : Geometry) (k : Shown) → Agree g (mountState k) (viewState (stateShown g k))
-shown-agrees g k = record { lost-same = sym (state-shown-lost g k); generation-same = λ z h. sym (state-shown-in g k z h .0); condition-same = λ z h. sym (state-shown-in g k z h .1) }
+use Rattle.promise.specs.tables.CallRefines.{held-agrees, all-made, answer-finished}
+use Rattle.promise.specs.tables.TablesEvents.{viewSystem, TablesOk, Refines, names-seen, pointers-fine, call-agrees, write-refines, flush-refines, reset-refines, format-refines}
 
 module _ (g : Geometry) (ok : Valid g) (s : System (onTables g)) (o : TablesOk g s) (named : List Bool) (n : NamesAll g (onTables g) s named) where
   abbrev t : Tables
@@ -71,7 +64,7 @@ module _ (g : Geometry) (ok : Valid g) (s : System (onTables g)) (o : TablesOk g
   ss = mountStoresOn g present lost t
 
   abbrev new : State
-  new = stateShown g (showing g present lost (byRoles g (deviceOf g (runStores g (length ss) ss t))))
+  new = stateHeld (g .zones) (mountState (showing g present lost (byRoles g (deviceOf g (runStores g (length ss) ss t)))))
 
   fits : verdict ≡ accept → FitsAll g xs w
   fits p = mount-stores-fit g named t (mount-verdict g named t (pointers-fine g s named n o) ∙ p)
@@ -95,7 +88,7 @@ module _ (g : Geometry) (ok : Valid g) (s : System (onTables g)) (o : TablesOk g
       by (inl (k, b)) = absurd (omega (arith, k))
       by (inr (r1, rest)) =
           let promised = kept g ok (lengthsOf t) (not-not (isValid g) r1) (sized-lengths g t (o .sized)) (viewSystem g s) (o .holds) in
-          let z = promised .mount-refused (isSet named) (names-seen g s named n) 0 6 (ap (λ (r : Verdict). storing r xs (mountState (mountShows g present lost w)) (viewState (s .state)) 0 w .answer) e) in
+          let z = promised .mount-refused (isSet named) (names-seen g s named n) 0 (Refused 6) (ap (λ (r : Verdict). answered (storing r xs (mountState (mountShows g present lost w)) (viewState (s .state)) 0 w .answer)) e) in
           absurd (omega (arith, z))
 
   number-not-six : verdictNumber verdict ≢ 6
@@ -112,29 +105,41 @@ module _ (g : Geometry) (ok : Valid g) (s : System (onTables g)) (o : TablesOk g
     stores = ss;
     new = new;
     result-is = rw (mount-verdict g named t (pointers-fine g s named n o)) (told-plain g (badPlaceOn g named t) (verdictNumber verdict) ss new (s .state) stop t number-not-six);
+    made-is = rw (mount-verdict g named t (pointers-fine g s named n o)) refl;
     verdict-is = refl;
     has-number = mount-numbered g named t;
     same = same;
     fit = fits;
-    long = λ p. shown-records g ok (showing g present lost (byRoles g (deviceOf g (runStores g (length ss) ss t))));
-    agree = λ p e. rw (shows-end stop p e) (shown-agrees g (mountShows g present lost w));
+    long = λ p. held-long (g .zones) (mountState (showing g present lost (byRoles g (deviceOf g (runStores g (length ss) ss t))))) (ok .zones-most);
+    agree = λ p e. rw (shows-end stop p e) (held-agrees g (g .zones) (mountState (mountShows g present lost w)) (omega arith));
   }
 
-  -- its state is what is shown then
-  state-is : (stop : ℕ) → mountOn g named (s .state) stop t .outcome .answer ≡ Finished → mountOn g named (s .state) stop t .outcome .state ≡ stateShown g (shownIn g named t (mountOn g named (s .state) stop t .tables))
+  -- so every call is the rules'
+  pub call-refines : (c : Call) (stop : ℕ) → Refines g s c named stop
+  call-refines mounts stop = mount-refines stop
+  call-refines (writes asked) stop = write-refines g ok s o named n asked stop
+  call-refines flushes stop = flush-refines g ok s o named n stop
+  call-refines (resets z) stop = reset-refines g ok s o named n z stop
+  call-refines (formats array) stop = format-refines g ok s o named n array stop
+
+  pub answers-as : (c : Call) (stop : ℕ) → onDevice g (lengthsOf t) .call c (isSet named) (viewState (s .state)) stop w .answer ≡ onTables g .call c named (s .state) stop t .answer
+  answers-as c stop = call-agrees g ok s o c named stop (call-refines c stop) .answer-same
+
+  pub heard-as : (c : Call) (stop : ℕ) (a : Answer) → heard s (calls c named stop) ≡ answered a → heard (viewSystem g s) (calls c (isSet named) stop) ≡ answered a
+  heard-as c stop a e = answer-alike (answers-as c stop) e
+
+  -- a mount's state is what is shown then
+  state-is : (stop : ℕ) → mountOn g named (s .state) stop t .outcome .answer ≡ Finished → mountOn g named (s .state) stop t .outcome .state ≡ stateHeld (g .zones) (mountState (shownIn g named t (mountOn g named (s .state) stop t .tables)))
   unfolding mountOn mountShownOn
   state-is stop e =
       let v = mount-verdict g named t (pointers-fine g s named n o) in
       let (p, q) = answer-finished g verdict (mount-numbered g named t) ss new (s .state) stop t (told-finished (badPlaceOn g named t) (storingOn g (verdictNumber verdict) ss new (s .state) stop t .outcome .answer) (rw v at e)) in
-      rw (v, p, q) (ap (λ (u : Tables). stateShown g (showing g present lost (byRoles g (deviceOf g u)))) (sym (run-covered g stop ss t (ltb-false stop (length ss) q))))
+      rw (v, p, q) (ap (λ (u : Tables). stateHeld (g .zones) (mountState (showing g present lost (byRoles g (deviceOf g u))))) (sym (run-covered g stop ss t (ltb-false stop (length ss) q))))
 
   -- a finished mount shows what fits
   pub mount-claim : Promise g (onDevice g (lengthsOf t)) (viewSystem g s) → MayMount (s .mode) → (stop : ℕ) → mountOn g named (s .state) stop t .outcome .answer ≡ Finished
-      → (mountOn g named (s .state) stop t .outcome .state ≡ stateShown g (shownIn g named t (mountOn g named (s .state) stop t .tables))) × Fits g (s .ledger) (shownIn g named t (mountOn g named (s .state) stop t .tables))
+      → (mountOn g named (s .state) stop t .outcome .state ≡ stateHeld (g .zones) (mountState (shownIn g named t (mountOn g named (s .state) stop t .tables)))) × Fits g (s .ledger) (shownIn g named t (mountOn g named (s .state) stop t .tables))
   mount-claim promised m stop e =
       let k = call-agrees g ok s o mounts named stop (mount-refines stop) in
-      let (a, b) = promised .mount-fits (isSet named) (names-seen g s named n) m stop (k .answer-same ∙ e) in
+      let (a, b) = promised .mount-fits (isSet named) (names-seen g s named n) m stop (ap answered (k .answer-same ∙ e)) in
       (state-is stop e, rw (k .memory-same) at b)
-
-  pub mount-refusal : Promise g (onDevice g (lengthsOf t)) (viewSystem g s) → (stop k : ℕ) → mountOn g named (s .state) stop t .outcome .answer ≡ Refused k → k ≡ 14
-  mount-refusal promised stop k e = promised .mount-refused (isSet named) (names-seen g s named n) stop k (call-agrees g ok s o mounts named stop (mount-refines stop) .answer-same ∙ e)

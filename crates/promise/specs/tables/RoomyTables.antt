@@ -1,10 +1,10 @@
 -- NO DRIVE FILLS UP, of the code's calls on the tables: what they leave is, seen as a device, what the rules' calls leave (call-agrees), and they answer the same.
-use mathlib.Core.Path.{_≡_, _∙_}
+use mathlib.Core.Path.{_≡_}
 use mathlib.Core.Logic.{_⊎_}
 use mathlib.Core.Bool.{Bool, true}
 use Prim.Native.Nat.{ℕ, _<_}
 use native.Mathlib.Omega.{arith}
-use mathlib.Core.List.{List, [], _∷_}
+use mathlib.Core.List.{List}
 use Rattle.tables.specs.meaning.Tables.{Tables, TablesLoss, deviceOf}
 use Rattle.tables.specs.meaning.Drives.{noDrive}
 use Rattle.tables.specs.laws.TablesRefine.{loss-refines}
@@ -13,19 +13,20 @@ use Rattle.tables.specs.declared.Geometry.{Geometry}
 use Rattle.tables.specs.meaning.Geometry.{Valid}
 use Rattle.tables.specs.meaning.GeometryTest.{isValid}
 use Rattle.tables.specs.laws.GeometryTest.{valid-if-test}
+use Rattle.volume.specs.declared.Answer.the-variants.{Refused}
 use Rattle.volume.specs.meaning.CallContracts.{isSet, lengthsOf}
-use Rattle.volume.specs.laws.RoomAfter.{RoomyGeneral, RoomyParity}
-use Rattle.promise.specs.meaning.Claim.{Call, mounts, writes, flushes, resets, formats, ready, System, Event, calls, looks, reads, peeks, reports, cuts, loses, next, Duty, Dutiful, start}
+use Rattle.volume.specs.meaning.Emptying.{RoomyGeneral, RoomyParity}
+use Rattle.promise.specs.meaning.Claim.{Call, mounts, writes, resets, formats, ready, System, Event, calls, looks, reads, peeks, reports, cuts, loses, next, Duty, start}
 use Rattle.promise.specs.meaning.OnTables.{onTables}
 use Rattle.promise.specs.meaning.Caches.{beneath}
 use Rattle.promise.specs.meaning.CachesOnTables.{tablesCaches, onCachingTables}
-use Rattle.promise.specs.meaning.Emptied.{AtEveryPoint}
 use Rattle.promise.specs.meaning.Roomy.{BeforeLast, NeverFull, RoomyTablesClaim}
+use Rattle.promise.specs.invariant.Throughout.{every-point}
 use Rattle.promise.specs.emptying.BlankSpares.{BlankSpares}
 use Rattle.promise.specs.device.BlankAtRest.{event-blank}
 use Rattle.promise.specs.shown.RoomyCalls.{never-full, never-full-beneath}
-use Rattle.promise.specs.tables.MountRefines.{mount-refines}
-use Rattle.promise.specs.tables.TablesEvents.{viewSystem, TablesOk, names-seen, Refines, call-agrees, write-refines, flush-refines, reset-refines, format-refines}
+use Rattle.promise.specs.tables.MountRefines.{call-refines, heard-as}
+use Rattle.promise.specs.tables.TablesEvents.{viewSystem, TablesOk, names-seen, call-agrees}
 use Rattle.promise.specs.tables.TablesClaimProof.{tables-start-blank}
 use Rattle.promise.specs.device.CachedPromise.{names-beneath}
 use Rattle.promise.specs.device.CachedClaim.{caches-owed}
@@ -41,16 +42,9 @@ module _ (g : Geometry) (wb : isValid g ≡ true) (s : System (onTables g)) (k :
   ok : Valid g
   ok = valid-if-test g wb
 
-  refines : (c : Call) (named : List Bool) (stop : ℕ) → Duty g (onTables g) s (calls c named stop) → Refines g s c named stop
-  refines mounts named stop (n, m, q) = mount-refines g ok s (k .ok) named n stop
-  refines (writes a count buffer) named stop (n, m, q) = write-refines g ok s (k .ok) named n a count buffer stop
-  refines flushes named stop (n, m, q) = flush-refines g ok s (k .ok) named n stop
-  refines (resets z) named stop (n, m, q) = reset-refines g ok s (k .ok) named n z stop
-  refines (formats array) named stop (n, m, q) = format-refines g ok s (k .ok) named n array stop
-
   call-blank : (c : Call) (named : List Bool) (stop : ℕ) → Duty g (onTables g) s (calls c named stop) → let u = next g (onTables g) s (calls c named stop) in u .mode ≡ ready → BlankSpares g (u .lost) (deviceOf g (u .memory))
   call-blank c named stop (n, m, q) =
-      let a = call-agrees g ok s (k .ok) c named stop (refines c named stop (n, m, q)) in
+      let a = call-agrees g ok s (k .ok) c named stop (call-refines g ok s (k .ok) named n c stop) in
       let b = event-blank g ok (lengthsOf (s .memory)) (viewSystem g s) (k .ok .holds) (k .blank) (calls c (isSet named) stop) (names-seen g s named n, m, rw (a .answer-same) q) in
       rw (a .answer-same, a .memory-same) at b
 
@@ -62,10 +56,9 @@ module _ (g : Geometry) (wb : isValid g ≡ true) (s : System (onTables g)) (k :
   never-full-on general parity young =
       let p = never-full g (lengthsOf (s .memory)) general parity wb (sized-lengths g (s .memory) (k .ok .sized)) (viewSystem g s) (record { ok = k .ok .holds; blank = k .blank }) young in
       record {
-        mount-accepted = λ named n stop i e. p .mount-accepted (isSet named) (names-seen g s named n) stop i (call-agrees g ok s (k .ok) mounts named stop (mount-refines g ok s (k .ok) named n stop) .answer-same ∙ e);
-        reset-not-full = λ named n m z stop e. p .reset-not-full (isSet named) (names-seen g s named n) m z stop (call-agrees g ok s (k .ok) (resets z) named stop (reset-refines g ok s (k .ok) named n z stop) .answer-same ∙ e);
-        write-not-full = λ named n m a count buffer stop e. p .write-not-full (isSet named) (names-seen g s named n) m a count buffer stop
-            (call-agrees g ok s (k .ok) (writes a count buffer) named stop (write-refines g ok s (k .ok) named n a count buffer stop) .answer-same ∙ e);
+        mount-accepted = λ named n stop i e. p .mount-accepted (isSet named) (names-seen g s named n) stop i (heard-as g ok s (k .ok) named n mounts stop (Refused i) e);
+        reset-not-full = λ named n m z stop e. p .reset-not-full (isSet named) (names-seen g s named n) m z stop (heard-as g ok s (k .ok) named n (resets z) stop (Refused 14) e);
+        write-not-full = λ named n m asked stop e. p .write-not-full (isSet named) (names-seen g s named n) m asked stop (heard-as g ok s (k .ok) named n (writes asked) stop (Refused 14) e);
       }
 
 -- ---- on drives that cache resets
@@ -82,7 +75,7 @@ module _ (g : Geometry) (wb : isValid g ≡ true) (s : System (onCachingTables g
 
   blank-next : (e : Event (onCachingTables g)) → Duty g (onCachingTables g) s e → let u = next g (onCachingTables g) s e in u .mode ≡ ready → BlankSpares g (u .lost) (deviceOf g (u .memory .memory))
   blank-next (calls c named stop) (n, m, q) = call-blank g wb under known c named stop (names-beneath g (onTables g) (tablesCaches g) s named n, m, q)
-  blank-next (looks named taken) d = k .blank
+  blank-next (looks named) d = k .blank
   blank-next (reads named a count out) d = k .blank
   blank-next (peeks named a) d = k .blank
   blank-next (reports list) d = k .blank
@@ -92,16 +85,11 @@ module _ (g : Geometry) (wb : isValid g ≡ true) (s : System (onCachingTables g
   cached-next : (e : Event (onCachingTables g)) → Duty g (onCachingTables g) s e → CachedTablesKnown g (next g (onCachingTables g) s e)
   cached-next e d = let valid = valid-if-test g wb in record { ok = tables-event-cached g valid wb (caches-owed g valid) s (k .ok) e d; blank = blank-next e d }
 
-along : (g : Geometry) → isValid g ≡ true → (P : System (onCachingTables g) → Type 0) → ((s : System (onCachingTables g)) → CachedTablesKnown g s → P s)
-    → (s : System (onCachingTables g)) → CachedTablesKnown g s → (es : List (Event (onCachingTables g))) → Dutiful g (onCachingTables g) s es → AtEveryPoint g (onCachingTables g) P s es
-along g wb P gives s k [] d = gives s k
-along g wb P gives s k (e ∷ es) (d, ds) = (gives s k, along g wb P gives (next g (onCachingTables g) s e) (cached-next g wb s k e d) es ds)
-
 -- THE THEOREM
 pub tables-never-full : RoomyTablesClaim
 tables-never-full g general parity named array old stop m small e es d =
     let (wb, o) = tables-start-cached g named array old stop m small e in
     let s = start g (onCachingTables g) named (onCachingTables g .call (formats array) named old stop m) in
-    along g wb (λ s. BeforeLast g (s .lost) (deviceOf g (s .memory .memory)) → NeverFull g (onCachingTables g) s)
-    (λ s k young. never-full-beneath g (onTables g) (tablesCaches g) s (never-full-on g wb (under g wb s k) (known g wb s k) general parity young)) s
+    every-point g (onCachingTables g) (CachedTablesKnown g) (λ s. BeforeLast g (s .lost) (deviceOf g (s .memory .memory)) → NeverFull g (onCachingTables g) s)
+    (λ s k young. never-full-beneath g (onTables g) (tablesCaches g) s (never-full-on g wb (under g wb s k) (known g wb s k) general parity young)) (cached-next g wb) s
     (record { ok = o; blank = λ i. tables-start-blank g named array old stop (m .memory) small e }) es d

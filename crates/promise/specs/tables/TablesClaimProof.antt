@@ -14,7 +14,8 @@ use borrow.Author.Tests.{ne-eqb, eq-eqb, eqb-true, ltb-false, ltb-true}
 use Rattle.tables.specs.declared.Geometry.{Geometry}
 use Rattle.tables.specs.meaning.Basics.{pick}
 use Rattle.tables.specs.laws.Basics.{and-split, not-not}
-use Rattle.tables.specs.laws.Drives.{presentBut, present-not, present-other}
+use Rattle.tables.specs.meaning.Drives.{presentBut}
+use Rattle.tables.specs.laws.Drives.{present-not, present-other}
 use Rattle.tables.specs.meaning.Below.{tabulateFrom}
 use Rattle.tables.specs.laws.Below.{getD-tabulate}
 use Rattle.tables.specs.meaning.Lists.{concat}
@@ -45,21 +46,23 @@ use Rattle.promise.specs.meaning.Ledger.{freshLedger, Fits, Ledger}
 use Rattle.volume.specs.laws.Refusals.{accepted-row, Numbered, numbered}
 use Rattle.promise.specs.device.Marks.{withMarks}
 use Rattle.promise.specs.device.Modes.{OkIn, own-rests}
-use Rattle.promise.specs.device.ClaimEvents.{rests-of, drives-of-call, event-keeps}
-use Rattle.promise.specs.device.ClaimProof.{kept}
+use Rattle.promise.specs.device.ClaimEvents.{rests-of, drives-of-call, look-held}
+use Rattle.promise.specs.device.ClaimProof.{serves, kept}
+use Rattle.promise.specs.device.Heard.{answer-heard, peek-heard, report-heard, read-alike}
 use Rattle.promise.specs.device.AtRestAnswers.{left-out, drives-named}
 use Rattle.promise.specs.roles.RoledCalls.{roled-format}
 use Rattle.promise.specs.emptying.BlankSpares.{BlankSpares}
 use Rattle.promise.specs.device.BlankAtRest.{format-blank}
-use Rattle.volume.specs.meaning.CallContracts.{viewState, isSet, verdictNumber, lengthsOf, storingOn, formatVerdict, formatOn, freshState, lookOn, stateShown, readOn, valuesOn, peekNumber, peekOn, partAt, badIn, peekFrom, byteOf}
+use Rattle.volume.specs.meaning.CallContracts.{viewState, isSet, verdictNumber, lengthsOf, storingOn, formatVerdict, formatOn, lookOn, readOn, valuesOn, peekNumber, peekOn, partAt, badIn, peekFrom, byteOf, stateHeld}
 use Rattle.tables.specs.laws.StoresFit.{fits-all-placed}
-use Rattle.promise.specs.tables.CallRefines.{ok-agrees, answer-finished}
+use Rattle.volume.specs.laws.StateHeld.{held-long}
+use Rattle.promise.specs.tables.CallRefines.{held-agrees, ok-agrees, answer-finished}
 use Rattle.promise.specs.tables.CallVerdicts.{numbered-accept, look-verdict, read-number, read-numbered, peek-number, peek-numbered}
-use Rattle.promise.specs.meaning.Claim.{mounts, writes, flushes, resets, formats, Call, System, Event, calls, looks, reads, peeks, reports, cuts, loses, next, NamesAll, Duty, SameZones, Promise, ready, start}
+use Rattle.promise.specs.meaning.Claim.{mounts, writes, flushes, resets, System, Event, calls, looks, reads, peeks, reports, cuts, loses, Peeked, next, peekedAt, reported, NamesAll, Duty, SameZones, Serves, Promise, ready, start}
 use Rattle.promise.specs.meaning.OnDevice.{onDevice, lookResult, readResult, peekResult}
 use Rattle.promise.specs.meaning.OnTables.{callResult, resultOf, onTables, shownIn}
-use Rattle.promise.specs.tables.MountRefines.{shown-records, shown-agrees, mount-refines, mount-claim, mount-refusal}
-use Rattle.promise.specs.tables.TablesEvents.{viewSystem, TablesOk, names-seen, pointers-fine, fresh-records, fresh-agrees, call-agrees, call-event, write-refines, flush-refines, reset-refines, format-refines, cut-event, loss-event}
+use Rattle.promise.specs.tables.MountRefines.{call-refines, heard-as, mount-claim}
+use Rattle.promise.specs.tables.TablesEvents.{viewSystem, TablesOk, names-seen, pointers-fine, call-event, cut-event, loss-event}
 use Rattle.volume.specs.laws.CallStoresFit.{format-stores-fit}
 use Rattle.promise.specs.invariant.Obligations.{neverEmptied, Rests}
 use Rattle.promise.specs.invariant.Invariant.{LogGenerations}
@@ -110,22 +113,22 @@ module _ (g : Geometry) (ok : Valid g) (wb : isValid g ≡ true) (s : System (on
     names = names-seen g s named n
 
     -- the refusals are the rules'
-    pub look-is : lookOn g named (s .state) t ≡ record { answer = Finished; state = stateShown g (shownIn g named t t) }
+    pub look-is : lookOn g named (s .state) t ≡ record { answer = Finished; state = stateHeld (g .zones) (mountState (shownIn g named t t)) }
     unfolding lookOn
     look-is =
         let p = look-accepted (firstRefusal (lookRows g (lengthsOf t) (badPointers g (isSet named) w) (isSet named) (roles g w) (byRoles g w))) (shownIn g named t t) (viewState (s .state)) (mountState (shownIn g named t t)) w (promised .look-fits (isSet named) names .0) in
         rw (look-verdict g named t fine, p) refl
 
-    look-claim : (resultOf (lookOn g named (s .state) t) t ≡ record { answer = Finished; memory = t; state = stateShown g (shownIn g named t t) }) × Fits g (s .ledger) (shownIn g named t t)
+    look-claim : (resultOf (lookOn g named (s .state) t) t ≡ record { answer = Finished; memory = t; state = stateHeld (g .zones) (mountState (shownIn g named t t)) }) × Fits g (s .ledger) (shownIn g named t t)
     look-claim = (rw look-is refl, promised .look-fits (isSet named) names .1)
 
     -- its state says what the host's says
-    held-claim : s .mode ≡ ready → (lookOn g named (s .state) t .state .lost ≡ s .lost) × SameZones g (onTables g) (lookOn g named (s .state) t .state) (s .state)
+    held-claim : s .mode ≡ ready → let looked = viewState (lookOn g named (s .state) t .state) in (looked .lost ≡ s .lost) × SameZones g looked (viewState (s .state))
     held-claim m =
         let k = shownIn g named t t in
         let e : lookResult (lookCall g (lengthsOf t) (isSet named) w) (viewState (s .state)) w .state ≡ mountState k = ap (λ (r : CallResult Device StateView). r .state) (promised .look-fits (isSet named) names .0) in
         let (a, b) = promised .look-holds (isSet named) names m in
-        let f = shown-agrees g k in
+        let f = held-agrees g (g .zones) (mountState k) (omega arith) in
         rw look-is (
           sym (f .lost-same) ∙ sym (ap (λ (r : StateView). r .lost) e) ∙ a,
           record {
@@ -134,40 +137,36 @@ module _ (g : Geometry) (ok : Valid g) (wb : isValid g ≡ true) (s : System (on
           },
         )
 
-    -- and may be handed on
-    look-event : Duty g (onTables g) s (looks named true) → TablesOk g (next g (onTables g) s (looks named true))
-    look-event d =
+    -- and in its place the rules' system is so
+    held-on : OkIn g (s .mode) (s .lost) w (viewState (lookOn g named (s .state) t .state)) (s .ledger)
+    held-on =
         let k = shownIn g named t t in
         let e : lookResult (lookCall g (lengthsOf t) (isSet named) w) (viewState (s .state)) w .state ≡ mountState k = ap (λ (r : CallResult Device StateView). r .state) (promised .look-fits (isSet named) names .0) in
-        let i : OkIn g (s .mode) (s .lost) w (lookResult (lookCall g (lengthsOf t) (isSet named) w) (viewState (s .state)) w .state) (s .ledger) = event-keeps g ok (lengthsOf t) (viewSystem g s) (o .holds) (looks (isSet named) true) (names, d .1) in
-        rw look-is (record {
-          sized = o .sized;
-          order = o .order;
-          records = shown-records g ok k;
-          holds = ok-agrees g (s .mode) (s .lost) w (mountState k) (viewState (stateShown g k)) (s .ledger) (shown-agrees g k) (rw e at i);
-        })
+        let i = look-held g ok (lengthsOf t) (viewSystem g s) (o .holds) (isSet named) names in
+        rw look-is (ok-agrees g (s .mode) (s .lost) w (mountState k) (viewState (stateHeld (g .zones) (mountState k))) (s .ledger) (held-agrees g (g .zones) (mountState k) (omega arith)) (rw e at i))
 
-    -- a read by the rules
-    abbrev sectors : ℕ → ℕ → List (List ℕ)
-    sectors a count = tabulateFrom (valueAt g (callPresent g (isSet named) (viewState (s .state))) (byRoles g w) (zoneOf g a) (viewState (s .state) .generation (zoneOf g a))) (offsetOf g a) count
+    -- reads and peeks are the rules', by any state
+    module _ (state : State) where
+      abbrev sectors : ℕ → ℕ → List (List ℕ)
+      sectors a count = tabulateFrom (valueAt g (callPresent g (isSet named) (viewState state)) (byRoles g w) (zoneOf g a) (viewState state .generation (zoneOf g a))) (offsetOf g a) count
 
-    abbrev readVerdict : ℕ → ℕ → List ℕ → Verdict
-    readVerdict a count out = firstRefusal (readRows g (lengthsOf t) (badPointers g (isSet named) w) (isSet named) (viewState (s .state)) a count (length out) (byRoles g w))
+      abbrev readVerdict : ℕ → ℕ → List ℕ → Verdict
+      readVerdict a count out = firstRefusal (readRows g (lengthsOf t) (badPointers g (isSet named) w) (isSet named) (viewState state) a count (length out) (byRoles g w))
 
-    read-same : (a count : ℕ) (out : List ℕ) → readOn g named (s .state) a count out t ≡ readResult (giving (readVerdict a count out) (sectors a count)) out
-    unfolding readOn valuesOn
-    read-same a count out = rw (read-number g named t fine (s .state) a count (length out)) (go (readVerdict a count out) (read-numbered g named t (s .state) a count (length out)))
-      where
-        go : (v : Verdict) → Numbered v → record { answer = pick (eqb (verdictNumber v) 0) Finished (Refused (verdictNumber v)); buffer = pick (eqb (verdictNumber v) 0) (concat (sectors a count)) out } ≡ readResult (giving v (sectors a count)) out
-        go accept h = refl
-        go (refuse k) h = rw (ne-eqb k 0 h) refl
+      read-same : (a count : ℕ) (out : List ℕ) → readOn g named state a count out t ≡ onDevice g (lengthsOf t) .read (isSet named) (viewState state) a count out w
+      unfolding readOn valuesOn
+      read-same a count out = rw (read-number g named t fine state a count (length out)) (go (readVerdict a count out) (read-numbered g named t state a count (length out)))
+        where
+          go : (v : Verdict) → Numbered v → record { answer = pick (eqb (verdictNumber v) 0) Finished (Refused (verdictNumber v)); buffer = pick (eqb (verdictNumber v) 0) (concat (sectors a count)) out } ≡ readResult (giving v (sectors a count)) out
+          go accept h = refl
+          go (refuse k) h = rw (ne-eqb k 0 h) refl
 
-    peek-number-same : (a : ℕ) → peekNumber g named (s .state) a t ≡ peekResult g (giving (firstRefusal (peekRows g (lengthsOf t) (badPointers g (isSet named) w) (isSet named) (viewState (s .state)) a (byRoles g w))) (placeOf g a)) w .number
-    peek-number-same a = peek-number g named t fine (s .state) a ∙ go (firstRefusal (peekRows g (lengthsOf t) (badPointers g (isSet named) w) (isSet named) (viewState (s .state)) a (byRoles g w)))
-      where
-        go : (v : Verdict) → verdictNumber v ≡ peekResult g (giving v (placeOf g a)) w .number
-        go accept = refl
-        go (refuse k) = refl
+      peek-number-same : (a : ℕ) → peekNumber g named state a t ≡ onDevice g (lengthsOf t) .peek (isSet named) (viewState state) a w .number
+      peek-number-same a = peek-number g named t fine state a ∙ go (firstRefusal (peekRows g (lengthsOf t) (badPointers g (isSet named) w) (isSet named) (viewState state) a (byRoles g w)))
+        where
+          go : (v : Verdict) → verdictNumber v ≡ peekResult g (giving v (placeOf g a)) w .number
+          go accept = refl
+          go (refuse k) = refl
 
     -- where a sector of the content sits in the device, it sits in the lent bytes
     place-holds : s .mode ≡ ready → (a : ℕ) → zoneOf g a < g .zones → offsetOf g a < length (s .ledger .content (zoneOf g a)) → driveOf (g .drives) (g .unit) (zoneOf g a) (offsetOf g a) ≢ s .lost
@@ -205,9 +204,35 @@ module _ (g : Geometry) (ok : Valid g) (wb : isValid g ≡ true) (s : System (on
         let hz : z < g .zones = ltb-true z (g .zones) (not-not (ltb z (g .zones)) (accepted-row rows p 8)) in
         let (here, held) = and-split (callPresent g (isSet named) (viewState (s .state)) d) (ltb x (length (byRoles g w d (dataZone z) .sectors))) (not-not (callPresent g (isSet named) (viewState (s .state)) d && ltb x (length (byRoles g w d (dataZone z) .sectors))) (accepted-row rows p 15)) in
         let there : d ≢ s .lost = present-not g (s .lost) d (sym (ap (λ (f : ℕ → Bool). f d) (drives-of-call g ok (lengthsOf t) (viewSystem g s) (o .holds) (isSet named) names m)) ∙ here) in
-        let (h, b, c) = promised .peek-gives (isSet named) names m a (sym (peek-number-same a) ∙ e) in
+        let q = sym (peek-number-same (s .state) a) ∙ e in
+        let k = onDevice g (lengthsOf t) .peek (isSet named) (viewState (s .state)) a w in
+        let (h, b, c) = promised .peek-gives (isSet named) names m a (k .from) (k .part) (ap (λ (i : ℕ). peekedAt i (k .from) (k .part)) q) in
         let n = eq-eqb (peekNumber g named (s .state) a t) 0 e in
         (h, rw n refl, rw n (place-holds m a hz h there (rw p at c)))
+
+-- ---- a look's state serves reads, peeks and reports
+module _ (g : Geometry) (ok : Valid g) (wb : isValid g ≡ true) (s : System (onTables g)) (o : TablesOk g s) (named : List Bool) (n : NamesAll g (onTables g) s named) (m : s .mode ≡ ready) where
+  abbrev looked : State
+  looked = lookOn g named (s .state) (s .memory) .state
+
+  by-rules : Serves g (onDevice g (lengthsOf (s .memory))) (viewSystem g s) (viewState (lookOn g named (s .state) (s .memory) .state))
+  by-rules =
+      serves g ok (lengthsOf (s .memory)) wb (sized-lengths g (s .memory) (o .sized)) (viewSystem g s) (o .holds) m (viewState looked) (held-on g ok wb s o named n) (held-claim g ok wb s o named n m .1) (isSet named) (names-seen g s named n)
+
+  peek-serves : (by : List Bool) → NamesAll g (onTables g) s by → (a : ℕ) → onTables g .peek by looked a (s .memory) ≡ onTables g .peek by (s .state) a (s .memory)
+  unfolding peekOn peekFrom
+  peek-serves by all a =
+      let q = by-rules .peeks-same (isSet by) (names-seen g s by all) a in
+      let e : peekNumber g by looked a (s .memory) ≡ peekNumber g by (s .state) a (s .memory) = peek-number-same g ok wb s o by all looked a ∙ ap (λ (k : Peeked). k .number) q ∙ sym (peek-number-same g ok wb s o by all (s .state) a) in
+      rw e refl
+
+  look-serves-on : Serves g (onTables g) s looked
+  look-serves-on = record {
+    reads-same = λ by all a count out.
+        read-same g ok wb s o by all looked a count out ∙ by-rules .reads-same (isSet by) (names-seen g s by all) a count out ∙ sym (read-same g ok wb s o by all (s .state) a count out);
+    peeks-same = peek-serves;
+    reports-same = by-rules .reports-same;
+  }
 
 module _ (g : Geometry) (ok : Valid g) (wb : isValid g ≡ true) where
   -- every point of a history is as promised
@@ -216,35 +241,30 @@ module _ (g : Geometry) (ok : Valid g) (wb : isValid g ≡ true) where
       let promised = promised g ok wb s o in
       record {
         look-fits = look-claim g ok wb s o;
-        mount-fits = λ named n m stop e. mount-claim g ok s o named n promised m stop e;
-        mount-refused = λ named n stop k e. mount-refusal g ok s o named n promised stop k e;
-        mount-logs-good = λ named n stop b e. promised .mount-logs-good (isSet named) (names-seen g s named n) stop b (call-agrees g ok s o mounts named stop (mount-refines g ok s o named n stop) .answer-same ∙ e);
+        mount-fits = λ named n m stop e. mount-claim g ok s o named n promised m stop (answer-heard e);
+        mount-refused = λ named n stop a e. promised .mount-refused (isSet named) (names-seen g s named n) stop a (heard-as g ok s o named n mounts stop a e);
         pointer-is = promised .pointer-is;
         look-holds = held-claim g ok wb s o;
-        flush-accepted = λ named n m stop k e. promised .flush-accepted (isSet named) (names-seen g s named n) m stop k (call-agrees g ok s o flushes named stop (flush-refines g ok s o named n stop) .answer-same ∙ e);
-        reset-refused = λ named n m z stop k e. promised .reset-refused (isSet named) (names-seen g s named n) m z stop k (call-agrees g ok s o (resets z) named stop (reset-refines g ok s o named n z stop) .answer-same ∙ e);
-        write-refused = λ named n m a count buffer stop k e. promised .write-refused (isSet named) (names-seen g s named n) m a count buffer stop k (call-agrees g ok s o (writes a count buffer) named stop (write-refines g ok s o named n a count buffer stop) .answer-same ∙ e);
-        read-gives = λ named n m a count out e.
-            let r = read-same g ok wb s o named n a count out in
-            let (p, q) = promised .read-gives (isSet named) (names-seen g s named n) m a count out (rw r at e) in
-            (p, rw r q);
-        read-accepted = λ named n m a count out hz pos len h. rw (read-same g ok wb s o named n a count out) (promised .read-accepted (isSet named) (names-seen g s named n) m a count out hz pos len h);
-        peek-gives = peek-claim g ok wb s o;
-        peek-accepted = λ named n m a hz h there. peek-number-same g ok wb s o named n a ∙ promised .peek-accepted (isSet named) (names-seen g s named n) m a hz h there;
-        report-gives = λ named n m list. promised .report-gives (isSet named) (names-seen g s named n) m list;
+        look-serves = look-serves-on g ok wb s o;
+        flush-accepted = λ named n m stop a e. promised .flush-accepted (isSet named) (names-seen g s named n) m stop a (heard-as g ok s o named n flushes stop a e);
+        reset-refused = λ named n m z stop a e. promised .reset-refused (isSet named) (names-seen g s named n) m z stop a (heard-as g ok s o named n (resets z) stop a e);
+        write-refused = λ named n m w stop a e. promised .write-refused (isSet named) (names-seen g s named n) m w stop a (heard-as g ok s o named n (writes w) stop a e);
+        read-gives = λ named n m a count out bytes e. promised .read-gives (isSet named) (names-seen g s named n) m a count out bytes (read-alike (sym (read-same g ok wb s o named n (s .state) a count out)) e);
+        read-accepted = λ named n m a count out hz pos len h. read-alike (read-same g ok wb s o named n (s .state) a count out) (promised .read-accepted (isSet named) (names-seen g s named n) m a count out hz pos len h);
+        peek-gives = λ named n m a from part e.
+            let (p, q, r) = peek-heard e in
+            let (h, b, c) = peek-claim g ok wb s o named n m a p in
+            (h, sym q ∙ b, sym r ∙ c);
+        peek-accepted = λ named n m a hz h there.
+            let p = peek-number-same g ok wb s o named n (s .state) a ∙ peek-heard (promised .peek-accepted (isSet named) (names-seen g s named n) m a hz h there) .0 in
+            let (i, b, c) = peek-claim g ok wb s o named n m a p in
+            λ j. peekedAt (p j) (b j) (c j);
+        report-gives = λ named n m list. ap reported (report-heard (promised .report-gives (isSet named) (names-seen g s named n) m list));
       }
 
-  call-keeps : (s : System (onTables g)) (o : TablesOk g s) (c : Call) (named : List Bool) (stop : ℕ) → Duty g (onTables g) s (calls c named stop) → TablesOk g (next g (onTables g) s (calls c named stop))
-  call-keeps s o mounts named stop (n, m, q) = call-event g ok s o mounts named stop (mount-refines g ok s o named n stop) (n, m, q)
-  call-keeps s o (writes a count buffer) named stop (n, m, q) = call-event g ok s o (writes a count buffer) named stop (write-refines g ok s o named n a count buffer stop) (n, m, q)
-  call-keeps s o flushes named stop (n, m, q) = call-event g ok s o flushes named stop (flush-refines g ok s o named n stop) (n, m, q)
-  call-keeps s o (resets z) named stop (n, m, q) = call-event g ok s o (resets z) named stop (reset-refines g ok s o named n z stop) (n, m, q)
-  call-keeps s o (formats array) named stop (n, m, q) = call-event g ok s o (formats array) named stop (format-refines g ok s o named n array stop) (n, m, q)
-
   pub tables-event : (s : System (onTables g)) → TablesOk g s → (e : Event (onTables g)) → Duty g (onTables g) s e → TablesOk g (next g (onTables g) s e)
-  tables-event s o (calls c named stop) d = call-keeps s o c named stop d
-  tables-event s o (looks named false) d = o
-  tables-event s o (looks named true) d = look-event g ok wb s o named (d .0) d
+  tables-event s o (calls c named stop) d = call-event g ok s o c named stop (call-refines g ok s o named (d .0) c stop) d
+  tables-event s o (looks named) d = o
   tables-event s o (reads named a count out) d = o
   tables-event s o (peeks named a) d = o
   tables-event s o (reports list) d = o
@@ -302,10 +322,10 @@ module _ (g : Geometry) (named : List Bool) (array : ℕ) (old : State) (stop : 
       let e′ : ltb stop (length stores) ≡ false = rw (← drives) e in
       run-refines g stop stores t sized stores-fit ∙ ap (λ (r : List Store). applyAll r (deviceOf g t)) (take-all stop stores (ltb-false stop (length stores) e′))
 
-  start-blank : ltb stop (length (formatStores g (namedDrives g (isSet named)) x array)) ≡ false → BlankSpares g x (deviceOf g (storingOn g 0 (formatStores g (namedDrives g (isSet named)) x array) (freshState g x) old stop t .tables))
+  start-blank : ltb stop (length (formatStores g (namedDrives g (isSet named)) x array)) ≡ false → BlankSpares g x (deviceOf g (storingOn g 0 (formatStores g (namedDrives g (isSet named)) x array) (stateHeld (g .zones) (formatState x)) old stop t .tables))
   start-blank e = rw (drives, left-is e) (format-blank g ok x array (deviceOf g t) (left-out g (isSet named)) small)
 
-  pub start-ok : ltb stop (length (formatStores g (namedDrives g (isSet named)) x array)) ≡ false → TablesOk g (start g (onTables g) named (callResult (storingOn g 0 (formatStores g (namedDrives g (isSet named)) x array) (freshState g x) old stop t)))
+  pub start-ok : ltb stop (length (formatStores g (namedDrives g (isSet named)) x array)) ≡ false → TablesOk g (start g (onTables g) named (callResult (storingOn g 0 (formatStores g (namedDrives g (isSet named)) x array) (stateHeld (g .zones) (formatState x)) old stop t)))
   start-ok e =
       let d = left-is e in
       let placed = fits-all-placed g stores (deviceOf g t) stores-fit in
@@ -313,8 +333,8 @@ module _ (g : Geometry) (named : List Bool) (array : ℕ) (old : State) (stop : 
       (record {
         sized = run-sized g stop stores t sized placed;
         order = λ k hk q. run-order g k stop stores t hk sized placed (order-passed g named (t .written) (t .durable) k (passed .pointers-fit) hk (named-in k hk q));
-        records = fresh-records g ok x;
-        holds = rw d (ok-agrees g ready x (applyAll stores (deviceOf g t)) (formatState x) (viewState (freshState g x)) freshLedger (fresh-agrees g ok x) (own-rests neverEmptied g x (applyAll stores (deviceOf g t)) (formatState x) freshLedger (roled-format g ok x array (deviceOf g t) (left-out g (isSet named)) small)));
+        records = held-long (g .zones) (formatState x) (ok .zones-most);
+        holds = rw d (ok-agrees g ready x (applyAll stores (deviceOf g t)) (formatState x) (viewState (stateHeld (g .zones) (formatState x))) freshLedger (held-agrees g (g .zones) (formatState x) (omega arith)) (own-rests neverEmptied g x (applyAll stores (deviceOf g t)) (formatState x) freshLedger (roled-format g ok x array (deviceOf g t) (left-out g (isSet named)) small)));
       })
 
 -- a finished format begins a history
@@ -324,7 +344,7 @@ unfolding formatOn
 tables-start g named array old stop t small e =
     let x = leftOut g (isSet named) in
     let ss = formatStores g (namedDrives g (isSet named)) x array in
-    let (p, q) = answer-finished g (formatVerdict g named t) (format-numbered-on g named t) ss (freshState g x) old stop t e in
+    let (p, q) = answer-finished g (formatVerdict g named t) (format-numbered-on g named t) ss (stateHeld (g .zones) (formatState x)) old stop t e in
     let passed = format-passed g named t p in
     (passed .valid-test, rw p (start-ok g named array old stop t small p q))
 
@@ -335,5 +355,5 @@ unfolding formatOn
 tables-start-blank g named array old stop t small e =
     let x = leftOut g (isSet named) in
     let ss = formatStores g (namedDrives g (isSet named)) x array in
-    let (p, q) = answer-finished g (formatVerdict g named t) (format-numbered-on g named t) ss (freshState g x) old stop t e in
+    let (p, q) = answer-finished g (formatVerdict g named t) (format-numbered-on g named t) ss (stateHeld (g .zones) (formatState x)) old stop t e in
     rw p (start-blank g named array old stop t small p q)

@@ -3,15 +3,14 @@
 use mathlib.Core.Path.{_≡_, refl, sym, ap, _∙_}
 use mathlib.Core.Logic.{_≢_, _⊎_, inl, inr}
 use mathlib.Core.Bool.{Bool, true, false, not, true≢false}
-use Prim.Native.Nat.{ℕ, _+_, _<_}
+use Prim.Native.Nat.{ℕ, _<_}
 use native.Mathlib.Omega.{arith}
 use mathlib.Core.List.{List}
-use lib.ListN.{length, length-set}
+use lib.ListN.{length, take}
 use lib.Dec.{ltb}
-use borrow.Author.Tests.{eq-eqb, ltb-true}
+use borrow.Author.Tests.{eq-eqb}
 use Rattle.tables.specs.declared.Geometry.{Geometry}
-use Rattle.tables.specs.meaning.Geometry.{Valid}
-use Rattle.tables.specs.laws.Basics.{not-not}
+use Rattle.tables.specs.meaning.Geometry.{Valid, maxZones}
 use Rattle.tables.specs.meaning.Drives.{noDrive}
 use Rattle.tables.specs.meaning.Device.{Device, Store}
 use Rattle.tables.specs.meaning.Tables.{Tables, deviceOf, TablesCut, TablesLoss, pointersBad}
@@ -20,22 +19,20 @@ use Rattle.tables.specs.laws.TablesRefine.{cut-refines, loss-refines, kept-size
 use Rattle.tables.specs.laws.PointerOrder.{InOrder, order-passes, cut-order, loss-order}
 use Rattle.volume.specs.declared.State.{State}
 use Rattle.volume.specs.meaning.State.{StateView}
-use Rattle.volume.specs.meaning.Calls.{formatState}
-use Rattle.volume.specs.meaning.Refusals.{Verdict, accept, firstRefusal, TableLengths, zoneOf, writeRows, resetRows}
-use Rattle.volume.specs.meaning.Answers.{StoringCall, lostIn, leftOut, writeCall, resetCall}
-use Rattle.volume.specs.meaning.CallContracts.{blankRecord, freshRecord, viewState, isSet, verdictNumber, lengthsOf, Result, storingOn, withLost, flushOn, withReset, resetOn, writtenState, pointerOf, writeOn, freshState, formatOn}
-use Rattle.volume.specs.laws.Refusals.{accepted-row, Numbered}
-use Rattle.volume.specs.looking.DrivesLost.{fill-long}
-use Rattle.volume.specs.storing.Formatting.{format-views}
-use Rattle.volume.specs.storing.Resetting.{reset-views}
-use Rattle.volume.specs.writing.Writing.{written-state}
-use Rattle.promise.specs.meaning.Claim.{Call, writes, flushes, resets, formats, System, calls, cuts, loses, next, NamesAll, Duty, modeAfter, noteOf, replyTo}
+use Rattle.volume.specs.meaning.Refusals.{Verdict, refuse, accept, firstRefusal}
+use Rattle.volume.specs.meaning.Answers.{StoringCall}
+use Rattle.volume.specs.meaning.CallContracts.{viewState, isSet, verdictNumber, lengthsOf, Result, storingOn, flushOn, resetOn, writeOn, formatOn, stateHeld}
+use Rattle.volume.specs.laws.Refusals.{Numbered}
+use Rattle.volume.specs.laws.StateHeld.{held-long}
+use Rattle.promise.specs.meaning.Claim.{WriteAsked, Call, writes, flushes, resets, formats, System, calls, cuts, loses, next, NamesAll, Duty, modeAfter, noteOf, replyTo}
 use Rattle.promise.specs.meaning.Ledger.{noted}
 use Rattle.promise.specs.meaning.OnDevice.{callOf, onDevice, shownBy}
 use Rattle.promise.specs.meaning.OnTables.{resultOn, onTables, shownIn}
+use Rattle.promise.specs.meaning.Caches.{madeBy, madeStores}
+use Rattle.promise.specs.meaning.CachesOnTables.{madeOn}
 use Rattle.promise.specs.device.Modes.{OkIn}
 use Rattle.promise.specs.device.ClaimEvents.{event-keeps}
-use Rattle.promise.specs.tables.CallRefines.{Agree, agree-refl, ok-agrees, Agrees, viewResult, storing-agrees, storing-sized, storing-order, storing-state}
+use Rattle.promise.specs.tables.CallRefines.{Agree, held-agrees, ok-agrees, Agrees, viewResult, storing-agrees, storing-sized, storing-order, storing-state}
 use Rattle.promise.specs.tables.CallVerdicts.{format-verdict, format-numbered, flush-verdict, flush-numbered, write-verdict, write-numbered, reset-verdict, reset-numbered}
 use Rattle.volume.specs.laws.CallStoresFit.{flush-stores-fit, reset-stores-fit, format-stores-fit, write-stores-fit}
 
@@ -69,6 +66,7 @@ pub record Refines (g : Geometry) (s : System (onTables g)) (c : Call) (named : 
   pub new : State  -- the code's state
   pub result-is : resultOn g c named (s .state) stop (s .memory) ≡ storingOn g (verdictNumber verdict) stores new (s .state) stop (s .memory)
   pub verdict-is : verdict ≡ firstRefusal (callOf g (lengthsOf (s .memory)) c (isSet named) (viewState (s .state)) (deviceOf g (s .memory)) .refusals)
+  pub made-is : madeOn g c named (s .state) stop (s .memory) ≡ madeBy verdict stores stop
   pub has-number : Numbered verdict
   pub same : verdict ≡ accept → stores ≡ callOf g (lengthsOf (s .memory)) c (isSet named) (viewState (s .state)) (deviceOf g (s .memory)) .stores
   pub fit : verdict ≡ accept → FitsAll g (callOf g (lengthsOf (s .memory)) c (isSet named) (viewState (s .state)) (deviceOf g (s .memory)) .stores) (deviceOf g (s .memory))
@@ -86,6 +84,14 @@ module _ (g : Geometry) (ok : Valid g) (s : System (onTables g)) (o : TablesOk g
   -- what it leaves is, as the rules see it, what their call leaves
   pub call-agrees : Agrees g (onDevice g (lengthsOf (s .memory)) .call c (isSet named) (viewState (s .state)) stop (deviceOf g (s .memory))) (viewResult g (resultOn g c named (s .state) stop (s .memory)))
   call-agrees = rw (r .result-is, ← r .verdict-is) (storing-agrees g (s .memory) (r .verdict) (r .has-number) (r .stores) (k .stores) (r .new) (s .state) (k .state) stop (o .sized) (r .same) (r .fit) (r .agree))
+
+  -- and the stores made are those of their call
+  pub made-same : madeOn g c named (s .state) stop (s .memory) ≡ madeStores (callOf g (lengthsOf (s .memory)) c (isSet named) (viewState (s .state)) (deviceOf g (s .memory))) stop
+  made-same = r .made-is ∙ go (r .verdict) refl ∙ ap (λ (v : Verdict). madeBy v (k .stores) stop) (r .verdict-is)
+    where
+      go : (v : Verdict) → r .verdict ≡ v → madeBy v (r .stores) stop ≡ madeBy v (k .stores) stop
+      go (refuse n) e = refl
+      go accept e = ap (take stop) (r .same e)
 
   -- so the event keeps the invariant
   pub call-event : Duty g (onTables g) s (calls c named stop) → TablesOk g (next g (onTables g) s (calls c named stop))
@@ -111,27 +117,6 @@ module _ (g : Geometry) (ok : Valid g) (s : System (onTables g)) (o : TablesOk g
           ok-agrees g (modeAfter (b .answer) (s .mode)) (s .lost) (b .memory) (a .state) (b .state) (noted (s .ledger) (noteOf g c (shownBy g (isSet named) (deviceOf g (s .memory)) (b .memory)) (replyTo (b .answer)))) (call-agrees .state-agrees)
           (rw (call-agrees .answer-same, call-agrees .memory-same) at kept)
 
--- ---- a format's state
-pub fresh-records : (g : Geometry) → Valid g → (x : ℕ) → length (freshState g x .zones) ≡ 16
-unfolding freshState
-fresh-records g ok x = fill-long (λ z. freshRecord) blankRecord 16 (g .zones) (ok .zones-most)
-
-pub fresh-agrees : (g : Geometry) → Valid g → (x : ℕ) → Agree g (formatState x) (viewState (freshState g x))
-fresh-agrees g ok x = record {
-  lost-same = sym (format-views g x 0 (omega (arith, ok .zones-least)) .0);
-  generation-same = λ z h. sym (format-views g x z h .1);
-  condition-same = λ z h. sym (format-views g x z h .2);
-}
-
--- ---- an accepted write or reset is of a zone of the volume
-write-zone : (g : Geometry) (l : TableLengths) (named : ℕ → Bool) (state : StateView) (a count : ℕ) (buffer : List ℕ) (v : Device) → firstRefusal (writeCall g l named state a count buffer v .refusals) ≡ accept → zoneOf g a < g .zones
-unfolding writeRows
-write-zone g l named state a count buffer v e = ltb-true (zoneOf g a) (g .zones) (not-not (ltb (zoneOf g a) (g .zones)) (accepted-row (writeCall g l named state a count buffer v .refusals) e 8))
-
-reset-zone : (g : Geometry) (l : TableLengths) (named : ℕ → Bool) (state : StateView) (z : ℕ) (v : Device) → firstRefusal (resetCall g l named state z v .refusals) ≡ accept → z < g .zones
-unfolding resetRows
-reset-zone g l named state z v e = ltb-true z (g .zones) (not-not (ltb z (g .zones)) (accepted-row (resetCall g l named state z v .refusals) e 8))
-
 -- ---- the calls but mount (MountRefines.antt)
 module _ (g : Geometry) (ok : Valid g) (s : System (onTables g)) (o : TablesOk g s) (named : List Bool) (n : NamesAll g (onTables g) s named) where
   abbrev t : Tables
@@ -146,26 +131,23 @@ module _ (g : Geometry) (ok : Valid g) (s : System (onTables g)) (o : TablesOk g
   abbrev fine : pointersBad g named (t .written) (t .durable) ≡ false
   fine = pointers-fine g s named n o
 
-  record-in : (z : ℕ) → z < g .zones → z < length (s .state .zones)
-  record-in z h = omega (arith, h, ok .zones-most, o .records)
-
-  pub write-refines : (a count : ℕ) (buffer : List ℕ) (stop : ℕ) → Refines g s (writes a count buffer) named stop
+  pub write-refines : (asked : WriteAsked) (stop : ℕ) → Refines g s (writes asked) named stop
   unfolding writeOn
-  write-refines a count buffer stop =
-      let z = zoneOf g a in
-      let k = callOf g (lengthsOf t) (writes a count buffer) (isSet named) st w in
-      let y = lostIn g (isSet named) st in
+  write-refines asked stop =
+      let k = callOf g (lengthsOf t) (writes asked) (isSet named) st w in
+      let same = write-verdict g named t fine (s .state) (asked .address) (asked .count) (length (asked .buffer)) in
       record {
         verdict = firstRefusal (k .refusals);
         stores = k .stores;
-        new = writtenState (s .state) y z (pointerOf (s .state) z + count);
-        result-is = rw (write-verdict g named t fine (s .state) a count (length buffer)) refl;
+        new = stateHeld maxZones (k .state);
+        result-is = rw same refl;
+        made-is = rw same refl;
         verdict-is = refl;
-        has-number = write-numbered g named t (s .state) a count (length buffer);
+        has-number = write-numbered g named t (s .state) (asked .address) (asked .count) (length (asked .buffer));
         same = λ p. refl;
-        fit = λ p. write-stores-fit g named (s .state) a count buffer t (write-verdict g named t fine (s .state) a count (length buffer) ∙ p);
-        long = λ p. rw length-set (o .records);
-        agree = λ p e. agree-refl g (k .state) (viewState (writtenState (s .state) y z (pointerOf (s .state) z + count))) (sym (written-state g (s .state) y z count buffer (record-in z (write-zone g (lengthsOf t) (isSet named) st a count buffer w p))));
+        fit = λ p. write-stores-fit g named (s .state) (asked .address) (asked .count) (asked .buffer) t (same ∙ p);
+        long = λ p. held-long 16 (k .state) (omega arith);
+        agree = λ p e. held-agrees g 16 (k .state) (ok .zones-most);
       }
 
   pub flush-refines : (stop : ℕ) → Refines g s flushes named stop
@@ -175,50 +157,51 @@ module _ (g : Geometry) (ok : Valid g) (s : System (onTables g)) (o : TablesOk g
       record {
         verdict = firstRefusal (k .refusals);
         stores = k .stores;
-        new = withLost (s .state) (lostIn g (isSet named) st);
+        new = stateHeld maxZones (k .state);
         result-is = rw (flush-verdict g named t fine (s .state)) refl;
+        made-is = rw (flush-verdict g named t fine (s .state)) refl;
         verdict-is = refl;
         has-number = flush-numbered g named t (s .state);
         same = λ p. refl;
         fit = λ p. flush-stores-fit g named (s .state) t (flush-verdict g named t fine (s .state) ∙ p);
-        long = λ p. o .records;
-        agree = λ p e. agree-refl g (k .state) (k .state) refl;
+        long = λ p. held-long 16 (k .state) (omega arith);
+        agree = λ p e. held-agrees g 16 (k .state) (ok .zones-most);
       }
 
   pub reset-refines : (z stop : ℕ) → Refines g s (resets z) named stop
   unfolding resetOn
   reset-refines z stop =
       let k = callOf g (lengthsOf t) (resets z) (isSet named) st w in
-      let y = lostIn g (isSet named) st in
       record {
         verdict = firstRefusal (k .refusals);
         stores = k .stores;
-        new = withReset (s .state) z y;
+        new = stateHeld maxZones (k .state);
         result-is = rw (reset-verdict g named t fine (s .state) z) refl;
+        made-is = rw (reset-verdict g named t fine (s .state) z) refl;
         verdict-is = refl;
         has-number = reset-numbered g named t (s .state) z;
         same = λ p. refl;
         fit = λ p. reset-stores-fit g named (s .state) z t (reset-verdict g named t fine (s .state) z ∙ p);
-        long = λ p. rw length-set (o .records);
-        agree = λ p e. agree-refl g (k .state) (viewState (withReset (s .state) z y)) (sym (reset-views (s .state) z y (record-in z (reset-zone g (lengthsOf t) (isSet named) st z w p))));
+        long = λ p. held-long 16 (k .state) (omega arith);
+        agree = λ p e. held-agrees g 16 (k .state) (ok .zones-most);
       }
 
   pub format-refines : (array stop : ℕ) → Refines g s (formats array) named stop
   unfolding formatOn
   format-refines array stop =
       let k = callOf g (lengthsOf t) (formats array) (isSet named) st w in
-      let y = leftOut g (isSet named) in
       record {
         verdict = firstRefusal (k .refusals);
         stores = k .stores;
-        new = freshState g y;
+        new = stateHeld (g .zones) (k .state);
         result-is = rw (format-verdict g named t fine) refl;
+        made-is = rw (format-verdict g named t fine) refl;
         verdict-is = refl;
         has-number = format-numbered g named t;
         same = λ p. refl;
         fit = λ p. format-stores-fit g named array t (format-verdict g named t fine ∙ p);
-        long = λ p. fresh-records g ok y;
-        agree = λ p e. fresh-agrees g ok y;
+        long = λ p. held-long (g .zones) (k .state) (ok .zones-most);
+        agree = λ p e. held-agrees g (g .zones) (k .state) (omega arith);
       }
 
 -- ---- cuts and losses

@@ -9,7 +9,7 @@ use mathlib.Core.List.{List, [], _∷_, _++_, append-nil, List·Memᴰ}
 use lib.Dec.{eqb}
 use Rattle.tables.specs.meaning.Basics.{pick}
 use Rattle.tables.specs.laws.Lists.{mem-nil}
-use Rattle.tables.specs.meaning.Device.{ZoneView, Device, Store, append, reset, flush, apply, applyAll, ZoneCut, Cut}
+use Rattle.tables.specs.meaning.Device.{ZoneView, Device, Store, append, reset, flush, apply, applyAll, ZoneCut, Cut, Loss}
 use Rattle.tables.specs.laws.Local.{LocalStore, appendHere, resetHere, flushHere, applyHere, applyAllHere, localStore, localStores, local-is, local-append}
 use Rattle.tables.specs.meaning.Cached.{Caching, uncached, applyCaching, applyAllCaching, LeftOf, CachingCut}
 
@@ -125,3 +125,8 @@ module _ (x : ℕ) (c : Caching) (w : Device) (h : CachingCut x c w) where
       go : (q : Dec (d ≡ x)) → ZoneCut (view d y q) (w d y)
       go (yes q) = absurd (n q)
       go (no m) = side (caching-cut-at x c w h d y m)
+
+-- ---- the loss of drive x: the others' caches stay as they are
+pub record CachingLoss (x : ℕ) (c k : Caching) : Type 0 where
+  pub now-same : Loss x (c .now) (k .now)
+  pub was-same : (d z : ℕ) → d ≢ x → k .was d z ≡ c .was d z

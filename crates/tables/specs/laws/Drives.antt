@@ -1,4 +1,4 @@
--- The drives of a volume that has lost one; laws of finding a drive.
+-- Laws of finding a drive, and of the drives of a volume that has lost one.
 use mathlib.Core.Path.{_≡_, refl, sym, _∙_}
 use mathlib.Core.Logic.{_≢_, _⊎_, inl, inr}
 use mathlib.Core.Bool.{Bool, true, false, _&&_, not, true≢false}
@@ -11,13 +11,7 @@ use borrow.Author.Tests.{ltb-true, lt-ltb, eq-eqb, ne-eqb}
 use Rattle.tables.specs.meaning.Basics.{pick}
 use Rattle.tables.specs.laws.Basics.{and-split}
 use Rattle.tables.specs.declared.Geometry.{Geometry}
-use Rattle.tables.specs.meaning.Drives.{noDrive, findBelow}
-
--- the drives of a volume that has lost drive x (or noDrive)
-abbrev pub presentBut : Geometry → ℕ → ℕ → Bool
-presentBut g x d = ltb d (g .drives) && not (eqb d x)
-
--- laws
+use Rattle.tables.specs.meaning.Drives.{noDrive, findBelow, presentBut}
 
 pub find-below-cong : (p q : ℕ → Bool) (n : ℕ) → ((k : ℕ) → k < n → p k ≡ q k) → findBelow p n ≡ findBelow q n
 find-below-cong p q zero h = refl

@@ -13,7 +13,7 @@ use Rattle.tables.specs.declared.Geometry.{Geometry}
 use Rattle.tables.specs.laws.Basics.{and-split}
 use Rattle.tables.specs.laws.Greatest.{greatest-le}
 use Rattle.tables.specs.meaning.Geometry.{Valid, log2}
-use Rattle.tables.specs.meaning.GeometryTest.{all, sectorSize, ranges, fits, isValid}
+use Rattle.tables.specs.meaning.GeometryTest.{all, sectorSize, boundTests, fits, isValid}
 
 -- laws
 
@@ -36,9 +36,9 @@ pub record Ranged (g : Geometry) : Type 0 where
   pub capacity-high : g .capacity ≤ 65536
   pub logs-first : g .logs ≡ 0
 
-pub ranged : (g : Geometry) → all (ranges g) ≡ true → Ranged g
+pub ranged : (g : Geometry) → all (boundTests g) ≡ true → Ranged g
 ranged g h =
-    let at = all-at (ranges g) h in
+    let at = all-at (boundTests g) h in
     record {
       drives-low = leb-true _ _ (at 0);
       drives-high = leb-true _ _ (at 1);
@@ -96,7 +96,7 @@ size-is b h = go6 (either _ _ h)
 pub valid-if-test : (g : Geometry) → isValid g ≡ true → Valid g
 unfolding isValid
 valid-if-test g h =
-    let (p, q) = and-split (all (ranges g)) (all (fits g)) h in
+    let (p, q) = and-split (all (boundTests g)) (all (fits g)) h in
     let r = ranged g p in
     let z = size-is (g .sector) (r .size) in
     let at = all-at (fits g) q in
@@ -121,7 +121,7 @@ valid-if-test g h =
 -- where the logs lie is not handed in
 pub first-if-test : (g : Geometry) → isValid g ≡ true → g .logs ≡ 0
 unfolding isValid
-first-if-test g h = ranged g (and-split (all (ranges g)) (all (fits g)) h .0) .logs-first
+first-if-test g h = ranged g (and-split (all (boundTests g)) (all (fits g)) h .0) .logs-first
 
 power-size : (k : ℕ) → 64 ≤ 2 ^ k → 2 ^ k ≤ 4096 → k ≤ 16 → sectorSize (2 ^ k) ≡ true
 power-size zero l m h = absurd (omega arith)
@@ -154,7 +154,7 @@ pub test-if-valid : (g : Geometry) → Valid g → g .logs ≡ 0 → isValid g �
 unfolding isValid
 test-if-valid g v first =
     let m : g .capacity % g .unit ≡ 0 = rw (v .whole-units) (mul-mod-left (v .units) (g .unit)) in
-    both (all (ranges g)) (all (fits g))
+    both (all (boundTests g)) (all (fits g))
     (rw (le-leb 3 (g .drives) (v .drives-least), le-leb (g .drives) 8 (v .drives-most), is-size (g .sector) (v .sector) (v .sector-least) (v .sector-most), le-leb 1 (g .unit) (v .unit-least), le-leb (g .unit) 16 (v .unit-most), le-leb 1 (g .zones) (v .zones-least), le-leb (g .zones) 16 (v .zones-most), le-leb (g .capacity) 65536 (v .zone-most), eq-eqb (g .logs) 0 first) refl)
     (rw (le-leb (32 + 8 * g .zones) (g .sector) (v .counters-fit), eq-eqb (g .capacity % g .unit) 0 m, le-leb (g .zones * (1 + g .unit) + 2 * g .unit + 1) (g .capacity) (v .logs-fit), le-leb (g .zones + 6) (g .capacity) (v .general-fits)) refl)
 

@@ -55,6 +55,3 @@ greatest-is p n m h f g = go (decLt m (greatest p n))
     go : Dec (m < greatest p n) → greatest p n ≡ m
     go (yes l) = absurd (true≢false (sym (greatest-all p n m l) ∙ g (omega (arith, greatest-le p n))))
     go (no l) = omega (arith, greatest-max p n m h f)
-
-pub greatest-mono : (p q : ℕ → Bool) (n : ℕ) → ((k : ℕ) → k < n → p k ≡ true → q k ≡ true) → greatest p n ≤ greatest q n
-greatest-mono p q n h = greatest-max q n (greatest p n) (greatest-le p n) (λ k l. h k (omega (arith, greatest-le p n)) (greatest-all p n k l))

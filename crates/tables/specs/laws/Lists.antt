@@ -8,7 +8,7 @@ use native.Mathlib.Numerals.{add-one}
 use native.Mathlib.Omega.{arith}
 use mathlib.Core.List.{List, [], _∷_, List·Memᴰ, List·Memᴰ·head, List·Memᴰ·tail, _++_, map, append-nil, append-assoc}
 use lib.ListN.{length, take, length-append, replicate, set, getD, drop, length-drop, take-append-drop, List·getD-append, length-set}
-use lib.Seq.{take-at, drop-append-add, drop-drop, take-append-seam, take-nil, take-append-le, take-length, drop-length, length-take-le, getD-append-add, getD-take, getD-drop, paste, paste-zero, paste-suc}
+use lib.Seq.{take-at, drop-append-add, drop-drop, take-append-seam, take-nil, take-length, drop-length, length-take-le, getD-append-add, getD-take, getD-drop, paste, paste-zero, paste-suc}
 use Rattle.tables.specs.laws.Basics.{or-cases, or-left, or-right}
 use Rattle.tables.specs.meaning.Lists.{anyOf, isNil, concat, overlay}
 
@@ -33,13 +33,6 @@ prefix-nil xs = record { rest = xs; is = refl }
 
 pub prefix-length : {A : Type 0} {xs ys : List A} → Prefix xs ys → length xs ≤ length ys
 prefix-length {xs = xs} p = omega (arith, simp length-append at (ap length (p .is)))
-
--- two prefixes of one list
-pub prefix-linear : {A : Type 0} (xs ys zs : List A) → Prefix xs zs → Prefix ys zs → length xs ≤ length ys → Prefix xs ys
-prefix-linear xs ys zs p q h =
-    let e : take (length xs) ys ≡ xs =
-    sym (take-append-le (length xs) ys (q .rest) h) ∙ rw (q .is) (rw (← p .is) (take-append-seam xs (p .rest))) in
-    rw (← e) (prefix-take (length xs) ys)
 
 pub prefix-is-take : {A : Type 0} (xs ys : List A) → Prefix xs ys → xs ≡ take (length xs) ys
 prefix-is-take xs ys p = sym (rw (← p .is) (take-append-seam xs (p .rest)))

@@ -8,7 +8,7 @@ use native.Mathlib.Decide.{decLt}
 use native.Mathlib.Omega.{arith}
 use mathlib.Core.List.{List, [], _∷_, List·Memᴰ, List·Memᴰ·head, List·Memᴰ·tail, _++_, append-nil}
 use lib.Bits.{bitXor}
-use lib.ListN.{length, getD, take, drop, set, length-take, length-drop, take-append-drop}
+use lib.ListN.{length, getD, take, drop, set, take-append-drop}
 use lib.Seq.{getD-take, getD-drop, length-take-le, take-length, take-suc, append-snoc, set-split}
 use Rattle.tables.specs.declared.units.Parts.{Parts}
 use Rattle.tables.specs.meaning.Lists.{overlay}
@@ -79,20 +79,6 @@ overlay-swap xs p q s t hs ht apart =
         go (yes l) m = off k (inl l)
         go (no l) (yes m) = on k (out k (omega arith) m apart)
         go (no l) (no m) = off k (inr (omega arith))
-
--- n numbers outside the part
-pub overlay-apart : (xs : List ℕ) (p : ℕ) (s : List ℕ) (q n : ℕ) → p + length s ≤ length xs → (p + length s ≤ q) ⊎ (q + n ≤ p) → take n (drop q (overlay xs p s)) ≡ take n (drop q xs)
-overlay-apart xs p s q n h apart = numbers-same (take n (drop q (overlay xs p s))) (take n (drop q xs)) (simp (length-take, length-drop, length-overlay xs p s h)) at
-  where
-    out : (k : ℕ) → k < n → (p + length s ≤ q) ⊎ (q + n ≤ p) → (q + k < p) ⊎ (p + length s ≤ q + k)
-    out k l (inl a) = inr (omega arith)
-    out k l (inr a) = inl (omega arith)
-
-    at : (k : ℕ) → k < length (take n (drop q (overlay xs p s))) → getD (take n (drop q (overlay xs p s))) k 0 ≡ getD (take n (drop q xs)) k 0
-    at k m =
-        let l : k < n = omega (arith, length-take n (drop q (overlay xs p s))) in
-        getD-take n (drop q (overlay xs p s)) k 0 l ∙ getD-drop q (overlay xs p s) k 0 ∙ overlay-at-apart xs p s (q + k) h (out k l apart)
-        ∙ sym (getD-take n (drop q xs) k 0 l ∙ getD-drop q xs k 0)
 
 -- ---- a loop that lays several lists at once
 -- after i turns: the first i numbers of each list are laid at its place

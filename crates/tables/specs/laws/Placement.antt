@@ -79,14 +79,6 @@ module _ (D p : ℕ) (hp : p < D) where
       let (a, b) = unit-of-drive (unitDrive D p j) (unit-drive-below j) (unit-not-parity j h) in
       unit-injective (unitOf D p (unitDrive D p j)) j (omega arith) (omega arith) b
 
-  -- every drive of a row is the parity's or exactly one unit's
-  pub row-drive : (d : ℕ) → d < D → (d ≡ p) ⊎ ((j : ℕ) × (j + 1 < D) × (unitDrive D p j ≡ d) × ((i : ℕ) → i + 1 < D → unitDrive D p i ≡ d → i ≡ j))
-  row-drive d h = go (ℕ-discrete d p)
-    where
-      go : Dec (d ≡ p) → (d ≡ p) ⊎ ((j : ℕ) × (j + 1 < D) × (unitDrive D p j ≡ d) × ((i : ℕ) → i + 1 < D → unitDrive D p i ≡ d → i ≡ j))
-      go (yes e) = inl e
-      go (no n) = let (a, b) = unit-of-drive d h n in inr (unitOf D p d, a, b, λ i k e. unit-injective i (unitOf D p d) (omega arith) (omega arith) (e ∙ sym b))
-
 -- ---- what needs no condition on drives and units
 module _ (D U : ℕ) where
   -- code divides by k, a stripe's length: the quotient is the stripe, and from the rest it has unit and row

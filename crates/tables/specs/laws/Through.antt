@@ -10,7 +10,7 @@ use borrow.Author.Tests.{eq-eqb, ne-eqb}
 use Rattle.tables.specs.meaning.Basics.{pick}
 use Rattle.tables.specs.laws.Lists.{map-append}
 use Rattle.tables.specs.meaning.Phases.{onPresent, flushAll}
-use Rattle.tables.specs.meaning.Device.{ZoneView, Device, Store, append, reset, flush, storeDrive, appended, blankZone, putZone, apply, applyAll, Cut}
+use Rattle.tables.specs.meaning.Device.{ZoneView, Device, Store, append, reset, flush, storeDrive, appended, blankZone, putZone, apply, applyAll}
 use Rattle.tables.specs.meaning.Through.{through, carry}
 
 abbrev pub OneToOne : (ℕ → ℕ) → Type 0
@@ -42,11 +42,6 @@ through-apply ρ (flush d) v i = refl
 pub through-apply-all : (ρ : ℕ → ℕ → ℕ) (xs : List Store) (v : Device) → ((d : ℕ) → OneToOne (ρ d)) → through ρ (applyAll (map (carry ρ) xs) v) ≡ applyAll xs (through ρ v)
 through-apply-all ρ [] v i = refl
 through-apply-all ρ (x ∷ xs) v i = through-apply-all ρ xs (apply (carry ρ x) v) i ∙ ap (applyAll xs) (through-apply ρ x v (i (storeDrive x)))
-
--- a cut, seen, is a cut of what is seen
-pub through-cut : (ρ : ℕ → ℕ → ℕ) (x : ℕ) (v w : Device) → Cut x v w → Cut x (through ρ v) (through ρ w)
-unfolding Cut
-through-cut ρ x v w c d y n = c d (ρ d y) n
 
 -- ---- carried stores are on the same drives
 pub carry-drive : (ρ : ℕ → ℕ → ℕ) (x : Store) → storeDrive (carry ρ x) ≡ storeDrive x

@@ -7,7 +7,7 @@ use native.Mathlib.Omega.{arith}
 use native.Mathlib.Decide.{ℕ-discrete}
 use mathlib.Core.List.{List, [], _∷_}
 use lib.ListN.{length, getD, take, set, replicate}
-use native.Mathlib.Nat.{le-refl, not-suc-le-zero, le-of-suc-le-suc, mod-lt, zero-lt-suc}
+use native.Mathlib.Nat.{not-suc-le-zero, le-of-suc-le-suc, mod-lt, zero-lt-suc}
 use lib.Bits.{bitXor, differ, xor-step, xor-comm, xor-self, xor-zero-l}
 use lib.Arith.{bin-ind, digits-div, digits-mod}
 use borrow.Author.Tests.{ne-eqb}
@@ -92,19 +92,6 @@ xor-below-split f i (suc n) h = go (ℕ-discrete i n) (λ k. xor-below-split f i
     go : Dec (i ≡ n) → (i < n → xorBelow f n ≡ xorBytes (xorBelow (without f i) n) (f i)) → xorBelow f (suc n) ≡ xorBytes (xorBelow (without f i) (suc n)) (f i)
     go (yes e) ih = rw (← e) (rw (without-self f i, xor-nil) (ap (λ (r : List ℕ). xorBytes r (f i)) (xor-below-cong f (without f i) i (λ k l. sym (without-other f i k (omega arith))))))
     go (no e) ih = rw (without-other f i n (omega arith), ih (omega arith)) (simp (xor-bytes-assoc, xor-bytes-comm (f i) (f n)))
-
--- parity and all members but i give member i
-pub rebuild-member : (B : ℕ) (f : ℕ → List ℕ) (n i : ℕ) → ((k : ℕ) → k < n → length (f k) ≡ B) → i < n
-    → xorBytes (xorBelow (without f i) n) (xorBelow f n) ≡ f i
-rebuild-member B f n i h l =
-    rw (xor-below-split f i n l) (xor-bytes-cancel (xorBelow (without f i) n) (f i) (rw (h i l) (xor-below-length B (without f i) n short)))
-  where
-    short : (k : ℕ) → k < n → length (without f i k) ≤ B
-    short k m = go (ℕ-discrete k i)
-      where
-        go : Dec (k ≡ i) → length (without f i k) ≤ B
-        go (yes e) = rw (e, without-self f i) zero-le
-        go (no e) = rw (without-other f i k e, h k m) (le-refl B)
 
 -- a member from the others, known by other means and no longer than it, and the exclusive or of all
 pub rebuild-among : (f g : ℕ → List ℕ) (n i : ℕ) (x : List ℕ) → i < n → ((k : ℕ) → k < n → k ≢ i → g k ≡ f k) → ((k : ℕ) → k < n → length (f k) ≤ length (f i)) → x ≡ xorBelow f n

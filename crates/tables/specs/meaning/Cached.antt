@@ -1,14 +1,13 @@
 -- Drives that cache a zone reset until flushed (document 02, 2.4). Beside the device stands what its caches remember: of each drive and zone the views that it
 -- had just before each reset since the drive's last flush. A cut leaves of each place what a cut leaves of its view, or of a remembered one: "until then a cut
 -- may leave the zone as one just before that reset could", also where sectors were appended since. A drive whose resets last at once is covered: laws/Cached.
-use mathlib.Core.Path.{_≡_}
 use mathlib.Core.Logic.{_≢_, _⊎_}
 use mathlib.Core.Bool.{_&&_}
 use Prim.Native.Nat.{ℕ}
 use mathlib.Core.List.{List, [], _∷_, List·Memᴰ}
 use lib.Dec.{eqb}
 use Rattle.tables.specs.meaning.Basics.{pick}
-use Rattle.tables.specs.meaning.Device.{ZoneView, Device, Store, append, reset, flush, apply, ZoneCut, Loss}
+use Rattle.tables.specs.meaning.Device.{ZoneView, Device, Store, append, reset, flush, apply, ZoneCut}
 
 pub record Caching : Type 0 where
   pub now : Device
@@ -34,8 +33,3 @@ LeftOf a was b = ZoneCut a b ⊎ ((o : ZoneView) × List·Memᴰ o was × ZoneCu
 
 unfoldable pub CachingCut : ℕ → Caching → Device → Type 0
 CachingCut x c w = (d z : ℕ) → d ≢ x → LeftOf (c .now d z) (c .was d z) (w d z)
-
--- ---- the loss of drive x: the others' caches stay as they are
-pub record CachingLoss (x : ℕ) (c k : Caching) : Type 0 where
-  pub now-same : Loss x (c .now) (k .now)
-  pub was-same : (d z : ℕ) → d ≢ x → k .was d z ≡ c .was d z

@@ -16,17 +16,24 @@ geometryOf d b u l c = record { drives = d; sector = b; unit = u; zones = l; cap
 unfoldable pub log2 : ℕ → ℕ
 log2 b = greatest (λ k. leb (2 ^ suc k) b) 16
 
+-- at most so many drives, and so many zones of a volume
+abbrev pub maxDrives : ℕ
+maxDrives = 8
+
+abbrev pub maxZones : ℕ
+maxZones = 16
+
 -- document 01's bounds on a geometry
 pub record Valid (g : Geometry) : Type 0 where
   pub drives-least : 3 ≤ g .drives
-  pub drives-most : g .drives ≤ 8
+  pub drives-most : g .drives ≤ maxDrives
   pub sector : g .sector ≡ 2 ^ log2 (g .sector)
   pub sector-least : 64 ≤ g .sector
   pub sector-most : g .sector ≤ 4096
   pub unit-least : 1 ≤ g .unit
   pub unit-most : g .unit ≤ 16
   pub zones-least : 1 ≤ g .zones
-  pub zones-most : g .zones ≤ 16
+  pub zones-most : g .zones ≤ maxZones
   pub counters-fit : 32 + 8 * g .zones ≤ g .sector
   pub units : ℕ  -- units in a physical zone
   pub whole-units : g .capacity ≡ units * g .unit
@@ -43,13 +50,16 @@ stripeSectors g = stripeLength (g .drives) (g .unit)
 unfoldable pub zoneSectors : Geometry → ℕ
 zoneSectors g = (g .drives - 1) * g .capacity
 
--- Z: two logs and a spare zone come before the logical zones
+-- two logs and a spare zone come before the logical zones; Z: the physical zones of a drive
+abbrev pub logZones : ℕ
+logZones = 3
+
 abbrev pub physicalZones : Geometry → ℕ
-physicalZones g = g .zones + 3
+physicalZones g = g .zones + logZones
 
 -- logical zone z lies in this physical zone of every drive
 abbrev pub dataZone : ℕ → ℕ
-dataZone z = 3 + z
+dataZone z = logZones + z
 
 -- the cells of a table of pointers, and the bytes of all sectors
 abbrev pub cells : Geometry → ℕ

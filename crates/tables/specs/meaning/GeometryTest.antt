@@ -4,6 +4,7 @@ use Prim.Native.Nat.{ℕ, _+_, _*_, _%_}
 use mathlib.Core.List.{List, [], _∷_}
 use lib.Dec.{leb, eqb}
 use Rattle.tables.specs.declared.Geometry.{Geometry}
+use Rattle.tables.specs.meaning.Geometry.{maxDrives, maxZones}
 
 -- all of them hold
 abbrev pub all : List Bool → Bool
@@ -16,12 +17,12 @@ abbrev pub sectorSize : ℕ → Bool
 sectorSize b = eqb b 64 || eqb b 128 || eqb b 256 || eqb b 512 || eqb b 1024 || eqb b 2048 || eqb b 4096
 
 -- each field lies in its range
-abbrev pub ranges : Geometry → List Bool
-ranges g =
-    leb 3 (g .drives) ∷ leb (g .drives) 8
+abbrev pub boundTests : Geometry → List Bool
+boundTests g =
+    leb 3 (g .drives) ∷ leb (g .drives) maxDrives
     ∷ sectorSize (g .sector)
     ∷ leb 1 (g .unit) ∷ leb (g .unit) 16
-    ∷ leb 1 (g .zones) ∷ leb (g .zones) 16
+    ∷ leb 1 (g .zones) ∷ leb (g .zones) maxZones
     ∷ leb (g .capacity) 65536
     ∷ eqb (g .logs) 0 ∷ []  -- where the logs lie is found on the drives, not handed in
 
@@ -34,4 +35,4 @@ fits g =
     ∷ leb (g .zones + 6) (g .capacity) ∷ []
 
 unfoldable pub isValid : Geometry → Bool
-isValid g = all (ranges g) && all (fits g)
+isValid g = all (boundTests g) && all (fits g)

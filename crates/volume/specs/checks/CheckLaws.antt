@@ -17,7 +17,7 @@ use Rattle.tables.specs.meaning.Below.{countBelow, tabulate}
 use Rattle.tables.specs.laws.Below.{length-tabulate, getD-tabulate}
 use Rattle.tables.specs.meaning.Drives.{findBelow}
 use Rattle.volume.specs.meaning.Answers.{lostIn}
-use Rattle.tables.specs.meaning.Geometry.{Valid, cells, totalBytes}
+use Rattle.tables.specs.meaning.Geometry.{Valid, cells, totalBytes, maxDrives}
 use Rattle.tables.specs.meaning.GeometryTest.{isValid}
 use Rattle.tables.specs.laws.GeometryTest.{valid-if-test, first-if-test}
 use Rattle.tables.specs.meaning.Tables.{lengthsFit, bufferFits, pointersBad}
@@ -29,7 +29,7 @@ use Rattle.volume.specs.meaning.CallContracts.{viewState, isSet, verdict
 -- ---- the drives of a call
 -- as an array of 8: named and not lost, none past the last drive
 unfoldable pub presentList : Geometry → List Bool → ℕ → List Bool
-presentList g named lost = tabulate (λ d. isSet named d && not (eqb d lost)) (g .drives) ++ replicate (8 - g .drives) false
+presentList g named lost = tabulate (λ d. isSet named d && not (eqb d lost)) (g .drives) ++ replicate (maxDrives - g .drives) false
 
 -- written out, from three drives to eight
 pub present-eight : (g : Geometry) (named : List Bool) (lost : ℕ) → Valid g
@@ -42,7 +42,7 @@ present-eight g named lost ok = go (g .drives) (ok .drives-least) (ok .drives-mo
     f : ℕ → Bool
     f d = isSet named d && not (eqb d lost)
 
-    go : (n : ℕ) → 3 ≤ n → n ≤ 8 → (f 0 ∷ f 1 ∷ f 2 ∷ (ltb 3 n && f 3) ∷ (ltb 4 n && f 4) ∷ (ltb 5 n && f 5) ∷ (ltb 6 n && f 6) ∷ (ltb 7 n && f 7) ∷ []) ≡ tabulate (λ d. isSet named d && not (eqb d lost)) n ++ replicate (8 - n) false
+    go : (n : ℕ) → 3 ≤ n → n ≤ 8 → (f 0 ∷ f 1 ∷ f 2 ∷ (ltb 3 n && f 3) ∷ (ltb 4 n && f 4) ∷ (ltb 5 n && f 5) ∷ (ltb 6 n && f 6) ∷ (ltb 7 n && f 7) ∷ []) ≡ tabulate (λ d. isSet named d && not (eqb d lost)) n ++ replicate (maxDrives - n) false
     go zero l m = absurd (omega arith)
     go (suc zero) l m = absurd (omega arith)
     go (suc (suc zero)) l m = absurd (omega arith)
@@ -72,9 +72,9 @@ present-is g named s = fun-ext λ d. go d (decLt d (g .drives))
     f : ℕ → Bool
     f d = isSet named d && not (eqb d (s .lost))
 
-    go : (d : ℕ) → Dec (d < g .drives) → isSet (tabulate (λ e. isSet named e && not (eqb e (s .lost))) (g .drives) ++ replicate (8 - g .drives) false) d ≡ ltb d (g .drives) && (isSet named d && not (eqb d (s .lost)))
-    go d (yes h) = rw (lt-ltb d (g .drives) h) (List·getD-append (tabulate (λ e. isSet named e && not (eqb e (s .lost))) (g .drives)) (replicate (8 - g .drives) false) false d (rw (length-tabulate (λ e. isSet named e && not (eqb e (s .lost))) (g .drives)) h) ∙ getD-tabulate (λ e. isSet named e && not (eqb e (s .lost))) (g .drives) d false h)
-    go d (no h) = rw (le-ltb d (g .drives) (omega arith)) (past-end (tabulate (λ e. isSet named e && not (eqb e (s .lost))) (g .drives)) (8 - g .drives) d (rw (length-tabulate (λ e. isSet named e && not (eqb e (s .lost))) (g .drives)) (omega arith)))
+    go : (d : ℕ) → Dec (d < g .drives) → isSet (tabulate (λ e. isSet named e && not (eqb e (s .lost))) (g .drives) ++ replicate (maxDrives - g .drives) false) d ≡ ltb d (g .drives) && (isSet named d && not (eqb d (s .lost)))
+    go d (yes h) = rw (lt-ltb d (g .drives) h) (List·getD-append (tabulate (λ e. isSet named e && not (eqb e (s .lost))) (g .drives)) (replicate (maxDrives - g .drives) false) false d (rw (length-tabulate (λ e. isSet named e && not (eqb e (s .lost))) (g .drives)) h) ∙ getD-tabulate (λ e. isSet named e && not (eqb e (s .lost))) (g .drives) d false h)
+    go d (no h) = rw (le-ltb d (g .drives) (omega arith)) (past-end (tabulate (λ e. isSet named e && not (eqb e (s .lost))) (g .drives)) (maxDrives - g .drives) d (rw (length-tabulate (λ e. isSet named e && not (eqb e (s .lost))) (g .drives)) (omega arith)))
 
 pub absent-two : (g : Geometry) (named : List Bool) (s : State) → ltb 1 (countBelow (λ d. not (isSet (presentList g named (s .lost)) d)) (g .drives)) ≡ twoAbsent g (isSet named) (viewState s)
 unfolding twoAbsent
@@ -146,20 +146,6 @@ module _ (g : Geometry) (named : List Bool) (within : Bool) (lost count bytes se
   pub opening-2 : within ≡ true → lengthsFit g sectors (length ws) (length ds) && bufferFits g count bytes ≡ false → 2 ≡ openingFrom g named within lost count bytes sectors ws ds
   unfolding openingFrom
   opening-2 a b = rw (a, b) refl
-
-  pub opening-3 : within ≡ true → lengthsFit g sectors (length ws) (length ds) && bufferFits g count bytes ≡ true → pointersBad g named ws ds ≡ true → 3 ≡ openingFrom g named within lost count bytes sectors ws ds
-  unfolding openingFrom
-  opening-3 a b c = rw (a, b, c) refl
-
-  pub opening-4 : within ≡ true → lengthsFit g sectors (length ws) (length ds) && bufferFits g count bytes ≡ true → pointersBad g named ws ds ≡ false
-      → 1 < countBelow (λ d. not (isSet (presentList g named lost) d)) (g .drives) → 4 ≡ openingFrom g named within lost count bytes sectors ws ds
-  unfolding openingFrom
-  opening-4 a b c d = rw (a, b, c, lt-ltb 1 (countBelow (λ e. not (isSet (presentList g named lost) e)) (g .drives)) d) refl
-
-  pub opening-0 : within ≡ true → lengthsFit g sectors (length ws) (length ds) && bufferFits g count bytes ≡ true → pointersBad g named ws ds ≡ false
-      → countBelow (λ d. not (isSet (presentList g named lost) d)) (g .drives) ≤ 1 → 0 ≡ openingFrom g named within lost count bytes sectors ws ds
-  unfolding openingFrom
-  opening-0 a b c d = rw (a, b, c, le-ltb 1 (countBelow (λ e. not (isSet (presentList g named lost) e)) (g .drives)) d) refl
 
 -- ---- the same where the tables of pointers have their lengths, by what refusal 3 found
 unfoldable pub openedFrom : Geometry → List Bool → ℕ → ℕ → ℕ → ℕ → Bool → ℕ

@@ -15,7 +15,7 @@ use Rattle.tables.specs.declared.Geometry.{Geometry}
 use Rattle.tables.specs.meaning.Basics.{pick}
 use Rattle.tables.specs.meaning.Below.{anyBelow, tabulate}
 use Rattle.tables.specs.laws.Below.{any-below-cong, any-below-false}
-use Rattle.tables.specs.meaning.Geometry.{Valid, physicalZones, cells}
+use Rattle.tables.specs.meaning.Geometry.{Valid, physicalZones, cells, maxDrives}
 use Rattle.tables.specs.meaning.Device.{Device}
 use Rattle.tables.specs.meaning.Tables.{Tables, tablesOf, deviceOf}
 use Rattle.tables.specs.laws.Tables.{device-length}
@@ -35,7 +35,7 @@ use Rattle.volume.specs.meaning.Roles.{Roles, roles, claimOfKind, lacksK
 use Rattle.volume.specs.meaning.Emptying.{InForce, byState, newGeneralSize, newParitySize, unusedIn, staysFull, spareWritten, emptiedFor}
 use Rattle.volume.specs.laws.LogPlaces.{withLogs, withRoles, logsOf, valid-with-logs}
 use Rattle.volume.specs.looking.DriveLogs.{Sized, zonePointer}
-use Rattle.volume.specs.looking.DrivesLost.{fill-at, fill-more}
+use Rattle.volume.specs.laws.FilledArrays.{fill-at, fill-more}
 use Rattle.volume.specs.looking.HiddenLogs.{placesOf, lacking-at, hiddenLogs, hidden-all-long, hidden-tables, roles-durable, sized-with-logs}
 use Rattle.volume.specs.looking.KnowingLaws.{sectors-alike}
 use Rattle.volume.specs.laws.RulesUnread.{heads-alike}
@@ -45,11 +45,11 @@ use Rattle.volume.specs.emptying.ParityCopies.{byPointers}
 
 -- ---- a drive's answer: its log lacks room, it stays full, and the generation of its new log
 abbrev pub driveRoomOf : Bool → Bool → ℕ → DriveRoom
-driveRoomOf lacks full claim = record { lacks = lacks; full = lacks && full; generation = pick (lacks && not full) claim 0 }
+driveRoomOf lacks full zoneClaim = record { lacks = lacks; full = lacks && full; generation = pick (lacks && not full) zoneClaim 0 }
 
 -- that of the drives below n
 abbrev pub roomOf : (ℕ → DriveRoom) → ℕ → LogRoom
-roomOf f n = record { full = anyBelow (λ d. f d .full) n; emptied = tabulate (λ d. f d .lacks) n ++ replicate (8 - n) false; generations = tabulate (λ d. f d .generation) n ++ replicate (8 - n) 0 }
+roomOf f n = record { full = anyBelow (λ d. f d .full) n; emptied = tabulate (λ d. f d .lacks) n ++ replicate (maxDrives - n) false; generations = tabulate (λ d. f d .generation) n ++ replicate (maxDrives - n) 0 }
 
 -- ---- on the tables
 -- what is in force, by the state that a call on a zone is handed
@@ -164,32 +164,32 @@ withAnswer x d a = record { full = x .full || a .full; emptied = set (x .emptied
 pub answered : (f : ℕ → DriveRoom) (d : ℕ) (x : LogRoom) (a : DriveRoom) → d < 8 → a ≡ f d → x ≡ roomOf f d → withAnswer x d a ≡ roomOf f (d + 1)
 answered f d x a h e q = rw (e, q, add-one) (more (fill-more (λ e. f e .lacks) false 8 d h) (fill-more (λ e. f e .generation) 0 8 d h))
   where
-    more : set (tabulate (λ e. f e .lacks) d ++ replicate (8 - d) false) d (f d .lacks) ≡ tabulate (λ e. f e .lacks) (suc d) ++ replicate (8 - suc d) false
-        → set (tabulate (λ e. f e .generation) d ++ replicate (8 - d) 0) d (f d .generation) ≡ tabulate (λ e. f e .generation) (suc d) ++ replicate (8 - suc d) 0
+    more : set (tabulate (λ e. f e .lacks) d ++ replicate (maxDrives - d) false) d (f d .lacks) ≡ tabulate (λ e. f e .lacks) (suc d) ++ replicate (maxDrives - suc d) false
+        → set (tabulate (λ e. f e .generation) d ++ replicate (maxDrives - d) 0) d (f d .generation) ≡ tabulate (λ e. f e .generation) (suc d) ++ replicate (maxDrives - suc d) 0
         → withAnswer (roomOf f d) d (f d) ≡ roomOf f (suc d)
     more p r = λ i. record { full = anyBelow (λ e. f e .full) d || f d .full; emptied = p i; generations = r i }
 
 -- ---- case by case
-pub room-none : (lacks lost : Bool) (claim : ℕ) → lacks ≡ false → driveRoomOf false false 0 ≡ driveRoomOf lacks lost claim
-room-none lacks lost claim e = rw e refl
+pub room-none : (lacks lost : Bool) (zoneClaim : ℕ) → lacks ≡ false → driveRoomOf false false 0 ≡ driveRoomOf lacks lost zoneClaim
+room-none lacks lost zoneClaim e = rw e refl
 
-pub room-new : (lacks lost : Bool) (claim : ℕ) → lacks ≡ true → driveRoomOf true lost claim ≡ driveRoomOf lacks lost claim
-room-new lacks lost claim e = rw e refl
+pub room-new : (lacks lost : Bool) (zoneClaim : ℕ) → lacks ≡ true → driveRoomOf true lost zoneClaim ≡ driveRoomOf lacks lost zoneClaim
+room-new lacks lost zoneClaim e = rw e refl
 
 -- it has room, or stays full whatever the size
 abbrev pub isDone : DriveRoom → Bool
 isDone x = x .full || not (x .lacks)
 
-done-sized : (lacks lost small : Bool) (claim : ℕ) → isDone (driveRoomOf lacks lost claim) ≡ true → driveRoomOf lacks lost claim ≡ driveRoomOf lacks (lost || small) claim
-done-sized true true small claim h = refl
-done-sized true false small claim h = absurd (true≢false (sym h))
-done-sized false lost small claim h = refl
+done-sized : (lacks lost small : Bool) (zoneClaim : ℕ) → isDone (driveRoomOf lacks lost zoneClaim) ≡ true → driveRoomOf lacks lost zoneClaim ≡ driveRoomOf lacks (lost || small) zoneClaim
+done-sized true true small zoneClaim h = refl
+done-sized true false small zoneClaim h = absurd (true≢false (sym h))
+done-sized false lost small zoneClaim h = refl
 
-left-sized : (lacks lost small : Bool) (claim : ℕ) → isDone (driveRoomOf lacks lost claim) ≡ false → pick small (driveRoomOf true true 0) (driveRoomOf lacks lost claim) ≡ driveRoomOf lacks (lost || small) claim
-left-sized true true small claim h = absurd (true≢false h)
-left-sized true false true claim h = refl
-left-sized true false false claim h = refl
-left-sized false lost small claim h = absurd (true≢false h)
+left-sized : (lacks lost small : Bool) (zoneClaim : ℕ) → isDone (driveRoomOf lacks lost zoneClaim) ≡ false → pick small (driveRoomOf true true 0) (driveRoomOf lacks lost zoneClaim) ≡ driveRoomOf lacks (lost || small) zoneClaim
+left-sized true true small zoneClaim h = absurd (true≢false h)
+left-sized true false true zoneClaim h = refl
+left-sized true false false zoneClaim h = refl
+left-sized false lost small zoneClaim h = absurd (true≢false h)
 
 module _ (a : RoomAsked) (size : ℕ) (xs ws ps : List ℕ) (d : ℕ) (x : DriveRoom) (e : x ≡ unsizedAt a xs ws ps d) where
   abbrev small : ℕ → Bool
@@ -204,13 +204,13 @@ module _ (a : RoomAsked) (size : ℕ) (xs ws ps : List ℕ) (d : ℕ) (x : Drive
       rw (q, r) (ap (λ (y : DriveRoom). pick (small size) (driveRoomOf true true 0) y) e ∙ left-sized (lacksAt a ps d) (lostAt a xs ws ps d) (small size) (claimAt a xs ws d) (sym (ap isDone e) ∙ h))
 
 -- the log's claim is one above its generation, which fits a number of 64 bits
-pub worn-claim : (n claim : ℕ) → n < 2 ^ 64 → suc n ≡ claim → eqb n wornGeneration ≡ ltb wornGeneration claim
+pub worn-claim : (n zoneClaim : ℕ) → n < 2 ^ 64 → suc n ≡ zoneClaim → eqb n wornGeneration ≡ ltb wornGeneration zoneClaim
 unfolding wornGeneration
-worn-claim n claim h e = go (ℕ-discrete n wornGeneration)
+worn-claim n zoneClaim h e = go (ℕ-discrete n wornGeneration)
   where
-    go : Dec (n ≡ wornGeneration) → eqb n wornGeneration ≡ ltb wornGeneration claim
-    go (yes q) = eq-eqb n wornGeneration q ∙ sym (lt-ltb wornGeneration claim (omega (arith, q, e)))
-    go (no q) = ne-eqb n wornGeneration q ∙ sym (le-ltb wornGeneration claim (omega (arith, q, e, h)))
+    go : Dec (n ≡ wornGeneration) → eqb n wornGeneration ≡ ltb wornGeneration zoneClaim
+    go (yes q) = eq-eqb n wornGeneration q ∙ sym (lt-ltb wornGeneration zoneClaim (omega (arith, q, e)))
+    go (no q) = ne-eqb n wornGeneration q ∙ sym (le-ltb wornGeneration zoneClaim (omega (arith, q, e, h)))
 
 -- ==== by the rules
 or-turned : (k w s m : Bool) → (k || (w || s)) || m ≡ (m || (k || w)) || s
@@ -284,13 +284,13 @@ module _ (a : RoomAsked) (xs ws ps : List ℕ) (k : Asking a xs ws ps) (ds : Lis
   room-is size = rw (lacks-is, stays-is size, claim-is) refl
 
 -- ---- THE ANSWERS OF ALL DRIVES below n, by what the rules say of each
-module _ (f : ℕ → DriveRoom) (n : ℕ) (emptied stays : ℕ → Bool) (claim : ℕ → ℕ) (are : (d : ℕ) → d < n → f d ≡ driveRoomOf (emptied d) (stays d) (claim d)) where
+module _ (f : ℕ → DriveRoom) (n : ℕ) (emptied stays : ℕ → Bool) (zoneClaim : ℕ → ℕ) (are : (d : ℕ) → d < n → f d ≡ driveRoomOf (emptied d) (stays d) (zoneClaim d)) where
   -- refusal 14
   pub rooms-full : roomOf f n .full ≡ anyBelow (λ d. emptied d && stays d) n
   rooms-full = any-below-cong (λ d. f d .full) (λ d. emptied d && stays d) n (λ d hd. ap (λ (x : DriveRoom). x .full) (are d hd))
 
   pub rooms-emptied : (d : ℕ) → d < n → isSet (roomOf f n .emptied) d ≡ emptied d
-  rooms-emptied d hd = fill-at (λ e. f e .lacks) false false n (8 - n) d hd ∙ ap (λ (x : DriveRoom). x .lacks) (are d hd)
+  rooms-emptied d hd = fill-at (λ e. f e .lacks) false false n (maxDrives - n) d hd ∙ ap (λ (x : DriveRoom). x .lacks) (are d hd)
 
   pub rooms-stay : roomOf f n .full ≡ false → (d : ℕ) → d < n → emptied d ≡ true → stays d ≡ false
   rooms-stay full d hd e = go (emptied d) e (any-below-false (λ i. emptied i && stays i) n d (sym rooms-full ∙ full) hd)
@@ -299,7 +299,7 @@ module _ (f : ℕ → DriveRoom) (n : ℕ) (emptied stays : ℕ → Bool) (claim
       go true q h = h
       go false q h = absurd (true≢false (sym q))
 
-  pub rooms-generation : roomOf f n .full ≡ false → (d : ℕ) → d < n → emptied d ≡ true → getD (roomOf f n .generations) d 0 ≡ claim d
+  pub rooms-generation : roomOf f n .full ≡ false → (d : ℕ) → d < n → emptied d ≡ true → getD (roomOf f n .generations) d 0 ≡ zoneClaim d
   rooms-generation full d hd e =
-      fill-at (λ i. f i .generation) 0 0 n (8 - n) d hd ∙ ap (λ (x : DriveRoom). x .generation) (are d hd)
-      ∙ ap₂ (λ (a b : Bool). pick (a && not b) (claim d) 0) e (rooms-stay full d hd e)
+      fill-at (λ i. f i .generation) 0 0 n (maxDrives - n) d hd ∙ ap (λ (x : DriveRoom). x .generation) (are d hd)
+      ∙ ap₂ (λ (a b : Bool). pick (a && not b) (zoneClaim d) 0) e (rooms-stay full d hd e)

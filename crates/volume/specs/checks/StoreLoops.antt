@@ -1,13 +1,13 @@
 -- Stores made drive by drive, those to a lost drive skipped: the loops' invariants are these lists at the loop's counter.
 use mathlib.Core.Path.{_≡_, refl, ap, sym, _∙_}
 use mathlib.Core.Bool.{Bool, true, false, _&&_}
-use Prim.Native.Nat.{ℕ, zero, suc, _+_, _-_, _≤_, _<_}
+use Prim.Native.Nat.{ℕ, zero, suc, _+_, _≤_}
 use native.Mathlib.Omega.{arith}
 use mathlib.Core.List.{List, [], _∷_, _++_}
-use lib.ListN.{length, set, take, replicate}
+use lib.ListN.{take}
 use Rattle.tables.specs.meaning.Basics.{pick}
 use Rattle.tables.specs.meaning.Below.{eachBelow, tabulate}
-use Rattle.tables.specs.laws.Below.{length-tabulate, take-tabulate}
+use Rattle.tables.specs.laws.Below.{take-tabulate}
 use Rattle.tables.specs.meaning.Device.{Store, storeDrive}
 use Rattle.tables.specs.meaning.Phases.{onPresent}
 use Rattle.tables.specs.laws.Phases.{on-present-append}
@@ -35,16 +35,6 @@ present-due present false x = go (present (storeDrive x))
     go : (b : Bool) → [] ≡ storeIf (b && false) x
     go true = refl
     go false = refl
-
--- ---- an array that is filled in order
-set-at-end : {A : Type 0} (xs : List A) (n : ℕ) (x y : A) → set (xs ++ replicate (suc n) y) (length xs) x ≡ xs ++ (x ∷ []) ++ replicate n y
-set-at-end [] n x y = refl
-set-at-end {A} (z ∷ xs) n x y = ap (λ (r : List A). z ∷ r) (set-at-end xs n x y)
-
-pub fill-more : {A : Type 0} (f : ℕ → A) (x : A) (n d : ℕ) → d < n → set (tabulate f d ++ replicate (n - d) x) d (f d) ≡ tabulate f (suc d) ++ replicate (n - suc d) x
-fill-more {A} f x n d h =
-    let e : n - d ≡ suc (n - suc d) = omega arith in
-    rw e (ap (λ (i : ℕ). set (tabulate f d ++ replicate (suc (n - suc d)) x) i (f d)) (sym (length-tabulate f d)) ∙ set-at-end (tabulate f d) (n - suc d) (f d) x)
 
 -- ---- the generations of a counters entry
 from-more : (f : ℕ → ℕ) (i n : ℕ) → generationsFrom f i (suc n) ≡ generationsFrom f i n ++ (f (i + n) ∷ [])

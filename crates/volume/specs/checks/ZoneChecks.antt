@@ -2,7 +2,7 @@
 -- they are what the rules say of the device that the tables stand for.
 use mathlib.Core.Path.{_≡_, refl, ap}
 use mathlib.Core.Bool.{Bool, true, false, _&&_, _||_, not}
-use Prim.Native.Nat.{ℕ, _-_, _*_, _≤_, _<_}
+use Prim.Native.Nat.{ℕ, _*_, _≤_, _<_}
 use native.Mathlib.Omega.{arith}
 use mathlib.Core.List.{List}
 use lib.ListN.{length, getD}
@@ -29,16 +29,12 @@ use Rattle.volume.specs.meaning.CallContracts.{viewState, recordAt, isSe
 unfoldable pub staleOn : Geometry → (ℕ → Bool) → List ℕ → Condition → ℕ → Bool
 staleOn g present ws c z = anyBelow (λ d. present d && staleIn c (getD ws (cell g d (dataZone z)) 0) (needed (g .drives) (g .unit) z (pointerIn c) d)) (g .drives)
 
--- some present drive has fewer than n sectors of that log unused
-unfoldable pub unusedOn : Geometry → (ℕ → Bool) → List ℕ → ℕ → ℕ → Bool
-unusedOn g present ws log n = anyBelow (λ d. present d && ltb (g .capacity - getD ws (cell g d log) 0) n) (g .drives)
-
 -- reading below `end`, which is at or below pointer n, needs the logs: a drive is absent, and the pointer's own stripe is read
 unfoldable pub needsLog : Geometry → List Bool → ℕ → ℕ → Bool
 needsLog g here n end = ltb 0 (countBelow (λ d. not (isSet here d)) (g .drives)) && ltb (stripeOf (g .drives) (g .unit) n * stripeSectors g) end
 
 -- ---- what passing refusals 4 and 7 gives of a zone with pointer n: at most one drive is absent, and every other has at least what n needs
-pub record Reached (g : Geometry) (here : List Bool) (ws : List ℕ) (z n : ℕ) : Type 0 where
+pub record PointersReach (g : Geometry) (here : List Bool) (ws : List ℕ) (z n : ℕ) : Type 0 where
   pub one-absent : countBelow (λ d. not (isSet here d)) (g .drives) ≤ 1
   pub reaches : (d : ℕ) → d < g .drives → isSet here d ≡ true → needed (g .drives) (g .unit) z n d ≤ getD ws (cell g d (dataZone z)) 0
 
@@ -52,7 +48,7 @@ not-stale-reaches (Open n) written needs h = omega (arith, eqb-true written need
 not-stale-reaches (Sealed n) written needs h = ltb-false written needs h
 not-stale-reaches (Worn n) written needs h = ltb-false written needs h
 
-pub reached : (g : Geometry) (here : List Bool) (ws : List ℕ) (c : Condition) (z : ℕ) → ltb 1 (countBelow (λ d. not (isSet here d)) (g .drives)) ≡ false → staleOn g (isSet here) ws c z ≡ false → Reached g here ws z (pointerIn c)
+pub reached : (g : Geometry) (here : List Bool) (ws : List ℕ) (c : Condition) (z : ℕ) → ltb 1 (countBelow (λ d. not (isSet here d)) (g .drives)) ≡ false → staleOn g (isSet here) ws c z ≡ false → PointersReach g here ws z (pointerIn c)
 unfolding staleOn
 reached g here ws c z h fresh = record {
   one-absent = ltb-false 1 (countBelow (λ d. not (isSet here d)) (g .drives)) h;

@@ -13,7 +13,7 @@ use Rattle.tables.specs.declared.Geometry.{Geometry}
 use Rattle.tables.specs.meaning.Basics.{pick}
 use Rattle.tables.specs.laws.Basics.{and-split}
 use Rattle.tables.specs.meaning.Lists.{concat}
-use Rattle.tables.specs.meaning.Geometry.{physicalZones}
+use Rattle.tables.specs.meaning.Geometry.{physicalZones, maxZones}
 use Rattle.tables.specs.meaning.Device.{ZoneView, Device, Store, storeDrive}
 use Rattle.tables.specs.meaning.Phases.{onPresent, flushAll}
 use Rattle.tables.specs.laws.Phases.{each-on-present}
@@ -29,9 +29,9 @@ use Rattle.volume.specs.meaning.State.{StateView, callPresent, pointerIn
 use Rattle.volume.specs.meaning.Content.{at}
 use Rattle.volume.specs.meaning.Rules.{valueAt, zoneView, viewOf, generalHeads, parityEntries}
 use Rattle.volume.specs.meaning.Refusals.{zoneOf, offsetOf, stale, formatRows, flushRows, resetRows, writeRows, readRows, peekRows}
-use Rattle.volume.specs.meaning.Calls.{formatPhases, formatStores, flushStores, resetPhases, resetStores, writeWith, zoneContent, writeStores}
+use Rattle.volume.specs.meaning.Calls.{formatPhases, formatStores, flushStores, resetPhases, resetStores, writeWith, zoneContent, writeStores, flushState, formatState, resetState, writeState}
 use Rattle.volume.specs.meaning.Answers.{lostIn, leftOut, namedDrives, sectorsIn, placeOf}
-use Rattle.volume.specs.meaning.CallContracts.{viewState, isSet, rolesOf, seenIn, recordAt, pointerOf, verdictNumber, Result, storingOn, withLost, withReset, writtenState, freshState, formatVerdict, formatOn, flushVerdict, flushOn, resetVerdict, resetOn, writeVerdict, writeOn, readNumber, readOn, valuesOn, peekNumber, peekOn, partAt}
+use Rattle.volume.specs.meaning.CallContracts.{viewState, isSet, rolesOf, seenIn, recordAt, pointerOf, verdictNumber, Result, storingOn, formatVerdict, formatOn, flushVerdict, flushOn, resetVerdict, resetOn, writeVerdict, writeOn, readNumber, readOn, valuesOn, peekNumber, peekOn, partAt, stateHeld}
 use Rattle.volume.specs.laws.PassedRows.{format-passed, format-number-accepts, flush-passed, flush-number-accepts, reset-passed, reset-number-accepts, write-passed, write-number-accepts, peek-passed}
 use Rattle.volume.specs.laws.CallStoresFit.{zone-short, call-present-below, format-stores-fit, flush-stores-fit, reset-stores-fit, write-stores-fit}
 use Rattle.volume.specs.laws.Depends.{SameOn, value-depends}
@@ -285,7 +285,7 @@ unfolding formatOn
 format-absent g named array old count =
     let number : Tables → ℕ = λ t. verdictNumber (formatVerdict g named t) in
     let stores = formatStores g (namedDrives g (isSet named)) (leftOut g (isSet named)) array in
-    let new = freshState g (leftOut g (isSet named)) in
+    let new = stateHeld (g .zones) (formatState (leftOut g (isSet named))) in
     record {
       not-read = λ t u same. storing-same g named old count t u same (number t) (number u) (ap verdictNumber (format-same g named t u same)) stores stores (λ e. refl) new new (λ e. refl) (format-on g named array t);
       not-changed = λ t. storing-kept g named old count t (number t) stores new (format-on g named array t);
@@ -296,7 +296,7 @@ unfolding flushOn
 flush-absent g named s count =
     let number : Tables → ℕ = λ t. verdictNumber (flushVerdict g named s t) in
     let stores = flushStores g (callPresent g (isSet named) (viewState s)) in
-    let new = withLost s (lostIn g (isSet named) (viewState s)) in
+    let new = stateHeld maxZones (flushState (lostIn g (isSet named) (viewState s)) (viewState s)) in
     record {
       not-read = λ t u same. storing-same g named s count t u same (number t) (number u) (ap verdictNumber (flush-same g named t u same s)) stores stores (λ e. refl) new new (λ e. refl) (flush-on g named s t);
       not-changed = λ t. storing-kept g named s count t (number t) stores new (flush-on g named s t);
@@ -307,7 +307,7 @@ unfolding resetOn
 reset-absent g named s z count =
     let number : Tables → ℕ = λ t. verdictNumber (resetVerdict g named s z t) in
     let stores : Tables → List Store = λ t. resetAll g (callPresent g (isSet named) (viewState s)) (rolesOf g t) (seenIn g t) (viewState s) z in
-    let new = withReset s z (lostIn g (isSet named) (viewState s)) in
+    let new = stateHeld maxZones (resetState (lostIn g (isSet named) (viewState s)) (viewState s) z) in
     record {
       not-read = λ t u same. storing-same g named s count t u same (number t) (number u) (ap verdictNumber (reset-same g named t u same s z)) (stores t) (stores u) (λ e. reset-stores-same g named t u same s z) new new (λ e. refl) (reset-on g named s z t);
       not-changed = λ t. storing-kept g named s count t (number t) (stores t) new (reset-on g named s z t);
@@ -319,7 +319,7 @@ write-absent g named s a k buffer count =
     let z = zoneOf g a in
     let number : Tables → ℕ = λ t. verdictNumber (writeVerdict g named s a k (length buffer) t) in
     let stores : Tables → List Store = λ t. writeAll g (callPresent g (isSet named) (viewState s)) (rolesOf g t) (seenIn g t) (viewState s) z (sectorsIn g k buffer) in
-    let new = writtenState s (lostIn g (isSet named) (viewState s)) z (pointerOf s z + k) in
+    let new = stateHeld maxZones (writeState (lostIn g (isSet named) (viewState s)) (viewState s) z k) in
     record {
       not-read = λ t u same. storing-same g named s count t u same (number t) (number u) (ap verdictNumber (write-same g named t u same s a k (length buffer))) (stores t) (stores u) (λ e. write-stores-same g named t u same s z (sectorsIn g k buffer)) new new (λ e. refl) (write-on g named s a k buffer t);
       not-changed = λ t. storing-kept g named s count t (number t) (stores t) new (write-on g named s a k buffer t);

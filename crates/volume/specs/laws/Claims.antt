@@ -14,16 +14,16 @@ use Rattle.logs.specs.meaning.Heads.{firstClosing}
 use Rattle.logs.specs.meaning.Walk.{Walked, walk, between, noEntry, decodeAt, inZone}
 use Rattle.logs.specs.laws.Walk.{Reads}
 use Rattle.logs.specs.laws.Closing.{other-bad}
-use Rattle.volume.specs.meaning.Roles.{claim, strength, strengthBy}
+use Rattle.volume.specs.meaning.Roles.{zoneClaim, strength, strengthBy}
 
 -- ---- nothing written, or a log of the other kind
-pub none-claims-none : (g : Geometry) (d : ℕ) (par : Bool) → claim g d par [] ≡ 0
-unfolding claim
+pub none-claims-none : (g : Geometry) (d : ℕ) (par : Bool) → zoneClaim g d par [] ≡ 0
+unfolding zoneClaim
 none-claims-none g d par = refl
 
 -- a walk for the other kind stops at the first header
-pub other-claims-none : (g : Geometry) (d : ℕ) (par : Bool) (h : Header) (ss : List (List ℕ)) → Reads g d par h → claim g d (not par) (encode g d h ∷ ss) ≡ 0
-unfolding claim
+pub other-claims-none : (g : Geometry) (d : ℕ) (par : Bool) (h : Header) (ss : List (List ℕ)) → Reads g d par h → zoneClaim g d (not par) (encode g d h ∷ ss) ≡ 0
+unfolding zoneClaim
 other-claims-none g d par h ss r =
     let q : decodeAt g d (not par) zero (encode g d h) ≡ bad (faultOf (encode g d h)) = ap (inZone g zero) (other-bad g d par h r) in
     let w : walk g d (not par) zero between (encode g d h ∷ ss) ≡ record { entries = []; last = noEntry (faultOf (encode g d h)); position = zero } = rw (q, walk) refl in

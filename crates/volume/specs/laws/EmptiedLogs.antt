@@ -61,11 +61,11 @@ not-full g par r limit size d l e =
     let (a, b) = or-none (ltb (g .capacity - size) limit) (lacksKind (r d) || ltb wornGeneration (claimOfKind par (r d))) e in
     let (c, h) = or-none (lacksKind (r d)) (ltb wornGeneration (claimOfKind par (r d))) b in
     let (m, n) = or-none (eqb (r d .generalClaim) 0) (eqb (r d .parityClaim) 0) c in
-    (omega (arith, l, ltb-false (g .capacity - size) limit a), claim par (eqb-false (r d .generalClaim) 0 m) (eqb-false (r d .parityClaim) 0 n), omega (arith, ltb-false wornGeneration (claimOfKind par (r d)) h))
+    (omega (arith, l, ltb-false (g .capacity - size) limit a), claimed par (eqb-false (r d .generalClaim) 0 m) (eqb-false (r d .parityClaim) 0 n), omega (arith, ltb-false wornGeneration (claimOfKind par (r d)) h))
   where
-    claim : (p : Bool) → r d .generalClaim ≢ 0 → r d .parityClaim ≢ 0 → 1 ≤ claimOfKind p (r d)
-    claim true m n = omega (arith, n)
-    claim false m n = omega (arith, m)
+    claimed : (p : Bool) → r d .generalClaim ≢ 0 → r d .parityClaim ≢ 0 → 1 ≤ claimOfKind p (r d)
+    claimed true m n = omega (arith, n)
+    claimed false m n = omega (arith, m)
 
 -- by a look, the generations in force are rule 2's
 pub look-in-force : (g : Geometry) (present : ℕ → Bool) (x : ℕ) (w : Device) (z : ℕ) → byLook (showing g present x w) .generation z ≡ generationOf g present w z

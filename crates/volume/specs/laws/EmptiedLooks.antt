@@ -20,7 +20,7 @@ use Rattle.logs.specs.meaning.Entry.{parityZone, Entry}
 use Rattle.logs.specs.meaning.Walk.{walkLog}
 use Rattle.logs.specs.meaning.Heads.{endsPast, leastSeal}
 use Rattle.logs.specs.laws.HeadLaws.{least-seal-most, least-seal-below, least-seal-least}
-use Rattle.volume.specs.meaning.Rules.{View, valueOf, knownPrefix, generalHeads, generalEnding, parityEntries, parityEnding, isLost, isPresent, lostDrive, generationOf, resetSeen, sealLimitBelow, sealLimit, servingEntries, viewOf, zoneView, valueAt, pointerAt, sealSeen, endingPast, cleanAt, conditionOf, zoneAt, zoneShown, showing}
+use Rattle.volume.specs.meaning.Rules.{View, valueOf, knownPrefix, generalHeads, generalEnding, parityEntries, parityEnding, isLost, isPresent, generationOf, resetSeen, sealLimitBelow, sealLimit, servingEntries, viewOf, zoneView, valueAt, pointerAt, sealSeen, endingPast, cleanAt, conditionOf, zoneAt, zoneShown, showing}
 use Rattle.volume.specs.meaning.Refusals.{twoLost, badLabels, isNoEntry, badLogs}
 use Rattle.volume.specs.meaning.Roles.{Roles}
 use Rattle.volume.specs.meaning.Emptying.{InForce}
@@ -95,9 +95,6 @@ module _ (g : Geometry) (present : ℕ → Bool) (f : InForce) (r : ℕ → Role
   pub present-same : (named : ℕ → Bool) → isPresent g named w1 ≡ isPresent g named w
   unfolding isPresent
   present-same named i d = ltb d (g .drives) && not (lost-same named d i)
-
-  pub lost-drive-same : (named : ℕ → Bool) → lostDrive g named w1 ≡ lostDrive g named w
-  lost-drive-same named i = findBelow (λ d. lost-same named d i) (g .drives)
 
   pub two-lost-same : (named : ℕ → Bool) → twoLost g named w1 ≡ twoLost g named w
   unfolding twoLost

@@ -20,19 +20,18 @@ use Rattle.tables.specs.declared.Geometry.{Geometry}
 use Rattle.tables.specs.meaning.Geometry.{dataZone}
 use Rattle.tables.specs.meaning.Placement.{needed}
 use Rattle.tables.specs.meaning.Device.{Device, Store}
-use Rattle.logs.specs.meaning.Entry.{parityZone, label, seal, Entry}
-use Rattle.logs.specs.meaning.Walk.{sectorsOf}
-use Rattle.logs.specs.meaning.Heads.{lastCounters, generationIn, isSealAt, endsAt}
+use Rattle.logs.specs.meaning.Entry.{parityZone, label, seal}
+use Rattle.logs.specs.meaning.Heads.{lastCounters, generationIn, isSealAt}
 use Rattle.volume.specs.meaning.State.{isSealed}
-use Rattle.volume.specs.meaning.Content.{contentAt, insideStripe, parityDriveAt, entryAt}
+use Rattle.volume.specs.meaning.Content.{contentAt}
 use Rattle.volume.specs.meaning.Rules.{Shown, generalHeads, generationOf, pointerAt, zoneAt, zoneShown, showing}
 use Rattle.volume.specs.meaning.Calls.{appendAll, appendGeneral}
 use Rattle.volume.specs.meaning.Roles.{Roles}
 use Rattle.volume.specs.meaning.Emptying.{InForce}
-use Rattle.volume.specs.meaning.Mount.{labelStep, countersDiffer, sealStep, missingRows, tornRowStep, fillStep, entryStep}
+use Rattle.volume.specs.meaning.Mount.{labelStep, countersDiffer, sealStep, missingRows, tornRowStep, fillStep}
 use Rattle.volume.specs.laws.EmptiedLogs.{Emptied, kept-heads}
 use Rattle.volume.specs.laws.EmptiedSays.{lost-alike, seal-at-alike, emptied-count}
-use Rattle.volume.specs.laws.EmptiedLooks.{data-same, entries-same, parity-ending-same, pointer-own}
+use Rattle.volume.specs.laws.EmptiedLooks.{data-same, parity-ending-same, pointer-own}
 
 -- lists for each number, where they agree below the end
 each-below-same : (f h : ℕ → List Store) (n : ℕ) → ((z : ℕ) → z < n → f z ≡ h z) → eachBelow f n ≡ eachBelow h n
@@ -55,13 +54,6 @@ module _ (g : Geometry) (present : ℕ → Bool) (f : InForce) (r : ℕ → Role
   fill-step-same s i =
       eachBelow (λ d. eachBelow (λ z. appendAll d (dataZone z) (tabulateFrom (contentAt (g .drives) (g .unit) z (s .zone z .value) d) (length (data-same g present f r emptied w w1 k d z i))
       (needed (g .drives) (g .unit) z (s .zone z .pointer) d - length (data-same g present f r emptied w w1 k d z i)))) (g .zones)) (g .drives)
-
-  pub entry-step-same : (s : Shown) → entryStep g s w1 ≡ entryStep g s w
-  unfolding entryStep
-  entry-step-same s i =
-      eachBelow (λ d. eachBelow (λ z. pick (insideStripe g (s .zone z .pointer) && (eqb d (parityDriveAt g z (s .zone z .pointer))
-      && not (anyOf (λ (e : Entry). endsAt g z (s .zone z .generation) (s .zone z .pointer) (e .head)) (entries-same g present f r emptied w w1 k d i))))
-      (appendAll d parityZone (sectorsOf g d true (entryAt g z (s .zone z .generation) (s .zone z .value) (s .zone z .pointer)))) []) (g .zones)) (g .drives)
 
   -- seals, by the look before: no present drive has a current one below the pointer
   module _ (x : ℕ) where

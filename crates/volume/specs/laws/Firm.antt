@@ -1,26 +1,23 @@
 -- Roles that no cut can change (Firm): the counting logs claim their kind in whatever a cut keeps of them, and no beginning of the spare
--- claims as much. Every store outside an emptying keeps them, and is then the same store of the device by its roles.
-use mathlib.Core.Path.{_≡_, refl, sym, ap, _∙_, fun-ext}
+-- claims as much. A cut of such a device is a cut of the device by its roles.
+use mathlib.Core.Path.{_≡_, refl, sym, ap, _∙_}
 use mathlib.Core.Logic.{_≢_, _⊎_, inl, inr}
-use mathlib.Core.Bool.{Bool, true, false, _&&_, _||_}
+use mathlib.Core.Bool.{Bool, true, false}
 use Prim.Native.Nat.{ℕ, zero, suc, _+_, _-_, _≤_, _<_, min}
-use native.Mathlib.Nat.{le-trans}
-use native.Mathlib.Decide.{ℕ-discrete, decLt}
+use native.Mathlib.Decide.{decLt}
 use native.Mathlib.Omega.{arith}
-use mathlib.Core.List.{List, [], _∷_, _++_}
-use lib.ListN.{length, take, length-take, length-append}
-use lib.Seq.{take-all, take-take, take-append-le}
+use mathlib.Core.List.{List}
+use lib.ListN.{length, take, length-take}
+use lib.Seq.{take-all, take-take}
 use lib.Dec.{eqb, leb}
 use borrow.Author.Tests.{ne-eqb, le-leb, lt-leb}
-use Rattle.tables.specs.meaning.Basics.{pick}
 use Rattle.tables.specs.laws.Basics.{Tri, lt, eq, gt, tri}
-use Rattle.tables.specs.meaning.Device.{ZoneView, Device, Store, append, reset, flush, storeDrive, appended, blankZone, flushed, putZone, apply, ZoneCut, Cut}
-use Rattle.tables.specs.laws.Device.{put-zone-same, put-zone-other-zone, put-zone-other-drive, At, at, here, otherDrive, otherZone, apply-frame, cut-at}
-use Rattle.tables.specs.meaning.Through.{through, carry}
-use Rattle.tables.specs.laws.Through.{carry-drive, OneToOne, through-apply}
+use Rattle.tables.specs.meaning.Device.{ZoneView, Device, ZoneCut, Cut}
+use Rattle.tables.specs.laws.Device.{at, cut-at}
+use Rattle.tables.specs.laws.Through.{OneToOne}
 use Rattle.tables.specs.declared.Geometry.{Geometry}
 use Rattle.logs.specs.code.Judge.{and-false}
-use Rattle.volume.specs.meaning.Roles.{strength, strongest, otherThan, Roles, rolesBy, rolesIn, roles, zoneOfRole, placedBy, seenAs, driveByRoles, byRoles}
+use Rattle.volume.specs.meaning.Roles.{strength, strongest, Roles, rolesIn, roles, zoneOfRole, placedBy, seenAs, driveByRoles, byRoles}
 
 -- ---- three zones, each in one role
 pub record Proper (r : Roles) : Type 0 where
@@ -195,92 +192,14 @@ alike-cut g d y a b c = rw (c .is) (record {
   fronts = λ k. (min k (c .kept), λ par. rw (take-of-take k (c .kept) (a .sectors)) refl);
 })
 
--- a flush
-pub alike-flushed : (g : Geometry) (d y : ℕ) (a : ZoneView) → a .durable ≤ length (a .sectors) → Alike g d y a (flushed a)
-alike-flushed g d y a h = record { cuts = λ k l. (k, le-trans h l, λ par. refl); fronts = λ k. (k, λ par. refl) }
-
--- an append that changes no claim
-pub record Quiet (g : Geometry) (d y : ℕ) (ss : List (List ℕ)) (s : List ℕ) : Type 0 where
-  pub claims : (par : Bool) → strength g d par y (ss ++ (s ∷ [])) ≡ strength g d par y ss
-
-quiet-take : (g : Geometry) (d y : ℕ) (ss : List (List ℕ)) (s : List ℕ) → Quiet g d y ss s → (par : Bool) (k : ℕ) → strength g d par y (take k (ss ++ (s ∷ []))) ≡ strength g d par y (take k ss)
-quiet-take g d y ss s q par k = go (decLt (length ss) k)
-  where
-    go : Dec (length ss < k) → strength g d par y (take k (ss ++ (s ∷ []))) ≡ strength g d par y (take k ss)
-    go (yes h) = rw (take-all k (ss ++ (s ∷ [])) (rw length-append (omega arith)), take-all k ss (omega arith)) (q .claims par)
-    go (no h) = rw (take-append-le k ss (s ∷ []) (omega arith)) refl
-
-pub alike-appended : (g : Geometry) (d y : ℕ) (a : ZoneView) (s : List ℕ) → Quiet g d y (a .sectors) s → Alike g d y a (appended s a)
-alike-appended g d y a s q = record { cuts = λ k h. (k, h, λ par. quiet-take g d y (a .sectors) s q par k); fronts = λ k. (k, λ par. quiet-take g d y (a .sectors) s q par k) }
-
--- ---- so: cuts, flushes, stores elsewhere, quiet appends
+-- so a cut keeps them
 pub firm-cut : (g : Geometry) (x : ℕ) (v w : Device) (d : ℕ) (r : Roles) → d ≢ x → Cut x v w → Firm g v d r → Firm g w d r
 firm-cut g x v w d r n c f = firm-alike g v w d r f (λ y h. alike-cut g d y (v d y) (w d y) (cut-at x v w c d y n))
 
-pub firm-flush : (g : Geometry) (v : Device) (e d : ℕ) (r : Roles) → ((y : ℕ) → y < 3 → v d y .durable ≤ length (v d y .sectors)) → Firm g v d r → Firm g (apply (flush e) v) d r
-firm-flush g v e d r ok f = firm-alike g v (apply (flush e) v) d r f (λ y h. go y h (eqb d e))
-  where
-    go : (y : ℕ) → y < 3 → (b : Bool) → Alike g d y (v d y) (pick b (flushed (v d y)) (v d y))
-    go y h true = alike-flushed g d y (v d y) (ok y h)
-    go y h false = alike-self g d y (v d y)
-
--- zone z of drive e became a: that zone is like what it was, or it is none of the first three, or of another drive
-pub firm-put : (g : Geometry) (v : Device) (e z : ℕ) (a : ZoneView) (d : ℕ) (r : Roles) → Alike g e z (v e z) a ⊎ ((3 ≤ z) ⊎ (d ≢ e)) → Firm g v d r → Firm g (putZone v e z a) d r
-firm-put g v e z a d r o f = firm-alike g v (putZone v e z a) d r f (λ y h. go y h (at e z d y) o)
-  where
-    go : (y : ℕ) → y < 3 → At e z d y → Alike g e z (v e z) a ⊎ ((3 ≤ z) ⊎ (d ≢ e)) → Alike g d y (v d y) (putZone v e z a d y)
-    go y h (otherDrive n) q = rw (put-zone-other-drive v e z a d y n) (alike-self g d y (v d y))
-    go y h (otherZone p n) q = rw (put-zone-other-zone v e z a d y n) (alike-self g d y (v d y))
-    go y h (here p q) (inl k) = rw (p, q, put-zone-same v e z a) k
-    go y h (here p q) (inr (inl k)) = absurd (omega (arith, h, k, q))
-    go y h (here p q) (inr (inr k)) = absurd (k p)
-
--- the spare: whatever is put there, as long as no beginning of it claims as much as the counting logs
-pub firm-spare : (g : Geometry) (v : Device) (d : ℕ) (r : Roles) (a : ZoneView) → Firm g v d r
-    → ((k : ℕ) → (strength g d false (r .spare) (take k (a .sectors)) < r .generalClaim) × (strength g d true (r .spare) (take k (a .sectors)) < r .parityClaim))
-    → Firm g (putZone v d (r .spare) a) d r
-firm-spare g v d r a f h =
-    let n = proper-apart r (f .proper) in
-    record {
-      proper = f .proper;
-      general-firm = rw (put-zone-other-zone v d (r .spare) a d (r .general) (n .1)) (f .general-firm);
-      parity-firm = rw (put-zone-other-zone v d (r .spare) a d (r .parity) (n .2)) (f .parity-firm);
-      spare-loses = rw (put-zone-same v d (r .spare) a) h;
-    }
-
--- ---- THE DEVICE BY ITS ROLES: stores and cuts
+-- ---- THE DEVICE BY ITS ROLES
 -- the zones of each drive by its roles now
 abbrev pub places : Geometry → Device → ℕ → ℕ → ℕ
 places g v = placedBy (roles g v)
-
--- a store, carried to its zone, that leaves its drive's roles firm, is that store of the device by its roles
-pub by-roles-apply : (g : Geometry) (v : Device) (x : Store) (r : Roles) → Firm g v (storeDrive x) r → Firm g (apply (carry (places g v) x) v) (storeDrive x) r
-    → byRoles g (apply (carry (places g v) x) v) ≡ apply x (byRoles g v)
-by-roles-apply g v x r f h = fun-ext λ e. fun-ext λ y. go e y (ℕ-discrete e (storeDrive x))
-  where
-    go : (e y : ℕ) → Dec (e ≡ storeDrive x) → byRoles g (apply (carry (places g v) x) v) e y ≡ apply x (byRoles g v) e y
-    go e y (no n) =
-        let p : apply (carry (places g v) x) v e ≡ v e = fun-ext λ t. apply-frame (carry (places g v) x) v e t (λ q. n (q ∙ carry-drive (places g v) x)) in
-        ap (λ (zs : ℕ → ZoneView). driveByRoles g e zs y) p ∙ sym (apply-frame x (byRoles g v) e y n)
-    go e y (yes q) =
-        let ρ : ℕ → ℕ → ℕ = λ t. zoneOfRole r in
-        let i = role-one-to-one r (f .proper) in
-        let a : places g v (storeDrive x) ≡ zoneOfRole r = ap zoneOfRole (firm-roles g v (storeDrive x) r f) in
-        let b : carry (places g v) x ≡ carry ρ x = carried x (places g v) ρ a in
-        let c : byRoles g (apply (carry (places g v) x) v) e y ≡ through ρ (apply (carry (places g v) x) v) e y = rw q (firm-seen g (apply (carry (places g v) x) v) (storeDrive x) r h y) in
-        let k : through ρ (apply (carry ρ x) v) e y ≡ apply x (through ρ v) e y = ap (λ (u : Device). u e y) (through-apply ρ x v i) in
-        let l : through ρ v (storeDrive x) ≡ byRoles g v (storeDrive x) = fun-ext λ t. sym (firm-seen g v (storeDrive x) r f t) in
-        c ∙ ap (λ (s : Store). through ρ (apply s v) e y) b ∙ k ∙ rw q (local-apply x (through ρ v) (byRoles g v) l y)
-      where
-        carried : (x : Store) (ρ σ : ℕ → ℕ → ℕ) → ρ (storeDrive x) ≡ σ (storeDrive x) → carry ρ x ≡ carry σ x
-        carried (append d z s) ρ σ e = ap (λ (f : ℕ → ℕ). append d (f z) s) e
-        carried (reset d z) ρ σ e = ap (λ (f : ℕ → ℕ). reset d (f z)) e
-        carried (flush d) ρ σ e = refl
-
-        local-apply : (x : Store) (u w : Device) → u (storeDrive x) ≡ w (storeDrive x) → (y : ℕ) → apply x u (storeDrive x) y ≡ apply x w (storeDrive x) y
-        local-apply (append d z s) u w e y = ap (λ (f : ℕ → ZoneView). pick (eqb d d && eqb y z) (appended s (f z)) (f y)) e
-        local-apply (reset d z) u w e y = ap (λ (f : ℕ → ZoneView). pick (eqb d d && eqb y z) blankZone (f y)) e
-        local-apply (flush d) u w e y = ap (λ (f : ℕ → ZoneView). pick (eqb d d) (flushed (f y)) (f y)) e
 
 -- a cut of a device with firm roles is a cut of the device by its roles
 pub by-roles-cut : (g : Geometry) (x : ℕ) (v w : Device) (r : ℕ → Roles) → ((d : ℕ) → d ≢ x → Firm g v d (r d)) → Cut x v w → Cut x (byRoles g v) (byRoles g w)

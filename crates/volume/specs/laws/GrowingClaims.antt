@@ -19,7 +19,7 @@ use Rattle.logs.specs.laws.Walk.{wholeEntries, logExtent, walk-lawful, walk-row
 use Rattle.logs.specs.laws.WalkLaws.{entries-in-front, walk-goes-on}
 use Rattle.logs.specs.laws.LogLaws.{whole-entries-mem}
 use Rattle.logs.specs.code.Query.{headsOf}
-use Rattle.volume.specs.meaning.Roles.{claim}
+use Rattle.volume.specs.meaning.Roles.{zoneClaim}
 use Rattle.volume.specs.laws.LogClaims.{fits-one-kind, read-fits}
 use Rattle.volume.specs.laws.GrowingLogs.{Plain, pointer-not-torn, none-not-torn, Grown, Entries, Counted, Lacks}
 
@@ -62,8 +62,8 @@ rows-plain : (g : Geometry) (h : Header) → rowsOf g h ≢ 0 → Plain h
 rows-plain g h n k i e = n (ap (rowsOf g) e)
 
 -- ---- the general log of drive d
-pub general-claim-grows : (g : Geometry) (d : ℕ) (Q : Header → Type 0) (base ss : List (List ℕ)) → Grown g d Q base ss → ((h : Header) → Q h → Plain h) → claim g d false (base ++ ss) ≡ claim g d false base
-unfolding claim
+pub general-claim-grows : (g : Geometry) (d : ℕ) (Q : Header → Type 0) (base ss : List (List ℕ)) → Grown g d Q base ss → ((h : Header) → Q h → Plain h) → zoneClaim g d false (base ++ ss) ≡ zoneClaim g d false base
+unfolding zoneClaim
 general-claim-grows g d Q base ss k plain = ap firstClosing (k .heads-are) ∙ first-front (headsOf (walkLog g d false base)) (k .more) (first-none (k .more) (λ h m. plain h (k .each h m)))
 
 -- ---- the parity log of drive d
@@ -120,8 +120,8 @@ module _ (g : Geometry) (d : ℕ) where
       let more : length (acc ++ (s ∷ [])) + suc n ≡ rowsOf g i = omega (arith, c, length-append acc (s ∷ [])) in
       torn-kept h rs ms ts ss (suc x) (inEntry y i n (acc ++ (s ∷ []))) more e l (rw next at k)
 
-  pub parity-claim-grows : (ss ms ts : List (List ℕ)) → Lacks g d (walkLog g d true ss .last) (length ms) → Entries g d ts → length ss + length (ms ++ ts) ≤ g .capacity → claim g d true (ss ++ (ms ++ ts)) ≡ claim g d true ss
-  unfolding claim
+  pub parity-claim-grows : (ss ms ts : List (List ℕ)) → Lacks g d (walkLog g d true ss .last) (length ms) → Entries g d ts → length ss + length (ms ++ ts) ≤ g .capacity → zoneClaim g d true (ss ++ (ms ++ ts)) ≡ zoneClaim g d true ss
+  unfolding zoneClaim
   parity-claim-grows ss ms ts k p l = go (walkLog g d true ss .last) refl k
     where
       rest : first (walk g d true (zero + length ss + length ms) between ts) ≡ 0
@@ -151,8 +151,8 @@ in-zone-legal g x (legal k) h e = go (leb (x + suc (rowsOf g k)) (g .capacity)) 
     go true q = q
     go false q = absurd (let o : _≡_ {A = ℕ} 0 1 = cc in omega arith)
 
-pub whole-claims-other : (g : Geometry) (d : ℕ) (par : Bool) (ss : List (List ℕ)) → walkLog g d par ss .last ≡ atPointer → claim g d (not par) ss ≡ 0
-unfolding claim
+pub whole-claims-other : (g : Geometry) (d : ℕ) (par : Bool) (ss : List (List ℕ)) → walkLog g d par ss .last ≡ atPointer → zoneClaim g d (not par) ss ≡ 0
+unfolding zoneClaim
 whole-claims-other g d par [] e = refl
 whole-claims-other g d par (s ∷ ss) e = go (decodeAt g d par zero s) refl (decodeAt g d (not par) zero s) refl
   where

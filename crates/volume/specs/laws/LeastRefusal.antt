@@ -3,7 +3,7 @@
 use mathlib.Core.Path.{_≡_, refl, sym, ap, _∙_}
 use mathlib.Core.Logic.{_≢_}
 use mathlib.Core.Bool.{Bool, true, false, _&&_, _||_, not, true≢false}
-use Prim.Native.Nat.{ℕ, _+_}
+use Prim.Native.Nat.{ℕ}
 use native.Mathlib.Omega.{arith}
 use mathlib.Core.List.{List, [], _∷_}
 use lib.ListN.{length}
@@ -14,6 +14,7 @@ use Rattle.tables.specs.meaning.Basics.{pick}
 use Rattle.tables.specs.meaning.Device.{Store}
 use Rattle.tables.specs.meaning.Tables.{Tables, deviceOf}
 use Rattle.tables.specs.declared.Geometry.{Geometry}
+use Rattle.tables.specs.meaning.Geometry.{maxZones}
 use Rattle.volume.specs.declared.State.{State}
 use Rattle.volume.specs.declared.Outcome.{Outcome}
 use Rattle.volume.specs.declared.Answer.{Answer}
@@ -21,11 +22,11 @@ use Rattle.volume.specs.declared.BadPlace.{BadPlace}
 use Rattle.volume.specs.declared.Answer.the-variants.{Finished, Unfinished, Refused}
 use Rattle.volume.specs.meaning.Refusals.{Verdict, refuse, accept, firstRefusal, zoneOf, formatRows, lookRows, mountRows, writeRows, flushRows, resetRows, readRows, peekRows}
 use Rattle.volume.specs.meaning.State.{callPresent}
-use Rattle.volume.specs.meaning.Calls.{flushStores, formatStores}
+use Rattle.volume.specs.meaning.Calls.{flushStores, formatStores, flushState, formatState, resetState, writeState}
 use Rattle.volume.specs.meaning.Emptying.{writeAll, resetAll}
 use Rattle.volume.specs.meaning.Answers.{lostIn, sectorsIn, leftOut, namedDrives, presentIn, lostDriveIn, refusedAt, toldAt}
-use Rattle.volume.specs.meaning.CallContracts.{viewState, isSet, lengthsOf, badIn, rolesOf, seenIn, verdictNumber, storingOn, flushVerdict, withLost, flushOn, resetVerdict, withReset, resetOn, writeVerdict}
-use Rattle.volume.specs.meaning.CallContracts.{writtenState, pointerOf, writeOn, formatVerdict, freshState, formatOn, lookVerdict, lookOn, mountVerdict, mountStoresOn, mountShownOn, badPlaceOn, mountOn, readNumber, readOn, peekNumber}
+use Rattle.volume.specs.meaning.CallContracts.{viewState, isSet, lengthsOf, badIn, rolesOf, seenIn, verdictNumber, storingOn, flushVerdict, flushOn, resetVerdict, resetOn, writeVerdict, stateHeld}
+use Rattle.volume.specs.meaning.CallContracts.{writeOn, formatVerdict, formatOn, lookVerdict, lookOn, mountVerdict, mountStoresOn, mountShownOn, badPlaceOn, mountOn, readNumber, readOn, peekNumber}
 use Rattle.volume.specs.laws.BadPlaces.{refused-same, not-finished, not-unfinished}
 use Rattle.volume.specs.laws.Refusals.{conditionOfRow, accepted-row, Numbered, numbered, nonzero, refusalOrder, inOrder}
 
@@ -162,26 +163,26 @@ module _ (g : Geometry) (named : List Bool) (s : State) (t : Tables) where
   unfolding formatOn formatVerdict formatRows
   format-by-rows array count =
       storing-by-rows _ (refl, refl) g (formatStores g (namedDrives g (isSet named)) (leftOut g (isSet named)) array)
-      (freshState g (leftOut g (isSet named))) s count t
+      (stateHeld (g .zones) (formatState (leftOut g (isSet named)))) s count t
 
   pub flush-by-rows : (count : ℕ) → ByRows (flushRows g (lengthsOf t) (badIn g named t) (isSet named) (viewState s) (deviceOf g t)) (flushOn g named s count t .outcome .answer)
   unfolding flushOn flushVerdict flushRows
   flush-by-rows count =
       storing-by-rows _ (refl, refl) g (flushStores g (callPresent g (isSet named) (viewState s)))
-      (withLost s (lostIn g (isSet named) (viewState s))) s count t
+      (stateHeld maxZones (flushState (lostIn g (isSet named) (viewState s)) (viewState s))) s count t
 
   pub reset-by-rows : (z count : ℕ) → ByRows (resetRows g (lengthsOf t) (badIn g named t) (isSet named) (viewState s) z (rolesOf g t) (seenIn g t)) (resetOn g named s z count t .outcome .answer)
   unfolding resetOn resetVerdict resetRows
   reset-by-rows z count =
       storing-by-rows _ (refl, refl) g (resetAll g (callPresent g (isSet named) (viewState s)) (rolesOf g t) (seenIn g t) (viewState s) z)
-      (withReset s z (lostIn g (isSet named) (viewState s))) s count t
+      (stateHeld maxZones (resetState (lostIn g (isSet named) (viewState s)) (viewState s) z)) s count t
 
   pub write-by-rows : (a k count : ℕ) (buffer : List ℕ)
       → ByRows (writeRows g (lengthsOf t) (badIn g named t) (isSet named) (viewState s) a k (length buffer) (rolesOf g t) (seenIn g t)) (writeOn g named s a k buffer count t .outcome .answer)
   unfolding writeOn writeVerdict writeRows
   write-by-rows a k count buffer =
       storing-by-rows _ (refl, refl) g (writeAll g (callPresent g (isSet named) (viewState s)) (rolesOf g t) (seenIn g t) (viewState s) (zoneOf g a) (sectorsIn g k buffer))
-      (writtenState s (lostIn g (isSet named) (viewState s)) (zoneOf g a) (pointerOf s (zoneOf g a) + k)) s count t
+      (stateHeld maxZones (writeState (lostIn g (isSet named) (viewState s)) (viewState s) (zoneOf g a) k)) s count t
 
   -- (row 6 is answered by the first bad place)
   pub mount-by-rows : (count : ℕ) → AnsweredBy (refusedAt (badPlaceOn g named t)) (mountRows g (lengthsOf t) (badIn g named t) (isSet named) (rolesOf g t) (seenIn g t)) (mountOn g named s count t .outcome .answer)

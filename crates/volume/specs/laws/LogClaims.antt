@@ -18,7 +18,7 @@ use Rattle.logs.specs.meaning.Heads.{firstClosing}
 use Rattle.logs.specs.meaning.Walk.{walkLog}
 use Rattle.logs.specs.code.Steps.{Placed}
 use Rattle.logs.specs.laws.Places.{walk-places}
-use Rattle.volume.specs.meaning.Roles.{claim, strengthBy, strength, strongest, otherThan, rolesIn, zoneOfKind, claimOfKind}
+use Rattle.volume.specs.meaning.Roles.{zoneClaim, strengthBy, strength, strongest, otherThan, rolesIn, zoneOfKind, claimOfKind}
 use Rattle.volume.specs.laws.LogPlaces.{other-apart}
 
 pub suc-positive : (n : ℕ) → ltb 0 (suc n) ≡ true
@@ -52,23 +52,23 @@ module _ (g : Geometry) (d : ℕ) (ss : List (List ℕ)) where
   entries-one-kind (e ∷ es) (f ∷ fs) p q n =
       fits-one-kind g d (readFields g (getD ss zero [])) (read-fits g d false (getD ss zero []) (e .head) (p .0 .reads)) (read-fits g d true (getD ss zero []) (f .head) (q .0 .reads))
 
-  pub claims-one-kind : claim g d false ss ≢ 0 → claim g d true ss ≡ 0
-  unfolding claim
+  pub claims-one-kind : zoneClaim g d false ss ≢ 0 → zoneClaim g d true ss ≡ 0
+  unfolding zoneClaim
   claims-one-kind n = entries-one-kind (walkLog g d false ss .entries) (walkLog g d true ss .entries) (walk-places g d false ss .placed) (walk-places g d true ss .placed) n
 
-  pub claims-other : (par : Bool) → claim g d (not par) ss ≢ 0 → claim g d par ss ≡ 0
+  pub claims-other : (par : Bool) → zoneClaim g d (not par) ss ≢ 0 → zoneClaim g d par ss ≡ 0
   claims-other true n = claims-one-kind n
-  claims-other false n = go (claim g d false ss) refl
+  claims-other false n = go (zoneClaim g d false ss) refl
     where
-      go : (x : ℕ) → claim g d false ss ≡ x → x ≡ 0
+      go : (x : ℕ) → zoneClaim g d false ss ≡ x → x ≡ 0
       go zero e = refl
       go (suc x) e = absurd (n (claims-one-kind (λ q. omega (arith, e, q))))
 
   -- ---- strengths
   -- of a zone in its first place: a log of its kind, unless it claims the other
-  pub home-strength : (par : Bool) → strength g d par (kindOfLog par) ss ≡ pick (eqb (claim g d (not par) ss) 0) (suc (claim g d par ss)) 0
+  pub home-strength : (par : Bool) → strength g d par (kindOfLog par) ss ≡ pick (eqb (zoneClaim g d (not par) ss) 0) (suc (zoneClaim g d par ss)) 0
   unfolding strength
-  home-strength par = go (claim g d par ss) (claim g d (not par) ss) (claims-other par)
+  home-strength par = go (zoneClaim g d par ss) (zoneClaim g d (not par) ss) (claims-other par)
     where
       go : (mine other : ℕ) → (other ≢ 0 → mine ≡ 0) → strengthBy mine other par (kindOfLog par) ≡ pick (eqb other 0) (suc mine) 0
       go zero zero h = rw (eqb-same (kindOfLog par)) refl
@@ -77,9 +77,9 @@ module _ (g : Geometry) (d : ℕ) (ss : List (List ℕ)) where
       go (suc x) (suc y) h = absurd (omega (arith, h (λ e. omega (arith, e))))
 
   -- of any other zone: only by its claim
-  pub moved-strength : (par : Bool) (y : ℕ) → y ≢ kindOfLog par → strength g d par y ss ≡ pick (eqb (claim g d par ss) 0) 0 (suc (claim g d par ss))
+  pub moved-strength : (par : Bool) (y : ℕ) → y ≢ kindOfLog par → strength g d par y ss ≡ pick (eqb (zoneClaim g d par ss) 0) 0 (suc (zoneClaim g d par ss))
   unfolding strength
-  moved-strength par y n = go (claim g d par ss) (claim g d (not par) ss)
+  moved-strength par y n = go (zoneClaim g d par ss) (zoneClaim g d (not par) ss)
     where
       go : (mine other : ℕ) → strengthBy mine other par y ≡ pick (eqb mine 0) 0 (suc mine)
       go zero zero = rw (ne-eqb y (kindOfLog par) n) refl
@@ -87,9 +87,9 @@ module _ (g : Geometry) (d : ℕ) (ss : List (List ℕ)) where
       go (suc x) o = rw (suc-positive x, suc-not-zero x) refl
 
   -- of a log: one above its generation
-  pub strength-claim : (par : Bool) (y : ℕ) → strength g d par y ss ≢ 0 → strength g d par y ss ≡ suc (claim g d par ss)
+  pub strength-claim : (par : Bool) (y : ℕ) → strength g d par y ss ≢ 0 → strength g d par y ss ≡ suc (zoneClaim g d par ss)
   unfolding strength
-  strength-claim par y n = go (claim g d par ss) (claim g d (not par) ss) (eqb y (kindOfLog par)) n
+  strength-claim par y n = go (zoneClaim g d par ss) (zoneClaim g d (not par) ss) (eqb y (kindOfLog par)) n
     where
       go : (mine other : ℕ) (b : Bool) → pick (ltb 0 mine) (suc mine) (pick (ltb 0 other) 0 (pick b 1 0)) ≢ 0 → pick (ltb 0 mine) (suc mine) (pick (ltb 0 other) 0 (pick b 1 0)) ≡ suc mine
       go (suc x) o b k = rw (suc-positive x) refl
@@ -100,7 +100,7 @@ module _ (g : Geometry) (d : ℕ) (ss : List (List ℕ)) where
   -- no zone is a log of both kinds
   pub strengths-one-kind : (y : ℕ) → strength g d false y ss ≢ 0 → strength g d true y ss ≡ 0
   unfolding strength
-  strengths-one-kind y n = go (claim g d false ss) (claim g d true ss) claims-one-kind y n
+  strengths-one-kind y n = go (zoneClaim g d false ss) (zoneClaim g d true ss) claims-one-kind y n
     where
       go : (a b : ℕ) → (a ≢ 0 → b ≡ 0) → (y : ℕ) → strengthBy a b false y ≢ 0 → strengthBy b a true y ≡ 0
       go zero zero h zero k = refl
@@ -135,7 +135,7 @@ module _ (g : Geometry) (d : ℕ) (zs : ℕ → List (List ℕ)) where
           rw (ne-eqb p s k) refl
 
   -- THE GENERATION of a counting log is that of its first closing entry
-  pub log-claim : (par : Bool) → claimOfKind par (rolesIn g d zs) ≢ 0 → claimOfKind par (rolesIn g d zs) ≡ suc (claim g d par (zs (zoneOfKind par (rolesIn g d zs))))
+  pub log-claim : (par : Bool) → claimOfKind par (rolesIn g d zs) ≢ 0 → claimOfKind par (rolesIn g d zs) ≡ suc (zoneClaim g d par (zs (zoneOfKind par (rolesIn g d zs))))
   unfolding rolesIn
   log-claim false n = rw (general-zone n) (strength-claim g d (zs (strongest (strengths false))) false (strongest (strengths false)) n)
   log-claim true n = rw (parity-zone n) (strength-claim g d (zs (strongest (strengths true))) true (strongest (strengths true)) n)

@@ -23,7 +23,7 @@ use Rattle.tables.specs.meaning.Through.{through, carry}
 use Rattle.tables.specs.meaning.Tables.{Tables, tablesOf, movedZone, unsaid, logPlace, logBits, zonePlace, firstCell, cell, zoneAtCell, deviceOf, sectorsAfterAppend, writtenAfterAppend, pointersAfterReset, durableAfterFlush, makeStore, runStores}
 use Rattle.tables.specs.laws.Tables.{device-in, device-outside}
 use Rattle.tables.specs.laws.ZonePlaces.{log-place-unsaid, log-place-said, place-in}
-use Rattle.tables.specs.laws.Made.{WellSized, AllPlaced, Placed, Fits, FitsAll}
+use Rattle.tables.specs.laws.Made.{AllPlaced, Placed, Fits, FitsAll}
 use Rattle.volume.specs.meaning.Roles.{Roles, strength, strongest, otherThan, rolesBy, rolesIn, roles, zoneOfRole, placedBy, emptiedRoles, rolesAfter}
 
 -- ---- definitions
@@ -64,10 +64,7 @@ valid-with-logs g n v = record {
   general-fits = v .general-fits;
 }
 
--- nor do the sizes of tables, and the places and the room that stores need
-pub well-sized-with-logs : (g : Geometry) (n : ℕ) (t : Tables) → WellSized g t → WellSized (withLogs g n) t
-well-sized-with-logs g n t s = record { sectors-long = s .sectors-long; written-long = s .written-long; durable-long = s .durable-long }
-
+-- nor do the places and the room that stores need
 placed-with-logs : (g : Geometry) (n : ℕ) (x : Store) → Placed g x → Placed (withLogs g n) x
 placed-with-logs g n (append d z s) p = p
 placed-with-logs g n (reset d z) p = p

@@ -15,7 +15,7 @@ use Rattle.tables.specs.meaning.Basics.{pick}
 use Rattle.tables.specs.meaning.Device.{Device}
 use Rattle.logs.specs.meaning.Entry.{kindOfLog}
 use Rattle.logs.specs.meaning.Walk.{atPointer, walkLog}
-use Rattle.volume.specs.meaning.Roles.{claim, strengthBy, strength, Roles, roles}
+use Rattle.volume.specs.meaning.Roles.{zoneClaim, strengthBy, strength, Roles, roles}
 use Rattle.volume.specs.laws.Claims.{blank-strength}
 use Rattle.volume.specs.laws.LogClaims.{claims-other, moved-strength, strengths-one-kind, suc-positive}
 use Rattle.volume.specs.laws.GrowingClaims.{whole-claims-other}
@@ -23,23 +23,23 @@ use Rattle.volume.specs.laws.Firm.{Proper, proper-apart, firm-roles}
 
 module _ (g : Geometry) (d : ℕ) where
   -- a log of one kind claims nothing of the other
-  strength-other : (par : Bool) (y : ℕ) (ss : List (List ℕ)) → strength g d par y ss ≢ 0 → claim g d (not par) ss ≡ 0
+  strength-other : (par : Bool) (y : ℕ) (ss : List (List ℕ)) → strength g d par y ss ≢ 0 → zoneClaim g d (not par) ss ≡ 0
   unfolding strength
-  strength-other par y ss n = go (claim g d (not par) ss) refl
+  strength-other par y ss n = go (zoneClaim g d (not par) ss) refl
     where
-      go : (c : ℕ) → claim g d (not par) ss ≡ c → c ≡ 0
+      go : (c : ℕ) → zoneClaim g d (not par) ss ≡ c → c ≡ 0
       go zero e = refl
       go (suc c) e =
-          let mine : claim g d par ss ≡ 0 = claims-other g d ss par (λ q. omega (arith, e, q)) in
+          let mine : zoneClaim g d par ss ≡ 0 = claims-other g d ss par (λ q. omega (arith, e, q)) in
           absurd (n (ap₂ (λ (a b : ℕ). strengthBy a b par y) mine e ∙ rw (suc-positive c) refl))
 
   -- a log that grows and keeps its claim keeps its strength
-  pub grown-strength : (par : Bool) (y : ℕ) (ss us : List (List ℕ)) → strength g d par y ss ≢ 0 → claim g d par us ≡ claim g d par ss → walkLog g d par us .last ≡ atPointer → strength g d par y us ≡ strength g d par y ss
+  pub grown-strength : (par : Bool) (y : ℕ) (ss us : List (List ℕ)) → strength g d par y ss ≢ 0 → zoneClaim g d par us ≡ zoneClaim g d par ss → walkLog g d par us .last ≡ atPointer → strength g d par y us ≡ strength g d par y ss
   unfolding strength
   grown-strength par y ss us n c e = ap₂ (λ (a b : ℕ). strengthBy a b par y) c (whole-claims-other g d par us e ∙ sym (strength-other par y ss n))
 
   -- a log with a closing entry
-  pub closed-strength : (par : Bool) (y : ℕ) (us : List (List ℕ)) (c : ℕ) → claim g d par us ≡ c → 1 ≤ c → strength g d par y us ≡ suc c
+  pub closed-strength : (par : Bool) (y : ℕ) (us : List (List ℕ)) (c : ℕ) → zoneClaim g d par us ≡ c → 1 ≤ c → strength g d par y us ≡ suc c
   unfolding strength
   closed-strength par y us c e l = rw (e, lt-ltb 0 c l) refl
 
@@ -60,7 +60,7 @@ module _ (g : Geometry) (d : ℕ) where
       moved (suc c) e = let q : strength g d par z ss ≡ suc (suc c) = e ∙ rw (ne-eqb (suc c) 0 (λ i. omega (arith, i))) refl in omega (arith, q)
 
       go : Dec (y ≡ kindOfLog par) → strengthBy 0 0 par y < strength g d par z ss
-      go (yes e) = rw (eq-eqb y (kindOfLog par) e) (moved (claim g d par ss) (moved-strength g d ss par z (λ q. n (e ∙ sym q))))
+      go (yes e) = rw (eq-eqb y (kindOfLog par) e) (moved (zoneClaim g d par ss) (moved-strength g d ss par z (λ q. n (e ∙ sym q))))
       go (no e) = rw (ne-eqb y (kindOfLog par) e) (omega (arith, k))
 
 -- the device with all its sectors durable

@@ -4,7 +4,7 @@ use mathlib.Core.Bool.{Bool, true}
 use Prim.Native.Nat.{ℕ, _≤_}
 use native.Mathlib.Decide.{ℕ-discrete}
 use native.Mathlib.Omega.{arith}
-use mathlib.Core.List.{List, [], _++_, map}
+use mathlib.Core.List.{List, _++_, map}
 use lib.ListN.{length}
 use lib.Dec.{eqb}
 use borrow.Author.Tests.{ne-eqb, eqb-true}
@@ -28,8 +28,8 @@ use Rattle.volume.specs.meaning.Refusals.{firstBadPlace, accept, kindLac
 use Rattle.volume.specs.meaning.Roles.{placedBy, zoneOfRole}
 use Rattle.volume.specs.meaning.Emptying.{byLook, emptyGeneral, emptyParity}
 use Rattle.volume.specs.meaning.Answers.{presentIn, lostDriveIn, refusedAt, toldAt}
-use Rattle.volume.specs.meaning.Mount.{spareStep, entryStep, withFlush, withFlushes, stepsBeforeEntries, carryPhases, mountView, mountLook, startRoles, emptiedGeneral, emptiedParity, middleRoles, endRoles, phasesOfLogs, phasesBeforeEntries, phasesOfParityLogs, phasesOfEntries, afterFill, mountStores}
-use Rattle.volume.specs.meaning.CallContracts.{isSet, rolesOf, seenIn, verdictNumber, stateShown, lookVerdict, lookOn, mountVerdict, mountStoresOn, mountShownOn, badPlaceOn, mountOn}
+use Rattle.volume.specs.meaning.Mount.{spareStep, entryStep, withFlush, withFlushes, stepsBeforeEntries, carryPhases, mountView, mountLook, startRoles, emptiedGeneral, emptiedParity, middleRoles, endRoles, phasesOfLogs, phasesBeforeEntries, phasesOfParityLogs, phasesOfEntries, afterFill, mountStores, mountState}
+use Rattle.volume.specs.meaning.CallContracts.{isSet, rolesOf, seenIn, verdictNumber, lookVerdict, lookOn, mountVerdict, mountStoresOn, mountShownOn, badPlaceOn, mountOn, stateHeld}
 use Rattle.volume.specs.laws.PassedRows.{look-passed, look-number-accepts, mount-passed, mount-number-accepts}
 use Rattle.volume.specs.laws.BadPlaces.{first-bad-depends}
 use Rattle.volume.specs.laws.Depends.{SameOn}
@@ -166,7 +166,7 @@ module _ (g : Geometry) (named : List Bool) (t u : Tables) (same : AgreeOn g (is
       number = verdictNumber (lookVerdict g named t)
 
       outcome : Shown → BadPlace → Outcome
-      outcome k b = pick (eqb number 0) (record { answer = Finished; state = stateShown g k }) (record { answer = refusedAt b number; state = old })
+      outcome k b = pick (eqb number 0) (record { answer = Finished; state = stateHeld (g .zones) (mountState k) }) (record { answer = refusedAt b number; state = old })
 
       go : Dec (number ≡ 0) → outcome (showing g (found v) (lostDrive g (isSet named) v) v) (badPlaceOn g named t) ≡ outcome (showing g (found w) (lostDrive g (isSet named) w) w) (badPlaceOn g named u)
       go (yes e) = ap₂ outcome (shown-same (look-passed g named t (look-number-accepts g named t e) .valid .drives-most)) bad-same
@@ -195,7 +195,7 @@ module _ (g : Geometry) (named : List Bool) (t u : Tables) (same : AgreeOn g (is
     state-same =
         let ss = mountStoresOn g (found v) lost t in
         let after = run-agrees g (isSet named) (length ss) ss t u (on .sized) (on .placed) (on .named-only) same in
-        ap (stateShown g) (
+        ap (λ (k : Shown). stateHeld (g .zones) (mountState k)) (
         showing-same g named few (found v) (found-named v) (runStores g (length ss) ss t) (runStores g (length ss) ss u) after lost
         ∙ ap (λ (rs : List Store). showing g (found v) lost (seenIn g (runStores g (length rs) rs u))) stores-same
         ∙ ap₂ (λ (f : ℕ → Bool) (x : ℕ). showing g f x (seenIn g (runStores g (length (mountStoresOn g (found w) (lostDrive g (isSet named) w) u)) (mountStoresOn g (found w) (lostDrive g (isSet named) w) u) u))) found-same lost-same

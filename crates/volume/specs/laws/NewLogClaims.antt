@@ -27,7 +27,7 @@ use Rattle.logs.specs.code.Query.{headsOf}
 use Rattle.volume.specs.meaning.Content.{entryAt}
 use Rattle.volume.specs.meaning.Rules.{generalHeads}
 use Rattle.volume.specs.meaning.Calls.{generationsFrom}
-use Rattle.volume.specs.meaning.Roles.{Roles, claim}
+use Rattle.volume.specs.meaning.Roles.{Roles, zoneClaim}
 use Rattle.volume.specs.meaning.Emptying.{InForce, generalCopies, lastEntry, isCopied, isAtPointer, madeEntry, parityCopies, closingSector, newParity}
 use Rattle.volume.specs.laws.CopyLengths.{last-entry}
 use Rattle.volume.specs.laws.EmptiedLogs.{Emptied, emptied-heads}
@@ -68,8 +68,8 @@ module _ (g : Geometry) (f : InForce) (hs : List Header) where
       go (inr k) = next k
 
 pub emptied-claim : (g : Geometry) (present : ℕ → Bool) (f : InForce) (r : ℕ → Roles) (emptied : ℕ → Bool) (w w1 : Device) → Emptied g present f r emptied w w1 → (d : ℕ) → emptied d ≡ true
-    → claim g d false (w1 d generalZone .sectors) ≡ r d .generalClaim
-unfolding claim generalHeads
+    → zoneClaim g d false (w1 d generalZone .sectors) ≡ r d .generalClaim
+unfolding zoneClaim generalHeads
 emptied-claim g present f r emptied w w1 k d e =
     ap firstClosing (emptied-heads g present f r emptied w w1 k d e) ∙ first-closed (generalCopies g f (generalHeads g w d)) (closing 0 (r d .generalClaim) ∷ []) (general-copies-plain g f (generalHeads g w d))
 
@@ -150,8 +150,8 @@ module _ (g : Geometry) (ok : Valid g) (f : InForce) (d : ℕ) (es : List Entry)
     pub new-parity-ends : walkLog g d true (newParity g f r d es) .last ≡ atPointer
     new-parity-ends = ap (λ (w : Walked). w .last) new-walk
 
-    pub new-parity-claims : claim g d true (newParity g f r d es) ≡ r .parityClaim
-    unfolding claim
+    pub new-parity-claims : zoneClaim g d true (newParity g f r d es) ≡ r .parityClaim
+    unfolding zoneClaim
     new-parity-claims =
         ap (λ (w : Walked). firstClosing (headsOf w)) new-walk ∙ ap firstClosing (map-append (λ (e : Entry). e .head) copied (end ∷ []))
         ∙ first-closed (map (λ (e : Entry). e .head) copied) (closing 1 (r .parityClaim) ∷ []) (heads-plain copied (copies-entries .plain))

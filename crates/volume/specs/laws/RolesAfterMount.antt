@@ -31,7 +31,7 @@ use Rattle.logs.specs.code.Judge.{and-false}
 use Rattle.logs.specs.code.Query.{headsOf}
 use Rattle.volume.specs.meaning.Content.{insideStripe, parityDriveAt}
 use Rattle.volume.specs.meaning.Rules.{Shown, generalHeads, generalEnding, generationOf, parityEntries, parityEnding}
-use Rattle.volume.specs.meaning.Roles.{claim, strength, Roles, roles, byRoles, driveByRoles, seenAs, lacksKind, zoneOfRole, placedBy, emptiedRoles}
+use Rattle.volume.specs.meaning.Roles.{zoneClaim, strength, Roles, roles, byRoles, driveByRoles, seenAs, lacksKind, zoneOfRole, placedBy, emptiedRoles}
 use Rattle.volume.specs.meaning.Emptying.{byLook, isCopied, madeEntry, mountGeneralLimit}
 use Rattle.volume.specs.meaning.Refusals.{kindLacks, badLabels, badLogs, mountFull}
 use Rattle.volume.specs.meaning.Mount.{entryStep, missingRows, withFlush, carryPhases, mountView, mountLook, startRoles, emptiedGeneral, emptiedParity, middleRoles, endRoles, phasesBeforeEntries, phasesOfParityLogs, phasesOfEntries, afterFill, mountStores}
@@ -332,7 +332,7 @@ module _ (g : Geometry) (ok : Valid g) (present : ℕ → Bool) (x : ℕ) (v : D
       let ss = W d parityZone .sectors in
       let n = claims d p .1 in
       let home : strength g d true (R d .parity) ss ≡ R d .parityClaim = ap (strength g d true (R d .parity)) (parity-home d p) ∙ log-strength g d (λ y. v0 d y .sectors) true (λ q. omega (arith, n, q)) in
-      let c : claim g d true (u9 d parityZone .sectors) ≡ claim g d true ss = ap (claim g d true) (filled-parity d p) ∙ parity-claim-grows g d ss (missing d) [] (lacks d p) (no-entries g d) (filled-room d p) in
+      let c : zoneClaim g d true (u9 d parityZone .sectors) ≡ zoneClaim g d true ss = ap (zoneClaim g d true) (filled-parity d p) ∙ parity-claim-grows g d ss (missing d) [] (lacks d p) (no-entries g d) (filled-room d p) in
       ap (λ (y : ℕ). strength g d true y (u9 d parityZone .sectors)) (middle-claims d p .1)
       ∙ grown-strength g d true (R d .parity) ss (u9 d parityZone .sectors) (λ q. omega (arith, q, home, n)) c (filled-ends d p) ∙ home ∙ sym (middle-claims d p .2)
 
@@ -409,7 +409,7 @@ module _ (g : Geometry) (ok : Valid g) (present : ℕ → Bool) (x : ℕ) (v : D
   parity-strength d p =
       let ss = u10 d parityZone .sectors in
       let (ends, strong, n) = whole-parity d p in
-      let c : claim g d true (u11 d parityZone .sectors) ≡ claim g d true ss = ap (claim g d true) (parity-left d p) ∙ parity-claim-grows g d ss [] (added d) (none-lacks d p) (entries-join-parity g ok present x v u10 d) (parity-room d p) in
+      let c : zoneClaim g d true (u11 d parityZone .sectors) ≡ zoneClaim g d true ss = ap (zoneClaim g d true) (parity-left d p) ∙ parity-claim-grows g d ss [] (added d) (none-lacks d p) (entries-join-parity g ok present x v u10 d) (parity-room d p) in
       grown-strength g d true (E d .parity) ss (u11 d parityZone .sectors) (λ q. omega (arith, q, strong, n)) c (parity-whole d p) ∙ strong
 
   -- ---- spares

@@ -24,7 +24,7 @@ use Rattle.volume.specs.meaning.Rules.{generalHeads}
 use Rattle.volume.specs.meaning.Refusals.{mountFull, resetFull, writeFull}
 use Rattle.volume.specs.meaning.Calls.{generationsFrom}
 use Rattle.volume.specs.meaning.Roles.{Roles, claimOfKind, lacksKind}
-use Rattle.volume.specs.meaning.Emptying.{InForce, isCopied, generalCopies, newGeneralSize, copySize, newParitySize, staysFull, spareWritten, reserve, mountGeneralLimit, resetLimit, writeLimit, emptiedFor, emptiedForWrite}
+use Rattle.volume.specs.meaning.Emptying.{InForce, isCopied, generalCopies, newGeneralSize, copySize, newParitySize, staysFull, spareWritten, reserve, mountGeneralLimit, resetLimit, writeLimit, emptiedFor, emptiedForWrite, RoomyGeneral, RoomyParity}
 
 -- ---- how long a log made anew is at most
 last-label-most : (f : ℕ → ℕ) (acc hs : List Header) → length acc ≤ 1 → length (lastLabel f acc hs) ≤ 1
@@ -74,13 +74,7 @@ pub new-parity-most : (g : Geometry) (f : InForce) (d : ℕ) → newParitySize g
 unfolding newParitySize
 new-parity-most g f d = omega (arith, copies-most g f d (g .zones))
 
--- ---- geometries whose logs always have room after copying
-abbrev pub RoomyGeneral : Geometry → Type 0
-RoomyGeneral g = 3 * g .zones + 7 ≤ g .capacity
-
-abbrev pub RoomyParity : Geometry → Type 0
-RoomyParity g = 2 * (g .zones * (1 + g .unit)) + 2 * g .unit + 2 ≤ g .capacity
-
+-- ---- geometries whose logs always have room after copying (RoomyGeneral, RoomyParity)
 -- a log that cannot be emptied, whatever its room: a kind lacks, or it has the last generation
 abbrev pub cannotEmpty : Bool → (ℕ → Roles) → ℕ → Bool
 cannotEmpty par r d = lacksKind (r d) || ltb wornGeneration (claimOfKind par (r d))

@@ -12,7 +12,7 @@ use Rattle.logs.specs.meaning.Entry.{generalZone, parityZone, Header, label, co
 use Rattle.logs.specs.meaning.Heads.{leastSeal, endsPast, endsAt}
 use Rattle.logs.specs.meaning.Walk.{Walked, Ending, atPointer, noEntry, torn}
 use Rattle.volume.specs.meaning.Rules.{generalHeads, generalEnding, parityEntries, parityEnding, isLost, isPresent, lostDrive, generationOf, resetSeen, ParityEntry, sealLimitBelow, sealLimit, servingEntry, servingEntries, zoneView, valueAt, pointerAt, sealSeen, endingPast, cleanAt, zoneAt, zoneShown, showing}
-use Rattle.volume.specs.meaning.Roles.{claim, strength, rolesIn, roles, driveByRoles, byRoles}
+use Rattle.volume.specs.meaning.Roles.{zoneClaim, strength, rolesIn, roles, driveByRoles, byRoles}
 use Rattle.volume.specs.laws.LogPlaces.{withLogs}
 use Rattle.volume.specs.laws.LogsUnread.{walk-log-alike}
 
@@ -140,8 +140,8 @@ module _ (g : Geometry) (n : ℕ) where
   showing-alike present x v = simp (heads-alike, zone-shown-alike)
 
   -- ---- roles
-  claim-alike : (d : ℕ) (par : Bool) (ss : List (List ℕ)) → claim (withLogs g n) d par ss ≡ claim g d par ss
-  unfolding claim
+  claim-alike : (d : ℕ) (par : Bool) (ss : List (List ℕ)) → zoneClaim (withLogs g n) d par ss ≡ zoneClaim g d par ss
+  unfolding zoneClaim
   claim-alike d par ss = simp (walk-log-alike g n)
 
   strength-alike : (d : ℕ) (par : Bool) (y : ℕ) (ss : List (List ℕ)) → strength (withLogs g n) d par y ss ≡ strength g d par y ss

@@ -17,7 +17,7 @@ use Rattle.tables.specs.meaning.Basics.{pick}
 use Rattle.tables.specs.meaning.Below.{eachBelow, tabulateFrom}
 use Rattle.tables.specs.laws.Below.{length-tabulate-from}
 use Rattle.tables.specs.meaning.Lists.{concat}
-use Rattle.tables.specs.meaning.Geometry.{physicalZones, dataZone}
+use Rattle.tables.specs.meaning.Geometry.{physicalZones, dataZone, maxZones}
 use Rattle.tables.specs.laws.Sizes.{zone-small}
 use Rattle.tables.specs.meaning.Placement.{stripeOf, stripeLength, parityDrive}
 use Rattle.tables.specs.meaning.Device.{Store, reset}
@@ -33,9 +33,9 @@ use Rattle.volume.specs.declared.Answer.the-variants.{Finished, Unfinish
 use Rattle.volume.specs.meaning.State.{callPresent}
 use Rattle.volume.specs.meaning.Content.{rowXor, insideStripe, entryAt, parityDriveAt}
 use Rattle.volume.specs.meaning.Refusals.{accept, zoneOf}
-use Rattle.volume.specs.meaning.Calls.{appendAll, appendGeneral, generationsFrom, parityStores, sectorStores, dataStores, entryStores, writeWith, zoneContent, writeStores, flushStores, logsReset, raisedAt, resetPhases, resetStores, formatPhases, formatStores}
+use Rattle.volume.specs.meaning.Calls.{appendAll, appendGeneral, generationsFrom, parityStores, sectorStores, dataStores, entryStores, writeWith, zoneContent, writeStores, flushStores, logsReset, raisedAt, resetPhases, resetStores, formatPhases, formatStores, flushState, formatState, resetState, writeState}
 use Rattle.volume.specs.meaning.Answers.{lostIn, sectorsIn, namedDrives, leftOut}
-use Rattle.volume.specs.meaning.CallContracts.{viewState, isSet, rolesOf, seenIn, recordAt, pointerOf, withLost, withReset, writtenState, freshState, verdictNumber, storingOn, flushVerdict, flushOn, resetVerdict, resetOn, writeVerdict, writeOn, formatVerdict, formatOn}
+use Rattle.volume.specs.meaning.CallContracts.{viewState, isSet, rolesOf, seenIn, recordAt, pointerOf, verdictNumber, storingOn, flushVerdict, flushOn, resetVerdict, resetOn, writeVerdict, writeOn, formatVerdict, formatOn, stateHeld}
 use Rattle.volume.specs.laws.PassedRows.{format-passed, format-number-accepts, flush-passed, flush-number-accepts, reset-passed, reset-number-accepts, write-passed, write-number-accepts}
 use Rattle.volume.specs.meaning.Rules.{generalHeads, parityEntries}
 use Rattle.volume.specs.meaning.Roles.{Roles, zoneOfKind, placedBy, rolesAfter}
@@ -93,7 +93,7 @@ flush-few g named s t e = omega (arith, present-most (callPresent g (isSet named
 pub flush-ends : (g : Geometry) (named : List Bool) (s : State) (t : Tables) → flushOn g named s (2 ^ 32 - 1) t .outcome .answer ≢ Unfinished
 unfolding flushOn
 flush-ends g named s t =
-    covered-ends g (verdictNumber (flushVerdict g named s t)) (flushStores g (callPresent g (isSet named) (viewState s))) (withLost s (lostIn g (isSet named) (viewState s))) s (2 ^ 32 - 1) t (λ e. omega (arith, flush-few g named s t (flush-number-accepts g named t s e)))
+    covered-ends g (verdictNumber (flushVerdict g named s t)) (flushStores g (callPresent g (isSet named) (viewState s))) (stateHeld maxZones (flushState (lostIn g (isSet named) (viewState s)) (viewState s))) s (2 ^ 32 - 1) t (λ e. omega (arith, flush-few g named s t (flush-number-accepts g named t s e)))
 
 -- ==== reset
 own-reset-few : (g : Geometry) (named : List Bool) (s : State) (z : ℕ) (t : Tables) → resetVerdict g named s z t ≡ accept → length (resetStores g (callPresent g (isSet named) (viewState s)) (viewState s) z) ≤ 48
@@ -145,7 +145,7 @@ reset-few g named s z t e =
 pub reset-ends : (g : Geometry) (named : List Bool) (s : State) (z : ℕ) (t : Tables) → resetOn g named s z (2 ^ 32 - 1) t .outcome .answer ≢ Unfinished
 unfolding resetOn
 reset-ends g named s z t =
-    covered-ends g (verdictNumber (resetVerdict g named s z t)) (resetAll g (callPresent g (isSet named) (viewState s)) (rolesOf g t) (seenIn g t) (viewState s) z) (withReset s z (lostIn g (isSet named) (viewState s))) s (2 ^ 32 - 1) t
+    covered-ends g (verdictNumber (resetVerdict g named s z t)) (resetAll g (callPresent g (isSet named) (viewState s)) (rolesOf g t) (seenIn g t) (viewState s) z) (stateHeld maxZones (resetState (lostIn g (isSet named) (viewState s)) (viewState s) z)) s (2 ^ 32 - 1) t
     (λ e. omega (arith, reset-few g named s z t (reset-number-accepts g named t s z e)))
 
 -- ==== format
@@ -176,7 +176,7 @@ format-few g named array t e =
 pub format-ends : (g : Geometry) (named : List Bool) (array : ℕ) (old : State) (t : Tables) → formatOn g named array old (2 ^ 32 - 1) t .outcome .answer ≢ Unfinished
 unfolding formatOn
 format-ends g named array old t =
-    covered-ends g (verdictNumber (formatVerdict g named t)) (formatStores g (namedDrives g (isSet named)) (leftOut g (isSet named)) array) (freshState g (leftOut g (isSet named))) old (2 ^ 32 - 1) t
+    covered-ends g (verdictNumber (formatVerdict g named t)) (formatStores g (namedDrives g (isSet named)) (leftOut g (isSet named)) array) (stateHeld (g .zones) (formatState (leftOut g (isSet named)))) old (2 ^ 32 - 1) t
     (λ e. omega (arith, format-few g named array t (format-number-accepts g named t e)))
 
 -- ==== write: no more than 1 + U for each sector, and the entry
@@ -244,4 +244,4 @@ pub write-ends : (g : Geometry) (named : List Bool) (s : State) (a k : ℕ) (buf
 unfolding writeOn
 write-ends g named s a k buffer t =
     covered-ends g (verdictNumber (writeVerdict g named s a k (length buffer) t)) (writeAll g (callPresent g (isSet named) (viewState s)) (rolesOf g t) (seenIn g t) (viewState s) (zoneOf g a) (sectorsIn g k buffer))
-    (writtenState s (lostIn g (isSet named) (viewState s)) (zoneOf g a) (pointerOf s (zoneOf g a) + k)) s (2 ^ 32 - 1) t (λ e. omega (arith, write-few g named s a k buffer t (write-number-accepts g named t s a k (length buffer) e)))
+    (stateHeld maxZones (writeState (lostIn g (isSet named) (viewState s)) (viewState s) (zoneOf g a) k)) s (2 ^ 32 - 1) t (λ e. omega (arith, write-few g named s a k buffer t (write-number-accepts g named t s a k (length buffer) e)))

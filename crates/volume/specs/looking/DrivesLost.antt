@@ -2,22 +2,20 @@
 -- the first array number.
 use mathlib.Core.Path.{_≡_, refl, sym, ap, _∙_, fun-ext}
 use mathlib.Core.Bool.{Bool, true, false, _&&_, _||_, not}
-use Prim.Native.Nat.{ℕ, zero, suc, _+_, _-_, _≤_, _<_}
+use Prim.Native.Nat.{ℕ, _+_, _-_, _≤_, _<_}
 use native.Mathlib.Decide.{decLt}
-use native.Mathlib.Numerals.{add-one}
 use native.Mathlib.Omega.{arith}
-use mathlib.Core.List.{List, [], _∷_, _++_}
-use lib.ListN.{length, getD, set, replicate, length-set, length-append, length-replicate, List·getD-append}
-use lib.Seq.{getD-append-add}
+use mathlib.Core.List.{List, [], _++_}
+use lib.ListN.{getD, replicate}
 use lib.Dec.{ltb, eqb}
 use borrow.Author.Tests.{lt-ltb, le-ltb, ne-eqb}
 use Rattle.tables.specs.declared.Geometry.{Geometry}
 use Rattle.tables.specs.meaning.Basics.{pick}
 use Rattle.tables.specs.meaning.Below.{anyBelow, countBelow, tabulate}
-use Rattle.tables.specs.laws.Below.{any-below-cong, count-below-cong, length-tabulate, getD-tabulate}
+use Rattle.tables.specs.laws.Below.{any-below-cong, count-below-cong}
 use Rattle.tables.specs.meaning.Drives.{findBelow, noDrive}
 use Rattle.tables.specs.laws.Drives.{find-below-cong}
-use Rattle.tables.specs.meaning.Geometry.{Valid}
+use Rattle.tables.specs.meaning.Geometry.{Valid, maxDrives}
 use Rattle.tables.specs.meaning.Device.{Device, ZoneView, blankZone}
 use Rattle.tables.specs.meaning.Tables.{tablesOf}
 use Rattle.tables.specs.laws.Tables.{device-outside}
@@ -28,45 +26,9 @@ use Rattle.logs.specs.meaning.Heads.{labelled, arrayIn, lastLost}
 use Rattle.volume.specs.meaning.Rules.{generalHeads, isLost, isPresent, lostDrive}
 use Rattle.volume.specs.meaning.Refusals.{twoLost}
 use Rattle.volume.specs.meaning.CallContracts.{isSet}
+use Rattle.volume.specs.laws.FilledArrays.{fill-at, fill-past}
 use Rattle.volume.specs.looking.DriveLogs.{saysLost}
 use Rattle.volume.specs.looking.Knowing.{readDevice}
-
--- ---- an array of m, filled from the front: f below n, x from there on
-set-at-end : {A : Type 0} (xs : List A) (n : ℕ) (x y : A) → set (xs ++ replicate (suc n) x) (length xs) y ≡ xs ++ (y ∷ []) ++ replicate n x
-set-at-end [] n x y = refl
-set-at-end (z ∷ xs) n x y = ap (λ (r : List _). z ∷ r) (set-at-end xs n x y)
-
-pub fill-more : {A : Type 0} (f : ℕ → A) (x : A) (m n : ℕ) → n < m → set (tabulate f n ++ replicate (m - n) x) n (f n) ≡ tabulate f (suc n) ++ replicate (m - suc n) x
-fill-more f x m n h =
-    let e : m - n ≡ suc (m - suc n) = omega arith in
-    let l : length (tabulate f n) ≡ n = length-tabulate f n in
-    rw e (ap (λ (i : ℕ). set (tabulate f n ++ replicate (suc (m - suc n)) x) i (f n)) (sym l) ∙ set-at-end (tabulate f n) (m - suc n) x (f n))
-
--- an array of n numbers of which the first z are filled, as a loop does it
-abbrev pub FilledTo : (ℕ → ℕ) → ℕ → ℕ → List ℕ → Type 0
-FilledTo f n z xs = (z ≤ n) × (length xs ≡ n) × (xs ≡ tabulate f z ++ replicate (n - z) 0)
-
-pub filled-turn : (f : ℕ → ℕ) (n z : ℕ) (xs : List ℕ) → z < n → FilledTo f n z xs → FilledTo f n (z + 1) (set xs z (f z))
-filled-turn f n z xs h (a, l, e) = (omega (arith, h), simp length-set l, rw (e, add-one) (fill-more f 0 n z h))
-
-pub filled-end : (f : ℕ → ℕ) (n z : ℕ) (xs : List ℕ) → n ≤ z → FilledTo f n z xs → xs ≡ tabulate f n ++ replicate (n - n) 0
-filled-end f n z xs h (a, l, e) = let q : z ≡ n = omega (arith, h, a) in e ∙ rw q refl
-
-pub fill-long : {A : Type 0} (f : ℕ → A) (x : A) (m n : ℕ) → n ≤ m → length (tabulate f n ++ replicate (m - n) x) ≡ m
-fill-long f x m n h = length-append (tabulate f n) (replicate (m - n) x) ∙ omega (arith, length-tabulate f n, length-replicate (m - n) x, h)
-
-pub fill-at : {A : Type 0} (f : ℕ → A) (x y : A) (n k i : ℕ) → i < n → getD (tabulate f n ++ replicate k x) i y ≡ f i
-fill-at f x y n k i h = List·getD-append (tabulate f n) (replicate k x) y i (rw (length-tabulate f n) h) ∙ getD-tabulate f n i y h
-
-getD-blank : {A : Type 0} (x : A) (n i : ℕ) → getD (replicate n x) i x ≡ x
-getD-blank x zero i = refl
-getD-blank x (suc n) zero = refl
-getD-blank x (suc n) (suc i) = getD-blank x n i
-
-pub fill-past : {A : Type 0} (f : ℕ → A) (x : A) (n k i : ℕ) → n ≤ i → getD (tabulate f n ++ replicate k x) i x ≡ x
-fill-past f x n k i h =
-    let e : i ≡ length (tabulate f n) + (i - n) = omega (arith, length-tabulate f n) in
-    ap (λ (j : ℕ). getD (tabulate f n ++ replicate k x) j x) e ∙ getD-append-add (tabulate f n) (replicate k x) (i - n) x ∙ getD-blank x k (i - n)
 
 -- ---- rule 1
 -- what drive e says: the lost drive, or noDrive
@@ -74,7 +36,7 @@ abbrev pub saidBy : Geometry → List Bool → Device → ℕ → ℕ
 saidBy g named v e = pick (isSet named e) (saysLost (generalHeads g v e)) noDrive
 
 unfoldable pub saidList : Geometry → List Bool → Device → List ℕ
-saidList g named v = tabulate (saidBy g named v) (g .drives) ++ replicate (8 - g .drives) noDrive
+saidList g named v = tabulate (saidBy g named v) (g .drives) ++ replicate (maxDrives - g .drives) noDrive
 
 -- whether some drive says that d is lost
 abbrev pub saidOf : Geometry → List ℕ → ℕ → Bool
@@ -89,7 +51,7 @@ pub said-is : (g : Geometry) (named : List Bool) (v : Device) (d : ℕ) → d < 
     → saidOf g (saidList g named v) d ≡ anyBelow (λ e. isSet named e && (labelled (generalHeads g v e) && eqb (lastLost noDrive (generalHeads g v e)) d)) (g .drives)
 unfolding saidList
 said-is g named v d h = any-below-cong (λ (e : ℕ). eqb (getD (saidList g named v) e 0) d) (λ e. isSet named e && (labelled (generalHeads g v e) && eqb (lastLost noDrive (generalHeads g v e)) d)) (g .drives)
-    (λ e l. ap (λ (x : ℕ). eqb x d) (fill-at (saidBy g named v) noDrive 0 (g .drives) (8 - g .drives) e l) ∙ said-one (isSet named e) (labelled (generalHeads g v e)) (lastLost noDrive (generalHeads g v e)) d h)
+    (λ e l. ap (λ (x : ℕ). eqb x d) (fill-at (saidBy g named v) noDrive 0 (g .drives) (maxDrives - g .drives) e l) ∙ said-one (isSet named e) (labelled (generalHeads g v e)) (lastLost noDrive (generalHeads g v e)) d h)
 
 -- the drives present: named, and said to be lost by none
 abbrev pub presentOf : Geometry → List Bool → List ℕ → ℕ → Bool
@@ -99,16 +61,16 @@ not-or : (a b : Bool) → a && not b ≡ not (not a || b)
 not-or true b = refl
 not-or false b = refl
 
-pub look-present-is : (g : Geometry) (named : List Bool) (v : Device) → Valid g → isSet (tabulate (presentOf g named (saidList g named v)) (g .drives) ++ replicate (8 - g .drives) false) ≡ isPresent g (isSet named) v
+pub look-present-is : (g : Geometry) (named : List Bool) (v : Device) → Valid g → isSet (tabulate (presentOf g named (saidList g named v)) (g .drives) ++ replicate (maxDrives - g .drives) false) ≡ isPresent g (isSet named) v
 unfolding isPresent isLost
 look-present-is g named v ok = fun-ext λ d. go d (decLt d (g .drives))
   where
-    go : (d : ℕ) → Dec (d < g .drives) → isSet (tabulate (presentOf g named (saidList g named v)) (g .drives) ++ replicate (8 - g .drives) false) d ≡ isPresent g (isSet named) v d
+    go : (d : ℕ) → Dec (d < g .drives) → isSet (tabulate (presentOf g named (saidList g named v)) (g .drives) ++ replicate (maxDrives - g .drives) false) d ≡ isPresent g (isSet named) v d
     go d (yes h) =
         let k : d < noDrive = omega (arith, ok .drives-most) in
-        fill-at (presentOf g named (saidList g named v)) false false (g .drives) (8 - g .drives) d h
+        fill-at (presentOf g named (saidList g named v)) false false (g .drives) (maxDrives - g .drives) d h
         ∙ ap (λ (b : Bool). isSet named d && not b) (said-is g named v d k) ∙ not-or (isSet named d) _ ∙ sym (ap (λ (b : Bool). b && not (isLost g (isSet named) v d)) (lt-ltb d (g .drives) h))
-    go d (no h) = fill-past (presentOf g named (saidList g named v)) false (g .drives) (8 - g .drives) d (omega arith) ∙ sym (ap (λ (b : Bool). b && not (isLost g (isSet named) v d)) (le-ltb d (g .drives) (omega arith)))
+    go d (no h) = fill-past (presentOf g named (saidList g named v)) false (g .drives) (maxDrives - g .drives) d (omega arith) ∙ sym (ap (λ (b : Bool). b && not (isLost g (isSet named) v d)) (le-ltb d (g .drives) (omega arith)))
 
 -- lost, below the last drive, is not present
 absent-lost : (g : Geometry) (named : List Bool) (v : Device) (d : ℕ) → d < g .drives → not (isPresent g (isSet named) v d) ≡ isLost g (isSet named) v d

@@ -16,9 +16,8 @@ use borrow.Author.Tests.{lt-ltb, le-ltb, ne-eqb}
 use Rattle.tables.specs.declared.Geometry.{Geometry}
 use Rattle.tables.specs.meaning.Basics.{pick}
 use Rattle.tables.specs.meaning.Below.{tabulate}
-use Rattle.tables.specs.meaning.Geometry.{physicalZones, dataZone, cells}
+use Rattle.tables.specs.meaning.Geometry.{physicalZones, dataZone, cells, maxDrives}
 use Rattle.tables.specs.meaning.Device.{Device, ZoneView, blankZone}
-use Rattle.tables.specs.meaning.Through.{through}
 use Rattle.tables.specs.meaning.Tables.{tablesOf, deviceOf, cell, sectorNo, zoneAtCell, pointersAfterReset}
 use Rattle.tables.specs.laws.ZonePlaces.{place-in}
 use Rattle.tables.specs.laws.Tables.{cell-in, cell-injective, device-in, device-outside}
@@ -26,9 +25,9 @@ use Rattle.logs.specs.meaning.Entry.{generalZone, parityZone}
 use Rattle.volume.specs.declared.roles.LogPlaces.{LogPlaces}
 use Rattle.volume.specs.declared.roles.LogZones.{LogZones}
 use Rattle.volume.specs.meaning.CallContracts.{isSet}
-use Rattle.volume.specs.meaning.Roles.{Roles, roles, rolesIn, zoneOfRole, placedBy, saysNothing, seenAs, driveByRoles, byRoles}
+use Rattle.volume.specs.meaning.Roles.{Roles, roles, rolesIn, zoneOfRole, saysNothing, seenAs, driveByRoles, byRoles}
 use Rattle.volume.specs.laws.LogPlaces.{withLogs, withRoles, logsOf, Proper, roles-proper, cell-by-role, zone-by-role, role-of-other}
-use Rattle.volume.specs.looking.DrivesLost.{fill-at, fill-past, fill-more}
+use Rattle.volume.specs.laws.FilledArrays.{fill-at, fill-more}
 use Rattle.volume.specs.looking.DriveLogs.{Sized}
 use Rattle.volume.specs.looking.Knowing.{readDevice}
 use Rattle.volume.specs.looking.KnowingLaws.{sectors-alike}
@@ -36,17 +35,14 @@ use Rattle.volume.specs.looking.LogZones.{zonesOf}
 
 -- ---- what the code hands on
 abbrev pub lacking : (ℕ → ℕ) → ℕ → List Bool
-lacking f n = tabulate (λ d. eqb (f d) 0) n ++ replicate (8 - n) false
+lacking f n = tabulate (λ d. eqb (f d) 0) n ++ replicate (maxDrives - n) false
 
 abbrev pub placesOf : Geometry → (ℕ → Roles) → LogPlaces
 placesOf g r = record { geometry = withRoles g r; «no_general» = lacking (λ d. r d .generalClaim) (g .drives); «no_parity» = lacking (λ d. r d .parityClaim) (g .drives) }
 
 -- of each drive, whether it lacks the kind
 pub lacking-at : (f : ℕ → ℕ) (n d : ℕ) → d < n → isSet (lacking f n) d ≡ eqb (f d) 0
-lacking-at f n d h = fill-at (λ e. eqb (f e) 0) false false n (8 - n) d h
-
-pub lacking-past : (f : ℕ → ℕ) (n d : ℕ) → n ≤ d → isSet (lacking f n) d ≡ false
-lacking-past f n d h = fill-past (λ e. eqb (f e) 0) false n (8 - n) d h
+lacking-at f n d h = fill-at (λ e. eqb (f e) 0) false false n (maxDrives - n) d h
 
 pub sized-with-logs : (g : Geometry) (n : ℕ) (xs ws : List ℕ) → Sized g xs ws → Sized (withLogs g n) xs ws
 sized-with-logs g n xs ws s = record { sectors-long = s .sectors-long; written-long = s .written-long }
@@ -261,13 +257,3 @@ module _ (g : Geometry) (v : Device) (d : ℕ) where
 
   pub by-roles-data : (z : ℕ) → byRoles g v d (dataZone z) ≡ v d (dataZone z)
   by-roles-data z = by-roles-other (dataZone z) (omega arith) ∙ ap (v d) (role-of-other (roles g v d) (dataZone z) (omega arith))
-
-  pub by-roles-through : roles g v d .generalClaim ≢ 0 → roles g v d .parityClaim ≢ 0 → (z : ℕ) → byRoles g v d z ≡ through (placedBy (roles g v)) v d z
-  unfolding driveByRoles
-  by-roles-through a b z = rw (ne-eqb (roles g v d .generalClaim) 0 a, ne-eqb (roles g v d .parityClaim) 0 b) (go (eqb z 0) (eqb z 1))
-    where
-      go : (x y : Bool) → pick (x && false || (y && false)) (saysNothing (v d (zoneOfRole (roles g v d) z))) (v d (zoneOfRole (roles g v d) z)) ≡ v d (zoneOfRole (roles g v d) z)
-      go true true = refl
-      go true false = refl
-      go false true = refl
-      go false false = refl

@@ -1,6 +1,5 @@
 -- That rule 4 on the tables (Knowing.antt) is rule 4 on the device: held sectors, and rows held as far as an end.
 use mathlib.Core.Path.{_≡_, refl, sym, ap, ap₂, _∙_}
-use mathlib.Core.Logic.{_≢_}
 use mathlib.Core.Bool.{Bool, true, false, _&&_, _||_, not, true≢false}
 use Prim.Native.Nat.{ℕ, zero, suc, _+_, _-_, _*_, _/_, _%_, _≤_, _<_, min}
 use native.Mathlib.Nat.{div-add-mod', mod-lt, mul-le-mul}
@@ -158,12 +157,6 @@ module _ (g : Geometry) (here : List Bool) (xs ws : List ℕ) (z : ℕ) (r : Rea
       go : (b : Bool) → isSet here d ≡ b → b && ltb x (length (readDevice g xs ws d (dataZone z) .sectors)) ≡ b && ltb x (getD ws (cell g d (dataZone z)) 0)
       go true e = ap (λ (n : ℕ). ltb x n) (written-is d (dataZone z) hd e (omega (arith, r .zone-in)))
       go false e = refl
-
-  -- it lies within its zone, and is the one of the tables
-  pub held-within : (d x : ℕ) → d < g .drives → heldOn g here ws z d x ≡ true → (isSet here d ≡ true) × (x < g .capacity)
-  held-within d x hd h =
-      let (p, q) = and-split (isSet here d) (ltb x (getD ws (cell g d (dataZone z)) 0)) h in
-      (p, omega (arith, ltb-true x (getD ws (cell g d (dataZone z)) 0) q, r .pointers d (dataZone z) hd p (omega (arith, r .zone-in))))
 
   pub held-sector : (n d x : ℕ) → d < g .drives → heldOn g here ws z d x ≡ true → zoneView g (isSet here) (readDevice g xs ws) z n .sectorAt d x ≡ sectorAt g xs d (dataZone z) x
   unfolding zoneView viewOf

@@ -19,7 +19,7 @@ use Rattle.volume.specs.declared.roles.Claim.{Claim}
 use Rattle.volume.specs.declared.roles.Moved.{Moved}
 use Rattle.volume.specs.declared.roles.Counting.{Counting}
 use Rattle.volume.specs.declared.roles.LogZones.{LogZones}
-use Rattle.volume.specs.meaning.Roles.{claim, strongest, Roles, otherThan, rolesIn, roles, zoneOfKind}
+use Rattle.volume.specs.meaning.Roles.{zoneClaim, strongest, Roles, otherThan, rolesIn, roles, zoneOfKind}
 use Rattle.volume.specs.laws.LogClaims.{strengths, home-strength, moved-strength, suc-not-zero}
 use Rattle.volume.specs.laws.LogPlaces.{roles-proper}
 use Rattle.volume.specs.looking.DriveLogs.{zonePointer, logIn, zone-sectors}
@@ -42,10 +42,10 @@ homeClaim other asked n = record { made = eqb other 0; generation = pick (eqb ot
 
 abbrev pub movedOf : Geometry → ℕ → (ℕ → List (List ℕ)) → Moved
 movedOf g d zs = record {
-  «parity_in_first» = claim g d true (zs 0);
-  «general_in_second» = claim g d false (zs 1);
-  «general_in_third» = claim g d false (zs 2);
-  «parity_in_third» = claim g d true (zs 2);
+  «parity_in_first» = zoneClaim g d true (zs 0);
+  «general_in_second» = zoneClaim g d false (zs 1);
+  «general_in_third» = zoneClaim g d false (zs 2);
+  «parity_in_third» = zoneClaim g d true (zs 2);
 }
 
 -- ---- the strongest of three
@@ -139,8 +139,8 @@ parity-decided o n x y = decided (λ p q r. countingOf (three q p r)) n x y alon
         ap (λ (b : Bool). record { zone = 1; lacks = b }) (sym (suc-not-zero n)) ∙ counts-second 0 (suc n) 0 (rw f refl) e
 
 -- ---- a claim, read in the tables
-pub claim-read : (g : Geometry) (xs ws : List ℕ) (d : ℕ) (par : Bool) (z : ℕ) → d < g .drives → z < 3 → firstClosing (logHeads g d par z (zonePointer g ws d z) xs) ≡ claim g d par (zonesRead g xs ws d z)
-unfolding claim
+pub claim-read : (g : Geometry) (xs ws : List ℕ) (d : ℕ) (par : Bool) (z : ℕ) → d < g .drives → z < 3 → firstClosing (logHeads g d par z (zonePointer g ws d z) xs) ≡ zoneClaim g d par (zonesRead g xs ws d z)
+unfolding zoneClaim
 claim-read g xs ws d par z hd hz = ap (λ (ss : List (List ℕ)). firstClosing (headsOf (walkLog g d par ss))) (sym (zone-sectors g xs ws d z hd (omega arith)))
 
 -- ---- the counting log of a kind, by the claims of the moved zones and the claim n of the zone in its first place
@@ -158,27 +158,27 @@ parity-by x o y x′ o′ y′ n p q r = rw (p, q, r) refl
 
 -- the claims that decide on the parity log
 pub record ParityClaims (g : Geometry) (d : ℕ) (zs : ℕ → List (List ℕ)) (m : Moved) : Type 0 where
-  pub in-first : m .«parity_in_first» ≡ claim g d true (zs 0)
-  pub in-second : m .«general_in_second» ≡ claim g d false (zs 1)
-  pub in-third : m .«parity_in_third» ≡ claim g d true (zs 2)
+  pub in-first : m .«parity_in_first» ≡ zoneClaim g d true (zs 0)
+  pub in-second : m .«general_in_second» ≡ zoneClaim g d false (zs 1)
+  pub in-third : m .«parity_in_third» ≡ zoneClaim g d true (zs 2)
 
 pub parity-claims : (g : Geometry) (d : ℕ) (zs : ℕ → List (List ℕ)) (m : Moved) → m ≡ movedOf g d zs → ParityClaims g d zs m
 parity-claims g d zs m e = record { in-first = ap (λ (k : Moved). k .«parity_in_first») e; in-second = ap (λ (k : Moved). k .«general_in_second») e; in-third = ap (λ (k : Moved). k .«parity_in_third») e }
 
 module _ (g : Geometry) (d : ℕ) (zs : ℕ → List (List ℕ)) where
-  general-counts : generalBy (movedOf g d zs) (claim g d false (zs 0)) ≡ countingOf (strengths g d zs false)
+  general-counts : generalBy (movedOf g d zs) (zoneClaim g d false (zs 0)) ≡ countingOf (strengths g d zs false)
   general-counts =
-      general-decided (claim g d true (zs 0)) (claim g d false (zs 0)) (claim g d false (zs 1)) (claim g d false (zs 2))
+      general-decided (zoneClaim g d true (zs 0)) (zoneClaim g d false (zs 0)) (zoneClaim g d false (zs 1)) (zoneClaim g d false (zs 2))
       ∙ rw (← home-strength g d (zs 0) false, ← moved-strength g d (zs 1) false 1 (λ e. omega (arith, e)), ← moved-strength g d (zs 2) false 2 (λ e. omega (arith, e))) (counts-three (strengths g d zs false))
 
-  parity-counts : parityBy (claim g d true (zs 0)) (claim g d false (zs 1)) (claim g d true (zs 2)) (claim g d true (zs 1)) ≡ countingOf (strengths g d zs true)
+  parity-counts : parityBy (zoneClaim g d true (zs 0)) (zoneClaim g d false (zs 1)) (zoneClaim g d true (zs 2)) (zoneClaim g d true (zs 1)) ≡ countingOf (strengths g d zs true)
   parity-counts =
-      parity-decided (claim g d false (zs 1)) (claim g d true (zs 1)) (claim g d true (zs 0)) (claim g d true (zs 2))
+      parity-decided (zoneClaim g d false (zs 1)) (zoneClaim g d true (zs 1)) (zoneClaim g d true (zs 0)) (zoneClaim g d true (zs 2))
       ∙ rw (← home-strength g d (zs 1) true, ← moved-strength g d (zs 0) true 0 (λ e. omega (arith, e)), ← moved-strength g d (zs 2) true 2 (λ e. omega (arith, e))) (counts-three (strengths g d zs true))
 
 -- as the code finds it (m: what the moved zones claim; l: the log in its first place; h, x, y: the claims of the three zones)
 module _ (g : Geometry) (xs ws : List ℕ) (d : ℕ) (hd : d < g .drives) (m : Moved) (l : Log) (h x y : Claim) where
-  home-read : (par : Bool) (z : ℕ) → z < 3 → l ≡ logIn g ws d z → firstClosing (logHeads g (l .drive) par (l .zone) (l .written) xs) ≡ claim g d par (zonesRead g xs ws d z)
+  home-read : (par : Bool) (z : ℕ) → z < 3 → l ≡ logIn g ws d z → firstClosing (logHeads g (l .drive) par (l .zone) (l .written) xs) ≡ zoneClaim g d par (zonesRead g xs ws d z)
   home-read par z hz el = ap (λ (k : Log). firstClosing (logHeads g (k .drive) par (k .zone) (k .written) xs)) el ∙ claim-read g xs ws d par z hd hz
 
   ranks : (a b c : Claim) → a ≡ h → b ≡ x → c ≡ y → countingOf (three (rank h) (rank x) (rank y)) ≡ countingOf (three (rank a) (rank b) (rank c))
@@ -190,7 +190,7 @@ module _ (g : Geometry) (xs ws : List ℕ) (d : ℕ) (hd : d < g .drives) (m : M
       → countingOf (three (rank h) (rank x) (rank y)) ≡ countingOf (strengths g d (zonesRead g xs ws d) false)
   general-found em el eh ex ey =
       ranks _ _ _ (sym eh) (sym ex) (sym ey) ∙ ap (generalBy m) (home-read false generalZone (omega arith) el)
-      ∙ ap (λ (k : Moved). generalBy k (claim g d false (zonesRead g xs ws d generalZone))) em ∙ general-counts g d (zonesRead g xs ws d)
+      ∙ ap (λ (k : Moved). generalBy k (zoneClaim g d false (zonesRead g xs ws d generalZone))) em ∙ general-counts g d (zonesRead g xs ws d)
 
   pub parity-found : ParityClaims g d (zonesRead g xs ws d) m → l ≡ logIn g ws d parityZone → h ≡ movedClaim (m .«parity_in_first»)
       → x ≡ homeClaim (m .«general_in_second») (not (eqb (m .«parity_in_first») 0) || not (eqb (m .«parity_in_third») 0)) (firstClosing (logHeads g (l .drive) true (l .zone) (l .written) xs))
@@ -199,7 +199,7 @@ module _ (g : Geometry) (xs ws : List ℕ) (d : ℕ) (hd : d < g .drives) (m : M
   parity-found em el eh ex ey =
       let zs = zonesRead g xs ws d in
       ranks _ _ _ (sym eh) (sym ex) (sym ey) ∙ ap (parityBy (m .«parity_in_first») (m .«general_in_second») (m .«parity_in_third»)) (home-read true parityZone (omega arith) el)
-      ∙ parity-by (m .«parity_in_first») (m .«general_in_second») (m .«parity_in_third») (claim g d true (zs 0)) (claim g d false (zs 1)) (claim g d true (zs 2)) (claim g d true (zs 1)) (em .in-first) (em .in-second) (em .in-third)
+      ∙ parity-by (m .«parity_in_first») (m .«general_in_second») (m .«parity_in_third») (zoneClaim g d true (zs 0)) (zoneClaim g d false (zs 1)) (zoneClaim g d true (zs 2)) (zoneClaim g d true (zs 1)) (em .in-first) (em .in-second) (em .in-third)
       ∙ parity-counts g d zs
 
 -- ---- the zones of the two logs

@@ -17,7 +17,7 @@ use Rattle.tables.specs.laws.Basics.{and-split, not-true, or-none, not-not}
 use Rattle.tables.specs.meaning.Below.{countBelow, tabulate, anyBelow}
 use Rattle.tables.specs.laws.Below.{tabulate-cong, none-any-below}
 use Rattle.tables.specs.meaning.Drives.{findBelow}
-use Rattle.tables.specs.meaning.Geometry.{Valid, physicalZones, cells, totalBytes}
+use Rattle.tables.specs.meaning.Geometry.{Valid, physicalZones, cells, totalBytes, maxZones}
 use Rattle.tables.specs.meaning.GeometryTest.{isValid}
 use Rattle.tables.specs.laws.GeometryTest.{valid-if-test, first-if-test}
 use Rattle.tables.specs.meaning.Device.{Device, ZoneView, blankZone}
@@ -25,7 +25,6 @@ use Rattle.tables.specs.meaning.Tables.{tablesOf, cell, zoneAtCell, deviceOf, l
 use Rattle.tables.specs.laws.TablesFrame.{lengths-are, pointers-good}
 use Rattle.tables.specs.laws.Tables.{device-pointer, device-durable}
 use Rattle.volume.specs.meaning.Refusals.{firstBadPlace, driveBadPlace, badPointers, firstRefusal, lookRows, twoLost, badLabels, kindLacks, badLogs}
-use Rattle.volume.specs.declared.Condition.the-variants.{Empty}
 use Rattle.volume.specs.declared.ZoneRecord.{ZoneRecord}
 use Rattle.volume.specs.declared.State.{State}
 use Rattle.volume.specs.declared.ZoneLook.{ZoneLook}
@@ -38,46 +37,32 @@ use Rattle.volume.specs.declared.Answer.the-variants.{Refused}
 use Rattle.logs.specs.meaning.Heads.{arrayIn, leastSeal}
 use Rattle.volume.specs.meaning.Rules.{sealLimitBelow, servingEntries, View, valueOf, Shown, ZoneShown, showing, isLost, isPresent, lostDrive, generalHeads, generalEnding, parityEntries, parityEnding, generationOf, resetSeen, sealSeen, sealLimit, viewOf, zoneView, valueAt, pointerAt, cleanAt, zoneAt, zoneShown}
 use Rattle.volume.specs.meaning.Mount.{mountState}
-use Rattle.volume.specs.meaning.CallContracts.{badPlaceOn, blankRecord, recordAt, viewState, isSet, verdictNumber, lengthsOf, rolesOf, seenIn, zoneLookOf, recordFrom, stateShown, lookVerdict, lookOn}
+use Rattle.volume.specs.meaning.CallContracts.{badPlaceOn, blankRecord, isSet, verdictNumber, lengthsOf, rolesOf, seenIn, zoneLookOf, lookVerdict, lookOn, recordSeen, recordsBelow, stateHeld}
 use Rattle.volume.specs.meaning.Roles.{Roles}
 use Rattle.volume.specs.declared.roles.LogPlaces.{LogPlaces}
 use Rattle.volume.specs.looking.Knowing.{Readable, readDevice}
 use Rattle.volume.specs.looking.SeenByRoles.{kindLacksOn}
-use Rattle.volume.specs.looking.DrivesLost.{fill-at, fill-past}
+use Rattle.volume.specs.laws.FilledArrays.{fill-at}
+use Rattle.volume.specs.checks.Records.{blankLook}
 
 -- ---- what is shown, as the code's record; zones past the last are blank
-abbrev pub blankLook : ZoneLook
-blankLook = record { generation = 0; condition = Empty; pointer = 0; «by_reset» = false; clean = false }
-
 unfoldable pub looksFrom : Geometry → (ℕ → ZoneShown) → List ZoneLook
-looksFrom g f = tabulate (λ z. zoneLookOf (f z)) (g .zones) ++ replicate (16 - g .zones) blankLook
+looksFrom g f = tabulate (λ z. zoneLookOf (f z)) (g .zones) ++ replicate (maxZones - g .zones) blankLook
 
 abbrev pub lookOf : Geometry → Shown → Look
 lookOf g k = record { lost = k .lost; array = k .array; zones = looksFrom g (k .zone) }
 
-unfoldable pub recordsOf : Geometry → List ZoneLook → List ZoneRecord
-recordsOf g ls = tabulate (λ z. recordFrom (getD ls z blankLook)) (g .zones) ++ replicate (16 - g .zones) blankRecord
+-- and the records of the state that it leaves
+abbrev pub recordOf : ZoneLook → ZoneRecord
+recordOf s = record { generation = s .generation; condition = s .condition }
 
-pub state-of-look : (g : Geometry) (k : Shown) → _≡_ {A = State} (record { lost = k .lost; zones = recordsOf g (looksFrom g (k .zone)) }) (stateShown g k)
-unfolding looksFrom recordsOf stateShown
-state-of-look g k = ap (λ (rs : List ZoneRecord). record { lost = k .lost; zones = rs ++ replicate (16 - g .zones) blankRecord })
-    (tabulate-cong (λ z. recordFrom (getD (looksFrom g (k .zone)) z blankLook)) (λ z. recordFrom (zoneLookOf (k .zone z))) (g .zones) (λ z h. ap recordFrom (fill-at (λ z. zoneLookOf (k .zone z)) blankLook blankLook (g .zones) (16 - g .zones) z h)))
+abbrev pub recordsOf : Geometry → List ZoneLook → List ZoneRecord
+recordsOf g ls = recordsBelow (λ z. recordOf (getD ls z blankLook)) (g .zones)
 
--- it is the state of the rules, in every zone of the volume
-pub state-shown-in : (g : Geometry) (k : Shown) (z : ℕ) → z < g .zones
-    → (viewState (stateShown g k) .generation z ≡ mountState k .generation z) × (viewState (stateShown g k) .condition z ≡ mountState k .condition z)
-unfolding stateShown
-state-shown-in g k z h =
-    let e = fill-at (λ y. recordFrom (zoneLookOf (k .zone y))) blankRecord blankRecord (g .zones) (16 - g .zones) z h in
-    (ap (λ (r : ZoneRecord). r .generation) e, ap (λ (r : ZoneRecord). r .condition) e)
-
-pub state-shown-past : (g : Geometry) (k : Shown) (z : ℕ) → g .zones ≤ z → recordAt (stateShown g k) z ≡ blankRecord
-unfolding stateShown
-state-shown-past g k z h = fill-past (λ y. recordFrom (zoneLookOf (k .zone y))) blankRecord (g .zones) (16 - g .zones) z h
-
-pub state-shown-lost : (g : Geometry) (k : Shown) → stateShown g k .lost ≡ mountState k .lost
-unfolding stateShown
-state-shown-lost g k = refl
+pub state-of-look : (g : Geometry) (k : Shown) → _≡_ {A = State} (record { lost = k .lost; zones = recordsOf g (looksFrom g (k .zone)) }) (stateHeld (g .zones) (mountState k))
+unfolding looksFrom recordsBelow
+state-of-look g k = ap (λ (rs : List ZoneRecord). record { lost = k .lost; zones = rs ++ replicate (maxZones - g .zones) blankRecord })
+    (tabulate-cong (λ z. recordOf (getD (looksFrom g (k .zone)) z blankLook)) (recordSeen (mountState k)) (g .zones) (λ z h. ap recordOf (fill-at (λ z. zoneLookOf (k .zone z)) blankLook blankLook (g .zones) (maxZones - g .zones) z h)))
 
 -- ---- no rule of a look reads a durable pointer
 abbrev pub sectorsOnly : Device → Device
@@ -316,15 +301,6 @@ present-named g named v d h =
     let p = and-split (ltb d (g .drives)) (not (isLost g named v d)) h in
     let q = or-none (not (named d)) _ (not-true (isLost g named v d) (p .1)) in
     not-not (named d) (q .0)
-
-pub lookable : (g : Geometry) (named here : List Bool) (xs ws ds : List ℕ) → shapeNumber g named (length xs) ws ds ≡ 0 → isSet here ≡ isPresent g (isSet named) (readDevice g xs ws) → Lookable g here xs ws
-lookable g named here xs ws ds h e =
-    let (ok, a, b, c) = shaped g named (length xs) ws ds h in
-    record {
-      sectors-long = a;
-      written-long = b;
-      pointers = λ d y hd p hy. pointers-good g named ws ds d y c hd (present-named g (isSet named) (readDevice g xs ws) d (ap (λ (q : ℕ → Bool). q d) (sym e) ∙ p)) hy .0;
-    }
 
 -- ---- the outcome
 module _ (g : Geometry) (named : List Bool) (old : State) (xs ws ds : List ℕ) where

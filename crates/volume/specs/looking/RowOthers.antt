@@ -15,7 +15,7 @@ use Rattle.tables.specs.laws.Placement.{address-sum, stripe-begin, row-remainde
 use Rattle.tables.specs.meaning.Tables.{sectorAt}
 use Rattle.tables.specs.meaning.Xor.{xorBytes, xorBelow, without}
 use Rattle.tables.specs.laws.Xor.{xor-nil, xor-bytes-assoc, xor-below-cong}
-use Rattle.volume.specs.declared.rebuilding.RowPlace.{RowPlace}
+use Rattle.volume.specs.declared.row_others.RowPlace.{RowPlace}
 use Rattle.volume.specs.meaning.Rules.{parityOf, rowDrive, rowAddress}
 use Rattle.volume.specs.looking.Knowing.{rowXor}
 use Rattle.volume.specs.looking.KnowingLaws.{row-small, parity-in}

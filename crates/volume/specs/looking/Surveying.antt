@@ -23,8 +23,8 @@ use Rattle.volume.specs.declared.looking.Survey.{Survey}
 use Rattle.volume.specs.meaning.Rules.{Shown, showing, isPresent, lostDrive}
 use Rattle.volume.specs.meaning.Refusals.{firstRefusal, twoLost, kindLacks, badLabels, badLogs, firstBadPlace}
 use Rattle.volume.specs.meaning.Answers.{presentIn, lostDriveIn}
-use Rattle.volume.specs.meaning.Roles.{Roles, roles, zoneOfRole, placedBy}
-use Rattle.volume.specs.meaning.CallContracts.{isSet, verdictNumber, rolesOf, seenIn, stateShown, lookVerdict, lookOn, badPlaceOn}
+use Rattle.volume.specs.meaning.Roles.{Roles, zoneOfRole, placedBy}
+use Rattle.volume.specs.meaning.CallContracts.{isSet, verdictNumber, rolesOf, seenIn, lookVerdict, lookOn, badPlaceOn, stateHeld}
 use Rattle.volume.specs.laws.LogPlaces.{withLogs}
 use Rattle.volume.specs.laws.RulesUnread.{is-present-alike, lost-drive-alike, showing-alike}
 use Rattle.volume.specs.laws.CallsUnread.{two-lost-alike, bad-labels-alike, bad-logs-alike, bad-place-alike}
@@ -34,6 +34,7 @@ use Rattle.volume.specs.looking.HiddenLogs.{roles-durable}
 use Rattle.volume.specs.looking.Knowing.{readDevice}
 use Rattle.volume.specs.looking.SeenByRoles.{Seen, kindLacksOn, seen-place, seen-geometry, seen-sized, seen-read, seen-good, seen-lacks}
 use Rattle.volume.specs.looking.Looking.{shapeNumber, shaped, logNumber, lookOf, recordsOf, state-of-look, present-read, lost-drive-read, two-lost-read, labels-read, logs-read, bad-place-read, shown-read, look-late, present-named, Lookable}
+use Rattle.volume.specs.meaning.Mount.{mountState}
 
 pub record Surveyed (g : Geometry) (named : List Bool) (xs ws : List ℕ) (v : Survey) (ps : List ℕ) : Type 0 where
   pub seen : Seen g xs ws (v .places) ps
@@ -42,9 +43,8 @@ pub record Surveyed (g : Geometry) (named : List Bool) (xs ws : List ℕ) (v : S
   pub bad-is : v .bad ≡ firstBadPlace (v .places .geometry) (isSet (v .here)) (zonePlace (v .places .geometry)) (readDevice (v .places .geometry) xs ps)
 
 -- the state shown does not tell where the logs lie
-pub state-alike : (g h : Geometry) → h ≡ withLogs g (h .logs) → (k : Shown) → stateShown h k ≡ stateShown g k
-unfolding stateShown
-state-alike g h e k = ap (λ (q : Geometry). stateShown q k) e
+pub state-alike : (g h : Geometry) → h ≡ withLogs g (h .logs) → (k : Shown) → stateHeld (h .zones) (mountState k) ≡ stateHeld (g .zones) (mountState k)
+state-alike g h e k = ap (λ (q : Geometry). stateHeld (q .zones) (mountState k)) e
 
 -- rows 4 to 6 by what each asks
 abbrev rowsBy : Bool → Bool → Bool → Bool → ℕ
@@ -138,7 +138,7 @@ module _ (g : Geometry) (named : List Bool) (xs ws : List ℕ) (v : Survey) (ps 
   unfolding lookOn
   survey-finished old shape passed k q =
       let shown = showing g (presentIn g (isSet named) (deviceOf g (tablesOf xs ws ds))) (lostDriveIn g (isSet named) (deviceOf g (tablesOf xs ws ds))) w in
-      let a : _≡_ {A = State} (record { lost = k .lost; zones = recordsOf h (k .zones) }) (stateShown g shown) =
+      let a : _≡_ {A = State} (record { lost = k .lost; zones = recordsOf h (k .zones) }) (stateHeld (g .zones) (mountState shown)) =
       ap (λ (l : Look). record { lost = l .lost; zones = recordsOf h (l .zones) }) q
-      ∙ state-of-look h (showing h (isSet (v .here)) (findBelow (λ d. not (isSet (v .here) d)) (h .drives)) u) ∙ ap (stateShown h) survey-shown ∙ state-alike g h (seen-geometry g xs ws (v .places) ps (s .seen)) shown in
+      ∙ state-of-look h (showing h (isSet (v .here)) (findBelow (λ d. not (isSet (v .here) d)) (h .drives)) u) ∙ ap (λ (q : Shown). stateHeld (h .zones) (mountState q)) survey-shown ∙ state-alike g h (seen-geometry g xs ws (v .places) ps (s .seen)) shown in
       rw (eq-eqb (verdictNumber (lookVerdict g named (tablesOf xs ws ds))) 0 (sym (survey-refusal shape) ∙ passed)) (ap (λ (x : State). record { answer = Finished; state = x }) a)

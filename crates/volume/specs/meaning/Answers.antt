@@ -3,7 +3,7 @@
 use Rattle.volume.specs.meaning.Rules.{lostDrive, Shown, isPresent, showing, valueAt}
 use Rattle.volume.specs.meaning.Refusals.{firstBadPlace, firstRefusal, Verdict, refuse, accept, TableLengths, zoneOf, offsetOf, formatRows, lookRows, mountRows, writeRows, flushRows, resetRows, readRows, peekRows, badPointers}
 use mathlib.Core.Bool.{Bool, _&&_, not}
-use Prim.Native.Nat.{ℕ, zero, _+_, _-_, _*_}
+use Prim.Native.Nat.{ℕ, zero, _*_}
 use mathlib.Core.List.{List}
 use lib.ListN.{length, take, drop}
 use lib.Dec.{ltb, eqb}
@@ -116,7 +116,7 @@ abbrev pub writeCall : Geometry → TableLengths → (ℕ → Bool) → StateVie
 writeCall g t named state a count buffer v = record {
   refusals = writeRows g t (badPointers g named v) named state a count (length buffer) (roles g v) (byRoles g v);
   stores = writeAll g (callPresent g named state) (roles g v) (byRoles g v) state (zoneOf g a) (sectorsIn g count buffer);
-  state = writeState (lostIn g named state) state (zoneOf g a) (sectorsIn g count buffer);
+  state = writeState (lostIn g named state) state (zoneOf g a) count;
 }
 
 abbrev pub flushCall : Geometry → TableLengths → (ℕ → Bool) → StateView → Device → StoringCall

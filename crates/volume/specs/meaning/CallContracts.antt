@@ -2,15 +2,15 @@
 -- device that the tables stand for and of the state as `viewState` shows it; here they decide what is stored in the tables, and which
 -- state and answer are handed back.
 use mathlib.Core.Bool.{Bool, false}
-use Prim.Native.Nat.{suc, _-_, ℕ, _+_, zero}
-use mathlib.Core.List.{_++_, List, [], _∷_}
-use lib.ListN.{length, getD, set, replicate}
+use Prim.Native.Nat.{_-_, ℕ, _+_}
+use mathlib.Core.List.{_++_, List, []}
+use lib.ListN.{length, getD, replicate}
 use lib.Dec.{ltb, eqb}
 use Rattle.tables.specs.declared.Geometry.{Geometry}
 use Rattle.tables.specs.meaning.Basics.{pick}
-use Rattle.tables.specs.meaning.Device.{Store, flush, Device}
+use Rattle.tables.specs.meaning.Device.{Store, Device}
 use Rattle.tables.specs.meaning.Tables.{Tables, runStores, pointersBad, deviceOf, byteAt, sectorAt}
-use Rattle.volume.specs.declared.Condition.the-variants.{Empty, Worn, Open}
+use Rattle.volume.specs.declared.Condition.the-variants.{Empty}
 use Rattle.volume.specs.declared.ZoneRecord.{ZoneRecord}
 use Rattle.volume.specs.declared.State.{State}
 use Rattle.volume.specs.declared.Answer.{Answer}
@@ -19,19 +19,18 @@ use Rattle.volume.specs.declared.BadPlace.{BadPlace}
 use Rattle.volume.specs.declared.Outcome.{Outcome}
 use Rattle.volume.specs.meaning.State.{StateView, callPresent, pointerIn}
 use Rattle.volume.specs.meaning.Refusals.{Verdict, refuse, accept, firstRefusal, TableLengths, flushRows, resetRows, writeRows, zoneOf, offsetOf, formatRows, lookRows, mountRows, readRows, peekRows}
-use Rattle.volume.specs.meaning.Calls.{flushStores, formatStores}
+use Rattle.volume.specs.meaning.Calls.{writeState, flushStores, flushState, resetState, formatStores, formatState}
 use Rattle.volume.specs.meaning.Answers.{lostIn, sectorsIn, leftOut, namedDrives, Place, placeOf, presentIn, lostDriveIn, badPlaceOf, refusedAt, toldAt}
 use Rattle.volume.specs.meaning.Roles.{Roles, roles, byRoles}
 use Rattle.volume.specs.meaning.Emptying.{writeAll, resetAll}
 use Rattle.tables.specs.meaning.Below.{tabulate, tabulateFrom}
-use Rattle.logs.specs.meaning.Entry.{wornGeneration}
-use Rattle.volume.specs.meaning.Content.{at}
-use Rattle.volume.specs.meaning.Rules.{valueAt, ZoneShown, Shown, showing}
+use Rattle.volume.specs.meaning.Rules.{valueAt, ZoneShown, showing}
 use Rattle.volume.specs.declared.ZoneLook.{ZoneLook}
 use Rattle.tables.specs.meaning.Lists.{concat}
-use Rattle.volume.specs.meaning.Mount.{phasesBeforeEntries, phasesOfParityLogs, phasesOfEntries}
+use Rattle.tables.specs.meaning.Geometry.{maxZones}
+use Rattle.volume.specs.meaning.Mount.{phasesBeforeEntries, phasesOfParityLogs, phasesOfEntries, mountState}
 
--- ---- the state
+-- ---- the state. What a call makes of it is defined once, as the rules see it (Calls, Mount); `stateHeld` brings it back into the code's struct.
 -- past its end the array of records is all empty
 abbrev pub blankRecord : ZoneRecord
 blankRecord = record { generation = 0; condition = Empty }
@@ -42,6 +41,17 @@ recordAt s z = getD (s .zones) z blankRecord
 -- as the rules see it
 abbrev pub viewState : State → StateView
 viewState s = record { lost = s .lost; generation = λ z. recordAt s z .generation; condition = λ z. recordAt s z .condition }
+
+-- and back: of the first n zones what the rules see, blank past them. A format and a look hand on what is so of the volume's zones; a write, a flush and a
+-- reset leave records past the last zone as they were (n = maxZones).
+abbrev pub recordSeen : StateView → ℕ → ZoneRecord
+recordSeen v z = record { generation = v .generation z; condition = v .condition z }
+
+unfoldable pub recordsBelow : (ℕ → ZoneRecord) → ℕ → List ZoneRecord
+recordsBelow f n = tabulate f n ++ replicate (maxZones - n) blankRecord
+
+abbrev pub stateHeld : ℕ → StateView → State
+stateHeld n v = record { lost = v .lost; zones = recordsBelow (recordSeen v) n }
 
 -- the drives named, as the rules see them
 abbrev pub isSet : List Bool → ℕ → Bool
@@ -91,37 +101,22 @@ storingOn g n ss new old count t = record {
 unfoldable pub flushVerdict : Geometry → List Bool → State → Tables → Verdict
 flushVerdict g named s t = firstRefusal (flushRows g (lengthsOf t) (badIn g named t) (isSet named) (viewState s) (deviceOf g t))
 
--- the state handed on: a drive left out of the call is lost
-abbrev pub withLost : State → ℕ → State
-withLost s x = record { lost = x; zones = s .zones }
-
 unfoldable pub flushOn : Geometry → List Bool → State → ℕ → Tables → Result
 flushOn g named s count t =
-    storingOn g (verdictNumber (flushVerdict g named s t)) (flushStores g (callPresent g (isSet named) (viewState s))) (withLost s (lostIn g (isSet named) (viewState s))) s count t
+    storingOn g (verdictNumber (flushVerdict g named s t)) (flushStores g (callPresent g (isSet named) (viewState s))) (stateHeld maxZones (flushState (lostIn g (isSet named) (viewState s)) (viewState s))) s count t
 
 -- ==== reset
 unfoldable pub resetVerdict : Geometry → List Bool → State → ℕ → Tables → Verdict
 resetVerdict g named s z t = firstRefusal (resetRows g (lengthsOf t) (badIn g named t) (isSet named) (viewState s) z (rolesOf g t) (seenIn g t))
 
--- the zone's record afterwards: its generation raised; empty, or worn where that is now 2^64 − 1
-abbrev pub resetRecord : ZoneRecord → ZoneRecord
-resetRecord r = record { generation = suc (r .generation); condition = pick (eqb (suc (r .generation)) wornGeneration) (Worn zero) Empty }
-
--- the state handed on (x: the drive left out, or 255)
-abbrev pub withReset : State → ℕ → ℕ → State
-withReset s z x = record { lost = x; zones = set (s .zones) z (resetRecord (recordAt s z)) }
-
 unfoldable pub resetOn : Geometry → List Bool → State → ℕ → ℕ → Tables → Result
 resetOn g named s z count t =
-    storingOn g (verdictNumber (resetVerdict g named s z t)) (resetAll g (callPresent g (isSet named) (viewState s)) (rolesOf g t) (seenIn g t) (viewState s) z) (withReset s z (lostIn g (isSet named) (viewState s))) s count t
+    storingOn g (verdictNumber (resetVerdict g named s z t)) (resetAll g (callPresent g (isSet named) (viewState s)) (rolesOf g t) (seenIn g t) (viewState s) z)
+    (stateHeld maxZones (resetState (lostIn g (isSet named) (viewState s)) (viewState s) z)) s count t
 
 -- ==== write: k sectors from address a
 unfoldable pub writeVerdict : Geometry → List Bool → State → ℕ → ℕ → ℕ → Tables → Verdict
 writeVerdict g named s a k bytes t = firstRefusal (writeRows g (lengthsOf t) (badIn g named t) (isSet named) (viewState s) a k bytes (rolesOf g t) (seenIn g t))
-
--- the state handed on: the zone open at n, and a drive left out of the call is lost
-abbrev pub writtenState : State → ℕ → ℕ → ℕ → State
-writtenState s x z n = record { lost = x; zones = set (s .zones) z (record { generation = recordAt s z .generation; condition = Open n }) }
 
 -- the pointer of zone z in the state
 abbrev pub pointerOf : State → ℕ → ℕ
@@ -130,34 +125,20 @@ pointerOf s z = pointerIn (recordAt s z .condition)
 unfoldable pub writeOn : Geometry → List Bool → State → ℕ → ℕ → List ℕ → ℕ → Tables → Result
 writeOn g named s a k buffer count t =
     storingOn g (verdictNumber (writeVerdict g named s a k (length buffer) t)) (writeAll g (callPresent g (isSet named) (viewState s)) (rolesOf g t) (seenIn g t) (viewState s) (zoneOf g a) (sectorsIn g k buffer))
-    (writtenState s (lostIn g (isSet named) (viewState s)) (zoneOf g a) (pointerOf s (zoneOf g a) + k)) s count t
+    (stateHeld maxZones (writeState (lostIn g (isSet named) (viewState s)) (viewState s) (zoneOf g a) k)) s count t
 
 -- ==== format
 unfoldable pub formatVerdict : Geometry → List Bool → Tables → Verdict
 formatVerdict g named t = firstRefusal (formatRows g (lengthsOf t) (badIn g named t) (isSet named) (deviceOf g t))
 
-abbrev pub freshRecord : ZoneRecord
-freshRecord = record { generation = 1; condition = Empty }
-
--- the state handed on (x: the drive left out, or 255); records past the last zone are blank
-unfoldable pub freshState : Geometry → ℕ → State
-freshState g x = record { lost = x; zones = tabulate (λ z. freshRecord) (g .zones) ++ replicate (16 - g .zones) blankRecord }
-
 -- old: what the host held before; a format neither reads nor changes it, and hands it back if it is refused or unfinished
 unfoldable pub formatOn : Geometry → List Bool → ℕ → State → ℕ → Tables → Result
 formatOn g named array old count t =
-    storingOn g (verdictNumber (formatVerdict g named t)) (formatStores g (namedDrives g (isSet named)) (leftOut g (isSet named)) array) (freshState g (leftOut g (isSet named))) old count t
+    storingOn g (verdictNumber (formatVerdict g named t)) (formatStores g (namedDrives g (isSet named)) (leftOut g (isSet named)) array) (stateHeld (g .zones) (formatState (leftOut g (isSet named)))) old count t
 
 -- ---- what is shown of a zone, as the code's record: all but the values
 abbrev pub zoneLookOf : ZoneShown → ZoneLook
 zoneLookOf s = record { generation = s .generation; condition = s .condition; pointer = s .pointer; «by_reset» = s .byReset; clean = s .clean }
-
--- ---- the state that a look leaves; records past the last zone are blank
-abbrev pub recordFrom : ZoneLook → ZoneRecord
-recordFrom s = record { generation = s .generation; condition = s .condition }
-
-unfoldable pub stateShown : Geometry → Shown → State
-stateShown g k = record { lost = k .lost; zones = tabulate (λ z. recordFrom (zoneLookOf (k .zone z))) (g .zones) ++ replicate (16 - g .zones) blankRecord }
 
 -- ==== look
 unfoldable pub lookVerdict : Geometry → List Bool → Tables → Verdict
@@ -171,7 +152,7 @@ badPlaceOn g named t = badPlaceOf g (isSet named) (deviceOf g t)
 unfoldable pub lookOn : Geometry → List Bool → State → Tables → Outcome
 lookOn g named old t =
     pick (eqb (verdictNumber (lookVerdict g named t)) 0)
-    (record { answer = Finished; state = stateShown g (showing g (presentIn g (isSet named) (deviceOf g t)) (lostDriveIn g (isSet named) (deviceOf g t)) (seenIn g t)) })
+    (record { answer = Finished; state = stateHeld (g .zones) (mountState (showing g (presentIn g (isSet named) (deviceOf g t)) (lostDriveIn g (isSet named) (deviceOf g t)) (seenIn g t))) })
     (record { answer = refusedAt (badPlaceOn g named t) (verdictNumber (lookVerdict g named t)); state = old })
 
 -- ==== mount
@@ -197,7 +178,7 @@ mountStoresOn g present x t =
 
 -- "It shows what a look shows after its last store"
 unfoldable pub mountShownOn : Geometry → (ℕ → Bool) → ℕ → Tables → State
-mountShownOn g present x t = stateShown g (showing g present x (seenIn g (afterStores g (mountStoresOn g present x t) t)))
+mountShownOn g present x t = stateHeld (g .zones) (mountState (showing g present x (seenIn g (afterStores g (mountStoresOn g present x t) t))))
 
 -- its answer tells the bad place
 abbrev pub tellingAt : BadPlace → Result → Result

@@ -16,6 +16,7 @@ use Rattle.tables.specs.declared.Geometry.{Geometry}
 use Rattle.tables.specs.meaning.Geometry.{parityDriveOf, firstDriveOf, physicalZones, dataZone}
 use Rattle.logs.specs.meaning.Entry.{generalZone, parityZone, wornGeneration, Header, label, counters, zoneReset, encode}
 use Rattle.logs.specs.meaning.Walk.{sectorsOf}
+use Rattle.volume.specs.declared.Condition.{Condition}
 use Rattle.volume.specs.declared.Condition.the-variants.{Empty, Open, Worn}
 use Rattle.volume.specs.meaning.State.{pointerIn, StateView, setAt}
 use Rattle.volume.specs.meaning.Content.{at, rowXor, insideStripe, parityDriveAt, entryAt}
@@ -64,9 +65,13 @@ zoneContent g present v state z ss a = pick (ltb a (pointerIn (state .condition 
 unfoldable pub writeStores : Geometry → (ℕ → Bool) → Device → StateView → ℕ → List (List ℕ) → List Store
 writeStores g present v state z ss = onPresent present (writeWith g z (state .generation z) (zoneContent g present v state z ss) (pointerIn (state .condition z)) (length ss))
 
--- x: the lost drive, in this and the following states
-abbrev pub writeState : ℕ → StateView → ℕ → List (List ℕ) → StateView
-writeState x state z ss = record { lost = x; generation = state .generation; condition = setAt (state .condition) z (Open (pointerIn (state .condition z) + length ss)) }
+-- the zone open at pointer n (x: the lost drive, in this and the following states)
+abbrev pub openState : ℕ → StateView → ℕ → ℕ → StateView
+openState x state z n = record { lost = x; generation = state .generation; condition = setAt (state .condition) z (Open n) }
+
+-- k sectors past where its pointer was
+abbrev pub writeState : ℕ → StateView → ℕ → ℕ → StateView
+writeState x state z k = openState x state z (pointerIn (state .condition z) + k)
 
 -- ==== flush: "flush all"
 unfoldable pub flushStores : Geometry → (ℕ → Bool) → List Store
@@ -96,9 +101,12 @@ resetPhases g state z =
 unfoldable pub resetStores : Geometry → (ℕ → Bool) → StateView → ℕ → List Store
 resetStores g present state z = concat (eachOnPresent present (resetPhases g state z))
 
--- afterwards the zone is empty, or worn where its generation is now 2^64 − 1
+-- a zone without content under generation n: empty, or worn where that is 2^64 − 1
+abbrev pub emptyCondition : ℕ → Condition
+emptyCondition n = pick (eqb n wornGeneration) (Worn zero) Empty
+
 abbrev pub resetState : ℕ → StateView → ℕ → StateView
-resetState x state z = record { lost = x; generation = raisedAt state z; condition = setAt (state .condition) z (pick (eqb (suc (state .generation z)) wornGeneration) (Worn zero) Empty) }
+resetState x state z = record { lost = x; generation = raisedAt state z; condition = setAt (state .condition) z (emptyCondition (suc (state .generation z))) }
 
 -- ==== format: "reset every zone; label, then counters (all 1), drive by drive; flush all", with that flush after the resets (x: the drive left out, or noDrive; a: the array
 -- number)

@@ -2,7 +2,7 @@
 -- entries still needed .. are copied, zones ascending, into that drive's spare zone. Then comes a closing entry of type 6 .., generation one above the old
 -- log's. A flush follows, then the old zone is reset and becomes the spare." (r: the drives' roles; w: the device by its roles)
 use mathlib.Core.Bool.{Bool, true, false, _&&_, _||_, not}
-use Prim.Native.Nat.{ℕ, zero, suc, _+_, _-_, _*_, min}
+use Prim.Native.Nat.{ℕ, zero, suc, _+_, _-_, _*_, _≤_, min}
 use mathlib.Core.List.{List, [], _∷_, _++_, map}
 use lib.ListN.{length}
 use lib.Dec.{ltb, leb, eqb}
@@ -155,3 +155,10 @@ isMade g f w d z = isCopied g f d z && not (anyOf (isAtPointer g f z) (parityEnt
 unfoldable pub goneForCopies : Geometry → (ℕ → Bool) → InForce → Device → ℕ → Bool
 goneForCopies g present f w d =
     anyBelow (λ z. isMade g f w d z && anyBelow (λ i. not (known (g .drives) (g .unit) z (zoneView g present w z (f .generation z)) (stripeOf (g .drives) (g .unit) (f .pointer z) * stripeSectors g + i))) (fillOf g (f .pointer z))) (g .zones)
+
+-- ---- geometries whose logs always have the room that a call asks for, once copied (laws/RoomAfter)
+abbrev pub RoomyGeneral : Geometry → Type 0
+RoomyGeneral g = 3 * g .zones + 7 ≤ g .capacity
+
+abbrev pub RoomyParity : Geometry → Type 0
+RoomyParity g = 2 * (g .zones * (1 + g .unit)) + 2 * g .unit + 2 ≤ g .capacity

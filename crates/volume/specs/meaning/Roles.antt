@@ -13,15 +13,15 @@ use Rattle.logs.specs.meaning.Heads.{firstClosing}
 use Rattle.logs.specs.meaning.Walk.{walkLog}
 
 -- the generation of the first closing entry met in a walk of these sectors as a log of the kind (par: parity); 0 if none is met
-unfoldable pub claim : Geometry → ℕ → Bool → List (List ℕ) → ℕ
-claim g d par ss = firstClosing (map (λ (e : Entry). e .head) (walkLog g d par ss .entries))
+unfoldable pub zoneClaim : Geometry → ℕ → Bool → List (List ℕ) → ℕ
+zoneClaim g d par ss = firstClosing (map (λ (e : Entry). e .head) (walkLog g d par ss .entries))
 
 -- zone y as a log of the kind: 0 if it is none, else one above its generation
 abbrev pub strengthBy : ℕ → ℕ → Bool → ℕ → ℕ
 strengthBy mine other par y = pick (ltb 0 mine) (suc mine) (pick (ltb 0 other) 0 (pick (eqb y (kindOfLog par)) 1 0))
 
 unfoldable pub strength : Geometry → ℕ → Bool → ℕ → List (List ℕ) → ℕ
-strength g d par y ss = strengthBy (claim g d par ss) (claim g d (not par) ss) par y
+strength g d par y ss = strengthBy (zoneClaim g d par ss) (zoneClaim g d (not par) ss) par y
 
 -- the strongest of zones 0 to 2, at a tie the lower
 abbrev pub strongest : (ℕ → ℕ) → ℕ

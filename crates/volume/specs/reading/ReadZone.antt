@@ -21,7 +21,7 @@ use Rattle.volume.specs.meaning.State.{pointerIn, callPresent}
 use Rattle.volume.specs.meaning.Refusals.{goneIn, badRun, zoneOf, offsetOf}
 use Rattle.volume.specs.meaning.CallContracts.{recordAt, viewState, isSet, seenIn, readNumber, valuesOn, readOn}
 use Rattle.volume.specs.checks.CheckLaws.{presentList, present-is, openingNumber, opened}
-use Rattle.volume.specs.checks.ZoneChecks.{staleOn, Reached, reached}
+use Rattle.volume.specs.checks.ZoneChecks.{staleOn, PointersReach, reached}
 use Rattle.volume.specs.looking.Knowing.{Readable}
 use Rattle.volume.specs.reading.Reading.{readByRoles, lateNumber, late-none, late-is, opened-sized, values-seen, RunReady}
 

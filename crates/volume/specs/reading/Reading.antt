@@ -11,10 +11,10 @@ use mathlib.Core.List.{List, [], _∷_, _++_, append-assoc, append-nil}
 use lib.ListN.{length, getD, take, drop, length-append, length-drop}
 use lib.Seq.{take-at, take-all, length-take-le}
 use lib.Dec.{ltb, eqb}
-use borrow.Author.Tests.{lt-ltb, le-ltb, ltb-true, ltb-false, eqb-true, eq-eqb, ne-eqb}
+use borrow.Author.Tests.{lt-ltb, le-ltb, ltb-true, eqb-true, eq-eqb, ne-eqb}
 use Rattle.tables.specs.declared.Geometry.{Geometry}
 use Rattle.tables.specs.meaning.Basics.{pick}
-use Rattle.tables.specs.laws.Basics.{and-split, or-none}
+use Rattle.tables.specs.laws.Basics.{and-split}
 use Rattle.tables.specs.meaning.Below.{anyBelow, tabulateFrom}
 use Rattle.tables.specs.laws.Below.{all-below-all, any-below-cong, tabulate-from-add, tabulate-from-cong}
 use Rattle.tables.specs.meaning.Lists.{concat}
@@ -28,11 +28,11 @@ use Rattle.volume.specs.declared.Condition.{Condition}
 use Rattle.volume.specs.declared.State.{State}
 use Rattle.volume.specs.declared.Zone.{Zone}
 use Rattle.volume.specs.declared.roles.LogPlaces.{LogPlaces}
-use Rattle.volume.specs.declared.Answer.the-variants.{Finished, Refused}
+use Rattle.volume.specs.declared.Answer.the-variants.{Refused}
 use Rattle.volume.specs.meaning.State.{pointerIn, StateView, callPresent}
 use Rattle.volume.specs.meaning.Rules.{View, valueOf, known, valueAt}
 use Rattle.volume.specs.meaning.Roles.{byRoles}
-use Rattle.volume.specs.checks.ZoneChecks.{staleOn, Reached, reached}
+use Rattle.volume.specs.checks.ZoneChecks.{staleOn, PointersReach}
 use Rattle.volume.specs.meaning.Refusals.{stateWithin, twoAbsent, firstRefusal, staleIn, stale, noZone, badRun, goneIn, zoneOf, offsetOf, readRows}
 use Rattle.tables.specs.meaning.GeometryTest.{isValid}
 use Rattle.tables.specs.laws.TablesFrame.{lengths-are, pointers-good}
@@ -82,7 +82,7 @@ pub record RunReady (zone : Zone) (xs ws : List ℕ) (pointer offset count : ℕ
   pub first : zone .geometry .logs ≡ 0
   pub run-in : offset + count ≤ zoneSectors (zone .geometry)
   pub buffer : length out ≡ count * zone .geometry .sector
-  pub reaches : Reached (zone .geometry) (zone .here) ws (zone .number) pointer
+  pub reaches : PointersReach (zone .geometry) (zone .here) ws (zone .number) pointer
   pub below : offset + count ≤ pointer
 
 -- refusal 15, and what it leaves in the buffer: else the values
@@ -321,8 +321,3 @@ module _ (g : Geometry) (named : List Bool) (s : State) (a count : ℕ) (out : L
   pub read-refused : readNumber g named s a count (length out) t ≢ 0 → (readOn g named s a count out t .answer ≡ Refused (readNumber g named s a count (length out) t)) × (readOn g named s a count out t .buffer ≡ out)
   unfolding readOn
   read-refused h = rw (ne-eqb (readNumber g named s a count (length out) t) 0 h) (refl, refl)
-
-  pub read-done : readNumber g named s a count (length out) t ≡ 0 → (readOn g named s a count out t .answer ≡ Finished)
-      × (readOn g named s a count out t .buffer ≡ valuesOn g (callPresent g (isSet named) (viewState s)) (seenIn g t) (zoneOf g a) (recordAt s (zoneOf g a) .generation) (offsetOf g a) count)
-  unfolding readOn
-  read-done h = rw (eq-eqb (readNumber g named s a count (length out) t) 0 h) (refl, refl)

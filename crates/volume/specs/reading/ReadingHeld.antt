@@ -28,7 +28,7 @@ use Rattle.volume.specs.declared.knowing.Source.the-variants.{Unknown, H
 use Rattle.volume.specs.meaning.Rules.{ParityEntry, View, isFound, parityOf, rowDrive, rowAddress, heldAt, byParity, entryFor, known, othersXor, fromEntry, valueOf, parityEntries, sealLimit, servingEntries, viewOf, zoneView, valueAt}
 use Rattle.volume.specs.meaning.Refusals.{goneIn}
 use Rattle.volume.specs.meaning.CallContracts.{isSet, valuesOn}
-use Rattle.volume.specs.checks.ZoneChecks.{Reached, needsLog, second-fails}
+use Rattle.volume.specs.checks.ZoneChecks.{PointersReach, needsLog, second-fails}
 use Rattle.volume.specs.looking.Knowing.{readDevice, Readable, ownHeld, allHeld, heldOn, rowHeld, stripeEnd, reachOf, rowComplete, servingPlace, sourceOf, hasSource}
 use Rattle.volume.specs.looking.KnowingLaws.{held-is, by-parity-is, least-failing, parity-in, row-drive-in}
 use Rattle.volume.specs.looking.KnowingEntries.{known-is}
@@ -43,7 +43,7 @@ pub record LimitServes (g : Geometry) (here : List Bool) (xs ws : List ℕ) (z g
 abbrev pub directly : Geometry → List Bool → List ℕ → ℕ → ℕ → Bool
 directly g here ws z a = ownHeld g here ws z a || rowComplete g here ws z a
 
-module _ (g : Geometry) (ok : Valid g) (here : List Bool) (ws : List ℕ) (z n : ℕ) (r : Reached g here ws z n) where
+module _ (g : Geometry) (ok : Valid g) (here : List Bool) (ws : List ℕ) (z n : ℕ) (r : PointersReach g here ws z n) where
   two-drives : 1 < g .drives
   two-drives = omega (arith, ok .drives-least)
 
@@ -180,7 +180,7 @@ module _ (g : Geometry) (ok : Valid g) (here : List Bool) (xs ws : List ℕ) (z 
       (λ d. servingEntries g z n (sealLimit g (isSet here) v z n) (parityEntries g v d)) (λ d. servingEntries g z n (sealLimit g (isSet here) w z n) (parityEntries g w d)) (fun-ext λ d. sym (same d))
       (ap₂ (λ (b c : Bool). b || c) (held-is g here xs ws z readable n (driveOf (g .drives) (g .unit) z a) (sectorOf (g .drives) (g .unit) a) (drive-below (g .drives) (g .unit) z (omega (arith, ok .drives-least)) (ok .unit-least) a)) (by-parity-is g here xs ws z readable ok n a) ∙ h)
 
-module _ (g : Geometry) (ok : Valid g) (here : List Bool) (xs ws : List ℕ) (z n : ℕ) (readable : Readable g here xs ws z) (r : Reached g here ws z n) (generation offset count : ℕ) (below : offset + count ≤ n) where
+module _ (g : Geometry) (ok : Valid g) (here : List Bool) (xs ws : List ℕ) (z n : ℕ) (readable : Readable g here xs ws z) (r : PointersReach g here ws z n) (generation offset count : ℕ) (below : offset + count ≤ n) where
   pub none-gone : offset + count ≤ zoneSectors g → needsLog g here n (offset + count) ≡ false → goneIn g (isSet here) (readDevice g xs ws) z generation offset count ≡ false
   unfolding goneIn
   none-gone within none =

@@ -1,8 +1,8 @@
--- A format on the tables: its refusals as numbers, its four phases as the code makes them, and the state that it hands on.
+-- A format on the tables: its refusals as numbers, its four phases as the code makes them.
 use mathlib.Core.Path.{_≡_, refl, ap, ap₂, _∙_, fun-ext}
 use mathlib.Core.Logic.{_⊎_, inl, inr}
 use mathlib.Core.Bool.{Bool, true, false, _&&_, not}
-use Prim.Native.Nat.{ℕ, zero, suc, _+_, _-_, _≤_, _<_}
+use Prim.Native.Nat.{ℕ, zero, suc, _+_, _≤_, _<_}
 use native.Mathlib.Decide.{decLt}
 use native.Mathlib.Omega.{arith}
 use mathlib.Core.List.{List, [], _∷_, _++_}
@@ -23,23 +23,13 @@ use Rattle.tables.specs.meaning.Tables.{tablesOf, lengthsFit, pointersBad}
 use Rattle.tables.specs.laws.Made.{storeIf, Made, MadeAppends, MadePointers}
 use Rattle.tables.specs.laws.Counted.{made-nil, made-append}
 use Rattle.logs.specs.meaning.Entry.{generalZone, label, counters, encode}
-use Rattle.volume.specs.declared.ZoneRecord.{ZoneRecord}
 use Rattle.volume.specs.meaning.State.{callPresent}
 use Rattle.volume.specs.meaning.Refusals.{firstRefusal, formatRows, twoUnnamed}
-use Rattle.volume.specs.meaning.Calls.{flushStores, generationsFrom, appendGeneral, formatStores, formatState}
+use Rattle.volume.specs.meaning.Calls.{flushStores, generationsFrom, appendGeneral, formatStores}
 use Rattle.volume.specs.meaning.Answers.{leftOut, namedDrives}
-use Rattle.volume.specs.meaning.CallContracts.{blankRecord, viewState, isSet, verdictNumber, formatVerdict, freshRecord, freshState}
+use Rattle.volume.specs.meaning.CallContracts.{isSet, verdictNumber, formatVerdict}
 use Rattle.volume.specs.checks.CheckLaws.{presentList, present-is}
-use Rattle.volume.specs.looking.DrivesLost.{fill-at}
 use Rattle.volume.specs.checks.StoreLoops.{present-one, first-generations}
-
--- it is the state of the rules, in every zone of the volume
-pub format-views : (g : Geometry) (x z : ℕ) → z < g .zones
-    → (viewState (freshState g x) .lost ≡ formatState x .lost) × (viewState (freshState g x) .generation z ≡ formatState x .generation z) × (viewState (freshState g x) .condition z ≡ formatState x .condition z)
-unfolding freshState
-format-views g x z h =
-    let e = fill-at (λ y. freshRecord) blankRecord blankRecord (g .zones) (16 - g .zones) z h in
-    (refl, ap (λ (r : ZoneRecord). r .generation) e, ap (λ (r : ZoneRecord). r .condition) e)
 
 -- ==== refusals
 abbrev pub formatChecks : Geometry → List Bool → ℕ → List ℕ → List ℕ → List (ℕ × Bool)

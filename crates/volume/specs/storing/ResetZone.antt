@@ -8,17 +8,16 @@ use mathlib.Core.List.{List, [], _∷_, _++_, map}
 use lib.ListN.{length, getD, take}
 use Rattle.tables.specs.declared.Geometry.{Geometry}
 use Rattle.tables.specs.meaning.Basics.{pick}
-use Rattle.tables.specs.meaning.Below.{eachBelow, tabulate}
-use Rattle.tables.specs.laws.Below.{length-tabulate, getD-tabulate}
+use Rattle.tables.specs.meaning.Below.{eachBelow}
 use Rattle.tables.specs.meaning.Drives.{findBelow}
-use Rattle.tables.specs.meaning.Geometry.{cells}
+use Rattle.tables.specs.meaning.Geometry.{cells, maxZones}
 use Rattle.tables.specs.meaning.Tables.{Tables, tablesOf}
 use Rattle.logs.specs.meaning.Entry.{wornGeneration}
 use Rattle.volume.specs.declared.State.{State}
 use Rattle.volume.specs.declared.Zone.{Zone}
 use Rattle.volume.specs.meaning.Refusals.{resetFull}
 use Rattle.volume.specs.meaning.Emptying.{byState, resetAll}
-use Rattle.volume.specs.meaning.CallContracts.{recordAt, viewState, isSet, verdictNumber, rolesOf, seenIn, Result, storingOn, resetVerdict, withReset, resetOn}
+use Rattle.volume.specs.meaning.CallContracts.{recordAt, viewState, isSet, verdictNumber, rolesOf, seenIn, Result, storingOn, resetVerdict, resetOn, stateHeld}
 use Rattle.tables.specs.meaning.Geometry.{Valid}
 use Rattle.tables.specs.meaning.Device.{Store}
 use Rattle.tables.specs.laws.Made.{Made}
@@ -26,7 +25,7 @@ use Rattle.logs.specs.meaning.Entry.{kindOfLog, Header, closing, encode}
 use Rattle.volume.specs.declared.roles.LogPlaces.{LogPlaces}
 use Rattle.volume.specs.declared.log_room.RoomAsked.{RoomAsked}
 use Rattle.volume.specs.declared.log_room.LogRoom.{LogRoom}
-use Rattle.volume.specs.meaning.Calls.{resetStores}
+use Rattle.volume.specs.meaning.Calls.{resetStores, resetState}
 use Rattle.volume.specs.meaning.Rules.{generalHeads}
 use Rattle.volume.specs.meaning.Roles.{roles, rolesAfter}
 use Rattle.volume.specs.meaning.Emptying.{InForce, generalCopies, newGeneral, newGeneralSize, staysFull, spareWritten, resetLimit, emptiedFor, emptyGeneral}
@@ -45,18 +44,7 @@ use Rattle.volume.specs.emptying.RoomMoves.{to-is, emptied-made-all}
 use Rattle.volume.specs.meaning.State.{callPresent}
 use Rattle.volume.specs.checks.CheckLaws.{presentList, present-is, left-out-is, openingNumber}
 use Rattle.volume.specs.storing.Resetting.{resetWith, raisedList, reset-with, resetLateNumber, resetFullIn, reset-room, reset-refusal}
-
--- the state's generations, as the array that the code has
-unfoldable pub generationsIn : State → List ℕ
-generationsIn s = tabulate (λ z. recordAt s z .generation) 16
-
-pub generations-in-long : (s : State) → length (generationsIn s) ≡ 16
-unfolding generationsIn
-generations-in-long s = length-tabulate (λ z. recordAt s z .generation) 16
-
-pub generations-in-at : (s : State) (z : ℕ) → z < 16 → getD (generationsIn s) z 0 ≡ recordAt s z .generation
-unfolding generationsIn
-generations-in-at s z h = getD-tabulate (λ z. recordAt s z .generation) 16 z 0 h
+use Rattle.volume.specs.checks.Records.{generationsIn, generations-in-at}
 
 -- what the functions rely on
 pub record ResetReady (zone : Zone) (s : State) (ds : List ℕ) : Type 0 where
@@ -72,7 +60,7 @@ zoneFull zone s t = let g = zone .geometry in resetFull g (isSet (zone .here)) (
 unfoldable pub resetZoneOn : Zone → State → ℕ → Tables → Result
 resetZoneOn zone s count t =
     storingOn (zone .geometry) (pick (zoneFull zone s t) 14 0) (resetAll (zone .geometry) (isSet (zone .here)) (rolesOf (zone .geometry) t) (seenIn (zone .geometry) t) (viewState s) (zone .number))
-    (withReset s (zone .number) (findBelow (λ (d : ℕ). not (isSet (zone .here) d)) (zone .geometry .drives))) s count t
+    (stateHeld maxZones (resetState (findBelow (λ (d : ℕ). not (isSet (zone .here) d)) (zone .geometry .drives)) (viewState s) (zone .number))) s count t
 
 -- ---- the copies by the tables with the logs where they lie are those of the rules (gs: the generations of f)
 pub copies-seen : (g : Geometry) (p : LogPlaces) (xs ws ps : List ℕ) → SeenByRoles g p xs ws ps → (ds gs : List ℕ) (f : InForce) → ((z : ℕ) → z < g .zones → getD gs z 0 ≡ f .generation z) → (d : ℕ)
@@ -167,5 +155,5 @@ reset-zone-on g named s z count xs ws ds begun hz late =
     let n : pick (zoneFull (zoneNow g (presentList g named (s .lost)) s z) s u) 14 0 ≡ verdictNumber (resetVerdict g named s z u) =
     ap (λ (here : ℕ → Bool). pick (resetFull g here (rolesOf g u) (byState g here (seenIn g u) (viewState s)) (seenIn g u)) 14 0) (present-is g named s)
     ∙ reset-room g named s z (resetFullIn g named s u) (length xs) ws ds begun hz late ∙ reset-refusal g named s z xs ws ds in
-    ap₂ (λ (m : ℕ) (here : ℕ → Bool). storingOn g m (resetAll g here (rolesOf g u) (seenIn g u) (viewState s) z) (withReset s z (findBelow (λ (d : ℕ). not (isSet (presentList g named (s .lost)) d)) (g .drives))) s count u) n (present-is g named s)
-    ∙ ap (λ (x : ℕ). storingOn g (verdictNumber (resetVerdict g named s z u)) (resetAll g (callPresent g (isSet named) (viewState s)) (rolesOf g u) (seenIn g u) (viewState s) z) (withReset s z x) s count u) (left-out-is g named s)
+    ap₂ (λ (m : ℕ) (here : ℕ → Bool). storingOn g m (resetAll g here (rolesOf g u) (seenIn g u) (viewState s) z) (stateHeld maxZones (resetState (findBelow (λ (d : ℕ). not (isSet (presentList g named (s .lost)) d)) (g .drives)) (viewState s) z)) s count u) n (present-is g named s)
+    ∙ ap (λ (x : ℕ). storingOn g (verdictNumber (resetVerdict g named s z u)) (resetAll g (callPresent g (isSet named) (viewState s)) (rolesOf g u) (seenIn g u) (viewState s) z) (stateHeld maxZones (resetState x (viewState s) z)) s count u) (left-out-is g named s)

@@ -1,15 +1,14 @@
 -- A reset on the tables: its refusals as numbers, its six phases as the code makes them, and the state that it hands on.
-use mathlib.Core.Path.{_≡_, refl, sym, ap, ap₂, _∙_, fun-ext}
+use mathlib.Core.Path.{_≡_, refl, sym, ap, _∙_}
 use mathlib.Core.Logic.{_≢_}
 use mathlib.Core.Bool.{Bool, true, false, _&&_, _||_, not}
-use Prim.Native.Nat.{ℕ, zero, suc, _+_, _-_, _≤_, _<_}
+use Prim.Native.Nat.{ℕ, zero, _+_, _≤_, _<_}
 use native.Mathlib.Decide.{ℕ-discrete, decLt}
 use native.Mathlib.Omega.{arith}
 use mathlib.Core.List.{List, [], _∷_, _++_}
-use lib.ListN.{length, getD, set, take}
-use lib.Seq.{getD-set-other}
+use lib.ListN.{length, take}
 use lib.Dec.{ltb, leb, eqb}
-use borrow.Author.Tests.{eq-eqb, ne-eqb, lt-ltb, le-ltb, ltb-true, leb-false}
+use borrow.Author.Tests.{eq-eqb, ne-eqb, lt-ltb, le-ltb, leb-false}
 use Rattle.tables.specs.declared.Geometry.{Geometry}
 use Rattle.tables.specs.meaning.Basics.{pick}
 use Rattle.tables.specs.laws.Basics.{or-none}
@@ -23,49 +22,20 @@ use Rattle.tables.specs.meaning.Phases.{onPresent}
 use Rattle.tables.specs.meaning.Tables.{Tables, tablesOf, deviceOf, lengthsFit, pointersBad}
 use Rattle.tables.specs.laws.Made.{Made, MadeAppends, MadePointers}
 use Rattle.tables.specs.laws.Counted.{made-nil, made-append}
-use Rattle.logs.specs.meaning.Entry.{generalZone, wornGeneration, counters, zoneReset}
-use Rattle.volume.specs.declared.Condition.{Condition}
-use Rattle.volume.specs.declared.Condition.the-variants.{Empty, Worn}
+use Rattle.logs.specs.meaning.Entry.{wornGeneration, counters, zoneReset}
 use Rattle.volume.specs.declared.ZoneRecord.{ZoneRecord}
 use Rattle.volume.specs.declared.State.{State}
 use Rattle.volume.specs.meaning.State.{pointerIn, isWorn, StateView, callPresent}
 use Rattle.volume.specs.meaning.Roles.{byRoles}
 use Rattle.volume.specs.meaning.Emptying.{byState}
 use Rattle.volume.specs.meaning.Refusals.{stateWithin, twoAbsent, firstRefusal, flushRows, resetRows, staleIn, stale, resetFull, noZone, wornFor}
-use Rattle.volume.specs.meaning.Calls.{flushStores, generationsFrom, appendGeneral, logsReset, raisedAt, resetStores, resetState}
-use Rattle.volume.specs.meaning.CallContracts.{recordAt, blankRecord, viewState, isSet, verdictNumber, rolesOf, seenIn, flushVerdict, resetVerdict, resetRecord, withReset}
+use Rattle.volume.specs.meaning.Calls.{flushStores, generationsFrom, appendGeneral, logsReset, raisedAt, resetStores}
+use Rattle.volume.specs.meaning.CallContracts.{recordAt, viewState, isSet, verdictNumber, rolesOf, seenIn, flushVerdict, resetVerdict}
 use Rattle.volume.specs.checks.CheckLaws.{presentList, present-is, openingNumber, opened, after-four}
 use Rattle.volume.specs.storing.Flushing.{flush-refusal}
 use Rattle.volume.specs.checks.StoreLoops.{first-generations}
 use Rattle.volume.specs.checks.ZoneChecks.{staleOn, stale-on-tables}
 use Rattle.volume.specs.looking.HiddenLogs.{by-roles-data}
-
--- it is the state of the rules
-record-set : (s : State) (z : ℕ) (r : ZoneRecord) (y : ℕ) → z < length (s .zones) → getD (set (s .zones) z r) y blankRecord ≡ pick (eqb y z) r (recordAt s y)
-record-set s z r y h = go (ℕ-discrete y z)
-  where
-    here : (rs : List ZoneRecord) (i : ℕ) → i < length rs → getD (set rs i r) i blankRecord ≡ r
-    here [] i l = absurd (omega arith)
-    here (q ∷ rs) zero l = refl
-    here (q ∷ rs) (suc i) l = here rs i (omega arith)
-
-    go : Dec (y ≡ z) → getD (set (s .zones) z r) y blankRecord ≡ pick (eqb y z) r (recordAt s y)
-    go (yes e) = rw (e, eq-eqb z z refl) (here (s .zones) z h)
-    go (no e) = rw (ne-eqb y z e) (getD-set-other (s .zones) z y r blankRecord e)
-
-pub reset-views : (s : State) (z x : ℕ) → z < length (s .zones) → viewState (withReset s z x) ≡ resetState x (viewState s) z
-reset-views s z x h =
-    ap₂ (λ (a : ℕ → ℕ) (b : ℕ → Condition). record { lost = x; generation = a; condition = b })
-    (fun-ext λ y. ap (λ (r : ZoneRecord). r .generation) (record-set s z (resetRecord (recordAt s z)) y h) ∙ generation-of (eqb y z) (recordAt s y))
-    (fun-ext λ y. ap (λ (r : ZoneRecord). r .condition) (record-set s z (resetRecord (recordAt s z)) y h) ∙ condition-of (eqb y z) (recordAt s y))
-  where
-    generation-of : (b : Bool) (r : ZoneRecord) → (pick b (resetRecord (recordAt s z)) r) .generation ≡ pick b (suc (recordAt s z .generation)) (r .generation)
-    generation-of true r = refl
-    generation-of false r = refl
-
-    condition-of : (b : Bool) (r : ZoneRecord) → (pick b (resetRecord (recordAt s z)) r) .condition ≡ pick b (pick (eqb (suc (recordAt s z .generation)) wornGeneration) (Worn zero) Empty) (r .condition)
-    condition-of true r = refl
-    condition-of false r = refl
 
 -- ==== refusals
 -- those of a zone that there is, by its record, before the logs are asked for their room

@@ -51,12 +51,12 @@ pub record StripeFits (g : Geometry) (y p from : ℕ) (xs ws buffer : List ℕ) 
   pub in-buffer : from + (g .drives - 1) * (g .unit * g .sector) ≤ length buffer
 
 -- where unit j goes; the parity is unit D − 1
-abbrev pub placeOf : Geometry → ℕ → ℕ → List ℕ → ℕ → ℕ
-placeOf g y p ws = unitPlace g y (unitDrive (g .drives) p) ws
+abbrev pub stripeUnitPlace : Geometry → ℕ → ℕ → List ℕ → ℕ → ℕ
+stripeUnitPlace g y p ws = unitPlace g y (unitDrive (g .drives) p) ws
 
 -- the bytes with its first j units, and their row
 abbrev pub stripeLaid : Geometry → ℕ → ℕ → ℕ → List ℕ → List ℕ → List ℕ → ℕ → List ℕ
-stripeLaid g y p from ws buffer xs j = rowLaid (unitsLaid (placeOf g y p ws) (unitIn g buffer from) xs j) (placeOf g y p ws (g .drives - 1)) (unitIn g buffer from) j
+stripeLaid g y p from ws buffer xs j = rowLaid (unitsLaid (stripeUnitPlace g y p ws) (unitIn g buffer from) xs j) (stripeUnitPlace g y p ws (g .drives - 1)) (unitIn g buffer from) j
 
 module _ (g : Geometry) (y p from : ℕ) (xs ws buffer : List ℕ) (f : StripeFits g y p from xs ws buffer) where
   abbrev n : ℕ
@@ -66,13 +66,13 @@ module _ (g : Geometry) (y p from : ℕ) (xs ws buffer : List ℕ) (f : StripeFi
   unit = unitIn g buffer from
 
   abbrev place : ℕ → ℕ
-  place = placeOf g y p ws
+  place = stripeUnitPlace g y p ws
 
   abbrev row : ℕ
-  row = placeOf g y p ws (g .drives - 1)
+  row = stripeUnitPlace g y p ws (g .drives - 1)
 
   abbrev laid : ℕ → List ℕ
-  laid = unitsLaid (placeOf g y p ws) (unitIn g buffer from) xs
+  laid = unitsLaid (stripeUnitPlace g y p ws) (unitIn g buffer from) xs
 
   pub unit-inside : (j : ℕ) → j + 1 < g .drives → from + j * (g .unit * g .sector) + g .unit * g .sector ≤ length buffer
   unit-inside j h = let k : suc j ≤ g .drives - 1 = omega arith in omega (arith, rw suc-mul at (mul-le-mul-right (g .unit * g .sector) k), f .in-buffer)
@@ -80,10 +80,10 @@ module _ (g : Geometry) (y p from : ℕ) (xs ws buffer : List ℕ) (f : StripeFi
   pub unit-long : (j : ℕ) → j + 1 < g .drives → length (unitIn g buffer from j) ≡ g .unit * g .sector
   unit-long j h = part-long buffer (from + j * n) n (unit-inside j h)
 
-  pub place-inside : (j : ℕ) → j < g .drives → placeOf g y p ws j + g .unit * g .sector ≤ totalBytes g
+  pub place-inside : (j : ℕ) → j < g .drives → stripeUnitPlace g y p ws j + g .unit * g .sector ≤ totalBytes g
   place-inside = place-in g y (unitDrive (g .drives) p) (g .drives) xs ws (f .fit)
 
-  pub place-apart : (i j : ℕ) → i < g .drives → j < g .drives → i ≢ j → Apart (placeOf g y p ws i) (placeOf g y p ws j) (g .unit * g .sector)
+  pub place-apart : (i j : ℕ) → i < g .drives → j < g .drives → i ≢ j → Apart (stripeUnitPlace g y p ws i) (stripeUnitPlace g y p ws j) (g .unit * g .sector)
   place-apart = places-apart g y (unitDrive (g .drives) p) (g .drives) xs ws (f .fit)
 
   units-long : (j : ℕ) → j + 1 ≤ g .drives → length (laid j) ≡ totalBytes g
@@ -100,10 +100,10 @@ module _ (g : Geometry) (y p from : ℕ) (xs ws buffer : List ℕ) (f : StripeFi
       (rw (m, unit-long j h) (place-apart (g .drives - 1) j (omega arith) (omega arith) (λ e. omega (arith, e))))
 
   -- the row begun, and grown, by one unit and by three
-  one-first : overlay (overlay xs (placeOf g y p ws 0) (unitIn g buffer from 0)) (placeOf g y p ws (g .drives - 1)) (unitIn g buffer from 0) ≡ stripeLaid g y p from ws buffer xs 1
+  one-first : overlay (overlay xs (stripeUnitPlace g y p ws 0) (unitIn g buffer from 0)) (stripeUnitPlace g y p ws (g .drives - 1)) (unitIn g buffer from 0) ≡ stripeLaid g y p from ws buffer xs 1
   one-first = refl
 
-  three-first : overlay (overlay (overlay (overlay xs (placeOf g y p ws 0) (unitIn g buffer from 0)) (placeOf g y p ws 1) (unitIn g buffer from 1)) (placeOf g y p ws 2) (unitIn g buffer from 2)) (placeOf g y p ws (g .drives - 1))
+  three-first : overlay (overlay (overlay (overlay xs (stripeUnitPlace g y p ws 0) (unitIn g buffer from 0)) (stripeUnitPlace g y p ws 1) (unitIn g buffer from 1)) (stripeUnitPlace g y p ws 2) (unitIn g buffer from 2)) (stripeUnitPlace g y p ws (g .drives - 1))
       (xorBytes (xorBytes (unitIn g buffer from 0) (unitIn g buffer from 1)) (unitIn g buffer from 2))
       ≡ stripeLaid g y p from ws buffer xs 3
   three-first = refl
@@ -113,7 +113,7 @@ module _ (g : Geometry) (y p from : ℕ) (xs ws buffer : List ℕ) (f : StripeFi
   row-read j h = part-laid (laid (suc j)) row n (xorBelow unit (suc j)) (row-long j h) (rw (units-long (suc j) (omega arith)) (place-inside (g .drives - 1) (omega arith)))
 
   one-more : (j : ℕ) (ys : List ℕ) → 0 < j → j + 1 < g .drives → ys ≡ stripeLaid g y p from ws buffer xs j
-      → overlay (overlay ys (placeOf g y p ws j) (unitIn g buffer from j)) (placeOf g y p ws (g .drives - 1)) (xorBytes (take (length (unitIn g buffer from j)) (drop (placeOf g y p ws (g .drives - 1)) ys)) (unitIn g buffer from j))
+      → overlay (overlay ys (stripeUnitPlace g y p ws j) (unitIn g buffer from j)) (stripeUnitPlace g y p ws (g .drives - 1)) (xorBytes (take (length (unitIn g buffer from j)) (drop (stripeUnitPlace g y p ws (g .drives - 1)) ys)) (unitIn g buffer from j))
       ≡ stripeLaid g y p from ws buffer xs (suc j)
   one-more zero ys pos h e = absurd (omega arith)
   one-more (suc j) ys pos h e =
@@ -126,8 +126,8 @@ module _ (g : Geometry) (y p from : ℕ) (xs ws buffer : List ℕ) (f : StripeFi
       (laid-again (laid (suc (suc j))) row r (xorBytes r (unit (suc j))) lt (rw (ll, lr) (place-inside (g .drives - 1) (omega arith)))))
 
   three-more : (j : ℕ) (ys : List ℕ) → 0 < j → j + 3 < g .drives → ys ≡ stripeLaid g y p from ws buffer xs j
-      → overlay (overlay (overlay (overlay ys (placeOf g y p ws j) (unitIn g buffer from j)) (placeOf g y p ws (suc j)) (unitIn g buffer from (suc j))) (placeOf g y p ws (suc (suc j))) (unitIn g buffer from (suc (suc j)))) (placeOf g y p ws (g .drives - 1))
-      (xorBytes (xorBytes (xorBytes (take (length (unitIn g buffer from j)) (drop (placeOf g y p ws (g .drives - 1)) ys)) (unitIn g buffer from j)) (unitIn g buffer from (suc j))) (unitIn g buffer from (suc (suc j))))
+      → overlay (overlay (overlay (overlay ys (stripeUnitPlace g y p ws j) (unitIn g buffer from j)) (stripeUnitPlace g y p ws (suc j)) (unitIn g buffer from (suc j))) (stripeUnitPlace g y p ws (suc (suc j))) (unitIn g buffer from (suc (suc j)))) (stripeUnitPlace g y p ws (g .drives - 1))
+      (xorBytes (xorBytes (xorBytes (take (length (unitIn g buffer from j)) (drop (stripeUnitPlace g y p ws (g .drives - 1)) ys)) (unitIn g buffer from j)) (unitIn g buffer from (suc j))) (unitIn g buffer from (suc (suc j))))
       ≡ stripeLaid g y p from ws buffer xs (suc (suc (suc j)))
   three-more zero ys pos h e = absurd (omega arith)
   three-more (suc j) ys pos h e =
@@ -145,14 +145,14 @@ module _ (g : Geometry) (y p from : ℕ) (xs ws buffer : List ℕ) (f : StripeFi
 
   -- as code says it
   pub one-next : (j : ℕ) (ys : List ℕ) → j + 1 < g .drives → ys ≡ stripeLaid g y p from ws buffer xs j
-      → overlay (overlay ys (placeOf g y p ws j) (unitIn g buffer from j)) (placeOf g y p ws (g .drives - 1)) (pick (eqb j 0) (unitIn g buffer from j) (xorBytes (take (length (unitIn g buffer from j)) (drop (placeOf g y p ws (g .drives - 1)) ys)) (unitIn g buffer from j)))
+      → overlay (overlay ys (stripeUnitPlace g y p ws j) (unitIn g buffer from j)) (stripeUnitPlace g y p ws (g .drives - 1)) (pick (eqb j 0) (unitIn g buffer from j) (xorBytes (take (length (unitIn g buffer from j)) (drop (stripeUnitPlace g y p ws (g .drives - 1)) ys)) (unitIn g buffer from j)))
       ≡ stripeLaid g y p from ws buffer xs (j + 1)
   one-next zero ys h e = rw e one-first
   one-next (suc j) ys h e = let ne : eqb (suc j) 0 ≡ false = ne-eqb (suc j) 0 (λ q. omega (arith, q)) in let f : suc j + 1 ≡ suc (suc j) = omega arith in rw (ne, f) (one-more (suc j) ys (omega arith) h e)
 
   pub three-next : (j : ℕ) (ys : List ℕ) → j + 3 < g .drives → ys ≡ stripeLaid g y p from ws buffer xs j
-      → overlay (overlay (overlay (overlay ys (placeOf g y p ws j) (unitIn g buffer from j)) (placeOf g y p ws (j + 1)) (unitIn g buffer from (j + 1))) (placeOf g y p ws (j + 2)) (unitIn g buffer from (j + 2))) (placeOf g y p ws (g .drives - 1))
-      (xorBytes (xorBytes (pick (eqb j 0) (unitIn g buffer from j) (xorBytes (take (length (unitIn g buffer from j)) (drop (placeOf g y p ws (g .drives - 1)) ys)) (unitIn g buffer from j))) (unitIn g buffer from (j + 1))) (unitIn g buffer from (j + 2)))
+      → overlay (overlay (overlay (overlay ys (stripeUnitPlace g y p ws j) (unitIn g buffer from j)) (stripeUnitPlace g y p ws (j + 1)) (unitIn g buffer from (j + 1))) (stripeUnitPlace g y p ws (j + 2)) (unitIn g buffer from (j + 2))) (stripeUnitPlace g y p ws (g .drives - 1))
+      (xorBytes (xorBytes (pick (eqb j 0) (unitIn g buffer from j) (xorBytes (take (length (unitIn g buffer from j)) (drop (stripeUnitPlace g y p ws (g .drives - 1)) ys)) (unitIn g buffer from j))) (unitIn g buffer from (j + 1))) (unitIn g buffer from (j + 2)))
       ≡ stripeLaid g y p from ws buffer xs (j + 3)
   three-next zero ys h e = rw e three-first
   three-next (suc j) ys h e =
@@ -255,9 +255,9 @@ module _ (g : Geometry) (ok : Valid g) (present : ℕ → Bool) (all : (d : ℕ)
   long-is : length stores ≡ g .drives * g .unit
   long-is = ap (λ (ss : List Store). length ss) stores-are ∙ columns-long (g .drives) (omega arith)
 
-  laid-is : unitsLaid (placeOf g (dataZone z) (parityDrive (g .drives) z s) ws) (λ i. concat (content i)) xs (g .drives) ≡ stripeLaid g (dataZone z) (parityDrive (g .drives) z s) from ws buffer xs (g .drives - 1)
+  laid-is : unitsLaid (stripeUnitPlace g (dataZone z) (parityDrive (g .drives) z s) ws) (λ i. concat (content i)) xs (g .drives) ≡ stripeLaid g (dataZone z) (parityDrive (g .drives) z s) from ws buffer xs (g .drives - 1)
   laid-is =
-      let place = placeOf g (dataZone z) (parityDrive (g .drives) z s) ws in
+      let place = stripeUnitPlace g (dataZone z) (parityDrive (g .drives) z s) ws in
       let unit = unitIn g buffer from in
       let rows : concat (content N) ≡ xorBelow unit N = ap concat content-rows ∙ parity-joined g ok present all z S s sector-long ∙ xor-below-cong (λ j. concat (tabulateFrom S (start + j * g .unit) (g .unit))) unit N (λ j l. unit-is j) in
       ap (unitsLaid place (λ i. concat (content i)) xs) more

@@ -4,20 +4,17 @@ use mathlib.Core.Bool.{Bool, true, false, _&&_, _||_, true≢false}
 use Prim.Native.Nat.{ℕ, _+_, _*_, _≤_, _<_}
 use native.Mathlib.Omega.{arith}
 use mathlib.Core.List.{List}
-use lib.ListN.{length}
 use Rattle.tables.specs.declared.Geometry.{Geometry}
 use Rattle.tables.specs.laws.Basics.{or-none}
-use Rattle.tables.specs.laws.Below.{length-tabulate}
 use Rattle.tables.specs.meaning.Geometry.{Valid, zoneSectors}
 use Rattle.tables.specs.meaning.Tables.{cell}
 use Rattle.volume.specs.declared.State.{State}
 use Rattle.volume.specs.declared.writing.Run.{Run}
 use Rattle.volume.specs.declared.roles.LogPlaces.{LogPlaces}
 use Rattle.volume.specs.declared.log_room.LogRoom.{LogRoom}
-use Rattle.volume.specs.meaning.State.{pointerIn}
 use Rattle.volume.specs.meaning.Refusals.{goneBefore}
 use Rattle.volume.specs.meaning.Emptying.{goneForCopies}
-use Rattle.volume.specs.meaning.CallContracts.{recordAt, isSet}
+use Rattle.volume.specs.meaning.CallContracts.{isSet}
 use Rattle.volume.specs.looking.Knowing.{Readable, readDevice}
 use Rattle.volume.specs.looking.SeenByRoles.{seen-zone, seen-readable}
 use Rattle.volume.specs.checks.LogRoom.{SeenByRoles, emptyingsOf, placed-is}
@@ -25,15 +22,11 @@ use Rattle.volume.specs.emptying.ParityCopies.{PointersWithin}
 use Rattle.volume.specs.emptying.CopiesKnown.{inForceOf, CopiesReady}
 use Rattle.volume.specs.emptying.ParityEmptyings.{ParityKnown}
 use Rattle.volume.specs.emptying.RoomMoves.{hidden-least}
-use Rattle.volume.specs.storing.ResetZone.{generationsIn, generations-in-long}
-use Rattle.volume.specs.writing.WriteRoom.{pointsIn, points-within, writeAsked}
+use Rattle.volume.specs.checks.Records.{generationsIn, generations-in-long, pointsIn}
+use Rattle.volume.specs.writing.WriteRoom.{points-within, writeAsked}
 use Rattle.volume.specs.writing.WriteStores.{WriteReady}
 use Rattle.volume.specs.writing.WriteSeen.{seen-as}
 use Rattle.volume.specs.writing.WriteRun.{RunReady}
-
-pub points-in-long : (s : State) → length (pointsIn s) ≡ 16
-unfolding pointsIn
-points-in-long s = length-tabulate (λ z. pointerIn (recordAt s z .condition)) 16
 
 second : (a b : Bool) → a ≡ true → a && b ≡ false → b ≡ false
 second true b e h = h

@@ -1,18 +1,13 @@
 -- A write by one zone's record (src/by_record.rt): made, it is the write of the call by every state that says so of the zone.
-use mathlib.Core.Path.{_≡_, refl, sym, ap, ap₂, _∙_, subst}
-use mathlib.Core.Bool.{Bool, true, false, _&&_, not}
-use Prim.Native.Nat.{ℕ, _+_, _<_}
+use mathlib.Core.Path.{_≡_, sym, ap, ap₂, _∙_}
+use mathlib.Core.Bool.{true, false}
+use Prim.Native.Nat.{ℕ, _<_}
 use mathlib.Core.List.{List}
 use lib.ListN.{length}
-use lib.Dec.{eqb, ltb}
-use borrow.Author.Tests.{eqb-true}
-use Rattle.tables.specs.declared.Geometry.{Geometry}
-use Rattle.tables.specs.laws.Basics.{and-split}
+use lib.Dec.{eqb}
 use Rattle.tables.specs.meaning.Basics.{pick}
-use Rattle.tables.specs.meaning.Below.{countBelow}
-use Rattle.tables.specs.meaning.Drives.{findBelow}
-use Rattle.tables.specs.meaning.Geometry.{Valid, totalBytes, zoneSectors}
-use Rattle.tables.specs.meaning.Tables.{tablesOf, bufferFits}
+use Rattle.tables.specs.meaning.Geometry.{Valid, zoneSectors, maxZones}
+use Rattle.tables.specs.meaning.Tables.{tablesOf}
 use Rattle.volume.specs.declared.Answer.the-variants.{Finished, Unfinished}
 use Rattle.volume.specs.declared.Outcome.{Outcome}
 use Rattle.volume.specs.declared.State.{State}
@@ -22,13 +17,14 @@ use Rattle.volume.specs.declared.by_record.Recorded.{Recorded}
 use Rattle.volume.specs.declared.write_directly.Tried.{Tried}
 use Rattle.volume.specs.declared.writing.Run.{Run}
 use Rattle.volume.specs.meaning.Refusals.{zoneOf, offsetOf}
-use Rattle.volume.specs.meaning.CallContracts.{recordAt, isSet, Result, writtenState, writeOn}
-use Rattle.volume.specs.checks.CheckLaws.{presentList, openedFrom, Opens, opens}
+use Rattle.volume.specs.meaning.CallContracts.{Result, writeOn, stateHeld, viewState}
+use Rattle.volume.specs.checks.CheckLaws.{presentList, openedFrom, opens}
 use Rattle.volume.specs.checks.ByRecord.{RecordFits, SaysOf, present-named, opening-by}
 use Rattle.volume.specs.writing.WriteRun.{RunAsked, RunStated, writeAskedOn}
 use Rattle.volume.specs.writing.WriteDirectly.{TriedOn}
 use Rattle.volume.specs.writing.WriteTried.{endedWith, tried-made}
-use Rattle.volume.specs.writing.Writing.{buffer-is, runNow, write-asked-on}
+use Rattle.volume.specs.writing.Writing.{buffer-is, write-asked-on}
+use Rattle.volume.specs.meaning.Calls.{openState}
 
 -- k sectors from address a, `count` stores at most
 pub record WrittenBy (by : ByRecord) (a k count : ℕ) (buffer xs ws xs′ ws′ : List ℕ) (r : Recorded) : Type 0 where
@@ -37,7 +33,7 @@ pub record WrittenBy (by : ByRecord) (a k count : ℕ) (buffer xs ws xs′ ws′
   pub done : r .made ≡ true → (s : State) (ds : List ℕ) → SaysOf by a s ws ds
       → writeOn (by .geometry) (by .named) s a k buffer count (tablesOf xs ws ds)
       ≡ record {
-        outcome = pick (eqb (r .rest) 0) (record { answer = Unfinished; state = s }) (record { answer = Finished; state = writtenState s (r .lost) (zoneOf (by .geometry) a) (r .pointer) });
+        outcome = pick (eqb (r .rest) 0) (record { answer = Unfinished; state = s }) (record { answer = Finished; state = stateHeld maxZones (openState (r .lost) (viewState s) (zoneOf (by .geometry) a) (r .pointer)) });
         tables = tablesOf xs′ ws′ ds;
       }
 

@@ -15,7 +15,7 @@ use Rattle.tables.specs.meaning.Basics.{pick}
 use Rattle.tables.specs.laws.Basics.{and-split, or-left}
 use Rattle.tables.specs.meaning.Below.{eachBelow}
 use Rattle.tables.specs.laws.Below.{none-any-below, all-below-all}
-use Rattle.tables.specs.meaning.Geometry.{Valid, physicalZones, cells, stripeSectors, dataZone}
+use Rattle.tables.specs.meaning.Geometry.{Valid, stripeSectors, dataZone, maxZones}
 use Rattle.tables.specs.meaning.Device.{Device, ZoneView, Store}
 use Rattle.tables.specs.meaning.Phases.{onPresent}
 use Rattle.tables.specs.meaning.Placement.{stripeOf}
@@ -29,7 +29,6 @@ use Rattle.tables.specs.laws.Made.{Made, MadeAppends}
 use Rattle.logs.specs.meaning.Entry.{parityZone}
 use Rattle.volume.specs.declared.Zone.{Zone}
 use Rattle.volume.specs.declared.State.{State}
-use Rattle.volume.specs.declared.Outcome.{Outcome}
 use Rattle.volume.specs.declared.Answer.the-variants.{Finished, Unfinished}
 use Rattle.volume.specs.declared.writing.Run.{Run}
 use Rattle.volume.specs.declared.write_directly.EntryPlace.{EntryPlace}
@@ -37,12 +36,12 @@ use Rattle.volume.specs.declared.write_directly.Tried.{Tried}
 use Rattle.volume.specs.declared.Condition.{Condition}
 use Rattle.volume.specs.meaning.Content.{at, insideStripe, fillOf, parityDriveAt}
 use Rattle.volume.specs.meaning.Rules.{known, zoneView, valueAt, parityEntries}
-use Rattle.volume.specs.meaning.Roles.{Roles, strongest, otherThan, rolesIn, roles, zoneOfRole, zoneOfKind, placedBy, driveByRoles, emptiedRoles, rolesAfter}
+use Rattle.volume.specs.meaning.Roles.{Roles, strongest, otherThan, rolesIn, zoneOfRole, zoneOfKind, placedBy, driveByRoles, emptiedRoles, rolesAfter}
 use Rattle.volume.specs.meaning.Refusals.{writeFull, goneIn, goneBefore, goneForEntry}
-use Rattle.volume.specs.meaning.Calls.{writeWith, zoneContent, writeStores}
+use Rattle.volume.specs.meaning.Calls.{writeWith, zoneContent, writeStores, openState}
 use Rattle.volume.specs.meaning.Answers.{sectorsIn}
 use Rattle.volume.specs.meaning.Emptying.{InForce, byState, newParity, newParitySize, unusedIn, lacksRoom, staysFull, spareWritten, writeLimit, emptiedFor, emptiedForWrite, goneForCopies, emptyingStores, emptyings, emptyParity, writeAll}
-use Rattle.volume.specs.meaning.CallContracts.{recordAt, viewState, isSet, rolesOf, seenIn, writtenState, pointerOf}
+use Rattle.volume.specs.meaning.CallContracts.{recordAt, viewState, isSet, rolesOf, seenIn, pointerOf, stateHeld}
 use Rattle.volume.specs.laws.CallContracts.{storing-ends}
 use Rattle.volume.specs.laws.LogPlaces.{withLogs, withParity, strongest-lt, role-of-other, zone-at-first, parity-placed, CellsAt}
 use Rattle.volume.specs.laws.LogClaims.{strengths, parity-zone}
@@ -74,8 +73,8 @@ entryPlace zone xs ws end =
     (entryLog (zone .geometry) xs ws (parityDriveAt (zone .geometry) (zone .number) end) (writeLimit (zone .geometry) end)) (record { alone = true; geometry = zone .geometry })
 
 -- of a write from its zone's pointer on
-unfoldable pub placeOf : Run → List ℕ → List ℕ → EntryPlace
-placeOf run xs ws = pick (earlierHeld (run .zone .geometry) (run .zone .here) ws (run .zone .number) (run .pointer)) (entryPlace (run .zone) xs ws (run .pointer + run .count)) (record { alone = false; geometry = run .zone .geometry })
+unfoldable pub directPlace : Run → List ℕ → List ℕ → EntryPlace
+directPlace run xs ws = pick (earlierHeld (run .zone .geometry) (run .zone .here) ws (run .zone .number) (run .pointer)) (entryPlace (run .zone) xs ws (run .pointer + run .count)) (record { alone = false; geometry = run .zone .geometry })
 
 and-false : (b : Bool) → b && false ≡ false
 and-false true = refl
@@ -84,11 +83,11 @@ and-false false = refl
 -- what trying a write came to: refused, or made, or neither, and then nothing has changed
 pub record TriedOn (run : Run) (c : Condition) (count : ℕ) (buffer xs ws xs′ ws′ : List ℕ) (r : Tried) : Type 0 where
   pub refusal-is : r .refusal ≡ zoneNumber (run .zone .geometry) (isSet (run .zone .here)) ws c (run .zone .number) (run .pointer) (run .count)
-  pub alone : r .made ≡ true → (r .refusal ≡ 0) × (placeOf run xs ws .alone ≡ true)
-  pub stores : r .made ≡ true → MadeAppends (placeOf run xs ws .geometry) (suc count) (r .rest) (runStoresOf run xs ws buffer) xs ws xs′ ws′
+  pub alone : r .made ≡ true → (r .refusal ≡ 0) × (directPlace run xs ws .alone ≡ true)
+  pub stores : r .made ≡ true → MadeAppends (directPlace run xs ws .geometry) (suc count) (r .rest) (runStoresOf run xs ws buffer) xs ws xs′ ws′
   pub kept : r .made ≡ false → (xs′ ≡ xs) × (ws′ ≡ ws)
 
-module _ (run : Run) (xs ws buffer : List ℕ) (ok : Valid (run .zone .geometry)) (logs-first : run .zone .geometry .logs ≡ 0) (sized : Sized (run .zone .geometry) xs ws) (p : RunPlaced run ws buffer) (alone : placeOf run xs ws .alone ≡ true) where
+module _ (run : Run) (xs ws buffer : List ℕ) (ok : Valid (run .zone .geometry)) (logs-first : run .zone .geometry .logs ≡ 0) (sized : Sized (run .zone .geometry) xs ws) (p : RunPlaced run ws buffer) (alone : directPlace run xs ws .alone ≡ true) where
   abbrev g : Geometry
   g = run .zone .geometry
 
@@ -115,14 +114,14 @@ module _ (run : Run) (xs ws buffer : List ℕ) (ok : Valid (run .zone .geometry)
   q = strongest asParity
 
   abbrev place : EntryPlace
-  place = placeOf run xs ws
+  place = directPlace run xs ws
 
   own-below : own < g .drives
   own-below = parity-drive-below (g .drives) (g .unit) z (omega (arith, ok .drives-least)) (ok .unit-least) (stripeOf (g .drives) (g .unit) end)
 
   -- ---- the sectors that it reads are held
   held : earlierHeld g (run .zone .here) ws z n ≡ true
-  unfolding placeOf
+  unfolding directPlace
   held = go (earlierHeld g (run .zone .here) ws z n) alone
     where
       go : (b : Bool) → pick b (entryPlace (run .zone) xs ws end) (record { alone = false; geometry = g }) .alone ≡ true → b ≡ true
@@ -156,12 +155,12 @@ module _ (run : Run) (xs ws buffer : List ℕ) (ok : Valid (run .zone .geometry)
 
   -- ---- so the place is its entry's
   placed : place ≡ entryPlace (run .zone) xs ws end
-  unfolding placeOf
+  unfolding directPlace
   placed = ap (λ (b : Bool). pick b (entryPlace (run .zone) xs ws end) (record { alone = false; geometry = g })) held
 
   -- by a geometry that differs from its own in where logs lie
   place-is : place .geometry ≡ withLogs g (place .geometry .logs)
-  unfolding placeOf entryPlace entryLog
+  unfolding directPlace entryPlace entryLog
   place-is = go (earlierHeld g (run .zone .here) ws z n) (insideStripe g end && present own)
     where
       found : EntryPlace
@@ -311,8 +310,8 @@ module _ (run : Run) (xs ws buffer : List ℕ) (ok : Valid (run .zone .geometry)
     unfolding runStoresOf
     cells-are = cells-write g (place .geometry .logs) r z (runContent g present (readDevice g xs ws) z (run .zone .generation) n ss) present data-at (run .zone .generation) n (run .count) log-at
 
-    pub directly-ends : (count rest : ℕ) (xs′ ws′ : List ℕ) → MadeAppends (placeOf run xs ws .geometry) (suc count) rest (runStoresOf run xs ws buffer) xs ws xs′ ws′
-        → (pick (eqb rest 0) (record { answer = Unfinished; state = s }) (record { answer = Finished; state = writtenState s (findBelow (λ (d : ℕ). not (isSet (run .zone .here) d)) (run .zone .geometry .drives)) (run .zone .number) (run .pointer + run .count) })
+    pub directly-ends : (count rest : ℕ) (xs′ ws′ : List ℕ) → MadeAppends (directPlace run xs ws .geometry) (suc count) rest (runStoresOf run xs ws buffer) xs ws xs′ ws′
+        → (pick (eqb rest 0) (record { answer = Unfinished; state = s }) (record { answer = Finished; state = stateHeld maxZones (openState (findBelow (λ (d : ℕ). not (isSet (run .zone .here) d)) (run .zone .geometry .drives)) (viewState s) (run .zone .number) (run .pointer + run .count)) })
         ≡ writeZoneOn run s buffer count (tablesOf xs ws ds) .outcome) × (tablesOf xs′ ws′ ds ≡ writeZoneOn run s buffer count (tablesOf xs ws ds) .tables)
     unfolding writeZoneOn
     directly-ends count rest xs′ ws′ m =
@@ -320,5 +319,5 @@ module _ (run : Run) (xs ws buffer : List ℕ) (ok : Valid (run .zone .geometry)
         let number : _≡_ {A = ℕ} (pick (runFull run s t) 14 (pick (runGone run s t) 15 0)) 0 = ap₂ (λ (a b : Bool). pick a 14 (pick b 15 0)) full-none gone-none in
         let by-place = subst (λ (k : Geometry). Made k (suc count) rest (runStoresOf run xs ws buffer) t u) place-is (m .made ds) in
         let made = made-at g (place .geometry .logs) r (suc count) rest (runStoresOf run xs ws buffer) t u cells-are by-place in
-        storing-ends g (pick (runFull run s t) 14 (pick (runGone run s t) 15 0)) (writeAll g present r w (viewState s) z ss) (writtenState s (findBelow (λ (d : ℕ). not (present d)) (g .drives)) z end) s count t rest u number
+        storing-ends g (pick (runFull run s t) 14 (pick (runGone run s t) 15 0)) (writeAll g present r w (viewState s) z ss) (stateHeld maxZones (openState (findBelow (λ (d : ℕ). not (present d)) (g .drives)) (viewState s) z end)) s count t rest u number
         (subst (λ (l : List Store). Made g (suc count) rest l t u) (sym all-stores) made)

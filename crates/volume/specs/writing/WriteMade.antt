@@ -49,9 +49,9 @@ use Rattle.volume.specs.emptying.Emptyings.{emptyingOf, emptiedOn}
 use Rattle.volume.specs.emptying.ParityEmptyings.{newParityOn}
 use Rattle.volume.specs.emptying.RoomMoves.{emptied-made-all}
 use Rattle.volume.specs.emptying.Carried.{on-drives-append}
-use Rattle.volume.specs.storing.ResetZone.{generationsIn}
+use Rattle.volume.specs.checks.Records.{generationsIn, pointsIn}
 use Rattle.volume.specs.emptying.CopiesKnown.{inForceOf}
-use Rattle.volume.specs.writing.WriteRoom.{pointsIn, writeAsked}
+use Rattle.volume.specs.writing.WriteRoom.{writeAsked}
 use Rattle.volume.specs.writing.WriteStores.{runContent}
 use Rattle.volume.specs.writing.WriteZone.{writeRoom, write-room-emptied, write-room-generation}
 use Rattle.volume.specs.writing.WriteSeen.{entries-are, value-is, gone-before-is, copies-gone-is, in-force-is}

@@ -1,46 +1,32 @@
 -- What a write asks of the parity logs, as the code asks it (src/write_room.rt).
 use mathlib.Core.Path.{_≡_, refl, sym, ap, _∙_}
 use mathlib.Core.Bool.{Bool, true, false, _&&_}
-use Prim.Native.Nat.{ℕ, zero, suc, _+_, _*_, _≤_, _<_}
+use Prim.Native.Nat.{ℕ, zero, suc, _<_}
 use native.Mathlib.Decide.{ℕ-discrete}
 use native.Mathlib.Omega.{arith}
 use mathlib.Core.List.{List}
-use lib.ListN.{length, getD, set, replicate}
+use lib.ListN.{getD, set, replicate}
 use lib.Seq.{getD-set-same, getD-set-other}
-use lib.Dec.{ltb, eqb}
+use lib.Dec.{eqb}
 use borrow.Author.Tests.{eq-eqb, ne-eqb}
 use Rattle.tables.specs.declared.Geometry.{Geometry}
-use Rattle.tables.specs.meaning.Below.{tabulate}
-use Rattle.tables.specs.laws.Below.{length-tabulate, getD-tabulate}
-use Rattle.tables.specs.meaning.Geometry.{Valid, zoneSectors}
+use Rattle.tables.specs.meaning.Geometry.{Valid}
 use Rattle.volume.specs.declared.State.{State}
 use Rattle.volume.specs.declared.Zone.{Zone}
 use Rattle.volume.specs.declared.roles.LogPlaces.{LogPlaces}
 use Rattle.volume.specs.declared.log_room.RoomAsked.{RoomAsked}
 use Rattle.volume.specs.declared.write_room.EntryDrive.{EntryDrive}
-use Rattle.volume.specs.meaning.State.{pointerIn, StateView}
 use Rattle.volume.specs.meaning.Content.{insideStripe, parityDriveAt}
 use Rattle.volume.specs.meaning.Refusals.{stateWithin}
 use Rattle.volume.specs.meaning.Emptying.{writeLimit}
-use Rattle.volume.specs.meaning.CallContracts.{recordAt, viewState, isSet}
+use Rattle.volume.specs.meaning.CallContracts.{viewState, isSet}
+use Rattle.volume.specs.checks.Records.{pointsIn, points-in-long, points-in-at}
 use Rattle.volume.specs.checks.ZoneChecks.{pointer-within}
 use Rattle.volume.specs.emptying.ParityCopies.{PointersWithin}
 
--- the pointers of the state's zones, as the array that the code has
-unfoldable pub pointsIn : State → List ℕ
-pointsIn s = tabulate (λ z. pointerIn (recordAt s z .condition)) 16
-
-pub points-at : (s : State) (z : ℕ) → z < 16 → getD (pointsIn s) z 0 ≡ pointerIn (recordAt s z .condition)
-unfolding pointsIn
-points-at s z h = getD-tabulate (λ z. pointerIn (recordAt s z .condition)) 16 z 0 h
-
 -- a state that has passed refusal 1
 pub points-within : (g : Geometry) (s : State) → Valid g → stateWithin g (viewState s) ≡ true → PointersWithin g (pointsIn s)
-unfolding pointsIn
-points-within g s ok h = record {
-  long = rw (length-tabulate (λ z. pointerIn (recordAt s z .condition)) 16) (ok .zones-most);
-  most = λ z l. rw (getD-tabulate (λ z. pointerIn (recordAt s z .condition)) 16 z 0 (omega (arith, l, ok .zones-most))) (pointer-within g s z h l);
-}
+points-within g s ok h = record { long = rw (points-in-long s) (ok .zones-most); most = λ z l. rw (points-in-at s z (omega (arith, l, ok .zones-most))) (pointer-within g s z h l) }
 
 -- the drive that gets the entry
 abbrev pub entryDriveOf : Geometry → ℕ → ℕ → EntryDrive

@@ -2,7 +2,7 @@
 -- its roles. The values below a pointer, the entries of a parity log, refusal 15.
 use mathlib.Core.Path.{_≡_, sym, ap, ap₂, _∙_, fun-ext}
 use mathlib.Core.Bool.{Bool, true, _&&_, not}
-use Prim.Native.Nat.{ℕ, _+_, _-_, _*_, _<_}
+use Prim.Native.Nat.{ℕ, _+_, _*_, _<_}
 use native.Mathlib.Omega.{arith}
 use mathlib.Core.List.{List}
 use lib.ListN.{getD}
@@ -35,9 +35,8 @@ use Rattle.volume.specs.looking.Knowing.{readDevice}
 use Rattle.volume.specs.looking.KnowingLaws.{view-durable}
 use Rattle.volume.specs.looking.SeenByRoles.{Seen, seen-rule}
 use Rattle.volume.specs.checks.LogRoom.{SeenByRoles, placed-is, seen-sectors}
-use Rattle.volume.specs.storing.ResetZone.{generationsIn, generations-in-at}
+use Rattle.volume.specs.checks.Records.{generationsIn, generations-in-at, pointsIn, points-in-at}
 use Rattle.volume.specs.emptying.CopiesKnown.{inForceOf}
-use Rattle.volume.specs.writing.WriteRoom.{pointsIn, points-at}
 
 pub seen-as : (g : Geometry) (p : LogPlaces) (xs ws ps : List ℕ) → SeenByRoles g p xs ws ps → Seen g xs ws p ps
 seen-as g p xs ws ps k = record { first = k .logs-first; sized = k .sized; places = k .places-are; hidden = k .hidden }
@@ -91,7 +90,7 @@ module _ (g : Geometry) (p : LogPlaces) (xs ws ps : List ℕ) (k : SeenByRoles g
     copies-in d = any-below-cong (λ z. one z (getD (generationsIn s) z 0) (getD (pointsIn s) z 0) (parityEntries g v d) (zoneView g present v z (getD (generationsIn s) z 0)))
         (λ z. one z (recordAt s z .generation) (pointerIn (recordAt s z .condition)) (parityEntries g w d) (zoneView g present w z (recordAt s z .generation))) (g .zones)
         (λ z h. let few : z < 16 = omega (arith, h, ok .zones-most) in
-        ap₂ (λ (n q : ℕ). one z n q (parityEntries g v d) (zoneView g present v z n)) (generations-in-at s z few) (points-at s z few)
+        ap₂ (λ (n q : ℕ). one z n q (parityEntries g v d) (zoneView g present v z n)) (generations-in-at s z few) (points-in-at s z few)
         ∙ ap₂ (λ (es : List Entry) (x : View). one z (recordAt s z .generation) (pointerIn (recordAt s z .condition)) es x) (entries-in d) (view-is z (recordAt s z .generation)))
       where
         one : ℕ → ℕ → ℕ → List Entry → View → Bool
@@ -106,4 +105,4 @@ module _ (g : Geometry) (p : LogPlaces) (xs ws ps : List ℕ) (k : SeenByRoles g
     pub in-force-is : (z : ℕ) → z < g .zones → (read .generation z ≡ inForce .generation z) × (read .pointer z ≡ inForce .pointer z) × (read .value z ≡ inForce .value z)
     in-force-is z h =
         let few : z < 16 = omega (arith, h, ok .zones-most) in
-        (generations-in-at s z few, points-at s z few, value-is z (getD (generationsIn s) z 0) ∙ ap (λ (n : ℕ). valueAt g present w z n) (generations-in-at s z few))
+        (generations-in-at s z few, points-in-at s z few, value-is z (getD (generationsIn s) z 0) ∙ ap (λ (n : ℕ). valueAt g present w z n) (generations-in-at s z few))

@@ -37,7 +37,7 @@ use Rattle.volume.specs.meaning.Answers.{sectorsIn}
 use Rattle.volume.specs.meaning.CallContracts.{isSet}
 use Rattle.volume.specs.looking.Knowing.{Readable, readDevice, ownHeld, allHeld}
 use Rattle.volume.specs.looking.KnowingLaws.{known-in}
-use Rattle.volume.specs.rows.SameShape.{notSpare, data-not-spare, SameShape, shape-refl}
+use Rattle.volume.specs.rows.SameShape.{notSpare, data-not-spare, SameShape}
 use Rattle.volume.specs.rows.KeptBelow.{StoresIn, Behind, stores-in-append, stored-keeps}
 use Rattle.volume.specs.rows.RowStores.{rowsIf, rows-whole, rows-cong, rows-in, store-if-in, present-all, present-one}
 use Rattle.volume.specs.rows.RowsInPlace.{contentOf, content-new, StripeKnown, stripe-kept, RowsReady, ready-long}
@@ -164,10 +164,6 @@ pub record StoresPast (g to : Geometry) (ps ws : List ℕ) : Type 0 where
   pub shape : SameShape g to
   pub written-long : length ws ≡ cells g
   pub behind : Behind to notSpare ps ws
-
--- where no log was emptied
-pub past-start : (g : Geometry) (ws : List ℕ) → length ws ≡ cells g → StoresPast g g ws ws
-past-start g ws l = record { shape = shape-refl g; written-long = l; behind = record { least = λ d y hd hy hb. omega arith } }
 
 -- ---- what its functions rely on while they store
 pub record Writing (k : Extent) (xs ws ps buffer : List ℕ) : Type 0 where

@@ -7,27 +7,27 @@ use Prim.Native.Nat.{ℕ, _+_}
 use mathlib.Core.List.{List}
 use lib.Dec.{eqb}
 use borrow.Author.Tests.{eq-eqb, ne-eqb}
-use Rattle.tables.specs.declared.Geometry.{Geometry}
 use Rattle.tables.specs.meaning.Basics.{pick}
 use Rattle.tables.specs.meaning.Drives.{findBelow}
-use Rattle.tables.specs.meaning.Geometry.{Valid}
-use Rattle.tables.specs.meaning.Tables.{Tables, tablesOf}
+use Rattle.tables.specs.meaning.Geometry.{Valid, maxZones}
+use Rattle.tables.specs.meaning.Tables.{tablesOf}
 use Rattle.volume.specs.declared.Answer.the-variants.{Finished, Unfinished, Refused}
 use Rattle.volume.specs.declared.Condition.{Condition}
 use Rattle.volume.specs.declared.Outcome.{Outcome}
 use Rattle.volume.specs.declared.State.{State}
 use Rattle.volume.specs.declared.write_directly.Tried.{Tried}
 use Rattle.volume.specs.declared.writing.Run.{Run}
-use Rattle.volume.specs.meaning.CallContracts.{recordAt, isSet, Result, writtenState}
+use Rattle.volume.specs.meaning.CallContracts.{isSet, Result, stateHeld, viewState}
 use Rattle.volume.specs.writing.WriteChecks.{RunFits, zoneNumber, zone-passed}
 use Rattle.volume.specs.writing.WriteRun.{RunReady, RunAsked, RunStated, asked-placed, asked-ready, askedNumber, writeZoneOn, writeAskedOn}
-use Rattle.volume.specs.writing.WriteDirectly.{placeOf, TriedOn, directly-ends}
+use Rattle.volume.specs.writing.WriteDirectly.{TriedOn, directly-ends}
+use Rattle.volume.specs.meaning.Calls.{openState}
 
 -- how a write ends that has so much left of its budget of stores
 abbrev pub endedWith : Run → State → ℕ → Outcome
 endedWith run s rest =
     pick (eqb rest 0) (record { answer = Unfinished; state = s })
-    (record { answer = Finished; state = writtenState s (findBelow (λ (d : ℕ). not (isSet (run .zone .here) d)) (run .zone .geometry .drives)) (run .zone .number) (run .pointer + run .count) })
+    (record { answer = Finished; state = stateHeld maxZones (openState (findBelow (λ (d : ℕ). not (isSet (run .zone .here) d)) (run .zone .geometry .drives)) (viewState s) (run .zone .number) (run .pointer + run .count)) })
 
 -- what was left made nothing
 pub record Left (run : Run) (s : State) (count : ℕ) (buffer xs ws ds xs′ ws′ : List ℕ) : Type 0 where

@@ -1,7 +1,7 @@
 -- A write to a zone that has passed refusals 7 to 12: refusals 14 and 15, the emptying of its entry's parity log if that lacks room, its own stores. By the rules.
 use mathlib.Core.Path.{_≡_, refl, ap, ap₂, _∙_}
 use mathlib.Core.Bool.{Bool, true, false, _&&_, _||_}
-use Prim.Native.Nat.{ℕ, zero, suc, _+_, _-_, _<_, min}
+use Prim.Native.Nat.{ℕ, zero, suc, _+_, _<_, min}
 use native.Mathlib.Omega.{arith}
 use mathlib.Core.List.{List}
 use lib.ListN.{getD}
@@ -24,7 +24,8 @@ use Rattle.volume.specs.meaning.Emptying.{InForce, copySize, newParitySi
 use Rattle.volume.specs.meaning.CallContracts.{isSet, rolesOf, seenIn}
 use Rattle.volume.specs.checks.LogRoom.{forceOf, driveRoomOf, roomOf, parityRoomAt, SeenByRoles, room-is, rooms-full, rooms-emptied, rooms-generation}
 use Rattle.volume.specs.emptying.ParityCopies.{byPointers}
-use Rattle.volume.specs.writing.WriteRoom.{pointsIn, points-at, entryDriveOf, onlyAt, only-at, writeAsked}
+use Rattle.volume.specs.writing.WriteRoom.{entryDriveOf, onlyAt, only-at, writeAsked}
+use Rattle.volume.specs.checks.Records.{pointsIn, points-in-at}
 
 sum-agree : (f h : ℕ → ℕ) (n : ℕ) → ((z : ℕ) → z < n → f z ≡ h z) → sumBelow f n ≡ sumBelow h n
 sum-agree f h zero e = refl
@@ -76,7 +77,7 @@ module _ (zone : Zone) (p : LogPlaces) (s : State) (end : ℕ) (xs ws ps ds : Li
   write-drive-room d hd =
       room-is (writeAsked zone p end) xs ws ps k ds d hd (newParitySize g (byPointers (pointsIn s)) d)
       ∙ ap₂ (λ (b : Bool) (n : ℕ). driveRoomOf b (staysFull g true (rolesOf g t) (writeLimit g end) n d || spareWritten w d) (rolesOf g t d .parityClaim)) (asked-is d)
-      (size-agree g (byPointers (pointsIn s)) inForce d (λ z h. points-at s z (omega (arith, h, ok .zones-most))))
+      (size-agree g (byPointers (pointsIn s)) inForce d (λ z h. points-in-at s z (omega (arith, h, ok .zones-most))))
 
   -- refusal 14
   pub write-room-full : writeRoom zone p s end xs ws ps .full ≡ writeFull g (isSet (zone .here)) (rolesOf g t) inForce w (zone .number) end

@@ -1,65 +1,36 @@
 -- A write on the tables, and the laws by which its refusal and its answer are proved.
-use mathlib.Core.Path.{_≡_, refl, sym, ap, ap₂, _∙_, fun-ext}
+use mathlib.Core.Path.{_≡_, refl, sym, ap, ap₂, _∙_}
 use mathlib.Core.Logic.{_≢_}
 use mathlib.Core.Bool.{Bool, true, false, _&&_, _||_, not}
-use Prim.Native.Nat.{ℕ, zero, _+_, _-_, _*_, _≤_, _<_}
-use native.Mathlib.Decide.{ℕ-discrete, decLt}
-use native.Mathlib.Nat.{mod-lt}
-use native.Mathlib.Omega.{arith}
+use Prim.Native.Nat.{ℕ, _+_, _*_, _≤_, _<_}
+use native.Mathlib.Decide.{ℕ-discrete}
 use mathlib.Core.List.{List, [], _∷_}
-use lib.ListN.{length, getD, set}
-use lib.Seq.{getD-set-other, getD-set-same}
-use lib.Dec.{ltb, leb, eqb}
-use borrow.Author.Tests.{eq-eqb, ne-eqb, lt-ltb, le-ltb, lt-leb, le-leb, eqb-true}
+use lib.ListN.{length}
+use lib.Dec.{eqb}
+use borrow.Author.Tests.{eq-eqb, ne-eqb, lt-ltb, le-ltb, eqb-true}
 use Rattle.tables.specs.declared.Geometry.{Geometry}
 use Rattle.tables.specs.meaning.Basics.{pick}
-use Rattle.tables.specs.laws.Below.{length-tabulate-from}
-use Rattle.tables.specs.meaning.Geometry.{zoneSectors}
+use Rattle.tables.specs.meaning.Geometry.{zoneSectors, maxZones}
 use Rattle.tables.specs.meaning.GeometryTest.{isValid}
-use Rattle.tables.specs.laws.Sizes.{zone-small}
 use Rattle.tables.specs.meaning.Drives.{findBelow}
 use Rattle.tables.specs.meaning.Tables.{Tables, tablesOf, deviceOf, bufferFits, lengthsFit, pointersBad}
 use Rattle.tables.specs.laws.TablesFrame.{lengths-are}
-use Rattle.volume.specs.declared.Condition.{Condition}
-use Rattle.volume.specs.declared.Condition.the-variants.{Open}
-use Rattle.volume.specs.declared.ZoneRecord.{ZoneRecord}
 use Rattle.volume.specs.declared.State.{State}
-use Rattle.volume.specs.meaning.State.{pointerIn, isSealed, isWorn, callPresent, StateView, setAt}
+use Rattle.volume.specs.meaning.State.{isSealed, isWorn, callPresent}
 use Rattle.volume.specs.meaning.Refusals.{firstRefusal, writeRows, stale, noZone, badRun, badOrder, writeFull, goneBefore, goneForEntry, zoneOf, offsetOf, twoAbsent, stateWithin}
-use Rattle.volume.specs.meaning.Calls.{writeState}
+use Rattle.volume.specs.meaning.Calls.{writeState, openState}
 use Rattle.tables.specs.meaning.Device.{Store}
 use Rattle.volume.specs.declared.Answer.the-variants.{Refused}
 use Rattle.volume.specs.meaning.Answers.{lostIn, sectorsIn}
-use Rattle.volume.specs.meaning.CallContracts.{viewState, recordAt, blankRecord, isSet, verdictNumber, rolesOf, seenIn, Result, storingOn, writeVerdict, writtenState, pointerOf, writeOn}
+use Rattle.volume.specs.meaning.CallContracts.{viewState, recordAt, isSet, verdictNumber, rolesOf, seenIn, Result, storingOn, writeVerdict, pointerOf, writeOn, stateHeld}
 use Rattle.volume.specs.checks.CheckLaws.{Opened, opened, openingNumber, absent-two, after-four, presentList, present-is, left-out-is}
 use Rattle.volume.specs.checks.ZoneChecks.{staleOn, stale-on-tables, present-good, pointer-within}
 use Rattle.volume.specs.storing.Resetting.{stale-seen}
 use Rattle.volume.specs.storing.ResetZone.{zoneNow}
 use Rattle.volume.specs.meaning.Emptying.{byState, writeAll}
 use Rattle.volume.specs.declared.writing.Run.{Run}
-use Rattle.volume.specs.writing.WriteChecks.{zoneNumber, zone-passed, after-zone, RunFits}
-use Rattle.volume.specs.writing.WriteRun.{RunReady, RunAsked, RunStated, askedNumber, writeZoneOn, writeAskedOn}
-
--- ---- the state is the rules'
-same-lists : (x : ℕ) (p q : ℕ → ℕ) (c d : ℕ → Condition) → p ≡ q → c ≡ d → _≡_ {A = StateView} (record { lost = x; generation = p; condition = c }) (record { lost = x; generation = q; condition = d })
-same-lists x p q c d e f = rw (e, f) refl
-
-pub written-state : (g : Geometry) (s : State) (x z k : ℕ) (buffer : List ℕ) → z < length (s .zones) → viewState (writtenState s x z (pointerOf s z + k)) ≡ writeState x (viewState s) z (sectorsIn g k buffer)
-unfolding sectorsIn
-written-state g s x z k buffer h =
-    same-lists x (λ y. recordAt (writtenState s x z (pointerOf s z + k)) y .generation) (viewState s .generation) (λ y. recordAt (writtenState s x z (pointerOf s z + k)) y .condition) (writeState x (viewState s) z (sectorsIn g k buffer) .condition)
-    (fun-ext (λ y. generation y (ℕ-discrete y z))) (fun-ext (λ y. condition y (ℕ-discrete y z)))
-  where
-    new : ZoneRecord
-    new = record { generation = recordAt s z .generation; condition = Open (pointerOf s z + k) }
-
-    generation : (y : ℕ) → Dec (y ≡ z) → getD (set (s .zones) z new) y blankRecord .generation ≡ recordAt s y .generation
-    generation y (yes e) = rw e (ap (λ (r : ZoneRecord). r .generation) (getD-set-same (s .zones) z new blankRecord h))
-    generation y (no ne) = ap (λ (r : ZoneRecord). r .generation) (getD-set-other (s .zones) z y new blankRecord ne)
-
-    condition : (y : ℕ) → Dec (y ≡ z) → getD (set (s .zones) z new) y blankRecord .condition ≡ setAt (viewState s .condition) z (Open (pointerOf s z + length (sectorsIn g k buffer))) y
-    condition y (yes e) = rw (e, eq-eqb z z refl) (ap (λ (r : ZoneRecord). r .condition) (getD-set-same (s .zones) z new blankRecord h) ∙ ap (λ (m : ℕ). Open (pointerOf s z + m)) (sym (length-tabulate-from _ zero k)))
-    condition y (no ne) = rw (ne-eqb y z ne) (ap (λ (r : ZoneRecord). r .condition) (getD-set-other (s .zones) z y new blankRecord ne))
+use Rattle.volume.specs.writing.WriteChecks.{zoneNumber, zone-passed, after-zone}
+use Rattle.volume.specs.writing.WriteRun.{RunAsked, RunStated, askedNumber, writeZoneOn, writeAskedOn}
 
 -- ---- the refusal: the opening's, or that of the rows of the zone
 -- 14 and 15 of the rules
@@ -173,7 +144,7 @@ write-zone-on g named s a k count buffer xs ws ds o h n =
     let here = presentList g named (s .lost) in
     let lost : ℕ = findBelow (λ (d : ℕ). not (isSet here d)) (g .drives) in
     let fits = zone-passed g (isSet here) ws (recordAt s z .condition) z (offsetOf g a) k n in
-    let on : (ℕ → Bool) → ℕ → ℕ → ℕ → Result = λ p m x q. storingOn g m (writeAll g p (rolesOf g t) (seenIn g t) (viewState s) z ss) (writtenState s x z (q + k)) s count t in
+    let on : (ℕ → Bool) → ℕ → ℕ → ℕ → Result = λ p m x q. storingOn g m (writeAll g p (rolesOf g t) (seenIn g t) (viewState s) z ss) (stateHeld maxZones (openState x (viewState s) z (q + k))) s count t in
     let last : (ℕ → Bool) → ℕ → ℕ = λ p q. pick (writeFull g p (rolesOf g t) (byState g p (seenIn g t) (viewState s)) (seenIn g t) z (q + k)) 14
     (pick (goneForEntry g p (rolesOf g t) (byState g p (seenIn g t) (viewState s)) (seenIn g t) z (q + k) || goneBefore g p (seenIn g t) z (recordAt s z .generation) q) 15 0) in
     let verdict : last (callPresent g (isSet named) (viewState s)) (pointerOf s z) ≡ verdictNumber (writeVerdict g named s a k (length buffer) t) = number-last g named s a k (length buffer) xs ws ds o h n in
@@ -203,6 +174,6 @@ write-asked-on g named s a k count buffer xs ws ds o h = go (ℕ-discrete late 0
     go (yes e) = ap (λ (b : Bool). pick b (writeZoneOn run s buffer count t) refused) (eq-eqb late 0 e) ∙ write-zone-on g named s a k count buffer xs ws ds o h e
     go (no ne) =
         let stores : List Store = writeAll g (callPresent g (isSet named) (viewState s)) (rolesOf g t) (seenIn g t) (viewState s) (zoneOf g a) (sectorsIn g k buffer) in
-        let on : ℕ → Result = λ n. storingOn g n stores (writtenState s (lostIn g (isSet named) (viewState s)) (zoneOf g a) (pointerOf s (zoneOf g a) + k)) s count t in
+        let on : ℕ → Result = λ n. storingOn g n stores (stateHeld maxZones (writeState (lostIn g (isSet named) (viewState s)) (viewState s) (zoneOf g a) k)) s count t in
         let same : on late ≡ refused = rw (ne-eqb late 0 ne) refl in
         ap (λ (b : Bool). pick b (writeZoneOn run s buffer count t) refused) (ne-eqb late 0 ne) ∙ sym same ∙ ap on (number-zone g named s a k (length buffer) xs ws ds o h ne)

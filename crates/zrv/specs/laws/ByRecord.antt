@@ -1,41 +1,40 @@
 -- A write and a read by the record of one zone (src/records.rt): what they take of the input's bytes, and what they make of it.
 use mathlib.Core.Path.{_≡_, refl, sym, ap, ap₂, _∙_}
 use mathlib.Core.Bool.{Bool, true, false, _&&_, _||_, not, true≢false}
-use Prim.Native.Nat.{ℕ, _+_, _-_, _*_, _%_, _≤_, _<_}
+use Prim.Native.Nat.{ℕ, _+_, _*_, _%_, _≤_, _<_}
 use native.Mathlib.Decide.{decLt}
 use native.Mathlib.Omega.{arith}
 use mathlib.Core.List.{List}
-use lib.ListN.{length, getD, set}
+use lib.ListN.{length, getD}
 use lib.Dec.{eqb, ltb}
 use borrow.Author.Tests.{eqb-true}
 use Rattle.tables.specs.declared.Geometry.{Geometry}
-use Rattle.tables.specs.laws.Basics.{and-split}
 use Rattle.tables.specs.meaning.Basics.{pick}
 use Rattle.tables.specs.meaning.Below.{anyBelow, tabulate}
 use Rattle.tables.specs.laws.Below.{any-below-cong, getD-tabulate}
-use Rattle.tables.specs.meaning.Geometry.{Valid, physicalZones, cells, zoneSectors}
+use Rattle.tables.specs.meaning.Geometry.{physicalZones, cells, zoneSectors, maxZones}
 use Rattle.tables.specs.meaning.GeometryTest.{isValid}
 use Rattle.tables.specs.meaning.Lists.{overlay}
 use Rattle.tables.specs.meaning.LittleEndian.{readLE}
 use Rattle.tables.specs.laws.LittleEndian.{writeLE}
 use Rattle.volume.specs.laws.ByteLists.{Bytes}
-use Rattle.tables.specs.meaning.Tables.{Tables, tablesOf, firstCell, cell, pointerBad, pointersBad}
+use Rattle.tables.specs.meaning.Tables.{tablesOf, firstCell, cell, pointerBad, pointersBad}
 use Rattle.tables.specs.laws.TablesFrame.{pointers-good}
 use Rattle.volume.specs.declared.Answer.the-variants.{Finished, Unfinished, Refused}
 use Rattle.volume.specs.declared.Condition.the-variants.{Open}
-use Rattle.volume.specs.declared.Outcome.{Outcome}
 use Rattle.volume.specs.declared.State.{State}
 use Rattle.volume.specs.declared.ZoneRecord.{ZoneRecord}
 use Rattle.volume.specs.declared.by_record.ByRecord.{ByRecord}
 use Rattle.volume.specs.declared.by_record.Recorded.{Recorded}
 use Rattle.volume.specs.meaning.State.{pointerIn}
 use Rattle.volume.specs.meaning.Refusals.{stateWithin, zoneOf}
-use Rattle.volume.specs.meaning.CallContracts.{blankRecord, recordAt, viewState, answerNumber, Result, writtenState, writeOn, readNumber, readOn}
+use Rattle.volume.specs.meaning.CallContracts.{recordAt, viewState, answerNumber, Result, writeOn, readNumber, readOn, stateHeld}
 use Rattle.volume.specs.laws.LogPlaces.{zone-at-first}
-use Rattle.volume.specs.looking.DrivesLost.{fill-long, fill-past}
+use Rattle.volume.specs.laws.StateHeld.{records-long, records-past, held-open}
 use Rattle.volume.specs.checks.ByRecord.{RecordFits, SaysOf}
 use Rattle.volume.specs.checks.ZoneChecks.{pointer-within}
 use Rattle.volume.specs.reading.ReadByRecord.{ReadBy}
+use Rattle.volume.specs.meaning.Calls.{openState}
 use Rattle.zrv.specs.declared.records.WriteAsked.{WriteAsked}
 use Rattle.zrv.specs.declared.records.WriteTried.{WriteTried}
 use Rattle.zrv.specs.meaning.Bytes.{tableFrom, tableTo, recordFrom, recordTo, stateTo, stateFrom, stateWellFormed}
@@ -101,7 +100,7 @@ module _ (g : Geometry) (named : List Bool) (st ws db : List ℕ) (w a : ℕ) (q
     where
       go : Dec (zoneOf g a < g .zones) → pointerIn (recordAt (stateFrom (g .zones) st) (zoneOf g a) .condition) ≤ zoneSectors g
       go (yes h) = pointer-within g (stateFrom (g .zones) st) (zoneOf g a) (q .within) h
-      go (no h) = rw (fill-past (λ y. recordFrom st (8 + 16 * y)) blankRecord (g .zones) (16 - g .zones) (zoneOf g a) (omega arith)) (omega arith)
+      go (no h) = rw (records-past (λ y. recordFrom st (8 + 16 * y)) (g .zones) (zoneOf g a) (omega arith)) (omega arith)
 
   pub record-taken : RecordFits (recordIn g named st ws db a) ws
   record-taken = record {
@@ -141,12 +140,12 @@ module _ (k : WriteAsked) (buffer : List ℕ) (m : Ranges) (q : InputTaken (k .g
 
   sixteen : length (s .zones) ≡ 16
   unfolding stateFrom
-  sixteen = fill-long (λ y. recordFrom (m .state) (8 + 16 * y)) blankRecord 16 (g .zones) (q .sized .valid .zones-most)
+  sixteen = records-long (λ y. recordFrom (m .state) (8 + 16 * y)) (g .zones) (q .sized .valid .zones-most)
 
   -- made by the record, it is the write by the whole state
   pub made-whole : (t : Recorded) (xs′ ws′ wb′ st′ : List ℕ) (n : ℕ) → z < g .zones
       → writeOn g (k .named) s (k .address) (k .run) buffer (k .count) (tablesIn g m) ≡ record {
-        outcome = pick (eqb (t .rest) 0) (record { answer = Unfinished; state = s }) (record { answer = Finished; state = writtenState s (t .lost) z (t .pointer) });
+        outcome = pick (eqb (t .rest) 0) (record { answer = Unfinished; state = s }) (record { answer = Finished; state = stateHeld maxZones (openState (t .lost) (viewState s) z (t .pointer)) });
         tables = tablesOf xs′ ws′ (tableFrom (cells g) (m .durable));
       }
       → wb′ ≡ tableTo ws′ → handedRecord t (recordAt s z .generation) z (m .state) n st′ → answered n (ranges xs′ wb′ (m .durable) st′) ≡ wholeWrite k buffer m
@@ -154,7 +153,7 @@ module _ (k : WriteAsked) (buffer : List ℕ) (m : Ranges) (q : InputTaken (k .g
   made-whole t xs′ ws′ wb′ st′ n h e w hand = go (eqb (t .rest) 0) refl
     where
       new : State
-      new = writtenState s (t .lost) z (t .pointer)
+      new = stateHeld maxZones (openState (t .lost) (viewState s) z (t .pointer))
 
       result : Bool → Result
       result b = record { outcome = pick b (record { answer = Unfinished; state = s }) (record { answer = Finished; state = new }); tables = tablesOf xs′ ws′ (tableFrom (cells g) (m .durable)) }
@@ -166,7 +165,8 @@ module _ (k : WriteAsked) (buffer : List ℕ) (m : Ranges) (q : InputTaken (k .g
       put =
           let r : ZoneRecord = record { generation = recordAt s z .generation; condition = Open (t .pointer) } in
           let in-state : z < length (s .zones) = omega (arith, h, sixteen, q .sized .valid .zones-most) in
-          ap (λ (l : List ℕ). overlay (writeLE 8 l 0 (t .lost % 256)) (8 + 16 * z) (recordTo r)) (sym (bytes-state-bytes (g .zones) (m .state) (q .well-formed))) ∙ state-put s (t .lost) z r in-state (g .zones) h
+          ap (λ (l : List ℕ). overlay (writeLE 8 l 0 (t .lost % 256)) (8 + 16 * z) (recordTo r)) (sym (bytes-state-bytes (g .zones) (m .state) (q .well-formed)))
+          ∙ state-put s (t .lost) z r in-state (g .zones) h ∙ ap (stateTo (g .zones)) (held-open s (t .lost) z (t .pointer) sixteen (omega (arith, in-state, sixteen)))
 
       go : (b : Bool) → eqb (t .rest) 0 ≡ b → answered n (ranges xs′ wb′ (m .durable) st′) ≡ storedAll g (writeOn g (k .named) s (k .address) (k .run) buffer (k .count) (tablesIn g m)) m
       go true f =

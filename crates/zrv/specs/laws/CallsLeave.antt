@@ -8,7 +8,7 @@ use lib.ListN.{length}
 use lib.Dec.{ltb, eqb}
 use Rattle.tables.specs.declared.Geometry.{Geometry}
 use Rattle.tables.specs.meaning.Basics.{pick}
-use Rattle.tables.specs.meaning.Geometry.{Valid, cells}
+use Rattle.tables.specs.meaning.Geometry.{Valid, cells, maxZones}
 use Rattle.tables.specs.meaning.Device.{Store, append, reset, flush}
 use Rattle.tables.specs.meaning.Phases.{onPresent, flushAll}
 use Rattle.tables.specs.meaning.Tables.{Tables, tablesOf, deviceOf, makeStore, runStores}
@@ -19,9 +19,9 @@ use Rattle.volume.specs.declared.State.{State}
 use Rattle.volume.specs.meaning.State.{callPresent}
 use Rattle.volume.specs.meaning.Refusals.{zoneOf}
 use Rattle.volume.specs.meaning.Answers.{lostIn, leftOut, namedDrives, sectorsIn, presentIn, lostDriveIn, refusedAt}
-use Rattle.volume.specs.meaning.Calls.{flushStores, formatStores}
+use Rattle.volume.specs.meaning.Calls.{flushStores, formatStores, flushState, formatState, resetState, writeState}
 use Rattle.volume.specs.meaning.Emptying.{writeAll, resetAll}
-use Rattle.volume.specs.meaning.CallContracts.{viewState, isSet, answerNumber, verdictNumber, rolesOf, seenIn, Result, storingOn, flushVerdict, withLost, flushOn, resetVerdict, withReset, resetOn, writeVerdict, writtenState, pointerOf, writeOn, formatVerdict, freshState, formatOn, mountVerdict, mountStoresOn, mountShownOn, badPlaceOn, tellingAt, mountOn}
+use Rattle.volume.specs.meaning.CallContracts.{viewState, isSet, answerNumber, verdictNumber, rolesOf, seenIn, Result, storingOn, flushVerdict, flushOn, resetVerdict, resetOn, writeVerdict, writeOn, formatVerdict, formatOn, mountVerdict, mountStoresOn, mountShownOn, badPlaceOn, tellingAt, mountOn, stateHeld}
 use Rattle.volume.specs.laws.ByteLists.{Bytes}
 use Rattle.zrv.specs.meaning.Bytes.{tableFrom, tableTo}
 use Rattle.zrv.specs.meaning.EdgeCalls.{namedOf, inputNumber, sizesNumber, stateAfter, Ranges, tablesIn, stateIn, unreadState, Answered, storedAll, storedFlushes, unlessRefused, formatOfBytes, formatEdge, mountOfBytes, mountEdge, withoutPlace, writeOfBytes, writeEdge, flushOfBytes, flushEdge, resetOfBytes, resetEdge}
@@ -105,7 +105,7 @@ module _ (g : Geometry) (t : Tables) (named : List Bool) (count : ℕ) where
     told = Refused;
     number = verdictNumber (formatVerdict g named t);
     stores = formatStores g (namedDrives g (isSet named)) (leftOut g (isSet named)) array;
-    new = freshState g (leftOut g (isSet named));
+    new = stateHeld (g .zones) (formatState (leftOut g (isSet named)));
     old = old;
     count = count;
     is = refl;
@@ -136,11 +136,11 @@ module _ (g : Geometry) (t : Tables) (named : List Bool) (count : ℕ) where
 
     unfoldable pub flush-stored : Stored g t (flushOn g named s count t)
     unfolding flushOn
-    flush-stored = record { told = Refused; number = verdictNumber (flushVerdict g named s t); stores = flushStores g here; new = withLost s lost; old = s; count = count; is = refl }
+    flush-stored = record { told = Refused; number = verdictNumber (flushVerdict g named s t); stores = flushStores g here; new = stateHeld maxZones (flushState lost (viewState s)); old = s; count = count; is = refl }
 
     unfoldable pub reset-stored : (z : ℕ) → Stored g t (resetOn g named s z count t)
     unfolding resetOn
-    reset-stored z = record { told = Refused; number = verdictNumber (resetVerdict g named s z t); stores = resetAll g here (rolesOf g t) (seenIn g t) (viewState s) z; new = withReset s z lost; old = s; count = count; is = refl }
+    reset-stored z = record { told = Refused; number = verdictNumber (resetVerdict g named s z t); stores = resetAll g here (rolesOf g t) (seenIn g t) (viewState s) z; new = stateHeld maxZones (resetState lost (viewState s) z); old = s; count = count; is = refl }
 
     unfoldable pub write-stored : (a k : ℕ) (buffer : List ℕ) → Stored g t (writeOn g named s a k buffer count t)
     unfolding writeOn
@@ -148,7 +148,7 @@ module _ (g : Geometry) (t : Tables) (named : List Bool) (count : ℕ) where
       told = Refused;
       number = verdictNumber (writeVerdict g named s a k (length buffer) t);
       stores = writeAll g here (rolesOf g t) (seenIn g t) (viewState s) (zoneOf g a) (sectorsIn g k buffer);
-      new = writtenState s lost (zoneOf g a) (pointerOf s (zoneOf g a) + k);
+      new = stateHeld maxZones (writeState lost (viewState s) (zoneOf g a) k);
       old = s;
       count = count;
       is = refl;

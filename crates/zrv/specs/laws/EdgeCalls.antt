@@ -2,7 +2,7 @@
 use mathlib.Core.Path.{_≡_, refl, ap, ap₂, _∙_}
 use mathlib.Core.Logic.{_≢_}
 use mathlib.Core.Bool.{Bool, true, false, _&&_}
-use Prim.Native.Nat.{ℕ, _+_, _-_, _*_, _%_, _≤_}
+use Prim.Native.Nat.{ℕ, _+_, _*_, _%_, _≤_}
 use native.Mathlib.Omega.{arith}
 use mathlib.Core.List.{List}
 use lib.ListN.{length, take, drop, replicate}
@@ -19,12 +19,12 @@ use Rattle.tables.specs.meaning.Tables.{Tables, tablesOf}
 use Rattle.volume.specs.declared.Answer.{Answer}
 use Rattle.volume.specs.declared.Outcome.{Outcome}
 use Rattle.volume.specs.declared.State.{State}
-use Rattle.volume.specs.meaning.CallContracts.{answerNumber, Result, ReadResult, peekNumber, peekOn}
+use Rattle.volume.specs.meaning.CallContracts.{answerNumber, Result, peekNumber, peekOn}
 use Rattle.volume.specs.laws.AnswerNumbers.{look-answer-small, mount-answer-small}
 use Rattle.volume.specs.reading.Peeking.{peek-done}
 use Rattle.tables.specs.meaning.LittleEndian.{bytesLE}
 use Rattle.zrv.specs.meaning.Bytes.{tableTo, stateTo}
-use Rattle.zrv.specs.meaning.EdgeCalls.{namedOf, sizesFit, stateBad, inputNumber, sizesNumber, stateAfter, Ranges, ranges, tablesIn, unreadState, Answered, answered, unlessRefused, writingState, handedBack, storedAll, storedFlushes, withNumber, placeNumber, withPlace, withoutPlace, lookOfBytes, lookEdge, mountOfBytes, mountEdge, readAnswer, offsetAt, placeAnswer, placeSized}
+use Rattle.zrv.specs.meaning.EdgeCalls.{namedOf, sizesFit, stateBad, inputNumber, sizesNumber, stateAfter, Ranges, ranges, tablesIn, unreadState, Answered, answered, unlessRefused, writingState, handedBack, storedAll, storedFlushes, withNumber, placeNumber, withPlace, withoutPlace, lookOfBytes, lookEdge, mountOfBytes, mountEdge, offsetAt, placeAnswer, placeSized}
 
 -- ---- the input
 -- what passing its test gives
@@ -174,12 +174,6 @@ module _ (g : Geometry) (mask : ℕ) (m : Ranges) where
       (unfold storedAll in mount-answer-small g (namedOf mask) (tablesIn g m) unreadState count)
 
 -- ---- the calls that answer in a buffer
-pub read-answered : (r : ReadResult) {x : Answer} {n : ℕ} {out : List ℕ} → (x ≡ r .answer) × (out ≡ r .buffer) → n ≡ answerNumber x → answered n out ≡ readAnswer r
-unfolding readAnswer
-read-answered r {x} {n} {out} f e =
-    let a : n ≡ answerNumber (r .answer) = e ∙ ap answerNumber (f .0) in
-    cc
-
 module _ (place : List ℕ) (r : Answered (List ℕ)) where
   pub place-short : length place ≢ 8 → answered 2 place ≡ placeSized place r
   unfolding placeSized

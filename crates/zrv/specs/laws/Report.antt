@@ -6,13 +6,14 @@ use Prim.Native.Nat.{ℕ, zero, suc, _+_, _*_, _/_, _%_, _≤_, _<_}
 use native.Mathlib.Omega.{arith}
 use native.Mathlib.Decide.{ℕ-discrete}
 use mathlib.Core.List.{List, [], _∷_, _++_}
-use lib.ListN.{length, drop, length-append}
+use lib.ListN.{length, drop, length-append, length-replicate, List·getD-append}
 use lib.Dec.{ltb, eqb}
 use borrow.Author.Tests.{eqb-true, ltb-true, ltb-false, ne-eqb}
 use Rattle.tables.specs.declared.Geometry.{Geometry}
 use Rattle.tables.specs.meaning.Basics.{pick}
 use Rattle.tables.specs.laws.Basics.{and-split, and-join, not-not}
-use Rattle.tables.specs.meaning.Below.{eachBelow}
+use Rattle.tables.specs.meaning.Below.{eachBelow, tabulate}
+use Rattle.tables.specs.laws.Below.{length-tabulate, getD-tabulate}
 use Rattle.tables.specs.meaning.Geometry.{Valid, cells}
 use Rattle.tables.specs.meaning.GeometryTest.{isValid}
 use Rattle.tables.specs.laws.GeometryTest.{valid-if-test}
@@ -25,11 +26,12 @@ use Rattle.volume.specs.declared.State.{State}
 use Rattle.volume.specs.declared.ZoneDescriptor.{ZoneDescriptor}
 use Rattle.volume.specs.meaning.Refusals.{stateWithin}
 use Rattle.volume.specs.meaning.CallContracts.{viewState}
-use Rattle.volume.specs.meaning.Report.{toldNumber, descriptorOf, mayReport, filledNumber}
-use Rattle.volume.specs.laws.Report.{filled-most}
+use Rattle.volume.specs.meaning.Report.{toldNumber, descriptorOf, mayReport, filledNumber, filledList, ReportResult, reportOf}
+use Rattle.volume.specs.laws.Report.{filled-most, report-finished}
+use Rattle.volume.specs.laws.EachBelow.{each-below-cong}
 use Rattle.volume.specs.reading.Reporting.{reportNumber, number-if}
 use Rattle.zrv.specs.meaning.Bytes.{stateFrom, stateWellFormed, descriptorTo}
-use Rattle.zrv.specs.meaning.EdgeCalls.{sizesFit, stateBad, inputNumber, reportInput, descriptorsIn, filledBytes, withNumber, reportBytes, reportEdge, Answered, answered, unlessRefused}
+use Rattle.zrv.specs.meaning.EdgeCalls.{sizesFit, stateBad, inputNumber, reportInput, descriptorsIn, unreadDescriptor, lentFor, filledBytes, withNumber, reportBytes, reportOfBytes, reportEdge, Answered, answered, unlessRefused}
 use Rattle.zrv.specs.laws.Bytes.{lay-next}
 use Rattle.zrv.specs.laws.EdgeCalls.{refused, made}
 
@@ -77,7 +79,10 @@ pub length-descriptor-to : (d : ZoneDescriptor) → length (descriptorTo d) ≡ 
 unfolding descriptorTo
 length-descriptor-to d = refl
 
--- ---- the list while it is filled
+-- ---- the list while it is filled: with the descriptors of its first n zones, in these conditions
+unfoldable pub toldBytes : Geometry → (ℕ → Condition) → ℕ → List ℕ → List ℕ
+toldBytes g condition n list = eachBelow (λ z. descriptorTo (descriptorOf g z (condition z))) n ++ drop (n * 32) list
+
 module _ (g : Geometry) (condition : ℕ → Condition) where
   abbrev told : ℕ → List ℕ
   told z = descriptorTo (descriptorOf g z (condition z))
@@ -86,37 +91,52 @@ module _ (g : Geometry) (condition : ℕ → Condition) where
   length-told zero = refl
   length-told (suc n) = length-append (eachBelow told n) (told n) ∙ rw (length-told n, length-descriptor-to (descriptorOf g n (condition n))) (omega arith)
 
-  pub filled-start : (list : List ℕ) → list ≡ filledBytes g condition 0 list
-  unfolding filledBytes
-  filled-start list = refl
+  pub told-start : (list : List ℕ) → list ≡ toldBytes g condition 0 list
+  unfolding toldBytes
+  told-start list = refl
 
-  pub filled-more : (z : ℕ) (list : List ℕ) → overlay (filledBytes g condition z list) (z * 32) (descriptorTo (descriptorOf g z (condition z))) ≡ filledBytes g condition (suc z) list
-  unfolding filledBytes
-  filled-more z list =
+  pub told-more : (z : ℕ) (list : List ℕ) → overlay (toldBytes g condition z list) (z * 32) (descriptorTo (descriptorOf g z (condition z))) ≡ toldBytes g condition (suc z) list
+  unfolding toldBytes
+  told-more z list =
       let e : z * 32 + length (told z) ≡ suc z * 32 = rw (length-descriptor-to (descriptorOf g z (condition z))) (omega arith) in
       lay-next (eachBelow told z) list (told z) (z * 32) (length-told z) ∙ ap (λ (k : ℕ). eachBelow told (suc z) ++ drop k list) e
 
--- what is returned and left then
-pub report-made : (g : Geometry) (condition : ℕ → Condition) (list : List ℕ) {n : ℕ} {left : List ℕ} → n ≡ filledNumber g (descriptorsIn list) → left ≡ filledBytes g condition n list
-    → answered (4294967296 * n) left ≡ reportBytes g condition list
-report-made g condition list {n} {left} e f =
-    let k = filledNumber g (descriptorsIn list) in
-    let a : 4294967296 * n ≡ withNumber 0 k = omega arith in
-    ap₂ answered a (f ∙ ap (λ (m : ℕ). filledBytes g condition m list) e)
+  -- they are the bytes of the descriptors that the call on a list fills
+  filled-told : (n : ℕ) (ds : List ZoneDescriptor) (list : List ℕ) → filledBytes (filledList g condition n ds) n list ≡ toldBytes g condition n list
+  unfolding filledBytes toldBytes
+  filled-told n ds list = ap (λ (xs : List ℕ). xs ++ drop (n * 32) list) (each-below-cong _ _ n (λ z h. ap descriptorTo (List·getD-append (tabulate f n) (drop n ds) unreadDescriptor z (rw (length-tabulate f n) h) ∙ getD-tabulate f n z unreadDescriptor h)))
+    where
+      f : ℕ → ZoneDescriptor
+      f z = descriptorOf g z (condition z)
+
+-- ---- what is returned and left then is volume's report
+pub report-made : (g : Geometry) (st list : List ℕ) → Reportable g st → {n : ℕ} {left : List ℕ} → n ≡ filledNumber g (descriptorsIn list)
+    → left ≡ toldBytes g (viewState (stateFrom (g .zones) st) .condition) n list → answered (4294967296 * n) left ≡ reportBytes (reportOfBytes g st list) list
+report-made g st list r {n} {left} e f =
+    let state = viewState (stateFrom (g .zones) st) in
+    let k = filledNumber g (length (lentFor list)) in
+    let same : n ≡ k = e ∙ ap (filledNumber g) (sym (length-replicate {A = ZoneDescriptor} (descriptorsIn list) unreadDescriptor)) in
+    let number : 4294967296 * n ≡ withNumber 0 k = omega (arith, same) in
+    ap₂ answered number (f ∙ ap (λ (m : ℕ). toldBytes g (state .condition) m list) same ∙ sym (filled-told g (state .condition) k (lentFor list) list))
+    ∙ ap (λ (x : ReportResult (List ZoneDescriptor)). reportBytes x list) (sym (report-finished g state (r .may) (lentFor list)))
 
 -- ---- refused, the list is as it was: the low 32 bits of what is returned are the refusal's number
 pub report-refused : (g : Geometry) (st list : List ℕ) → reportEdge g st list .code % 4294967296 ≢ 0 → reportEdge g st list .left ≡ list
 report-refused g st list h = go (ℕ-discrete (reportInput g st) 0)
   where
     r : Answered (List ℕ)
-    r = reportBytes g (viewState (stateFrom (g .zones) st) .condition) list
+    r = reportBytes (reportOfBytes g st list) list
 
     low : (n : ℕ) → (0 + 4294967296 * n) % 4294967296 ≡ 0
     low n = omega arith
 
+    finished : reportInput g st ≡ 0 → reportOfBytes g st list ≡ reportOf g (viewState (stateFrom (g .zones) st) .condition) (lentFor list)
+    finished e = report-finished g (viewState (stateFrom (g .zones) st)) (report-passed g st e .may) (lentFor list)
+
     go : Dec (reportInput g st ≡ 0) → reportEdge g st list .left ≡ list
     go (no e) = ap (λ (x : Answered (List ℕ)). x .left) (sym (refused (reportInput g st) r list e))
-    go (yes e) = absurd (h (ap (λ (x : Answered (List ℕ)). x .code % 4294967296) (sym (made (reportInput g st) r list e)) ∙ low (filledNumber g (descriptorsIn list))))
+    go (yes e) = absurd (h (ap (λ (x : Answered (List ℕ)). x .code % 4294967296) (sym (made (reportInput g st) r list e))
+        ∙ ap (λ (x : ReportResult (List ZoneDescriptor)). reportBytes x list .code % 4294967296) (finished e) ∙ low (filledNumber g (length (lentFor list)))))
 
 -- ---- what a call that reads the state is not refused for, a report is not refused for
 pub input-reports : (g : Geometry) (st : List ℕ) (w d : ℕ) → inputNumber g st w d ≡ 0 → reportInput g st ≡ 0
@@ -128,13 +148,3 @@ input-reports g st w d h = go (isValid g) (stateBad g st) (eqb (length st) 264) 
     go true true l f k = absurd (omega arith)
     go true false true f k = refl
     go true false false f k = absurd (omega arith)
-
--- the same conditions of the volume's zones: the same bytes
-module _ (g : Geometry) (a b : ℕ → Condition) (same : (z : ℕ) → z < g .zones → a z ≡ b z) where
-  told-same : (n : ℕ) → n ≤ g .zones → eachBelow (told g a) n ≡ eachBelow (told g b) n
-  told-same zero h = refl
-  told-same (suc n) h = ap₂ _++_ (told-same n (omega arith)) (ap (λ (c : Condition). descriptorTo (descriptorOf g n c)) (same n (omega arith)))
-
-  pub filled-same : (n : ℕ) (list : List ℕ) → n ≤ g .zones → filledBytes g a n list ≡ filledBytes g b n list
-  unfolding filledBytes
-  filled-same n list h = ap (λ (xs : List ℕ). xs ++ drop (n * 32) list) (told-same n h)

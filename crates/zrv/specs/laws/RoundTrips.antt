@@ -6,7 +6,7 @@ use native.Mathlib.Decide.{decLt}
 use native.Mathlib.Nat.{mod-lt, mod-eq-of-lt}
 use native.Mathlib.Omega.{arith}
 use mathlib.Core.List.{append-assoc, List, _++_}
-use lib.ListN.{length, getD, take, drop, replicate, length-append, length-drop}
+use lib.ListN.{length, getD, take, drop, length-append, length-drop}
 use lib.Seq.{drop-at, drop-drop, take-add, take-length, take-append-le, drop-append-le, length-take-le, ext-getD}
 use Rattle.tables.specs.meaning.Below.{tabulate}
 use Rattle.tables.specs.laws.Below.{length-tabulate, getD-tabulate}
@@ -17,8 +17,8 @@ use Rattle.volume.specs.declared.Condition.the-variants.{Empty, Open, Sealed, W
 use Rattle.volume.specs.declared.ZoneRecord.{ZoneRecord}
 use Rattle.volume.specs.declared.State.{State}
 use Rattle.volume.specs.meaning.State.{pointerIn, conditionNumber, conditionOfNumber}
-use Rattle.volume.specs.meaning.CallContracts.{blankRecord, recordAt}
-use Rattle.volume.specs.looking.DrivesLost.{fill-long, fill-at, fill-past}
+use Rattle.volume.specs.meaning.CallContracts.{blankRecord, recordAt, recordsBelow}
+use Rattle.volume.specs.laws.StateHeld.{records-long, records-at, records-past}
 use Rattle.volume.specs.laws.ByteLists.{Bytes, bytes-take, bytes-drop, number-in-bytes, number-small, bytes-number-bytes}
 use Rattle.zrv.specs.meaning.Bytes.{tableFrom, tableTo, wordsTo, recordTo, recordFrom, recordsTo, noState, stateTo, stateFrom, stateWellFormed}
 use Rattle.zrv.specs.laws.Bytes.{length-words-to, length-records-to, bytes-state-bytes}
@@ -131,16 +131,16 @@ state-bytes-state zones s h =
     let b : s .lost % 256 < 256 = mod-lt (s .lost) (omega arith) in
     let m : s .lost % 256 < 18446744073709551616 = omega (arith, b) in
     let a : readLE 8 xs 0 ≡ s .lost = ap (λ (l : List ℕ). numberLE (take 8 l)) e ∙ number-bytes-le 8 (s .lost % 256) m ∙ mod-eq-of-lt (h .lost-byte) in
-    let long : length (tabulate f zones ++ replicate (16 - zones) blankRecord) ≡ 16 = fill-long f blankRecord 16 zones (h .zones-most) in
+    let long : length (recordsBelow f zones) ≡ 16 = records-long f zones (h .zones-most) in
     ap₂ (λ (n : ℕ) (rs : List ZoneRecord). record { lost = n; zones = rs }) a
-    (ext-getD blankRecord (tabulate f zones ++ replicate (16 - zones) blankRecord) (s .zones) (long ∙ sym (h .sixteen)) (λ z l. each z (decLt z zones)))
+    (ext-getD blankRecord (recordsBelow f zones) (s .zones) (long ∙ sym (h .sixteen)) (λ z l. each z (decLt z zones)))
   where
-    each : (z : ℕ) → Dec (z < zones) → getD (tabulate (λ y. recordFrom (recordsTo zones s ++ drop (8 + 16 * zones) noState) (8 + 16 * y)) zones ++ replicate (16 - zones) blankRecord) z blankRecord ≡ recordAt s z
+    each : (z : ℕ) → Dec (z < zones) → getD (recordsBelow (λ y. recordFrom (recordsTo zones s ++ drop (8 + 16 * zones) noState) (8 + 16 * y)) zones) z blankRecord ≡ recordAt s z
     each z (yes k) =
         let (rest, e) = record-at zones z s (drop (8 + 16 * zones) noState) k in
-        fill-at (λ y. recordFrom (recordsTo zones s ++ drop (8 + 16 * zones) noState) (8 + 16 * y)) blankRecord blankRecord zones (16 - zones) z k
+        records-at (λ y. recordFrom (recordsTo zones s ++ drop (8 + 16 * zones) noState) (8 + 16 * y)) zones z k
         ∙ record-back (recordsTo zones s ++ drop (8 + 16 * zones) noState) (8 + 16 * z) (recordAt s z) rest e (h .generations z k) (h .pointers z k)
-    each z (no k) = fill-past (λ y. recordFrom (recordsTo zones s ++ drop (8 + 16 * zones) noState) (8 + 16 * y)) blankRecord zones (16 - zones) z (omega arith) ∙ sym (h .past z (omega arith))
+    each z (no k) = records-past (λ y. recordFrom (recordsTo zones s ++ drop (8 + 16 * zones) noState) (8 + 16 * y)) zones z (omega arith) ∙ sym (h .past z (omega arith))
 
 -- ---- the bytes of a state in range have the form
 pub length-state-to : (zones : ℕ) (s : State) → zones ≤ 16 → length (stateTo zones s) ≡ 264
@@ -160,6 +160,6 @@ read-generation zones xs z w h =
     let s = stateFrom zones xs in
     let (rest, e) = record-at zones z s (drop (8 + 16 * zones) noState) h in
     let d : drop (8 + 16 * z) xs ≡ recordTo (recordAt s z) ++ rest = ap (drop (8 + 16 * z)) (sym (bytes-state-bytes zones xs w)) ∙ e in
-    let r : recordAt s z .generation ≡ readLE 8 xs (8 + 16 * z) = ap (λ (t : ZoneRecord). t .generation) (fill-at (λ y. recordFrom xs (8 + 16 * y)) blankRecord blankRecord zones (16 - zones) z h) in
+    let r : recordAt s z .generation ≡ readLE 8 xs (8 + 16 * z) = ap (λ (t : ZoneRecord). t .generation) (records-at (λ y. recordFrom xs (8 + 16 * y)) zones z h) in
     let q : recordAt s z .generation ≡ numberLE (bytesLE 8 (recordAt s z .generation)) = r ∙ ap (λ (l : List ℕ). numberLE (take 8 l)) d in
     rw q (number-small 8 (bytesLE 8 (recordAt s z .generation)) (omega arith) (number-in-bytes 8 (recordAt s z .generation)))

@@ -21,16 +21,16 @@ use Rattle.tables.specs.meaning.LittleEndian.{bytesLE, readLE, sameBytes}
 use Rattle.tables.specs.laws.LittleEndian.{Bytes, bytes-drop, same-number}
 use Rattle.logs.specs.code.Lays.{same-append, and-true}
 use Rattle.volume.specs.declared.Condition.{Condition}
+use Rattle.volume.specs.laws.ByteLists.{Bytes as ByteList}
 use Rattle.volume.specs.declared.Condition.the-variants.{Empty, Open, Sealed, Worn}
 use Rattle.volume.specs.declared.ZoneRecord.{ZoneRecord}
 use Rattle.volume.specs.declared.State.{State}
 use Rattle.volume.specs.meaning.State.{pointerIn, conditionNumber, conditionOfNumber}
 use Rattle.volume.specs.meaning.Refusals.{stateWithin}
-use Rattle.volume.specs.meaning.CallContracts.{blankRecord, recordAt, viewState}
-use Rattle.volume.specs.looking.DrivesLost.{fill-at}
+use Rattle.volume.specs.meaning.CallContracts.{recordAt, viewState}
+use Rattle.volume.specs.laws.StateHeld.{records-at}
 use Rattle.volume.specs.looking.KnowingLaws.{all-below-cong}
 use Rattle.volume.specs.laws.ByteLists.{number-small, bytes-take}
-use Rattle.volume.specs.laws.ByteLists.{Bytes as ByteList}
 use Rattle.mounting.specs.MountGenerations.{same-numbers}
 use Rattle.zrv.specs.meaning.Bytes.{recordTo, recordFrom, recordsTo, noState, stateTo, stateFrom, stateWellFormed}
 
@@ -192,7 +192,7 @@ state-test g xs ok b e =
     one : (z : ℕ) → z < g .zones → recordFits (zoneSectors g) xs (8 + 16 * z) ≡ sameAt xs (stateFrom (g .zones) xs) z && leb (pointerIn (recordAt (stateFrom (g .zones) xs) z .condition)) (zoneSectors g)
     one z h =
         record-fits (zoneSectors g) xs (8 + 16 * z) b (omega (arith, e, h, ok .zones-most))
-        ∙ ap (λ (r : ZoneRecord). recordSame xs (8 + 16 * z) r && leb (pointerIn (r .condition)) (zoneSectors g)) (sym (fill-at (λ y. recordFrom xs (8 + 16 * y)) blankRecord blankRecord (g .zones) (16 - g .zones) z h))
+        ∙ ap (λ (r : ZoneRecord). recordSame xs (8 + 16 * z) r && leb (pointerIn (r .condition)) (zoneSectors g)) (sym (records-at (λ y. recordFrom xs (8 + 16 * y)) (g .zones) z h))
 
     -- a lost drive within its bounds is one byte, and seven zeros
     told : ltb (readLE 8 xs 0) (g .drives) || eqb (readLE 8 xs 0) noDrive ≡ true → lostSame xs (stateFrom (g .zones) xs) ≡ true

@@ -3,7 +3,7 @@
 use mathlib.Core.Path.{_≡_, refl, sym, ap, subst, _∙_}
 use mathlib.Core.Logic.{_≢_, _⊎_, inl, inr}
 use mathlib.Core.Bool.{Bool, true, false, _&&_, _||_, not}
-use Prim.Native.Nat.{ℕ, zero, suc, _+_, _-_, _*_, _^_, _≤_, _<_, zero-le}
+use Prim.Native.Nat.{ℕ, zero, suc, _+_, _*_, _^_, _≤_, _<_, zero-le}
 use native.Mathlib.Decide.{ℕ-discrete}
 use native.Mathlib.Omega.{arith}
 use mathlib.Core.List.{List}
@@ -18,7 +18,7 @@ use Rattle.tables.specs.meaning.Below.{allBelow}
 use Rattle.tables.specs.laws.Below.{all-all-below}
 use Rattle.tables.specs.meaning.Drives.{findBelow, noDrive}
 use Rattle.tables.specs.laws.Drives.{find-below-is}
-use Rattle.tables.specs.meaning.Geometry.{Valid, cells, zoneSectors}
+use Rattle.tables.specs.meaning.Geometry.{Valid, cells, zoneSectors, maxZones}
 use Rattle.tables.specs.meaning.GeometryTest.{isValid}
 use Rattle.tables.specs.laws.GeometryTest.{test-if-valid}
 use Rattle.tables.specs.laws.Sizes.{zone-small}
@@ -31,21 +31,22 @@ use Rattle.volume.specs.declared.State.{State}
 use Rattle.volume.specs.declared.Answer.{Answer}
 use Rattle.volume.specs.declared.Answer.the-variants.{Finished, Unfinished, Refused}
 use Rattle.volume.specs.declared.Outcome.{Outcome}
-use Rattle.volume.specs.meaning.State.{pointerIn, isWorn, callPresent}
+use Rattle.volume.specs.meaning.State.{StateView, pointerIn, isWorn, callPresent}
 use Rattle.volume.specs.meaning.Rules.{isLost, conditionOf, generationOf, pointerAt, cleanAt, sealSeen, zoneAt, zoneShown, showing}
 use Rattle.volume.specs.meaning.Refusals.{accept, stateWithin, zoneOf, resetRows}
-use Rattle.volume.specs.meaning.Calls.{flushStores, formatStores}
+use Rattle.volume.specs.meaning.Calls.{flushStores, formatStores, flushState, formatState, resetState, writeState}
 use Rattle.volume.specs.meaning.Emptying.{writeAll, resetAll}
 use Rattle.volume.specs.meaning.Answers.{lostIn, leftOut, namedDrives, sectorsIn, presentIn, lostDriveIn, refusedAt}
-use Rattle.volume.specs.meaning.CallContracts.{blankRecord, freshRecord, recordAt, viewState, isSet, answerNumber, verdictNumber, lengthsOf, badIn, rolesOf, seenIn, Result, storingOn}
-use Rattle.volume.specs.meaning.CallContracts.{zoneLookOf, flushVerdict, withLost, flushOn, resetVerdict, resetRecord, withReset, resetOn, formatVerdict, freshState, formatOn, recordFrom, stateShown, lookVerdict, lookOn, writeVerdict, writtenState, pointerOf, writeOn, mountVerdict, mountStoresOn, mountShownOn, badPlaceOn, mountOn}
-use Rattle.volume.specs.looking.DrivesLost.{fill-long, fill-at, fill-past}
+use Rattle.volume.specs.meaning.CallContracts.{blankRecord, recordAt, viewState, isSet, answerNumber, verdictNumber, lengthsOf, badIn, rolesOf, seenIn, Result, storingOn, stateHeld}
+use Rattle.volume.specs.meaning.CallContracts.{flushVerdict, flushOn, resetVerdict, resetOn, formatVerdict, formatOn, lookVerdict, lookOn, writeVerdict, pointerOf, writeOn, mountVerdict, mountStoresOn, mountShownOn, badPlaceOn, mountOn}
+use Rattle.volume.specs.laws.StateHeld.{records-long, records-past, resetRecord, held-long, held-at, held-past, held-lost, held-open, held-reset}
 use Rattle.volume.specs.checks.ZoneChecks.{pointer-within}
 use Rattle.volume.specs.laws.Refusals.{accepted-row}
 use Rattle.volume.specs.laws.PassedRows.{reset-number-accepts, reset-passed, write-number-accepts, write-passed}
 use Rattle.volume.specs.laws.AnswerNumbers.{refused-numbered, look-told, mount-told}
 use Rattle.volume.specs.laws.GenerationRange.{generation-range, worn-top}
 use Rattle.volume.specs.laws.LookPointers.{pointer-within as pointer-at-within}
+use Rattle.volume.specs.meaning.Mount.{mountState}
 use Rattle.zrv.specs.meaning.Bytes.{stateFrom, stateTo, stateWellFormed}
 use Rattle.zrv.specs.meaning.EdgeCalls.{namedOf, sizesFit, stateBad, inputNumber, sizesNumber, Ranges, tablesIn, stateIn, unreadState, stateAfter, Answered, unlessRefused, handedBack, storedAll, storedFlushes, withoutPlace, flushOfBytes, flushEdge, lookOfBytes, lookEdge, mountOfBytes, mountEdge, formatOfBytes, formatEdge, resetOfBytes, resetEdge, writeOfBytes, writeEdge}
 use Rattle.zrv.specs.laws.EdgeCalls.{Sized, input-passed, sizes-passed, refused, made, state-new, look-alone, mount-alone}
@@ -182,10 +183,10 @@ read-bounded g st w d h =
     let (well, within) = state-passed g st w d h in
     record {
       lost-drive = within-lost g (stateFrom (g .zones) st) within;
-      sixteen = fill-long _ blankRecord 16 (g .zones) (input-passed g st w d h .valid .zones-most);
+      sixteen = records-long _ (g .zones) (input-passed g st w d h .valid .zones-most);
       generations = λ z l. read-generation (g .zones) st z well l;
       pointers = λ z l. pointer-within g (stateFrom (g .zones) st) z within l;
-      past = λ z l. fill-past _ blankRecord (g .zones) (16 - g .zones) z l;
+      past = λ z l. records-past _ (g .zones) z l;
     }
 
 -- ---- states that a call makes of it
@@ -223,6 +224,17 @@ lost-found : (g : Geometry) (named : List Bool) (s : State) → (lostIn g (isSet
 unfolding lostIn
 lost-found g named s = drive-found _ (g .drives)
 
+-- a view of which no more than the volume's zones is kept
+held-bounded : (g : Geometry) (v : StateView) → Valid g → (v .lost < g .drives) ⊎ (v .lost ≡ noDrive) → ((z : ℕ) → z < g .zones → v .generation z < 256 ^ 8)
+    → ((z : ℕ) → z < g .zones → pointerIn (v .condition z) ≤ zoneSectors g) → Bounded g (stateHeld (g .zones) v)
+held-bounded g v ok lost generations pointers = record {
+  lost-drive = lost;
+  sixteen = held-long (g .zones) v (ok .zones-most);
+  generations = λ z h. rw (held-at (g .zones) v z h) (generations z h);
+  pointers = λ z h. rw (held-at (g .zones) v z h) (pointers z h);
+  past = held-past (g .zones) v;
+}
+
 -- ---- states that are shown
 pointer-shown : (n q m : ℕ) (clean hasSeal : Bool) → q ≤ m → pointerIn (conditionOf n q clean hasSeal) ≤ m
 pointer-shown n q m clean hasSeal h = go (eqb n wornGeneration) (eqb q 0) (not clean || hasSeal)
@@ -233,19 +245,10 @@ pointer-shown n q m clean hasSeal h = go (eqb n wornGeneration) (eqb q 0) (not c
     go false false true = h
     go false false false = h
 
-shown-bounded : (g : Geometry) (present lost : ℕ → Bool) (v : Device) → Valid g → Bounded g (stateShown g (showing g present (findBelow lost (g .drives)) v))
-unfolding stateShown showing zoneShown zoneAt
-shown-bounded g present lost v ok = record {
-  lost-drive = drive-found lost (g .drives);
-  sixteen = fill-long (λ y. recordFrom (zoneLookOf (zoneShown g present v y))) blankRecord 16 (g .zones) (ok .zones-most);
-  generations = λ z h. rw (at z h) (generation-range g present v z h);
-  pointers = λ z h. rw (at z h) (pointer z);
-  past = λ z h. fill-past (λ y. recordFrom (zoneLookOf (zoneShown g present v y))) blankRecord (g .zones) (16 - g .zones) z h;
-}
+shown-bounded : (g : Geometry) (present lost : ℕ → Bool) (v : Device) → Valid g → Bounded g (stateHeld (g .zones) (mountState (showing g present (findBelow lost (g .drives)) v)))
+unfolding showing zoneShown zoneAt
+shown-bounded g present lost v ok = held-bounded g (mountState (showing g present (findBelow lost (g .drives)) v)) ok (drive-found lost (g .drives)) (generation-range g present v) (λ z h. pointer z)
   where
-    at : (z : ℕ) → z < g .zones → recordAt (stateShown g (showing g present (findBelow lost (g .drives)) v)) z ≡ recordFrom (zoneLookOf (zoneShown g present v z))
-    at z h = fill-at (λ y. recordFrom (zoneLookOf (zoneShown g present v y))) blankRecord blankRecord (g .zones) (16 - g .zones) z h
-
     pointer : (z : ℕ) → pointerIn (zoneShown g present v z .condition) ≤ zoneSectors g
     pointer z =
         let n = generationOf g present v z in
@@ -264,17 +267,21 @@ module _ (g : Geometry) (named : List Bool) (s : State) (b : Bounded g s) (count
   flush-bounded : (t : Tables) → answerNumber (flushOn g named s count t .outcome .answer) ≡ 0 → Bounded g (flushOn g named s count t .outcome .state)
   unfolding flushOn
   flush-bounded t =
-      finished-new (Bounded g) g (verdictNumber (flushVerdict g named s t)) (flushStores g (callPresent g (isSet named) (viewState s))) (withLost s (lostIn g (isSet named) (viewState s))) s count t
-      (λ v. record { lost-drive = lost-found g named s; sixteen = b .sixteen; generations = b .generations; pointers = b .pointers; past = b .past })
+      finished-new (Bounded g) g (verdictNumber (flushVerdict g named s t)) (flushStores g (callPresent g (isSet named) (viewState s))) (stateHeld maxZones (flushState (lostIn g (isSet named) (viewState s)) (viewState s))) s count t
+      (λ v.
+      subst (Bounded g) (held-lost s (lostIn g (isSet named) (viewState s)) (b .sixteen))
+      (record { lost-drive = lost-found g named s; sixteen = b .sixteen; generations = b .generations; pointers = b .pointers; past = b .past }))
 
   reset-bounded : (z : ℕ) (t : Tables) → Valid g → answerNumber (resetOn g named s z count t .outcome .answer) ≡ 0 → Bounded g (resetOn g named s z count t .outcome .state)
   unfolding resetOn
   reset-bounded z t ok =
-      finished-new (Bounded g) g (verdictNumber (resetVerdict g named s z t)) (resetAll g (callPresent g (isSet named) (viewState s)) (rolesOf g t) (seenIn g t) (viewState s) z) (withReset s z (lostIn g (isSet named) (viewState s))) s count t
+      finished-new (Bounded g) g (verdictNumber (resetVerdict g named s z t)) (resetAll g (callPresent g (isSet named) (viewState s)) (rolesOf g t) (seenIn g t) (viewState s) z) (stateHeld maxZones (resetState (lostIn g (isSet named) (viewState s)) (viewState s) z)) s count t
       (λ v.
       let a = reset-number-accepts g named t s z v in
-      zone-bounded g s (lostIn g (isSet named) (viewState s)) z (resetRecord (recordAt s z)) ok b (lost-found g named s) (reset-passed g named s z t a .zone) (omega (arith, reset-fresh g named s z t a, worn-top))
-      (pointer (eqb (suc (recordAt s z .generation)) wornGeneration)))
+      let hz : z < g .zones = reset-passed g named s z t a .zone in
+      subst (Bounded g) (held-reset s (lostIn g (isSet named) (viewState s)) z (b .sixteen) (omega (arith, hz, ok .zones-most)))
+      (zone-bounded g s (lostIn g (isSet named) (viewState s)) z (resetRecord (recordAt s z)) ok b (lost-found g named s) hz (omega (arith, reset-fresh g named s z t a, worn-top))
+      (pointer (eqb (suc (recordAt s z .generation)) wornGeneration))))
     where
       pointer : (c : Bool) → pointerIn (pick c (Worn zero) Empty) ≤ zoneSectors g
       pointer true = zero-le
@@ -284,11 +291,12 @@ module _ (g : Geometry) (named : List Bool) (s : State) (b : Bounded g s) (count
   unfolding writeOn
   write-bounded a k buffer t ok =
       finished-new (Bounded g) g (verdictNumber (writeVerdict g named s a k (length buffer) t)) (writeAll g (callPresent g (isSet named) (viewState s)) (rolesOf g t) (seenIn g t) (viewState s) (zoneOf g a) (sectorsIn g k buffer))
-      (writtenState s (lostIn g (isSet named) (viewState s)) (zoneOf g a) (pointerOf s (zoneOf g a) + k)) s count t
+      (stateHeld maxZones (writeState (lostIn g (isSet named) (viewState s)) (viewState s) (zoneOf g a) k)) s count t
       (λ v.
       let w = write-passed g named s a k (length buffer) t (write-number-accepts g named t s a k (length buffer) v) in
-      zone-bounded g s (lostIn g (isSet named) (viewState s)) (zoneOf g a) (record { generation = recordAt s (zoneOf g a) .generation; condition = Open (pointerOf s (zoneOf g a) + k) }) ok b (lost-found g named s) (w .zone)
-      (b .generations (zoneOf g a) (w .zone)) (w .inside))
+      subst (Bounded g) (held-open s (lostIn g (isSet named) (viewState s)) (zoneOf g a) (pointerOf s (zoneOf g a) + k) (b .sixteen) (omega (arith, w .zone, ok .zones-most)))
+      (zone-bounded g s (lostIn g (isSet named) (viewState s)) (zoneOf g a) (record { generation = recordAt s (zoneOf g a) .generation; condition = Open (pointerOf s (zoneOf g a) + k) }) ok b (lost-found g named s) (w .zone)
+      (b .generations (zoneOf g a) (w .zone)) (w .inside)))
 
 module _ (g : Geometry) (ok : Valid g) (named : List Bool) (old : State) where
   look-bounded : (t : Tables) → answerNumber (lookOn g named old t .answer) ≡ 0 → Bounded g (lookOn g named old t .state)
@@ -300,7 +308,7 @@ module _ (g : Geometry) (ok : Valid g) (named : List Bool) (old : State) where
 
       ended : Bool → Outcome
       ended c =
-          pick c (record { answer = Finished; state = stateShown g (showing g (presentIn g (isSet named) (deviceOf g t)) (lostDriveIn g (isSet named) (deviceOf g t)) (seenIn g t)) })
+          pick c (record { answer = Finished; state = stateHeld (g .zones) (mountState (showing g (presentIn g (isSet named) (deviceOf g t)) (lostDriveIn g (isSet named) (deviceOf g t)) (seenIn g t))) })
           (record { answer = refusedAt (badPlaceOn g named t) n; state = old })
 
       go : (c : Bool) → eqb n 0 ≡ c → answerNumber (ended c .answer) ≡ 0 → Bounded g (ended c .state)
@@ -319,24 +327,15 @@ module _ (g : Geometry) (ok : Valid g) (named : List Bool) (old : State) where
       (finished-told (Bounded g) g n ss (mountShownOn g present x t) old count t (refusedAt b) (refused-numbered b n (mount-told g named t))
       (λ v. shown-bounded g present (isLost g (isSet named) (seenIn g t)) (seenIn g (runStores g (length ss) ss t)) ok))
 
-fresh-bounded : (g : Geometry) (named : List Bool) → Valid g → Bounded g (freshState g (leftOut g (isSet named)))
-unfolding leftOut freshState
-fresh-bounded g named ok = record {
-  lost-drive = drive-found (λ d. not (isSet named d)) (g .drives);
-  sixteen = fill-long (λ z. freshRecord) blankRecord 16 (g .zones) (ok .zones-most);
-  generations = λ z h. rw (at z h) (omega arith);
-  pointers = λ z h. rw (at z h) zero-le;
-  past = λ z h. fill-past (λ z. freshRecord) blankRecord (g .zones) (16 - g .zones) z h;
-}
-  where
-    at : (z : ℕ) → z < g .zones → recordAt (freshState g (leftOut g (isSet named))) z ≡ freshRecord
-    at z h = fill-at (λ y. freshRecord) blankRecord blankRecord (g .zones) (16 - g .zones) z h
+fresh-bounded : (g : Geometry) (named : List Bool) → Valid g → Bounded g (stateHeld (g .zones) (formatState (leftOut g (isSet named))))
+unfolding leftOut
+fresh-bounded g named ok = held-bounded g (formatState (leftOut g (isSet named))) ok (drive-found (λ d. not (isSet named d)) (g .drives)) (λ z h. omega arith) (λ z h. zero-le)
 
 format-bounded : (g : Geometry) → Valid g → (named : List Bool) (array : ℕ) (old : State) (count : ℕ) (t : Tables)
     → answerNumber (formatOn g named array old count t .outcome .answer) ≡ 0 → Bounded g (formatOn g named array old count t .outcome .state)
 unfolding formatOn
 format-bounded g ok named array old count t =
-    finished-new (Bounded g) g (verdictNumber (formatVerdict g named t)) (formatStores g (namedDrives g (isSet named)) (leftOut g (isSet named)) array) (freshState g (leftOut g (isSet named))) old count t (λ v. fresh-bounded g named ok)
+    finished-new (Bounded g) g (verdictNumber (formatVerdict g named t)) (formatStores g (namedDrives g (isSet named)) (leftOut g (isSet named)) array) (stateHeld (g .zones) (formatState (leftOut g (isSet named)))) old count t (λ v. fresh-bounded g named ok)
 
 -- ==== the calls on bytes
 -- one that reads the state, and one that only writes it

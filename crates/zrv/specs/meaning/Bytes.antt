@@ -2,7 +2,7 @@
 -- A state is 264 bytes: byte 0 the lost drive or 255, bytes 1 to 7 zero, then 16 records of 16 bytes (generation 8, condition 1, three zeros, pointer 4).
 -- A zone's descriptor is 32 bytes: start 8, capacity 8, pointer 8, condition 1, seven zeros.
 use mathlib.Core.Bool.{Bool}
-use Prim.Native.Nat.{ℕ, zero, suc, _+_, _-_, _*_, _%_}
+use Prim.Native.Nat.{ℕ, zero, suc, _+_, _*_, _%_}
 use mathlib.Core.List.{List, [], _++_}
 use lib.ListN.{length, getD, drop, replicate}
 use Rattle.tables.specs.meaning.Below.{tabulate}
@@ -11,7 +11,7 @@ use Rattle.volume.specs.declared.ZoneRecord.{ZoneRecord}
 use Rattle.volume.specs.declared.State.{State}
 use Rattle.volume.specs.declared.ZoneDescriptor.{ZoneDescriptor}
 use Rattle.volume.specs.meaning.State.{pointerIn, conditionNumber, conditionOfNumber}
-use Rattle.volume.specs.meaning.CallContracts.{blankRecord, recordAt}
+use Rattle.volume.specs.meaning.CallContracts.{recordAt, recordsBelow}
 use Rattle.volume.specs.meaning.Report.{toldNumber}
 
 -- ---- tables
@@ -27,6 +27,16 @@ wordsTo (suc n) ts = wordsTo n ts ++ bytesLE 4 (getD ts n 0)
 -- the bytes of a table
 unfoldable pub tableTo : List ℕ → List ℕ
 tableTo ts = wordsTo (length ts) ts
+
+-- ---- a state's bytes: those of its head, then those of each zone's record
+abbrev pub stateBytes : ℕ
+stateBytes = 264
+
+abbrev pub headBytes : ℕ
+headBytes = 8
+
+abbrev pub recordBytes : ℕ
+recordBytes = 16
 
 -- ---- a zone's record
 -- sixteen bytes; a condition's number is below 256, so its four bytes are itself and three zeros. What is no condition's number reads as empty, and then is
@@ -45,15 +55,15 @@ recordsTo zero s = bytesLE 8 (s .lost % 256)
 recordsTo (suc n) s = recordsTo n s ++ recordTo (recordAt s n)
 
 abbrev pub noState : List ℕ
-noState = replicate 264 0
+noState = replicate stateBytes 0
 
--- its 264 bytes: all zero past the last zone's record
+-- its bytes: all zero past the last zone's record
 unfoldable pub stateTo : ℕ → State → List ℕ
-stateTo zones s = recordsTo zones s ++ drop (8 + 16 * zones) noState
+stateTo zones s = recordsTo zones s ++ drop (headBytes + recordBytes * zones) noState
 
--- the state that 264 bytes hold
+-- the state that bytes hold
 unfoldable pub stateFrom : ℕ → List ℕ → State
-stateFrom zones xs = record { lost = readLE 8 xs 0; zones = tabulate (λ z. recordFrom xs (8 + 16 * z)) zones ++ replicate (16 - zones) blankRecord }
+stateFrom zones xs = record { lost = readLE 8 xs 0; zones = recordsBelow (λ z. recordFrom xs (headBytes + recordBytes * z)) zones }
 
 -- whether bytes have the form: what is read from them, written again, is they
 unfoldable pub stateWellFormed : ℕ → List ℕ → Bool

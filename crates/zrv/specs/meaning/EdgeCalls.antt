@@ -3,25 +3,30 @@
 use mathlib.Core.Bool.{Bool, _&&_, not}
 use Prim.Native.Nat.{ℕ, zero, suc, _+_, _-_, _*_, _/_, _%_}
 use mathlib.Core.List.{List, [], _∷_, _++_}
-use lib.ListN.{length, drop, replicate}
+use lib.ListN.{length, getD, drop, replicate}
 use lib.Dec.{eqb}
 use Rattle.tables.specs.declared.Geometry.{Geometry}
 use Rattle.tables.specs.meaning.Basics.{pick}
 use Rattle.tables.specs.meaning.Below.{eachBelow}
-use Rattle.tables.specs.meaning.Geometry.{geometryOf, cells}
+use Rattle.tables.specs.meaning.Geometry.{geometryOf, cells, maxZones}
 use Rattle.tables.specs.meaning.GeometryTest.{isValid}
 use Rattle.tables.specs.meaning.Tables.{Tables, tablesOf}
 use Rattle.volume.specs.declared.Answer.{Answer}
 use Rattle.volume.specs.declared.Answer.the-variants.{Finished, Unfinished, Refused, BadLog}
-use Rattle.volume.specs.declared.Condition.{Condition}
 use Rattle.volume.specs.declared.State.{State}
 use Rattle.volume.specs.declared.Outcome.{Outcome}
 use Rattle.volume.specs.meaning.Refusals.{stateWithin}
 use Rattle.volume.specs.meaning.CallContracts.{blankRecord, viewState, answerNumber, Result, flushOn, lookOn, mountOn, formatOn, resetOn, writeOn, ReadResult, readOn, peekNumber, byteOf}
-use Rattle.volume.specs.meaning.Report.{descriptorOf, filledNumber}
-use Rattle.zrv.specs.meaning.Bytes.{tableFrom, tableTo, stateFrom, stateTo, stateWellFormed, descriptorTo}
+use Rattle.volume.specs.declared.ZoneDescriptor.{ZoneDescriptor}
+use Rattle.volume.specs.declared.ReportedCondition.the-variants as told
+use Rattle.volume.specs.meaning.Report.{ReportResult, reportOn}
+use Rattle.zrv.specs.meaning.Bytes.{stateBytes, tableFrom, tableTo, stateFrom, stateTo, stateWellFormed, descriptorTo}
 use Rattle.tables.specs.meaning.LittleEndian.{bytesLE}
 use Rattle.volume.specs.meaning.Answers.{placeOf}
+
+-- ---- the version of the interface: the major number times 65,536, and the minor one
+abbrev pub version : ℕ
+version = 65536
 
 -- ---- numbers
 -- the geometry of a call's first five numbers
@@ -40,11 +45,11 @@ namedOf m = bitsOf 8 m
 -- ---- what is refused before the call
 -- the lengths of the state and of the two tables, in bytes
 unfoldable pub sizesFit : Geometry → ℕ → ℕ → ℕ → Bool
-sizesFit g n w d = eqb n 264 && (eqb w (cells g * 4) && eqb d (cells g * 4))
+sizesFit g n w d = eqb n stateBytes && (eqb w (cells g * 4) && eqb d (cells g * 4))
 
--- a state of 264 bytes that has not its form, or is out of document 01's bounds
+-- a state of its length that has not its form, or is out of document 01's bounds
 unfoldable pub stateBad : Geometry → List ℕ → Bool
-stateBad g st = eqb (length st) 264 && not (stateWellFormed (g .zones) st && stateWithin g (viewState (stateFrom (g .zones) st)))
+stateBad g st = eqb (length st) stateBytes && not (stateWellFormed (g .zones) st && stateWithin g (viewState (stateFrom (g .zones) st)))
 
 -- a call that reads the state
 unfoldable pub inputNumber : Geometry → List ℕ → ℕ → ℕ → ℕ
@@ -75,7 +80,7 @@ stateIn g m = stateFrom (g .zones) (m .state)
 
 -- in place of the state that a format, look or mount never reads
 unfoldable pub unreadState : State
-unreadState = record { lost = 0; zones = replicate 16 blankRecord }
+unreadState = record { lost = 0; zones = replicate maxZones blankRecord }
 
 -- ---- what a call leaves
 -- what a call returns, and what it leaves of what it may change
@@ -197,19 +202,29 @@ peekEdge g mask a m place = readingState g m (placeSized place (placeAnswer g a 
 
 -- report, from the state alone: what is refused before it
 unfoldable pub reportInput : Geometry → List ℕ → ℕ
-reportInput g st = pick (isValid g) (pick (stateBad g st) 1 (pick (eqb (length st) 264) 0 2)) 1
+reportInput g st = pick (isValid g) (pick (stateBad g st) 1 (pick (eqb (length st) stateBytes) 0 2)) 1
 
 -- a list of so many bytes has room for so many descriptors
 abbrev pub descriptorsIn : List ℕ → ℕ
 descriptorsIn list = length list / 32
 
--- the list with its first n descriptors filled; those past them, and bytes that are no whole descriptor, stay
-unfoldable pub filledBytes : Geometry → (ℕ → Condition) → ℕ → List ℕ → List ℕ
-filledBytes g condition n list = eachBelow (λ z. descriptorTo (descriptorOf g z (condition z))) n ++ drop (n * 32) list
+-- so many descriptors, lent to the call in place of the list's bytes: what they hold is never read
+abbrev pub unreadDescriptor : ZoneDescriptor
+unreadDescriptor = record { start = 0; capacity = 0; pointer = 0; condition = told.Empty }
 
--- a finished report of zones in these conditions, with the number of descriptors
-abbrev pub reportBytes : Geometry → (ℕ → Condition) → List ℕ → Answered (List ℕ)
-reportBytes g condition list = answered (withNumber 0 (filledNumber g (descriptorsIn list))) (filledBytes g condition (filledNumber g (descriptorsIn list)) list)
+abbrev pub lentFor : List ℕ → List ZoneDescriptor
+lentFor list = replicate (descriptorsIn list) unreadDescriptor
+
+-- the bytes of the first n descriptors in place of the list's; those past them, and bytes that are no whole descriptor, stay
+unfoldable pub filledBytes : List ZoneDescriptor → ℕ → List ℕ → List ℕ
+filledBytes ds n list = eachBelow (λ z. descriptorTo (getD ds z unreadDescriptor)) n ++ drop (n * 32) list
+
+-- a report's answer with the number of descriptors, and what it leaves of the list
+abbrev pub reportBytes : ReportResult (List ZoneDescriptor) → List ℕ → Answered (List ℕ)
+reportBytes r list = answered (withNumber (answerNumber (r .answer)) (r .number)) (filledBytes (r .list) (r .number) list)
+
+abbrev pub reportOfBytes : Geometry → List ℕ → List ℕ → ReportResult (List ZoneDescriptor)
+reportOfBytes g st list = reportOn g (viewState (stateFrom (g .zones) st)) (lentFor list)
 
 abbrev pub reportEdge : Geometry → List ℕ → List ℕ → Answered (List ℕ)
-reportEdge g st list = unlessRefused (reportInput g st) (reportBytes g (viewState (stateFrom (g .zones) st) .condition) list) list
+reportEdge g st list = unlessRefused (reportInput g st) (reportBytes (reportOfBytes g st list) list) list

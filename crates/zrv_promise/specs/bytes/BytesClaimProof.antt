@@ -22,17 +22,20 @@ use Rattle.tables.specs.laws.TablesRefine.{kept-sized, loss-refines}
 use Rattle.tables.specs.laws.PointerOrder.{loss-order}
 use Rattle.volume.specs.declared.State.{State}
 use Rattle.volume.specs.declared.Outcome.{Outcome}
-use Rattle.volume.specs.declared.Answer.the-variants.{Finished, Unfinished, Refused}
+use Rattle.volume.specs.declared.Answer.{Answer}
+use Rattle.volume.specs.declared.Answer.the-variants.{Finished, Unfinished, Refused, BadLog}
 use Rattle.volume.specs.meaning.Answers.{CallResult}
-use Rattle.volume.specs.meaning.CallContracts.{recordAt, isSet, answerNumber, verdictNumber, Result, stateShown, lookOn, mountVerdict, badPlaceOn, ReadResult}
+use Rattle.volume.specs.meaning.CallContracts.{recordAt, isSet, answerNumber, verdictNumber, Result, lookOn, mountVerdict, badPlaceOn, stateHeld}
 use Rattle.volume.specs.laws.AnswerNumbers.{mount-tells}
 use Rattle.volume.specs.laws.ByteLists.{Bytes}
+use Rattle.volume.specs.meaning.Mount.{mountState}
 use Rattle.promise.specs.meaning.Ledger.{Fits}
-use Rattle.promise.specs.meaning.Claim.{Call, mounts, writes, flushes, resets, formats, Peeked, System, Event, calls, looks, reads, peeks, reports, cuts, loses, MayMount, ready, settled, ledgerAfter, next, NamesAll, Duty, Promise, start}
+use Rattle.promise.specs.meaning.Claim.{Call, mounts, writes, flushes, resets, formats, System, answered, reported, heard, Event, calls, looks, reads, peeks, reports, cuts, loses, MayMount, ready, settled, ledgerAfter, next, NamesAll, Duty, Serves, Promise, start}
 use Rattle.promise.specs.meaning.OnTables.{resultOn, callResult, shownIn, onTables}
 use Rattle.promise.specs.device.AtRestAnswers.{left-out}
+use Rattle.promise.specs.device.Heard.{answer-heard, answer-alike, read-alike, peek-alike}
 use Rattle.promise.specs.tables.TablesEvents.{TablesOk, loss-event}
-use Rattle.promise.specs.tables.MountRefines.{shown-agrees}
+use Rattle.promise.specs.tables.CallRefines.{held-agrees}
 use Rattle.promise.specs.tables.TablesClaimProof.{tables-promise, tables-event, tables-start}
 use Rattle.zrv.specs.meaning.Bytes.{tableFrom, tableTo, stateFrom, stateTo}
 use Rattle.zrv.specs.meaning.EdgeCalls.{namedOf, inputNumber, sizesNumber, Ranges, tablesIn, unreadState, Answered, storedAll, withoutPlace, lookOfBytes, lookEdge, formatOfBytes, formatEdge}
@@ -100,12 +103,12 @@ module _ (g : Geometry) (ok : Valid g) (wb : isValid g ≡ true) (s : System (on
 
       -- no mount is refused for a log
       logs-good : (stop : ℕ) → verdictNumber (mountVerdict g (namedOf mask) t) ≢ 6
-      logs-good stop e = promised .mount-logs-good (namedOf mask) names stop (badPlaceOn g (namedOf mask) t) (mount-tells g (namedOf mask) t st stop e)
+      logs-good stop e = promised .mount-refused (namedOf mask) names stop (BadLog (badPlaceOn g (namedOf mask) t)) (ap answered (mount-tells g (namedOf mask) t st stop e))
 
       -- each call is that on the tables
       call-on : (c : Call) (stop : ℕ) → (r : Result) × OnTheTables g m (edgeOf g c mask stop m) r (resultOn g c (namedOf mask) st stop t)
       call-on mounts stop = (_, mount-on g mask m (o .written-bytes) (o .durable-bytes) sizes stop (logs-good stop))
-      call-on (writes a k buffer) stop = (_, write-on g mask m (o .written-bytes) (o .durable-bytes) (o .taken) a k stop buffer)
+      call-on (writes w) stop = (_, write-on g mask m (o .written-bytes) (o .durable-bytes) (o .taken) w stop)
       call-on flushes stop = (_, flush-on g mask m (o .written-bytes) (o .durable-bytes) (o .taken) stop)
       call-on (resets z) stop = (_, reset-on g mask m (o .written-bytes) (o .durable-bytes) (o .taken) z stop)
       call-on (formats array) stop = (_, format-on g mask m (o .written-bytes) (o .durable-bytes) sizes array stop)
@@ -116,12 +119,15 @@ module _ (g : Geometry) (ok : Valid g) (wb : isValid g ≡ true) (s : System (on
       pub answers : (c : Call) (stop : ℕ) → onBytes g .call c mask (s .state) stop (s .memory) .answer ≡ onTables g .call c (namedOf mask) st stop t .answer
       answers c stop = ap (λ (r : CallResult Tables State). r .answer) (call-views c stop)
 
+      heard-as : (c : Call) (stop : ℕ) (a : Answer) → heard s (calls c mask stop) ≡ answered a → heard (viewSystem g s) (calls c (namedOf mask) stop) ≡ answered a
+      heard-as c stop a e = answer-alike (sym (answers c stop)) e
+
       -- ---- looks
-      look-on : lookOn g (namedOf mask) st t ≡ record { answer = Finished; state = stateShown g (shownIn g (namedOf mask) t t) }
+      look-on : lookOn g (namedOf mask) st t ≡ record { answer = Finished; state = stateHeld (g .zones) (mountState (shownIn g (namedOf mask) t t)) }
       look-on = ap (λ (r : CallResult Tables State). let u : Outcome = record { answer = r .answer; state = r .state } in u) (promised .look-fits (namedOf mask) names .0)
 
-      looked : onBytes g .look mask (s .state) (s .memory) ≡ record { answer = Finished; memory = s .memory; state = stateTo (g .zones) (stateShown g (shownIn g (namedOf mask) t t)) }
-      looked = look-is g mask (s .memory) (s .state) (o .taken) (stateShown g (shownIn g (namedOf mask) t t)) look-on
+      looked : onBytes g .look mask (s .state) (s .memory) ≡ record { answer = Finished; memory = s .memory; state = stateTo (g .zones) (stateHeld (g .zones) (mountState (shownIn g (namedOf mask) t t))) }
+      looked = look-is g mask (s .memory) (s .state) (o .taken) (stateHeld (g .zones) (mountState (shownIn g (namedOf mask) t t))) look-on
 
       -- its state's bytes are taken, and hold what the look on the tables hands on
       look-hands : HandsOn g (lookEdge g mask m .left .state) (lookOfBytes g mask m .state) (length (s .memory .written)) (length (s .memory .durable))
@@ -129,28 +135,42 @@ module _ (g : Geometry) (ok : Valid g) (wb : isValid g ≡ true) (s : System (on
 
       pub look-state : stateFrom (g .zones) (onBytes g .look mask (s .state) (s .memory) .state) ≡ lookOn g (namedOf mask) st t .state
       look-state =
-          let x = stateShown g (shownIn g (namedOf mask) t t) in
+          let x = stateHeld (g .zones) (mountState (shownIn g (namedOf mask) t t)) in
           look-hands .reads-back ∙ ap (λ (u : Outcome). u .state) (look-other g (namedOf mask) st unreadState x t look-on) ∙ ap (λ (u : Outcome). u .state) (sym look-on)
 
       -- ---- reports
+      conditions-looked : (z : ℕ) → z < g .zones → recordAt (stateFrom (g .zones) (onBytes g .look mask (s .state) (s .memory) .state)) z .condition ≡ shownIn g (namedOf mask) t t .zone z .condition
+      conditions-looked z h =
+          ap (λ (x : State). recordAt x z .condition) look-state ∙ ap (λ (u : Outcome). recordAt (u .state) z .condition) look-on ∙ sym (held-agrees g (g .zones) (mountState (shownIn g (namedOf mask) t t)) (omega arith) .condition-same z h)
+
       conditions-shown : s .mode ≡ ready → (z : ℕ) → z < g .zones → recordAt st z .condition ≡ shownIn g (namedOf mask) t t .zone z .condition
-      conditions-shown r z h =
-          let k = shownIn g (namedOf mask) t t in
-          sym (promised .look-holds (namedOf mask) names r .1 .conditions z h) ∙ ap (λ (u : Outcome). recordAt (u .state) z .condition) look-on ∙ sym (shown-agrees g k .condition-same z h)
+      conditions-shown r z h = sym (promised .look-holds (namedOf mask) names r .1 .conditions z h) ∙ sym (ap (λ (x : State). recordAt x z .condition) look-state) ∙ conditions-looked z h
 
       report-claim : s .mode ≡ ready → (list : List ℕ) → onBytes g .report (s .state) list ≡ shownBytes g (shownIn g (namedOf mask) t t) list
       report-claim r list =
           report-is g (s .state) list (input-reports g (s .state) (length (s .memory .written)) (length (s .memory .durable)) (o .taken)) (shownIn g (namedOf mask) t t) (conditions-shown r)
 
+      -- ---- a look's state serves reads, peeks and reports
+      look-serves-bytes : s .mode ≡ ready → Serves g (onBytes g) s (onBytes g .look mask (s .state) (s .memory) .state)
+      look-serves-bytes r =
+          let x = onBytes g .look mask (s .state) (s .memory) .state in
+          let q : Serves g (onTables g) (viewSystem g s) (stateFrom (g .zones) x) = rw look-state (promised .look-serves (namedOf mask) names r) in
+          record {
+            reads-same = λ by all a count out.
+                read-is g by (s .memory) x (look-hands .taken) a count out ∙ q .reads-same (namedOf by) (record { drives = all .drives }) a count out ∙ sym (read-is g by (s .memory) (s .state) (o .taken) a count out);
+            peeks-same = λ by all a. peek-is g by (s .memory) x (look-hands .taken) a ∙ q .peeks-same (namedOf by) (record { drives = all .drives }) a ∙ sym (peek-is g by (s .memory) (s .state) (o .taken) a);
+            reports-same = λ list. report-is g x list (input-reports g x (length (s .memory .written)) (length (s .memory .durable)) (look-hands .taken)) (shownIn g (namedOf mask) t t) conditions-looked ∙ sym (report-claim r list);
+          }
+
       -- ---- a finished mount
-      mount-claim : MayMount (s .mode) → (stop : ℕ) → let r = onBytes g .call mounts mask (s .state) stop (s .memory) in r .answer ≡ Finished
-          → (r .state ≡ onBytes g .stateOf (onBytes g .shows mask (s .memory) (r .memory))) × Fits g (s .ledger) (onBytes g .shows mask (s .memory) (r .memory))
+      mount-claim : MayMount (s .mode) → (stop : ℕ) → heard s (calls mounts mask stop) ≡ answered Finished
+          → let r = onBytes g .call mounts mask (s .state) stop (s .memory) in let k = onBytes g .shows mask (s .memory) (r .memory) in (r .state ≡ onBytes g .stateOf k) × Fits g (s .ledger) k
       mount-claim may stop e =
           let (r, q) = call-on mounts stop in
           let u = resultOn g mounts (namedOf mask) st stop t in
-          let h = finished-code (edgeOf g mounts mask stop m .code) e in
+          let h = finished-code (edgeOf g mounts mask stop m .code) (answer-heard e) in
           let k : tablesIn g (edgeOf g mounts mask stop m .left) ≡ u .tables = ap (λ (x : CallResult Tables State). x .memory) (call-views mounts stop) in
-          let (a, b) = promised .mount-fits (namedOf mask) names may stop (sym (answers mounts stop) ∙ e) in
+          let (a, b) = promised .mount-fits (namedOf mask) names may stop (heard-as mounts stop Finished e) in
           rw k (q .hands-on h .bytes-are ∙ ap (stateTo (g .zones)) (q .alike .new-same (sym (q .leaves .code-is) ∙ h) ∙ a), b)
 
   -- the promise
@@ -158,32 +178,18 @@ module _ (g : Geometry) (ok : Valid g) (wb : isValid g ≡ true) (s : System (on
   bytes-promise = record {
     look-fits = λ mask n. (looked mask n, promised .look-fits (namedOf mask) (names mask n) .1);
     mount-fits = mount-claim;
-    mount-refused = λ mask n stop k e. promised .mount-refused (namedOf mask) (names mask n) stop k (sym (answers mask n mounts stop) ∙ e);
-    mount-logs-good = λ mask n stop b e. promised .mount-logs-good (namedOf mask) (names mask n) stop b (sym (answers mask n mounts stop) ∙ e);
+    mount-refused = λ mask n stop a e. promised .mount-refused (namedOf mask) (names mask n) stop a (heard-as mask n mounts stop a e);
     pointer-is = promised .pointer-is;
-    look-holds = λ mask n r.
-        let (a, b) = promised .look-holds (namedOf mask) (names mask n) r in (
-          ap (λ (x : State). x .lost) (look-state mask n) ∙ a,
-          record {
-            generations = λ z h. ap (λ (x : State). recordAt x z .generation) (look-state mask n) ∙ b .generations z h;
-            conditions = λ z h. ap (λ (x : State). recordAt x z .condition) (look-state mask n) ∙ b .conditions z h;
-          },
-        );
-    flush-accepted = λ mask n r stop k e. promised .flush-accepted (namedOf mask) (names mask n) r stop k (sym (answers mask n flushes stop) ∙ e);
-    reset-refused = λ mask n r z stop k e. promised .reset-refused (namedOf mask) (names mask n) r z stop k (sym (answers mask n (resets z) stop) ∙ e);
-    write-refused = λ mask n r a count buffer stop k e. promised .write-refused (namedOf mask) (names mask n) r a count buffer stop k (sym (answers mask n (writes a count buffer) stop) ∙ e);
-    read-gives = λ mask n r a count out e.
-        let q = read-is g mask (s .memory) (s .state) (o .taken) a count out in
-        let (x, y) = promised .read-gives (namedOf mask) (names mask n) r a count out (sym (ap (λ (u : ReadResult). u .answer) q) ∙ e) in
-        (x, ap (λ (u : ReadResult). u .buffer) q ∙ y);
-    read-accepted = λ mask n r a count out hz pos len h.
-        ap (λ (u : ReadResult). u .answer) (read-is g mask (s .memory) (s .state) (o .taken) a count out) ∙ promised .read-accepted (namedOf mask) (names mask n) r a count out hz pos len h;
-    peek-gives = λ mask n r a e.
-        let q = peek-is g mask (s .memory) (s .state) (o .taken) a in
-        let (x, y, z) = promised .peek-gives (namedOf mask) (names mask n) r a (sym (ap (λ (u : Peeked). u .number) q) ∙ e) in
-        (x, ap (λ (u : Peeked). u .from) q ∙ y, ap (λ (u : Peeked). u .part) q ∙ z);
-    peek-accepted = λ mask n r a hz h there. ap (λ (u : Peeked). u .number) (peek-is g mask (s .memory) (s .state) (o .taken) a) ∙ promised .peek-accepted (namedOf mask) (names mask n) r a hz h there;
-    report-gives = report-claim;
+    look-serves = look-serves-bytes;
+    look-holds = λ mask n r. rw (look-state mask n) (promised .look-holds (namedOf mask) (names mask n) r);
+    flush-accepted = λ mask n r stop a e. promised .flush-accepted (namedOf mask) (names mask n) r stop a (heard-as mask n flushes stop a e);
+    reset-refused = λ mask n r z stop a e. promised .reset-refused (namedOf mask) (names mask n) r z stop a (heard-as mask n (resets z) stop a e);
+    write-refused = λ mask n r w stop a e. promised .write-refused (namedOf mask) (names mask n) r w stop a (heard-as mask n (writes w) stop a e);
+    read-gives = λ mask n r a count out bytes e. promised .read-gives (namedOf mask) (names mask n) r a count out bytes (read-alike (sym (read-is g mask (s .memory) (s .state) (o .taken) a count out)) e);
+    read-accepted = λ mask n r a count out hz pos len h. read-alike (read-is g mask (s .memory) (s .state) (o .taken) a count out) (promised .read-accepted (namedOf mask) (names mask n) r a count out hz pos len h);
+    peek-gives = λ mask n r a from part e. promised .peek-gives (namedOf mask) (names mask n) r a from part (peek-alike (sym (peek-is g mask (s .memory) (s .state) (o .taken) a)) e);
+    peek-accepted = λ mask n r a hz h there. peek-alike (peek-is g mask (s .memory) (s .state) (o .taken) a) (promised .peek-accepted (namedOf mask) (names mask n) r a hz h there);
+    report-gives = λ mask n r list. ap reported (report-claim mask n r list);
   }
 
   -- ---- events
@@ -202,22 +208,13 @@ module _ (g : Geometry) (ok : Valid g) (wb : isValid g ≡ true) (s : System (on
             (tables-event g ok wb (viewSystem g s) (o .holds) (calls c (namedOf mask) stop) (names mask n, may, rw (answers mask n c stop) at comp));
       }
 
-  look-event : (mask : ℕ) → Duty g (onBytes g) s (looks mask true) → BytesOk g (next g (onBytes g) s (looks mask true))
-  look-event mask (n, may) = record {
-    written-bytes = o .written-bytes;
-    durable-bytes = o .durable-bytes;
-    taken = look-hands mask n .taken;
-    holds = rw (look-state mask n) (tables-event g ok wb (viewSystem g s) (o .holds) (looks (namedOf mask) true) (names mask n, may));
-  }
-
   -- memory that a cut or a loss leaves
   left-taken : (u : LentBytes) → StillBytes (s .memory) u → inputNumber g (s .state) (length (u .written)) (length (u .durable)) ≡ 0
   left-taken u b = rw (b .written-long, b .durable-long) (o .taken)
 
   pub bytes-event : (e : Event (onBytes g)) → Duty g (onBytes g) s e → BytesOk g (next g (onBytes g) s e)
   bytes-event (calls c mask stop) d = call-event c mask stop d
-  bytes-event (looks mask false) d = o
-  bytes-event (looks mask true) d = look-event mask d
+  bytes-event (looks mask) d = o
   bytes-event (reads mask a count out) d = o
   bytes-event (peeks mask a) d = o
   bytes-event (reports list) d = o

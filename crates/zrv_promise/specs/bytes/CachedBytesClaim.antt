@@ -2,7 +2,7 @@
 -- with what the caches remember, are as promise's CachedTablesClaim has them.
 use mathlib.Core.Path.{_≡_, refl, sym, subst}
 use mathlib.Core.Logic.{_⊎_, inl, inr}
-use mathlib.Core.Bool.{Bool, true, false}
+use mathlib.Core.Bool.{Bool, true}
 use Prim.Native.Nat.{ℕ, _^_, _<_}
 use mathlib.Core.List.{List}
 use Rattle.tables.specs.declared.Geometry.{Geometry}
@@ -35,10 +35,10 @@ use Rattle.zrv.specs.meaning.Bytes.{stateFrom}
 use Rattle.zrv.specs.meaning.EdgeCalls.{namedOf, tablesIn, formatEdge, unreadState}
 use Rattle.zrv_promise.specs.meaning.OnBytes.{LentBytes, rangesOf, tablesAt, StillBytes, onBytes, BytesClaim}
 use Rattle.zrv_promise.specs.meaning.CachesOnBytes.{bytesCaches, onCachingBytes, CachingBytesClaim}
-use Rattle.zrv_promise.specs.bytes.BytesClaimProof.{bytes-all, finished-code, viewSystem, BytesOk, call-views, answers, look-state, bytes-promise, bytes-event, none-changed, again, read-again, before, edge, made-on, sized, finished, began, begins, left-tables, left-state, bytes-start}
+use Rattle.zrv_promise.specs.bytes.BytesClaimProof.{bytes-all, finished-code, viewSystem, BytesOk, call-views, answers, bytes-promise, bytes-event, none-changed, again, read-again, before, edge, made-on, sized, finished, began, begins, left-tables, left-state, bytes-start}
 
 -- ---- the system on the tables that the bytes hold
-abbrev viewCached : (g : Geometry) → System (onCachingBytes g) → System (onCachingTables g)
+abbrev pub viewCached : (g : Geometry) → System (onCachingBytes g) → System (onCachingTables g)
 viewCached g s = record { memory = record { memory = tablesAt g (s .memory .memory); was = s .memory .was }; lost = s .lost; mode = s .mode; state = stateFrom (g .zones) (s .state); ledger = s .ledger }
 
 -- what holds of tables in the bytes, with these caches
@@ -64,7 +64,7 @@ module _ (g : Geometry) (ok : Valid g) (wb : isValid g ≡ true) (s : System (on
   abbrev st : State
   st = stateFrom (g .zones) (s .state)
 
-  tables-ok : TablesOkCached g (viewCached g s)
+  pub tables-ok : TablesOkCached g (viewCached g s)
   tables-ok = record { plain = o .plain .holds; holds = o .holds }
 
   tables-keep : (e : Event (onCachingTables g)) → Duty g (onCachingTables g) (viewCached g s) e → TablesOkCached g (next g (onCachingTables g) (viewCached g s) e)
@@ -85,19 +85,9 @@ module _ (g : Geometry) (ok : Valid g) (wb : isValid g ≡ true) (s : System (on
         holds = subst (λ (x : CallResult Tables State). Holds g (after c (namedOf mask) x) (r .memory .was)) (sym (call-views g ok wb s0 (o .plain) mask m c stop)) (k .holds);
       }
 
-  look-cached : (mask : ℕ) → Duty g (onCachingBytes g) s (looks mask true) → BytesOkCached g (next g (onCachingBytes g) s (looks mask true))
-  look-cached mask (n, may) =
-      let m = names-beneath g (onBytes g) (bytesCaches g) s mask n in
-      record {
-        plain = bytes-event g ok wb s0 (o .plain) (looks mask true) (m, may);
-        holds = subst (λ (x : State). OkCached g (s .mode) (s .lost) (record { now = deviceOf g t; was = s .memory .was }) (viewState x) (s .ledger)) (sym (look-state g ok wb s0 (o .plain) mask m))
-            (tables-keep (looks (namedOf mask) true) (record { drives = n .drives }, may) .holds);
-      }
-
   pub bytes-event-cached : (e : Event (onCachingBytes g)) → Duty g (onCachingBytes g) s e → BytesOkCached g (next g (onCachingBytes g) s e)
   bytes-event-cached (calls c mask stop) d = call-cached c mask stop d
-  bytes-event-cached (looks mask false) d = o
-  bytes-event-cached (looks mask true) d = look-cached mask d
+  bytes-event-cached (looks mask) d = o
   bytes-event-cached (reads mask a count out) d = o
   bytes-event-cached (peeks mask a) d = o
   bytes-event-cached (reports list) d = o
@@ -161,7 +151,7 @@ pub caching-bytes-resets-last : (g : Geometry) → ResetsLast g (onCachingBytes 
 caching-bytes-resets-last g = resets-last g (onCachingBytes g) (caching-bytes-keep-the-promise g)
 
 -- the older claim follows
-bytes-older-cuts : (g : Geometry) → OlderCuts (onBytes g) (bytesCaches g)
+pub bytes-older-cuts : (g : Geometry) → OlderCuts (onBytes g) (bytesCaches g)
 bytes-older-cuts g x m was u (b, c) = (b, tables-older-cuts g x (tablesAt g m) was (tablesAt g u) c)
 
 pub bytes-keep-the-promise : BytesClaim

@@ -23,7 +23,7 @@ use Rattle.volume.specs.meaning.CallContracts.{viewState, isSet, answerNumber, 
 use Rattle.volume.specs.laws.AnswerNumbers.{verdict-small, mount-small, mount-told, refused-numbered}
 use Rattle.volume.specs.laws.BadPlaces.{refused-plain}
 use Rattle.volume.specs.laws.ByteLists.{Bytes}
-use Rattle.promise.specs.meaning.Claim.{mounts, writes, flushes, resets, formats}
+use Rattle.promise.specs.meaning.Claim.{WriteAsked, mounts, writes, flushes, resets, formats}
 use Rattle.promise.specs.meaning.OnTables.{resultOn, callResult}
 use Rattle.zrv.specs.meaning.Bytes.{stateFrom}
 use Rattle.zrv.specs.meaning.EdgeCalls.{namedOf, inputNumber, sizesNumber, Ranges, tablesIn, stateIn, unreadState, Answered, formatOfBytes, mountOfBytes, writeOfBytes, flushOfBytes, resetOfBytes}
@@ -173,9 +173,12 @@ module _ (g : Geometry) (mask : ℕ) (m : Ranges) (a : Bytes (m .written)) (b : 
         }
 
   module _ (n : inputNumber g (m .state) (length (m .written)) (length (m .durable)) ≡ 0) where
-    pub write-on : (at k count : ℕ) (bytes : List ℕ) → OnTheTables g m (edgeOf g (writes at k bytes) mask count m) (writeOfBytes g mask at k count bytes m) (resultOn g (writes at k bytes) named s count t)
+    pub write-on : (w : WriteAsked) (count : ℕ) → OnTheTables g m (edgeOf g (writes w) mask count m) (writeOfBytes g mask (w .address) (w .count) count (w .buffer) m) (resultOn g (writes w) named s count t)
     unfolding write-stored writeOn
-    write-on at k count bytes =
+    write-on w count =
+        let at = w .address in
+        let k = w .count in
+        let bytes = w .buffer in
         let q = write-stored g t named count s at k bytes in
         record {
           leaves = write-leaves g mask m a b n at k count bytes;

@@ -26,16 +26,18 @@ use Rattle.volume.specs.declared.Outcome.{Outcome}
 use Rattle.volume.specs.meaning.Rules.{Shown, showing}
 use Rattle.volume.specs.meaning.Answers.{presentIn, lostDriveIn, refusedAt}
 use Rattle.volume.specs.meaning.Refusals.{zoneOf, offsetOf}
-use Rattle.volume.specs.meaning.CallContracts.{recordAt, viewState, isSet, answerNumber, verdictNumber, seenIn, stateShown, lookVerdict, badPlaceOn, lookOn, ReadResult, readNumber, readOn, peekNumber, peekFrom, peekOn}
-use Rattle.volume.specs.meaning.Report.{ReportResult, filledNumber}
+use Rattle.volume.specs.meaning.CallContracts.{recordAt, viewState, isSet, answerNumber, verdictNumber, seenIn, lookVerdict, badPlaceOn, lookOn, ReadResult, readNumber, readOn, peekNumber, peekFrom, peekOn, stateHeld}
+use Rattle.volume.specs.declared.ZoneDescriptor.{ZoneDescriptor}
+use Rattle.volume.specs.meaning.Report.{ReportResult}
 use Rattle.volume.specs.laws.BadPlaces.{not-finished}
-use Rattle.volume.specs.laws.Report.{filled-most}
+use Rattle.volume.specs.laws.Report.{report-finished, report-same}
 use Rattle.volume.specs.looking.KnowingValues.{sector-within}
 use Rattle.volume.specs.reading.Peeking.{peek-accepted, peek-refused, peek-done}
+use Rattle.volume.specs.meaning.Mount.{mountState}
 use Rattle.zrv.specs.meaning.Bytes.{stateFrom, stateTo}
-use Rattle.zrv.specs.meaning.EdgeCalls.{namedOf, sizesFit, inputNumber, sizesNumber, stateAfter, Ranges, tablesIn, stateIn, unreadState, Answered, answered, handedBack, withoutPlace, lookOfBytes, lookEdge, readAnswer, readEdge, offsetAt, placeAnswer, placeSized, peekEdge, reportInput, descriptorsIn, filledBytes, withNumber, reportBytes, reportEdge}
+use Rattle.zrv.specs.meaning.EdgeCalls.{namedOf, sizesFit, inputNumber, sizesNumber, stateAfter, Ranges, tablesIn, stateIn, unreadState, Answered, answered, handedBack, withoutPlace, lookOfBytes, lookEdge, readAnswer, readEdge, offsetAt, placeAnswer, placeSized, peekEdge, reportInput, lentFor, reportBytes, reportOfBytes, reportEdge}
 use Rattle.zrv.specs.laws.EdgeCalls.{Sized, input-passed, made, look-alone, place-right, place-refused, place-made}
-use Rattle.zrv.specs.laws.Report.{filled-same}
+use Rattle.zrv.specs.laws.Report.{report-passed}
 use Rattle.zrv_promise.specs.meaning.OnBytes.{LentBytes, rangesOf, answerOf, bytesResult, readBytes, peekedBytes, noPlace, reportedBytes, shownBytes}
 use Rattle.zrv_promise.specs.bytes.CallsOnBytes.{read-small, refused-known}
 
@@ -54,7 +56,7 @@ look-other g named a b x t = go (eqb v 0)
 
     ended : Bool → State → Outcome
     ended c old =
-        pick c (record { answer = Finished; state = stateShown g (showing g (presentIn g (isSet named) (deviceOf g t)) (lostDriveIn g (isSet named) (deviceOf g t)) (seenIn g t)) })
+        pick c (record { answer = Finished; state = stateHeld (g .zones) (mountState (showing g (presentIn g (isSet named) (deviceOf g t)) (lostDriveIn g (isSet named) (deviceOf g t)) (seenIn g t))) })
         (record { answer = refusedAt (badPlaceOn g named t) v; state = old })
 
     go : (c : Bool) → ended c a ≡ record { answer = Finished; state = x } → ended c b ≡ record { answer = Finished; state = x }
@@ -135,17 +137,9 @@ module _ (g : Geometry) (mask : ℕ) (m : LentBytes) (st : List ℕ) (n : inputN
           none = rw (ne-eqb v 0 e) refl
 
 -- ---- report: where nothing is refused, it tells the conditions that are shown
-pub report-is : (g : Geometry) (st list : List ℕ) → reportInput g st ≡ 0 → (k : Shown) → ((z : ℕ) → z < g .zones → recordAt (stateFrom (g .zones) st) z .condition ≡ k .zone z .condition) → reportedBytes (reportEdge g st list) ≡ shownBytes g k list
+pub report-is : (g : Geometry) (st list : List ℕ) → reportInput g st ≡ 0 → (k : Shown) → ((z : ℕ) → z < g .zones → recordAt (stateFrom (g .zones) st) z .condition ≡ k .zone z .condition)
+    → reportedBytes (reportEdge g st list) ≡ shownBytes g k list
 report-is g st list h k same =
-    let n = filledNumber g (descriptorsIn list) in
-    let c = viewState (stateFrom (g .zones) st) .condition in
-    ap reportedBytes (sym (made (reportInput g st) (reportBytes g c list) list h)) ∙ finished n (filledBytes g c n list) ∙ ap (finishedOf n) (filled-same g c (λ z. k .zone z .condition) same n list (filled-most g (descriptorsIn list)))
-  where
-    finishedOf : ℕ → List ℕ → ReportResult (List ℕ)
-    finishedOf n xs = record { answer = Finished; number = n; list = xs }
-
-    finished : (n : ℕ) (xs : List ℕ) → reportedBytes (answered (withNumber 0 n) xs) ≡ finishedOf n xs
-    finished n xs =
-        let a : withNumber 0 n % 4294967296 ≡ 0 = omega arith in
-        let b : withNumber 0 n / 4294967296 ≡ n = omega arith in
-        rw (a, b) refl
+    let state = viewState (stateFrom (g .zones) st) in
+    let e = report-finished g state (report-passed g st h .may) (lentFor list) ∙ report-same g (state .condition) (λ z. k .zone z .condition) (lentFor list) same in
+    ap reportedBytes (sym (made (reportInput g st) (reportBytes (reportOfBytes g st list) list) list h) ∙ ap (λ (r : ReportResult (List ZoneDescriptor)). reportBytes r list) e)

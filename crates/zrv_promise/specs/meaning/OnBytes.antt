@@ -13,13 +13,15 @@ use Rattle.tables.specs.meaning.LittleEndian.{numberLE}
 use Rattle.volume.specs.declared.Answer.{Answer}
 use Rattle.volume.specs.declared.Answer.the-variants.{Finished, Unfinished, Refused}
 use Rattle.volume.specs.meaning.Answers.{CallResult}
-use Rattle.volume.specs.meaning.Report.{ReportResult, filledNumber}
+use Rattle.volume.specs.meaning.Report.{ReportResult}
 use Rattle.volume.specs.meaning.Rules.{Shown}
-use Rattle.volume.specs.meaning.CallContracts.{recordAt, isSet, stateShown, ReadResult}
+use Rattle.volume.specs.meaning.CallContracts.{viewState, isSet, ReadResult, stateHeld}
+use Rattle.volume.specs.meaning.Mount.{mountState}
 use Rattle.promise.specs.meaning.Claim.{Call, mounts, writes, flushes, resets, formats, Peeked, Volume, KeepsPromise}
+use Rattle.promise.specs.meaning.OnDevice.{reportShown}
 use Rattle.promise.specs.meaning.OnTables.{shownIn}
 use Rattle.zrv.specs.meaning.Bytes.{stateFrom, stateTo}
-use Rattle.zrv.specs.meaning.EdgeCalls.{namedOf, Ranges, ranges, tablesIn, Answered, withoutPlace, formatEdge, lookEdge, mountEdge, writeEdge, flushEdge, resetEdge, readEdge, peekEdge, descriptorsIn, filledBytes, reportEdge}
+use Rattle.zrv.specs.meaning.EdgeCalls.{namedOf, Ranges, ranges, tablesIn, Answered, withoutPlace, formatEdge, lookEdge, mountEdge, writeEdge, flushEdge, resetEdge, readEdge, peekEdge, lentFor, reportBytes, reportEdge}
 
 -- the ranges of the sectors and of the two tables
 pub record LentBytes : Type 0 where
@@ -42,7 +44,7 @@ answerOf n = pick (eqb n 0) Finished (pick (eqb n 255) Unfinished (Refused n))
 
 abbrev pub edgeOf : Geometry → Call → ℕ → ℕ → Ranges → Answered Ranges
 edgeOf g mounts mask count m = withoutPlace (mountEdge g mask count m)
-edgeOf g (writes a k buffer) mask count m = writeEdge g mask a k count buffer m
+edgeOf g (writes w) mask count m = writeEdge g mask (w .address) (w .count) count (w .buffer) m
 edgeOf g flushes mask count m = flushEdge g mask count m
 edgeOf g (resets z) mask count m = resetEdge g mask z count m
 edgeOf g (formats array) mask count m = formatEdge g mask array count m
@@ -67,7 +69,7 @@ reportedBytes e = record { answer = answerOf (e .code % 4294967296); number = e 
 
 -- the bytes of a report of the conditions shown
 abbrev pub shownBytes : Geometry → Shown → List ℕ → ReportResult (List ℕ)
-shownBytes g k list = let n = filledNumber g (descriptorsIn list) in record { answer = Finished; number = n; list = filledBytes g (λ z. k .zone z .condition) n list }
+shownBytes g k list = reportedBytes (reportBytes (reportShown g k (lentFor list)) list)
 
 -- what a cut or a loss leaves is bytes, as many as before
 pub record StillBytes (m u : LentBytes) : Type 0 where
@@ -89,11 +91,9 @@ onBytes g = record {
   Listing = List ℕ;
   report = λ st list. reportedBytes (reportEdge g st list);
   shows = λ mask m u. shownIn g (namedOf mask) (tablesAt g m) (tablesAt g u);
-  stateOf = λ k. stateTo (g .zones) (stateShown g k);
-  reportOf = shownBytes g;
-  lostIn = λ st. stateFrom (g .zones) st .lost;
-  generation = λ st z. recordAt (stateFrom (g .zones) st) z .generation;
-  condition = λ st z. recordAt (stateFrom (g .zones) st) z .condition;
+  stateOf = λ k. stateTo (g .zones) (stateHeld (g .zones) (mountState k));
+  finishedReport = shownBytes g;
+  view = λ st. viewState (stateFrom (g .zones) st);
   CutTo = λ x m u. StillBytes m u × TablesCut g x (tablesAt g m) (tablesAt g u);
   LossTo = λ x m u. StillBytes m u × TablesLoss g x (tablesAt g m) (tablesAt g u);
 }

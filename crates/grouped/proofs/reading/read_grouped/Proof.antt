@@ -6,7 +6,7 @@ use lib.ListN.{length}
 use denote.Ref.{now}
 use borrow.Author.Tests.{eq-eqb, ne-eqb}
 use Rattle.grouped.specs.meaning.Segment.{missingDrive, totalBlocks}
-use Rattle.grouped.specs.meaning.Reading.{request, inputNumber, metadataNumber, newest, groupedNumber}
+use Rattle.grouped.specs.meaning.Reading.{request, numbersRefused, metadataNumber, newest, groupedNumber}
 use Rattle.grouped.specs.places.Placed.{Placed, placed-found}
 use Rattle.grouped.specs.reading.Blocks.{block-noted-is}
 use Rattle.grouped.specs.reading.Call.{Admitted, admitted, by-input, by-metadata, by-address, refused-left, finished-left}
@@ -23,7 +23,7 @@ returns c = let a = c .before .before .before .before .before .before .args in
     (sym e, sym (refused-left r (now (a .answer)) n e ne))
 
 -- the input is not refused
-none : (c : tie.Else1) → inputNumber (c .before .before .before .before .before .before .args .s) (c .before .before .before .before .before .before .args .named) (length (now (c .before .before .before .before .before .before .args .blocks))) (length (now (c .before .before .before .before .before .before .args .metadata))) (length (now (c .before .before .before .before .before .before .args .work))) (length (now (c .before .before .before .before .before .before .args .answer))) ≡ 0
+none : (c : tie.Else1) → numbersRefused (c .before .before .before .before .before .before .args .s) (c .before .before .before .before .before .before .args .named) (length (now (c .before .before .before .before .before .before .args .blocks))) (length (now (c .before .before .before .before .before .before .args .metadata))) (length (now (c .before .before .before .before .before .before .args .work))) (length (now (c .before .before .before .before .before .before .args .answer))) ≡ 0
 none c = let z : c .before .input-refusal .result ≡ 0 = omega arith in sym (c .before .input-refusal .ensures) ∙ z
 
 admits : (c : tie.Else1) → Admitted (c .before .before .before .before .before .before .args .s) (length (now (c .before .before .before .before .before .before .args .blocks))) (length (now (c .before .before .before .before .before .before .args .metadata))) (length (now (c .before .before .before .before .before .before .args .work))) (length (now (c .before .before .before .before .before .before .args .answer)))

@@ -4,7 +4,7 @@ use native.Mathlib.Omega.{arith}
 use native.Mathlib.Numerals.{add-one}
 use Rattle.tables.specs.meaning.Below.{anyBelow}
 use Rattle.volume.specs.meaning.State.{isEmpty}
-use Rattle.mounting.specs.MountLook.{zoneLook}
+use Rattle.volume.specs.checks.Records.{zoneLook}
 use Rattle.mounting.proofs.counters.any_empty.Statement.{statement}
 use Rattle.mounting.proofs.counters.any_empty.Tie as tie
 

@@ -4,7 +4,7 @@ use native.Mathlib.Omega.{arith}
 use native.Mathlib.Numerals.{add-one}
 use borrow.Author.Tests.{not-true, not-false}
 use Rattle.volume.specs.meaning.State.{isEmpty}
-use Rattle.mounting.specs.MountLook.{zoneLook}
+use Rattle.volume.specs.checks.Records.{zoneLook}
 use borrow.Author.Needs.{needs}
 use Rattle.mounting.proofs.counters.next_generation.Statement.{statement}
 use Rattle.mounting.proofs.counters.next_generation.Tie as tie

@@ -7,7 +7,7 @@ use Rattle.tables.specs.meaning.Tables.{tablesOf}
 use Rattle.tables.specs.laws.Made.{Made}
 use Rattle.volume.specs.emptying.Shape.{shape-valid, shape-cells}
 use Rattle.volume.specs.emptying.ParityTurns.{ParitiesReady, ParitiesEmptied}
-use Rattle.mounting.specs.MountRooms.{generationsIn, pointersIn}
+use Rattle.volume.specs.checks.Records.{generationsShown, pointsShown}
 use Rattle.mounting.specs.MountEnds.{parityStores}
 use borrow.Author.Needs.{needs}
 use Rattle.mounting.proofs.ends.parity_step.Statement.{statement}
@@ -18,10 +18,10 @@ empty-parities-requires : tie.Need-empty-parities-requires
 empty-parities-requires c κs =
     let s = c .before .before .before .before .before .before .before .before .before .before .before .before .before in
     let a = s .args in
-    let gs = c .before .before .before .before .before .before .before .generations-of in
-    let qs = c .before .before .before .before .before .before .pointers-of in
+    let gs = c .before .before .before .before .before .before .before .generations-shown in
+    let qs = c .before .before .before .before .before .before .points-shown in
     let ready : List ℕ → List ℕ → Type 0 = λ x y. ParitiesReady (a .all) x y (now (a .pointers)) (now (a .starts)) (now (a .sectors)) (now (a .written)) (now (a .durable)) in
-    (s .pre .0, subst (λ (x : List ℕ). ready x (qs .result)) (sym (gs .ensures)) (subst (ready (generationsIn (a .look))) (sym (qs .ensures)) (s .pre .1)))
+    (s .pre .0, subst (λ (x : List ℕ). ready x (qs .result)) (sym (gs .ensures)) (subst (ready (generationsShown (a .look))) (sym (qs .ensures)) (s .pre .1)))
 
 flush-after-requires : tie.Need-flush-after-requires
 flush-after-requires c κs =
@@ -37,13 +37,13 @@ returns c =
     let h = c .before .before .flush-after in
     let f = c .before .before .before .before .before .before .before .before .before .before .before .empty-parities in
     let s = c .before .before .before .before .before .before .before .before .before .before .before .before .before .before .before .before .before .before .before .before .before .before .before .before .before in
-    let gs = c .before .before .before .before .before .before .before .before .before .before .before .before .before .before .before .before .before .before .before .generations-of in
-    let qs = c .before .before .before .before .before .before .before .before .before .before .before .before .before .before .before .before .before .before .pointers-of in
+    let gs = c .before .before .before .before .before .before .before .before .before .before .before .before .before .before .before .before .before .before .before .generations-shown in
+    let qs = c .before .before .before .before .before .before .before .before .before .before .before .before .before .before .before .before .before .before .points-shown in
     let a = s .args in
     let t = tablesOf (now (a .sectors)) (now (a .written)) (now (a .durable)) in
     let u = tablesOf (f .last .0) (f .last .1 .0) (f .last .1 .1 .0) in
     let emptied : List ℕ → List ℕ → Type 0 = λ x y. ParitiesEmptied (a .all) x y (now (a .pointers)) (now (a .starts)) (a .budget) (f .result) t u in
-    let e : emptied (generationsIn (a .look)) (pointersIn (a .look)) = subst (emptied (generationsIn (a .look))) (qs .ensures) (subst (λ (x : List ℕ). emptied x (qs .result)) (gs .ensures) (f .ensures)) in
+    let e : emptied (generationsShown (a .look)) (pointsShown (a .look)) = subst (emptied (generationsShown (a .look))) (qs .ensures) (subst (λ (x : List ℕ). emptied x (qs .result)) (gs .ensures) (f .ensures)) in
     let stores = parityStores (a .all) (a .look) (now (a .pointers)) (now (a .starts)) (now (a .sectors)) in
     record {
       made = λ on. h .ensures .made (f .last .0) stores t (subst (λ (l : List Store). Made (a .all .to) (a .budget) (f .result) l t u) (sym on) (e .made));

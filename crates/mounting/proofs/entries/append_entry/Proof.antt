@@ -17,7 +17,7 @@ use Rattle.volume.specs.laws.CallContracts.{appends-append}
 use Rattle.volume.specs.looking.Knowing.{readDevice}
 use Rattle.volume.specs.checks.Logging.{appended-as}
 use Rattle.volume.specs.rows.SameShape.{encode-same, partial-placed}
-use Rattle.mounting.specs.MountLook.{zoneLook}
+use Rattle.volume.specs.checks.Records.{zoneLook}
 use Rattle.mounting.specs.MountRows.{valuesOf}
 use Rattle.mounting.specs.MountReady.{Appending, appending-kept}
 use Rattle.mounting.specs.MountLastEntries.{onParity, entryRows, entry-parts, header-in}

@@ -14,7 +14,7 @@ use Rattle.volume.specs.meaning.Content.{rowXorBelow}
 use Rattle.volume.specs.looking.Knowing.{readDevice}
 use Rattle.volume.specs.rows.RowStores.{rowsIf}
 use Rattle.volume.specs.rows.RowsInPlace.{contentOf, RowsReady}
-use Rattle.mounting.specs.MountLook.{zoneLook}
+use Rattle.volume.specs.checks.Records.{zoneLook}
 use Rattle.mounting.specs.MountRows.{valuesOf}
 use Rattle.mounting.specs.MountReady.{knownExtent, ZoneReady, zone-ready, rows-known}
 use borrow.Author.Needs.{needs}

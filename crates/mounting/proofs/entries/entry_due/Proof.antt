@@ -1,5 +1,5 @@
 use Rattle.mounting.specs.MountLastEntries.{due-outside, due-elsewhere, due-here}
-use Rattle.mounting.specs.MountLook.{zoneLook}
+use Rattle.volume.specs.checks.Records.{zoneLook}
 use Rattle.volume.specs.meaning.Rules.{parityEntries}
 use Rattle.tables.specs.laws.Sizes.{stripes-most, zone-small}
 use Rattle.tables.specs.laws.Placement.{stripe-quotient, stripe-begin}

@@ -11,7 +11,7 @@ use Rattle.volume.specs.declared.rows.Target.{Target}
 use Rattle.volume.specs.meaning.Content.{contentAt}
 use Rattle.volume.specs.laws.CallContracts.{appends-nil}
 use Rattle.volume.specs.rows.RowStores.{rowsIf}
-use Rattle.mounting.specs.MountLook.{zoneLook}
+use Rattle.volume.specs.checks.Records.{zoneLook}
 use Rattle.mounting.specs.MountReady.{valuesIn, ZoneReady, filling-appends, zone-ready}
 use Rattle.mounting.specs.MountFillOn.{missing-none, missing-to, missing-made, filled-stays}
 use borrow.Author.Needs.{needs}

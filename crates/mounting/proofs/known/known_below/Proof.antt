@@ -1,7 +1,7 @@
 use Prim.Native.Nat.{ℕ}
 use mathlib.Core.Path.{ap}
 use Rattle.volume.specs.declared.rows.Extent.{Extent}
-use Rattle.mounting.specs.MountLook.{zoneLook}
+use Rattle.volume.specs.checks.Records.{zoneLook}
 use borrow.Author.Needs.{needs}
 use Rattle.mounting.proofs.known.known_below.Statement.{statement}
 use Rattle.mounting.proofs.known.known_below.Tie as tie

@@ -4,7 +4,7 @@ use denote.Ref.{now}
 use Rattle.tables.specs.meaning.Lists.{anyOf}
 use Rattle.logs.specs.meaning.Heads.{isSealAt}
 use Rattle.volume.specs.meaning.Rules.{generalHeads}
-use Rattle.mounting.specs.MountLook.{zoneLook}
+use Rattle.volume.specs.checks.Records.{zoneLook}
 use Rattle.mounting.specs.MountHeaders.{sealDue, seen-heads}
 use borrow.Author.Needs.{needs}
 use Rattle.mounting.proofs.log_headers.seal_due.Statement.{statement}

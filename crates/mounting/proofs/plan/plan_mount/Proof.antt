@@ -12,7 +12,7 @@ use Rattle.volume.specs.declared.log_room.RoomAsked.{RoomAsked}
 use Rattle.volume.specs.meaning.Emptying.{reserve, mountGeneralLimit}
 use Rattle.volume.specs.checks.LogRoom.{SeenByRoles, roomOf, generalRoomAt, parityRoomAt, placed-valid}
 use Rattle.volume.specs.emptying.ParityCopies.{PointersWithin}
-use Rattle.mounting.specs.MountRooms.{generationsIn, pointersIn}
+use Rattle.volume.specs.checks.Records.{generationsShown, pointsShown, generations-shown-long}
 use Rattle.mounting.specs.MountPlan.{PlanMade}
 use Rattle.mounting.specs.MountPlanned.{mountAsked, lookBy, planBy, points-of-look, plan-made}
 use borrow.Author.Needs.{needs}
@@ -36,11 +36,11 @@ look-all-requires c κs = let s = c .before .before .before .before .before in (
 counters-differ-requires : tie.Need-counters-differ-requires
 counters-differ-requires c κs = let s = to-start c in (placed s, (s .pre .1 .1 .sectors-long, s .pre .1 .1 .written-long))
 
-generations-are : (n : tie.After-generations-of) → n .generations-of .result ≡ generationsIn (shows (to-start (n .before .before)))
-generations-are n = n .generations-of .ensures ∙ ap (λ (k : Look). generationsIn k) (n .before .before .look-all .ensures)
+generations-are : (n : tie.After-generations-shown) → n .generations-shown .result ≡ generationsShown (shows (to-start (n .before .before)))
+generations-are n = n .generations-shown .ensures ∙ ap (λ (k : Look). generationsShown k) (n .before .before .look-all .ensures)
 
-points-are : (n : tie.After-pointers-of) → n .pointers-of .result ≡ pointersIn (shows (to-start (n .before .before .before)))
-points-are n = n .pointers-of .ensures ∙ ap (λ (k : Look). pointersIn k) (n .before .before .before .look-all .ensures)
+points-are : (n : tie.After-points-shown) → n .points-shown .result ≡ pointsShown (shows (to-start (n .before .before .before)))
+points-are n = n .points-shown .ensures ∙ ap (λ (k : Look). pointsShown k) (n .before .before .before .look-all .ensures)
 
 -- what is asked of the two kinds
 general-asked : (n : tie.After-mount-asks) → let a = to-start (n .before .before .before .before) .args in n .mount-asks .result ≡ mountAsked (a .g) (a .found) false (mountGeneralLimit (a .g))
@@ -55,8 +55,8 @@ general-room-requires c κs =
     let n = k .before .before in
     let s = to-start (n .before .before) in
     let a = s .args in
-    let long : length (n .generations-of .result) ≡ 16 = ap (λ (l : List ℕ). length l) (generations-are n) in
-    subst (λ (q : RoomAsked). Valid (q .first) × (SeenByRoles (q .first) (q .places) (now (a .sectors)) (now (a .written)) (now (a .pointers)) × (q .first .zones ≤ length (n .generations-of .result)))) (sym (general-asked k))
+    let long : length (n .generations-shown .result) ≡ 16 = ap (λ (l : List ℕ). length l) (generations-are n) ∙ generations-shown-long (shows (to-start (n .before .before))) in
+    subst (λ (q : RoomAsked). Valid (q .first) × (SeenByRoles (q .first) (q .places) (now (a .sectors)) (now (a .written)) (now (a .pointers)) × (q .first .zones ≤ length (n .generations-shown .result)))) (sym (general-asked k))
     (s .pre .0, (s .pre .1 .0, omega (arith, long, s .pre .0 .zones-most)))
 
 parity-room-requires : tie.Need-parity-room-requires
@@ -65,7 +65,7 @@ parity-room-requires c κs =
     let n = k .before .before in
     let s = to-start (n .before .before .before) in
     let a = s .args in
-    subst (λ (q : RoomAsked). Valid (q .first) × (SeenByRoles (q .first) (q .places) (now (a .sectors)) (now (a .written)) (now (a .pointers)) × PointersWithin (q .first) (n .pointers-of .result))) (sym (parity-asked k))
+    subst (λ (q : RoomAsked). Valid (q .first) × (SeenByRoles (q .first) (q .places) (now (a .sectors)) (now (a .written)) (now (a .pointers)) × PointersWithin (q .first) (n .points-shown .result))) (sym (parity-asked k))
     (s .pre .0, (s .pre .1 .0, subst (λ (l : List ℕ). PointersWithin (a .g) l) (sym (points-are n)) (points-of-look (a .g) (a .found) (now (a .sectors)) (now (a .written)) (now (a .pointers)) (s .pre .0) (s .pre .1 .0))))
 
 returns : tie.Need-returns

@@ -17,8 +17,8 @@ use Rattle.mounting.specs.declared.plan.Course.{Course}
 use Rattle.volume.specs.meaning.CallContracts.{isSet}
 use Rattle.volume.specs.meaning.Mount.{withFlush}
 use Rattle.volume.specs.emptying.Emptyings.{EmptyingReady, emptiedOn, newGeneralOn}
-use Rattle.mounting.specs.MountRooms.{generationsIn}
-use Rattle.mounting.specs.OpenLogs.{generations-long, from-valid, from-cells, pointers-long, opened-ready, openedAll, sparesAt, first-flushed, spares-flushed, logs-stopped, logs-opened}
+use Rattle.volume.specs.checks.Records.{generationsShown, generations-shown-long}
+use Rattle.mounting.specs.OpenLogs.{from-valid, from-cells, pointers-long, opened-ready, openedAll, sparesAt, first-flushed, spares-flushed, logs-stopped, logs-opened}
 use borrow.Author.Needs.{needs}
 use Rattle.mounting.proofs.rooms.open_logs.Statement.{statement}
 use Rattle.mounting.proofs.rooms.open_logs.Tie as tie
@@ -30,10 +30,10 @@ begun c = c .before .before .before .before .before .before .before .before .bef
 abbrev to-rest : tie.After-hide-lacking → tie.After-clear-spares
 to-rest c = c .before .before .before .before .before .before .before .before
 
-abbrev to-hidden : tie.After-generations-of → tie.After-hide-lacking
+abbrev to-hidden : tie.After-generations-shown → tie.After-hide-lacking
 to-hidden c = c .before .before .before
 
-abbrev to-generations : tie.After-empty-generals → tie.After-generations-of
+abbrev to-generations : tie.After-empty-generals → tie.After-generations-shown
 to-generations c = c .before .before .before .before .before .before
 
 abbrev to-emptied : tie.After-flush-after → tie.After-empty-generals
@@ -112,13 +112,13 @@ empty-generals-requires c κs =
     let h = to-hidden m in
     let s = begun (to-rest h) in
     let a = s .args in
-    let n : length (m .generations-of .result) ≡ 16 = ap length (m .generations-of .ensures) ∙ generations-long (a .plan .look) in
+    let n : length (m .generations-shown .result) ≡ 16 = ap length (m .generations-shown .ensures) ∙ generations-shown-long (a .plan .look) in
     let us = to-rest h .clear-spares .last .0 in
     let fs = to-rest h .clear-spares .last .1 .0 in
     let qs = h .hide-lacking .last .1 .0 in
     let ready = opened-ready (a .g) (s .pre .0) (a .plan) (now (a .sectors)) (now (a .written)) (now (a .durable)) (now (a .pointers)) (s .pre .1 .0) us fs qs (cleared-long (to-rest h) .0) (cleared-long (to-rest h) .1) (h .hide-lacking .ensures) in
     let valid = from-valid (a .g) (s .pre .0) (a .plan) (now (a .sectors)) (now (a .written)) (now (a .durable)) (now (a .pointers)) (s .pre .1 .0) in
-    subst (λ (x : Course). Valid (x .general .from) × (EmptyingReady false (x .general) qs (now (a .sectors)) us fs × (x .general .from .zones ≤ length (m .generations-of .result)))) (sym (s .pre .1 .1)) (valid, (ready, omega (arith, n, valid .zones-most)))
+    subst (λ (x : Course). Valid (x .general .from) × (EmptyingReady false (x .general) qs (now (a .sectors)) us fs × (x .general .from .zones ≤ length (m .generations-shown .result)))) (sym (s .pre .1 .1)) (valid, (ready, omega (arith, n, valid .zones-most)))
 
 flush-after-requires : tie.Need-flush-after-requires
 flush-after-requires c κs =
@@ -152,7 +152,7 @@ returns-2 c =
     let qs = h .hide-lacking .last .1 .0 in
     let made : Emptyings → List ℕ → Type 0 = λ b gs. Made (b .to) (f .clear-spares .result) (e .result) (eachBelow (λ d. emptiedOn b false (newGeneralOn b gs (now (a .sectors)) qs d) d) (b .from .drives)) (tablesOf (now (a .sectors)) us fs) (tablesOf (l .0) (l .1 .0) (l .1 .1 .0)) in
     let all = openedAll (a .g) (s .pre .0) (a .plan) (now (a .sectors)) (now (a .written)) (now (a .durable)) (now (a .pointers)) (s .pre .1 .0) in
-    let emptied : made all (generationsIn (a .plan .look)) = subst (made all) (m .generations-of .ensures) (subst (λ (x : Course). made (x .general) (m .generations-of .result)) (s .pre .1 .1) (e .ensures)) in
+    let emptied : made all (generationsShown (a .plan .look)) = subst (made all) (m .generations-shown .ensures) (subst (λ (x : Course). made (x .general) (m .generations-shown .result)) (s .pre .1 .1) (e .ensures)) in
     logs-opened (a .g) (s .pre .0) (a .plan) (now (a .sectors)) (now (a .written)) (now (a .durable)) (now (a .pointers)) (s .pre .1 .0) (a .budget) (f .clear-spares .ensures .flushed) (f .clear-spares .result) (flushed-tables f) us fs qs
     (cleared-long f .0) (h .hide-lacking .ensures) (flushed f) (spared f) (h .before .before .before .if1 .left) (e .result) (z .result) (l .0) (l .1 .0) (l .1 .1 .0) (z .last .1 .0) emptied (z .ensures)
 

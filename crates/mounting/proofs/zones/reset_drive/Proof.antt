@@ -10,8 +10,9 @@ use Rattle.tables.specs.meaning.Phases.{onPresent}
 use Rattle.tables.specs.laws.Made.{MadePointers}
 use Rattle.volume.specs.meaning.CallContracts.{isSet}
 use Rattle.volume.specs.laws.CallContracts.{pointers-nil}
+use Rattle.volume.specs.checks.Records.{zoneLook}
 use Rattle.mounting.specs.MountTables.{pointers-more}
-use Rattle.mounting.specs.MountLook.{zoneLook, resetNeeded}
+use Rattle.mounting.specs.MountLook.{resetNeeded}
 use Rattle.mounting.specs.MountResets.{zoneResets, reset-one}
 use Rattle.mounting.proofs.zones.reset_drive.Statement.{statement}
 use Rattle.mounting.proofs.zones.reset_drive.Tie as tie

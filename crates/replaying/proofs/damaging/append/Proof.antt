@@ -1,22 +1,15 @@
-use mathlib.Core.Path.{_≡_, refl, sym, _∙_, ap}
+use mathlib.Core.Path.{_≡_, sym, _∙_}
 use lib.ListN.{length}
-use denote.Ref.{now}
 use mathlib.Core.Bool.{true}
-use borrow.Author.Tests.{not-true, not-false}
-use Rattle.replaying.specs.Damaging.{mayAppend, appendOdd, may-append}
+use borrow.Author.Tests.{not-false}
+use Rattle.replaying.specs.Damaging.{mayAppend, may-append}
 use Rattle.tables.specs.laws.TablesFrame.{lengths-are}
-use Rattle.tables.specs.meaning.Tables.{Tables}
-use mathlib.Core.List.{[]}
 use Rattle.replaying.proofs.damaging.append.Statement.{statement}
 use Rattle.replaying.proofs.damaging.append.Tie as tie
 
 -- the test that was passed
 passed : (c : tie.Else1) → mayAppend (c .before .before .before .before .before .args .g) (length (c .before .before .before .before .before .args .sectors .now)) (length (c .before .before .before .before .before .args .written .now)) (length (c .before .before .before .before .before .args .src .now)) (c .before .before .before .before .before .args .drive) (c .before .before .before .before .before .args .zone) ≡ true
 passed c = sym (c .before .may-append .ensures) ∙ not-false (c .before .may-append .result) (c .if1 .left)
-
-returns : tie.Need-returns
-unfolding appendOdd
-returns c = let e = sym (c .before .may-append .ensures) ∙ not-true (c .before .may-append .result) (c .if1 .taken) in rw e (refl, refl)
 
 append-counted-requires : tie.Need-append-counted-requires
 append-counted-requires c κs = let a = c .before .before .before .before .before .before .before .args in let m = may-append (a .g) (length (a .sectors .now)) (length (a .written .now)) (length (a .src .now)) (a .drive) (a .zone) (passed (c .before .before)) in let l = lengths-are (a .g) _ _ _ (m .lengths) in (m .valid, ((m .drive-in, m .zone-in), (l .0, l .1, m .whole)))
@@ -27,11 +20,7 @@ same-length c = c .before .before .before .before .append-counted .kept .0
 same-length-2 : tie.Need-same-length-2
 same-length-2 c = c .before .before .before .before .append-counted .kept .1 .0
 
-returns-2 : tie.Need-returns-2
-unfolding appendOdd
-returns-2 c = let m = c .before .before .before .before .append-counted .ensures .made [] .tables-are in rw (passed (c .before .before .before .before .before .before .before)) (ap (λ (t : Tables). t .sectors) m, ap (λ (t : Tables). t .written) m)
-
 pub append-spec : {M : Type 1} → statement M
 append-spec =
     tie.close
-    (tie.spec (λ c κs. tt) returns append-counted-requires same-length same-length-2 returns-2)
+    (tie.spec (λ c κs. tt) (λ c. tt) append-counted-requires same-length same-length-2 (λ c. tt))

@@ -1,10 +1,8 @@
-use mathlib.Core.Path.{_≡_, refl, sym, _∙_}
+use mathlib.Core.Path.{_≡_, sym, _∙_}
 use native.Mathlib.Omega.{arith}
 use lib.ListN.{length, length-set}
-use denote.Ref.{now}
 use mathlib.Core.Bool.{true}
-use borrow.Author.Tests.{not-true, not-false, eq-eqb, ne-eqb}
-use Rattle.replaying.specs.Damaging.{oddHeader}
+use borrow.Author.Tests.{not-false}
 use Rattle.tables.specs.laws.GeometryTest.{valid-if-test}
 use Rattle.tables.specs.meaning.GeometryTest.{isValid}
 use Rattle.replaying.proofs.damaging.odd_header.Statement.{statement}
@@ -17,14 +15,6 @@ valid c = sym (c .before .valid .ensures) ∙ not-false (c .before .valid .resul
 -- the buffer is one sector long
 long : (c : tie.Else2) → length (c .before .before .before .before .args .out .now) ≡ c .before .before .before .before .args .g .sector
 long c = omega arith
-
-returns : tie.Need-returns
-unfolding oddHeader
-returns c = let e = sym (c .before .valid .ensures) ∙ not-true (c .before .valid .result) (c .if1 .taken) in rw e refl
-
-returns-2 : tie.Need-returns-2
-unfolding oddHeader
-returns-2 c = rw (valid (c .before), ne-eqb _ _ (c .if2 .taken)) refl
 
 write-seal-requires : tie.Need-write-seal-requires
 write-seal-requires c κs = let v = valid-if-test _ (valid (c .before .before)) in (v, (long (c .before), omega arith, omega arith))
@@ -41,12 +31,8 @@ write-u64-requires-2 c κs = let v = valid-if-test _ (valid (c .before .before .
 same-length : tie.Need-same-length
 same-length c = c .before .before .write-u642 .kept .0 ∙ c .before .before .before .before .before .before .write-u64 .kept .0 ∙ simp length-set (c .before .before .before .before .before .before .before .before .before .before .write-seal .kept .0)
 
-returns-3 : tie.Need-returns-3
-unfolding oddHeader
-returns-3 c = rw (valid (c .before .before .before .before .before .before .before .before .before .before .before .before .before), eq-eqb _ _ (long (c .before .before .before .before .before .before .before .before .before .before .before .before))) (c .before .before .write-u642 .ensures ∙ rw (c .before .before .before .before .before .before .write-u64 .ensures, c .before .before .before .before .before .before .before .before .before .before .write-seal .ensures) refl)
-
 pub odd-header-spec : {M : Type 1} → statement M
 odd-header-spec =
     tie.close
-    (tie.spec (λ c κs. tt) returns returns-2 write-seal-requires (λ c. omega arith) slice-write-out write-u64-requires write-u64-requires-2
-    same-length returns-3)
+    (tie.spec (λ c κs. tt) (λ c. tt) (λ c. tt) write-seal-requires (λ c. omega arith) slice-write-out write-u64-requires write-u64-requires-2
+    same-length (λ c. tt))

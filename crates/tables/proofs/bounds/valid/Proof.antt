@@ -4,7 +4,7 @@ use mathlib.Core.Bool.{_&&_, Bool, true}
 use mathlib.Core.Path.{_≡_, sym, _∙_, ap}
 use borrow.Author.Tests.{not-false, not-true}
 use Prim.Native.Nat.{_+_, _*_, _≤_}
-use Rattle.tables.specs.meaning.GeometryTest.{isValid, all, ranges, fits}
+use Rattle.tables.specs.meaning.GeometryTest.{isValid, all, boundTests, fits}
 use Rattle.tables.specs.laws.GeometryTest.{Ranged, ranged}
 use borrow.Author.Needs.{needs}
 use Rattle.tables.proofs.bounds.valid.Statement.{statement}
@@ -15,7 +15,7 @@ unfolding isValid
 returns c = ap (λ (b : Bool). b && all (fits (c .before .before .args .g))) (sym (not-true _ (c .if1 .taken)) ∙ c .before .in-ranges .ensures)
 
 -- past the test the fields lie in their ranges
-passed : (c : tie.Else1) → true ≡ all (ranges (c .before .before .args .g))
+passed : (c : tie.Else1) → true ≡ all (boundTests (c .before .before .args .g))
 passed c = sym (not-false _ (c .if1 .left)) ∙ c .before .in-ranges .ensures
 
 known : (c : tie.Else1) → Ranged (c .before .before .args .g)

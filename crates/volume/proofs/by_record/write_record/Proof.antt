@@ -12,13 +12,13 @@ use Rattle.tables.specs.laws.Basics.{or-none, not-not}
 use Rattle.tables.specs.laws.Sizes.{zone-small}
 use Rattle.tables.specs.meaning.Basics.{pick}
 use Rattle.tables.specs.meaning.Drives.{findBelow}
-use Rattle.tables.specs.meaning.Geometry.{zoneSectors}
+use Rattle.tables.specs.meaning.Geometry.{zoneSectors, maxZones}
 use Rattle.tables.specs.meaning.Tables.{tablesOf}
 use Rattle.volume.specs.declared.Answer.the-variants.{Finished, Unfinished}
 use Rattle.volume.specs.declared.State.{State}
 use Rattle.volume.specs.declared.by_record.ByRecord.{ByRecord}
 use Rattle.volume.specs.declared.writing.Run.{Run}
-use Rattle.volume.specs.meaning.CallContracts.{isSet, Result, writtenState}
+use Rattle.volume.specs.meaning.CallContracts.{isSet, Result, stateHeld, viewState}
 use Rattle.volume.specs.meaning.Refusals.{zoneOf, offsetOf}
 use Rattle.volume.specs.checks.CheckLaws.{presentList, openedFrom}
 use Rattle.volume.specs.writing.WriteRun.{RunAsked}
@@ -26,6 +26,7 @@ use Rattle.volume.specs.writing.WriteDirectly.{TriedOn}
 use Rattle.volume.specs.writing.WriteByRecord.{runBy, run-by-asked, made-by}
 use Rattle.volume.proofs.by_record.write_record.Statement.{statement}
 use Rattle.volume.proofs.by_record.write_record.Tie as tie
+use Rattle.volume.specs.meaning.Calls.{openState}
 
 returns : tie.Need-returns
 returns c = record { kept = λ e. refl; in-zone = λ e. absurd (true≢false (sym e)); done = λ e. absurd (true≢false (sym e)) }
@@ -90,7 +91,7 @@ returns-2 c =
     let lost : findBelow (λ (d : ℕ). not (isSet (presentList (a .by .geometry) (a .by .named) (a .by .lost)) d)) (a .by .geometry .drives) ≡ c .left-out .result = sym (c .left-out .ensures ∙ ap (λ (h : List Bool). findBelow (λ (d : ℕ). not (isSet h d)) (a .by .geometry .drives)) (n .before .present-drives .ensures)) in
     let end : offsetOf (a .by .geometry) (a .address) + a .run ≡ n .offset-of .result + a .run = ap (λ (m : ℕ). m + a .run) (sym (n .offset-of .ensures .0)) in
     let ended : State → List ℕ → ℕ → ℕ → Result = λ t ds x m. record {
-      outcome = pick (eqb (w .result .rest) 0) (record { answer = Unfinished; state = t }) (record { answer = Finished; state = writtenState t x (zoneOf (a .by .geometry) (a .address)) m });
+      outcome = pick (eqb (w .result .rest) 0) (record { answer = Unfinished; state = t }) (record { answer = Finished; state = stateHeld maxZones (openState x (viewState t) (zoneOf (a .by .geometry) (a .address)) m) });
       tables = tablesOf (w .last .0) (w .last .1 .0) ds;
     } in
     record { kept = λ m. tried .kept m .0; in-zone = λ m. h; done = λ m t ds q. done m t ds q ∙ ap₂ (ended t ds) lost end }

@@ -8,7 +8,8 @@ use lib.ListN.{length, replicate, length-set}
 use denote.Ref.{now}
 use Rattle.tables.specs.meaning.Below.{tabulate}
 use Rattle.volume.specs.meaning.CallContracts.{isSet}
-use Rattle.volume.specs.looking.DrivesLost.{fill-more, saidList, presentOf, look-present-is}
+use Rattle.volume.specs.laws.FilledArrays.{fill-more}
+use Rattle.volume.specs.looking.DrivesLost.{saidList, presentOf, look-present-is}
 use Rattle.volume.specs.looking.Knowing.{readDevice}
 use Rattle.volume.proofs.drives_lost.look_present.Statement.{statement}
 use Rattle.volume.proofs.drives_lost.look_present.Tie as tie

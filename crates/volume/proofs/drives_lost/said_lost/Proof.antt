@@ -7,7 +7,8 @@ use lib.ListN.{length, replicate, length-set}
 use denote.Ref.{now}
 use Rattle.tables.specs.meaning.Below.{tabulate}
 use Rattle.tables.specs.meaning.Drives.{noDrive}
-use Rattle.volume.specs.looking.DrivesLost.{fill-more, saidBy, saidList}
+use Rattle.volume.specs.laws.FilledArrays.{fill-more}
+use Rattle.volume.specs.looking.DrivesLost.{saidBy, saidList}
 use Rattle.volume.specs.looking.Knowing.{readDevice}
 use Rattle.volume.proofs.drives_lost.said_lost.Statement.{statement}
 use Rattle.volume.proofs.drives_lost.said_lost.Tie as tie

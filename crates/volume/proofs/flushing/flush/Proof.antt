@@ -4,6 +4,7 @@ use Rattle.tables.specs.meaning.Basics.{pick}
 use Rattle.tables.specs.meaning.Device.{Store}
 use Rattle.tables.specs.meaning.Drives.{findBelow}
 use Rattle.tables.specs.meaning.Tables.{Tables, tablesOf}
+use Rattle.tables.specs.meaning.Geometry.{maxZones}
 use Prim.Native.Nat.{ℕ, suc, _+_}
 use mathlib.Core.Path.{_≡_, sym, ap, subst, _∙_}
 use mathlib.Core.Bool.{Bool, not}
@@ -16,10 +17,11 @@ use Rattle.volume.specs.declared.State.{State}
 use Rattle.volume.specs.declared.Outcome.{Outcome}
 use Rattle.volume.specs.declared.Answer.the-variants.{Finished, Unfinished, Refused}
 use Rattle.volume.specs.meaning.State.{callPresent}
-use Rattle.volume.specs.meaning.Calls.{flushStores}
+use Rattle.volume.specs.meaning.Calls.{flushStores, flushState}
 use Rattle.volume.specs.meaning.Answers.{lostIn}
-use Rattle.volume.specs.meaning.CallContracts.{isSet, viewState, verdictNumber, flushOn, flushVerdict, withLost}
+use Rattle.volume.specs.meaning.CallContracts.{isSet, viewState, verdictNumber, flushOn, flushVerdict, stateHeld}
 use Rattle.volume.specs.laws.CallContracts.{storing-refused, storing-ends}
+use Rattle.volume.specs.laws.StateHeld.{mapped-long, held-lost}
 use Rattle.volume.specs.checks.CheckLaws.{Opened, opened, openingNumber, opening-is, tested, present-is, left-out-is}
 use Rattle.volume.specs.storing.Flushing.{flush-refusal}
 use borrow.Author.Needs.{needs}
@@ -53,7 +55,7 @@ abbrev refusal : tie.Start → ℕ
 refusal s = verdictNumber (flushVerdict (s .args .g) (s .args .named) (s .args .state) (given s))
 
 abbrev handed-on : tie.Start → State
-handed-on s = withLost (s .args .state) (lostIn (s .args .g) (isSet (s .args .named)) (viewState (s .args .state)))
+handed-on s = stateHeld maxZones (flushState (lostIn (s .args .g) (isSet (s .args .named)) (viewState (s .args .state))) (viewState (s .args .state)))
 
 returns : tie.Need-returns
 unfolding flushOn
@@ -108,9 +110,10 @@ returns-2 c =
     let n = sym (number (e .before)) ∙ passed e in
     let x : l .left-out .result ≡ lostIn (a .g) (isSet (a .named)) (viewState (a .state)) =
     l .left-out .ensures ∙ ap (λ (h : List Bool). findBelow (λ (d : ℕ). not (isSet h d)) (a .g .drives)) (r .present-drives .ensures) ∙ left-out-is (a .g) (a .named) (a .state) in
-    let ending : ℕ → Outcome = λ y. pick (eqb (f .flush-all .result) 0) (record { answer = Unfinished; state = a .state }) (record { answer = Finished; state = withLost (a .state) y }) in
+    let ending : State → Outcome = λ y. pick (eqb (f .flush-all .result) 0) (record { answer = Unfinished; state = a .state }) (record { answer = Finished; state = y }) in
     let (p, q) = storing-ends (a .g) (refusal s) (stores s) (handed-on s) (a .state) (a .count) (given s) (f .flush-all .result) (left f) n (made f) in
-    (c .ended .ensures ∙ ap ending x ∙ p, q)
+    let long : length (a .state .zones) ≡ 16 = mapped-long _ (a .state .zones) 16 (s .good .1 .1 .1 .1 .1 .0 .1 .1 .1 .0 .1 .0 .1) in
+    (c .ended .ensures ∙ ap ending (held-lost (a .state) (l .left-out .result) long ∙ ap (λ (y : ℕ). stateHeld maxZones (flushState y (viewState (a .state)))) x) ∙ p, q)
 
 pub flush-spec : {M : Type 1} → statement M
 flush-spec =

@@ -15,9 +15,9 @@ use Rattle.tables.specs.laws.TablesFrame.{lengths-are}
 use Rattle.volume.specs.declared.State.{State}
 use Rattle.volume.specs.declared.Outcome.{Outcome}
 use Rattle.volume.specs.declared.Answer.the-variants.{Finished, Unfinished, Refused}
-use Rattle.volume.specs.meaning.Calls.{formatStores}
+use Rattle.volume.specs.meaning.Calls.{formatStores, formatState}
 use Rattle.volume.specs.meaning.Answers.{leftOut, namedDrives}
-use Rattle.volume.specs.meaning.CallContracts.{isSet, verdictNumber, formatOn, formatVerdict, freshState}
+use Rattle.volume.specs.meaning.CallContracts.{isSet, verdictNumber, formatOn, formatVerdict, stateHeld}
 use Rattle.volume.specs.laws.CallContracts.{storing-refused, storing-ends}
 use Rattle.volume.specs.storing.Formatting.{format-refusal, format-accepted, named-is, left-out-named, find-small}
 use borrow.Author.Needs.{needs}
@@ -35,7 +35,7 @@ abbrev stores : tie.Start → List Store
 stores s = formatStores (s .args .g) (namedDrives (s .args .g) (isSet (s .args .named))) (leftOut (s .args .g) (isSet (s .args .named))) (s .args .array)
 
 abbrev next : tie.Start → State
-next s = freshState (s .args .g) (leftOut (s .args .g) (isSet (s .args .named)))
+next s = stateHeld (s .args .g .zones) (formatState (leftOut (s .args .g) (isSet (s .args .named))))
 
 number : (c : tie.After-format-refusal) → c .format-refusal .result ≡ refusal (c .before .before .before .before .before .before)
 number c = let a = c .before .before .before .before .before .before .args in c .format-refusal .ensures ∙ format-refusal (a .g) (a .named) (now (a .sectors)) (now (a .written)) (now (a .durable))
@@ -104,7 +104,7 @@ returns-2 c =
     let s = e .before .before .before .before .before .before .before in
     let a = s .args in
     let n = sym (number (e .before)) ∙ passed e in
-    let state : c .before .fresh-state .result ≡ next s = c .before .fresh-state .ensures ∙ ap (freshState (a .g)) (lost-is x) in
+    let state : c .before .fresh-state .result ≡ next s = c .before .fresh-state .ensures ∙ ap (λ (y : ℕ). stateHeld (a .g .zones) (formatState y)) (lost-is x) in
     let ending : State → Outcome = λ y. pick (eqb (f .format-stores .result) 0) (record { answer = Unfinished; state = a .old }) (record { answer = Finished; state = y }) in
     let (p, q) = storing-ends (a .g) (refusal s) (stores s) (next s) (a .old) (a .count) (given s) (f .format-stores .result) (left f) n (made f) in
     (c .ended .ensures ∙ ap ending state ∙ p, q)

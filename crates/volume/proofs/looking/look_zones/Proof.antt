@@ -8,11 +8,12 @@ use denote.Ref.{now}
 use Rattle.tables.specs.meaning.Below.{tabulate}
 use Rattle.volume.specs.meaning.CallContracts.{isSet, zoneLookOf}
 use Rattle.volume.specs.meaning.Rules.{zoneShown}
-use Rattle.volume.specs.looking.Looking.{blankLook, looksFrom, lookable-zone}
-use Rattle.volume.specs.looking.DrivesLost.{fill-more}
+use Rattle.volume.specs.looking.Looking.{looksFrom, lookable-zone}
+use Rattle.volume.specs.laws.FilledArrays.{fill-more}
 use Rattle.volume.specs.looking.Knowing.{readDevice}
 use Rattle.volume.proofs.looking.look_zones.Statement.{statement}
 use Rattle.volume.proofs.looking.look_zones.Tie as tie
+use Rattle.volume.specs.checks.Records.{blankLook}
 
 abbrev Inv-loop : tie.InvT-loop
 Inv-loop sectors written g here n zones₀ z₀ zones z = (z ≤ n) × (length zones ≡ 16) × (zones ≡ tabulate (λ (i : ℕ). zoneLookOf (zoneShown g (isSet here) (readDevice g sectors written) i)) z ++ replicate (16 - z) blankLook)

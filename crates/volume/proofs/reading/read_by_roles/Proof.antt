@@ -64,8 +64,8 @@ gone-is c =
 returns : tie.Need-returns
 returns c = record { gone-is = sym (c .if1 .taken) ∙ gone-is (c .before); left-is = refl }
 
-rebuild-run-requires : tie.Need-rebuild-run-requires
-rebuild-run-requires c κs =
+read-values-requires : tie.Need-read-values-requires
+read-values-requires c κs =
     let r = c .before .before .before .before .before .before .before .before .before .before in
     let a = to-start r .args in
     let e = c .before .before in
@@ -79,10 +79,10 @@ returns-2 c =
     let a = to-start r .args in
     record {
       gone-is = sym (c .before .before .before .before .before .if1 .left) ∙ gone-is (c .before .before .before .before .before .before);
-      left-is = c .before .before .rebuild-run .ensures ∙ values-placed (a .zone .geometry) (now (a .sectors)) (now (a .written)) (r .see-by-roles .result) (pointers-of r) (seen r) (isSet (a .zone .here)) (a .zone .number) (a .zone .generation) (a .offset) (a .count);
+      left-is = c .before .before .read-values .ensures ∙ values-placed (a .zone .geometry) (now (a .sectors)) (now (a .written)) (r .see-by-roles .result) (pointers-of r) (seen r) (isSet (a .zone .here)) (a .zone .number) (a .zone .generation) (a .offset) (a .count);
     }
 
 pub read-by-roles-spec : {M : Type 1} → statement M
 read-by-roles-spec =
     tie.close
-    (tie.spec (λ c κs. search needs) seal-limit-requires some-gone-requires (λ c. search needs) returns rebuild-run-requires (λ c. search needs) (λ c. search needs) returns-2)
+    (tie.spec (λ c κs. search needs) seal-limit-requires some-gone-requires (λ c. search needs) returns read-values-requires (λ c. search needs) (λ c. search needs) returns-2)

@@ -29,8 +29,8 @@ returns c =
 none : (c : tie.Else2) → let a = c .before .before .before .before .before .before .before .before .args in needsLog (a .zone .geometry) (a .zone .here) (a .pointer) (a .offset + a .count) ≡ false
 none c = sym (c .before .needs-log .ensures) ∙ c .if2 .left
 
-rebuild-run-requires : tie.Need-rebuild-run-requires
-rebuild-run-requires c κs =
+read-values-requires : tie.Need-read-values-requires
+read-values-requires c κs =
     let s = c .before .before .before .before .before .before .before .before .before in
     let a = s .args in
     let g = a .zone .geometry in
@@ -55,10 +55,10 @@ unfolding valuesOn
 returns-3 c =
     let s = c .before .before .before .before .before .before .before .before .before .before .before .before in
     let a = s .args in
-    read-directly (a .zone) (s .pre .0) (now (a .sectors)) (now (a .written)) (a .pointer) (a .offset) (a .count) (now (a .out)) (c .before .before .rebuild-run .last .1 .1 .1 .1 .1 .1 .0) (s .pre .1) (none (c .before .before .before .before)) (c .before .before .rebuild-run .ensures)
+    read-directly (a .zone) (s .pre .0) (now (a .sectors)) (now (a .written)) (a .pointer) (a .offset) (a .count) (now (a .out)) (c .before .before .read-values .last .1 .1 .1 .1 .1 .1 .0) (s .pre .1) (none (c .before .before .before .before)) (c .before .before .read-values .ensures)
 
 pub read-run-spec : {M : Type 1} → statement M
 read-run-spec =
     tie.close
     (tie.spec (λ c κs. search needs) (λ c κs. search needs) (λ c. search needs) returns (λ c. search needs) (λ c κs. search needs) (λ c κs. search needs) (λ c. search needs) (λ c. search needs)
-    rebuild-run-requires (λ c. search needs) returns-3)
+    read-values-requires (λ c. search needs) returns-3)

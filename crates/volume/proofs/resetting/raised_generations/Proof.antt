@@ -9,7 +9,7 @@ use Rattle.tables.specs.meaning.Below.{tabulate}
 use Rattle.logs.specs.meaning.Entry.{wornGeneration}
 use Rattle.volume.specs.meaning.State.{setAt}
 use Rattle.volume.specs.meaning.CallContracts.{blankRecord}
-use Rattle.volume.specs.checks.StoreLoops.{fill-more}
+use Rattle.volume.specs.laws.FilledArrays.{fill-more}
 use Rattle.volume.proofs.resetting.raised_generations.Statement.{statement}
 use Rattle.volume.proofs.resetting.raised_generations.Tie as tie
 

@@ -14,13 +14,14 @@ use Rattle.tables.specs.meaning.Drives.{findBelow}
 use Rattle.tables.specs.meaning.Tables.{Tables, tablesOf}
 use Rattle.tables.specs.laws.Made.{Made}
 use Rattle.tables.specs.laws.TablesFrame.{lengths-are}
+use Rattle.tables.specs.meaning.Geometry.{maxZones}
 use Rattle.volume.specs.declared.State.{State}
 use Rattle.volume.specs.declared.Outcome.{Outcome}
 use Rattle.volume.specs.declared.Answer.the-variants.{Finished, Unfinished, Refused}
 use Rattle.volume.specs.meaning.State.{callPresent}
 use Rattle.volume.specs.meaning.Emptying.{resetAll}
 use Rattle.volume.specs.meaning.Answers.{lostIn}
-use Rattle.volume.specs.meaning.CallContracts.{recordAt, isSet, viewState, verdictNumber, rolesOf, seenIn, Result, resetOn, resetVerdict, withReset}
+use Rattle.volume.specs.meaning.CallContracts.{recordAt, isSet, viewState, verdictNumber, rolesOf, seenIn, Result, resetOn, resetVerdict, stateHeld}
 use Rattle.volume.specs.laws.CallContracts.{storing-refused}
 use Rattle.volume.specs.checks.CheckLaws.{presentList, present-is, left-out-is, Opened, opened, openingNumber, opening-is, tested}
 use Rattle.volume.specs.checks.ZoneChecks.{pointer-within}
@@ -28,6 +29,7 @@ use Rattle.volume.specs.storing.Resetting.{resetLateNumber, resetFullIn,
 use Rattle.volume.specs.storing.ResetZone.{zoneNow, resetZoneOn, reset-zone-on}
 use Rattle.volume.proofs.resetting.reset.Statement.{statement}
 use Rattle.volume.proofs.resetting.reset.Tie as tie
+use Rattle.volume.specs.meaning.Calls.{resetState}
 
 -- the call as its contract states it: the tables, the refusal's number, the stores, the state handed on
 abbrev given : tie.Start → Tables
@@ -40,7 +42,7 @@ abbrev stores : tie.Start → List Store
 stores s = resetAll (s .args .g) (callPresent (s .args .g) (isSet (s .args .named)) (viewState (s .args .state))) (rolesOf (s .args .g) (given s)) (seenIn (s .args .g) (given s)) (viewState (s .args .state)) (s .args .zone)
 
 abbrev next : tie.Start → State
-next s = withReset (s .args .state) (s .args .zone) (lostIn (s .args .g) (isSet (s .args .named)) (viewState (s .args .state)))
+next s = stateHeld maxZones (resetState (lostIn (s .args .g) (isSet (s .args .named)) (viewState (s .args .state))) (viewState (s .args .state)) (s .args .zone))
 
 abbrev opening : tie.Start → ℕ
 opening s = let a = s .args in openingNumber (a .g) (a .named) (a .state) 0 0 (length (now (a .sectors))) (now (a .written)) (now (a .durable))

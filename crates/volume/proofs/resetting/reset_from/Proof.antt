@@ -16,7 +16,7 @@ use Rattle.volume.specs.meaning.CallContracts.{isSet}
 use Rattle.volume.specs.emptying.Shape.{shape-cells, shape-bytes}
 use Rattle.volume.specs.emptying.Emptyings.{emptiedOn, newGeneralOn}
 use Rattle.volume.specs.storing.Resetting.{resetWith, raisedList, raised-long}
-use Rattle.volume.specs.storing.ResetZone.{generationsIn, generations-in-long}
+use Rattle.volume.specs.checks.Records.{generationsIn, generations-in-long}
 use borrow.Author.Needs.{needs}
 use Rattle.volume.proofs.resetting.reset_from.Statement.{statement}
 use Rattle.volume.proofs.resetting.reset_from.Tie as tie

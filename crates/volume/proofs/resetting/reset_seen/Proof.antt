@@ -9,7 +9,7 @@ use denote.Ref.{now}
 use Rattle.tables.specs.meaning.Basics.{pick}
 use Rattle.tables.specs.meaning.Below.{eachBelow}
 use Rattle.tables.specs.meaning.Drives.{findBelow}
-use Rattle.tables.specs.meaning.Geometry.{Valid}
+use Rattle.tables.specs.meaning.Geometry.{Valid, maxZones}
 use Rattle.tables.specs.meaning.Device.{Store}
 use Rattle.tables.specs.meaning.Tables.{Tables, tablesOf}
 use Rattle.tables.specs.laws.Made.{Made}
@@ -20,7 +20,7 @@ use Rattle.volume.specs.declared.Answer.the-variants.{Refused}
 use Rattle.volume.specs.declared.log_room.LogRoom.{LogRoom}
 use Rattle.volume.specs.declared.emptyings.Emptyings.{Emptyings}
 use Rattle.volume.specs.meaning.Emptying.{resetAll}
-use Rattle.volume.specs.meaning.CallContracts.{recordAt, viewState, isSet, rolesOf, seenIn, withReset}
+use Rattle.volume.specs.meaning.CallContracts.{recordAt, viewState, isSet, rolesOf, seenIn, stateHeld}
 use Rattle.volume.specs.laws.CallContracts.{storing-refused, storing-ends}
 use Rattle.volume.specs.laws.LogPlaces.{valid-with-logs}
 use Rattle.volume.specs.looking.MovedLogs.{movedLogs}
@@ -28,10 +28,12 @@ use Rattle.volume.specs.checks.LogRoom.{emptyingsOf, generalRoomAt, room
 use Rattle.volume.specs.emptying.Emptyings.{EmptyingReady, emptiedOn, newGeneralOn}
 use Rattle.volume.specs.emptying.RoomMoves.{room-ready}
 use Rattle.volume.specs.storing.Resetting.{resetWith, raisedList}
-use Rattle.volume.specs.storing.ResetZone.{generationsIn, generations-in-long, zoneFull, resetZoneOn, askedBy, roomBy, room-full, reset-made-all}
+use Rattle.volume.specs.storing.ResetZone.{zoneFull, resetZoneOn, askedBy, roomBy, room-full, reset-made-all}
 use borrow.Author.Needs.{needs}
 use Rattle.volume.proofs.resetting.reset_seen.Statement.{statement}
 use Rattle.volume.proofs.resetting.reset_seen.Tie as tie
+use Rattle.volume.specs.meaning.Calls.{resetState}
+use Rattle.volume.specs.checks.Records.{generationsIn, generations-in-long}
 
 -- the call as its contract states it
 abbrev given : tie.Start → Tables
@@ -44,7 +46,7 @@ abbrev stores : tie.Start → List Store
 stores s = let z = s .args .zone in resetAll (z .geometry) (isSet (z .here)) (rolesOf (z .geometry) (given s)) (seenIn (z .geometry) (given s)) (viewState (s .args .state)) (z .number)
 
 abbrev next : tie.Start → State
-next s = let z = s .args .zone in withReset (s .args .state) (z .number) (findBelow (λ (d : ℕ). not (isSet (z .here) d)) (z .geometry .drives))
+next s = let z = s .args .zone in stateHeld maxZones (resetState (findBelow (λ (d : ℕ). not (isSet (z .here) d)) (z .geometry .drives)) (viewState (s .args .state)) (z .number))
 
 abbrev room : tie.Start → LogRoom
 room s = let a = s .args in roomBy (a .zone) (a .places) (a .state) (now (a .sectors)) (now (a .written)) (now (a .pointers))

@@ -1,6 +1,6 @@
 use mathlib.Core.Path.{_≡_, refl, sym, ap, _∙_}
 use Prim.Native.Nat.{ℕ, suc}
-use Rattle.volume.specs.meaning.Roles.{claim, zoneOfKind, roles}
+use Rattle.volume.specs.meaning.Roles.{zoneClaim, zoneOfKind, roles}
 use Rattle.volume.specs.laws.LogClaims.{log-claim}
 use Rattle.volume.specs.looking.Knowing.{readDevice}
 use Rattle.volume.specs.looking.LogZones.{zonesRead, kind-zone-lt}
@@ -21,7 +21,7 @@ returns : tie.Need-returns
 returns c =
     let s = c .before .before .before .before .before in
     let a = s .args in
-    ap suc (c .claim-of .ensures ∙ ap (λ (z : ℕ). claim (a .g) (a .drive) (a .parity) (zonesRead (a .g) (a .sectors .now) (a .written .now) (a .drive) z)) (zone-is (c .before)))
+    ap suc (c .claim-of .ensures ∙ ap (λ (z : ℕ). zoneClaim (a .g) (a .drive) (a .parity) (zonesRead (a .g) (a .sectors .now) (a .written .now) (a .drive) z)) (zone-is (c .before)))
     ∙ sym (log-claim (a .g) (a .drive) (zonesRead (a .g) (a .sectors .now) (a .written .now) (a .drive)) (a .parity) (s .pre .1 .2))
 
 pub log-generation-spec : {M : Type 1} → statement M

@@ -14,7 +14,7 @@ use Rattle.tables.specs.meaning.Placement.{unitDrive}
 use Rattle.tables.specs.meaning.Tables.{cell}
 use Rattle.tables.specs.meaning.Xor.{xorBytes}
 use Rattle.tables.specs.laws.Within.{Apart}
-use Rattle.volume.specs.stripes.WholeStripe.{unitIn, placeOf, unit-inside, unit-long, place-inside, place-apart, one-next, three-next}
+use Rattle.volume.specs.stripes.WholeStripe.{unitIn, stripeUnitPlace, unit-inside, unit-long, place-inside, place-apart, one-next, three-next}
 use Rattle.volume.specs.stripes.StripeDue.{fitting-same}
 use borrow.Author.Needs.{needs}
 use Rattle.volume.proofs.stripes.put_units.Statement.{statement}
@@ -69,7 +69,7 @@ part-size s i at h e =
 
 -- the places of units, as code found them
 abbrev place : tie.Start → ℕ → ℕ
-place s i = let w = s .args .s in placeOf (w .geometry) (w .zone) (w .parity) (now (s .args .written)) i
+place s i = let w = s .args .s in stripeUnitPlace (w .geometry) (w .zone) (w .parity) (now (s .args .written)) i
 
 fits : (s : tie.Start) (i to n : ℕ) → i < s .args .s .geometry .drives → to ≡ place s i → n ≡ bytes s → to + n ≤ length (now (s .args .sectors))
 fits s i to n h e l =

@@ -7,7 +7,7 @@ use borrow.Author.Tests.{not-true, not-false}
 use Rattle.tables.specs.meaning.Basics.{pick}
 use Rattle.tables.specs.laws.Sizes.{zone-small}
 use Rattle.volume.specs.declared.write_directly.EntryPlace.{EntryPlace}
-use Rattle.volume.specs.writing.WriteDirectly.{entryPlace, placeOf}
+use Rattle.volume.specs.writing.WriteDirectly.{entryPlace, directPlace}
 use borrow.Author.Needs.{needs}
 use Rattle.volume.proofs.write_directly.place_of.Statement.{statement}
 use Rattle.volume.proofs.write_directly.place_of.Tie as tie
@@ -19,8 +19,8 @@ to-start c = c .before .before .before .before
 abbrev answer : tie.Start → Bool → EntryPlace
 answer s b = let a = s .args in pick b (entryPlace (a .run .zone) (now (a .sectors)) (now (a .written)) (a .run .pointer + a .run .count)) (record { alone = false; geometry = a .run .zone .geometry })
 
-answer-is : (c : tie.After-earlier-held) → answer (to-start c) (c .earlier-held .result) ≡ placeOf (to-start c .args .run) (now (to-start c .args .sectors)) (now (to-start c .args .written))
-unfolding placeOf
+answer-is : (c : tie.After-earlier-held) → answer (to-start c) (c .earlier-held .result) ≡ directPlace (to-start c .args .run) (now (to-start c .args .sectors)) (now (to-start c .args .written))
+unfolding directPlace
 answer-is c = ap (answer (to-start c)) (c .earlier-held .ensures)
 
 returns : tie.Need-returns

@@ -7,12 +7,12 @@ use borrow.Author.Tests.{not-false}
 use borrow.Author.Needs.{needs}
 use Rattle.tables.specs.laws.Made.{MadeAppends}
 use Rattle.volume.specs.declared.write_directly.EntryPlace.{EntryPlace}
-use Rattle.volume.specs.checks.ZoneChecks.{Reached, reached}
+use Rattle.volume.specs.checks.ZoneChecks.{PointersReach, reached}
 use Rattle.volume.specs.meaning.CallContracts.{isSet}
 use Rattle.volume.specs.writing.WriteChecks.{RunFits, zoneNumber, zone-passed, zone-fresh}
 use Rattle.volume.specs.writing.WriteStores.{StoresPast}
 use Rattle.volume.specs.writing.WriteRun.{runStoresOf, RunPlaced, asked-placed}
-use Rattle.volume.specs.writing.WriteDirectly.{placeOf, directly-ready, directly-past}
+use Rattle.volume.specs.writing.WriteDirectly.{directPlace, directly-ready, directly-past}
 use Rattle.volume.proofs.write_directly.write_alone.Statement.{statement}
 use Rattle.volume.proofs.write_directly.write_alone.Tie as tie
 
@@ -38,7 +38,7 @@ place-of-requires c κs =
     let h = s .pre .1 in
     let fresh = zone-fresh (z .geometry) (isSet (z .here)) (now (a .written)) (a .c) (z .number) (a .run .pointer) (a .run .count) (passed e) in
     let r = reached (z .geometry) (z .here) (now (a .written)) (a .c) (z .number) (h .one-absent) fresh in
-    (s .pre .0, (h .sized, h .zone-in, fits e .inside, subst (λ (n : ℕ). Reached (z .geometry) (z .here) (now (a .written)) (z .number) n) (sym (fits e .pointer)) r))
+    (s .pre .0, (h .sized, h .zone-in, fits e .inside, subst (λ (n : ℕ). PointersReach (z .geometry) (z .here) (now (a .written)) (z .number) n) (sym (fits e .pointer)) r))
 
 abbrev from-place : tie.After-place-of → tie.Else1
 from-place p = p .before .before .before
@@ -50,7 +50,7 @@ returns-2 : tie.Need-returns-2
 returns-2 c = record { refusal-is = refusal-none (from-place (c .before)); alone = λ e. absurd (true≢false (sym e)); stores = λ e. absurd (true≢false (sym e)); kept = λ e. (refl, refl) }
 
 -- no other log is needed
-alone : (l : tie.Else2) → let a = to-start (from-place (l .before) .before) .args in placeOf (a .run) (now (a .sectors)) (now (a .written)) .alone ≡ true
+alone : (l : tie.Else2) → let a = to-start (from-place (l .before) .before) .args in directPlace (a .run) (now (a .sectors)) (now (a .written)) .alone ≡ true
 alone l = sym (ap (λ (p : EntryPlace). p .alone) (l .before .place-of .ensures)) ∙ not-false (l .before .place-of .result .alone) (l .if2 .left)
 
 placed : (l : tie.Else2) → let a = to-start (from-place (l .before) .before) .args in RunPlaced (a .run) (now (a .written)) (now (a .buffer))

@@ -21,15 +21,16 @@ use Rattle.volume.specs.meaning.State.{callPresent}
 use Rattle.volume.specs.meaning.Refusals.{zoneOf, offsetOf}
 use Rattle.volume.specs.meaning.Answers.{lostIn, sectorsIn}
 use Rattle.volume.specs.meaning.Emptying.{writeAll}
-use Rattle.volume.specs.meaning.CallContracts.{recordAt, isSet, viewState, verdictNumber, rolesOf, seenIn, Result, writeVerdict, writtenState, pointerOf, writeOn}
+use Rattle.volume.specs.meaning.CallContracts.{recordAt, isSet, viewState, verdictNumber, rolesOf, seenIn, Result, writeVerdict, writeOn, stateHeld}
 use Rattle.volume.specs.laws.CallContracts.{storing-refused}
 use Rattle.volume.specs.checks.CheckLaws.{presentList, left-out-is, Opened, opened, openingNumber, opening-is, tested}
 use Rattle.volume.specs.checks.ZoneChecks.{pointer-within}
 use Rattle.volume.specs.writing.WriteRun.{RunAsked, RunStated, writeAskedOn}
-use Rattle.tables.specs.meaning.Geometry.{zoneSectors}
+use Rattle.tables.specs.meaning.Geometry.{zoneSectors, maxZones}
 use Rattle.volume.specs.writing.Writing.{writeNumber, number-opening, number-8, runNow, run-asked, run-stated, write-asked-on}
 use Rattle.volume.proofs.writing.write.Statement.{statement}
 use Rattle.volume.proofs.writing.write.Tie as tie
+use Rattle.volume.specs.meaning.Calls.{writeState}
 
 -- the call's number, stores, tables and next state
 abbrev tables : tie.Start → Tables
@@ -42,7 +43,7 @@ abbrev stores : tie.Start → List Store
 stores s = let a = s .args in writeAll (a .g) (callPresent (a .g) (isSet (a .named)) (viewState (a .state))) (rolesOf (a .g) (tables s)) (seenIn (a .g) (tables s)) (viewState (a .state)) (zoneOf (a .g) (a .address)) (sectorsIn (a .g) (a .run) (now (a .buffer)))
 
 abbrev next : tie.Start → State
-next s = let a = s .args in writtenState (a .state) (lostIn (a .g) (isSet (a .named)) (viewState (a .state))) (zoneOf (a .g) (a .address)) (pointerOf (a .state) (zoneOf (a .g) (a .address)) + a .run)
+next s = let a = s .args in stateHeld maxZones (writeState (lostIn (a .g) (isSet (a .named)) (viewState (a .state))) (viewState (a .state)) (zoneOf (a .g) (a .address)) (a .run))
 
 abbrev opening : tie.Start → ℕ
 opening s = let a = s .args in openingNumber (a .g) (a .named) (a .state) (a .run) (length (now (a .buffer))) (length (now (a .sectors))) (now (a .written)) (now (a .durable))

@@ -19,8 +19,7 @@ use Rattle.volume.specs.rows.SameShape.{notSpare}
 use Rattle.volume.specs.rows.KeptBelow.{StoredKept}
 use Rattle.volume.specs.emptying.Emptyings.{emptiedOn, emptied-kept, same-shape}
 use Rattle.volume.specs.emptying.ParityEmptyings.{ParityKnown, newParityOn, known-long}
-use Rattle.volume.specs.storing.ResetZone.{generationsIn}
-use Rattle.volume.specs.writing.WriteRoom.{pointsIn}
+use Rattle.volume.specs.checks.Records.{generationsIn, pointsIn}
 use Rattle.volume.specs.writing.WriteStores.{WriteReady, StoresPast, runContent}
 use Rattle.volume.specs.writing.WriteRun.{runStoresOf, ready-after}
 use borrow.Author.Needs.{needs}

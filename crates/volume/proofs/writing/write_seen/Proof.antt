@@ -8,7 +8,7 @@ use denote.Ref.{now}
 use Rattle.tables.specs.declared.Geometry.{Geometry}
 use Rattle.tables.specs.meaning.Basics.{pick}
 use Rattle.tables.specs.meaning.Drives.{findBelow}
-use Rattle.tables.specs.meaning.Geometry.{Valid, zoneSectors}
+use Rattle.tables.specs.meaning.Geometry.{Valid, zoneSectors, maxZones}
 use Rattle.tables.specs.laws.Sizes.{zone-small}
 use Rattle.tables.specs.meaning.Device.{Store}
 use Rattle.tables.specs.meaning.Phases.{onPresent}
@@ -23,11 +23,11 @@ use Rattle.volume.specs.declared.log_room.LogRoom.{LogRoom}
 use Rattle.volume.specs.declared.write_room.EntryDrive.{EntryDrive}
 use Rattle.volume.specs.declared.writing.Run.{Run}
 use Rattle.volume.specs.meaning.Content.{parityDriveAt}
-use Rattle.volume.specs.meaning.Calls.{writeWith}
+use Rattle.volume.specs.meaning.Calls.{writeWith, openState}
 use Rattle.volume.specs.meaning.Answers.{sectorsIn}
 use Rattle.volume.specs.meaning.Refusals.{goneBefore}
 use Rattle.volume.specs.meaning.Emptying.{goneForCopies, writeAll}
-use Rattle.volume.specs.meaning.CallContracts.{recordAt, viewState, isSet, rolesOf, seenIn, writtenState}
+use Rattle.volume.specs.meaning.CallContracts.{recordAt, viewState, isSet, rolesOf, seenIn, stateHeld}
 use Rattle.volume.specs.laws.CallContracts.{storing-refused, storing-ends}
 use Rattle.volume.specs.looking.Knowing.{readDevice}
 use Rattle.volume.specs.checks.LogRoom.{Asking, SeenByRoles, emptyingsOf, parityRoomAt, roomOf, placed-is, placed-valid}
@@ -36,13 +36,13 @@ use Rattle.volume.specs.emptying.CopiesKnown.{inForceOf, CopiesReady}
 use Rattle.volume.specs.emptying.Emptyings.{EmptyingReady, emptiedOn}
 use Rattle.volume.specs.emptying.ParityEmptyings.{ParityKnown, newParityOn}
 use Rattle.volume.specs.emptying.RoomMoves.{room-ready}
-use Rattle.volume.specs.storing.ResetZone.{generationsIn}
-use Rattle.volume.specs.writing.WriteRoom.{pointsIn, points-within, writeAsked}
+use Rattle.volume.specs.checks.Records.{generationsIn, pointsIn, points-in-long}
+use Rattle.volume.specs.writing.WriteRoom.{points-within, writeAsked}
 use Rattle.volume.specs.writing.WriteStores.{runContent, WriteReady}
 use Rattle.volume.specs.writing.WriteRun.{atPlaces, runStoresOf, RunReady, runFull, runGone, writeZoneOn}
 use Rattle.volume.specs.writing.WriteZone.{writeRoom, write-room-full}
 use Rattle.volume.specs.writing.WriteMade.{room-gone, write-made-all}
-use Rattle.volume.specs.writing.RunSeen.{points-in-long, run-copies, run-in-zone, run-end, run-known, run-write}
+use Rattle.volume.specs.writing.RunSeen.{run-copies, run-in-zone, run-end, run-known, run-write}
 use borrow.Author.Needs.{needs}
 use Rattle.volume.proofs.writing.write_seen.Statement.{statement}
 use Rattle.volume.proofs.writing.write_seen.Tie as tie
@@ -61,7 +61,7 @@ abbrev stores : tie.Start → List Store
 stores s = let z = s .args .run .zone in writeAll (z .geometry) (isSet (z .here)) (rolesOf (z .geometry) (given s)) (seenIn (z .geometry) (given s)) (viewState (s .args .state)) (z .number) (sectorsIn (z .geometry) (s .args .run .count) (now (s .args .buffer)))
 
 abbrev next : tie.Start → State
-next s = let z = s .args .run .zone in writtenState (s .args .state) (findBelow (λ (d : ℕ). not (isSet (z .here) d)) (z .geometry .drives)) (z .number) (s .args .run .pointer + s .args .run .count)
+next s = let z = s .args .run .zone in stateHeld maxZones (openState (findBelow (λ (d : ℕ). not (isSet (z .here) d)) (z .geometry .drives)) (viewState (s .args .state)) (z .number) (s .args .run .pointer + s .args .run .count))
 
 abbrev asked : tie.Start → RoomAsked
 asked s = writeAsked (s .args .run .zone) (s .args .places) (s .args .run .pointer + s .args .run .count)

@@ -5,20 +5,19 @@ use native.Mathlib.Numerals.{add-one}
 use lib.ListN.{length}
 use denote.Ref.{now}
 use Rattle.volume.specs.meaning.CallContracts.{viewState}
-use Rattle.zrv.specs.meaning.EdgeCalls.{filledBytes}
-use Rattle.zrv.specs.laws.Report.{filled-start, filled-more}
+use Rattle.zrv.specs.laws.Report.{toldBytes, told-start, told-more}
 use borrow.Author.Needs.{needs}
 use Rattle.zrv.proofs.reporting.fill_list.Statement.{statement}
 use Rattle.zrv.proofs.reporting.fill_list.Tie as tie
 
 abbrev Inv-loop : tie.InvT-loop
-Inv-loop g state n list₀ z₀ list z = (z ≤ n) × (length list ≡ length list₀) × (list ≡ filledBytes g (viewState state .condition) z list₀)
+Inv-loop g state n list₀ z₀ list z = (z ≤ n) × (length list ≡ length list₀) × (list ≡ toldBytes g (viewState state .condition) z list₀)
 
 abbrev μ-loop : tie.MeasureT-loop
 μ-loop g state n list₀ z₀ list z = n - z
 
 loop-holds : tie.Need-loop-holds Inv-loop μ-loop
-loop-holds c = (omega arith, refl, filled-start _ _ _)
+loop-holds c = (omega arith, refl, told-start _ _ _)
 
 describe-requires : tie.Need-describe-requires Inv-loop μ-loop
 describe-requires c κs = let s = c .before .before .before in (s .pre .0, omega (arith, s .pre .1 .0))
@@ -40,7 +39,7 @@ loop-again c =
     let a = c .before .before .before .before .before .before .before .before .args in
     let l = c .before .before .before .before .before .before .loop in
     let w = c .before .before .descriptor-to in
-    (omega arith, w .kept .1 .0 ∙ l .inv .1, w .ensures ∙ rw (c .before .before .before .before .describe .ensures, l .inv .2, add-one) (filled-more (a .g) (viewState (a .state) .condition) (l .z) (now (a .list))))
+    (omega arith, w .kept .1 .0 ∙ l .inv .1, w .ensures ∙ rw (c .before .before .before .before .describe .ensures, l .inv .2, add-one) (told-more (a .g) (viewState (a .state) .condition) (l .z) (now (a .list))))
 
 same-length : tie.Need-same-length Inv-loop μ-loop
 same-length c = c .before .loop .inv .1

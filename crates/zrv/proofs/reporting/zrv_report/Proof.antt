@@ -3,8 +3,6 @@ use mathlib.Core.Path.{_≡_, sym, _∙_, refl}
 use native.Mathlib.Omega.{arith}
 use denote.Ref.{now}
 use Rattle.volume.specs.meaning.Report.{filledNumber}
-use Rattle.volume.specs.meaning.CallContracts.{viewState}
-use Rattle.zrv.specs.meaning.Bytes.{stateFrom}
 use Rattle.zrv.specs.meaning.EdgeCalls.{descriptorsIn}
 use Rattle.zrv.specs.laws.EdgeCalls.{refused, made}
 use Rattle.zrv.specs.laws.Report.{Reportable, report-passed, number-passed, number-room, report-made}
@@ -48,10 +46,10 @@ returns-2 c =
     let a = n .before .before .before .before .before .before .before .args in
     let g = e .before .before .shape .result in
     let f = rw (n .before .state-from .ensures) at (c .before .before .fill-list .ensures) in
-    rw (← e .before .before .shape .ensures, ← e .before .report-refusal .ensures) (report-made g (viewState (stateFrom (g .zones) (now (a .state))) .condition) (now (a .list)) (number n) f ∙ made _ _ _ (zero e))
+    rw (← e .before .before .shape .ensures, ← e .before .report-refusal .ensures) (report-made g (now (a .state)) (now (a .list)) (passed e) (number n) f ∙ made _ _ _ (zero e))
 
 pub zrv-report-spec : {M : Type 1} → statement M
 zrv-report-spec =
     tie.close
-    (tie.spec (λ c κs. search needs) (λ c κs. search needs) (λ c. search needs) returns state-from-requires (λ c κs. search needs) fill-list-requires mul-result
+    (tie.spec (λ c κs. search needs) (λ c κs. search needs) returns state-from-requires (λ c κs. search needs) fill-list-requires mul-result
     (λ c. search needs) returns-2)

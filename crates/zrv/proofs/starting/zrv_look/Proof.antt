@@ -37,4 +37,4 @@ returns-2 c =
 pub zrv-look-spec : {M : Type 1} → statement M
 zrv-look-spec =
     tie.close
-    (tie.spec (λ c κs. search needs) (λ c κs. search needs) (λ c. search needs) returns (λ c κs. lengths c .valid) (λ c κs. search needs) (λ c κs. search needs) (λ c. search needs) (λ c. sym (part-long _ (c .before .before .before .table-cells .ensures .1))) (λ c. search needs) (λ c. sym (part-long _ (c .before .before .before .before .table-cells .ensures .1))) (λ c κs. scratch-fits _ _ (lengths (c .before .before .before .before .before .before .before)) (c .before .before .before .before .before .before .table-cells .ensures)) (λ c κs. search needs) hand-back-placed-requires (λ c. search needs) returns-2)
+    (tie.spec (λ c κs. search needs) (λ c κs. search needs) returns (λ c κs. lengths c .valid) (λ c κs. search needs) (λ c κs. search needs) (λ c. search needs) (λ c. sym (part-long _ (c .before .before .before .table-cells .ensures .1))) (λ c. search needs) (λ c. sym (part-long _ (c .before .before .before .before .table-cells .ensures .1))) (λ c κs. scratch-fits _ _ (lengths (c .before .before .before .before .before .before .before)) (c .before .before .before .before .before .before .table-cells .ensures)) (λ c κs. search needs) hand-back-placed-requires (λ c. search needs) returns-2)

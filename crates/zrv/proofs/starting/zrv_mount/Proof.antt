@@ -51,4 +51,4 @@ returns-2 c =
 pub zrv-mount-spec : {M : Type 1} → statement M
 zrv-mount-spec =
     tie.close
-    (tie.spec (λ c κs. search needs) (λ c κs. search needs) (λ c. search needs) returns (λ c κs. lengths c .valid) (λ c κs. search needs) (λ c κs. search needs) (λ c. search needs) (λ c. sym (part-long _ (c .before .before .before .table-cells .ensures .1))) (λ c. search needs) (λ c. sym (part-long _ (c .before .before .before .before .table-cells .ensures .1))) (λ c κs. scratch-fits _ _ (lengths (c .before .before .before .before .before .before .before .before .before)) (c .before .before .before .before .before .before .before .before .table-cells .ensures)) (λ c κs. search needs) table-to-requires table-to-requires-2 hand-back-placed-requires (λ c. search needs) (λ c. search needs) (λ c. search needs) (λ c. search needs) returns-2)
+    (tie.spec (λ c κs. search needs) (λ c κs. search needs) returns (λ c κs. lengths c .valid) (λ c κs. search needs) (λ c κs. search needs) (λ c. search needs) (λ c. sym (part-long _ (c .before .before .before .table-cells .ensures .1))) (λ c. search needs) (λ c. sym (part-long _ (c .before .before .before .before .table-cells .ensures .1))) (λ c κs. scratch-fits _ _ (lengths (c .before .before .before .before .before .before .before .before .before)) (c .before .before .before .before .before .before .before .before .table-cells .ensures)) (λ c κs. search needs) table-to-requires table-to-requires-2 hand-back-placed-requires (λ c. search needs) (λ c. search needs) (λ c. search needs) (λ c. search needs) returns-2)

@@ -1,0 +1,2 @@
+-- What proofs by hand share.
+pub mod Lent

@@ -1,6 +1,6 @@
 -- The calls' answers computed on document 01's example: every number of the table of refusals is met, each beside an input that is
 -- just not refused. A check of the definitions, no part of the proof.
-use mathlib.Core.Bool.{Bool, true, _&&_, not}
+use mathlib.Core.Bool.{Bool, true, _&&_}
 use Prim.Native.Nat.{ℕ, _+_, _-_}
 use mathlib.Core.List.{List, [], _∷_, _++_}
 use lib.ListN.{length, getD, take, replicate}

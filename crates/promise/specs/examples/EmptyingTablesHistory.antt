@@ -20,7 +20,8 @@ use Rattle.volume.specs.declared.Condition.the-variants.{Open}
 use Rattle.volume.specs.declared.Answer.the-variants.{Finished}
 use Rattle.volume.specs.declared.Outcome.{Outcome}
 use Rattle.volume.specs.meaning.Answers.{leftOut}
-use Rattle.volume.specs.meaning.CallContracts.{viewState, freshState, blankRecord, lookOn}
+use Rattle.volume.specs.meaning.CallContracts.{viewState, stateHeld, blankRecord, lookOn}
+use Rattle.volume.specs.meaning.Calls.{formatState}
 use Rattle.volume.specs.laws.AnyInput.{mount-shows-look}
 use Rattle.promise.specs.meaning.Claim.{Volume, mounts, resets, formats, ready, System, Event, calls, cuts, NamesAll, Dutiful, Throughout, start}
 use Rattle.promise.specs.meaning.Histories.{afterAll, AtEveryPoint}
@@ -44,7 +45,7 @@ abbrev zeroDrives : WithCaches Tables
 zeroDrives = record { memory = record { sectors = replicate 6144 0; written = replicate 12 0; durable = replicate 12 0 }; was = λ d z. [] }
 
 abbrev held : State
-held = freshState tight noDrive
+held = stateHeld (tight .zones) (formatState noDrive)
 
 abbrev s0 : System vol
 s0 = start tight vol every (vol .call (formats 7) every held noStop zeroDrives)

@@ -4,6 +4,8 @@ pub mod CachedExample
 pub mod CachedTablesHistory
 pub mod Cases
 pub mod ClaimExample
+pub mod EmptyingExample
+pub mod EmptyingTablesHistory
 pub mod Example
 pub mod Opened
 pub mod TablesExample

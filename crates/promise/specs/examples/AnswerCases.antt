@@ -1,6 +1,6 @@
 -- The calls' answers computed on document 01's example: every number of the table of refusals is met, each beside an input that is
 -- just not refused. A check of the definitions, no part of the proof.
-use mathlib.Core.Bool.{Bool, true, _&&_, not}
+use mathlib.Core.Bool.{Bool, true, _&&_}
 use Prim.Native.Nat.{ℕ, _+_, _-_}
 use mathlib.Core.List.{List, [], _∷_, _++_}
 use lib.ListN.{length, getD, take, replicate}
@@ -15,8 +15,8 @@ use Rattle.volume.specs.declared.Condition.{Condition}
 use Rattle.volume.specs.declared.Condition.the-variants.{Empty, Open, Sealed, Worn}
 use Rattle.volume.specs.meaning.State.{StateView}
 use Rattle.volume.specs.meaning.Calls.{formatState}
-use Rattle.volume.specs.meaning.Answers.{Given, refused, given, formatCall, lookCall, mountCall, writeCall, flushCall, resetCall, readCall, peekCall}
-use Rattle.promise.specs.examples.Example.{geo, lengths, every, noStop, does, numberOf, givenNumber, blank, formatted, formattedState, bytes, writtenState, writtenDevice, filled}
+use Rattle.volume.specs.meaning.Answers.{CallResult, Given, refused, given, formatCall, lookCall, mountCall, writeCall, flushCall, resetCall, readCall, peekCall}
+use Rattle.promise.specs.examples.Example.{geo, lengths, every, noStop, does, numberOf, givenNumber, blank, formatted, formattedState, bytes, writtenState, writtenDevice, filled, tenUnused, nineUnused}
 use Rattle.promise.specs.meaning.Claim.{allBut}
 use Rattle.promise.specs.examples.Opened.{deviceOpen}
 
@@ -35,9 +35,13 @@ zeroSector = replicate 64 0
 abbrev spared : ℕ → Device → Device
 spared d v = putZone v d 2 (record { sectors = zeroSector ∷ []; durable = 0 })
 
--- a parity log of generation n, with a sector less than a write wants
-abbrev closedLog : ℕ → Device
-closedLog n = putZone formatted 3 1 (record { sectors = encode geo 3 (closing 1 n) ∷ replicate 22 zeroSector; durable = 0 })
+-- a write of one sector to zone 0 by these drives, after writes to zone 1; on the device that they left, changed so
+abbrev writesThen : (ℕ → Bool) → CallResult Device StateView → (Device → Device) → ℕ
+writesThen named r change = numberOf (does (writeCall geo lengths named (r .state) 0 1 (bytes 1 9)) (r .state) noStop (change (r .memory)))
+
+-- the log that left ten sectors unused, behind a closing entry of generation n: a sector less than a write wants
+abbrev closedLog : ℕ → Device → Device
+closedLog n v = putZone v 3 1 (record { sectors = encode geo 3 (closing 1 n) ∷ v 3 1 .sectors; durable = 0 })
 
 abbrev holds : List (ℕ × ℕ) → Bool
 holds [] = true
@@ -93,10 +97,10 @@ answered =
     ∷ (givenNumber (readCall geo lengths every formattedState 0 1 64 formatted), 13)
     ∷ (givenNumber (peekCall geo lengths every formattedState 0 formatted), 13)
     -- 14: a log with just the room is not emptied; one with a sector less is, but for a spare that is written, which a mount resets
-    ∷ (numberOf (does (writeCall geo lengths every formattedState 0 1 (bytes 1 9)) formattedState noStop (spared 3 (filled 3 1 22 zeroSector))), 0)
-    ∷ (numberOf (does (writeCall geo lengths every formattedState 0 1 (bytes 1 9)) formattedState noStop (filled 3 1 23 zeroSector)), 0)
-    ∷ (numberOf (does (writeCall geo lengths every formattedState 0 1 (bytes 1 9)) formattedState noStop (spared 3 (filled 3 1 23 zeroSector))), 14)
-    ∷ (numberOf (does (writeCall geo lengths (allBut 3) formattedState 0 1 (bytes 1 9)) formattedState noStop (spared 3 (filled 3 1 23 zeroSector))), 0)
+    ∷ (writesThen every tenUnused (spared 3), 0)
+    ∷ (writesThen every nineUnused (λ v. v), 0)
+    ∷ (writesThen every nineUnused (spared 3), 14)
+    ∷ (writesThen (allBut 3) nineUnused (spared 3), 0)
     ∷ (numberOf (does (resetCall geo lengths every formattedState 0) formattedState noStop (spared 2 (longLog 25))), 0)
     ∷ (numberOf (does (resetCall geo lengths every formattedState 0) formattedState noStop (longLog 26)), 0)
     ∷ (numberOf (does (resetCall geo lengths every formattedState 0) formattedState noStop (spared 2 (longLog 26))), 14)
@@ -104,8 +108,8 @@ answered =
     ∷ (numberOf (does (mountCall geo lengths every) formattedState noStop (spared 2 (longLog 28))), 0)
     ∷ (givenNumber (lookCall geo lengths every (longLog 28)), 0)
     -- or a log of the last generation
-    ∷ (numberOf (does (writeCall geo lengths every formattedState 0 1 (bytes 1 9)) formattedState noStop (closedLog 18446744073709551614)), 0)
-    ∷ (numberOf (does (writeCall geo lengths every formattedState 0 1 (bytes 1 9)) formattedState noStop (closedLog 18446744073709551615)), 14)
+    ∷ (writesThen every tenUnused (closedLog 18446744073709551614), 0)
+    ∷ (writesThen every tenUnused (closedLog 18446744073709551615), 14)
     -- 15
     ∷ (numberOf (does (writeCall geo lengths (allBut 0) (being (Open 1) 1) 1 1 (bytes 1 9)) (being (Open 1) 1) noStop formatted), 15)
     ∷ (givenNumber (readCall geo lengths (allBut 0) (being (Open 1) 1) 0 1 64 formatted), 15)

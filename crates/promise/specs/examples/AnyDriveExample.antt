@@ -22,17 +22,17 @@ use Rattle.volume.specs.declared.Answer.{Answer}
 use Rattle.volume.specs.declared.Answer.the-variants.{Finished, Unfinished, Refused, BadLog}
 use Rattle.volume.specs.declared.Condition.{Condition}
 use Rattle.volume.specs.declared.Condition.the-variants.{Empty, Open, Sealed}
-use Rattle.volume.specs.meaning.Refusals.{TableLengths, firstRefusal}
+use Rattle.volume.specs.meaning.Refusals.{TableLengths}
 use Rattle.volume.specs.meaning.Rules.{Shown, ZoneShown}
 use Rattle.volume.specs.meaning.State.{StateView}
 use Rattle.volume.specs.meaning.Answers.{leftOut}
-use Rattle.promise.specs.meaning.Claim.{Volume, allBut, Call, mounts, flushes, resets, formats, Mode, ready, stopped, down, modeAfter, System, Event, calls, looks, reads, reports, cuts, next, NamesAll, Dutiful, start}
-use Rattle.promise.specs.meaning.OnDevice.{callOf, onDevice}
+use Rattle.promise.specs.meaning.Claim.{Volume, allBut, mounts, flushes, resets, formats, Mode, ready, stopped, down, modeAfter, System, Event, calls, looks, reads, reports, cuts, next, NamesAll, Dutiful, start}
+use Rattle.promise.specs.meaning.OnDevice.{onDevice}
 use Rattle.promise.specs.meaning.Histories.{afterAll}
 use Rattle.promise.specs.meaning.AnyDrive.{NoneStored, AllStoreNothing, AnyDriveMayGo}
 use Rattle.promise.specs.examples.Example.{every, noStop, blank, formattedState, bytes, writing}
 use Rattle.promise.specs.examples.Cases.{sameCondition}
-use Rattle.promise.specs.examples.ClaimExample.{isMode, all, all-at, ready-is, may-mount, answer-well-formed, blank-well-formed, done}
+use Rattle.promise.specs.examples.ClaimExample.{isMode, all, all-at, ready-is, may-mount, call-well-formed, blank-well-formed, done}
 use Rattle.promise.specs.examples.Opened.{deviceOpen}
 use Rattle.promise.specs.shown.AnyDriveProved.{any-drive-on-device}
 
@@ -237,18 +237,15 @@ cut-well-formed : (ks : List ℕ) (v : Device) → WellFormed (cutTo ks v)
 unfolding WellFormed
 cut-well-formed ks v d y = let k = pick (eqb y 3) (getD ks d 0) 0 in let n = min (length (v d y .sectors)) (v d y .durable + k) in rw (length-take n (v d y .sectors)) (omega arith)
 
-call-well-formed : (c : Call) (old : StateView) (stop : ℕ) (v : Device) → WellFormed v → WellFormed (vol .call c every old stop v .memory)
-call-well-formed c old stop v h = let k = callOf geo lengths c every old v in answer-well-formed (firstRefusal (k .refusals)) (k .stores) (k .state) old stop v h
-
 well-formed-3 : WellFormed (s3 .memory)
 well-formed-3 =
-    call-well-formed (writing 0 5 9) (s2 .state) noStop (s2 .memory) (call-well-formed flushes (s1 .state) noStop (s1 .memory)
-    (call-well-formed (writing 48 3 7) (s0 .state) noStop (s0 .memory) (call-well-formed (formats 7) formattedState noStop blank blank-well-formed)))
+    call-well-formed geo lengths (writing 0 5 9) every (s2 .state) noStop (s2 .memory) (call-well-formed geo lengths flushes every (s1 .state) noStop (s1 .memory)
+    (call-well-formed geo lengths (writing 48 3 7) every (s0 .state) noStop (s0 .memory) (call-well-formed geo lengths (formats 7) every formattedState noStop blank blank-well-formed)))
 
 well-formed-t5 : WellFormed (t5 .memory)
 well-formed-t5 =
-    call-well-formed (resets 0) (t3 .state) 0 (t3 .memory) (call-well-formed (writing 0 1 5) (t1 .state) noStop (t1 .memory)
-    (call-well-formed mounts (s4 .state) noStop (s4 .memory) (cut-well-formed (2 ∷ 1 ∷ 1 ∷ 0 ∷ []) (s3 .memory))))
+    call-well-formed geo lengths (resets 0) every (t3 .state) 0 (t3 .memory) (call-well-formed geo lengths (writing 0 1 5) every (t1 .state) noStop (t1 .memory)
+    (call-well-formed geo lengths mounts every (s4 .state) noStop (s4 .memory) (cut-well-formed (2 ∷ 1 ∷ 1 ∷ 0 ∷ []) (s3 .memory))))
 
 pub duties-done : Dutiful geo vol s0 (before ++ (calls mounts every noStop ∷ after))
 duties-done =

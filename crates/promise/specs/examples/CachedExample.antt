@@ -123,8 +123,8 @@ names-all s e = record { drives = λ d h. sym (not-lost d h) }
 
 well-formed-3 : WellFormed (point 3 .memory .memory)
 well-formed-3 =
-    call-well-formed (resets 0) every (point 2 .state) 10 (point 2 .memory .memory) (call-well-formed flushes every (point 1 .state) noStop (point 1 .memory .memory)
-    (call-well-formed (writing 0 5 9) every (s0 .state) noStop (s0 .memory .memory) (call-well-formed (formats 7) every formattedState noStop blank blank-well-formed)))
+    call-well-formed geo lengths (resets 0) every (point 2 .state) 10 (point 2 .memory .memory) (call-well-formed geo lengths flushes every (point 1 .state) noStop (point 1 .memory .memory)
+    (call-well-formed geo lengths (writing 0 5 9) every (s0 .state) noStop (s0 .memory .memory) (call-well-formed geo lengths (formats 7) every formattedState noStop blank blank-well-formed)))
 
 pub duties-done : Dutiful geo vol s0 history
 unfolding wentSo

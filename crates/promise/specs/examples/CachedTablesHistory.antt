@@ -34,16 +34,16 @@ use Rattle.promise.specs.examples.TablesHistory.{small, zeros, every, by
 use Rattle.promise.specs.examples.Opened.{tablesOpen}
 
 -- ---- a cut, found so by a test of every zone: its pointer lies between durable and written, or it is the view remembered last, whole or in part
-abbrev keptTest : Geometry → Tables → Tables → ℕ → ℕ → Bool
+abbrev pub keptTest : Geometry → Tables → Tables → ℕ → ℕ → Bool
 keptTest g t u d z = leb (getD (t .durable) (cell g d z) 0) (getD (u .written) (cell g d z) 0) && leb (getD (u .written) (cell g d z) 0) (getD (t .written) (cell g d z) 0)
 
-abbrev backTest : Geometry → List ZoneView → Tables → ℕ → ℕ → Bool
+abbrev pub backTest : Geometry → List ZoneView → Tables → ℕ → ℕ → Bool
 backTest g [] u d z = false
 backTest g (o ∷ os) u d z =
     let w = getD (u .written) (cell g d z) 0 in
     (leb (o .durable) w && leb w (length (o .sectors))) && (leb w (g .capacity) && allBelow (λ n. sameBytes (sectorAt g (u .sectors) d z n) (getD (o .sectors) n [])) w)
 
-abbrev zonesTest : Geometry → Tables → (ℕ → ℕ → List ZoneView) → Tables → Bool
+abbrev pub zonesTest : Geometry → Tables → (ℕ → ℕ → List ZoneView) → Tables → Bool
 zonesTest g t was u = allBelow (λ d. allBelow (λ z. keptTest g t u d z || backTest g (was d z) u d z) (physicalZones g)) (g .drives)
 
 back-tested : (g : Geometry) (was : List ZoneView) (u : Tables) (d z : ℕ) → backTest g was u d z ≡ true → (o : ZoneView) × List·Memᴰ o was × ZoneBack g o u d z
@@ -60,7 +60,7 @@ back-tested g (o ∷ os) u d z e =
 back-tested g [] u d z e = absurd (let q : _≡_ {A = ℕ} 0 1 = cc in omega arith)
 
 -- with the sectors as they lie, and pointers that are all durable (ws)
-cut-tested : (g : Geometry) (x : ℕ) (t : Tables) (was : ℕ → ℕ → List ZoneView) (ws : List ℕ) → let u : Tables = record { sectors = t .sectors; written = ws; durable = ws } in
+pub cut-tested : (g : Geometry) (x : ℕ) (t : Tables) (was : ℕ → ℕ → List ZoneView) (ws : List ℕ) → let u : Tables = record { sectors = t .sectors; written = ws; durable = ws } in
     length ws ≡ length (t .written) → length ws ≡ length (t .durable) → zonesTest g t was u ≡ true → TablesCachingCut g x t was u
 cut-tested g x t was ws lw ld e = record {
   sectors-long = refl;

@@ -1,12 +1,13 @@
--- Document 01, "Both edges": cases a to m, and some more of the same kinds, as rows of one table, with one theorem that the checker
--- computes from the definitions, bytes and logs included.
+-- Document 01, "Both edges": its thirteen cases as rows with their letters; and apart from them more of the same kinds. The checker computes each table
+-- from the definitions, bytes and logs included.
 use Rattle.volume.specs.meaning.Calls.{appendGeneral, resetStores}
-use Rattle.logs.specs.meaning.Entry.{seal, parityZone}
-use Rattle.promise.specs.examples.Example.{blank, geo, lengths, every, noStop, does, numberOf, formatted, formattedState, bytes, writtenState, writtenDevice, kept, filled}
-use Rattle.volume.specs.meaning.Answers.{formatCall, Given, refused, given, lookCall, mountCall, writeCall, Place, placeOf}
+use Rattle.logs.specs.meaning.Entry.{encode, partialParity, seal, closing, parityZone}
+use Rattle.promise.specs.examples.Example.{blank, geo, lengths, every, noStop, does, numberOf, formatted, formattedState, bytes, writtenState, writtenDevice, kept, tenUnused, nineUnused}
+use Rattle.volume.specs.meaning.Answers.{CallResult, formatCall, Given, refused, given, lookCall, mountCall, writeCall, Place, placeOf}
 use mathlib.Core.Bool.{Bool, true, _&&_, false, _||_}
+use Prim.Native.Char.{Char}
 use Prim.Native.Nat.{ℕ, _+_, _-_, _*_, suc}
-use mathlib.Core.List.{List, [], _∷_}
+use mathlib.Core.List.{List, [], _∷_, map}
 use lib.ListN.{length, getD, take, replicate}
 use lib.Dec.{eqb, T}
 use Rattle.tables.specs.meaning.Device.{Device, applyAll}
@@ -15,7 +16,7 @@ use Rattle.tables.specs.meaning.Drives.{noDrive, presentBut}
 use Rattle.volume.specs.meaning.Rules.{Shown}
 use Rattle.volume.specs.declared.Condition.{Condition}
 use Rattle.volume.specs.declared.Condition.the-variants.{Empty, Open, Sealed, Worn}
-use Rattle.volume.specs.meaning.State.{pointerIn}
+use Rattle.volume.specs.meaning.State.{StateView, pointerIn}
 use Rattle.promise.specs.meaning.Claim.{allBut}
 use Rattle.tables.specs.meaning.Below.{allBelow, tabulateFrom}
 use Rattle.tables.specs.meaning.Lists.{concat}
@@ -36,8 +37,8 @@ pub data Case : Type 0 where
   shows : Device → ℕ → Condition → Case
   -- the lost drive that a look shows when every drive is named
   lostShown : Device → ℕ → Case
-  -- a write of one sector with so many sectors unused in the parity log of drive 3; the number answered, 0 for stored; the sectors that its zones 1 and 2 hold then
-  logsHold : ℕ → ℕ → ℕ → ℕ → Case
+  -- a parity log of drive 3 that writes made, and how many of its sectors are unused; then a write of one sector to zone 0: what that drive's zones 1 and 2 hold, sector by sector
+  logsHold : CallResult Device StateView → ℕ → List (List ℕ) → List (List ℕ) → Case
   -- a reset of zone 0 with five sectors, stopped after so many stores; then a look by all drives but one: as before, or empty
   resetStops : ℕ → ℕ → Case
 
@@ -72,6 +73,13 @@ stripesWritten n = does (writeCall geo lengths every formattedState 0 (n * 6) (c
 abbrev rowParity : ℕ → ℕ → List ℕ
 rowParity s r = xorBytes (sectorOfOwn (s * 6 + r)) (xorBytes (sectorOfOwn (s * 6 + 2 + r)) (sectorOfOwn (s * 6 + 4 + r)))
 
+abbrev sameSectors : List (List ℕ) → List (List ℕ) → Bool
+sameSectors ss ts = eqb (length ss) (length ts) && allBelow (λ i. sameBytes (getD ss i []) (getD ts i [])) (length ts)
+
+-- a partial parity entry on drive 3: zone, stripe, sectors of the stripe below its end; its rows, each of one byte's value
+abbrev entry : ℕ → ℕ → ℕ → List ℕ → List (List ℕ)
+entry z s f rows = encode geo 3 (partialParity z s f 1) ∷ map (bytes 1) rows
+
 abbrev holds : Case → Bool
 holds (placed a d y x) = samePlace (placeOf geo a) d y x
 holds (parityPlaced s d x y) = sameBytes (getD (stripesWritten (suc s) d 3 .sectors) x []) (rowParity s 0) && sameBytes (getD (stripesWritten (suc s) d 3 .sectors) y []) (rowParity s 1)
@@ -79,9 +87,9 @@ holds (needs n ks) = allBelow (λ d. eqb (needed 4 2 0 n d) (getD ks d 0)) 4
 holds (logged n d k) = eqb (length (writtenDevice n d parityZone .sectors)) k
 holds (shows v x c) = conditionShown (lookCall geo lengths (allBut x) v) (sameCondition c)
 holds (lostShown v x) = eqb (lostOf (lookCall geo lengths every v)) x
-holds (logsHold unused n p q) =
-    let r = does (writeCall geo lengths every formattedState 0 1 (bytes 1 9)) formattedState noStop (filled 3 1 (32 - unused) (bytes 1 0)) in
-    eqb (numberOf r) n && (eqb (length (r .memory 3 1 .sectors)) p && eqb (length (r .memory 3 2 .sectors)) q)
+holds (logsHold before unused p q) =
+    let r = does (writeCall geo lengths every (before .state) 0 1 (bytes 1 9)) (before .state) noStop (before .memory) in
+    (eqb (32 - length (before .memory 3 1 .sectors)) unused && eqb (numberOf r) 0) && (sameSectors (r .memory 3 1 .sectors) p && sameSectors (r .memory 3 2 .sectors) q)
 holds (resetStops n x) =
     conditionShown (lookCall geo lengths (allBut x) (applyAll (take n (resetStores geo (presentBut geo noDrive) (writtenState 5) 0)) (writtenDevice 5))) (λ c. sameCondition (Open 5) c || sameCondition Empty c)
 
@@ -100,30 +108,36 @@ writtenTwice m n = does (writeCall geo lengths every (writtenState m) m n (bytes
 abbrev mountedPart : ℕ → Device → Device
 mountedPart n v = does (mountCall geo lengths every) formattedState n v .memory
 
-pub cases : List Case
-cases =
-    -- a to d
-    placed 0 0 3 0
-    ∷ placed 7 1 3 3
-    ∷ placed 95 1 3 31
-    ∷ placed 96 1 4 0
-    -- e
-    ∷ parityPlaced 1 0 2 3
-    -- f to h
-    ∷ needs 5 (2 ∷ 2 ∷ 1 ∷ 0 ∷ [])
-    ∷ needs 6 (2 ∷ 2 ∷ 2 ∷ 2 ∷ [])
-    ∷ needs 7 (2 ∷ 3 ∷ 2 ∷ 2 ∷ [])
-    -- i
-    ∷ logged 1 3 2
-    -- j to l
-    ∷ shows (left (2 ∷ 1 ∷ 1 ∷ 0 ∷ []) 0) noDrive (Sealed 3)
-    ∷ shows (left (2 ∷ 1 ∷ 1 ∷ 0 ∷ []) 3) noDrive (Open 5)
-    ∷ shows (left (0 ∷ 0 ∷ 0 ∷ 0 ∷ []) 3) noDrive Empty
-    -- m
-    ∷ logsHold 10 0 24 0
-    ∷ logsHold 9 0 0 3
-    -- more: a fresh zone; five sectors; with the entry torn; with a drive lost
-    ∷ shows formatted noDrive Empty
+-- the paper's cases, each with its letter. (In case m the bytes of a sector are the address of its write: 6 is 114 xor 116, and so on.)
+pub paperCases : List (Char × Case)
+paperCases =
+    ("a", placed 0 0 3 0)
+    ∷ ("b", placed 7 1 3 3)
+    ∷ ("c", placed 95 1 3 31)
+    ∷ ("d", placed 96 1 4 0)
+    ∷ ("e", parityPlaced 1 0 2 3)
+    ∷ ("f", needs 5 (2 ∷ 2 ∷ 1 ∷ 0 ∷ []))
+    ∷ ("g", needs 6 (2 ∷ 2 ∷ 2 ∷ 2 ∷ []))
+    ∷ ("h", needs 7 (2 ∷ 3 ∷ 2 ∷ 2 ∷ []))
+    ∷ ("i", logged 1 3 2)
+    ∷ ("j", shows (left (2 ∷ 1 ∷ 1 ∷ 0 ∷ []) 0) noDrive (Sealed 3))
+    ∷ ("k", shows (left (2 ∷ 1 ∷ 1 ∷ 0 ∷ []) 3) noDrive (Open 5))
+    ∷ ("l", shows (left (0 ∷ 0 ∷ 0 ∷ 0 ∷ []) 3) noDrive Empty)
+    -- stored behind the entries of the writes that made the log
+    ∷ (
+      "m",
+      logsHold tenUnused 10 (concat (entry 1 3 1 (114 ∷ []) ∷ entry 1 3 2 (114 ∷ 115 ∷ []) ∷ entry 1 3 3 (6 ∷ 115 ∷ []) ∷ entry 1 3 4 (6 ∷ 6 ∷ []) ∷ entry 1 3 5 (112 ∷ 6 ∷ [])
+          ∷ entry 1 7 1 (138 ∷ []) ∷ entry 1 7 2 (138 ∷ 139 ∷ []) ∷ entry 1 7 3 (6 ∷ 139 ∷ []) ∷ entry 0 0 1 (9 ∷ []) ∷ [])) [],
+    )
+    -- "with 9: refusal 14"; since document 02's 2.2 the log is emptied: zone 1's entry at its pointer, the closing entry, then the write's own
+    ∷ ("m", logsHold nineUnused 9 [] (concat (entry 1 7 4 (6 ∷ 6 ∷ []) ∷ (encode geo 3 (closing 1 1) ∷ []) ∷ entry 0 0 1 (9 ∷ []) ∷ [])))
+    ∷ []
+
+-- later ones
+pub moreCases : List Case
+moreCases =
+    -- a fresh zone; five sectors; with the entry torn; with a drive lost
+    shows formatted noDrive Empty
     ∷ shows (writtenDevice 5) noDrive (Open 5)
     ∷ shows (left (2 ∷ 1 ∷ 1 ∷ 0 ∷ []) 2) noDrive (Sealed 3)
     ∷ shows (writtenDevice 5) 2 (Open 5)
@@ -159,6 +173,10 @@ abbrev allHold : List Case → Bool
 allHold [] = true
 allHold (c ∷ cs) = holds c && allHold cs
 
-pub cases-hold : T (allHold cases)
-unfolding deviceOpen cases
-cases-hold = tt
+pub paper-cases-hold : T (allHold (map (λ (r : Char × Case). r .1) paperCases))
+unfolding deviceOpen paperCases
+paper-cases-hold = tt
+
+pub more-cases-hold : T (allHold moreCases)
+unfolding deviceOpen moreCases
+more-cases-hold = tt

@@ -1,12 +1,13 @@
 -- The claim is not empty: a history on document 01's example, with its duties done, and what the claim says of it. Five sectors are written
--- and flushed; a write at the wrong address is refused; a look is handed on; a peek; another zone is written and reset; the reset of the first one is
+-- and flushed; a write at the wrong address is refused; a look; a peek; another zone is written and reset; the reset of the first one is
 -- stopped; a cut leaves just what is durable; a look shows that zone empty; drive 1 is lost, its memory gone; a mount by the others finishes; a write, a
 -- read and a peek.
 use Rattle.promise.specs.meaning.Claim.{Volume, pointerHeld, allBut, Call, mounts, flushes, resets, formats, Mode, ready, stopped, down, System, Event, calls, looks, reads, peeks, cuts, loses, next, NamesAll, MayMount, Dutiful, Throughout, start}
 use Rattle.promise.specs.meaning.OnDevice.{callOf, onDevice}
 use Rattle.volume.specs.meaning.Answers.{CallResult, storing, leftOut}
 use Rattle.volume.specs.declared.Answer.the-variants.{Finished, Unfinished}
-use Rattle.volume.specs.meaning.Refusals.{refuse, accept, firstRefusal, Verdict}
+use Rattle.volume.specs.meaning.Refusals.{TableLengths, refuse, accept, firstRefusal, Verdict}
+use Rattle.tables.specs.declared.Geometry.{Geometry}
 use Rattle.tables.specs.laws.Device.{well-formed-apply-all, WellFormed}
 use Rattle.tables.specs.meaning.Device.{Store, applyAll, Device, blankZone, keepFirst, Cut, Loss}
 use native.Mathlib.Nat.{le-refl}
@@ -52,7 +53,6 @@ e3 = calls (writing 7 1 8) every noStop
 abbrev s3 : System vol
 s3 = next geo vol s2 e3
 
--- its state is handed on
 abbrev e4 : Event vol
 e4 = looks every
 
@@ -255,7 +255,7 @@ unfolding Cut WellFormed
 cut-to-durable x v h d y n = record { kept = v d y .durable; least = le-refl (v d y .durable); most = h d y; is = refl }
 
 -- the device is well formed whatever a call answers
-pub answer-well-formed : (r : Verdict) (xs : List Store) (new old : StateView) (stop : ℕ) (v : Device) → WellFormed v → WellFormed (storing r xs new old stop v .memory)
+answer-well-formed : (r : Verdict) (xs : List Store) (new old : StateView) (stop : ℕ) (v : Device) → WellFormed v → WellFormed (storing r xs new old stop v .memory)
 answer-well-formed (refuse n) xs new old stop v h = h
 answer-well-formed accept xs new old stop v h = go (ltb stop (length xs))
   where
@@ -263,8 +263,8 @@ answer-well-formed accept xs new old stop v h = go (ltb stop (length xs))
     go true = well-formed-apply-all (take stop xs) v h
     go false = well-formed-apply-all xs v h
 
-pub call-well-formed : (c : Call) (named : ℕ → Bool) (old : StateView) (stop : ℕ) (v : Device) → WellFormed v → WellFormed (vol .call c named old stop v .memory)
-call-well-formed c named old stop v h = let k = callOf geo lengths c named old v in answer-well-formed (firstRefusal (k .refusals)) (k .stores) (k .state) old stop v h
+pub call-well-formed : (g : Geometry) (t : TableLengths) (c : Call) (named : ℕ → Bool) (old : StateView) (stop : ℕ) (v : Device) → WellFormed v → WellFormed (onDevice g t .call c named old stop v .memory)
+call-well-formed g t c named old stop v h = let k = callOf g t c named old v in answer-well-formed (firstRefusal (k .refusals)) (k .stores) (k .state) old stop v h
 
 pub blank-well-formed : WellFormed blank
 unfolding WellFormed
@@ -272,9 +272,9 @@ blank-well-formed d y = le-refl 0
 
 well-formed-8 : WellFormed (s8 .memory)
 well-formed-8 =
-    call-well-formed (resets 0) every (s7 .state) 6 (s7 .memory) (call-well-formed (resets 1) every (s6 .state) noStop (s6 .memory)
-    (call-well-formed (writing 96 3 7) every (s5 .state) noStop (s5 .memory) (call-well-formed (writing 7 1 8) every (s2 .state) noStop (s2 .memory)
-    (call-well-formed flushes every (s1 .state) noStop (s1 .memory) (call-well-formed (writing 0 5 9) every (s0 .state) noStop (s0 .memory) (call-well-formed (formats 7) every formattedState noStop blank blank-well-formed))))))
+    call-well-formed geo lengths (resets 0) every (s7 .state) 6 (s7 .memory) (call-well-formed geo lengths (resets 1) every (s6 .state) noStop (s6 .memory)
+    (call-well-formed geo lengths (writing 96 3 7) every (s5 .state) noStop (s5 .memory) (call-well-formed geo lengths (writing 7 1 8) every (s2 .state) noStop (s2 .memory)
+    (call-well-formed geo lengths flushes every (s1 .state) noStop (s1 .memory) (call-well-formed geo lengths (writing 0 5 9) every (s0 .state) noStop (s0 .memory) (call-well-formed geo lengths (formats 7) every formattedState noStop blank blank-well-formed))))))
 
 lose-1 : (v : Device) → Loss 1 v (λ d y. pick (eqb d 1) blankZone (v d y))
 unfolding Loss

@@ -1,8 +1,8 @@
 -- Document 01's example, "on D 4, U 2, C 32, B 64, L 2": its geometry, what a format and a write of five sectors leave, and what a cut
 -- may keep of it. Cases.antt, AnswerCases.antt and ClaimExample.antt compute with it.
 use mathlib.Core.Bool.{Bool, true}
-use Prim.Native.Nat.{ℕ, _*_, min}
-use mathlib.Core.List.{List}
+use Prim.Native.Nat.{ℕ, _+_, _*_, min}
+use mathlib.Core.List.{List, [], _∷_}
 use lib.ListN.{length, getD, replicate}
 use lib.Dec.{eqb}
 use Rattle.tables.specs.meaning.Basics.{pick}
@@ -73,3 +73,15 @@ kept ks p v d y = pick (eqb y 3) (keepFirst (getD ks d 0) (v d y)) (pick (eqb y 
 -- n sectors s in zone z of drive d
 abbrev pub filled : ℕ → ℕ → ℕ → List ℕ → Device
 filled d z n s = putZone formatted d z (record { sectors = replicate n s; durable = n })
+
+-- after writes of so many sectors each, one behind the other from address a on, each of bytes that are its address
+abbrev pub writtenOn : List ℕ → ℕ → CallResult Device StateView → CallResult Device StateView
+writtenOn [] a r = r
+writtenOn (n ∷ ns) a r = writtenOn ns (a + n) (does (writeCall geo lengths every (r .state) a n (bytes n a)) (r .state) noStop (r .memory))
+
+-- the parity log of drive 3 after writes to zone 1, in its stripes 3 and 7: with ten sectors unused, and with nine
+abbrev pub tenUnused : CallResult Device StateView
+tenUnused = writtenOn (18 ∷ 1 ∷ 1 ∷ 1 ∷ 1 ∷ 1 ∷ 19 ∷ 1 ∷ 1 ∷ 1 ∷ []) 96 (does (formatCall geo lengths every 7) formattedState noStop blank)
+
+abbrev pub nineUnused : CallResult Device StateView
+nineUnused = writtenOn (18 ∷ 2 ∷ 1 ∷ 1 ∷ 1 ∷ 19 ∷ 1 ∷ 1 ∷ 1 ∷ 1 ∷ []) 96 (does (formatCall geo lengths every 7) formattedState noStop blank)

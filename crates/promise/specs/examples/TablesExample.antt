@@ -16,7 +16,7 @@ use Rattle.tables.specs.meaning.GeometryTest.{isValid}
 use Rattle.tables.specs.laws.GeometryTest.{valid-if-test}
 use Rattle.tables.specs.meaning.Drives.{findBelow, noDrive}
 use Rattle.tables.specs.laws.Drives.{find-below-is}
-use Rattle.tables.specs.meaning.Tables.{Tables, cell, deviceOf, pointersBad}
+use Rattle.tables.specs.meaning.Tables.{Tables, cell, deviceOf}
 use Rattle.tables.specs.laws.Made.{WellSized}
 use Rattle.tables.specs.laws.TablesFrame.{sized-lengths}
 use Rattle.tables.specs.laws.PointerOrder.{InOrder, order-passes, cut-to-durable, loss-none}

@@ -1,5 +1,5 @@
 -- The promise on the tables is not empty: a history on small tables (three drives, one zone of 18 sectors), computed on the lent bytes, with its duties
--- done, and what the promise says of it. A sector is written and flushed; a write at the wrong address is refused; a look is handed on; a peek; the zone is
+-- done, and what the promise says of it. A sector is written and flushed; a write at the wrong address is refused; a look; a peek; the zone is
 -- reset, and three sectors written and flushed; its reset is stopped; a cut leaves just what is durable; a look shows the zone empty; drive 2 is lost, its
 -- memory overwritten; a mount by the others finishes; a write, a read and a peek. (For every valid geometry: TablesExample.)
 use Rattle.promise.specs.meaning.Claim.{Volume, pointerHeld, allBut, mounts, flushes, resets, formats, ready, stopped, down, System, Event, calls, looks, reads, peeks, cuts, loses, next, NamesAll, Dutiful, Throughout, start}
@@ -80,7 +80,6 @@ e3 = calls (writing 3 1 8) every noStop
 abbrev s3 : System vol
 s3 = next small vol s2 e3
 
--- its state is handed on
 abbrev e4 : Event vol
 e4 = looks every
 

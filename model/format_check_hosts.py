@@ -122,3 +122,7 @@ def check_compact(page):
     volume.store("compact", ALL_DRIVES, 3)
     page.phrase("Now both shares of drive 3 are {}, and stay so if it is compacted again. The write at 4 is then {}.",
                 either(shares + volume.state.shares[3]), answer_word(volume.write(n, 1)))
+    volume = after_writes((0, 2), (V.Q, 20))
+    volume.store("compact", ALL_DRIVES, 3)
+    law = (V.C - 1 - 2 * V.L * (1 + V.U) - V.U) // 2
+    page.phrase("V: {}, as with zone 0 at 2 and zone 1 at 20, drive 3 compacted.", either(volume.state.shares[3] + (law,)))

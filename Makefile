@@ -7,7 +7,7 @@
 # from-c: all tests of the archive and of the tool:
 #   edge-test: the conformance vectors replayed, and bad input; then both once more with the C side's sanitizers
 #   tool-test: the tool used as a person would, with the exact words and exit codes; then once more with the sanitizers; then commands killed while they save.
-#   Before it stores read by the patterns of their calls, and commands without memory
+#   Before it stores read by the patterns of their calls, hosts that compact in time, and commands without memory
 #   explore-test: explore's counts, its histories that do not fit, its messages and its picture; a part of it once more with the sanitizers
 #   example: the program of docs/USING.md, built and run
 # kill-test: the last of these in full: kills before every change of a file, 400 at drawn moments, and full disks (part of no test)
@@ -51,7 +51,7 @@ BENCH_ISAL_C = c/bench_isal.c host/shelf.c host/call.c
 HOST_C = host/driver.c host/call_kinds.c host/drives.c host/saving.c host/redo.c host/lock.c host/drive_file.c host/mapped_sectors.c host/files.c host/folder.c host/assembling.c host/bounds.c host/journal.c host/cached_resets.c host/old_zones.c host/stores.c host/progress.c host/message.c host/shelf.c host/call.c
 EXPLORE_C = tool/explore/explore.c tool/explore/ending.c tool/explore/options.c tool/explore/oracle.c tool/explore/caches.c tool/explore/world.c tool/explore/story.c \
 	tool/explore/check.c tool/explore/engine.c tool/explore/report.c tool/explore/picture.c
-ZRV_C = tool/zrv.c tool/commands.c tool/pull.c tool/assemble.c tool/info.c tool/transfer.c tool/report.c tool/grouped.c tool/look_json.c tool/checklist.c tool/bad_log.c tool/left_out.c tool/tool.c tool/options.c tool/words.c tool/refusals.c $(EXPLORE_C) $(HOST_C)
+ZRV_C = tool/zrv.c tool/commands.c tool/pull.c tool/assemble.c tool/info.c tool/transfer.c tool/report.c tool/grouped.c tool/look_json.c tool/checklist.c tool/bad_log.c tool/left_out.c tool/holders.c tool/tool.c tool/options.c tool/words.c tool/refusals.c $(EXPLORE_C) $(HOST_C)
 ZRV_H = include/zrv.h $(wildcard host/*.h tool/*.h tool/explore/*.h)
 
 zrv: target/zrv
@@ -96,8 +96,15 @@ target/stores: $(STORES_C) $(ZRV_H)
 	@mkdir -p target
 	@$(COMPILE) $(SANITIZE) $(STORES_C) -o $@
 
-tool-test: target/zrv target/zrv_sanitized target/stop target/stores target/no_memory.so
+SHARES_C = tool/test/shares.c host/bounds.c host/journal.c host/shelf.c host/call.c host/message.c
+
+target/shares: $(SHARES_C) $(ZRV_H) $(LIBRARY)
+	@mkdir -p target
+	@$(COMPILE) $(SANITIZE) $(SHARES_C) $(LIBRARY) -o $@
+
+tool-test: target/zrv target/zrv_sanitized target/stop target/stores target/shares target/no_memory.so
 	@target/stores
+	@target/shares
 	@tool/test/memory target/zrv target/no_memory.so
 	@tool/test/tool target/zrv
 	@tool/test/tool target/zrv_sanitized

@@ -1,24 +1,26 @@
 /* Bad input through the C edge: every length one short and one long, every number at its bound and past it, a state with each of its bytes damaged, masks,
- * addresses, counts of stores, logs with each of their bytes damaged. Each call must answer the number that document 01's table gives, with the place of a bad
- * log, and keep every byte of every range where it refuses. Prints the count of cases; leaves with 1 at the first that is wrong and says which. */
+ * addresses, hosts and what they may hold, counts of stores, logs with each of their bytes damaged. Each call must answer the number that document 01's table
+ * gives, with the place of a bad log, and keep every byte of every range where it refuses. Prints the count of cases; leaves with 1 at the first that is wrong
+ * and says which. */
 #include <inttypes.h>
 #include <stdio.h>
 #include <stdlib.h>
 #include <string.h>
 
-#include "bytes.h"
 #include "fixture.h"
+#include "hosts.h"
 #include "plain_logs.h"
 
-static const enum call_kind every_kind[] = {CALL_FORMAT, CALL_LOOK, CALL_MOUNT, CALL_WRITE, CALL_FLUSH, CALL_RESET, CALL_READ, CALL_PEEK, CALL_REPORT};
+static const enum call_kind every_kind[] = {CALL_FORMAT, CALL_LOOK, CALL_MOUNT, CALL_WRITE, CALL_FLUSH, CALL_RESET, CALL_COMPACT, CALL_READ, CALL_PEEK, CALL_REPORT};
 enum { KINDS = sizeof every_kind / sizeof *every_kind };
 
 static unsigned long cases, refused;
 
 static void fail(const struct fixture *f, const char *class, const struct call *c, const char *what, uint64_t wanted, uint64_t got) {
     printf("bad_input: %s: %s: call %c: %s: wanted %" PRIu64 ", got %" PRIu64 "\n", f->name, class, c->kind, what, wanted, got);
-    printf("  geometry %u %u %u %u %u named %u address %" PRIu64 " run %u zone %u count %u lengths", c->geometry.drives, c->geometry.sector_bytes,
-           c->geometry.unit, c->geometry.zones, c->geometry.zone_sectors, c->named, c->address, c->run, c->zone, c->count);
+    printf("  geometry %u %u %u %u %u named %u host %u address %" PRIu64 " run %u zone %u drive %u count %u lengths", c->geometry.drives,
+           c->geometry.sector_bytes, c->geometry.unit, c->geometry.zones, c->geometry.zone_sectors, c->named, c->host, c->address, c->run, c->zone, c->drive,
+           c->count);
     for (int i = 0; i < RANGES; i++)
         printf(" %zu", c->range[i].length);
     for (size_t i = 0; i < f->memory_bytes; i++)
@@ -222,9 +224,33 @@ static void zones(struct fixture *f) {
     }
 }
 
+/* Numbers about those that there are `below`, and some far out. */
+enum { NUMBERS_ABOUT = 12 };
+static uint32_t number_about(uint32_t below, int i) {
+    const uint32_t number[NUMBERS_ABOUT] = {0, 1, below - 1, below, below + 1, ZRV_MOST_DRIVES, 255, 256, 1u << 16, 1u << 31, UINT32_MAX - 1, UINT32_MAX};
+    return number[i];
+}
+
+/* The host of a write; the drive of a compact, with every drive named and with one left out. */
+static void hosts_and_drives(struct fixture *f) {
+    uint32_t drives = f->geometry.drives, all = (1u << drives) - 1, lost = f->range[STATE].bytes[ZRV_STATE_LOST];
+    for (int i = 0; i < NUMBERS_ABOUT; i++) {
+        struct call call = usual_call(f, CALL_WRITE);
+        call.host = number_about(ZRV_HOSTS, i);
+        judge(f, "host", &call, call.host < ZRV_HOSTS ? ZRV_FINISHED : ZRV_ADDRESS);
+        for (uint32_t without = 0; without <= drives; without++) {
+            call = usual_call(f, CALL_COMPACT);
+            call.drive = number_about(drives, i);
+            call.named = all & ~(1u << without);
+            bool two_lost = without < drives && lost != ZRV_NO_DRIVE && without != lost, there = call.drive < drives && call.drive != without && call.drive != lost;
+            judge(f, "drive", &call, two_lost ? ZRV_TWO_LOST : there ? ZRV_FINISHED : ZRV_ADDRESS);
+        }
+    }
+}
+
 /* A count of 0 stops every storing call before its first store; all but mount are followed store by store. */
 static void counts(struct fixture *f) {
-    const enum call_kind stores[] = {CALL_FORMAT, CALL_MOUNT, CALL_WRITE, CALL_FLUSH, CALL_RESET};
+    const enum call_kind stores[] = {CALL_FORMAT, CALL_MOUNT, CALL_WRITE, CALL_FLUSH, CALL_RESET, CALL_COMPACT};
     for (size_t k = 0; k < sizeof stores / sizeof *stores; k++) {
         struct call call = usual_call(f, stores[k]);
         call.count = 0;
@@ -267,6 +293,63 @@ static void records(struct fixture *f) {
                 put32(record + ZRV_RECORD_POINTER, pointer[i / 5 % 7]);
                 judge(f, "zone's record", &call, ZRV_FINISHED);
             }
+}
+
+/* Each zone's owner, with each condition; past the last zone too. */
+static void owners(struct fixture *f) {
+    const uint8_t owner[] = {ZRV_NOBODY, ZRV_OWNER(0), ZRV_OWNER(1), ZRV_OWNER(2), 128, 255};
+    for (int k = 0; k < KINDS; k++)
+        for (uint32_t zone = 0; zone < ZRV_STATE_RECORDS; zone++)
+            for (uint32_t i = 0; i < 5 * sizeof owner; i++) {
+                struct call call = usual_call(f, every_kind[k]);
+                uint8_t *record = zone_record_to_change(f->range[STATE].bytes, zone);
+                record[ZRV_RECORD_OWNER] = owner[i % sizeof owner];
+                if (i >= sizeof owner && zone < f->geometry.zones)
+                    record[ZRV_RECORD_CONDITION] = (uint8_t)(i / sizeof owner - 1);
+                judge(f, "zone's owner", &call, ZRV_FINISHED);
+            }
+}
+
+/* What is left of each share of each drive, past the last drive too, about what a write takes of it. */
+static void shares(struct fixture *f) {
+    const uint32_t left[] = {0, 1, 2, 3, 4, 5, 11, 12, 13, 1u << 16, 1u << 31, UINT32_MAX};
+    for (int k = 0; k < KINDS; k++)
+        for (uint32_t share = 0; share < ZRV_MOST_DRIVES * ZRV_HOSTS; share++)
+            for (uint32_t i = 0; i < 2 * sizeof left / sizeof *left; i++) {
+                struct call call = usual_call(f, every_kind[k]);
+                call.host = i % 2;
+                put_share(f->range[STATE].bytes, share / ZRV_HOSTS, share % ZRV_HOSTS, left[i / 2]);
+                judge(f, "share", &call, ZRV_FINISHED);
+            }
+}
+
+/* Zones from the first on that the state has open, so many of each host and of nobody. */
+static void open_zones(struct fixture *f, const uint32_t number[ZRV_HOSTS + 1]) {
+    uint32_t zone = 0;
+    for (uint32_t owner = 0; owner <= ZRV_HOSTS; owner++)
+        for (uint32_t i = 0; i < number[owner]; i++, zone++) {
+            uint8_t *record = zone_record_to_change(f->range[STATE].bytes, zone);
+            record[ZRV_RECORD_CONDITION] = ZRV_OPEN;
+            record[ZRV_RECORD_OWNER] = (uint8_t)owner;
+            put32(record + ZRV_RECORD_POINTER, 1);
+        }
+}
+
+/* A write to the last zone, which is empty, by each host, with every number of open zones: of one sector, and of the whole zone. */
+static void limits(struct fixture *f) {
+    uint32_t last = f->geometry.zones - 1, whole = (uint32_t)zone_addresses(f->geometry);
+    for (uint32_t i = 0; i < 4 * 16 * 16 * 16; i++) {
+        const uint32_t number[ZRV_HOSTS + 1] = {i / 4 % 16, i / 64 % 16, i / 1024};
+        if (number[0] + number[1] + number[2] > last)
+            continue;
+        struct call call = usual_call(f, CALL_WRITE);
+        call.host = i % 2;
+        call.address = zone_start(f->geometry, last);
+        call.run = i / 2 % 2 == 0 ? 1 : whole;
+        call.range[BUFFER] = buffer_of(f, call.run);
+        open_zones(f, number);
+        judge(f, "open zones", &call, ZRV_FINISHED);
+    }
 }
 
 static const enum call_kind walking[] = {CALL_LOOK, CALL_MOUNT}; /* the calls that a bad log refuses */
@@ -353,14 +436,20 @@ int main(void) {
         addresses(&f);
         wrapping_runs(&f);
         zones(&f);
+        hosts_and_drives(&f);
         counts(&f);
         states(&f);
         records(&f);
+        owners(&f);
+        shares(&f);
         log_bytes(&f);
         bad_pairs(&f);
         rows_past_the_end(&f);
         free_fixture(&f);
     }
+    struct fixture sixteen = new_fixture(SIXTEEN_ZONES);
+    limits(&sixteen);
+    free_fixture(&sixteen);
     printf("bad_input: %lu cases as document 01 says, %lu of them refused with nothing changed\n", cases, refused);
     return 0;
 }

@@ -1,6 +1,7 @@
 /* The archive's speed as a share of plain C's and of memcpy's, for units of 1, 4 and 16 sectors on 4 and 8 drives, measured in one run by turns on the same
- * work, medians of repeated passes, in processor time; how a write's time grows with what zone and logs hold, and what it costs to empty a log; and a look's
- * and a mount's time per written sector as ratios to the smallest volume's. What is timed beside plain C is held against its result byte by byte. */
+ * work, medians of repeated passes, in processor time, of writes by a host that compacts a drive when it is told 14 too; how a write's time grows with what zone
+ * and logs hold, and what it costs to empty a log; and a look's and a mount's time per written sector as ratios to the smallest volume's. What is timed beside
+ * plain C is held against its result byte by byte. */
 #define _POSIX_C_SOURCE 199309L /* clock_gettime */
 
 #include <stdio.h>
@@ -9,7 +10,7 @@
 #include <time.h>
 
 #include "bench_grouped.h"
-#include "bytes.h"
+#include "hosts.h"
 #include "needed.h"
 #include "plain_logs.h"
 #include "shelf.h"
@@ -29,7 +30,9 @@ struct bench {
     struct volume plain;
     uint32_t all, named; /* every drive; those that reads name */
     uint32_t run;        /* sectors of one call */
-    uint64_t end;        /* of the addresses that writes go up to */
+    uint32_t host;       /* of single writes */
+    uint64_t turn, end;  /* the address from which on host 1 writes in place of host 0; that up to which writes go */
+    uint32_t compacts;   /* that a host was told to make */
     uint8_t *data, *answer, *plain_answer;
     uint8_t *other; /* more memory than the processor caches, or none */
 };
@@ -83,7 +86,8 @@ static void format_both(struct bench *b) {
 
 static struct bench new_bench(struct geometry g) {
     size_t cells = shelf_cells(g), zone = zone_addresses(g) * g.sector_bytes;
-    struct bench b = {.shelf = needed_shelf(g), .all = (1u << g.drives) - 1, .named = (1u << g.drives) - 1, .run = stripe_sectors(g), .end = zone_addresses(g)};
+    struct bench b = {.shelf = needed_shelf(g), .all = (1u << g.drives) - 1, .named = (1u << g.drives) - 1, .run = stripe_sectors(g)};
+    b.turn = b.end = zone_addresses(g);
     b.data = memory(zone);
     b.answer = memory(zone);
     b.plain_answer = memory(zone);
@@ -104,37 +108,94 @@ static void free_bench(struct bench *b) {
     free(b->plain.durable);
 }
 
-/* Zone 0 written from its start in runs, up to the end that is set; the sectors written. */
-static uint64_t write_archive(struct bench *b) {
+static uint32_t write_one(struct bench *b, uint32_t host, uint64_t address) {
     struct call call = bench_call(b, CALL_WRITE);
     uint64_t bytes = b->shelf.geometry.sector_bytes;
-    for (call.run = b->run; call.address + b->run <= b->end; call.address += b->run) {
-        call.range[BUFFER] = (struct range){b->data + call.address * bytes, b->run * bytes};
-        must_be(make_call(&call), ZRV_FINISHED, "write");
-    }
-    return call.address;
+    call.host = host;
+    call.address = address;
+    call.run = b->run;
+    call.range[BUFFER] = (struct range){b->data + address * bytes, b->run * bytes};
+    return make_call(&call);
 }
 
-static uint64_t write_plain(struct bench *b) {
-    uint64_t bytes = b->shelf.geometry.sector_bytes, address = 0;
+static uint32_t write_one_plain(struct bench *b, uint32_t host, uint64_t address) {
+    uint64_t bytes = b->shelf.geometry.sector_bytes;
+    return plain_write(&b->plain, b->all, &(struct asked){host, address, b->run, b->data + address * bytes, b->run * bytes}, ZRV_ALL_STORES);
+}
+
+/* Zone 0 written from its start in runs, up to the end that is set; the sectors written. */
+static uint64_t write_archive(struct bench *b) {
+    uint64_t address = 0;
     for (; address + b->run <= b->end; address += b->run)
-        must_be(plain_write(&b->plain, b->all, address, b->run, ZRV_ALL_STORES, b->data + address * bytes, b->run * bytes), ZRV_FINISHED, "plain write");
+        must_be(write_one(b, address >= b->turn, address), ZRV_FINISHED, "write");
     return address;
 }
 
-/* Whether a write in zone 0 that ends there would empty a log. */
-static bool would_empty(const struct volume *v, uint32_t end) {
-    uint32_t stripe = stripe_sectors(v->geometry), drive = parity_drive(v->geometry, 0, end / stripe);
-    return end % stripe != 0 && unused(v, drive, log_zone(v, drive, PARITY_LOG)) < entry_reserve(v->geometry, end);
+static uint64_t write_plain(struct bench *b) {
+    uint64_t address = 0;
+    for (; address + b->run <= b->end; address += b->run)
+        must_be(write_one_plain(b, address >= b->turn, address), ZRV_FINISHED, "plain write");
+    return address;
 }
 
-/* From here on single sectors are written, up to the first write that would empty a log. */
+/* Single sectors by one host, from an address up to the first write past its share. */
+static uint64_t write_share(struct bench *b, uint32_t host, uint64_t address) {
+    for (; address < zone_addresses(b->shelf.geometry); address++) {
+        uint32_t answer = write_one_plain(b, host, address);
+        if (answer == ZRV_FINISHED)
+            continue;
+        must_be(answer, ZRV_LOG_FULL, "plain write");
+        break;
+    }
+    return address;
+}
+
+/* From here on single sectors are written, as far as they go without a compact: by host 0 while it has share enough, then by host 1. */
 static void write_single_sectors(struct bench *b) {
     format_both(b);
     b->run = 1;
-    uint64_t whole = b->end;
-    for (b->end = 0; b->end < whole && !would_empty(&b->plain, (uint32_t)b->end + 1); b->end++)
-        must_be(plain_write(&b->plain, b->all, b->end, 1, ZRV_ALL_STORES, b->data, b->shelf.geometry.sector_bytes), ZRV_FINISHED, "plain write");
+    b->turn = write_share(b, 0, 0);
+    b->end = write_share(b, 1, b->turn);
+}
+
+/* The drive of the entry for which a write of zone 0 is refused. */
+static uint32_t drive_told(const struct bench *b, uint64_t address) { return entry_drive(b->shelf.geometry, 0, (uint32_t)(address + b->run)); }
+
+static uint32_t compact(struct bench *b, uint32_t drive) {
+    struct call call = bench_call(b, CALL_COMPACT);
+    call.drive = drive;
+    return make_call(&call);
+}
+
+/* All of zone 0 in runs, by a host that compacts a drive when its write is refused with 14, and writes again. */
+static uint64_t write_compacting(struct bench *b) {
+    uint64_t address = 0;
+    b->compacts = 0;
+    while (address < zone_addresses(b->shelf.geometry)) {
+        uint32_t answer = write_one(b, 0, address);
+        if (answer == ZRV_FINISHED) {
+            address += b->run;
+            continue;
+        }
+        must_be(answer, ZRV_LOG_FULL, "write");
+        must_be(compact(b, drive_told(b, address)), ZRV_FINISHED, "compact");
+        b->compacts++;
+    }
+    return address;
+}
+
+static uint64_t write_compacting_plain(struct bench *b) {
+    uint64_t address = 0;
+    while (address < zone_addresses(b->shelf.geometry)) {
+        uint32_t answer = write_one_plain(b, 0, address);
+        if (answer == ZRV_FINISHED) {
+            address += b->run;
+            continue;
+        }
+        must_be(answer, ZRV_LOG_FULL, "plain write");
+        must_be(plain_compact(&b->plain, b->all, drive_told(b, address), ZRV_ALL_STORES), ZRV_FINISHED, "plain compact");
+    }
+    return address;
 }
 
 static uint64_t read_archive(struct bench *b) {
@@ -200,29 +261,27 @@ static void speeds_of(uint32_t drives, uint32_t unit) {
     write_single_sectors(&b);
     double single = speed(&b, write_archive, write_plain, true);
     must_agree(&b, "single-sector writes");
-    printf("%6u %5u %15.2f %15.2f %15.2f %15.2f %15.2f\n", drives, unit, stripes, reads, missing, single, copies);
+    double compacting = speed(&b, write_compacting, write_compacting_plain, true);
+    must_agree(&b, "single-sector writes with compacts");
+    printf("%6u %5u %15.2f %15.2f %15.2f %15.2f %15.2f %15.2f\n", drives, unit, stripes, reads, missing, single, compacting, copies);
     free_bench(&b);
 }
 
 static void speeds(void) {
     printf("speed as a share of plain C's, the last of memcpy's (4,096-byte sectors, C 128)\n");
-    printf("%6s %5s %15s %15s %15s %15s %15s\n", "drives", "unit", "stripe writes", "reads", "drive missing", "1-sector writes", "stripes/memcpy");
+    printf("%6s %5s %15s %15s %15s %15s %15s %15s\n", "drives", "unit", "stripe writes", "reads", "drive missing", "1-sector writes", "and compacting",
+           "stripes/memcpy");
     for (size_t d = 0; d < sizeof speeds_drives / sizeof *speeds_drives; d++)
         for (size_t u = 0; u < sizeof speeds_units / sizeof *speeds_units; u++)
             speeds_of(speeds_drives[d], speeds_units[u]);
-    printf("%12s %15s %15s %15s %15s %15s\n", "wanted", "0.95", "0.95", "0.95", "0.90", "(U 4) 0.60 0.65");
+    printf("%12s %15s %15s %15s %15s %15s %15s\n", "wanted", "0.95", "0.95", "0.95", "0.90", "", "(U 4) 0.60 0.65");
 }
 
 /* The archive's time for `calls` writes in a row from an address on. */
 static double time_writes(struct bench *b, uint64_t address, uint32_t calls) {
-    struct call call = bench_call(b, CALL_WRITE);
-    uint64_t bytes = b->shelf.geometry.sector_bytes;
     double start = seconds();
-    call.run = b->run;
-    for (call.address = address; calls > 0; calls--, call.address += b->run) {
-        call.range[BUFFER] = (struct range){b->data + call.address * bytes, b->run * bytes};
-        must_be(make_call(&call), ZRV_FINISHED, "write");
-    }
+    for (; calls > 0; calls--, address += b->run)
+        must_be(write_one(b, b->host, address), ZRV_FINISHED, "write");
     return seconds() - start;
 }
 
@@ -231,8 +290,9 @@ static void reset_zone_0(struct bench *b) {
     must_be(make_call(&call), ZRV_FINISHED, "reset");
 }
 
-/* Stripes that are timed, those written before the last of them, and those whose single-sector writes all but fill the parity logs. */
-enum { TIMED_STRIPES = 4, FAR_STRIPES = 36, FILLING_STRIPES = 36 };
+/* Stripes that are timed, those written before the last of them, those whose single-sector writes all but fill the parity logs, and how many of these host 0
+ * writes: its share has no room for more, and what is left of host 1's is enough for the timed ones. */
+enum { TIMED_STRIPES = 4, FAR_STRIPES = 36, FILLING_STRIPES = 36, STRIPES_OF_HOST_0 = 20 };
 
 /* Resets of zone 0 until the next one would empty a general log: that of drive 0, which gets two entries of each. */
 static void fill_general_logs(struct bench *b) {
@@ -240,9 +300,18 @@ static void fill_general_logs(struct bench *b) {
         reset_zone_0(b);
 }
 
+/* Stripes from one on up to another, in runs, by host 0 and then by host 1. */
+static void write_between(struct bench *b, uint32_t from, uint32_t to) {
+    uint32_t stripe = stripe_sectors(b->shelf.geometry);
+    for (; from < to; from++) {
+        b->host = from >= STRIPES_OF_HOST_0;
+        time_writes(b, (uint64_t)from * stripe, stripe / b->run);
+    }
+}
+
 static void fill_parity_logs(struct bench *b) {
     b->run = 1;
-    time_writes(b, 0, FILLING_STRIPES * stripe_sectors(b->shelf.geometry));
+    write_between(b, 0, FILLING_STRIPES);
     reset_zone_0(b);
 }
 
@@ -259,11 +328,10 @@ static uint32_t logs_moved(const struct bench *b, uint32_t log) {
     return count;
 }
 
-/* Writes of single sectors until every parity log was emptied, then resets until every general log was. */
+/* Compacts of every drive, then resets until every general log was emptied. */
 static void move_logs(struct bench *b) {
-    b->run = 1;
-    for (uint64_t address = 0; logs_moved(b, PARITY_LOG) < b->shelf.geometry.drives; address++)
-        time_writes(b, address, 1);
+    for (uint32_t d = 0; d < b->shelf.geometry.drives; d++)
+        must_be(compact(b, d), ZRV_FINISHED, "compact");
     while (logs_moved(b, GENERAL_LOG) < b->shelf.geometry.drives)
         reset_zone_0(b);
 }
@@ -291,11 +359,13 @@ static void growth_of(struct bench *b, const char *what, uint32_t run) {
     for (int i = 0; i < PASSES; i++) {
         format_both(b);
         b->run = run;
+        b->host = 0;
         first[i] = time_from_memory(b, 0, calls);
-        time_writes(b, TIMED_STRIPES * stripe, (FAR_STRIPES - TIMED_STRIPES) * stripe / run);
+        write_between(b, TIMED_STRIPES, FAR_STRIPES);
         last[i] = time_from_memory(b, FAR_STRIPES * stripe, calls);
         for (int h = 0; h < HISTORIES; h++) {
             format_both(b);
+            b->host = 0;
             histories[h].bring(b);
             b->run = run;
             after[h][i] = time_from_memory(b, 0, calls);
@@ -314,25 +384,54 @@ static double time_reset(struct bench *b) {
     return seconds() - start;
 }
 
-/* Single-sector writes or resets from a fresh volume on: the time of the first that empties logs of a kind, and of the call before it. */
-static void time_emptying(struct bench *b, uint32_t log, double *usual, double *emptying) {
+/* Resets from a fresh volume on: the time of the first that empties general logs, and of the one before it. */
+static void time_resets(struct bench *b, double *usual, double *emptying) {
     format_both(b);
-    b->run = 1;
     *emptying = 0;
-    for (uint64_t address = 0; logs_moved(b, log) == 0; address++) {
+    while (logs_moved(b, GENERAL_LOG) == 0) {
         *usual = *emptying;
-        *emptying = log == PARITY_LOG ? time_writes(b, address, 1) : time_reset(b);
+        *emptying = time_reset(b);
     }
 }
 
+/* The time of a compact of a drive whose parity log is all but full: one of its entries is still needed. */
+static double time_compact(struct bench *b) {
+    uint64_t last = 2 * STRIPES_OF_HOST_0 * stripe_sectors(b->shelf.geometry);
+    format_both(b);
+    b->run = 1;
+    write_between(b, 0, 2 * STRIPES_OF_HOST_0);
+    time_writes(b, last, 1);
+    double start = seconds();
+    must_be(compact(b, drive_told(b, last)), ZRV_FINISHED, "compact");
+    return seconds() - start;
+}
+
+/* The time of a single-sector write of a whole zone by a host that compacts when it is told to, its compacts counted in. */
+static double time_compacting(struct bench *b) {
+    format_both(b);
+    b->run = 1;
+    double start = seconds();
+    uint64_t writes = write_compacting(b);
+    return (seconds() - start) / (double)writes;
+}
+
 static void emptyings(struct bench *b) {
-    double usual[2][PASSES], emptying[2][PASSES];
-    for (int i = 0; i < PASSES; i++)
-        for (uint32_t log = GENERAL_LOG; log <= PARITY_LOG; log++)
-            time_emptying(b, log, &usual[log][i], &emptying[log][i]);
-    printf("\na call that empties logs, and the same that empties none, in microseconds (the same volume)\n%16s %18s %18s\n", "", "emptying", "usual");
-    printf("%16s %18.2f %18.2f\n", "1-sector write", 1e6 * median(emptying[PARITY_LOG], PASSES), 1e6 * median(usual[PARITY_LOG], PASSES));
-    printf("%16s %18.2f %18.2f\n", "reset, two logs", 1e6 * median(emptying[GENERAL_LOG], PASSES), 1e6 * median(usual[GENERAL_LOG], PASSES));
+    double usual[PASSES], emptying[PASSES], compacts[PASSES], single[PASSES], compacting[PASSES];
+    uint32_t stripe = stripe_sectors(b->shelf.geometry), calls = TIMED_STRIPES * stripe;
+    for (int i = 0; i < PASSES; i++) {
+        time_resets(b, &usual[i], &emptying[i]);
+        compacts[i] = time_compact(b);
+        compacting[i] = time_compacting(b);
+        format_both(b);
+        b->host = 0;
+        single[i] = time_writes(b, 0, calls) / calls;
+    }
+    printf("\ncalls that empty logs, in microseconds (the same volume, with what is left in the caches)\n");
+    printf("%50s %8.2f\n", "compact of a drive whose parity log is full", 1e6 * median(compacts, PASSES));
+    printf("%50s %8.2f\n%50s %8.2f\n", "reset", 1e6 * median(usual, PASSES), "reset that empties two general logs", 1e6 * median(emptying, PASSES));
+    printf("%50s %8.2f\n", "1-sector write", 1e6 * median(single, PASSES));
+    printf("%50s %8.2f  (%u writes, %u compacts)\n", "1-sector write of a host that compacts when told", 1e6 * median(compacting, PASSES),
+           (unsigned)zone_addresses(b->shelf.geometry), b->compacts);
 }
 
 static void growth(void) {

@@ -4,7 +4,7 @@
 #include <stdlib.h>
 #include <string.h>
 
-#include "bytes.h"
+#include "hosts.h"
 #include "journal.h"
 #include "needed.h"
 
@@ -33,8 +33,18 @@ static void put_record(struct host *host, const uint64_t *number) {
         return;
     uint8_t *record = zone_record_to_change(host->state, (uint32_t)number[0]);
     put64(record + ZRV_RECORD_GENERATION, number[1]);
-    put32(record + ZRV_RECORD_CONDITION, (uint32_t)number[2]);
+    record[ZRV_RECORD_CONDITION] = (uint8_t)number[2];
     put32(record + ZRV_RECORD_POINTER, number[2] == ZRV_EMPTY ? 0 : narrowed(number[3]));
+}
+
+static void put_owner(struct host *host, const uint64_t *number) {
+    if (host->has_state && number[0] < ZRV_STATE_RECORDS)
+        zone_record_to_change(host->state, (uint32_t)number[0])[ZRV_RECORD_OWNER] = (uint8_t)number[1];
+}
+
+static void put_shares(struct host *host, const uint64_t *number) {
+    for (uint32_t h = 0; host->has_state && number[0] < ZRV_MOST_DRIVES && h < ZRV_HOSTS; h++)
+        put_share(host->state, (uint32_t)number[0], h, narrowed(number[1 + h]));
 }
 
 /* A sector at a zone's write pointer, which rises by 1; nothing where the zone is full. */
@@ -103,6 +113,12 @@ void change_host(struct host *host, const struct command *command) {
     case 'x':
         if (host->has_state)
             host->state[ZRV_STATE_LOST] = (uint8_t)number[0];
+        break;
+    case 'i':
+        put_owner(host, number);
+        break;
+    case 'h':
+        put_shares(host, number);
         break;
     case 'e':
     case 'q':

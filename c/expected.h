@@ -22,6 +22,6 @@ void expect(struct expected *expected, const struct call *call);
 /* Whether the byte ranges hold what is expected. */
 bool bytes_as_expected(const struct expected *expected, const struct call *call);
 
-void state_to_bytes(const struct volume_state *state, uint32_t zones, uint8_t *bytes);
+void state_to_bytes(const struct volume_state *state, struct geometry geometry, uint8_t *bytes);
 
 #endif

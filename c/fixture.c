@@ -1,5 +1,5 @@
-/* Fixtures, made through the C edge: format, perhaps resets until logs are emptied, writes that end inside a stripe and at a stripe's end, a flush; then a
- * loss or a power cut, and a mount. */
+/* Fixtures, made through the C edge: format, perhaps resets until logs are emptied, writes that end inside a stripe and at a stripe's end, perhaps a compact of
+ * each drive, a flush; then a loss or a power cut, and a mount. */
 #include "fixture.h"
 
 #include <stdio.h>
@@ -15,11 +15,13 @@ static const struct {
     uint32_t resets; /* of zone 0, before the writes */
     uint32_t lost;   /* lost after the writes */
     bool cut;        /* power is cut after the writes */
-} plan[FIXTURES] = {
-    {"healthy", {4, 64, 2, 2, 32}, 0, ZRV_NO_DRIVE, false},
-    {"a drive lost", {5, 64, 3, 3, 48}, 0, 1, false},
-    {"a zone sealed", {3, 128, 1, 4, 24}, 0, ZRV_NO_DRIVE, true},
-    {"logs emptied", {4, 64, 2, 2, 32}, 14, ZRV_NO_DRIVE, false}, /* the general logs of drives 0 and 3 */
+    bool compacted;  /* every parity log is emptied after the writes */
+} plan[] = {
+    {"healthy", {4, 64, 2, 2, 32}, .lost = ZRV_NO_DRIVE},
+    {"a drive lost", {5, 64, 3, 3, 48}, .lost = 1},
+    {"a zone sealed", {3, 128, 1, 4, 24}, .lost = ZRV_NO_DRIVE, .cut = true},
+    {"logs emptied", {4, 64, 2, 2, 32}, 14, .lost = ZRV_NO_DRIVE, .compacted = true}, /* the resets empty the general logs of drives 0 and 3 */
+    [SIXTEEN_ZONES] = {"sixteen zones", {3, 256, 1, 16, 48}, .lost = ZRV_NO_DRIVE},
 };
 
 static uint8_t *new_memory(size_t length) {
@@ -61,22 +63,31 @@ static void must_finish(const struct call *call) {
     }
 }
 
-static void write_at_pointer(struct fixture *f, uint32_t zone, uint32_t run) {
+static void write_at_pointer(struct fixture *f, uint32_t host, uint32_t zone, uint32_t run) {
     struct call call = usual_call(f, CALL_WRITE);
+    call.host = host;
     call.address = zone * zone_addresses(f->geometry) + zone_pointer(f, zone);
     call.run = run;
     call.range[BUFFER] = buffer_of(f, run);
     must_finish(&call);
 }
 
-/* Zone 0 ends inside a stripe after a complete one, zone 1 inside its first, by two writes. */
+/* Zone 0, of host 0, ends inside a stripe after a complete one, zone 1 inside its first, by a write of each host. */
 static void write_zones(struct fixture *f) {
     struct geometry g = f->geometry;
     uint32_t stripe = (g.drives - 1) * g.unit;
-    write_at_pointer(f, 0, stripe + 1);
-    write_at_pointer(f, 1, 1);
+    write_at_pointer(f, 0, 0, stripe + 1);
+    write_at_pointer(f, 0, 1, 1);
     if (stripe > 2)
-        write_at_pointer(f, 1, stripe - 2);
+        write_at_pointer(f, 1, 1, stripe - 2);
+}
+
+static void compact_all(struct fixture *f) {
+    for (uint32_t d = 0; d < f->geometry.drives; d++) {
+        struct call call = usual_call(f, CALL_COMPACT);
+        call.drive = d;
+        must_finish(&call);
+    }
 }
 
 /* A cut that keeps of zone 0 its first sector, while its partial parity entry of a later end stays: the mount must seal the zone. */
@@ -103,6 +114,8 @@ struct fixture new_fixture(int which) {
     for (uint32_t i = 0; i < plan[which].resets; i++)
         must_finish(&call);
     write_zones(&f);
+    if (plan[which].compacted)
+        compact_all(&f);
     call = usual_call(&f, CALL_FLUSH);
     must_finish(&call);
     if (plan[which].lost != ZRV_NO_DRIVE) {

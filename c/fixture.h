@@ -18,8 +18,9 @@ struct fixture {
     struct expected expected;
 };
 
-/* Volumes: healthy; with a drive lost for good; with a zone that a mount sealed. */
-enum { FIXTURES = 4 };
+/* Volumes: healthy; with a drive lost for good; with a zone that a mount sealed; with logs that were emptied. And one of sixteen zones, for the limits of open
+ * ones. */
+enum { FIXTURES = 4, SIXTEEN_ZONES = FIXTURES };
 struct fixture new_fixture(int which);
 void free_fixture(struct fixture *fixture);
 

@@ -1,11 +1,10 @@
-/* Format, write, reset, read, flush and report in plain C. A write appends its data sectors by address, then the stripe's parity where the stripe is
- * complete, or a partial parity entry in the log where the write ends inside one. Before these stores a write or a reset empties the logs that lack room for
- * it. */
+/* Format, write, reset, compact, read, flush and report in plain C. A write appends its data sectors by address, then the stripe's parity where the stripe is
+ * complete, or a partial parity entry in the log where the write ends inside one. Before its stores a reset empties the logs that lack room for it. */
 #include "plain.h"
 
 #include <string.h>
 
-#include "bytes.h"
+#include "hosts.h"
 #include "plain_emptying.h"
 #include "plain_logs.h"
 #include "plain_rows.h"
@@ -59,19 +58,25 @@ static bool earlier_known(const struct storing *storing, const struct run *run) 
     return parity == storing->absent || run_known(storing->v, storing->absent, run->zone, run->offset - inside, inside);
 }
 
-/* Finds the log of a write's entry; gives the drive whose parity log has to be emptied for it, or ZRV_NO_DRIVE. */
-static uint32_t find_entry_log(const struct storing *storing, struct run *run) {
-    const struct volume *v = storing->v;
-    uint32_t stripe = stripe_sectors(v->geometry), drive = parity_drive(v->geometry, run->zone, run->end / stripe);
-    if (run->end % stripe == 0 || drive == storing->absent)
-        return ZRV_NO_DRIVE;
+/* What a write's entry takes, and of what: nothing where it ends at a stripe's end, or the drive that would get the entry is absent. */
+struct entry {
+    uint32_t sectors, *share; /* of its host, of the drive that gets it */
+};
+
+/* Finds the log of a write's entry and what the entry takes; false where there is too little room or share for it (refusal 14). */
+static bool find_entry_log(const struct storing *storing, uint32_t host, struct run *run, struct entry *entry) {
+    struct volume *v = storing->v;
+    uint32_t drive = entry_drive(v->geometry, run->zone, run->end);
+    *entry = (struct entry){drive == storing->absent ? 0 : entry_sectors(v->geometry, run->end), &v->state.share[drive][host]};
+    if (entry->sectors == 0)
+        return true;
     run->log = log_zone(v, drive, PARITY_LOG);
-    return unused(v, drive, run->log) < entry_reserve(v->geometry, run->end) ? drive : ZRV_NO_DRIVE;
+    return *entry->share >= entry->sectors && unused(v, drive, run->log) >= entry->sectors + parity_reserve(v->geometry);
 }
 
-/* A write's stores. An absent drive's sectors before the run are rebuilt from what lay below the write pointers at the call's start: the reset of an emptied
- * log and stores into what was empty leave it as it was. */
-static bool store_run(struct storing *storing, struct run run, uint32_t lacking) {
+/* A write's stores. An absent drive's sectors before the run are rebuilt from what lay below the write pointers at the call's start: stores into what was
+ * empty leave it as it was. */
+static bool store_run(struct storing *storing, struct run run) {
     uint32_t written[MOST_CELLS];
     struct volume before;
     if (storing->absent != ZRV_NO_DRIVE) {
@@ -79,31 +84,28 @@ static bool store_run(struct storing *storing, struct run run, uint32_t lacking)
         before.written = memcpy(written, before.written, before.written_cells * sizeof *written);
         run.before = &before;
     }
-    if (lacking != ZRV_NO_DRIVE) {
-        if (!empty_log(storing, lacking, PARITY_LOG))
-            return false;
-        run.log = log_zone(storing->v, lacking, PARITY_LOG);
-    }
     return write_stripes(storing, &run);
 }
 
-uint32_t plain_write(struct volume *v, uint32_t named, uint64_t address, uint32_t run_sectors, uint32_t count, const uint8_t *data, size_t data_bytes) {
-    uint32_t refusal = write_refusal(v, named, address, run_sectors, data_bytes);
+uint32_t plain_write(struct volume *v, uint32_t named, const struct asked *asked, uint32_t count) {
+    uint32_t refusal = write_refusal(v, named, asked);
     if (refusal != ZRV_FINISHED)
         return refusal;
-    uint32_t whole = (uint32_t)zone_addresses(v->geometry), offset = (uint32_t)(address % whole);
-    struct run run = {v, (uint32_t)(address / whole), offset, offset + run_sectors, NO_ZONE, data};
+    uint32_t whole = (uint32_t)zone_addresses(v->geometry), offset = (uint32_t)(asked->address % whole);
+    struct run run = {v, (uint32_t)(asked->address / whole), offset, offset + asked->run, NO_ZONE, asked->data};
     struct storing storing = {v, absent_drive(v->geometry, named, v->state.lost), count};
-    uint32_t lacking = find_entry_log(&storing, &run);
-    if (lacking != ZRV_NO_DRIVE && log_stays_full(v, lacking, PARITY_LOG, entry_reserve(v->geometry, run.end)))
+    struct entry entry;
+    if (!find_entry_log(&storing, asked->host, &run, &entry))
         return ZRV_LOG_FULL;
-    if (!earlier_known(&storing, &run) || (lacking != ZRV_NO_DRIVE && !kept_entries_known(v, storing.absent, lacking)))
+    if (!earlier_known(&storing, &run))
         return ZRV_GONE;
-    if (!store_run(&storing, run, lacking))
+    if (!store_run(&storing, run))
         return ZRV_UNFINISHED;
     v->state.lost = storing.absent;
     v->state.zone[run.zone].condition = ZRV_OPEN;
     v->state.zone[run.zone].pointer = run.end;
+    v->state.zone[run.zone].owner = ZRV_OWNER(asked->host);
+    *entry.share -= entry.sectors;
     return ZRV_FINISHED;
 }
 
@@ -164,10 +166,28 @@ uint32_t plain_reset(struct volume *v, uint32_t named, uint32_t zone, uint32_t c
     struct volume_state after = v->state;
     uint64_t raised = after.zone[zone].generation + 1;
     after.lost = storing.absent;
-    after.zone[zone] = (struct zone_state){raised, raised == UINT64_MAX ? ZRV_WORN : ZRV_EMPTY, 0};
+    after.zone[zone] = (struct zone_state){raised, raised == UINT64_MAX ? ZRV_WORN : ZRV_EMPTY, 0, ZRV_NOBODY};
     if (!empty_general_logs(&storing) || !reset_everywhere(&storing, zone, &after))
         return ZRV_UNFINISHED;
     v->state = after;
+    return ZRV_FINISHED;
+}
+
+/* Both hosts' shares of a drive's parity log begin anew, by the room that it has. */
+static void share_log(struct volume_state *state, struct geometry g, uint32_t drive, uint32_t room) {
+    for (uint32_t host = 0; host < ZRV_HOSTS; host++)
+        state->share[drive][host] = share_of_room(g, room);
+}
+
+uint32_t plain_compact(struct volume *v, uint32_t named, uint32_t drive, uint32_t count) {
+    uint32_t refusal = compact_refusal(v, named, drive);
+    if (refusal != ZRV_FINISHED)
+        return refusal;
+    struct storing storing = {v, absent_drive(v->geometry, named, v->state.lost), count};
+    if (!empty_log(&storing, drive, PARITY_LOG))
+        return ZRV_UNFINISHED;
+    v->state.lost = storing.absent;
+    share_log(&v->state, v->geometry, drive, unused(v, drive, log_zone(v, drive, PARITY_LOG)));
     return ZRV_FINISHED;
 }
 
@@ -199,6 +219,8 @@ uint32_t plain_format(struct volume *v, uint32_t named, uint64_t array, uint32_t
     struct volume_state fresh = {.lost = storing.absent};
     for (uint32_t z = 0; z < v->geometry.zones; z++)
         fresh.zone[z].generation = 1;
+    for (uint32_t d = 0; d < v->geometry.drives; d++)
+        share_log(&fresh, v->geometry, d, d == storing.absent ? 0 : v->geometry.zone_sectors);
     if (!reset_all(&storing) || !flush_all(&storing) || !append_labels(&storing, &fresh, array) || !flush_all(&storing))
         return ZRV_UNFINISHED;
     v->state = fresh;

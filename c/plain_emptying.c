@@ -103,8 +103,6 @@ static uint32_t kept_of_parity(const struct volume *v, uint32_t drive) {
 bool log_lacks(const struct volume *v, uint32_t drive, uint32_t log, uint32_t least) { return unused(v, drive, log_zone(v, drive, log)) < least; }
 
 bool log_stays_full(const struct volume *v, uint32_t drive, uint32_t log, uint32_t least) {
-    if (!log_lacks(v, drive, log, least))
-        return false;
     struct log_zones zones = volume_log_zones(v, drive);
     uint32_t spare = find_spare(&zones);
     if (spare == NO_ZONE || zones.zone[spare].written > 0 || log_generation(&zones, log, find_log(&zones, log)) == UINT64_MAX)

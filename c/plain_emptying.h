@@ -1,11 +1,11 @@
-/* Emptying a log that lacks room for a call (document 02): what is still needed of it is copied to the drive's spare zone, a closing entry follows, and the old
- * zone is reset. Generations and pointers are the state's. */
+/* Emptying a log (document 02), one that lacks room for a reset, or a parity log for a compact: what is still needed of it is copied to the drive's spare zone,
+ * a closing entry follows, and the old zone is reset. Generations and pointers are the state's. */
 #ifndef PLAIN_EMPTYING_H
 #define PLAIN_EMPTYING_H
 
 #include "plain_stores.h"
 
-/* Whether a present drive's log has fewer unused sectors than that; and whether it can then not be emptied so far (refusal 14). */
+/* Whether a present drive's log has fewer unused sectors than that; whether it cannot be emptied so far (refusal 14). */
 bool log_lacks(const struct volume *v, uint32_t drive, uint32_t log, uint32_t least);
 bool log_stays_full(const struct volume *v, uint32_t drive, uint32_t log, uint32_t least);
 

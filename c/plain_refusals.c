@@ -1,9 +1,8 @@
 /* The refusals of document 01's table, least number first: 1 to 4 of every call, then those of each call from 7 on. Those of look and mount are in
- * plain_look.c; 14 of a write is found with its log, 15 of a read and a write where the sectors are sought. */
+ * plain_look.c; 14 of a write is found with its log, 15 of a read and a write where the sectors are sought. A write's 18 and 19 come before its 14. */
+#include "hosts.h"
 #include "journal.h"
 #include "plain_emptying.h"
-
-#include "journal.h"
 
 static uint32_t larger(uint32_t a, uint32_t b) { return a > b ? a : b; }
 
@@ -90,39 +89,59 @@ static uint32_t zone_refusal(const struct volume *v, uint32_t named, uint64_t zo
     return ZRV_FINISHED;
 }
 
-/* Room that a write's entry wants in its parity log: its own, and what a mount may need. */
-uint32_t entry_reserve(struct geometry g, uint32_t end) {
-    uint32_t inside = end % stripe_sectors(g), entry = 1 + (inside < g.unit ? inside : g.unit);
-    return entry + g.zones * (1 + g.unit) + g.unit;
-}
-
 uint32_t reset_reserve(struct geometry g) { return g.zones + 4; }
 
 /* Refusal 14 of a reset. */
 static bool general_log_full(const struct volume *v, uint32_t absent) {
     for (uint32_t d = 0; d < v->geometry.drives; d++)
-        if (d != absent && log_stays_full(v, d, GENERAL_LOG, reset_reserve(v->geometry)))
+        if (d != absent && log_lacks(v, d, GENERAL_LOG, reset_reserve(v->geometry)) && log_stays_full(v, d, GENERAL_LOG, reset_reserve(v->geometry)))
             return true;
     return false;
 }
 
-uint32_t write_refusal(const struct volume *v, uint32_t named, uint64_t address, uint32_t run, size_t data_bytes) {
-    uint32_t refusal = input_refusal(v, named, data_bytes == (uint64_t)run * v->geometry.sector_bytes);
-    if (refusal != ZRV_FINISHED)
-        return refusal;
+static bool zone_counts(const struct volume *v, uint32_t zone) {
+    return v->state.zone[zone].condition == ZRV_OPEN && v->state.zone[zone].pointer < zone_addresses(v->geometry);
+}
+
+/* Refusals 18 and 19 of a write by a host, which leaves the zone open below its end. */
+static uint32_t limit_refusal(const struct volume *v, uint32_t zone, uint32_t host) {
+    uint32_t owned = 0, open = 0;
+    for (uint32_t z = 0; z < v->geometry.zones; z++) {
+        open += zone_counts(v, z);
+        owned += zone_counts(v, z) && v->state.zone[z].owner == ZRV_OWNER(host);
+    }
+    bool counts = zone_counts(v, zone), is_own = counts && v->state.zone[zone].owner == ZRV_OWNER(host);
+    if (!is_own && owned >= limit_of(host))
+        return ZRV_HOST_LIMIT;
+    return !counts && open >= ZRV_MOST_OPEN ? ZRV_OPEN_LIMIT : ZRV_FINISHED;
+}
+
+/* Refusals 9 to 12, 18 and 19 of a write at an offset of its zone. */
+static uint32_t run_refusal(const struct volume *v, uint32_t zone, uint32_t offset, const struct asked *asked) {
     uint32_t whole = (uint32_t)zone_addresses(v->geometry);
-    refusal = zone_refusal(v, named, address / whole);
-    if (refusal != ZRV_FINISHED)
-        return refusal;
-    uint32_t offset = (uint32_t)(address % whole);
-    const struct zone_state *state = &v->state.zone[address / whole];
-    if (run == 0 || run > whole - offset)
+    const struct zone_state *state = &v->state.zone[zone];
+    if (asked->run == 0 || asked->run > whole - offset)
         return ZRV_RUN;
     if (offset != state->pointer)
         return ZRV_ORDER;
     if (state->condition == ZRV_SEALED)
         return ZRV_ZONE_SEALED;
-    return state->condition == ZRV_WORN ? ZRV_ZONE_WORN : ZRV_FINISHED;
+    if (state->condition == ZRV_WORN)
+        return ZRV_ZONE_WORN;
+    return offset + asked->run < whole ? limit_refusal(v, zone, asked->host) : ZRV_FINISHED;
+}
+
+uint32_t write_refusal(const struct volume *v, uint32_t named, const struct asked *asked) {
+    uint32_t refusal = input_refusal(v, named, asked->data_bytes == (uint64_t)asked->run * v->geometry.sector_bytes);
+    if (refusal != ZRV_FINISHED)
+        return refusal;
+    uint32_t whole = (uint32_t)zone_addresses(v->geometry);
+    refusal = zone_refusal(v, named, asked->address / whole);
+    if (refusal != ZRV_FINISHED)
+        return refusal;
+    if (asked->host >= ZRV_HOSTS)
+        return ZRV_ADDRESS;
+    return run_refusal(v, (uint32_t)(asked->address / whole), (uint32_t)(asked->address % whole), asked);
 }
 
 uint32_t read_refusal(const struct volume *v, uint32_t named, uint64_t address, uint32_t run, size_t answer_bytes) {
@@ -148,6 +167,20 @@ uint32_t reset_refusal(const struct volume *v, uint32_t named, uint32_t zone) {
     if (v->state.zone[zone].condition == ZRV_WORN || v->state.zone[zone].generation == UINT64_MAX)
         return ZRV_ZONE_WORN;
     return general_log_full(v, absent_drive(v->geometry, named, v->state.lost)) ? ZRV_LOG_FULL : ZRV_FINISHED;
+}
+
+uint32_t compact_refusal(const struct volume *v, uint32_t named, uint32_t drive) {
+    uint32_t refusal = input_refusal(v, named, true), absent;
+    for (uint32_t z = 0; refusal == ZRV_FINISHED && z < v->geometry.zones; z++)
+        refusal = zone_refusal(v, named, z);
+    if (refusal != ZRV_FINISHED)
+        return refusal;
+    absent = absent_drive(v->geometry, named, v->state.lost);
+    if (drive >= v->geometry.drives || drive == absent)
+        return ZRV_ADDRESS;
+    if (log_stays_full(v, drive, PARITY_LOG, parity_reserve(v->geometry)))
+        return ZRV_LOG_FULL;
+    return kept_entries_known(v, absent, drive) ? ZRV_FINISHED : ZRV_GONE;
 }
 
 uint32_t peek_refusal(const struct volume *v, uint32_t named, uint64_t address) {

@@ -6,16 +6,19 @@
 #include <string.h>
 
 #include "adler.h"
-#include "bytes.h"
+#include "hosts.h"
 #include "needed.h"
 #include "script_host.h"
 
-static void show_state(const uint8_t *state, uint32_t zones) {
+static void show_state(const uint8_t *state, struct geometry g) {
     printf(" lost %u", state[ZRV_STATE_LOST]);
-    for (uint32_t z = 0; z < zones && z < ZRV_STATE_RECORDS; z++) {
+    for (uint32_t z = 0; z < g.zones && z < ZRV_STATE_RECORDS; z++) {
         const uint8_t *record = zone_record(state, z);
-        printf(" %" PRIu64 ":%u:%" PRIu32, get64(record + ZRV_RECORD_GENERATION), record[ZRV_RECORD_CONDITION], get32(record + ZRV_RECORD_POINTER));
+        printf(" %" PRIu64 ":%u:%" PRIu32 ":%u", get64(record + ZRV_RECORD_GENERATION), record[ZRV_RECORD_CONDITION], pointer_in_state(state, z),
+               record[ZRV_RECORD_OWNER]);
     }
+    for (uint32_t d = 0; d < g.drives && d < ZRV_MOST_DRIVES; d++)
+        printf(" %" PRIu32 "/%" PRIu32, share_in_state(state, d, 0), share_in_state(state, d, 1));
 }
 
 /* A read of a whole zone up to its pointer, under the state that a look showed. */
@@ -40,7 +43,7 @@ static void show_zone(const struct host *host, uint32_t named, uint8_t *shown, u
 /* What a finished look, read, peek or report adds to its line. */
 static void show_rest(const struct host *host, const struct command *command, struct reply *reply) {
     if (command->letter == CALL_LOOK) {
-        show_state(reply->shown, host->geometry.zones);
+        show_state(reply->shown, host->geometry);
         for (uint32_t z = 0; z < host->geometry.zones; z++)
             show_zone(host, (uint32_t)command->number[0], reply->shown, z);
     } else if (command->letter == CALL_READ) {
@@ -60,8 +63,8 @@ static void show(const struct host *host, const struct command *command, struct 
     printf("%c %" PRIu32 " %" PRIu32 " %" PRIu32, command->letter, reply->code, sectors, pointers);
     if (!host->has_state)
         printf(" none");
-    else if (strchr("fmwur", command->letter) != NULL)
-        show_state(host->state, host->state_zones);
+    else if (leaves_state(command->letter))
+        show_state(host->state, host->made_by);
     else
         printf(" same");
     if (reply->code == ZRV_FINISHED)

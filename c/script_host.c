@@ -31,14 +31,18 @@ static void take_numbers(struct call *call, const struct command *command) {
     call->named = (uint32_t)number[0];
     call->array = number[1];
     call->address = number[1];
-    call->zone = narrowed(number[1]);
+    call->zone = call->drive = narrowed(number[1]);
     call->run = narrowed(number[2]);
     switch (call->kind) {
     case CALL_WRITE:
-        call->count = narrowed(number[4]);
+        call->host = narrowed(number[1]);
+        call->address = number[2];
+        call->run = narrowed(number[3]);
+        call->count = narrowed(number[5]);
         break;
     case CALL_FORMAT:
     case CALL_RESET:
+    case CALL_COMPACT:
         call->count = narrowed(number[2]);
         break;
     default:
@@ -46,41 +50,43 @@ static void take_numbers(struct call *call, const struct command *command) {
     }
 }
 
-static struct range buffer_for(const struct host *host, const struct command *command) {
-    if (command->letter == CALL_PEEK)
+static struct range buffer_for(const struct host *host, const struct command *command, const struct call *call) {
+    if (call->kind == CALL_PEEK)
         return needed_range(ZRV_PLACE_BYTES);
-    if (command->letter == CALL_REPORT) {
+    if (call->kind == CALL_REPORT) {
         struct range list = needed_range((size_t)narrowed(command->number[0]) * ZRV_DESCRIPTOR_BYTES);
         memset(list.bytes, UNTOUCHED, list.length);
         return list;
     }
-    if (command->letter != CALL_WRITE && command->letter != CALL_READ)
+    if (call->kind != CALL_WRITE && call->kind != CALL_READ)
         return needed_range(0);
-    struct range buffer = needed_range((size_t)narrowed(command->number[2]) * host->geometry.sector_bytes);
-    if (command->letter == CALL_WRITE)
-        fill_from_stream(buffer.bytes, buffer.length, command->number[3]);
+    struct range buffer = needed_range((size_t)call->run * host->geometry.sector_bytes);
+    if (call->kind == CALL_WRITE)
+        fill_from_stream(buffer.bytes, buffer.length, command->number[4]);
     return shortened(buffer, host->shortage.buffer);
 }
 
+bool leaves_state(char letter) { return strchr("fmwurk", letter) != NULL; }
+
 static void keep_state(struct host *host, const struct reply *reply) {
     host->has_state = true;
-    host->state_zones = host->geometry.zones;
+    host->made_by = host->geometry;
     memcpy(host->state, reply->shown, ZRV_STATE_BYTES);
 }
 
 static struct reply perform_call(struct host *host, const struct command *command) {
     struct reply reply = {.code = CODE_NO_STATE};
-    if (!host->has_state && strchr("wurdpo", command->letter) != NULL)
+    if (!host->has_state && strchr("wurkdpo", command->letter) != NULL)
         return reply;
     memcpy(reply.shown, host->state, ZRV_STATE_BYTES);
     struct call call = call_of(host, &host->shortage, reply.shown);
     take_numbers(&call, command);
-    reply.buffer = buffer_for(host, command);
+    reply.buffer = buffer_for(host, command, &call);
     call.range[BUFFER] = reply.buffer;
     call.filled = &reply.filled;
     call.bad = &reply.bad;
     reply.code = make_call(&call);
-    if (reply.code == ZRV_FINISHED && strchr("fmwur", command->letter) != NULL)
+    if (reply.code == ZRV_FINISHED && leaves_state(command->letter))
         keep_state(host, &reply);
     return reply;
 }
@@ -97,7 +103,7 @@ uint32_t host_read(const struct host *host, uint32_t named, uint64_t address, ui
 }
 
 struct reply perform(struct host *host, const struct command *command) {
-    if (strchr("flmwurdpo", command->letter) != NULL)
+    if (strchr("flmwurkdpo", command->letter) != NULL)
         return perform_call(host, command);
     change_host(host, command);
     struct reply reply = {.code = ZRV_FINISHED};

@@ -18,7 +18,7 @@ struct host {
     struct shelf shelf;
     struct geometry geometry; /* handed to the calls; a script may change it under the same shelf */
     bool has_state;
-    uint32_t state_zones; /* the zones that the state speaks of */
+    struct geometry made_by; /* the geometry of the call that left the state */
     uint8_t state[ZRV_STATE_BYTES];
     struct shortage shortage;
 };
@@ -35,6 +35,9 @@ struct reply {
 
 /* A read with a state and drives, on the shelf's whole byte ranges, whatever the shortage. */
 uint32_t host_read(const struct host *host, uint32_t named, uint64_t address, uint32_t run, uint8_t *state, struct range buffer);
+
+/* Whether a command is a call that, finished, leaves a state to keep. */
+bool leaves_state(char letter);
 
 /* Carries a command out. The reply's buffer is the caller's to free. */
 struct reply perform(struct host *host, const struct command *command);

@@ -1,6 +1,7 @@
 /* The volume itself judges a geometry; here is why. */
 #include "bounds.h"
 
+#include "hosts.h"
 #include "journal.h"
 
 static uint32_t larger(uint32_t a, uint32_t b) { return a > b ? a : b; }
@@ -12,6 +13,14 @@ uint32_t least_zone_sectors(struct geometry g) { return whole_units(larger(g.zon
 uint32_t least_roomy_zone_sectors(struct geometry g) {
     return whole_units(larger(2 * g.zones * (1 + g.unit) + 2 * g.unit + 2, 3 * g.zones + 7), g.unit);
 }
+
+/* Of the zone's sectors the new log has a closing entry and for each zone an entry of 1 + U at most; past the reserve, L * (1 + U) + U, half is a share, and
+ * a write's entry has 1 + U at most. That is never less than the bound above. */
+uint32_t least_sharing_zone_sectors(struct geometry g) {
+    return whole_units(1 + g.zones * (1 + g.unit) + parity_reserve(g) + 2 * (1 + g.unit), g.unit);
+}
+
+bool leaves_shares(struct geometry g) { return share_of_room(g, g.zone_sectors) >= entry_sectors(g, 1); }
 
 static bool is_outside(uint32_t number, uint32_t least, uint32_t most, const char *option, struct message *message) {
     if (number >= least && number <= most)

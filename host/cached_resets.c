@@ -47,8 +47,8 @@ static bool any_went_down(const struct shelf *shelf, const struct shelf *before)
     return false;
 }
 
-/* A call that flushes nothing but in emptying logs: of the log that it emptied last the old zone's reset came after every flush. Of several that went down it
- * could be either. */
+/* A call that emptied one log: the old zone's reset came after every flush, and is not seen where that zone was empty. Of several that went down it could be
+ * either. */
 static bool note_emptied(struct shelf *shelf, const struct shelf *before, const struct call *call, struct message *message) {
     size_t emptied = 0, count = 0;
     for (size_t at = 0; at < shelf_cells(shelf->geometry); at++)
@@ -56,13 +56,12 @@ static bool note_emptied(struct shelf *shelf, const struct shelf *before, const 
             emptied = at;
             count++;
         }
-    if (count == 0)
-        return true;
     if (count > 1 || emptied % physical_zones(shelf->geometry) >= ZRV_LOG_ZONES)
         return fail(message, "this %s has reset %zu zones, other than by emptying one log: which of them its drives have still in their caches cannot be told",
                     traits_of(call->kind)->name, count);
     forget_named(shelf, call->named);
-    remember_pointers(shelf, emptied, pointer_in(before->written, emptied), pointer_in(before->written, emptied));
+    if (count == 1)
+        remember_pointers(shelf, emptied, pointer_in(before->written, emptied), pointer_in(before->written, emptied));
     return true;
 }
 
@@ -125,12 +124,18 @@ static bool note_unfinished(struct shelf *shelf, const struct shelf *before, con
 }
 
 static bool note_finished(struct shelf *shelf, const struct shelf *before, const struct call *call, struct message *message) {
-    if (only_empties(call->kind))
+    switch (resets_left_by(call->kind)) {
+    case LEAVES_NONE:
+        forget_named(shelf, call->named);
+        return true;
+    case LEAVES_OLD_LOG:
         return note_emptied(shelf, before, call, message);
-    if (!ends_flushed(call->kind))
-        return fail(message, "what a %s leaves in the drives' caches cannot be told: it does not end with a flush", traits_of(call->kind)->name);
-    forget_named(shelf, call->named);
-    return true;
+    case LEAVES_THOSE_BEFORE:
+        return true;
+    case LEAVES_UNKNOWN:
+        break;
+    }
+    return fail(message, "what a %s leaves in the drives' caches cannot be told: it does not end with a flush", traits_of(call->kind)->name);
 }
 
 bool note_resets(struct shelf *shelf, const struct shelf *before, const struct stored_call *stored, struct message *message) {

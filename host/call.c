@@ -29,11 +29,13 @@ uint32_t make_call(const struct call *call) {
     case CALL_MOUNT:
         return answer_with_place(call, zrv_mount(NUMBERS(call), call->count, TABLES(call)));
     case CALL_WRITE:
-        return ZRV_ANSWER(zrv_write(NUMBERS(call), call->address, call->run, call->count, TABLES(call), RANGE(call, BUFFER)));
+        return ZRV_ANSWER(zrv_write(NUMBERS(call), call->host, call->address, call->run, call->count, TABLES(call), RANGE(call, BUFFER)));
     case CALL_FLUSH:
         return ZRV_ANSWER(zrv_flush(NUMBERS(call), call->count, TABLES(call)));
     case CALL_RESET:
         return ZRV_ANSWER(zrv_reset(NUMBERS(call), call->zone, call->count, TABLES(call)));
+    case CALL_COMPACT:
+        return ZRV_ANSWER(zrv_compact(NUMBERS(call), call->drive, call->count, TABLES(call)));
     case CALL_READ:
         return ZRV_ANSWER(zrv_read(NUMBERS(call), call->address, call->run, TABLES(call), RANGE(call, BUFFER)));
     case CALL_PEEK:

@@ -9,7 +9,8 @@ enum store_part {
     PART_NONE = 0,    /* the pattern's end */
     PART_APPENDS,     /* one or more */
     PART_FLUSH,       /* of all present drives, ascending */
-    PART_EMPTYINGS,   /* any number of logs emptied: of each a flush, appends to its drive's spare zone, a flush, the reset of the zone that was the log */
+    PART_EMPTYING,    /* one log emptied: a flush, appends to its drive's spare zone, a flush, the reset of the zone that was the log, also where that is empty */
+    PART_EMPTYINGS,   /* any number of logs emptied, none of them empty */
     PART_ZONE_RESETS, /* of zones of data, drive by drive, of all present drives; empty zones are reset too */
     PART_STEPS        /* any number of steps with a flush after each: logs emptied, spare zones reset, appends, or zones of data reset */
 };

@@ -73,7 +73,7 @@ static bool read_start(const struct file_place *place, uint8_t head[HEAD_BYTES])
     int descriptor = openat(place->directory, place->name, O_RDONLY);
     if (descriptor < 0)
         return false;
-    bool good = read_at(descriptor, head, HEAD_BYTES, 0) && head_fits(head, MAGIC, place, &unused);
+    bool good = read_at(descriptor, head, HEAD_BYTES, 0) && head_fits(head, MAGIC, FILE_VERSION, place, &unused);
     close(descriptor);
     return good;
 }
@@ -131,7 +131,7 @@ static bool read_rows(FILE *file, off_t offset, struct range first, struct range
 static bool read_head(FILE *file, uint64_t length, const struct file_place *place, uint8_t head[HEAD_BYTES], struct message *message) {
     if (fread(head, 1, HEAD_BYTES, file) != HEAD_BYTES)
         return fail(message, "%s/%s: short: %llu bytes, not even a head", place->folder, place->name, (unsigned long long)length);
-    return head_fits(head, MAGIC, place, message);
+    return head_fits(head, MAGIC, FILE_VERSION, place, message);
 }
 
 static bool read_pointers(FILE *file, const uint8_t *head, const struct file_place *place, struct shelf *shelf, uint32_t drive, struct message *message) {
@@ -214,7 +214,7 @@ struct drive_ends make_drive_ends(const struct shelf *shelf, uint32_t drive, str
     struct drive_ends ends = {.end_length = 0};
     size_t row = row_bytes(shelf->geometry);
     bool old = has_old(shelf, drive);
-    put_head(ends.start, MAGIC, shelf->geometry);
+    put_head(ends.start, MAGIC, FILE_VERSION, shelf->geometry);
     put32(ends.start + INDEX, drive);
     put32(ends.start + HAS_OLD, old);
     put64(ends.start + ARRAY, tag.array);

@@ -28,6 +28,12 @@ bool power_loss_is_due(const struct host_record *record, struct message *message
     return true;
 }
 
+const char *why_mount_is_due(const struct host_record *record) {
+    return record->older ? RECORD_NAME " is of an older version, without hosts and shares" : "power was cut";
+}
+
+const uint8_t *state_in_force(const struct host_record *record) { return record->phase == PHASE_READY ? record->state : NULL; }
+
 bool was_formatted(const struct host_record *record) { return get64(zone_record(record->state, 0) + ZRV_RECORD_GENERATION) > 0; }
 
 /* Whether a duty stands against a call. */
@@ -36,7 +42,7 @@ static uint32_t may_call(const struct driver *driver, enum call_kind kind, struc
     if (power_loss_is_due(record, message))
         return ANSWER_NOT_NOW;
     if (record->phase == PHASE_MOUNT_DUE && !traits_of(kind)->after_cut) {
-        fail(message, "not now: power was cut; a finished mount comes first");
+        fail(message, "not now: %s; a finished mount comes first", why_mount_is_due(record));
         return ANSWER_NOT_NOW;
     }
     return traits_of(kind)->any_drives ? ZRV_FINISHED : strange_drive(driver, message);
@@ -64,6 +70,7 @@ static void take_finished(struct driver *driver) {
     struct host_record *record = &driver->drives.record;
     memcpy(record->state, driver->shown, ZRV_STATE_BYTES);
     record->phase = PHASE_READY;
+    record->older = false;
     if (record->state[ZRV_STATE_LOST] != ZRV_NO_DRIVE)
         driver->drives.present &= ~(1u << record->state[ZRV_STATE_LOST]);
     give_up_absent(driver);

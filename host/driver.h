@@ -53,6 +53,12 @@ bool undo_resets(struct driver *driver, const struct power_loss *loss, size_t *u
 /* The second half. False, with a message and nothing changed, where a given zone cannot keep what is given. */
 bool lose_power(struct driver *driver, const struct power_loss *loss, struct message *message);
 
+/* Why a mount comes next: power was cut, or the host's record is of an older form. */
+const char *why_mount_is_due(const struct host_record *record);
+
+/* The state by which the next call goes, and which knows owners and shares; NULL where a mount or a power cut comes first. */
+const uint8_t *state_in_force(const struct host_record *record);
+
 /* Whether an unfinished call was the last, with a message. */
 bool power_loss_is_due(const struct host_record *record, struct message *message);
 

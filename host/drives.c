@@ -41,15 +41,23 @@ bool open_and_lock(struct drives *drives, const struct opening *opening, struct 
 
 #define MAKE_ANEW "move it away, then zrv assemble makes it anew"
 
-/* The record in its byte form; false where the file is short, foreign or damaged. */
+/* A record of version 1 is the same but for its state, which ends where the shares begin now. */
+enum { OLDER_VERSION = 1, OLDER_CHECKSUM = RECORD_STATE + ZRV_STATE_SHARES };
+
+/* The record in its byte form; false where the file is short, foreign or damaged. What a file of version 1 lacks is zero. */
 static bool read_record_bytes(FILE *file, uint64_t length, const struct file_place *place, uint8_t bytes[RECORD_BYTES], struct message *message) {
-    if (fread(bytes, 1, RECORD_BYTES, file) != RECORD_BYTES)
-        return fail(message, "%s/%s: short: %llu bytes where %d are due; " MAKE_ANEW, place->folder, place->name, (unsigned long long)length, RECORD_BYTES);
-    if (!head_fits(bytes, RECORD_MAGIC, place, message))
+    memset(bytes, 0, RECORD_BYTES);
+    size_t got = fread(bytes, 1, RECORD_BYTES, file);
+    bool older = got >= HEAD_OWN && get32(bytes + HEAD_VERSION) == OLDER_VERSION;
+    size_t sum_at = older ? OLDER_CHECKSUM : RECORD_CHECKSUM, whole = sum_at + sizeof(uint64_t);
+    if (got >= HEAD_OWN && !head_fits(bytes, RECORD_MAGIC, older ? OLDER_VERSION : RECORD_VERSION, place, message))
         return false;
-    if (length != RECORD_BYTES || checksum(CHECKSUM_START, bytes, RECORD_CHECKSUM) != get64(bytes + RECORD_CHECKSUM) ||
-        !geometry_is_taken(get_geometry(bytes)) || get32(bytes + PHASE) > PHASE_POWER_LOSS_DUE)
+    if (got < whole)
+        return fail(message, "%s/%s: short: %llu bytes where %zu are due; " MAKE_ANEW, place->folder, place->name, (unsigned long long)length, whole);
+    if (length != whole || checksum(CHECKSUM_START, bytes, sum_at) != get64(bytes + sum_at) || !geometry_is_taken(get_geometry(bytes)) ||
+        get32(bytes + PHASE) > PHASE_POWER_LOSS_DUE)
         return fail(message, "%s/%s: damaged: its checksum does not match; " MAKE_ANEW, place->folder, place->name);
+    memset(bytes + sum_at, 0, RECORD_BYTES - sum_at);
     return true;
 }
 
@@ -68,6 +76,9 @@ bool read_record(const struct drives *drives, struct host_record *record, struct
         return false;
     record->geometry = get_geometry(bytes);
     record->phase = (enum phase)get32(bytes + PHASE);
+    record->older = get32(bytes + HEAD_VERSION) == OLDER_VERSION;
+    if (record->older && record->phase == PHASE_READY)
+        record->phase = PHASE_MOUNT_DUE;
     record->given_up = get32(bytes + GIVEN_UP);
     record->array = get64(bytes + ARRAY);
     for (uint32_t d = 0; d < ZRV_MOST_DRIVES; d++)
@@ -78,7 +89,7 @@ bool read_record(const struct drives *drives, struct host_record *record, struct
 
 void put_record(const struct host_record *record, uint8_t bytes[RECORD_BYTES]) {
     memset(bytes, 0, RECORD_BYTES);
-    put_head(bytes, RECORD_MAGIC, record->geometry);
+    put_head(bytes, RECORD_MAGIC, RECORD_VERSION, record->geometry);
     put32(bytes + PHASE, record->phase);
     put32(bytes + GIVEN_UP, record->given_up);
     put64(bytes + ARRAY, record->array);

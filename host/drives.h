@@ -10,8 +10,9 @@
  *   count too.
  * The sectors have no checksum of the host's: what they hold is the volume's to judge.
  *
- * state.zrv, the host's: bytes 0 to 7 "zrvstate", version and geometry as above, 32 the phase (4), 36 the drives given up by bit (4), 40 the array number (8),
- *   48 for each of eight drives the save that its file must be of (8 each), 112 the volume's state, 376 a checksum of all before it (8).
+ * state.zrv, the host's: bytes 0 to 7 "zrvstate", version (2) and geometry as above, 32 the phase (4), 36 the drives given up by bit (4), 40 the array number
+ *   (8), 48 for each of eight drives the save that its file must be of (8 each), 112 the volume's state, 440 a checksum of all before it (8).
+ *   Of version 1 the volume's state is shorter, without owners and shares: a mount comes next, which makes it anew.
  *
  * drive-N.pulled, drive-N.pulled-2 and so on: files of drive N that were taken out. They are not used again, nor put one over the other.
  *
@@ -28,6 +29,7 @@
 
 #define RECORD_NAME "state.zrv"
 enum {
+    RECORD_VERSION = 2,
     RECORD_SAVES = 48,
     RECORD_STATE = RECORD_SAVES + ZRV_MOST_DRIVES * sizeof(uint64_t),
     RECORD_CHECKSUM = RECORD_STATE + ZRV_STATE_BYTES,
@@ -40,6 +42,7 @@ enum phase { PHASE_READY = 0, PHASE_MOUNT_DUE = 1, PHASE_POWER_LOSS_DUE = 2 };
 struct host_record {
     struct geometry geometry;
     enum phase phase;
+    bool older;        /* it was read from a file of version 1 */
     uint32_t given_up; /* drives, by bit, that are never named again (document 01: lost) */
     uint64_t array;
     uint64_t save[ZRV_MOST_DRIVES];

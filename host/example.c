@@ -4,9 +4,9 @@
 #include <stdlib.h>
 #include <string.h>
 
-#include "zone_pointer.h"
+#include "hosts.h"
 
-enum { DRIVES = 4, SECTOR_BYTES = 64, UNIT = 2, ZONES = 2, ZONE_SECTORS = 32, EVERY_DRIVE = (1 << DRIVES) - 1, FLUSHED = 5, LATER = 4 };
+enum { DRIVES = 4, SECTOR_BYTES = 64, UNIT = 2, ZONES = 2, ZONE_SECTORS = 32, EVERY_DRIVE = (1 << DRIVES) - 1, HOST = 0, FLUSHED = 5, LATER = 4 };
 
 struct volume {
     uint8_t sectors[ZRV_SECTORS_BYTES(DRIVES, SECTOR_BYTES, ZONES, ZONE_SECTORS)];
@@ -31,14 +31,18 @@ static void report(const char *call, uint64_t returned, struct volume *v) {
     printf("%-6s zone 0 is %s at %u\n", call, condition[record[ZRV_RECORD_CONDITION]], (unsigned)get32(record + ZRV_RECORD_POINTER));
 }
 
-/* Writes at zone 0's pointer, wherever that is. A full zone has no address to write at: the next one is another zone's. */
+/* Writes at zone 0's pointer, wherever that is. A full zone has no address to write at: the next one is another zone's. Where the host's share of a drive's parity
+ * log is too small for the write, that drive is compacted first. */
 static void append(struct volume *v, const uint8_t *data, uint32_t sectors) {
     uint64_t address = address_to_write(geometry, v->state, 0);
     if (address == NO_ADDRESS) {
         fputs("write: zone 0 is full\n", stderr);
         exit(1);
     }
-    report("write", zrv_write(NUMBERS, address, sectors, ZRV_ALL_STORES, BYTES(v), data, (size_t)sectors * SECTOR_BYTES), v);
+    uint32_t drive = drive_to_compact(geometry, v->state, HOST, 0, sectors);
+    if (drive != ZRV_NO_DRIVE)
+        report("compact", zrv_compact(NUMBERS, drive, ZRV_ALL_STORES, BYTES(v)), v);
+    report("write", zrv_write(NUMBERS, HOST, address, sectors, ZRV_ALL_STORES, BYTES(v), data, (size_t)sectors * SECTOR_BYTES), v);
 }
 
 int main(void) {

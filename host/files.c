@@ -12,10 +12,10 @@
 
 #define CHECKSUM_PRIME 1099511628211u
 
-void put_head(uint8_t *bytes, const char *magic, struct geometry g) {
+void put_head(uint8_t *bytes, const char *magic, uint32_t version, struct geometry g) {
     const uint32_t number[] = {g.drives, g.sector_bytes, g.unit, g.zones, g.zone_sectors};
     memcpy(bytes, magic, MAGIC_BYTES);
-    put32(bytes + HEAD_VERSION, FILE_VERSION);
+    put32(bytes + HEAD_VERSION, version);
     for (size_t i = 0; i < sizeof number / sizeof *number; i++)
         put32(bytes + HEAD_GEOMETRY + 4 * i, number[i]);
 }
@@ -26,12 +26,12 @@ struct geometry get_geometry(const uint8_t *bytes) {
     return geometry;
 }
 
-bool head_fits(const uint8_t *bytes, const char *magic, const struct file_place *place, struct message *message) {
+bool head_fits(const uint8_t *bytes, const char *magic, uint32_t version, const struct file_place *place, struct message *message) {
     if (memcmp(bytes, magic, MAGIC_BYTES) != 0)
         return fail(message, "%s/%s: not a file of this tool: it does not begin with \"%s\"", place->folder, place->name, magic);
-    if (get32(bytes + HEAD_VERSION) != FILE_VERSION)
+    if (get32(bytes + HEAD_VERSION) != version)
         return fail(message, "%s/%s: of version %u, this tool knows %u; use the tool that wrote it", place->folder, place->name, get32(bytes + HEAD_VERSION),
-                    FILE_VERSION);
+                    version);
     return true;
 }
 

@@ -7,6 +7,7 @@
 #include "call.h"
 #include "message.h"
 
+/* The version is that of drives and redo files; the host's record has its own (drives.h). */
 enum { FILE_VERSION = 1, MAGIC_BYTES = 8, HEAD_VERSION = 8, HEAD_GEOMETRY = 12, HEAD_OWN = 32 };
 
 /* A file by its folder and name; the folder's name is for messages. */
@@ -15,11 +16,11 @@ struct file_place {
     int directory;
 };
 
-void put_head(uint8_t *bytes, const char *magic, struct geometry geometry);
+void put_head(uint8_t *bytes, const char *magic, uint32_t version, struct geometry geometry);
 struct geometry get_geometry(const uint8_t *bytes);
 
 /* Whether a file begins as one of its kind. */
-bool head_fits(const uint8_t *bytes, const char *magic, const struct file_place *place, struct message *message);
+bool head_fits(const uint8_t *bytes, const char *magic, uint32_t version, const struct file_place *place, struct message *message);
 
 /* FNV-1a of 64 bits, from CHECKSUM_START or from the checksum of what comes before. */
 #define CHECKSUM_START 14695981039346656037u

@@ -64,7 +64,7 @@ static uint64_t redo_checksum(struct range bytes) {
 }
 
 static void fill_head(struct range bytes, const struct host_record *record) {
-    put_head(bytes.bytes, MAGIC, record->geometry);
+    put_head(bytes.bytes, MAGIC, FILE_VERSION, record->geometry);
     put64(bytes.bytes + ARRAY, record->array);
     for (uint32_t d = 0; d < ZRV_MOST_DRIVES; d++)
         put64(bytes.bytes + SAVES + sizeof(uint64_t) * d, record->save[d]);
@@ -153,7 +153,7 @@ static bool ranges_fit(struct range bytes) {
 }
 
 static bool redo_fits(struct range bytes, const struct file_place *place, struct message *message) {
-    if (bytes.length >= REDO_HEAD_BYTES && !head_fits(bytes.bytes, MAGIC, place, message))
+    if (bytes.length >= REDO_HEAD_BYTES && !head_fits(bytes.bytes, MAGIC, FILE_VERSION, place, message))
         return false;
     if (bytes.length < REDO_HEAD_BYTES || get64(bytes.bytes + LENGTH) != bytes.length || get64(bytes.bytes + CHECKSUM) != redo_checksum(bytes) ||
         !ranges_fit(bytes))

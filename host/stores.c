@@ -83,8 +83,9 @@ static bool read_appends(struct reading *r) {
     return r->at > from;
 }
 
-/* Whether a log is emptied from here on: a flush, appends to one zone of logs, a flush, and the reset of another on that drive. */
-static bool is_emptying(const struct reading *r) {
+/* Whether a log is emptied from here on: a flush, appends to one zone of logs, a flush, and the reset of another on that drive, which is not seen where that
+ * other is empty. */
+static bool is_emptying(const struct reading *r, bool may_be_empty) {
     size_t from = r->at + r->drives, to = from;
     if (!may_be_flush(r, r->at))
         return false;
@@ -92,17 +93,31 @@ static bool is_emptying(const struct reading *r) {
         to++;
     if (to == from || r->store[from].zone >= ZRV_LOG_ZONES || !may_be_flush(r, to))
         return false;
-    const struct store *reset = &r->store[to + r->drives];
-    return resets_log(r, to + r->drives) && reset->drive == r->store[from].drive && reset->zone != r->store[from].zone;
+    size_t last = to + r->drives;
+    if (last >= r->length)
+        return false;
+    const struct store *reset = &r->store[last];
+    return (reset->kind == STORE_UNSEEN && may_be_empty) ||
+           (resets_log(r, last) && reset->drive == r->store[from].drive && reset->zone != r->store[from].zone);
+}
+
+static void step_over_emptying(struct reading *r) {
+    read_flush(r);
+    read_appends(r);
+    read_flush(r);
+    r->at++;
+}
+
+static bool read_emptying(struct reading *r) {
+    bool is_one = is_emptying(r, true);
+    if (is_one)
+        step_over_emptying(r);
+    return is_one;
 }
 
 static bool read_emptyings(struct reading *r) {
-    while (is_emptying(r)) {
-        read_flush(r);
-        read_appends(r);
-        read_flush(r);
-        r->at++;
-    }
+    while (is_emptying(r, false))
+        step_over_emptying(r);
     return true;
 }
 
@@ -132,7 +147,7 @@ static bool read_step(struct reading *r) {
         return read_appends(r);
     if (resets_log(r, r->at))
         return read_log_resets(r);
-    return is_emptying(r) ? read_emptyings(r) : read_zone_resets(r);
+    return is_emptying(r, false) ? read_emptyings(r) : read_zone_resets(r);
 }
 
 static bool read_steps(struct reading *r) {
@@ -145,6 +160,7 @@ static bool read_steps(struct reading *r) {
 static bool (*const read_part[])(struct reading *) = {
     [PART_APPENDS] = read_appends,
     [PART_FLUSH] = read_flush,
+    [PART_EMPTYING] = read_emptying,
     [PART_EMPTYINGS] = read_emptyings,
     [PART_ZONE_RESETS] = read_zone_resets,
     [PART_STEPS] = read_steps,
@@ -165,17 +181,14 @@ bool settle_stores(struct store_list *list, enum call_kind kind, uint32_t presen
                 reading.at + 1, reading.length);
 }
 
-/* The last part of a pattern; PART_NONE where there is no pattern. */
-static enum store_part last_part(enum call_kind kind) {
-    enum store_part last = PART_NONE;
-    for (const enum store_part *part = traits_of(kind)->pattern; *part != PART_NONE; part++)
-        last = *part;
-    return last;
-}
-
-bool ends_flushed(enum call_kind kind) { return last_part(kind) == PART_FLUSH || last_part(kind) == PART_STEPS; }
-
-bool only_empties(enum call_kind kind) {
+enum resets_left resets_left_by(enum call_kind kind) {
     const enum store_part *pattern = traits_of(kind)->pattern;
-    return pattern[0] == PART_EMPTYINGS && pattern[1] == PART_APPENDS && pattern[2] == PART_NONE;
+    enum store_part last = PART_NONE;
+    for (const enum store_part *part = pattern; *part != PART_NONE; part++)
+        last = *part;
+    if (last == PART_FLUSH || last == PART_STEPS)
+        return LEAVES_NONE;
+    if (last == PART_EMPTYING)
+        return LEAVES_OLD_LOG;
+    return pattern[0] == PART_APPENDS && pattern[1] == PART_NONE ? LEAVES_THOSE_BEFORE : LEAVES_UNKNOWN;
 }

@@ -30,9 +30,9 @@ bool note_store(struct store_list *list, const struct shelf *before, const struc
  * stores do not fit the pattern of its kind. Present, by bit, are the drives that were named less the one that is lost in the state that the call hands on. */
 bool settle_stores(struct store_list *list, enum call_kind kind, uint32_t present, struct message *message);
 
-/* Of a finished call by its kind's pattern: whether every drive is flushed after its last reset; whether it flushes and resets only in emptying logs, which
- * come first. */
-bool ends_flushed(enum call_kind kind);
-bool only_empties(enum call_kind kind);
+/* Which resets a finished call leaves in the drives' caches, by its kind's pattern: none, every drive being flushed after its last reset; that of the zone that
+ * was the log, all drives being flushed just before it; those that were there, since it neither resets nor flushes; or it cannot be told. */
+enum resets_left { LEAVES_NONE, LEAVES_OLD_LOG, LEAVES_THOSE_BEFORE, LEAVES_UNKNOWN };
+enum resets_left resets_left_by(enum call_kind kind);
 
 #endif

@@ -1,12 +1,13 @@
-"""The model of docs/FORMAT.md, second half: sections 7 to 9, the calls, their refusals and their stores.
+"""The model of docs/FORMAT.md, second half: sections 7 and 8, the calls, their refusals and their stores. The mount is in format_mount.py.
 
 A call that stores is a generator: it raises Refused before its first store, yields its stores in order, and returns the state that it
 hands on.
 """
-from format_numbers import (ALL_STORES, COUNTERS, FIRST_DATA_ZONE, GENERAL_LOG, LABEL, LAST_GENERATION, NO_DRIVE, PARITY_LOG, RESET, SEAL,
-                            Answer, Condition)
-from format_volume import (Drives, Logs, Memory, Refused, State, Store, Unfinished, Zone, ZoneRecord, closing, counters, descriptor,
-                           exclusive_or, label, partial_parity, reset_entry, seal, walk)
+from format_numbers import (ALL_STORES, COUNTERS, FIRST_DATA_ZONE, GENERAL_LOG, HOST_LIMITS, HOSTS, LABEL, LAST_GENERATION, NO_DRIVE, OPEN_ZONES,
+                            PARITY_LOG, RESET, SEAL, Answer, Condition)
+from format_state import NO_SHARES, State, ZoneRecord, descriptor, owner_of
+from format_volume import (Drives, Logs, Refused, Store, Unfinished, Zone, closing, counters, exclusive_or, label, partial_parity, reset_entry,
+                           seal, walk)
 
 
 class Call:
@@ -39,8 +40,8 @@ class Call:
         if not g.in_bounds():
             raise Refused(Answer.GEOMETRY)
         if state:
-            self.state = state = state.of_zones(g.L)
-            if state is None or g.D <= state.lost != NO_DRIVE or any(record.pointer > g.Q for record in state.zones):
+            self.state = state.seen_by(g)
+            if self.state is None or not self.state.in_bounds(g):
                 raise Refused(Answer.GEOMETRY)
 
     def check_input(self, state=None, buffer=0, sectors=0):
@@ -83,22 +84,28 @@ class Call:
 
     def check_zone(self, z):
         """Refusals 7 and 8; the zone's record in the state."""
-        g = self.geometry
-        if z >= g.L:
+        if z >= self.geometry.L:
             raise Refused(Answer.ADDRESS)
-        record = self.state.zones[z]
-        for d in self.present:
-            written, need = self.drives.written(d, FIRST_DATA_ZONE + z), g.need(z, record.pointer, d)
-            if written < need or (written > need and record.condition in (Condition.EMPTY, Condition.OPEN)):
-                raise Refused(Answer.STALE)
-        return record
+        self.check_stale([z])
+        return self.state.zones[z]
 
-    def check_run(self, address, sectors, buffer):
+    def check_stale(self, zones):
+        """Refusal 7 of these zones."""
+        for z in zones:
+            record = self.state.zones[z]
+            for d in self.present:
+                written, need = self.drives.written(d, FIRST_DATA_ZONE + z), self.geometry.need(z, record.pointer, d)
+                if written < need or (written > need and record.condition in (Condition.EMPTY, Condition.OPEN)):
+                    raise Refused(Answer.STALE)
+
+    def check_run(self, address, sectors, buffer, host=0):
         """Refusals 1 to 4 and 7 to 9 of a write or a read: zone, offset and record."""
         self.check_input(self.state, buffer, sectors)
         self.settle_by_state()
         z, a = divmod(address, self.geometry.Q)
         record = self.check_zone(z)
+        if host >= HOSTS:
+            raise Refused(Answer.ADDRESS)
         if sectors == 0 or a + sectors > self.geometry.Q:
             raise Refused(Answer.RUN)
         return z, a, record
@@ -141,12 +148,16 @@ class Call:
         """Refusal 14: the drives whose log has less room than that, to be emptied first. `records` tell the zones' generations and pointers."""
         lacking = [d for d in drives if self.room(d, log) < least]
         for d in lacking:
-            spare = self.logs.spare(d)
-            if spare is None or self.logs.generations[d, log] == LAST_GENERATION or (self.drives.written(d, spare) and not in_mount):
-                raise Refused(Answer.LOG_FULL)
-            if self.geometry.C - self.copied(d, log, records) - 1 < least:
-                raise Refused(Answer.LOG_FULL)
+            self.check_emptied(d, log, least, records, in_mount)
         return lacking
+
+    def check_emptied(self, d, log, least, records, in_mount=False):
+        """Refusal 14 of an emptying that has to leave so much room."""
+        spare = self.logs.spare(d)
+        if spare is None or self.logs.generations[d, log] == LAST_GENERATION or (self.drives.written(d, spare) and not in_mount):
+            raise Refused(Answer.LOG_FULL)
+        if self.geometry.C - self.copied(d, log, records) - 1 < least:
+            raise Refused(Answer.LOG_FULL)
 
     def room(self, d, log):
         """A log that the drive lacks has none."""
@@ -176,14 +187,14 @@ class Call:
     def zones_inside(self, d, records):
         """The zones whose pointer lies inside a stripe that has its parity on this drive."""
         g = self.geometry
-        return [z for z, (_, _, n) in enumerate(records) if n % g.K and d == g.parity_drive(z, n // g.K)]
+        return [z for z, record in enumerate(records) if record.pointer % g.K and d == g.parity_drive(z, record.pointer // g.K)]
 
     def parity_copies(self, d, records, values_below):
         """For each of these zones the last whole current entry at its pointer, as it stands in the log by now, or else one that is made."""
         y, sectors = self.logs.zones[d, PARITY_LOG], []
         whole = walk(self.drives, d, PARITY_LOG, y).whole
         for z in self.zones_inside(d, records):
-            generation, _, n = records[z]
+            generation, n = records[z].generation, records[z].pointer
             found = [range(x, x + 1 + entry.rows) for x, entry in whole if entry.is_current(z, generation) and entry.end == n]
             if found:
                 sectors += [self.drives.sector(d, y, x) for x in found[-1]]
@@ -215,28 +226,28 @@ class Call:
             yield Store("append", d, GENERAL_LOG, label(g, d, self.lost, array))
             yield Store("append", d, GENERAL_LOG, counters(g, [1] * g.L))
         yield from self.on_all("flush")
-        return State(self.lost, [ZoneRecord(1, Condition.EMPTY, 0)] * g.L)
+        self.logs = Logs(self.drives, self.present)
+        return State(self.lost, [ZoneRecord(1, Condition.EMPTY, 0)] * g.L, self.all_shares(), g.D)
 
-    def write(self, address, sectors, data):
+    def write(self, host, address, sectors, data):
         g = self.geometry
-        z, a, record = self.check_run(address, sectors, len(data))
+        z, a, record = self.check_run(address, sectors, len(data), host)
+        end = a + sectors
         self.check_order(a, record)
-        emptied = self.emptied_for_entry(z, a + sectors)
+        self.check_limits(host, record, end)
+        shares = self.shares_after_entry(host, z, end)
         first = a // g.K
-        needed = range(first * g.K, a) if g.parity_drive(z, first) in self.present else ()
-        values = self.known(z, needed)
+        values = self.known(z, range(first * g.K, a) if g.parity_drive(z, first) in self.present else ())
         values.update((a + i, data[i * g.B:(i + 1) * g.B]) for i in range(sectors))
-        for d, copies in emptied.items():
-            yield from self.empty(d, PARITY_LOG, copies)
-        for b in range(a, a + sectors):
+        for b in range(a, end):
             at = g.place(z, b)
             yield from self.append(at.drive, FIRST_DATA_ZONE + z, values[b])
             if (b + 1) % g.K == 0 and at.parity_drive in self.present:
                 for r in range(g.U):
                     yield from self.append(at.parity_drive, FIRST_DATA_ZONE + z, self.row_sum(values, at.stripe, r, b + 1))
-        if (a + sectors) % g.K and at.parity_drive in self.present:
-            yield from self.to_log(at.parity_drive, PARITY_LOG, *self.parity_entry(z, a + sectors, record.generation, values))
-        return self.state.with_zone(self.lost, z, ZoneRecord(record.generation, Condition.OPEN, a + sectors))
+        for p in shares:
+            yield from self.to_log(p, PARITY_LOG, *self.parity_entry(z, end, record.generation, values))
+        return self.state.changed(self.lost, {z: ZoneRecord(record.generation, Condition.OPEN, end, owner_of(host))}, shares)
 
     def check_order(self, a, record):
         """Refusals 10 to 12 of a write from offset a."""
@@ -245,19 +256,55 @@ class Call:
         if record.condition in (Condition.SEALED, Condition.WORN):
             raise Refused(Answer.SEALED if record.condition == Condition.SEALED else Answer.WORN)
 
-    def emptied_for_entry(self, z, n):
-        """Refusals 14 and 15 of a type 4 entry at the pointer n: the drive whose log is emptied for it, with the copies."""
-        g, records = self.geometry, self.state.zones
+    def check_limits(self, host, record, end):
+        """Refusals 18 and 19 of a write up to the offset `end`. One that fills the zone puts and opens none."""
+        g = self.geometry
+        if end == g.Q:
+            return
+        if not record.counts_to(host, g) and self.state.counting_to(host, g) >= HOST_LIMITS[host]:
+            raise Refused(Answer.HOST_LIMIT)
+        if not record.counts(g) and self.state.counting(g) >= OPEN_ZONES:
+            raise Refused(Answer.OPEN_LIMIT)
+
+    def shares_after_entry(self, host, z, n):
+        """Refusal 14 of a write up to the pointer n. What its entry leaves of the shares of the drive that gets it; nothing where none is stored."""
+        g = self.geometry
         s, f = divmod(n, g.K)
-        on = [p for p in [g.parity_drive(z, s)] if f and p in self.present]
-        lacking = self.lacking(on, PARITY_LOG, 1 + min(f, g.U) + g.R, records)
-        return {d: self.parity_copies(d, records, lambda z, n: self.known(z, range(n - n % g.K, n))) for d in lacking}
+        p, entry = g.parity_drive(z, s), 1 + min(f, g.U)
+        if f == 0 or p not in self.present:
+            return {}
+        left = list(self.state.shares[p])
+        if entry > left[host] or self.room(p, PARITY_LOG) < entry + g.R:
+            raise Refused(Answer.LOG_FULL)
+        left[host] -= entry
+        return {p: tuple(left)}
+
+    def shares(self, d):
+        """What the hosts get of a drive's parity log: each half of the room past R."""
+        return (max(0, self.room(d, PARITY_LOG) - self.geometry.R) // HOSTS,) * HOSTS
+
+    def all_shares(self):
+        return [self.shares(d) if d in self.present else NO_SHARES for d in range(self.geometry.D)]
+
+    def compact(self, d):
+        """The emptying of a drive's parity log, whether it lacks room or not."""
+        g = self.geometry
+        self.check_input(self.state)
+        self.settle_by_state()
+        records = self.state.zones
+        self.check_stale(range(g.L))
+        if d not in self.present:
+            raise Refused(Answer.ADDRESS)
+        self.check_emptied(d, PARITY_LOG, g.R, records)
+        copies = self.parity_copies(d, records, lambda z, n: self.known(z, range(n - n % g.K, n)))
+        yield from self.empty(d, PARITY_LOG, copies)
+        return self.state.changed(self.lost, shares={d: self.shares(d)})
 
     def flush(self):
         self.check_input(self.state)
         self.settle_by_state()
         yield from self.on_all("flush")
-        return self.state.with_zone(self.lost)
+        return self.state.changed(self.lost)
 
     def reset(self, z):
         g = self.geometry
@@ -274,7 +321,7 @@ class Call:
         yield from self.on_all("reset", FIRST_DATA_ZONE + z)
         yield from self.on_all("flush")
         raised = record.generation + 1
-        after = self.state.with_zone(self.lost, z, ZoneRecord(raised, Condition.WORN if raised == LAST_GENERATION else Condition.EMPTY, 0))
+        after = self.state.changed(self.lost, {z: ZoneRecord(raised, Condition.WORN if raised == LAST_GENERATION else Condition.EMPTY, 0)})
         for d in self.present:
             yield from self.to_log(d, GENERAL_LOG, counters(g, [zone.generation for zone in after.zones]))
         yield from self.on_all("flush")
@@ -316,128 +363,4 @@ class Call:
         for z in range(self.geometry.L):
             generation = max((last.generations[z] for last in lasts), default=0)
             self.zones.append(Zone(self.drives, self.logs, self.present, z, generation))
-        return State(self.lost, [zone.shown() for zone in self.zones])
-
-    # ---- section 9: mount
-
-    def mount(self):
-        g = self.geometry
-        self.check_input()
-        self.settle_by_labels()
-        self.records = self.show().zones
-        self.lacking_general = self.lacking(self.present, GENERAL_LOG, g.L + 2, self.records, in_mount=True)
-        self.lacking_parity = self.lacking(self.present, PARITY_LOG, g.R, self.records, in_mount=True)
-        yield from self.on_all("flush")
-        for step in (self.spares_step, self.general_logs_step, self.labels_step, self.type_3_step, self.resets_step, self.counters_step,
-                     self.seals_step, self.torn_rows_step, self.sectors_step, self.parity_logs_step, self.type_4_step):
-            stored = False
-            for store in step():
-                stored = True
-                yield store
-            if stored:
-                yield from self.on_all("flush")
-        self.logs = Logs(self.drives, self.present)
-        return self.show()
-
-    def each_zone(self):
-        """Drives ascend, and zones in each drive."""
-        return ((d, z, zone) for d in self.present for z, zone in enumerate(self.zones))
-
-    def spares_step(self):
-        for d in self.present:
-            if self.drives.written(d, self.logs.spare(d)):
-                yield Store("reset", d, self.logs.spare(d))
-
-    def general_logs_step(self):
-        for d in self.lacking_general:
-            yield from self.empty(d, GENERAL_LOG, self.general_copies(d, self.records))
-
-    def parity_logs_step(self):
-        for d in self.lacking_parity:
-            yield from self.empty(d, PARITY_LOG, self.parity_copies(d, self.records, lambda z, n: self.zones[z].values))
-
-    def labels_step(self):
-        for d in self.present:
-            if self.lost not in (NO_DRIVE, self.logs.last(d, LABEL).lost):
-                yield from self.to_log(d, GENERAL_LOG, label(self.geometry, d, self.lost, self.array))
-
-    def type_3_step(self):
-        for d, z, zone in self.each_zone():
-            if zone.emptied and d in self.geometry.reset_drives(z):
-                yield from self.to_log(d, GENERAL_LOG, reset_entry(self.geometry, z, zone.generation))
-
-    def resets_step(self):
-        for d, z, zone in self.each_zone():
-            if zone.record.condition != Condition.WORN and (zone.emptied or (zone.record.pointer == 0 and not zone.clean)):
-                yield Store("reset", d, FIRST_DATA_ZONE + z)
-
-    def counters_step(self):
-        empty = [zone.record.condition == Condition.EMPTY for zone in self.zones]
-        if any(empty) or len({self.logs.last(d, COUNTERS) for d in self.present}) > 1:
-            generations = [zone.generation + raised for zone, raised in zip(self.zones, empty)]
-            for d in self.present:
-                yield from self.to_log(d, GENERAL_LOG, counters(self.geometry, generations))
-
-    def seals_step(self):
-        for d, z, zone in self.each_zone():
-            if zone.record.condition == Condition.SEALED and zone.record.pointer not in zone.seals[d]:
-                yield from self.to_log(d, GENERAL_LOG, seal(self.geometry, z, zone.record.pointer, zone.generation))
-
-    def torn_rows_step(self):
-        for d in self.present:
-            if self.logs.torn(d):
-                x, entry = self.logs.torn(d)
-                zone = self.zones[entry.zone]
-                true = zone.current(entry) and entry.end <= zone.record.pointer
-                for r in range(self.drives.written(d, self.logs.zones[d, PARITY_LOG]) - x - 1, entry.rows):
-                    row = self.row_sum(zone.values, entry.stripe, r, entry.end) if true else bytes(self.geometry.B)
-                    yield from self.to_log(d, PARITY_LOG, row)
-
-    def sectors_step(self):
-        g = self.geometry
-        for d, z, zone in self.each_zone():
-            for x in range(self.drives.written(d, FIRST_DATA_ZONE + z), g.need(z, zone.record.pointer, d)):
-                s, r = divmod(x, g.U)
-                if d == g.parity_drive(z, s):
-                    data = self.row_sum(zone.values, s, r, zone.record.pointer)
-                else:
-                    data = zone.values[g.row_offsets(s, r)[g.unit_of(z, s, d)]]
-                yield Store("append", d, FIRST_DATA_ZONE + z, data)
-
-    def type_4_step(self):
-        g = self.geometry
-        for d, z, zone in self.each_zone():
-            n = zone.record.pointer
-            if n % g.K and d == g.parity_drive(z, n // g.K):
-                whole = walk(self.drives, d, PARITY_LOG, self.logs.zones[d, PARITY_LOG]).whole
-                if not any(zone.current(entry) and entry.end == n for _, entry in whole):
-                    yield from self.to_log(d, PARITY_LOG, *self.parity_entry(z, n, zone.generation, zone.values))
-
-
-class Host:
-    """What a host has (sections 2 and 10): the drives' memory, the geometry for the calls, and the state of the last finished call."""
-
-    def __init__(self, geometry):
-        self.geometry, self.memory, self.state = geometry, Memory(geometry), None
-        self.stores, self.bad_place = [], None
-
-    def store(self, name, named, *arguments, count=ALL_STORES, lengths=None):
-        """A call that stores: its answer, a number. Finished, its state is kept. Refused for a log's sector, `bad_place` is that sector's."""
-        call = Call(self.geometry, self.memory, named, self.state, lengths)
-        self.stores, self.bad_place = call.made, None
-        try:
-            self.state = call.carry_out(getattr(call, name)(*arguments), count)
-            return Answer.FINISHED
-        except Refused as refused:
-            self.bad_place = refused.place
-            return refused.number
-        except Unfinished:
-            return Answer.UNFINISHED
-
-    def ask(self, name, named, *arguments, state=None, lengths=None):
-        """A look, read, peek or report: its answer, and what it gives if it finishes, or the place of a log's sector for which it is refused."""
-        call = Call(self.geometry, self.memory, named, state or self.state, lengths)
-        try:
-            return Answer.FINISHED, getattr(call, name)(*arguments)
-        except Refused as refused:
-            return refused.number, refused.place
+        return State(self.lost, [zone.shown() for zone in self.zones], self.all_shares(), self.geometry.D)

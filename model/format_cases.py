@@ -2,8 +2,8 @@
 from collections import namedtuple
 from itertools import groupby
 
-from format_calls import Host
-from format_numbers import FIRST_DATA_ZONE, GENERAL_LOG, LOGS, PARITY_LOG, Condition
+from format_host import Host
+from format_numbers import FIRST_DATA_ZONE, GENERAL_LOG, LOGS, PARITY_LOG, Answer, Condition
 from format_volume import Drives, Geometry, Logs, read_entry
 
 V = Geometry(D=4, B=64, U=2, L=2, C=32)
@@ -31,9 +31,9 @@ class Volume(Host):
         super().__init__(V)
         self.drives = Drives(V, self.memory)
 
-    def write(self, address, sectors, named=ALL_DRIVES):
+    def write(self, address, sectors, named=ALL_DRIVES, host=0):
         offset = address % V.Q
-        return self.store("write", named, address, sectors, b"".join(sector(a) for a in range(offset, offset + sectors)))
+        return self.store("write", named, host, address, sectors, b"".join(sector(a) for a in range(offset, offset + sectors)))
 
     def read(self, address, sectors, named=ALL_DRIVES):
         return self.ask("read", named, address, sectors, sectors * V.B)
@@ -108,11 +108,11 @@ def before_mount():
     return volume
 
 
-def before_emptied_parity_log():
-    """Section 8: zone 0 written sector by sector, up to where the next write empties a log."""
+def before_compact():
+    """Section 8: zone 0 written sector by sector, up to where the next write is past its host's share."""
     volume = formatted()
-    for a in range(27):
-        volume.write(a, 1)
+    while volume.write(volume.state.zones[0].pointer, 1) == Answer.FINISHED:
+        pass
     return volume
 
 

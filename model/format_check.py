@@ -2,15 +2,17 @@
 format_check_stores.py."""
 import re
 
-from format_cases import (ALL_DRIVES, ARRAY, FILLS, SPARE, V, Volume, before_emptied_general_log, before_emptied_parity_log, before_mount, either,
-                          ends, five_written, formatted, kept, sector, without)
+from format_cases import (ALL_DRIVES, ARRAY, FILLS, SPARE, V, Volume, before_compact, before_emptied_general_log, before_mount, either, ends,
+                          five_written, formatted, kept, sector, without)
+from format_check_hosts import check_compact, check_limits, check_shares
 from format_check_stores import check_emptying, check_mount, check_stores
 from format_numbers import (CLOSING, COUNTERS, FIRST_DATA_ZONE, GENERAL_LOG, LABEL, LOGS, MOST_ZONE_SECTORS, PARITY_LOG, PARTIAL_PARITY, RESET,
                             SEAL, SECTOR_SIZES, Answer, Condition)
 from format_page import NotFound, Page
-from format_volume import Geometry, Logs, ZoneRecord, closing, counters, header, partial_parity, reset_entry, seal
+from format_volume import Geometry, Logs, closing, counters, header, partial_parity, reset_entry, seal
 
-CALL_LETTERS = {"f": "format", "l": "look", "m": "mount", "w": "write", "u": "flush", "r": "reset", "d": "read", "p": "peek", "o": "report"}
+CALL_LETTERS = {"f": "format", "l": "look", "m": "mount", "w": "write", "u": "flush", "r": "reset", "k": "compact", "d": "read", "p": "peek",
+                "o": "report"}
 
 
 def check_geometry(page):
@@ -67,9 +69,9 @@ def check_entries(page):
     sealed = kept([2, 1, 1, 0], 0)
     sealed.store("mount", ALL_DRIVES)
     mounted.store("mount", without(2))
-    general, parity = before_emptied_general_log(), before_emptied_parity_log()
+    general, parity = before_emptied_general_log(), before_compact()
     general.store("reset", without(3), 0)
-    parity.write(27, 1)
+    parity.store("compact", ALL_DRIVES, 3)
     page.dumps({
         "drive 2 of V after a format with all drives": formatted().drives.sector(2, GENERAL_LOG, 0),
         "the same, on drive 1, by a mount without drive 0": only(lost, LABEL, 1),
@@ -83,7 +85,7 @@ def check_entries(page):
         "V after the write of 5 at 0": five.state.to_bytes(),
         "V after the mount of section 9": mounted.state.to_bytes(),
     })
-    page.phrase("At the C edge it is {} bytes, whatever L:", len(five.state.to_bytes()))
+    page.phrase("At the C edge it is {} bytes, whatever D and L:", len(five.state.to_bytes()))
     page.phrase("type 3: zone 0 of V, 0 to 96, generation 1 (drives {} and {})", *sorted(V.reset_drives(0)))
     page.phrase("start {} 10: 05 00 00 00 00 00 00 00 01 00 00 00 00 00 00 00 end {}, generation {};", *ends(five.stores[-3]), 1)
     rows = [five.drives.sector(3, PARITY_LOG, x) for x in (1, 2)]
@@ -196,11 +198,13 @@ def check_refusals_on_v(page):
     five = five_written()
     page.phrase("read of 4 to 5: {}. Read of 95 and 96: {}. Read of 192: {}, of no sectors there too.",
                 five.read(4, 2)[0], five.read(95, 2)[0], either(five.read(192, count)[0] for count in (0, 1)))
-    page.phrase("Write at 4 or 6: {}, of no sectors at 6: {}.", either(five.write(at, 1) for at in (4, 6)), five.write(6, 0))
+    page.phrase("Write at 4 or 6: {}, of no sectors at 6: {}, by host 2 there: {}.",
+                either(five.write(at, 1) for at in (4, 6)), five.write(6, 0), five.write(6, 0, host=2))
+    page.phrase("Compact of drive 4: {}, of drive 2 without it: {}.", five.store("compact", ALL_DRIVES, 4), five.store("compact", without(2), 2))
     page.phrase("Peek of 4: byte {}; without drive 2: {}, while a read of it without drive 2 gives its bytes, {}.",
                 five.ask("peek", ALL_DRIVES, 4)[1], five.ask("peek", without(2), 4)[0], five.read(4, 1, without(2))[1])
     page.phrase("Mask 3 (drives 0 and 1): {}.", five.read(0, 1, 3)[0])
-    at_0 = five.state.with_zone(five.state.lost, 0, ZoneRecord(1, Condition.OPEN, 0))
+    at_0 = five.state.changed(zones={0: five.state.zones[0]._replace(pointer=0)})
     page.phrase("State open at 0: {}.", five.ask("read", ALL_DRIVES, 0, 1, V.B, state=at_0)[0])
     five.memory.written[V.Z + 4] = 33
     page.phrase("With a write pointer of 33 in zone 4 of drive 1: {}, also for a read in zone 0.", five.read(0, 1)[0])
@@ -245,6 +249,7 @@ def check_names(page):
     for (position, (number, word, _)), answer in zip(rows, refusals):
         page.compare(position, "%s %s" % (number, word), "%d %s" % (answer, answer.name.lower().replace("_", " ")))
     page.phrase("condition (1: 0 {}, 1 {}, 2 {}, 3 {})", *(condition.name.lower() for condition in Condition))
+    page.phrase("owner (1: 0 none, 1 host {}, 2 host {})", *(owner - 1 for owner in (1, 2)))
 
 
 def check_matrix(page, answers):
@@ -262,25 +267,42 @@ def check_matrix(page, answers):
 
 
 def tried(name):
-    """The refusals of a call where a drive's pointers are out of order, where a table is short, and past the last address or zone."""
-    calls = {"format": (ARRAY,), "write": (5, 1, sector(5)), "reset": (0,), "read": (0, 1, V.B), "peek": (0,), "report": (V.L,)}
-    past = {"write": (V.L * V.Q, 1, sector(5)), "reset": (V.L,), "read": (V.L * V.Q, 1, V.B), "peek": (V.L * V.Q,)}
+    """The refusals of a call where a drive's pointers are out of order, where a table is short, where two drives are named, past the last address, zone
+    or drive, where a log's last header has its rows past the zone's end, and where an entry is gone with a drive."""
+    calls = {"format": (ARRAY,), "write": (0, 5, 1, sector(5)), "reset": (0,), "compact": (0,), "read": (0, 1, V.B), "peek": (0,), "report": (V.L,)}
+    past = {"write": (0, V.L * V.Q, 1, sector(5)), "reset": (V.L,), "compact": (V.D,), "read": (V.L * V.Q, 1, V.B), "peek": (V.L * V.Q,)}
     sectors, written, durable = V.lengths()
 
-    def answer(arguments, disorder=0, lengths=None):
+    def answer(arguments, named=ALL_DRIVES, change=lambda volume: None, lengths=None):
         volume = five_written()
-        volume.memory.written[0] += disorder
+        change(volume)
         if name in ("look", "read", "peek", "report"):
-            return volume.ask(name, ALL_DRIVES, *arguments, lengths=lengths)[0]
-        return volume.store(name, ALL_DRIVES, *arguments, lengths=lengths)
+            return volume.ask(name, named, *arguments, lengths=lengths)[0]
+        return volume.store(name, named, *arguments, lengths=lengths)
 
     own = calls.get(name, ())
-    found = {answer(own, disorder=V.C), answer(own, lengths=(sectors - 1, written, durable)), answer(past.get(name, own))}
+    found = {answer(own, change=pointers_out_of_order), answer(own, lengths=(sectors - 1, written, durable)), answer(own, 0b11),
+             answer(past.get(name, own)), answer(own, change=rows_past_the_end), answer(own, without(0), empty_parity_log)}
     return found - {Answer.FINISHED}
 
 
+def pointers_out_of_order(volume):
+    volume.memory.written[0] += V.C
+
+
+def rows_past_the_end(volume):
+    """Drive 3's parity log, which has 3 sectors: entries up to a header in its last sector."""
+    for data in [partial_parity(V, 0, 1, 0), bytes(V.B)] * ((V.C - 4) // 2) + [partial_parity(V, 0, 1, 0)]:
+        volume.drives.append(3, PARITY_LOG, data)
+
+
+def empty_parity_log(volume):
+    volume.drives.reset(3, PARITY_LOG)
+
+
 def least_room(log, call):
-    """The least room in one log of drive 3 with which a call on V, formatted, does not empty that log. It is filled with old entries."""
+    """The least room in one log of drive 3 with which a call on V, formatted, is not refused and does not empty that log. It is filled with old
+    entries."""
     row = bytes(V.B)
     for room in range(V.C - 3, -1, -1):
         volume = formatted()
@@ -289,8 +311,7 @@ def least_room(log, call):
             rows = 0 if log == GENERAL_LOG else 2 if more == 3 else 1
             for sector in [partial_parity(V, 0, rows, 0) if rows else counters(V, [1] * V.L)] + [row] * rows:
                 volume.drives.append(3, log, sector)
-        call(volume)
-        if volume.drives.written(3, SPARE):
+        if call(volume) or volume.drives.written(3, SPARE):
             return room + 1
     return 0
 
@@ -306,7 +327,7 @@ def check(path, answers, replay):
     """Compares the page with the model and with the answers of the vectors; 0 if they agree. `replay` gives the answers to the lines of a script."""
     page = Page(path)
     for section in (check_geometry, check_placement, check_entries, check_walks, check_looks, check_refusals, check_bad_places, check_names,
-                    check_emptying, check_stores, check_mount, lambda page: check_matrix(page, answers), lambda page: check_script(page, replay)):
+                    check_shares, check_emptying, check_stores, check_limits, check_compact, check_mount, lambda page: check_matrix(page, answers), lambda page: check_script(page, replay)):
         try:
             section(page)
         except NotFound as missing:

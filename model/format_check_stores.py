@@ -3,8 +3,8 @@ import re
 from itertools import groupby
 from random import Random
 
-from format_cases import (ALL_DRIVES, SPARE, V, before_emptied_general_log, before_emptied_parity_log, before_mount, either, ends, five_written, formatted,
-                          in_words, kept, without)
+from format_cases import (ALL_DRIVES, SPARE, V, before_emptied_general_log, before_mount, either, ends, five_written, formatted, in_words, kept,
+                          without)
 from format_numbers import CLOSING, COUNTERS, FIRST_DATA_ZONE, GENERAL_LOG, LABEL, PARITY_LOG, PARTIAL_PARITY, RESET, Condition
 from format_page import written_out
 from format_volume import counters
@@ -13,17 +13,13 @@ DRAWN_CUTS = 6
 
 
 def check_emptying(page):
-    """Section 8: an emptying of each kind of log."""
-    parity, general = before_emptied_parity_log(), before_emptied_general_log()
-    rooms = parity.drives.room(3, PARITY_LOG), general.drives.room(0, GENERAL_LOG)
-    parity.write(27, 1)
-    general.store("reset", without(3), 0)
-    heading = "V, zone 0 written sector by sector: at 27 drive 3's parity log has room for"
-    page.phrase(heading + " {}, and {} are wanted. Write of 1 at 27, {} stores:", rooms[0], 1 + V.U + V.R, len(parity.stores))
-    check_runs(page, heading, parity)
+    """Section 8: an emptying of general logs. That of a parity log is a compact's."""
+    volume = before_emptied_general_log()
+    room = volume.drives.room(0, GENERAL_LOG)
+    volume.store("reset", without(3), 0)
     heading = "V formatted without drive 3, zone 0 reset 13 times: drive 0's general log has room for"
-    page.phrase(heading + " {}, and {} are wanted. Reset of zone 0, {} stores, of which", rooms[1], V.L + 4, len(general.stores))
-    check_runs(page, heading, general)
+    page.phrase(heading + " {}, and {} are wanted. Reset of zone 0, {} stores, of which", room, V.L + 4, len(volume.stores))
+    check_runs(page, heading, volume)
 
 
 def check_runs(page, heading, volume):

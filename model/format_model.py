@@ -1,5 +1,6 @@
 #!/usr/bin/env python3
-"""A second implementation of the volume, written along docs/FORMAT.md (format_volume.py, format_calls.py and format_grouped.py), and its uses.
+"""A second implementation of the volume, written along docs/FORMAT.md, and its uses. It is in format_volume.py, format_state.py, format_calls.py,
+format_mount.py, format_host.py and format_grouped.py.
 
     model/format_model.py replay < crates/replay/stdin     the answers to a script of commands (section 12), one a line
     model/format_model.py grouped < c/vectors/grouped.txt  the same for segments with grouped stripes (section 13)
@@ -11,11 +12,11 @@ import struct
 import sys
 import zlib
 
-from format_calls import Host
 from format_check import check
 from format_grouped import GroupedReplay, numbers, stream_bytes
+from format_host import Host
 from format_numbers import DESCRIPTOR_BYTES, Answer, Condition
-from format_volume import Drives, Geometry, State, ZoneRecord, header
+from format_volume import Drives, Geometry, header
 
 NOTHING_SHORT = (0, 0, 0, 0)
 UNTOUCHED = bytes([0xEE]) * DESCRIPTOR_BYTES
@@ -27,7 +28,7 @@ def at(place):
 
 
 def words(state):
-    return ["lost", state.lost] + ["%d:%d:%d" % record for record in state.zones]
+    return ["lost", state.lost] + ["%d:%d:%d:%d" % record for record in state.zones] + ["%d/%d" % pair for pair in state.shares[:state.drives]]
 
 
 class Replay:
@@ -39,7 +40,7 @@ class Replay:
     def answer(self, line):
         letter, *arguments = line.split()
         arguments = [int(argument) for argument in arguments]
-        if letter in "wurdpo" and self.host.state is None:
+        if letter in "wurkdpo" and self.host.state is None:
             code, rest = Answer.NO_STATE, []
         else:
             code, rest = getattr(self, "command_" + letter)(*arguments) or (Answer.FINISHED, [])
@@ -55,7 +56,7 @@ class Replay:
     def kept_state(self, letter):
         if self.host.state is None:
             return ["none"]
-        return words(self.host.state) if letter in "fmwur" else ["same"]
+        return words(self.host.state) if letter in "fmwurk" else ["same"]
 
     def lengths(self):
         memory = self.host.memory
@@ -80,14 +81,17 @@ class Replay:
         code, _ = self.store("mount", named, count=count)
         return code, at(self.host.bad_place)
 
-    def command_w(self, named, address, sectors, seed, count):
-        return self.store("write", named, address, sectors, stream_bytes(seed, self.buffer(sectors)), count=count)
+    def command_w(self, named, host, address, sectors, seed, count):
+        return self.store("write", named, host, address, sectors, stream_bytes(seed, self.buffer(sectors)), count=count)
 
     def command_u(self, named, count):
         return self.store("flush", named, count=count)
 
     def command_r(self, named, zone, count):
         return self.store("reset", named, zone, count=count)
+
+    def command_k(self, named, drive, count):
+        return self.store("compact", named, drive, count=count)
 
     def command_d(self, named, address, sectors):
         code, data = self.ask("read", named, address, sectors, self.buffer(sectors))
@@ -139,13 +143,24 @@ class Replay:
         self.host.memory.written[index], self.host.memory.durable[index] = written, durable
 
     def command_s(self, zone, generation, condition, pointer):
-        state = self.host.state
-        if state:
-            self.host.state = state.with_zone(state.lost, zone, ZoneRecord(generation, condition, 0 if condition == Condition.EMPTY else pointer))
+        self.change_zone(zone, generation=generation, condition=condition, pointer=0 if condition == Condition.EMPTY else pointer)
+
+    def command_i(self, zone, owner):
+        self.change_zone(zone, owner=owner)
 
     def command_x(self, lost):
+        self.change_state(lost=lost)
+
+    def command_h(self, drive, *shares):
+        self.change_state(shares={drive: shares})
+
+    def change_zone(self, zone, **fields):
+        if self.host.state and zone < len(self.host.state.zones):
+            self.change_state(zones={zone: self.host.state.zones[zone]._replace(**fields)})
+
+    def change_state(self, **parts):
         if self.host.state:
-            self.host.state = State(lost, self.host.state.zones)
+            self.host.state = self.host.state.changed(**parts)
 
     def command_e(self, drive, zone, kind, start, end, generation):
         self.append(drive, zone, header(self.host.memory.geometry, kind, start, end, generation))

@@ -22,6 +22,8 @@ class Answer(IntEnum):
     GONE = 15
     ENTRY = 16
     ROWS = 17
+    HOST_LIMIT = 18
+    OPEN_LIMIT = 19
     NO_STATE = 254       # in a script alone
     UNFINISHED = 255
 
@@ -52,5 +54,9 @@ MOST_ZONES = 16
 SECTOR_SIZES = (64, 128, 256, 512, 1024, 2048, 4096)
 MOST_ZONE_SECTORS = 65536
 HEADER_BYTES = 32                           # of an entry; the generations of counters come after them
-STATE_RECORDS, STATE_RECORD_BYTES = MOST_ZONES, 16
+HOST_LIMITS = (14, 4)       # how many zones each host may hold open: the mixing desk's, the dubbing desk's
+OPEN_ZONES = 14             # how many the drives allow in all
+HOSTS = len(HOST_LIMITS)
+NO_OWNER = 0                # the owner byte of a zone that no host is known to have written; a host's is its number plus 1
+STATE_RECORDS, STATE_RECORD_BYTES, STATE_DRIVES = MOST_ZONES, 16, MOST_DRIVES
 DESCRIPTOR_BYTES = 32

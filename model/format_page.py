@@ -1,9 +1,9 @@
 """Reads docs/FORMAT.md: finds the values that stand in its dumps, tables and sentences, and compares them with what the model gives."""
 import re
 
-DUMP = re.compile(r"\b((?:[0-9a-f]{2}, )*[0-9a-f]{2}): (zero|(?:[0-9a-f]{2} )*[0-9a-f]{2}\b)(?:, zero to ([0-9a-f]+))?")
+DUMP = re.compile(r"\b((?:[0-9a-f]{2}, )*[0-9a-f]{2,3}): (zero|(?:[0-9a-f]{2} )*[0-9a-f]{2}\b)(?:, zero to ([0-9a-f]+))?")
 SLOT = r"(\w[\w,]*)"
-NUMBER_WORDS = {"one": "1", "two": "2", "nine": "9", "ten": "10", "eleven": "11"}
+NUMBER_WORDS = {"one": "1", "two": "2", "four": "4", "nine": "9", "ten": "10", "eleven": "11"}
 DUMP_LINE_BYTES = 16
 
 
@@ -109,6 +109,7 @@ class Page:
             self.compare(position, match[2], "zero" if match[2] == "zero" and not any(gives) else gives.hex(" "))
             shown.update(range(offset, end))
             if match[3]:
-                self.compare(position, "zero to " + match[3], data[end:].hex(" ") if any(data[end:]) else "zero to %x" % (len(data) - 1))
-                shown.update(range(end, len(data)))
+                last = int(match[3], 16)
+                self.compare(position, "zero to %x" % last, data[end:last + 1].hex(" ") if any(data[end:last + 1]) else "zero to %x" % last)
+                shown.update(range(end, last + 1))
         return shown

@@ -1,4 +1,4 @@
-"""The model of docs/FORMAT.md, first half: sections 1 to 6 and 10, what lies on the drives and what it shows.
+"""The model of docs/FORMAT.md, first half: sections 1 to 6, what lies on the drives and what it shows.
 
 Written along that page, to be read beside it, not to be fast. Each part names its section; one-letter names are the page's letters.
 """
@@ -6,8 +6,8 @@ import struct
 from collections import namedtuple
 
 from format_numbers import (CLOSING, COUNTERS, FIRST_DATA_ZONE, GENERAL_LOG, HEADER_BYTES, LABEL, LAST_GENERATION, LEAST_DRIVES, LOGS, MOST_DRIVES,
-                            MOST_UNIT, MOST_ZONE_SECTORS, MOST_ZONES, NO_DRIVE, PARITY_LOG, PARTIAL_PARITY, RESET, SEAL, SECTOR_SIZES,
-                            STATE_RECORD_BYTES, STATE_RECORDS, Answer, Condition, Told)
+                            MOST_UNIT, MOST_ZONE_SECTORS, MOST_ZONES, NO_DRIVE, PARITY_LOG, PARTIAL_PARITY, RESET, SEAL, SECTOR_SIZES, Answer, Condition)
+from format_state import ZoneRecord
 
 Place = namedtuple("Place", "drive sector parity_drive stripe unit row")
 Store = namedtuple("Store", "kind drive zone data sector", defaults=(None,) * 3)     # kind: append, reset or flush
@@ -16,9 +16,7 @@ Walk = namedtuple("Walk", "whole torn bad", defaults=((), None, None))
 Bad = namedtuple("Bad", "sector answer")                # where a walk found no entry, and the refusal that this is
 BadPlace = namedtuple("BadPlace", "drive zone sector")
 Role = namedtuple("Role", "log generation")
-ZoneRecord = namedtuple("ZoneRecord", "generation condition pointer")
 MARK, VERSION = b"ZRV", bytes([1, 0])
-TOLD = {Condition.EMPTY: Told.EMPTY, Condition.OPEN: Told.OPEN, Condition.SEALED: Told.READ_ONLY, Condition.WORN: Told.READ_ONLY}
 
 
 class Entry(namedtuple("Entry", "type zone stripe end generation rows lost array generations", defaults=(None,) * 4 + (0,) + (None,) * 3)):
@@ -383,29 +381,3 @@ class Zone:
         whole = [e for d in self.present for e in self.logs.entries(d, PARTIAL_PARITY)]
         torn = [self.logs.torn(d)[1] for d in self.present if self.logs.torn(d)]
         return not any(self.current(e) and e.end > n for e in whole + torn)
-
-
-class State:
-    """Section 10: what the host keeps between calls."""
-
-    def __init__(self, lost, zones):
-        self.lost, self.zones = lost, list(zones)
-
-    def of_zones(self, L):
-        """The state as L zones see it: records from L on must be all zero, and missing ones are. None if they are not."""
-        nothing = ZoneRecord(0, Condition.EMPTY, 0)
-        if any(record != nothing for record in self.zones[L:]):
-            return None
-        return State(self.lost, (self.zones + [nothing] * L)[:L])
-
-    def with_zone(self, lost, z=None, record=None):
-        return State(lost, [record if i == z else old for i, old in enumerate(self.zones)])
-
-    def to_bytes(self):
-        records = [struct.pack("<QB3xI", *record) for record in self.zones]
-        return bytes([self.lost]) + bytes(7) + b"".join(records) + bytes(STATE_RECORD_BYTES * (STATE_RECORDS - len(records)))
-
-
-def descriptor(g, z, record):
-    """Section 10: the bytes in which a report tells of a zone."""
-    return struct.pack("<QQQB7x", z * g.Q, g.Q, record.pointer, TOLD[record.condition])

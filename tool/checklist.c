@@ -5,7 +5,7 @@
 #include <stdio.h>
 
 #include "bad_log.h"
-#include "bytes.h"
+#include "holders.h"
 #include "left_out.h"
 #include "refusals.h"
 
@@ -263,6 +263,7 @@ static void print_log(const struct log_zones *zones, uint32_t log, const char *n
 }
 
 void print_logs(const struct driver *driver) {
+    const uint8_t *state = state_in_force(&driver->drives.record);
     for (uint32_t d = 0; d < driver->drives.record.geometry.drives; d++) {
         if (!is_present(driver, d))
             continue;
@@ -272,9 +273,11 @@ void print_logs(const struct driver *driver) {
         print_log(&zones, GENERAL_LOG, "general");
         print_log(&zones, PARITY_LOG, "parity");
         if (spare == NO_ZONE)
-            printf("no spare zone\n");
+            printf("no spare zone");
         else
-            printf("spare zone %u\n", spare);
+            printf("spare zone %u", spare);
+        print_shares("; ", state, d);
+        putchar('\n');
     }
 }
 

@@ -1,4 +1,4 @@
-/* The commands that carry no data: format, flush, reset, mount, look and cut. */
+/* The commands that carry no data: format, flush, reset, compact, mount, look and cut. */
 #include "commands.h"
 
 #include <stdio.h>
@@ -9,6 +9,7 @@
 #include "bounds.h"
 #include "checklist.h"
 #include "folder.h"
+#include "holders.h"
 #include "look_json.h"
 #include "tool.h"
 #include "words.h"
@@ -33,12 +34,19 @@ static bool was_left_unfinished(const struct opening *opening, struct message *m
     return due;
 }
 
-/* A volume that can be used until its logs are full for good is one to know of before there is data in it. */
+/* A volume that can be used until its logs are full for good is one to know of before there is data in it. So is one whose shares are too small for writes. */
 static void warn_of_full_logs(struct geometry g) {
-    uint32_t least = least_roomy_zone_sectors(g);
-    if (g.zone_sectors < least)
-        fprintf(stderr, "zrv: warning: with zones of %u sectors the logs may fill up for good: a write, a reset or a mount is then refused (14); "
-                        "with --zone-sectors %u or more they never do\n", g.zone_sectors, least);
+    uint32_t least = least_sharing_zone_sectors(g);
+    if (g.zone_sectors >= least)
+        return;
+    fprintf(stderr, "zrv: warning: with zones of %u sectors ", g.zone_sectors);
+    if (g.zone_sectors < least_roomy_zone_sectors(g))
+        fprintf(stderr, "the logs may fill up for good: a write, a reset, a compact or a mount is then refused (14); ");
+    else
+        fprintf(stderr, "a write that ends inside a stripe may be refused (14) even when its drive was just compacted; ");
+    if (!leaves_shares(g))
+        fprintf(stderr, "no write can end inside a stripe: the hosts' shares of the logs are too small; ");
+    fprintf(stderr, "with --zone-sectors %u or more none of it can be\n", least);
 }
 
 /* A format by force destroys all of the shelf before it. */
@@ -129,8 +137,24 @@ int reset_main(int argc, char **argv) {
         struct call call = {.kind = CALL_RESET, .zone = (uint32_t)option[1].number, .count = (uint32_t)option[0].number};
         code = store_and_save(&driver, &call);
         if (code == EXIT_DONE) {
-            print_zone(driver.drives.record.geometry, driver.shown, call.zone);
+            print_zone(driver.drives.record.geometry, driver.shown, driver.shown, call.zone);
             putchar('\n');
+        }
+    }
+    close_drives(&driver.drives);
+    return code;
+}
+
+int compact_main(int argc, char **argv) {
+    struct command_option option[] = {STORES_OPTION, {.name = "drive", .kind = OPTION_NUMBER, .needed = true, .most = UINT32_MAX}};
+    struct driver driver;
+    int code = begin_call(CALL_COMPACT, argc, argv, option, COUNT(option), &driver);
+    if (code == EXIT_DONE) {
+        struct call call = {.kind = CALL_COMPACT, .drive = (uint32_t)option[1].number, .count = (uint32_t)option[0].number};
+        code = store_and_save(&driver, &call);
+        if (code == EXIT_DONE) {
+            uint32_t share = share_in_state(driver.shown, call.drive, 0);
+            printf("compacted drive %u: each host has a share of %u sector%s of its parity log\n", call.drive, share, plural(share));
         }
     }
     close_drives(&driver.drives);
@@ -146,7 +170,7 @@ int mount_main(int argc, char **argv) {
         code = store_and_save(&driver, &call);
         if (code == EXIT_DONE) {
             printf("mounted %u of %u drives\n", drives_named(&driver), driver.drives.record.geometry.drives);
-            print_zones(driver.drives.record.geometry, driver.shown);
+            print_zones(driver.drives.record.geometry, driver.shown, driver.shown);
         }
     }
     close_drives(&driver.drives);
@@ -157,11 +181,14 @@ int mount_main(int argc, char **argv) {
 static bool print_look(const struct driver *driver, uint32_t answer, struct message *message) {
     if (!print_checklist(driver, answer, message))
         return false;
-    if (answer == ZRV_FINISHED)
-        print_zones(driver->drives.record.geometry, driver->shown);
+    const struct host_record *record = &driver->drives.record;
+    if (answer == ZRV_FINISHED) {
+        print_zones(record->geometry, driver->shown, state_in_force(record));
+        print_open_zones(record->geometry, state_in_force(record));
+    }
     print_logs(driver);
-    if (driver->drives.record.phase == PHASE_MOUNT_DUE)
-        printf("power was cut: a mount comes next\n");
+    if (record->phase == PHASE_MOUNT_DUE)
+        printf("%s: a mount comes next\n", why_mount_is_due(record));
     return true;
 }
 

@@ -4,7 +4,7 @@
 #include <stdio.h>
 
 #include "bad_log.h"
-#include "bytes.h"
+#include "holders.h"
 #include "refusals.h"
 
 /* A number, or null where there is none. */
@@ -32,8 +32,10 @@ static void print_zone_objects(const struct driver *driver) {
     struct geometry g = driver->drives.record.geometry;
     for (uint32_t z = 0; z < g.zones; z++) {
         const uint8_t *record = zone_record(driver->shown, z);
-        printf("\n    {\"zone\": %u, \"pointer\": %u, \"condition\": \"%s\", \"generation\": %llu}%s", z, get32(record + ZRV_RECORD_POINTER),
-               condition_word(record[ZRV_RECORD_CONDITION]), (unsigned long long)get64(record + ZRV_RECORD_GENERATION), z + 1 < g.zones ? "," : "\n  ");
+        printf("\n    {\"zone\": %u, \"pointer\": %u, \"condition\": \"%s\", \"generation\": %llu, \"host\": ", z, get32(record + ZRV_RECORD_POINTER),
+               condition_word(record[ZRV_RECORD_CONDITION]), (unsigned long long)get64(record + ZRV_RECORD_GENERATION));
+        print_holder_json(g, state_in_force(&driver->drives.record), z);
+        printf("}%s", z + 1 < g.zones ? "," : "\n  ");
     }
 }
 
@@ -58,6 +60,8 @@ static void print_drive_object(const struct driver *driver, uint32_t drive) {
         print_log_object(&zones, PARITY_LOG, "parity");
         printf(", \"spare\": ");
         print_or_null(find_spare(&zones), NO_ZONE);
+        printf(", \"shares\": ");
+        print_shares_json(state_in_force(&driver->drives.record), drive);
     }
     printf("}");
 }
@@ -72,7 +76,9 @@ void print_look_json(const struct driver *driver, uint32_t answer) {
     printf(",\n  \"mount_due\": %s,\n  \"zones\": [", driver->drives.record.phase == PHASE_MOUNT_DUE ? "true" : "false");
     if (shown)
         print_zone_objects(driver);
-    printf("],\n  \"drives\": [\n");
+    printf("],\n  \"open_zones\": ");
+    print_open_zones_json(driver->drives.record.geometry, state_in_force(&driver->drives.record));
+    printf(",\n  \"drives\": [\n");
     for (uint32_t d = 0; d < drives; d++) {
         print_drive_object(driver, d);
         printf(d + 1 < drives ? ",\n" : "\n");

@@ -6,7 +6,7 @@
 
 #include "call.h"
 
-enum { LAST_REFUSAL = ZRV_LOG_ROWS };
+enum { LAST_REFUSAL = ZRV_OPEN_LIMIT };
 
 /* The word of a refusal; "no refusal" for any other number. */
 const char *refusal_word(uint32_t number);
@@ -14,7 +14,7 @@ const char *refusal_word(uint32_t number);
 /* The word of a condition in a zone's record. */
 const char *condition_word(uint8_t condition);
 
-/* Prints "NUMBER WORD: sentence" and a new line, of any refusal but those with a place. The call and the state tell the addresses that a sentence names. */
-void print_refusal(FILE *to, uint32_t number, const struct call *call, struct geometry geometry, const uint8_t *state);
+/* Prints "NUMBER WORD: sentence" and a new line, of any refusal but those with a place. The call and the state tell the numbers that a sentence names. */
+void print_refusal(FILE *to, uint32_t answer, const struct call *call, struct geometry geometry, const uint8_t *state);
 
 #endif

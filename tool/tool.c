@@ -8,6 +8,7 @@
 #include "bad_log.h"
 #include "bytes.h"
 #include "call_kinds.h"
+#include "holders.h"
 #include "refusals.h"
 
 int usage_error(const char *command, const char *format, ...) {
@@ -94,17 +95,18 @@ void print_size(struct geometry g) {
     printf("%u drives, %u zone%s of %llu sectors of %u bytes\n", g.drives, g.zones, plural(g.zones), (unsigned long long)zone_addresses(g), g.sector_bytes);
 }
 
-void print_zone(struct geometry g, const uint8_t *state, uint32_t zone) {
+void print_zone(struct geometry g, const uint8_t *state, const uint8_t *holders, uint32_t zone) {
     const uint8_t *record = zone_record(state, zone);
     printf("zone %u: %s", zone, condition_word(record[ZRV_RECORD_CONDITION]));
     if (record[ZRV_RECORD_CONDITION] != ZRV_EMPTY)
         printf(" at %u of %llu sectors", get32(record + ZRV_RECORD_POINTER), (unsigned long long)zone_addresses(g));
     printf(", generation %llu", (unsigned long long)get64(record + ZRV_RECORD_GENERATION));
+    print_holder(g, holders, zone);
 }
 
-void print_zones(struct geometry g, const uint8_t *state) {
+void print_zones(struct geometry g, const uint8_t *state, const uint8_t *holders) {
     for (uint32_t zone = 0; zone < g.zones; zone++) {
-        print_zone(g, state, zone);
+        print_zone(g, state, holders, zone);
         putchar('\n');
     }
 }

@@ -35,10 +35,10 @@ int store_and_save(struct driver *driver, const struct call *call);
 /* "4 drives, 2 zones of 96 sectors of 64 bytes" and a new line. */
 void print_size(struct geometry geometry);
 
-/* A line for each zone of a state: its condition, pointer and generation. */
-void print_zones(struct geometry geometry, const uint8_t *state);
+/* A line for each zone of a state: its condition, pointer, generation, and who holds it by a state that knows that (NULL: none does). */
+void print_zones(struct geometry geometry, const uint8_t *state, const uint8_t *holders);
 
-/* "zone 1: open at 5 of 96 sectors, generation 1", without a new line. */
-void print_zone(struct geometry geometry, const uint8_t *state, uint32_t zone);
+/* "zone 1: open at 5 of 96 sectors, generation 1, held by host 0", without a new line. */
+void print_zone(struct geometry geometry, const uint8_t *state, const uint8_t *holders, uint32_t zone);
 
 #endif

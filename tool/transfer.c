@@ -13,7 +13,7 @@
 enum { CHUNK_BYTES = 1 << 20, SHOWN_BYTES = 16 };
 
 /* The words that say where: an address or a zone. */
-enum { AT, ZONE, FILE_NAME, STORES, PAD, WRITE_OPTIONS, SECTOR_COUNT = STORES, READ_OPTIONS = PAD };
+enum { AT, ZONE, FILE_NAME, STORES, PAD, HOST, WRITE_OPTIONS, SECTOR_COUNT = STORES, READ_OPTIONS = PAD };
 
 #define AT_OPTION {.name = "at", .kind = OPTION_NUMBER, .most = UINT64_MAX}
 #define ZONE_OPTION {.name = "zone", .kind = OPTION_NUMBER, .most = UINT32_MAX}
@@ -63,6 +63,7 @@ static int write_data(struct driver *driver, const struct command_option *option
     struct message message;
     struct call call = {
         .kind = CALL_WRITE,
+        .host = (uint32_t)option[HOST].number,
         .address = option[AT].number,
         .run = (uint32_t)(data->length / g.sector_bytes),
         .count = (uint32_t)option[STORES].number,
@@ -76,7 +77,7 @@ static int write_data(struct driver *driver, const struct command_option *option
     if (code != EXIT_DONE)
         return code;
     printf("wrote %u sector%s at address %llu; ", call.run, plural(call.run), (unsigned long long)call.address);
-    print_zone(g, driver->shown, (uint32_t)(call.address / zone_addresses(g)));
+    print_zone(g, driver->shown, driver->shown, (uint32_t)(call.address / zone_addresses(g)));
     putchar('\n');
     return EXIT_DONE;
 }
@@ -105,6 +106,7 @@ int write_main(int argc, char **argv) {
         [FILE_NAME] = {.name = "from", .kind = OPTION_TEXT},
         [STORES] = STORES_OPTION,
         [PAD] = {.name = "pad", .kind = OPTION_FLAG},
+        [HOST] = {.name = "host", .kind = OPTION_NUMBER, .most = UINT32_MAX},
     };
     struct driver driver;
     int code = begin_call(CALL_WRITE, argc, argv, option, WRITE_OPTIONS, &driver);

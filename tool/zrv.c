@@ -23,8 +23,8 @@ static const struct command commands[] = {
      "  --sector-bytes B  bytes of a sector, 64 and so on by doubling to 4096 (4096)\n"
      "  --unit U          sectors of a stripe unit, 1 to 16 (4)\n"
      "  --zones L         zones of the volume, 1 to 16, with 32 + 8 L at most B (4)\n"
-     "  --zone-sectors C  sectors of a zone on one drive, a multiple of U, at most 65536 (256). With C at least 2 L (1 + U) + 2 U + 2 and 3 L + 7 no log ever\n"
-     "                    fills up; with fewer, down to L (1 + U) + 2 U + 1 and L + 6, calls may be refused for good (14), and format warns\n"
+     "  --zone-sectors C  sectors of a zone on one drive, a multiple of U, at most 65536 (256). With C at least 2 L (1 + U) + 3 U + 3 no log ever fills up,\n"
+     "                    and a compact always helps a write; with fewer, down to L (1 + U) + 2 U + 1 and L + 6, calls may be refused (14), and format warns\n"
      "  --array N         the number that every drive's label carries (by the clock)\n"
      "  --without DRIVE   leave a drive out from the start\n"
      "  --force           format a folder that holds a volume or drives of one; all their data goes, also of drives that the new volume has not.\n"
@@ -33,6 +33,8 @@ static const struct command commands[] = {
      "Writes a file or standard input, whole sectors of it, in one call.\n"
      "  --at ADDRESS      the first sector's address; it must be its zone's pointer\n"
      "  --zone Z          at this zone's pointer, wherever that is\n"
+     "  --host N          the host that writes, 0 or 1 (0). Host 0 may hold 14 zones open, host 1 may hold 4, and the drives allow 14 in all. A write that ends\n"
+     "                    inside a stripe takes of its host's share of one drive's parity log; when that is used up (14), compact the drive\n"
      "  --from FILE       the data; without it standard input\n"
      "  --pad             fill the last sector up with zeros\n" STORES_HELP},
     {"flush", flush_main, "make what is written last through a power cut", "FOLDER [options]",
@@ -40,6 +42,10 @@ static const struct command commands[] = {
     {"reset", reset_main, "empty a zone", "FOLDER --zone Z [options]",
      "Wipes a zone, so that it can be written from its beginning.\n"
      "  --zone Z          the zone\n" STORES_HELP},
+    {"compact", compact_main, "empty a drive's parity log, so that writes go on", "FOLDER --drive N [options]",
+     "Copies what is still needed of the drive's parity log to its spare zone, which then is the log. Both hosts' shares of it begin anew: half each of the room\n"
+     "past what a mount may need. A write that is refused with 14 says which drive to compact.\n"
+     "  --drive N         the drive\n" STORES_HELP},
     {"read", read_main, "read sectors", "FOLDER (--at ADDRESS --count N | --zone Z) [options]",
      "Reads to a file or to standard output. What a missing drive held is rebuilt from parity.\n"
      "  --at ADDRESS      the first sector's address\n"
@@ -50,10 +56,12 @@ static const struct command commands[] = {
      "Tells the drive, physical zone, sector and place in the drive's file, and the first bytes there.\n"
      "  --at ADDRESS      the sector's address\n"},
     {"report", report_main, "list the zones as a zoned drive's tools do", "FOLDER [options]",
-     "A line a zone: its first address, its sectors, its write pointer from its start, and its condition: em empty, op open, ro read-only (sealed or worn).\n"
-     "  --json            the same as a JSON list, numbers decimal\n"},
+     "A line a zone: its first address, its sectors, its write pointer from its start, its condition: em empty, op open, ro read-only (sealed or worn), and which\n"
+     "host holds it open. Then how many zones are open, and of each drive what is left of the hosts' shares of its parity log.\n"
+     "  --json            the same as a JSON object, numbers decimal\n"},
     {"info", info_main, "tell a shelf's geometry, its drives and what comes next", "FOLDER [options]",
-     "Reads no sectors, and works at any time. A drive is present, missing, given up, strange (another shelf's, or an older copy) or unreadable.\n"
+     "Reads no sectors, and works at any time. A drive is present, missing, given up, strange (another shelf's, or an older copy) or unreadable. How many zones are\n"
+     "open, and what is left of the hosts' shares, is told where no mount is due.\n"
      "  --json            the same as a JSON object: numbers decimal, the array number as text\n"},
     {"cut", cut_main, "cut the power", "FOLDER [options]",
      "What is durable stays; of the rest the write caches keep what is said here. After a cut the volume takes only looks and mounts until a mount is\n"
@@ -80,7 +88,8 @@ static const struct command commands[] = {
      "  --without DRIVE   leave a drive out: it is given up, and whatever is in its place is not read\n"},
     {"look", look_main, "go through the checklist; nothing is stored", "FOLDER [options]",
      "Prints line by line what was looked at, what that catches, and ok or what was found; then the zones, and of each drive which physical zones are its\n"
-     "logs, with their generations and unused sectors. It ends with 0 where the volume shows its zones, whatever was found, and with 1 where it refuses to.\n"
+     "logs, with their generations and unused sectors; where no mount is due also who holds which zones open, and what is left of the shares. It ends with 0\n"
+     "where the volume shows its zones, whatever was found, and with 1 where it refuses to.\n"
      "Where a log is bad it says which drive, log and sector, what stands there and what should.\n"
      "  --json            what the volume answers and shows, and where the logs lie, as a JSON object\n"},
     {"mount", mount_main, "bring the volume up after a power cut or the loss of a drive", "FOLDER [options]",

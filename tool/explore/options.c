@@ -14,7 +14,7 @@
 #define MOST_SHELF_BYTES ((size_t)64 * 1024 * 1024)
 #define DEFAULT_BUDGET 2000000
 /* Calls to begin with where drives cache resets: the zone that is reset has something to come back, and sectors are written over it. */
-#define CACHED_CALLS "w3,f,r0,w2"
+#define CACHED_CALLS "w3,f,r0,w1"
 #define MOST_BUDGET UINT64_C(1000000000000)
 
 static const struct {
@@ -24,7 +24,7 @@ static const struct {
     [BREAK_FLUSH] = {"flush", "w3,f", "", "a flush keeps nothing: durable does not move"},
     [BREAK_SECTOR] = {"sector", "w3,w4", "", "a sector is torn: the last one that a cache keeps has its second half from before"},
     [BREAK_SECOND_DRIVE] = {"second-drive", "w3,f", "", "a second drive is lost after the mount recorded the first"},
-    [BREAK_LOST_AGAIN] = {"lost-again", "w3,f", "r0,w4", "a drive is lost, calls go on without it, no mount records it, and after power went it is named again"},
+    [BREAK_LOST_AGAIN] = {"lost-again", "w3,f", "r0,w6", "a drive is lost, calls go on without it, no mount records it, and after power went it is named again"},
     [BREAK_KEPT_OUT] = {"kept-out", "w3,f", "w4", "a lost drive is named again after the mount recorded its loss and writes went on"},
     [BREAK_MOUNT] = {"mount", "w3", "w4", "a mount is left out: a look is taken for it, and writes go on"},
     [BREAK_RESET] = {"reset", "w3,f,r0", "", "drives cache zone resets, and a flush does not make them last"},
@@ -38,13 +38,14 @@ static const char *const help =
     "mount follows. Whatever is shown must fit: a beginning of what was written, at least as far as it was flushed. Ends with `every look fitted`\n"
     "or with a shortest history in which one did not, event by event.\n"
     "\n"
-    "  --calls LIST       the calls, by commas: wN writes N sectors, f flushes, m mounts, rZ resets zone Z, zZ chooses the zone of the writes that\n"
-    "                     follow (default w3,f,w4,w5: a write that ends inside a stripe, made to last; one past that stripe's end, and one to the next\n"
-    "                     stripe's end, of which power may take anything). To empty logs: --drives 3 --unit 1 --zone-sectors 8 with --calls\n"
-    "                     w1,r0,w1,r0,w1 or --calls m,m,m,m,m\n"
+    "  --calls LIST       the calls, by commas: wN writes N sectors, f flushes, m mounts, rZ resets zone Z, cD compacts drive D; zZ chooses the zone and\n"
+    "                     hH the host of the writes that follow, both 0 at first (default w3,f,w4,w5: a write that ends inside a stripe, made to last;\n"
+    "                     one past that stripe's end, and one to the next stripe's end, of which power may take anything). To empty logs: --drives 3\n"
+    "                     --unit 1 --zone-sectors 8 with --calls w1,r0,c2,w1,r0 or --calls m,m,m,m,m. Two desks in turn, with entries in one log: --drives 3\n"
+    "                     --unit 1 --zones 2 with --calls w1,h1,z1,w5,c2,h0,z0,w1\n"
     "  --then LIST        calls sent after the first mount, at every store of which power goes once more (default none)\n"
     "  --cached-resets    drives cache a zone reset until they are flushed: when power goes, each zone that was reset since its drive's last flush\n"
-    "                     stays reset or is as it could have been left just before, also where it was written since (calls w3,f,r0,w2)\n"
+    "                     stays reset or is as it could have been left just before, also where it was written since (calls w3,f,r0,w1)\n"
     "  --lose-later       where all drives came back, any one may be lost when power goes for the second time\n"
     "  --drives N         3 to 8 (4)\n"
     "  --sector-bytes N   bytes of a sector, 64 to 4096 by doubling (64)\n"
@@ -62,7 +63,7 @@ static const char *const help =
     "      second-drive   a second drive is lost after the mount recorded the first (calls w3,f). Every look is then refused with 4: that is the\n"
     "                     failure, nothing wrong is shown.\n"
     "      lost-again     a drive is lost, calls go on without it, no mount records it, and after power went it is named again (calls w3,f, then\n"
-    "                     r0,w4). Fails where its sectors from before the reset are shown.\n"
+    "                     r0,w6). Fails where its sectors from before the reset are shown.\n"
     "      kept-out       a lost drive is named again after the mount recorded its loss and writes went on (calls w3,f, then w4). The labels of\n"
     "                     the others keep it out, so this fits; it would fail if one of its old sectors were shown.\n"
     "      mount          a look is taken for the mount and writes go on (calls w3, then w4). Fails where a journal entry from before power went\n"
@@ -81,22 +82,39 @@ static enum parsed complain(const char *format, const char *word) {
 
 const char *breakage_in_words(enum breakage breakage) { return breakages[breakage].words; }
 
-/* One word of a list of calls; a zone that it chooses stays for the words that follow. */
-static enum parsed parse_request(const char *word, struct geometry geometry, uint32_t *zone, struct request_list *list) {
+/* The zone and the host of the writes that follow. */
+struct chosen {
+    uint32_t zone, host;
+};
+
+/* A word that chooses one of them. */
+static bool parse_choice(const char *word, struct geometry geometry, struct chosen *chosen) {
+    uint64_t number = 0;
+    if (*word == 'z' && parse_number(word + 1, 0, geometry.zones - 1, &number))
+        chosen->zone = (uint32_t)number;
+    else if (*word == 'h' && parse_number(word + 1, 0, ZRV_HOSTS - 1, &number))
+        chosen->host = (uint32_t)number;
+    else
+        return false;
+    return true;
+}
+
+/* One word of a list of calls; what it chooses stays for the words that follow. */
+static enum parsed parse_request(const char *word, struct geometry geometry, struct chosen *chosen, struct request_list *list) {
     uint64_t number = 0;
     struct request request = {.kind = CALL_FLUSH};
-    if (*word == 'z' && parse_number(word + 1, 0, geometry.zones - 1, &number)) {
-        *zone = (uint32_t)number;
+    if (parse_choice(word, geometry, chosen))
         return PARSED;
-    }
     if (*word == 'w' && parse_number(word + 1, 1, zone_addresses(geometry), &number))
-        request = (struct request){.kind = CALL_WRITE, .zone = *zone, .sectors = (uint32_t)number};
+        request = (struct request){.kind = CALL_WRITE, .zone = chosen->zone, .host = chosen->host, .sectors = (uint32_t)number};
     else if (*word == 'r' && parse_number(word + 1, 0, geometry.zones - 1, &number))
         request = (struct request){.kind = CALL_RESET, .zone = (uint32_t)number};
+    else if (*word == 'c' && parse_number(word + 1, 0, geometry.drives - 1, &number))
+        request = (struct request){.kind = CALL_COMPACT, .drive = (uint32_t)number};
     else if (strcmp(word, "m") == 0)
         request.kind = CALL_MOUNT;
     else if (strcmp(word, "f") != 0)
-        return complain("'%s' is no call here; calls are wN (1 to a zone's sectors), f, m, rZ and zZ (a zone that there is)", word);
+        return complain("'%s' is no call here; calls are wN (1 to a zone's sectors), f, m, rZ and zZ (a zone that there is), cD (a drive), hH (a host, 0 or 1)", word);
     if (list->length == MOST_REQUESTS)
         return complain("the call '%s' is one too many", word);
     list->request[list->length++] = request;
@@ -105,12 +123,12 @@ static enum parsed parse_request(const char *word, struct geometry geometry, uin
 
 /* The words of a list, and for each write data of its own. */
 static enum parsed parse_requests(const char *text, struct geometry geometry, uint64_t seed, struct request_list *list) {
-    uint32_t zone = 0;
+    struct chosen chosen = {0, 0};
     while (*text != '\0') {
         char word[32];
         size_t length = strcspn(text, ",");
         snprintf(word, sizeof word, "%.*s", (int)(length < sizeof word ? length : sizeof word), text);
-        if (parse_request(word, geometry, &zone, list) != PARSED)
+        if (parse_request(word, geometry, &chosen, list) != PARSED)
             return BAD_USAGE;
         text += length;
         if (*text == ',' && *++text == '\0')

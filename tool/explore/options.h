@@ -11,10 +11,12 @@ enum { MOST_REQUESTS = 32 };
 /* The duties of drives and host that can be broken on purpose. */
 enum breakage { BREAK_NOTHING, BREAK_FLUSH, BREAK_SECTOR, BREAK_SECOND_DRIVE, BREAK_LOST_AGAIN, BREAK_KEPT_OUT, BREAK_MOUNT, BREAK_RESET, BREAKAGES };
 
-/* A call to be sent: a write at its zone's pointer, a flush, a mount, or a reset of a zone. */
+/* A call to be sent: a write at its zone's pointer, a flush, a mount, a reset of a zone, or a compact of a drive. */
 struct request {
     enum call_kind kind;
     uint32_t zone;
+    uint32_t host;    /* of a write */
+    uint32_t drive;   /* of a compact */
     uint32_t sectors; /* of a write */
     uint8_t *data;    /* of a write */
 };

@@ -22,6 +22,10 @@ void tell_request(FILE *out, const struct request *request) {
         fprintf(out, " of %u sector%s to zone %u", request->sectors, request->sectors == 1 ? "" : "s", request->zone);
     else if (traits->in_zone)
         fprintf(out, " of zone %u", request->zone);
+    else if (request->kind == CALL_COMPACT)
+        fprintf(out, " of drive %u", request->drive);
+    if (request->host > 0)
+        fprintf(out, " by host %u", request->host);
 }
 
 static void tell_call(FILE *out, const struct event *event) {

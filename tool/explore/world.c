@@ -118,6 +118,8 @@ uint32_t send_request(struct world *world, const struct request *request, uint32
     struct call call = call_on(world, request->kind, world->state);
     call.count = count;
     call.zone = request->zone;
+    call.host = request->host;
+    call.drive = request->drive;
     if (request->kind == CALL_WRITE) {
         call.address = address_to_write(call.geometry, world->state, request->zone);
         if (call.address == NO_ADDRESS)
@@ -133,7 +135,7 @@ uint32_t send_request(struct world *world, const struct request *request, uint32
         oracle_write(&world->oracle, request->zone, request->data, request->sectors);
     else if (request->kind == CALL_RESET)
         oracle_reset(&world->oracle, request->zone, finished);
-    else if (finished) /* a flush, or a mount before which power did not go, and which shows everything */
+    else if (finished && request->kind != CALL_COMPACT) /* a flush, or a mount before which power did not go, and which shows everything */
         oracle_flush(&world->oracle);
     return answer;
 }

@@ -20,11 +20,20 @@ static const struct {
     {CALL_FLUSH, 7, "- - - -", NULL},
     {CALL_FLUSH, 7, "f1 - -", NULL},
     {CALL_WRITE, 7, "a0 a1 l2", "a0 a1 l2"},
-    {CALL_WRITE, 7, "- - - l2 l2 - - f2 s2 a0 l2", "f0 f1 f2 l2 l2 f0 f1 f2 s2 a0 l2"},
-    {CALL_WRITE, 7, "- - - l2 l2 - - f2 s1 a0 l2", NULL},
-    {CALL_WRITE, 7, "- - - l2 l2 - - s2 a0 l2", NULL},
+    {CALL_WRITE, 7, "- - - l2 l2 - - f2 s2 a0 l2", NULL}, /* a write empties no log */
     {CALL_WRITE, 7, "a0 - - -", NULL},
     {CALL_WRITE, 7, "a0 r1", NULL},
+    {CALL_COMPACT, 7, "- - - l2 l2 - - f2 s2", "f0 f1 f2 l2 l2 f0 f1 f2 s2"},
+    {CALL_COMPACT, 7, "f0 - - l1 - f1 - s1", "f0 f1 f2 l1 f0 f1 f2 s1"},
+    {CALL_COMPACT, 7, "- - - l2 - - f2 -", "f0 f1 f2 l2 f0 f1 f2 -"}, /* of a log that is empty */
+    {CALL_COMPACT, 3, "- - l1 - f1 s1", "f0 f1 l1 f0 f1 s1"},
+    {CALL_COMPACT, 7, "- - - l2 l2 - - f2 s1", NULL},
+    {CALL_COMPACT, 7, "- - - l2 l2 - - s2", NULL},
+    {CALL_COMPACT, 7, "- - - l2 l2 - - f2", NULL},
+    {CALL_COMPACT, 7, "- - - - - f2 s2", NULL},
+    {CALL_COMPACT, 7, "- - - l2 - - f2 s2 - - - l1 - f1 - s1", NULL}, /* of two drives */
+    {CALL_RESET, 7, "- - - l2 l2 - - f2 s2 l0 l1 - - - r0 - r2 - - - l0 l1 l2 - - -",
+     "f0 f1 f2 l2 l2 f0 f1 f2 s2 l0 l1 f0 f1 f2 r0 - r2 f0 f1 f2 l0 l1 l2 f0 f1 f2"},
     {CALL_RESET, 7, "l0 l1 - - - r0 - r2 - - - l0 l1 l2 f0 f1 f2", "l0 l1 f0 f1 f2 r0 - r2 f0 f1 f2 l0 l1 l2 f0 f1 f2"},
     {CALL_RESET, 7, "l0 l1 - - - - - - - - - l0 l1 l2 - - -", "l0 l1 f0 f1 f2 - - - f0 f1 f2 l0 l1 l2 f0 f1 f2"},
     {CALL_RESET, 7, "l0 l1 - - - r0 r1 r2 l0 l1 l2 - - -", NULL}, /* without the flush after the zone resets */

@@ -36,11 +36,10 @@ use Rattle.volume.specs.looking.HiddenLogs.{placesOf, roles-durable}
 use Rattle.volume.specs.looking.Knowing.{readDevice}
 use Rattle.volume.specs.looking.SeenByRoles.{Seen, kindLacksOn, seen-geometry, seen-zone, seen-read, seen-lacks}
 use Rattle.volume.specs.looking.Looking.{shaped, shaped-durable, logNumber, looksFrom, lookOf, labels-read, shown-read}
-use Rattle.volume.specs.checks.LogRoom.{SeenByRoles, driveRoomOf, roomOf, generalRoomAt, parityRoomAt, either, placed-valid, placed-zones, room-is, rooms-full, rooms-emptied, rooms-stay, rooms-generation}
+use Rattle.volume.specs.checks.LogRoom.{size-agree, SeenByRoles, driveRoomOf, roomOf, generalRoomAt, parityRoomAt, either, placed-valid, placed-zones, room-is, rooms-full, rooms-emptied, rooms-stay, rooms-generation}
 use Rattle.volume.specs.emptying.GeneralCopies.{byGenerations}
 use Rattle.volume.specs.emptying.ParityCopies.{byPointers, PointersWithin}
 use Rattle.volume.specs.storing.ResetZone.{size-seen}
-use Rattle.volume.specs.writing.WriteZone.{size-agree}
 use Rattle.mounting.specs.LookAgrees.{differ-same, seen-same}
 use Rattle.volume.specs.checks.Records.{zoneLook, generationsShown, pointsShown, generations-shown-at, points-shown-long, points-shown-at}
 use Rattle.mounting.specs.MountStart.{look-of-zone, look-within}
@@ -49,7 +48,7 @@ use Rattle.mounting.specs.MountPlan.{Passed, Planning, PlanMade}
 
 -- ---- as the code goes
 abbrev pub mountAsked : Geometry → Survey → Bool → ℕ → RoomAsked
-mountAsked g v par limit = record { first = g; places = v .places; here = v .here; due = v .here; parity = par; limit = limit; «clears_spares» = true }
+mountAsked g v par limit = record { first = g; places = v .places; here = v .here; due = v .here; parity = par; below = limit; limit = limit; «clears_spares» = true }
 
 abbrev pub lookBy : Survey → List ℕ → List ℕ → Look
 lookBy v xs ps = lookOf (v .places .geometry) (showing (v .places .geometry) (isSet (v .here)) (lostAmong (v .places .geometry) (v .here)) (readDevice (v .places .geometry) xs ps))

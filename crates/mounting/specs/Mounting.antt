@@ -1,8 +1,8 @@
 -- A mount on the tables: its refusals; what a mount that none of them stopped leaves; the state that it hands on.
-use mathlib.Core.Path.{_≡_, refl, sym, ap, ap₂, _∙_}
+use mathlib.Core.Path.{_≡_, refl, sym, ap, ap₂, subst, _∙_}
 use mathlib.Core.Logic.{_≢_}
 use mathlib.Core.Bool.{Bool, true, false, _||_, not}
-use Prim.Native.Nat.{ℕ, suc, _-_, _≤_}
+use Prim.Native.Nat.{ℕ, suc, _-_, _≤_, _<_}
 use native.Mathlib.Decide.{ℕ-discrete}
 use native.Mathlib.Omega.{arith}
 use mathlib.Core.List.{List, [], _∷_}
@@ -11,7 +11,7 @@ use lib.Dec.{eqb}
 use borrow.Author.Tests.{eq-eqb, ne-eqb}
 use Rattle.tables.specs.declared.Geometry.{Geometry}
 use Rattle.tables.specs.meaning.Basics.{pick}
-use Rattle.tables.specs.meaning.Device.{Device, Store}
+use Rattle.tables.specs.meaning.Device.{Store}
 use Rattle.tables.specs.meaning.Geometry.{Valid}
 use Rattle.tables.specs.meaning.GeometryTest.{isValid}
 use Rattle.tables.specs.meaning.Tables.{Tables, tablesOf, cell, deviceOf, runStores}
@@ -26,19 +26,18 @@ use Rattle.volume.specs.declared.BadPlace.{BadPlace}
 use Rattle.volume.specs.declared.looking.Survey.{Survey}
 use Rattle.mounting.specs.declared.rooms.Plan.{Plan}
 use Rattle.volume.specs.declared.roles.LogPlaces.{LogPlaces}
-use Rattle.volume.specs.meaning.Rules.{Shown, showing}
+use Rattle.volume.specs.meaning.Rules.{showing}
 use Rattle.volume.specs.meaning.Emptying.{byLook}
 use Rattle.volume.specs.meaning.Refusals.{firstRefusal, mountRows, lookRows, tablesFit, twoLost, kindLacks, badLabels, badLogs, mountFull}
 use Rattle.volume.specs.meaning.Answers.{presentIn, lostDriveIn, refusedAt}
 use Rattle.volume.specs.meaning.CallContracts.{isSet, verdictNumber, lengthsOf, badIn, Result, storingOn, rolesOf, seenIn, lookVerdict, mountVerdict, mountStoresOn, mountShownOn, tellingAt, mountOn, badPlaceOn, stateHeld}
 use Rattle.volume.specs.laws.BadPlaces.{refused-plain, told-plain}
 use Rattle.volume.specs.laws.CallContracts.{storing-unfinished, storing-finished}
-use Rattle.volume.specs.laws.RulesUnread.{showing-alike}
-use Rattle.volume.specs.looking.Knowing.{readDevice}
-use Rattle.volume.specs.looking.Looking.{Lookable, lookable-zone, shapeNumber, shape-most, look-shape, shown-read}
-use Rattle.volume.specs.looking.SeenByRoles.{Seen, seen-geometry, seen-read, seen-readable}
-use Rattle.volume.specs.looking.Surveying.{Surveyed, state-alike, survey-present, survey-lost, survey-refusal, survey-bad}
-use Rattle.volume.specs.meaning.Mount.{mountState}
+use Rattle.volume.specs.looking.Looking.{Lookable, lookable-zone, shapeNumber, shape-most, look-shape}
+use Rattle.volume.specs.looking.SeenByRoles.{Seen, seen-geometry, seen-readable}
+use Rattle.volume.specs.looking.ShownState.{HereBelow, stateSeen, seen-state}
+use Rattle.volume.specs.looking.Surveying.{Surveyed, survey-present, survey-lost, survey-refusal, survey-bad}
+use Rattle.volume.specs.meaning.Mount.{shownState}
 use Rattle.mounting.specs.MountRooms.{lostAmong, Planned}
 use Rattle.mounting.specs.MountPlan.{Planning}
 
@@ -83,21 +82,21 @@ mountedOn g a x old count t = storingOn g 0 (mountStoresOn g a x t) (mountShownO
 
 -- the state that the drives that are here show in the tables, whatever is durable of them
 pub record ShownNow (g : Geometry) (here : List Bool) (xs ws : List ℕ) (s : State) : Type 0 where
-  pub shown : (ds : List ℕ) → s ≡ stateHeld (g .zones) (mountState (showing g (isSet here) (lostAmong g here) (seenIn g (tablesOf xs ws ds))))
+  pub shown : (ds : List ℕ) → s ≡ stateHeld (g .zones) (shownState g (isSet here) (lostAmong g here) (deviceOf g (tablesOf xs ws ds)))
 
 module _ (g : Geometry) (a : ℕ → Bool) (x : ℕ) (old : State) (count : ℕ) (t : Tables) (rest : ℕ) (u : Tables) (m : Made g (suc count) rest (mountStoresOn g a x t) t u) where
   pub mounted-unfinished : rest ≡ 0 → (_≡_ {A = Outcome} (record { answer = Unfinished; state = old }) (mountedOn g a x old count t .outcome)) × (u ≡ mountedOn g a x old count t .tables)
   mounted-unfinished z = let (p, q) = storing-unfinished g 0 (mountStoresOn g a x t) (mountShownOn g a x t) old count t rest u refl m z in (sym p, sym q)
 
-  shown-after : rest ≢ 0 → mountShownOn g a x t ≡ stateHeld (g .zones) (mountState (showing g a x (seenIn g u)))
+  shown-after : rest ≢ 0 → mountShownOn g a x t ≡ stateHeld (g .zones) (shownState g a x (deviceOf g u))
   unfolding mountShownOn
   shown-after h =
       let ss = mountStoresOn g a x t in
       let l : length (mountStoresOn g a x t) ≤ suc count - 1 = omega (arith, m .rest-is, h) in
       let q : runStores g (length ss) ss t ≡ u = sym (m .tables-are ∙ run-covered g (suc count - 1) ss t l) in
-      ap (λ (v : Tables). stateHeld (g .zones) (mountState (showing g a x (seenIn g v)))) q
+      ap (λ (v : Tables). stateHeld (g .zones) (shownState g a x (deviceOf g v))) q
 
-  pub mounted-finished : rest ≢ 0 → (s : State) → s ≡ stateHeld (g .zones) (mountState (showing g a x (seenIn g u)))
+  pub mounted-finished : rest ≢ 0 → (s : State) → s ≡ stateHeld (g .zones) (shownState g a x (deviceOf g u))
       → (_≡_ {A = Outcome} (record { answer = Finished; state = s }) (mountedOn g a x old count t .outcome)) × (u ≡ mountedOn g a x old count t .tables)
   mounted-finished h s es =
       let (p, q) = storing-finished g 0 (mountStoresOn g a x t) (mountShownOn g a x t) old count t rest u refl m h in
@@ -106,7 +105,7 @@ module _ (g : Geometry) (a : ℕ → Bool) (x : ℕ) (old : State) (count : ℕ)
 -- how it ends, by what is left of the budget
 pub record MountEnded (g : Geometry) (here : List Bool) (old : State) (rest : ℕ) (xs ws : List ℕ) (r : Outcome) : Type 0 where
   pub unfinished : rest ≡ 0 → r ≡ record { answer = Unfinished; state = old }
-  pub finished : rest ≢ 0 → (ds : List ℕ) → r ≡ record { answer = Finished; state = stateHeld (g .zones) (mountState (showing g (isSet here) (lostAmong g here) (seenIn g (tablesOf xs ws ds)))) }
+  pub finished : rest ≢ 0 → (ds : List ℕ) → r ≡ record { answer = Finished; state = stateHeld (g .zones) (shownState g (isSet here) (lostAmong g here) (deviceOf g (tablesOf xs ws ds))) }
 
 pub mounted-ended : (g : Geometry) (here : List Bool) (old : State) (count : ℕ) (t : Tables) (rest : ℕ) (u : Tables) (r : Outcome) → Made g (suc count) rest (mountStoresOn g (isSet here) (lostAmong g here) t) t u → MountEnded g here old rest (u .sectors) (u .written) r
     → (r ≡ mountedOn g (isSet here) (lostAmong g here) old count t .outcome) × (u ≡ mountedOn g (isSet here) (lostAmong g here) old count t .tables)
@@ -132,16 +131,11 @@ module _ (g : Geometry) (xs ws : List ℕ) (p : LogPlaces) (ps : List ℕ) (s : 
       let r = seen-readable g xs ws p ps s here 0 (lookable-zone g here xs ws 0 k (ok .zones-least)) in
       record { sectors-long = r .sectors-long; written-long = r .written-long; pointers = r .pointers }
 
-  pub seen-shown : (q : State) → q ≡ stateHeld (p .geometry .zones) (mountState (showing (p .geometry) (isSet here) (lostAmong (p .geometry) here) (readDevice (p .geometry) xs ps))) → ShownNow g here xs ws q
-  seen-shown q e = record {
-    shown = λ ds.
-        let h = p .geometry in
-        let same : lostAmong (p .geometry) here ≡ lostAmong g here = ap (λ (k : Geometry). lostAmong k here) (seen-geometry g xs ws p ps s) in
-        let w = seenIn g (tablesOf xs ws ds) in
-        let read : showing g (isSet here) (lostAmong h here) w ≡ showing h (isSet here) (lostAmong h here) (readDevice h xs ps) =
-        seen-read g xs ws p ps s (λ (k : Geometry) (v : Device). showing k (isSet here) (lostAmong h here) v) (λ n v. showing-alike g n (isSet here) (lostAmong h here) v) ds (shown-read h xs ps ds (isSet here) (lostAmong h here)) in
-        e ∙ ap (λ (k : Shown). stateHeld (h .zones) (mountState k)) (sym read) ∙ state-alike g h (seen-geometry g xs ws p ps s) (showing g (isSet here) (lostAmong h here) w) ∙ ap (λ (x : ℕ). stateHeld (g .zones) (mountState (showing g (isSet here) x w))) same;
-  }
+  pub seen-below : HereBelow g here → HereBelow (p .geometry) here
+  seen-below k d e = subst (λ (h : Geometry). d < h .drives) (sym (seen-geometry g xs ws p ps s)) (k d e)
+
+  pub seen-shown : HereBelow g here → (q : State) → q ≡ stateSeen p here xs ps → ShownNow g here xs ws q
+  seen-shown k q e = record { shown = λ ds. e ∙ seen-state g xs ws p ps s ds here (seen-below k) }
 
 -- ---- THE CALL
 module _ (g : Geometry) (named : List Bool) (old : State) (count : ℕ) (t : Tables) where

@@ -10,35 +10,17 @@ use volume::Answer;
 use volume::Outcome;
 use volume::State;
 ghost use mathlib.Core.Path.{_≡_};
-ghost use mathlib.Core.Bool.{not};
-ghost use Prim.Native.Nat.{ℕ};
 ghost use lib.ListN.{length};
-ghost use Rattle.tables.specs.meaning.Drives.{findBelow};
 ghost use Rattle.tables.specs.meaning.Geometry.{Valid, cells};
 ghost use Rattle.tables.specs.meaning.Tables.{tablesOf};
 ghost use Rattle.tables.specs.laws.Made.{Made};
-ghost use Rattle.volume.specs.meaning.Rules.{showing};
-ghost use Rattle.volume.specs.meaning.CallContracts.{isSet, mountStoresOn, mountOn, stateHeld};
-ghost use Rattle.volume.specs.looking.Knowing.{readDevice};
+ghost use Rattle.volume.specs.meaning.CallContracts.{isSet, mountStoresOn, mountOn};
 ghost use Rattle.volume.specs.looking.Looking.{Lookable};
-ghost use Rattle.volume.specs.meaning.Mount.{mountState};
+ghost use Rattle.volume.specs.looking.ShownState.{HereBelow};
 ghost use Rattle.mounting.specs.MountRooms.{lostAmong, Planned};
 ghost use Rattle.mounting.specs.MountBetween.{Before};
 ghost use Rattle.mounting.specs.MountEnds.{courseOf};
 ghost use Rattle.mounting.specs.Mounting.{mountedOn, ShownNow, MountEnded};
-
-// The state that the drives that are here show.
-fn shown_state(sectors: &[u8], written: &[u32], g: Geometry, here: [bool; MAX_DRIVES]) -> State
-    requires { ⌜ Valid g ⌝ }
-    requires { ⌜ Lookable g here (now sectors) (now written) ⌝ }
-    ensures { λ r. ⌜ r ≡ stateHeld (g .zones) (mountState (showing g (isSet here) (findBelow (λ (d : ℕ). not (isSet here d)) (g .drives)) (readDevice g (now (sectors .entry)) (now (written .entry))))) ⌝ }
-{
-    let shown = volume::looking::look_all(sectors, written, g, here);
-    let lost = shown.lost;
-    let looks = shown.zones;
-    let zones = volume::looking::records_of(g, looks);
-    State { lost, zones }
-}
 
 // The first flush and steps 1 to 9: what is left of the budget. `pointers` are afterwards those of the moment before step 3, by which what is missing is
 // read; the logs lie then where those of step 2 were emptied to.
@@ -116,11 +98,11 @@ fn shown_now(
     here: [bool; MAX_DRIVES],
 ) -> State
     requires { ⌜ Valid g ⌝ }
-    requires { ⌜ Lookable g here (now sectors) (now written) × (length (now pointers) ≡ cells g) × (g .logs ≡ 0) ⌝ }
+    requires { ⌜ Lookable g here (now sectors) (now written) × HereBelow g here × (length (now pointers) ≡ cells g) × (g .logs ≡ 0) ⌝ }
     ensures { λ r. ⌜ ShownNow g here (now (sectors .entry)) (now (written .entry)) r ⌝ }
 {
     let places = volume::roles::see_by_roles(sectors, written, pointers, g);
-    shown_state(sectors, pointers, places.geometry, here)
+    volume::looking::shown_state(sectors, pointers, places, here)
 }
 
 // How a mount ends with `rest` left of the budget. If it finished, its state is what the drives that are here show. `pointers` is scratch.
@@ -134,7 +116,7 @@ fn outcome(
     rest: u64,
 ) -> Outcome
     requires { ⌜ Valid g ⌝ }
-    requires { ⌜ Lookable g here (now sectors) (now written) × (length (now pointers) ≡ cells g) × (g .logs ≡ 0) ⌝ }
+    requires { ⌜ Lookable g here (now sectors) (now written) × HereBelow g here × (length (now pointers) ≡ cells g) × (g .logs ≡ 0) ⌝ }
     ensures { λ r. ⌜ MountEnded g here old rest (now (sectors .entry)) (now (written .entry)) r ⌝ }
 {
     if rest == 0 {

@@ -27,6 +27,7 @@ fn mount_asks(g: Geometry, found: Survey, parity: bool, limit: usize) -> RoomAsk
         here,
         due: here,
         parity,
+        below: limit,
         limit,
         clears_spares: true,
     }
@@ -51,8 +52,7 @@ pub fn plan_mount(
     let generations = volume::records::generations_shown(look);
     let points = volume::records::points_shown(look);
     let l = g.zones;
-    let u = g.unit;
-    let reserve = l * (1 + u) + u;
+    let reserve = volume::shares::reserve_of(g);
     let general_asked = mount_asks(g, found, false, l + 2);
     let parity_asked = mount_asks(g, found, true, reserve);
     let general = volume::log_room::general_room(

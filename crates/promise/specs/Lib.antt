@@ -4,6 +4,7 @@ pub mod device
 pub mod emptying
 pub mod examples
 pub mod invariant
+pub mod isolation
 pub mod look
 pub mod meaning
 pub mod mount

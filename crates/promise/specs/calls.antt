@@ -1,5 +1,6 @@
 pub mod FlushKeeps
 pub mod FormatKeeps
+pub mod ParityLogsAfter
 pub mod ResetDevices
 pub mod ResetKeeps
 pub mod ResetSees

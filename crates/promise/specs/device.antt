@@ -2,17 +2,18 @@ pub mod AcceptedCalls
 pub mod AtRestAnswers
 pub mod BlankAtRest
 pub mod CachedClaim
+pub mod CachedCompact
 pub mod CachedEvents
 pub mod CachedModes
 pub mod CachedOwed
 pub mod CachedOwn
 pub mod CachedPromise
 pub mod CachedReset
-pub mod CachedWrite
 pub mod CallsOwed
 pub mod CallsProved
 pub mod ClaimEvents
 pub mod ClaimProof
+pub mod CompactCall
 pub mod Heard
 pub mod Looks
 pub mod Marks
@@ -20,5 +21,6 @@ pub mod Modes
 pub mod MountCall
 pub mod OlderDrives
 pub mod PlainCalls
+pub mod PointClaims
 pub mod ResetCall
-pub mod WriteCall
+pub mod SharesKept

@@ -30,6 +30,7 @@ pub mod MountTail
 pub mod MountWhole
 pub mod OnPresent
 pub mod ParityAtRest
+pub mod ParityCompact
 pub mod ParityCuts
 pub mod ParityEmptyings
 pub mod ParityFilled
@@ -40,8 +41,6 @@ pub mod ParityLooks
 pub mod ParityMount
 pub mod ParityMountShows
 pub mod ParityRests
-pub mod ParityWrite
 pub mod RestShows
 pub mod SpareFills
 pub mod SparesReset
-pub mod WriteBegun

@@ -7,6 +7,11 @@ pub mod ClaimExample
 pub mod EmptyingExample
 pub mod EmptyingTablesHistory
 pub mod Example
+pub mod HostExamples
+pub mod IsolationExamples
+pub mod IsolationPairs
+pub mod IsolationRuns
+pub mod IsolationTests
 pub mod Opened
 pub mod TablesExample
 pub mod TablesHistory

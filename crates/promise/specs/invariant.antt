@@ -8,6 +8,7 @@ pub mod LastLabels
 pub mod Obligations
 pub mod RoomAsked
 pub mod SaidMoves
+pub mod StateRead
 pub mod StoppedCall
 pub mod Throughout
 pub mod UntouchedZone

@@ -4,6 +4,7 @@ pub mod CachesOnTables
 pub mod Claim
 pub mod Emptied
 pub mod Histories
+pub mod Isolation
 pub mod Ledger
 pub mod OnDevice
 pub mod OnTables

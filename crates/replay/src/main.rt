@@ -17,10 +17,10 @@ fn script_space() -> [u8; 262144]
 }
 
 // Space for the sectors of a shelf.
-fn sector_space() -> [u8; 131072]
-    ensures { λ r. ⌜ 131072 ≡ length r ⌝ }
+fn sector_space() -> [u8; 524288]
+    ensures { λ r. ⌜ 524288 ≡ length r ⌝ }
 {
-    [0; 131072]
+    [0; 524288]
 }
 
 // Bytes of the answer line.
@@ -39,8 +39,13 @@ fn field(n: u64) {
     number(n);
 }
 
-// One zone's record: generation, condition, pointer.
-fn show_record(s: State, z: usize) {
+// A number of 32 bits of the answer line.
+fn word(n: u32) {
+    number(n as u64);
+}
+
+// One zone's record: generation, condition, pointer, owner.
+fn show_record(s: State, owners: [u32; 16], z: usize) {
     if 16 <= z {
         return;
     }
@@ -52,30 +57,54 @@ fn show_record(s: State, z: usize) {
     number(volume::numbers::condition_number(c) as u64);
     text(b":");
     number(p as u64);
+    text(b":");
+    word(owners[z]);
 }
 
-// A state: the lost drive, then the zones' records.
-fn show_state(s: State, zones: usize) {
+// What is left of the hosts' shares of one drive.
+fn show_share(s: State, d: usize) {
+    if 8 <= d {
+        return;
+    }
+    let shares = s.shares;
+    text(b" ");
+    word(shares[d * volume::HOSTS]);
+    text(b"/");
+    word(shares[d * volume::HOSTS + 1]);
+}
+
+// The shares of so many drives.
+fn show_shares(s: State, drives: usize) {
+    let mut d = 0;
+    while d < drives {
+        show_share(s, d);
+        d += 1;
+    }
+}
+
+// A state: the lost drive, then the zones' records, then the drives' shares.
+fn show_state(s: State, owners: [u32; 16], zones: usize, drives: usize) {
     text(b" lost");
     field(s.lost as u64);
     let mut z = 0;
     while z < zones {
-        show_record(s, z);
+        show_record(s, owners, z);
         z += 1;
     }
+    show_shares(s, drives);
 }
 
 // What the line says of the host's state: none, the state after a call that may change it, else that it is the same.
 fn show_kept(h: Host, letter: u8) {
-    let zones = h.zones;
     let s = h.state;
+    let owners = h.owners;
     if !h.held {
         text(b" none");
         return;
     }
     let changes = replaying::showing::may_keep(letter);
     if changes {
-        show_state(s, zones);
+        show_state(s, owners, h.zones, h.drives);
         return;
     }
     text(b" same");
@@ -115,7 +144,9 @@ fn show_look(
     let shown = r.shown;
     let g = h.geometry;
     let zones = replaying::hosting::lend(g.zones, 0, 16);
-    show_state(shown, zones);
+    let drives = replaying::hosting::lend(g.drives, 0, 8);
+    let owners = replaying::forming::owners_of(shown);
+    show_state(shown, owners, zones, drives);
     let mut z = 0;
     while z < zones {
         show_zone(space, written, durable, buffer, r, c, z);
@@ -234,13 +265,13 @@ fn replay(
     }
 }
 
-// All of standard input, replayed on a shelf of at most 131,072 bytes; no script of the vectors has a larger one.
+// All of standard input, replayed on a shelf of at most 524,288 bytes; no script of the vectors has a larger one.
 fn main() {
     let mut script = script_space();
     let n = io::read_full(0, &mut script);
     let mut space = sector_space();
     let mut places = sector_space();
-    let mut buffer = [0u8; 16384];
+    let mut buffer = [0u8; 65536];
     let mut written = [0u32; 152];
     let mut durable = [0u32; 152];
     replaying::showing::mark_places(&mut places);

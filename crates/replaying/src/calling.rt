@@ -12,6 +12,12 @@ pub fn stateless(h: Host) -> Reply {
     super::hosting::plain(h, 254, shown)
 }
 
+// A call while the state has not its form.
+pub fn malformed(h: Host) -> Reply {
+    let shown = h.state;
+    super::hosting::plain(h, 1, shown)
+}
+
 // The bad place that an answer tells.
 fn place_told(a: Answer) -> BadPlace {
     match a {
@@ -44,12 +50,7 @@ fn kept(h: Host, o: Outcome) -> Reply {
     if code != 0 {
         return told(h, o);
     }
-    let g = h.geometry;
-    let l = g.zones;
-    let mut t = h;
-    t.held = true;
-    t.zones = l;
-    t.state = s;
+    let t = super::hosting::with_state(h, s);
     super::hosting::plain(t, code, s)
 }
 
@@ -94,11 +95,11 @@ pub fn look(sectors: &[u8], written: &[u32], durable: &[u32], h: Host, c: Comman
     told(h, o)
 }
 
-// Write of the stream's bytes.
+// Write of the stream's bytes, by a host.
 pub fn write(
     sectors: &mut [u8],
     written: &mut [u32],
-    durable: &mut [u32],
+    durable: &[u32],
     buffer: &mut [u8],
     h: Host,
     c: Command,
@@ -106,9 +107,10 @@ pub fn write(
     let g = h.geometry;
     let s = h.state;
     let named = super::hosting::named_in(c.first);
-    let run = super::hosting::narrow(c.third);
-    let count = super::hosting::narrow(c.fifth);
-    super::stream::fill(buffer, c.fourth);
+    let host = super::hosting::narrow(c.second);
+    let run = super::hosting::narrow(c.fourth);
+    let count = super::hosting::narrow(c.sixth);
+    super::stream::fill(buffer, c.fifth);
     let o = volume::writing::write(
         sectors,
         written,
@@ -116,7 +118,8 @@ pub fn write(
         g,
         named,
         s,
-        c.second,
+        host,
+        c.third,
         run,
         buffer,
         count,
@@ -148,6 +151,23 @@ pub fn reset(
     let zone = c.second as usize;
     let count = super::hosting::narrow(c.third);
     let o = volume::resetting::reset(sectors, written, durable, g, named, s, zone, count);
+    kept(h, o)
+}
+
+// Compact.
+pub fn compact(
+    sectors: &mut [u8],
+    written: &mut [u32],
+    durable: &mut [u32],
+    h: Host,
+    c: Command,
+) -> Reply {
+    let g = h.geometry;
+    let s = h.state;
+    let named = super::hosting::named_in(c.first);
+    let drive = c.second as usize;
+    let count = super::hosting::narrow(c.third);
+    let o = compacting::compact(sectors, written, durable, g, named, s, drive, count);
     kept(h, o)
 }
 

@@ -4,7 +4,6 @@ use super::Host;
 use super::Reply;
 use super::Shortage;
 use tables::Geometry;
-use volume::Condition;
 use volume::State;
 use volume::ZoneRecord;
 ghost use Prim.Native.Nat.{_≤_};
@@ -64,12 +63,14 @@ fn no_shortage() -> Shortage {
 
 // A state that says nothing, for a host that has none.
 fn blank_state() -> State {
-    let blank = ZoneRecord {
-        generation: 0,
-        condition: Condition::Empty,
-    };
+    let blank = volume::records::blank_record();
     let zones = [blank; 16];
-    State { lost: 255, zones }
+    let shares = [0u32; volume::MAX_SHARES];
+    State {
+        lost: 255,
+        zones,
+        shares,
+    }
 }
 
 // A host with a shelf of so many bytes and cells, and no state.
@@ -82,7 +83,9 @@ fn empty_host(geometry: Geometry, bytes: usize, cells: usize) -> Host {
         cells,
         held: false,
         zones: 0,
+        drives: 0,
         state,
+        owners: [0; 16],
         shortage,
     }
 }
@@ -150,21 +153,74 @@ pub fn without_shortage(h: Host) -> Host {
     t
 }
 
-// One zone's record in the host's state.
+// One zone's record in the host's state; its owner stays.
 pub fn with_record(h: Host, c: Command) -> Host {
     let z = c.first as usize;
     if 16 <= z {
         return h;
     }
     let condition = volume::numbers::condition_of(c.third, c.fourth as usize);
+    let mut s = h.state;
+    let old = s.zones[z];
+    let owner = old.owner;
     let r = ZoneRecord {
         generation: c.second,
         condition,
+        owner,
     };
-    let mut s = h.state;
     s.zones[z] = r;
     let mut t = h;
     t.state = s;
+    t
+}
+
+// One zone's owner in the host's state.
+pub fn with_owner(h: Host, c: Command) -> Host {
+    let z = c.first as usize;
+    if 16 <= z {
+        return h;
+    }
+    let mut s = h.state;
+    let old = s.zones[z];
+    let condition = old.condition;
+    let owner = volume::numbers::owner_of_number(c.second);
+    let r = ZoneRecord {
+        generation: old.generation,
+        condition,
+        owner,
+    };
+    s.zones[z] = r;
+    let mut t = h;
+    t.state = s;
+    t.owners[z] = (c.second % 256) as u32;
+    t
+}
+
+// What is left of the hosts' shares of one drive, in the host's state.
+pub fn with_shares(h: Host, c: Command) -> Host {
+    let d = c.first as usize;
+    if 8 <= d {
+        return h;
+    }
+    let at = d * volume::HOSTS;
+    let mut s = h.state;
+    s.shares[at] = narrow(c.second);
+    s.shares[at + 1] = narrow(c.third);
+    let mut t = h;
+    t.state = s;
+    t
+}
+
+// The host with the state that a finished call left.
+pub fn with_state(h: Host, s: State) -> Host {
+    let g = h.geometry;
+    let owners = super::forming::owners_of(s);
+    let mut t = h;
+    t.held = true;
+    t.zones = g.zones;
+    t.drives = g.drives;
+    t.state = s;
+    t.owners = owners;
     t
 }
 

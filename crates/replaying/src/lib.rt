@@ -10,6 +10,7 @@ use volume::ZoneDescriptor;
 pub mod calling;
 pub mod checksum;
 pub mod damaging;
+pub mod forming;
 pub mod hosting;
 pub mod listing;
 pub mod parsing;
@@ -43,15 +44,17 @@ pub struct Shortage {
     pub buffer: usize,
 }
 
-// What the host keeps between commands: the geometry that it hands to the calls, the lengths of its shelf's tables, the state if there is one
-// and the zones that it speaks of, and the shortage of the next command.
+// What the host keeps between commands: the geometry that it hands to the calls, the lengths of its shelf's tables, the state if there is one,
+// the zones and drives that it speaks of, the zones' owners as numbers, of which a script may set one that there is not, and the shortage of the next command.
 pub struct Host {
     pub geometry: Geometry,
     pub bytes: usize,
     pub cells: usize,
     pub held: bool,
     pub zones: usize,
+    pub drives: usize,
     pub state: State,
+    pub owners: [u32; 16],
     pub shortage: Shortage,
 }
 

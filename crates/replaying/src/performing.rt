@@ -22,6 +22,9 @@ fn call_with_state(
     if letter == b'r' {
         return super::calling::reset(sectors, written, durable, h, c);
     }
+    if letter == b'k' {
+        return super::calling::compact(sectors, written, durable, h, c);
+    }
     if letter == b'd' {
         return super::calling::read(sectors, written, durable, buffer, h, c);
     }
@@ -54,7 +57,19 @@ fn call(
     if !held {
         return super::calling::stateless(h);
     }
+    let odd = super::forming::is_odd(h);
+    if odd {
+        return super::calling::malformed(h);
+    }
     call_with_state(sectors, written, durable, buffer, h, c)
+}
+
+// How many sectors a write or a read has.
+fn run_in(c: Command) -> u64 {
+    if c.letter == b'w' {
+        return c.fourth;
+    }
+    c.third
 }
 
 // The tables as long as the shelf's, less the command's shortage; the buffer as long as the run, less its shortage.
@@ -68,7 +83,7 @@ fn call_on_tables(
 ) -> Reply {
     let s = h.shortage;
     let g = h.geometry;
-    let run = super::hosting::run_bytes(g, c.third);
+    let run = super::hosting::run_bytes(g, run_in(c));
     let a = super::hosting::lend(h.bytes, s.sectors, space.len());
     let w = super::hosting::lend(h.cells, s.written, written.len());
     let d = super::hosting::lend(h.cells, s.durable, durable.len());
@@ -93,7 +108,7 @@ fn new_drives(space: &mut [u8], written: &mut [u32], durable: &mut [u32], c: Com
     super::hosting::quiet(h)
 }
 
-// A change of what the host keeps: geometry, shortage, a zone's record, the lost drive; of another command nothing.
+// A change of what the host keeps: geometry, shortage, a zone's record or owner, a drive's shares, the lost drive; of another command nothing.
 fn change_host(h: Host, c: Command) -> Host {
     let letter = c.letter;
     if letter == b'y' {
@@ -108,6 +123,12 @@ fn change_host(h: Host, c: Command) -> Host {
     }
     if letter == b's' {
         return super::hosting::with_record(h, c);
+    }
+    if letter == b'i' {
+        return super::hosting::with_owner(h, c);
+    }
+    if letter == b'h' {
+        return super::hosting::with_shares(h, c);
     }
     if letter == b'x' {
         return super::hosting::with_lost(h, c.first as usize);
@@ -179,7 +200,8 @@ fn is_call(letter: u8) -> bool {
                 | ((letter == b'w')
                     | ((letter == b'u')
                         | ((letter == b'r')
-                            | ((letter == b'd') | ((letter == b'p') | (letter == b'o'))))))))
+                            | ((letter == b'k')
+                                | ((letter == b'd') | ((letter == b'p') | (letter == b'o')))))))))
 }
 
 // Whether a letter is that of a change of the tables.

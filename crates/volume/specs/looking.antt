@@ -10,5 +10,6 @@ pub mod Looking
 pub mod MovedLogs
 pub mod RowOthers
 pub mod SeenByRoles
+pub mod ShownState
 pub mod Surveying
 pub mod ZoneLooking

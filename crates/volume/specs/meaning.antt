@@ -3,6 +3,7 @@ pub mod CallContracts
 pub mod Calls
 pub mod Content
 pub mod Emptying
+pub mod Hosts
 pub mod Mount
 pub mod Refusals
 pub mod Report

@@ -1,13 +1,12 @@
+pub mod Allowances
 pub mod OwnStores
 pub mod RunSeen
 pub mod WriteByRecord
 pub mod WriteChecks
 pub mod WriteDirectly
-pub mod WriteMade
 pub mod WriteRoom
 pub mod WriteRun
 pub mod WriteSeen
 pub mod WriteStores
 pub mod WriteTried
-pub mod WriteZone
 pub mod Writing

@@ -85,6 +85,11 @@ pub fn flush(
     let rest = flush_all(written, durable, g, here, budget);
     let x = super::checks::left_out(g, here);
     let zones = state.zones;
-    let next = State { lost: x, zones };
+    let shares = state.shares;
+    let next = State {
+        lost: x,
+        zones,
+        shares,
+    };
     ended(state, next, rest)
 }

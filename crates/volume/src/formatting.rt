@@ -1,6 +1,7 @@
 // Format: reset every zone; flush all, so that no cut brings an old log back over the new; label, then counters (all 1), drive by drive; flush all.
 use super::Condition;
 use super::Outcome;
+use super::Owner;
 use super::State;
 use super::ZoneRecord;
 use tables::Geometry;
@@ -14,7 +15,9 @@ ghost use Rattle.tables.specs.meaning.Geometry.{Valid, physicalZones, cells, to
 ghost use Rattle.tables.specs.meaning.Phases.{onPresent};
 ghost use Rattle.tables.specs.meaning.Tables.{tablesOf};
 ghost use Rattle.tables.specs.laws.Made.{Made, MadeAppends, MadePointers};
+ghost use Rattle.volume.specs.meaning.State.{withShares};
 ghost use Rattle.volume.specs.meaning.Calls.{formatStores, formatState};
+ghost use Rattle.volume.specs.meaning.Hosts.{freshShares};
 ghost use Rattle.volume.specs.meaning.CallContracts.{isSet, formatOn, stateHeld};
 ghost use Rattle.volume.specs.storing.Formatting.{formatNumber, driveResets, driveEntries, resetsIf, entriesIf};
 
@@ -155,23 +158,30 @@ fn format_stores(
     super::flushing::flush_all(written, durable, g, here, labelled)
 }
 
-// The state that a finished format hands on: every zone empty, of generation 1; the records past the last zone blank.
-fn fresh_state(g: Geometry, lost: usize) -> State
+// The state that a finished format hands on: every zone empty, of generation 1 and nobody's, the records past the last zone blank; and the hosts' shares of
+// empty logs.
+fn fresh_state(g: Geometry, here: [bool; MAX_DRIVES], lost: usize) -> State
     requires { ⌜ Valid g ⌝ }
-    ensures { λ r. ⌜ r ≡ stateHeld (g .zones) (formatState lost) ⌝ }
+    ensures { λ r. ⌜ r ≡ stateHeld (g .zones) (withShares (freshShares g (isSet here)) (formatState lost)) ⌝ }
 {
     let n = g.zones;
     let blank = super::records::blank_record();
+    let shares = super::shares::fresh_shares(g, here);
     let mut zones = [blank; MAX_ZONES];
     let mut z = 0;
     while z < n {
         zones[z] = ZoneRecord {
             generation: 1,
             condition: Condition::Empty,
+            owner: Owner::Nobody,
         };
         z += 1;
     }
-    State { lost, zones }
+    State {
+        lost,
+        zones,
+        shares,
+    }
 }
 
 // The call. A format neither reads nor changes the old state: it is handed back if the call is refused or unfinished.
@@ -196,6 +206,6 @@ pub fn format(
     let lost = super::checks::left_out(g, named);
     let budget = count as u64 + 1;
     let rest = format_stores(sectors, written, durable, g, here, lost, array, budget);
-    let state = fresh_state(g, lost);
+    let state = fresh_state(g, here, lost);
     super::flushing::ended(old, state, rest)
 }

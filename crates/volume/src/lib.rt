@@ -14,6 +14,7 @@ pub mod emptying_parity;
 pub mod emptyings;
 pub mod flushing;
 pub mod formatting;
+pub mod hosts;
 pub mod knowing;
 pub mod log_room;
 pub mod logging;
@@ -26,6 +27,7 @@ pub mod resetting;
 pub mod roles;
 pub mod row_others;
 pub mod rows;
+pub mod shares;
 pub mod stripes;
 pub mod write_checks;
 pub mod write_directly;
@@ -43,16 +45,31 @@ pub enum Condition {
     Worn(usize),
 }
 
+// The host that wrote a zone last; nobody since the last format, mount or reset of the zone (document 02, 2.6).
+pub enum Owner {
+    Nobody,
+    Host0,
+    Host1,
+}
+
 // What the state says of one zone.
 pub struct ZoneRecord {
     pub generation: u64,
     pub condition: Condition,
+    pub owner: Owner,
 }
 
-// What the host keeps between calls: the lost drive or 255, and a record for each zone. Records past the volume's last zone say nothing.
+// So many hosts use the drives, and so many shares there are at most: one for each drive and host.
+pub const HOSTS: usize = 2;
+
+pub const MAX_SHARES: usize = 16;
+
+// What the hosts keep between calls: the lost drive or 255; a record for each zone; and what is left of each host's share of each drive's parity log, host h's
+// of drive d at HOSTS × d + h. Records past the volume's last zone say nothing.
 pub struct State {
     pub lost: usize,
     pub zones: [ZoneRecord; MAX_ZONES],
+    pub shares: [u32; MAX_SHARES],
 }
 
 // A zone as a call reads it: the geometry, the drives that are present, the zone's number, and the generation under which it is read.

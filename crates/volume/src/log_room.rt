@@ -16,14 +16,16 @@ ghost use Rattle.volume.specs.meaning.CallContracts.{isSet};
 ghost use Rattle.volume.specs.checks.LogRoom.{Asking, kindLacksAt, unusedAt, lacksAt, claimAt, lostAt, driveRoomOf, unsizedAt, noAnswers, withAnswer, roomOf, emptyingsOf, generalRoomAt, parityRoomAt};
 ghost use Rattle.volume.specs.emptying.ParityCopies.{PointersWithin};
 
-// What a call asks of the logs of a kind: so many sectors unused on every drive that is due. The geometry of the tables, where the logs lie in it, the drives
-// that are here, and whether the call resets spares with sectors written before it empties a log: a mount does, no other call.
+// What a call asks of the logs of a kind, on every drive that is due: one with fewer sectors unused than `below` is emptied, and must have `limit` unused
+// then. The geometry of the tables, where the logs lie in it, the drives that are here, and whether the call resets spares with sectors written before it
+// empties a log: a mount does, no other call.
 pub struct RoomAsked {
     pub first: Geometry,
     pub places: LogPlaces,
     pub here: [bool; MAX_DRIVES],
     pub due: [bool; MAX_DRIVES],
     pub parity: bool,
+    pub below: usize,
     pub limit: usize,
     pub clears_spares: bool,
 }
@@ -82,8 +84,8 @@ pub fn lacks_room(pointers: &[u32], asked: RoomAsked, drive: usize) -> bool
         return false;
     }
     let left = unused(pointers, asked, drive);
-    let limit = asked.limit;
-    left < limit
+    let below = asked.below;
+    left < below
 }
 
 // A log that lacks room, before the size of its new log is known.

@@ -4,6 +4,7 @@ use super::BadPlace;
 use super::Condition;
 use super::Look;
 use super::Outcome;
+use super::Owner;
 use super::State;
 use super::ZoneLook;
 use super::ZoneRecord;
@@ -26,6 +27,7 @@ ghost use Rattle.volume.specs.looking.DriveLogs.{Sized};
 ghost use Rattle.volume.specs.looking.Knowing.{readDevice};
 ghost use Rattle.volume.specs.looking.SeenByRoles.{kindLacksOn};
 ghost use Rattle.volume.specs.looking.Looking.{Lookable, shapeNumber, logNumber, looksFrom, lookOf, recordsOf};
+ghost use Rattle.volume.specs.looking.ShownState.{HereBelow, stateSeen};
 ghost use Rattle.volume.specs.looking.Surveying.{Surveyed};
 
 // What a look goes by: where the logs lie, which drives are present, the refusal by their logs (4 to 6; 0 if none applies), and the first bad place.
@@ -169,8 +171,8 @@ pub fn look_all(sectors: &[u8], written: &[u32], g: Geometry, here: [bool; MAX_D
     Look { lost, array, zones }
 }
 
-// The records of the zones that a look shows.
-pub fn records_of(g: Geometry, shown: [ZoneLook; MAX_ZONES]) -> [ZoneRecord; MAX_ZONES]
+// The records of the zones that a look shows: nobody's.
+fn records_of(g: Geometry, shown: [ZoneLook; MAX_ZONES]) -> [ZoneRecord; MAX_ZONES]
     requires { ⌜ Valid g ⌝ }
     ensures { λ r. ⌜ r ≡ recordsOf g shown ⌝ }
 {
@@ -185,13 +187,37 @@ pub fn records_of(g: Geometry, shown: [ZoneLook; MAX_ZONES]) -> [ZoneRecord; MAX
         zones[z] = ZoneRecord {
             generation,
             condition,
+            owner: Owner::Nobody,
         };
         z += 1;
     }
     zones
 }
 
-// The call. Refused: the old state stays. Else: the lost drive and the zones that are shown are the state.
+// The state that the drives that are here show, with the shares of their parity logs.
+pub fn shown_state(
+    sectors: &[u8],
+    written: &[u32],
+    places: LogPlaces,
+    here: [bool; MAX_DRIVES],
+) -> State
+    requires { ⌜ Valid (places .geometry) ⌝ }
+    requires { ⌜ Lookable (places .geometry) here (now sectors) (now written) × HereBelow (places .geometry) here ⌝ }
+    ensures { λ r. ⌜ r ≡ stateSeen places here (now (sectors .entry)) (now (written .entry)) ⌝ }
+{
+    let shown = look_all(sectors, written, places.geometry, here);
+    let lost = shown.lost;
+    let looks = shown.zones;
+    let zones = records_of(places.geometry, looks);
+    let shares = super::shares::shares_of(written, places, here);
+    State {
+        lost,
+        zones,
+        shares,
+    }
+}
+
+// The call. Refused: the old state stays. Else: what is shown is the state.
 pub fn look(
     sectors: &[u8],
     written: &[u32],
@@ -214,12 +240,9 @@ pub fn look(
         return super::checks::refused_at(refusal, found.bad, old);
     }
     let here = found.here;
-    let shown = look_all(sectors, &pointers[..cells], found.places.geometry, here);
-    let lost = shown.lost;
-    let looks = shown.zones;
-    let zones = records_of(found.places.geometry, looks);
+    let state = shown_state(sectors, &pointers[..cells], found.places, here);
     Outcome {
         answer: Answer::Finished,
-        state: State { lost, zones },
+        state,
     }
 }

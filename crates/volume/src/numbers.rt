@@ -1,9 +1,10 @@
-// The numbers by which answers and conditions are told outside the volume: to C, in the bytes of a state, in a script's lines.
+// The numbers by which answers, conditions and owners are told outside the volume: to C, in the bytes of a state, in a script's lines.
 use super::Answer;
 use super::Condition;
+use super::Owner;
 use super::ReportedCondition;
 ghost use mathlib.Core.Path.{_≡_};
-ghost use Rattle.volume.specs.meaning.State.{conditionNumber, conditionOfNumber};
+ghost use Rattle.volume.specs.meaning.State.{conditionNumber, conditionOfNumber, ownerNumber, ownerOfNumber};
 ghost use Rattle.volume.specs.meaning.CallContracts.{answerNumber};
 ghost use Rattle.volume.specs.meaning.Report.{toldNumber};
 
@@ -56,4 +57,28 @@ pub fn condition_of(number: u64, pointer: usize) -> Condition
         return Condition::Worn(pointer);
     }
     Condition::Empty
+}
+
+// 0 nobody, 1 host 0, 2 host 1.
+pub fn owner_number(o: Owner) -> u32
+    ensures { λ r. ⌜ r ≡ ownerNumber o ⌝ }
+{
+    match o {
+        Owner::Nobody => 0,
+        Owner::Host0 => 1,
+        Owner::Host1 => 2,
+    }
+}
+
+// The owner of a number.
+pub fn owner_of_number(number: u64) -> Owner
+    ensures { λ r. ⌜ r ≡ ownerOfNumber number ⌝ }
+{
+    if number == 1 {
+        return Owner::Host0;
+    }
+    if number == 2 {
+        return Owner::Host1;
+    }
+    Owner::Nobody
 }

@@ -1,6 +1,7 @@
 // What a zone's condition says, and what the records of a state and of a look say of all zones.
 use super::Condition;
 use super::Look;
+use super::Owner;
 use super::State;
 use super::ZoneRecord;
 use tables::MAX_ZONES;
@@ -61,6 +62,7 @@ pub fn blank_record() -> ZoneRecord
     ZoneRecord {
         generation: 0,
         condition: Condition::Empty,
+        owner: Owner::Nobody,
     }
 }
 

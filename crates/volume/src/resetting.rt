@@ -2,6 +2,7 @@
 // counters raised, on all; flush all.
 use super::Condition;
 use super::Outcome;
+use super::Owner;
 use super::State;
 use super::Zone;
 use super::ZoneRecord;
@@ -219,7 +220,7 @@ fn reset_from(
     reset_stores(sectors, written, durable, zone, &raised, rest)
 }
 
-// A zone's record after its reset.
+// A zone's record after its reset: nobody's.
 fn reset_record(r: ZoneRecord) -> ZoneRecord
     requires { ⌜ r .generation < wornGeneration ⌝ }
     ensures { λ q. ⌜ q ≡ resetRecord r ⌝ }
@@ -229,11 +230,13 @@ fn reset_record(r: ZoneRecord) -> ZoneRecord
         return ZoneRecord {
             generation,
             condition: Condition::Worn(0),
+            owner: Owner::Nobody,
         };
     }
     ZoneRecord {
         generation,
         condition: Condition::Empty,
+        owner: Owner::Nobody,
     }
 }
 
@@ -250,7 +253,12 @@ fn outcome(zone: Zone, state: State, rest: u64) -> Outcome
     let mut zones = state.zones;
     let record = zones[z];
     zones[z] = reset_record(record);
-    let next = State { lost, zones };
+    let shares = state.shares;
+    let next = State {
+        lost,
+        zones,
+        shares,
+    };
     super::flushing::ended(state, next, rest)
 }
 
@@ -273,13 +281,15 @@ fn reset_seen(
     let g = zone.geometry;
     let here = zone.here;
     let zones = g.zones;
+    let limit = zones + 4;
     let asked = RoomAsked {
         first: g,
         places,
         here,
         due: here,
         parity: false,
-        limit: zones + 4,
+        below: limit,
+        limit,
         clears_spares: false,
     };
     let current = super::records::generations_of(state);

@@ -1,6 +1,7 @@
-// Refusals 7 to 12 of a write, and of 15 what its first stripe needs. No store is made before the last of them has passed.
+// Refusals 7 to 12, 18 and 19 of a write, and 15: what its first stripe needs. No store is made before the last of them has passed.
 use super::Condition;
 use super::Zone;
+use super::writing::Run;
 use tables::Geometry;
 ghost use mathlib.Core.Path.{_≡_};
 ghost use Prim.Native.Nat.{_≤_, _<_};
@@ -74,17 +75,27 @@ pub fn gone_before(sectors: &[u8], written: &[u32], zone: Zone, n: usize) -> boo
     super::reading::some_gone(sectors, written, zone, limit, start, n - start)
 }
 
-// Refusals 7 and 9 to 12 of a write to a zone that there is; 0 if none applies.
-pub fn zone_refusal(written: &[u32], zone: Zone, c: Condition, offset: usize, count: usize) -> u8
-    requires { ⌜ Valid (zone .geometry) ⌝ }
-    requires { ⌜ (zone .number < zone .geometry .zones) × (length (now written) ≡ cells (zone .geometry)) × (pointerIn c ≤ zoneSectors (zone .geometry)) ⌝ }
-    requires { ⌜ (offset < zoneSectors (zone .geometry)) × (count < 4294967296) ⌝ }
-    ensures { λ r. ⌜ r ≡ zoneNumber (zone .geometry) (isSet (zone .here)) (now (written .entry)) c (zone .number) offset count ⌝ }
+// Refusals 7 to 12, 18 and 19 of a write to a zone that there is, in condition c; 0 if none applies.
+pub fn zone_refusal(written: &[u32], run: Run, c: Condition) -> u8
+    requires { ⌜ Valid (run .zone .geometry) ⌝ }
+    requires { ⌜ (run .zone .number < run .zone .geometry .zones) × (length (now written) ≡ cells (run .zone .geometry)) × (pointerIn c ≤ zoneSectors (run .zone .geometry)) ⌝ }
+    requires { ⌜ (run .pointer < zoneSectors (run .zone .geometry)) × (run .count < 4294967296) ⌝ }
+    ensures { λ r. ⌜ r ≡ zoneNumber run c (now (written .entry)) ⌝ }
 {
-    let here = zone.here;
-    let stale = super::zone_checks::is_stale(written, zone.geometry, here, c, zone.number);
+    let g = run.zone.geometry;
+    let here = run.zone.here;
+    let stale = super::zone_checks::is_stale(written, g, here, c, run.zone.number);
     if stale {
         return 7;
     }
-    run_refusal(zone.geometry, c, offset, count)
+    let allowance = run.allowance;
+    let known = allowance.known;
+    if !known {
+        return 8;
+    }
+    let refusal = run_refusal(g, c, run.pointer, run.count);
+    if refusal != 0 {
+        return refusal;
+    }
+    allowance.refusal
 }

@@ -1,5 +1,5 @@
 // Write (document 01): "stripe by stripe its data sectors by address, then U parity sectors if the stripe is complete; if it ends inside a stripe,
-// one type 4 entry on the parity drive."
+// one type 4 entry on the parity drive." Its host owns the zone from then on, and its entry is off the host's share (document 02).
 use super::Answer;
 use super::Condition;
 use super::Outcome;
@@ -7,49 +7,40 @@ use super::State;
 use super::Zone;
 use super::ZoneRecord;
 use super::checks::Sizes;
-use super::emptyings::Emptyings;
+use super::hosts::Allowance;
 use super::roles::LogPlaces;
+use super::write_room::EntryTaken;
 use tables::Geometry;
 use tables::MAX_CELLS;
 use tables::MAX_DRIVES;
 ghost use mathlib.Core.Path.{_≡_};
-ghost use mathlib.Core.Bool.{true, _&&_, _||_, not};
-ghost use mathlib.Core.List.{_++_};
+ghost use mathlib.Core.List.{List};
 ghost use Prim.Native.Nat.{ℕ, _≤_, _<_};
-ghost use lib.Dec.{eqb};
-ghost use Rattle.tables.specs.meaning.Basics.{pick};
-ghost use Rattle.tables.specs.meaning.Drives.{findBelow};
-ghost use Rattle.tables.specs.meaning.Geometry.{Valid, zoneSectors, maxZones};
+ghost use Rattle.tables.specs.meaning.Geometry.{Valid, zoneSectors};
 ghost use Rattle.tables.specs.meaning.Tables.{tablesOf};
-ghost use Rattle.volume.specs.declared.Answer.the-variants.{Finished, Unfinished};
-ghost use Rattle.tables.specs.laws.Made.{Made};
-ghost use Rattle.volume.specs.meaning.Refusals.{goneBefore};
-ghost use Rattle.volume.specs.meaning.Emptying.{goneForCopies};
-ghost use Rattle.volume.specs.meaning.CallContracts.{recordAt, isSet, writeOn, stateHeld, viewState};
+ghost use Rattle.volume.specs.meaning.CallContracts.{recordAt, writeOn};
 ghost use Rattle.volume.specs.looking.DriveLogs.{Sized};
-ghost use Rattle.volume.specs.looking.Knowing.{readDevice};
 ghost use Rattle.volume.specs.checks.LogRoom.{SeenByRoles};
-ghost use Rattle.volume.specs.emptying.CopiesKnown.{inForceOf, CopiesReady};
-ghost use Rattle.volume.specs.emptying.Emptyings.{EmptyingReady, emptiedOn};
-ghost use Rattle.volume.specs.emptying.ParityEmptyings.{ParityKnown, newParityOn};
-ghost use Rattle.volume.specs.checks.Records.{generationsIn, pointsIn};
-ghost use Rattle.volume.specs.writing.WriteStores.{WriteReady};
-ghost use Rattle.volume.specs.writing.WriteRun.{atPlaces, runStoresOf, RunReady, RunAsked, RunStated, writeZoneOn, writeAskedOn};
-ghost use Rattle.volume.specs.meaning.Calls.{openState};
+ghost use Rattle.volume.specs.writing.WriteRoom.{entryTakenOf};
+ghost use Rattle.volume.specs.writing.WriteRun.{endOf, RunReady, RunAsked, RunStated, endedWith, Gives, GivesAny, writeZoneOn, writeAskedOn};
+ghost use Rattle.volume.specs.writing.Writing.{writeAsked, runOf};
 
-// What is written: so many sectors of a zone from its pointer on.
+// What is written: so many sectors of a zone from its pointer on, by a host that may do so much.
 pub struct Run {
     pub zone: Zone,
     pub pointer: usize,
     pub count: usize,
+    pub host: usize,
+    pub allowance: Allowance,
 }
 
-// How it ends with `rest` left of the budget. If it finished, the zone is open at pointer n, and a drive that was left out is lost.
-fn outcome(zone: Zone, state: State, n: usize, rest: u64) -> Outcome
-    requires { ⌜ Valid (zone .geometry) ⌝ }
-    requires { ⌜ (zone .number < zone .geometry .zones) × (zone .generation ≡ recordAt state (zone .number) .generation) ⌝ }
-    ensures { λ r. ⌜ r ≡ pick (eqb rest 0) (record { answer = Unfinished; state = state })
-        (record { answer = Finished; state = stateHeld maxZones (openState (findBelow (λ (d : ℕ). not (isSet (zone .here) d)) (zone .geometry .drives)) (viewState state) (zone .number) n) }) ⌝ }
+// How it ends with `rest` left of the budget. If it finished, the zone is open past the run and the host's own, what the entry takes is off the host's share,
+// and a drive that was left out is lost.
+fn outcome(run: Run, entry: EntryTaken, state: State, rest: u64) -> Outcome
+    requires { ⌜ Valid (run .zone .geometry) ⌝ }
+    requires { ⌜ (run .zone .number < run .zone .geometry .zones) × (run .zone .generation ≡ recordAt state (run .zone .number) .generation) × (endOf run ≤ zoneSectors (run .zone .geometry)) × (run .host < 2) ⌝ }
+    requires { ⌜ (entry ≡ entryTakenOf (run .zone) (endOf run)) × (entry .drive < run .zone .geometry .drives) × (entry .sectors ≤ 17) ⌝ }
+    ensures { λ r. ⌜ r ≡ endedWith run state rest ⌝ }
 {
     if rest == 0 {
         return Outcome {
@@ -57,104 +48,34 @@ fn outcome(zone: Zone, state: State, n: usize, rest: u64) -> Outcome
             state,
         };
     }
-    let here = zone.here;
-    let z = zone.number;
-    let lost = super::checks::left_out(zone.geometry, here);
+    let here = run.zone.here;
+    let z = run.zone.number;
+    let end = run.pointer + run.count;
+    let lost = super::checks::left_out(run.zone.geometry, here);
+    let owner = super::hosts::owner_of(run.host);
+    let before = state.shares;
+    let shares = super::hosts::shares_less(before, entry.drive, run.host, entry.sectors);
     let mut zones = state.zones;
     zones[z] = ZoneRecord {
-        generation: zone.generation,
-        condition: Condition::Open(n),
+        generation: run.zone.generation,
+        condition: Condition::Open(end),
+        owner,
     };
     Outcome {
         answer: Answer::Finished,
-        state: State { lost, zones },
+        state: State {
+            lost,
+            zones,
+            shares,
+        },
     }
 }
 
-// Refusal 15: whether a sector that the write needs is not known, of its first stripe or, if a drive's parity log is emptied, of the entries made there.
-fn write_gone(
-    sectors: &[u8],
-    pointers: &[u32],
-    run: Run,
-    emptied: bool,
-    drive: usize,
-    generations: &[u64],
-    points: &[usize],
-) -> bool
-    requires { ⌜ Valid (run .zone .geometry) ⌝ }
-    requires { ⌜ CopiesReady (run .zone .geometry) (run .zone .here) (now sectors) (now pointers) (now generations) (now points) × (drive < run .zone .geometry .drives) × (run .zone .number < run .zone .geometry .zones) × (run .pointer ≤ zoneSectors (run .zone .geometry)) ⌝ }
-    ensures { λ r. ⌜ r ≡ (emptied && goneForCopies (run .zone .geometry) (isSet (run .zone .here)) (inForceOf (run .zone .geometry) (isSet (run .zone .here)) (readDevice (run .zone .geometry) (now (sectors .entry)) (now (pointers .entry))) (now (generations .entry)) (now (points .entry))) (readDevice (run .zone .geometry) (now (sectors .entry)) (now (pointers .entry))) drive)
-        || goneBefore (run .zone .geometry) (isSet (run .zone .here)) (readDevice (run .zone .geometry) (now (sectors .entry)) (now (pointers .entry))) (run .zone .number) (run .zone .generation) (run .pointer) ⌝ }
-{
-    let here = run.zone.here;
-    let before = super::write_checks::gone_before(sectors, pointers, run.zone, run.pointer);
-    if !emptied {
-        return before;
-    }
-    let copies = super::copies_known::copies_gone(
-        sectors,
-        pointers,
-        run.zone.geometry,
-        here,
-        drive,
-        generations,
-        points,
-    );
-    copies | before
-}
-
-// The emptying, if the log of the drive that gets the entry lacks room, and then the write's own stores, where the logs lie from then on. What is read is read
-// where they lay at its start, below the written pointers of then.
-fn write_from(
-    sectors: &mut [u8],
-    written: &mut [u32],
-    durable: &mut [u32],
-    pointers: &[u32],
-    run: Run,
-    all: Emptyings,
-    drive: usize,
-    state: State,
-    buffer: &[u8],
-    budget: u64,
-) -> u64
-    requires { ⌜ Valid (all .from) ⌝ }
-    requires { ⌜ EmptyingReady true all (now pointers) (now sectors) (now written) (now durable) × ParityKnown all (generationsIn state) (pointsIn state) (now pointers) (now sectors) (now written) drive
-        × (run .zone .geometry ≡ all .from) × WriteReady (all .from) (run .zone .here) (now sectors) (now pointers) (run .zone .number) (run .zone .generation) (run .pointer) (run .count) (now buffer) ⌝ }
-    ensures { λ r. ⌜ Made (all .to) budget r (emptiedOn all true (newParityOn all (generationsIn state) (pointsIn state) (now (sectors .entry)) (now (pointers .entry)) drive) drive
-        ++ runStoresOf run (now (sectors .entry)) (now (pointers .entry)) (now (buffer .entry)))
-        (tablesOf (now (sectors .entry)) (now (written .entry)) (now (durable .entry))) (tablesOf (now (sectors .exit)) (now (written .exit)) (now (durable .exit))) ⌝ }
-{
-    let generations = super::records::generations_of(state);
-    let points = super::records::points_of(state);
-    let rest = super::emptyings::empty_parity_on(
-        sectors,
-        written,
-        durable,
-        pointers,
-        all,
-        &generations,
-        &points,
-        drive,
-        budget,
-    );
-    super::write_stores::write_all(
-        sectors,
-        written,
-        pointers,
-        run.zone,
-        all.to,
-        run.pointer,
-        run.count,
-        buffer,
-        rest,
-    )
-}
-
-// A write that passed refusals 7 to 12, with the logs where they lie: refusals 14 and 15, and the stores.
+// A write that passed the refusals before 14, with the logs where they lie: refusals 14 and 15, and the stores. What is read is read below the written pointers
+// of its start.
 fn write_seen(
     sectors: &mut [u8],
     written: &mut [u32],
-    durable: &mut [u32],
     pointers: &[u32],
     run: Run,
     places: LogPlaces,
@@ -163,84 +84,54 @@ fn write_seen(
     count: u32,
 ) -> Outcome
     requires { ⌜ Valid (run .zone .geometry) ⌝ }
-    requires { ⌜ SeenByRoles (run .zone .geometry) places (now sectors) (now written) (now pointers) × RunReady run state (now written) (now durable) (now buffer) ⌝ }
-    ensures { λ r. ⌜ (r ≡ writeZoneOn run state (now (buffer .entry)) count (tablesOf (now (sectors .entry)) (now (written .entry)) (now (durable .entry))) .outcome)
-        × (tablesOf (now (sectors .exit)) (now (written .exit)) (now (durable .exit)) ≡ writeZoneOn run state (now (buffer .entry)) count (tablesOf (now (sectors .entry)) (now (written .entry)) (now (durable .entry))) .tables) ⌝ }
+    requires { ⌜ SeenByRoles (run .zone .geometry) places (now sectors) (now written) (now pointers) × RunReady run state (now written) (now buffer) ⌝ }
+    ensures { λ r. ⌜ GivesAny (λ (ds : List ℕ). writeZoneOn run state (now (buffer .entry)) count (tablesOf (now (sectors .entry)) (now (written .entry)) ds)) r (now (sectors .exit)) (now (written .exit)) ⌝ }
 {
-    let end = run.pointer + run.count;
-    let asked = super::write_room::write_asks(run.zone, places, end);
-    let points = super::records::points_of(state);
-    let room = super::log_room::parity_room(sectors, written, pointers, asked, &points);
-    if room.full {
+    let geometry = places.geometry;
+    let entry = super::write_room::entry_taken(run.zone, run.pointer + run.count);
+    let share = run.allowance.share;
+    let full = super::write_room::write_full(pointers, run.zone.geometry, places, share, entry);
+    if full {
         return super::checks::refused(14, state);
     }
-    let generations = super::records::generations_of(state);
-    let entry = super::write_room::entry_drive(run.zone.geometry, run.zone.number, end);
-    let drive = entry.drive;
-    let emptied = room.emptied;
-    let lies = at_places(run, places);
-    let gone = write_gone(
-        sectors,
-        pointers,
-        lies,
-        emptied[drive],
-        drive,
-        &generations,
-        &points,
-    );
-    if gone {
-        return super::checks::refused(15, state);
-    }
-    let all = super::log_room::emptyings_of(asked, room);
-    let budget = super::checks::budget_of(count);
-    let rest = write_from(
-        sectors,
-        written,
-        durable,
-        pointers,
-        lies,
-        all,
-        drive,
-        state,
-        buffer,
-        budget,
-    );
-    outcome(run.zone, state, end, rest)
-}
-
-// The run, read where the logs lie.
-fn at_places(run: Run, places: LogPlaces) -> Run
-    ensures { λ r. ⌜ r ≡ atPlaces run places ⌝ }
-{
     let here = run.zone.here;
-    let geometry = places.geometry;
     let lies = Zone {
         geometry,
         here,
         number: run.zone.number,
         generation: run.zone.generation,
     };
-    Run {
-        zone: lies,
-        pointer: run.pointer,
-        count: run.count,
+    let gone = super::write_checks::gone_before(sectors, pointers, lies, run.pointer);
+    if gone {
+        return super::checks::refused(15, state);
     }
+    let budget = super::checks::budget_of(count);
+    let rest = super::write_stores::write_all(
+        sectors,
+        written,
+        pointers,
+        lies,
+        geometry,
+        run.pointer,
+        run.count,
+        buffer,
+        budget,
+    );
+    outcome(run, entry, state, rest)
 }
 
 // The same, where the logs are still to be found.
 fn write_by_roles(
     sectors: &mut [u8],
     written: &mut [u32],
-    durable: &mut [u32],
     run: Run,
     state: State,
     buffer: &[u8],
     count: u32,
 ) -> Outcome
     requires { ⌜ Valid (run .zone .geometry) ⌝ }
-    requires { ⌜ Sized (run .zone .geometry) (now sectors) (now written) × (run .zone .geometry .logs ≡ 0) × RunReady run state (now written) (now durable) (now buffer) ⌝ }
-    ensures { λ r. ⌜ (r ≡ writeZoneOn run state (now (buffer .entry)) count (tablesOf (now (sectors .entry)) (now (written .entry)) (now (durable .entry))) .outcome)
-        × (tablesOf (now (sectors .exit)) (now (written .exit)) (now (durable .exit)) ≡ writeZoneOn run state (now (buffer .entry)) count (tablesOf (now (sectors .entry)) (now (written .entry)) (now (durable .entry))) .tables) ⌝ }
+    requires { ⌜ Sized (run .zone .geometry) (now sectors) (now written) × (run .zone .geometry .logs ≡ 0) × RunReady run state (now written) (now buffer) ⌝ }
+    ensures { λ r. ⌜ GivesAny (λ (ds : List ℕ). writeZoneOn run state (now (buffer .entry)) count (tablesOf (now (sectors .entry)) (now (written .entry)) ds)) r (now (sectors .exit)) (now (written .exit)) ⌝ }
 {
     let cells = written.len();
     let mut pointers = [0u32; MAX_CELLS];
@@ -253,7 +144,6 @@ fn write_by_roles(
     write_seen(
         sectors,
         written,
-        durable,
         &pointers[..cells],
         run,
         places,
@@ -263,23 +153,23 @@ fn write_by_roles(
     )
 }
 
-// A write in a zone that there is, in condition c: refusals 7 and 9 to 15, and the stores. Where it needs no log but that of its entry, and that has
-// room, no other is looked for.
+// A write in a zone that there is: refusals 7 to 19, and the stores. Where it needs no log but that of its entry, and that has room, no other is looked for.
 fn write_zone(
     sectors: &mut [u8],
     written: &mut [u32],
-    durable: &mut [u32],
     run: Run,
-    c: Condition,
     state: State,
     buffer: &[u8],
     count: u32,
 ) -> Outcome
     requires { ⌜ Valid (run .zone .geometry) ⌝ }
-    requires { ⌜ RunAsked run c (now sectors) (now written) (now buffer) × RunStated run c state (now durable) ⌝ }
-    ensures { λ r. ⌜ (r ≡ writeAskedOn run state (now (buffer .entry)) count (tablesOf (now (sectors .entry)) (now (written .entry)) (now (durable .entry))) .outcome)
-        × (tablesOf (now (sectors .exit)) (now (written .exit)) (now (durable .exit)) ≡ writeAskedOn run state (now (buffer .entry)) count (tablesOf (now (sectors .entry)) (now (written .entry)) (now (durable .entry))) .tables) ⌝ }
+    requires { ⌜ RunAsked run (recordAt state (run .zone .number) .condition) (now sectors) (now written) (now buffer) × RunStated run (recordAt state (run .zone .number) .condition) state ⌝ }
+    ensures { λ r. ⌜ GivesAny (λ (ds : List ℕ). writeAskedOn run state (now (buffer .entry)) count (tablesOf (now (sectors .entry)) (now (written .entry)) ds)) r (now (sectors .exit)) (now (written .exit)) ⌝ }
 {
+    let z = run.zone.number;
+    let records = state.zones;
+    let record = records[z];
+    let c = record.condition;
     let tried = super::write_directly::write_alone(sectors, written, run, c, buffer, count);
     let refusal = tried.refusal;
     if refusal != 0 {
@@ -287,27 +177,58 @@ fn write_zone(
     }
     let made = tried.made;
     if !made {
-        return write_by_roles(sectors, written, durable, run, state, buffer, count);
+        return write_by_roles(sectors, written, run, state, buffer, count);
     }
-    let end = run.pointer + run.count;
-    outcome(run.zone, state, end, tried.rest)
+    outcome(run, tried.entry, state, tried.rest)
 }
 
-// The call: `run` sectors from an address, out of a buffer.
+// What is asked: `count` sectors from an offset of a zone that there is, by a host.
+fn run_of(
+    g: Geometry,
+    here: [bool; MAX_DRIVES],
+    state: State,
+    host: usize,
+    z: usize,
+    offset: usize,
+    count: usize,
+) -> Run
+    requires { ⌜ Valid g ⌝ }
+    requires { ⌜ (z < g .zones) × (offset < zoneSectors g) × (count < 4294967296) ⌝ }
+    ensures { λ r. ⌜ r ≡ runOf g here state host z offset count ⌝ }
+{
+    let records = state.zones;
+    let record = records[z];
+    let zone = Zone {
+        geometry: g,
+        here,
+        number: z,
+        generation: record.generation,
+    };
+    let allowance = super::hosts::allowance_of(g, state, host, z, offset + count);
+    Run {
+        zone,
+        pointer: offset,
+        count,
+        host,
+        allowance,
+    }
+}
+
+// The call: `run` sectors from an address, out of a buffer, by a host.
 pub fn write(
     sectors: &mut [u8],
     written: &mut [u32],
-    durable: &mut [u32],
+    durable: &[u32],
     g: Geometry,
     named: [bool; MAX_DRIVES],
     state: State,
+    host: u32,
     address: u64,
     run: u32,
     buffer: &[u8],
     count: u32,
 ) -> Outcome
-    ensures { λ r. ⌜ (r ≡ writeOn g named state address run (now (buffer .entry)) count (tablesOf (now (sectors .entry)) (now (written .entry)) (now (durable .entry))) .outcome)
-        × (tablesOf (now (sectors .exit)) (now (written .exit)) (now (durable .exit)) ≡ writeOn g named state address run (now (buffer .entry)) count (tablesOf (now (sectors .entry)) (now (written .entry)) (now (durable .entry))) .tables) ⌝ }
+    ensures { λ r. ⌜ Gives (writeOn g named state (writeAsked host address run (now (buffer .entry))) count (tablesOf (now (sectors .entry)) (now (written .entry)) (now (durable .entry)))) r (tablesOf (now (sectors .exit)) (now (written .exit)) (now (durable .entry))) ⌝ }
 {
     let within = super::checks::input_within(g, state);
     let lost = state.lost;
@@ -325,21 +246,8 @@ pub fn write(
     if zones <= z {
         return super::checks::refused(8, state);
     }
-    let records = state.zones;
-    let record = records[z];
-    let c = record.condition;
     let here = super::checks::present_drives(g, named, lost);
-    let zone = Zone {
-        geometry: g,
-        here,
-        number: z,
-        generation: record.generation,
-    };
     let offset = super::reading::offset_of(g, address);
-    let asked = Run {
-        zone,
-        pointer: offset,
-        count: run as usize,
-    };
-    write_zone(sectors, written, durable, asked, c, state, buffer, count)
+    let asked = run_of(g, here, state, host as usize, z, offset, run as usize);
+    write_zone(sectors, written, asked, state, buffer, count)
 }

@@ -6,6 +6,7 @@ pub mod OneRecord
 pub mod RefusedCalls
 pub mod Report
 pub mod RoundTrips
+pub mod ShareWords
 pub mod StateForm
 pub mod StateRoundTrip
 pub mod TablesRoundTrip

@@ -106,7 +106,12 @@ pub fn unread_state() -> State
 {
     let blank = volume::records::blank_record();
     let zones = [blank; tables::MAX_ZONES];
-    State { lost: 0, zones }
+    let shares = [0u32; volume::MAX_SHARES];
+    State {
+        lost: 0,
+        zones,
+        shares,
+    }
 }
 
 // The number of an answer, as C has it.

@@ -3,7 +3,7 @@ ghost use mathlib.Core.Path.{_≡_};
 ghost use Rattle.zrv.specs.meaning.EdgeCalls.{version};
 
 // Its two numbers, as ZRV_VERSION_MAJOR and ZRV_VERSION_MINOR of include/zrv.h have them.
-const MAJOR: u32 = 1;
+const MAJOR: u32 = 2;
 
 const MINOR: u32 = 0;
 

@@ -1,25 +1,26 @@
-// The calls of the C edge that store by the state that they are handed: write, flush and reset. Finished, each hands on the state.
-use super::records::WriteAsked;
+// The calls of the C edge that store by the state that they are handed: write, flush, reset and compact. Finished, each hands on the state.
+use super::records::WriteCall;
 ghost use mathlib.Core.Path.{_≡_};
 ghost use lib.ListN.{length};
 ghost use Rattle.zrv.specs.laws.ByRecord.{InputTaken, wholeWrite};
-ghost use Rattle.zrv.specs.meaning.EdgeCalls.{shapeOf, ranges, answered, writeEdge, flushEdge, resetEdge};
+ghost use Rattle.zrv.specs.meaning.EdgeCalls.{shapeOf, ranges, answered, writeOf, writeEdge, flushEdge, resetEdge, compactEdge};
 
 // A write that passed the tests of its input, by the whole state.
 fn write_whole(
-    asked: WriteAsked,
+    asked: WriteCall,
     sectors: &mut [u8],
     written: &mut [u8],
-    durable: &mut [u8],
+    durable: &[u8],
     state: &mut [u8],
     buffer: &[u8],
 ) -> u64
     requires { ⌜ InputTaken (asked .geometry) (now state) (length (now written)) (length (now durable)) ⌝ }
-    ensures { λ r. ⌜ answered r (ranges (now (sectors .exit)) (now (written .exit)) (now (durable .exit)) (now (state .exit)))
+    ensures { λ r. ⌜ answered r (ranges (now (sectors .exit)) (now (written .exit)) (now (durable .entry)) (now (state .exit)))
         ≡ wholeWrite asked (now (buffer .entry)) (ranges (now (sectors .entry)) (now (written .entry)) (now (durable .entry)) (now (state .entry))) ⌝ }
 {
     let g = asked.geometry;
     let named = asked.named;
+    let host = asked.host;
     let address = asked.address;
     let run = asked.run;
     let count = asked.count;
@@ -37,17 +38,17 @@ fn write_whole(
         g,
         named,
         old,
+        host,
         address,
         run,
         buffer,
         count,
     );
     super::words::table_to(ws, written);
-    super::words::table_to(ds, durable);
     super::input::hand_back(g, outcome, state)
 }
 
-// Write: so many sectors at an address, which must be their zone's pointer. It stores in `sectors` and `written`, and where it empties a log in `durable` too.
+// Write by a host: so many sectors at an address, which must be their zone's pointer. It stores in `sectors` and `written`; `durable` it only reads.
 #[no_mangle]
 pub extern "C" fn zrv_write(
     drives: u32,
@@ -56,17 +57,18 @@ pub extern "C" fn zrv_write(
     zones: u32,
     zone_sectors: u32,
     named: u32,
+    host: u32,
     address: u64,
     sectors_to_write: u32,
     count: u32,
     sectors: &mut [u8],
     written: &mut [u8],
-    durable: &mut [u8],
+    durable: &[u8],
     state: &mut [u8],
     buffer: &[u8],
 ) -> u64
-    ensures { λ r. ⌜ answered r (ranges (now (sectors .exit)) (now (written .exit)) (now (durable .exit)) (now (state .exit)))
-        ≡ writeEdge (shapeOf drives «sector_bytes» unit zones «zone_sectors») named address «sectors_to_write» count (now (buffer .entry)) (ranges (now (sectors .entry)) (now (written .entry)) (now (durable .entry)) (now (state .entry))) ⌝ }
+    ensures { λ r. ⌜ answered r (ranges (now (sectors .exit)) (now (written .exit)) (now (durable .entry)) (now (state .exit)))
+        ≡ writeEdge (shapeOf drives «sector_bytes» unit zones «zone_sectors») named (writeOf host address «sectors_to_write» (now (buffer .entry))) count (ranges (now (sectors .entry)) (now (written .entry)) (now (durable .entry)) (now (state .entry))) ⌝ }
 {
     let g = super::input::shape(drives, sector_bytes, unit, zones, zone_sectors);
     let refusal = super::input::input_refusal(g, state, written.len(), durable.len());
@@ -74,9 +76,10 @@ pub extern "C" fn zrv_write(
         return refusal;
     }
     let here = super::input::named_drives(named);
-    let asked = WriteAsked {
+    let asked = WriteCall {
         geometry: g,
         named: here,
+        host,
         address,
         run: sectors_to_write,
         count,
@@ -158,6 +161,44 @@ pub extern "C" fn zrv_reset(
     let ds = &mut d[..n];
     super::words::tables_from(g, written, durable, ws, ds);
     let outcome = volume::resetting::reset(sectors, ws, ds, g, here, old, zone as usize, count);
+    super::words::table_to(ws, written);
+    super::words::table_to(ds, durable);
+    super::input::hand_back(g, outcome, state)
+}
+
+// Compact of a drive: its parity log is emptied, and the hosts get their shares of it anew.
+#[no_mangle]
+pub extern "C" fn zrv_compact(
+    drives: u32,
+    sector_bytes: u32,
+    unit: u32,
+    zones: u32,
+    zone_sectors: u32,
+    named: u32,
+    drive: u32,
+    count: u32,
+    sectors: &mut [u8],
+    written: &mut [u8],
+    durable: &mut [u8],
+    state: &mut [u8],
+) -> u64
+    ensures { λ r. ⌜ answered r (ranges (now (sectors .exit)) (now (written .exit)) (now (durable .exit)) (now (state .exit)))
+        ≡ compactEdge (shapeOf drives «sector_bytes» unit zones «zone_sectors») named drive count (ranges (now (sectors .entry)) (now (written .entry)) (now (durable .entry)) (now (state .entry))) ⌝ }
+{
+    let g = super::input::shape(drives, sector_bytes, unit, zones, zone_sectors);
+    let refusal = super::input::input_refusal(g, state, written.len(), durable.len());
+    if refusal != 0 {
+        return refusal;
+    }
+    let n = tables::bounds::table_cells(g);
+    let here = super::input::named_drives(named);
+    let old = super::state::state_from(g, state);
+    let mut w = [0u32; 152];
+    let mut d = [0u32; 152];
+    let ws = &mut w[..n];
+    let ds = &mut d[..n];
+    super::words::tables_from(g, written, durable, ws, ds);
+    let outcome = compacting::compact(sectors, ws, ds, g, here, old, drive as usize, count);
     super::words::table_to(ws, written);
     super::words::table_to(ds, durable);
     super::input::hand_back(g, outcome, state)

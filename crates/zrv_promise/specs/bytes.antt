@@ -4,4 +4,5 @@ pub mod CachedBytesClaim
 pub mod CallsHeld
 pub mod CallsOnBytes
 pub mod EmptyingBytes
+pub mod IsolationBytes
 pub mod ReadsOnBytes

@@ -209,6 +209,10 @@ module _ (g : Geometry) (ok : Valid g) (x a : ℕ) (v : Device) (lost : (x ≡ n
     before = record { in-general = λ d h. heads-generation z (λ n. n < 1); in-parity = λ d h e m. mem-nil e m };
   }
 
+  pub parity-empty : (d : ℕ) → Here g x d → applyAll (concat phases) v d parityZone .sectors ≡ []
+  unfolding after
+  parity-empty d h = ap (λ (k : ZoneView). k .sectors) (place-is d h parityZone (omega arith) (λ e. omega arith))
+
   pub finishes : (δ : Ghost) × Rest g x (applyAll (concat phases) v) (formatState x) freshLedger δ × (δ .closed ≡ neverEmptied)
   unfolding after ghost
   finishes = (
@@ -225,3 +229,8 @@ module _ (g : Geometry) (ok : Valid g) (x a : ℕ) (v : Device) (lost : (x ≡ n
 pub format-rests : (g : Geometry) → Valid g → FormatRests g
 unfolding formatStores
 format-rests g ok x a v lost h = finishes g ok x a v lost h
+
+-- and every parity log without a sector
+pub format-log : (g : Geometry) → Valid g → (x a : ℕ) (v : Device) → (x ≡ noDrive) ⊎ (x < g .drives) → a < 256 ^ 8 → (d : ℕ) → Here g x d → applyAll (formatStores g (presentBut g x) x a) v d parityZone .sectors ≡ []
+unfolding formatStores
+format-log g ok x a v lost h d hd = parity-empty g ok x a v lost h d hd

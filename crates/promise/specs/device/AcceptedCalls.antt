@@ -8,9 +8,10 @@ use Rattle.tables.specs.meaning.Device.{applyAll, Store, Device}
 use Rattle.tables.specs.meaning.GeometryTest.{isValid}
 use Rattle.tables.specs.laws.GeometryTest.{valid-if-test}
 use Rattle.tables.specs.meaning.Tables.{bufferFits}
-use Rattle.volume.specs.meaning.Refusals.{firstRefusal, Verdict, badPointers, twoLost, refuse, accept, TableLengths, zoneOf, offsetOf, tablesFit, writeFull, resetFull, mountFull, goneForEntry, goneBefore, mountRows, writeRows, resetRows}
+use Rattle.volume.specs.meaning.Refusals.{firstRefusal, Verdict, badPointers, twoLost, refuse, accept, TableLengths, WriteAsked, zoneAsked, endAsked, offsetOf, noZone, noHost, stateWithin, tablesFit, writeFull, resetFull, mountFull, compactFull, mountRows, writeRows, resetRows, compactRows}
 use Rattle.volume.specs.meaning.Roles.{Roles, roles, byRoles, claimOfKind, lacksKind}
-use Rattle.volume.specs.meaning.Emptying.{InForce, byState, byLook, newParitySize, unusedIn, lacksRoom, staysFull, spareWritten, reserve, mountGeneralLimit, resetLimit, writeLimit, emptiedFor, emptiedForWrite, goneForCopies}
+use Rattle.volume.specs.meaning.Emptying.{InForce, byState, byLook, newParitySize, unusedIn, lacksRoom, staysFull, spareWritten, reserve, mountGeneralLimit, resetLimit, entrySize, writeLimit, emptiedFor}
+use Rattle.volume.specs.meaning.Hosts.{shareLeft}
 use Rattle.volume.specs.meaning.Rules.{lostDrive, isLost, isPresent, showing}
 use Rattle.tables.specs.laws.Below.{any-below-cong, any-below-false, count-below-cong, length-tabulate-from, getD-tabulate-from}
 use Rattle.tables.specs.meaning.Below.{anyBelow, tabulateFrom}
@@ -19,7 +20,7 @@ use Rattle.tables.specs.laws.Basics.{or-none, not-not, and-split}
 use Rattle.tables.specs.meaning.Basics.{pick}
 use mathlib.Core.Path.{_≡_, refl, sym, ap, _∙_, fun-ext}
 use mathlib.Core.Logic.{_≢_, _⊎_, inl, inr}
-use mathlib.Core.Bool.{Bool, true, false, _&&_, _||_, not, true≢false, and-assoc}
+use mathlib.Core.Bool.{Bool, true, false, _&&_, _||_, not, true≢false}
 use Prim.Native.Nat.{ℕ, zero, suc, _+_, _-_, _*_, _≤_, _<_}
 use native.Mathlib.Nat.{mul-le-mul-right}
 use native.Mathlib.Omega.{arith}
@@ -30,13 +31,13 @@ use lib.Dec.{ltb, leb, eqb}
 use borrow.Author.Tests.{ltb-true, ltb-false, eqb-true, eqb-false, leb-false}
 use Rattle.tables.specs.declared.Geometry.{Geometry}
 use Rattle.tables.specs.meaning.Geometry.{zoneSectors}
-use Rattle.logs.specs.meaning.Entry.{spareZone, wornGeneration, kindOfLog}
+use Rattle.logs.specs.meaning.Entry.{parityZone, spareZone, wornGeneration, kindOfLog}
 use Rattle.volume.specs.meaning.Content.{at, insideStripe, parityDriveAt}
 use Rattle.volume.specs.declared.Condition.{Condition}
 use Rattle.volume.specs.declared.Condition.the-variants.{Empty, Open, Sealed, Worn}
 use Rattle.volume.specs.meaning.State.{pointerIn, isSealed, isWorn, StateView, callPresent}
-use Rattle.promise.specs.invariant.Obligations.{Writable}
-use Rattle.promise.specs.invariant.RoomAsked.{Emptiable, RoomAsked, generalSizes, ResetAccepted, askedByWrite, WriteAccepted, MountAccepted}
+use Rattle.promise.specs.invariant.Obligations.{Writable, WriteOk}
+use Rattle.promise.specs.invariant.RoomAsked.{Emptiable, RoomAsked, generalSizes, ResetAccepted, CompactAccepted, MountAccepted}
 
 module _ (g : Geometry) (named other : ℕ → Bool) (same : (d : ℕ) → d < g .drives → named d ≡ other d) where
   pub lost-same : (v : Device) (d : ℕ) → d < g .drives → isLost g named v d ≡ isLost g other v d
@@ -127,10 +128,6 @@ writable-by (Open n) p q = tt
 writable-by (Sealed n) p q = true≢false p
 writable-by (Worn n) p q = true≢false q
 
-write-asks : (g : Geometry) (present : ℕ → Bool) (r : ℕ → Roles) (w : Device) (z end d : ℕ) → emptiedForWrite g present r w z end d ≡ askedByWrite g present z end d && lacksRoom g true r w (writeLimit g end) d
-unfolding emptiedForWrite emptiedFor
-write-asks g present r w z end d = sym (and-assoc (insideStripe g end && eqb d (parityDriveAt g z end)) (present d) (lacksRoom g true r w (writeLimit g end) d))
-
 call-lt : (g : Geometry) (named : ℕ → Bool) (state : StateView) (d : ℕ) → callPresent g named state d ≡ true → d < g .drives
 unfolding callPresent
 call-lt g named state d h = ltb-true d (g .drives) (and-split (ltb d (g .drives)) (named d && not (eqb d (state .lost))) h .0)
@@ -146,39 +143,48 @@ module _ (g : Geometry) (t : TableLengths) (named : ℕ → Bool) (state : State
   abbrev force : InForce
   force = byState g here (byRoles g v) state
 
-  pub write-accepted : (a count : ℕ) (buffer : List ℕ) → firstRefusal (writeRows g t (badPointers g named v) named state a count (length buffer) (roles g v) (byRoles g v)) ≡ accept
-      → WriteAccepted g here (roles g v) (byRoles g v) force state (zoneOf g a) (sectorsIn g count buffer)
-  unfolding writeRows bufferFits writeFull goneForEntry
-  write-accepted a count buffer e =
-      let z = zoneOf g a in
-      let end = pointerIn (state .condition z) + count in
-      let row = accepted-row (writeRows g t (badPointers g named v) named state a count (length buffer) (roles g v) (byRoles g v)) e in
-      let (q1, q2) = and-split (tablesFit g t) (bufferFits g count (length buffer)) (not-not (tablesFit g t && bufferFits g count (length buffer)) (row 2)) in
-      let (n1, n2) = or-none (eqb count 0) (ltb (zoneSectors g) (offsetOf g a + count)) (row 9) in
-      let (g1, g2) = or-none (goneForEntry g here (roles g v) force (byRoles g v) z end) (goneBefore g here (byRoles g v) z (state .generation z) (pointerIn (state .condition z))) (row 15) in
-      let o : offsetOf g a ≡ pointerIn (state .condition z) = eqb-true (offsetOf g a) (pointerIn (state .condition z)) (not-not (eqb (offsetOf g a) (pointerIn (state .condition z))) (row 10)) in
-      let n : count ≢ 0 = eqb-false count 0 n1 in
-      let emptied : ℕ → Bool = emptiedForWrite g here (roles g v) (byRoles g v) z end in
-      let stays : ℕ → Bool = λ d. staysFull g true (roles g v) (writeLimit g end) (newParitySize g force d) d in
-      let low : (d : ℕ) → emptied d ≡ true → d < g .drives = λ d m. asked-lt z end d (sym (write-asks g here (roles g v) (byRoles g v) z end d) ∙ m) in
-      let fits : (d : ℕ) → d < g .drives → emptied d ≡ true → (stays d ≡ false) × (spareWritten (byRoles g v) d ≡ false) = λ d hd m. or-none (stays d) (spareWritten (byRoles g v) d) (drive-passes emptied (λ d. stays d || spareWritten (byRoles g v) d) (g .drives) (row 14) d hd m) in
-      let len = sectors-length g count buffer in
+  -- the log of its entry has room for that and the reserve, if the write ends inside a stripe and the drive is present
+  entry-room : (share z end : ℕ) → writeFull g here (roles g v) (byRoles g v) share z end ≡ false → insideStripe g end ≡ true → here (parityDriveAt g z end) ≡ true
+      → length (byRoles g v (parityDriveAt g z end) parityZone .sectors) + writeLimit g end ≤ g .capacity
+  unfolding writeFull
+  entry-room share z end h i a =
+      let p = parityDriveAt g z end in
+      let q : ltb share (entrySize g end) || lacksRoom g true (roles g v) (byRoles g v) (writeLimit g end) p ≡ false = rw (i, a) at h in
+      unused-room g true (roles g v) (byRoles g v) (writeLimit g end) (omega arith) p (or-none (ltb share (entrySize g end)) (lacksRoom g true (roles g v) (byRoles g v) (writeLimit g end) p) q .1)
+
+  pub write-accepted : (a : WriteAsked) → firstRefusal (writeRows g t (badPointers g named v) named state a (roles g v) (byRoles g v)) ≡ accept → WriteOk g here (byRoles g v) state (zoneAsked g a) (sectorsIn g (a .count) (a .buffer))
+  unfolding writeRows bufferFits
+  write-accepted a e =
+      let z = zoneAsked g a in
+      let offset = offsetOf g (a .address) in
+      let pointer = pointerIn (state .condition z) in
+      let row = accepted-row (writeRows g t (badPointers g named v) named state a (roles g v) (byRoles g v)) e in
+      let fits = bufferFits g (a .count) (length (a .buffer)) in
+      let (q1, q2) = and-split (tablesFit g t) fits (not-not (tablesFit g t && fits) (row 2)) in
+      let (h1, h2) = or-none (noZone g z) (noHost (a .host)) (row 8) in
+      let (n1, n2) = or-none (eqb (a .count) 0) (ltb (zoneSectors g) (offset + a .count)) (row 9) in
+      let o : offset ≡ pointer = eqb-true offset pointer (not-not (eqb offset pointer) (row 10)) in
+      let n : a .count ≢ 0 = eqb-false (a .count) 0 n1 in
+      let len = sectors-length g (a .count) (a .buffer) in
       record {
-        zone-ok = ltb-true z (g .zones) (not-not (ltb z (g .zones)) (row 8));
+        zone-ok = ltb-true z (g .zones) (not-not (ltb z (g .zones)) h1);
         writable = writable-by (state .condition z) (row 11) (row 12);
         some = rw len (omega arith);
-        run = rw len (omega (arith, ltb-false (zoneSectors g) (offsetOf g a + count) n2));
-        sizes = λ i h. sectors-size g count buffer (eqb-true (length buffer) (count * g .sector) q2) i (rw len at h);
-        logs = rw len (asked-by g true (roles g v) (byRoles g v) (writeLimit g end) (omega arith) (askedByWrite g here z end) emptied (newParitySize g force) (write-asks g here (roles g v) (byRoles g v) z end)
-            (λ d m. call-lt g named state d (and-split (insideStripe g end && eqb d (parityDriveAt g z end)) (here d) m .1)) (λ d hd m. fits d hd m .0));
-        blank = rw len (λ d m. not-written (byRoles g v) d (fits d (low d m) m .1));
-        known = rw len (λ d m. drive-passes emptied (goneForCopies g here force (byRoles g v)) (g .drives) g1 d (low d m) m);
+        run = rw len (omega (arith, ltb-false (zoneSectors g) (offset + a .count) n2));
+        sizes = λ i h. sectors-size g (a .count) (a .buffer) (eqb-true (length (a .buffer)) (a .count * g .sector) q2) i (rw len at h);
+        room = rw len (entry-room (shareLeft g state (a .host) z (endAsked g state a)) z (endAsked g state a) (row 14));
       }
-    where
-      asked-lt : (z end d : ℕ) → askedByWrite g here z end d && lacksRoom g true (roles g v) (byRoles g v) (writeLimit g end) d ≡ true → d < g .drives
-      asked-lt z end d m =
-          let (a, b) = and-split (askedByWrite g here z end d) (lacksRoom g true (roles g v) (byRoles g v) (writeLimit g end) d) m in
-          call-lt g named state d (and-split (insideStripe g end && eqb d (parityDriveAt g z end)) (here d) a .1)
+
+  -- ---- an accepted compact
+  pub compact-accepted : (d : ℕ) → firstRefusal (compactRows g t (badPointers g named v) named state d (roles g v) (byRoles g v)) ≡ accept → CompactAccepted g here (roles g v) (byRoles g v) force d
+  unfolding compactRows compactFull
+  compact-accepted d e =
+      let row = accepted-row (compactRows g t (badPointers g named v) named state d (roles g v) (byRoles g v)) e in
+      let ok = valid-if-test g (and-split (isValid g) (stateWithin g state) (not-not (isValid g && stateWithin g state) (row 1)) .0) in
+      let pos : zero < reserve g = omega (arith, ok .unit-least) in
+      let stays = staysFull g true (roles g v) (reserve g) (newParitySize g force d) d in
+      let (a, b) = or-none stays (spareWritten (byRoles g v) d) (row 14) in
+      record { here = not-not (here d) (row 8); log = stays-none g true (roles g v) (byRoles g v) (reserve g) pos (newParitySize g force d) d a; blank = not-written (byRoles g v) d b }
 
   -- ---- an accepted reset
   pub reset-accepted : (z : ℕ) → firstRefusal (resetRows g t (badPointers g named v) named state z (roles g v) (byRoles g v)) ≡ accept → ResetAccepted g here (roles g v) (byRoles g v) force state z
@@ -263,5 +269,16 @@ module _ (r : Verdict) (xs : List Store) (new old : StateView) (stop : ℕ) (v :
       by-count false q = refl
 
       go : (u : Verdict) → storing u xs new old stop v .answer ≡ Finished → (u ≡ accept) × (ltb stop (length xs) ≡ false)
+      go (refuse m) q = absurd (let z : _≡_ {A = ℕ} 0 1 = cc in omega arith)
+      go accept q = (refl, by-count (ltb stop (length xs)) q)
+
+  pub storing-unfinished : storing r xs new old stop v .answer ≡ Unfinished → (r ≡ accept) × (ltb stop (length xs) ≡ true)
+  storing-unfinished e = go r e
+    where
+      by-count : (b : Bool) → pick {A = CallResult Device StateView} b (record { answer = Unfinished; memory = applyAll (take stop xs) v; state = old }) (record { answer = Finished; memory = applyAll xs v; state = new }) .answer ≡ Unfinished → b ≡ true
+      by-count true q = refl
+      by-count false q = absurd (let z : _≡_ {A = ℕ} 0 1 = cc in omega arith)
+
+      go : (u : Verdict) → storing u xs new old stop v .answer ≡ Unfinished → (u ≡ accept) × (ltb stop (length xs) ≡ true)
       go (refuse m) q = absurd (let z : _≡_ {A = ℕ} 0 1 = cc in omega arith)
       go accept q = (refl, by-count (ltb stop (length xs)) q)

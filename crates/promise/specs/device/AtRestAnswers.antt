@@ -28,9 +28,8 @@ use Rattle.volume.specs.meaning.Rules.{viewOf, known, isLost, isPresent, zoneVi
 use Rattle.volume.specs.declared.Condition.{Condition}
 use Rattle.volume.specs.declared.Condition.the-variants.{Empty, Open, Sealed, Worn}
 use Rattle.volume.specs.meaning.State.{pointerIn, isWorn, StateView, callPresent}
-use Rattle.volume.specs.meaning.Refusals.{twoLost, stateWithin, twoAbsent, twoUnnamed, stale, staleIn, goneIn, goneBefore, goneForEntry, notHeld}
-use Rattle.volume.specs.meaning.Roles.{Roles}
-use Rattle.volume.specs.meaning.Emptying.{byState, isMade, emptiedForWrite, goneForCopies}
+use Rattle.volume.specs.meaning.Refusals.{twoLost, stateWithin, twoAbsent, twoUnnamed, stale, staleIn, staleSomewhere, goneIn, goneBefore, notHeld}
+use Rattle.volume.specs.meaning.Emptying.{byState, isMade, goneForCopies}
 use Rattle.promise.specs.meaning.Ledger.{Ledger}
 use Rattle.promise.specs.meaning.Claim.{allBut}
 use Rattle.promise.specs.invariant.Invariant.{Ghost, Here, LogsOk, Rest, RestZone, Shape}
@@ -115,8 +114,12 @@ module _ (g : Geometry) (ok : Valid g) (x : ℕ) (v : Device) (state : StateView
       let e : s + fillOf g n ≤ length (l .content z) = omega (arith, stripe-below (g .drives) (g .unit) z (omega (arith, ok .drives-least)) (ok .unit-least) n, r .zones z h .pointer-is) in
       rw (gone-fine z h s (fillOf g n) e) (and-false (presentBut g x (parityDriveAt g z n)))
 
-  -- and one that empties a log finds what the entries of its copy would be made of
-  copies-fine : (d : ℕ) → goneForCopies g (presentBut g x) (byState g (presentBut g x) v state) v d ≡ false
+  -- a compact finds no zone stale, and what the entries of its copy would be made of
+  pub stale-nowhere : staleSomewhere g (presentBut g x) v state ≡ false
+  unfolding staleSomewhere
+  stale-nowhere = none-any-below (stale g (presentBut g x) v state) (g .zones) (λ z h. stale-fine z)
+
+  pub copies-fine : (d : ℕ) → goneForCopies g (presentBut g x) (byState g (presentBut g x) v state) v d ≡ false
   unfolding goneForCopies goneIn
   copies-fine d = none-any-below _ (g .zones) (λ z h. one z h)
     where
@@ -127,10 +130,6 @@ module _ (g : Geometry) (ok : Valid g) (x : ℕ) (v : Device) (state : StateView
           let s = stripeOf (g .drives) (g .unit) n * stripeSectors g in
           let e : s + fillOf g n ≤ length (l .content z) = omega (arith, stripe-below (g .drives) (g .unit) z (omega (arith, ok .drives-least)) (ok .unit-least) n, r .zones z h .pointer-is) in
           rw (gone-fine z h s (fillOf g n) e) (and-false (isMade g (byState g (presentBut g x) v state) v d z))
-
-  pub entry-fine : (rs : ℕ → Roles) (z end : ℕ) → goneForEntry g (presentBut g x) rs (byState g (presentBut g x) v state) v z end ≡ false
-  unfolding goneForEntry
-  entry-fine rs z end = none-any-below _ (g .drives) (λ d h. rw (copies-fine d) (and-false (emptiedForWrite g (presentBut g x) rs v z end d)))
 
   -- a zone that says it is worn has the last generation
   pub worn-last : (z : ℕ) → z < g .zones → isWorn (state .condition z) ≡ true → state .generation z ≡ wornGeneration

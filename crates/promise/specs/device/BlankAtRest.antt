@@ -1,5 +1,5 @@
--- BETWEEN FINISHED CALLS THE SPARES ARE BLANK, in every history: a format and a mount leave them so; a write, a flush and a reset keep them so, with the logs that they
--- empty; after a stopped call or a cut a mount has to finish first.
+-- BETWEEN FINISHED CALLS THE SPARES ARE BLANK, in every history: a format and a mount leave them so; a write, a flush, a reset and a compact keep them so, with the logs
+-- that they empty; after a stopped call or a cut a mount has to finish first.
 use mathlib.Core.Path.{_≡_, refl, ap, _∙_}
 use mathlib.Core.Logic.{_⊎_}
 use mathlib.Core.Bool.{Bool, true, false}
@@ -20,10 +20,10 @@ use Rattle.volume.specs.declared.Answer.the-variants.{Finished, Unfinished}
 use Rattle.volume.specs.meaning.State.{StateView}
 use Rattle.volume.specs.meaning.Roles.{byRoles}
 use Rattle.volume.specs.meaning.Calls.{formatStores}
-use Rattle.volume.specs.meaning.Refusals.{Verdict, refuse, accept, TableLengths, zoneOf, firstRefusal}
+use Rattle.volume.specs.meaning.Refusals.{Verdict, refuse, accept, TableLengths, zoneAsked, firstRefusal}
 use Rattle.volume.specs.meaning.Answers.{CallResult, storing, sectorsIn}
 use Rattle.volume.specs.laws.SpareZone.{format-clears}
-use Rattle.promise.specs.meaning.Claim.{Call, mounts, writes, flushes, resets, formats, ready, modeAfter, System, Event, calls, looks, reads, peeks, reports, cuts, loses, next, NamesAll, Duty}
+use Rattle.promise.specs.meaning.Claim.{Call, mounts, writes, flushes, resets, formats, compacts, ready, modeAfter, System, Event, calls, looks, reads, peeks, reports, cuts, loses, next, NamesAll, Duty}
 use Rattle.promise.specs.meaning.OnDevice.{callOf, onDevice}
 use Rattle.promise.specs.invariant.CrashKeeps.{present-before}
 use Rattle.promise.specs.roles.FormatRoles.{format-seen}
@@ -31,17 +31,18 @@ use Rattle.promise.specs.emptying.BlankSpares.{BlankSpares, blank-same}
 use Rattle.promise.specs.emptying.FlushedRests.{flush-sectors}
 use Rattle.promise.specs.emptying.MountWhole.{mount-blank}
 use Rattle.promise.specs.device.Marks.{withMarks}
-use Rattle.promise.specs.device.AcceptedCalls.{write-accepted, reset-accepted}
+use Rattle.promise.specs.device.AcceptedCalls.{reset-accepted}
 use Rattle.promise.specs.device.AtRestAnswers.{format-lost, format-drives}
-use Rattle.promise.specs.device.ClaimEvents.{Ok, rests-of, invs-of, drives-of-call, drives-of-look, lost-of-look, mount-allowed}
-use Rattle.promise.specs.device.WriteCall.{write-blank}
+use Rattle.promise.specs.device.ClaimEvents.{Ok, rests-of, invs-of, drives-of-call, drives-of-look, lost-of-look, mount-allowed, write-fits, compact-fits}
+use Rattle.promise.specs.device.PlainCalls.{write-blank}
+use Rattle.promise.specs.device.CompactCall.{compact-leaves-blank}
 use Rattle.promise.specs.device.ResetCall.{reset-blank}
 
 -- ---- a format, and the loss of a drive
 pub format-blank : (g : Geometry) → Valid g → (x a : ℕ) (v : Device) → (x ≡ noDrive) ⊎ (x < g .drives) → a < 256 ^ 8 → BlankSpares g x (applyAll (formatStores g (presentBut g x) x a) v)
 format-blank g ok x a v lost ha d h = ap (λ (z : ZoneView). z .sectors) (format-seen g ok x a v lost ha d h spareZone) ∙ format-clears g (presentBut g x) x a v d (present-below g x d h) h
 
-loss-blank : (g : Geometry) → Valid g → (x y : ℕ) (v w : Device) → (x ≡ noDrive) ⊎ (x ≡ y) → Loss y v w → BlankSpares g x v → BlankSpares g y w
+pub loss-blank : (g : Geometry) → Valid g → (x y : ℕ) (v w : Device) → (x ≡ noDrive) ⊎ (x ≡ y) → Loss y v w → BlankSpares g x v → BlankSpares g y w
 loss-blank g ok x y v w one lo b = blank-same g y v w (λ e z a. ap (λ (t : ZoneView). t .sectors) (loss-at y v w lo e z (present-not g y e a))) (λ d a. b d (present-before g ok x y one d a))
 
 -- ---- at a point of a history
@@ -71,9 +72,7 @@ module _ (g : Geometry) (ok : Valid g) (t : TableLengths) (s : System (onDevice 
         let (k, c, above, ri) = invs-of g t s o m in
         rw (drives-of-look g ok t s o named names, lost-of-look g ok t s o named names) (mount-blank g ok (s .lost) (s .memory) (withMarks (s .ledger) c) k ri (mount-allowed g ok t s o named names p))
     call-leaves (writes asked) stop (n, m, q) p =
-        let e = drives-of-call g ok t s o named names m in
-        let wa = write-accepted g t named (s .state) (s .memory) (asked .address) (asked .count) (asked .buffer) p in
-        rw e (write-blank g ok (s .lost) (s .memory) (s .state) (s .ledger) (zoneOf g (asked .address)) (sectorsIn g (asked .count) (asked .buffer)) (rests-of g t s o m) (rw e at wa) (b m))
+        rw (drives-of-call g ok t s o named names m) (write-blank g ok (s .lost) (s .memory) (s .state) (s .ledger) (zoneAsked g asked) (sectorsIn g (asked .count) (asked .buffer)) (write-fits g ok t s o named names m asked p) (rests-of g t s o m) (b m))
     call-leaves flushes stop (n, m, q) p = rw (drives-of-call g ok t s o named names m) (blank-same g (s .lost) (s .memory) _ (flush-sectors g (s .lost) (s .memory)) (b m))
     call-leaves (resets z) stop (n, m, q) p =
         let e = drives-of-call g ok t s o named names m in
@@ -82,6 +81,8 @@ module _ (g : Geometry) (ok : Valid g) (t : TableLengths) (s : System (onDevice 
     call-leaves (formats array) stop (n, m, (h, q)) p =
         let (k, c, a, (st, (γ, r, same))) = rests-of g t s o m in
         rw (format-drives g (s .lost) named (names .drives), format-lost g ok (s .lost) (byRoles g (s .memory)) γ (r .logs) named (names .drives)) (format-blank g ok (s .lost) array (s .memory) (r .logs .lost-ok) h)
+    call-leaves (compacts d) stop (n, m, q) p =
+        rw (drives-of-call g ok t s o named names m) (compact-leaves-blank g ok (s .lost) (s .memory) (s .state) (s .ledger) d (compact-fits g ok t s o named names m d p) (rests-of g t s o m) (b m))
 
     call-blank : (c : Call) (stop : ℕ) → Duty g (onDevice g t) s (calls c named stop) → BlankAtRest g t (next g (onDevice g t) s (calls c named stop))
     unfolding Leaves

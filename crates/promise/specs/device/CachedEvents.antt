@@ -1,8 +1,10 @@
 -- THE CLAIM ON DRIVES THAT CACHE RESETS: every event of a history keeps what holds in its mode (CachedModes), so what is promised holds at every point of it;
 -- from what the calls that may empty logs owe there (CachesOwed).
 use mathlib.Core.Path.{_≡_, refl, sym, ap, _∙_, subst}
-use mathlib.Core.Bool.{Bool, true, false, not}
+use mathlib.Core.Logic.{inr}
+use mathlib.Core.Bool.{Bool, true, false}
 use Prim.Native.Nat.{ℕ, _^_, _<_}
+use native.Mathlib.Omega.{arith}
 use mathlib.Core.List.{List}
 use lib.ListN.{length, take}
 use lib.Seq.{take-all}
@@ -19,35 +21,38 @@ use Rattle.tables.specs.declared.Geometry.{Geometry}
 use Rattle.tables.specs.meaning.Geometry.{Valid}
 use Rattle.tables.specs.meaning.GeometryTest.{isValid}
 use Rattle.tables.specs.laws.GeometryTest.{valid-if-test}
-use Rattle.volume.specs.meaning.State.{StateView, callPresent}
+use Rattle.volume.specs.meaning.State.{StateView, withShares, callPresent}
 use Rattle.volume.specs.meaning.Roles.{roles, byRoles}
 use Rattle.volume.specs.meaning.Emptying.{byState}
-use Rattle.volume.specs.meaning.Calls.{formatStores, formatState}
-use Rattle.volume.specs.meaning.Mount.{mountShows}
-use Rattle.volume.specs.meaning.Refusals.{Verdict, refuse, accept, TableLengths, zoneOf, tablesFit, formatRows, writeRows, resetRows, firstRefusal, badPointers}
-use Rattle.volume.specs.meaning.Answers.{CallResult, storing, leftOut, namedDrives, sectorsIn}
+use Rattle.volume.specs.meaning.Calls.{writeState, formatStores, formatState}
+use Rattle.volume.specs.meaning.Hosts.{sharesIn, freshShares, writtenState, compactState}
+use Rattle.volume.specs.meaning.Mount.{mountStores, mountShows, mountState}
+use Rattle.volume.specs.meaning.Refusals.{Verdict, refuse, accept, TableLengths, WriteAsked, zoneAsked, tablesFit, formatRows, resetRows, firstRefusal, badPointers}
+use Rattle.volume.specs.meaning.Answers.{CallResult, storing, lostIn, leftOut, namedDrives, sectorsIn}
 use Rattle.volume.specs.declared.Answer.the-variants.{Finished, Unfinished, Refused}
 use Rattle.volume.specs.laws.Refusals.{accepted-row}
-use Rattle.promise.specs.meaning.Ledger.{Ledger, freshLedger}
-use Rattle.promise.specs.meaning.Claim.{WriteAsked, Call, mounts, writes, flushes, resets, formats, Mode, ready, stopped, down, System, Event, calls, looks, reads, peeks, reports, cuts, loses, settled, ledgerAfter, next, MayMount, NotStopped, NamesAll, Duty, Promise, start}
+use Rattle.promise.specs.meaning.Ledger.{Ledger, freshLedger, afterWrite, afterMount}
+use Rattle.promise.specs.meaning.Claim.{Call, mounts, writes, flushes, resets, formats, compacts, Mode, ready, stopped, down, System, Event, calls, looks, reads, peeks, reports, cuts, loses, settled, ledgerAfter, next, MayMount, NotStopped, NamesAll, Duty, Promise, start}
 use Rattle.promise.specs.meaning.OnDevice.{callOf, onDevice}
 use Rattle.promise.specs.meaning.Caches.{WithCaches, madeBy, rememberedAfter, deviceCaches, onCachingDevice, CachingDeviceClaim, beneath}
 use Rattle.promise.specs.invariant.Throughout.{throughout}
-use Rattle.promise.specs.invariant.RoomAsked.{WriteAccepted, ResetAccepted}
+use Rattle.promise.specs.invariant.RoomAsked.{ResetAccepted}
 use Rattle.promise.specs.invariant.Delayed.{PutBack}
-use Rattle.promise.specs.device.AcceptedCalls.{storing-finished, sectors-length, write-accepted, reset-accepted}
+use Rattle.promise.specs.device.AcceptedCalls.{storing-finished, sectors-length, reset-accepted}
 use Rattle.promise.specs.device.AtRestAnswers.{format-lost, format-drives, left-out, drives-named}
 use Rattle.promise.specs.device.Modes.{SomeInvs, OkIn, rests-invs}
-use Rattle.promise.specs.device.ClaimEvents.{Ok, drives-of-call, drives-of-look, lost-of-look, lost-of-call, mount-allowed}
+use Rattle.promise.specs.device.ClaimEvents.{Ok, drives-of-call, drives-of-look, lost-of-look, lost-of-call, mount-allowed, write-fits, compact-fits}
+use Rattle.promise.specs.device.SharesKept.{SharesKept, Shared, format-shares, event-shares}
 use Rattle.promise.specs.device.ClaimProof.{kept}
-use Rattle.promise.specs.device.CachedModes.{now-back, forgotten-is, RestsCached, HaltedCached, OkCached, halted-in, cached-cut, lose-cached}
-use Rattle.promise.specs.device.CachedPromise.{names-beneath, cached-promise}
-use Rattle.promise.specs.device.CachedOwed.{WriteOwesCached, ResetOwesCached, mount-owes-cached, flush-owes-cached, format-rests-cached}
+use Rattle.promise.specs.device.CachedModes.{now-back, forgotten-is, RestsCached, HaltedCached, OkCached, read-cached, halted-in, cached-cut, lose-cached}
+use Rattle.promise.specs.device.CachedPromise.{names-beneath, cached-promise, beneath-keeps}
+use Rattle.promise.specs.device.CachedOwed.{WriteOwesCached, ResetOwesCached, CompactOwesCached, mount-owes-cached, flush-owes-cached, format-rests-cached}
 
--- what the calls that may empty logs outside a mount owe
+-- what a write and the calls that may empty logs outside a mount owe
 pub record CachesOwed (g : Geometry) : Type 0 where
   pub write : WriteOwesCached g
   pub reset : ResetOwesCached g
+  pub compact : CompactOwesCached g
 
 -- the device with its caches, and after stores
 abbrev pub cachingOf : WithCaches Device → Caching
@@ -73,6 +78,10 @@ ok-beneath g t s o = go (s .mode) o
     go ready o = o .rests (s .memory .memory) (now-back g (s .lost) (cachingOf (s .memory)))
     go stopped o = o (s .memory .memory) (now-back g (s .lost) (cachingOf (s .memory)))
     go down o = o .0
+
+-- with other shares
+shared-cached : (g : Geometry) (x : ℕ) (c : Caching) (share : ℕ → ℕ) (state : StateView) (l : Ledger) → RestsCached g x c state l → RestsCached g x c (withShares share state) l
+shared-cached g x c share state l r = read-cached g x c state (withShares share state) l (λ h. h) (record { generations = λ z h. refl; conditions = λ z h. refl }) r
 
 module _ (g : Geometry) (ok : Valid g) (t : TableLengths) (owed : CachesOwed g) (s : System (onCachingDevice g t)) (o : OkOn g t s) where
   abbrev c : Caching
@@ -142,20 +151,30 @@ module _ (g : Geometry) (ok : Valid g) (t : TableLengths) (owed : CachesOwed g) 
     e : s .mode ≡ ready → callPresent g named (s .state) ≡ presentBut g (s .lost)
     e m = drives-of-call g ok t (beneath (onDevice g t) (deviceCaches g t) s) ok-under named names-under m
 
+    lost-is : s .mode ≡ ready → lostIn g named (s .state) ≡ s .lost
+    lost-is m = lost-of-call g ok t (beneath (onDevice g t) (deviceCaches g t) s) ok-under named names-under m
+
     write-event : s .mode ≡ ready → (asked : WriteAsked) (stop : ℕ) → Owed (writes asked) stop
     write-event m asked stop =
-        let z = zoneOf g (asked .address) in
+        let z = zoneAsked g asked in
         let ss = sectorsIn g (asked .count) (asked .buffer) in
-        let accepted : firstRefusal (writeRows g t (badPointers g named v) named (s .state) (asked .address) (asked .count) (length (asked .buffer)) (roles g v) (byRoles g v)) ≡ accept
-        → WriteAccepted g (presentBut g (s .lost)) (roles g v) (byRoles g v) (byState g (presentBut g (s .lost)) (byRoles g v) (s .state)) (s .state) z ss = λ p. rw (e m) at (write-accepted g t named (s .state) v (asked .address) (asked .count) (asked .buffer) p) in
+        let fits = write-fits g ok t under ok-under named names-under m asked in
         by-call (writes asked) stop (λ n. refl)
-        (λ p. rw (e m) (owed .write (s .lost) c (s .state) (s .ledger) z ss (at-rest m) (accepted p) .0 stop))
-        (λ p. rw (e m, lost-of-call g ok t under ok-under named names-under m) (rw (sectors-length g (asked .count) (asked .buffer)) at (owed .write (s .lost) c (s .state) (s .ledger) z ss (at-rest m) (accepted p) .1)))
+        (λ p. rw (e m) (owed .write x c (s .state) (s .ledger) z ss (at-rest m) (fits p) .0 stop))
+        (λ p. rw (e m, lost-is m) (read-cached g x _ (writeState x (s .state) z (asked .count)) (writtenState g (presentBut g x) x (asked .host) (s .state) z (asked .count)) (afterWrite (s .ledger) z ss) (λ h. h)
+        (record { generations = λ y h. refl; conditions = λ y h. refl }) (rw (sectors-length g (asked .count) (asked .buffer)) at (owed .write x c (s .state) (s .ledger) z ss (at-rest m) (fits p) .1))))
+
+    compact-event : s .mode ≡ ready → (d stop : ℕ) → Owed (compacts d) stop
+    compact-event m d stop =
+        let fits = compact-fits g ok t under ok-under named names-under m d in
+        by-call (compacts d) stop (λ n. refl)
+        (λ p. rw (e m) (owed .compact x c (s .state) (s .ledger) d (at-rest m) (fits p) .0 stop))
+        (λ p. rw (e m, lost-is m) (read-cached g x _ (s .state) (compactState g (presentBut g x) x (byRoles g v) (s .state) d) (s .ledger) (λ h. inr refl) (record { generations = λ y h. refl; conditions = λ y h. refl }) (owed .compact x c (s .state) (s .ledger) d (at-rest m) (fits p) .1)))
 
     flush-event : s .mode ≡ ready → (stop : ℕ) → Owed flushes stop
     flush-event m stop =
         let (h, r) = flush-owes-cached g ok (s .lost) c (s .state) (s .ledger) (at-rest m) in
-        by-call flushes stop (λ n. refl) (λ p. rw (e m) (h stop)) (λ p. rw (e m, lost-of-call g ok t under ok-under named names-under m) r)
+        by-call flushes stop (λ n. refl) (λ p. rw (e m) (h stop)) (λ p. rw (e m, lost-is m) r)
 
     reset-event : s .mode ≡ ready → (z stop : ℕ) → Owed (resets z) stop
     reset-event m z stop =
@@ -163,7 +182,7 @@ module _ (g : Geometry) (ok : Valid g) (t : TableLengths) (owed : CachesOwed g) 
         → ResetAccepted g (presentBut g (s .lost)) (roles g v) (byRoles g v) (byState g (presentBut g (s .lost)) (byRoles g v) (s .state)) (s .state) z = λ p. rw (e m) at (reset-accepted g t named (s .state) v z p) in
         by-call (resets z) stop (λ n. refl)
         (λ p. rw (e m) (owed .reset (s .lost) c (s .state) (s .ledger) z (at-rest m) (accepted p) .0 stop))
-        (λ p. rw (e m, lost-of-call g ok t under ok-under named names-under m) (owed .reset (s .lost) c (s .state) (s .ledger) z (at-rest m) (accepted p) .1))
+        (λ p. rw (e m, lost-is m) (owed .reset (s .lost) c (s .state) (s .ledger) z (at-rest m) (accepted p) .1))
 
     mount-event : MayMount (s .mode) → (stop : ℕ) → Owed mounts stop
     unfolding mountShows
@@ -172,7 +191,8 @@ module _ (g : Geometry) (ok : Valid g) (t : TableLengths) (owed : CachesOwed g) 
         let w = lost-of-look g ok t under ok-under named names-under in
         by-call mounts stop (λ n. refl)
         (λ p. rw (d, w) (mount-owes-cached g ok (s .lost) c (s .ledger) (all-invs m) (mount-allowed g ok t under ok-under named names-under p) .0 stop))
-        (λ p. rw (d, w) (mount-owes-cached g ok (s .lost) c (s .ledger) (all-invs m) (mount-allowed g ok t under ok-under named names-under p) .1))
+        (λ p. let k = mountShows g (presentBut g x) x v in
+        rw (d, w) (shared-cached g x _ (sharesIn g (presentBut g x) (applyAll (mountStores g (presentBut g x) x v) v)) (mountState k) (afterMount k) (mount-owes-cached g ok (s .lost) c (s .ledger) (all-invs m) (mount-allowed g ok t under ok-under named names-under p) .1)))
 
     abbrev FormatLeaves : ℕ → CallResult (WithCaches Device) StateView → Type 0
     FormatLeaves array r = NotStopped (r .answer) → OkOn g t (settled g (onCachingDevice g t) s r (ledgerAfter g (onCachingDevice g t) s (formats array) named r))
@@ -184,12 +204,12 @@ module _ (g : Geometry) (ok : Valid g) (t : TableLengths) (owed : CachesOwed g) 
         xs = formatStores g (namedDrives g named) (leftOut g named) array
 
         new : StateView
-        new = formatState (leftOut g named)
+        new = withShares (freshShares g (namedDrives g named)) (formatState (leftOut g named))
 
         done : RestsCached g (s .lost) (applyAllCaching xs c) new freshLedger
         done =
             let (k, b, a, (st, (γ, r, same))) = at-rest m .rests v (now-back g (s .lost) c) in
-            rw (format-drives g (s .lost) named (names .drives), format-lost g ok (s .lost) (byRoles g v) γ (r .logs) named (names .drives)) (format-rests-cached g ok (s .lost) array c (r .logs .lost-ok) h)
+            rw (format-drives g (s .lost) named (names .drives), format-lost g ok (s .lost) (byRoles g v) γ (r .logs) named (names .drives)) (shared-cached g x _ (freshShares g (presentBut g x)) (formatState x) freshLedger (format-rests-cached g ok (s .lost) array c (r .logs .lost-ok) h))
 
         cases : (q : Bool) → ltb stop (length xs) ≡ q → let r : CallResult Device StateView = pick q (record { answer = Unfinished; memory = applyAll (take stop xs) v; state = s .state }) (record { answer = Finished; memory = applyAll xs v; state = new }) in
             FormatLeaves array (record { answer = r .answer; memory = record { memory = r .memory; was = rememberedAfter (take stop xs) v (s .memory .was) }; state = r .state })
@@ -206,6 +226,7 @@ module _ (g : Geometry) (ok : Valid g) (t : TableLengths) (owed : CachesOwed g) 
     call-keeps flushes stop (b, m, q) = flush-event m stop
     call-keeps (resets z) stop (b, m, q) = reset-event m z stop
     call-keeps (formats array) stop (b, m, (h, n)) = format-event m array stop h n
+    call-keeps (compacts d) stop (b, m, q) = compact-event m d stop
 
   -- EVERY EVENT KEEPS IT
   pub event-keeps-cached : (a : Event (onCachingDevice g t)) → Duty g (onCachingDevice g t) s a → OkOn g t (next g (onCachingDevice g t) s a)
@@ -217,26 +238,46 @@ module _ (g : Geometry) (ok : Valid g) (t : TableLengths) (owed : CachesOwed g) 
   event-keeps-cached (cuts w) d = (cached-cut g (s .lost) c (w .memory) (d .left) (s .ledger) (halted-in g (s .mode) (s .lost) c (s .state) (s .ledger) o), λ e y a. d .forgotten e y (present-not g (s .lost) e a))
   event-keeps-cached (loses y w) (h, one, d) = lose-cached g ok (s .mode) (s .lost) y c (cachingOf w) (s .state) (s .ledger) h one (record { now-same = d .left; was-same = d .same }) o
 
+-- ---- AT A POINT of a history: what holds in its mode, whatever is put back; and the shares fit the logs (SharesKept)
+pub record HoldsOn (g : Geometry) (t : TableLengths) (s : System (onCachingDevice g t)) : Type 0 where
+  pub ok : OkOn g t s
+  pub shared : Shared g t (beneath (onDevice g t) (deviceCaches g t) s)
+
+pub holds-next : (g : Geometry) → Valid g → (t : TableLengths) → CachesOwed g → (s : System (onCachingDevice g t)) → HoldsOn g t s → (e : Event (onCachingDevice g t)) → Duty g (onCachingDevice g t) s e → HoldsOn g t (next g (onCachingDevice g t) s e)
+holds-next g valid t owed s k e d =
+    let under = beneath (onDevice g t) (deviceCaches g t) s in
+    record {
+      ok = event-keeps-cached g valid t owed s (k .ok) e d;
+      shared = beneath-keeps g (onDevice g t) (deviceCaches g t) s (Shared g t) (k .shared) (event-shares g valid t under (ok-beneath g t s (k .ok)) (k .shared)) (λ m q. absurd (let z : _≡_ {A = ℕ} 0 1 = cc in omega arith)) e d;
+    }
+
+pub holds-promise : (g : Geometry) → Valid g → (t : TableLengths) → isValid g ≡ true → tablesFit g t ≡ true → (s : System (onCachingDevice g t)) → HoldsOn g t s → Promise g (onCachingDevice g t) s
+holds-promise g valid t wb lf s k = cached-promise g (onDevice g t) (deviceCaches g t) s (kept g valid t wb lf (beneath (onDevice g t) (deviceCaches g t) s) (ok-beneath g t s (k .ok)) (k .shared))
+
 -- after the format at the head
 pub caching-start : (g : Geometry) (t : TableLengths) (named : ℕ → Bool) (array : ℕ) (old : StateView) (stop : ℕ) (m : WithCaches Device) → array < 256 ^ 8 → let r = onCachingDevice g t .call (formats array) named old stop m in
-    r .answer ≡ Finished → (isValid g ≡ true) × (tablesFit g t ≡ true) × OkOn g t (start g (onCachingDevice g t) named r)
+    r .answer ≡ Finished → (isValid g ≡ true) × (tablesFit g t ≡ true) × HoldsOn g t (start g (onCachingDevice g t) named r)
 unfolding formatRows
 caching-start g t named array old stop m h e =
     let v = m .memory in
     let x = leftOut g named in
     let rows = formatRows g t (badPointers g named v) named v in
     let stores = formatStores g (namedDrives g named) x array in
-    let (p, q) = storing-finished (firstRefusal rows) stores (formatState x) old stop v e in
+    let new = withShares (freshShares g (namedDrives g named)) (formatState x) in
+    let (p, q) = storing-finished (firstRefusal rows) stores new old stop v e in
     let wb = not-not (isValid g) (accepted-row rows p 1) in
     let ok = valid-if-test g wb in
     let n : namedDrives g named ≡ presentBut g x = drives-named g ok named (accepted-row rows p 4) in
-    let o : RestsCached g x (applyAllCaching stores (cachingOf m)) (formatState x) freshLedger = rw n (format-rests-cached g ok x array (cachingOf m) (left-out g named) h) in
-    (wb, not-not (tablesFit g t) (accepted-row rows p 2), rw (p, q) (subst (λ (k : Caching). RestsCached g x k (formatState x) freshLedger) (finished-is stores stop (cachingOf m) q) o))
+    let o : RestsCached g x (applyAllCaching stores (cachingOf m)) new freshLedger = rw n (shared-cached g x _ (freshShares g (presentBut g x)) (formatState x) freshLedger (format-rests-cached g ok x array (cachingOf m) (left-out g named) h)) in
+    let f : SharesKept g x (applyAll stores v) new = rw n (format-shares g ok x array v (left-out g named) h) in (
+      wb,
+      not-not (tablesFit g t) (accepted-row rows p 2),
+      record { ok = rw (p, q) (subst (λ (k : Caching). RestsCached g x k new freshLedger) (finished-is stores stop (cachingOf m) q) o); shared = rw (p, q) (λ i. f) },
+    )
 
 -- THE THEOREM, from what these calls owe
 pub caching-device-keeps : ((g : Geometry) → Valid g → CachesOwed g) → CachingDeviceClaim
 caching-device-keeps owed g t named array old stop m h e es d =
     let (wb, lf, o) = caching-start g t named array old stop m h e in
     let ok = valid-if-test g wb in
-    let gives : (s : System (onCachingDevice g t)) → OkOn g t s → Promise g (onCachingDevice g t) s = λ s k. cached-promise g (onDevice g t) (deviceCaches g t) s (kept g ok t wb lf (beneath (onDevice g t) (deviceCaches g t) s) (ok-beneath g t s k)) in
-    throughout g (onCachingDevice g t) (OkOn g t) gives (λ s k. event-keeps-cached g ok t (owed g ok) s k) (start g (onCachingDevice g t) named (onCachingDevice g t .call (formats array) named old stop m)) o es d
+    throughout g (onCachingDevice g t) (HoldsOn g t) (holds-promise g ok t wb lf) (holds-next g ok t (owed g ok)) (start g (onCachingDevice g t) named (onCachingDevice g t .call (formats array) named old stop m)) o es d

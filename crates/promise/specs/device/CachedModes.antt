@@ -26,8 +26,8 @@ use Rattle.logs.specs.meaning.Entry.{spareZone}
 use Rattle.volume.specs.meaning.Roles.{Roles, roles, zoneOfRole, byRoles}
 use Rattle.volume.specs.laws.Firm.{role-one-to-one, firm-roles, firm-seen}
 use Rattle.promise.specs.meaning.Ledger.{Ledger}
-use Rattle.promise.specs.meaning.Claim.{Mode, ready, stopped, down}
-use Rattle.promise.specs.invariant.Invariant.{Here}
+use Rattle.promise.specs.meaning.Claim.{Mode, ready, stopped, down, SameZones}
+use Rattle.promise.specs.invariant.Invariant.{Here, Names}
 use Rattle.promise.specs.invariant.CrashKeeps.{present-before}
 use Rattle.promise.specs.invariant.Delayed.{PutBack, Delayed, BackHere, back-here, back-part, delayed-at}
 use Rattle.promise.specs.roles.Kept.{Lasting, Kept, whole-cut, here-lasting}
@@ -35,7 +35,7 @@ use Rattle.promise.specs.roles.SamePlaces.{SamePlaces, inOrder, order-sa
 use Rattle.promise.specs.emptying.EmptyingStops.{CutHere}
 use Rattle.promise.specs.emptying.FlushedRests.{roles-same}
 use Rattle.promise.specs.device.Marks.{withMarks}
-use Rattle.promise.specs.device.Modes.{SomeRests, SomeInvs, Halted, rests-invs, invs-halted, loss-some-rests, loss-some-invs, loss-halted}
+use Rattle.promise.specs.device.Modes.{SomeRests, SomeInvs, Halted, read-some, rests-invs, invs-halted, loss-some-rests, loss-some-invs, loss-halted}
 
 abbrev pub Forgotten : Geometry → ℕ → Caching → Type 0
 Forgotten g x c = (d y : ℕ) → Here g x d → c .was d y ≡ []
@@ -67,6 +67,10 @@ abbrev pub OkCached : Geometry → Mode → ℕ → Caching → StateView → Le
 OkCached g ready x c state l = RestsCached g x c state l
 OkCached g stopped x c state l = HaltedCached g x c l
 OkCached g down x c state l = DownCached g x c l
+
+-- with a state that says the same of the zones
+pub read-cached : (g : Geometry) (x : ℕ) (c : Caching) (a b : StateView) (l : Ledger) → (Names x (a .lost) → Names x (b .lost)) → SameZones g a b → RestsCached g x c a l → RestsCached g x c b l
+read-cached g x c a b l lost same r = record { rests = λ u k. read-some g x u a b l lost same (r .rests u k); roles-are = r .roles-are; spares = r .spares }
 
 -- what is put back are spares: by the roles nothing else changes
 pub back-seen : (g : Geometry) (x : ℕ) (c : Caching) (state : StateView) (l : Ledger) → RestsCached g x c state l → (t : Device) → PutBack g x c t → (d : ℕ) → Here g x d → (y : ℕ) → y ≢ spareZone → byRoles g t d y ≡ byRoles g (c .now) d y

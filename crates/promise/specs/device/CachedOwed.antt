@@ -1,5 +1,5 @@
 -- What the calls owe on drives that cache resets: stopped after any n stores, that the invariant holds of whatever a cut may keep, whatever is put back;
--- finished, that all is at rest, whatever is put back. Here a flush, a mount and a format; write and reset: CachedWrite, CachedReset.
+-- finished, that all is at rest, whatever is put back. Here a flush, a mount and a format; write, reset and compact: CachedOwn, CachedReset, CachedCompact.
 use mathlib.Core.Path.{_≡_, refl, sym, ap, _∙_, subst}
 use mathlib.Core.Logic.{_⊎_, inl, inr}
 use Prim.Native.Nat.{ℕ, zero, _+_, _-_, _<_, _^_}
@@ -22,12 +22,12 @@ use Rattle.volume.specs.meaning.State.{StateView}
 use Rattle.volume.specs.meaning.Rules.{showing}
 use Rattle.volume.specs.meaning.Calls.{appendGeneral, generationsFrom, writeState, flushStores, flushState, resetState, formatStores, formatState}
 use Rattle.volume.specs.meaning.Roles.{roles, byRoles}
-use Rattle.volume.specs.meaning.Emptying.{byState, byLook, writeAll, resetAll}
+use Rattle.volume.specs.meaning.Emptying.{byState, byLook, writeAll, resetAll, compactStores}
 use Rattle.volume.specs.meaning.Mount.{phasesOfLogs, phasesBeforeEntries, mountStores, mountShows, mountState}
 use Rattle.promise.specs.meaning.Ledger.{Ledger, freshLedger, afterWrite, afterFlush, afterReset, afterStoppedReset, afterMount}
 use Rattle.promise.specs.invariant.Invariant.{Here}
-use Rattle.promise.specs.invariant.Obligations.{neverEmptied}
-use Rattle.promise.specs.invariant.RoomAsked.{WriteAccepted, ResetAccepted, MountAccepted}
+use Rattle.promise.specs.invariant.Obligations.{neverEmptied, WriteOk}
+use Rattle.promise.specs.invariant.RoomAsked.{ResetAccepted, CompactAccepted, MountAccepted}
 use Rattle.promise.specs.invariant.Delayed.{PutBack, Delayed, Forgets}
 use Rattle.promise.specs.roles.RoledCalls.{roled-format}
 use Rattle.promise.specs.roles.SamePlaces.{inOrder}
@@ -41,7 +41,7 @@ use Rattle.promise.specs.device.CachedModes.{Forgotten, now-back, RestsC
 
 abbrev pub WriteOwesCached : Geometry → Type 0
 WriteOwesCached g = (x : ℕ) (c : Caching) (state : StateView) (l : Ledger) (z : ℕ) (ss : List (List ℕ)) → RestsCached g x c state l
-    → WriteAccepted g (presentBut g x) (roles g (c .now)) (byRoles g (c .now)) (byState g (presentBut g x) (byRoles g (c .now)) state) state z ss
+    → WriteOk g (presentBut g x) (byRoles g (c .now)) state z ss
     → let xs = writeAll g (presentBut g x) (roles g (c .now)) (byRoles g (c .now)) state z ss in
     ((n : ℕ) → HaltedCached g x (applyAllCaching (take n xs) c) (afterWrite l z ss)) × RestsCached g x (applyAllCaching xs c) (writeState x state z (length ss)) (afterWrite l z ss)
 
@@ -50,6 +50,12 @@ ResetOwesCached g = (x : ℕ) (c : Caching) (state : StateView) (l : Ledger) (z 
     → ResetAccepted g (presentBut g x) (roles g (c .now)) (byRoles g (c .now)) (byState g (presentBut g x) (byRoles g (c .now)) state) state z
     → let xs = resetAll g (presentBut g x) (roles g (c .now)) (byRoles g (c .now)) state z in
     ((n : ℕ) → HaltedCached g x (applyAllCaching (take n xs) c) (afterStoppedReset l z)) × RestsCached g x (applyAllCaching xs c) (resetState x state z) (afterReset l z)
+
+abbrev pub CompactOwesCached : Geometry → Type 0
+CompactOwesCached g = (x : ℕ) (c : Caching) (state : StateView) (l : Ledger) (d : ℕ) → RestsCached g x c state l
+    → CompactAccepted g (presentBut g x) (roles g (c .now)) (byRoles g (c .now)) (byState g (presentBut g x) (byRoles g (c .now)) state) d
+    → let xs = compactStores g (presentBut g x) (roles g (c .now)) (byRoles g (c .now)) state d in
+    ((n : ℕ) → HaltedCached g x (applyAllCaching (take n xs) c) l) × RestsCached g x (applyAllCaching xs c) state l
 
 abbrev pub MountOwesCached : Geometry → Type 0
 MountOwesCached g = (x : ℕ) (c : Caching) (l : Ledger) → ((u : Device) → PutBack g x c u → SomeInvs g x u l)

@@ -1,13 +1,16 @@
 -- The own stores of a reset and of a write on drives that cache resets, from a device at rest where old logs may be put back: these are spares, which such stores
--- leave alone, so they may as well be put back before them. (The emptyings before them: CachedReset, CachedWrite.)
-use mathlib.Core.Path.{_≡_, refl, sym, ap, _∙_, subst}
+-- leave alone, so they may as well be put back before them. (The emptyings before a reset's: CachedReset.)
+use mathlib.Core.Path.{_≡_, refl, sym, ap, _∙_, subst, fun-ext}
 use mathlib.Core.Logic.{_⊎_, inl, inr}
 use mathlib.Core.Bool.{Bool, true, false, _&&_}
-use Prim.Native.Nat.{ℕ, zero, suc, _+_, _%_, _≤_, zero-le}
+use Prim.Native.Nat.{ℕ, zero, suc, _+_, _-_, _%_, _≤_, _<_, zero-le}
+use native.Mathlib.Decide.{decLt}
+use native.Mathlib.Omega.{arith}
 use mathlib.Core.List.{List, [], _∷_, _++_, append-nil, append-assoc, map}
 use lib.ListN.{length, take}
 use lib.Seq.{take-length}
-use lib.Dec.{eqb}
+use lib.Dec.{ltb, eqb}
+use borrow.Author.Tests.{lt-ltb, le-ltb}
 use Rattle.tables.specs.meaning.Basics.{pick}
 use Rattle.tables.specs.meaning.Below.{eachBelow, tabulateFrom}
 use Rattle.tables.specs.laws.Lists.{take-map, map-append, length-map}
@@ -24,14 +27,17 @@ use Rattle.tables.specs.meaning.Geometry.{Valid, dataZone}
 use Rattle.logs.specs.meaning.Entry.{parityZone, spareZone, zoneReset, counters}
 use Rattle.logs.specs.meaning.Walk.{sectorsOf}
 use Rattle.volume.specs.meaning.State.{pointerIn, StateView, setAt}
-use Rattle.volume.specs.meaning.Content.{rowXor, insideStripe, parityDriveAt, entryAt}
+use Rattle.volume.specs.meaning.Content.{at, rowXor, insideStripe, parityDriveAt, entryAt}
+use Rattle.volume.specs.meaning.Rules.{valueAt}
+use Rattle.volume.specs.meaning.Emptying.{writeAll}
 use Rattle.volume.specs.meaning.Calls.{appendAll, appendGeneral, generationsFrom, logsReset, raisedAt, parityStores, sectorStores, dataStores, entryStores, writeWith, zoneContent, writeStores, writeState, flushStores, resetStores, resetState}
 use Rattle.volume.specs.meaning.Roles.{Roles, roles, zoneOfRole, byRoles}
 use Rattle.volume.specs.laws.Firm.{Proper, role-one-to-one, firm-roles, places}
 use Rattle.promise.specs.meaning.Ledger.{Ledger, afterWrite, afterReset, afterStoppedReset}
 use Rattle.promise.specs.invariant.Invariant.{Ghost, Here, LogsOk, LogGenerations}
-use Rattle.promise.specs.invariant.Obligations.{WriteOk, ResetOk}
+use Rattle.promise.specs.invariant.Obligations.{Rests, WriteOk, ResetOk}
 use Rattle.promise.specs.invariant.Delayed.{PutBack, Delayed, OnlyFlush, putFirst, put-first-back, put-first-delayed, forgets-is, no-resets-forget, no-reset-part, remembers-none}
+use Rattle.promise.specs.look.LookFits.{rest-known}
 use Rattle.promise.specs.calls.WriteKeeps.{write-rests}
 use Rattle.promise.specs.calls.ResetKeeps.{reset-keeps-delayed}
 use Rattle.promise.specs.roles.Ordinary.{Ordinary, ordinary-part, carriedTo, ordinary-firm}
@@ -40,12 +46,11 @@ use Rattle.promise.specs.roles.OrdinaryDelayed.{carried-local, spare-see
 use Rattle.promise.specs.roles.Roled.{Standing}
 use Rattle.promise.specs.roles.RoledCalls.{roled-write-keeps, roled-write-rests, roled-reset-rests}
 use Rattle.promise.specs.emptying.CallParts.{carried-alike}
-use Rattle.promise.specs.emptying.ParityWrite.{write-stores-same}
 use Rattle.promise.specs.device.Marks.{withMarks}
 use Rattle.promise.specs.device.Modes.{SomeRests, Halted, own-rests, less-rests, invs-halted}
 use Rattle.promise.specs.device.PlainCalls.{flush-carried}
-use Rattle.promise.specs.device.CachedModes.{Forgotten, now-back, RestsCached, HaltedCached, forgotten-rests}
-use Rattle.promise.specs.device.CachedOwed.{flushed-last}
+use Rattle.promise.specs.device.CachedModes.{Forgotten, now-back, RestsCached, HaltedCached, forgotten-rests, back-seen}
+use Rattle.promise.specs.device.CachedOwed.{WriteOwesCached, flushed-last}
 
 -- ---- ordinary stores, carried by the roles of the device
 module _ (g : Geometry) (x : ℕ) (c : Caching) (state : StateView) (l : Ledger) (r : RestsCached g x c state l) (xs : List Store) (o : Ordinary g x xs) where
@@ -210,6 +215,26 @@ ordinary-roles : (g : Geometry) (x : ℕ) (v : Device) (e : LogGenerations) → 
 ordinary-roles g x v e s xs o δ lg same d a =
     firm-roles g (carriedTo g v xs) d (s .roles d) (ordinary-firm g x v (s .roles) (s .firm) xs o e (s .general-claim) (s .parity-claim) δ lg same d a) ∙ sym (firm-roles g v d (s .roles d) (s .firm d a))
 
+-- ---- what a write stores goes by the zone's content, which both devices at rest show
+write-stores-same : (g : Geometry) → Valid g → (x : ℕ) (b c : LogGenerations) (v w : Device) (state : StateView) (l m : Ledger) → Rests b g x v state l → Rests c g x w state m → ((z : ℕ) → l .content z ≡ m .content z)
+    → (z : ℕ) → z < g .zones → (ss : List (List ℕ)) → writeStores g (presentBut g x) v state z ss ≡ writeStores g (presentBut g x) w state z ss
+unfolding writeStores zoneContent
+write-stores-same g ok x b c v w state l m (γ, r, p) (δ, s, q) same z hz ss =
+    ap (λ (S : ℕ → List ℕ). onStores S) (fun-ext λ a. go a (decLt a (pointerIn (state .condition z))))
+  where
+    onStores : (ℕ → List ℕ) → List Store
+    onStores S = onPresent (presentBut g x) (writeWith g z (state .generation z) S (pointerIn (state .condition z)) (length ss))
+
+    go : (a : ℕ) → Dec (a < pointerIn (state .condition z))
+        → pick (ltb a (pointerIn (state .condition z))) (valueAt g (presentBut g x) v z (state .generation z) a) (at ss (a - pointerIn (state .condition z))) ≡ pick (ltb a (pointerIn (state .condition z))) (valueAt g (presentBut g x) w z (state .generation z) a) (at ss (a - pointerIn (state .condition z)))
+    go a (yes h) =
+        let e : length (l .content z) ≡ pointerIn (state .condition z) = r .zones z hz .pointer-is in
+        let f : length (m .content z) ≡ pointerIn (state .condition z) = s .zones z hz .pointer-is in
+        let t : valueAt g (presentBut g x) v z (state .generation z) a ≡ valueAt g (presentBut g x) w z (state .generation z) a =
+        rest-known g ok x v state l γ r z hz a (omega (arith, e, h)) .1 ∙ ap (λ (k : List (List ℕ)). at k a) (same z) ∙ sym (rest-known g ok x w state m δ s z hz a (omega (arith, f, h)) .1) in
+        rw (lt-ltb a (pointerIn (state .condition z)) h) t
+    go a (no h) = rw (le-ltb a (pointerIn (state .condition z)) (omega arith)) refl
+
 -- ---- A WRITE
 module _ (g : Geometry) (ok : Valid g) (x : ℕ) (c : Caching) (state : StateView) (l : Ledger) (r : RestsCached g x c state l) (z : ℕ) (ss : List (List ℕ)) (wok : (u : Device) → PutBack g x c u → WriteOk g (presentBut g x) (byRoles g u) state z ss) where
   abbrev ws : Device → List Store
@@ -300,3 +325,11 @@ module _ (g : Geometry) (ok : Valid g) (x : ℕ) (c : Caching) (state : StateVie
           let n = appends-local d y wown (appends-carried (places g (c .now)) ys (appends-write g (presentBut g x) (byRoles g (c .now)) state z ss)) in
           inl (was-is d y wown c ∙ ap (rememberHere (localStores d y wown) (c .now d y)) q ∙ remembers-none (localStores d y wown) (c .now d y) n)
       go d y a (inr q) = inr (q ∙ ap (λ (t : Roles). t .spare) (sym (whole-roles (applyAllCaching wown c .now) (now-back g x (applyAllCaching wown c)) d a)))
+
+-- what it owes: the logs that it asks for room are no spares
+pub write-owes-cached : (g : Geometry) → Valid g → WriteOwesCached g
+unfolding writeAll
+write-owes-cached g ok x c state l z ss r wk = (own-write-halted g ok x c state l r z ss wok, own-write-rests g ok x c state l r z ss wok)
+  where
+    wok : (u : Device) → PutBack g x c u → WriteOk g (presentBut g x) (byRoles g u) state z ss
+    wok u k = record { zone-ok = wk .zone-ok; writable = wk .writable; some = wk .some; run = wk .run; sizes = wk .sizes; room = λ i a. rw (back-seen g x c state l r u k _ a parityZone (λ j. omega (arith, j))) (wk .room i a) }

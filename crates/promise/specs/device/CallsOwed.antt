@@ -1,5 +1,5 @@
--- What the calls that may empty logs owe, on the physical device: stopped after any n stores, that the invariant holds of whatever a cut may keep;
--- finished, that all is at rest.
+-- What a write and the calls that may empty logs owe, on the physical device: stopped after any n stores, that the invariant holds of whatever a cut may
+-- keep; finished, that all is at rest.
 use Prim.Native.Nat.{ℕ}
 use mathlib.Core.List.{List}
 use lib.ListN.{take, length}
@@ -10,15 +10,16 @@ use Rattle.volume.specs.meaning.State.{StateView}
 use Rattle.volume.specs.meaning.Rules.{showing}
 use Rattle.volume.specs.meaning.Calls.{writeState, resetState}
 use Rattle.volume.specs.meaning.Roles.{roles, byRoles}
-use Rattle.volume.specs.meaning.Emptying.{byState, byLook, writeAll, resetAll}
+use Rattle.volume.specs.meaning.Emptying.{byState, byLook, writeAll, resetAll, compactStores}
 use Rattle.volume.specs.meaning.Mount.{mountStores, mountShows, mountState}
 use Rattle.promise.specs.meaning.Ledger.{Ledger, afterWrite, afterReset, afterStoppedReset, afterMount}
-use Rattle.promise.specs.invariant.RoomAsked.{WriteAccepted, ResetAccepted, MountAccepted}
+use Rattle.promise.specs.invariant.Obligations.{WriteOk}
+use Rattle.promise.specs.invariant.RoomAsked.{ResetAccepted, CompactAccepted, MountAccepted}
 use Rattle.promise.specs.device.Modes.{SomeRests, SomeInvs, Halted}
 
 abbrev pub WriteOwes : Geometry → Type 0
 WriteOwes g = (x : ℕ) (v : Device) (state : StateView) (l : Ledger) (z : ℕ) (ss : List (List ℕ)) → SomeRests g x v state l
-    → WriteAccepted g (presentBut g x) (roles g v) (byRoles g v) (byState g (presentBut g x) (byRoles g v) state) state z ss
+    → WriteOk g (presentBut g x) (byRoles g v) state z ss
     → let xs = writeAll g (presentBut g x) (roles g v) (byRoles g v) state z ss in
     ((n : ℕ) → Halted g x (applyAll (take n xs) v) (afterWrite l z ss)) × SomeRests g x (applyAll xs v) (writeState x state z (length ss)) (afterWrite l z ss)
 
@@ -27,6 +28,12 @@ ResetOwes g = (x : ℕ) (v : Device) (state : StateView) (l : Ledger) (z : ℕ) 
     → ResetAccepted g (presentBut g x) (roles g v) (byRoles g v) (byState g (presentBut g x) (byRoles g v) state) state z
     → let xs = resetAll g (presentBut g x) (roles g v) (byRoles g v) state z in
     ((n : ℕ) → Halted g x (applyAll (take n xs) v) (afterStoppedReset l z)) × SomeRests g x (applyAll xs v) (resetState x state z) (afterReset l z)
+
+abbrev pub CompactOwes : Geometry → Type 0
+CompactOwes g = (x : ℕ) (v : Device) (state : StateView) (l : Ledger) (d : ℕ) → SomeRests g x v state l
+    → CompactAccepted g (presentBut g x) (roles g v) (byRoles g v) (byState g (presentBut g x) (byRoles g v) state) d
+    → let xs = compactStores g (presentBut g x) (roles g v) (byRoles g v) state d in
+    ((n : ℕ) → Halted g x (applyAll (take n xs) v) l) × SomeRests g x (applyAll xs v) state l
 
 abbrev pub MountOwes : Geometry → Type 0
 MountOwes g = (x : ℕ) (v : Device) (l : Ledger) → SomeInvs g x v l
@@ -37,4 +44,5 @@ MountOwes g = (x : ℕ) (v : Device) (l : Ledger) → SomeInvs g x v l
 pub record CallsOwed (g : Geometry) : Type 0 where
   pub write : WriteOwes g
   pub reset : ResetOwes g
+  pub compact : CompactOwes g
   pub mount : MountOwes g

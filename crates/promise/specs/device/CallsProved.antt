@@ -1,4 +1,4 @@
--- The calls that may empty logs owe nothing more.
+-- A write and the calls that may empty logs owe nothing more.
 use lib.ListN.{take}
 use Rattle.tables.specs.meaning.Device.{applyAll}
 use Rattle.tables.specs.meaning.Drives.{presentBut}
@@ -8,8 +8,9 @@ use Rattle.volume.specs.meaning.Mount.{mountStores}
 use Rattle.promise.specs.invariant.Delayed.{delayed-none}
 use Rattle.promise.specs.emptying.MountWhole.{mount-cuts}
 use Rattle.promise.specs.device.CallsOwed.{CallsOwed}
-use Rattle.promise.specs.device.WriteCall.{write-owes}
+use Rattle.promise.specs.device.PlainCalls.{write-owes}
 use Rattle.promise.specs.device.ResetCall.{reset-owes}
+use Rattle.promise.specs.device.CompactCall.{compact-owes}
 use Rattle.promise.specs.device.MountCall.{MountCuts, mount-owes}
 
 -- on drives whose resets last at once
@@ -19,4 +20,4 @@ uncached-cuts g ok x v l c ri ma =
     ((λ n w cut. let ys = take n (mountStores g (presentBut g x) x v) in r .0 n (applyAll ys v) w (delayed-none g x v ys) cut), r .2)
 
 pub calls-owed : (g : Geometry) → Valid g → CallsOwed g
-calls-owed g ok = record { write = write-owes g ok; reset = reset-owes g ok; mount = mount-owes g (uncached-cuts g ok) }
+calls-owed g ok = record { write = write-owes g ok; reset = reset-owes g ok; compact = compact-owes g ok; mount = mount-owes g (uncached-cuts g ok) }

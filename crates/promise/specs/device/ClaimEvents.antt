@@ -17,25 +17,26 @@ use Rattle.tables.specs.declared.Geometry.{Geometry}
 use Rattle.tables.specs.meaning.Geometry.{Valid}
 use Rattle.tables.specs.meaning.Drives.{noDrive, presentBut}
 use Rattle.volume.specs.meaning.Rules.{showing}
-use Rattle.volume.specs.meaning.State.{StateView, callPresent}
+use Rattle.volume.specs.meaning.State.{StateView, withShares, callPresent}
 use Rattle.volume.specs.meaning.Roles.{roles, byRoles}
 use Rattle.volume.specs.meaning.Emptying.{byState, byLook}
-use Rattle.volume.specs.meaning.Calls.{formatStores, formatState}
-use Rattle.volume.specs.meaning.Mount.{mountShows, mountState}
-use Rattle.volume.specs.meaning.Refusals.{Verdict, refuse, accept, TableLengths, zoneOf, formatRows, mountRows, writeRows, resetRows, firstRefusal, badPointers, lookRows}
+use Rattle.volume.specs.meaning.Calls.{writeState, formatStores, formatState}
+use Rattle.volume.specs.meaning.Hosts.{sharesIn, freshShares, writtenState, compactState}
+use Rattle.volume.specs.meaning.Mount.{mountStores, mountShows, mountState, shownState}
+use Rattle.volume.specs.meaning.Refusals.{Verdict, refuse, accept, TableLengths, WriteAsked, zoneAsked, formatRows, mountRows, writeRows, resetRows, compactRows, firstRefusal, badPointers, lookRows}
 use Rattle.volume.specs.meaning.Answers.{CallResult, storing, lostIn, leftOut, namedDrives, sectorsIn, giving, presentIn, lostDriveIn}
 use Rattle.volume.specs.declared.Answer.the-variants.{Finished, Unfinished, Refused}
-use Rattle.promise.specs.meaning.Ledger.{Ledger, freshLedger, afterFlush}
-use Rattle.promise.specs.meaning.Claim.{WriteAsked, Call, mounts, writes, flushes, resets, formats, Mode, ready, stopped, down, System, Event, calls, looks, reads, peeks, reports, cuts, loses, settled, ledgerAfter, next, NotStopped, NamesAll, MayMount, Duty, allBut}
-use Rattle.promise.specs.meaning.OnDevice.{callOf, onDevice, lookResult, shownBy}
-use Rattle.promise.specs.invariant.Obligations.{neverEmptied}
-use Rattle.promise.specs.invariant.RoomAsked.{WriteAccepted, ResetAccepted, MountAccepted}
+use Rattle.promise.specs.meaning.Ledger.{Ledger, freshLedger, afterWrite, afterFlush, afterMount}
+use Rattle.promise.specs.meaning.Claim.{Call, mounts, writes, flushes, resets, formats, compacts, Mode, ready, stopped, down, System, Event, calls, looks, reads, peeks, reports, cuts, loses, settled, ledgerAfter, next, NotStopped, NamesAll, MayMount, Duty, allBut}
+use Rattle.promise.specs.meaning.OnDevice.{callOf, onDevice, lookResult, shownBy, stateShown}
+use Rattle.promise.specs.invariant.Obligations.{neverEmptied, WriteOk}
+use Rattle.promise.specs.invariant.RoomAsked.{ResetAccepted, CompactAccepted, MountAccepted}
 use Rattle.promise.specs.look.LookRest.{look-rests}
 use Rattle.promise.specs.roles.RoledCalls.{roled-format}
-use Rattle.promise.specs.device.AcceptedCalls.{present-same, call-same, found-same, sectors-length, write-accepted, reset-accepted, mount-accepted}
+use Rattle.promise.specs.device.AcceptedCalls.{present-same, call-same, found-same, sectors-length, write-accepted, reset-accepted, compact-accepted, mount-accepted}
 use Rattle.promise.specs.device.AtRestAnswers.{lost-in, format-lost, format-drives}
 use Rattle.promise.specs.device.Marks.{withMarks}
-use Rattle.promise.specs.device.Modes.{SomeRests, SomeInvs, OkIn, own-rests, rests-invs, lose-in, cut-in}
+use Rattle.promise.specs.device.Modes.{SomeRests, SomeInvs, OkIn, own-rests, read-some, rests-invs, lose-in, cut-in}
 use Rattle.promise.specs.device.Looks.{LookFine, look-in}
 use Rattle.promise.specs.device.PlainCalls.{flush-halted, flush-done}
 use Rattle.promise.specs.device.CallsOwed.{CallsOwed}
@@ -71,11 +72,16 @@ module _ (g : Geometry) (t : TableLengths) (s : System (onDevice g t)) (o : Ok g
       go stopped m o = absurd m
       go down m o = o
 
--- with a look's state in place of what the host held
-shown-rests : (g : Geometry) → Valid g → (x : ℕ) (v : Device) (state : StateView) (l : Ledger) → SomeRests g x v state l → SomeRests g x v (mountState (showing g (presentBut g x) x (byRoles g v))) l
-shown-rests g ok x v state l (k, c, a, (s, r)) = (k, c, a, (s, look-rests g ok k x (byRoles g v) state (withMarks l c) r))
+-- with other shares
+shared-rests : (g : Geometry) (x : ℕ) (v : Device) (share : ℕ → ℕ) (state : StateView) (l : Ledger) → SomeRests g x v state l → SomeRests g x v (withShares share state) l
+shared-rests g x v share state l r = read-some g x v state (withShares share state) l (λ h. h) (record { generations = λ z h. refl; conditions = λ z h. refl }) r
 
-shown-in : (g : Geometry) → Valid g → (m : Mode) (x : ℕ) (v : Device) (state : StateView) (l : Ledger) → OkIn g m x v state l → OkIn g m x v (mountState (showing g (presentBut g x) x (byRoles g v))) l
+-- with a look's state in place of what the host held
+shown-rests : (g : Geometry) → Valid g → (x : ℕ) (v : Device) (state : StateView) (l : Ledger) → SomeRests g x v state l → SomeRests g x v (shownState g (presentBut g x) x v) l
+shown-rests g ok x v state l (k, c, a, (s, r)) =
+    shared-rests g x v (sharesIn g (presentBut g x) v) (mountState (showing g (presentBut g x) x (byRoles g v))) l (k, c, a, (s, look-rests g ok k x (byRoles g v) state (withMarks l c) r))
+
+shown-in : (g : Geometry) → Valid g → (m : Mode) (x : ℕ) (v : Device) (state : StateView) (l : Ledger) → OkIn g m x v state l → OkIn g m x v (shownState g (presentBut g x) x v) l
 shown-in g ok ready x v state l o = shown-rests g ok x v state l o
 shown-in g ok stopped x v state l o = o
 shown-in g ok down x v state l o = o
@@ -136,17 +142,35 @@ module _ (g : Geometry) (ok : Valid g) (t : TableLengths) where
           → (firstRefusal (k .refusals) ≡ accept → OkIn g ready (s .lost) (applyAll (k .stores) (s .memory)) (k .state) (l (finishedResult (k .stores) (k .state)))) → Owed c stop
       by-call c stop = let k = callOf g t c named (s .state) (s .memory) in by-answer (firstRefusal (k .refusals)) (k .stores) (k .state) stop (ledgerAfter g (onDevice g t) s c named)
 
+      pub write-fits : s .mode ≡ ready → (asked : WriteAsked) → firstRefusal (writeRows g t (badPointers g named (s .memory)) named (s .state) asked (roles g (s .memory)) (byRoles g (s .memory))) ≡ accept
+          → WriteOk g (presentBut g (s .lost)) (byRoles g (s .memory)) (s .state) (zoneAsked g asked) (sectorsIn g (asked .count) (asked .buffer))
+      write-fits m asked p = rw (drives-of-call m) at (write-accepted g t named (s .state) (s .memory) asked p)
+
+      pub compact-fits : s .mode ≡ ready → (d : ℕ) → firstRefusal (compactRows g t (badPointers g named (s .memory)) named (s .state) d (roles g (s .memory)) (byRoles g (s .memory))) ≡ accept
+          → CompactAccepted g (presentBut g (s .lost)) (roles g (s .memory)) (byRoles g (s .memory)) (byState g (presentBut g (s .lost)) (byRoles g (s .memory)) (s .state)) d
+      compact-fits m d p = rw (drives-of-call m) at (compact-accepted g t named (s .state) (s .memory) d p)
+
       write-event : s .mode ≡ ready → (asked : WriteAsked) (stop : ℕ) → Owed (writes asked) stop
       write-event m asked stop =
           let v = s .memory in
-          let z = zoneOf g (asked .address) in
+          let z = zoneAsked g asked in
           let ss = sectorsIn g (asked .count) (asked .buffer) in
           let e = drives-of-call m in
-          let accepted : firstRefusal (writeRows g t (badPointers g named v) named (s .state) (asked .address) (asked .count) (length (asked .buffer)) (roles g v) (byRoles g v)) ≡ accept
-          → WriteAccepted g (presentBut g (s .lost)) (roles g v) (byRoles g v) (byState g (presentBut g (s .lost)) (byRoles g v) (s .state)) (s .state) z ss = λ p. rw e at (write-accepted g t named (s .state) v (asked .address) (asked .count) (asked .buffer) p) in
+          let left = s .lost in
           by-call (writes asked) stop (λ n. refl)
-          (λ p. rw e (owed .write (s .lost) v (s .state) (s .ledger) z ss (rests-of g t s o m) (accepted p) .0 stop))
-          (λ p. rw (e, lost-of-call m) (rw (sectors-length g (asked .count) (asked .buffer)) at (owed .write (s .lost) v (s .state) (s .ledger) z ss (rests-of g t s o m) (accepted p) .1)))
+          (λ p. rw e (owed .write left v (s .state) (s .ledger) z ss (rests-of g t s o m) (write-fits m asked p) .0 stop))
+          (λ p. rw (e, lost-of-call m) (read-some g left _ (writeState left (s .state) z (asked .count)) (writtenState g (presentBut g left) left (asked .host) (s .state) z (asked .count)) (afterWrite (s .ledger) z ss) (λ h. h)
+          (record { generations = λ y h. refl; conditions = λ y h. refl }) (rw (sectors-length g (asked .count) (asked .buffer)) at (owed .write left v (s .state) (s .ledger) z ss (rests-of g t s o m) (write-fits m asked p) .1))))
+
+      compact-event : s .mode ≡ ready → (d stop : ℕ) → Owed (compacts d) stop
+      compact-event m d stop =
+          let v = s .memory in
+          let e = drives-of-call m in
+          let left = s .lost in
+          by-call (compacts d) stop (λ n. refl)
+          (λ p. rw e (owed .compact left v (s .state) (s .ledger) d (rests-of g t s o m) (compact-fits m d p) .0 stop))
+          (λ p. rw (e, lost-of-call m) (read-some g left _ (s .state) (compactState g (presentBut g left) left (byRoles g v) (s .state) d) (s .ledger) (λ h. inr refl)
+          (record { generations = λ y h. refl; conditions = λ y h. refl }) (owed .compact left v (s .state) (s .ledger) d (rests-of g t s o m) (compact-fits m d p) .1)))
 
       flush-event : s .mode ≡ ready → (stop : ℕ) → Owed flushes stop
       flush-event m stop =
@@ -173,7 +197,10 @@ module _ (g : Geometry) (ok : Valid g) (t : TableLengths) where
       mount-event m stop =
           by-call mounts stop (λ n. refl)
           (λ p. rw (drives-of-look, lost-of-look) (owed .mount (s .lost) (s .memory) (s .ledger) (invs-of g t s o m) (mount-allowed p) .0 stop))
-          (λ p. rw (drives-of-look, lost-of-look) (owed .mount (s .lost) (s .memory) (s .ledger) (invs-of g t s o m) (mount-allowed p) .1))
+          (λ p. let v = s .memory in
+          let w = applyAll (mountStores g (presentBut g (s .lost)) (s .lost) v) v in
+          rw (drives-of-look, lost-of-look) (shared-rests g (s .lost) w (sharesIn g (presentBut g (s .lost)) w) (mountState (mountShows g (presentBut g (s .lost)) (s .lost) v)) (afterMount (mountShows g (presentBut g (s .lost)) (s .lost) v))
+          (owed .mount (s .lost) v (s .ledger) (invs-of g t s o m) (mount-allowed p) .1)))
 
       abbrev FormatLeaves : ℕ → CallResult Device StateView → Type 0
       FormatLeaves array r = NotStopped (r .answer) → Ok g t (settled g (onDevice g t) s r (ledgerAfter g (onDevice g t) s (formats array) named r))
@@ -185,13 +212,13 @@ module _ (g : Geometry) (ok : Valid g) (t : TableLengths) where
           xs = formatStores g (namedDrives g named) (leftOut g named) array
 
           x : StateView
-          x = formatState (leftOut g named)
+          x = withShares (freshShares g (namedDrives g named)) (formatState (leftOut g named))
 
           done : OkIn g ready (s .lost) (applyAll xs (s .memory)) x freshLedger
           done =
               let (k, c, a, (st, (γ, r, same))) = rests-of g t s o m in
-              own-rests neverEmptied g (s .lost) (applyAll xs (s .memory)) x freshLedger
-              (rw (format-drives g (s .lost) named (names .drives), format-lost g ok (s .lost) (byRoles g (s .memory)) γ (r .logs) named (names .drives)) (roled-format g ok (s .lost) array (s .memory) (r .logs .lost-ok) h))
+              shared-rests g (s .lost) (applyAll xs (s .memory)) (freshShares g (namedDrives g named)) (formatState (leftOut g named)) freshLedger (own-rests neverEmptied g (s .lost) (applyAll xs (s .memory)) (formatState (leftOut g named)) freshLedger
+              (rw (format-drives g (s .lost) named (names .drives), format-lost g ok (s .lost) (byRoles g (s .memory)) γ (r .logs) named (names .drives)) (roled-format g ok (s .lost) array (s .memory) (r .logs .lost-ok) h)))
 
           cases : (b : Bool) → FormatLeaves array (pick b (stoppedResult xs stop) (finishedResult xs x))
           cases true n = absurd n
@@ -205,10 +232,10 @@ module _ (g : Geometry) (ok : Valid g) (t : TableLengths) where
       pub look-held : OkIn g (s .mode) (s .lost) (s .memory) (onDevice g t .look named (s .state) (s .memory) .state) (s .ledger)
       look-held = go (firstRefusal (lookRows g t (badPointers g named (s .memory)) named (roles g (s .memory)) (byRoles g (s .memory))))
         where
-          shown : OkIn g (s .mode) (s .lost) (s .memory) (mountState (shownBy g named (s .memory) (s .memory))) (s .ledger)
+          shown : OkIn g (s .mode) (s .lost) (s .memory) (stateShown g named (s .memory) (s .memory)) (s .ledger)
           shown = rw (drives-of-look, lost-of-look) (shown-in g ok (s .mode) (s .lost) (s .memory) (s .state) (s .ledger) o)
 
-          go : (r : Verdict) → OkIn g (s .mode) (s .lost) (s .memory) (lookResult (giving r (shownBy g named (s .memory) (s .memory))) (s .state) (s .memory) .state) (s .ledger)
+          go : (r : Verdict) → OkIn g (s .mode) (s .lost) (s .memory) (lookResult (giving r (shownBy g named (s .memory) (s .memory))) (sharesIn g (presentIn g named (s .memory)) (s .memory)) (s .state) (s .memory) .state) (s .ledger)
           go (refuse n) = o
           go accept = shown
 
@@ -218,6 +245,7 @@ module _ (g : Geometry) (ok : Valid g) (t : TableLengths) where
       call-keeps flushes stop (b, m, q) = flush-event m stop
       call-keeps (resets z) stop (b, m, q) = reset-event m z stop
       call-keeps (formats array) stop (b, m, (h, n)) = format-event m array stop h n
+      call-keeps (compacts d) stop (b, m, q) = compact-event m d stop
 
     -- EVERY EVENT KEEPS IT
     pub event-keeps : (e : Event (onDevice g t)) → Duty g (onDevice g t) s e → Ok g t (next g (onDevice g t) s e)

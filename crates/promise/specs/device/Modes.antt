@@ -12,8 +12,9 @@ use Rattle.tables.specs.meaning.Geometry.{Valid}
 use Rattle.volume.specs.meaning.State.{StateView}
 use Rattle.volume.specs.meaning.Roles.{byRoles}
 use Rattle.promise.specs.meaning.Ledger.{Ledger}
-use Rattle.promise.specs.meaning.Claim.{Mode, ready, stopped, down}
-use Rattle.promise.specs.invariant.Invariant.{LogGenerations, rest-inv}
+use Rattle.promise.specs.meaning.Claim.{Mode, ready, stopped, down, SameZones}
+use Rattle.promise.specs.invariant.Invariant.{Names, LogGenerations, rest-inv}
+use Rattle.promise.specs.invariant.StateRead.{read-rests}
 use Rattle.promise.specs.roles.Kept.{Lasting, lasting-stores, Kept, cut-kept, standing-lasting, standing-kept, lasting-loss, kept-loss}
 use Rattle.promise.specs.roles.SamePlaces.{placed-invs, placed-rests, inOrder, order-same, keptOf, kept-cut, kept-same}
 use Rattle.promise.specs.roles.RoledCalls.{RoledInvs, RoledRests, roled-loss-keeps, roled-loss-rests}
@@ -44,6 +45,10 @@ less-invs g x v l c a (k, m, b, h) = (k, m, (λ z. le-trans (a z) (b z)), h)
 
 pub less-rests : (g : Geometry) (x : ℕ) (v : Device) (state : StateView) (l : Ledger) (c : ℕ → ℕ) → MarksAbove l c → SomeRests g x v state (withMarks l c) → SomeRests g x v state l
 less-rests g x v state l c a (k, m, b, h) = (k, m, (λ z. le-trans (a z) (b z)), h)
+
+-- with a state that says the same of the zones
+pub read-some : (g : Geometry) (x : ℕ) (v : Device) (a b : StateView) (l : Ledger) → (Names x (a .lost) → Names x (b .lost)) → SameZones g a b → SomeRests g x v a l → SomeRests g x v b l
+read-some g x v a b l lost same (k, c, h, (s, r)) = (k, c, h, (s, read-rests g x (byRoles g v) a b lost same k (withMarks l c) r))
 
 -- ---- from one to the next
 pub rests-invs : (g : Geometry) (x : ℕ) (v : Device) (state : StateView) (l : Ledger) → SomeRests g x v state l → SomeInvs g x v l

@@ -13,7 +13,7 @@ use Rattle.tables.specs.meaning.Through.{carry}
 use Rattle.tables.specs.meaning.Drives.{presentBut}
 use Rattle.tables.specs.declared.Geometry.{Geometry}
 use Rattle.tables.specs.meaning.Geometry.{Valid}
-use Rattle.logs.specs.meaning.Entry.{generalZone}
+use Rattle.logs.specs.meaning.Entry.{generalZone, parityZone}
 use Rattle.volume.specs.meaning.State.{StateView, setAt}
 use Rattle.volume.specs.meaning.Rules.{generalHeads}
 use Rattle.volume.specs.meaning.Calls.{resetStores, resetState}
@@ -25,7 +25,7 @@ use Rattle.promise.specs.invariant.RoomAsked.{ResetAccepted}
 use Rattle.promise.specs.roles.RoledCalls.{RoledRests}
 use Rattle.promise.specs.roles.SamePlaces.{inOrder}
 use Rattle.promise.specs.roles.ReadsSectors.{SameSectors, by-roles-same, roles-same, general-emptying-same, heads-same}
-use Rattle.promise.specs.emptying.GeneralReset.{ResetEmpties, reset-emptied-kept, reset-emptied-rests, reset-emptied-blank}
+use Rattle.promise.specs.emptying.GeneralReset.{ResetEmpties, reset-emptied-kept, reset-emptied-rests, reset-emptied-blank, reset-emptied-logs}
 use Rattle.promise.specs.emptying.BlankSpares.{BlankSpares}
 use Rattle.promise.specs.device.Marks.{withMarks, MarksAbove}
 use Rattle.promise.specs.device.Modes.{SomeRests, Halted, less-invs, less-rests, rests-invs, invs-lasting, cuts-halted, order-rests, kept-invs, kept-rests}
@@ -92,6 +92,9 @@ module _ (g : Geometry) (ok : Valid g) (x : ℕ) (v : Device) (state : StateView
     reset-leaves-blank : BlankSpares g x v → BlankSpares g x (applyAll stores v)
     reset-leaves-blank b = rw (stores-are v (λ d y. refl)) (reset-emptied-blank g ok x c v state (withMarks l m) rr emptied z (reset-empties v (λ d y. refl) rr) b)
 
+    reset-logs-left : (d : ℕ) → Here g x d → byRoles g (applyAll stores v) d parityZone .sectors ≡ byRoles g v d parityZone .sectors
+    reset-logs-left d a = rw (stores-are v (λ d y. refl)) (reset-emptied-logs g ok x c v state (withMarks l m) rr emptied z (reset-empties v (λ d y. refl) rr) d a)
+
     reset-stopped : (n : ℕ) → Halted g x (applyAll (take n stores) v) (afterStoppedReset l z)
     reset-stopped n = cuts-halted g x v (afterStoppedReset l z) (take n stores) (invs-lasting g x v l (rests-invs g x v state l (c, m, above, rr))) (λ w cut.
         let u = inOrder v in
@@ -107,3 +110,9 @@ pub reset-blank : (g : Geometry) → Valid g → (x : ℕ) (v : Device) (state :
     → ResetAccepted g (presentBut g x) (roles g v) (byRoles g v) (byState g (presentBut g x) (byRoles g v) state) state z
     → BlankSpares g x v → BlankSpares g x (applyAll (resetAll g (presentBut g x) (roles g v) (byRoles g v) state z) v)
 reset-blank g ok x v state l z (c, m, above, rr) ra b = reset-leaves-blank g ok x v state l z c m ra above rr b
+
+-- and the parity logs as they were
+pub reset-leaves-logs : (g : Geometry) → Valid g → (x : ℕ) (v : Device) (state : StateView) (l : Ledger) (z : ℕ) → SomeRests g x v state l
+    → ResetAccepted g (presentBut g x) (roles g v) (byRoles g v) (byState g (presentBut g x) (byRoles g v) state) state z
+    → (d : ℕ) → Here g x d → byRoles g (applyAll (resetAll g (presentBut g x) (roles g v) (byRoles g v) state z) v) d parityZone .sectors ≡ byRoles g v d parityZone .sectors
+reset-leaves-logs g ok x v state l z (c, m, above, rr) ra d a = reset-logs-left g ok x v state l z c m ra above rr d a

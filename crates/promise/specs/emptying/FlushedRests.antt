@@ -18,7 +18,7 @@ use Rattle.tables.specs.meaning.Phases.{onPresent, flushAll}
 use Rattle.tables.specs.laws.Phases.{on-present-local, flush-all-local}
 use Rattle.tables.specs.meaning.Through.{carry}
 use Rattle.tables.specs.laws.Through.{carry-on-present, carry-flush-all}
-use Rattle.tables.specs.meaning.Drives.{noDrive, presentBut}
+use Rattle.tables.specs.meaning.Drives.{presentBut}
 use Rattle.tables.specs.laws.Drives.{present-below, present-not}
 use Rattle.tables.specs.declared.Geometry.{Geometry}
 use Rattle.tables.specs.meaning.Geometry.{Valid}
@@ -30,6 +30,7 @@ use Rattle.volume.specs.laws.Firm.{Firm, firm-seen, firm-same}
 use Rattle.promise.specs.meaning.Ledger.{Ledger, afterFlush}
 use Rattle.promise.specs.invariant.Invariant.{Ghost, Here, LogsOk, LogGenerations}
 use Rattle.promise.specs.invariant.Obligations.{Invs, Rests}
+use Rattle.promise.specs.invariant.StateRead.{read-rests}
 use Rattle.promise.specs.invariant.HoldsLess.{withLogs}
 use Rattle.promise.specs.calls.FlushKeeps.{flush-all}
 use Rattle.promise.specs.roles.Roled.{Standing, standing-cut}
@@ -73,26 +74,13 @@ flush-sectors g x v e y a = ap (λ (z : ZoneView). z .sectors) (flush-all g x v 
 pub flush-solid : (g : Geometry) (x : ℕ) (v : Device) → Solid g x (flushedAll g x v)
 flush-solid g x v e y a = rw (flush-all g x v e y a) refl
 
--- rest reads no more of the state than which drive is lost, the generations and the conditions
-rests-state : (c : LogGenerations) (g : Geometry) (x : ℕ) (v : Device) (state : StateView) (l : Ledger) → (state .lost ≡ noDrive) ⊎ (state .lost ≡ x) → Rests c g x v (flushState x state) l → Rests c g x v state l
-rests-state c g x v state l h (γ, r, q) = (
-  γ,
-  record {
-    logs = r .logs;
-    zones = λ z hz. let k = r .zones z hz in record { live = k .live; generation-is = k .generation-is; pointer-is = k .pointer-is; strong-now = k .strong-now; shape = k .shape; sectors = k .sectors; no-flag = k .no-flag };
-    whole = r .whole;
-    lost-is = h;
-  },
-  q,
-)
-
 module _ (g : Geometry) (ok : Valid g) (c : LogGenerations) (x : ℕ) (v : Device) where
   -- FINISHED
   pub flushed-rests : (state : StateView) (l : Ledger) → RoledRests c g x v state l → RoledRests c g x (flushedAll g x v) state (afterFlush l)
   flushed-rests state l (s, r) =
       let (t, q) = roled-flush-rests g ok c x v state l (s, r) in
       let e = flush-carried g (presentBut g x) (λ d. zoneOfRole (roles g v d)) in
-      subst (λ (xs : List Store). RoledRests c g x (applyAll xs v) state (afterFlush l)) e (t, rests-state c g x (byRoles g (applyAll (map (carry (λ d. zoneOfRole (roles g v d))) (flushStores g (presentBut g x))) v)) state (afterFlush l) (r .1 .lost-is) q)
+      subst (λ (xs : List Store). RoledRests c g x (applyAll xs v) state (afterFlush l)) e (t, read-rests g x (byRoles g (applyAll (map (carry (λ d. zoneOfRole (roles g v d))) (flushStores g (presentBut g x))) v)) (flushState x state) state (λ h. r .1 .lost-is) (record { generations = λ z h. refl; conditions = λ z h. refl }) c (afterFlush l) q)
 
   -- STOPPED, or finished, without rest
   pub flushed-part : (l : Ledger) (n : ℕ) → RoledInvs c g x v l → RoledInvs c g x (applyAll (take n (flushStores g (presentBut g x))) v) l

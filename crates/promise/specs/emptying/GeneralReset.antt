@@ -13,13 +13,13 @@ use lib.ListN.{length, take}
 use lib.Seq.{take-append-le, take-append-add}
 use lib.Dec.{eqb}
 use Rattle.tables.specs.meaning.Basics.{pick}
-use Rattle.tables.specs.meaning.Device.{Device, Store, applyAll, Cut}
+use Rattle.tables.specs.meaning.Device.{ZoneView, Device, Store, applyAll, Cut}
 use Rattle.tables.specs.laws.Device.{apply-all-append}
 use Rattle.tables.specs.meaning.Through.{carry}
 use Rattle.tables.specs.meaning.Drives.{presentBut}
 use Rattle.tables.specs.declared.Geometry.{Geometry}
 use Rattle.tables.specs.meaning.Geometry.{Valid, dataZone}
-use Rattle.logs.specs.meaning.Entry.{generalZone, wornGeneration}
+use Rattle.logs.specs.meaning.Entry.{generalZone, parityZone, wornGeneration}
 use Rattle.volume.specs.meaning.Rules.{generalHeads}
 use Rattle.volume.specs.meaning.State.{StateView, setAt}
 use Rattle.volume.specs.meaning.Calls.{resetStores, resetState}
@@ -33,7 +33,8 @@ use Rattle.promise.specs.device.Marks.{withMarks}
 use Rattle.promise.specs.roles.Roled.{standing-cut}
 use Rattle.promise.specs.roles.RoledCalls.{RoledInvs, RoledRests, roled-reset-keeps, roled-reset-rests}
 use Rattle.promise.specs.calls.ResetKeeps.{reset-rests}
-use Rattle.promise.specs.roles.Ordinary.{carriedTo}
+use Rattle.promise.specs.calls.ParityLogsAfter.{reset-log}
+use Rattle.promise.specs.roles.Ordinary.{carriedTo, ordinary-seen}
 use Rattle.promise.specs.roles.OrdinaryCalls.{reset-ordinary}
 use Rattle.promise.specs.emptying.BlankSpares.{BlankSpares, blank-ordinary, blank-emptied}
 use Rattle.promise.specs.emptying.FlushedRests.{sectors-seen}
@@ -42,7 +43,7 @@ use Rattle.promise.specs.emptying.Marked.{KeptBy, RestsBy}
 use Rattle.promise.specs.emptying.CanEmpty.{CanEmptyLog}
 use Rattle.promise.specs.emptying.GeneralEmptying.{newGeneralOf, generalSizeOf, new-general-long}
 use Rattle.promise.specs.emptying.GeneralEmptyings.{EmptiedAll, left-invs, general-emptyings-stopped, general-emptyings-rest}
-use Rattle.promise.specs.emptying.ParityWrite.{carry-all-same}
+use Rattle.promise.specs.emptying.CallParts.{carried-alike}
 
 -- ---- a reset that has stored nothing yet: only the flag is up
 pub flag-invs : (g : Geometry) (c : LogGenerations) (x : ℕ) (v : Device) (l : Ledger) (z : ℕ) → Invs c g x v l → Invs c g x v (afterStoppedReset l z)
@@ -95,7 +96,7 @@ module _ (g : Geometry) (ok : Valid g) (x : ℕ) (c : LogGenerations) (v : Devic
     then = done .holds
 
     pub carried-are : resetCarried ≡ map (carry (placedBy (roles g u))) (resetStores g (presentBut g x) state z)
-    carried-are = carry-all-same (presentBut g x) (placedBy (rolesAfter false emptied (roles g v))) (placedBy (roles g u)) (λ e a. ap zoneOfRole (sym (done .roles-are e a))) (resetStores g (presentBut g x) state z) (reset-ordinary g x state z .on)
+    carried-are = carried-alike (presentBut g x) (placedBy (rolesAfter false emptied (roles g v))) (placedBy (roles g u)) (λ e a. ap zoneOfRole (sym (done .roles-are e a))) (resetStores g (presentBut g x) state z) (reset-ordinary g x state z .on)
 
     log-length : (d : ℕ) → Here g x d → length (byRoles g u d generalZone .sectors) ≡ pick (emptied d) (generalSizeOf g atState v d) (length (byRoles g v d generalZone .sectors))
     log-length d a = go (emptied d) refl
@@ -133,6 +134,15 @@ module _ (g : Geometry) (ok : Valid g) (x : ℕ) (c : LogGenerations) (v : Devic
         let i = rest-inv g x (applyAll own (byRoles g u)) (resetState x state z) (afterReset m z) γ r in
         let c1 = blank-emptied g x false emptied (newGeneralOf g atState v) v (done .roles-are) b in
         rw whole-is (blank-ordinary g x (then .generations) u (then .holds .0) own (reset-ordinary g x state z) (afterReset m z) (γ, i, q) c1)
+
+    -- the parity logs are as they were
+    pub reset-emptied-logs : (d : ℕ) → Here g x d → byRoles g (applyAll (resetEmptying ++ resetCarried) v) d parityZone .sectors ≡ byRoles g v d parityZone .sectors
+    reset-emptied-logs d a =
+        let s = then .holds .0 in
+        let (γ, r, q) = then .holds .1 in
+        let (δ, t, e) = reset-rests g ok (then .generations) x (byRoles g u) state m z (then .holds .1) reset-ok in
+        let seen = ordinary-seen g x u (s .roles) (s .firm) own (reset-ordinary g x state z) (then .generations) (s .general-claim) (s .parity-claim) δ (t .logs) e d a parityZone in
+        ap (λ (w : Device). byRoles g w d parityZone .sectors) whole-is ∙ ap (λ (k : ZoneView). k .sectors) seen ∙ reset-log g ok x (byRoles g u) state m γ r z reset-ok d a ∙ done .kept d parityZone a (λ i. omega (arith, i)) (λ i. omega (arith, i))
 
     -- STOPPED AND CUT
     pub reset-emptied-kept : (k : ℕ) (w : Device) → Cut x (applyAll (take k (resetEmptying ++ resetCarried)) v) w → KeptBy g x w (afterStoppedReset l z)

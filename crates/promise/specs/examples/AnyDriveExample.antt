@@ -36,12 +36,12 @@ use Rattle.promise.specs.examples.ClaimExample.{isMode, all, all-at, rea
 use Rattle.promise.specs.examples.Opened.{deviceOpen}
 use Rattle.promise.specs.shown.AnyDriveProved.{any-drive-on-device}
 
--- document 01's example with three zones, of 16 sectors on each drive
+-- document 01's example with three zones, of 18 sectors on each drive
 abbrev geo : Geometry
-geo = geometryOf 4 64 2 3 16
+geo = geometryOf 4 64 2 3 18
 
 abbrev lengths : TableLengths
-lengths = record { sectors = 24576; written = 24; durable = 24 }
+lengths = record { sectors = 27648; written = 24; durable = 24 }
 
 abbrev vol : Volume
 vol = onDevice geo lengths
@@ -56,7 +56,7 @@ abbrev s0 : System vol
 s0 = start geo vol every (vol .call (formats 7) every formattedState noStop blank)
 
 abbrev e1 : Event vol
-e1 = calls (writing 48 3 7) every noStop
+e1 = calls (writing 54 3 7) every noStop
 
 abbrev s1 : System vol
 s1 = next geo vol s0 e1
@@ -89,7 +89,7 @@ abbrev t1 : System vol
 t1 = next geo vol mounted f1
 
 abbrev f2 : Event vol
-f2 = reads every 48 3 (bytes 3 0)
+f2 = reads every 54 3 (bytes 3 0)
 
 abbrev f3 : Event vol
 f3 = calls (writing 0 1 5) every noStop
@@ -240,7 +240,7 @@ cut-well-formed ks v d y = let k = pick (eqb y 3) (getD ks d 0) 0 in let n = min
 well-formed-3 : WellFormed (s3 .memory)
 well-formed-3 =
     call-well-formed geo lengths (writing 0 5 9) every (s2 .state) noStop (s2 .memory) (call-well-formed geo lengths flushes every (s1 .state) noStop (s1 .memory)
-    (call-well-formed geo lengths (writing 48 3 7) every (s0 .state) noStop (s0 .memory) (call-well-formed geo lengths (formats 7) every formattedState noStop blank blank-well-formed)))
+    (call-well-formed geo lengths (writing 54 3 7) every (s0 .state) noStop (s0 .memory) (call-well-formed geo lengths (formats 7) every formattedState noStop blank blank-well-formed)))
 
 well-formed-t5 : WellFormed (t5 .memory)
 well-formed-t5 =

@@ -2,11 +2,11 @@
 -- from the definitions, bytes and logs included.
 use Rattle.volume.specs.meaning.Calls.{appendGeneral, resetStores}
 use Rattle.logs.specs.meaning.Entry.{encode, partialParity, seal, closing, parityZone}
-use Rattle.promise.specs.examples.Example.{blank, geo, lengths, every, noStop, does, numberOf, formatted, formattedState, bytes, writtenState, writtenDevice, kept, tenUnused, nineUnused}
-use Rattle.volume.specs.meaning.Answers.{CallResult, formatCall, Given, refused, given, lookCall, mountCall, writeCall, Place, placeOf}
+use Rattle.promise.specs.examples.Example.{blank, geo, lengths, every, noStop, does, numberOf, formatted, formattedState, bytes, asked, writtenState, writtenDevice, kept, twoLeft, oneLeft}
+use Rattle.volume.specs.meaning.Answers.{CallResult, formatCall, Given, refused, given, lookCall, mountCall, writeCall, compactCall, Place, placeOf}
 use mathlib.Core.Bool.{Bool, true, _&&_, false, _||_}
 use Prim.Native.Char.{Char}
-use Prim.Native.Nat.{ℕ, _+_, _-_, _*_, suc}
+use Prim.Native.Nat.{ℕ, _+_, _*_, suc}
 use mathlib.Core.List.{List, [], _∷_, map}
 use lib.ListN.{length, getD, take, replicate}
 use lib.Dec.{eqb, T}
@@ -16,7 +16,7 @@ use Rattle.tables.specs.meaning.Drives.{noDrive, presentBut}
 use Rattle.volume.specs.meaning.Rules.{Shown}
 use Rattle.volume.specs.declared.Condition.{Condition}
 use Rattle.volume.specs.declared.Condition.the-variants.{Empty, Open, Sealed, Worn}
-use Rattle.volume.specs.meaning.State.{StateView, pointerIn}
+use Rattle.volume.specs.meaning.State.{StateView, pointerIn, shareAt}
 use Rattle.promise.specs.meaning.Claim.{allBut}
 use Rattle.tables.specs.meaning.Below.{allBelow, tabulateFrom}
 use Rattle.tables.specs.meaning.Lists.{concat}
@@ -37,8 +37,10 @@ pub data Case : Type 0 where
   shows : Device → ℕ → Condition → Case
   -- the lost drive that a look shows when every drive is named
   lostShown : Device → ℕ → Case
-  -- a parity log of drive 3 that writes made, and how many of its sectors are unused; then a write of one sector to zone 0: what that drive's zones 1 and 2 hold, sector by sector
-  logsHold : CallResult Device StateView → ℕ → List (List ℕ) → List (List ℕ) → Case
+  -- what host 0's writes made, and what is left of its share of drive 3's parity log; then a write of one sector to zone 0 by that host: its answer, and what the drive's zone 1 holds, sector by sector
+  shareLeft : CallResult Device StateView → ℕ → ℕ → List (List ℕ) → Case
+  -- the same, then a compact of drive 3: what its zones 1 and 2 hold, and what is left of each host's share
+  compacted : CallResult Device StateView → List (List ℕ) → List (List ℕ) → ℕ → Case
   -- a reset of zone 0 with five sectors, stopped after so many stores; then a look by all drives but one: as before, or empty
   resetStops : ℕ → ℕ → Case
 
@@ -68,7 +70,7 @@ abbrev sectorOfOwn : ℕ → List ℕ
 sectorOfOwn i = replicate 64 (3 * i + 1)
 
 abbrev stripesWritten : ℕ → Device
-stripesWritten n = does (writeCall geo lengths every formattedState 0 (n * 6) (concat (tabulateFrom sectorOfOwn 0 (n * 6)))) formattedState noStop formatted .memory
+stripesWritten n = does (writeCall geo lengths every formattedState (record { host = 0; address = 0; count = n * 6; buffer = concat (tabulateFrom sectorOfOwn 0 (n * 6)) })) formattedState noStop formatted .memory
 
 abbrev rowParity : ℕ → ℕ → List ℕ
 rowParity s r = xorBytes (sectorOfOwn (s * 6 + r)) (xorBytes (sectorOfOwn (s * 6 + 2 + r)) (sectorOfOwn (s * 6 + 4 + r)))
@@ -87,9 +89,12 @@ holds (needs n ks) = allBelow (λ d. eqb (needed 4 2 0 n d) (getD ks d 0)) 4
 holds (logged n d k) = eqb (length (writtenDevice n d parityZone .sectors)) k
 holds (shows v x c) = conditionShown (lookCall geo lengths (allBut x) v) (sameCondition c)
 holds (lostShown v x) = eqb (lostOf (lookCall geo lengths every v)) x
-holds (logsHold before unused p q) =
-    let r = does (writeCall geo lengths every (before .state) 0 1 (bytes 1 9)) (before .state) noStop (before .memory) in
-    (eqb (32 - length (before .memory 3 1 .sectors)) unused && eqb (numberOf r) 0) && (sameSectors (r .memory 3 1 .sectors) p && sameSectors (r .memory 3 2 .sectors) q)
+holds (shareLeft before left answer p) =
+    let r = does (writeCall geo lengths every (before .state) (asked 0 0 1 9)) (before .state) noStop (before .memory) in
+    (eqb (before .state .share (shareAt 3 0)) left && eqb (numberOf r) answer) && sameSectors (r .memory 3 1 .sectors) p
+holds (compacted before p q left) =
+    let r = does (compactCall geo lengths every (before .state) 3) (before .state) noStop (before .memory) in
+    (eqb (numberOf r) 0 && (sameSectors (r .memory 3 1 .sectors) p && sameSectors (r .memory 3 2 .sectors) q)) && (eqb (r .state .share (shareAt 3 0)) left && eqb (r .state .share (shareAt 3 1)) left)
 holds (resetStops n x) =
     conditionShown (lookCall geo lengths (allBut x) (applyAll (take n (resetStores geo (presentBut geo noDrive) (writtenState 5) 0)) (writtenDevice 5))) (λ c. sameCondition (Open 5) c || sameCondition Empty c)
 
@@ -102,7 +107,7 @@ mounted x v = does (mountCall geo lengths (allBut x)) formattedState noStop v .m
 
 -- m sectors written, then n more: the parity log of drive 3 has an entry for each write
 abbrev writtenTwice : ℕ → ℕ → Device
-writtenTwice m n = does (writeCall geo lengths every (writtenState m) m n (bytes n 8)) (writtenState m) noStop (writtenDevice m) .memory
+writtenTwice m n = does (writeCall geo lengths every (writtenState m) (asked 0 m n 8)) (writtenState m) noStop (writtenDevice m) .memory
 
 -- a mount stopped after so many stores
 abbrev mountedPart : ℕ → Device → Device
@@ -123,21 +128,18 @@ paperCases =
     ∷ ("j", shows (left (2 ∷ 1 ∷ 1 ∷ 0 ∷ []) 0) noDrive (Sealed 3))
     ∷ ("k", shows (left (2 ∷ 1 ∷ 1 ∷ 0 ∷ []) 3) noDrive (Open 5))
     ∷ ("l", shows (left (0 ∷ 0 ∷ 0 ∷ 0 ∷ []) 3) noDrive Empty)
-    -- stored behind the entries of the writes that made the log
-    ∷ (
-      "m",
-      logsHold tenUnused 10 (concat (entry 1 3 1 (114 ∷ []) ∷ entry 1 3 2 (114 ∷ 115 ∷ []) ∷ entry 1 3 3 (6 ∷ 115 ∷ []) ∷ entry 1 3 4 (6 ∷ 6 ∷ []) ∷ entry 1 3 5 (112 ∷ 6 ∷ [])
-          ∷ entry 1 7 1 (138 ∷ []) ∷ entry 1 7 2 (138 ∷ 139 ∷ []) ∷ entry 1 7 3 (6 ∷ 139 ∷ []) ∷ entry 0 0 1 (9 ∷ []) ∷ [])) [],
-    )
-    -- "with 9: refusal 14"; since document 02's 2.2 the log is emptied: zone 1's entry at its pointer, the closing entry, then the write's own
-    ∷ ("m", logsHold nineUnused 9 [] (concat (entry 1 7 4 (6 ∷ 6 ∷ []) ∷ (encode geo 3 (closing 1 1) ∷ []) ∷ entry 0 0 1 (9 ∷ []) ∷ [])))
+    -- by document 02's shares: with two sectors left the entry is stored behind those of the writes before, with one the answer is 14
+    ∷ ("m", shareLeft twoLeft 2 0 (concat (entry 1 3 1 (114 ∷ []) ∷ entry 1 3 2 (114 ∷ 115 ∷ []) ∷ entry 1 3 3 (6 ∷ 115 ∷ []) ∷ entry 1 7 1 (117 ∷ []) ∷ entry 0 0 1 (9 ∷ []) ∷ [])))
+    ∷ ("m", shareLeft oneLeft 1 14 (concat (entry 1 3 1 (114 ∷ []) ∷ entry 1 3 2 (114 ∷ 115 ∷ []) ∷ entry 1 3 3 (6 ∷ 115 ∷ []) ∷ entry 1 3 4 (6 ∷ 6 ∷ []) ∷ [])))
     ∷ []
 
 -- later ones
 pub moreCases : List Case
 moreCases =
+    -- after a compact: zone 1's entry at its pointer and the closing entry in the new log, and half of what it has unused past eight sectors
+    compacted oneLeft [] (concat (entry 1 3 4 (6 ∷ 6 ∷ []) ∷ (encode geo 3 (closing 1 1) ∷ []) ∷ [])) 10
     -- a fresh zone; five sectors; with the entry torn; with a drive lost
-    shows formatted noDrive Empty
+    ∷ shows formatted noDrive Empty
     ∷ shows (writtenDevice 5) noDrive (Open 5)
     ∷ shows (left (2 ∷ 1 ∷ 1 ∷ 0 ∷ []) 2) noDrive (Sealed 3)
     ∷ shows (writtenDevice 5) 2 (Open 5)

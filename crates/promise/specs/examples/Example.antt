@@ -10,8 +10,9 @@ use Rattle.tables.specs.meaning.Drives.{noDrive}
 use Rattle.tables.specs.meaning.Device.{Device, blankZone, putZone, keepFirst}
 use Rattle.tables.specs.declared.Geometry.{Geometry}
 use Rattle.tables.specs.meaning.Geometry.{geometryOf}
-use Rattle.volume.specs.meaning.State.{StateView}
-use Rattle.volume.specs.meaning.Refusals.{TableLengths}
+use Rattle.volume.specs.meaning.State.{StateView, withShares}
+use Rattle.volume.specs.meaning.Hosts.{freshShares}
+use Rattle.volume.specs.meaning.Refusals.{TableLengths, WriteAsked}
 use Rattle.volume.specs.meaning.Calls.{formatState}
 use Rattle.volume.specs.meaning.Answers.{CallResult, StoringCall, carriedOut, Given, refused, given, formatCall, writeCall}
 use Rattle.volume.specs.meaning.CallContracts.{answerNumber}
@@ -45,26 +46,34 @@ givenNumber (given x) = 0
 abbrev pub blank : Device
 blank d z = blankZone
 
-abbrev pub formattedState : StateView
-formattedState = formatState noDrive
+-- what a format leaves
+abbrev pub afterFormat : CallResult Device StateView
+afterFormat = does (formatCall geo lengths every 7) (formatState noDrive) noStop blank
 
 abbrev pub formatted : Device
-formatted = does (formatCall geo lengths every 7) formattedState noStop blank .memory
+formatted = afterFormat .memory
+
+-- with a share of twelve sectors of each drive's parity log for each host
+abbrev pub formattedState : StateView
+formattedState = withShares (freshShares geo every) (formatState noDrive)
 
 -- n sectors of bytes b
 abbrev pub bytes : ℕ → ℕ → List ℕ
 bytes n b = replicate (n * 64) b
 
--- a write of them at address a
+-- a write of them at address a, by host h
+abbrev pub asked : ℕ → ℕ → ℕ → ℕ → WriteAsked
+asked h a n b = record { host = h; address = a; count = n; buffer = bytes n b }
+
 abbrev pub writing : ℕ → ℕ → ℕ → Call
-writing a n b = writes (record { address = a; count = n; buffer = bytes n b })
+writing a n b = writes (asked 0 a n b)
 
 -- after a write of the first n sectors of zone 0
 abbrev pub writtenState : ℕ → StateView
-writtenState n = does (writeCall geo lengths every formattedState 0 n (bytes n 9)) formattedState noStop formatted .state
+writtenState n = does (writeCall geo lengths every formattedState (asked 0 0 n 9)) formattedState noStop formatted .state
 
 abbrev pub writtenDevice : ℕ → Device
-writtenDevice n = does (writeCall geo lengths every formattedState 0 n (bytes n 9)) formattedState noStop formatted .memory
+writtenDevice n = does (writeCall geo lengths every formattedState (asked 0 0 n 9)) formattedState noStop formatted .memory
 
 -- what a cut keeps: of each drive's zone 3, and of the parity logs
 abbrev pub kept : List ℕ → ℕ → Device → Device
@@ -74,14 +83,14 @@ kept ks p v d y = pick (eqb y 3) (keepFirst (getD ks d 0) (v d y)) (pick (eqb y 
 abbrev pub filled : ℕ → ℕ → ℕ → List ℕ → Device
 filled d z n s = putZone formatted d z (record { sectors = replicate n s; durable = n })
 
--- after writes of so many sectors each, one behind the other from address a on, each of bytes that are its address
+-- after writes of so many sectors each by host 0, one behind the other from address a on, each of bytes that are its address
 abbrev pub writtenOn : List ℕ → ℕ → CallResult Device StateView → CallResult Device StateView
 writtenOn [] a r = r
-writtenOn (n ∷ ns) a r = writtenOn ns (a + n) (does (writeCall geo lengths every (r .state) a n (bytes n a)) (r .state) noStop (r .memory))
+writtenOn (n ∷ ns) a r = writtenOn ns (a + n) (does (writeCall geo lengths every (r .state) (asked 0 a n a)) (r .state) noStop (r .memory))
 
--- the parity log of drive 3 after writes to zone 1, in its stripes 3 and 7: with ten sectors unused, and with nine
-abbrev pub tenUnused : CallResult Device StateView
-tenUnused = writtenOn (18 ∷ 1 ∷ 1 ∷ 1 ∷ 1 ∷ 1 ∷ 19 ∷ 1 ∷ 1 ∷ 1 ∷ []) 96 (does (formatCall geo lengths every 7) formattedState noStop blank)
+-- after writes to zone 1, in its stripes 3 and 7: with two sectors left of host 0's share of drive 3's parity log, and with one
+abbrev pub twoLeft : CallResult Device StateView
+twoLeft = writtenOn (18 ∷ 1 ∷ 1 ∷ 1 ∷ 22 ∷ []) 96 afterFormat
 
-abbrev pub nineUnused : CallResult Device StateView
-nineUnused = writtenOn (18 ∷ 2 ∷ 1 ∷ 1 ∷ 1 ∷ 19 ∷ 1 ∷ 1 ∷ 1 ∷ 1 ∷ []) 96 (does (formatCall geo lengths every 7) formattedState noStop blank)
+abbrev pub oneLeft : CallResult Device StateView
+oneLeft = writtenOn (18 ∷ 1 ∷ 1 ∷ 1 ∷ 1 ∷ []) 96 afterFormat

@@ -10,12 +10,13 @@ use Rattle.volume.specs.meaning.Rules.{viewOf, generalHeads, generalEnding, par
 use Rattle.volume.specs.meaning.State.{callPresent}
 use Rattle.logs.specs.meaning.Copies.{copiedGeneral}
 use Rattle.volume.specs.meaning.Roles.{zoneClaim, strength, rolesIn, driveByRoles}
-use Rattle.volume.specs.meaning.Emptying.{generalCopies, parityCopies, newGeneral, newParity, newGeneralSize, newParitySize, unusedIn, staysFull, emptiedFor, emptiedForWrite, emptyingStores, emptyings, emptyGeneral, emptyParity, writeAll, resetAll, goneForCopies}
+use Rattle.volume.specs.meaning.Emptying.{generalCopies, parityCopies, newGeneral, newParity, newGeneralSize, newParitySize, unusedIn, staysFull, emptiedFor, emptyingStores, emptyings, emptyGeneral, emptyParity, compactStores, writeAll, resetAll, goneForCopies}
+use Rattle.volume.specs.meaning.Hosts.{openZones, zonesOf, overLimit, overOpen, sharesBy}
 use Rattle.volume.specs.meaning.Answers.{lostIn, leftOut, namedDrives, sectorsIn}
-use Rattle.volume.specs.meaning.Refusals.{badPointers, twoLost, badLabels, kindLacks, badLogs, stateWithin, twoAbsent, twoUnnamed, stale, mountFull, resetFull, writeFull, goneIn, goneBefore, goneForEntry, notHeld, formatRows, lookRows, mountRows, writeRows, flushRows, resetRows, readRows, peekRows}
+use Rattle.volume.specs.meaning.Refusals.{badPointers, twoLost, badLabels, kindLacks, badLogs, stateWithin, twoAbsent, twoUnnamed, stale, staleSomewhere, mountFull, resetFull, writeFull, compactFull, goneIn, goneBefore, notHeld, formatRows, lookRows, mountRows, writeRows, flushRows, resetRows, compactRows, readRows, peekRows}
 use Rattle.volume.specs.meaning.Calls.{formatStores, writeStores, zoneContent, writeWith, flushStores, resetStores}
 use Rattle.volume.specs.meaning.Mount.{mountStores, phasesOfLogs, phasesBeforeEntries, phasesOfParityLogs, phasesOfEntries, mountLook, mountShows, afterOpening, spareStep, labelStep, resetEntryStep, zoneResetStep, counterStep, countersDiffer, sealStep, tornRowStep, fillStep, entryStep}
-use Rattle.volume.specs.meaning.CallContracts.{recordsBelow, formatVerdict, formatOn, flushVerdict, flushOn, writeVerdict, writeOn, resetVerdict, resetOn, lookVerdict, lookOn, mountVerdict, storesBefore, parityLogStores, storesToParityLogs, mountStoresOn, mountShownOn, mountOn, readNumber, valuesOn, readOn, peekNumber, peekOn}
+use Rattle.volume.specs.meaning.CallContracts.{recordsBelow, formatVerdict, formatOn, flushVerdict, flushOn, writeVerdict, writeOn, resetVerdict, resetOn, compactVerdict, compactOn, lookVerdict, lookOn, mountVerdict, storesBefore, parityLogStores, storesToParityLogs, mountStoresOn, mountShownOn, mountOn, readNumber, valuesOn, readOn, peekNumber, peekOn}
 
 -- geometry and placement
 unfoldable pub placementOpen : Bool
@@ -38,16 +39,21 @@ unfolding zoneClaim strength rolesIn driveByRoles
 rolesOpen = true
 
 unfoldable pub emptyingOpen : Bool
-unfolding copiedGeneral generalCopies parityCopies newGeneral newParity newGeneralSize newParitySize unusedIn staysFull emptiedFor emptiedForWrite emptyingStores emptyings emptyGeneral emptyParity writeAll resetAll goneForCopies
+unfolding copiedGeneral generalCopies parityCopies newGeneral newParity newGeneralSize newParitySize unusedIn staysFull emptiedFor emptyingStores emptyings emptyGeneral emptyParity compactStores writeAll resetAll goneForCopies
 emptyingOpen = true
+
+-- two hosts
+unfoldable pub hostsOpen : Bool
+unfolding openZones zonesOf overLimit overOpen sharesBy
+hostsOpen = true
 
 -- refusals
 unfoldable pub refusalsOpen : Bool
-unfolding lengthsFit bufferFits badPointers twoLost badLabels kindLacks badLogs stateWithin twoAbsent twoUnnamed stale mountFull resetFull writeFull goneIn goneBefore goneForEntry notHeld
+unfolding lengthsFit bufferFits badPointers twoLost badLabels kindLacks badLogs stateWithin twoAbsent twoUnnamed stale staleSomewhere mountFull resetFull writeFull compactFull goneIn goneBefore notHeld
 refusalsOpen = true
 
 unfoldable pub refusalRowsOpen : Bool
-unfolding formatRows lookRows mountRows writeRows flushRows resetRows readRows peekRows
+unfolding formatRows lookRows mountRows writeRows flushRows resetRows compactRows readRows peekRows
 refusalRowsOpen = true
 
 -- the calls' stores, and what they hand on
@@ -62,11 +68,11 @@ mountOpen = true
 
 -- ---- a case on the device, and one on the tables
 unfoldable pub deviceOpen : Bool
-unfolding placementOpen entriesOpen rulesOpen rolesOpen emptyingOpen refusalsOpen refusalRowsOpen storesOpen mountOpen
+unfolding placementOpen entriesOpen rulesOpen rolesOpen emptyingOpen hostsOpen refusalsOpen refusalRowsOpen storesOpen mountOpen
 deviceOpen = true
 
 unfoldable pub contractsOpen : Bool
-unfolding recordsBelow formatVerdict formatOn flushVerdict flushOn writeVerdict writeOn resetVerdict resetOn lookVerdict lookOn mountVerdict storesBefore parityLogStores storesToParityLogs mountStoresOn mountShownOn mountOn readNumber valuesOn readOn peekNumber peekOn
+unfolding recordsBelow formatVerdict formatOn flushVerdict flushOn writeVerdict writeOn resetVerdict resetOn compactVerdict compactOn lookVerdict lookOn mountVerdict storesBefore parityLogStores storesToParityLogs mountStoresOn mountShownOn mountOn readNumber valuesOn readOn peekNumber peekOn
 contractsOpen = true
 
 unfoldable pub tablesOpen : Bool

@@ -1,21 +1,17 @@
--- What an accepted call meets of the logs that it asks for room: each has that room, or it is emptied, and the new log has it. (WriteOk and
--- ResetOk ask for the room as things stand: so they do once the logs are emptied. r: the drives' roles; w: the device by them; f: what is in force.)
+-- What an accepted call that may empty logs meets of those that it asks for room: each has that room, or it is emptied, and the new log has it. (ResetOk asks
+-- for the room as things stand: so it is once the logs are emptied. r: the drives' roles; w: the device by them; f: what is in force.)
 use mathlib.Core.Path.{_≡_}
-use mathlib.Core.Bool.{Bool, true, false, _&&_}
-use Prim.Native.Nat.{ℕ, zero, _+_, _≤_, _<_}
-use mathlib.Core.List.{List, []}
+use mathlib.Core.Bool.{Bool, true, false}
+use Prim.Native.Nat.{ℕ, _+_, _≤_, _<_}
+use mathlib.Core.List.{[]}
 use lib.ListN.{length}
-use lib.Dec.{eqb}
 use Rattle.tables.specs.meaning.Device.{Device}
 use Rattle.tables.specs.declared.Geometry.{Geometry}
-use Rattle.tables.specs.meaning.Geometry.{zoneSectors}
 use Rattle.logs.specs.meaning.Entry.{wornGeneration, spareZone, kindOfLog}
-use Rattle.volume.specs.meaning.State.{pointerIn, StateView}
-use Rattle.volume.specs.meaning.Content.{at, insideStripe, parityDriveAt}
+use Rattle.volume.specs.meaning.State.{StateView}
 use Rattle.volume.specs.meaning.Rules.{generalHeads}
 use Rattle.volume.specs.meaning.Roles.{Roles, claimOfKind, lacksKind}
-use Rattle.volume.specs.meaning.Emptying.{InForce, newGeneralSize, newParitySize, reserve, mountGeneralLimit, resetLimit, writeLimit, emptiedFor, emptiedForWrite, goneForCopies}
-use Rattle.promise.specs.invariant.Obligations.{Writable}
+use Rattle.volume.specs.meaning.Emptying.{InForce, newGeneralSize, newParitySize, reserve, mountGeneralLimit, resetLimit, emptiedFor}
 
 -- a drive with these roles: its log of the kind can be emptied, and limit sectors are unused then (size: of the new log)
 pub record Emptiable (g : Geometry) (par : Bool) (r : Roles) (limit size : ℕ) : Type 0 where
@@ -42,22 +38,11 @@ pub record ResetAccepted (g : Geometry) (present : ℕ → Bool) (r : ℕ → Ro
   pub logs : RoomAsked g false r w present (emptiedFor g present false r w (resetLimit g)) (resetLimit g) (generalSizes g f w)
   pub blank : SparesBlank w (emptiedFor g present false r w (resetLimit g))
 
--- ---- a write of ss at the pointer of zone z (refusals 2, 8, 9, 11, 12, 14, 15): it asks one drive, if it ends inside a stripe
-abbrev pub askedByWrite : Geometry → (ℕ → Bool) → ℕ → ℕ → ℕ → Bool
-askedByWrite g present z end d = (insideStripe g end && eqb d (parityDriveAt g z end)) && present d
-
-abbrev pub endOf : StateView → ℕ → List (List ℕ) → ℕ
-endOf state z ss = pointerIn (state .condition z) + length ss
-
-pub record WriteAccepted (g : Geometry) (present : ℕ → Bool) (r : ℕ → Roles) (w : Device) (f : InForce) (state : StateView) (z : ℕ) (ss : List (List ℕ)) : Type 0 where
-  pub zone-ok : z < g .zones
-  pub writable : Writable (state .condition z)
-  pub some : zero < length ss
-  pub run : endOf state z ss ≤ zoneSectors g
-  pub sizes : (a : ℕ) → a < length ss → length (at ss a) ≡ g .sector
-  pub logs : RoomAsked g true r w (askedByWrite g present z (endOf state z ss)) (emptiedForWrite g present r w z (endOf state z ss)) (writeLimit g (endOf state z ss)) (newParitySize g f)
-  pub blank : SparesBlank w (emptiedForWrite g present r w z (endOf state z ss))
-  pub known : (d : ℕ) → emptiedForWrite g present r w z (endOf state z ss) d ≡ true → goneForCopies g present f w d ≡ false
+-- ---- a compact of drive d (refusals 8, 14)
+pub record CompactAccepted (g : Geometry) (present : ℕ → Bool) (r : ℕ → Roles) (w : Device) (f : InForce) (d : ℕ) : Type 0 where
+  pub here : present d ≡ true
+  pub log : Emptiable g true (r d) (reserve g) (newParitySize g f d)
+  pub blank : w d spareZone .sectors ≡ []
 
 -- ---- a mount (refusal 14)
 pub record MountAccepted (g : Geometry) (present : ℕ → Bool) (r : ℕ → Roles) (w : Device) (f : InForce) : Type 0 where

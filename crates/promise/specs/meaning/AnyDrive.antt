@@ -38,7 +38,7 @@ module _ (g : Geometry) (vol : Volume) where
 
   -- ---- the look that names some, at s: it is accepted, tells of the zones what a state says (handed), and shows what was shown (k)
   pub record LooksAs (k : Shown) (handed : vol .State) (s : System vol) (some : vol .Names) : Type 0 where
-    pub accepted : vol .look some (s .state) (s .memory) ≡ record { answer = Finished; memory = s .memory; state = vol .stateOf (vol .shows some (s .memory) (s .memory)) }
+    pub accepted : vol .look some (s .state) (s .memory) ≡ record { answer = Finished; memory = s .memory; state = vol .stateOf some (s .memory) (s .memory) }
     pub zones : SameZones g (vol .view (vol .look some (s .state) (s .memory) .state)) (vol .view handed)
     pub shown : ShowsAlike g k (vol .shows some (s .memory) (s .memory))
 

@@ -72,9 +72,10 @@ module _ (vol : Volume) (k : Caches vol) where
     Listing = vol .Listing;
     report = vol .report;
     shows = λ named m n. vol .shows named (m .memory) (n .memory);
-    stateOf = vol .stateOf;
+    stateOf = λ named m n. vol .stateOf named (m .memory) (n .memory);
     finishedReport = vol .finishedReport;
     view = vol .view;
+    seen = λ m. vol .seen (m .memory);
     CutTo = CachesCut;
     LossTo = CachesLoss;
   }

@@ -12,12 +12,12 @@ use Rattle.tables.specs.meaning.Geometry.{physicalZones}
 use Rattle.tables.specs.meaning.Tables.{Tables, cell, sectorAt, deviceOf}
 use Rattle.volume.specs.declared.State.{State}
 use Rattle.volume.specs.meaning.State.{callPresent}
-use Rattle.volume.specs.meaning.Refusals.{zoneOf}
+use Rattle.volume.specs.meaning.Refusals.{zoneAsked}
 use Rattle.volume.specs.meaning.Calls.{flushStores, formatStores}
-use Rattle.volume.specs.meaning.Emptying.{writeAll, resetAll}
+use Rattle.volume.specs.meaning.Emptying.{writeAll, resetAll, compactStores}
 use Rattle.volume.specs.meaning.Answers.{leftOut, namedDrives, sectorsIn, presentIn, lostDriveIn}
-use Rattle.volume.specs.meaning.CallContracts.{viewState, isSet, rolesOf, seenIn, flushVerdict, resetVerdict, writeVerdict, formatVerdict, mountVerdict, mountStoresOn}
-use Rattle.promise.specs.meaning.Claim.{Call, mounts, writes, flushes, resets, formats, Volume, KeepsPromise}
+use Rattle.volume.specs.meaning.CallContracts.{viewState, isSet, rolesOf, seenIn, flushVerdict, resetVerdict, writeVerdict, formatVerdict, compactVerdict, mountVerdict, mountStoresOn}
+use Rattle.promise.specs.meaning.Claim.{Call, mounts, writes, flushes, resets, formats, compacts, Volume, KeepsPromise}
 use Rattle.promise.specs.meaning.OnTables.{onTables}
 use Rattle.promise.specs.meaning.Caches.{Remembered, madeBy, Caches, withCaches}
 
@@ -46,11 +46,12 @@ pub record TablesCachingCut (g : Geometry) (x : ℕ) (t : Tables) (was : Remembe
 abbrev pub madeOn : Geometry → Call → List Bool → State → ℕ → Tables → List Store
 madeOn g mounts named state stop t = madeBy (mountVerdict g named t) (mountStoresOn g (presentIn g (isSet named) (deviceOf g t)) (lostDriveIn g (isSet named) (deviceOf g t)) t) stop
 madeOn g (writes w) named state stop t =
-    madeBy (writeVerdict g named state (w .address) (w .count) (length (w .buffer)) t)
-    (writeAll g (callPresent g (isSet named) (viewState state)) (rolesOf g t) (seenIn g t) (viewState state) (zoneOf g (w .address)) (sectorsIn g (w .count) (w .buffer))) stop
+    madeBy (writeVerdict g named state w t)
+    (writeAll g (callPresent g (isSet named) (viewState state)) (rolesOf g t) (seenIn g t) (viewState state) (zoneAsked g w) (sectorsIn g (w .count) (w .buffer))) stop
 madeOn g flushes named state stop t = madeBy (flushVerdict g named state t) (flushStores g (callPresent g (isSet named) (viewState state))) stop
 madeOn g (resets z) named state stop t = madeBy (resetVerdict g named state z t) (resetAll g (callPresent g (isSet named) (viewState state)) (rolesOf g t) (seenIn g t) (viewState state) z) stop
 madeOn g (formats array) named state stop t = madeBy (formatVerdict g named t) (formatStores g (namedDrives g (isSet named)) (leftOut g (isSet named)) array) stop
+madeOn g (compacts d) named state stop t = madeBy (compactVerdict g named state d t) (compactStores g (callPresent g (isSet named) (viewState state)) (rolesOf g t) (seenIn g t) (viewState state) d) stop
 
 abbrev pub tablesCaches : (g : Geometry) → Caches (onTables g)
 tablesCaches g = record {

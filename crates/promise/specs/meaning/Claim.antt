@@ -10,6 +10,7 @@ use lib.ListN.{length}
 use lib.Dec.{eqb}
 use Rattle.tables.specs.meaning.Below.{tabulateFrom}
 use Rattle.tables.specs.meaning.Lists.{concat}
+use Rattle.tables.specs.meaning.Device.{Device}
 use Rattle.tables.specs.meaning.Drives.{noDrive}
 use Rattle.tables.specs.meaning.Placement.{driveOf}
 use Rattle.tables.specs.declared.Geometry.{Geometry}
@@ -17,28 +18,26 @@ use Rattle.tables.specs.meaning.Geometry.{zoneSectors}
 use Rattle.logs.specs.meaning.Entry.{wornGeneration}
 use Rattle.volume.specs.declared.Answer.{Answer}
 use Rattle.volume.specs.declared.Answer.the-variants.{Finished, Unfinished, Refused, BadLog}
-use Rattle.volume.specs.declared.Condition.{Condition}
-use Rattle.volume.specs.meaning.State.{StateView, pointerIn, isSealed, isWorn}
-use Rattle.volume.specs.meaning.Content.{at}
+use Rattle.volume.specs.meaning.State.{StateView, pointerIn, isSealed, isWorn, hosts, shareAt}
+use Rattle.volume.specs.meaning.Content.{at, insideStripe, parityDriveAt}
+use Rattle.volume.specs.meaning.Roles.{roles, byRoles}
+use Rattle.volume.specs.meaning.Emptying.{unusedIn, reserve, entrySize}
+use Rattle.volume.specs.meaning.Hosts.{overLimit, overOpen, shareLeft}
 use Rattle.volume.specs.meaning.Rules.{Shown}
-use Rattle.volume.specs.meaning.Refusals.{zoneOf, offsetOf}
+use Rattle.volume.specs.meaning.Refusals.{WriteAsked, zoneOf, offsetOf, zoneAsked, endAsked}
 use Rattle.volume.specs.meaning.Answers.{CallResult, leftOut, sectorsIn, placeOf}
 use Rattle.volume.specs.meaning.CallContracts.{ReadResult, byteOf}
 use Rattle.volume.specs.meaning.Report.{ReportResult}
-use Rattle.promise.specs.meaning.Ledger.{Ledger, freshLedger, Reply, isRefused, isUnfinished, isFinished, LedgerNote, noteWrite, noteFlush, noteReset, noteMount, noteFormat, noted, Fits}
+use Rattle.promise.specs.meaning.Ledger.{Ledger, freshLedger, Reply, isRefused, isUnfinished, isFinished, LedgerNote, noteWrite, noteFlush, noteReset, noteMount, noteFormat, noteCompact, noted, Fits}
 
 -- ==== the calls that store
-pub record WriteAsked : Type 0 where
-  pub address : ℕ
-  pub count : ℕ  -- of sectors
-  pub buffer : List ℕ
-
 pub data Call : Type 0 where
   mounts : Call
   writes : WriteAsked → Call
   flushes : Call
   resets : ℕ → Call  -- zone
   formats : ℕ → Call  -- array number
+  compacts : ℕ → Call  -- drive
 
 -- ==== a volume: what its memory is and what the host holds, and what each call leaves and gives
 pub record Peeked : Type 0 where
@@ -58,9 +57,10 @@ pub record Volume : Type 1 where
   pub Listing : Type 0  -- what the host lends for a report
   pub report : State → Listing → ReportResult Listing
   pub shows : Names → Memory → Memory → Shown  -- what the drives that a look finds present in the first memory show in the second
-  pub stateOf : Shown → State  -- the state that hands on what is shown
+  pub stateOf : Names → Memory → Memory → State  -- the state that hands on what those drives show there, with the shares by their logs there
   pub finishedReport : Shown → Listing → ReportResult Listing  -- the finished report that tells the conditions shown
-  pub view : State → StateView  -- as the rules see it: the drive that is lost, the zones' generations and conditions
+  pub view : State → StateView  -- as the rules see it: the drive that is lost, the zones' generations, conditions and owners, the shares
+  pub seen : Memory → Device  -- the device that a memory stands for
   pub CutTo : ℕ → Memory → Memory → Type 0  -- what a power cut may leave, while a drive is lost
   pub LossTo : ℕ → Memory → Memory → Type 0  -- what the loss of a drive may leave: of that drive anything
 
@@ -109,10 +109,11 @@ modeAfter (BadLog b) m = m
 -- what the ledger is told of a call that shows k when it has finished
 abbrev pub noteOf : Geometry → Call → Shown → Reply → LedgerNote
 noteOf g mounts k r = noteMount k r
-noteOf g (writes w) k r = noteWrite (zoneOf g (w .address)) (sectorsIn g (w .count) (w .buffer)) r
+noteOf g (writes w) k r = noteWrite (zoneAsked g w) (sectorsIn g (w .count) (w .buffer)) r
 noteOf g flushes k r = noteFlush r
 noteOf g (resets z) k r = noteReset z r
 noteOf g (formats array) k r = noteFormat r
+noteOf g (compacts d) k r = noteCompact r
 
 module _ (g : Geometry) (vol : Volume) where
   -- after a call with this result
@@ -172,6 +173,7 @@ MayCome (writes w) m = m ≡ ready
 MayCome flushes m = m ≡ ready
 MayCome (resets z) m = m ≡ ready
 MayCome (formats array) m = m ≡ ready
+MayCome (compacts d) m = m ≡ ready
 
 abbrev pub NotStopped : Answer → Type 0
 NotStopped Finished = Unit {0}
@@ -186,6 +188,7 @@ Completes (writes w) a = Unit {0}
 Completes flushes a = Unit {0}
 Completes (resets z) a = Unit {0}
 Completes (formats array) a = (array < 256 ^ 8) × NotStopped a
+Completes (compacts d) a = Unit {0}
 
 module _ (g : Geometry) (vol : Volume) where
   -- (a cut does what document 01 says of it; no more than one drive is lost, and of its memory anything may become, then and later)
@@ -231,30 +234,50 @@ pub data ResetRefusal (g : Geometry) (generation z n : ℕ) : Type 0 where
   wornOut : n ≡ 12 → wornGeneration ≤ generation → ResetRefusal g generation z n
   generalLogFull : n ≡ 14 → ResetRefusal g generation z n
 
--- and a write (held: the zone's condition, as the host holds it)
-pub data WriteRefusal (g : Geometry) (held : Condition) (w : WriteAsked) (n : ℕ) : Type 0 where
-  bufferLength : n ≡ 2 → length (w .buffer) ≢ w .count * g .sector → WriteRefusal g held w n
-  noSuchAddress : n ≡ 8 → g .zones ≤ zoneOf g (w .address) → WriteRefusal g held w n
-  noSectors : n ≡ 9 → w .count ≡ zero → WriteRefusal g held w n
-  pastTheEnd : n ≡ 9 → zoneSectors g < offsetOf g (w .address) + w .count → WriteRefusal g held w n
-  notAtPointer : n ≡ 10 → offsetOf g (w .address) ≢ pointerIn held → WriteRefusal g held w n
-  sealedZone : n ≡ 11 → isSealed held ≡ true → WriteRefusal g held w n
-  wornZone : n ≡ 12 → isWorn held ≡ true → WriteRefusal g held w n
-  parityLogFull : n ≡ 14 → WriteRefusal g held w n
+-- a write's entry is larger than what is left of its host's share of the drive that gets it, which is there (x: the lost drive; held: the state)
+pub record PastShare (g : Geometry) (x : ℕ) (held : StateView) (w : WriteAsked) : Type 0 where
+  pub ends-inside : insideStripe g (endAsked g held w) ≡ true
+  pub drive-there : allBut x (parityDriveAt g (zoneAsked g w) (endAsked g held w)) ≡ true
+  pub larger : shareLeft g held (w .host) (zoneAsked g w) (endAsked g held w) < entrySize g (endAsked g held w)
+
+-- and why a write may be refused
+pub data WriteRefusal (g : Geometry) (x : ℕ) (held : StateView) (w : WriteAsked) (n : ℕ) : Type 0 where
+  bufferLength : n ≡ 2 → length (w .buffer) ≢ w .count * g .sector → WriteRefusal g x held w n
+  noSuchAddress : n ≡ 8 → g .zones ≤ zoneAsked g w → WriteRefusal g x held w n
+  noSuchHost : n ≡ 8 → hosts ≤ w .host → WriteRefusal g x held w n
+  noSectors : n ≡ 9 → w .count ≡ zero → WriteRefusal g x held w n
+  pastTheEnd : n ≡ 9 → zoneSectors g < offsetOf g (w .address) + w .count → WriteRefusal g x held w n
+  notAtPointer : n ≡ 10 → offsetOf g (w .address) ≢ pointerIn (held .condition (zoneAsked g w)) → WriteRefusal g x held w n
+  sealedZone : n ≡ 11 → isSealed (held .condition (zoneAsked g w)) ≡ true → WriteRefusal g x held w n
+  wornZone : n ≡ 12 → isWorn (held .condition (zoneAsked g w)) ≡ true → WriteRefusal g x held w n
+  hostAtLimit : n ≡ 18 → overLimit g held (w .host) (zoneAsked g w) (endAsked g held w) ≡ true → WriteRefusal g x held w n
+  noMoreOpen : n ≡ 19 → overOpen g held (zoneAsked g w) (endAsked g held w) ≡ true → WriteRefusal g x held w n
+  shareUsed : n ≡ 14 → PastShare g x held w → WriteRefusal g x held w n
+
+-- and a compact of drive d
+pub data CompactRefusal (g : Geometry) (x d n : ℕ) : Type 0 where
+  notPresent : n ≡ 8 → (g .drives ≤ d) ⊎ (d ≡ x) → CompactRefusal g x d n
+  parityLogFull : n ≡ 14 → CompactRefusal g x d n
+
+-- what is left of both hosts' shares of drive d fits its parity log beside the reserve, or nothing is left (v: the device)
+abbrev pub SharesFit : Geometry → Device → StateView → ℕ → Type 0
+SharesFit g v state d =
+    (reserve g + (state .share (shareAt d 0) + state .share (shareAt d 1)) ≤ unusedIn g true (roles g v) (byRoles g v) d)
+    ⊎ ((state .share (shareAt d 0) ≡ 0) × (state .share (shareAt d 1) ≡ 0))
 
 pub record Promise (g : Geometry) (vol : Volume) (s : System vol) : Type 0 where
   -- "Look: the zones it shows must fit." No look is refused; its state is what is shown; and what is shown fits
   pub look-fits : (named : vol .Names) → NamesAll g vol s named
-      → (vol .look named (s .state) (s .memory) ≡ record { answer = Finished; memory = s .memory; state = vol .stateOf (vol .shows named (s .memory) (s .memory)) })
+      → (vol .look named (s .state) (s .memory) ≡ record { answer = Finished; memory = s .memory; state = vol .stateOf named (s .memory) (s .memory) })
       × Fits g (s .ledger) (vol .shows named (s .memory) (s .memory))
   -- "Finished mount: the same"
   pub mount-fits : (named : vol .Names) → NamesAll g vol s named → MayMount (s .mode) → (stop : ℕ) → heard s (calls mounts named stop) ≡ answered Finished
-      → let t = next g vol s (calls mounts named stop) in let k = vol .shows named (s .memory) (t .memory) in (t .state ≡ vol .stateOf k) × Fits g (s .ledger) k
+      → let t = next g vol s (calls mounts named stop) in (t .state ≡ vol .stateOf named (s .memory) (t .memory)) × Fits g (s .ledger) (vol .shows named (s .memory) (t .memory))
   -- a mount is refused by 14, log full, alone: it meets no bad place of a log, so never 6, 16 or 17
   pub mount-refused : (named : vol .Names) → NamesAll g vol s named → (stop : ℕ) (a : Answer) → heard s (calls mounts named stop) ≡ answered a → RefusedOnly (λ n. n ≡ 14) a
   -- between finished calls the state's pointers are the lengths of the contents
   pub pointer-is : s .mode ≡ ready → (z : ℕ) → z < g .zones → pointerHeld vol (s .state) z ≡ length (s .ledger .content z)
-  -- and a look's state says of every zone what the host's says, and the drive that is lost
+  -- and a look's state says of every zone what the host's says, but for its owner, and the drive that is lost
   pub look-holds : (named : vol .Names) → NamesAll g vol s named → s .mode ≡ ready
       → let told = vol .view (vol .look named (s .state) (s .memory) .state) in (told .lost ≡ s .lost) × SameZones g told (vol .view (s .state))
   -- so it serves for whatever stores nothing
@@ -264,7 +287,13 @@ pub record Promise (g : Geometry) (vol : Volume) (s : System vol) : Type 0 where
   pub reset-refused : (named : vol .Names) → NamesAll g vol s named → s .mode ≡ ready → (z stop : ℕ) (a : Answer) → heard s (calls (resets z) named stop) ≡ answered a
       → RefusedOnly (ResetRefusal g (vol .view (s .state) .generation z) z) a
   pub write-refused : (named : vol .Names) → NamesAll g vol s named → s .mode ≡ ready → (w : WriteAsked) (stop : ℕ) (a : Answer) → heard s (calls (writes w) named stop) ≡ answered a
-      → RefusedOnly (WriteRefusal g (vol .view (s .state) .condition (zoneOf g (w .address))) w) a
+      → RefusedOnly (WriteRefusal g (s .lost) (vol .view (s .state)) w) a
+  -- a write is refused where its entry is larger than what is left of its host's share: so for 14 there and nowhere else
+  pub share-asked : (named : vol .Names) → NamesAll g vol s named → s .mode ≡ ready → (w : WriteAsked) → PastShare g (s .lost) (vol .view (s .state)) w → (stop : ℕ)
+      → (heard s (calls (writes w) named stop) ≢ answered Finished) × (heard s (calls (writes w) named stop) ≢ answered Unfinished)
+  pub compact-refused : (named : vol .Names) → NamesAll g vol s named → s .mode ≡ ready → (d stop : ℕ) (a : Answer) → heard s (calls (compacts d) named stop) ≡ answered a → RefusedOnly (CompactRefusal g (s .lost) d) a
+  -- and the shares fit the logs
+  pub shares-fit : s .mode ≡ ready → (d : ℕ) → d < g .drives → allBut (s .lost) d ≡ true → SharesFit g (vol .seen (s .memory)) (vol .view (s .state)) d
   -- an accepted read leaves the content in the buffer, and a read below the pointer is accepted
   pub read-gives : (named : vol .Names) → NamesAll g vol s named → s .mode ≡ ready → (a count : ℕ) (out bytes : List ℕ) → heard s (reads named a count out) ≡ readOut Finished bytes
       → (offsetOf g a + count ≤ length (s .ledger .content (zoneOf g a))) × (bytes ≡ contentBytes (s .ledger) (zoneOf g a) (offsetOf g a) count)

@@ -8,7 +8,7 @@ use mathlib.Core.Bool.{Bool, true, false, _&&_}
 use Prim.Native.Nat.{ℕ, _+_, _^_, _≤_, _<_}
 use mathlib.Core.List.{List, [], _++_, map}
 use lib.ListN.{length}
-use lib.Dec.{ltb}
+use lib.Dec.{ltb, eqb}
 use Rattle.tables.specs.declared.Geometry.{Geometry}
 use Rattle.tables.specs.meaning.Drives.{noDrive, presentBut}
 use Rattle.tables.specs.meaning.Lists.{concat}
@@ -16,15 +16,15 @@ use Rattle.tables.specs.meaning.Phases.{onPresent}
 use Rattle.tables.specs.meaning.Through.{through, carry}
 use Rattle.tables.specs.meaning.Device.{Device, Store}
 use Rattle.tables.specs.meaning.Tables.{deviceOf}
-use Rattle.volume.specs.meaning.State.{StateView, pointerIn}
+use Rattle.volume.specs.meaning.State.{StateView}
 use Rattle.volume.specs.meaning.Rules.{Shown}
 use Rattle.volume.specs.meaning.Calls.{flushStores}
 use Rattle.volume.specs.meaning.Roles.{roles, byRoles, placedBy}
 use Rattle.volume.specs.meaning.Mount.{withFlush, spareStep, mountView, mountLook, startRoles, emptiedGeneral, emptiedParity, middleRoles, phasesBeforeEntries, afterFill}
-use Rattle.volume.specs.meaning.Emptying.{byLook, byState, resetLimit, emptiedFor, emptiedForWrite, emptyGeneral, emptyParity, isMade}
-use Rattle.volume.specs.meaning.Refusals.{TableLengths, zoneOf}
+use Rattle.volume.specs.meaning.Emptying.{byLook, byState, resetLimit, emptiedFor, emptyGeneral, emptyParity, isMade}
+use Rattle.volume.specs.meaning.Refusals.{TableLengths}
 use Rattle.volume.specs.declared.Answer.the-variants.{Finished, Unfinished}
-use Rattle.promise.specs.meaning.Claim.{Call, WriteAsked, mounts, writes, resets, formats, Volume, System, NamesAll, MayMount, Event, Dutiful, start, allBut, ready}
+use Rattle.promise.specs.meaning.Claim.{Call, mounts, resets, formats, compacts, Volume, System, NamesAll, MayMount, Event, Dutiful, start, allBut, ready}
 use Rattle.promise.specs.meaning.Histories.{AtEveryPoint, ShowsAlike}
 use Rattle.promise.specs.meaning.Caches.{onCachingDevice}
 use Rattle.promise.specs.meaning.CachesOnTables.{onCachingTables}
@@ -69,16 +69,15 @@ pub record UnderWay (g : Geometry) (x : ℕ) (E : Emptyings) (d n : ℕ) : Type 
   pub not-next : (e : ℕ) → e < g .drives → d < e → E .emptied e ≡ true → n ≤ flushEnd g x E e
   pub not-done : n ≤ emptyingsEnd E
 
--- ---- those of each call (x: the lost drive; v: the device at its start). A write, of the parity log that its entry goes to, and a reset, of general logs: their first
--- stores (Emptying's writeAll, resetAll)
-abbrev pub emptyingsOfWrite : Geometry → ℕ → Device → StateView → WriteAsked → Emptyings
-emptyingsOfWrite g x v state w =
+-- ---- those of each call (x: the lost drive; v: the device at its start). A compact, of the parity log of the drive that it names: all its stores; and a reset, of general
+-- logs: its first stores (Emptying's compactStores, resetAll)
+abbrev pub emptyingsOfCompact : Geometry → ℕ → Device → StateView → ℕ → Emptyings
+emptyingsOfCompact g x v state d =
     let here = presentBut g x in
     let u = byRoles g v in
-    let z = zoneOf g (w .address) in
     record {
       before = [];
-      emptied = emptiedForWrite g here (roles g v) u z (pointerIn (state .condition z) + w .count);
+      emptied = λ e. eqb e d;
       storesOf = λ some. emptyParity g here (roles g v) (byState g here u state) some u;
     }
 
@@ -136,8 +135,8 @@ module _ (g : Geometry) (vol : Volume) where
 
 -- (seen: the device that a memory stands for)
 pub record EmptyingsKeepLooks (g : Geometry) (vol : Volume) (seen : vol .Memory → Device) (s : System vol) : Type 0 where
-  pub of-write : (named : vol .Names) → NamesAll g vol s named → s .mode ≡ ready → (w : WriteAsked)
-      → KeepsLooks g vol s (writes w) named (emptyingsOfWrite g (s .lost) (seen (s .memory)) (vol .view (s .state)) w) (λ d. ShowsAlike g)
+  pub of-compact : (named : vol .Names) → NamesAll g vol s named → s .mode ≡ ready → (d : ℕ)
+      → KeepsLooks g vol s (compacts d) named (emptyingsOfCompact g (s .lost) (seen (s .memory)) (vol .view (s .state)) d) (λ d. ShowsAlike g)
   pub of-reset : (named : vol .Names) → NamesAll g vol s named → s .mode ≡ ready → (z : ℕ)
       → KeepsLooks g vol s (resets z) named (emptyingsOfReset g (s .lost) (seen (s .memory)) (vol .view (s .state))) (λ d. ShowsAlike g)
   pub of-mount : (named : vol .Names) → NamesAll g vol s named → MayMount (s .mode) → KeepsLooks g vol s mounts named (emptyingsOfMount g (s .lost) (seen (s .memory))) (λ d. ShowsAlike g)

@@ -55,6 +55,7 @@ pub data LedgerNote : Type 0 where
   noteReset : ℕ → Reply → LedgerNote
   noteMount : Shown → Reply → LedgerNote  -- what it shows when it has finished
   noteFormat : Reply → LedgerNote
+  noteCompact : Reply → LedgerNote
 
 abbrev pub noted : Ledger → LedgerNote → Ledger
 noted l (noteWrite z ss isRefused) = l
@@ -72,6 +73,7 @@ noted l (noteMount k isFinished) = afterMount k
 noted l (noteFormat isRefused) = l
 noted l (noteFormat isUnfinished) = l
 noted l (noteFormat isFinished) = freshLedger
+noted l (noteCompact r) = l
 
 -- ==== "A zone shown at pointer n fits if n reaches the mark and its sectors are the sound's first n, or n is 0 and the flag up."
 pub record Reaches (content : List (List ℕ)) (committed : ℕ) (s : ZoneShown) : Type 0 where

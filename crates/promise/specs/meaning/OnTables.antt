@@ -9,19 +9,19 @@ use Rattle.volume.specs.declared.State.{State}
 use Rattle.volume.specs.declared.Outcome.{Outcome}
 use Rattle.volume.specs.declared.ZoneDescriptor.{ZoneDescriptor}
 use Rattle.volume.specs.meaning.Rules.{Shown}
-use Rattle.volume.specs.meaning.Mount.{mountState}
 use Rattle.volume.specs.meaning.Answers.{CallResult}
-use Rattle.volume.specs.meaning.CallContracts.{viewState, isSet, Result, flushOn, resetOn, writeOn, formatOn, lookOn, stateHeld, mountOn, readOn, peekNumber, peekFrom, peekOn}
+use Rattle.volume.specs.meaning.CallContracts.{viewState, isSet, Result, flushOn, resetOn, writeOn, formatOn, compactOn, lookOn, stateHeld, mountOn, readOn, peekNumber, peekFrom, peekOn}
 use Rattle.volume.specs.meaning.Report.{reportOn}
-use Rattle.promise.specs.meaning.Claim.{Call, mounts, writes, flushes, resets, formats, Volume, KeepsPromise}
-use Rattle.promise.specs.meaning.OnDevice.{shownBy, reportShown}
+use Rattle.promise.specs.meaning.Claim.{Call, mounts, writes, flushes, resets, formats, compacts, Volume, KeepsPromise}
+use Rattle.promise.specs.meaning.OnDevice.{shownBy, stateShown, reportShown}
 
 abbrev pub resultOn : Geometry → Call → List Bool → State → ℕ → Tables → Result
 resultOn g mounts named state stop t = mountOn g named state stop t
-resultOn g (writes w) named state stop t = writeOn g named state (w .address) (w .count) (w .buffer) stop t
+resultOn g (writes w) named state stop t = writeOn g named state w stop t
 resultOn g flushes named state stop t = flushOn g named state stop t
 resultOn g (resets z) named state stop t = resetOn g named state z stop t
 resultOn g (formats array) named state stop t = formatOn g named array state stop t
+resultOn g (compacts d) named state stop t = compactOn g named state d stop t
 
 abbrev pub resultOf : Outcome → Tables → CallResult Tables State
 resultOf o t = record { answer = o .answer; memory = t; state = o .state }
@@ -46,9 +46,10 @@ onTables g = record {
   Listing = List ZoneDescriptor;
   report = λ state list. reportOn g (viewState state) list;
   shows = shownIn g;
-  stateOf = λ k. stateHeld (g .zones) (mountState k);
+  stateOf = λ named t u. stateHeld (g .zones) (stateShown g (isSet named) (deviceOf g t) (deviceOf g u));
   finishedReport = reportShown g;
   view = viewState;
+  seen = deviceOf g;
   CutTo = TablesCut g;
   LossTo = TablesLoss g;
 }

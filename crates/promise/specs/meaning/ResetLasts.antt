@@ -8,10 +8,10 @@ use Rattle.tables.specs.meaning.Basics.{pick}
 use Rattle.tables.specs.meaning.Lists.{concat}
 use Rattle.tables.specs.declared.Geometry.{Geometry}
 use Rattle.volume.specs.declared.Answer.the-variants.{Finished}
-use Rattle.volume.specs.meaning.Refusals.{zoneOf}
+use Rattle.volume.specs.meaning.Refusals.{zoneOf, zoneAsked}
 use Rattle.volume.specs.meaning.Answers.{sectorsIn}
 use Rattle.promise.specs.meaning.Ledger.{Reply, isRefused, isUnfinished, isFinished}
-use Rattle.promise.specs.meaning.Claim.{Call, mounts, writes, flushes, resets, formats, Volume, System, Event, calls, looks, reads, peeks, reports, cuts, loses, ready, replyTo, next, answered, readOut, peekedAt, heard, NamesAll, MayMount, Dutiful, start}
+use Rattle.promise.specs.meaning.Claim.{Call, mounts, writes, flushes, resets, formats, compacts, Volume, System, Event, calls, looks, reads, peeks, reports, cuts, loses, ready, replyTo, next, answered, readOut, peekedAt, heard, NamesAll, MayMount, Dutiful, start}
 use Rattle.promise.specs.meaning.Histories.{afterAll}
 
 -- sectors handed to a call, unless it is refused
@@ -23,10 +23,11 @@ takenUnlessRefused isFinished ss = ss
 -- the sectors that a call is handed for zone z
 abbrev pub handedTo : Geometry → ℕ → Call → List (List ℕ)
 handedTo g z mounts = []
-handedTo g z (writes w) = pick (eqb z (zoneOf g (w .address))) (sectorsIn g (w .count) (w .buffer)) []
+handedTo g z (writes w) = pick (eqb z (zoneAsked g w)) (sectorsIn g (w .count) (w .buffer)) []
 handedTo g z flushes = []
 handedTo g z (resets y) = []
 handedTo g z (formats array) = []
+handedTo g z (compacts d) = []
 
 module _ (g : Geometry) (vol : Volume) where
   -- the sectors that an event writes to zone z

@@ -1,23 +1,18 @@
 -- The rules read sectors, never how many of them are durable: where two devices have the same sectors, roles, looks and what refuses them are the same.
 use mathlib.Core.Path.{_≡_, refl, ap, ap₂, sym, _∙_, fun-ext}
 use mathlib.Core.Bool.{Bool, true, false, _&&_, _||_}
-use Prim.Native.Nat.{ℕ, zero, suc, _-_, min}
-use mathlib.Core.List.{List}
-use lib.ListN.{length}
-use lib.Dec.{ltb, eqb}
+use Prim.Native.Nat.{ℕ, zero, suc, min}
+use lib.Dec.{eqb}
 use borrow.Author.Tests.{ne-eqb}
 use native.Mathlib.Omega.{arith}
 use Rattle.tables.specs.meaning.Basics.{pick}
 use Rattle.tables.specs.meaning.Device.{ZoneView, Device}
-use Rattle.tables.specs.meaning.Phases.{onPresent}
 use Rattle.tables.specs.declared.Geometry.{Geometry}
 use Rattle.tables.specs.meaning.Geometry.{zoneSectors, dataZone}
 use Rattle.logs.specs.meaning.Heads.{leastSeal}
 use Rattle.volume.specs.meaning.Rules.{ZoneShown, View, generalHeads, generalEnding, parityEntries, parityEnding, isLost, isPresent, lostDrive, generationOf, resetSeen, sealLimit, sealLimitBelow, servingEntries, viewOf, zoneView, valueOf, valueAt, knownPrefix, pointerAt, sealSeen, cleanAt, conditionOf, zoneAt, zoneShown, showing}
 use Rattle.volume.specs.meaning.Refusals.{twoLost, badLabels, badLogs}
 use Rattle.volume.specs.meaning.State.{pointerIn, StateView}
-use Rattle.volume.specs.meaning.Content.{at}
-use Rattle.volume.specs.meaning.Calls.{writeWith, zoneContent, writeStores}
 use Rattle.volume.specs.meaning.Emptying.{InForce, byState, emptyGeneral, emptyParity}
 use Rattle.volume.specs.meaning.Roles.{Roles, roles, seenAs, saysNothing, zoneOfRole, driveByRoles, byRoles}
 
@@ -74,10 +69,6 @@ module _ (g : Geometry) (present : ℕ → Bool) (v : Device) where
   unfolding emptyGeneral generalHeads
   general-emptying-bare r emptied state = ap (λ (f : InForce). emptyGeneral g present r f emptied v) (force-bare state)
 
-  write-bare : (state : StateView) (z : ℕ) (ss : List (List ℕ)) → writeStores g present v state z ss ≡ writeStores g present (bare v) state z ss
-  unfolding writeStores zoneContent
-  write-bare state z ss = ap (λ (f : ℕ → List ℕ). onPresent present (writeWith g z (state .generation z) (λ a. pick (ltb a (pointerIn (state .condition z))) (f a) (at ss (a - pointerIn (state .condition z)))) (pointerIn (state .condition z)) (length ss))) (value-bare z (state .generation z))
-
 -- ---- two devices with the same sectors
 abbrev pub SameSectors : Device → Device → Type 0
 SameSectors v w = (d y : ℕ) → v d y .sectors ≡ w d y .sectors
@@ -119,9 +110,6 @@ module _ (g : Geometry) (v w : Device) (s : SameSectors v w) where
   pub general-emptying-same : (present : ℕ → Bool) (r : ℕ → Roles) (emptied : ℕ → Bool) (state : StateView) → emptyGeneral g present r (byState g present v state) emptied v ≡ emptyGeneral g present r (byState g present w state) emptied w
   general-emptying-same present r emptied state =
       general-emptying-bare g present v r emptied state ∙ ap (λ (u : Device). emptyGeneral g present r (byState g present u state) emptied u) e ∙ sym (general-emptying-bare g present w r emptied state)
-
-  pub write-same : (present : ℕ → Bool) (state : StateView) (z : ℕ) (ss : List (List ℕ)) → writeStores g present v state z ss ≡ writeStores g present w state z ss
-  write-same present state z ss = write-bare g present v state z ss ∙ ap (λ (u : Device). writeStores g present u state z ss) e ∙ sym (write-bare g present w state z ss)
 
   pub heads-same : (d : ℕ) → generalHeads g v d ≡ generalHeads g w d
   unfolding generalHeads

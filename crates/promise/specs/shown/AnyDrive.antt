@@ -16,6 +16,8 @@ use Rattle.tables.specs.meaning.Device.{Device}
 use Rattle.tables.specs.meaning.Cached.{Caching, CachingCut}
 use Rattle.volume.specs.declared.Answer.{Answer}
 use Rattle.volume.specs.declared.Answer.the-variants.{Finished}
+use Rattle.volume.specs.meaning.State.{StateView}
+use Rattle.volume.specs.meaning.Mount.{mountState}
 use Rattle.volume.specs.meaning.Rules.{Shown, showing}
 use Rattle.volume.specs.meaning.Roles.{byRoles}
 use Rattle.volume.specs.meaning.Answers.{CallResult}
@@ -48,6 +50,8 @@ pub record StandsFor (g : Geometry) (vol : Volume) (device : vol .Memory → Cac
   -- a look shows what the drives that are not lost show there
   pub shows-is : (s : System vol) → Ok s → (named : vol .Names) → NamesAll g vol s named
       → vol .shows named (s .memory) (s .memory) ≡ showing g (presentBut g (s .lost)) (s .lost) (byRoles g (device (s .memory) .now))
+  -- and its state tells of the zones what it shows
+  pub tells-is : (named : vol .Names) (m : vol .Memory) → SameZones g (vol .view (vol .stateOf named m m)) (mountState (vol .shows named m m))
   pub mount-settled : (s : System vol) → Ok s → (by : vol .Names) (count : ℕ) → Duty g vol s (calls mounts by count)
       → let r = vol .call mounts by (s .state) count (s .memory) in r .answer ≡ Finished → Settled g (s .lost) (device (r .memory))
   pub none-stored : (s : System vol) → Ok s → (c : Call) (named : vol .Names) (stop : ℕ) → Duty g vol s (calls c named stop)
@@ -130,20 +134,26 @@ module _ (g : Geometry) (valid : Valid g) (vol : Volume) (device : vol .Memory �
       same-shown : vol .shows some (u .memory) (u .memory) ≡ vol .shows some (t .memory) (t .memory)
       same-shown = shows-at u (h .ok) (h .none-lost) ∙ shown-alike g valid x (deviceAt t) (deviceAt u) (λ d y a. h .same d y (present-before g valid (u .lost) x (inl (h .none-lost)) d a)) ∙ sym (shows-at t ot none)
 
-      accepted-at : (r : System vol) → Ok r → r .lost ≡ noDrive → vol .look some (r .state) (r .memory) ≡ record { answer = Finished; memory = r .memory; state = vol .stateOf (vol .shows some (r .memory) (r .memory)) }
+      accepted-at : (r : System vol) → Ok r → r .lost ≡ noDrive → vol .look some (r .state) (r .memory) ≡ record { answer = Finished; memory = r .memory; state = vol .stateOf some (r .memory) (r .memory) }
       accepted-at r o e = promised r o e .look-fits some (record { drives = names }) .0
 
-      told-at : (r : System vol) → Ok r → r .lost ≡ noDrive → vol .look some (r .state) (r .memory) .state ≡ vol .stateOf (vol .shows some (r .memory) (r .memory))
-      told-at r o e = ap (λ (a : CallResult (vol .Memory) (vol .State)). a .state) (accepted-at r o e)
+      told-at : (r : System vol) → Ok r → r .lost ≡ noDrive → SameZones g (vol .view (vol .look some (r .state) (r .memory) .state)) (mountState (vol .shows some (r .memory) (r .memory)))
+      told-at r o e = subst (λ (a : vol .State). SameZones g (vol .view a) (mountState (vol .shows some (r .memory) (r .memory)))) (sym (ap (λ (a : CallResult (vol .Memory) (vol .State)). a .state) (accepted-at r o e))) (seen .tells-is some (r .memory))
 
       looks-as : LooksAs g vol k (t .state) u some
       looks-as =
           let p = promised t ot none in
-          let told : vol .look some (u .state) (u .memory) .state ≡ vol .look some (t .state) (t .memory) .state = told-at u (h .ok) (h .none-lost) ∙ ap (vol .stateOf) same-shown ∙ sym (told-at t ot none) in
+          let here = told-at u (h .ok) (h .none-lost) in
+          let there = told-at t ot none in
+          let held = p .look-holds some (record { drives = names }) (left (vol .call mounts by (s .state) count (s .memory) .answer) done .0) .1 in
+          let shown-same : mountState (vol .shows some (u .memory) (u .memory)) ≡ mountState (vol .shows some (t .memory) (t .memory)) = ap mountState same-shown in
           let fits : Fits g (t .ledger) (vol .shows some (t .memory) (t .memory)) = p .look-fits some (record { drives = names }) .1 in
           record {
             accepted = accepted-at u (h .ok) (h .none-lost);
-            zones = subst (λ (a : vol .State). SameZones g (vol .view a) (vol .view (t .state))) (sym told) (p .look-holds some (record { drives = names }) (left (vol .call mounts by (s .state) count (s .memory) .answer) done .0) .1);
+            zones = record {
+              generations = λ z hz. here .generations z hz ∙ ap (λ (a : StateView). a .generation z) shown-same ∙ sym (there .generations z hz) ∙ held .generations z hz;
+              conditions = λ z hz. here .conditions z hz ∙ ap (λ (a : StateView). a .condition z) shown-same ∙ sym (there .conditions z hz) ∙ held .conditions z hz;
+            };
             shown = rw same-shown (mounted-shows g k (vol .shows some (t .memory) (t .memory)) (subst (λ (l : Ledger). Fits g l (vol .shows some (t .memory) (t .memory))) (left (vol .call mounts by (s .state) count (s .memory) .answer) done .1) fits));
           }
 

@@ -2,6 +2,7 @@
 use mathlib.Core.Path.{_≡_, refl, sym, ap, _∙_, subst}
 use mathlib.Core.Bool.{Bool, true, false}
 use Prim.Native.Nat.{ℕ}
+use native.Mathlib.Omega.{arith}
 use mathlib.Core.List.{List}
 use lib.ListN.{length, take}
 use lib.Seq.{take-all}
@@ -27,7 +28,7 @@ use Rattle.volume.specs.meaning.Refusals.{Verdict, refuse, accept, TableLengths
 use Rattle.volume.specs.meaning.Answers.{CallResult, StoringCall, storing, carriedOut, presentIn, lostDriveIn}
 use Rattle.volume.specs.meaning.CallContracts.{viewState, isSet, lengthsOf}
 use Rattle.promise.specs.meaning.Claim.{Volume, mounts, formats, System, NamesAll, start}
-use Rattle.promise.specs.meaning.OnDevice.{callOf, onDevice, shownBy}
+use Rattle.promise.specs.meaning.OnDevice.{callOf, onDevice, shownBy, stateShown}
 use Rattle.promise.specs.meaning.OnTables.{onTables}
 use Rattle.promise.specs.meaning.Caches.{Remembered, WithCaches, Caches, CachesLoss, madeBy, madeStores, rememberedAfter, beneath, deviceCaches, onCachingDevice}
 use Rattle.promise.specs.meaning.CachesOnTables.{tablesCaches, onCachingTables}
@@ -35,10 +36,10 @@ use Rattle.promise.specs.meaning.AnyDrive.{NoneStored, AnyDriveClaim}
 use Rattle.promise.specs.emptying.RestShows.{none-lost}
 use Rattle.promise.specs.device.AcceptedCalls.{storing-finished}
 use Rattle.promise.specs.device.ClaimEvents.{drives-of-look, lost-of-look}
-use Rattle.promise.specs.device.ClaimProof.{kept}
-use Rattle.promise.specs.device.CachedPromise.{names-beneath, cached-promise}
-use Rattle.promise.specs.device.CachedEvents.{OkOn, cachingOf, ok-beneath, event-keeps-cached, caching-start}
+use Rattle.promise.specs.device.CachedPromise.{names-beneath}
+use Rattle.promise.specs.device.CachedEvents.{OkOn, HoldsOn, holds-next, holds-promise, cachingOf, ok-beneath, caching-start}
 use Rattle.promise.specs.device.CachedClaim.{caches-owed}
+use Rattle.promise.specs.tables.CallRefines.{held-agrees}
 use Rattle.promise.specs.tables.CallsSeen.{seenAs, answer-seen, call-seen}
 use Rattle.promise.specs.tables.CachedTables.{caching-cut-refines, viewCached, TablesOkCached}
 use Rattle.promise.specs.tables.CachedTablesClaim.{tables-event-cached, tables-promise-cached, tables-start-cached}
@@ -105,10 +106,11 @@ module _ (g : Geometry) (valid : Valid g) (t : TableLengths) (s : System (onCach
       let stores : c .stores ≡ mountStores g (presentBut g (s .lost)) (s .lost) v = rw (drives, lost) refl in
       subst (Settled g (s .lost)) (sym (finished-leaves c (s .state) stop v (s .memory .was) e ∙ ap (λ (xs : List Store). applyAllCaching xs (cachingOf (s .memory))) stores)) (mount-settles g (s .lost) v (cachingOf (s .memory)))
 
-deviceSeen : (g : Geometry) → Valid g → (t : TableLengths) → StandsFor g (onCachingDevice g t) cachingOf (OkOn g t)
+deviceSeen : (g : Geometry) → Valid g → (t : TableLengths) → StandsFor g (onCachingDevice g t) cachingOf (HoldsOn g t)
 deviceSeen g valid t = record {
-  shows-is = device-shows g valid t;
-  mount-settled = λ s o by count d e. device-mounted g valid t s o by (d .0) count e;
+  shows-is = λ s o. device-shows g valid t s (o .ok);
+  tells-is = λ named m. record { generations = λ z h. refl; conditions = λ z h. refl };
+  mount-settled = λ s o by count d e. device-mounted g valid t s (o .ok) by (d .0) count e;
   none-stored = λ s o c named stop d h. none-leaves (callOf g t c named (s .state) (s .memory .memory)) (s .state) stop (s .memory .memory) (s .memory .was) h;
   cut-is = λ s o m d. (d .left, λ e y a. d .forgotten e y (present-not g (s .lost) e a));
 }
@@ -117,8 +119,7 @@ pub any-drive-on-caching-device : (g : Geometry) (t : TableLengths) → AnyDrive
 any-drive-on-caching-device g t named array old stop m small e =
     let (wb, lf, o) = caching-start g t named array old stop m small e in
     let valid = valid-if-test g wb in
-    any-drive-from g valid (onCachingDevice g t) cachingOf (OkOn g t)
-    (λ s k. cached-promise g (onDevice g t) (deviceCaches g t) s (kept g valid t wb lf (beneath (onDevice g t) (deviceCaches g t) s) (ok-beneath g t s k))) (event-keeps-cached g valid t (caches-owed g valid))
+    any-drive-from g valid (onCachingDevice g t) cachingOf (HoldsOn g t) (holds-promise g valid t wb lf) (holds-next g valid t (caches-owed g valid))
     (λ s k x. caches-stay (onDevice g t) (deviceCaches g t) x (s .memory) (none-lost x (s .memory .memory))) (deviceSeen g valid t)
     (start g (onCachingDevice g t) named (onCachingDevice g t .call (formats array) named old stop m)) o
 
@@ -126,6 +127,7 @@ any-drive-on-caching-device g t named array old stop m small e =
 pub tablesSeen : (g : Geometry) → Valid g → StandsFor g (onCachingTables g) (seenAs g) (TablesOkCached g)
 tablesSeen g valid = record {
   shows-is = λ s o named n. device-shows g valid (lengthsOf (s .memory .memory)) (viewCached g s) (o .holds) (isSet named) (record { drives = n .drives });
+  tells-is = λ named m. let e = held-agrees g (g .zones) (stateShown g (isSet named) (deviceOf g (m .memory)) (deviceOf g (m .memory))) (omega arith) in record { generations = λ z h. sym (e .generation-same z h); conditions = λ z h. sym (e .condition-same z h) };
   mount-settled = λ s o by count d e. rw (call-seen g valid s o mounts by count (d .0))
       (device-mounted g valid (lengthsOf (s .memory .memory)) (viewCached g s) (o .holds) (isSet by) (record { drives = d .0 .drives }) count (sym (answer-seen g valid s o mounts by count (d .0)) ∙ e));
   none-stored = λ s o c named stop d h. call-seen g valid s o c named stop (d .0)

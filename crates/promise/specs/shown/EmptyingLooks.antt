@@ -1,16 +1,16 @@
 -- What looks show while a call empties logs: from what is known of each emptied drive behind its first flush (Behind), what is claimed of the call stopped anywhere and
--- cut, on drives that cache resets (meaning/Emptied); and that the emptyings of a write and of a reset are so.
-use mathlib.Core.Path.{_≡_, refl, ap, _∙_, subst}
+-- cut, on drives that cache resets (meaning/Emptied); and that the emptyings of a compact and of a reset are so.
+use mathlib.Core.Path.{_≡_, refl, sym, ap, _∙_, subst}
 use mathlib.Core.Logic.{_≢_, inl, inr}
 use mathlib.Core.Bool.{Bool, true, false, _&&_}
 use Prim.Native.Nat.{ℕ, zero, suc, _+_, _≤_, _<_}
 use native.Mathlib.Nat.{le-refl}
 use native.Mathlib.Decide.{ℕ-discrete}
 use native.Mathlib.Omega.{arith}
-use mathlib.Core.List.{List, [], _++_, append-nil, map}
+use mathlib.Core.List.{List, [], _++_, append-nil}
 use lib.ListN.{length, take}
 use lib.Dec.{ltb, eqb}
-use borrow.Author.Tests.{lt-ltb, le-ltb}
+use borrow.Author.Tests.{lt-ltb, le-ltb, eqb-true}
 use Rattle.tables.specs.meaning.Basics.{pick}
 use Rattle.tables.specs.laws.Basics.{and-split}
 use Rattle.tables.specs.meaning.Below.{eachBelow}
@@ -19,22 +19,18 @@ use Rattle.tables.specs.meaning.Cached.{Caching, applyAllCaching, CachingCut}
 use Rattle.tables.specs.declared.Geometry.{Geometry}
 use Rattle.tables.specs.meaning.Geometry.{Valid}
 use Rattle.tables.specs.meaning.Drives.{presentBut}
-use Rattle.volume.specs.meaning.State.{StateView, pointerIn}
-use Rattle.volume.specs.meaning.Content.{insideStripe, parityDriveAt}
+use Rattle.volume.specs.meaning.State.{StateView}
 use Rattle.volume.specs.meaning.Rules.{Shown, showing, zoneShown, zoneAt}
-use Rattle.volume.specs.meaning.Roles.{Roles, driveByRoles, roles, byRoles, zoneOfKind, placedBy, rolesAfter}
-use Rattle.volume.specs.meaning.Emptying.{InForce, byState, lacksRoom, newParitySize, resetLimit, writeLimit, emptiedFor, emptiedForWrite, emptyings, emptyGeneral, emptyParity, writeAll, resetAll}
+use Rattle.volume.specs.meaning.Roles.{Roles, driveByRoles, roles, byRoles, zoneOfKind}
+use Rattle.volume.specs.meaning.Emptying.{InForce, byState, lacksRoom, newParitySize, resetLimit, emptiedFor, emptyings, emptyGeneral, emptyParity, compactStores, resetAll}
 use Rattle.volume.specs.laws.Firm.{firm-roles, proper-apart}
-use Rattle.tables.specs.meaning.Through.{carry}
-use Rattle.volume.specs.meaning.Calls.{writeStores}
-use Rattle.volume.specs.meaning.Refusals.{zoneOf}
 use Rattle.promise.specs.meaning.Ledger.{Ledger, afterFlush}
-use Rattle.promise.specs.meaning.Claim.{WriteAsked, allBut}
+use Rattle.promise.specs.meaning.Claim.{allBut}
 use Rattle.promise.specs.meaning.OnDevice.{shownBy}
 use Rattle.promise.specs.meaning.Histories.{ShowsAlike}
-use Rattle.promise.specs.meaning.Emptied.{AlikeUpTo, MayNameBut, Emptyings, flushOf, flushEnd, UnderWay, emptyingsOfWrite, emptyingsOfReset}
+use Rattle.promise.specs.meaning.Emptied.{AlikeUpTo, MayNameBut, Emptyings, flushOf, flushEnd, UnderWay, emptyingsOfCompact, emptyingsOfReset}
 use Rattle.promise.specs.invariant.Invariant.{Here, LogGenerations, rest-inv}
-use Rattle.promise.specs.invariant.RoomAsked.{WriteAccepted, ResetAccepted}
+use Rattle.promise.specs.invariant.RoomAsked.{CompactAccepted, ResetAccepted}
 use Rattle.promise.specs.roles.Roled.{Standing}
 use Rattle.promise.specs.roles.RoledCalls.{RoledInvs, RoledRests}
 use Rattle.promise.specs.emptying.AskedSame.{ShowsSame}
@@ -173,51 +169,42 @@ general-behind g ok x c v l ri f forced emptied can d hd b =
           alike g ok x y by u w (l, held .generations, held .holds) (l, e, i) (shows y by);
     }
 
--- ==== a write at rest (z: its zone; ss: its sectors)
-module _ (g : Geometry) (ok : Valid g) (x : ℕ) (c : LogGenerations) (v : Device) (state : StateView) (l : Ledger) (rr : RoledRests c g x v state l) (z : ℕ) (ss : List (List ℕ))
-    (wa : WriteAccepted g (presentBut g x) (roles g v) (byRoles g v) (byState g (presentBut g x) (byRoles g v) state) state z ss) where
-  abbrev end : ℕ
-  end = pointerIn (state .condition z) + length ss
+-- ==== a compact of drive d at rest
+module _ (g : Geometry) (ok : Valid g) (x : ℕ) (c : LogGenerations) (v : Device) (state : StateView) (l : Ledger) (rr : RoledRests c g x v state l) (d : ℕ)
+    (ca : CompactAccepted g (presentBut g x) (roles g v) (byRoles g v) (byState g (presentBut g x) (byRoles g v) state) d) where
+  abbrev compactForce : InForce
+  compactForce = byState g (presentBut g x) (byRoles g v) state
 
-  abbrev writeForce : InForce
-  writeForce = byState g (presentBut g x) (byRoles g v) state
+  abbrev only : ℕ → Bool
+  only e = eqb e d
 
-  abbrev emptied : ℕ → Bool
-  emptied = emptiedForWrite g (presentBut g x) (roles g v) (byRoles g v) z end
-
-  by-state : ByState g writeForce state
+  by-state : ByState g compactForce state
   by-state = record { generations = λ y h. refl; pointers = λ y h. refl }
 
-  write-can : (d : ℕ) → d < g .drives → emptied d ≡ true → Here g x d × CanEmptyLog g true v d (newParitySize g writeForce d)
-  unfolding emptiedForWrite emptiedFor driveByRoles
-  write-can d hd e =
-      let (p, q) = and-split (insideStripe g end && eqb d (parityDriveAt g z end)) (presentBut g x d && lacksRoom g true (roles g v) (byRoles g v) (writeLimit g end) d) e in
-      let k = wa .logs .emptiable d e in (
-        and-split (presentBut g x d) (lacksRoom g true (roles g v) (byRoles g v) (writeLimit g end) d) q .0,
-        record { room = let r = k .room in omega (arith, r); top = k .top; blank = wa .blank d e },
-      )
+  compact-can : (e : ℕ) → e < g .drives → only e ≡ true → Here g x e × CanEmptyLog g true v e (newParitySize g compactForce e)
+  unfolding driveByRoles
+  compact-can e he b = let r = ca .log .room in rw (eqb-true e d b) (ca .here, record { room = omega (arith, r); top = ca .log .top; blank = ca .blank })
 
   rest-some : (e : LogGenerations) (w : Device) → RoledRests e g x w state (afterFlush l) → SomeInv g x w
   rest-some e w (s, (γ, r, q)) = (afterFlush l, e, (s, (γ, rest-inv g x (byRoles g w) state (afterFlush l) γ r, q)))
 
-  pub write-behind : (d : ℕ) → d < g .drives → emptied d ≡ true → Behind g x true (roles g v) emptied (newSectors g writeForce v) v (ShowsAlike g) d
-  write-behind d hd b =
-      let (a, k) = write-can d hd b in
-      let ((e, r), same) = parity-at-flush g ok x c v state l rr writeForce by-state emptied write-can d hd b in
-      let u = atFlush g x true (roles g v) emptied (newSectors g writeForce v) v d in
+  pub compact-behind : (e : ℕ) → e < g .drives → only e ≡ true → Behind g x true (roles g v) only (newSectors g compactForce v) v (ShowsAlike g) e
+  compact-behind e he b =
+      let (a, k) = compact-can e he b in
+      let ((f, r), same) = parity-at-flush g ok x c v state l rr compactForce by-state only compact-can e he b in
+      let u = atFlush g x true (roles g v) only (newSectors g compactForce v) v e in
       record {
         here = a;
-        apart = kinds-apart g x v c (rr .0) true d a;
-        blank = same (roles g v d .spare) ∙ k .blank;
+        apart = kinds-apart g x v c (rr .0) true e a;
+        blank = same (roles g v e .spare) ∙ k .blank;
         looks = λ w h y by.
-            let (e2, r2) = parity-drive-left g ok x c v state l rr writeForce by-state emptied write-can d hd b w h in
-            alike g ok x y by u w (rest-some e u r) (rest-some e2 w r2) (λ i hi. rests-show-same g ok x y by e e2 (byRoles g u) (byRoles g w) state (afterFlush l) (r .1) (r2 .1) i hi refl);
+            let (f2, r2) = parity-drive-left g ok x c v state l rr compactForce by-state only compact-can e he b w h in
+            alike g ok x y by u w (rest-some f u r) (rest-some f2 w r2) (λ i hi. rests-show-same g ok x y by f f2 (byRoles g u) (byRoles g w) state (afterFlush l) (r .1) (r2 .1) i hi refl);
       }
 
-  pub write-within : (w : WriteAsked) → zoneOf g (w .address) ≡ z → length ss ≡ w .count
-      → Within g x (emptyingsOfWrite g x v state w) (writeAll g (presentBut g x) (roles g v) (byRoles g v) state z ss) true (roles g v) (newSectors g writeForce v)
-  unfolding writeAll emptyParity
-  write-within w e n = record { rest = map (carry (placedBy (rolesAfter true emptied (roles g v)))) (writeStores g (presentBut g x) (byRoles g v) state z ss); of = λ some h. refl; are = rw (e, ← n) refl }
+  pub compact-within : Within g x (emptyingsOfCompact g x v state d) (compactStores g (presentBut g x) (roles g v) (byRoles g v) state d) true (roles g v) (newSectors g compactForce v)
+  unfolding compactStores emptyParity
+  compact-within = record { rest = []; of = λ some h. refl; are = sym (append-nil _) }
 
 -- ==== a reset at rest
 module _ (g : Geometry) (ok : Valid g) (x : ℕ) (c : LogGenerations) (v : Device) (state : StateView) (l : Ledger) (rr : RoledRests c g x v state l) (z : ℕ)

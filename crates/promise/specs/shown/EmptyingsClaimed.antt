@@ -1,14 +1,11 @@
--- THE CLAIM ABOUT EMPTYINGS HOLDS (meaning/Emptied.antt), of the rules' calls: at every point of every history, of every write, reset and mount that empties logs.
+-- THE CLAIM ABOUT EMPTYINGS HOLDS (meaning/Emptied.antt), of the rules' calls: at every point of every history, of every compact, and of every reset and mount that empties logs.
 use mathlib.Core.Path.{_≡_, refl, sym, ap, _∙_, subst}
 use mathlib.Core.Bool.{Bool, true, false}
-use Prim.Native.Nat.{ℕ, zero, _+_, _≤_, _<_}
+use Prim.Native.Nat.{ℕ, _≤_, _<_}
 use native.Mathlib.Omega.{arith}
 use mathlib.Core.List.{List}
 use lib.ListN.{length, take}
-use lib.Dec.{ltb}
 use borrow.Author.Tests.{ltb-true, lt-ltb}
-use Rattle.tables.specs.meaning.Basics.{pick}
-use Rattle.tables.specs.laws.Below.{length-tabulate-from}
 use Rattle.tables.specs.meaning.Device.{Device, Store, applyAll}
 use Rattle.tables.specs.meaning.Cached.{Caching, applyAllCaching, CachingCut}
 use Rattle.tables.specs.laws.Cached.{now-is}
@@ -16,21 +13,21 @@ use Rattle.tables.specs.declared.Geometry.{Geometry}
 use Rattle.tables.specs.meaning.Geometry.{Valid}
 use Rattle.tables.specs.laws.GeometryTest.{valid-if-test}
 use Rattle.tables.specs.meaning.Drives.{presentBut}
-use Rattle.volume.specs.declared.Answer.the-variants.{Finished, Unfinished}
-use Rattle.volume.specs.meaning.State.{StateView, pointerIn}
+use Rattle.volume.specs.declared.Answer.the-variants.{Unfinished}
+use Rattle.volume.specs.meaning.State.{StateView}
 use Rattle.volume.specs.meaning.Rules.{Shown, showing}
 use Rattle.volume.specs.meaning.Roles.{roles, byRoles}
-use Rattle.volume.specs.meaning.Emptying.{byState, byLook, emptiedForWrite, writeAll, resetAll}
+use Rattle.volume.specs.meaning.Emptying.{byState, byLook, compactStores, resetAll}
 use Rattle.volume.specs.meaning.Mount.{afterOpening, mountLook, afterFill, mountStores}
 use Rattle.volume.specs.laws.OpeningFlush.{opening-sectors}
-use Rattle.volume.specs.meaning.Refusals.{Verdict, refuse, accept, TableLengths, firstRefusal, zoneOf}
-use Rattle.volume.specs.meaning.Answers.{CallResult, StoringCall, storing, carriedOut, sectorsIn}
-use Rattle.promise.specs.meaning.Claim.{Call, WriteAsked, mounts, writes, resets, System, NamesAll, MayMount, ready, allBut}
+use Rattle.volume.specs.meaning.Refusals.{Verdict, accept, TableLengths, firstRefusal}
+use Rattle.volume.specs.meaning.Answers.{StoringCall, carriedOut}
+use Rattle.promise.specs.meaning.Claim.{Call, mounts, resets, compacts, System, NamesAll, MayMount, ready, allBut}
 use Rattle.promise.specs.meaning.OnDevice.{callOf, onDevice, shownBy}
 use Rattle.promise.specs.meaning.Caches.{madeStores, madeBy, rememberedAfter, Remembered, beneath, deviceCaches, onCachingDevice}
 use Rattle.promise.specs.meaning.Histories.{ShowsAlike}
-use Rattle.promise.specs.meaning.Emptied.{AlikeUpTo, MayNameBut, Emptyings, flushEnd, UnderWay, emptyingsOfWrite, emptyingsOfReset, emptyingsOfMount, parityEmptyingsOfMount, entryMade, KeepsLooks, EmptyingsKeepLooks, EmptyingClaim}
-use Rattle.promise.specs.invariant.RoomAsked.{WriteAccepted, ResetAccepted, MountAccepted}
+use Rattle.promise.specs.meaning.Emptied.{AlikeUpTo, MayNameBut, Emptyings, flushEnd, UnderWay, emptyingsOfCompact, emptyingsOfReset, emptyingsOfMount, parityEmptyingsOfMount, entryMade, KeepsLooks, EmptyingsKeepLooks, EmptyingClaim}
+use Rattle.promise.specs.invariant.RoomAsked.{ResetAccepted, MountAccepted}
 use Rattle.promise.specs.roles.MountReads.{mount-accepted-same}
 use Rattle.promise.specs.roles.ReadsSectors.{by-roles-same, showing-same}
 use Rattle.promise.specs.emptying.FlushedRests.{flushedAll}
@@ -38,28 +35,19 @@ use Rattle.promise.specs.emptying.MountWhole.{opened-sectors}
 use Rattle.promise.specs.emptying.ParityRests.{newSectors}
 use Rattle.promise.specs.emptying.GeneralEmptying.{newGeneralOf}
 use Rattle.promise.specs.device.Marks.{withMarks}
-use Rattle.promise.specs.device.AcceptedCalls.{present-same, found-same, write-accepted, reset-accepted}
-use Rattle.promise.specs.device.ClaimEvents.{Ok, rests-of, invs-of, drives-of-call, drives-of-look, lost-of-look, mount-allowed}
+use Rattle.promise.specs.device.AcceptedCalls.{present-same, found-same, reset-accepted, storing-unfinished}
+use Rattle.promise.specs.device.ClaimEvents.{Ok, rests-of, invs-of, drives-of-call, drives-of-look, lost-of-look, mount-allowed, compact-fits}
 use Rattle.promise.specs.device.CachedPromise.{names-beneath}
 use Rattle.promise.specs.device.CachedEvents.{cachingOf}
 use Rattle.promise.specs.shown.EveryPoint.{at-every-point}
-use Rattle.promise.specs.shown.EmptyingLooks.{lookBut, Behind, kept, write-behind, write-within, reset-behind, reset-within}
+use Rattle.promise.specs.shown.EmptyingLooks.{lookBut, kept, compact-behind, compact-within, reset-behind, reset-within}
 use Rattle.promise.specs.shown.MountLooks.{mount-behind, mount-within}
 use Rattle.promise.specs.shown.MountParityLooks.{mount-parity-behind, mount-parity-within}
 
 -- ---- a call that is not finished: it is accepted, and has made so many of its stores; and so has one that is stopped before
 module _ (c : StoringCall) (old : StateView) (n : ℕ) (v : Device) (was : Remembered) (unfinished : carriedOut c old n v .answer ≡ Unfinished) where
   pub unfinished-call : (firstRefusal (c .refusals) ≡ accept) × (n < length (c .stores))
-  unfinished-call = go (firstRefusal (c .refusals)) unfinished
-    where
-      by-count : (b : Bool) → ltb n (length (c .stores)) ≡ b
-          → pick {A = CallResult Device StateView} b (record { answer = Unfinished; memory = applyAll (take n (c .stores)) v; state = old }) (record { answer = Finished; memory = applyAll (c .stores) v; state = c .state }) .answer ≡ Unfinished → n < length (c .stores)
-      by-count true q e = ltb-true n (length (c .stores)) q
-      by-count false q e = absurd (let z : _≡_ {A = ℕ} 0 1 = cc in omega arith)
-
-      go : (r : Verdict) → storing r (c .stores) (c .state) old n v .answer ≡ Unfinished → (r ≡ accept) × (n < length (c .stores))
-      go (refuse i) e = absurd (let z : _≡_ {A = ℕ} 0 1 = cc in omega arith)
-      go accept e = (refl, by-count (ltb n (length (c .stores))) refl e)
+  unfinished-call = let (p, q) = storing-unfinished (firstRefusal (c .refusals)) (c .stores) (c .state) old n v unfinished in (p, ltb-true n (length (c .stores)) q)
 
   pub stopped-leaves : (m : ℕ) → m ≤ n → _≡_ {A = Caching} (record { now = carriedOut c old m v .memory; was = rememberedAfter (madeStores c m) v was }) (applyAllCaching (take m (c .stores)) (record { now = v; was = was }))
   stopped-leaves m h =
@@ -101,29 +89,19 @@ module _ (g : Geometry) (ok : Valid g) (t : TableLengths) (s : System (onCaching
       let k : CachingCut x (applyAllCaching (take n (f .stores)) (cachingOf (s .memory))) w = subst (λ (a : Caching). CachingCut x a w) (at n (omega arith)) (cut .left) in
       rw (named-look g y some nb w, named-look g y some nb (carriedOut f (s .state) (flushEnd g x E d) v .memory), ap (λ (a : Caching). a .now) there) (of p d n u w k y by)
 
-  -- (count: of the sectors to write)
-  abbrev WriteBehind : ℕ → ℕ → ℕ → Type 0
-  WriteBehind z count d =
-      let emptied = emptiedForWrite g (presentBut g x) (roles g v) (byRoles g v) z (pointerIn (s .state .condition z) + count) in
-      emptied d ≡ true → Behind g x true (roles g v) emptied (newSectors g (byState g (presentBut g x) (byRoles g v) (s .state)) v) v (ShowsAlike g) d
-
   module _ (named : ℕ → Bool) (names : NamesAll g (onCachingDevice g t) s named) where
     names-under : NamesAll g (onDevice g t) under named
     names-under = names-beneath g (onDevice g t) (deviceCaches g t) s named names
 
-    write-keeps : s .mode ≡ ready → (w : WriteAsked) → KeepsLooks g (onCachingDevice g t) s (writes w) named (emptyingsOfWrite g x v (s .state) w) (λ d. ShowsAlike g)
-    unfolding sectorsIn
-    write-keeps m w = by-stores (writes w) named (emptyingsOfWrite g x v (s .state) w) (λ d. ShowsAlike g) (λ p.
+    compact-keeps : s .mode ≡ ready → (d : ℕ) → KeepsLooks g (onCachingDevice g t) s (compacts d) named (emptyingsOfCompact g x v (s .state) d) (λ e. ShowsAlike g)
+    compact-keeps m d = by-stores (compacts d) named (emptyingsOfCompact g x v (s .state) d) (λ e. ShowsAlike g) (λ p.
         let (k, c, above, rr) = rests-of g t under o m in
         let e = drives-of-call g ok t under o named names-under m in
-        let z = zoneOf g (w .address) in
-        let ss = sectorsIn g (w .count) (w .buffer) in
-        let long : length ss ≡ w .count = length-tabulate-from _ zero (w .count) in
-        let wa : WriteAccepted g (presentBut g x) (roles g v) (byRoles g v) (byState g (presentBut g x) (byRoles g v) (s .state)) (s .state) z ss = rw e at (write-accepted g t named (s .state) v (w .address) (w .count) (w .buffer) p) in
+        let ca = compact-fits g ok t under o named names-under m d p in
         let l = withMarks (s .ledger) c in
-        subst (λ (xs : List Store). AllKept xs (emptyingsOfWrite g x v (s .state) w) (λ d. ShowsAlike g)) (ap (λ (here : ℕ → Bool). writeAll g here (roles g v) (byRoles g v) (s .state) z ss) (sym e))
-        (kept g x (cachingOf (s .memory)) (writeAll g (presentBut g x) (roles g v) (byRoles g v) (s .state) z ss) (emptyingsOfWrite g x v (s .state) w) true (roles g v) (newSectors g (byState g (presentBut g x) (byRoles g v) (s .state)) v)
-        (write-within g ok x k v (s .state) l rr z ss wa w refl long) (λ d. ShowsAlike g) (λ d hd. subst (λ (i : ℕ). WriteBehind z i d) long (write-behind g ok x k v (s .state) l rr z ss wa d hd))))
+        subst (λ (xs : List Store). AllKept xs (emptyingsOfCompact g x v (s .state) d) (λ e. ShowsAlike g)) (ap (λ (here : ℕ → Bool). compactStores g here (roles g v) (byRoles g v) (s .state) d) (sym e))
+        (kept g x (cachingOf (s .memory)) (compactStores g (presentBut g x) (roles g v) (byRoles g v) (s .state) d) (emptyingsOfCompact g x v (s .state) d) true (roles g v) (newSectors g (byState g (presentBut g x) (byRoles g v) (s .state)) v)
+        (compact-within g ok x k v (s .state) l rr d ca) (λ e. ShowsAlike g) (compact-behind g ok x k v (s .state) l rr d ca)))
 
     reset-keeps : s .mode ≡ ready → (z : ℕ) → KeepsLooks g (onCachingDevice g t) s (resets z) named (emptyingsOfReset g x v (s .state)) (λ d. ShowsAlike g)
     reset-keeps m z = by-stores (resets z) named (emptyingsOfReset g x v (s .state)) (λ d. ShowsAlike g) (λ p.
@@ -174,7 +152,7 @@ module _ (g : Geometry) (ok : Valid g) (t : TableLengths) (s : System (onCaching
 
   -- AT A POINT
   pub emptyings-keep : EmptyingsKeepLooks g (onCachingDevice g t) (λ m. m .memory) s
-  emptyings-keep = record { of-write = write-keeps; of-reset = reset-keeps; of-mount = mount-keeps; of-mount-parity = parity-keeps }
+  emptyings-keep = record { of-compact = compact-keeps; of-reset = reset-keeps; of-mount = mount-keeps; of-mount-parity = parity-keeps }
 
 -- THE THEOREM
 pub emptyings-keep-looks : EmptyingClaim

@@ -1,5 +1,5 @@
--- What follows at a point of a history from the invariant, and from the blank spares between finished calls, holds at every point of every history, on drives that
--- cache resets.
+-- What follows at a point of a history from the invariant, and from the shares that fit and the blank spares between finished calls, holds at every point of every
+-- history, on drives that cache resets.
 use mathlib.Core.Path.{_≡_}
 use mathlib.Core.Bool.{Bool, true}
 use Prim.Native.Nat.{ℕ, _^_, _<_}
@@ -11,12 +11,13 @@ use Rattle.tables.specs.meaning.Geometry.{Valid}
 use Rattle.tables.specs.meaning.GeometryTest.{isValid}
 use Rattle.tables.specs.laws.GeometryTest.{valid-if-test}
 use Rattle.volume.specs.declared.Answer.the-variants.{Finished}
-use Rattle.volume.specs.meaning.State.{StateView}
+use Rattle.volume.specs.meaning.State.{StateView, withShares}
+use Rattle.volume.specs.meaning.Hosts.{freshShares}
 use Rattle.volume.specs.meaning.Calls.{formatStores, formatState}
 use Rattle.volume.specs.meaning.Refusals.{TableLengths, tablesFit, firstRefusal, formatRows, badPointers}
 use Rattle.volume.specs.meaning.Answers.{leftOut, namedDrives}
 use Rattle.volume.specs.laws.Refusals.{accepted-row}
-use Rattle.promise.specs.meaning.Claim.{System, Event, calls, looks, reads, peeks, reports, cuts, loses, Duty, Dutiful, next, start, formats}
+use Rattle.promise.specs.meaning.Claim.{System, Event, Duty, Dutiful, next, start, formats}
 use Rattle.promise.specs.meaning.OnDevice.{onDevice}
 use Rattle.promise.specs.meaning.Caches.{WithCaches, beneath, deviceCaches, onCachingDevice}
 use Rattle.promise.specs.meaning.Histories.{AtEveryPoint}
@@ -25,49 +26,45 @@ use Rattle.promise.specs.emptying.BlankSpares.{BlankSpares}
 use Rattle.promise.specs.device.AcceptedCalls.{storing-finished}
 use Rattle.promise.specs.device.AtRestAnswers.{left-out, drives-named}
 use Rattle.promise.specs.device.ClaimEvents.{Ok}
-use Rattle.promise.specs.device.CachedPromise.{names-beneath}
-use Rattle.promise.specs.device.CachedEvents.{OkOn, ok-beneath, event-keeps-cached, caching-start}
+use Rattle.promise.specs.device.CachedPromise.{beneath-keeps}
+use Rattle.promise.specs.device.CachedEvents.{HoldsOn, holds-next, ok-beneath, caching-start}
+use Rattle.promise.specs.device.SharesKept.{Shared}
 use Rattle.promise.specs.device.CachedClaim.{caches-owed}
 use Rattle.promise.specs.device.BlankAtRest.{BlankAtRest, format-blank, event-blank}
 
 -- what is known at a point
 pub record Known (g : Geometry) (t : TableLengths) (s : System (onDevice g t)) : Type 0 where
   pub ok : Ok g t s
+  pub shared : Shared g t s
   pub blank : BlankAtRest g t s
 
 -- and on drives that cache resets
-record CachedKnown (g : Geometry) (t : TableLengths) (s : System (onCachingDevice g t)) : Type 0 where
-  ok : OkOn g t s
-  blank : BlankAtRest g t (beneath (onDevice g t) (deviceCaches g t) s)
+pub record CachedKnown (g : Geometry) (t : TableLengths) (s : System (onCachingDevice g t)) : Type 0 where
+  pub holds : HoldsOn g t s
+  pub blank : BlankAtRest g t (beneath (onDevice g t) (deviceCaches g t) s)
 
 module _ (g : Geometry) (valid : Valid g) (t : TableLengths) (s : System (onCachingDevice g t)) (k : CachedKnown g t s) where
   abbrev under : System (onDevice g t)
   under = beneath (onDevice g t) (deviceCaches g t) s
 
-  known : Known g t under
-  known = record { ok = ok-beneath g t s (k .ok); blank = k .blank }
+  pub known : Known g t under
+  known = record { ok = ok-beneath g t s (k .holds .ok); shared = k .holds .shared; blank = k .blank }
 
-  event-blank-on : (e : Event (onCachingDevice g t)) → Duty g (onCachingDevice g t) s e → BlankAtRest g t (beneath (onDevice g t) (deviceCaches g t) (next g (onCachingDevice g t) s e))
-  event-blank-on (calls c named stop) (n, m, q) = event-blank g valid t under (known .ok) (k .blank) (calls c named stop) (names-beneath g (onDevice g t) (deviceCaches g t) s named n, m, q)
-  event-blank-on (looks named) d = k .blank
-  event-blank-on (reads named a count out) d = k .blank
-  event-blank-on (peeks named a) d = k .blank
-  event-blank-on (reports list) d = k .blank
-  event-blank-on (cuts w) d = λ m. absurd (let z : _≡_ {A = ℕ} 0 1 = cc in omega arith)
-  event-blank-on (loses y w) (h, one, d) = event-blank g valid t under (known .ok) (k .blank) (loses y (w .memory)) (h, one, d .left)
-
-  known-next : (e : Event (onCachingDevice g t)) → Duty g (onCachingDevice g t) s e → CachedKnown g t (next g (onCachingDevice g t) s e)
-  known-next e d = record { ok = event-keeps-cached g valid t (caches-owed g valid) s (k .ok) e d; blank = event-blank-on e d }
+  pub known-next : (e : Event (onCachingDevice g t)) → Duty g (onCachingDevice g t) s e → CachedKnown g t (next g (onCachingDevice g t) s e)
+  known-next e d = record {
+    holds = holds-next g valid t (caches-owed g valid) s (k .holds) e d;
+    blank = beneath-keeps g (onDevice g t) (deviceCaches g t) s (BlankAtRest g t) (k .blank) (event-blank g valid t under (known .ok) (k .blank)) (λ m q. absurd (let z : _≡_ {A = ℕ} 0 1 = cc in omega arith)) e d;
+  }
 
 -- the spares are blank after the format at the head
-start-blank : (g : Geometry) → Valid g → (t : TableLengths) (named : ℕ → Bool) (array : ℕ) (old : StateView) (stop : ℕ) (v : Device) → array < 256 ^ 8 → onDevice g t .call (formats array) named old stop v .answer ≡ Finished
+pub start-blank : (g : Geometry) → Valid g → (t : TableLengths) (named : ℕ → Bool) (array : ℕ) (old : StateView) (stop : ℕ) (v : Device) → array < 256 ^ 8 → onDevice g t .call (formats array) named old stop v .answer ≡ Finished
     → BlankSpares g (leftOut g named) (onDevice g t .call (formats array) named old stop v .memory)
 unfolding formatRows
 start-blank g valid t named array old stop v h e =
     let x = leftOut g named in
     let rows = formatRows g t (badPointers g named v) named v in
     let stores = formatStores g (namedDrives g named) x array in
-    let (p, q) = storing-finished (firstRefusal rows) stores (formatState x) old stop v e in
+    let (p, q) = storing-finished (firstRefusal rows) stores (withShares (freshShares g (namedDrives g named)) (formatState x)) old stop v e in
     let b : BlankSpares g x (applyAll stores v) = rw (drives-named g valid named (accepted-row rows p 4)) (format-blank g valid x array v (left-out g named) h) in
     rw (p, q) b
 
@@ -80,4 +77,4 @@ at-every-point g t P gives named array old stop m h e es d =
     let (wb, lf, o) = caching-start g t named array old stop m h e in
     let valid = valid-if-test g wb in
     every-point g (onCachingDevice g t) (CachedKnown g t) P (λ s k. gives wb lf s (known g valid t s k)) (known-next g valid t) (start g (onCachingDevice g t) named (onCachingDevice g t .call (formats array) named old stop m))
-    (record { ok = o; blank = λ i. start-blank g valid t named array old stop (m .memory) h e }) es d
+    (record { holds = o; blank = λ i. start-blank g valid t named array old stop (m .memory) h e }) es d

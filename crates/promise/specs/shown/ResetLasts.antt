@@ -18,10 +18,10 @@ use Rattle.volume.specs.declared.Answer.{Answer}
 use Rattle.volume.specs.declared.Answer.the-variants.{Finished, Unfinished, Refused, BadLog}
 use Rattle.volume.specs.meaning.Content.{at}
 use Rattle.volume.specs.meaning.Rules.{Shown}
-use Rattle.volume.specs.meaning.Refusals.{zoneOf, offsetOf}
+use Rattle.volume.specs.meaning.Refusals.{zoneOf, offsetOf, zoneAsked}
 use Rattle.volume.specs.meaning.Answers.{sectorsIn}
 use Rattle.promise.specs.meaning.Ledger.{Ledger, Reply, isRefused, isUnfinished, isFinished, noted, FitsZone, afterMount}
-use Rattle.promise.specs.meaning.Claim.{Call, mounts, writes, flushes, resets, formats, Volume, System, Event, calls, looks, reads, peeks, reports, cuts, loses, replyTo, noteOf, next, answered, Duty, Dutiful, Promise, Throughout, start, KeepsPromise}
+use Rattle.promise.specs.meaning.Claim.{Call, mounts, writes, flushes, resets, formats, compacts, Volume, System, Event, calls, looks, reads, peeks, reports, cuts, loses, replyTo, noteOf, next, answered, Duty, Dutiful, Promise, Throughout, start, KeepsPromise}
 use Rattle.promise.specs.device.Heard.{answer-heard}
 use Rattle.promise.specs.meaning.Histories.{afterAll}
 use Rattle.promise.specs.meaning.ResetLasts.{takenUnlessRefused, handedTo, writtenIn, writtenTo, OnlyOf, ResetsLast}
@@ -72,8 +72,8 @@ module _ (g : Geometry) (vol : Volume) (z : ℕ) (hz : z < g .zones) where
     call-among mounts k isUnfinished f = more []
     call-among mounts k isFinished f = λ t m. mem-left new [] t (mounted-among (s .ledger) z new k h (f refl refl) t m)
     call-among (writes w) k isRefused f = more []
-    call-among (writes w) k isUnfinished f = written (zoneOf g (w .address)) (sectorsIn g (w .count) (w .buffer)) (eqb z (zoneOf g (w .address))) refl
-    call-among (writes w) k isFinished f = written (zoneOf g (w .address)) (sectorsIn g (w .count) (w .buffer)) (eqb z (zoneOf g (w .address))) refl
+    call-among (writes w) k isUnfinished f = written (zoneAsked g w) (sectorsIn g (w .count) (w .buffer)) (eqb z (zoneAsked g w)) refl
+    call-among (writes w) k isFinished f = written (zoneAsked g w) (sectorsIn g (w .count) (w .buffer)) (eqb z (zoneAsked g w)) refl
     call-among flushes k isRefused f = more []
     call-among flushes k isUnfinished f = more []
     call-among flushes k isFinished f = more []
@@ -83,6 +83,9 @@ module _ (g : Geometry) (vol : Volume) (z : ℕ) (hz : z < g .zones) where
     call-among (formats array) k isRefused f = more []
     call-among (formats array) k isUnfinished f = more []
     call-among (formats array) k isFinished f = λ t m. mem-nil t m
+    call-among (compacts d) k isRefused f = more []
+    call-among (compacts d) k isUnfinished f = more []
+    call-among (compacts d) k isFinished f = more []
 
   finished-answer : (a : Answer) → replyTo a ≡ isFinished → a ≡ Finished
   finished-answer Finished e = refl
@@ -102,6 +105,7 @@ module _ (g : Geometry) (vol : Volume) (z : ℕ) (hz : z < g .zones) where
       fit flushes o e i = absurd (let q : _≡_ {A = ℕ} 0 1 = cc in omega arith)
       fit (resets y) o e i = absurd (let q : _≡_ {A = ℕ} 0 1 = cc in omega arith)
       fit (formats array) o e i = absurd (let q : _≡_ {A = ℕ} 0 1 = cc in omega arith)
+      fit (compacts y) o e i = absurd (let q : _≡_ {A = ℕ} 0 1 = cc in omega arith)
   event-among s (looks named) p d new h = more s new h []
   event-among s (reads named a count out) p d new h = more s new h []
   event-among s (peeks named a) p d new h = more s new h []

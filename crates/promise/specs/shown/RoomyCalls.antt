@@ -1,13 +1,15 @@
 -- NO DRIVE FILLS UP in a geometry whose logs always have room after copying (volume's Emptying and RoomAfter), as long as no log of a present drive has the last generation: no mount
--- is refused, and no reset and no write by 14, at any point of any history (meaning/Roomy.antt). A reset and a write find the spares blank (BlankAtRest).
+-- is refused, and no reset and no compact by 14, at any point of any history (meaning/Roomy.antt). A reset and a compact find the spares blank (BlankAtRest). And a finished compact
+-- leaves each host so much of its share.
 use mathlib.Core.Path.{_≡_, refl, sym, ap, _∙_}
 use mathlib.Core.Logic.{_≢_, _⊎_}
 use mathlib.Core.Bool.{Bool, true, false, _&&_, _||_, not, true≢false}
-use Prim.Native.Nat.{ℕ, _+_, _^_, _≤_, _<_}
+use Prim.Native.Nat.{ℕ, _^_, _≤_, _<_}
 use native.Mathlib.Omega.{arith}
 use mathlib.Core.List.{List, []}
 use lib.ListN.{length, take}
-use lib.Dec.{ltb, eqb}
+use lib.Arith.{digits-div}
+use lib.Dec.{ltb}
 use borrow.Author.Tests.{le-ltb}
 use Rattle.tables.specs.declared.Geometry.{Geometry}
 use Rattle.tables.specs.meaning.Basics.{pick}
@@ -19,26 +21,27 @@ use Rattle.tables.specs.meaning.Device.{Device, Store, applyAll}
 use Rattle.logs.specs.meaning.Entry.{spareZone, wornGeneration}
 use Rattle.logs.specs.laws.Entry.{worn-is}
 use Rattle.tables.specs.meaning.Drives.{noDrive, presentBut}
+use Rattle.tables.specs.laws.Drives.{present-below}
+use Rattle.tables.specs.laws.Basics.{not-not, eqb-same}
 use Rattle.volume.specs.meaning.Calls.{formatStores}
 use Rattle.volume.specs.laws.Firm.{firm-roles}
 use Rattle.promise.specs.roles.FormatRoles.{format-standing}
 use Rattle.volume.specs.declared.Answer.the-variants.{Finished, Unfinished, Refused}
-use Rattle.volume.specs.meaning.State.{StateView, pointerIn}
-use Rattle.volume.specs.meaning.Content.{insideStripe, parityDriveAt}
+use Rattle.volume.specs.meaning.State.{StateView, hosts, shareAt, callPresent}
 use Rattle.volume.specs.meaning.Rules.{isPresent, lostDrive, showing}
 use Rattle.volume.specs.meaning.Roles.{Roles, roles, byRoles, claimOfKind, lacksKind}
-use Rattle.volume.specs.meaning.Emptying.{InForce, byLook, byState, spareWritten, reserve, mountGeneralLimit, resetLimit, emptiedFor, emptiedForWrite, RoomyGeneral, RoomyParity}
-use Rattle.volume.specs.meaning.Refusals.{Verdict, accept, TableLengths, firstRefusal, tablesFit, badPointers, kindLacks, badLabels, badLogs, twoLost, zoneOf, mountFull, resetFull, writeFull, mountRows, resetRows, writeRows}
-use Rattle.volume.specs.meaning.Answers.{CallResult, storing, mountCall, resetCall}
+use Rattle.volume.specs.meaning.Emptying.{InForce, byLook, byState, spareWritten, reserve, mountGeneralLimit, resetLimit, emptiedFor, RoomyGeneral, RoomyParity}
+use Rattle.volume.specs.meaning.Refusals.{Verdict, accept, TableLengths, firstRefusal, tablesFit, badPointers, kindLacks, badLabels, badLogs, twoLost, mountFull, resetFull, compactFull, mountRows, resetRows, compactRows}
+use Rattle.volume.specs.meaning.Answers.{CallResult, storing, mountCall, resetCall, compactCall}
 use Rattle.volume.specs.laws.Refusals.{passed, conditionOfRow, refusalOrder}
 use Rattle.volume.specs.laws.LeastRefusal.{first-least}
-use Rattle.volume.specs.laws.RoomAfter.{cannotEmpty, mount-full-is, reset-full-is, write-full-is}
-use Rattle.promise.specs.meaning.Claim.{WriteAsked, Volume, System, NamesAll, mounts, writes, resets, ready, allBut}
-use Rattle.promise.specs.meaning.OnDevice.{callOf, onDevice}
+use Rattle.volume.specs.laws.RoomAfter.{cannotEmpty, mount-full-is, reset-full-is, compact-full-is, compact-share-least}
+use Rattle.promise.specs.meaning.Claim.{Volume, System, NamesAll, mounts, resets, compacts, calls, next, ready, allBut}
+use Rattle.promise.specs.meaning.OnDevice.{onDevice}
 use Rattle.promise.specs.meaning.Caches.{Caches, withCaches, beneath, deviceCaches, onCachingDevice}
-use Rattle.promise.specs.meaning.Roomy.{BeforeLast, NeverFull, RoomyClaim}
+use Rattle.promise.specs.meaning.Roomy.{BeforeLast, leastShare, NeverFull, RoomyClaim}
 use Rattle.promise.specs.device.Looks.{LookFine}
-use Rattle.promise.specs.device.AcceptedCalls.{two-same, pointers-same, storing-refused}
+use Rattle.promise.specs.device.AcceptedCalls.{two-same, pointers-same, storing-refused, storing-finished}
 use Rattle.promise.specs.device.Heard.{answer-heard}
 use Rattle.promise.specs.device.ClaimEvents.{fine, drives-of-call, drives-of-look}
 use Rattle.promise.specs.device.CachedPromise.{names-beneath}
@@ -91,13 +94,8 @@ module _ (g : Geometry) (present : ℕ → Bool) (r : ℕ → Roles) (f : InForc
         go d hd true a = not-stuck false d hd a (emptiedFor g present false r w (resetLimit g) d)
         go d hd false a = rw a refl
 
-    write-not-full : RoomyParity g → (z end : ℕ) → writeFull g present r f w z end ≡ false
-    unfolding emptiedForWrite emptiedFor
-    write-not-full parity z end = write-full-is g present r f w parity z end ∙ none-any-below _ (g .drives) (λ d hd. go d hd (present d) refl)
-      where
-        go : (d : ℕ) → d < g .drives → (b : Bool) → present d ≡ b → emptiedForWrite g present r w z end d && (cannotEmpty true r d || spareWritten w d) ≡ false
-        go d hd true a = not-stuck true d hd a (emptiedForWrite g present r w z end d)
-        go d hd false a = rw (a, and-false (insideStripe g end && eqb d (parityDriveAt g z end))) refl
+    compact-not-full : RoomyParity g → (d : ℕ) → d < g .drives → present d ≡ true → compactFull g r f w d ≡ false
+    compact-not-full parity d hd a = compact-full-is g r f w parity d ∙ not-stuck true d hd a true
 
 -- ---- at a point of a history
 module _ (g : Geometry) (t : TableLengths) (wb : isValid g ≡ true) (lf : tablesFit g t ≡ true) (s : System (onDevice g t)) (k : Known g t s) (young : BeforeLast g (s .lost) (s .memory)) (named : ℕ → Bool) (names : NamesAll g (onDevice g t) s named) where
@@ -134,20 +132,30 @@ module _ (g : Geometry) (t : TableLengths) (wb : isValid g ≡ true) (lf : table
       let r14 : conditionOfRow 14 (c .refusals) ≡ false = rw (drives-of-call g ok t s (k .ok) named names m) (reset-not-full g here (roles g (s .memory)) (byState g here u (s .state)) u (looked .kinds) young (k .blank m) general) in
       true≢false (sym (first-least refusalOrder (c .refusals) 14 refl refl (storing-refused (firstRefusal (c .refusals)) (c .stores) (c .state) (s .state) stop (s .memory) 14 e) .applies) ∙ r14)
 
-  write-law : RoomyParity g → s .mode ≡ ready → (asked : WriteAsked) (stop : ℕ) → onDevice g t .call (writes asked) named (s .state) stop (s .memory) .answer ≢ Refused 14
-  unfolding writeRows
-  write-law parity m asked stop e =
-      let z = zoneOf g (asked .address) in
-      let c = callOf g t (writes asked) named (s .state) (s .memory) in
-      let r14 : conditionOfRow 14 (c .refusals) ≡ false = rw (drives-of-call g ok t s (k .ok) named names m)
-      (write-not-full g here (roles g (s .memory)) (byState g here u (s .state)) u (looked .kinds) young (k .blank m) parity z (pointerIn (s .state .condition z) + asked .count)) in
-      true≢false (sym (first-least refusalOrder (c .refusals) 14 refl refl (storing-refused (firstRefusal (c .refusals)) (c .stores) (c .state) (s .state) stop (s .memory) 14 e) .applies) ∙ r14)
+  compact-law : RoomyParity g → s .mode ≡ ready → (d stop : ℕ) → onDevice g t .call (compacts d) named (s .state) stop (s .memory) .answer ≢ Refused 14
+  unfolding compactRows
+  compact-law parity m d stop e =
+      let c = compactCall g t named (s .state) d (s .memory) in
+      let least = first-least refusalOrder (c .refusals) 14 refl refl (storing-refused (firstRefusal (c .refusals)) (c .stores) (c .state) (s .state) stop (s .memory) 14 e) in
+      let drives = drives-of-call g ok t s (k .ok) named names m in
+      let there : here d ≡ true = sym (ap (λ (f : ℕ → Bool). f d) drives) ∙ not-not (callPresent g named (s .state) d) (least .none-before 8 refl) in
+      let r14 : conditionOfRow 14 (c .refusals) ≡ false = rw drives (compact-not-full g here (roles g (s .memory)) (byState g here u (s .state)) u (looked .kinds) young (k .blank m) parity d (present-below g (s .lost) d there) there) in
+      true≢false (sym (least .applies) ∙ r14)
+
+  -- what a compact leaves of its drive's shares
+  compact-leaves : (d stop : ℕ) → onDevice g t .call (compacts d) named (s .state) stop (s .memory) .answer ≡ Finished → (h : ℕ) → h < hosts
+      → leastShare g ≤ next g (onDevice g t) s (calls (compacts d) named stop) .state .share (shareAt d h)
+  compact-leaves d stop e h hh =
+      let c = compactCall g t named (s .state) d (s .memory) in
+      let (p, q) = storing-finished (firstRefusal (c .refusals)) (c .stores) (c .state) (s .state) stop (s .memory) e in
+      rw (p, q, digits-div d {m = hosts} {r = h} hh, eqb-same d) (compact-share-least g (byState g (callPresent g named (s .state)) u (s .state)) d)
 
 pub never-full : (g : Geometry) (t : TableLengths) → RoomyGeneral g → RoomyParity g → isValid g ≡ true → tablesFit g t ≡ true → (s : System (onDevice g t)) → Known g t s → BeforeLast g (s .lost) (s .memory) → NeverFull g (onDevice g t) s
 never-full g t general parity wb lf s k young = record {
   mount-accepted = λ named names stop n e. mount-law g t wb lf s k young named names general parity stop n (answer-heard e);
   reset-not-full = λ named names m z stop e. reset-law g t wb lf s k young named names general m z stop (answer-heard e);
-  write-not-full = λ named names m w stop e. write-law g t wb lf s k young named names parity m w stop (answer-heard e);
+  compact-not-full = λ named names m d stop e. compact-law g t wb lf s k young named names parity m d stop (answer-heard e);
+  compact-leaves = λ named names m d stop e h hh. compact-leaves g t wb lf s k young named names d stop (answer-heard e) h hh;
 }
 
 -- with caches: a call's answer does not go by what they remember
@@ -155,7 +163,8 @@ pub never-full-beneath : (g : Geometry) (vol : Volume) (c : Caches vol) (s : Sys
 never-full-beneath g vol c s p = record {
   mount-accepted = λ named n. p .mount-accepted named (names-beneath g vol c s named n);
   reset-not-full = λ named n. p .reset-not-full named (names-beneath g vol c s named n);
-  write-not-full = λ named n. p .write-not-full named (names-beneath g vol c s named n);
+  compact-not-full = λ named n. p .compact-not-full named (names-beneath g vol c s named n);
+  compact-leaves = λ named n. p .compact-leaves named (names-beneath g vol c s named n);
 }
 
 -- THE THEOREM

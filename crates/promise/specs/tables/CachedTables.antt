@@ -22,9 +22,9 @@ use Rattle.promise.specs.meaning.Claim.{Mode, ready, stopped, down, Syst
 use Rattle.promise.specs.meaning.OnTables.{onTables}
 use Rattle.promise.specs.meaning.Caches.{onCachingDevice, beneath}
 use Rattle.promise.specs.meaning.CachesOnTables.{ZoneKept, ZoneBack, TablesCachingCut, tablesCaches, onCachingTables}
-use Rattle.promise.specs.device.CachedModes.{OkCached}
+use Rattle.promise.specs.device.CachedModes.{OkCached, read-cached}
 use Rattle.promise.specs.device.CachedEvents.{OkOn}
-use Rattle.promise.specs.tables.CallRefines.{Agree, ok-agrees}
+use Rattle.promise.specs.tables.CallRefines.{Agree, agree-zones}
 use Rattle.promise.specs.tables.TablesEvents.{TablesOk}
 
 -- ---- a cut of the tables is one of the device
@@ -74,7 +74,7 @@ caching-cut-refines g x t was u c d z n = go (inOrOut g d z)
 
 -- ---- what holds, with states that say the same
 pub agrees-cached : (g : Geometry) (m : Mode) (x : ℕ) (c : Caching) (a b : StateView) (l : Ledger) → Agree g a b → OkCached g m x c a l → OkCached g m x c b l
-agrees-cached g ready x c a b l e r = record { rests = λ u k. ok-agrees g ready x u a b l e (r .rests u k); roles-are = r .roles-are; spares = r .spares }
+agrees-cached g ready x c a b l e r = read-cached g x c a b l (λ h. rw (← e .lost-same) h) (agree-zones g a b e) r
 agrees-cached g stopped x c a b l e o = o
 agrees-cached g down x c a b l e o = o
 

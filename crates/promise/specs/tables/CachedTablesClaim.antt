@@ -1,5 +1,5 @@
 -- THE PROMISE ON THE TABLES, on drives that cache resets, holds: every event keeps on the tables what it keeps on the device (CachedEvents).
-use mathlib.Core.Path.{_≡_, sym, ap, ap₂, _∙_, subst}
+use mathlib.Core.Path.{_≡_, refl, sym, ap, ap₂, _∙_, subst}
 use mathlib.Core.Logic.{_≢_, _⊎_, inl, inr}
 use mathlib.Core.Bool.{Bool, true, false}
 use Prim.Native.Nat.{ℕ, _≤_, _<_, _^_}
@@ -17,13 +17,16 @@ use Rattle.tables.specs.laws.TablesRefine.{run-refines, loss-refines}
 use Rattle.tables.specs.laws.Made.{WellSized}
 use Rattle.tables.specs.laws.TablesFrame.{lengths-sized}
 use Rattle.tables.specs.laws.PointerOrder.{InOrder}
+use Rattle.tables.specs.meaning.Drives.{presentBut}
 use Rattle.tables.specs.declared.Geometry.{Geometry}
 use Rattle.tables.specs.meaning.Geometry.{Valid, physicalZones}
 use Rattle.tables.specs.meaning.GeometryTest.{isValid}
 use Rattle.tables.specs.laws.GeometryTest.{valid-if-test}
 use Rattle.volume.specs.declared.State.{State}
 use Rattle.volume.specs.declared.Answer.the-variants.{Finished}
+use Rattle.volume.specs.meaning.State.{StateView, withShares}
 use Rattle.volume.specs.meaning.Calls.{formatStores, formatState}
+use Rattle.volume.specs.meaning.Hosts.{freshShares}
 use Rattle.volume.specs.meaning.Refusals.{accept}
 use Rattle.volume.specs.meaning.Answers.{leftOut, namedDrives}
 use Rattle.volume.specs.meaning.CallContracts.{viewState, isSet, lengthsOf, formatVerdict, formatOn, stateHeld}
@@ -36,7 +39,7 @@ use Rattle.promise.specs.meaning.Caches.{WithCaches, rememberedAfter, on
 use Rattle.promise.specs.meaning.CachesOnTables.{ZoneKept, ZoneBack, TablesCachingCut, madeOn, tablesCaches, onCachingTables, CachingTablesClaim}
 use Rattle.promise.specs.invariant.Throughout.{throughout}
 use Rattle.promise.specs.device.AtRestAnswers.{left-out, drives-named}
-use Rattle.promise.specs.device.CachedModes.{RestsCached, OkCached}
+use Rattle.promise.specs.device.CachedModes.{RestsCached, OkCached, read-cached}
 use Rattle.promise.specs.device.CachedOwed.{format-rests-cached}
 use Rattle.promise.specs.device.CachedPromise.{names-beneath, cached-promise}
 use Rattle.promise.specs.meaning.ResetLasts.{ResetsLast}
@@ -110,6 +113,7 @@ module _ (g : Geometry) (ok : Valid g) (wb : isValid g ≡ true) (owed : CachesO
           order = λ e he n. cut-ordered g (s .lost) t (s .memory .was) (u .memory) (d .left) e he n (o .plain .order e he n);
           records = o .plain .records;
           holds = k .0;
+          shared = λ i. absurd (let z : _≡_ {A = ℕ} 0 1 = cc in omega arith);
         };
         holds = k;
       }
@@ -149,15 +153,18 @@ module _ (g : Geometry) (named : List Bool) (array : ℕ) (old : State) (stop : 
   device-is : deviceOf g (runStores g stop xs t) ≡ applyAllCaching xs c .now
   device-is = run-refines g stop xs t sized (format-stores-fit g named array t accepted) ∙ ap (λ (r : List Store). applyAll r (deviceOf g t)) made-all ∙ sym (now-is xs c)
 
-  device-rests : RestsCached g x (applyAllCaching xs c) (formatState x) freshLedger
-  device-rests = rw (drives-named g ok (isSet named) (passed .one-unnamed)) (format-rests-cached g ok x array c (left-out g (isSet named)) small)
+  -- the state that it hands on, as the rules see it
+  abbrev new : StateView
+  new = withShares (freshShares g (namedDrives g (isSet named))) (formatState x)
+
+  device-rests : RestsCached g x (applyAllCaching xs c) new freshLedger
+  device-rests = rw (drives-named g ok (isSet named) (passed .one-unnamed)) (read-cached g x _ (formatState x) (withShares (freshShares g (presentBut g x)) (formatState x)) freshLedger (λ h. h) (record { generations = λ z h. refl; conditions = λ z h. refl }) (format-rests-cached g ok x array c (left-out g (isSet named)) small))
 
   start-is : record { now = deviceOf g (runStores g stop xs t); was = rememberedAfter (take stop xs) (deviceOf g t) was } ≡ applyAllCaching xs c
   start-is = ap₂ (λ (a : Device) (b : List Store). record { now = a; was = applyAllCaching b c .was }) device-is made-all
 
-  pub start-rests : RestsCached g x (record { now = deviceOf g (runStores g stop xs t); was = rememberedAfter (take stop xs) (deviceOf g t) was })
-      (viewState (stateHeld (g .zones) (formatState x))) freshLedger
-  start-rests = agrees-cached g ready x _ (formatState x) (viewState (stateHeld (g .zones) (formatState x))) freshLedger (held-agrees g (g .zones) (formatState x) (omega arith)) (subst (λ (k : Caching). RestsCached g x k (formatState x) freshLedger) (sym start-is) device-rests)
+  pub start-rests : RestsCached g x (record { now = deviceOf g (runStores g stop xs t); was = rememberedAfter (take stop xs) (deviceOf g t) was }) (viewState (stateHeld (g .zones) new)) freshLedger
+  start-rests = agrees-cached g ready x _ new (viewState (stateHeld (g .zones) new)) freshLedger (held-agrees g (g .zones) new (omega arith)) (subst (λ (k : Caching). RestsCached g x k new freshLedger) (sym start-is) device-rests)
 
 -- after it all is well
 pub tables-start-cached : (g : Geometry) (named : List Bool) (array : ℕ) (old : State) (stop : ℕ) (m : WithCaches Tables) → array < 256 ^ 8 → let r = onCachingTables g .call (formats array) named old stop m in
@@ -168,7 +175,7 @@ tables-start-cached g named array old stop m small e =
     let x = leftOut g (isSet named) in
     let ss = formatStores g (namedDrives g (isSet named)) x array in
     let (wb, plain) = tables-start g named array old stop t small e in
-    let (p, q) = answer-finished g (formatVerdict g named t) (format-numbered-on g named t) ss (stateHeld (g .zones) (formatState x)) old stop t e in
+    let (p, q) = answer-finished g (formatVerdict g named t) (format-numbered-on g named t) ss (stateHeld (g .zones) (withShares (freshShares g (namedDrives g (isSet named))) (formatState x))) old stop t e in
     let holds = start-rests g named array old stop t (m .was) small p q in
     (wb, record { plain = plain; holds = rw (p, q) holds })
 

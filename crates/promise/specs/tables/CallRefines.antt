@@ -14,7 +14,8 @@ use Rattle.tables.specs.declared.Geometry.{Geometry}
 use Rattle.tables.specs.meaning.Basics.{pick}
 use Rattle.tables.specs.meaning.Below.{anyBelow}
 use Rattle.tables.specs.laws.Below.{none-any-below}
-use Rattle.tables.specs.meaning.Geometry.{physicalZones}
+use Rattle.tables.specs.meaning.Geometry.{Valid, physicalZones}
+use Rattle.tables.specs.laws.Drives.{present-below}
 use Rattle.tables.specs.meaning.Device.{Device, Store, applyAll}
 use Rattle.tables.specs.meaning.Tables.{Tables, deviceOf, runStores, pointersBad}
 use Rattle.tables.specs.laws.Made.{WellSized, AllPlaced, FitsAll}
@@ -27,27 +28,33 @@ use Rattle.volume.specs.declared.State.{State}
 use Rattle.volume.specs.declared.ZoneRecord.{ZoneRecord}
 use Rattle.volume.specs.declared.Outcome.{Outcome}
 use Rattle.volume.specs.declared.Answer.the-variants.{Finished, Unfinished, Refused}
-use Rattle.volume.specs.meaning.State.{StateView, pointerIn}
-use Rattle.volume.specs.meaning.Roles.{byRoles}
+use Rattle.volume.specs.meaning.State.{StateView, maxShares, shareAt}
 use Rattle.volume.specs.meaning.Refusals.{Verdict, refuse, accept, badPointers}
 use Rattle.volume.specs.meaning.Answers.{CallResult, storing}
 use Rattle.volume.specs.meaning.CallContracts.{viewState, stateHeld, isSet, verdictNumber, Result, storingOn}
-use Rattle.volume.specs.laws.StateHeld.{held-at}
+use Rattle.volume.specs.laws.StateHeld.{held-at, held-share}
 use Rattle.volume.specs.laws.Refusals.{Numbered}
 use Rattle.promise.specs.meaning.Ledger.{Ledger}
-use Rattle.promise.specs.meaning.Claim.{Mode, ready, stopped, down}
-use Rattle.promise.specs.invariant.Invariant.{Ghost, Rest}
-use Rattle.promise.specs.device.Modes.{OkIn}
-use Rattle.promise.specs.device.Marks.{withMarks}
+use Rattle.promise.specs.meaning.Claim.{Mode, ready, stopped, down, SameZones}
+use Rattle.promise.specs.device.Modes.{OkIn, read-some}
+use Rattle.promise.specs.device.SharesKept.{SharesKept, same-shares}
 
--- ---- states that say the same of the volume's zones
+-- ---- states that say the same of the volume's zones, and have the same shares
 pub record Agree (g : Geometry) (a b : StateView) : Type 0 where
   pub lost-same : a .lost ≡ b .lost
   pub generation-same : (z : ℕ) → z < g .zones → a .generation z ≡ b .generation z
   pub condition-same : (z : ℕ) → z < g .zones → a .condition z ≡ b .condition z
+  pub owner-same : (z : ℕ) → z < g .zones → a .owner z ≡ b .owner z
+  pub share-same : (i : ℕ) → i < maxShares → a .share i ≡ b .share i
 
 pub agree-refl : (g : Geometry) (a b : StateView) → a ≡ b → Agree g a b
-agree-refl g a b e = record { lost-same = ap (λ (s : StateView). s .lost) e; generation-same = λ z h. ap (λ (s : StateView). s .generation z) e; condition-same = λ z h. ap (λ (s : StateView). s .condition z) e }
+agree-refl g a b e = record {
+  lost-same = ap (λ (s : StateView). s .lost) e;
+  generation-same = λ z h. ap (λ (s : StateView). s .generation z) e;
+  condition-same = λ z h. ap (λ (s : StateView). s .condition z) e;
+  owner-same = λ z h. ap (λ (s : StateView). s .owner z) e;
+  share-same = λ i h. ap (λ (s : StateView). s .share i) e;
+}
 
 -- so does the code's state that is made of one
 pub held-agrees : (g : Geometry) (n : ℕ) (v : StateView) → g .zones ≤ n → Agree g v (viewState (stateHeld n v))
@@ -55,29 +62,21 @@ held-agrees g n v h = record {
   lost-same = refl;
   generation-same = λ z k. let l : z < n = omega arith in ap (λ (r : ZoneRecord). r .generation) (sym (held-at n v z l));
   condition-same = λ z k. let l : z < n = omega arith in ap (λ (r : ZoneRecord). r .condition) (sym (held-at n v z l));
+  owner-same = λ z k. let l : z < n = omega arith in ap (λ (r : ZoneRecord). r .owner) (sym (held-at n v z l));
+  share-same = λ i k. sym (held-share n v i k);
 }
 
--- the invariant between calls asks no more of a state
-rest-agrees : (g : Geometry) (x : ℕ) (v : Device) (a b : StateView) (l : Ledger) (γ : Ghost) → Agree g a b → Rest g x v a l γ → Rest g x v b l γ
-rest-agrees g x v a b l γ e r = record {
-  logs = r .logs;
-  zones = λ z h. let q = r .zones z h in record {
-    live = q .live;
-    generation-is = q .generation-is ∙ e .generation-same z h;
-    pointer-is = q .pointer-is ∙ ap pointerIn (e .condition-same z h);
-    strong-now = q .strong-now;
-    shape = rw (← e .condition-same z h) (q .shape);
-    sectors = rw (← e .condition-same z h) (q .sectors);
-    no-flag = q .no-flag;
-  };
-  whole = r .whole;
-  lost-is = rw (← e .lost-same) (r .lost-is);
-}
+pub agree-zones : (g : Geometry) (a b : StateView) → Agree g a b → SameZones g a b
+agree-zones g a b e = record { generations = e .generation-same; conditions = e .condition-same }
 
+-- the invariant asks no more of a state
 pub ok-agrees : (g : Geometry) (m : Mode) (x : ℕ) (v : Device) (a b : StateView) (l : Ledger) → Agree g a b → OkIn g m x v a l → OkIn g m x v b l
-ok-agrees g ready x v a b l e (k, c, h, (s, (γ, r, q))) = (k, c, h, (s, (γ, rest-agrees g x (byRoles g v) a b (withMarks l c) γ e r, q)))
+ok-agrees g ready x v a b l e o = read-some g x v a b l (λ h. rw (← e .lost-same) h) (agree-zones g a b e) o
 ok-agrees g stopped x v a b l e o = o
 ok-agrees g down x v a b l e o = o
+
+pub shares-agree : (g : Geometry) → Valid g → (x : ℕ) (v : Device) (a b : StateView) → Agree g a b → SharesKept g x v a → SharesKept g x v b
+shares-agree g ok x v a b e f = same-shares g x v a b (λ d h here k. e .share-same (shareAt d h) (omega (arith, present-below g x d here, ok .drives-most, k))) f
 
 -- ---- results that say the same
 pub record Agrees (g : Geometry) (a b : CallResult Device StateView) : Type 0 where

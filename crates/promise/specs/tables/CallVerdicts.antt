@@ -6,8 +6,8 @@ use mathlib.Core.List.{List}
 use Rattle.tables.specs.declared.Geometry.{Geometry}
 use Rattle.tables.specs.meaning.Tables.{Tables, deviceOf, pointersBad}
 use Rattle.volume.specs.declared.State.{State}
-use Rattle.volume.specs.meaning.Refusals.{Verdict, refuse, accept, firstRefusal, formatRows, lookRows, mountRows, writeRows, flushRows, resetRows, readRows, peekRows, badPointers}
-use Rattle.volume.specs.meaning.CallContracts.{viewState, isSet, verdictNumber, lengthsOf, rolesOf, seenIn, formatVerdict, lookVerdict, mountVerdict, writeVerdict, flushVerdict, resetVerdict, readNumber, peekNumber}
+use Rattle.volume.specs.meaning.Refusals.{Verdict, refuse, accept, firstRefusal, WriteAsked, formatRows, lookRows, mountRows, writeRows, flushRows, resetRows, compactRows, readRows, peekRows, badPointers}
+use Rattle.volume.specs.meaning.CallContracts.{viewState, isSet, verdictNumber, lengthsOf, rolesOf, seenIn, formatVerdict, lookVerdict, mountVerdict, writeVerdict, flushVerdict, resetVerdict, compactVerdict, readNumber, peekNumber}
 use Rattle.volume.specs.laws.Refusals.{Numbered, numbered}
 use Rattle.promise.specs.tables.CallRefines.{pointers-pass}
 
@@ -34,9 +34,13 @@ module _ (g : Geometry) (named : List Bool) (t : Tables) (h : pointersBad g name
     unfolding flushVerdict flushRows
     flush-verdict = rw (h, pointers-pass g named t h) refl
 
-    pub write-verdict : (a count bytes : ℕ) → writeVerdict g named s a count bytes t ≡ firstRefusal (writeRows g (lengthsOf t) (badPointers g (isSet named) (deviceOf g t)) (isSet named) (viewState s) a count bytes (rolesOf g t) (seenIn g t))
+    pub write-verdict : (a : WriteAsked) → writeVerdict g named s a t ≡ firstRefusal (writeRows g (lengthsOf t) (badPointers g (isSet named) (deviceOf g t)) (isSet named) (viewState s) a (rolesOf g t) (seenIn g t))
     unfolding writeVerdict writeRows
-    write-verdict a count bytes = rw (h, pointers-pass g named t h) refl
+    write-verdict a = rw (h, pointers-pass g named t h) refl
+
+    pub compact-verdict : (d : ℕ) → compactVerdict g named s d t ≡ firstRefusal (compactRows g (lengthsOf t) (badPointers g (isSet named) (deviceOf g t)) (isSet named) (viewState s) d (rolesOf g t) (seenIn g t))
+    unfolding compactVerdict compactRows
+    compact-verdict d = rw (h, pointers-pass g named t h) refl
 
     pub reset-verdict : (z : ℕ) → resetVerdict g named s z t ≡ firstRefusal (resetRows g (lengthsOf t) (badPointers g (isSet named) (deviceOf g t)) (isSet named) (viewState s) z (rolesOf g t) (seenIn g t))
     unfolding resetVerdict resetRows
@@ -65,9 +69,13 @@ module _ (g : Geometry) (named : List Bool) (t : Tables) where
     unfolding flushRows
     flush-numbered = numbered (flushRows g (lengthsOf t) (badPointers g (isSet named) (deviceOf g t)) (isSet named) (viewState s) (deviceOf g t)) refl
 
-    pub write-numbered : (a count bytes : ℕ) → Numbered (firstRefusal (writeRows g (lengthsOf t) (badPointers g (isSet named) (deviceOf g t)) (isSet named) (viewState s) a count bytes (rolesOf g t) (seenIn g t)))
+    pub write-numbered : (a : WriteAsked) → Numbered (firstRefusal (writeRows g (lengthsOf t) (badPointers g (isSet named) (deviceOf g t)) (isSet named) (viewState s) a (rolesOf g t) (seenIn g t)))
     unfolding writeRows
-    write-numbered a count bytes = numbered (writeRows g (lengthsOf t) (badPointers g (isSet named) (deviceOf g t)) (isSet named) (viewState s) a count bytes (rolesOf g t) (seenIn g t)) refl
+    write-numbered a = numbered (writeRows g (lengthsOf t) (badPointers g (isSet named) (deviceOf g t)) (isSet named) (viewState s) a (rolesOf g t) (seenIn g t)) refl
+
+    pub compact-numbered : (d : ℕ) → Numbered (firstRefusal (compactRows g (lengthsOf t) (badPointers g (isSet named) (deviceOf g t)) (isSet named) (viewState s) d (rolesOf g t) (seenIn g t)))
+    unfolding compactRows
+    compact-numbered d = numbered (compactRows g (lengthsOf t) (badPointers g (isSet named) (deviceOf g t)) (isSet named) (viewState s) d (rolesOf g t) (seenIn g t)) refl
 
     pub reset-numbered : (z : ℕ) → Numbered (firstRefusal (resetRows g (lengthsOf t) (badPointers g (isSet named) (deviceOf g t)) (isSet named) (viewState s) z (rolesOf g t) (seenIn g t)))
     unfolding resetRows

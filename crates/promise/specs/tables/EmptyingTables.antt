@@ -13,12 +13,12 @@ use Rattle.tables.specs.laws.GeometryTest.{valid-if-test}
 use Rattle.volume.specs.meaning.Rules.{Shown}
 use Rattle.volume.specs.meaning.Refusals.{TableLengths}
 use Rattle.volume.specs.meaning.CallContracts.{viewState, isSet, lengthsOf}
-use Rattle.promise.specs.meaning.Claim.{Call, mounts, writes, resets, formats, System, NamesAll, start}
+use Rattle.promise.specs.meaning.Claim.{Call, mounts, resets, formats, compacts, System, NamesAll, start}
 use Rattle.promise.specs.meaning.OnDevice.{shownBy}
 use Rattle.promise.specs.meaning.Caches.{WithCaches, onCachingDevice}
 use Rattle.promise.specs.meaning.CachesOnTables.{onCachingTables}
 use Rattle.promise.specs.meaning.Histories.{ShowsAlike}
-use Rattle.promise.specs.meaning.Emptied.{AlikeUpTo, Emptyings, flushEnd, emptyingsOfWrite, emptyingsOfReset, emptyingsOfMount, parityEmptyingsOfMount, entryMade, stoppedAt, KeepsLooks, EmptyingsKeepLooks, EmptyingTablesClaim}
+use Rattle.promise.specs.meaning.Emptied.{AlikeUpTo, Emptyings, flushEnd, emptyingsOfCompact, emptyingsOfReset, emptyingsOfMount, parityEmptyingsOfMount, entryMade, stoppedAt, KeepsLooks, EmptyingsKeepLooks, EmptyingTablesClaim}
 use Rattle.promise.specs.invariant.Throughout.{every-point}
 use Rattle.promise.specs.device.CachedEvents.{cachingOf, ok-beneath}
 use Rattle.promise.specs.device.CachedClaim.{caches-owed}
@@ -56,7 +56,7 @@ module _ (g : Geometry) (valid : Valid g) (s : System (onCachingTables g)) (o : 
       let v = deviceOf g (s .memory .memory) in
       let state = viewState (s .state) in
       record {
-        of-write = λ named n m w. on-tables (writes w) named n (emptyingsOfWrite g x v state w) (λ d. ShowsAlike g) (p .of-write (isSet named) (names-seen named n) m w);
+        of-compact = λ named n m d. on-tables (compacts d) named n (emptyingsOfCompact g x v state d) (λ e. ShowsAlike g) (p .of-compact (isSet named) (names-seen named n) m d);
         of-reset = λ named n m z. on-tables (resets z) named n (emptyingsOfReset g x v state) (λ d. ShowsAlike g) (p .of-reset (isSet named) (names-seen named n) m z);
         of-mount = λ named n m. on-tables mounts named n (emptyingsOfMount g x v) (λ d. ShowsAlike g) (p .of-mount (isSet named) (names-seen named n) m);
         of-mount-parity = λ named n m. on-tables mounts named n (parityEmptyingsOfMount g x v) (λ d. AlikeUpTo g (entryMade g x v d) (λ z. shownBy g (isSet named) v v .zone z .pointer)) (p .of-mount-parity (isSet named) (names-seen named n) m);

@@ -1,6 +1,6 @@
 -- What is promised on the tables holds at a point of a history: the rules' promise holds of the device that the tables stand for (ClaimProof.antt);
 -- here it is carried to what the calls' contracts say.
-use mathlib.Core.Path.{_≡_, refl, sym, ap, _∙_}
+use mathlib.Core.Path.{_≡_, refl, sym, ap, _∙_, subst}
 use mathlib.Core.Logic.{_≢_}
 use mathlib.Core.Bool.{Bool, true, false, _&&_}
 use Prim.Native.Nat.{ℕ, zero, suc, _^_, _≤_, _<_}
@@ -33,21 +33,22 @@ use Rattle.tables.specs.laws.TablesRefine.{run-refines, run-sized}
 use Rattle.tables.specs.laws.TablesFrame.{lengths-sized, sized-lengths}
 use Rattle.tables.specs.laws.PointerOrder.{order-passed, run-order}
 use Rattle.volume.specs.declared.State.{State}
-use Rattle.volume.specs.declared.Answer.the-variants.{Finished, Refused}
-use Rattle.volume.specs.meaning.State.{StateView, callPresent}
+use Rattle.volume.specs.declared.Answer.the-variants.{Finished, Unfinished, Refused}
+use Rattle.volume.specs.meaning.State.{StateView, withShares, callPresent}
 use Rattle.volume.specs.meaning.Content.{at}
-use Rattle.volume.specs.meaning.Mount.{mountState}
+use Rattle.volume.specs.meaning.Hosts.{sharesIn, freshShares}
 use Rattle.volume.specs.meaning.Rules.{Shown, valueAt, zoneView, viewOf}
 use Rattle.volume.specs.meaning.Roles.{roles, byRoles}
 use Rattle.volume.specs.meaning.Refusals.{Verdict, refuse, accept, firstRefusal, zoneOf, offsetOf, notHeld, twoUnnamed, formatRows, lookRows, readRows, peekRows, badPointers}
 use Rattle.volume.specs.meaning.Calls.{formatStores, formatState}
-use Rattle.volume.specs.meaning.Answers.{CallResult, giving, lookCall, leftOut, namedDrives, placeOf}
+use Rattle.volume.specs.meaning.Answers.{CallResult, giving, presentIn, leftOut, namedDrives, placeOf}
 use Rattle.promise.specs.meaning.Ledger.{freshLedger, Fits, Ledger}
 use Rattle.volume.specs.laws.Refusals.{accepted-row, Numbered, numbered}
 use Rattle.promise.specs.device.Marks.{withMarks}
-use Rattle.promise.specs.device.Modes.{OkIn, own-rests}
+use Rattle.promise.specs.device.Modes.{OkIn, own-rests, read-some}
 use Rattle.promise.specs.device.ClaimEvents.{rests-of, drives-of-call, look-held}
 use Rattle.promise.specs.device.ClaimProof.{serves, kept}
+use Rattle.promise.specs.device.SharesKept.{format-shares}
 use Rattle.promise.specs.device.Heard.{answer-heard, peek-heard, report-heard, read-alike}
 use Rattle.promise.specs.device.AtRestAnswers.{left-out, drives-named}
 use Rattle.promise.specs.roles.RoledCalls.{roled-format}
@@ -55,11 +56,11 @@ use Rattle.promise.specs.emptying.BlankSpares.{BlankSpares}
 use Rattle.promise.specs.device.BlankAtRest.{format-blank}
 use Rattle.volume.specs.meaning.CallContracts.{viewState, isSet, verdictNumber, lengthsOf, storingOn, formatVerdict, formatOn, lookOn, readOn, valuesOn, peekNumber, peekOn, partAt, badIn, peekFrom, byteOf, stateHeld}
 use Rattle.tables.specs.laws.StoresFit.{fits-all-placed}
-use Rattle.volume.specs.laws.StateHeld.{held-long}
-use Rattle.promise.specs.tables.CallRefines.{held-agrees, ok-agrees, answer-finished}
+use Rattle.volume.specs.laws.StateHeld.{held-sixteen}
+use Rattle.promise.specs.tables.CallRefines.{held-agrees, ok-agrees, shares-agree, answer-finished}
 use Rattle.promise.specs.tables.CallVerdicts.{numbered-accept, look-verdict, read-number, read-numbered, peek-number, peek-numbered}
-use Rattle.promise.specs.meaning.Claim.{mounts, writes, flushes, resets, System, Event, calls, looks, reads, peeks, reports, cuts, loses, Peeked, next, peekedAt, reported, NamesAll, Duty, SameZones, Serves, Promise, ready, start}
-use Rattle.promise.specs.meaning.OnDevice.{onDevice, lookResult, readResult, peekResult}
+use Rattle.promise.specs.meaning.Claim.{mounts, writes, flushes, resets, compacts, System, Event, calls, looks, reads, peeks, reports, cuts, loses, Peeked, next, peekedAt, reported, NamesAll, Duty, SameZones, Serves, Promise, ready, start}
+use Rattle.promise.specs.meaning.OnDevice.{onDevice, lookResult, readResult, peekResult, stateShown}
 use Rattle.promise.specs.meaning.OnTables.{callResult, resultOf, onTables, shownIn}
 use Rattle.promise.specs.tables.MountRefines.{call-refines, heard-as, mount-claim}
 use Rattle.promise.specs.tables.TablesEvents.{viewSystem, TablesOk, names-seen, pointers-fine, call-event, cut-event, loss-event}
@@ -90,9 +91,9 @@ content-long g c x v state l r z h a k =
     rw (at-prefix (l .content z) (r .0 .laid z) (q .front) a k) (q .sizes a (omega (arith, k, prefix-length (q .front))))
 
 -- a look that the rules finish is not refused
-look-accepted : (v : Verdict) (k : Shown) (state new : StateView) (w : Device) → lookResult (giving v k) state w ≡ record { answer = Finished; memory = w; state = new } → v ≡ accept
-look-accepted accept k state new w e = refl
-look-accepted (refuse n) k state new w e = absurd (let q : Refused n ≡ Finished = ap (λ (r : CallResult Device StateView). r .answer) e in let z : _≡_ {A = ℕ} 0 1 = cc in omega arith)
+look-accepted : (v : Verdict) (k : Shown) (shares : ℕ → ℕ) (state new : StateView) (w : Device) → lookResult (giving v k) shares state w ≡ record { answer = Finished; memory = w; state = new } → v ≡ accept
+look-accepted accept k shares state new w e = refl
+look-accepted (refuse n) k shares state new w e = absurd (let q : Refused n ≡ Finished = ap (λ (r : CallResult Device StateView). r .answer) e in let z : _≡_ {A = ℕ} 0 1 = cc in omega arith)
 
 module _ (g : Geometry) (ok : Valid g) (wb : isValid g ≡ true) (s : System (onTables g)) (o : TablesOk g s) where
   abbrev t : Tables
@@ -103,7 +104,7 @@ module _ (g : Geometry) (ok : Valid g) (wb : isValid g ≡ true) (s : System (on
 
   -- the rules' promise
   pub promised : Promise g (onDevice g (lengthsOf t)) (viewSystem g s)
-  promised = kept g ok (lengthsOf t) wb (sized-lengths g t (o .sized)) (viewSystem g s) (o .holds)
+  promised = kept g ok (lengthsOf t) wb (sized-lengths g t (o .sized)) (viewSystem g s) (o .holds) (o .shared)
 
   module _ (named : List Bool) (n : NamesAll g (onTables g) s named) where
     fine : pointersBad g named (t .written) (t .durable) ≡ false
@@ -112,38 +113,45 @@ module _ (g : Geometry) (ok : Valid g) (wb : isValid g ≡ true) (s : System (on
     abbrev names : NamesAll g (onDevice g (lengthsOf t)) (viewSystem g s) (isSet named)
     names = names-seen g s named n
 
+    -- what a look's state says, as the rules see it
+    abbrev told : StateView
+    told = stateShown g (isSet named) w w
+
+    abbrev lookedAt : CallResult Device StateView
+    lookedAt = onDevice g (lengthsOf t) .look (isSet named) (viewState (s .state)) w
+
+    told-is : lookedAt .state ≡ told
+    told-is = ap (λ (r : CallResult Device StateView). r .state) (promised .look-fits (isSet named) names .0)
+
     -- the refusals are the rules'
-    pub look-is : lookOn g named (s .state) t ≡ record { answer = Finished; state = stateHeld (g .zones) (mountState (shownIn g named t t)) }
+    pub look-is : lookOn g named (s .state) t ≡ record { answer = Finished; state = onTables g .stateOf named t t }
     unfolding lookOn
     look-is =
-        let p = look-accepted (firstRefusal (lookRows g (lengthsOf t) (badPointers g (isSet named) w) (isSet named) (roles g w) (byRoles g w))) (shownIn g named t t) (viewState (s .state)) (mountState (shownIn g named t t)) w (promised .look-fits (isSet named) names .0) in
+        let rows = lookRows g (lengthsOf t) (badPointers g (isSet named) w) (isSet named) (roles g w) (byRoles g w) in
+        let p = look-accepted (firstRefusal rows) (shownIn g named t t) (sharesIn g (presentIn g (isSet named) w) w) (viewState (s .state)) told w (promised .look-fits (isSet named) names .0) in
         rw (look-verdict g named t fine, p) refl
 
-    look-claim : (resultOf (lookOn g named (s .state) t) t ≡ record { answer = Finished; memory = t; state = stateHeld (g .zones) (mountState (shownIn g named t t)) }) × Fits g (s .ledger) (shownIn g named t t)
+    look-claim : (resultOf (lookOn g named (s .state) t) t ≡ record { answer = Finished; memory = t; state = onTables g .stateOf named t t }) × Fits g (s .ledger) (shownIn g named t t)
     look-claim = (rw look-is refl, promised .look-fits (isSet named) names .1)
 
     -- its state says what the host's says
     held-claim : s .mode ≡ ready → let looked = viewState (lookOn g named (s .state) t .state) in (looked .lost ≡ s .lost) × SameZones g looked (viewState (s .state))
     held-claim m =
-        let k = shownIn g named t t in
-        let e : lookResult (lookCall g (lengthsOf t) (isSet named) w) (viewState (s .state)) w .state ≡ mountState k = ap (λ (r : CallResult Device StateView). r .state) (promised .look-fits (isSet named) names .0) in
         let (a, b) = promised .look-holds (isSet named) names m in
-        let f = held-agrees g (g .zones) (mountState k) (omega arith) in
+        let f = held-agrees g (g .zones) told (omega arith) in
         rw look-is (
-          sym (f .lost-same) ∙ sym (ap (λ (r : StateView). r .lost) e) ∙ a,
+          sym (f .lost-same) ∙ sym (ap (λ (r : StateView). r .lost) told-is) ∙ a,
           record {
-            generations = λ z h. sym (f .generation-same z h) ∙ sym (ap (λ (r : StateView). r .generation z) e) ∙ b .generations z h;
-            conditions = λ z h. sym (f .condition-same z h) ∙ sym (ap (λ (r : StateView). r .condition z) e) ∙ b .conditions z h;
+            generations = λ z h. sym (f .generation-same z h) ∙ sym (ap (λ (r : StateView). r .generation z) told-is) ∙ b .generations z h;
+            conditions = λ z h. sym (f .condition-same z h) ∙ sym (ap (λ (r : StateView). r .condition z) told-is) ∙ b .conditions z h;
           },
         )
 
     -- and in its place the rules' system is so
     held-on : OkIn g (s .mode) (s .lost) w (viewState (lookOn g named (s .state) t .state)) (s .ledger)
     held-on =
-        let k = shownIn g named t t in
-        let e : lookResult (lookCall g (lengthsOf t) (isSet named) w) (viewState (s .state)) w .state ≡ mountState k = ap (λ (r : CallResult Device StateView). r .state) (promised .look-fits (isSet named) names .0) in
         let i = look-held g ok (lengthsOf t) (viewSystem g s) (o .holds) (isSet named) names in
-        rw look-is (ok-agrees g (s .mode) (s .lost) w (mountState k) (viewState (stateHeld (g .zones) (mountState k))) (s .ledger) (held-agrees g (g .zones) (mountState k) (omega arith)) (rw e at i))
+        rw look-is (ok-agrees g (s .mode) (s .lost) w told (viewState (stateHeld (g .zones) told)) (s .ledger) (held-agrees g (g .zones) told (omega arith)) (subst (λ (a : StateView). OkIn g (s .mode) (s .lost) w a (s .ledger)) told-is i))
 
     -- reads and peeks are the rules', by any state
     module _ (state : State) where
@@ -153,7 +161,7 @@ module _ (g : Geometry) (ok : Valid g) (wb : isValid g ≡ true) (s : System (on
       abbrev readVerdict : ℕ → ℕ → List ℕ → Verdict
       readVerdict a count out = firstRefusal (readRows g (lengthsOf t) (badPointers g (isSet named) w) (isSet named) (viewState state) a count (length out) (byRoles g w))
 
-      read-same : (a count : ℕ) (out : List ℕ) → readOn g named state a count out t ≡ onDevice g (lengthsOf t) .read (isSet named) (viewState state) a count out w
+      pub read-same : (a count : ℕ) (out : List ℕ) → readOn g named state a count out t ≡ onDevice g (lengthsOf t) .read (isSet named) (viewState state) a count out w
       unfolding readOn valuesOn
       read-same a count out = rw (read-number g named t fine state a count (length out)) (go (readVerdict a count out) (read-numbered g named t state a count (length out)))
         where
@@ -161,7 +169,7 @@ module _ (g : Geometry) (ok : Valid g) (wb : isValid g ≡ true) (s : System (on
           go accept h = refl
           go (refuse k) h = rw (ne-eqb k 0 h) refl
 
-      peek-number-same : (a : ℕ) → peekNumber g named state a t ≡ onDevice g (lengthsOf t) .peek (isSet named) (viewState state) a w .number
+      pub peek-number-same : (a : ℕ) → peekNumber g named state a t ≡ onDevice g (lengthsOf t) .peek (isSet named) (viewState state) a w .number
       peek-number-same a = peek-number g named t fine state a ∙ go (firstRefusal (peekRows g (lengthsOf t) (badPointers g (isSet named) w) (isSet named) (viewState state) a (byRoles g w)))
         where
           go : (v : Verdict) → verdictNumber v ≡ peekResult g (giving v (placeOf g a)) w .number
@@ -249,6 +257,11 @@ module _ (g : Geometry) (ok : Valid g) (wb : isValid g ≡ true) where
         flush-accepted = λ named n m stop a e. promised .flush-accepted (isSet named) (names-seen g s named n) m stop a (heard-as g ok s o named n flushes stop a e);
         reset-refused = λ named n m z stop a e. promised .reset-refused (isSet named) (names-seen g s named n) m z stop a (heard-as g ok s o named n (resets z) stop a e);
         write-refused = λ named n m w stop a e. promised .write-refused (isSet named) (names-seen g s named n) m w stop a (heard-as g ok s o named n (writes w) stop a e);
+        share-asked = λ named n m w k stop.
+            let (p, q) = promised .share-asked (isSet named) (names-seen g s named n) m w k stop in
+            ((λ e. p (heard-as g ok s o named n (writes w) stop Finished e)), (λ e. q (heard-as g ok s o named n (writes w) stop Unfinished e)));
+        compact-refused = λ named n m d stop a e. promised .compact-refused (isSet named) (names-seen g s named n) m d stop a (heard-as g ok s o named n (compacts d) stop a e);
+        shares-fit = promised .shares-fit;
         read-gives = λ named n m a count out bytes e. promised .read-gives (isSet named) (names-seen g s named n) m a count out bytes (read-alike (sym (read-same g ok wb s o named n (s .state) a count out)) e);
         read-accepted = λ named n m a count out hz pos len h. read-alike (read-same g ok wb s o named n (s .state) a count out) (promised .read-accepted (isSet named) (names-seen g s named n) m a count out hz pos len h);
         peek-gives = λ named n m a from part e.
@@ -308,6 +321,10 @@ module _ (g : Geometry) (named : List Bool) (array : ℕ) (old : State) (stop : 
   abbrev stores : List Store
   stores = formatStores g (presentBut g x) x array
 
+  -- the state that it hands on, as the rules see it
+  abbrev new : StateView
+  new = withShares (freshShares g (namedDrives g (isSet named))) (formatState x)
+
   stores-fit : FitsAll g stores (deviceOf g t)
   stores-fit = rw (← drives) (format-stores-fit g named array t accepted)
 
@@ -322,19 +339,23 @@ module _ (g : Geometry) (named : List Bool) (array : ℕ) (old : State) (stop : 
       let e′ : ltb stop (length stores) ≡ false = rw (← drives) e in
       run-refines g stop stores t sized stores-fit ∙ ap (λ (r : List Store). applyAll r (deviceOf g t)) (take-all stop stores (ltb-false stop (length stores) e′))
 
-  start-blank : ltb stop (length (formatStores g (namedDrives g (isSet named)) x array)) ≡ false → BlankSpares g x (deviceOf g (storingOn g 0 (formatStores g (namedDrives g (isSet named)) x array) (stateHeld (g .zones) (formatState x)) old stop t .tables))
+  start-blank : ltb stop (length (formatStores g (namedDrives g (isSet named)) x array)) ≡ false → BlankSpares g x (deviceOf g (storingOn g 0 (formatStores g (namedDrives g (isSet named)) x array) (stateHeld (g .zones) new) old stop t .tables))
   start-blank e = rw (drives, left-is e) (format-blank g ok x array (deviceOf g t) (left-out g (isSet named)) small)
 
-  pub start-ok : ltb stop (length (formatStores g (namedDrives g (isSet named)) x array)) ≡ false → TablesOk g (start g (onTables g) named (callResult (storingOn g 0 (formatStores g (namedDrives g (isSet named)) x array) (stateHeld (g .zones) (formatState x)) old stop t)))
+  pub start-ok : ltb stop (length (formatStores g (namedDrives g (isSet named)) x array)) ≡ false → TablesOk g (start g (onTables g) named (callResult (storingOn g 0 (formatStores g (namedDrives g (isSet named)) x array) (stateHeld (g .zones) new) old stop t)))
   start-ok e =
       let d = left-is e in
       let placed = fits-all-placed g stores (deviceOf g t) stores-fit in
+      let began = withShares (freshShares g (presentBut g x)) (formatState x) in
+      let agree = held-agrees g (g .zones) began (omega arith) in
+      let rests = read-some g x (applyAll stores (deviceOf g t)) (formatState x) began freshLedger (λ h. h) (record { generations = λ z h. refl; conditions = λ z h. refl }) (own-rests neverEmptied g x (applyAll stores (deviceOf g t)) (formatState x) freshLedger (roled-format g ok x array (deviceOf g t) (left-out g (isSet named)) small)) in
       rw (e, drives)
       (record {
         sized = run-sized g stop stores t sized placed;
         order = λ k hk q. run-order g k stop stores t hk sized placed (order-passed g named (t .written) (t .durable) k (passed .pointers-fit) hk (named-in k hk q));
-        records = held-long (g .zones) (formatState x) (ok .zones-most);
-        holds = rw d (ok-agrees g ready x (applyAll stores (deviceOf g t)) (formatState x) (viewState (stateHeld (g .zones) (formatState x))) freshLedger (held-agrees g (g .zones) (formatState x) (omega arith)) (own-rests neverEmptied g x (applyAll stores (deviceOf g t)) (formatState x) freshLedger (roled-format g ok x array (deviceOf g t) (left-out g (isSet named)) small)));
+        records = held-sixteen (g .zones) began (ok .zones-most);
+        holds = rw d (ok-agrees g ready x (applyAll stores (deviceOf g t)) began (viewState (stateHeld (g .zones) began)) freshLedger agree rests);
+        shared = rw d (λ i. shares-agree g ok x (applyAll stores (deviceOf g t)) began (viewState (stateHeld (g .zones) began)) agree (format-shares g ok x array (deviceOf g t) (left-out g (isSet named)) small));
       })
 
 -- a finished format begins a history
@@ -344,7 +365,7 @@ unfolding formatOn
 tables-start g named array old stop t small e =
     let x = leftOut g (isSet named) in
     let ss = formatStores g (namedDrives g (isSet named)) x array in
-    let (p, q) = answer-finished g (formatVerdict g named t) (format-numbered-on g named t) ss (stateHeld (g .zones) (formatState x)) old stop t e in
+    let (p, q) = answer-finished g (formatVerdict g named t) (format-numbered-on g named t) ss (stateHeld (g .zones) (withShares (freshShares g (namedDrives g (isSet named))) (formatState x))) old stop t e in
     let passed = format-passed g named t p in
     (passed .valid-test, rw p (start-ok g named array old stop t small p q))
 
@@ -355,5 +376,5 @@ unfolding formatOn
 tables-start-blank g named array old stop t small e =
     let x = leftOut g (isSet named) in
     let ss = formatStores g (namedDrives g (isSet named)) x array in
-    let (p, q) = answer-finished g (formatVerdict g named t) (format-numbered-on g named t) ss (stateHeld (g .zones) (formatState x)) old stop t e in
+    let (p, q) = answer-finished g (formatVerdict g named t) (format-numbered-on g named t) ss (stateHeld (g .zones) (withShares (freshShares g (namedDrives g (isSet named))) (formatState x))) old stop t e in
     rw p (start-blank g named array old stop t small p q)

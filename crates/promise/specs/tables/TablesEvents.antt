@@ -1,5 +1,5 @@
 -- Every event on the tables keeps the invariant: the tables have their lengths, the pointers of the drives that are not lost are in order, the
--- state has its sixteen records, and the device that the tables stand for is as ClaimEvents.antt says.
+-- state has its sixteen records and shares, and the device that the tables stand for is as ClaimEvents.antt and SharesKept.antt say.
 use mathlib.Core.Path.{_≡_, refl, sym, ap, _∙_}
 use mathlib.Core.Logic.{_≢_, _⊎_, inl, inr}
 use mathlib.Core.Bool.{Bool, true, false, not, true≢false}
@@ -19,12 +19,12 @@ use Rattle.tables.specs.laws.TablesRefine.{cut-refines, loss-refines, kept-size
 use Rattle.tables.specs.laws.PointerOrder.{InOrder, order-passes, cut-order, loss-order}
 use Rattle.volume.specs.declared.State.{State}
 use Rattle.volume.specs.meaning.State.{StateView}
-use Rattle.volume.specs.meaning.Refusals.{Verdict, refuse, accept, firstRefusal}
+use Rattle.volume.specs.meaning.Refusals.{Verdict, refuse, accept, firstRefusal, WriteAsked}
 use Rattle.volume.specs.meaning.Answers.{StoringCall}
-use Rattle.volume.specs.meaning.CallContracts.{viewState, isSet, verdictNumber, lengthsOf, Result, storingOn, flushOn, resetOn, writeOn, formatOn, stateHeld}
+use Rattle.volume.specs.meaning.CallContracts.{viewState, isSet, verdictNumber, lengthsOf, Result, storingOn, flushOn, resetOn, writeOn, compactOn, formatOn, stateHeld}
 use Rattle.volume.specs.laws.Refusals.{Numbered}
-use Rattle.volume.specs.laws.StateHeld.{held-long}
-use Rattle.promise.specs.meaning.Claim.{WriteAsked, Call, writes, flushes, resets, formats, System, calls, cuts, loses, next, NamesAll, Duty, modeAfter, noteOf, replyTo}
+use Rattle.volume.specs.laws.StateHeld.{Sixteen, held-sixteen}
+use Rattle.promise.specs.meaning.Claim.{Call, writes, flushes, resets, formats, compacts, ready, System, calls, cuts, loses, next, NamesAll, Duty, modeAfter, noteOf, replyTo}
 use Rattle.promise.specs.meaning.Ledger.{noted}
 use Rattle.promise.specs.meaning.OnDevice.{callOf, onDevice, shownBy}
 use Rattle.promise.specs.meaning.OnTables.{resultOn, onTables, shownIn}
@@ -32,9 +32,10 @@ use Rattle.promise.specs.meaning.Caches.{madeBy, madeStores}
 use Rattle.promise.specs.meaning.CachesOnTables.{madeOn}
 use Rattle.promise.specs.device.Modes.{OkIn}
 use Rattle.promise.specs.device.ClaimEvents.{event-keeps}
-use Rattle.promise.specs.tables.CallRefines.{Agree, held-agrees, ok-agrees, Agrees, viewResult, storing-agrees, storing-sized, storing-order, storing-state}
-use Rattle.promise.specs.tables.CallVerdicts.{format-verdict, format-numbered, flush-verdict, flush-numbered, write-verdict, write-numbered, reset-verdict, reset-numbered}
-use Rattle.volume.specs.laws.CallStoresFit.{flush-stores-fit, reset-stores-fit, format-stores-fit, write-stores-fit}
+use Rattle.promise.specs.device.SharesKept.{SharesKept, event-shares}
+use Rattle.promise.specs.tables.CallRefines.{Agree, held-agrees, ok-agrees, shares-agree, Agrees, viewResult, storing-agrees, storing-sized, storing-order, storing-state}
+use Rattle.promise.specs.tables.CallVerdicts.{format-verdict, format-numbered, flush-verdict, flush-numbered, write-verdict, write-numbered, reset-verdict, reset-numbered, compact-verdict, compact-numbered}
+use Rattle.volume.specs.laws.CallStoresFit.{flush-stores-fit, reset-stores-fit, format-stores-fit, write-stores-fit, compact-stores-fit}
 
 -- the system of the rules
 abbrev pub viewSystem : (g : Geometry) (s : System (onTables g)) → System (onDevice g (lengthsOf (s .memory)))
@@ -43,8 +44,9 @@ viewSystem g s = record { memory = deviceOf g (s .memory); lost = s .lost; mode 
 pub record TablesOk (g : Geometry) (s : System (onTables g)) : Type 0 where
   pub sized : WellSized g (s .memory)
   pub order : (d : ℕ) → d < g .drives → d ≢ s .lost → InOrder g d (s .memory .written) (s .memory .durable)
-  pub records : length (s .state .zones) ≡ 16
+  pub records : Sixteen (s .state)
   pub holds : OkIn g (s .mode) (s .lost) (deviceOf g (s .memory)) (viewState (s .state)) (s .ledger)
+  pub shared : s .mode ≡ ready → SharesKept g (s .lost) (deviceOf g (s .memory)) (viewState (s .state))
 
 module _ (g : Geometry) (s : System (onTables g)) (named : List Bool) (n : NamesAll g (onTables g) s named) where
   -- what the host names, as the rules see it
@@ -70,7 +72,7 @@ pub record Refines (g : Geometry) (s : System (onTables g)) (c : Call) (named : 
   pub has-number : Numbered verdict
   pub same : verdict ≡ accept → stores ≡ callOf g (lengthsOf (s .memory)) c (isSet named) (viewState (s .state)) (deviceOf g (s .memory)) .stores
   pub fit : verdict ≡ accept → FitsAll g (callOf g (lengthsOf (s .memory)) c (isSet named) (viewState (s .state)) (deviceOf g (s .memory)) .stores) (deviceOf g (s .memory))
-  pub long : verdict ≡ accept → length (new .zones) ≡ 16
+  pub long : verdict ≡ accept → Sixteen new
   pub agree : verdict ≡ accept → ltb stop (length (callOf g (lengthsOf (s .memory)) c (isSet named) (viewState (s .state)) (deviceOf g (s .memory)) .stores)) ≡ false
       → Agree g (callOf g (lengthsOf (s .memory)) c (isSet named) (viewState (s .state)) (deviceOf g (s .memory)) .state) (viewState new)
 
@@ -98,8 +100,9 @@ module _ (g : Geometry) (ok : Valid g) (s : System (onTables g)) (o : TablesOk g
   call-event (n, m, q) = record {
     sized = rw (r .result-is) (storing-sized g (s .memory) (r .verdict) (r .has-number) (r .stores) (k .stores) (r .new) (s .state) (k .state) stop (o .sized) (r .same) (r .fit));
     order = λ d hd h. rw (r .result-is) (storing-order g (s .memory) (r .verdict) (r .has-number) (r .stores) (k .stores) (r .new) (s .state) (k .state) stop (o .sized) (r .same) (r .fit) d hd (o .order d hd h));
-    records = rw (r .result-is) (storing-state g (s .memory) (r .verdict) (r .has-number) (r .stores) (k .stores) (r .new) (s .state) (k .state) stop (o .sized) (r .same) (r .fit) (λ (t : State). length (t .zones) ≡ 16) (o .records) (r .long));
+    records = rw (r .result-is) (storing-state g (s .memory) (r .verdict) (r .has-number) (r .stores) (k .stores) (r .new) (s .state) (k .state) stop (o .sized) (r .same) (r .fit) (λ (t : State). Sixteen t) (o .records) (r .long));
     holds = seen;
+    shared = shared-seen;
   }
     where
       duty : Duty g (onDevice g (lengthsOf (s .memory))) (viewSystem g s) (calls c (isSet named) stop)
@@ -116,6 +119,16 @@ module _ (g : Geometry) (ok : Valid g) (s : System (onTables g)) (o : TablesOk g
           let a = onDevice g (lengthsOf (s .memory)) .call c (isSet named) (viewState (s .state)) stop (deviceOf g (s .memory)) in
           ok-agrees g (modeAfter (b .answer) (s .mode)) (s .lost) (b .memory) (a .state) (b .state) (noted (s .ledger) (noteOf g c (shownBy g (isSet named) (deviceOf g (s .memory)) (b .memory)) (replyTo (b .answer)))) (call-agrees .state-agrees)
           (rw (call-agrees .answer-same, call-agrees .memory-same) at kept)
+
+      shared-then : let a = onDevice g (lengthsOf (s .memory)) .call c (isSet named) (viewState (s .state)) stop (deviceOf g (s .memory)) in modeAfter (a .answer) (s .mode) ≡ ready → SharesKept g (s .lost) (a .memory) (a .state)
+      shared-then = event-shares g ok (lengthsOf (s .memory)) (viewSystem g s) (o .holds) (o .shared) (calls c (isSet named) stop) duty
+
+      shared-seen : let b = resultOn g c named (s .state) stop (s .memory) in modeAfter (b .outcome .answer) (s .mode) ≡ ready → SharesKept g (s .lost) (deviceOf g (b .tables)) (viewState (b .outcome .state))
+      shared-seen i =
+          let b = viewResult g (resultOn g c named (s .state) stop (s .memory)) in
+          let a = onDevice g (lengthsOf (s .memory)) .call c (isSet named) (viewState (s .state)) stop (deviceOf g (s .memory)) in
+          let k : modeAfter (b .answer) (s .mode) ≡ ready → SharesKept g (s .lost) (b .memory) (a .state) = rw (call-agrees .answer-same, call-agrees .memory-same) at shared-then in
+          shares-agree g ok (s .lost) (b .memory) (a .state) (b .state) (call-agrees .state-agrees) (k i)
 
 -- ---- the calls but mount (MountRefines.antt)
 module _ (g : Geometry) (ok : Valid g) (s : System (onTables g)) (o : TablesOk g s) (named : List Bool) (n : NamesAll g (onTables g) s named) where
@@ -135,7 +148,7 @@ module _ (g : Geometry) (ok : Valid g) (s : System (onTables g)) (o : TablesOk g
   unfolding writeOn
   write-refines asked stop =
       let k = callOf g (lengthsOf t) (writes asked) (isSet named) st w in
-      let same = write-verdict g named t fine (s .state) (asked .address) (asked .count) (length (asked .buffer)) in
+      let same = write-verdict g named t fine (s .state) asked in
       record {
         verdict = firstRefusal (k .refusals);
         stores = k .stores;
@@ -143,10 +156,29 @@ module _ (g : Geometry) (ok : Valid g) (s : System (onTables g)) (o : TablesOk g
         result-is = rw same refl;
         made-is = rw same refl;
         verdict-is = refl;
-        has-number = write-numbered g named t (s .state) (asked .address) (asked .count) (length (asked .buffer));
+        has-number = write-numbered g named t (s .state) asked;
         same = λ p. refl;
-        fit = λ p. write-stores-fit g named (s .state) (asked .address) (asked .count) (asked .buffer) t (same ∙ p);
-        long = λ p. held-long 16 (k .state) (omega arith);
+        fit = λ p. write-stores-fit g named (s .state) asked t (same ∙ p);
+        long = λ p. held-sixteen 16 (k .state) (omega arith);
+        agree = λ p e. held-agrees g 16 (k .state) (ok .zones-most);
+      }
+
+  pub compact-refines : (d stop : ℕ) → Refines g s (compacts d) named stop
+  unfolding compactOn
+  compact-refines d stop =
+      let k = callOf g (lengthsOf t) (compacts d) (isSet named) st w in
+      let same = compact-verdict g named t fine (s .state) d in
+      record {
+        verdict = firstRefusal (k .refusals);
+        stores = k .stores;
+        new = stateHeld maxZones (k .state);
+        result-is = rw same refl;
+        made-is = rw same refl;
+        verdict-is = refl;
+        has-number = compact-numbered g named t (s .state) d;
+        same = λ p. refl;
+        fit = λ p. compact-stores-fit g named (s .state) d t (same ∙ p);
+        long = λ p. held-sixteen 16 (k .state) (omega arith);
         agree = λ p e. held-agrees g 16 (k .state) (ok .zones-most);
       }
 
@@ -164,7 +196,7 @@ module _ (g : Geometry) (ok : Valid g) (s : System (onTables g)) (o : TablesOk g
         has-number = flush-numbered g named t (s .state);
         same = λ p. refl;
         fit = λ p. flush-stores-fit g named (s .state) t (flush-verdict g named t fine (s .state) ∙ p);
-        long = λ p. held-long 16 (k .state) (omega arith);
+        long = λ p. held-sixteen 16 (k .state) (omega arith);
         agree = λ p e. held-agrees g 16 (k .state) (ok .zones-most);
       }
 
@@ -182,7 +214,7 @@ module _ (g : Geometry) (ok : Valid g) (s : System (onTables g)) (o : TablesOk g
         has-number = reset-numbered g named t (s .state) z;
         same = λ p. refl;
         fit = λ p. reset-stores-fit g named (s .state) z t (reset-verdict g named t fine (s .state) z ∙ p);
-        long = λ p. held-long 16 (k .state) (omega arith);
+        long = λ p. held-sixteen 16 (k .state) (omega arith);
         agree = λ p e. held-agrees g 16 (k .state) (ok .zones-most);
       }
 
@@ -200,7 +232,7 @@ module _ (g : Geometry) (ok : Valid g) (s : System (onTables g)) (o : TablesOk g
         has-number = format-numbered g named t;
         same = λ p. refl;
         fit = λ p. format-stores-fit g named array t (format-verdict g named t fine ∙ p);
-        long = λ p. held-long (g .zones) (k .state) (ok .zones-most);
+        long = λ p. held-sixteen (g .zones) (k .state) (ok .zones-most);
         agree = λ p e. held-agrees g (g .zones) (k .state) (omega arith);
       }
 
@@ -211,6 +243,7 @@ cut-event g ok s o u c = record {
   order = λ d hd q. cut-order g (s .lost) d (s .memory) u c hd q (o .order d hd q);
   records = o .records;
   holds = event-keeps g ok (lengthsOf (s .memory)) (viewSystem g s) (o .holds) (cuts (deviceOf g u)) (cut-refines g (s .lost) (s .memory) u c);
+  shared = event-shares g ok (lengthsOf (s .memory)) (viewSystem g s) (o .holds) (o .shared) (cuts (deviceOf g u)) (cut-refines g (s .lost) (s .memory) u c);
 }
 
 pub loss-event : (g : Geometry) → Valid g → (s : System (onTables g)) → TablesOk g s → (d : ℕ) → d < g .drives → (s .lost ≡ noDrive) ⊎ (s .lost ≡ d) → (u : Tables) → TablesLoss g d (s .memory) u → TablesOk g (next g (onTables g) s (loses d u))
@@ -219,6 +252,7 @@ loss-event g ok s o d h e u c = record {
   order = λ k hk q. loss-order g d k (s .memory) u c hk q (o .order k hk (before k hk q e));
   records = o .records;
   holds = event-keeps g ok (lengthsOf (s .memory)) (viewSystem g s) (o .holds) (loses d (deviceOf g u)) (h, e, loss-refines g d (s .memory) u c);
+  shared = event-shares g ok (lengthsOf (s .memory)) (viewSystem g s) (o .holds) (o .shared) (loses d (deviceOf g u)) (h, e, loss-refines g d (s .memory) u c);
 }
   where
     before : (k : ℕ) → k < g .drives → k ≢ d → (s .lost ≡ noDrive) ⊎ (s .lost ≡ d) → k ≢ s .lost

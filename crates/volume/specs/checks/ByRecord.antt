@@ -37,7 +37,7 @@ pub record SaysOf (by : ByRecord) (a : ℕ) (s : State) (ws ds : List ℕ) : Typ
 pub present-named : (g : Geometry) (named : List Bool) (lost d : ℕ) → isSet (presentList g named lost) d ≡ true → isSet named d ≡ true
 unfolding callPresent
 present-named g named lost d h =
-    let s : State = record { lost = lost; zones = [] } in
+    let s : State = record { lost = lost; zones = []; shares = [] } in
     let k : ltb d (g .drives) && (isSet named d && not (eqb d lost)) ≡ true = sym (ap (λ (p : ℕ → Bool). p d) (present-is g named s)) ∙ h in
     and-split (isSet named d) (not (eqb d lost)) (and-split (ltb d (g .drives)) (isSet named d && not (eqb d lost)) k .1) .0
 

@@ -1,9 +1,9 @@
--- The room of the logs of a kind, as the code asks for it (src/log_room.rt): which lack room, which of those stay full, and the generations of the new logs. By
--- the rules: `emptiedFor`, and refusal 14.
+-- The room of the logs of a kind, as the code asks for it (src/log_room.rt): which are emptied, which of those stay full, and the generations of the new logs.
+-- By the rules: `emptiedFor`, and refusal 14.
 use mathlib.Core.Path.{_≡_, refl, sym, ap, ap₂, _∙_}
 use mathlib.Core.Logic.{_≢_}
 use mathlib.Core.Bool.{Bool, true, false, _&&_, _||_, not, true≢false}
-use Prim.Native.Nat.{ℕ, suc, _+_, _-_, _^_, _<_}
+use Prim.Native.Nat.{ℕ, zero, suc, _+_, _-_, _^_, _<_, min}
 use native.Mathlib.Decide.{ℕ-discrete}
 use native.Mathlib.Omega.{arith}
 use native.Mathlib.Numerals.{add-one}
@@ -13,7 +13,7 @@ use lib.Dec.{ltb, eqb}
 use borrow.Author.Tests.{lt-ltb, le-ltb, eq-eqb, ne-eqb, eqb-false}
 use Rattle.tables.specs.declared.Geometry.{Geometry}
 use Rattle.tables.specs.meaning.Basics.{pick}
-use Rattle.tables.specs.meaning.Below.{anyBelow, tabulate}
+use Rattle.tables.specs.meaning.Below.{anyBelow, sumBelow, tabulate}
 use Rattle.tables.specs.laws.Below.{any-below-cong, any-below-false}
 use Rattle.tables.specs.meaning.Geometry.{Valid, physicalZones, cells, maxDrives}
 use Rattle.tables.specs.meaning.Device.{Device}
@@ -30,9 +30,10 @@ use Rattle.volume.specs.declared.log_room.LogRoom.{LogRoom}
 use Rattle.volume.specs.declared.emptyings.Emptyings.{Emptyings}
 use Rattle.volume.specs.looking.MovedLogs.{movedLogs}
 use Rattle.volume.specs.meaning.CallContracts.{viewState, isSet, rolesOf, seenIn}
+use Rattle.volume.specs.meaning.Content.{insideStripe, fillOf, parityDriveAt}
 use Rattle.volume.specs.meaning.Rules.{generalHeads}
 use Rattle.volume.specs.meaning.Roles.{Roles, roles, claimOfKind, lacksKind}
-use Rattle.volume.specs.meaning.Emptying.{InForce, byState, newGeneralSize, newParitySize, unusedIn, staysFull, spareWritten, emptiedFor}
+use Rattle.volume.specs.meaning.Emptying.{InForce, byState, newGeneralSize, copySize, newParitySize, unusedIn, staysFull, spareWritten, emptiedFor}
 use Rattle.volume.specs.laws.LogPlaces.{withLogs, withRoles, logsOf, valid-with-logs}
 use Rattle.volume.specs.looking.DriveLogs.{Sized, zonePointer}
 use Rattle.volume.specs.laws.FilledArrays.{fill-at, fill-more}
@@ -64,7 +65,7 @@ abbrev pub unusedAt : RoomAsked → List ℕ → ℕ → ℕ
 unusedAt a ps d = pick (kindLacksAt (a .places) (a .parity) d) 0 (a .places .geometry .capacity - zonePointer (a .places .geometry) ps d (kindOfLog (a .parity)))
 
 abbrev pub lacksAt : RoomAsked → List ℕ → ℕ → Bool
-lacksAt a ps d = isSet (a .due) d && ltb (unusedAt a ps d) (a .limit)
+lacksAt a ps d = isSet (a .due) d && ltb (unusedAt a ps d) (a .below)
 
 -- one above the generation of the log
 abbrev pub claimAt : RoomAsked → List ℕ → List ℕ → ℕ → ℕ
@@ -145,7 +146,7 @@ module _ (g : Geometry) (p : LogPlaces) (xs ws ps : List ℕ) (k : SeenByRoles g
   pub placed-sized : Sized (p .geometry) xs ps
   placed-sized = rw placed-is (sized-with-logs g (logsOf r (g .drives)) xs ps (record { sectors-long = k .sized .sectors-long; written-long = pointers-long }))
 
-  kind-lacks-is : (par : Bool) (d : ℕ) → d < g .drives → kindLacksAt p par d ≡ eqb (claimOfKind par (r d)) 0
+  pub kind-lacks-is : (par : Bool) (d : ℕ) → d < g .drives → kindLacksAt p par d ≡ eqb (claimOfKind par (r d)) 0
   kind-lacks-is true d h = ap (λ (q : LogPlaces). isSet (q .«no_parity») d) (k .places-are) ∙ lacking-at (λ e. r e .parityClaim) (g .drives) d h
   kind-lacks-is false d h = ap (λ (q : LogPlaces). isSet (q .«no_general») d) (k .places-are) ∙ lacking-at (λ e. r e .generalClaim) (g .drives) d h
 
@@ -213,6 +214,15 @@ worn-claim n zoneClaim h e = go (ℕ-discrete n wornGeneration)
     go (no q) = ne-eqb n wornGeneration q ∙ sym (le-ltb wornGeneration zoneClaim (omega (arith, q, e, h)))
 
 -- ==== by the rules
+-- how long a new parity log is hangs on the pointers of the zones that there are
+pub size-agree : (g : Geometry) (f h : InForce) (d : ℕ) → ((z : ℕ) → z < g .zones → f .pointer z ≡ h .pointer z) → newParitySize g f d ≡ newParitySize g h d
+unfolding newParitySize
+size-agree g f h d e = ap suc (agree (g .zones) (λ z l. ap (λ (q : ℕ). pick (insideStripe g q && eqb d (parityDriveAt g z q)) (suc (min (fillOf g q) (g .unit))) 0) (e z l)))
+  where
+    agree : (n : ℕ) → ((z : ℕ) → z < n → copySize g f d z ≡ copySize g h d z) → sumBelow (copySize g f d) n ≡ sumBelow (copySize g h d) n
+    agree zero e = refl
+    agree (suc n) e = ap₂ (λ (x y : ℕ). x + y) (agree n (λ z l. e z (omega arith))) (e n (omega arith))
+
 or-turned : (k w s m : Bool) → (k || (w || s)) || m ≡ (m || (k || w)) || s
 or-turned true w s true = refl
 or-turned true w s false = refl
@@ -235,7 +245,7 @@ module _ (g : Geometry) (p : LogPlaces) (xs ws ps : List ℕ) (k : SeenByRoles g
   seen-roles = sym (roles-durable g xs ws ds)
 
   -- how many sectors a zone has
-  seen-length : (d y : ℕ) → d < g .drives → y < physicalZones g → zonePointer (p .geometry) ps d y ≡ length (seenIn g (tablesOf xs ws ds) d y .sectors)
+  pub seen-length : (d y : ℕ) → d < g .drives → y < physicalZones g → zonePointer (p .geometry) ps d y ≡ length (seenIn g (tablesOf xs ws ds) d y .sectors)
   seen-length d y hd hy =
       let placed = placed-is g p xs ws ps k in
       sym (device-length (p .geometry) (tablesOf xs ps []) d y (rw placed hd) (rw placed hy)) ∙ ap (λ (l : List (List ℕ)). length l) (seen-sectors d y)
@@ -256,9 +266,9 @@ module _ (a : RoomAsked) (xs ws ps : List ℕ) (k : Asking a xs ws ps) (ds : Lis
       (kind-lacks-is (a .first) (a .places) xs ws ps k (a .parity) d hd ∙ ap (λ (f : ℕ → Roles). eqb (claimOfKind (a .parity) (f d)) 0) (seen-roles (a .first) (a .places) xs ws ps k ds))
       (ap₂ (λ (m n : ℕ). m - n) (placed-capacity (a .first) (a .places) xs ws ps k) (seen-length (a .first) (a .places) xs ws ps k ds d (kindOfLog (a .parity)) hd (log-in (a .parity) (a .first .zones))))
 
-  lacks-is : lacksAt a ps d ≡ emptiedFor (a .first) (isSet (a .due)) (a .parity) (rolesOf (a .first) (tablesOf xs ws ds)) (seenIn (a .first) (tablesOf xs ws ds)) (a .limit) d
+  lacks-is : lacksAt a ps d ≡ emptiedFor (a .first) (isSet (a .due)) (a .parity) (rolesOf (a .first) (tablesOf xs ws ds)) (seenIn (a .first) (tablesOf xs ws ds)) (a .below) d
   unfolding emptiedFor
-  lacks-is = ap (λ (n : ℕ). isSet (a .due) d && ltb n (a .limit)) unused-is
+  lacks-is = ap (λ (n : ℕ). isSet (a .due) d && ltb n (a .below)) unused-is
 
   claim-is : claimAt a xs ws d ≡ claimOfKind (a .parity) rule
   claim-is = ap (λ (f : ℕ → Roles). claimOfKind (a .parity) (f d)) (seen-roles (a .first) (a .places) xs ws ps k ds)
@@ -279,7 +289,7 @@ module _ (a : RoomAsked) (xs ws ps : List ℕ) (k : Asking a xs ws ps) (ds : Lis
 
   -- A DRIVE'S ANSWER is that of the rules
   pub room-is : (size : ℕ) → roomAt a size xs ws ps d
-      ≡ driveRoomOf (emptiedFor (a .first) (isSet (a .due)) (a .parity) (rolesOf (a .first) (tablesOf xs ws ds)) (seenIn (a .first) (tablesOf xs ws ds)) (a .limit) d)
+      ≡ driveRoomOf (emptiedFor (a .first) (isSet (a .due)) (a .parity) (rolesOf (a .first) (tablesOf xs ws ds)) (seenIn (a .first) (tablesOf xs ws ds)) (a .below) d)
       (staysFull (a .first) (a .parity) (rolesOf (a .first) (tablesOf xs ws ds)) (a .limit) size d || (not (a .«clears_spares») && spareWritten (seenIn (a .first) (tablesOf xs ws ds)) d)) (claimOfKind (a .parity) rule)
   room-is size = rw (lacks-is, stays-is size, claim-is) refl
 

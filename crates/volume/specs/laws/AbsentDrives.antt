@@ -8,7 +8,7 @@ use native.Mathlib.Omega.{arith}
 use mathlib.Core.List.{List, [], _∷_, _++_, map}
 use lib.ListN.{length}
 use lib.Dec.{ltb, eqb}
-use borrow.Author.Tests.{eq-eqb, ne-eqb, ltb-true}
+use borrow.Author.Tests.{eq-eqb, ne-eqb, eqb-true, ltb-true}
 use Rattle.tables.specs.declared.Geometry.{Geometry}
 use Rattle.tables.specs.meaning.Basics.{pick}
 use Rattle.tables.specs.laws.Basics.{and-split}
@@ -25,23 +25,24 @@ use Rattle.tables.specs.laws.StoresFit.{AllOn, on-present-on, on-append, fits-a
 use Rattle.tables.specs.laws.TablesFrame.{SameDrive, same-drive-refl, run-frame}
 use Rattle.tables.specs.laws.NamedDrives.{AgreeOn, sector-same, device-agrees, pointers-agree, run-agrees}
 use Rattle.volume.specs.declared.State.{State}
-use Rattle.volume.specs.meaning.State.{StateView, callPresent, pointerIn}
+use Rattle.volume.specs.meaning.State.{StateView, callPresent, withShares, pointerIn}
 use Rattle.volume.specs.meaning.Content.{at}
 use Rattle.volume.specs.meaning.Rules.{valueAt, zoneView, viewOf, generalHeads, parityEntries}
-use Rattle.volume.specs.meaning.Refusals.{zoneOf, offsetOf, stale, formatRows, flushRows, resetRows, writeRows, readRows, peekRows}
-use Rattle.volume.specs.meaning.Calls.{formatPhases, formatStores, flushStores, resetPhases, resetStores, writeWith, zoneContent, writeStores, flushState, formatState, resetState, writeState}
+use Rattle.volume.specs.meaning.Refusals.{WriteAsked, zoneAsked, endAsked, zoneOf, offsetOf, stale, staleSomewhere, formatRows, flushRows, resetRows, writeRows, compactRows, readRows, peekRows}
+use Rattle.volume.specs.meaning.Calls.{formatPhases, formatStores, flushStores, resetPhases, resetStores, writeWith, zoneContent, writeStores, flushState, formatState, resetState}
+use Rattle.volume.specs.meaning.Hosts.{halfPast, freshShares, renewedShares, shareLeft, writtenState, compactState}
 use Rattle.volume.specs.meaning.Answers.{lostIn, leftOut, namedDrives, sectorsIn, placeOf}
-use Rattle.volume.specs.meaning.CallContracts.{viewState, isSet, rolesOf, seenIn, recordAt, pointerOf, verdictNumber, Result, storingOn, formatVerdict, formatOn, flushVerdict, flushOn, resetVerdict, resetOn, writeVerdict, writeOn, readNumber, readOn, valuesOn, peekNumber, peekOn, partAt, stateHeld}
-use Rattle.volume.specs.laws.PassedRows.{format-passed, format-number-accepts, flush-passed, flush-number-accepts, reset-passed, reset-number-accepts, write-passed, write-number-accepts, peek-passed}
-use Rattle.volume.specs.laws.CallStoresFit.{zone-short, call-present-below, format-stores-fit, flush-stores-fit, reset-stores-fit, write-stores-fit}
+use Rattle.volume.specs.meaning.CallContracts.{viewState, isSet, rolesOf, seenIn, recordAt, pointerOf, verdictNumber, Result, storingOn, formatVerdict, formatOn, flushVerdict, flushOn, resetVerdict, resetOn, writeVerdict, writeOn, compactVerdict, compactOn, readNumber, readOn, valuesOn, peekNumber, peekOn, partAt, stateHeld}
+use Rattle.volume.specs.laws.PassedRows.{format-passed, format-number-accepts, flush-passed, flush-number-accepts, reset-passed, reset-number-accepts, write-passed, write-number-accepts, compact-passed, compact-number-accepts, peek-passed}
+use Rattle.volume.specs.laws.CallStoresFit.{zone-short, call-present-below, format-stores-fit, flush-stores-fit, reset-stores-fit, write-stores-fit, compact-stores-fit}
 use Rattle.volume.specs.laws.Depends.{SameOn, value-depends}
-use Rattle.volume.specs.laws.RefusalsDepend.{stale-depends, emptied-depends, emptied-write-depends, reset-full-depends, write-full-depends, gone-entry-depends, gone-depends, gone-before-depends, not-held-depends, by-state-depends}
-use Rattle.volume.specs.meaning.Roles.{roles, byRoles, placedBy, rolesAfter}
-use Rattle.volume.specs.meaning.Emptying.{byState, newGeneral, newParity, resetLimit, emptiedFor, emptiedForWrite, emptyings, emptyGeneral, emptyParity, writeAll, resetAll}
+use Rattle.volume.specs.laws.RefusalsDepend.{stale-depends, stale-somewhere-depends, emptied-depends, reset-full-depends, write-full-depends, compact-full-depends, gone-copies-depends, gone-depends, gone-before-depends, not-held-depends, by-state-depends}
+use Rattle.volume.specs.meaning.Roles.{Roles, roles, byRoles, zoneOfRole, placedBy, rolesAfter}
+use Rattle.volume.specs.meaning.Emptying.{InForce, byState, newGeneral, newParity, newParitySize, resetLimit, emptiedFor, emptyings, emptyGeneral, emptyParity, compactStores, writeAll, resetAll}
 use Rattle.volume.specs.laws.RolesDepend.{roles-depend, by-roles-depend}
 use Rattle.volume.specs.laws.EmptyingDepends.{carry-same, placed-depends, empty-general-depends, empty-parity-depends}
 use Rattle.volume.specs.laws.EmptyingFits.{emptyings-on}
-use Rattle.volume.specs.laws.LogRoom.{emptied-here, emptied-write-here, data-by-roles}
+use Rattle.volume.specs.laws.LogRoom.{emptied-here, data-by-roles}
 
 -- ---- WHAT IS PROVED OF EACH STORING CALL
 pub record LeavesAbsent (g : Geometry) (named : List Bool) (call : Tables → Result) : Type 0 where
@@ -147,14 +148,29 @@ module _ (g : Geometry) (named : List Bool) (t u : Tables) (same : AgreeOn g (is
         let full = reset-full-depends g present (byRoles g v) (byRoles g w) seen-same (roles g v) (roles g w) roles-same (byState g present (byRoles g v) (viewState s)) (byState g present (byRoles g w) (viewState s)) force-same in
         rw (same .sectors-long, same .written-long, same .durable-long, pointers-same, stale-same z, full) refl
 
-    write-same : (a k bytes : ℕ) → writeVerdict g named s a k bytes t ≡ writeVerdict g named s a k bytes u
+    write-same : (a : WriteAsked) → writeVerdict g named s a t ≡ writeVerdict g named s a u
     unfolding writeVerdict writeRows
-    write-same a k bytes =
-        let z = zoneOf g a in
-        let full = write-full-depends g present (byRoles g v) (byRoles g w) seen-same (roles g v) (roles g w) roles-same (byState g present (byRoles g v) (viewState s)) (byState g present (byRoles g w) (viewState s)) force-same z (pointerOf s z + k) in
-        let entry = gone-entry-depends g present (byRoles g v) (byRoles g w) seen-same (roles g v) (roles g w) roles-same (byState g present (byRoles g v) (viewState s)) (byState g present (byRoles g w) (viewState s)) force-same z (pointerOf s z + k) in
+    write-same a =
+        let z = zoneAsked g a in
+        let end = endAsked g (viewState s) a in
+        let full = write-full-depends g present (byRoles g v) (byRoles g w) seen-same (roles g v) (roles g w) roles-same (shareLeft g (viewState s) (a .host) z end) z end in
         let old = gone-before-depends g present (byRoles g v) (byRoles g w) seen-same z (recordAt s z .generation) (pointerOf s z) in
-        rw (same .sectors-long, same .written-long, same .durable-long, pointers-same, stale-same z, full, entry, old) refl
+        rw (same .sectors-long, same .written-long, same .durable-long, pointers-same, stale-same z, full, old) refl
+
+    compact-same : (d : ℕ) → compactVerdict g named s d t ≡ compactVerdict g named s d u
+    unfolding compactVerdict compactRows
+    compact-same d = go (present d) refl
+      where
+        stale-alike : staleSomewhere g present (byRoles g v) (viewState s) ≡ staleSomewhere g present (byRoles g w) (viewState s)
+        stale-alike = stale-somewhere-depends g present (byRoles g v) (byRoles g w) seen-same (viewState s)
+
+        -- (rows 14 and 15 are asked of a present drive)
+        go : (b : Bool) → present d ≡ b → compactVerdict g named s d t ≡ compactVerdict g named s d u
+        go true p =
+            let full = compact-full-depends g present (byRoles g v) (byRoles g w) seen-same (roles g v) (roles g w) roles-same (byState g present (byRoles g v) (viewState s)) (byState g present (byRoles g w) (viewState s)) force-same d p in
+            let gone = gone-copies-depends g present (byRoles g v) (byRoles g w) seen-same (roles g v) (roles g w) roles-same (byState g present (byRoles g v) (viewState s)) (byState g present (byRoles g w) (viewState s)) force-same d p in
+            rw (same .sectors-long, same .written-long, same .durable-long, pointers-same, stale-alike, full, gone) refl
+        go false p = rw (same .sectors-long, same .written-long, same .durable-long, pointers-same, stale-alike, p) refl
 
     read-same : (a count bytes : ℕ) → readNumber g named s a count bytes t ≡ readNumber g named s a count bytes u
     unfolding readNumber readRows
@@ -194,22 +210,20 @@ module _ (g : Geometry) (named : List Bool) (t u : Tables) (same : AgreeOn g (is
     unfolding writeStores
     own-write-same z ss = ap (λ (S : ℕ → List ℕ). onPresent present (writeWith g z (recordAt s z .generation) S (pointerOf s z) (length ss))) (content-same z ss)
 
-    abbrev emptiedByWrite : ℕ → ℕ → Device → ℕ → Bool
-    emptiedByWrite z end u = emptiedForWrite g present (roles g u) (byRoles g u) z end
-
     write-stores-same : (z : ℕ) (ss : List (List ℕ)) → writeAll g present (roles g v) (byRoles g v) (viewState s) z ss ≡ writeAll g present (roles g w) (byRoles g w) (viewState s) z ss
     unfolding writeAll
     write-stores-same z ss =
-        let end = pointerOf s z + length ss in
-        let which = emptied-write-depends g present (byRoles g v) (byRoles g w) seen-same (roles g v) (roles g w) roles-same z end in
-        let there = emptied-write-here g present (roles g v) (byRoles g v) z end in
-        let ρ = placedBy (rolesAfter true (emptiedByWrite z end v) (roles g v)) in
-        let τ = placedBy (rolesAfter true (emptiedByWrite z end w) (roles g w)) in
-        let own = writeStores g present (byRoles g v) (viewState s) z ss in
-        ap₂ (λ (xs ys : List Store). xs ++ ys)
-        (empty-parity-depends g present (roles g v) (roles g w) roles-same (emptiedByWrite z end v) (emptiedByWrite z end w) which there (byRoles g v) (byRoles g w) seen-same (byState g present (byRoles g v) (viewState s)) (byState g present (byRoles g w) (viewState s)) force-same)
-        (carry-same present ρ τ own (placed-depends g present (roles g v) (roles g w) roles-same (emptiedByWrite z end v) (emptiedByWrite z end w) which there true) (own-write-on g present (byRoles g v) (viewState s) z ss)
-        ∙ ap (λ (xs : List Store). map (carry τ) xs) (own-write-same z ss))
+        carry-same present (placedBy (roles g v)) (placedBy (roles g w)) (writeStores g present (byRoles g v) (viewState s) z ss) (λ d p. ap (λ (x : Roles). zoneOfRole x) (roles-same d p)) (own-write-on g present (byRoles g v) (viewState s) z ss)
+        ∙ ap (λ (xs : List Store). map (carry (placedBy (roles g w))) xs) (own-write-same z ss)
+
+    -- ---- a compact's stores, of a present drive, and its state
+    compact-stores-same : (d : ℕ) → present d ≡ true → compactStores g present (roles g v) (byRoles g v) (viewState s) d ≡ compactStores g present (roles g w) (byRoles g w) (viewState s) d
+    unfolding compactStores
+    compact-stores-same d p =
+        empty-parity-depends g present (roles g v) (roles g w) roles-same (λ c. eqb c d) (λ c. eqb c d) (λ c. refl) (λ c q. rw (eqb-true c d q) p) (byRoles g v) (byRoles g w) seen-same (byState g present (byRoles g v) (viewState s)) (byState g present (byRoles g w) (viewState s)) force-same
+
+    compact-state-same : (x d : ℕ) → compactState g present x (byRoles g v) (viewState s) d ≡ compactState g present x (byRoles g w) (viewState s) d
+    compact-state-same x d = ap (λ (f : InForce). withShares (renewedShares (viewState s .share) d (halfPast g (g .capacity - newParitySize g f d))) (flushState x (viewState s))) force-same
 
 -- ==== THE CALLS THAT STORE
 -- their stores are on named drives
@@ -259,25 +273,36 @@ module _ (g : Geometry) (named : List Bool) where
         }
 
     write-all-on : (z : ℕ) (ss : List (List ℕ)) (t : Tables) → AllOn drives (writeAll g drives (rolesOf g t) (seenIn g t) (viewState s) z ss)
-    unfolding writeAll emptyParity
-    write-all-on z ss t =
-        let end = pointerOf s z + length ss in
-        let emptied = emptiedForWrite g drives (rolesOf g t) (seenIn g t) z end in
-        let new : ℕ → List (List ℕ) = λ d. newParity g (byState g drives (seenIn g t) (viewState s)) (rolesOf g t d) d (parityEntries g (seenIn g t) d) in
-        let ρ = placedBy (rolesAfter true emptied (rolesOf g t)) in
-        let own = writeStores g drives (seenIn g t) (viewState s) z ss in
-        on-append drives (emptyings g drives true (rolesOf g t) emptied new) (map (carry ρ) own) (emptyings-on g drives true (rolesOf g t) emptied new (emptied-write-here g drives (rolesOf g t) (seenIn g t) z end)) (carry-on drives ρ own (own-write-on g drives (seenIn g t) (viewState s) z ss))
+    unfolding writeAll
+    write-all-on z ss t = carry-on drives (placedBy (rolesOf g t)) (writeStores g drives (seenIn g t) (viewState s) z ss) (own-write-on g drives (seenIn g t) (viewState s) z ss)
 
-    write-on : (a k : ℕ) (buffer : List ℕ) (t : Tables) → verdictNumber (writeVerdict g named s a k (length buffer) t) ≡ 0 → OnNamed g named (writeAll g drives (rolesOf g t) (seenIn g t) (viewState s) (zoneOf g a) (sectorsIn g k buffer)) t
-    write-on a k buffer t e =
-        let p = write-number-accepts g named t s a k (length buffer) e in
-        let z = zoneOf g a in
-        let ss = sectorsIn g k buffer in
+    write-on : (a : WriteAsked) (t : Tables) → verdictNumber (writeVerdict g named s a t) ≡ 0 → OnNamed g named (writeAll g drives (rolesOf g t) (seenIn g t) (viewState s) (zoneAsked g a) (sectorsIn g (a .count) (a .buffer))) t
+    write-on a t e =
+        let p = write-number-accepts g named t s a e in
+        let z = zoneAsked g a in
+        let ss = sectorsIn g (a .count) (a .buffer) in
         let stores = writeAll g drives (rolesOf g t) (seenIn g t) (viewState s) z ss in
         record {
-          sized = write-passed g named s a k (length buffer) t p .opening .tables .sized;
-          placed = fits-all-placed g stores (deviceOf g t) (write-stores-fit g named s a k buffer t p);
+          sized = write-passed g named s a t p .opening .tables .sized;
+          placed = fits-all-placed g stores (deviceOf g t) (write-stores-fit g named s a t p);
           named-only = on-fewer drives (isSet named) stores (present-named g named s) (write-all-on z ss t);
+        }
+
+    compact-all-on : (d : ℕ) (t : Tables) → drives d ≡ true → AllOn drives (compactStores g drives (rolesOf g t) (seenIn g t) (viewState s) d)
+    unfolding compactStores emptyParity
+    compact-all-on d t p =
+        let new : ℕ → List (List ℕ) = λ c. newParity g (byState g drives (seenIn g t) (viewState s)) (rolesOf g t c) c (parityEntries g (seenIn g t) c) in
+        emptyings-on g drives true (rolesOf g t) (λ c. eqb c d) new (λ c q. rw (eqb-true c d q) p)
+
+    compact-on : (d : ℕ) (t : Tables) → verdictNumber (compactVerdict g named s d t) ≡ 0 → OnNamed g named (compactStores g drives (rolesOf g t) (seenIn g t) (viewState s) d) t
+    compact-on d t e =
+        let p = compact-number-accepts g named t s d e in
+        let q = compact-passed g named s d t p in
+        let stores = compactStores g drives (rolesOf g t) (seenIn g t) (viewState s) d in
+        record {
+          sized = q .opening .tables .sized;
+          placed = fits-all-placed g stores (deviceOf g t) (compact-stores-fit g named s d t p);
+          named-only = on-fewer drives (isSet named) stores (present-named g named s) (compact-all-on d t (q .here));
         }
 
 pub format-absent : (g : Geometry) (named : List Bool) (array : ℕ) (old : State) (count : ℕ) → LeavesAbsent g named (formatOn g named array old count)
@@ -285,7 +310,7 @@ unfolding formatOn
 format-absent g named array old count =
     let number : Tables → ℕ = λ t. verdictNumber (formatVerdict g named t) in
     let stores = formatStores g (namedDrives g (isSet named)) (leftOut g (isSet named)) array in
-    let new = stateHeld (g .zones) (formatState (leftOut g (isSet named))) in
+    let new = stateHeld (g .zones) (withShares (freshShares g (namedDrives g (isSet named))) (formatState (leftOut g (isSet named)))) in
     record {
       not-read = λ t u same. storing-same g named old count t u same (number t) (number u) (ap verdictNumber (format-same g named t u same)) stores stores (λ e. refl) new new (λ e. refl) (format-on g named array t);
       not-changed = λ t. storing-kept g named old count t (number t) stores new (format-on g named array t);
@@ -313,16 +338,32 @@ reset-absent g named s z count =
       not-changed = λ t. storing-kept g named s count t (number t) (stores t) new (reset-on g named s z t);
     }
 
-pub write-absent : (g : Geometry) (named : List Bool) (s : State) (a k : ℕ) (buffer : List ℕ) (count : ℕ) → LeavesAbsent g named (writeOn g named s a k buffer count)
+pub write-absent : (g : Geometry) (named : List Bool) (s : State) (a : WriteAsked) (count : ℕ) → LeavesAbsent g named (writeOn g named s a count)
 unfolding writeOn
-write-absent g named s a k buffer count =
-    let z = zoneOf g a in
-    let number : Tables → ℕ = λ t. verdictNumber (writeVerdict g named s a k (length buffer) t) in
-    let stores : Tables → List Store = λ t. writeAll g (callPresent g (isSet named) (viewState s)) (rolesOf g t) (seenIn g t) (viewState s) z (sectorsIn g k buffer) in
-    let new = stateHeld maxZones (writeState (lostIn g (isSet named) (viewState s)) (viewState s) z k) in
+write-absent g named s a count =
+    let z = zoneAsked g a in
+    let ss = sectorsIn g (a .count) (a .buffer) in
+    let number : Tables → ℕ = λ t. verdictNumber (writeVerdict g named s a t) in
+    let stores : Tables → List Store = λ t. writeAll g (callPresent g (isSet named) (viewState s)) (rolesOf g t) (seenIn g t) (viewState s) z ss in
+    let new = stateHeld maxZones (writtenState g (callPresent g (isSet named) (viewState s)) (lostIn g (isSet named) (viewState s)) (a .host) (viewState s) z (a .count)) in
     record {
-      not-read = λ t u same. storing-same g named s count t u same (number t) (number u) (ap verdictNumber (write-same g named t u same s a k (length buffer))) (stores t) (stores u) (λ e. write-stores-same g named t u same s z (sectorsIn g k buffer)) new new (λ e. refl) (write-on g named s a k buffer t);
-      not-changed = λ t. storing-kept g named s count t (number t) (stores t) new (write-on g named s a k buffer t);
+      not-read = λ t u same. storing-same g named s count t u same (number t) (number u) (ap verdictNumber (write-same g named t u same s a)) (stores t) (stores u) (λ e. write-stores-same g named t u same s z ss) new new (λ e. refl) (write-on g named s a t);
+      not-changed = λ t. storing-kept g named s count t (number t) (stores t) new (write-on g named s a t);
+    }
+
+pub compact-absent : (g : Geometry) (named : List Bool) (s : State) (d count : ℕ) → LeavesAbsent g named (compactOn g named s d count)
+unfolding compactOn
+compact-absent g named s d count =
+    let present = callPresent g (isSet named) (viewState s) in
+    let x = lostIn g (isSet named) (viewState s) in
+    let number : Tables → ℕ = λ t. verdictNumber (compactVerdict g named s d t) in
+    let stores : Tables → List Store = λ t. compactStores g present (rolesOf g t) (seenIn g t) (viewState s) d in
+    let new : Tables → State = λ t. stateHeld maxZones (compactState g present x (seenIn g t) (viewState s) d) in
+    let here : (t : Tables) → number t ≡ 0 → present d ≡ true = λ t e. compact-passed g named s d t (compact-number-accepts g named t s d e) .here in
+    record {
+      not-read = λ t u same. storing-same g named s count t u same (number t) (number u) (ap verdictNumber (compact-same g named t u same s d)) (stores t) (stores u) (λ e. compact-stores-same g named t u same s d (here t e)) (new t) (new u)
+          (λ e. ap (stateHeld maxZones) (compact-state-same g named t u same s x d)) (compact-on g named s d t);
+      not-changed = λ t. storing-kept g named s count t (number t) (stores t) (new t) (compact-on g named s d t);
     }
 
 -- ==== READ AND PEEK, which change no memory

@@ -8,7 +8,7 @@ use native.Mathlib.Omega.{arith}
 use mathlib.Core.List.{List, [], _∷_}
 use lib.ListN.{length}
 use lib.Dec.{ltb, eqb}
-use borrow.Author.Tests.{ltb-true, eq-eqb, eqb-true, eqb-false}
+use borrow.Author.Tests.{ltb-true, eq-eqb, eqb-true}
 use Rattle.tables.specs.declared.Geometry.{Geometry}
 use Rattle.tables.specs.meaning.Basics.{pick}
 use Rattle.tables.specs.laws.Basics.{and-split}
@@ -22,7 +22,7 @@ use Rattle.volume.specs.declared.Answer.the-variants.{Finished, Unfinish
 use Rattle.volume.specs.declared.BadPlace.{BadPlace}
 use Rattle.volume.specs.declared.Outcome.{Outcome}
 use Rattle.volume.specs.declared.State.{State}
-use Rattle.volume.specs.meaning.Refusals.{Verdict, refuse, accept, firstRefusal, lookRows, mountRows, noBadPlace, badPlaceAt, badPlaceIn, firstOf, lowerFirst, driveBadPlace, firstBelow, firstBadPlace}
+use Rattle.volume.specs.meaning.Refusals.{Verdict, refuse, accept, firstRefusal, lookRows, mountRows, noBadPlace, badPlaceAt, badPlaceIn, firstOf, driveBadPlace, firstBelow, firstBadPlace}
 use Rattle.volume.specs.meaning.Roles.{roles, placedBy}
 use Rattle.volume.specs.meaning.Answers.{presentIn, lostDriveIn, refusedAt, toldAt}
 use Rattle.volume.specs.meaning.CallContracts.{isSet, answerNumber, verdictNumber, lengthsOf, badIn, rolesOf, seenIn, lookVerdict, lookOn, mountVerdict, mountStoresOn, badPlaceOn, mountOn}
@@ -33,14 +33,14 @@ use Rattle.volume.specs.laws.LeastRefusal.{first-least}
 -- ---- of rows
 abbrev pub smallRows : List (ℕ × Bool) → Bool
 smallRows [] = true
-smallRows ((n, b) ∷ rows) = ltb n 16 && smallRows rows
+smallRows ((n, b) ∷ rows) = ltb n 20 && smallRows rows
 
-pub verdict-small : (rows : List (ℕ × Bool)) → smallRows rows ≡ true → verdictNumber (firstRefusal rows) < 16
+pub verdict-small : (rows : List (ℕ × Bool)) → smallRows rows ≡ true → verdictNumber (firstRefusal rows) < 20
 verdict-small [] e = omega arith
-verdict-small ((n, b) ∷ rows) e = let (p, q) = and-split (ltb n 16) (smallRows rows) e in go b p (verdict-small rows q)
+verdict-small ((n, b) ∷ rows) e = let (p, q) = and-split (ltb n 20) (smallRows rows) e in go b p (verdict-small rows q)
   where
-    go : (c : Bool) → ltb n 16 ≡ true → verdictNumber (firstRefusal rows) < 16 → verdictNumber (pick c (refuse n) (firstRefusal rows)) < 16
-    go true p q = ltb-true n 16 p
+    go : (c : Bool) → ltb n 20 ≡ true → verdictNumber (firstRefusal rows) < 20 → verdictNumber (pick c (refuse n) (firstRefusal rows)) < 20
+    go true p q = ltb-true n 20 p
     go false p q = q
 
 row-six : (v : Verdict) → verdictNumber v ≡ 6 → v ≡ refuse 6
@@ -102,7 +102,7 @@ refused-numbered b n told h = go (eqb n 6) refl
     go true e = told (eqb-true n 6 e)
     go false e = h
 
-refused-small : (b : BadPlace) (n : ℕ) → b .number ≤ 17 → n < 16 → answerNumber (refusedAt b n) ≤ 255
+refused-small : (b : BadPlace) (n : ℕ) → b .number ≤ 17 → n < 20 → answerNumber (refusedAt b n) ≤ 255
 refused-small b n h k = go (eqb n 6)
   where
     go : (c : Bool) → answerNumber (pick c (BadLog b) (Refused n)) ≤ 255
@@ -129,15 +129,15 @@ module _ (g : Geometry) (named : List Bool) (t : Tables) where
   unfolding mountOn
   mount-tells old count e = rw e refl
 
-  pub look-small : verdictNumber (lookVerdict g named t) < 16
+  pub look-small : verdictNumber (lookVerdict g named t) < 20
   unfolding lookVerdict lookRows
   look-small = verdict-small (lookRows g (lengthsOf t) (badIn g named t) (isSet named) (rolesOf g t) (seenIn g t)) refl
 
-  pub mount-small : verdictNumber (mountVerdict g named t) < 16
+  pub mount-small : verdictNumber (mountVerdict g named t) < 20
   unfolding mountVerdict mountRows
   mount-small = verdict-small (mountRows g (lengthsOf t) (badIn g named t) (isSet named) (rolesOf g t) (seenIn g t)) refl
 
-  told-small : (n : ℕ) → n < 16 → answerNumber (refusedAt (badPlaceOn g named t) n) ≤ 255
+  told-small : (n : ℕ) → n < 20 → answerNumber (refusedAt (badPlaceOn g named t) n) ≤ 255
   told-small n h = refused-small (badPlaceOn g named t) n (place-most g (presentIn g (isSet named) (deviceOf g t)) (placedBy (roles g (deviceOf g t))) (seenIn g t)) h
 
   -- every answer of a look, and of a mount, has eight bits

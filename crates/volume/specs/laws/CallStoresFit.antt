@@ -1,4 +1,4 @@
--- NO STORE VANISHES: on any input, the stores of an accepted flush, format, reset or write have their place, and each append finds room in its zone when its
+-- NO STORE VANISHES: on any input, the stores of an accepted flush, format, reset, write or compact have their place, and each append finds room in its zone when its
 -- turn comes (`Fits`; on the tables `none-vanishes`). The refusals alone give it: 2 and 3 the tables, 7 and 9 a write's zone, 14 the logs.
 -- (Mount: MountStoresFit.)
 use mathlib.Core.Path.{_≡_, refl, sym, ap, _∙_}
@@ -11,7 +11,7 @@ use native.Mathlib.Omega.{arith}
 use mathlib.Core.List.{List, [], _∷_, _++_}
 use lib.ListN.{length, take, drop}
 use lib.Dec.{ltb, eqb}
-use borrow.Author.Tests.{lt-ltb, le-ltb, ltb-true, eq-eqb, ne-eqb}
+use borrow.Author.Tests.{lt-ltb, le-ltb, ltb-true, eq-eqb, ne-eqb, eqb-true}
 use Rattle.tables.specs.declared.Geometry.{Geometry}
 use Rattle.tables.specs.meaning.Basics.{pick}
 use Rattle.tables.specs.laws.Basics.{and-split}
@@ -36,24 +36,26 @@ use Rattle.volume.specs.declared.State.{State}
 use Rattle.volume.specs.meaning.State.{callPresent}
 use Rattle.volume.specs.meaning.Content.{at, insideStripe, fillOf, parityDriveAt, entryAt}
 use Rattle.volume.specs.meaning.Rules.{generalHeads, parityEntries}
-use Rattle.volume.specs.meaning.Refusals.{accept, zoneOf, goneBefore}
+use Rattle.volume.specs.meaning.Refusals.{accept, WriteAsked, zoneAsked, goneBefore}
+use Rattle.volume.specs.meaning.Hosts.{shareLeft}
 use Rattle.volume.specs.meaning.Calls.{appendGeneral, generationsFrom, dataStores, entryStores, writeWith, zoneContent, writeStores, flushStores, resetPhases, resetStores, formatPhases, formatStores}
 use Rattle.volume.specs.meaning.Answers.{sectorsIn, namedDrives, leftOut}
-use Rattle.volume.specs.meaning.CallContracts.{viewState, isSet, rolesOf, seenIn, recordAt, pointerOf, flushVerdict, resetVerdict, writeVerdict, formatVerdict}
+use Rattle.volume.specs.meaning.CallContracts.{viewState, isSet, rolesOf, seenIn, recordAt, pointerOf, flushVerdict, resetVerdict, writeVerdict, compactVerdict, formatVerdict}
 use Rattle.volume.specs.looking.KnowingLaws.{known-in}
 use Rattle.tables.specs.laws.Within.{part-long}
-use Rattle.volume.specs.laws.PassedRows.{WritePassed, format-passed, reset-passed, write-passed, flush-passed}
+use Rattle.volume.specs.laws.PassedRows.{WritePassed, CompactPassed, format-passed, reset-passed, write-passed, compact-passed, flush-passed}
 use Rattle.volume.specs.laws.PlacedStores.{AllLong, placed-write, reset-placed, format-placed}
 use Rattle.tables.specs.laws.AppendCounts.{NoneVanishes, none-vanishes, appendsTo, fits-by-count, appends-present, appends-append, appends-flushes, appends-each}
 use Rattle.volume.specs.laws.CallAppends.{inGeneral, reset-appends, format-appends, data-appends, data-elsewhere, appends-all, entry-long}
 use Rattle.volume.specs.meaning.Roles.{Roles, zoneOfRole, placedBy, rolesAfter}
-use Rattle.volume.specs.meaning.Emptying.{InForce, byState, newGeneral, newParity, newGeneralSize, newParitySize, resetLimit, writeLimit, emptiedFor, emptiedForWrite, emptyings, emptyGeneral, emptyParity, writeAll, resetAll}
+use Rattle.volume.specs.meaning.Emptying.{InForce, byState, newGeneral, newParity, newGeneralSize, newParitySize, reserve, resetLimit, writeLimit, emptiedFor, emptyings, emptyGeneral, emptyParity, compactStores, writeAll, resetAll}
 use Rattle.volume.specs.laws.LogPlaces.{role-of-other}
-use Rattle.volume.specs.laws.LogRoom.{CanEmpty, has-room, emptied-here, emptied-write-here, write-asks, log-by-roles, spare-by-roles, data-by-roles, reset-empties, write-empties, write-copies}
+use Rattle.volume.specs.laws.Firm.{role-one-to-one}
+use Rattle.volume.specs.laws.LogRoom.{CanEmpty, has-room, emptied-here, log-by-roles, spare-by-roles, data-by-roles, write-has-room, reset-empties, compact-empties}
 use Rattle.volume.specs.laws.EmptiedLogs.{new-general-length}
 use Rattle.volume.specs.laws.SectorLengths.{LongDevice, tables-long, by-roles-long, known-value-long}
 use Rattle.volume.specs.laws.CopyLengths.{new-general-long, new-parity-length, new-parity-long, made-of-known}
-use Rattle.volume.specs.laws.EmptyingFits.{roles-firm, after-firm, role-below, after-short, after-room, after-data, carried-fit}
+use Rattle.volume.specs.laws.EmptyingFits.{roles-firm, after-firm, role-below, emptyings-fit, after-short, after-room, carried-fit, fits-carried}
 
 -- ---- a zone of the tables is never seen longer than C
 pub zone-short : (g : Geometry) (t : Tables) (d y : ℕ) → d < g .drives → y < physicalZones g → length (deviceOf g t d y .sectors) ≤ g .capacity
@@ -212,14 +214,16 @@ module _ (g : Geometry) (named : List Bool) (array : ℕ) (t : Tables) (e : form
       rw same (fits-append g (onPresent drivesOfFormat resets) (onPresent drivesOfFormat rest) (deviceOf g t) (present-fit g drivesOfFormat resets (deviceOf g t) p resets-room)
       (present-fit g drivesOfFormat rest (applyAll (onPresent drivesOfFormat resets) (deviceOf g t)) q rest-room))
 
--- ==== write: the parity log that gets its entry is emptied if it lacks room, and then has room for it; what is appended to the zone is what the later
--- pointer needs
-module _ (g : Geometry) (named : List Bool) (s : State) (a k : ℕ) (buffer : List ℕ) (t : Tables) (e : writeVerdict g named s a k (length buffer) t ≡ accept) where
+-- ==== write: the parity log that gets its entry has room for it; what is appended to the zone is what the later pointer needs
+module _ (g : Geometry) (named : List Bool) (s : State) (a : WriteAsked) (t : Tables) (e : writeVerdict g named s a t ≡ accept) where
   abbrev drivesOfWrite : ℕ → Bool
   drivesOfWrite = callPresent g (isSet named) (viewState s)
 
   abbrev z : ℕ
-  z = zoneOf g a
+  z = zoneAsked g a
+
+  abbrev k : ℕ
+  k = a .count
 
   abbrev pointer : ℕ
   pointer = pointerOf s z
@@ -228,10 +232,10 @@ module _ (g : Geometry) (named : List Bool) (s : State) (a k : ℕ) (buffer : Li
   generation = recordAt s z .generation
 
   abbrev content : ℕ → List ℕ
-  content = zoneContent g drivesOfWrite (seenIn g t) (viewState s) z (sectorsIn g k buffer)
+  content = zoneContent g drivesOfWrite (seenIn g t) (viewState s) z (sectorsIn g k (a .buffer))
 
-  accepted : WritePassed g named s a k (length buffer) t
-  accepted = write-passed g named s a k (length buffer) t e
+  accepted : WritePassed g named s a t
+  accepted = write-passed g named s a t e
 
   ok : Valid g
   ok = accepted .opening .tables .valid
@@ -242,8 +246,8 @@ module _ (g : Geometry) (named : List Bool) (s : State) (a k : ℕ) (buffer : Li
   new-long b h l =
       let i = b - pointer in
       let q : suc i ≤ k = omega arith in
-      rw (le-ltb b pointer h, getD-tabulate-from (λ j. take (g .sector) (drop (j * g .sector) buffer)) zero k i q)
-      (let e0 : zero + i ≡ i = omega arith in rw e0 (part-long buffer (i * g .sector) (g .sector) (omega (arith, accepted .buffer-long, mul-le-mul-right (g .sector) q))))
+      rw (le-ltb b pointer h, getD-tabulate-from (λ j. take (g .sector) (drop (j * g .sector) (a .buffer))) zero k i q)
+      (let e0 : zero + i ≡ i = omega arith in rw e0 (part-long (a .buffer) (i * g .sector) (g .sector) (omega (arith, accepted .buffer-long, mul-le-mul-right (g .sector) q))))
 
   -- so are the earlier sectors of the first stripe, where they are needed
   sectors-seen : LongDevice (g .sector) (seenIn g t)
@@ -257,66 +261,31 @@ module _ (g : Geometry) (named : List Bool) (s : State) (a k : ℕ) (buffer : Li
       let is : start + (b - start) ≡ b = omega arith in
       rw (lt-ltb b pointer l) (known-value-long g ok drivesOfWrite (seenIn g t) sectors-seen z generation b (rw is at some))
 
-  -- ---- the log that is emptied
+  -- ---- the device by its roles, as the stores are carried
   abbrev end : ℕ
   end = pointer + k
 
-  abbrev writeForce : InForce
-  writeForce = byState g drivesOfWrite (seenIn g t) (viewState s)
-
-  abbrev emptiedByWrite : ℕ → Bool
-  emptiedByWrite = emptiedForWrite g drivesOfWrite (rolesOf g t) (seenIn g t) z end
-
-  abbrev newParityLogs : ℕ → List (List ℕ)
-  newParityLogs d = newParity g writeForce (rolesOf g t d) d (parityEntries g (seenIn g t) d)
-
-  write-there : (d : ℕ) → emptiedByWrite d ≡ true → (drivesOfWrite d ≡ true) × (d < g .drives)
-  write-there d q = let p = emptied-write-here g drivesOfWrite (rolesOf g t) (seenIn g t) z end d q in (p, call-present-below g named s d p)
-
-  write-can : (d : ℕ) → emptiedByWrite d ≡ true → CanEmpty g true (rolesOf g t d) (writeLimit g end) (newParitySize g writeForce d) × (length (seenIn g t d spareZone .sectors) ≡ 0)
-  write-can d q = write-empties g drivesOfWrite (rolesOf g t) writeForce (seenIn g t) z end (accepted .log-room) d (write-there d q .1) q
-
-  write-long : (d : ℕ) → emptiedByWrite d ≡ true → AllLong (g .sector) (newParityLogs d)
-  write-long d q =
-      let gone = write-copies g drivesOfWrite (rolesOf g t) writeForce (seenIn g t) z end (accepted .known-copies) d (write-there d q .1) q in
-      new-parity-long g ok writeForce (seenIn g t) d (sectors-seen d parityZone) (rolesOf g t d) (made-of-known g ok drivesOfWrite (seenIn g t) sectors-seen (viewState s) d gone)
-
-  write-blank : (d : ℕ) → emptiedByWrite d ≡ true → length (deviceOf g t d (rolesOf g t d .spare) .sectors) ≡ 0
-  write-blank d q = ap (λ (x : ZoneView). length (x .sectors)) (sym (spare-by-roles g (deviceOf g t) d)) ∙ write-can d q .1
-
-  pub write-fits : (d : ℕ) → emptiedByWrite d ≡ true → length (newParityLogs d) + writeLimit g end ≤ g .capacity
-  write-fits d q = omega (arith, write-can d q .0 .fits, new-parity-length g ok writeForce (seenIn g t) d (sectors-seen d parityZone) (rolesOf g t d))
-
-  short-of-write : (d y : ℕ) → drivesOfWrite d ≡ true → y < physicalZones g → length (deviceOf g t d y .sectors) ≤ g .capacity
-  short-of-write d y hd hy = zone-short g t d y (call-present-below g named s d hd) hy
-
-  abbrev rolesOfWrite : ℕ → Roles
-  rolesOfWrite = rolesAfter true emptiedByWrite (rolesOf g t)
-
-  -- the device by the roles after that
   abbrev seenByWrite : Device
-  seenByWrite = through (placedBy rolesOfWrite) (applyAll (emptyings g drivesOfWrite true (rolesOf g t) emptiedByWrite newParityLogs) (deviceOf g t))
+  seenByWrite = through (placedBy (rolesOf g t)) (deviceOf g t)
 
   seen-short : (d y : ℕ) → drivesOfWrite d ≡ true → y < physicalZones g → length (seenByWrite d y .sectors) ≤ g .capacity
-  seen-short d y hd hy =
-      after-short g drivesOfWrite true (rolesOf g t) emptiedByWrite newParityLogs (writeLimit g end) (deviceOf g t) (roles-firm g (deviceOf g t)) write-there write-long write-blank write-fits short-of-write d (zoneOfRole (rolesOfWrite d) y) hd
-      (role-below (rolesOfWrite d) y (physicalZones g) (after-firm true emptiedByWrite (rolesOf g t) d (roles-firm g (deviceOf g t) d)) (omega arith) hy)
+  seen-short d y hd hy = zone-short g t d (zoneOfRole (rolesOf g t d) y) (call-present-below g named s d hd) (role-below (rolesOf g t d) y (physicalZones g) (roles-firm g (deviceOf g t) d) (omega arith) hy)
 
-  -- the zone written is as it was
+  -- the zone written
   seen-data : (d : ℕ) → length (seenByWrite d (dataZone z) .sectors) ≡ length (seenIn g t d (dataZone z) .sectors)
   seen-data d =
-      let there : zoneOfRole (rolesOfWrite d) (dataZone z) ≡ dataZone z = role-of-other (rolesOfWrite d) (dataZone z) (omega arith) in
-      let u = applyAll (emptyings g drivesOfWrite true (rolesOf g t) emptiedByWrite newParityLogs) (deviceOf g t) in
-      ap (λ (y : ℕ). length (u d y .sectors)) there
-      ∙ ap (λ (ss : List (List ℕ)). length ss) (after-data g drivesOfWrite true (rolesOf g t) emptiedByWrite newParityLogs (writeLimit g end) (deviceOf g t) (roles-firm g (deviceOf g t)) write-there write-long write-blank write-fits short-of-write d (dataZone z) (omega arith))
+      ap (λ (y : ℕ). length (deviceOf g t d y .sectors)) (role-of-other (rolesOf g t d) (dataZone z) (omega arith))
       ∙ ap (λ (x : ZoneView). length (x .sectors)) (sym (data-by-roles g (deviceOf g t) d (dataZone z) (omega arith)))
 
   -- the parity drive's log has the limit's room
-  write-kept : (d : ℕ) → drivesOfWrite d ≡ true → insideStripe g end ≡ true → d ≡ parityDriveAt g z end → emptiedByWrite d ≡ false → length (deviceOf g t d (rolesOf g t d .parity) .sectors) + writeLimit g end ≤ g .capacity
-  write-kept d hd i p q =
-      let (there, room) = has-room g drivesOfWrite true (rolesOf g t) (seenIn g t) (writeLimit g end) d (omega arith) hd (write-asks g drivesOfWrite (rolesOf g t) (seenIn g t) z end d i p q) in
-      let same = ap (λ (x : ZoneView). length (x .sectors)) (log-by-roles g (deviceOf g t) d true there) in
-      omega (arith, room, same)
+  write-kept : (d : ℕ) → drivesOfWrite d ≡ true → insideStripe g end ≡ true → d ≡ parityDriveAt g z end → length (seenByWrite d parityZone .sectors) + writeLimit g end ≤ g .capacity
+  write-kept d hd i p =
+      let q = parityDriveAt g z end in
+      let here : drivesOfWrite q ≡ true = rw p at hd in
+      let (share, there, room) = write-has-room g drivesOfWrite (rolesOf g t) (seenIn g t) (shareLeft g (viewState s) (a .host) z end) z end (accepted .log-room) i here in
+      let same = ap (λ (x : ZoneView). length (x .sectors)) (log-by-roles g (deviceOf g t) q true there) in
+      let l : length (seenByWrite d parityZone .sectors) ≡ length (seenByWrite q parityZone .sectors) = ap (λ (x : ℕ). length (seenByWrite x parityZone .sectors)) p in
+      omega (arith, room, same, l)
 
   abbrev stores : List Store
   stores = writeWith g z generation content pointer k
@@ -342,7 +311,7 @@ module _ (g : Geometry) (named : List Bool) (s : State) (a k : ℕ) (buffer : Li
       go : (b : Bool) → insideStripe g end ≡ b → Dec (d ≡ parityDriveAt g z (pointer + k)) → length (seenByWrite d parityZone .sectors) ≤ g .capacity
           → length (seenByWrite d parityZone .sectors) + pick b (pick (eqb d (parityDriveAt g z (pointer + k))) (suc (min (fillOf g (pointer + k)) (g .unit))) 0) 0 ≤ g .capacity
       go true h (yes i) short =
-          let u = after-room g drivesOfWrite true (rolesOf g t) emptiedByWrite newParityLogs (writeLimit g end) (deviceOf g t) (roles-firm g (deviceOf g t)) write-there write-long write-blank write-fits short-of-write d (write-kept d hd h i) in
+          let u = write-kept d hd h i in
           rw (eq-eqb d (parityDriveAt g z (pointer + k)) i) (omega (arith, u))
       go true h (no i) short = rw (ne-eqb d (parityDriveAt g z (pointer + k)) i) (omega (arith, short))
       go false h i short = omega (arith, short)
@@ -382,20 +351,54 @@ module _ (g : Geometry) (named : List Bool) (s : State) (a k : ℕ) (buffer : Li
           omega (arith, split, c, l, data-elsewhere (g .drives) (g .unit) z hD (ok .unit-least) content pointer k d y i, entry-room d hd)
       go (no i) (no j) = omega (arith, split, entry-none j, data-elsewhere (g .drives) (g .unit) z hD (ok .unit-least) content pointer k d y i, seen-short d y hd hy)
 
-  length-in : length (sectorsIn g k buffer) ≡ k
+  length-in : length (sectorsIn g k (a .buffer)) ≡ k
   unfolding sectorsIn
-  length-in = length-tabulate-from (λ i. take (g .sector) (drop (i * g .sector) buffer)) zero k
+  length-in = length-tabulate-from (λ i. take (g .sector) (drop (i * g .sector) (a .buffer))) zero k
 
   -- its own stores, before they are carried
-  own-write-fit : FitsAll g (writeStores g drivesOfWrite (seenIn g t) (viewState s) z (sectorsIn g k buffer)) seenByWrite
+  own-write-fit : FitsAll g (writeStores g drivesOfWrite (seenIn g t) (viewState s) z (sectorsIn g k (a .buffer))) seenByWrite
   unfolding writeStores
   own-write-fit = rw length-in (present-fit g drivesOfWrite stores seenByWrite (placed-write g ok drivesOfWrite z (accepted .zone) content pointer k new-long old-long generation) write-room)
 
-  pub write-stores-fit : FitsAll g (writeAll g drivesOfWrite (rolesOf g t) (seenIn g t) (viewState s) z (sectorsIn g k buffer)) (deviceOf g t)
-  unfolding writeAll emptyParity
-  write-stores-fit = rw length-in (
-      carried-fit g drivesOfWrite true (rolesOf g t) emptiedByWrite newParityLogs (writeLimit g end) (deviceOf g t) (roles-firm g (deviceOf g t)) write-there write-long write-blank write-fits short-of-write
-      (writeStores g drivesOfWrite (seenIn g t) (viewState s) z (sectorsIn g k buffer)) own-write-fit)
+  pub write-stores-fit : FitsAll g (writeAll g drivesOfWrite (rolesOf g t) (seenIn g t) (viewState s) z (sectorsIn g k (a .buffer))) (deviceOf g t)
+  unfolding writeAll
+  write-stores-fit =
+      let own = writeStores g drivesOfWrite (seenIn g t) (viewState s) z (sectorsIn g k (a .buffer)) in
+      fits-carried g (placedBy (rolesOf g t)) own (deviceOf g t) (λ d. role-one-to-one (rolesOf g t d) (roles-firm g (deviceOf g t) d)) (λ d y h. role-below (rolesOf g t d) y (physicalZones g) (roles-firm g (deviceOf g t) d) (omega arith) h) own-write-fit
+
+-- ==== compact: the new log fits in the blank spare
+module _ (g : Geometry) (named : List Bool) (s : State) (d : ℕ) (t : Tables) (e : compactVerdict g named s d t ≡ accept) where
+  abbrev drivesOfCompact : ℕ → Bool
+  drivesOfCompact = callPresent g (isSet named) (viewState s)
+
+  abbrev compactForce : InForce
+  compactForce = byState g drivesOfCompact (seenIn g t) (viewState s)
+
+  abbrev newParityLogs : ℕ → List (List ℕ)
+  newParityLogs c = newParity g compactForce (rolesOf g t c) c (parityEntries g (seenIn g t) c)
+
+  compacts : CompactPassed g named s d t
+  compacts = compact-passed g named s d t e
+
+  valid : Valid g
+  valid = compacts .opening .tables .valid
+
+  compact-can : CanEmpty g true (rolesOf g t d) (reserve g) (newParitySize g compactForce d) × (length (seenIn g t d spareZone .sectors) ≡ 0)
+  compact-can = compact-empties g (rolesOf g t) compactForce (seenIn g t) d (valid .unit-least) (compacts .log-room)
+
+  long-seen : LongDevice (g .sector) (seenIn g t)
+  long-seen = by-roles-long g (deviceOf g t) (tables-long g t (compacts .opening .tables .sized))
+
+  -- the new log leaves the reserve
+  pub compact-fits : length (newParityLogs d) + reserve g ≤ g .capacity
+  compact-fits = omega (arith, compact-can .0 .fits, new-parity-length g valid compactForce (seenIn g t) d (long-seen d parityZone) (rolesOf g t d))
+
+  pub compact-stores-fit : FitsAll g (compactStores g drivesOfCompact (rolesOf g t) (seenIn g t) (viewState s) d) (deviceOf g t)
+  unfolding compactStores emptyParity
+  compact-stores-fit =
+      emptyings-fit g drivesOfCompact true (rolesOf g t) (λ c. eqb c d) newParityLogs (reserve g) (deviceOf g t) (roles-firm g (deviceOf g t)) (λ c q. rw (eqb-true c d q) (compacts .here, call-present-below g named s d (compacts .here)))
+      (λ c q. rw (eqb-true c d q) (new-parity-long g valid compactForce (seenIn g t) d (long-seen d parityZone) (rolesOf g t d) (made-of-known g valid drivesOfCompact (seenIn g t) long-seen (viewState s) d (compacts .known-copies))))
+      (λ c q. rw (eqb-true c d q) (ap (λ (x : ZoneView). length (x .sectors)) (sym (spare-by-roles g (deviceOf g t) d)) ∙ compact-can .1)) (λ c q. rw (eqb-true c d q) compact-fits) (λ c y hd hy. zone-short g t c y (call-present-below g named s c hd) hy)
 
 -- ==== ON THE TABLES: no append of an accepted call finds its zone full
 module _ (g : Geometry) (named : List Bool) (t : Tables) where
@@ -412,6 +415,9 @@ module _ (g : Geometry) (named : List Bool) (t : Tables) where
     pub reset-none-vanishes : (z : ℕ) → resetVerdict g named s z t ≡ accept → NoneVanishes g (resetAll g drivesOf (rolesOf g t) (seenIn g t) (viewState s) z) t
     reset-none-vanishes z e = none-vanishes g (resetAll g drivesOf (rolesOf g t) (seenIn g t) (viewState s) z) t (reset-passed g named s z t e .opening .tables .sized) (reset-stores-fit g named s z t e)
 
-    pub write-none-vanishes : (a k : ℕ) (buffer : List ℕ) → writeVerdict g named s a k (length buffer) t ≡ accept → NoneVanishes g (writeAll g drivesOf (rolesOf g t) (seenIn g t) (viewState s) (zoneOf g a) (sectorsIn g k buffer)) t
-    write-none-vanishes a k buffer e =
-        none-vanishes g (writeAll g drivesOf (rolesOf g t) (seenIn g t) (viewState s) (zoneOf g a) (sectorsIn g k buffer)) t (write-passed g named s a k (length buffer) t e .opening .tables .sized) (write-stores-fit g named s a k buffer t e)
+    pub write-none-vanishes : (a : WriteAsked) → writeVerdict g named s a t ≡ accept → NoneVanishes g (writeAll g drivesOf (rolesOf g t) (seenIn g t) (viewState s) (zoneAsked g a) (sectorsIn g (a .count) (a .buffer))) t
+    write-none-vanishes a e =
+        none-vanishes g (writeAll g drivesOf (rolesOf g t) (seenIn g t) (viewState s) (zoneAsked g a) (sectorsIn g (a .count) (a .buffer))) t (write-passed g named s a t e .opening .tables .sized) (write-stores-fit g named s a t e)
+
+    pub compact-none-vanishes : (d : ℕ) → compactVerdict g named s d t ≡ accept → NoneVanishes g (compactStores g drivesOf (rolesOf g t) (seenIn g t) (viewState s) d) t
+    compact-none-vanishes d e = none-vanishes g (compactStores g drivesOf (rolesOf g t) (seenIn g t) (viewState s) d) t (compact-passed g named s d t e .opening .tables .sized) (compact-stores-fit g named s d t e)

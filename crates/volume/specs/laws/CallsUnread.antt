@@ -1,20 +1,25 @@
 -- Nor do refusals, calls and the steps of a mount read where a geometry places the logs (the rules: RulesUnread; emptyings: EmptyingUnread; a mount: MountUnread). Their stores go to the zones by role; where these
 -- lie is the tables' business (LogPlaces: `run-at`).
 use mathlib.Core.Path.{_≡_, refl, ap, ap₂, fun-ext}
-use mathlib.Core.Bool.{Bool, true, false}
+use mathlib.Core.Bool.{Bool, true, false, _&&_, not}
 use Prim.Native.Nat.{ℕ, _+_}
 use mathlib.Core.List.{List, [], _∷_, _++_}
 use Rattle.tables.specs.declared.Geometry.{Geometry}
+use lib.Dec.{ltb, leb}
 use Rattle.tables.specs.meaning.Basics.{pick}
+use Rattle.tables.specs.meaning.Below.{countBelow}
 use Rattle.tables.specs.meaning.Device.{Device, Store}
 use Rattle.tables.specs.meaning.Geometry.{zoneSectors}
 use Rattle.tables.specs.meaning.Tables.{lengthsFit, bufferFits}
 use Rattle.logs.specs.meaning.Entry.{generalZone, parityZone, label, counters, zoneReset, partialParity, seal, closing, Entry}
 use Rattle.logs.specs.meaning.Walk.{Walked, Ending, atPointer, noEntry, torn, sectorsOf}
-use Rattle.volume.specs.meaning.State.{StateView, callPresent}
+use Rattle.volume.specs.declared.Condition.{Condition}
+use Rattle.volume.specs.declared.Condition.the-variants.{Empty, Open, Sealed, Worn}
+use Rattle.volume.specs.meaning.State.{StateView, isOwner, callPresent}
 use Rattle.volume.specs.meaning.Content.{entryAt}
 use Rattle.volume.specs.meaning.Rules.{Shown}
-use Rattle.volume.specs.meaning.Refusals.{noBadPlace, badPlaceIn, lowerFirst, firstBadPlace, driveBadPlace, TableLengths, stateWithin, tablesFit, badPointers, twoLost, twoAbsent, twoUnnamed, badLabels, kindLacks, badLogs, stale, noZone, badRun, goneIn, goneBefore, notHeld}
+use Rattle.volume.specs.meaning.Refusals.{noBadPlace, badPlaceIn, lowerFirst, firstBadPlace, driveBadPlace, TableLengths, stateWithin, tablesFit, badPointers, twoLost, twoAbsent, twoUnnamed, badLabels, kindLacks, badLogs, stale, staleSomewhere, noZone, badRun, goneIn, goneBefore, notHeld}
+use Rattle.volume.specs.meaning.Hosts.{limitOf, mostOpen, countsAs, openZones, zonesOf, overLimit, overOpen}
 use Rattle.volume.specs.meaning.Calls.{writeWith, zoneContent, writeStores, flushStores, resetStores, formatStores}
 use Rattle.volume.specs.meaning.Roles.{Roles}
 use Rattle.volume.specs.meaning.Mount.{spareStep, labelStep, resetEntryStep, zoneResetStep, countersDiffer, counterStep, sealStep, missingRows, tornRowStep, fillStep, entryStep, withFlush, withFlushes, afterOpening}
@@ -81,12 +86,32 @@ module _ (g : Geometry) (n : ℕ) where
   unfolding stale
   stale-alike present v state z = refl
 
+  pub stale-somewhere-alike : (present : ℕ → Bool) (v : Device) (state : StateView) → staleSomewhere (withLogs g n) present v state ≡ staleSomewhere g present v state
+  unfolding staleSomewhere stale
+  stale-somewhere-alike present v state = refl
+
   pub no-zone-alike : (z : ℕ) → noZone (withLogs g n) z ≡ noZone g z
   no-zone-alike z = refl
 
   pub bad-run-alike : (offset count : ℕ) → badRun (withLogs g n) offset count ≡ badRun g offset count
   unfolding zoneSectors
   bad-run-alike offset count = refl
+
+  counts-alike : (c : Condition) → countsAs (withLogs g n) c ≡ countsAs g c
+  unfolding zoneSectors
+  counts-alike Empty = refl
+  counts-alike (Open q) = refl
+  counts-alike (Sealed q) = refl
+  counts-alike (Worn q) = refl
+
+  pub over-limit-alike : (state : StateView) (h z end : ℕ) → overLimit (withLogs g n) state h z end ≡ overLimit g state h z end
+  unfolding overLimit zonesOf zoneSectors
+  over-limit-alike state h z end =
+      ap (λ (f : ℕ → Bool). ltb end (zoneSectors g) && (not (f z && isOwner h (state .owner z)) && leb (limitOf h) (countBelow (λ y. f y && isOwner h (state .owner y)) (g .zones)))) (fun-ext λ y. counts-alike (state .condition y))
+
+  pub over-open-alike : (state : StateView) (z end : ℕ) → overOpen (withLogs g n) state z end ≡ overOpen g state z end
+  unfolding overOpen openZones zoneSectors
+  over-open-alike state z end = ap (λ (f : ℕ → Bool). ltb end (zoneSectors g) && (not (f z) && leb mostOpen (countBelow f (g .zones)))) (fun-ext λ y. counts-alike (state .condition y))
 
   pub kind-lacks-alike : (present : ℕ → Bool) (r : ℕ → Roles) → kindLacks (withLogs g n) present r ≡ kindLacks g present r
   unfolding kindLacks

@@ -220,10 +220,6 @@ module _ (g : Geometry) (present : ℕ → Bool) (par : Bool) (r : ℕ → Roles
             let same = ap (λ (t : List (List ℕ)). length t) (emptyings-else g present par r emptied ss v d (zoneOfKind par (r d)) (λ q. not-both (emptied d) q e)) in
             omega (arith, same, kept e)
 
-    -- a zone of the volume is as it was
-    pub after-data : (d y : ℕ) → 3 ≤ y → after d y .sectors ≡ v d y .sectors
-    after-data d y l = emptyings-else g present par r emptied ss v d y (λ q. let (n, o, s) = kind-spare par (r d) (proper d) in ((λ e. omega (arith, e, o, l)), (λ e. omega (arith, e, s, l))))
-
     -- THE CALL'S OWN STORES, carried, after them
     pub carried-fit : (xs : List Store) → FitsAll g xs (through (placedBy (rolesAfter par emptied r)) after) → FitsAll g (all ++ map (carry (placedBy (rolesAfter par emptied r))) xs) v
     carried-fit xs f =

@@ -11,8 +11,9 @@ use Rattle.logs.specs.meaning.Walk.{sectorsOf}
 use Rattle.logs.specs.meaning.Copies.{copiedGeneral}
 use Rattle.volume.specs.meaning.State.{StateView}
 use Rattle.volume.specs.meaning.Roles.{Roles}
-use Rattle.volume.specs.meaning.Emptying.{InForce, byState, isAtPointer, generalCopies, parityCopies, newGeneral, newParity, newGeneralSize, newParitySize, unusedIn, staysFull, emptiedFor, emptiedForWrite, emptyingStores, emptyings, emptyGeneral, emptyParity, writeAll, resetAll, goneForCopies}
-use Rattle.volume.specs.meaning.Refusals.{mountFull, resetFull, writeFull, goneForEntry}
+use Rattle.volume.specs.meaning.Emptying.{InForce, byState, isAtPointer, generalCopies, parityCopies, newGeneral, newParity, newGeneralSize, newParitySize, unusedIn, staysFull, emptiedFor, emptyingStores, emptyings, emptyGeneral, emptyParity, compactStores, writeAll, resetAll, goneForCopies}
+use Rattle.volume.specs.meaning.Hosts.{compactState}
+use Rattle.volume.specs.meaning.Refusals.{mountFull, resetFull, writeFull, compactFull}
 use Rattle.volume.specs.laws.LogPlaces.{withLogs}
 use Rattle.volume.specs.laws.LogsUnread.{encode-alike}
 use Rattle.volume.specs.laws.RulesUnread.{heads-alike, entries-alike, value-alike, zone-view-alike, ends-at-alike}
@@ -70,10 +71,6 @@ module _ (g : Geometry) (n : ℕ) where
   unfolding emptiedFor unusedIn
   emptied-for-alike present par r w limit = refl
 
-  pub emptied-for-write-alike : (present : ℕ → Bool) (r : ℕ → Roles) (w : Device) (z end : ℕ) → emptiedForWrite (withLogs g n) present r w z end ≡ emptiedForWrite g present r w z end
-  unfolding emptiedForWrite emptiedFor unusedIn
-  emptied-for-write-alike present r w z end = refl
-
   -- ---- their stores
   pub emptying-stores-alike : (present : ℕ → Bool) (d old spare : ℕ) (ss : List (List ℕ)) → emptyingStores (withLogs g n) present d old spare ss ≡ emptyingStores g present d old spare ss
   unfolding emptyingStores
@@ -104,18 +101,25 @@ module _ (g : Geometry) (n : ℕ) where
   unfolding resetFull emptiedFor unusedIn staysFull
   reset-full-alike present r f w = simp (new-general-size-alike, heads-alike g n)
 
-  pub write-full-alike : (present : ℕ → Bool) (r : ℕ → Roles) (f : InForce) (w : Device) (z end : ℕ) → writeFull (withLogs g n) present r f w z end ≡ writeFull g present r f w z end
-  unfolding writeFull emptiedForWrite emptiedFor unusedIn staysFull newParitySize
-  write-full-alike present r f w z end = refl
+  pub write-full-alike : (present : ℕ → Bool) (r : ℕ → Roles) (w : Device) (share z end : ℕ) → writeFull (withLogs g n) present r w share z end ≡ writeFull g present r w share z end
+  unfolding writeFull unusedIn
+  write-full-alike present r w share z end = refl
 
-  pub gone-for-entry-alike : (present : ℕ → Bool) (r : ℕ → Roles) (f : InForce) (w : Device) (z end : ℕ) → goneForEntry (withLogs g n) present r f w z end ≡ goneForEntry g present r f w z end
-  unfolding goneForEntry emptiedForWrite emptiedFor unusedIn
-  gone-for-entry-alike present r f w z end = simp gone-for-copies-alike
+  pub compact-full-alike : (r : ℕ → Roles) (f : InForce) (w : Device) (d : ℕ) → compactFull (withLogs g n) r f w d ≡ compactFull g r f w d
+  unfolding compactFull staysFull newParitySize
+  compact-full-alike r f w d = refl
 
-  -- ---- write and reset
+  -- ---- write, compact and reset
   pub write-all-alike : (present : ℕ → Bool) (r : ℕ → Roles) (w : Device) (state : StateView) (z : ℕ) (ss : List (List ℕ)) → writeAll (withLogs g n) present r w state z ss ≡ writeAll g present r w state z ss
   unfolding writeAll
-  write-all-alike present r w state z ss = simp (emptied-for-write-alike, empty-parity-alike, value-alike g n, write-stores-alike g n)
+  write-all-alike present r w state z ss = simp (write-stores-alike g n)
+
+  pub compact-stores-alike : (present : ℕ → Bool) (r : ℕ → Roles) (w : Device) (state : StateView) (d : ℕ) → compactStores (withLogs g n) present r w state d ≡ compactStores g present r w state d
+  unfolding compactStores
+  compact-stores-alike present r w state d = simp (empty-parity-alike, value-alike g n)
+
+  pub compact-state-alike : (present : ℕ → Bool) (x : ℕ) (w : Device) (state : StateView) (d : ℕ) → compactState (withLogs g n) present x w state d ≡ compactState g present x w state d
+  compact-state-alike present x w state d = simp (new-parity-size-alike, value-alike g n)
 
   pub reset-all-alike : (present : ℕ → Bool) (r : ℕ → Roles) (w : Device) (state : StateView) (z : ℕ) → resetAll (withLogs g n) present r w state z ≡ resetAll g present r w state z
   unfolding resetAll

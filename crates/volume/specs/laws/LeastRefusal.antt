@@ -20,12 +20,13 @@ use Rattle.volume.specs.declared.Outcome.{Outcome}
 use Rattle.volume.specs.declared.Answer.{Answer}
 use Rattle.volume.specs.declared.BadPlace.{BadPlace}
 use Rattle.volume.specs.declared.Answer.the-variants.{Finished, Unfinished, Refused}
-use Rattle.volume.specs.meaning.Refusals.{Verdict, refuse, accept, firstRefusal, zoneOf, formatRows, lookRows, mountRows, writeRows, flushRows, resetRows, readRows, peekRows}
-use Rattle.volume.specs.meaning.State.{callPresent}
-use Rattle.volume.specs.meaning.Calls.{flushStores, formatStores, flushState, formatState, resetState, writeState}
-use Rattle.volume.specs.meaning.Emptying.{writeAll, resetAll}
+use Rattle.volume.specs.meaning.Refusals.{Verdict, refuse, accept, firstRefusal, WriteAsked, zoneAsked, formatRows, lookRows, mountRows, writeRows, flushRows, resetRows, compactRows, readRows, peekRows}
+use Rattle.volume.specs.meaning.State.{callPresent, withShares}
+use Rattle.volume.specs.meaning.Calls.{flushStores, formatStores, flushState, formatState, resetState}
+use Rattle.volume.specs.meaning.Hosts.{freshShares, writtenState, compactState}
+use Rattle.volume.specs.meaning.Emptying.{writeAll, resetAll, compactStores}
 use Rattle.volume.specs.meaning.Answers.{lostIn, sectorsIn, leftOut, namedDrives, presentIn, lostDriveIn, refusedAt, toldAt}
-use Rattle.volume.specs.meaning.CallContracts.{viewState, isSet, lengthsOf, badIn, rolesOf, seenIn, verdictNumber, storingOn, flushVerdict, flushOn, resetVerdict, resetOn, writeVerdict, stateHeld}
+use Rattle.volume.specs.meaning.CallContracts.{viewState, isSet, lengthsOf, badIn, rolesOf, seenIn, verdictNumber, storingOn, flushVerdict, flushOn, resetVerdict, resetOn, writeVerdict, compactVerdict, compactOn, stateHeld}
 use Rattle.volume.specs.meaning.CallContracts.{writeOn, formatVerdict, formatOn, lookVerdict, lookOn, mountVerdict, mountStoresOn, mountShownOn, badPlaceOn, mountOn, readNumber, readOn, peekNumber}
 use Rattle.volume.specs.laws.BadPlaces.{refused-same, not-finished, not-unfinished}
 use Rattle.volume.specs.laws.Refusals.{conditionOfRow, accepted-row, Numbered, numbered, nonzero, refusalOrder, inOrder}
@@ -163,7 +164,7 @@ module _ (g : Geometry) (named : List Bool) (s : State) (t : Tables) where
   unfolding formatOn formatVerdict formatRows
   format-by-rows array count =
       storing-by-rows _ (refl, refl) g (formatStores g (namedDrives g (isSet named)) (leftOut g (isSet named)) array)
-      (stateHeld (g .zones) (formatState (leftOut g (isSet named)))) s count t
+      (stateHeld (g .zones) (withShares (freshShares g (namedDrives g (isSet named))) (formatState (leftOut g (isSet named))))) s count t
 
   pub flush-by-rows : (count : ℕ) → ByRows (flushRows g (lengthsOf t) (badIn g named t) (isSet named) (viewState s) (deviceOf g t)) (flushOn g named s count t .outcome .answer)
   unfolding flushOn flushVerdict flushRows
@@ -177,12 +178,17 @@ module _ (g : Geometry) (named : List Bool) (s : State) (t : Tables) where
       storing-by-rows _ (refl, refl) g (resetAll g (callPresent g (isSet named) (viewState s)) (rolesOf g t) (seenIn g t) (viewState s) z)
       (stateHeld maxZones (resetState (lostIn g (isSet named) (viewState s)) (viewState s) z)) s count t
 
-  pub write-by-rows : (a k count : ℕ) (buffer : List ℕ)
-      → ByRows (writeRows g (lengthsOf t) (badIn g named t) (isSet named) (viewState s) a k (length buffer) (rolesOf g t) (seenIn g t)) (writeOn g named s a k buffer count t .outcome .answer)
+  pub write-by-rows : (a : WriteAsked) (count : ℕ) → ByRows (writeRows g (lengthsOf t) (badIn g named t) (isSet named) (viewState s) a (rolesOf g t) (seenIn g t)) (writeOn g named s a count t .outcome .answer)
   unfolding writeOn writeVerdict writeRows
-  write-by-rows a k count buffer =
-      storing-by-rows _ (refl, refl) g (writeAll g (callPresent g (isSet named) (viewState s)) (rolesOf g t) (seenIn g t) (viewState s) (zoneOf g a) (sectorsIn g k buffer))
-      (stateHeld maxZones (writeState (lostIn g (isSet named) (viewState s)) (viewState s) (zoneOf g a) k)) s count t
+  write-by-rows a count =
+      storing-by-rows _ (refl, refl) g (writeAll g (callPresent g (isSet named) (viewState s)) (rolesOf g t) (seenIn g t) (viewState s) (zoneAsked g a) (sectorsIn g (a .count) (a .buffer)))
+      (stateHeld maxZones (writtenState g (callPresent g (isSet named) (viewState s)) (lostIn g (isSet named) (viewState s)) (a .host) (viewState s) (zoneAsked g a) (a .count))) s count t
+
+  pub compact-by-rows : (d count : ℕ) → ByRows (compactRows g (lengthsOf t) (badIn g named t) (isSet named) (viewState s) d (rolesOf g t) (seenIn g t)) (compactOn g named s d count t .outcome .answer)
+  unfolding compactOn compactVerdict compactRows
+  compact-by-rows d count =
+      storing-by-rows _ (refl, refl) g (compactStores g (callPresent g (isSet named) (viewState s)) (rolesOf g t) (seenIn g t) (viewState s) d)
+      (stateHeld maxZones (compactState g (callPresent g (isSet named) (viewState s)) (lostIn g (isSet named) (viewState s)) (seenIn g t) (viewState s) d)) s count t
 
   -- (row 6 is answered by the first bad place)
   pub mount-by-rows : (count : ℕ) → AnsweredBy (refusedAt (badPlaceOn g named t)) (mountRows g (lengthsOf t) (badIn g named t) (isSet named) (rolesOf g t) (seenIn g t)) (mountOn g named s count t .outcome .answer)

@@ -1,7 +1,7 @@
 -- "An absent drive's memory is neither read nor changed": look and mount, on any input. (The other calls: AbsentDrives.)
-use mathlib.Core.Path.{_≡_, refl, sym, ap, ap₂, _∙_}
+use mathlib.Core.Path.{_≡_, refl, sym, ap, ap₂, _∙_, fun-ext}
 use mathlib.Core.Bool.{Bool, true}
-use Prim.Native.Nat.{ℕ, _≤_}
+use Prim.Native.Nat.{ℕ, _-_, _/_, _≤_}
 use native.Mathlib.Decide.{ℕ-discrete}
 use native.Mathlib.Omega.{arith}
 use mathlib.Core.List.{List, _++_, map}
@@ -19,20 +19,23 @@ use Rattle.tables.specs.meaning.Phases.{onPresent, flushAll}
 use Rattle.tables.specs.meaning.Tables.{Tables, deviceOf, runStores}
 use Rattle.tables.specs.laws.StoresFit.{AllOn, on-present-on, on-append, fits-all-placed}
 use Rattle.tables.specs.laws.NamedDrives.{AgreeOn, device-agrees, pointers-agree, run-agrees}
+use Rattle.logs.specs.meaning.Entry.{parityZone}
 use Rattle.volume.specs.declared.State.{State}
 use Rattle.volume.specs.declared.Outcome.{Outcome}
 use Rattle.volume.specs.declared.Answer.the-variants.{Finished}
 use Rattle.volume.specs.declared.BadPlace.{BadPlace}
+use Rattle.volume.specs.meaning.State.{hosts, StateView, withShares}
 use Rattle.volume.specs.meaning.Rules.{Shown, showing, isPresent, lostDrive}
 use Rattle.volume.specs.meaning.Refusals.{firstBadPlace, accept, kindLacks, badLabels, badLogs, mountFull, lookRows, mountRows}
-use Rattle.volume.specs.meaning.Roles.{placedBy, zoneOfRole}
-use Rattle.volume.specs.meaning.Emptying.{byLook, emptyGeneral, emptyParity}
+use Rattle.volume.specs.meaning.Roles.{Roles, claimOfKind, placedBy, zoneOfRole}
+use Rattle.volume.specs.meaning.Emptying.{byLook, unusedIn, emptyGeneral, emptyParity}
+use Rattle.volume.specs.meaning.Hosts.{halfPast, sharesBy, sharesIn}
 use Rattle.volume.specs.meaning.Answers.{presentIn, lostDriveIn, refusedAt, toldAt}
-use Rattle.volume.specs.meaning.Mount.{spareStep, entryStep, withFlush, withFlushes, stepsBeforeEntries, carryPhases, mountView, mountLook, startRoles, emptiedGeneral, emptiedParity, middleRoles, endRoles, phasesOfLogs, phasesBeforeEntries, phasesOfParityLogs, phasesOfEntries, afterFill, mountStores, mountState}
+use Rattle.volume.specs.meaning.Mount.{spareStep, entryStep, withFlush, withFlushes, stepsBeforeEntries, carryPhases, mountView, mountLook, startRoles, emptiedGeneral, emptiedParity, middleRoles, endRoles, phasesOfLogs, phasesBeforeEntries, phasesOfParityLogs, phasesOfEntries, afterFill, mountStores, mountState, shownState}
 use Rattle.volume.specs.meaning.CallContracts.{isSet, rolesOf, seenIn, verdictNumber, lookVerdict, lookOn, mountVerdict, mountStoresOn, mountShownOn, badPlaceOn, mountOn, stateHeld}
 use Rattle.volume.specs.laws.PassedRows.{look-passed, look-number-accepts, mount-passed, mount-number-accepts}
 use Rattle.volume.specs.laws.BadPlaces.{first-bad-depends}
-use Rattle.volume.specs.laws.Depends.{SameOn}
+use Rattle.volume.specs.laws.Depends.{SameOn, pick-same}
 use Rattle.volume.specs.laws.RefusalsDepend.{present-depends, lost-drive-depends, two-lost-depends, labels-depend, logs-depend, kinds-depend, by-look-depends, mount-full-depends}
 use Rattle.volume.specs.laws.RolesDepend.{roles-depend, by-roles-depend}
 use Rattle.volume.specs.laws.MountDepends.{showing-depends}
@@ -54,6 +57,16 @@ module _ (g : Geometry) (named : List Bool) (few : g .drives ≤ 8) (present : �
   showing-same : (x : ℕ) → showing g present x (seenIn g t) ≡ showing g present x (seenIn g u)
   showing-same = showing-depends g present (seenIn g t) (seenIn g u) (by-roles-depend g present (deviceOf g t) (deviceOf g u) drives-agree)
       (λ y. by-roles-depend g (λ d. eqb d noDrive) (deviceOf g t) (deviceOf g u) (λ d p z. rw (eqb-true d noDrive p) (past-same z)) noDrive refl y)
+
+  shares-same : (i : ℕ) → sharesIn g present (deviceOf g t) i ≡ sharesIn g present (deviceOf g u) i
+  unfolding sharesBy unusedIn
+  shares-same i = pick-same (present (i / hosts)) (halfPast g (unusedIn g true (rolesOf g t) (seenIn g t) (i / hosts))) (halfPast g (unusedIn g true (rolesOf g u) (seenIn g u) (i / hosts))) 0 (λ p.
+      ap₂ (λ (r : Roles) (ss : List (List ℕ)). halfPast g (pick (eqb (claimOfKind true r) 0) 0 (g .capacity - length ss)))
+      (roles-depend g present (deviceOf g t) (deviceOf g u) drives-agree (i / hosts) p) (by-roles-depend g present (deviceOf g t) (deviceOf g u) drives-agree (i / hosts) p parityZone))
+
+  -- so their state
+  state-shown-same : (x : ℕ) → shownState g present x (deviceOf g t) ≡ shownState g present x (deviceOf g u)
+  state-shown-same x = ap₂ (λ (f : ℕ → ℕ) (k : Shown). withShares f (mountState k)) (fun-ext shares-same) (showing-same x)
 
   pub mount-stores-same : (x : ℕ) → mountStores g present x (deviceOf g t) ≡ mountStores g present x (deviceOf g u)
   mount-stores-same x = mount-stores-depend g present x (deviceOf g t) (deviceOf g u) drives-agree past-same
@@ -155,8 +168,8 @@ module _ (g : Geometry) (named : List Bool) (t u : Tables) (same : AgreeOn g (is
   mount-verdict-same = rw (same .sectors-long, same .written-long, same .durable-long, pointers-agree g named t u same, two-lost-depends g (isSet named) v w all-same, kinds-same, labels-same, logs-same, full-same) refl
 
   -- ==== LOOK, which changes no memory
-  shown-same : g .drives ≤ 8 → showing g (found v) (lostDrive g (isSet named) v) v ≡ showing g (found w) (lostDrive g (isSet named) w) w
-  shown-same few = showing-same g named few (found v) (found-named v) t u same (lostDrive g (isSet named) v) ∙ ap₂ (λ (f : ℕ → Bool) (x : ℕ). showing g f x w) found-same lost-same
+  shown-same : g .drives ≤ 8 → shownState g (found v) (lostDrive g (isSet named) v) (deviceOf g t) ≡ shownState g (found w) (lostDrive g (isSet named) w) (deviceOf g u)
+  shown-same few = state-shown-same g named few (found v) (found-named v) t u same (lostDrive g (isSet named) v) ∙ ap₂ (λ (f : ℕ → Bool) (x : ℕ). shownState g f x (deviceOf g u)) found-same lost-same
 
   pub look-absent : (old : State) → lookOn g named old t ≡ lookOn g named old u
   unfolding lookOn
@@ -165,10 +178,10 @@ module _ (g : Geometry) (named : List Bool) (t u : Tables) (same : AgreeOn g (is
       number : ℕ
       number = verdictNumber (lookVerdict g named t)
 
-      outcome : Shown → BadPlace → Outcome
-      outcome k b = pick (eqb number 0) (record { answer = Finished; state = stateHeld (g .zones) (mountState k) }) (record { answer = refusedAt b number; state = old })
+      outcome : StateView → BadPlace → Outcome
+      outcome k b = pick (eqb number 0) (record { answer = Finished; state = stateHeld (g .zones) k }) (record { answer = refusedAt b number; state = old })
 
-      go : Dec (number ≡ 0) → outcome (showing g (found v) (lostDrive g (isSet named) v) v) (badPlaceOn g named t) ≡ outcome (showing g (found w) (lostDrive g (isSet named) w) w) (badPlaceOn g named u)
+      go : Dec (number ≡ 0) → outcome (shownState g (found v) (lostDrive g (isSet named) v) (deviceOf g t)) (badPlaceOn g named t) ≡ outcome (shownState g (found w) (lostDrive g (isSet named) w) (deviceOf g u)) (badPlaceOn g named u)
       go (yes e) = ap₂ outcome (shown-same (look-passed g named t (look-number-accepts g named t e) .valid .drives-most)) bad-same
       go (no e) = rw (ne-eqb number 0 e) (ap (λ (b : BadPlace). record { answer = refusedAt b number; state = old }) bad-same)
 
@@ -195,10 +208,10 @@ module _ (g : Geometry) (named : List Bool) (t u : Tables) (same : AgreeOn g (is
     state-same =
         let ss = mountStoresOn g (found v) lost t in
         let after = run-agrees g (isSet named) (length ss) ss t u (on .sized) (on .placed) (on .named-only) same in
-        ap (λ (k : Shown). stateHeld (g .zones) (mountState k)) (
-        showing-same g named few (found v) (found-named v) (runStores g (length ss) ss t) (runStores g (length ss) ss u) after lost
-        ∙ ap (λ (rs : List Store). showing g (found v) lost (seenIn g (runStores g (length rs) rs u))) stores-same
-        ∙ ap₂ (λ (f : ℕ → Bool) (x : ℕ). showing g f x (seenIn g (runStores g (length (mountStoresOn g (found w) (lostDrive g (isSet named) w) u)) (mountStoresOn g (found w) (lostDrive g (isSet named) w) u) u))) found-same lost-same
+        ap (stateHeld (g .zones)) (
+        state-shown-same g named few (found v) (found-named v) (runStores g (length ss) ss t) (runStores g (length ss) ss u) after lost
+        ∙ ap (λ (rs : List Store). shownState g (found v) lost (deviceOf g (runStores g (length rs) rs u))) stores-same
+        ∙ ap₂ (λ (f : ℕ → Bool) (x : ℕ). shownState g f x (deviceOf g (runStores g (length (mountStoresOn g (found w) (lostDrive g (isSet named) w) u)) (mountStoresOn g (found w) (lostDrive g (isSet named) w) u) u))) found-same lost-same
         )
 
 pub mount-absent : (g : Geometry) (named : List Bool) (old : State) (count : ℕ) → LeavesAbsent g named (mountOn g named old count)

@@ -34,10 +34,10 @@ use Rattle.logs.specs.code.Query.{headsOf}
 use Rattle.volume.specs.declared.State.{State}
 use Rattle.volume.specs.declared.Outcome.{Outcome}
 use Rattle.volume.specs.declared.Answer.the-variants.{Finished, Unfinished, Refused}
-use Rattle.volume.specs.meaning.Rules.{generalHeads, isLost, isPresent, lostDrive, showing}
+use Rattle.volume.specs.meaning.Rules.{generalHeads, isLost, isPresent, lostDrive}
 use Rattle.volume.specs.meaning.Roles.{roles, byRoles, driveByRoles, lacksKind}
 use Rattle.volume.specs.meaning.Refusals.{accept, twoLost, kindLacks, badLabels, badLogs, lookRows}
-use Rattle.volume.specs.meaning.Mount.{afterOpening, mountView, startRoles, mountStores, mountState}
+use Rattle.volume.specs.meaning.Mount.{afterOpening, mountView, startRoles, mountStores, shownState}
 use Rattle.volume.specs.meaning.Answers.{refusedAt, presentIn, lostDriveIn}
 use Rattle.volume.specs.meaning.CallContracts.{badPlaceOn, isSet, lengthsOf, badIn, rolesOf, seenIn, answerNumber, verdictNumber, lookVerdict, lookOn, mountVerdict, mountStoresOn, mountShownOn, mountOn, stateHeld}
 use Rattle.volume.specs.laws.OpeningFlush.{opening-sectors}
@@ -231,8 +231,8 @@ module _ (g : Geometry) (named : List Bool) (t : Tables) (e : mountVerdict g nam
   look-left : (old : State) → lookOn g named old left ≡ record { answer = Finished; state = mountShownOn g present x t }
   unfolding lookOn mountShownOn
   look-left old =
-      ap (λ (n : ℕ). pick (eqb n 0) (record { answer = Finished; state = stateHeld (g .zones) (mountState (showing g (isPresent g (isSet named) w) (lostDrive g (isSet named) w) w)) }) (record { answer = refusedAt (badPlaceOn g named left) n; state = old })) (ap verdictNumber look-accepts)
-      ∙ ap₂ (λ (a : ℕ → Bool) (y : ℕ). record { answer = Finished; state = stateHeld (g .zones) (mountState (showing g a y w)) }) present-left lost-drive-left
+      ap (λ (n : ℕ). pick (eqb n 0) (record { answer = Finished; state = stateHeld (g .zones) (shownState g (isPresent g (isSet named) w) (lostDrive g (isSet named) w) (deviceOf g left)) }) (record { answer = refusedAt (badPlaceOn g named left) n; state = old })) (ap verdictNumber look-accepts)
+      ∙ ap₂ (λ (a : ℕ → Bool) (y : ℕ). record { answer = Finished; state = stateHeld (g .zones) (shownState g a y (deviceOf g left)) }) present-left lost-drive-left
 
 -- ==== the law
 pub mount-shows-the-look : (g : Geometry) (named : List Bool) (old old′ : State) (count : ℕ) (t : Tables) → mountOn g named old count t .outcome .answer ≡ Finished

@@ -1,42 +1,18 @@
--- Nor do refusals of full logs, and a mount's look and stores, read where a geometry places the logs.
+-- Nor do a mount's look and stores read where a geometry places the logs.
 use mathlib.Core.Path.{_≡_, ap, _∙_}
 use mathlib.Core.Bool.{Bool}
 use Prim.Native.Nat.{ℕ}
 use Rattle.tables.specs.declared.Geometry.{Geometry}
 use Rattle.tables.specs.meaning.Device.{Device}
-use Rattle.volume.specs.meaning.Roles.{Roles, byRoles}
-use Rattle.volume.specs.meaning.Emptying.{InForce, emptiedFor, emptiedForWrite}
-use Rattle.volume.specs.meaning.Refusals.{mountFull, resetFull, writeFull, goneForEntry}
+use Rattle.volume.specs.meaning.Roles.{byRoles}
 use Rattle.volume.specs.meaning.Mount.{afterOpening, mountView, mountLook, phasesOfLogs, phasesBeforeEntries, phasesOfParityLogs, phasesOfEntries, mountStores, mountShows}
+use Rattle.volume.specs.meaning.Hosts.{sharesIn}
 use Rattle.volume.specs.laws.LogPlaces.{withLogs}
-use Rattle.volume.specs.laws.RulesUnread.{heads-alike, showing-alike, roles-alike, by-roles-alike}
+use Rattle.volume.specs.laws.RulesUnread.{showing-alike, roles-alike, by-roles-alike}
 use Rattle.volume.specs.laws.CallsUnread.{spare-step-alike, label-step-alike, reset-entry-step-alike, zone-reset-step-alike, counters-differ-alike, counter-step-alike, seal-step-alike, torn-row-step-alike, fill-step-alike, entry-step-alike, after-opening-alike}
-use Rattle.volume.specs.laws.EmptyingUnread.{empty-general-alike, empty-parity-alike, new-general-size-alike, new-parity-size-alike, stays-full-alike, emptied-for-alike, emptied-for-write-alike, gone-for-copies-alike}
+use Rattle.volume.specs.laws.EmptyingUnread.{empty-general-alike, empty-parity-alike, unused-in-alike, emptied-for-alike}
 
 module _ (g : Geometry) (n : ℕ) where
-  -- ---- refusals 14 and 15
-  emptied-at : (present : ℕ → Bool) (par : Bool) (r : ℕ → Roles) (w : Device) (limit d : ℕ) → emptiedFor (withLogs g n) present par r w limit d ≡ emptiedFor g present par r w limit d
-  emptied-at present par r w limit d = ap (λ (f : ℕ → Bool). f d) (emptied-for-alike g n present par r w limit)
-
-  emptied-write-at : (present : ℕ → Bool) (r : ℕ → Roles) (w : Device) (z end d : ℕ) → emptiedForWrite (withLogs g n) present r w z end d ≡ emptiedForWrite g present r w z end d
-  emptied-write-at present r w z end d = ap (λ (f : ℕ → Bool). f d) (emptied-for-write-alike g n present r w z end)
-
-  pub mount-full-alike : (present : ℕ → Bool) (r : ℕ → Roles) (f : InForce) (w : Device) → mountFull (withLogs g n) present r f w ≡ mountFull g present r f w
-  unfolding mountFull
-  mount-full-alike present r f w = simp (emptied-at, stays-full-alike g n, new-general-size-alike g n, new-parity-size-alike g n, heads-alike g n)
-
-  pub reset-full-alike : (present : ℕ → Bool) (r : ℕ → Roles) (f : InForce) (w : Device) → resetFull (withLogs g n) present r f w ≡ resetFull g present r f w
-  unfolding resetFull
-  reset-full-alike present r f w = simp (emptied-at, stays-full-alike g n, new-general-size-alike g n, heads-alike g n)
-
-  pub write-full-alike : (present : ℕ → Bool) (r : ℕ → Roles) (f : InForce) (w : Device) (z end : ℕ) → writeFull (withLogs g n) present r f w z end ≡ writeFull g present r f w z end
-  unfolding writeFull
-  write-full-alike present r f w z end = simp (emptied-write-at, stays-full-alike g n, new-parity-size-alike g n)
-
-  pub gone-for-entry-alike : (present : ℕ → Bool) (r : ℕ → Roles) (f : InForce) (w : Device) (z end : ℕ) → goneForEntry (withLogs g n) present r f w z end ≡ goneForEntry g present r f w z end
-  unfolding goneForEntry
-  gone-for-entry-alike present r f w z end = simp (emptied-write-at, gone-for-copies-alike g n)
-
   -- ---- a mount's look
   pub mount-view-alike : (present : ℕ → Bool) (x : ℕ) (v : Device) → mountView (withLogs g n) present x v ≡ mountView g present x v
   mount-view-alike present x v = by-roles-alike g n (afterOpening (withLogs g n) present v) ∙ ap (byRoles g) (after-opening-alike g n present v)
@@ -66,6 +42,9 @@ module _ (g : Geometry) (n : ℕ) where
   pub mount-stores-alike : (present : ℕ → Bool) (x : ℕ) (v : Device) → mountStores (withLogs g n) present x v ≡ mountStores g present x v
   unfolding mountStores
   mount-stores-alike present x v = simp (phases-before-alike, parity-phases-alike, entry-phases-alike)
+
+  pub shares-alike : (present : ℕ → Bool) (v : Device) → sharesIn (withLogs g n) present v ≡ sharesIn g present v
+  shares-alike present v = simp (roles-alike g n, by-roles-alike g n, unused-in-alike g n)
 
   pub mount-shows-alike : (present : ℕ → Bool) (x : ℕ) (v : Device) → mountShows (withLogs g n) present x v ≡ mountShows g present x v
   unfolding mountShows

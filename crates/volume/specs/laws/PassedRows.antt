@@ -21,12 +21,13 @@ use Rattle.tables.specs.laws.TablesFrame.{lengths-sized}
 use Rattle.volume.specs.declared.State.{State}
 use Rattle.volume.specs.declared.Condition.{Condition}
 use Rattle.volume.specs.declared.Condition.the-variants.{Empty, Open, Sealed, Worn}
-use Rattle.volume.specs.meaning.State.{StateView, callPresent, pointerIn, isSealed, isWorn}
+use Rattle.volume.specs.meaning.State.{StateView, hosts, callPresent, pointerIn, isSealed, isWorn}
 use Rattle.volume.specs.meaning.Rules.{heldAt, zoneView, showing}
 use Rattle.volume.specs.meaning.Answers.{placeOf, presentIn, lostDriveIn}
-use Rattle.volume.specs.meaning.Refusals.{Verdict, accept, refuse, firstRefusal, zoneOf, offsetOf, stateWithin, staleIn, stale, badRun, badOrder, mountFull, resetFull, writeFull, goneForEntry, goneBefore, notHeld, formatRows, lookRows, mountRows, writeRows, flushRows, resetRows, peekRows}
-use Rattle.volume.specs.meaning.CallContracts.{viewState, isSet, lengthsOf, verdictNumber, badIn, rolesOf, seenIn, pointerOf, recordAt, formatVerdict, lookVerdict, mountVerdict, writeVerdict, flushVerdict, resetVerdict, peekNumber}
-use Rattle.volume.specs.meaning.Emptying.{byLook, byState}
+use Rattle.volume.specs.meaning.Refusals.{Verdict, accept, refuse, firstRefusal, WriteAsked, zoneOf, offsetOf, zoneAsked, endAsked, stateWithin, staleIn, stale, staleSomewhere, badRun, badOrder, mountFull, resetFull, writeFull, compactFull, goneBefore, notHeld, formatRows, lookRows, mountRows, writeRows, flushRows, resetRows, compactRows, peekRows}
+use Rattle.volume.specs.meaning.CallContracts.{viewState, isSet, lengthsOf, verdictNumber, badIn, rolesOf, seenIn, pointerOf, recordAt, formatVerdict, lookVerdict, mountVerdict, writeVerdict, flushVerdict, resetVerdict, compactVerdict, peekNumber}
+use Rattle.volume.specs.meaning.Emptying.{byLook, byState, goneForCopies}
+use Rattle.volume.specs.meaning.Hosts.{overLimit, overOpen, shareLeft}
 use Rattle.volume.specs.laws.Refusals.{accepted-row, Numbered, nonzero, numbered}
 
 -- the number 0 is no refusal's
@@ -59,9 +60,13 @@ module _ (g : Geometry) (named : List Bool) (t : Tables) where
     unfolding resetVerdict resetRows
     reset-number-accepts z = number-accepts (resetRows g (lengthsOf t) (badIn g named t) (isSet named) (viewState s) z (rolesOf g t) (seenIn g t)) refl
 
-    pub write-number-accepts : (a count bytes : ℕ) → verdictNumber (writeVerdict g named s a count bytes t) ≡ 0 → writeVerdict g named s a count bytes t ≡ accept
+    pub write-number-accepts : (a : WriteAsked) → verdictNumber (writeVerdict g named s a t) ≡ 0 → writeVerdict g named s a t ≡ accept
     unfolding writeVerdict writeRows
-    write-number-accepts a count bytes = number-accepts (writeRows g (lengthsOf t) (badIn g named t) (isSet named) (viewState s) a count bytes (rolesOf g t) (seenIn g t)) refl
+    write-number-accepts a = number-accepts (writeRows g (lengthsOf t) (badIn g named t) (isSet named) (viewState s) a (rolesOf g t) (seenIn g t)) refl
+
+    pub compact-number-accepts : (d : ℕ) → verdictNumber (compactVerdict g named s d t) ≡ 0 → compactVerdict g named s d t ≡ accept
+    unfolding compactVerdict compactRows
+    compact-number-accepts d = number-accepts (compactRows g (lengthsOf t) (badIn g named t) (isSet named) (viewState s) d (rolesOf g t) (seenIn g t)) refl
 
 -- ---- rows 1 to 3, which every call has
 pub record TablesPassed (g : Geometry) (named : List Bool) (t : Tables) : Type 0 where
@@ -118,17 +123,18 @@ reset-passed g named s z t e =
     }
 
 -- ---- write
-pub record WritePassed (g : Geometry) (named : List Bool) (s : State) (a count bytes : ℕ) (t : Tables) : Type 0 where
+pub record WritePassed (g : Geometry) (named : List Bool) (s : State) (a : WriteAsked) (t : Tables) : Type 0 where
   pub opening : StatePassed g named s t
-  pub buffer-long : bytes ≡ count * g .sector
-  pub zone : zoneOf g a < g .zones
-  pub inside : pointerOf s (zoneOf g a) + count ≤ zoneSectors g
+  pub buffer-long : length (a .buffer) ≡ a .count * g .sector
+  pub zone : zoneAsked g a < g .zones
+  pub host : a .host < hosts
+  pub inside : endAsked g (viewState s) a ≤ zoneSectors g
   -- a present drive has just what the pointer needs
-  pub written-is : (d : ℕ) → d < g .drives → callPresent g (isSet named) (viewState s) d ≡ true → length (seenIn g t d (dataZone (zoneOf g a)) .sectors) ≡ needed (g .drives) (g .unit) (zoneOf g a) (pointerOf s (zoneOf g a)) d
-  pub log-room : writeFull g (callPresent g (isSet named) (viewState s)) (rolesOf g t) (byState g (callPresent g (isSet named) (viewState s)) (seenIn g t) (viewState s)) (seenIn g t) (zoneOf g a) (pointerOf s (zoneOf g a) + count) ≡ false
-  -- where it empties a log, the sectors of which entries are made are known
-  pub known-copies : goneForEntry g (callPresent g (isSet named) (viewState s)) (rolesOf g t) (byState g (callPresent g (isSet named) (viewState s)) (seenIn g t) (viewState s)) (seenIn g t) (zoneOf g a) (pointerOf s (zoneOf g a) + count) ≡ false
-  pub known-before : goneBefore g (callPresent g (isSet named) (viewState s)) (seenIn g t) (zoneOf g a) (recordAt s (zoneOf g a) .generation) (pointerOf s (zoneOf g a)) ≡ false
+  pub written-is : (d : ℕ) → d < g .drives → callPresent g (isSet named) (viewState s) d ≡ true → length (seenIn g t d (dataZone (zoneAsked g a)) .sectors) ≡ needed (g .drives) (g .unit) (zoneAsked g a) (pointerOf s (zoneAsked g a)) d
+  pub within-limit : overLimit g (viewState s) (a .host) (zoneAsked g a) (endAsked g (viewState s) a) ≡ false
+  pub within-open : overOpen g (viewState s) (zoneAsked g a) (endAsked g (viewState s) a) ≡ false
+  pub log-room : writeFull g (callPresent g (isSet named) (viewState s)) (rolesOf g t) (seenIn g t) (shareLeft g (viewState s) (a .host) (zoneAsked g a) (endAsked g (viewState s) a)) (zoneAsked g a) (endAsked g (viewState s) a) ≡ false
+  pub known-before : goneBefore g (callPresent g (isSet named) (viewState s)) (seenIn g t) (zoneAsked g a) (recordAt s (zoneAsked g a) .generation) (pointerOf s (zoneAsked g a)) ≡ false
 
 -- not stale, and neither sealed nor worn
 not-stale : (c : Condition) (written needs : ℕ) → isSealed c ≡ false → isWorn c ≡ false → staleIn c written needs ≡ false → written ≡ needs
@@ -150,27 +156,54 @@ run-inside g s z offset count h o =
     let e : offset ≡ pointerOf s z = eqb-true offset (pointerOf s z) (not-not (eqb offset (pointerOf s z)) o) in
     omega (arith, ltb-false (zoneSectors g) (offset + count) q, e)
 
-pub write-passed : (g : Geometry) (named : List Bool) (s : State) (a count bytes : ℕ) (t : Tables) → writeVerdict g named s a count bytes t ≡ accept → WritePassed g named s a count bytes t
+pub write-passed : (g : Geometry) (named : List Bool) (s : State) (a : WriteAsked) (t : Tables) → writeVerdict g named s a t ≡ accept → WritePassed g named s a t
 unfolding writeVerdict writeRows bufferFits
-write-passed g named s a count bytes t e =
-    let z = zoneOf g a in
-    let row = accepted-row (writeRows g (lengthsOf t) (badIn g named t) (isSet named) (viewState s) a count bytes (rolesOf g t) (seenIn g t)) e in
+write-passed g named s a t e =
+    let z = zoneAsked g a in
+    let row = accepted-row (writeRows g (lengthsOf t) (badIn g named t) (isSet named) (viewState s) a (rolesOf g t) (seenIn g t)) e in
     let lengths = lengthsFit g (length (t .sectors)) (length (t .written)) (length (t .durable)) in
-    let (l, b) = and-split lengths (eqb bytes (count * g .sector)) (not-not (lengths && eqb bytes (count * g .sector)) (row 2)) in
-    let hz : z < g .zones = ltb-true z (g .zones) (not-not (ltb z (g .zones)) (row 8)) in
-    let present = callPresent g (isSet named) (viewState s) in
-    let end = pointerOf s z + count in
-    let (k, b′) = or-none (goneForEntry g present (rolesOf g t) (byState g present (seenIn g t) (viewState s)) (seenIn g t) z end) (goneBefore g present (seenIn g t) z (recordAt s z .generation) (pointerOf s z)) (row 15) in
+    let long = eqb (length (a .buffer)) (a .count * g .sector) in
+    let (l, b) = and-split lengths long (not-not (lengths && long) (row 2)) in
+    let (there, host) = or-none (not (ltb z (g .zones))) (not (ltb (a .host) hosts)) (row 8) in
+    let hz : z < g .zones = ltb-true z (g .zones) (not-not (ltb z (g .zones)) there) in
     record {
       opening = state-passed g named s t (row 1) l (row 3);
-      buffer-long = eqb-true bytes (count * g .sector) b;
+      buffer-long = eqb-true (length (a .buffer)) (a .count * g .sector) b;
       zone = hz;
-      inside = run-inside g s z (offsetOf g a) count (row 9) (row 10);
-      written-is = fresh-at g present (seenIn g t) (viewState s) z hz (row 7) (row 11) (row 12);
+      host = ltb-true (a .host) hosts (not-not (ltb (a .host) hosts) host);
+      inside = run-inside g s z (offsetOf g (a .address)) (a .count) (row 9) (row 10);
+      written-is = fresh-at g (callPresent g (isSet named) (viewState s)) (seenIn g t) (viewState s) z hz (row 7) (row 11) (row 12);
+      within-limit = row 18;
+      within-open = row 19;
       log-room = row 14;
-      known-copies = k;
-      known-before = b′;
+      known-before = row 15;
     }
+
+-- ---- compact
+pub record CompactPassed (g : Geometry) (named : List Bool) (s : State) (d : ℕ) (t : Tables) : Type 0 where
+  pub opening : StatePassed g named s t
+  pub not-stale : staleSomewhere g (callPresent g (isSet named) (viewState s)) (seenIn g t) (viewState s) ≡ false
+  pub here : callPresent g (isSet named) (viewState s) d ≡ true
+  pub log-room : compactFull g (rolesOf g t) (byState g (callPresent g (isSet named) (viewState s)) (seenIn g t) (viewState s)) (seenIn g t) d ≡ false
+  -- the sectors of which entries are made are known
+  pub known-copies : goneForCopies g (callPresent g (isSet named) (viewState s)) (byState g (callPresent g (isSet named) (viewState s)) (seenIn g t) (viewState s)) (seenIn g t) d ≡ false
+
+pub compact-passed : (g : Geometry) (named : List Bool) (s : State) (d : ℕ) (t : Tables) → compactVerdict g named s d t ≡ accept → CompactPassed g named s d t
+unfolding compactVerdict compactRows
+compact-passed g named s d t e =
+    let row = accepted-row (compactRows g (lengthsOf t) (badIn g named t) (isSet named) (viewState s) d (rolesOf g t) (seenIn g t)) e in
+    record {
+      opening = state-passed g named s t (row 1) (not-not (lengthsFit g (length (t .sectors)) (length (t .written)) (length (t .durable))) (row 2)) (row 3);
+      not-stale = row 7;
+      here = not-not (callPresent g (isSet named) (viewState s) d) (row 8);
+      log-room = row 14;
+      known-copies = row 15;
+    }
+
+-- no zone is stale where none is
+pub stale-nowhere : (g : Geometry) (present : ℕ → Bool) (v : Device) (state : StateView) → staleSomewhere g present v state ≡ false → (z : ℕ) → z < g .zones → stale g present v state z ≡ false
+unfolding staleSomewhere
+stale-nowhere g present v state h z hz = any-below-false (stale g present v state) (g .zones) z h hz
 
 -- ---- mount
 pub record MountPassed (g : Geometry) (named : List Bool) (t : Tables) : Type 0 where

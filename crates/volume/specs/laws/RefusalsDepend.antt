@@ -1,4 +1,4 @@
--- The refusals depend on the sectors of the present drives, and on nothing else of the device: the conditions of rows 4 to 15, of two devices that agree there.
+-- The refusals depend on the sectors of the present drives, and on nothing else of the device: the conditions of rows 4 to 19, of two devices that agree there.
 use mathlib.Core.Path.{_≡_, refl, sym, ap, ap₂, _∙_, fun-ext}
 use mathlib.Core.Bool.{Bool, true, false, _&&_, _||_, not, true≢false}
 use Prim.Native.Nat.{ℕ, _+_, _-_, _*_}
@@ -20,8 +20,8 @@ use Rattle.volume.specs.meaning.State.{StateView, pointerIn}
 use Rattle.volume.specs.meaning.Content.{insideStripe, fillOf, parityDriveAt}
 use Rattle.volume.specs.meaning.Rules.{generalHeads, generalEnding, parityEnding, isLost, isPresent, lostDrive, known, zoneView, showing}
 use Rattle.volume.specs.meaning.Roles.{Roles, lacksKind, claimOfKind}
-use Rattle.volume.specs.meaning.Emptying.{InForce, byState, byLook, isCopied, isAtPointer, newGeneralSize, newParitySize, unusedIn, lacksRoom, staysFull, spareWritten, reserve, mountGeneralLimit, resetLimit, writeLimit, emptiedFor, emptiedForWrite, goneForCopies}
-use Rattle.volume.specs.meaning.Refusals.{twoLost, isNoEntry, badLabels, kindLacks, badLogs, staleIn, stale, mountFull, resetFull, writeFull, goneForEntry, goneIn, goneBefore, notHeld}
+use Rattle.volume.specs.meaning.Emptying.{InForce, byState, byLook, isCopied, isAtPointer, newGeneralSize, newParitySize, unusedIn, lacksRoom, staysFull, spareWritten, reserve, mountGeneralLimit, resetLimit, entrySize, writeLimit, emptiedFor, goneForCopies}
+use Rattle.volume.specs.meaning.Refusals.{twoLost, isNoEntry, badLabels, kindLacks, badLogs, staleIn, stale, staleSomewhere, mountFull, resetFull, writeFull, compactFull, goneIn, goneBefore, notHeld}
 use Rattle.volume.specs.laws.Depends.{SameOn, and-same, heads-same, parity-same, general-ending-same, ending-same, lost-depends, value-depends, known-depends, held-depends, zone-depends}
 
 module _ (g : Geometry) (present : ℕ → Bool) (v w : Device) (same : SameOn present v w) where
@@ -71,6 +71,10 @@ module _ (g : Geometry) (present : ℕ → Bool) (v w : Device) (same : SameOn p
       stale-at : Device → ℕ → Bool
       stale-at x d = staleIn (state .condition z) (length (x d (dataZone z) .sectors)) (needed (g .drives) (g .unit) z (pointerIn (state .condition z)) d)
 
+  pub stale-somewhere-depends : (state : StateView) → staleSomewhere g present v state ≡ staleSomewhere g present w state
+  unfolding staleSomewhere
+  stale-somewhere-depends state i = anyBelow (λ z. stale-depends state z i) (g .zones)
+
   -- 15
   pub gone-depends : (z n offset count : ℕ) → goneIn g present v z n offset count ≡ goneIn g present w z n offset count
   unfolding goneIn
@@ -104,23 +108,26 @@ module _ (g : Geometry) (present : ℕ → Bool) (v w : Device) (same : SameOn p
   unfolding kindLacks
   kinds-depend i = anyBelow (λ d. and-same (present d) (lacksKind (r d)) (lacksKind (s d)) (λ p. ap (λ (x : Roles). lacksKind x) (alike d p)) i) (g .drives)
 
-  -- which logs are emptied
-  pub emptied-depends : (par : Bool) (limit d : ℕ) → emptiedFor g present par r v limit d ≡ emptiedFor g present par s w limit d
-  unfolding emptiedFor unusedIn
-  emptied-depends par limit d = and-same (present d) (lacksRoom g par r v limit d) (lacksRoom g par s w limit d)
-      (λ p i. ltb (pick (eqb (claimOfKind par (alike d p i)) 0) 0 (g .capacity - length (same d p (kindOfLog par) i))) limit)
+  -- what a log has unused, and which logs are emptied
+  pub unused-depends : (par : Bool) (d : ℕ) → present d ≡ true → unusedIn g par r v d ≡ unusedIn g par s w d
+  unfolding unusedIn
+  unused-depends par d p i = pick (eqb (claimOfKind par (alike d p i)) 0) 0 (g .capacity - length (same d p (kindOfLog par) i))
 
-  pub emptied-write-depends : (z end d : ℕ) → emptiedForWrite g present r v z end d ≡ emptiedForWrite g present s w z end d
-  unfolding emptiedForWrite
-  emptied-write-depends z end d = ap (λ (b : Bool). (insideStripe g end && eqb d (parityDriveAt g z end)) && b) (emptied-depends true (writeLimit g end) d)
+  pub emptied-depends : (par : Bool) (limit d : ℕ) → emptiedFor g present par r v limit d ≡ emptiedFor g present par s w limit d
+  unfolding emptiedFor
+  emptied-depends par limit d = and-same (present d) (lacksRoom g par r v limit d) (lacksRoom g par s w limit d) (λ p. ap (λ (n : ℕ). ltb n limit) (unused-depends par d p))
+
+  -- a write's 14 (share: what is left of its host's)
+  pub write-full-depends : (share z end : ℕ) → writeFull g present r v share z end ≡ writeFull g present s w share z end
+  unfolding writeFull
+  write-full-depends share z end =
+      let d = parityDriveAt g z end in
+      and-same (insideStripe g end && present d) (ltb share (entrySize g end) || lacksRoom g true r v (writeLimit g end) d) (ltb share (entrySize g end) || lacksRoom g true s w (writeLimit g end) d)
+      (λ q. ap (λ (n : ℕ). ltb share (entrySize g end) || ltb n (writeLimit g end)) (unused-depends true d (and-split (insideStripe g end) (present d) q .1)))
 
   pub emptied-present : (par : Bool) (limit d : ℕ) → emptiedFor g present par r v limit d ≡ true → present d ≡ true
   unfolding emptiedFor
   emptied-present par limit d e = and-split (present d) (lacksRoom g par r v limit d) e .0
-
-  pub emptied-write-present : (z end d : ℕ) → emptiedForWrite g present r v z end d ≡ true → present d ≡ true
-  unfolding emptiedForWrite
-  emptied-write-present z end d e = emptied-present true (writeLimit g end) d (and-split (insideStripe g end && eqb d (parityDriveAt g z end)) (emptiedFor g present true r v (writeLimit g end) d) e .1)
 
   -- whether they would stay full (f and h: what the copies go by)
   stays-depends : (par : Bool) (limit m n d : ℕ) → m ≡ n → present d ≡ true → staysFull g par r limit m d ≡ staysFull g par s limit n d
@@ -153,15 +160,12 @@ module _ (g : Geometry) (present : ℕ → Bool) (v w : Device) (same : SameOn p
         full : (ℕ → Roles) → InForce → Device → ℕ → Bool
         full x k u d = staysFull g false x (resetLimit g) (newGeneralSize g k (generalHeads g u d)) d || spareWritten u d
 
-    pub write-full-depends : (z end : ℕ) → writeFull g present r f v z end ≡ writeFull g present s h w z end
-    unfolding writeFull
-    write-full-depends z end i = anyBelow (λ d. and-both (emptiedForWrite g present r v z end d) (emptiedForWrite g present s w z end d) (full r f v d) (full s h w d) (emptied-write-depends z end d)
-        (λ e. let p = emptied-write-present z end d e in ap₂ (λ (a b : Bool). a || b) (stays-depends true (writeLimit g end) (newParitySize g f d) (newParitySize g h d) d (parity-size-depends d) p) (spare-depends d p)) i) (g .drives)
-      where
-        full : (ℕ → Roles) → InForce → Device → ℕ → Bool
-        full x k u d = staysFull g true x (writeLimit g end) (newParitySize g k d) d || spareWritten u d
+    -- of a drive that is present
+    pub compact-full-depends : (d : ℕ) → present d ≡ true → compactFull g r f v d ≡ compactFull g s h w d
+    unfolding compactFull
+    compact-full-depends d p = ap₂ (λ (a b : Bool). a || b) (stays-depends true (reserve g) (newParitySize g f d) (newParitySize g h d) d (parity-size-depends d) p) (spare-depends d p)
 
-    gone-copies-depends : (d : ℕ) → present d ≡ true → goneForCopies g present f v d ≡ goneForCopies g present h w d
+    pub gone-copies-depends : (d : ℕ) → present d ≡ true → goneForCopies g present f v d ≡ goneForCopies g present h w d
     unfolding goneForCopies
     gone-copies-depends d p i = anyBelow (λ z. (isCopied g (force i) d z && not (anyOf (isAtPointer g (force i) z) (parity-same g present v w same d p i)))
         && anyBelow (λ k. not (unknown z k i)) (fillOf g (force i .pointer z))) (g .zones)
@@ -171,8 +175,3 @@ module _ (g : Geometry) (present : ℕ → Bool) (v w : Device) (same : SameOn p
 
         unknown : (z j : ℕ) → known (g .drives) (g .unit) z (zoneView g present v z (f .generation z)) (at f z j) ≡ known (g .drives) (g .unit) z (zoneView g present w z (h .generation z)) (at h z j)
         unknown z j = known-depends g present v w same z (f .generation z) (at f z j) ∙ ap (λ (k : InForce). known (g .drives) (g .unit) z (zoneView g present w z (k .generation z)) (at k z j)) force
-
-    pub gone-entry-depends : (z end : ℕ) → goneForEntry g present r f v z end ≡ goneForEntry g present s h w z end
-    unfolding goneForEntry
-    gone-entry-depends z end i = anyBelow (λ d. and-both (emptiedForWrite g present r v z end d) (emptiedForWrite g present s w z end d) (goneForCopies g present f v d) (goneForCopies g present h w d) (emptied-write-depends z end d)
-        (λ e. gone-copies-depends d (emptied-write-present z end d e)) i) (g .drives)

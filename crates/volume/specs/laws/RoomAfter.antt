@@ -1,9 +1,10 @@
 -- ROOM AFTER COPYING, on any input. A general log made anew has at most a label, counters, a seal and a reset of each zone and the closing entry; a parity log
--- at most an entry of each zone and the closing entry. So in zones that hold that and a call's limit, refusal 14 is never given for want of room: what is
--- left of it is a log that cannot be emptied, because a kind lacks, its generation is the last one, or (outside a mount) the spare is written.
+-- at most an entry of each zone and the closing entry. So in zones that hold that and a call's limit, refusal 14 of a call that empties is never given for want
+-- of room: what is left of it is a log that cannot be emptied, because a kind lacks, its generation is the last one, or (outside a mount) the spare is
+-- written. And each host's share of a log made anew has a least size.
 use mathlib.Core.Path.{_≡_, refl, ap, ap₂}
 use mathlib.Core.Bool.{Bool, true, false, _&&_, _||_}
-use Prim.Native.Nat.{ℕ, zero, suc, _+_, _-_, _*_, _≤_, min}
+use Prim.Native.Nat.{ℕ, zero, suc, _+_, _-_, _*_, _/_, _≤_, min}
 use native.Mathlib.Omega.{arith}
 use mathlib.Core.List.{List, [], _∷_, _++_}
 use lib.ListN.{length, length-append}
@@ -21,10 +22,11 @@ use Rattle.logs.specs.meaning.Heads.{isReset, isSeal, leastSeal}
 use Rattle.logs.specs.meaning.Copies.{lastLabel, keptLabel, arrayFor, zonewise, keptSeals, keptResets, copiedGeneral}
 use Rattle.volume.specs.meaning.Content.{fillOf}
 use Rattle.volume.specs.meaning.Rules.{generalHeads}
-use Rattle.volume.specs.meaning.Refusals.{mountFull, resetFull, writeFull}
+use Rattle.volume.specs.meaning.Refusals.{mountFull, resetFull, compactFull}
+use Rattle.volume.specs.meaning.Hosts.{halfPast}
 use Rattle.volume.specs.meaning.Calls.{generationsFrom}
 use Rattle.volume.specs.meaning.Roles.{Roles, claimOfKind, lacksKind}
-use Rattle.volume.specs.meaning.Emptying.{InForce, isCopied, generalCopies, newGeneralSize, copySize, newParitySize, staysFull, spareWritten, reserve, mountGeneralLimit, resetLimit, writeLimit, emptiedFor, emptiedForWrite, RoomyGeneral, RoomyParity}
+use Rattle.volume.specs.meaning.Emptying.{InForce, isCopied, generalCopies, newGeneralSize, copySize, newParitySize, staysFull, spareWritten, reserve, mountGeneralLimit, resetLimit, emptiedFor, RoomyGeneral, RoomyParity}
 
 -- ---- how long a log made anew is at most
 last-label-most : (f : ℕ → ℕ) (acc hs : List Header) → length acc ≤ 1 → length (lastLabel f acc hs) ≤ 1
@@ -100,19 +102,12 @@ module _ (g : Geometry) (r : ℕ → Roles) (f : InForce) where
     mount-general-stays = roomy-stays g false r (mountGeneralLimit g) (newGeneralSize g f hs) d mount-general-room-after
 
   module _ (h : RoomyParity g) (d : ℕ) where
-    -- a write (end: the pointer after it)
-    pub write-room-after : (end : ℕ) → writeLimit g end ≤ g .capacity - newParitySize g f d
-    write-room-after end = let m : min (fillOf g end) (g .unit) ≤ g .unit = omega arith in omega (arith, new-parity-most g f d, m)
+    -- a mount, and a compact
+    pub parity-room-after : reserve g ≤ g .capacity - newParitySize g f d
+    parity-room-after = omega (arith, new-parity-most g f d)
 
-    pub write-stays : (end : ℕ) → staysFull g true r (writeLimit g end) (newParitySize g f d) d ≡ cannotEmpty true r d
-    write-stays end = roomy-stays g true r (writeLimit g end) (newParitySize g f d) d (write-room-after end)
-
-    -- a mount
-    pub mount-parity-room-after : reserve g ≤ g .capacity - newParitySize g f d
-    mount-parity-room-after = omega (arith, new-parity-most g f d)
-
-    pub mount-parity-stays : staysFull g true r (reserve g) (newParitySize g f d) d ≡ cannotEmpty true r d
-    mount-parity-stays = roomy-stays g true r (reserve g) (newParitySize g f d) d mount-parity-room-after
+    pub parity-stays : staysFull g true r (reserve g) (newParitySize g f d) d ≡ cannotEmpty true r d
+    parity-stays = roomy-stays g true r (reserve g) (newParitySize g f d) d parity-room-after
 
 -- ---- REFUSAL 14 in such geometries: only where a log that lacks room cannot be emptied, or outside a mount its spare is written
 module _ (g : Geometry) (present : ℕ → Bool) (r : ℕ → Roles) (f : InForce) (w : Device) where
@@ -120,11 +115,17 @@ module _ (g : Geometry) (present : ℕ → Bool) (r : ℕ → Roles) (f : InForc
   unfolding resetFull
   reset-full-is h = any-below-cong _ _ (g .drives) (λ d hd. ap (λ (b : Bool). emptiedFor g present false r w (resetLimit g) d && (b || spareWritten w d)) (reset-stays g r f h (generalHeads g w d) d))
 
-  pub write-full-is : RoomyParity g → (z end : ℕ) → writeFull g present r f w z end ≡ anyBelow (λ d. emptiedForWrite g present r w z end d && (cannotEmpty true r d || spareWritten w d)) (g .drives)
-  unfolding writeFull
-  write-full-is h z end = any-below-cong _ _ (g .drives) (λ d hd. ap (λ (b : Bool). emptiedForWrite g present r w z end d && (b || spareWritten w d)) (write-stays g r f h d end))
-
   pub mount-full-is : RoomyGeneral g → RoomyParity g
       → mountFull g present r f w ≡ anyBelow (λ d. emptiedFor g present false r w (mountGeneralLimit g) d && cannotEmpty false r d || (emptiedFor g present true r w (reserve g) d && cannotEmpty true r d)) (g .drives)
   unfolding mountFull
-  mount-full-is h k = any-below-cong _ _ (g .drives) (λ d hd. ap₂ (λ (a b : Bool). emptiedFor g present false r w (mountGeneralLimit g) d && a || (emptiedFor g present true r w (reserve g) d && b)) (mount-general-stays g r f h (generalHeads g w d) d) (mount-parity-stays g r f k d))
+  mount-full-is h k = any-below-cong _ _ (g .drives) (λ d hd. ap₂ (λ (a b : Bool). emptiedFor g present false r w (mountGeneralLimit g) d && a || (emptiedFor g present true r w (reserve g) d && b)) (mount-general-stays g r f h (generalHeads g w d) d) (parity-stays g r f k d))
+
+pub compact-full-is : (g : Geometry) (r : ℕ → Roles) (f : InForce) (w : Device) → RoomyParity g → (d : ℕ) → compactFull g r f w d ≡ cannotEmpty true r d || spareWritten w d
+unfolding compactFull
+compact-full-is g r f w h d = ap (λ (b : Bool). b || spareWritten w d) (parity-stays g r f h d)
+
+-- ---- SHARES, in any geometry: after a compact each is at least half of what the zone holds past an entry of each zone, twice, the closing entry and one unit
+pub compact-share-least : (g : Geometry) (f : InForce) (d : ℕ) → (g .capacity - (1 + 2 * (g .zones * (1 + g .unit)) + g .unit)) / 2 ≤ halfPast g (g .capacity - newParitySize g f d)
+compact-share-least g f d =
+    let h : g .capacity - (1 + 2 * (g .zones * (1 + g .unit)) + g .unit) ≤ g .capacity - newParitySize g f d - reserve g = omega (arith, new-parity-most g f d) in
+    omega (arith, h)

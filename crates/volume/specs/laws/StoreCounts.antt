@@ -1,4 +1,4 @@
--- "A COUNT OF 2^32 − 1 STOPS NO CALL": the stores of an accepted flush, format, reset or write are fewer than that, on any input; so with that count the
+-- "A COUNT OF 2^32 − 1 STOPS NO CALL": the stores of an accepted flush, format, reset, write or compact are fewer than that, on any input; so with that count the
 -- call is refused or finished. (Mount: MountStoreCounts.)
 use mathlib.Core.Path.{_≡_, refl, ap}
 use mathlib.Core.Logic.{_≢_}
@@ -11,7 +11,7 @@ use mathlib.Core.List.{List, [], _∷_, _++_, map}
 use lib.ListN.{length, length-append}
 use Rattle.tables.specs.laws.Lists.{length-map}
 use lib.Dec.{eqb}
-use borrow.Author.Tests.{le-ltb, eq-eqb, ne-eqb}
+use borrow.Author.Tests.{le-ltb, eq-eqb, ne-eqb, eqb-true}
 use Rattle.tables.specs.declared.Geometry.{Geometry}
 use Rattle.tables.specs.meaning.Basics.{pick}
 use Rattle.tables.specs.meaning.Below.{eachBelow, tabulateFrom}
@@ -30,18 +30,19 @@ use Rattle.logs.specs.meaning.Entry.{parityZone, label, counters, zoneReset}
 use Rattle.logs.specs.meaning.Walk.{sectorsOf}
 use Rattle.volume.specs.declared.State.{State}
 use Rattle.volume.specs.declared.Answer.the-variants.{Finished, Unfinished, Refused}
-use Rattle.volume.specs.meaning.State.{callPresent}
+use Rattle.volume.specs.meaning.State.{callPresent, withShares}
 use Rattle.volume.specs.meaning.Content.{rowXor, insideStripe, entryAt, parityDriveAt}
-use Rattle.volume.specs.meaning.Refusals.{accept, zoneOf}
-use Rattle.volume.specs.meaning.Calls.{appendAll, appendGeneral, generationsFrom, parityStores, sectorStores, dataStores, entryStores, writeWith, zoneContent, writeStores, flushStores, logsReset, raisedAt, resetPhases, resetStores, formatPhases, formatStores, flushState, formatState, resetState, writeState}
+use Rattle.volume.specs.meaning.Refusals.{accept, WriteAsked, zoneAsked}
+use Rattle.volume.specs.meaning.Calls.{appendAll, appendGeneral, generationsFrom, parityStores, sectorStores, dataStores, entryStores, writeWith, zoneContent, writeStores, flushStores, logsReset, raisedAt, resetPhases, resetStores, formatPhases, formatStores, flushState, formatState, resetState}
+use Rattle.volume.specs.meaning.Hosts.{freshShares, writtenState, compactState}
 use Rattle.volume.specs.meaning.Answers.{lostIn, sectorsIn, namedDrives, leftOut}
-use Rattle.volume.specs.meaning.CallContracts.{viewState, isSet, rolesOf, seenIn, recordAt, pointerOf, verdictNumber, storingOn, flushVerdict, flushOn, resetVerdict, resetOn, writeVerdict, writeOn, formatVerdict, formatOn, stateHeld}
-use Rattle.volume.specs.laws.PassedRows.{format-passed, format-number-accepts, flush-passed, flush-number-accepts, reset-passed, reset-number-accepts, write-passed, write-number-accepts}
+use Rattle.volume.specs.meaning.CallContracts.{viewState, isSet, rolesOf, seenIn, recordAt, pointerOf, verdictNumber, storingOn, flushVerdict, flushOn, resetVerdict, resetOn, writeVerdict, writeOn, compactVerdict, compactOn, formatVerdict, formatOn, stateHeld}
+use Rattle.volume.specs.laws.PassedRows.{format-passed, format-number-accepts, flush-passed, flush-number-accepts, reset-passed, reset-number-accepts, write-passed, write-number-accepts, compact-passed, compact-number-accepts}
 use Rattle.volume.specs.meaning.Rules.{generalHeads, parityEntries}
 use Rattle.volume.specs.meaning.Roles.{Roles, zoneOfKind, placedBy, rolesAfter}
-use Rattle.volume.specs.meaning.Emptying.{byState, newGeneral, newParity, resetLimit, emptiedFor, emptiedForWrite, emptyingStores, emptyings, emptyGeneral, emptyParity, writeAll, resetAll}
+use Rattle.volume.specs.meaning.Emptying.{byState, newGeneral, newParity, resetLimit, emptiedFor, emptyingStores, emptyings, emptyGeneral, emptyParity, compactStores, writeAll, resetAll}
 use Rattle.volume.specs.laws.CallAppends.{entry-long}
-use Rattle.volume.specs.laws.CallStoresFit.{reset-fits, write-fits}
+use Rattle.volume.specs.laws.CallStoresFit.{reset-fits, compact-fits}
 
 -- ---- a count that covers the stores stops nothing
 pub covered-ends : (g : Geometry) (n : ℕ) (ss : List Store) (new old : State) (count : ℕ) (t : Tables) → (n ≡ 0 → length ss ≤ count) → storingOn g n ss new old count t .outcome .answer ≢ Unfinished
@@ -176,7 +177,7 @@ format-few g named array t e =
 pub format-ends : (g : Geometry) (named : List Bool) (array : ℕ) (old : State) (t : Tables) → formatOn g named array old (2 ^ 32 - 1) t .outcome .answer ≢ Unfinished
 unfolding formatOn
 format-ends g named array old t =
-    covered-ends g (verdictNumber (formatVerdict g named t)) (formatStores g (namedDrives g (isSet named)) (leftOut g (isSet named)) array) (stateHeld (g .zones) (formatState (leftOut g (isSet named)))) old (2 ^ 32 - 1) t
+    covered-ends g (verdictNumber (formatVerdict g named t)) (formatStores g (namedDrives g (isSet named)) (leftOut g (isSet named)) array) (stateHeld (g .zones) (withShares (freshShares g (namedDrives g (isSet named))) (formatState (leftOut g (isSet named))))) old (2 ^ 32 - 1) t
     (λ e. omega (arith, format-few g named array t (format-number-accepts g named t e)))
 
 -- ==== write: no more than 1 + U for each sector, and the entry
@@ -190,15 +191,16 @@ module _ (D U z : ℕ) (S : ℕ → List ℕ) (most : U ≤ 16) where
       let last = pick-most (eqb (suc (a % stripeLength D U)) (stripeLength D U)) (parityStores D U z S (stripeOf D U a)) 16 (parity-few (stripeOf D U a)) in
       omega (arith, last, length-append (sectorStores D U z S a) (dataStores D U z S (suc a) k), data-few (suc a) k)
 
-own-write-few : (g : Geometry) (named : List Bool) (s : State) (a k : ℕ) (buffer : List ℕ) (t : Tables) → writeVerdict g named s a k (length buffer) t ≡ accept
-    → length (writeStores g (callPresent g (isSet named) (viewState s)) (seenIn g t) (viewState s) (zoneOf g a) (sectorsIn g k buffer)) ≤ 7798801
+own-write-few : (g : Geometry) (named : List Bool) (s : State) (a : WriteAsked) (t : Tables) → writeVerdict g named s a t ≡ accept
+    → length (writeStores g (callPresent g (isSet named) (viewState s)) (seenIn g t) (viewState s) (zoneAsked g a) (sectorsIn g (a .count) (a .buffer))) ≤ 7798801
 unfolding writeStores writeWith
-own-write-few g named s a k buffer t e =
-    let q = write-passed g named s a k (length buffer) t e in
+own-write-few g named s a t e =
+    let q = write-passed g named s a t e in
     let ok = q .opening .tables .valid in
     let present = callPresent g (isSet named) (viewState s) in
-    let z = zoneOf g a in
-    let ss = sectorsIn g k buffer in
+    let z = zoneAsked g a in
+    let k = a .count in
+    let ss = sectorsIn g k (a .buffer) in
     let S = zoneContent g present (seenIn g t) (viewState s) z ss in
     let n = pointerOf s z in
     let l : length ss ≡ k = (unfold sectorsIn in length-tabulate-from _ zero k) in
@@ -218,30 +220,34 @@ own-write-few g named s a k buffer t e =
       zone-small g ok .1,
     )
 
-pub write-few : (g : Geometry) (named : List Bool) (s : State) (a k : ℕ) (buffer : List ℕ) (t : Tables) → writeVerdict g named s a k (length buffer) t ≡ accept
-    → length (writeAll g (callPresent g (isSet named) (viewState s)) (rolesOf g t) (seenIn g t) (viewState s) (zoneOf g a) (sectorsIn g k buffer)) ≤ 8323225
-unfolding writeAll emptyParity
-write-few g named s a k buffer t e =
-    let q = write-passed g named s a k (length buffer) t e in
-    let ok = q .opening .tables .valid in
-    let present = callPresent g (isSet named) (viewState s) in
-    let z = zoneOf g a in
-    let ss = sectorsIn g k buffer in
-    let l : length ss ≡ k = (unfold sectorsIn in length-tabulate-from _ zero k) in
-    let emptied = emptiedForWrite g present (rolesOf g t) (seenIn g t) z (pointerOf s z + length ss) in
-    let new : ℕ → List (List ℕ) = λ d. newParity g (byState g present (seenIn g t) (viewState s)) (rolesOf g t d) d (parityEntries g (seenIn g t) d) in
-    let own = writeStores g present (seenIn g t) (viewState s) z ss in
-    let ρ = placedBy (rolesAfter true emptied (rolesOf g t)) in
-    omega (
-      arith,
-      emptyings-few g present true (rolesOf g t) emptied new (ok .drives-most) (λ d i. omega (arith, write-fits g named s a k buffer t e d (rw l at i), ok .zone-most)),
-      own-write-few g named s a k buffer t e,
-      length-map (carry ρ) own,
-      length-append (emptyings g present true (rolesOf g t) emptied new) (map (carry ρ) own),
-    )
+pub write-few : (g : Geometry) (named : List Bool) (s : State) (a : WriteAsked) (t : Tables) → writeVerdict g named s a t ≡ accept
+    → length (writeAll g (callPresent g (isSet named) (viewState s)) (rolesOf g t) (seenIn g t) (viewState s) (zoneAsked g a) (sectorsIn g (a .count) (a .buffer))) ≤ 7798801
+unfolding writeAll
+write-few g named s a t e =
+    let own = writeStores g (callPresent g (isSet named) (viewState s)) (seenIn g t) (viewState s) (zoneAsked g a) (sectorsIn g (a .count) (a .buffer)) in
+    omega (arith, own-write-few g named s a t e, length-map (carry (placedBy (rolesOf g t))) own)
 
-pub write-ends : (g : Geometry) (named : List Bool) (s : State) (a k : ℕ) (buffer : List ℕ) (t : Tables) → writeOn g named s a k buffer (2 ^ 32 - 1) t .outcome .answer ≢ Unfinished
+pub write-ends : (g : Geometry) (named : List Bool) (s : State) (a : WriteAsked) (t : Tables) → writeOn g named s a (2 ^ 32 - 1) t .outcome .answer ≢ Unfinished
 unfolding writeOn
-write-ends g named s a k buffer t =
-    covered-ends g (verdictNumber (writeVerdict g named s a k (length buffer) t)) (writeAll g (callPresent g (isSet named) (viewState s)) (rolesOf g t) (seenIn g t) (viewState s) (zoneOf g a) (sectorsIn g k buffer))
-    (stateHeld maxZones (writeState (lostIn g (isSet named) (viewState s)) (viewState s) (zoneOf g a) k)) s (2 ^ 32 - 1) t (λ e. omega (arith, write-few g named s a k buffer t (write-number-accepts g named t s a k (length buffer) e)))
+write-ends g named s a t =
+    covered-ends g (verdictNumber (writeVerdict g named s a t)) (writeAll g (callPresent g (isSet named) (viewState s)) (rolesOf g t) (seenIn g t) (viewState s) (zoneAsked g a) (sectorsIn g (a .count) (a .buffer)))
+    (stateHeld maxZones (writtenState g (callPresent g (isSet named) (viewState s)) (lostIn g (isSet named) (viewState s)) (a .host) (viewState s) (zoneAsked g a) (a .count))) s (2 ^ 32 - 1) t
+    (λ e. omega (arith, write-few g named s a t (write-number-accepts g named t s a e)))
+
+-- ==== compact: one log
+pub compact-few : (g : Geometry) (named : List Bool) (s : State) (d : ℕ) (t : Tables) → compactVerdict g named s d t ≡ accept
+    → length (compactStores g (callPresent g (isSet named) (viewState s)) (rolesOf g t) (seenIn g t) (viewState s) d) ≤ 524424
+unfolding compactStores emptyParity
+compact-few g named s d t e =
+    let ok = compact-passed g named s d t e .opening .tables .valid in
+    let present = callPresent g (isSet named) (viewState s) in
+    let new : ℕ → List (List ℕ) = λ c. newParity g (byState g present (seenIn g t) (viewState s)) (rolesOf g t c) c (parityEntries g (seenIn g t) c) in
+    let fits : length (new d) ≤ 65536 = omega (arith, compact-fits g named s d t e, ok .zone-most) in
+    emptyings-few g present true (rolesOf g t) (λ c. eqb c d) new (ok .drives-most) (λ c q. rw (eqb-true c d q) fits)
+
+pub compact-ends : (g : Geometry) (named : List Bool) (s : State) (d : ℕ) (t : Tables) → compactOn g named s d (2 ^ 32 - 1) t .outcome .answer ≢ Unfinished
+unfolding compactOn
+compact-ends g named s d t =
+    covered-ends g (verdictNumber (compactVerdict g named s d t)) (compactStores g (callPresent g (isSet named) (viewState s)) (rolesOf g t) (seenIn g t) (viewState s) d)
+    (stateHeld maxZones (compactState g (callPresent g (isSet named) (viewState s)) (lostIn g (isSet named) (viewState s)) (seenIn g t) (viewState s) d)) s (2 ^ 32 - 1) t
+    (λ e. omega (arith, compact-few g named s d t (compact-number-accepts g named t s d e)))

@@ -9,7 +9,7 @@ use mathlib.Core.List.{List, [], _∷_, _++_}
 use lib.ListN.{length, getD, take, replicate}
 use lib.Seq.{length-take-le}
 use lib.Dec.{ltb, eqb}
-use borrow.Author.Tests.{eq-eqb, ne-eqb, lt-ltb, le-ltb}
+use borrow.Author.Tests.{eq-eqb, ne-eqb, lt-ltb, le-ltb, ltb-true}
 use Rattle.tables.specs.declared.Geometry.{Geometry}
 use Rattle.tables.specs.meaning.Basics.{pick}
 use Rattle.tables.specs.laws.Sizes.{cells-small}
@@ -25,6 +25,7 @@ use Rattle.tables.specs.meaning.Tables.{tablesOf, cell, zoneAtCell, deviceOf, l
 use Rattle.tables.specs.laws.TablesFrame.{lengths-are, pointers-good}
 use Rattle.tables.specs.laws.Tables.{device-pointer, device-durable}
 use Rattle.volume.specs.meaning.Refusals.{firstBadPlace, driveBadPlace, badPointers, firstRefusal, lookRows, twoLost, badLabels, kindLacks, badLogs}
+use Rattle.volume.specs.declared.Owner.the-variants.{Nobody}
 use Rattle.volume.specs.declared.ZoneRecord.{ZoneRecord}
 use Rattle.volume.specs.declared.State.{State}
 use Rattle.volume.specs.declared.ZoneLook.{ZoneLook}
@@ -36,6 +37,7 @@ use Rattle.volume.specs.laws.BadPlaces.{refused-plain}
 use Rattle.volume.specs.declared.Answer.the-variants.{Refused}
 use Rattle.logs.specs.meaning.Heads.{arrayIn, leastSeal}
 use Rattle.volume.specs.meaning.Rules.{sealLimitBelow, servingEntries, View, valueOf, Shown, ZoneShown, showing, isLost, isPresent, lostDrive, generalHeads, generalEnding, parityEntries, parityEnding, generationOf, resetSeen, sealSeen, sealLimit, viewOf, zoneView, valueAt, pointerAt, cleanAt, zoneAt, zoneShown}
+use Rattle.volume.specs.meaning.State.{maxShares, withShares}
 use Rattle.volume.specs.meaning.Mount.{mountState}
 use Rattle.volume.specs.meaning.CallContracts.{badPlaceOn, blankRecord, isSet, verdictNumber, lengthsOf, rolesOf, seenIn, zoneLookOf, lookVerdict, lookOn, recordSeen, recordsBelow, stateHeld}
 use Rattle.volume.specs.meaning.Roles.{Roles}
@@ -54,14 +56,16 @@ lookOf g k = record { lost = k .lost; array = k .array; zones = looksFrom g (k .
 
 -- and the records of the state that it leaves
 abbrev pub recordOf : ZoneLook → ZoneRecord
-recordOf s = record { generation = s .generation; condition = s .condition }
+recordOf s = record { generation = s .generation; condition = s .condition; owner = Nobody }
 
 abbrev pub recordsOf : Geometry → List ZoneLook → List ZoneRecord
 recordsOf g ls = recordsBelow (λ z. recordOf (getD ls z blankLook)) (g .zones)
 
-pub state-of-look : (g : Geometry) (k : Shown) → _≡_ {A = State} (record { lost = k .lost; zones = recordsOf g (looksFrom g (k .zone)) }) (stateHeld (g .zones) (mountState k))
+-- (share: the hosts' shares)
+pub state-of-look : (g : Geometry) (k : Shown) (share : ℕ → ℕ)
+    → _≡_ {A = State} (record { lost = k .lost; zones = recordsOf g (looksFrom g (k .zone)); shares = tabulate share maxShares }) (stateHeld (g .zones) (withShares share (mountState k)))
 unfolding looksFrom recordsBelow
-state-of-look g k = ap (λ (rs : List ZoneRecord). record { lost = k .lost; zones = rs ++ replicate (maxZones - g .zones) blankRecord })
+state-of-look g k share = ap (λ (rs : List ZoneRecord). record { lost = k .lost; zones = rs ++ replicate (maxZones - g .zones) blankRecord; shares = tabulate share maxShares })
     (tabulate-cong (λ z. recordOf (getD (looksFrom g (k .zone)) z blankLook)) (recordSeen (mountState k)) (g .zones) (λ z h. ap recordOf (fill-at (λ z. zoneLookOf (k .zone z)) blankLook blankLook (g .zones) (maxZones - g .zones) z h)))
 
 -- ---- no rule of a look reads a durable pointer
@@ -301,6 +305,10 @@ present-named g named v d h =
     let p = and-split (ltb d (g .drives)) (not (isLost g named v d)) h in
     let q = or-none (not (named d)) _ (not-true (isLost g named v d) (p .1)) in
     not-not (named d) (q .0)
+
+pub present-below : (g : Geometry) (named : ℕ → Bool) (v : Device) (d : ℕ) → isPresent g named v d ≡ true → d < g .drives
+unfolding isPresent
+present-below g named v d h = ltb-true d (g .drives) (and-split (ltb d (g .drives)) (not (isLost g named v d)) h .0)
 
 -- ---- the outcome
 module _ (g : Geometry) (named : List Bool) (old : State) (xs ws ds : List ℕ) where

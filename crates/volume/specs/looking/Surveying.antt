@@ -16,35 +16,31 @@ use Rattle.tables.specs.meaning.Device.{Device}
 use Rattle.tables.specs.meaning.Tables.{tablesOf, deviceOf, cell, zonePlace}
 use Rattle.tables.specs.laws.TablesFrame.{pointers-good}
 use Rattle.volume.specs.declared.State.{State}
-use Rattle.volume.specs.declared.Look.{Look}
 use Rattle.volume.specs.declared.Outcome.{Outcome}
 use Rattle.volume.specs.declared.Answer.the-variants.{Finished}
 use Rattle.volume.specs.declared.looking.Survey.{Survey}
-use Rattle.volume.specs.meaning.Rules.{Shown, showing, isPresent, lostDrive}
+use Rattle.volume.specs.meaning.Rules.{isPresent, lostDrive}
 use Rattle.volume.specs.meaning.Refusals.{firstRefusal, twoLost, kindLacks, badLabels, badLogs, firstBadPlace}
 use Rattle.volume.specs.meaning.Answers.{presentIn, lostDriveIn}
 use Rattle.volume.specs.meaning.Roles.{Roles, zoneOfRole, placedBy}
 use Rattle.volume.specs.meaning.CallContracts.{isSet, verdictNumber, rolesOf, seenIn, lookVerdict, lookOn, badPlaceOn, stateHeld}
 use Rattle.volume.specs.laws.LogPlaces.{withLogs}
-use Rattle.volume.specs.laws.RulesUnread.{is-present-alike, lost-drive-alike, showing-alike}
+use Rattle.volume.specs.laws.RulesUnread.{is-present-alike, lost-drive-alike}
 use Rattle.volume.specs.laws.CallsUnread.{two-lost-alike, bad-labels-alike, bad-logs-alike, bad-place-alike}
 use Rattle.volume.specs.laws.BadPlaces.{first-bad-depends}
 use Rattle.volume.specs.looking.DrivesLost.{two-lost-is, lost-drive-is}
 use Rattle.volume.specs.looking.HiddenLogs.{roles-durable}
 use Rattle.volume.specs.looking.Knowing.{readDevice}
 use Rattle.volume.specs.looking.SeenByRoles.{Seen, kindLacksOn, seen-place, seen-geometry, seen-sized, seen-read, seen-good, seen-lacks}
-use Rattle.volume.specs.looking.Looking.{shapeNumber, shaped, logNumber, lookOf, recordsOf, state-of-look, present-read, lost-drive-read, two-lost-read, labels-read, logs-read, bad-place-read, shown-read, look-late, present-named, Lookable}
-use Rattle.volume.specs.meaning.Mount.{mountState}
+use Rattle.volume.specs.looking.Looking.{shapeNumber, shaped, logNumber, present-read, lost-drive-read, two-lost-read, labels-read, logs-read, bad-place-read, look-late, present-named, present-below, Lookable}
+use Rattle.volume.specs.looking.ShownState.{HereBelow, stateSeen, seen-state}
+use Rattle.volume.specs.meaning.Mount.{shownState}
 
 pub record Surveyed (g : Geometry) (named : List Bool) (xs ws : List ℕ) (v : Survey) (ps : List ℕ) : Type 0 where
   pub seen : Seen g xs ws (v .places) ps
   pub present : isSet (v .here) ≡ isPresent (v .places .geometry) (isSet named) (readDevice (v .places .geometry) xs ps)
   pub refused : v .refusal ≡ logNumber (v .places) (v .here) (readDevice (v .places .geometry) xs ps)
   pub bad-is : v .bad ≡ firstBadPlace (v .places .geometry) (isSet (v .here)) (zonePlace (v .places .geometry)) (readDevice (v .places .geometry) xs ps)
-
--- the state shown does not tell where the logs lie
-pub state-alike : (g h : Geometry) → h ≡ withLogs g (h .logs) → (k : Shown) → stateHeld (h .zones) (mountState k) ≡ stateHeld (g .zones) (mountState k)
-state-alike g h e k = ap (λ (q : Geometry). stateHeld (q .zones) (mountState k)) e
 
 -- rows 4 to 6 by what each asks
 abbrev rowsBy : Bool → Bool → Bool → Bool → ℕ
@@ -69,6 +65,9 @@ module _ (g : Geometry) (named : List Bool) (xs ws : List ℕ) (v : Survey) (ps 
   survey-lost =
       lost-drive-is h named (v .here) u (s .present)
       ∙ sym (seen-read g xs ws (v .places) ps (s .seen) (λ (k : Geometry) (x : Device). lostDrive k (isSet named) x) (λ n x. lost-drive-alike g n (isSet named) x) ds (lost-drive-read h xs ps ds (isSet named)))
+
+  pub survey-below : HereBelow h (v .here)
+  survey-below d p = present-below h (isSet named) u d (ap (λ (q : ℕ → Bool). q d) (sym (s .present)) ∙ p)
 
   -- what a rule of the present drives says
   by-present : {A : Type 0} (rule : Geometry → (ℕ → Bool) → Device → A) → ((n : ℕ) (x : Device) → rule (withLogs g n) (isSet (v .here)) x ≡ rule g (isSet (v .here)) x)
@@ -125,20 +124,13 @@ module _ (g : Geometry) (named : List Bool) (xs ws : List ℕ) (v : Survey) (ps 
         pointers = λ d y hd p hy. subst (λ (n : ℕ). getD ps (cell h d y) 0 ≤ n) (sym capacity-is) (seen-good g xs ws (v .places) ps (s .seen) (v .here) good d y (omega (arith, hd, drives-are)) p (omega (arith, hy, zones-are)));
       }
 
-  -- ---- WHAT IS SHOWN
-  pub survey-shown : showing h (isSet (v .here)) (findBelow (λ d. not (isSet (v .here) d)) (h .drives)) u ≡ showing g (presentIn g (isSet named) (deviceOf g (tablesOf xs ws ds))) (lostDriveIn g (isSet named) (deviceOf g (tablesOf xs ws ds))) w
-  survey-shown =
-      by-present (λ (k : Geometry) (q : ℕ → Bool) (x : Device). showing k q (findBelow (λ d. not (isSet (v .here) d)) (h .drives)) x) (λ n x. showing-alike g n (isSet (v .here)) (findBelow (λ d. not (isSet (v .here) d)) (h .drives)) x) (shown-read h xs ps ds (isSet (v .here)) (findBelow (λ d. not (isSet (v .here) d)) (h .drives)))
-      ∙ ap (λ (x : ℕ). showing g (isPresent g (isSet named) w) x w) survey-lost
-
-  -- the outcome (k: what the drives show)
-  pub survey-finished : (old : State) → shapeNumber g named (length xs) ws ds ≡ 0 → v .refusal ≡ 0
-      → (k : Look) → k ≡ lookOf h (showing h (isSet (v .here)) (findBelow (λ d. not (isSet (v .here) d)) (h .drives)) u)
-      → _≡_ {A = Outcome} (record { answer = Finished; state = record { lost = k .lost; zones = recordsOf h (k .zones) } }) (lookOn g named old (tablesOf xs ws ds))
+  -- ---- THE OUTCOME (q: the state that the drives show)
+  pub survey-finished : (old : State) → shapeNumber g named (length xs) ws ds ≡ 0 → v .refusal ≡ 0 → (q : State) → q ≡ stateSeen (v .places) (v .here) xs ps
+      → _≡_ {A = Outcome} (record { answer = Finished; state = q }) (lookOn g named old (tablesOf xs ws ds))
   unfolding lookOn
-  survey-finished old shape passed k q =
-      let shown = showing g (presentIn g (isSet named) (deviceOf g (tablesOf xs ws ds))) (lostDriveIn g (isSet named) (deviceOf g (tablesOf xs ws ds))) w in
-      let a : _≡_ {A = State} (record { lost = k .lost; zones = recordsOf h (k .zones) }) (stateHeld (g .zones) (mountState shown)) =
-      ap (λ (l : Look). record { lost = l .lost; zones = recordsOf h (l .zones) }) q
-      ∙ state-of-look h (showing h (isSet (v .here)) (findBelow (λ d. not (isSet (v .here) d)) (h .drives)) u) ∙ ap (λ (q : Shown). stateHeld (h .zones) (mountState q)) survey-shown ∙ state-alike g h (seen-geometry g xs ws (v .places) ps (s .seen)) shown in
-      rw (eq-eqb (verdictNumber (lookVerdict g named (tablesOf xs ws ds))) 0 (sym (survey-refusal shape) ∙ passed)) (ap (λ (x : State). record { answer = Finished; state = x }) a)
+  survey-finished old shape passed q e =
+      let x = deviceOf g (tablesOf xs ws ds) in
+      let same : findBelow (λ d. not (isSet (v .here) d)) (g .drives) ≡ findBelow (λ d. not (isSet (v .here) d)) (h .drives) = sym (ap (λ (k : Geometry). findBelow (λ d. not (isSet (v .here) d)) (k .drives)) (seen-geometry g xs ws (v .places) ps (s .seen))) in
+      let shown : q ≡ stateHeld (g .zones) (shownState g (presentIn g (isSet named) x) (lostDriveIn g (isSet named) x) x) =
+      e ∙ seen-state g xs ws (v .places) ps (s .seen) ds (v .here) survey-below ∙ ap₂ (λ (a : ℕ → Bool) (y : ℕ). stateHeld (g .zones) (shownState g a y x)) survey-present (same ∙ survey-lost) in
+      rw (eq-eqb (verdictNumber (lookVerdict g named (tablesOf xs ws ds))) 0 (sym (survey-refusal shape) ∙ passed)) (ap (λ (y : State). record { answer = Finished; state = y }) shown)

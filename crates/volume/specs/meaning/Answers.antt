@@ -1,7 +1,7 @@
 -- The calls on any input, on a device: what refuses each, what it stores, what it hands on or gives. The refusals are those of Refusals.antt, the
 -- stores those of Calls.antt and Mount.antt, what is shown and read that of Rules.antt.
 use Rattle.volume.specs.meaning.Rules.{lostDrive, Shown, isPresent, showing, valueAt}
-use Rattle.volume.specs.meaning.Refusals.{firstBadPlace, firstRefusal, Verdict, refuse, accept, TableLengths, zoneOf, offsetOf, formatRows, lookRows, mountRows, writeRows, flushRows, resetRows, readRows, peekRows, badPointers}
+use Rattle.volume.specs.meaning.Refusals.{firstBadPlace, firstRefusal, Verdict, refuse, accept, TableLengths, WriteAsked, zoneAsked, zoneOf, offsetOf, formatRows, lookRows, mountRows, writeRows, flushRows, resetRows, compactRows, readRows, peekRows, badPointers}
 use mathlib.Core.Bool.{Bool, _&&_, not}
 use Prim.Native.Nat.{ℕ, zero, _*_}
 use mathlib.Core.List.{List}
@@ -13,11 +13,12 @@ use Rattle.tables.specs.meaning.Placement.{driveOf, sectorOf}
 use Rattle.tables.specs.declared.Geometry.{Geometry}
 use Rattle.tables.specs.meaning.Below.{tabulateFrom}
 use Rattle.tables.specs.meaning.Drives.{findBelow}
-use Rattle.volume.specs.meaning.State.{StateView, callPresent}
-use Rattle.volume.specs.meaning.Calls.{writeState, flushStores, flushState, resetState, formatStores, formatState}
+use Rattle.volume.specs.meaning.State.{StateView, withShares, callPresent}
+use Rattle.volume.specs.meaning.Calls.{flushStores, flushState, resetState, formatStores, formatState}
+use Rattle.volume.specs.meaning.Hosts.{freshShares, writtenState, compactState}
 use Rattle.volume.specs.meaning.Roles.{roles, byRoles, placedBy}
-use Rattle.volume.specs.meaning.Emptying.{writeAll, resetAll}
-use Rattle.volume.specs.meaning.Mount.{mountStores, mountShows, mountState}
+use Rattle.volume.specs.meaning.Emptying.{writeAll, resetAll, compactStores}
+use Rattle.volume.specs.meaning.Mount.{mountStores, shownState}
 use Rattle.volume.specs.declared.Answer.{Answer}
 use Rattle.volume.specs.declared.Answer.the-variants.{Finished, Unfinished, Refused, BadLog}
 use Rattle.volume.specs.declared.BadPlace.{BadPlace}
@@ -54,7 +55,7 @@ abbrev pub giving : {A : Type 0} → Verdict → A → Given A
 giving (refuse n) x = refused n
 giving accept x = given x
 
--- "A drive left out of an accepted format, write, flush or reset is lost in the state handed on"
+-- "A drive left out of an accepted format, write, flush or reset is lost in the state handed on", and of a compact
 unfoldable pub lostIn : Geometry → (ℕ → Bool) → StateView → ℕ
 lostIn g named state = findBelow (λ d. not (callPresent g named state d)) (g .drives)
 
@@ -101,22 +102,21 @@ toldAt b (Refused n) = refusedAt b n
 toldAt b (BadLog p) = BadLog p
 
 abbrev pub formatCall : Geometry → TableLengths → (ℕ → Bool) → ℕ → Device → StoringCall
-formatCall g t named array v = record { refusals = formatRows g t (badPointers g named v) named v; stores = formatStores g (namedDrives g named) (leftOut g named) array; state = formatState (leftOut g named) }
+formatCall g t named array v = record { refusals = formatRows g t (badPointers g named v) named v; stores = formatStores g (namedDrives g named) (leftOut g named) array; state = withShares (freshShares g (namedDrives g named)) (formatState (leftOut g named)) }
 
--- "It shows what a look shows after its last store": the state it leaves is mountState of that
+-- "It shows what a look shows after its last store": the state it leaves is the shownState of that
 abbrev pub mountCall : Geometry → TableLengths → (ℕ → Bool) → Device → StoringCall
 mountCall g t named v = record {
   refusals = mountRows g t (badPointers g named v) named (roles g v) (byRoles g v);
   stores = mountStores g (presentIn g named v) (lostDriveIn g named v) v;
-  state = mountState (mountShows g (presentIn g named v) (lostDriveIn g named v) v);
+  state = shownState g (presentIn g named v) (lostDriveIn g named v) (applyAll (mountStores g (presentIn g named v) (lostDriveIn g named v) v) v);
 }
 
--- count sectors from address a, out of a buffer
-abbrev pub writeCall : Geometry → TableLengths → (ℕ → Bool) → StateView → ℕ → ℕ → List ℕ → Device → StoringCall
-writeCall g t named state a count buffer v = record {
-  refusals = writeRows g t (badPointers g named v) named state a count (length buffer) (roles g v) (byRoles g v);
-  stores = writeAll g (callPresent g named state) (roles g v) (byRoles g v) state (zoneOf g a) (sectorsIn g count buffer);
-  state = writeState (lostIn g named state) state (zoneOf g a) count;
+abbrev pub writeCall : Geometry → TableLengths → (ℕ → Bool) → StateView → WriteAsked → Device → StoringCall
+writeCall g t named state a v = record {
+  refusals = writeRows g t (badPointers g named v) named state a (roles g v) (byRoles g v);
+  stores = writeAll g (callPresent g named state) (roles g v) (byRoles g v) state (zoneAsked g a) (sectorsIn g (a .count) (a .buffer));
+  state = writtenState g (callPresent g named state) (lostIn g named state) (a .host) state (zoneAsked g a) (a .count);
 }
 
 abbrev pub flushCall : Geometry → TableLengths → (ℕ → Bool) → StateView → Device → StoringCall
@@ -127,6 +127,14 @@ resetCall g t named state z v = record {
   refusals = resetRows g t (badPointers g named v) named state z (roles g v) (byRoles g v);
   stores = resetAll g (callPresent g named state) (roles g v) (byRoles g v) state z;
   state = resetState (lostIn g named state) state z;
+}
+
+-- of drive d
+abbrev pub compactCall : Geometry → TableLengths → (ℕ → Bool) → StateView → ℕ → Device → StoringCall
+compactCall g t named state d v = record {
+  refusals = compactRows g t (badPointers g named v) named state d (roles g v) (byRoles g v);
+  stores = compactStores g (callPresent g named state) (roles g v) (byRoles g v) state d;
+  state = compactState g (callPresent g named state) (lostIn g named state) (byRoles g v) state d;
 }
 
 abbrev pub lookCall : Geometry → TableLengths → (ℕ → Bool) → Device → Given Shown

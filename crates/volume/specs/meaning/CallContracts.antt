@@ -11,47 +11,49 @@ use Rattle.tables.specs.meaning.Basics.{pick}
 use Rattle.tables.specs.meaning.Device.{Store, Device}
 use Rattle.tables.specs.meaning.Tables.{Tables, runStores, pointersBad, deviceOf, byteAt, sectorAt}
 use Rattle.volume.specs.declared.Condition.the-variants.{Empty}
+use Rattle.volume.specs.declared.Owner.the-variants.{Nobody}
 use Rattle.volume.specs.declared.ZoneRecord.{ZoneRecord}
 use Rattle.volume.specs.declared.State.{State}
 use Rattle.volume.specs.declared.Answer.{Answer}
 use Rattle.volume.specs.declared.Answer.the-variants.{Finished, Unfinished, Refused, BadLog}
 use Rattle.volume.specs.declared.BadPlace.{BadPlace}
 use Rattle.volume.specs.declared.Outcome.{Outcome}
-use Rattle.volume.specs.meaning.State.{StateView, callPresent, pointerIn}
-use Rattle.volume.specs.meaning.Refusals.{Verdict, refuse, accept, firstRefusal, TableLengths, flushRows, resetRows, writeRows, zoneOf, offsetOf, formatRows, lookRows, mountRows, readRows, peekRows}
-use Rattle.volume.specs.meaning.Calls.{writeState, flushStores, flushState, resetState, formatStores, formatState}
+use Rattle.volume.specs.meaning.State.{StateView, withShares, maxShares, callPresent, pointerIn}
+use Rattle.volume.specs.meaning.Refusals.{Verdict, refuse, accept, firstRefusal, TableLengths, WriteAsked, zoneAsked, flushRows, resetRows, writeRows, compactRows, zoneOf, offsetOf, formatRows, lookRows, mountRows, readRows, peekRows}
+use Rattle.volume.specs.meaning.Calls.{flushStores, flushState, resetState, formatStores, formatState}
+use Rattle.volume.specs.meaning.Hosts.{freshShares, writtenState, compactState}
 use Rattle.volume.specs.meaning.Answers.{lostIn, sectorsIn, leftOut, namedDrives, Place, placeOf, presentIn, lostDriveIn, badPlaceOf, refusedAt, toldAt}
 use Rattle.volume.specs.meaning.Roles.{Roles, roles, byRoles}
-use Rattle.volume.specs.meaning.Emptying.{writeAll, resetAll}
+use Rattle.volume.specs.meaning.Emptying.{writeAll, resetAll, compactStores}
 use Rattle.tables.specs.meaning.Below.{tabulate, tabulateFrom}
-use Rattle.volume.specs.meaning.Rules.{valueAt, ZoneShown, showing}
+use Rattle.volume.specs.meaning.Rules.{valueAt, ZoneShown}
 use Rattle.volume.specs.declared.ZoneLook.{ZoneLook}
 use Rattle.tables.specs.meaning.Lists.{concat}
 use Rattle.tables.specs.meaning.Geometry.{maxZones}
-use Rattle.volume.specs.meaning.Mount.{phasesBeforeEntries, phasesOfParityLogs, phasesOfEntries, mountState}
+use Rattle.volume.specs.meaning.Mount.{phasesBeforeEntries, phasesOfParityLogs, phasesOfEntries, shownState}
 
 -- ---- the state. What a call makes of it is defined once, as the rules see it (Calls, Mount); `stateHeld` brings it back into the code's struct.
 -- past its end the array of records is all empty
 abbrev pub blankRecord : ZoneRecord
-blankRecord = record { generation = 0; condition = Empty }
+blankRecord = record { generation = 0; condition = Empty; owner = Nobody }
 
 abbrev pub recordAt : State → ℕ → ZoneRecord
 recordAt s z = getD (s .zones) z blankRecord
 
 -- as the rules see it
 abbrev pub viewState : State → StateView
-viewState s = record { lost = s .lost; generation = λ z. recordAt s z .generation; condition = λ z. recordAt s z .condition }
+viewState s = record { lost = s .lost; generation = λ z. recordAt s z .generation; condition = λ z. recordAt s z .condition; owner = λ z. recordAt s z .owner; share = λ i. getD (s .shares) i 0 }
 
 -- and back: of the first n zones what the rules see, blank past them. A format and a look hand on what is so of the volume's zones; a write, a flush and a
 -- reset leave records past the last zone as they were (n = maxZones).
 abbrev pub recordSeen : StateView → ℕ → ZoneRecord
-recordSeen v z = record { generation = v .generation z; condition = v .condition z }
+recordSeen v z = record { generation = v .generation z; condition = v .condition z; owner = v .owner z }
 
 unfoldable pub recordsBelow : (ℕ → ZoneRecord) → ℕ → List ZoneRecord
 recordsBelow f n = tabulate f n ++ replicate (maxZones - n) blankRecord
 
 abbrev pub stateHeld : ℕ → StateView → State
-stateHeld n v = record { lost = v .lost; zones = recordsBelow (recordSeen v) n }
+stateHeld n v = record { lost = v .lost; zones = recordsBelow (recordSeen v) n; shares = tabulate (v .share) maxShares }
 
 -- the drives named, as the rules see them
 abbrev pub isSet : List Bool → ℕ → Bool
@@ -114,18 +116,27 @@ resetOn g named s z count t =
     storingOn g (verdictNumber (resetVerdict g named s z t)) (resetAll g (callPresent g (isSet named) (viewState s)) (rolesOf g t) (seenIn g t) (viewState s) z)
     (stateHeld maxZones (resetState (lostIn g (isSet named) (viewState s)) (viewState s) z)) s count t
 
--- ==== write: k sectors from address a
-unfoldable pub writeVerdict : Geometry → List Bool → State → ℕ → ℕ → ℕ → Tables → Verdict
-writeVerdict g named s a k bytes t = firstRefusal (writeRows g (lengthsOf t) (badIn g named t) (isSet named) (viewState s) a k bytes (rolesOf g t) (seenIn g t))
+-- ==== write
+unfoldable pub writeVerdict : Geometry → List Bool → State → WriteAsked → Tables → Verdict
+writeVerdict g named s a t = firstRefusal (writeRows g (lengthsOf t) (badIn g named t) (isSet named) (viewState s) a (rolesOf g t) (seenIn g t))
 
 -- the pointer of zone z in the state
 abbrev pub pointerOf : State → ℕ → ℕ
 pointerOf s z = pointerIn (recordAt s z .condition)
 
-unfoldable pub writeOn : Geometry → List Bool → State → ℕ → ℕ → List ℕ → ℕ → Tables → Result
-writeOn g named s a k buffer count t =
-    storingOn g (verdictNumber (writeVerdict g named s a k (length buffer) t)) (writeAll g (callPresent g (isSet named) (viewState s)) (rolesOf g t) (seenIn g t) (viewState s) (zoneOf g a) (sectorsIn g k buffer))
-    (stateHeld maxZones (writeState (lostIn g (isSet named) (viewState s)) (viewState s) (zoneOf g a) k)) s count t
+unfoldable pub writeOn : Geometry → List Bool → State → WriteAsked → ℕ → Tables → Result
+writeOn g named s a count t =
+    storingOn g (verdictNumber (writeVerdict g named s a t)) (writeAll g (callPresent g (isSet named) (viewState s)) (rolesOf g t) (seenIn g t) (viewState s) (zoneAsked g a) (sectorsIn g (a .count) (a .buffer)))
+    (stateHeld maxZones (writtenState g (callPresent g (isSet named) (viewState s)) (lostIn g (isSet named) (viewState s)) (a .host) (viewState s) (zoneAsked g a) (a .count))) s count t
+
+-- ==== compact: drive d
+unfoldable pub compactVerdict : Geometry → List Bool → State → ℕ → Tables → Verdict
+compactVerdict g named s d t = firstRefusal (compactRows g (lengthsOf t) (badIn g named t) (isSet named) (viewState s) d (rolesOf g t) (seenIn g t))
+
+unfoldable pub compactOn : Geometry → List Bool → State → ℕ → ℕ → Tables → Result
+compactOn g named s d count t =
+    storingOn g (verdictNumber (compactVerdict g named s d t)) (compactStores g (callPresent g (isSet named) (viewState s)) (rolesOf g t) (seenIn g t) (viewState s) d)
+    (stateHeld maxZones (compactState g (callPresent g (isSet named) (viewState s)) (lostIn g (isSet named) (viewState s)) (seenIn g t) (viewState s) d)) s count t
 
 -- ==== format
 unfoldable pub formatVerdict : Geometry → List Bool → Tables → Verdict
@@ -134,7 +145,8 @@ formatVerdict g named t = firstRefusal (formatRows g (lengthsOf t) (badIn g name
 -- old: what the host held before; a format neither reads nor changes it, and hands it back if it is refused or unfinished
 unfoldable pub formatOn : Geometry → List Bool → ℕ → State → ℕ → Tables → Result
 formatOn g named array old count t =
-    storingOn g (verdictNumber (formatVerdict g named t)) (formatStores g (namedDrives g (isSet named)) (leftOut g (isSet named)) array) (stateHeld (g .zones) (formatState (leftOut g (isSet named)))) old count t
+    storingOn g (verdictNumber (formatVerdict g named t)) (formatStores g (namedDrives g (isSet named)) (leftOut g (isSet named)) array)
+    (stateHeld (g .zones) (withShares (freshShares g (namedDrives g (isSet named))) (formatState (leftOut g (isSet named))))) old count t
 
 -- ---- what is shown of a zone, as the code's record: all but the values
 abbrev pub zoneLookOf : ZoneShown → ZoneLook
@@ -152,7 +164,7 @@ badPlaceOn g named t = badPlaceOf g (isSet named) (deviceOf g t)
 unfoldable pub lookOn : Geometry → List Bool → State → Tables → Outcome
 lookOn g named old t =
     pick (eqb (verdictNumber (lookVerdict g named t)) 0)
-    (record { answer = Finished; state = stateHeld (g .zones) (mountState (showing g (presentIn g (isSet named) (deviceOf g t)) (lostDriveIn g (isSet named) (deviceOf g t)) (seenIn g t))) })
+    (record { answer = Finished; state = stateHeld (g .zones) (shownState g (presentIn g (isSet named) (deviceOf g t)) (lostDriveIn g (isSet named) (deviceOf g t)) (deviceOf g t)) })
     (record { answer = refusedAt (badPlaceOn g named t) (verdictNumber (lookVerdict g named t)); state = old })
 
 -- ==== mount
@@ -178,7 +190,7 @@ mountStoresOn g present x t =
 
 -- "It shows what a look shows after its last store"
 unfoldable pub mountShownOn : Geometry → (ℕ → Bool) → ℕ → Tables → State
-mountShownOn g present x t = stateHeld (g .zones) (mountState (showing g present x (seenIn g (afterStores g (mountStoresOn g present x t) t))))
+mountShownOn g present x t = stateHeld (g .zones) (shownState g present x (deviceOf g (afterStores g (mountStoresOn g present x t) t)))
 
 -- its answer tells the bad place
 abbrev pub tellingAt : BadPlace → Result → Result

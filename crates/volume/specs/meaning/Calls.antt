@@ -1,6 +1,6 @@
 -- The stores of write, flush, reset and format, in document 01's order, and the state that each hands on. A call's stores are written
 -- down as if every drive were there; those to a lost drive are skipped at the end (onPresent). Zones are those of the device by its roles.
--- (With the logs that a write or reset empties first: Emptying.antt. Mount: Mount.antt.)
+-- (With the logs that a reset empties first, and a compact: Emptying.antt. Mount: Mount.antt.)
 use mathlib.Core.Bool.{Bool, true, _||_}
 use Prim.Native.Nat.{ℕ, zero, suc, _+_, _-_, _%_}
 use mathlib.Core.List.{List, [], _∷_, _++_}
@@ -18,6 +18,7 @@ use Rattle.logs.specs.meaning.Entry.{generalZone, parityZone, wornGeneration, H
 use Rattle.logs.specs.meaning.Walk.{sectorsOf}
 use Rattle.volume.specs.declared.Condition.{Condition}
 use Rattle.volume.specs.declared.Condition.the-variants.{Empty, Open, Worn}
+use Rattle.volume.specs.declared.Owner.the-variants.{Nobody}
 use Rattle.volume.specs.meaning.State.{pointerIn, StateView, setAt}
 use Rattle.volume.specs.meaning.Content.{at, rowXor, insideStripe, parityDriveAt, entryAt}
 use Rattle.volume.specs.meaning.Rules.{valueAt}
@@ -67,9 +68,9 @@ writeStores g present v state z ss = onPresent present (writeWith g z (state .ge
 
 -- the zone open at pointer n (x: the lost drive, in this and the following states)
 abbrev pub openState : ℕ → StateView → ℕ → ℕ → StateView
-openState x state z n = record { lost = x; generation = state .generation; condition = setAt (state .condition) z (Open n) }
+openState x state z n = record { lost = x; generation = state .generation; condition = setAt (state .condition) z (Open n); owner = state .owner; share = state .share }
 
--- k sectors past where its pointer was
+-- k sectors past where its pointer was (and with its host: Hosts.antt)
 abbrev pub writeState : ℕ → StateView → ℕ → ℕ → StateView
 writeState x state z k = openState x state z (pointerIn (state .condition z) + k)
 
@@ -78,7 +79,7 @@ unfoldable pub flushStores : Geometry → (ℕ → Bool) → List Store
 flushStores g present = onPresent present (flushAll (g .drives))
 
 abbrev pub flushState : ℕ → StateView → StateView
-flushState x state = record { lost = x; generation = state .generation; condition = state .condition }
+flushState x state = record { lost = x; generation = state .generation; condition = state .condition; owner = state .owner; share = state .share }
 
 -- ==== reset: "type 3 on the drives of the first unit and of parity of stripe 0; flush all; reset the zone on all; counters raised, on all;
 -- flush all." And document 02: "Reset and format therefore flush all present drives at once after document 01's zone resets."
@@ -106,7 +107,13 @@ abbrev pub emptyCondition : ℕ → Condition
 emptyCondition n = pick (eqb n wornGeneration) (Worn zero) Empty
 
 abbrev pub resetState : ℕ → StateView → ℕ → StateView
-resetState x state z = record { lost = x; generation = raisedAt state z; condition = setAt (state .condition) z (emptyCondition (suc (state .generation z))) }
+resetState x state z = record {
+  lost = x;
+  generation = raisedAt state z;
+  condition = setAt (state .condition) z (emptyCondition (suc (state .generation z)));
+  owner = setAt (state .owner) z Nobody;
+  share = state .share;
+}
 
 -- ==== format: "reset every zone; label, then counters (all 1), drive by drive; flush all", with that flush after the resets (x: the drive left out, or noDrive; a: the array
 -- number)
@@ -121,5 +128,6 @@ formatPhases g x a =
 unfoldable pub formatStores : Geometry → (ℕ → Bool) → ℕ → ℕ → List Store
 formatStores g present x a = concat (eachOnPresent present (formatPhases g x a))
 
+-- (with its shares: Hosts.antt)
 abbrev pub formatState : ℕ → StateView
-formatState x = record { lost = x; generation = λ z. 1; condition = λ z. Empty }
+formatState x = record { lost = x; generation = λ z. 1; condition = λ z. Empty; owner = λ z. Nobody; share = λ i. 0 }

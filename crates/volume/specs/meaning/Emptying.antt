@@ -1,4 +1,4 @@
--- Logs that empty themselves. "When space lacks at a call's start, before its stores, drive by drive, all present drives are flushed, and the lacking log's
+-- Logs that are emptied: by a mount or a reset that finds one without room, and by a compact in any case. "When space lacks at a call's start, before its stores, drive by drive, all present drives are flushed, and the lacking log's
 -- entries still needed .. are copied, zones ascending, into that drive's spare zone. Then comes a closing entry of type 6 .., generation one above the old
 -- log's. A flush follows, then the old zone is reset and becomes the spare." (r: the drives' roles; w: the device by its roles)
 use mathlib.Core.Bool.{Bool, true, false, _&&_, _||_, not}
@@ -110,17 +110,17 @@ mountGeneralLimit g = g .zones + 2
 abbrev pub resetLimit : Geometry → ℕ
 resetLimit g = g .zones + 4
 
+-- the sectors of the entry of a write that ends at a pointer inside a stripe
+abbrev pub entrySize : Geometry → ℕ → ℕ
+entrySize g end = suc (min (fillOf g end) (g .unit))
+
 -- "write ending inside a stripe, the parity drive's log, if present, below its entry plus L × (1 + U) + U" (end: the pointer after it)
 abbrev pub writeLimit : Geometry → ℕ → ℕ
-writeLimit g end = suc (min (fillOf g end) (g .unit)) + reserve g
+writeLimit g end = entrySize g end + reserve g
 
 -- of the kind, with less room than the limit
 unfoldable pub emptiedFor : Geometry → (ℕ → Bool) → Bool → (ℕ → Roles) → Device → ℕ → ℕ → Bool
 emptiedFor g present par r w limit d = present d && lacksRoom g par r w limit d
-
--- a write that ends inside a stripe of zone z asks for room on that stripe's parity drive alone
-unfoldable pub emptiedForWrite : Geometry → (ℕ → Bool) → (ℕ → Roles) → Device → ℕ → ℕ → ℕ → Bool
-emptiedForWrite g present r w z end d = (insideStripe g end && eqb d (parityDriveAt g z end)) && emptiedFor g present true r w (writeLimit g end) d
 
 -- ---- the stores of one emptying, on drive d: from its zone `old` to its zone `spare` (ss: the new log's sectors)
 unfoldable pub emptyingStores : Geometry → (ℕ → Bool) → ℕ → ℕ → ℕ → List (List ℕ) → List Store
@@ -137,12 +137,15 @@ emptyGeneral g present r f emptied w = emptyings g present false r emptied (λ d
 unfoldable pub emptyParity : Geometry → (ℕ → Bool) → (ℕ → Roles) → InForce → (ℕ → Bool) → Device → List Store
 emptyParity g present r f emptied w = emptyings g present true r emptied (λ d. newParity g f (r d) d (parityEntries g w d))
 
--- ==== write and reset: the emptyings, then the call's own stores, carried to where the logs lie from then on
-unfoldable pub writeAll : Geometry → (ℕ → Bool) → (ℕ → Roles) → Device → StateView → ℕ → List (List ℕ) → List Store
-writeAll g present r w state z ss =
-    let emptied = emptiedForWrite g present r w z (pointerIn (state .condition z) + length ss) in
-    emptyParity g present r (byState g present w state) emptied w ++ map (carry (placedBy (rolesAfter true emptied r))) (writeStores g present w state z ss)
+-- ==== compact: "a call of its own now empties a parity log: it names a drive and makes 2.2's stores, lacking or not"
+unfoldable pub compactStores : Geometry → (ℕ → Bool) → (ℕ → Roles) → Device → StateView → ℕ → List Store
+compactStores g present r w state d = emptyParity g present r (byState g present w state) (λ e. eqb e d) w
 
+-- ==== write: its stores, carried to where the logs lie. "Instead of writes, a call of its own now empties a parity log"
+unfoldable pub writeAll : Geometry → (ℕ → Bool) → (ℕ → Roles) → Device → StateView → ℕ → List (List ℕ) → List Store
+writeAll g present r w state z ss = map (carry (placedBy r)) (writeStores g present w state z ss)
+
+-- ==== reset: the emptyings, then its own stores, carried to where the logs lie from then on
 unfoldable pub resetAll : Geometry → (ℕ → Bool) → (ℕ → Roles) → Device → StateView → ℕ → List Store
 resetAll g present r w state z =
     let emptied = emptiedFor g present false r w (resetLimit g) in

@@ -30,10 +30,12 @@ use Rattle.logs.specs.meaning.Walk.{Ending, atPointer, noEntry, torn, sectorsOf
 use Rattle.volume.specs.meaning.Calls.{appendAll, generationsFrom, appendGeneral, logsReset}
 use Rattle.volume.specs.meaning.Content.{contentAt, rowXorBelow, insideStripe, entryAt, parityDriveAt}
 use Rattle.logs.specs.meaning.Heads.{lastLost, lastCounters, isSealAt, endsAt}
-use Rattle.volume.specs.meaning.State.{isEmpty, isSealed, isWorn, StateView}
+use Rattle.volume.specs.declared.Owner.the-variants.{Nobody}
+use Rattle.volume.specs.meaning.State.{isEmpty, isSealed, isWorn, StateView, withShares}
 use Rattle.volume.specs.meaning.Rules.{Shown, ZoneShown, showing, generalHeads, parityEntries, parityEnding}
 use Rattle.volume.specs.meaning.Roles.{Roles, roles, byRoles, placedBy, rolesAfter}
 use Rattle.volume.specs.meaning.Emptying.{byLook, spareWritten, reserve, mountGeneralLimit, emptiedFor, emptyGeneral, emptyParity}
+use Rattle.volume.specs.meaning.Hosts.{sharesIn}
 
 -- 1. the spare's reset on each drive where it has sectors written
 unfoldable pub spareStep : Geometry → Device → List Store
@@ -180,5 +182,9 @@ module _ (g : Geometry) (present : ℕ → Bool) (x : ℕ) (v : Device) where
   unfoldable pub mountShows : Shown
   mountShows = showing g present x (byRoles g (applyAll mountStores v))
 
+-- ==== the state that hands on what is shown, with no owners; and with the shares of the present drives, by the logs there (v: the device that shows it)
 abbrev pub mountState : Shown → StateView
-mountState k = record { lost = k .lost; generation = λ z. k .zone z .generation; condition = λ z. k .zone z .condition }
+mountState k = record { lost = k .lost; generation = λ z. k .zone z .generation; condition = λ z. k .zone z .condition; owner = λ z. Nobody; share = λ i. 0 }
+
+abbrev pub shownState : Geometry → (ℕ → Bool) → ℕ → Device → StateView
+shownState g present x v = withShares (sharesIn g present v) (mountState (showing g present x (byRoles g v)))

@@ -21,11 +21,12 @@ use Rattle.logs.specs.meaning.Heads.{labelled, arrayIn}
 use Rattle.volume.specs.declared.BadPlace.{BadPlace}
 use Rattle.volume.specs.declared.Condition.{Condition}
 use Rattle.volume.specs.declared.Condition.the-variants.{Empty, Open, Sealed, Worn}
-use Rattle.volume.specs.meaning.State.{pointerIn, isSealed, isWorn, StateView, callPresent}
+use Rattle.volume.specs.meaning.State.{pointerIn, isSealed, isWorn, hosts, StateView, callPresent}
 use Rattle.volume.specs.meaning.Content.{insideStripe, fillOf, parityDriveAt}
 use Rattle.volume.specs.meaning.Rules.{generalHeads, generalEnding, parityEnding, isLost, isPresent, lostDrive, known, heldAt, zoneView, showing}
 use Rattle.volume.specs.meaning.Roles.{Roles, lacksKind}
-use Rattle.volume.specs.meaning.Emptying.{InForce, byLook, byState, newGeneralSize, newParitySize, staysFull, spareWritten, reserve, mountGeneralLimit, resetLimit, writeLimit, emptiedFor, emptiedForWrite, goneForCopies}
+use Rattle.volume.specs.meaning.Emptying.{InForce, byLook, byState, newGeneralSize, newParitySize, unusedIn, staysFull, spareWritten, reserve, mountGeneralLimit, resetLimit, entrySize, writeLimit, emptiedFor, goneForCopies}
+use Rattle.volume.specs.meaning.Hosts.{overLimit, overOpen, shareLeft}
 
 pub data Verdict : Type 0 where
   refuse : ℕ → Verdict
@@ -41,6 +42,13 @@ pub record TableLengths : Type 0 where
   pub sectors : ℕ  -- in bytes
   pub written : ℕ  -- in numbers
   pub durable : ℕ  -- in numbers
+
+-- what a write is asked: its host, and count sectors from an address, out of a buffer
+pub record WriteAsked : Type 0 where
+  pub host : ℕ
+  pub address : ℕ
+  pub count : ℕ  -- of sectors
+  pub buffer : List ℕ
 
 -- an address's zone, and where it lies in it: "a logical zone has (D − 1) × C sectors; zone z starts at z times that"
 abbrev pub zoneOf : Geometry → ℕ → ℕ
@@ -140,9 +148,17 @@ staleIn (Worn n) written needs = ltb written needs
 unfoldable pub stale : Geometry → (ℕ → Bool) → Device → StateView → ℕ → Bool
 stale g present v state z = ltb z (g .zones) && anyBelow (λ d. present d && staleIn (state .condition z) (length (v d (dataZone z) .sectors)) (needed (g .drives) (g .unit) z (pointerIn (state .condition z)) d)) (g .drives)
 
+-- "7 covers every zone in it", a compact, "and in later calls that read all"
+unfoldable pub staleSomewhere : Geometry → (ℕ → Bool) → Device → StateView → Bool
+staleSomewhere g present v state = anyBelow (stale g present v state) (g .zones)
+
 -- 8, address: "no such zone or address"
 abbrev pub noZone : Geometry → ℕ → Bool
 noZone g z = not (ltb z (g .zones))
+
+-- "A write names its host; none such is 8"
+abbrev pub noHost : ℕ → Bool
+noHost h = not (ltb h hosts)
 
 -- 9, run: "count 0, or past the zone's end"
 abbrev pub badRun : Geometry → ℕ → ℕ → Bool
@@ -172,10 +188,15 @@ unfoldable pub resetFull : Geometry → (ℕ → Bool) → (ℕ → Roles) → I
 resetFull g present r f w =
     anyBelow (λ d. emptiedFor g present false r w (resetLimit g) d && (staysFull g false r (resetLimit g) (newGeneralSize g f (generalHeads g w d)) d || spareWritten w d)) (g .drives)
 
--- (end: the pointer after the write)
-unfoldable pub writeFull : Geometry → (ℕ → Bool) → (ℕ → Roles) → InForce → Device → ℕ → ℕ → Bool
-writeFull g present r f w z end =
-    anyBelow (λ d. emptiedForWrite g present r w z end d && (staysFull g true r (writeLimit g end) (newParitySize g f d) d || spareWritten w d)) (g .drives)
+-- a write that ends inside a stripe of zone z asks the log of that stripe's parity drive, if that is present: its entry and the reserve fit there, and its
+-- entry is not larger than what is left of its host's share (end: the pointer after the write; share: what is left)
+unfoldable pub writeFull : Geometry → (ℕ → Bool) → (ℕ → Roles) → Device → ℕ → ℕ → ℕ → Bool
+writeFull g present r w share z end =
+    (insideStripe g end && present (parityDriveAt g z end)) && (ltb share (entrySize g end) || ltb (unusedIn g true r w (parityDriveAt g z end)) (writeLimit g end))
+
+-- a compact of drive d asks what a mount asks of that log, "lacking or not"
+unfoldable pub compactFull : Geometry → (ℕ → Roles) → InForce → Device → ℕ → Bool
+compactFull g r f w d = staysFull g true r (reserve g) (newParitySize g f d) d || spareWritten w d
 
 -- 15, gone: "a sector needed is not known; in peek, not held"
 -- of the count sectors from offset (n: the state's generation)
@@ -185,10 +206,6 @@ goneIn g present v z n offset count = anyBelow (λ i. not (known (g .drives) (g 
 -- a write needs the earlier sectors of its first stripe where that stripe's parity drive is present
 unfoldable pub goneBefore : Geometry → (ℕ → Bool) → Device → ℕ → ℕ → ℕ → Bool
 goneBefore g present v z n pointer = present (parityDriveAt g z pointer) && goneIn g present v z n (stripeOf (g .drives) (g .unit) pointer * stripeSectors g) (fillOf g pointer)
-
--- and where it empties a log, what that log's copies are made of
-unfoldable pub goneForEntry : Geometry → (ℕ → Bool) → (ℕ → Roles) → InForce → Device → ℕ → ℕ → Bool
-goneForEntry g present r f w z end = anyBelow (λ d. emptiedForWrite g present r w z end d && goneForCopies g present f w d) (g .drives)
 
 unfoldable pub notHeld : Geometry → (ℕ → Bool) → Device → ℕ → ℕ → ℕ → Bool
 notHeld g present v z n offset = not (heldAt (zoneView g present v z n) (driveOf (g .drives) (g .unit) z offset) (sectorOf (g .drives) (g .unit) offset))
@@ -218,22 +235,36 @@ mountRows g t bad named r w =
     ∷ (14, mountFull g (isPresent g named w) r (byLook (showing g (isPresent g named w) (lostDrive g named w) w)) w)
     ∷ [])
 
--- count sectors from address a, out of a buffer of len bytes
-unfoldable pub writeRows : Geometry → TableLengths → Bool → (ℕ → Bool) → StateView → ℕ → ℕ → ℕ → (ℕ → Roles) → Device → List (ℕ × Bool)
-writeRows g t bad named state a count len r w =
-    openingRows (isValid g && stateWithin g state) (tablesFit g t && bufferFits g count len) bad (twoAbsent g named state)
-    ((7, stale g (callPresent g named state) w state (zoneOf g a))
-    ∷ (8, noZone g (zoneOf g a))
-    ∷ (9, badRun g (offsetOf g a) count)
-    ∷ (10, badOrder state (zoneOf g a) (offsetOf g a))
-    ∷ (11, isSealed (state .condition (zoneOf g a)))
-    ∷ (12, isWorn (state .condition (zoneOf g a)))
-    ∷ (14, writeFull g (callPresent g named state) r (byState g (callPresent g named state) w state) w (zoneOf g a) (pointerIn (state .condition (zoneOf g a)) + count))
-    ∷ (
-      15,
-      goneForEntry g (callPresent g named state) r (byState g (callPresent g named state) w state) w (zoneOf g a) (pointerIn (state .condition (zoneOf g a)) + count)
-          || goneBefore g (callPresent g named state) w (zoneOf g a) (state .generation (zoneOf g a)) (pointerIn (state .condition (zoneOf g a))),
-    )
+-- the zone of a write, and its pointer after it
+abbrev pub zoneAsked : Geometry → WriteAsked → ℕ
+zoneAsked g a = zoneOf g (a .address)
+
+abbrev pub endAsked : Geometry → StateView → WriteAsked → ℕ
+endAsked g state a = pointerIn (state .condition (zoneAsked g a)) + a .count
+
+unfoldable pub writeRows : Geometry → TableLengths → Bool → (ℕ → Bool) → StateView → WriteAsked → (ℕ → Roles) → Device → List (ℕ × Bool)
+writeRows g t bad named state a r w =
+    openingRows (isValid g && stateWithin g state) (tablesFit g t && bufferFits g (a .count) (length (a .buffer))) bad (twoAbsent g named state)
+    ((7, stale g (callPresent g named state) w state (zoneAsked g a))
+    ∷ (8, noZone g (zoneAsked g a) || noHost (a .host))
+    ∷ (9, badRun g (offsetOf g (a .address)) (a .count))
+    ∷ (10, badOrder state (zoneAsked g a) (offsetOf g (a .address)))
+    ∷ (11, isSealed (state .condition (zoneAsked g a)))
+    ∷ (12, isWorn (state .condition (zoneAsked g a)))
+    ∷ (18, overLimit g state (a .host) (zoneAsked g a) (endAsked g state a))
+    ∷ (19, overOpen g state (zoneAsked g a) (endAsked g state a))
+    ∷ (14, writeFull g (callPresent g named state) r w (shareLeft g state (a .host) (zoneAsked g a) (endAsked g state a)) (zoneAsked g a) (endAsked g state a))
+    ∷ (15, goneBefore g (callPresent g named state) w (zoneAsked g a) (state .generation (zoneAsked g a)) (pointerIn (state .condition (zoneAsked g a))))
+    ∷ [])
+
+-- of drive d
+unfoldable pub compactRows : Geometry → TableLengths → Bool → (ℕ → Bool) → StateView → ℕ → (ℕ → Roles) → Device → List (ℕ × Bool)
+compactRows g t bad named state d r w =
+    openingRows (isValid g && stateWithin g state) (tablesFit g t) bad (twoAbsent g named state)
+    ((7, staleSomewhere g (callPresent g named state) w state)
+    ∷ (8, not (callPresent g named state d))
+    ∷ (14, compactFull g r (byState g (callPresent g named state) w state) w d)
+    ∷ (15, goneForCopies g (callPresent g named state) (byState g (callPresent g named state) w state) w d)
     ∷ [])
 
 unfoldable pub flushRows : Geometry → TableLengths → Bool → (ℕ → Bool) → StateView → Device → List (ℕ × Bool)

@@ -86,7 +86,7 @@ format-accepted g named sectors ws ds h =
 -- those named, as an array: a state that has lost none leaves the same ones
 pub named-is : (g : Geometry) (named : List Bool) → Valid g → isSet (presentList g named 255) ≡ namedDrives g (isSet named)
 unfolding namedDrives callPresent
-named-is g named v = present-is g named (record { lost = 255; zones = [] }) ∙ fun-ext λ d. go d (decLt d (g .drives))
+named-is g named v = present-is g named (record { lost = 255; zones = []; shares = [] }) ∙ fun-ext λ d. go d (decLt d (g .drives))
   where
     all : (b : Bool) → b && true ≡ b
     all true = refl

@@ -79,7 +79,7 @@ size-seen g p xs ws ps k ds gs f e d = ap (λ (l : List Header). suc (length l))
 
 -- ---- as the code goes
 abbrev pub askedBy : Zone → LogPlaces → RoomAsked
-askedBy zone p = record { first = zone .geometry; places = p; here = zone .here; due = zone .here; parity = false; limit = zone .geometry .zones + 4; «clears_spares» = false }
+askedBy zone p = record { first = zone .geometry; places = p; here = zone .here; due = zone .here; parity = false; below = zone .geometry .zones + 4; limit = zone .geometry .zones + 4; «clears_spares» = false }
 
 abbrev pub roomBy : Zone → LogPlaces → State → List ℕ → List ℕ → List ℕ → LogRoom
 roomBy zone p s xs ws ps = roomOf (generalRoomAt (askedBy zone p) (generationsIn s) xs ws ps) (zone .geometry .drives)

@@ -1,4 +1,4 @@
--- What the stores of a write hang on, and where they go: the content from its first stripe on; data zones, and the log of its entry.
+-- What the stores of a write hang on, and where they go: the content from its first stripe on; data zones, and the log of its entry, on the volume's drives.
 use mathlib.Core.Path.{_≡_, refl, sym, ap, ap₂, subst}
 use mathlib.Core.Bool.{Bool, true, false}
 use Prim.Native.Nat.{ℕ, zero, suc, _+_, _-_, _*_, _%_, _≤_, _<_, min}
@@ -6,25 +6,28 @@ use native.Mathlib.Nat.{mul-le-mul-right}
 use native.Mathlib.Decide.{decLt}
 use native.Mathlib.Omega.{arith}
 use mathlib.Core.List.{List, [], _∷_, _++_}
+use lib.ListN.{length}
 use lib.Dec.{ltb, eqb}
 use Rattle.tables.specs.declared.Geometry.{Geometry}
 use Rattle.tables.specs.meaning.Basics.{pick}
 use Rattle.tables.specs.meaning.Below.{tabulateFrom}
-use Rattle.tables.specs.laws.Below.{tabulate-from-cong}
+use Rattle.tables.specs.laws.Below.{tabulate-from-cong, length-tabulate-from}
 use Rattle.tables.specs.laws.Xor.{xor-below-cong}
 use Rattle.tables.specs.meaning.Geometry.{Valid, stripeSectors, dataZone}
 use Rattle.tables.specs.meaning.Device.{Store, append, storeDrive}
 use Rattle.tables.specs.meaning.Phases.{onPresent}
 use Rattle.tables.specs.laws.Phases.{on-present-append}
 use Rattle.tables.specs.meaning.Placement.{stripeOf, stripeLength, driveOf, parityDrive, address}
-use Rattle.tables.specs.laws.Placement.{address-sum, stripe-below, stripe-lt}
+use Rattle.tables.specs.laws.Placement.{address-sum, stripe-below, stripe-lt, drive-below, parity-drive-below}
 use Rattle.tables.specs.meaning.Tables.{cell}
 use Rattle.logs.specs.meaning.Entry.{parityZone, encode}
 use Rattle.logs.specs.meaning.Walk.{sectorsOf}
 use Rattle.volume.specs.meaning.Content.{rowXor, rowXorBelow, insideStripe, fillOf, parityDriveAt, entryHeader, entryAt}
 use Rattle.volume.specs.meaning.Roles.{Roles, zoneOfRole}
 use Rattle.volume.specs.meaning.Calls.{appendAll, parityStores, sectorStores, dataStores, entryStores, writeWith}
-use Rattle.volume.specs.laws.LogPlaces.{withLogs, CellsAt}
+use Rattle.volume.specs.meaning.Answers.{sectorsIn}
+use Rattle.volume.specs.laws.LogPlaces.{withLogs, OnDrives, CellsAt}
+use Rattle.volume.specs.emptying.Carried.{on-drives-append, on-drives-present}
 
 -- ---- the stores of a write hang on the content from its first stripe on
 module _ (g : Geometry) (ok : Valid g) (z n : ℕ) (S S′ : ℕ → List ℕ) (same : (a : ℕ) → stripeOf (g .drives) (g .unit) n * stripeSectors g ≤ a → S a ≡ S′ a) where
@@ -125,3 +128,39 @@ module _ (g : Geometry) (m : ℕ) (r : ℕ → Roles) (z : ℕ) (S : ℕ → Lis
       go : (b : Bool) → insideStripe g (n + k) ≡ b → CellsAt g m r (onPresent present (pick b (entryStores g z generation S (n + k)) []))
       go true e = cells-log (parityDriveAt g z (n + k)) (sectorsOf g (parityDriveAt g z (n + k)) true (entryAt g z generation S (n + k))) (h e)
       go false e = tt
+
+-- ---- they are on the volume's drives
+module _ (g : Geometry) (ok : Valid g) (z : ℕ) (S : ℕ → List ℕ) where
+  on-appends : (d y : ℕ) (ss : List (List ℕ)) → d < g .drives → OnDrives g (appendAll d y ss)
+  on-appends d y [] h = tt
+  on-appends d y (s ∷ ss) h = (h, on-appends d y ss h)
+
+  on-pick : (b : Bool) (xs : List Store) → OnDrives g xs → OnDrives g (pick b xs [])
+  on-pick true xs h = h
+  on-pick false xs h = tt
+
+  parity-in : (s : ℕ) → parityDrive (g .drives) z s < g .drives
+  parity-in = parity-drive-below (g .drives) (g .unit) z (omega (arith, ok .drives-least)) (ok .unit-least)
+
+  on-data : (a k : ℕ) → OnDrives g (dataStores (g .drives) (g .unit) z S a k)
+  on-data a zero = tt
+  on-data a (suc k) =
+      let s = stripeOf (g .drives) (g .unit) a in
+      on-drives-append g (sectorStores (g .drives) (g .unit) z S a) (dataStores (g .drives) (g .unit) z S (suc a) k) (
+        drive-below (g .drives) (g .unit) z (omega (arith, ok .drives-least)) (ok .unit-least) a,
+        on-pick (eqb (suc (a % stripeLength (g .drives) (g .unit))) (stripeLength (g .drives) (g .unit))) (parityStores (g .drives) (g .unit) z S s) (on-appends (parityDrive (g .drives) z s) (dataZone z) (tabulateFrom (rowXor (g .drives) (g .unit) S s) zero (g .unit)) (parity-in s)),
+      )
+      (on-data (suc a) k)
+
+  pub write-on-drives : (present : ℕ → Bool) (generation n k : ℕ) → OnDrives g (onPresent present (writeWith g z generation S n k))
+  unfolding writeWith
+  write-on-drives present generation n k =
+      let p = parityDriveAt g z (n + k) in
+      let entry = pick (insideStripe g (n + k)) (entryStores g z generation S (n + k)) [] in
+      on-drives-present g present (dataStores (g .drives) (g .unit) z S n k ++ entry) (on-drives-append g (dataStores (g .drives) (g .unit) z S n k) entry (on-data n k)
+      (on-pick (insideStripe g (n + k)) (entryStores g z generation S (n + k)) (on-appends p parityZone (sectorsOf g p true (entryAt g z generation S (n + k))) (parity-in (stripeOf (g .drives) (g .unit) (n + k))))))
+
+-- ---- as many sectors as are asked for
+pub sectors-count : (g : Geometry) (c : ℕ) (buffer : List ℕ) → length (sectorsIn g c buffer) ≡ c
+unfolding sectorsIn
+sectors-count g c buffer = length-tabulate-from _ zero c

@@ -1,95 +1,116 @@
--- What a write relies on gives, where the logs lie, what its parts rely on: refusal 15, the emptying, its own stores.
-use mathlib.Core.Path.{_≡_, sym, ap, _∙_, subst}
-use mathlib.Core.Bool.{Bool, true, false, _&&_, _||_, true≢false}
-use Prim.Native.Nat.{ℕ, _+_, _*_, _≤_, _<_}
-use native.Mathlib.Omega.{arith}
-use mathlib.Core.List.{List}
+-- A write that has passed the refusals before 14, where the logs lie: what its own stores rely on, and that they are the rules'.
+use mathlib.Core.Path.{_≡_, refl, sym, ap, ap₂, _∙_, subst}
+use mathlib.Core.Bool.{Bool, false}
+use Prim.Native.Nat.{ℕ, _-_, _*_}
+use mathlib.Core.List.{List, map}
+use lib.ListN.{length}
+use lib.Dec.{ltb}
 use Rattle.tables.specs.declared.Geometry.{Geometry}
-use Rattle.tables.specs.laws.Basics.{or-none}
-use Rattle.tables.specs.meaning.Geometry.{Valid, zoneSectors}
-use Rattle.tables.specs.meaning.Tables.{cell}
+use Rattle.tables.specs.meaning.Basics.{pick}
+use Rattle.tables.specs.meaning.Geometry.{Valid}
+use Rattle.tables.specs.meaning.Device.{Device, Store}
+use Rattle.tables.specs.meaning.Phases.{onPresent}
+use Rattle.tables.specs.meaning.Through.{carry}
+use Rattle.tables.specs.meaning.Tables.{Tables, tablesOf, cell}
+use Rattle.tables.specs.laws.Made.{Made}
 use Rattle.volume.specs.declared.State.{State}
 use Rattle.volume.specs.declared.writing.Run.{Run}
 use Rattle.volume.specs.declared.roles.LogPlaces.{LogPlaces}
-use Rattle.volume.specs.declared.log_room.LogRoom.{LogRoom}
+use Rattle.volume.specs.meaning.Content.{at}
+use Rattle.volume.specs.meaning.Roles.{Roles, roles, placedBy}
 use Rattle.volume.specs.meaning.Refusals.{goneBefore}
-use Rattle.volume.specs.meaning.Emptying.{goneForCopies}
-use Rattle.volume.specs.meaning.CallContracts.{isSet}
+use Rattle.volume.specs.meaning.Calls.{writeWith, zoneContent, writeStores}
+use Rattle.volume.specs.meaning.Answers.{sectorsIn}
+use Rattle.volume.specs.meaning.Emptying.{writeAll}
+use Rattle.volume.specs.meaning.CallContracts.{recordAt, viewState, isSet, seenIn, pointerOf}
+use Rattle.volume.specs.laws.LogPlaces.{logsOf, roles-proper, OnDrives}
+use Rattle.volume.specs.laws.CallsUnread.{write-with-alike}
 use Rattle.volume.specs.looking.Knowing.{Readable, readDevice}
 use Rattle.volume.specs.looking.SeenByRoles.{seen-zone, seen-readable}
-use Rattle.volume.specs.checks.LogRoom.{SeenByRoles, emptyingsOf, placed-is}
-use Rattle.volume.specs.emptying.ParityCopies.{PointersWithin}
-use Rattle.volume.specs.emptying.CopiesKnown.{inForceOf, CopiesReady}
-use Rattle.volume.specs.emptying.ParityEmptyings.{ParityKnown}
+use Rattle.volume.specs.checks.LogRoom.{SeenByRoles, placed-is, pointers-long, seen-roles}
+use Rattle.volume.specs.rows.SameShape.{shape-refl}
+use Rattle.volume.specs.emptying.Carried.{made-by-roles}
 use Rattle.volume.specs.emptying.RoomMoves.{hidden-least}
-use Rattle.volume.specs.checks.Records.{generationsIn, generations-in-long, pointsIn}
-use Rattle.volume.specs.writing.WriteRoom.{points-within, writeAsked}
-use Rattle.volume.specs.writing.WriteStores.{WriteReady}
-use Rattle.volume.specs.writing.WriteSeen.{seen-as}
-use Rattle.volume.specs.writing.WriteRun.{RunReady}
+use Rattle.volume.specs.writing.OwnStores.{write-on-drives, sectors-count}
+use Rattle.volume.specs.writing.WriteStores.{runContent, WriteReady, StoresPast}
+use Rattle.volume.specs.writing.WriteSeen.{seen-as, value-is, gone-before-is}
+use Rattle.volume.specs.writing.WriteRun.{atPlaces, runStoresOf, RunReady, runGone, allStores}
 
-second : (a b : Bool) → a ≡ true → a && b ≡ false → b ≡ false
-second true b e h = h
-second false b e h = absurd (true≢false (sym e))
-
-module _ (run : Run) (p : LogPlaces) (s : State) (xs ws ps ds buffer : List ℕ) (k : SeenByRoles (run .zone .geometry) p xs ws ps) (h : RunReady run s ws ds buffer) (ok : Valid (run .zone .geometry)) where
+module _ (run : Run) (p : LogPlaces) (s : State) (xs ws ps buffer : List ℕ) (k : SeenByRoles (run .zone .geometry) p xs ws ps) (h : RunReady run s ws buffer) where
   abbrev g : Geometry
   g = run .zone .geometry
 
-  zone-same : zoneSectors (p .geometry) ≡ zoneSectors g
-  zone-same = seen-zone g xs ws p ps (seen-as g p xs ws ps k)
+  abbrev z : ℕ
+  z = run .zone .number
 
-  zones-same : p .geometry .zones ≡ g .zones
-  zones-same = ap (λ (e : Geometry). e .zones) (placed-is g p xs ws ps k)
+  abbrev present : ℕ → Bool
+  present = isSet (run .zone .here)
 
-  seen-now : Readable (p .geometry) (run .zone .here) xs ps (run .zone .number)
-  seen-now = seen-readable g xs ws p ps (seen-as g p xs ws ps k) (run .zone .here) (run .zone .number)
-      (record { zone-in = h .zone-in; sectors-long = k .sized .sectors-long; written-long = k .sized .written-long; pointers = h .in-zones })
+  -- ---- what is read where the logs lie
+  pub seen-now : Readable (p .geometry) (run .zone .here) xs ps z
+  seen-now = seen-readable g xs ws p ps (seen-as g p xs ws ps k) (run .zone .here) z (record { zone-in = h .placed .zone-in; sectors-long = k .sized .sectors-long; written-long = k .sized .written-long; pointers = h .placed .in-zones })
 
-  points-in : PointersWithin (p .geometry) (pointsIn s)
-  points-in =
-      let q = points-within g s ok (h .within) in
-      record { long = omega (arith, q .long, zones-same); most = λ z l. rw zone-same (q .most z (omega (arith, l, zones-same))) }
+  abbrev gone : Bool
+  gone = goneBefore (p .geometry) (isSet (run .zone .here)) (readDevice (p .geometry) xs ps) (run .zone .number) (run .zone .generation) (run .pointer)
 
-  pub run-copies : CopiesReady (p .geometry) (run .zone .here) xs ps (generationsIn s) (pointsIn s)
-  run-copies = record {
-    sectors-long = seen-now .sectors-long;
-    pointers-long = seen-now .written-long;
-    in-zones = seen-now .pointers;
-    generations-long = omega (arith, generations-in-long s, zones-same, ok .zones-most);
-    pointers-within = points-in;
+  pub gone-is : (ds : List ℕ) → gone ≡ runGone run (tablesOf xs ws ds)
+  gone-is ds = gone-before-is g p xs ws ps k ds present z (run .zone .generation) (run .pointer)
+
+  pub run-write : gone ≡ false → WriteReady (p .geometry) (run .zone .here) xs ps z (run .zone .generation) (run .pointer) (run .count) buffer
+  run-write none = record {
+    readable = seen-now;
+    inside = rw (seen-zone g xs ws p ps (seen-as g p xs ws ps k)) (h .placed .inside);
+    buffer-long = h .placed .buffer-long ∙ ap (λ (e : Geometry). run .count * e .sector) (sym (placed-is g p xs ws ps k));
+    earlier-known = none;
   }
 
-  pub run-in-zone : run .zone .number < p .geometry .zones
-  run-in-zone = seen-now .zone-in
+  pub run-past : StoresPast (p .geometry) (p .geometry) ps ws
+  run-past = record {
+    shape = shape-refl (p .geometry);
+    written-long = k .sized .written-long ∙ sym (pointers-long g p xs ws ps k) ∙ seen-now .written-long;
+    behind = record { least = λ d y hd hy hb. rw (k .hidden) (hidden-least p ws (p .geometry .drives) (cell (p .geometry) d y)) };
+  }
 
-  pub run-end : run .pointer + run .count ≤ zoneSectors (p .geometry)
-  run-end = rw zone-same (h .inside)
+  -- ---- what is made
+  module _ (ok : Valid (run .zone .geometry)) (ds : List ℕ) where
+    abbrev t : Tables
+    t = tablesOf xs ws ds
 
-  -- where none of it is gone (d: the drive that gets the entry)
-  module _ (x : LogRoom) (d : ℕ) (hd : d < run .zone .geometry .drives)
-      (none : (isSet (x .emptied) d && goneForCopies (p .geometry) (isSet (run .zone .here)) (inForceOf (p .geometry) (isSet (run .zone .here)) (readDevice (p .geometry) xs ps) (generationsIn s) (pointsIn s)) (readDevice (p .geometry) xs ps) d)
-      || goneBefore (p .geometry) (isSet (run .zone .here)) (readDevice (p .geometry) xs ps) (run .zone .number) (run .zone .generation) (run .pointer) ≡ false) where
-    abbrev gone : Bool
-    gone = goneForCopies (p .geometry) (isSet (run .zone .here)) (inForceOf (p .geometry) (isSet (run .zone .here)) (readDevice (p .geometry) xs ps) (generationsIn s) (pointsIn s)) (readDevice (p .geometry) xs ps) d
+    abbrev w : Device
+    w = seenIn (run .zone .geometry) (tablesOf xs ws ds)
 
-    abbrev before : Bool
-    before = goneBefore (p .geometry) (isSet (run .zone .here)) (readDevice (p .geometry) xs ps) (run .zone .number) (run .zone .generation) (run .pointer)
+    abbrev ss : List (List ℕ)
+    ss = sectorsIn (run .zone .geometry) (run .count) buffer
 
-    pub run-known : ParityKnown (emptyingsOf (writeAsked (run .zone) p (run .pointer + run .count)) x) (generationsIn s) (pointsIn s) ps xs ws d
-    run-known = record {
-      drive-in = subst (λ (e : Geometry). d < e .drives) (sym (placed-is g p xs ws ps k)) hd;
-      behind = record { least = λ e z he hz b. rw (k .hidden) (hidden-least p ws (p .geometry .drives) (cell (p .geometry) e z)) };
-      in-zones = seen-now .pointers;
-      generations-long = run-copies .generations-long;
-      pointers-within = points-in;
-      none-gone = λ e. second (isSet (x .emptied) d) gone e (or-none (isSet (x .emptied) d && gone) before none .0);
-    }
+    content-is : (n q : ℕ) → runContent (p .geometry) present (readDevice (p .geometry) xs ps) z n q (sectorsIn (p .geometry) (run .count) buffer) ≡ runContent g present w z n q ss
+    unfolding runContent
+    content-is n q =
+        ap₂ (λ (f : ℕ → List ℕ) (e : Geometry). λ (a : ℕ). pick (ltb a q) (f a) (at (sectorsIn e (run .count) buffer) (a - q))) (value-is g p xs ws ps k ds present z n) (placed-is g p xs ws ps k)
+        ∙ (unfold sectorsIn in refl)
 
-    pub run-write : WriteReady (p .geometry) (run .zone .here) xs ps (run .zone .number) (run .zone .generation) (run .pointer) (run .count) buffer
-    run-write = record {
-      readable = seen-now;
-      inside = run-end;
-      buffer-long = h .buffer-long ∙ ap (λ (e : Geometry). run .count * e .sector) (sym (placed-is g p xs ws ps k));
-      earlier-known = or-none (isSet (x .emptied) d && gone) before none .1;
-    }
+    own-stores : runStoresOf (atPlaces run p) xs ps buffer ≡ writeStores g present w (viewState s) z ss
+    unfolding runStoresOf writeStores zoneContent runContent
+    own-stores =
+        let n = run .zone .generation in
+        let q = run .pointer in
+        let bits = logsOf (roles g (readDevice g xs ws)) (g .drives) in
+        let S = runContent (p .geometry) present (readDevice (p .geometry) xs ps) z n q (sectorsIn (p .geometry) (run .count) buffer) in
+        let stores : ℕ → ℕ → ℕ → List Store = λ m i c. onPresent present (writeWith g z m (runContent g present w z m i ss) i c) in
+        ap (λ (e : Geometry). onPresent present (writeWith e z n S q (run .count))) (placed-is g p xs ws ps k)
+        ∙ ap (onPresent present) (write-with-alike g bits z n S q (run .count) ∙ ap (λ (f : ℕ → List ℕ). writeWith g z n f q (run .count)) (content-is n q))
+        ∙ ap₂ (λ (m i : ℕ). stores m i (run .count)) (h .generation-is) (h .pointer-is)
+        ∙ ap (stores (recordAt s z .generation) (pointerOf s z)) (sym (sectors-count g (run .count) buffer))
+
+    own-on : OnDrives g (writeStores g present w (viewState s) z ss)
+    unfolding writeStores
+    own-on = write-on-drives g ok z (zoneContent g present w (viewState s) z ss) present (recordAt s z .generation) (pointerOf s z) (length ss)
+
+    -- WHAT IS MADE is what the rules say
+    pub made-seen : (budget left : ℕ) (u : Tables) → Made (p .geometry) budget left (runStoresOf (atPlaces run p) xs ps buffer) t u → Made g budget left (allStores run s buffer t) t u
+    unfolding writeAll
+    made-seen budget left u m =
+        let r = roles g (readDevice g xs ws) in
+        let stores = writeStores g present w (viewState s) z ss in
+        let m₁ = subst (λ (l : List Store). Made (p .geometry) budget left l t u) own-stores m in
+        let m₂ = subst (λ (e : Geometry). Made e budget left stores t u) (placed-is g p xs ws ps k) m₁ in
+        subst (λ (f : ℕ → Roles). Made g budget left (map (carry (placedBy f)) stores) t u) (seen-roles g p xs ws ps k ds) (made-by-roles g (k .logs-first) r (roles-proper g (readDevice g xs ws)) budget left stores t u own-on m₂)

@@ -1,21 +1,20 @@
--- A write that needs no log but that of its entry (src/write_directly.rt). Where the earlier sectors of its first stripe are held, and its entry's log has the
--- room that it asks for or there is no entry, refusals 14 and 15 do not apply, no log is emptied, and the stores of the rules are those by a geometry that
--- places that one log.
-use mathlib.Core.Path.{_≡_, refl, sym, ap, ap₂, _∙_, fun-ext, subst}
+-- A write that needs no log but that of its entry (src/write_directly.rt). Where the earlier sectors of its first stripe are held, and there is no entry or its
+-- host's share and its log have the room that it asks for, refusals 14 and 15 do not apply, and the stores of the rules are those by a geometry that places
+-- that one log.
+use mathlib.Core.Path.{_≡_, refl, sym, ap, ap₂, _∙_, subst}
 use mathlib.Core.Logic.{_≢_}
 use mathlib.Core.Bool.{Bool, true, false, _&&_, _||_, not, true≢false}
 use Prim.Native.Nat.{ℕ, suc, _+_, _-_, _*_, _^_, _≤_, _<_}
 use native.Mathlib.Omega.{arith}
-use mathlib.Core.List.{List, [], _++_, map}
+use mathlib.Core.List.{List, map}
 use lib.ListN.{length}
 use lib.Dec.{ltb, leb, eqb}
-use borrow.Author.Tests.{le-ltb, ltb-true, leb-true, eqb-true, eqb-false, ne-eqb}
+use borrow.Author.Tests.{le-ltb, ltb-true, leb-true, eqb-false, ne-eqb}
 use Rattle.tables.specs.declared.Geometry.{Geometry}
 use Rattle.tables.specs.meaning.Basics.{pick}
-use Rattle.tables.specs.laws.Basics.{and-split, or-left}
-use Rattle.tables.specs.meaning.Below.{eachBelow}
+use Rattle.tables.specs.laws.Basics.{and-split, and-join, or-left}
 use Rattle.tables.specs.laws.Below.{none-any-below, all-below-all}
-use Rattle.tables.specs.meaning.Geometry.{Valid, stripeSectors, dataZone, maxZones}
+use Rattle.tables.specs.meaning.Geometry.{Valid, stripeSectors, dataZone}
 use Rattle.tables.specs.meaning.Device.{Device, ZoneView, Store}
 use Rattle.tables.specs.meaning.Phases.{onPresent}
 use Rattle.tables.specs.meaning.Placement.{stripeOf}
@@ -24,24 +23,22 @@ use Rattle.tables.specs.meaning.Tables.{Tables, tablesOf, deviceOf, firstCell, 
 use Rattle.tables.specs.laws.Tables.{device-length}
 use Rattle.tables.specs.laws.ZonePlaces.{place-of-other}
 use Rattle.tables.specs.meaning.Through.{carry}
-use Rattle.tables.specs.meaning.Drives.{findBelow}
 use Rattle.tables.specs.laws.Made.{Made, MadeAppends}
 use Rattle.logs.specs.meaning.Entry.{parityZone}
-use Rattle.volume.specs.declared.Zone.{Zone}
 use Rattle.volume.specs.declared.State.{State}
-use Rattle.volume.specs.declared.Answer.the-variants.{Finished, Unfinished}
 use Rattle.volume.specs.declared.writing.Run.{Run}
 use Rattle.volume.specs.declared.write_directly.EntryPlace.{EntryPlace}
 use Rattle.volume.specs.declared.write_directly.Tried.{Tried}
+use Rattle.volume.specs.declared.write_room.EntryTaken.{EntryTaken}
 use Rattle.volume.specs.declared.Condition.{Condition}
 use Rattle.volume.specs.meaning.Content.{at, insideStripe, fillOf, parityDriveAt}
-use Rattle.volume.specs.meaning.Rules.{known, zoneView, valueAt, parityEntries}
-use Rattle.volume.specs.meaning.Roles.{Roles, strongest, otherThan, rolesIn, zoneOfRole, zoneOfKind, placedBy, driveByRoles, emptiedRoles, rolesAfter}
-use Rattle.volume.specs.meaning.Refusals.{writeFull, goneIn, goneBefore, goneForEntry}
-use Rattle.volume.specs.meaning.Calls.{writeWith, zoneContent, writeStores, openState}
+use Rattle.volume.specs.meaning.Rules.{known, zoneView, valueAt}
+use Rattle.volume.specs.meaning.Roles.{Roles, strongest, otherThan, rolesIn, zoneOfRole, placedBy, driveByRoles}
+use Rattle.volume.specs.meaning.Refusals.{writeFull, goneIn, goneBefore}
+use Rattle.volume.specs.meaning.Calls.{writeWith, zoneContent, writeStores}
 use Rattle.volume.specs.meaning.Answers.{sectorsIn}
-use Rattle.volume.specs.meaning.Emptying.{InForce, byState, newParity, newParitySize, unusedIn, lacksRoom, staysFull, spareWritten, writeLimit, emptiedFor, emptiedForWrite, goneForCopies, emptyingStores, emptyings, emptyParity, writeAll}
-use Rattle.volume.specs.meaning.CallContracts.{recordAt, viewState, isSet, rolesOf, seenIn, pointerOf, stateHeld}
+use Rattle.volume.specs.meaning.Emptying.{entrySize, reserve, unusedIn, writeLimit, writeAll}
+use Rattle.volume.specs.meaning.CallContracts.{recordAt, viewState, isSet, rolesOf, seenIn, pointerOf}
 use Rattle.volume.specs.laws.CallContracts.{storing-ends}
 use Rattle.volume.specs.laws.LogPlaces.{withLogs, withParity, strongest-lt, role-of-other, zone-at-first, parity-placed, CellsAt}
 use Rattle.volume.specs.laws.LogClaims.{strengths, parity-zone}
@@ -53,11 +50,11 @@ use Rattle.volume.specs.looking.SeenByRoles.{data-seen}
 use Rattle.volume.specs.reading.ReadingHeld.{directly, direct-same}
 use Rattle.volume.specs.rows.SameShape.{SameShape, shape-with}
 use Rattle.volume.specs.emptying.Carried.{made-at}
-use Rattle.volume.specs.writing.OwnStores.{write-with-same, cells-write}
+use Rattle.volume.specs.writing.OwnStores.{write-with-same, cells-write, sectors-count}
 use Rattle.volume.specs.writing.WriteChecks.{zoneNumber}
 use Rattle.volume.specs.writing.WriteStores.{runContent, earlierHeld, WriteReady, StoresPast}
-use Rattle.volume.specs.writing.WriteRun.{runStoresOf, RunReady, RunPlaced, runFull, runGone, writeZoneOn}
-use Rattle.volume.specs.writing.WriteMade.{each-none, sectors-count}
+use Rattle.volume.specs.writing.WriteRoom.{entryTakenOf, by-entry, entry-takes}
+use Rattle.volume.specs.writing.WriteRun.{endOf, runStoresOf, RunReady, RunPlaced, handedOn, endedWith, Gives, runFull, runGone, lastNumber, allStores, writeZoneOn}
 
 -- ---- what the code finds
 -- drive d's parity log, with so much room or not, and the geometry that places it
@@ -66,15 +63,18 @@ entryLog g xs ws d limit =
     let c = countingOf (strengths g d (zonesRead g xs ws d) true) in
     record { alone = not (c .lacks) && leb limit (g .capacity - zonePointer g ws d (c .zone)); geometry = withParity g d (c .zone) }
 
--- of a write that ends at a pointer of the zone: there may be no entry
-unfoldable pub entryPlace : Zone → List ℕ → List ℕ → ℕ → EntryPlace
-entryPlace zone xs ws end =
-    pick (insideStripe (zone .geometry) end && isSet (zone .here) (parityDriveAt (zone .geometry) (zone .number) end))
-    (entryLog (zone .geometry) xs ws (parityDriveAt (zone .geometry) (zone .number) end) (writeLimit (zone .geometry) end)) (record { alone = true; geometry = zone .geometry })
+-- of an entry of so many sectors on drive d, by what is left of the host's share
+abbrev sharePlace : Geometry → ℕ → List ℕ → List ℕ → ℕ → ℕ → EntryPlace
+sharePlace g share xs ws d size = pick (ltb share size) (record { alone = false; geometry = g }) (entryLog g xs ws d (size + reserve g))
+
+-- there may be no entry
+abbrev pub entryPlace : Geometry → ℕ → List ℕ → List ℕ → EntryTaken → EntryPlace
+entryPlace g share xs ws e = pick (eqb (e .sectors) 0) (record { alone = true; geometry = g }) (sharePlace g share xs ws (e .drive) (e .sectors))
 
 -- of a write from its zone's pointer on
 unfoldable pub directPlace : Run → List ℕ → List ℕ → EntryPlace
-directPlace run xs ws = pick (earlierHeld (run .zone .geometry) (run .zone .here) ws (run .zone .number) (run .pointer)) (entryPlace (run .zone) xs ws (run .pointer + run .count)) (record { alone = false; geometry = run .zone .geometry })
+directPlace run xs ws =
+    pick (earlierHeld (run .zone .geometry) (run .zone .here) ws (run .zone .number) (run .pointer)) (entryPlace (run .zone .geometry) (run .allowance .share) xs ws (entryTakenOf (run .zone) (endOf run))) (record { alone = false; geometry = run .zone .geometry })
 
 and-false : (b : Bool) → b && false ≡ false
 and-false true = refl
@@ -82,8 +82,9 @@ and-false false = refl
 
 -- what trying a write came to: refused, or made, or neither, and then nothing has changed
 pub record TriedOn (run : Run) (c : Condition) (count : ℕ) (buffer xs ws xs′ ws′ : List ℕ) (r : Tried) : Type 0 where
-  pub refusal-is : r .refusal ≡ zoneNumber (run .zone .geometry) (isSet (run .zone .here)) ws c (run .zone .number) (run .pointer) (run .count)
+  pub refusal-is : r .refusal ≡ zoneNumber run c ws
   pub alone : r .made ≡ true → (r .refusal ≡ 0) × (directPlace run xs ws .alone ≡ true)
+  pub entry-is : r .made ≡ true → (r .entry ≡ entryTakenOf (run .zone) (endOf run)) × (r .entry .drive < run .zone .geometry .drives) × (r .entry .sectors ≤ 17)
   pub stores : r .made ≡ true → MadeAppends (directPlace run xs ws .geometry) (suc count) (r .rest) (runStoresOf run xs ws buffer) xs ws xs′ ws′
   pub kept : r .made ≡ false → (xs′ ≡ xs) × (ws′ ≡ ws)
 
@@ -98,14 +99,20 @@ module _ (run : Run) (xs ws buffer : List ℕ) (ok : Valid (run .zone .geometry)
   n = run .pointer
 
   abbrev end : ℕ
-  end = run .pointer + run .count
+  end = endOf run
+
+  abbrev share : ℕ
+  share = run .allowance .share
+
+  abbrev entry : EntryTaken
+  entry = entryTakenOf (run .zone) (endOf run)
 
   abbrev present : ℕ → Bool
   present = isSet (run .zone .here)
 
   -- the drive that gets the entry, and its counting parity log
   abbrev own : ℕ
-  own = parityDriveAt (run .zone .geometry) (run .zone .number) (run .pointer + run .count)
+  own = parityDriveAt (run .zone .geometry) (run .zone .number) (endOf run)
 
   abbrev asParity : ℕ → ℕ
   asParity = strengths (run .zone .geometry) own (zonesRead (run .zone .geometry) xs ws own) true
@@ -124,7 +131,7 @@ module _ (run : Run) (xs ws buffer : List ℕ) (ok : Valid (run .zone .geometry)
   unfolding directPlace
   held = go (earlierHeld g (run .zone .here) ws z n) alone
     where
-      go : (b : Bool) → pick b (entryPlace (run .zone) xs ws end) (record { alone = false; geometry = g }) .alone ≡ true → b ≡ true
+      go : (b : Bool) → pick b (entryPlace g share xs ws entry) (record { alone = false; geometry = g }) .alone ≡ true → b ≡ true
       go true e = refl
       go false e = absurd (true≢false (sym e))
 
@@ -154,28 +161,29 @@ module _ (run : Run) (xs ws buffer : List ℕ) (ok : Valid (run .zone .geometry)
   directly-ready = record { readable = readable; inside = p .inside; buffer-long = p .buffer-long; earlier-known = none-before (readDevice g xs ws) (λ d. refl) }
 
   -- ---- so the place is its entry's
-  placed : place ≡ entryPlace (run .zone) xs ws end
+  placed : place ≡ entryPlace g share xs ws entry
   unfolding directPlace
-  placed = ap (λ (b : Bool). pick b (entryPlace (run .zone) xs ws end) (record { alone = false; geometry = g })) held
+  placed = ap (λ (b : Bool). pick b (entryPlace g share xs ws entry) (record { alone = false; geometry = g })) held
 
   -- by a geometry that differs from its own in where logs lie
   place-is : place .geometry ≡ withLogs g (place .geometry .logs)
-  unfolding directPlace entryPlace entryLog
-  place-is = go (earlierHeld g (run .zone .here) ws z n) (insideStripe g end && present own)
+  unfolding directPlace entryLog
+  place-is = go (earlierHeld g (run .zone .here) ws z n) (eqb (entry .sectors) 0) (ltb share (entry .sectors))
     where
       found : EntryPlace
-      found = entryLog g xs ws own (writeLimit g end)
+      found = entryLog g xs ws (entry .drive) (entry .sectors + reserve g)
 
-      go : (b c : Bool) → pick b (pick c found (record { alone = true; geometry = g })) (record { alone = false; geometry = g }) .geometry ≡ withLogs g (pick b (pick c found (record { alone = true; geometry = g })) (record { alone = false; geometry = g }) .geometry .logs)
-      go true true = refl
-      go true false = refl
-      go false c = refl
+      go : (b c d : Bool) → let q = pick b (pick c (record { alone = true; geometry = g }) (pick d (record { alone = false; geometry = g }) found)) (record { alone = false; geometry = g }) in q .geometry ≡ withLogs g (q .geometry .logs)
+      go true true d = refl
+      go true false true = refl
+      go true false false = refl
+      go false c d = refl
 
   pub directly-past : StoresPast g (place .geometry) ws ws
   directly-past = record { shape = subst (SameShape g) (sym place-is) (shape-with g (place .geometry .logs)); written-long = sized .written-long; behind = record { least = λ d y hd hy hb. omega arith } }
 
   -- ---- by a state that says so of the zone
-  module _ (s : State) (ds : List ℕ) (h : RunReady run s ws ds buffer) where
+  module _ (s : State) (ds : List ℕ) (h : RunReady run s ws buffer) where
     abbrev t : Tables
     t = tablesOf xs ws ds
 
@@ -185,11 +193,24 @@ module _ (run : Run) (xs ws buffer : List ℕ) (ok : Valid (run .zone .geometry)
     abbrev w : Device
     w = seenIn (run .zone .geometry) (tablesOf xs ws ds)
 
-    -- ---- the entry's log has room
+    -- ---- the host's share and the entry's log have room
     module _ (inside : insideStripe g end ≡ true) (here : present own ≡ true) where
+      shared : place ≡ sharePlace g share xs ws own (entrySize g end)
+      shared =
+          let none : EntryPlace = record { alone = true; geometry = g } in
+          let some = and-join (insideStripe g end) (present own) inside here in
+          placed ∙ by-entry (run .zone) end none (sharePlace g share xs ws own (entry .sectors)) ∙ ap (λ (b : Bool). pick b (sharePlace g share xs ws own (entry .sectors)) none) some
+          ∙ ap (sharePlace g share xs ws own) (entry-takes (run .zone) end some)
+
+      has-share : ltb share (entrySize g end) ≡ false
+      has-share = go (ltb share (entrySize g end)) (sym (ap (λ (p : EntryPlace). p .alone) shared) ∙ alone)
+        where
+          go : (b : Bool) → pick b (record { alone = false; geometry = g }) (entryLog g xs ws own (writeLimit g end)) .alone ≡ true → b ≡ false
+          go true e = absurd (true≢false (sym e))
+          go false e = refl
+
       log-found : place ≡ entryLog g xs ws own (writeLimit g end)
-      unfolding entryPlace
-      log-found = placed ∙ ap₂ (λ (a b : Bool). pick (a && b) (entryLog g xs ws own (writeLimit g end)) (record { alone = true; geometry = g })) inside here
+      log-found = shared ∙ ap (λ (b : Bool). pick b (record { alone = false; geometry = g }) (entryLog g xs ws own (writeLimit g end))) has-share
 
       tested : not (eqb (asParity q) 0) && leb (writeLimit g end) (g .capacity - zonePointer g ws own q) ≡ true
       unfolding entryLog
@@ -226,7 +247,7 @@ module _ (run : Run) (xs ws buffer : List ℕ) (ok : Valid (run .zone .geometry)
       unfolding unusedIn
       unused-is = ap (λ (b : Bool). pick b 0 (g .capacity - length (w own parityZone .sectors))) (ne-eqb (r own .parityClaim) 0 has-claim) ∙ ap (λ (m : ℕ). g .capacity - m) log-length
 
-      has-room : lacksRoom g true r w (writeLimit g end) own ≡ false
+      has-room : ltb (unusedIn g true r w own) (writeLimit g end) ≡ false
       has-room =
           let enough = leb-true (writeLimit g end) (g .capacity - zonePointer g ws own q) (and-split (not (eqb (asParity q) 0)) (leb (writeLimit g end) (g .capacity - zonePointer g ws own q)) tested .1) in
           le-ltb (unusedIn g true r w own) (writeLimit g end) (omega (arith, unused-is, enough))
@@ -240,31 +261,21 @@ module _ (run : Run) (xs ws buffer : List ℕ) (ok : Valid (run .zone .geometry)
           ap (λ (m : ℕ). cell (withLogs g m) own parityZone) logs-are
           ∙ ap (λ (p : ℕ). firstCell g own + p) (parity-placed g own q q-below ∙ sym parity-is ∙ sym (zone-at-first g logs-first own (r own .parity)))
 
-    -- ---- so no log is emptied
-    emptied-none : (d : ℕ) → emptiedForWrite g present r w z end d ≡ false
-    unfolding emptiedForWrite emptiedFor
-    emptied-none d = go (insideStripe g end) refl (eqb d own) refl (present d) refl
-      where
-        go : (a : Bool) → insideStripe g end ≡ a → (b : Bool) → eqb d own ≡ b → (c : Bool) → present d ≡ c → (a && b) && (c && lacksRoom g true r w (writeLimit g end) d) ≡ false
-        go true i true e true p = ap (λ (x : ℕ). lacksRoom g true r w (writeLimit g end) x) (eqb-true d own e) ∙ has-room i (subst (λ (x : ℕ). present x ≡ true) (eqb-true d own e) p)
-        go true i true e false p = refl
-        go true i false e c p = refl
-        go false i b e c p = refl
-
-    abbrev inForce : InForce
-    inForce = byState (run .zone .geometry) (isSet (run .zone .here)) (seenIn (run .zone .geometry) (tablesOf xs ws ds)) (viewState s)
-
-    full-none : runFull run s t ≡ false
+    -- ---- so 14 and 15 do not apply
+    full-none : runFull run t ≡ false
     unfolding writeFull
-    full-none = none-any-below (λ d. emptiedForWrite g present r w z end d && (staysFull g true r (writeLimit g end) (newParitySize g inForce d) d || spareWritten w d)) (g .drives)
-        (λ d hd. ap (λ (b : Bool). b && (staysFull g true r (writeLimit g end) (newParitySize g inForce d) d || spareWritten w d)) (emptied-none d))
+    full-none = go (insideStripe g end) refl (present own) refl
+      where
+        room : Bool
+        room = ltb share (entrySize g end) || ltb (unusedIn g true r w own) (writeLimit g end)
 
-    copies-none : goneForEntry g present r inForce w z end ≡ false
-    unfolding goneForEntry
-    copies-none = none-any-below (λ d. emptiedForWrite g present r w z end d && goneForCopies g present inForce w d) (g .drives) (λ d hd. ap (λ (b : Bool). b && goneForCopies g present inForce w d) (emptied-none d))
+        go : (a : Bool) → insideStripe g end ≡ a → (b : Bool) → present own ≡ b → (a && b) && room ≡ false
+        go true i true p = ap₂ (λ (x y : Bool). x || y) (has-share i p) (has-room i p)
+        go true i false p = refl
+        go false i b p = refl
 
-    gone-none : runGone run s t ≡ false
-    gone-none = ap₂ (λ (a b : Bool). a || b) copies-none (none-before w (λ d. data-seen g xs ws ds d z))
+    gone-none : runGone run t ≡ false
+    gone-none = none-before w (λ d. data-seen g xs ws ds d z)
 
     -- ---- the stores
     abbrev ss : List (List ℕ)
@@ -286,19 +297,9 @@ module _ (run : Run) (xs ws buffer : List ℕ) (ok : Valid (run .zone .geometry)
         ∙ ap₂ (λ (m p : ℕ). stores m p (run .count)) (sym (h .generation-is)) (sym (h .pointer-is))
         ∙ ap (onPresent present) (write-with-same g ok z n (runContent g present w z (run .zone .generation) n ss) (runContent g present (readDevice g xs ws) z (run .zone .generation) n ss) content-same (run .zone .generation) (run .count))
 
-    ends : pointerOf s z + length ss ≡ end
-    ends = ap₂ (λ (a b : ℕ). a + b) (sym (h .pointer-is)) (sectors-count g (run .count) buffer)
-
-    all-stores : writeAll g present r w (viewState s) z ss ≡ map (carry (placedBy r)) (runStoresOf run xs ws buffer)
-    unfolding writeAll emptyParity emptyings
-    all-stores =
-        let emptied : ℕ → Bool = emptiedForWrite g present r w z (pointerOf s z + length ss) in
-        let none : (d : ℕ) → emptied d ≡ false = λ d. ap (λ (i : ℕ). emptiedForWrite g present r w z i d) ends ∙ emptied-none d in
-        let one : ℕ → List Store = λ d. emptyingStores g present d (zoneOfKind true (r d)) (r d .spare) (newParity g inForce (r d) d (parityEntries g w d)) in
-        let first : eachBelow (λ d. pick (emptied d) (one d) []) (g .drives) ≡ [] = each-none (λ d. pick (emptied d) (one d) []) (g .drives) (λ d hd. ap (λ (b : Bool). pick b (one d) []) (none d)) in
-        let same : rolesAfter true emptied r ≡ r = fun-ext λ d. ap (λ (b : Bool). pick b (emptiedRoles true (r d)) (r d)) (none d) in
-        ap₂ (λ (x : List Store) (f : ℕ → Roles). x ++ map (carry (placedBy f)) (writeStores g present w (viewState s) z ss)) first same
-        ∙ ap (map (carry (placedBy r))) own-stores
+    all-stores : allStores run s buffer t ≡ map (carry (placedBy r)) (runStoresOf run xs ws buffer)
+    unfolding writeAll
+    all-stores = ap (map (carry (placedBy r))) own-stores
 
     -- ---- made by the geometry that places the entry's log, they are the rules'
     data-at : (d : ℕ) → cell (withLogs g (place .geometry .logs)) d (dataZone z) ≡ cell g d (zoneOfRole (r d) (dataZone z))
@@ -311,13 +312,11 @@ module _ (run : Run) (xs ws buffer : List ℕ) (ok : Valid (run .zone .geometry)
     cells-are = cells-write g (place .geometry .logs) r z (runContent g present (readDevice g xs ws) z (run .zone .generation) n ss) present data-at (run .zone .generation) n (run .count) log-at
 
     pub directly-ends : (count rest : ℕ) (xs′ ws′ : List ℕ) → MadeAppends (directPlace run xs ws .geometry) (suc count) rest (runStoresOf run xs ws buffer) xs ws xs′ ws′
-        → (pick (eqb rest 0) (record { answer = Unfinished; state = s }) (record { answer = Finished; state = stateHeld maxZones (openState (findBelow (λ (d : ℕ). not (isSet (run .zone .here) d)) (run .zone .geometry .drives)) (viewState s) (run .zone .number) (run .pointer + run .count)) })
-        ≡ writeZoneOn run s buffer count (tablesOf xs ws ds) .outcome) × (tablesOf xs′ ws′ ds ≡ writeZoneOn run s buffer count (tablesOf xs ws ds) .tables)
+        → Gives (writeZoneOn run s buffer count (tablesOf xs ws ds)) (endedWith run s rest) (tablesOf xs′ ws′ ds)
     unfolding writeZoneOn
     directly-ends count rest xs′ ws′ m =
         let u : Tables = tablesOf xs′ ws′ ds in
-        let number : _≡_ {A = ℕ} (pick (runFull run s t) 14 (pick (runGone run s t) 15 0)) 0 = ap₂ (λ (a b : Bool). pick a 14 (pick b 15 0)) full-none gone-none in
+        let number : lastNumber run t ≡ 0 = ap₂ (λ (a b : Bool). pick a 14 (pick b 15 0)) full-none gone-none in
         let by-place = subst (λ (k : Geometry). Made k (suc count) rest (runStoresOf run xs ws buffer) t u) place-is (m .made ds) in
         let made = made-at g (place .geometry .logs) r (suc count) rest (runStoresOf run xs ws buffer) t u cells-are by-place in
-        storing-ends g (pick (runFull run s t) 14 (pick (runGone run s t) 15 0)) (writeAll g present r w (viewState s) z ss) (stateHeld maxZones (openState (findBelow (λ (d : ℕ). not (present d)) (g .drives)) (viewState s) z end)) s count t rest u number
-        (subst (λ (l : List Store). Made g (suc count) rest l t u) (sym all-stores) made)
+        storing-ends g (lastNumber run t) (allStores run s buffer t) (handedOn run s) s count t rest u number (subst (λ (l : List Store). Made g (suc count) rest l t u) (sym all-stores) made)

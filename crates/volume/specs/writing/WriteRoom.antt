@@ -1,76 +1,78 @@
--- What a write asks of the parity logs, as the code asks it (src/write_room.rt).
-use mathlib.Core.Path.{_≡_, refl, sym, ap, _∙_}
-use mathlib.Core.Bool.{Bool, true, false, _&&_}
-use Prim.Native.Nat.{ℕ, zero, suc, _<_}
-use native.Mathlib.Decide.{ℕ-discrete}
+-- What a write asks of the parity logs, as the code asks it (src/write_room.rt): refusal 14.
+use mathlib.Core.Path.{_≡_, refl, ap, _∙_}
+use mathlib.Core.Bool.{Bool, true, false, _&&_, _||_}
+use Prim.Native.Nat.{ℕ, _+_, _<_}
 use native.Mathlib.Omega.{arith}
 use mathlib.Core.List.{List}
-use lib.ListN.{getD, set, replicate}
-use lib.Seq.{getD-set-same, getD-set-other}
-use lib.Dec.{eqb}
-use borrow.Author.Tests.{eq-eqb, ne-eqb}
+use lib.Dec.{ltb, eqb}
+use borrow.Author.Tests.{ne-eqb}
 use Rattle.tables.specs.declared.Geometry.{Geometry}
+use Rattle.tables.specs.meaning.Basics.{pick}
 use Rattle.tables.specs.meaning.Geometry.{Valid}
-use Rattle.volume.specs.declared.State.{State}
+use Rattle.tables.specs.meaning.Placement.{stripeOf}
+use Rattle.tables.specs.laws.Placement.{parity-drive-below}
+use Rattle.tables.specs.meaning.Tables.{tablesOf}
 use Rattle.volume.specs.declared.Zone.{Zone}
 use Rattle.volume.specs.declared.roles.LogPlaces.{LogPlaces}
-use Rattle.volume.specs.declared.log_room.RoomAsked.{RoomAsked}
 use Rattle.volume.specs.declared.write_room.EntryDrive.{EntryDrive}
+use Rattle.volume.specs.declared.write_room.EntryTaken.{EntryTaken}
 use Rattle.volume.specs.meaning.Content.{insideStripe, parityDriveAt}
-use Rattle.volume.specs.meaning.Refusals.{stateWithin}
-use Rattle.volume.specs.meaning.Emptying.{writeLimit}
-use Rattle.volume.specs.meaning.CallContracts.{viewState, isSet}
-use Rattle.volume.specs.checks.Records.{pointsIn, points-in-long, points-in-at}
-use Rattle.volume.specs.checks.ZoneChecks.{pointer-within}
-use Rattle.volume.specs.emptying.ParityCopies.{PointersWithin}
-
--- a state that has passed refusal 1
-pub points-within : (g : Geometry) (s : State) → Valid g → stateWithin g (viewState s) ≡ true → PointersWithin g (pointsIn s)
-points-within g s ok h = record { long = rw (points-in-long s) (ok .zones-most); most = λ z l. rw (points-in-at s z (omega (arith, l, ok .zones-most))) (pointer-within g s z h l) }
+use Rattle.volume.specs.meaning.Hosts.{entryTaken}
+use Rattle.volume.specs.meaning.Refusals.{writeFull}
+use Rattle.volume.specs.meaning.Emptying.{entrySize, reserve, writeLimit, unusedIn}
+use Rattle.volume.specs.meaning.CallContracts.{isSet, rolesOf, seenIn}
+use Rattle.volume.specs.looking.ShownState.{parityUnused, unused-seen}
+use Rattle.volume.specs.checks.LogRoom.{SeenByRoles}
+use Rattle.volume.specs.writing.WriteSeen.{seen-as}
 
 -- the drive that gets the entry
 abbrev pub entryDriveOf : Geometry → ℕ → ℕ → EntryDrive
 entryDriveOf g z end = record { inside = insideStripe g end; drive = parityDriveAt g z end }
 
--- that drive alone
-abbrev pub onlyAt : List Bool → EntryDrive → List Bool
-onlyAt here e = set (replicate 8 false) (e .drive) (e .inside && isSet here (e .drive))
+-- and what it takes there
+abbrev pub entryTakenOf : Zone → ℕ → EntryTaken
+entryTakenOf zone end = record { drive = parityDriveAt (zone .geometry) (zone .number) end; sectors = entryTaken (zone .geometry) (isSet (zone .here)) (zone .number) end }
 
-none-at : (d : ℕ) → getD (replicate 8 false) d false ≡ false
-none-at d = go 8 d
+-- an entry on a drive that is here
+abbrev pub hasEntry : Zone → ℕ → Bool
+hasEntry zone end = insideStripe (zone .geometry) end && isSet (zone .here) (parityDriveAt (zone .geometry) (zone .number) end)
+
+-- takes some sectors; where there is none, none are taken
+pub by-entry {ℓ} : {A : Type ℓ} (zone : Zone) (end : ℕ) (x y : A) → pick (eqb (entryTakenOf zone end .sectors) 0) x y ≡ pick (hasEntry zone end) y x
+by-entry zone end x y = go (hasEntry zone end)
   where
-    go : (n i : ℕ) → getD (replicate n false) i false ≡ false
-    go zero i = refl
-    go (suc n) zero = refl
-    go (suc n) (suc i) = go n i
+    go : (b : Bool) → pick (eqb (pick b (entrySize (zone .geometry) end) 0) 0) x y ≡ pick b y x
+    go true = ap (λ (b : Bool). pick b x y) (ne-eqb (entrySize (zone .geometry) end) 0 (omega arith))
+    go false = refl
 
-pub only-at : (here : List Bool) (e : EntryDrive) (d : ℕ) → e .drive < 8 → isSet (onlyAt here e) d ≡ (e .inside && eqb d (e .drive)) && isSet here d
-only-at here e d h = go (ℕ-discrete d (e .drive))
+pub entry-takes : (zone : Zone) (end : ℕ) → hasEntry zone end ≡ true → entryTakenOf zone end .sectors ≡ entrySize (zone .geometry) end
+entry-takes zone end e = ap (λ (b : Bool). pick b (entrySize (zone .geometry) end) 0) e
+
+-- ---- refusal 14, by the entry
+unfoldable pub fullAt : Geometry → LogPlaces → ℕ → List ℕ → EntryTaken → Bool
+fullAt g p share ps e = pick (eqb (e .sectors) 0) false (ltb share (e .sectors) || ltb (parityUnused p ps (e .drive)) (e .sectors + reserve g))
+
+-- it is the rules'
+pub full-is : (zone : Zone) (p : LogPlaces) (share end : ℕ) (xs ws ps ds : List ℕ) → SeenByRoles (zone .geometry) p xs ws ps → Valid (zone .geometry)
+    → fullAt (zone .geometry) p share ps (entryTakenOf zone end) ≡ writeFull (zone .geometry) (isSet (zone .here)) (rolesOf (zone .geometry) (tablesOf xs ws ds)) (seenIn (zone .geometry) (tablesOf xs ws ds)) share (zone .number) end
+unfolding fullAt writeFull
+full-is zone p share end xs ws ps ds k ok = by-entry zone end false (asks (entryTakenOf zone end .sectors)) ∙ go (hasEntry zone end) refl
   where
-    and-true : (a b : Bool) → a && b ≡ (a && true) && b
-    and-true true b = refl
-    and-true false b = refl
+    g : Geometry
+    g = zone .geometry
 
-    and-false : (a b : Bool) → false ≡ (a && false) && b
-    and-false true b = refl
-    and-false false b = refl
+    own : ℕ
+    own = parityDriveAt (zone .geometry) (zone .number) end
 
-    go : Dec (d ≡ e .drive) → isSet (onlyAt here e) d ≡ (e .inside && eqb d (e .drive)) && isSet here d
-    go (yes q) =
-        ap (isSet (onlyAt here e)) q ∙ getD-set-same (replicate 8 false) (e .drive) (e .inside && isSet here (e .drive)) false h ∙ and-true (e .inside) (isSet here (e .drive))
-        ∙ sym (ap (λ (i : ℕ). (e .inside && eqb i (e .drive)) && isSet here i) q ∙ ap (λ (b : Bool). (e .inside && b) && isSet here (e .drive)) (eq-eqb (e .drive) (e .drive) refl))
-    go (no q) =
-        getD-set-other (replicate 8 false) (e .drive) d (e .inside && isSet here (e .drive)) false q ∙ none-at d
-        ∙ and-false (e .inside) (isSet here d) ∙ sym (ap (λ (b : Bool). (e .inside && b) && isSet here d) (ne-eqb d (e .drive) q))
+    own-below : own < g .drives
+    own-below = parity-drive-below (g .drives) (g .unit) (zone .number) (omega (arith, ok .drives-least)) (ok .unit-least) (stripeOf (g .drives) (g .unit) end)
 
--- what it asks for
-abbrev pub writeAsked : Zone → LogPlaces → ℕ → RoomAsked
-writeAsked zone p end = record {
-  first = zone .geometry;
-  places = p;
-  here = zone .here;
-  due = onlyAt (zone .here) (entryDriveOf (zone .geometry) (zone .number) end);
-  parity = true;
-  limit = writeLimit (zone .geometry) end;
-  «clears_spares» = false;
-}
+    unused : ℕ
+    unused = unusedIn g true (rolesOf g (tablesOf xs ws ds)) (seenIn g (tablesOf xs ws ds)) own
+
+    asks : ℕ → Bool
+    asks n = ltb share n || ltb (parityUnused p ps own) (n + reserve g)
+
+    go : (b : Bool) → hasEntry zone end ≡ b → pick b (asks (entryTakenOf zone end .sectors)) false ≡ b && (ltb share (entrySize g end) || ltb unused (writeLimit g end))
+    go true e = ap asks (entry-takes zone end e) ∙ ap (λ (n : ℕ). ltb share (entrySize g end) || ltb n (writeLimit g end)) (unused-seen g xs ws p ps (seen-as g p xs ws ps k) ds own own-below)
+    go false e = refl

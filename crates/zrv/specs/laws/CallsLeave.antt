@@ -16,15 +16,16 @@ use Rattle.volume.specs.declared.Answer.{Answer}
 use Rattle.volume.specs.declared.Answer.the-variants.{Finished, Unfinished, Refused}
 use Rattle.volume.specs.declared.BadPlace.{BadPlace}
 use Rattle.volume.specs.declared.State.{State}
-use Rattle.volume.specs.meaning.State.{callPresent}
-use Rattle.volume.specs.meaning.Refusals.{zoneOf}
+use Rattle.volume.specs.meaning.State.{withShares, callPresent}
+use Rattle.volume.specs.meaning.Refusals.{WriteAsked, zoneAsked}
 use Rattle.volume.specs.meaning.Answers.{lostIn, leftOut, namedDrives, sectorsIn, presentIn, lostDriveIn, refusedAt}
-use Rattle.volume.specs.meaning.Calls.{flushStores, formatStores, flushState, formatState, resetState, writeState}
-use Rattle.volume.specs.meaning.Emptying.{writeAll, resetAll}
-use Rattle.volume.specs.meaning.CallContracts.{viewState, isSet, answerNumber, verdictNumber, rolesOf, seenIn, Result, storingOn, flushVerdict, flushOn, resetVerdict, resetOn, writeVerdict, writeOn, formatVerdict, formatOn, mountVerdict, mountStoresOn, mountShownOn, badPlaceOn, tellingAt, mountOn, stateHeld}
+use Rattle.volume.specs.meaning.Calls.{flushStores, formatStores, flushState, formatState, resetState}
+use Rattle.volume.specs.meaning.Hosts.{freshShares, writtenState, compactState}
+use Rattle.volume.specs.meaning.Emptying.{writeAll, resetAll, compactStores}
+use Rattle.volume.specs.meaning.CallContracts.{viewState, isSet, answerNumber, verdictNumber, rolesOf, seenIn, Result, storingOn, flushVerdict, flushOn, resetVerdict, resetOn, writeVerdict, writeOn, compactVerdict, compactOn, formatVerdict, formatOn, mountVerdict, mountStoresOn, mountShownOn, badPlaceOn, tellingAt, mountOn, stateHeld}
 use Rattle.volume.specs.laws.ByteLists.{Bytes}
 use Rattle.zrv.specs.meaning.Bytes.{tableFrom, tableTo}
-use Rattle.zrv.specs.meaning.EdgeCalls.{namedOf, inputNumber, sizesNumber, stateAfter, Ranges, tablesIn, stateIn, unreadState, Answered, storedAll, storedFlushes, unlessRefused, formatOfBytes, formatEdge, mountOfBytes, mountEdge, withoutPlace, writeOfBytes, writeEdge, flushOfBytes, flushEdge, resetOfBytes, resetEdge}
+use Rattle.zrv.specs.meaning.EdgeCalls.{namedOf, inputNumber, sizesNumber, stateAfter, Ranges, tablesIn, stateIn, unreadState, Answered, storedAll, storedFlushes, unlessRefused, formatOfBytes, formatEdge, mountOfBytes, mountEdge, withoutPlace, writeOfBytes, writeEdge, flushOfBytes, flushEdge, resetOfBytes, resetEdge, compactOfBytes, compactEdge}
 use Rattle.zrv.specs.laws.EdgeCalls.{Sized, input-passed, sizes-passed, made, mount-alone}
 use Rattle.zrv.specs.laws.TablesRoundTrip.{InWords, ranges-in-words, words-read-back, run-words, table-bytes, table-bytes-long}
 
@@ -105,7 +106,7 @@ module _ (g : Geometry) (t : Tables) (named : List Bool) (count : ℕ) where
     told = Refused;
     number = verdictNumber (formatVerdict g named t);
     stores = formatStores g (namedDrives g (isSet named)) (leftOut g (isSet named)) array;
-    new = stateHeld (g .zones) (formatState (leftOut g (isSet named)));
+    new = stateHeld (g .zones) (withShares (freshShares g (namedDrives g (isSet named))) (formatState (leftOut g (isSet named))));
     old = old;
     count = count;
     is = refl;
@@ -142,13 +143,25 @@ module _ (g : Geometry) (t : Tables) (named : List Bool) (count : ℕ) where
     unfolding resetOn
     reset-stored z = record { told = Refused; number = verdictNumber (resetVerdict g named s z t); stores = resetAll g here (rolesOf g t) (seenIn g t) (viewState s) z; new = stateHeld maxZones (resetState lost (viewState s) z); old = s; count = count; is = refl }
 
-    unfoldable pub write-stored : (a k : ℕ) (buffer : List ℕ) → Stored g t (writeOn g named s a k buffer count t)
-    unfolding writeOn
-    write-stored a k buffer = record {
+    unfoldable pub compact-stored : (d : ℕ) → Stored g t (compactOn g named s d count t)
+    unfolding compactOn
+    compact-stored d = record {
       told = Refused;
-      number = verdictNumber (writeVerdict g named s a k (length buffer) t);
-      stores = writeAll g here (rolesOf g t) (seenIn g t) (viewState s) (zoneOf g a) (sectorsIn g k buffer);
-      new = stateHeld maxZones (writeState lost (viewState s) (zoneOf g a) k);
+      number = verdictNumber (compactVerdict g named s d t);
+      stores = compactStores g here (rolesOf g t) (seenIn g t) (viewState s) d;
+      new = stateHeld maxZones (compactState g here lost (seenIn g t) (viewState s) d);
+      old = s;
+      count = count;
+      is = refl;
+    }
+
+    unfoldable pub write-stored : (a : WriteAsked) → Stored g t (writeOn g named s a count t)
+    unfolding writeOn
+    write-stored a = record {
+      told = Refused;
+      number = verdictNumber (writeVerdict g named s a t);
+      stores = writeAll g here (rolesOf g t) (seenIn g t) (viewState s) (zoneAsked g a) (sectorsIn g (a .count) (a .buffer));
+      new = stateHeld maxZones (writtenState g here lost (a .host) (viewState s) (zoneAsked g a) (a .count));
       old = s;
       count = count;
       is = refl;
@@ -244,10 +257,15 @@ module _ (g : Geometry) (mask : ℕ) (m : Ranges) (a : Bytes (m .written)) (b : 
     words : (r : Result) → Stored g (tablesIn g m) r → InWords g (r .tables)
     words r q = stored-words g (tablesIn g m) r q (taken .valid) (ranges-in-words g m a b)
 
-    pub write-leaves : (at k count : ℕ) (bytes : List ℕ) → Leaves g m (writeEdge g mask at k count bytes m) (writeOfBytes g mask at k count bytes m)
-    write-leaves at k count bytes =
-        let r = writeOfBytes g mask at k count bytes m in
-        leaves (storedAll g r m) r (all-left g m a b taken r (words r (write-stored g (tablesIn g m) (namedOf mask) count (stateIn g m) at k bytes)))
+    pub write-leaves : (asked : WriteAsked) (count : ℕ) → Leaves g m (writeEdge g mask asked count m) (writeOfBytes g mask asked count m)
+    write-leaves asked count =
+        let r = writeOfBytes g mask asked count m in
+        leaves (storedAll g r m) r (all-left g m a b taken r (words r (write-stored g (tablesIn g m) (namedOf mask) count (stateIn g m) asked)))
+
+    pub compact-leaves : (d count : ℕ) → Leaves g m (compactEdge g mask d count m) (compactOfBytes g mask d count m)
+    compact-leaves d count =
+        let r = compactOfBytes g mask d count m in
+        leaves (storedAll g r m) r (all-left g m a b taken r (words r (compact-stored g (tablesIn g m) (namedOf mask) count (stateIn g m) d)))
 
     pub flush-leaves : (count : ℕ) → Leaves g m (flushEdge g mask count m) (flushOfBytes g mask count m)
     unfolding flush-stored

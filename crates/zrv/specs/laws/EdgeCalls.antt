@@ -23,7 +23,7 @@ use Rattle.volume.specs.meaning.CallContracts.{answerNumber, Result, peekNumber
 use Rattle.volume.specs.laws.AnswerNumbers.{look-answer-small, mount-answer-small}
 use Rattle.volume.specs.reading.Peeking.{peek-done}
 use Rattle.tables.specs.meaning.LittleEndian.{bytesLE}
-use Rattle.zrv.specs.meaning.Bytes.{tableTo, stateTo}
+use Rattle.zrv.specs.meaning.Bytes.{stateBytes, tableTo, stateTo}
 use Rattle.zrv.specs.meaning.EdgeCalls.{namedOf, sizesFit, stateBad, inputNumber, sizesNumber, stateAfter, Ranges, ranges, tablesIn, unreadState, Answered, answered, unlessRefused, writingState, handedBack, storedAll, storedFlushes, withNumber, placeNumber, withPlace, withoutPlace, lookOfBytes, lookEdge, mountOfBytes, mountEdge, offsetAt, placeAnswer, placeSized}
 
 -- ---- the input
@@ -31,16 +31,16 @@ use Rattle.zrv.specs.meaning.EdgeCalls.{namedOf, sizesFit, stateBad, inp
 pub record Sized (g : Geometry) (n w d : ℕ) : Type 0 where
   pub valid : Valid g
   pub logs-first : g .logs ≡ 0
-  pub state-long : n ≡ 264
+  pub state-long : n ≡ stateBytes
   pub written-long : w ≡ cells g * 4
   pub durable-long : d ≡ cells g * 4
 
 sized : (g : Geometry) (n w d : ℕ) → isValid g ≡ true → sizesFit g n w d ≡ true → Sized g n w d
 unfolding sizesFit
 sized g n w d v h =
-    let (a, q) = and-split (eqb n 264) (eqb w (cells g * 4) && eqb d (cells g * 4)) h in
+    let (a, q) = and-split (eqb n stateBytes) (eqb w (cells g * 4) && eqb d (cells g * 4)) h in
     let (b, e) = and-split (eqb w (cells g * 4)) (eqb d (cells g * 4)) q in
-    record { valid = valid-if-test g v; logs-first = first-if-test g v; state-long = eqb-true n 264 a; written-long = eqb-true w (cells g * 4) b; durable-long = eqb-true d (cells g * 4) e }
+    record { valid = valid-if-test g v; logs-first = first-if-test g v; state-long = eqb-true n stateBytes a; written-long = eqb-true w (cells g * 4) b; durable-long = eqb-true d (cells g * 4) e }
 
 pub input-passed : (g : Geometry) (st : List ℕ) (w d : ℕ) → inputNumber g st w d ≡ 0 → Sized g (length st) w d
 unfolding inputNumber
@@ -85,7 +85,7 @@ module _ (g : Geometry) (o : Outcome) (st : List ℕ) where
   unfolding stateAfter
   state-kept h = rw (ne-eqb (answerNumber (o .answer)) 0 h) refl
 
-  pub state-new : answerNumber (o .answer) ≡ 0 → stateTo (g .zones) (o .state) ≡ stateAfter g o st
+  pub state-new : answerNumber (o .answer) ≡ 0 → stateTo g (o .state) ≡ stateAfter g o st
   unfolding stateAfter
   state-new h = rw (eq-eqb (answerNumber (o .answer)) 0 h) refl
 

@@ -16,14 +16,14 @@ use Rattle.tables.specs.meaning.Tables.{Tables, runStores}
 use Rattle.volume.specs.declared.Answer.the-variants.{Finished, Unfinished, Refused}
 use Rattle.volume.specs.declared.Outcome.{Outcome}
 use Rattle.volume.specs.meaning.State.{callPresent}
-use Rattle.volume.specs.meaning.Refusals.{zoneOf, offsetOf}
+use Rattle.volume.specs.meaning.Refusals.{WriteAsked, zoneOf, offsetOf}
 use Rattle.volume.specs.meaning.CallContracts.{recordAt, viewState, isSet, answerNumber, seenIn, Result, readNumber, valuesOn, readOn, peekNumber}
 use Rattle.volume.specs.laws.ByteLists.{Bytes}
 use Rattle.zrv.specs.meaning.EdgeCalls.{namedOf, inputNumber, sizesNumber, Ranges, tablesIn, stateIn, unreadState, Answered, answered, unlessRefused, writingState, handedBack, storedAll, storedFlushes, formatOfBytes, formatEdge}
-use Rattle.zrv.specs.meaning.EdgeCalls.{lookOfBytes, lookEdge, mountOfBytes, mountEdge, writeOfBytes, writeEdge, flushOfBytes, flushEdge, resetOfBytes, resetEdge, readAnswer, readEdge, placeAnswer, placeSized, peekEdge}
+use Rattle.zrv.specs.meaning.EdgeCalls.{lookOfBytes, lookEdge, mountOfBytes, mountEdge, writeOfBytes, writeEdge, flushOfBytes, flushEdge, resetOfBytes, resetEdge, compactOfBytes, compactEdge, readAnswer, readEdge, placeAnswer, placeSized, peekEdge}
 use Rattle.zrv.specs.laws.EdgeCalls.{Sized, input-passed, sizes-passed, refused, made, state-kept, look-alone, mount-alone}
 use Rattle.zrv.specs.laws.RoundTrips.{bytes-table-bytes}
-use Rattle.zrv.specs.laws.CallsLeave.{Stored, format-stored, mount-stored, flush-stored, reset-stored, write-stored}
+use Rattle.zrv.specs.laws.CallsLeave.{Stored, format-stored, mount-stored, flush-stored, reset-stored, write-stored, compact-stored}
 
 -- neither finished nor unfinished
 abbrev pub IsRefusal : ℕ → Type 0
@@ -101,10 +101,15 @@ module _ (g : Geometry) (mask : ℕ) (m : Ranges) where
         let r = resetOfBytes g mask z count m in
         unless-kept (inputNumber g (m .state) w d) (storedAll g r m) m (λ n. all-kept r (reset-stored g t (namedOf mask) count (stateIn g m) z) (input-passed g (m .state) w d n))
 
-    pub write-refused : (at k count : ℕ) (bytes : List ℕ) → IsRefusal (writeEdge g mask at k count bytes m .code) → writeEdge g mask at k count bytes m .left ≡ m
-    write-refused at k count bytes =
-        let r = writeOfBytes g mask at k count bytes m in
-        unless-kept (inputNumber g (m .state) w d) (storedAll g r m) m (λ n. all-kept r (write-stored g t (namedOf mask) count (stateIn g m) at k bytes) (input-passed g (m .state) w d n))
+    pub write-refused : (asked : WriteAsked) (count : ℕ) → IsRefusal (writeEdge g mask asked count m .code) → writeEdge g mask asked count m .left ≡ m
+    write-refused asked count =
+        let r = writeOfBytes g mask asked count m in
+        unless-kept (inputNumber g (m .state) w d) (storedAll g r m) m (λ n. all-kept r (write-stored g t (namedOf mask) count (stateIn g m) asked) (input-passed g (m .state) w d n))
+
+    pub compact-refused : (drive count : ℕ) → IsRefusal (compactEdge g mask drive count m .code) → compactEdge g mask drive count m .left ≡ m
+    compact-refused drive count =
+        let r = compactOfBytes g mask drive count m in
+        unless-kept (inputNumber g (m .state) w d) (storedAll g r m) m (λ n. all-kept r (compact-stored g t (namedOf mask) count (stateIn g m) drive) (input-passed g (m .state) w d n))
 
   pub flush-refused : Bytes (m .durable) → (count : ℕ) → IsRefusal (flushEdge g mask count m .code) → flushEdge g mask count m .left ≡ m
   flush-refused b count =

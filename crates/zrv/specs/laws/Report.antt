@@ -30,7 +30,7 @@ use Rattle.volume.specs.meaning.Report.{toldNumber, descriptorOf, mayReport, fi
 use Rattle.volume.specs.laws.Report.{filled-most, report-finished}
 use Rattle.volume.specs.laws.EachBelow.{each-below-cong}
 use Rattle.volume.specs.reading.Reporting.{reportNumber, number-if}
-use Rattle.zrv.specs.meaning.Bytes.{stateFrom, stateWellFormed, descriptorTo}
+use Rattle.zrv.specs.meaning.Bytes.{stateBytes, stateFrom, stateWellFormed, descriptorTo}
 use Rattle.zrv.specs.meaning.EdgeCalls.{sizesFit, stateBad, inputNumber, reportInput, descriptorsIn, unreadDescriptor, lentFor, filledBytes, withNumber, reportBytes, reportOfBytes, reportEdge, Answered, answered, unlessRefused}
 use Rattle.zrv.specs.laws.Bytes.{lay-next}
 use Rattle.zrv.specs.laws.EdgeCalls.{refused, made}
@@ -38,24 +38,24 @@ use Rattle.zrv.specs.laws.EdgeCalls.{refused, made}
 -- what passing the test gives
 pub record Reportable (g : Geometry) (st : List ℕ) : Type 0 where
   pub valid : Valid g
-  pub state-long : length st ≡ 264
-  pub may : mayReport g (viewState (stateFrom (g .zones) st)) ≡ true
+  pub state-long : length st ≡ stateBytes
+  pub may : mayReport g (viewState (stateFrom g st)) ≡ true
 
 pub report-passed : (g : Geometry) (st : List ℕ) → reportInput g st ≡ 0 → Reportable g st
 unfolding reportInput stateBad
-report-passed g st h = go (isValid g) refl (eqb (length st) 264) refl (stateWellFormed (g .zones) st) refl (stateWithin g (viewState (stateFrom (g .zones) st))) refl h
+report-passed g st h = go (isValid g) refl (eqb (length st) stateBytes) refl (stateWellFormed g st) refl (stateWithin g (viewState (stateFrom g st))) refl h
   where
-    go : (v : Bool) → isValid g ≡ v → (l : Bool) → eqb (length st) 264 ≡ l → (f : Bool) → stateWellFormed (g .zones) st ≡ f → (w : Bool) → stateWithin g (viewState (stateFrom (g .zones) st)) ≡ w
+    go : (v : Bool) → isValid g ≡ v → (l : Bool) → eqb (length st) stateBytes ≡ l → (f : Bool) → stateWellFormed g st ≡ f → (w : Bool) → stateWithin g (viewState (stateFrom g st)) ≡ w
         → _≡_ {A = ℕ} (pick v (pick (l && not (f && w)) 1 (pick l 0 2)) 1) 0 → Reportable g st
     go false a l b f c w d k = absurd (omega arith)
     go true a false b f c w d k = absurd (omega arith)
     go true a true b false c w d k = absurd (omega arith)
     go true a true b true c false d k = absurd (omega arith)
-    go true a true b true c true d k = record { valid = valid-if-test g a; state-long = eqb-true (length st) 264 b; may = and-join (isValid g) (stateWithin g (viewState (stateFrom (g .zones) st))) a d }
+    go true a true b true c true d k = record { valid = valid-if-test g a; state-long = eqb-true (length st) stateBytes b; may = and-join (isValid g) (stateWithin g (viewState (stateFrom g st))) a d }
 
 -- then as many are filled as are lent, but at most the zones; and there is room for them
-pub number-passed : (g : Geometry) (st list : List ℕ) → Reportable g st → reportNumber g (viewState (stateFrom (g .zones) st)) (descriptorsIn list) ≡ filledNumber g (descriptorsIn list)
-number-passed g st list r = number-if g (viewState (stateFrom (g .zones) st)) (descriptorsIn list) true (ltb (descriptorsIn list) (g .zones)) (r .may) refl
+pub number-passed : (g : Geometry) (st list : List ℕ) → Reportable g st → reportNumber g (viewState (stateFrom g st)) (descriptorsIn list) ≡ filledNumber g (descriptorsIn list)
+number-passed g st list r = number-if g (viewState (stateFrom g st)) (descriptorsIn list) true (ltb (descriptorsIn list) (g .zones)) (r .may) refl
 
 pub number-room : (g : Geometry) (list : List ℕ) → (filledNumber g (descriptorsIn list) ≤ g .zones) × (filledNumber g (descriptorsIn list) * 32 ≤ length list)
 number-room g list = (filled-most g (descriptorsIn list), go (ltb (length list / 32) (g .zones)) refl)
@@ -111,9 +111,9 @@ module _ (g : Geometry) (condition : ℕ → Condition) where
 
 -- ---- what is returned and left then is volume's report
 pub report-made : (g : Geometry) (st list : List ℕ) → Reportable g st → {n : ℕ} {left : List ℕ} → n ≡ filledNumber g (descriptorsIn list)
-    → left ≡ toldBytes g (viewState (stateFrom (g .zones) st) .condition) n list → answered (4294967296 * n) left ≡ reportBytes (reportOfBytes g st list) list
+    → left ≡ toldBytes g (viewState (stateFrom g st) .condition) n list → answered (4294967296 * n) left ≡ reportBytes (reportOfBytes g st list) list
 report-made g st list r {n} {left} e f =
-    let state = viewState (stateFrom (g .zones) st) in
+    let state = viewState (stateFrom g st) in
     let k = filledNumber g (length (lentFor list)) in
     let same : n ≡ k = e ∙ ap (filledNumber g) (sym (length-replicate {A = ZoneDescriptor} (descriptorsIn list) unreadDescriptor)) in
     let number : 4294967296 * n ≡ withNumber 0 k = omega (arith, same) in
@@ -130,8 +130,8 @@ report-refused g st list h = go (ℕ-discrete (reportInput g st) 0)
     low : (n : ℕ) → (0 + 4294967296 * n) % 4294967296 ≡ 0
     low n = omega arith
 
-    finished : reportInput g st ≡ 0 → reportOfBytes g st list ≡ reportOf g (viewState (stateFrom (g .zones) st) .condition) (lentFor list)
-    finished e = report-finished g (viewState (stateFrom (g .zones) st)) (report-passed g st e .may) (lentFor list)
+    finished : reportInput g st ≡ 0 → reportOfBytes g st list ≡ reportOf g (viewState (stateFrom g st) .condition) (lentFor list)
+    finished e = report-finished g (viewState (stateFrom g st)) (report-passed g st e .may) (lentFor list)
 
     go : Dec (reportInput g st ≡ 0) → reportEdge g st list .left ≡ list
     go (no e) = ap (λ (x : Answered (List ℕ)). x .left) (sym (refused (reportInput g st) r list e))
@@ -141,7 +141,7 @@ report-refused g st list h = go (ℕ-discrete (reportInput g st) 0)
 -- ---- what a call that reads the state is not refused for, a report is not refused for
 pub input-reports : (g : Geometry) (st : List ℕ) (w d : ℕ) → inputNumber g st w d ≡ 0 → reportInput g st ≡ 0
 unfolding inputNumber reportInput sizesFit
-input-reports g st w d h = go (isValid g) (stateBad g st) (eqb (length st) 264) (eqb w (cells g * 4) && eqb d (cells g * 4)) h
+input-reports g st w d h = go (isValid g) (stateBad g st) (eqb (length st) stateBytes) (eqb w (cells g * 4) && eqb d (cells g * 4)) h
   where
     go : (v b l f : Bool) → _≡_ {A = ℕ} (pick v (pick b 1 (pick (l && f) 0 2)) 1) 0 → _≡_ {A = ℕ} (pick v (pick b 1 (pick l 0 2)) 1) 0
     go false b l f k = absurd (omega arith)

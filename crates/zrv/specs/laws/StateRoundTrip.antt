@@ -1,9 +1,9 @@
 -- What a finished call of the C edge hands on: the state's bytes that it leaves are those of the state that the call on tables hands on, they read back as
--- that very state, and the next call takes them. So it is for each of the six calls that hand on a state; nothing is asked but that the call returned 0.
+-- that very state, and the next call takes them. So it is for each of the seven calls that hand on a state; nothing is asked but that the call returned 0.
 use mathlib.Core.Path.{_≡_, refl, sym, ap, subst, _∙_}
 use mathlib.Core.Logic.{_≢_, _⊎_, inl, inr}
 use mathlib.Core.Bool.{Bool, true, false, _&&_, _||_, not}
-use Prim.Native.Nat.{ℕ, zero, suc, _+_, _*_, _^_, _≤_, _<_, zero-le}
+use Prim.Native.Nat.{ℕ, zero, suc, _-_, _*_, _^_, _≤_, _<_, zero-le}
 use native.Mathlib.Decide.{ℕ-discrete}
 use native.Mathlib.Omega.{arith}
 use mathlib.Core.List.{List}
@@ -14,13 +14,15 @@ use borrow.Author.Tests.{lt-ltb, ltb-true, le-leb, leb-false, eq-eqb, eqb-true, 
 use Rattle.tables.specs.declared.Geometry.{Geometry}
 use Rattle.tables.specs.meaning.Basics.{pick}
 use Rattle.tables.specs.laws.Basics.{and-split, and-join, or-cases, or-none, or-left, or-right, not-not}
-use Rattle.tables.specs.meaning.Below.{allBelow}
-use Rattle.tables.specs.laws.Below.{all-all-below}
+use Rattle.tables.specs.meaning.Below.{allBelow, tabulate}
+use Rattle.tables.specs.laws.Below.{all-all-below, length-tabulate, getD-tabulate}
 use Rattle.tables.specs.meaning.Drives.{findBelow, noDrive}
 use Rattle.tables.specs.laws.Drives.{find-below-is}
 use Rattle.tables.specs.meaning.Geometry.{Valid, cells, zoneSectors, maxZones}
 use Rattle.tables.specs.meaning.GeometryTest.{isValid}
 use Rattle.tables.specs.laws.GeometryTest.{test-if-valid}
+use Rattle.tables.specs.meaning.Placement.{stripeOf}
+use Rattle.tables.specs.laws.Placement.{parity-drive-below}
 use Rattle.tables.specs.laws.Sizes.{zone-small}
 use Rattle.tables.specs.meaning.Device.{Device, Store}
 use Rattle.tables.specs.meaning.Tables.{Tables, deviceOf, runStores}
@@ -31,54 +33,63 @@ use Rattle.volume.specs.declared.State.{State}
 use Rattle.volume.specs.declared.Answer.{Answer}
 use Rattle.volume.specs.declared.Answer.the-variants.{Finished, Unfinished, Refused}
 use Rattle.volume.specs.declared.Outcome.{Outcome}
-use Rattle.volume.specs.meaning.State.{StateView, pointerIn, isWorn, callPresent}
+use Rattle.volume.specs.meaning.State.{StateView, withShares, shareAt, pointerIn, isWorn, callPresent}
+use Rattle.volume.specs.meaning.Content.{parityDriveAt}
 use Rattle.volume.specs.meaning.Rules.{isLost, conditionOf, generationOf, pointerAt, cleanAt, sealSeen, zoneAt, zoneShown, showing}
-use Rattle.volume.specs.meaning.Refusals.{accept, stateWithin, zoneOf, resetRows}
-use Rattle.volume.specs.meaning.Calls.{flushStores, formatStores, flushState, formatState, resetState, writeState}
-use Rattle.volume.specs.meaning.Emptying.{writeAll, resetAll}
+use Rattle.volume.specs.meaning.Refusals.{accept, stateWithin, WriteAsked, zoneAsked, endAsked, resetRows}
+use Rattle.volume.specs.meaning.Calls.{flushStores, formatStores, flushState, formatState, resetState}
+use Rattle.volume.specs.meaning.Roles.{byRoles}
+use Rattle.volume.specs.meaning.Emptying.{byState, newParitySize, writeAll, resetAll, compactStores}
+use Rattle.volume.specs.meaning.Hosts.{halfPast, sharesIn, freshShares, renewedShares, entryTaken, writtenState, compactState}
 use Rattle.volume.specs.meaning.Answers.{lostIn, leftOut, namedDrives, sectorsIn, presentIn, lostDriveIn, refusedAt}
 use Rattle.volume.specs.meaning.CallContracts.{blankRecord, recordAt, viewState, isSet, answerNumber, verdictNumber, lengthsOf, badIn, rolesOf, seenIn, Result, storingOn, stateHeld}
-use Rattle.volume.specs.meaning.CallContracts.{flushVerdict, flushOn, resetVerdict, resetOn, formatVerdict, formatOn, lookVerdict, lookOn, writeVerdict, pointerOf, writeOn, mountVerdict, mountStoresOn, mountShownOn, badPlaceOn, mountOn}
-use Rattle.volume.specs.laws.StateHeld.{records-long, records-past, resetRecord, held-long, held-at, held-past, held-lost, held-open, held-reset}
+use Rattle.volume.specs.meaning.CallContracts.{flushVerdict, flushOn, resetVerdict, resetOn, formatVerdict, formatOn, lookVerdict, lookOn, writeVerdict, writeOn, compactVerdict, compactOn, mountVerdict, mountStoresOn, mountShownOn, badPlaceOn, mountOn}
+use Rattle.volume.specs.laws.StateHeld.{Sixteen, records-past, ownedRecord, sharesLess, resetRecord, held-sixteen, held-at, held-past, held-lost, held-shares, held-owned, held-reset}
 use Rattle.volume.specs.checks.ZoneChecks.{pointer-within}
 use Rattle.volume.specs.laws.Refusals.{accepted-row}
-use Rattle.volume.specs.laws.PassedRows.{reset-number-accepts, reset-passed, write-number-accepts, write-passed}
+use Rattle.volume.specs.laws.PassedRows.{reset-number-accepts, reset-passed, write-number-accepts, write-passed, compact-number-accepts, compact-passed}
 use Rattle.volume.specs.laws.AnswerNumbers.{refused-numbered, look-told, mount-told}
 use Rattle.volume.specs.laws.GenerationRange.{generation-range, worn-top}
 use Rattle.volume.specs.laws.LookPointers.{pointer-within as pointer-at-within}
-use Rattle.volume.specs.meaning.Mount.{mountState}
-use Rattle.zrv.specs.meaning.Bytes.{stateFrom, stateTo, stateWellFormed}
-use Rattle.zrv.specs.meaning.EdgeCalls.{namedOf, sizesFit, stateBad, inputNumber, sizesNumber, Ranges, tablesIn, stateIn, unreadState, stateAfter, Answered, unlessRefused, handedBack, storedAll, storedFlushes, withoutPlace, flushOfBytes, flushEdge, lookOfBytes, lookEdge, mountOfBytes, mountEdge, formatOfBytes, formatEdge, resetOfBytes, resetEdge, writeOfBytes, writeEdge}
+use Rattle.volume.specs.meaning.Mount.{shownState}
+use Rattle.zrv.specs.meaning.Bytes.{stateBytes, stateFrom, stateTo, stateWellFormed}
+use Rattle.zrv.specs.meaning.EdgeCalls.{namedOf, sizesFit, stateBad, inputNumber, sizesNumber, Ranges, tablesIn, stateIn, unreadState, stateAfter, Answered, unlessRefused, handedBack, storedAll, storedFlushes, withoutPlace, flushOfBytes, flushEdge, lookOfBytes, lookEdge, mountOfBytes, mountEdge, formatOfBytes, formatEdge, resetOfBytes, resetEdge, writeOfBytes, writeEdge, compactOfBytes, compactEdge}
 use Rattle.zrv.specs.laws.EdgeCalls.{Sized, input-passed, sizes-passed, refused, made, state-new, look-alone, mount-alone}
 use Rattle.zrv.specs.laws.CallsLeave.{storingTold, mount-stored}
-use Rattle.zrv.specs.laws.RoundTrips.{StateRange, state-bytes-state, length-state-to, state-well-formed, read-generation}
+use Rattle.zrv.specs.laws.Bytes.{length-state-to}
+use Rattle.zrv.specs.laws.RoundTrips.{StateRange, state-bytes-state, state-well-formed, read-generation, read-share, no-share-read, read-sixteen}
+use Rattle.zrv.specs.laws.ShareWords.{ShareWords, held-words, look-words, format-words, renewed-words, less-words}
 
 -- ---- what is promised of the bytes that a call leaves and of the state s that it hands on (w, d: the lengths of the two tables, in bytes)
 pub record HandsOn (g : Geometry) (bytes : List ℕ) (s : State) (w d : ℕ) : Type 0 where
-  pub in-range : StateRange (g .zones) s
-  pub bytes-are : bytes ≡ stateTo (g .zones) s
-  pub reads-back : stateFrom (g .zones) bytes ≡ s
-  pub well-formed : stateWellFormed (g .zones) bytes ≡ true
+  pub in-range : StateRange g s
+  pub bytes-are : bytes ≡ stateTo g s
+  pub reads-back : stateFrom g bytes ≡ s
+  pub well-formed : stateWellFormed g bytes ≡ true
   pub within : stateWithin g (viewState s) ≡ true
   pub taken : inputNumber g bytes w d ≡ 0
 
 -- ---- a state within its bounds: what each call is shown to hand on
 pub record Bounded (g : Geometry) (s : State) : Type 0 where
   pub lost-drive : (s .lost < g .drives) ⊎ (s .lost ≡ noDrive)
-  pub sixteen : length (s .zones) ≡ 16
+  pub sixteen : Sixteen s
   pub generations : (z : ℕ) → z < g .zones → recordAt s z .generation < 256 ^ 8
   pub pointers : (z : ℕ) → z < g .zones → pointerIn (recordAt s z .condition) ≤ zoneSectors g
   pub past : (z : ℕ) → g .zones ≤ z → recordAt s z ≡ blankRecord
+  pub shares : ShareWords g (λ i. getD (s .shares) i 0)
 
 -- bytes can hold it
-bounded-range : (g : Geometry) (s : State) → Valid g → Bounded g s → StateRange (g .zones) s
+bounded-range : (g : Geometry) (s : State) → Valid g → Bounded g s → StateRange g s
 bounded-range g s ok b = record {
   zones-most = ok .zones-most;
+  drives-most = ok .drives-most;
   lost-byte = small (b .lost-drive);
   sixteen = b .sixteen;
   generations = b .generations;
   pointers = λ z h. omega (arith, b .pointers z h, zone-small g ok .1);
   past = b .past;
+  shares = b .shares .small;
+  no-share = b .shares .none-past;
 }
   where
     small : (s .lost < g .drives) ⊎ (s .lost ≡ noDrive) → s .lost < 256
@@ -97,28 +108,28 @@ bounded-within g s b =
     lost-fine (inr e) = or-right (ltb (s .lost) (g .drives)) (eqb (s .lost) noDrive) (eq-eqb (s .lost) noDrive e)
 
 -- so the next call takes its bytes
-bounded-taken : (g : Geometry) (s : State) (n w d : ℕ) → Sized g n w d → Bounded g s → inputNumber g (stateTo (g .zones) s) w d ≡ 0
+bounded-taken : (g : Geometry) (s : State) (n w d : ℕ) → Sized g n w d → Bounded g s → inputNumber g (stateTo g s) w d ≡ 0
 unfolding inputNumber stateBad sizesFit
 bounded-taken g s n w d q b =
     let r = bounded-range g s (q .valid) b in
     rw (
       test-if-valid g (q .valid) (q .logs-first),
-      length-state-to (g .zones) s (q .valid .zones-most),
-      state-well-formed (g .zones) s r,
-      state-bytes-state (g .zones) s r,
+      length-state-to g s (q .valid .zones-most) (q .valid .drives-most),
+      state-well-formed g s r,
+      state-bytes-state g s r,
       bounded-within g s b,
       eq-eqb w (cells g * 4) (q .written-long),
       eq-eqb d (cells g * 4) (q .durable-long),
     ) refl
 
-hands-on : (g : Geometry) (bytes : List ℕ) (s : State) (n w d : ℕ) → Sized g n w d → bytes ≡ stateTo (g .zones) s → Bounded g s → HandsOn g bytes s w d
+hands-on : (g : Geometry) (bytes : List ℕ) (s : State) (n w d : ℕ) → Sized g n w d → bytes ≡ stateTo g s → Bounded g s → HandsOn g bytes s w d
 hands-on g bytes s n w d q e b =
     let r = bounded-range g s (q .valid) b in
     record {
       in-range = r;
       bytes-are = e;
-      reads-back = ap (stateFrom (g .zones)) e ∙ state-bytes-state (g .zones) s r;
-      well-formed = ap (stateWellFormed (g .zones)) e ∙ state-well-formed (g .zones) s r;
+      reads-back = ap (stateFrom g) e ∙ state-bytes-state g s r;
+      well-formed = ap (stateWellFormed g) e ∙ state-well-formed g s r;
       within = bounded-within g s b;
       taken = ap (λ (l : List ℕ). inputNumber g l w d) e ∙ bounded-taken g s n w d q b;
     }
@@ -135,7 +146,7 @@ module _ (g : Geometry) (n : ℕ) (r : Answered Ranges) (o : Outcome) (m : Range
       go (yes e) =
           let u : r ≡ unlessRefused n r m = made n r m e in
           let a : answerNumber (o .answer) ≡ 0 = answers ∙ ap (λ (x : Answered Ranges). x .code) u ∙ h in
-          let b : unlessRefused n r m .left .state ≡ stateTo (g .zones) (o .state) = sym (state-new g o (m .state) a ∙ left ∙ ap (λ (x : Answered Ranges). x .left .state) u) in
+          let b : unlessRefused n r m .left .state ≡ stateTo g (o .state) = sym (state-new g o (m .state) a ∙ left ∙ ap (λ (x : Answered Ranges). x .left .state) u) in
           hands-on g (unlessRefused n r m .left .state) (o .state) (length (m .state)) (length (m .written)) (length (m .durable)) (sized e) b (bounded e (sized e .valid) a)
 
 -- a finished call was not refused, and its state is the new one
@@ -156,13 +167,13 @@ module _ (P : State → Type 0) (g : Geometry) (n : ℕ) (ss : List Store) (new 
   finished-new = finished-told Refused (λ h. h)
 
 -- ---- states read from bytes that passed
-state-passed : (g : Geometry) (st : List ℕ) (w d : ℕ) → inputNumber g st w d ≡ 0 → (stateWellFormed (g .zones) st ≡ true) × (stateWithin g (viewState (stateFrom (g .zones) st)) ≡ true)
+state-passed : (g : Geometry) (st : List ℕ) (w d : ℕ) → inputNumber g st w d ≡ 0 → (stateWellFormed g st ≡ true) × (stateWithin g (viewState (stateFrom g st)) ≡ true)
 unfolding inputNumber stateBad
 state-passed g st w d h =
-    let long : length st ≡ 264 = input-passed g st w d h .state-long in
-    let well = stateWellFormed (g .zones) st && stateWithin g (viewState (stateFrom (g .zones) st)) in
-    let bad : not well ≡ false = rw (eq-eqb (length st) 264 long) at (by (isValid g) (eqb (length st) 264 && not well) (sizesFit g (length st) w d) h) in
-    and-split (stateWellFormed (g .zones) st) (stateWithin g (viewState (stateFrom (g .zones) st))) (not-not well bad)
+    let long : length st ≡ stateBytes = input-passed g st w d h .state-long in
+    let well = stateWellFormed g st && stateWithin g (viewState (stateFrom g st)) in
+    let bad : not well ≡ false = rw (eq-eqb (length st) stateBytes long) at (by (isValid g) (eqb (length st) stateBytes && not well) (sizesFit g (length st) w d) h) in
+    and-split (stateWellFormed g st) (stateWithin g (viewState (stateFrom g st))) (not-not well bad)
   where
     by : (a b e : Bool) → _≡_ {A = ℕ} (pick a (pick b 1 (pick e 0 2)) 1) 0 → b ≡ false
     by true true e k = absurd (omega arith)
@@ -177,32 +188,35 @@ within-lost g s h = go (or-cases (ltb (s .lost) (g .drives)) (eqb (s .lost) noDr
     go (inl e) = inl (ltb-true (s .lost) (g .drives) e)
     go (inr e) = inr (eqb-true (s .lost) noDrive (e .1))
 
-read-bounded : (g : Geometry) (st : List ℕ) (w d : ℕ) → inputNumber g st w d ≡ 0 → Bounded g (stateFrom (g .zones) st)
+read-bounded : (g : Geometry) (st : List ℕ) (w d : ℕ) → inputNumber g st w d ≡ 0 → Bounded g (stateFrom g st)
 unfolding stateFrom
 read-bounded g st w d h =
     let (well, within) = state-passed g st w d h in
+    let ok = input-passed g st w d h .valid in
     record {
-      lost-drive = within-lost g (stateFrom (g .zones) st) within;
-      sixteen = records-long _ (g .zones) (input-passed g st w d h .valid .zones-most);
-      generations = λ z l. read-generation (g .zones) st z well l;
-      pointers = λ z l. pointer-within g (stateFrom (g .zones) st) z within l;
+      lost-drive = within-lost g (stateFrom g st) within;
+      sixteen = read-sixteen g st (ok .zones-most) (ok .drives-most);
+      generations = λ z l. read-generation g st z well l;
+      pointers = λ z l. pointer-within g (stateFrom g st) z within l;
       past = λ z l. records-past _ (g .zones) z l;
+      shares = record { small = λ i l. read-share g st i (ok .zones-most) well l; none-past = no-share-read g st };
     }
 
 -- ---- states that a call makes of it
--- one zone's record is new, and perhaps the lost drive
-zone-bounded : (g : Geometry) (s : State) (x z : ℕ) (r : ZoneRecord) → Valid g → Bounded g s → (x < g .drives) ⊎ (x ≡ noDrive) → z < g .zones → r .generation < 256 ^ 8 → pointerIn (r .condition) ≤ zoneSectors g
-    → Bounded g (record { lost = x; zones = set (s .zones) z r })
-zone-bounded g s x z r ok b lost hz n p = record {
+-- one zone's record is new, perhaps the lost drive, perhaps the shares
+zone-bounded : (g : Geometry) (s : State) (x z : ℕ) (r : ZoneRecord) (ns : List ℕ) → Valid g → Bounded g s → (x < g .drives) ⊎ (x ≡ noDrive) → z < g .zones → r .generation < 256 ^ 8 → pointerIn (r .condition) ≤ zoneSectors g
+    → length ns ≡ 16 → ShareWords g (λ i. getD ns i 0) → Bounded g (record { lost = x; zones = set (s .zones) z r; shares = ns })
+zone-bounded g s x z r ns ok b lost hz n p many fit = record {
   lost-drive = lost;
-  sixteen = length-set (s .zones) z r ∙ b .sixteen;
+  sixteen = record { records = length-set (s .zones) z r ∙ b .sixteen .records; shares = many };
   generations = λ y h. generation y h (ℕ-discrete y z);
   pointers = λ y h. pointer y h (ℕ-discrete y z);
   past = λ y h. getD-set-other (s .zones) z y r blankRecord (λ e. omega (arith, e, h, hz)) ∙ b .past y h;
+  shares = fit;
 }
   where
     here : getD (set (s .zones) z r) z blankRecord ≡ r
-    here = getD-set-same (s .zones) z r blankRecord (omega (arith, hz, ok .zones-most, b .sixteen))
+    here = getD-set-same (s .zones) z r blankRecord (omega (arith, hz, ok .zones-most, b .sixteen .records))
 
     generation : (y : ℕ) → y < g .zones → Dec (y ≡ z) → getD (set (s .zones) z r) y blankRecord .generation < 256 ^ 8
     generation y h (yes e) = rw (e, here) n
@@ -226,13 +240,14 @@ lost-found g named s = drive-found _ (g .drives)
 
 -- a view of which no more than the volume's zones is kept
 held-bounded : (g : Geometry) (v : StateView) → Valid g → (v .lost < g .drives) ⊎ (v .lost ≡ noDrive) → ((z : ℕ) → z < g .zones → v .generation z < 256 ^ 8)
-    → ((z : ℕ) → z < g .zones → pointerIn (v .condition z) ≤ zoneSectors g) → Bounded g (stateHeld (g .zones) v)
-held-bounded g v ok lost generations pointers = record {
+    → ((z : ℕ) → z < g .zones → pointerIn (v .condition z) ≤ zoneSectors g) → ShareWords g (v .share) → Bounded g (stateHeld (g .zones) v)
+held-bounded g v ok lost generations pointers fit = record {
   lost-drive = lost;
-  sixteen = held-long (g .zones) v (ok .zones-most);
+  sixteen = held-sixteen (g .zones) v (ok .zones-most);
   generations = λ z h. rw (held-at (g .zones) v z h) (generations z h);
   pointers = λ z h. rw (held-at (g .zones) v z h) (pointers z h);
   past = held-past (g .zones) v;
+  shares = held-words g (v .share) ok fit;
 }
 
 -- ---- states that are shown
@@ -245,15 +260,26 @@ pointer-shown n q m clean hasSeal h = go (eqb n wornGeneration) (eqb q 0) (not c
     go false false true = h
     go false false false = h
 
-shown-bounded : (g : Geometry) (present lost : ℕ → Bool) (v : Device) → Valid g → Bounded g (stateHeld (g .zones) (mountState (showing g present (findBelow lost (g .drives)) v)))
+-- (v: the physical device)
+shown-bounded : (g : Geometry) (present lost : ℕ → Bool) (v : Device) → Valid g → ShareWords g (sharesIn g present v) → Bounded g (stateHeld (g .zones) (shownState g present (findBelow lost (g .drives)) v))
 unfolding showing zoneShown zoneAt
-shown-bounded g present lost v ok = held-bounded g (mountState (showing g present (findBelow lost (g .drives)) v)) ok (drive-found lost (g .drives)) (generation-range g present v) (λ z h. pointer z)
+shown-bounded g present lost v ok fit = held-bounded g (shownState g present (findBelow lost (g .drives)) v) ok (drive-found lost (g .drives)) (generation-range g present (byRoles g v)) (λ z h. pointer z) fit
   where
-    pointer : (z : ℕ) → pointerIn (zoneShown g present v z .condition) ≤ zoneSectors g
+    w : Device
+    w = byRoles g v
+
+    pointer : (z : ℕ) → pointerIn (zoneShown g present w z .condition) ≤ zoneSectors g
     pointer z =
-        let n = generationOf g present v z in
-        let q = pointerAt g present v z n in
-        pointer-shown n q (zoneSectors g) (cleanAt g present v z n q) (sealSeen g present v z n) (pointer-at-within g present v z n)
+        let n = generationOf g present w z in
+        let q = pointerAt g present w z n in
+        pointer-shown n q (zoneSectors g) (cleanAt g present w z n q) (sealSeen g present w z n) (pointer-at-within g present w z n)
+
+-- of drives that a look of a device finds present, shown in another
+pub shown-read-back : (g : Geometry) (named : ℕ → Bool) (v u : Device) → Valid g
+    → let s = stateHeld (g .zones) (shownState g (presentIn g named v) (lostDriveIn g named v) u) in stateFrom g (stateTo g s) ≡ s
+shown-read-back g named v u ok =
+    let s = stateHeld (g .zones) (shownState g (presentIn g named v) (lostDriveIn g named v) u) in
+    state-bytes-state g s (bounded-range g s ok (shown-bounded g (presentIn g named v) (isLost g named (byRoles g v)) u ok (look-words g named v u ok)))
 
 -- ==== the calls on tables: what each hands on when it is finished
 -- refusal 12: the zone of an accepted reset has a generation left
@@ -270,7 +296,7 @@ module _ (g : Geometry) (named : List Bool) (s : State) (b : Bounded g s) (count
       finished-new (Bounded g) g (verdictNumber (flushVerdict g named s t)) (flushStores g (callPresent g (isSet named) (viewState s))) (stateHeld maxZones (flushState (lostIn g (isSet named) (viewState s)) (viewState s))) s count t
       (λ v.
       subst (Bounded g) (held-lost s (lostIn g (isSet named) (viewState s)) (b .sixteen))
-      (record { lost-drive = lost-found g named s; sixteen = b .sixteen; generations = b .generations; pointers = b .pointers; past = b .past }))
+      (record { lost-drive = lost-found g named s; sixteen = record { records = b .sixteen .records; shares = b .sixteen .shares }; generations = b .generations; pointers = b .pointers; past = b .past; shares = b .shares }))
 
   reset-bounded : (z : ℕ) (t : Tables) → Valid g → answerNumber (resetOn g named s z count t .outcome .answer) ≡ 0 → Bounded g (resetOn g named s z count t .outcome .state)
   unfolding resetOn
@@ -280,23 +306,52 @@ module _ (g : Geometry) (named : List Bool) (s : State) (b : Bounded g s) (count
       let a = reset-number-accepts g named t s z v in
       let hz : z < g .zones = reset-passed g named s z t a .zone in
       subst (Bounded g) (held-reset s (lostIn g (isSet named) (viewState s)) z (b .sixteen) (omega (arith, hz, ok .zones-most)))
-      (zone-bounded g s (lostIn g (isSet named) (viewState s)) z (resetRecord (recordAt s z)) ok b (lost-found g named s) hz (omega (arith, reset-fresh g named s z t a, worn-top))
-      (pointer (eqb (suc (recordAt s z .generation)) wornGeneration))))
+      (zone-bounded g s (lostIn g (isSet named) (viewState s)) z (resetRecord (recordAt s z)) (s .shares) ok b (lost-found g named s) hz (omega (arith, reset-fresh g named s z t a, worn-top))
+      (pointer (eqb (suc (recordAt s z .generation)) wornGeneration)) (b .sixteen .shares) (b .shares)))
     where
       pointer : (c : Bool) → pointerIn (pick c (Worn zero) Empty) ≤ zoneSectors g
       pointer true = zero-le
       pointer false = zero-le
 
-  write-bounded : (a k : ℕ) (buffer : List ℕ) (t : Tables) → Valid g → answerNumber (writeOn g named s a k buffer count t .outcome .answer) ≡ 0 → Bounded g (writeOn g named s a k buffer count t .outcome .state)
+  write-bounded : (a : WriteAsked) (t : Tables) → Valid g → answerNumber (writeOn g named s a count t .outcome .answer) ≡ 0 → Bounded g (writeOn g named s a count t .outcome .state)
   unfolding writeOn
-  write-bounded a k buffer t ok =
-      finished-new (Bounded g) g (verdictNumber (writeVerdict g named s a k (length buffer) t)) (writeAll g (callPresent g (isSet named) (viewState s)) (rolesOf g t) (seenIn g t) (viewState s) (zoneOf g a) (sectorsIn g k buffer))
-      (stateHeld maxZones (writeState (lostIn g (isSet named) (viewState s)) (viewState s) (zoneOf g a) k)) s count t
+  write-bounded a t ok =
+      let z = zoneAsked g a in
+      let here = callPresent g (isSet named) (viewState s) in
+      let x = lostIn g (isSet named) (viewState s) in
+      finished-new (Bounded g) g (verdictNumber (writeVerdict g named s a t)) (writeAll g here (rolesOf g t) (seenIn g t) (viewState s) z (sectorsIn g (a .count) (a .buffer))) (stateHeld maxZones (writtenState g here x (a .host) (viewState s) z (a .count))) s count t
       (λ v.
-      let w = write-passed g named s a k (length buffer) t (write-number-accepts g named t s a k (length buffer) v) in
-      subst (Bounded g) (held-open s (lostIn g (isSet named) (viewState s)) (zoneOf g a) (pointerOf s (zoneOf g a) + k) (b .sixteen) (omega (arith, w .zone, ok .zones-most)))
-      (zone-bounded g s (lostIn g (isSet named) (viewState s)) (zoneOf g a) (record { generation = recordAt s (zoneOf g a) .generation; condition = Open (pointerOf s (zoneOf g a) + k) }) ok b (lost-found g named s) (w .zone)
-      (b .generations (zoneOf g a) (w .zone)) (w .inside)))
+      let w = write-passed g named s a t (write-number-accepts g named t s a v) in
+      let end = endAsked g (viewState s) a in
+      let i = shareAt (parityDriveAt g z end) (a .host) in
+      let less = entryTaken g here z end in
+      let drive = parity-drive-below (g .drives) (g .unit) z (omega (arith, ok .drives-least)) (ok .unit-least) (stripeOf (g .drives) (g .unit) end) in
+      let share-in : i < 16 = omega (arith, drive, ok .drives-most, w .host) in
+      subst (Bounded g) (held-owned s g here x (a .host) z end (b .sixteen) (omega (arith, w .zone, ok .zones-most)) share-in)
+      (zone-bounded g s x z (ownedRecord (a .host) end (recordAt s z)) (sharesLess (s .shares) i less) ok b (lost-found g named s) (w .zone)
+      (b .generations z (w .zone)) (w .inside) (length-set (s .shares) i (getD (s .shares) i 0 - less) ∙ b .sixteen .shares) (less-words g (s .shares) i less (b .shares))))
+
+  compact-bounded : (d : ℕ) (t : Tables) → Valid g → answerNumber (compactOn g named s d count t .outcome .answer) ≡ 0 → Bounded g (compactOn g named s d count t .outcome .state)
+  unfolding compactOn callPresent
+  compact-bounded d t ok =
+      let here = callPresent g (isSet named) (viewState s) in
+      let x = lostIn g (isSet named) (viewState s) in
+      let n = halfPast g (g .capacity - newParitySize g (byState g here (seenIn g t) (viewState s)) d) in
+      let f : ℕ → ℕ = renewedShares (viewState s .share) d n in
+      finished-new (Bounded g) g (verdictNumber (compactVerdict g named s d t)) (compactStores g here (rolesOf g t) (seenIn g t) (viewState s) d) (stateHeld maxZones (compactState g here x (seenIn g t) (viewState s) d)) s count t
+      (λ v.
+      let present = compact-passed g named s d t (compact-number-accepts g named t s d v) .here in
+      let drive : d < g .drives = ltb-true d (g .drives) (and-split (ltb d (g .drives)) (isSet named d && not (eqb d (s .lost))) present .0) in
+      let fit : ShareWords g f = renewed-words g (viewState s .share) d n ok (b .shares) drive (omega arith) in
+      subst (Bounded g) (held-shares s x (tabulate f 16) f (b .sixteen) (length-tabulate f 16) (λ i h. getD-tabulate f 16 i 0 h))
+      (record {
+        lost-drive = lost-found g named s;
+        sixteen = record { records = b .sixteen .records; shares = length-tabulate f 16 };
+        generations = b .generations;
+        pointers = b .pointers;
+        past = b .past;
+        shares = held-words g f ok fit;
+      }))
 
 module _ (g : Geometry) (ok : Valid g) (named : List Bool) (old : State) where
   look-bounded : (t : Tables) → answerNumber (lookOn g named old t .answer) ≡ 0 → Bounded g (lookOn g named old t .state)
@@ -308,11 +363,11 @@ module _ (g : Geometry) (ok : Valid g) (named : List Bool) (old : State) where
 
       ended : Bool → Outcome
       ended c =
-          pick c (record { answer = Finished; state = stateHeld (g .zones) (mountState (showing g (presentIn g (isSet named) (deviceOf g t)) (lostDriveIn g (isSet named) (deviceOf g t)) (seenIn g t))) })
+          pick c (record { answer = Finished; state = stateHeld (g .zones) (shownState g (presentIn g (isSet named) (deviceOf g t)) (lostDriveIn g (isSet named) (deviceOf g t)) (deviceOf g t)) })
           (record { answer = refusedAt (badPlaceOn g named t) n; state = old })
 
       go : (c : Bool) → eqb n 0 ≡ c → answerNumber (ended c .answer) ≡ 0 → Bounded g (ended c .state)
-      go true e h = shown-bounded g (presentIn g (isSet named) (deviceOf g t)) (isLost g (isSet named) (seenIn g t)) (seenIn g t) ok
+      go true e h = shown-bounded g (presentIn g (isSet named) (deviceOf g t)) (isLost g (isSet named) (seenIn g t)) (deviceOf g t) ok (look-words g (isSet named) (deviceOf g t) (deviceOf g t) ok)
       go false e h = absurd (refused-numbered (badPlaceOn g named t) n (look-told g named t) (eqb-false n 0 e) h)
 
   mount-bounded : (count : ℕ) (t : Tables) → answerNumber (mountOn g named old count t .outcome .answer) ≡ 0 → Bounded g (mountOn g named old count t .outcome .state)
@@ -325,17 +380,19 @@ module _ (g : Geometry) (ok : Valid g) (named : List Bool) (old : State) where
       let b = badPlaceOn g named t in
       subst (λ (r : Result). answerNumber (r .outcome .answer) ≡ 0 → Bounded g (r .outcome .state)) (sym (mount-stored g t named count old .is))
       (finished-told (Bounded g) g n ss (mountShownOn g present x t) old count t (refusedAt b) (refused-numbered b n (mount-told g named t))
-      (λ v. shown-bounded g present (isLost g (isSet named) (seenIn g t)) (seenIn g (runStores g (length ss) ss t)) ok))
+      (λ v. shown-bounded g present (isLost g (isSet named) (seenIn g t)) (deviceOf g (runStores g (length ss) ss t)) ok (look-words g (isSet named) (deviceOf g t) (deviceOf g (runStores g (length ss) ss t)) ok)))
 
-fresh-bounded : (g : Geometry) (named : List Bool) → Valid g → Bounded g (stateHeld (g .zones) (formatState (leftOut g (isSet named))))
+fresh-bounded : (g : Geometry) (named : List Bool) → Valid g → Bounded g (stateHeld (g .zones) (withShares (freshShares g (namedDrives g (isSet named))) (formatState (leftOut g (isSet named)))))
 unfolding leftOut
-fresh-bounded g named ok = held-bounded g (formatState (leftOut g (isSet named))) ok (drive-found (λ d. not (isSet named d)) (g .drives)) (λ z h. omega arith) (λ z h. zero-le)
+fresh-bounded g named ok =
+    held-bounded g (withShares (freshShares g (namedDrives g (isSet named))) (formatState (leftOut g (isSet named)))) ok (drive-found (λ d. not (isSet named d)) (g .drives)) (λ z h. omega arith) (λ z h. zero-le) (format-words g (isSet named) ok)
 
 format-bounded : (g : Geometry) → Valid g → (named : List Bool) (array : ℕ) (old : State) (count : ℕ) (t : Tables)
     → answerNumber (formatOn g named array old count t .outcome .answer) ≡ 0 → Bounded g (formatOn g named array old count t .outcome .state)
 unfolding formatOn
 format-bounded g ok named array old count t =
-    finished-new (Bounded g) g (verdictNumber (formatVerdict g named t)) (formatStores g (namedDrives g (isSet named)) (leftOut g (isSet named)) array) (stateHeld (g .zones) (formatState (leftOut g (isSet named)))) old count t (λ v. fresh-bounded g named ok)
+    let new = stateHeld (g .zones) (withShares (freshShares g (namedDrives g (isSet named))) (formatState (leftOut g (isSet named)))) in
+    finished-new (Bounded g) g (verdictNumber (formatVerdict g named t)) (formatStores g (namedDrives g (isSet named)) (leftOut g (isSet named)) array) new old count t (λ v. fresh-bounded g named ok)
 
 -- ==== the calls on bytes
 -- one that reads the state, and one that only writes it
@@ -372,11 +429,17 @@ module _ (g : Geometry) (mask : ℕ) (m : Ranges) where
       let r = resetOfBytes g mask z count m in
       after-reading g m (storedAll g r m) (r .outcome) refl refl (λ b ok. reset-bounded g (namedOf mask) (stateIn g m) b count z (tablesIn g m) ok)
 
-  pub write-hands-on : (a k count : ℕ) (bytes : List ℕ) → HandedOn g m (writeEdge g mask a k count bytes m) (writeOfBytes g mask a k count bytes m .outcome .state)
+  pub write-hands-on : (a : WriteAsked) (count : ℕ) → HandedOn g m (writeEdge g mask a count m) (writeOfBytes g mask a count m .outcome .state)
   unfolding storedAll
-  write-hands-on a k count bytes =
-      let r = writeOfBytes g mask a k count bytes m in
-      after-reading g m (storedAll g r m) (r .outcome) refl refl (λ b ok. write-bounded g (namedOf mask) (stateIn g m) b count a k bytes (tablesIn g m) ok)
+  write-hands-on a count =
+      let r = writeOfBytes g mask a count m in
+      after-reading g m (storedAll g r m) (r .outcome) refl refl (λ b ok. write-bounded g (namedOf mask) (stateIn g m) b count a (tablesIn g m) ok)
+
+  pub compact-hands-on : (d count : ℕ) → HandedOn g m (compactEdge g mask d count m) (compactOfBytes g mask d count m .outcome .state)
+  unfolding storedAll
+  compact-hands-on d count =
+      let r = compactOfBytes g mask d count m in
+      after-reading g m (storedAll g r m) (r .outcome) refl refl (λ b ok. compact-bounded g (namedOf mask) (stateIn g m) b count d (tablesIn g m) ok)
 
   -- (a look and a mount by the answer that they return)
   pub look-hands-on : HandedOn g m (withoutPlace (lookEdge g mask m)) (lookOfBytes g mask m .state)

@@ -15,8 +15,9 @@ use Rattle.volume.specs.declared.Answer.{Answer}
 use Rattle.volume.specs.declared.Answer.the-variants.{Finished, Unfinished, Refused, BadLog}
 use Rattle.volume.specs.declared.State.{State}
 use Rattle.volume.specs.declared.Outcome.{Outcome}
-use Rattle.volume.specs.meaning.Refusals.{stateWithin}
-use Rattle.volume.specs.meaning.CallContracts.{blankRecord, viewState, answerNumber, Result, flushOn, lookOn, mountOn, formatOn, resetOn, writeOn, ReadResult, readOn, peekNumber, byteOf}
+use Rattle.volume.specs.meaning.State.{maxShares}
+use Rattle.volume.specs.meaning.Refusals.{stateWithin, WriteAsked}
+use Rattle.volume.specs.meaning.CallContracts.{blankRecord, viewState, answerNumber, Result, flushOn, lookOn, mountOn, formatOn, resetOn, writeOn, compactOn, ReadResult, readOn, peekNumber, byteOf}
 use Rattle.volume.specs.declared.ZoneDescriptor.{ZoneDescriptor}
 use Rattle.volume.specs.declared.ReportedCondition.the-variants as told
 use Rattle.volume.specs.meaning.Report.{ReportResult, reportOn}
@@ -26,7 +27,7 @@ use Rattle.volume.specs.meaning.Answers.{placeOf}
 
 -- ---- the version of the interface: the major number times 65,536, and the minor one
 abbrev pub version : ℕ
-version = 65536
+version = 131072
 
 -- ---- numbers
 -- the geometry of a call's first five numbers
@@ -49,7 +50,7 @@ sizesFit g n w d = eqb n stateBytes && (eqb w (cells g * 4) && eqb d (cells g * 
 
 -- a state of its length that has not its form, or is out of document 01's bounds
 unfoldable pub stateBad : Geometry → List ℕ → Bool
-stateBad g st = eqb (length st) stateBytes && not (stateWellFormed (g .zones) st && stateWithin g (viewState (stateFrom (g .zones) st)))
+stateBad g st = eqb (length st) stateBytes && not (stateWellFormed g st && stateWithin g (viewState (stateFrom g st)))
 
 -- a call that reads the state
 unfoldable pub inputNumber : Geometry → List ℕ → ℕ → ℕ → ℕ
@@ -76,11 +77,11 @@ tablesIn g m = tablesOf (m .sectors) (tableFrom (cells g) (m .written)) (tableFr
 
 -- the state
 abbrev pub stateIn : Geometry → Ranges → State
-stateIn g m = stateFrom (g .zones) (m .state)
+stateIn g m = stateFrom g (m .state)
 
 -- in place of the state that a format, look or mount never reads
 unfoldable pub unreadState : State
-unreadState = record { lost = 0; zones = replicate maxZones blankRecord }
+unreadState = record { lost = 0; zones = replicate maxZones blankRecord; shares = replicate maxShares 0 }
 
 -- ---- what a call leaves
 -- what a call returns, and what it leaves of what it may change
@@ -109,7 +110,7 @@ writingState g m r = unlessRefused (sizesNumber g (length (m .state)) (length (m
 
 -- the state's bytes: new only where the call is finished
 unfoldable pub stateAfter : Geometry → Outcome → List ℕ → List ℕ
-stateAfter g o st = pick (eqb (answerNumber (o .answer)) 0) (stateTo (g .zones) (o .state)) st
+stateAfter g o st = pick (eqb (answerNumber (o .answer)) 0) (stateTo g (o .state)) st
 
 -- m: the sectors and the tables as the call leaves them, the state as it was
 abbrev pub handedBack : Geometry → Outcome → Ranges → Answered Ranges
@@ -157,12 +158,15 @@ mountOfBytes g mask count m = mountOn g (namedOf mask) unreadState count (tables
 abbrev pub mountEdge : Geometry → ℕ → ℕ → Ranges → Answered Ranges
 mountEdge g mask count m = writingState g m (withPlace (mountOfBytes g mask count m .outcome .answer) (storedAll g (mountOfBytes g mask count m) m))
 
--- write of k sectors, the given bytes, at address a
-abbrev pub writeOfBytes : Geometry → ℕ → ℕ → ℕ → ℕ → List ℕ → Ranges → Result
-writeOfBytes g mask a k count bytes m = writeOn g (namedOf mask) (stateIn g m) a k bytes count (tablesIn g m)
+-- write by a host of k sectors, the given bytes, at an address
+abbrev pub writeOf : ℕ → ℕ → ℕ → List ℕ → WriteAsked
+writeOf host address k bytes = record { host = host; address = address; count = k; buffer = bytes }
 
-abbrev pub writeEdge : Geometry → ℕ → ℕ → ℕ → ℕ → List ℕ → Ranges → Answered Ranges
-writeEdge g mask a k count bytes m = readingState g m (storedAll g (writeOfBytes g mask a k count bytes m) m) m
+abbrev pub writeOfBytes : Geometry → ℕ → WriteAsked → ℕ → Ranges → Result
+writeOfBytes g mask a count m = writeOn g (namedOf mask) (stateIn g m) a count (tablesIn g m)
+
+abbrev pub writeEdge : Geometry → ℕ → WriteAsked → ℕ → Ranges → Answered Ranges
+writeEdge g mask a count m = readingState g m (storedAll g (writeOfBytes g mask a count m) m) m
 
 abbrev pub flushOfBytes : Geometry → ℕ → ℕ → Ranges → Result
 flushOfBytes g mask count m = flushOn g (namedOf mask) (stateIn g m) count (tablesIn g m)
@@ -176,6 +180,13 @@ resetOfBytes g mask z count m = resetOn g (namedOf mask) (stateIn g m) z count (
 
 abbrev pub resetEdge : Geometry → ℕ → ℕ → ℕ → Ranges → Answered Ranges
 resetEdge g mask z count m = readingState g m (storedAll g (resetOfBytes g mask z count m) m) m
+
+-- compact of drive d
+abbrev pub compactOfBytes : Geometry → ℕ → ℕ → ℕ → Ranges → Result
+compactOfBytes g mask d count m = compactOn g (namedOf mask) (stateIn g m) d count (tablesIn g m)
+
+abbrev pub compactEdge : Geometry → ℕ → ℕ → ℕ → Ranges → Answered Ranges
+compactEdge g mask d count m = readingState g m (storedAll g (compactOfBytes g mask d count m) m) m
 
 -- ---- the calls that answer in a buffer of their own, and change nothing else
 -- read of k sectors from address a
@@ -224,7 +235,7 @@ abbrev pub reportBytes : ReportResult (List ZoneDescriptor) → List ℕ → Ans
 reportBytes r list = answered (withNumber (answerNumber (r .answer)) (r .number)) (filledBytes (r .list) (r .number) list)
 
 abbrev pub reportOfBytes : Geometry → List ℕ → List ℕ → ReportResult (List ZoneDescriptor)
-reportOfBytes g st list = reportOn g (viewState (stateFrom (g .zones) st)) (lentFor list)
+reportOfBytes g st list = reportOn g (viewState (stateFrom g st)) (lentFor list)
 
 abbrev pub reportEdge : Geometry → List ℕ → List ℕ → Answered (List ℕ)
 reportEdge g st list = unlessRefused (reportInput g st) (reportBytes (reportOfBytes g st list) list) list

@@ -9,14 +9,16 @@ use Rattle.tables.specs.meaning.Geometry.{Valid}
 use Rattle.tables.specs.meaning.GeometryTest.{isValid}
 use Rattle.tables.specs.laws.GeometryTest.{valid-if-test}
 use Rattle.tables.specs.laws.PointerOrder.{loss-none}
-use Rattle.tables.specs.meaning.Tables.{Tables}
+use Rattle.tables.specs.meaning.Tables.{Tables, deviceOf}
 use Rattle.tables.specs.meaning.Cached.{Caching}
 use Rattle.volume.specs.declared.State.{State}
 use Rattle.volume.specs.declared.Answer.the-variants.{Finished}
 use Rattle.volume.specs.meaning.Answers.{CallResult}
-use Rattle.promise.specs.meaning.Claim.{Call, mounts, formats, System, calls, Duty, start}
+use Rattle.volume.specs.meaning.Mount.{mountState}
+use Rattle.volume.specs.meaning.CallContracts.{isSet, viewState}
+use Rattle.promise.specs.meaning.Claim.{Call, mounts, formats, System, calls, Duty, SameZones, start}
 use Rattle.promise.specs.meaning.Caches.{WithCaches, beneath}
-use Rattle.promise.specs.meaning.OnTables.{onTables}
+use Rattle.promise.specs.meaning.OnTables.{shownIn, onTables}
 use Rattle.promise.specs.meaning.CachesOnTables.{onCachingTables}
 use Rattle.promise.specs.meaning.AnyDrive.{NoneStored, AnyDriveClaim}
 use Rattle.promise.specs.device.CachedPromise.{names-beneath}
@@ -27,6 +29,7 @@ use Rattle.promise.specs.shown.AnyDriveCaching.{caches-stay, tablesSeen}
 use Rattle.promise.specs.shown.AnyDriveOlder.{older-any-drive}
 use Rattle.zrv.specs.meaning.Bytes.{stateFrom}
 use Rattle.zrv.specs.meaning.EdgeCalls.{namedOf, formatEdge}
+use Rattle.zrv.specs.laws.StateRoundTrip.{shown-read-back}
 use Rattle.zrv_promise.specs.meaning.OnBytes.{LentBytes, rangesOf, tablesAt, onBytes}
 use Rattle.zrv_promise.specs.meaning.CachesOnBytes.{bytesCaches, onCachingBytes}
 use Rattle.zrv_promise.specs.bytes.BytesClaimProof.{byte-at, finished-code, BytesOk, call-views, answers, begins}
@@ -55,6 +58,9 @@ bytesSeen g ok wb =
     let t = tablesSeen g ok in
     record {
       shows-is = λ s o mask n. t .shows-is (viewCached g s) (tables-ok g ok wb s o) (namedOf mask) (record { drives = n .drives });
+      tells-is = λ mask m.
+          let t = tablesAt g (m .memory) in
+          subst (λ (x : State). SameZones g (viewState x) (mountState (shownIn g (namedOf mask) (tablesAt g (m .memory)) (tablesAt g (m .memory))))) (sym (shown-read-back g (isSet (namedOf mask)) (deviceOf g t) (deviceOf g t) ok)) (tablesSeen g ok .tells-is (namedOf mask) (heldBy g m));
       mount-settled = λ s o mask count d e.
           subst (λ (m : WithCaches Tables). Settled g (s .lost) (seenAs g m)) (sym (call-held g ok wb s o mounts mask (d .0) count))
           (t .mount-settled (viewCached g s) (tables-ok g ok wb s o) (namedOf mask) count (duty-there g ok wb s o mounts mask count d) (sym (answer-held g ok wb s o mounts mask (d .0) count) ∙ e));

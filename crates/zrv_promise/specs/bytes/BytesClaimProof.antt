@@ -25,12 +25,12 @@ use Rattle.volume.specs.declared.Outcome.{Outcome}
 use Rattle.volume.specs.declared.Answer.{Answer}
 use Rattle.volume.specs.declared.Answer.the-variants.{Finished, Unfinished, Refused, BadLog}
 use Rattle.volume.specs.meaning.Answers.{CallResult}
-use Rattle.volume.specs.meaning.CallContracts.{recordAt, isSet, answerNumber, verdictNumber, Result, lookOn, mountVerdict, badPlaceOn, stateHeld}
+use Rattle.volume.specs.meaning.CallContracts.{recordAt, isSet, answerNumber, verdictNumber, Result, lookOn, mountVerdict, badPlaceOn}
 use Rattle.volume.specs.laws.AnswerNumbers.{mount-tells}
 use Rattle.volume.specs.laws.ByteLists.{Bytes}
-use Rattle.volume.specs.meaning.Mount.{mountState}
 use Rattle.promise.specs.meaning.Ledger.{Fits}
-use Rattle.promise.specs.meaning.Claim.{Call, mounts, writes, flushes, resets, formats, System, answered, reported, heard, Event, calls, looks, reads, peeks, reports, cuts, loses, MayMount, ready, settled, ledgerAfter, next, NamesAll, Duty, Serves, Promise, start}
+use Rattle.promise.specs.meaning.Claim.{Call, mounts, writes, flushes, resets, formats, compacts, System, answered, reported, heard, Event, calls, looks, reads, peeks, reports, cuts, loses, MayMount, ready, settled, ledgerAfter, next, NamesAll, Duty, Serves, Promise, start}
+use Rattle.promise.specs.meaning.OnDevice.{stateShown}
 use Rattle.promise.specs.meaning.OnTables.{resultOn, callResult, shownIn, onTables}
 use Rattle.promise.specs.device.AtRestAnswers.{left-out}
 use Rattle.promise.specs.device.Heard.{answer-heard, answer-alike, read-alike, peek-alike}
@@ -46,7 +46,7 @@ use Rattle.zrv.specs.laws.TablesRoundTrip.{table-long, table-bytes, table-bytes
 use Rattle.zrv.specs.laws.CallsLeave.{format-stored}
 use Rattle.zrv.specs.laws.StateRoundTrip.{HandsOn, look-hands-on, format-hands-on}
 use Rattle.zrv_promise.specs.meaning.OnBytes.{LentBytes, rangesOf, tablesAt, answerOf, edgeOf, bytesResult, shownBytes, StillBytes, onBytes}
-use Rattle.zrv_promise.specs.bytes.CallsOnBytes.{OnTheTables, format-small, storing-known, viewBytes, views, takes, format-on, mount-on, write-on, flush-on, reset-on}
+use Rattle.zrv_promise.specs.bytes.CallsOnBytes.{OnTheTables, format-small, storing-known, viewBytes, views, takes, format-on, mount-on, write-on, flush-on, reset-on, compact-on}
 use Rattle.zrv_promise.specs.bytes.ReadsOnBytes.{sizes-pass, look-other, look-is, read-is, peek-is, report-is}
 
 -- ---- numbers
@@ -69,7 +69,7 @@ finished-code n e = go (eqb n 0) (eqb n 255) refl e
 
 -- ---- the system that the bytes hold, and the invariant
 abbrev pub viewSystem : (g : Geometry) → System (onBytes g) → System (onTables g)
-viewSystem g s = record { memory = tablesAt g (s .memory); lost = s .lost; mode = s .mode; state = stateFrom (g .zones) (s .state); ledger = s .ledger }
+viewSystem g s = record { memory = tablesAt g (s .memory); lost = s .lost; mode = s .mode; state = stateFrom g (s .state); ledger = s .ledger }
 
 pub record BytesOk (g : Geometry) (s : System (onBytes g)) : Type 0 where
   pub written-bytes : Bytes (s .memory .written)
@@ -85,7 +85,7 @@ module _ (g : Geometry) (ok : Valid g) (wb : isValid g ≡ true) (s : System (on
   t = tablesAt g (s .memory)
 
   abbrev st : State
-  st = stateFrom (g .zones) (s .state)
+  st = stateFrom g (s .state)
 
   promised : Promise g (onTables g) (viewSystem g s)
   promised = tables-promise g ok wb (viewSystem g s) (o .holds)
@@ -112,6 +112,7 @@ module _ (g : Geometry) (ok : Valid g) (wb : isValid g ≡ true) (s : System (on
       call-on flushes stop = (_, flush-on g mask m (o .written-bytes) (o .durable-bytes) (o .taken) stop)
       call-on (resets z) stop = (_, reset-on g mask m (o .written-bytes) (o .durable-bytes) (o .taken) z stop)
       call-on (formats array) stop = (_, format-on g mask m (o .written-bytes) (o .durable-bytes) sizes array stop)
+      call-on (compacts d) stop = (_, compact-on g mask m (o .written-bytes) (o .durable-bytes) (o .taken) d stop)
 
       pub call-views : (c : Call) (stop : ℕ) → viewBytes g (onBytes g .call c mask (s .state) stop (s .memory)) ≡ onTables g .call c (namedOf mask) st stop t
       call-views c stop = let (r, q) = call-on c stop in views g m (edgeOf g c mask stop m) r (resultOn g c (namedOf mask) st stop t) q
@@ -123,25 +124,26 @@ module _ (g : Geometry) (ok : Valid g) (wb : isValid g ≡ true) (s : System (on
       heard-as c stop a e = answer-alike (sym (answers c stop)) e
 
       -- ---- looks
-      look-on : lookOn g (namedOf mask) st t ≡ record { answer = Finished; state = stateHeld (g .zones) (mountState (shownIn g (namedOf mask) t t)) }
+      abbrev shown : State
+      shown = onTables g .stateOf (namedOf mask) t t
+
+      look-on : lookOn g (namedOf mask) st t ≡ record { answer = Finished; state = shown }
       look-on = ap (λ (r : CallResult Tables State). let u : Outcome = record { answer = r .answer; state = r .state } in u) (promised .look-fits (namedOf mask) names .0)
 
-      looked : onBytes g .look mask (s .state) (s .memory) ≡ record { answer = Finished; memory = s .memory; state = stateTo (g .zones) (stateHeld (g .zones) (mountState (shownIn g (namedOf mask) t t))) }
-      looked = look-is g mask (s .memory) (s .state) (o .taken) (stateHeld (g .zones) (mountState (shownIn g (namedOf mask) t t))) look-on
+      looked : onBytes g .look mask (s .state) (s .memory) ≡ record { answer = Finished; memory = s .memory; state = stateTo g shown }
+      looked = look-is g mask (s .memory) (s .state) (o .taken) shown look-on
 
       -- its state's bytes are taken, and hold what the look on the tables hands on
       look-hands : HandsOn g (lookEdge g mask m .left .state) (lookOfBytes g mask m .state) (length (s .memory .written)) (length (s .memory .durable))
       look-hands = look-hands-on g mask m (finished-code (withoutPlace (lookEdge g mask m) .code) (ap (λ (r : CallResult LentBytes (List ℕ)). r .answer) looked))
 
-      pub look-state : stateFrom (g .zones) (onBytes g .look mask (s .state) (s .memory) .state) ≡ lookOn g (namedOf mask) st t .state
-      look-state =
-          let x = stateHeld (g .zones) (mountState (shownIn g (namedOf mask) t t)) in
-          look-hands .reads-back ∙ ap (λ (u : Outcome). u .state) (look-other g (namedOf mask) st unreadState x t look-on) ∙ ap (λ (u : Outcome). u .state) (sym look-on)
+      pub look-state : stateFrom g (onBytes g .look mask (s .state) (s .memory) .state) ≡ lookOn g (namedOf mask) st t .state
+      look-state = look-hands .reads-back ∙ ap (λ (u : Outcome). u .state) (look-other g (namedOf mask) st unreadState shown t look-on) ∙ ap (λ (u : Outcome). u .state) (sym look-on)
 
       -- ---- reports
-      conditions-looked : (z : ℕ) → z < g .zones → recordAt (stateFrom (g .zones) (onBytes g .look mask (s .state) (s .memory) .state)) z .condition ≡ shownIn g (namedOf mask) t t .zone z .condition
+      conditions-looked : (z : ℕ) → z < g .zones → recordAt (stateFrom g (onBytes g .look mask (s .state) (s .memory) .state)) z .condition ≡ shownIn g (namedOf mask) t t .zone z .condition
       conditions-looked z h =
-          ap (λ (x : State). recordAt x z .condition) look-state ∙ ap (λ (u : Outcome). recordAt (u .state) z .condition) look-on ∙ sym (held-agrees g (g .zones) (mountState (shownIn g (namedOf mask) t t)) (omega arith) .condition-same z h)
+          ap (λ (x : State). recordAt x z .condition) look-state ∙ ap (λ (u : Outcome). recordAt (u .state) z .condition) look-on ∙ sym (held-agrees g (g .zones) (stateShown g (isSet (namedOf mask)) (deviceOf g t) (deviceOf g t)) (omega arith) .condition-same z h)
 
       conditions-shown : s .mode ≡ ready → (z : ℕ) → z < g .zones → recordAt st z .condition ≡ shownIn g (namedOf mask) t t .zone z .condition
       conditions-shown r z h = sym (promised .look-holds (namedOf mask) names r .1 .conditions z h) ∙ sym (ap (λ (x : State). recordAt x z .condition) look-state) ∙ conditions-looked z h
@@ -154,7 +156,7 @@ module _ (g : Geometry) (ok : Valid g) (wb : isValid g ≡ true) (s : System (on
       look-serves-bytes : s .mode ≡ ready → Serves g (onBytes g) s (onBytes g .look mask (s .state) (s .memory) .state)
       look-serves-bytes r =
           let x = onBytes g .look mask (s .state) (s .memory) .state in
-          let q : Serves g (onTables g) (viewSystem g s) (stateFrom (g .zones) x) = rw look-state (promised .look-serves (namedOf mask) names r) in
+          let q : Serves g (onTables g) (viewSystem g s) (stateFrom g x) = rw look-state (promised .look-serves (namedOf mask) names r) in
           record {
             reads-same = λ by all a count out.
                 read-is g by (s .memory) x (look-hands .taken) a count out ∙ q .reads-same (namedOf by) (record { drives = all .drives }) a count out ∙ sym (read-is g by (s .memory) (s .state) (o .taken) a count out);
@@ -164,14 +166,14 @@ module _ (g : Geometry) (ok : Valid g) (wb : isValid g ≡ true) (s : System (on
 
       -- ---- a finished mount
       mount-claim : MayMount (s .mode) → (stop : ℕ) → heard s (calls mounts mask stop) ≡ answered Finished
-          → let r = onBytes g .call mounts mask (s .state) stop (s .memory) in let k = onBytes g .shows mask (s .memory) (r .memory) in (r .state ≡ onBytes g .stateOf k) × Fits g (s .ledger) k
+          → let r = onBytes g .call mounts mask (s .state) stop (s .memory) in let k = onBytes g .shows mask (s .memory) (r .memory) in (r .state ≡ onBytes g .stateOf mask (s .memory) (r .memory)) × Fits g (s .ledger) k
       mount-claim may stop e =
           let (r, q) = call-on mounts stop in
           let u = resultOn g mounts (namedOf mask) st stop t in
           let h = finished-code (edgeOf g mounts mask stop m .code) (answer-heard e) in
           let k : tablesIn g (edgeOf g mounts mask stop m .left) ≡ u .tables = ap (λ (x : CallResult Tables State). x .memory) (call-views mounts stop) in
           let (a, b) = promised .mount-fits (namedOf mask) names may stop (heard-as mounts stop Finished e) in
-          rw k (q .hands-on h .bytes-are ∙ ap (stateTo (g .zones)) (q .alike .new-same (sym (q .leaves .code-is) ∙ h) ∙ a), b)
+          rw k (q .hands-on h .bytes-are ∙ ap (stateTo g) (q .alike .new-same (sym (q .leaves .code-is) ∙ h) ∙ a), b)
 
   -- the promise
   pub bytes-promise : Promise g (onBytes g) s
@@ -185,6 +187,9 @@ module _ (g : Geometry) (ok : Valid g) (wb : isValid g ≡ true) (s : System (on
     flush-accepted = λ mask n r stop a e. promised .flush-accepted (namedOf mask) (names mask n) r stop a (heard-as mask n flushes stop a e);
     reset-refused = λ mask n r z stop a e. promised .reset-refused (namedOf mask) (names mask n) r z stop a (heard-as mask n (resets z) stop a e);
     write-refused = λ mask n r w stop a e. promised .write-refused (namedOf mask) (names mask n) r w stop a (heard-as mask n (writes w) stop a e);
+    share-asked = λ mask n r w p stop. let (not-done, not-stopped) = promised .share-asked (namedOf mask) (names mask n) r w p stop in (λ e. not-done (heard-as mask n (writes w) stop Finished e), λ e. not-stopped (heard-as mask n (writes w) stop Unfinished e));
+    compact-refused = λ mask n r d stop a e. promised .compact-refused (namedOf mask) (names mask n) r d stop a (heard-as mask n (compacts d) stop a e);
+    shares-fit = promised .shares-fit;
     read-gives = λ mask n r a count out bytes e. promised .read-gives (namedOf mask) (names mask n) r a count out bytes (read-alike (sym (read-is g mask (s .memory) (s .state) (o .taken) a count out)) e);
     read-accepted = λ mask n r a count out hz pos len h. read-alike (read-is g mask (s .memory) (s .state) (o .taken) a count out) (promised .read-accepted (namedOf mask) (names mask n) r a count out hz pos len h);
     peek-gives = λ mask n r a from part e. promised .peek-gives (namedOf mask) (names mask n) r a from part (peek-alike (sym (peek-is g mask (s .memory) (s .state) (o .taken) a)) e);
@@ -251,6 +256,7 @@ lost-open g ok s o (inl e) u c = record {
   order = λ d hd n. loss-order g (s .lost) d (s .memory) u c hd n (o .order d hd n);
   records = o .records;
   holds = rw (none-changed g ok (s .lost) e (s .memory) u c) (o .holds);
+  shared = rw (none-changed g ok (s .lost) e (s .memory) u c) (o .shared);
 }
 
 -- tables whose numbers are not all of 32 bits, written and read back: only a lost drive's may differ
@@ -314,7 +320,7 @@ module _ (g : Geometry) (mask array stop : ℕ) (old : List ℕ) (m : LentBytes)
     unfolding storedAll
     left-tables = ap (λ (x : Answered Ranges). tablesAt g (bytesResult x .memory)) edge-is
 
-    pub left-state : stateFrom (g .zones) (edge .left .state) ≡ made-on .outcome .state
+    pub left-state : stateFrom g (edge .left .state) ≡ made-on .outcome .state
     left-state = format-hands-on g mask (rangesOf m old) array stop h .reads-back
 
     pub bytes-start : BytesOk g (start g (onBytes g) mask (bytesResult edge))
@@ -331,6 +337,6 @@ module _ (g : Geometry) (mask array stop : ℕ) (old : List ℕ) (m : LentBytes)
           written-bytes = table-bytes (made-on .tables .written);
           durable-bytes = table-bytes (made-on .tables .durable);
           taken = rw (w, d) (ap (λ (l : List ℕ). inputNumber g l (length (m .written)) (length (m .durable))) (sym z) ∙ k .taken);
-          holds = subst (λ (x : State). TablesOk g (with-state x)) (sym (k .reads-back) ∙ ap (stateFrom (g .zones)) z) opened;
+          holds = subst (λ (x : State). TablesOk g (with-state x)) (sym (k .reads-back) ∙ ap (stateFrom g) z) opened;
         } in
         rw edge-is bytes

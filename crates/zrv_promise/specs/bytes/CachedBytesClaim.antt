@@ -39,7 +39,7 @@ use Rattle.zrv_promise.specs.bytes.BytesClaimProof.{bytes-all, finished-
 
 -- ---- the system on the tables that the bytes hold
 abbrev pub viewCached : (g : Geometry) → System (onCachingBytes g) → System (onCachingTables g)
-viewCached g s = record { memory = record { memory = tablesAt g (s .memory .memory); was = s .memory .was }; lost = s .lost; mode = s .mode; state = stateFrom (g .zones) (s .state); ledger = s .ledger }
+viewCached g s = record { memory = record { memory = tablesAt g (s .memory .memory); was = s .memory .was }; lost = s .lost; mode = s .mode; state = stateFrom g (s .state); ledger = s .ledger }
 
 -- what holds of tables in the bytes, with these caches
 abbrev Holds : (g : Geometry) → System (onTables g) → Remembered → Type 0
@@ -62,7 +62,7 @@ module _ (g : Geometry) (ok : Valid g) (wb : isValid g ≡ true) (s : System (on
   t = tablesAt g (s .memory .memory)
 
   abbrev st : State
-  st = stateFrom (g .zones) (s .state)
+  st = stateFrom g (s .state)
 
   pub tables-ok : TablesOkCached g (viewCached g s)
   tables-ok = record { plain = o .plain .holds; holds = o .holds }
@@ -133,7 +133,7 @@ module _ (g : Geometry) (mask array stop : ℕ) (old : List ℕ) (m : LentBytes)
   pub bytes-start-cached : BytesOkCached g (start g (onCachingBytes g) mask (onCachingBytes g .call (formats array) mask old stop (record { memory = m; was = was })))
   bytes-start-cached = record {
     plain = bytes-start g mask array stop old m small h;
-    holds = subst (λ (u : Tables). RestsCached g x (record { now = deviceOf g u; was = remembers }) (viewState (stateFrom (g .zones) (edge g mask array stop old m small .left .state))) freshLedger) (sym (left-tables g mask array stop old m small h))
+    holds = subst (λ (u : Tables). RestsCached g x (record { now = deviceOf g u; was = remembers }) (viewState (stateFrom g (edge g mask array stop old m small .left .state))) freshLedger) (sym (left-tables g mask array stop old m small h))
         (subst (λ (y : State). RestsCached g x (record { now = deviceOf g tables; was = remembers }) (viewState y) freshLedger) (sym (left-state g mask array stop old m small h)) read-rests);
   }
 

@@ -34,7 +34,7 @@ module _ (g : Geometry) (ok : Valid g) (wb : isValid g ≡ true) (s : System (on
   here = onCachingBytes g .call c mask (s .state) stop (s .memory)
 
   abbrev there : CallResult (WithCaches Tables) State
-  there = onCachingTables g .call c (namedOf mask) (stateFrom (g .zones) (s .state)) stop (heldBy g (s .memory))
+  there = onCachingTables g .call c (namedOf mask) (stateFrom g (s .state)) stop (heldBy g (s .memory))
 
   pub answer-held : here .answer ≡ there .answer
   answer-held = answers g ok wb s0 (o .plain) mask names c stop

@@ -18,49 +18,53 @@ use Rattle.volume.specs.declared.Outcome.{Outcome}
 use Rattle.volume.specs.declared.Answer.{Answer}
 use Rattle.volume.specs.declared.Answer.the-variants.{Finished, Unfinished, Refused}
 use Rattle.volume.specs.meaning.Answers.{CallResult}
-use Rattle.volume.specs.meaning.Refusals.{formatRows, writeRows, flushRows, resetRows, readRows}
-use Rattle.volume.specs.meaning.CallContracts.{viewState, isSet, answerNumber, verdictNumber, lengthsOf, badIn, rolesOf, seenIn, Result, storingOn, flushVerdict, flushOn, resetVerdict, resetOn, writeVerdict, writeOn, formatVerdict, formatOn, mountVerdict, badPlaceOn, readNumber}
+use Rattle.volume.specs.meaning.Refusals.{WriteAsked, formatRows, writeRows, flushRows, resetRows, compactRows, readRows}
+use Rattle.volume.specs.meaning.CallContracts.{viewState, isSet, answerNumber, verdictNumber, lengthsOf, badIn, rolesOf, seenIn, Result, storingOn, flushVerdict, flushOn, resetVerdict, resetOn, writeVerdict, writeOn, compactVerdict, compactOn, formatVerdict, formatOn, mountVerdict, badPlaceOn, readNumber}
 use Rattle.volume.specs.laws.AnswerNumbers.{verdict-small, mount-small, mount-told, refused-numbered}
 use Rattle.volume.specs.laws.BadPlaces.{refused-plain}
 use Rattle.volume.specs.laws.ByteLists.{Bytes}
-use Rattle.promise.specs.meaning.Claim.{WriteAsked, mounts, writes, flushes, resets, formats}
+use Rattle.promise.specs.meaning.Claim.{mounts, writes, flushes, resets, formats, compacts}
 use Rattle.promise.specs.meaning.OnTables.{resultOn, callResult}
 use Rattle.zrv.specs.meaning.Bytes.{stateFrom}
-use Rattle.zrv.specs.meaning.EdgeCalls.{namedOf, inputNumber, sizesNumber, Ranges, tablesIn, stateIn, unreadState, Answered, formatOfBytes, mountOfBytes, writeOfBytes, flushOfBytes, resetOfBytes}
+use Rattle.zrv.specs.meaning.EdgeCalls.{namedOf, inputNumber, sizesNumber, Ranges, tablesIn, stateIn, unreadState, Answered, formatOfBytes, mountOfBytes, writeOfBytes, flushOfBytes, resetOfBytes, compactOfBytes}
 use Rattle.zrv.specs.laws.EdgeCalls.{state-kept}
-use Rattle.zrv.specs.laws.StateRoundTrip.{HandedOn, flush-hands-on, reset-hands-on, write-hands-on, mount-hands-on, format-hands-on}
-use Rattle.zrv.specs.laws.CallsLeave.{storingTold, Stored, Leaves, format-stored, mount-stored, write-stored, flush-stored, reset-stored, format-leaves, mount-leaves, write-leaves, flush-leaves, reset-leaves}
+use Rattle.zrv.specs.laws.StateRoundTrip.{HandedOn, flush-hands-on, reset-hands-on, write-hands-on, compact-hands-on, mount-hands-on, format-hands-on}
+use Rattle.zrv.specs.laws.CallsLeave.{storingTold, Stored, Leaves, format-stored, mount-stored, write-stored, flush-stored, reset-stored, compact-stored, format-leaves, mount-leaves, write-leaves, flush-leaves, reset-leaves, compact-leaves}
 use Rattle.zrv_promise.specs.meaning.OnBytes.{LentBytes, tablesAt, answerOf, edgeOf, bytesResult}
 
--- ---- a refusal's number is below 16
+-- ---- a refusal's number is below 20
 module _ (g : Geometry) (named : List Bool) (t : Tables) where
-  pub format-small : verdictNumber (formatVerdict g named t) < 16
+  pub format-small : verdictNumber (formatVerdict g named t) < 20
   unfolding formatVerdict formatRows
   format-small = verdict-small (formatRows g (lengthsOf t) (badIn g named t) (isSet named) (deviceOf g t)) refl
 
   module _ (s : State) where
-    flush-small : verdictNumber (flushVerdict g named s t) < 16
+    flush-small : verdictNumber (flushVerdict g named s t) < 20
     unfolding flushVerdict flushRows
     flush-small = verdict-small (flushRows g (lengthsOf t) (badIn g named t) (isSet named) (viewState s) (deviceOf g t)) refl
 
-    reset-small : (z : ℕ) → verdictNumber (resetVerdict g named s z t) < 16
+    reset-small : (z : ℕ) → verdictNumber (resetVerdict g named s z t) < 20
     unfolding resetVerdict resetRows
     reset-small z = verdict-small (resetRows g (lengthsOf t) (badIn g named t) (isSet named) (viewState s) z (rolesOf g t) (seenIn g t)) refl
 
-    write-small : (a k bytes : ℕ) → verdictNumber (writeVerdict g named s a k bytes t) < 16
+    write-small : (a : WriteAsked) → verdictNumber (writeVerdict g named s a t) < 20
     unfolding writeVerdict writeRows
-    write-small a k bytes = verdict-small (writeRows g (lengthsOf t) (badIn g named t) (isSet named) (viewState s) a k bytes (rolesOf g t) (seenIn g t)) refl
+    write-small a = verdict-small (writeRows g (lengthsOf t) (badIn g named t) (isSet named) (viewState s) a (rolesOf g t) (seenIn g t)) refl
 
-    pub read-small : (a k bytes : ℕ) → readNumber g named s a k bytes t < 16
+    compact-small : (d : ℕ) → verdictNumber (compactVerdict g named s d t) < 20
+    unfolding compactVerdict compactRows
+    compact-small d = verdict-small (compactRows g (lengthsOf t) (badIn g named t) (isSet named) (viewState s) d (rolesOf g t) (seenIn g t)) refl
+
+    pub read-small : (a k bytes : ℕ) → readNumber g named s a k bytes t < 20
     unfolding readNumber readRows
     read-small a k bytes = verdict-small (readRows g (lengthsOf t) (badIn g named t) (isSet named) (viewState s) a k bytes (seenIn g t)) refl
 
 -- so its number tells an answer
-pub refused-known : (n : ℕ) → n < 16 → eqb n 0 ≡ false → answerOf n ≡ Refused n
+pub refused-known : (n : ℕ) → n < 20 → eqb n 0 ≡ false → answerOf n ≡ Refused n
 refused-known n h e = rw (e, ne-eqb n 255 (λ k. omega (arith, k, h))) refl
 
 -- (plain: it is answered by its number)
-pub storing-known : (g : Geometry) (t : Tables) (r : Result) (q : Stored g t r) → q .number < 16 → q .told (q .number) ≡ Refused (q .number) → answerOf (answerNumber (r .outcome .answer)) ≡ r .outcome .answer
+pub storing-known : (g : Geometry) (t : Tables) (r : Result) (q : Stored g t r) → q .number < 20 → q .told (q .number) ≡ Refused (q .number) → answerOf (answerNumber (r .outcome .answer)) ≡ r .outcome .answer
 storing-known g t r q h plain = ap (λ (u : Result). answerOf (answerNumber (u .outcome .answer))) (q .is) ∙ go (eqb (q .number) 0) (ltb (q .count) (length (q .stores))) refl ∙ ap (λ (u : Result). u .outcome .answer) (sym (q .is))
   where
     ended : Bool → Bool → Outcome
@@ -105,7 +109,7 @@ pub record OnTheTables (g : Geometry) (m : Ranges) (e : Answered Ranges) (r u : 
 
 -- what bytes hold of a result
 abbrev pub viewBytes : Geometry → CallResult LentBytes (List ℕ) → CallResult Tables State
-viewBytes g r = record { answer = r .answer; memory = tablesAt g (r .memory); state = stateFrom (g .zones) (r .state) }
+viewBytes g r = record { answer = r .answer; memory = tablesAt g (r .memory); state = stateFrom g (r .state) }
 
 module _ (g : Geometry) (m : Ranges) (e : Answered Ranges) (r u : Result) (q : OnTheTables g m e r u) where
   -- the state's bytes stay, unless it is finished
@@ -121,9 +125,9 @@ module _ (g : Geometry) (m : Ranges) (e : Answered Ranges) (r u : Result) (q : O
       tables : tablesIn g (e .left) ≡ u .tables
       tables = q .leaves .tables-are ∙ q .alike .tables-same
 
-      state : Dec (e .code ≡ 0) → stateFrom (g .zones) (e .left .state) ≡ u .outcome .state
+      state : Dec (e .code ≡ 0) → stateFrom g (e .left .state) ≡ u .outcome .state
       state (yes h) = q .hands-on h .reads-back ∙ q .alike .new-same (sym (q .leaves .code-is) ∙ h)
-      state (no h) = ap (stateFrom (g .zones)) (bytes-kept h) ∙ sym (q .alike .old-kept (λ k. h (q .leaves .code-is ∙ k)))
+      state (no h) = ap (stateFrom g) (bytes-kept h) ∙ sym (q .alike .old-kept (λ k. h (q .leaves .code-is ∙ k)))
 
   -- the next call takes what it leaves
   pub takes : inputNumber g (m .state) (length (m .written)) (length (m .durable)) ≡ 0 → inputNumber g (e .left .state) (length (e .left .written)) (length (e .left .durable)) ≡ 0
@@ -133,7 +137,7 @@ module _ (g : Geometry) (m : Ranges) (e : Answered Ranges) (r u : Result) (q : O
       go (yes h) = q .hands-on h .taken
       go (no h) = rw (bytes-kept h) n
 
--- ---- each of the five
+-- ---- each of the six
 module _ (g : Geometry) (mask : ℕ) (m : Ranges) (a : Bytes (m .written)) (b : Bytes (m .durable)) where
   abbrev t : Tables
   t = tablesIn g m
@@ -173,17 +177,25 @@ module _ (g : Geometry) (mask : ℕ) (m : Ranges) (a : Bytes (m .written)) (b : 
         }
 
   module _ (n : inputNumber g (m .state) (length (m .written)) (length (m .durable)) ≡ 0) where
-    pub write-on : (w : WriteAsked) (count : ℕ) → OnTheTables g m (edgeOf g (writes w) mask count m) (writeOfBytes g mask (w .address) (w .count) count (w .buffer) m) (resultOn g (writes w) named s count t)
+    pub write-on : (w : WriteAsked) (count : ℕ) → OnTheTables g m (edgeOf g (writes w) mask count m) (writeOfBytes g mask w count m) (resultOn g (writes w) named s count t)
     unfolding write-stored writeOn
     write-on w count =
-        let at = w .address in
-        let k = w .count in
-        let bytes = w .buffer in
-        let q = write-stored g t named count s at k bytes in
+        let q = write-stored g t named count s w in
         record {
-          leaves = write-leaves g mask m a b n at k count bytes;
-          hands-on = write-hands-on g mask m at k count bytes;
-          known = storing-known g t (writeOfBytes g mask at k count bytes m) q (write-small g named t s at k (length bytes)) refl;
+          leaves = write-leaves g mask m a b n w count;
+          hands-on = write-hands-on g mask m w count;
+          known = storing-known g t (writeOfBytes g mask w count m) q (write-small g named t s w) refl;
+          alike = storing-alike g (q .number) (q .stores) (q .new) s s count t;
+        }
+
+    pub compact-on : (d count : ℕ) → OnTheTables g m (edgeOf g (compacts d) mask count m) (compactOfBytes g mask d count m) (resultOn g (compacts d) named s count t)
+    unfolding compact-stored compactOn
+    compact-on d count =
+        let q = compact-stored g t named count s d in
+        record {
+          leaves = compact-leaves g mask m a b n d count;
+          hands-on = compact-hands-on g mask m d count;
+          known = storing-known g t (compactOfBytes g mask d count m) q (compact-small g named t s d) refl;
           alike = storing-alike g (q .number) (q .stores) (q .new) s s count t;
         }
 

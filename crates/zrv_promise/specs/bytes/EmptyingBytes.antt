@@ -12,13 +12,13 @@ use Rattle.tables.specs.meaning.Device.{Device}
 use Rattle.tables.specs.meaning.Tables.{Tables, deviceOf}
 use Rattle.volume.specs.meaning.Rules.{Shown}
 use Rattle.volume.specs.meaning.CallContracts.{viewState, isSet}
-use Rattle.promise.specs.meaning.Claim.{Call, mounts, writes, resets, formats, System, NamesAll, start}
+use Rattle.promise.specs.meaning.Claim.{Call, mounts, resets, formats, compacts, System, NamesAll, start}
 use Rattle.promise.specs.meaning.OnDevice.{shownBy}
 use Rattle.promise.specs.meaning.OnTables.{shownIn}
 use Rattle.promise.specs.meaning.Caches.{WithCaches}
 use Rattle.promise.specs.meaning.CachesOnTables.{TablesCachingCut, onCachingTables}
 use Rattle.promise.specs.meaning.Histories.{ShowsAlike}
-use Rattle.promise.specs.meaning.Emptied.{AlikeUpTo, Emptyings, flushEnd, emptyingsOfWrite, emptyingsOfReset, emptyingsOfMount, parityEmptyingsOfMount, entryMade, stoppedAt, KeepsLooks, EmptyingsKeepLooks, EmptyingsShowAlike}
+use Rattle.promise.specs.meaning.Emptied.{AlikeUpTo, Emptyings, flushEnd, emptyingsOfCompact, emptyingsOfReset, emptyingsOfMount, parityEmptyingsOfMount, entryMade, stoppedAt, KeepsLooks, EmptyingsKeepLooks, EmptyingsShowAlike}
 use Rattle.promise.specs.invariant.Throughout.{every-point}
 use Rattle.promise.specs.tables.EmptyingTables.{tables-emptyings-keep}
 use Rattle.zrv.specs.meaning.Bytes.{stateFrom}
@@ -55,9 +55,9 @@ module _ (g : Geometry) (ok : Valid g) (wb : isValid g ≡ true) (s : System (on
       let p = tables-emptyings-keep g ok tables (tables-ok g ok wb s o) in
       let x = s .lost in
       let v = deviceIn g (s .memory) in
-      let state = viewState (stateFrom (g .zones) (s .state)) in
+      let state = viewState (stateFrom g (s .state)) in
       record {
-        of-write = λ mask n m w. on-bytes (writes w) mask n (emptyingsOfWrite g x v state w) (λ d. ShowsAlike g) (p .of-write (namedOf mask) (names-held mask n) m w);
+        of-compact = λ mask n m d. on-bytes (compacts d) mask n (emptyingsOfCompact g x v state d) (λ e. ShowsAlike g) (p .of-compact (namedOf mask) (names-held mask n) m d);
         of-reset = λ mask n m z. on-bytes (resets z) mask n (emptyingsOfReset g x v state) (λ d. ShowsAlike g) (p .of-reset (namedOf mask) (names-held mask n) m z);
         of-mount = λ mask n m. on-bytes mounts mask n (emptyingsOfMount g x v) (λ d. ShowsAlike g) (p .of-mount (namedOf mask) (names-held mask n) m);
         of-mount-parity = λ mask n m. on-bytes mounts mask n (parityEmptyingsOfMount g x v) (λ d. AlikeUpTo g (entryMade g x v d) (λ z. shownBy g (isSet (namedOf mask)) v v .zone z .pointer)) (p .of-mount-parity (namedOf mask) (names-held mask n) m);

@@ -23,18 +23,18 @@ use Rattle.tables.specs.laws.LittleEndian.{number-bytes-le}
 use Rattle.volume.specs.declared.State.{State}
 use Rattle.volume.specs.declared.Answer.the-variants.{Finished, Refused}
 use Rattle.volume.specs.declared.Outcome.{Outcome}
-use Rattle.volume.specs.meaning.Rules.{Shown, showing}
+use Rattle.volume.specs.meaning.Rules.{Shown}
 use Rattle.volume.specs.meaning.Answers.{presentIn, lostDriveIn, refusedAt}
 use Rattle.volume.specs.meaning.Refusals.{zoneOf, offsetOf}
-use Rattle.volume.specs.meaning.CallContracts.{recordAt, viewState, isSet, answerNumber, verdictNumber, seenIn, lookVerdict, badPlaceOn, lookOn, ReadResult, readNumber, readOn, peekNumber, peekFrom, peekOn, stateHeld}
+use Rattle.volume.specs.meaning.CallContracts.{recordAt, viewState, isSet, answerNumber, verdictNumber, lookVerdict, badPlaceOn, lookOn, ReadResult, readNumber, readOn, peekNumber, peekFrom, peekOn, stateHeld}
 use Rattle.volume.specs.declared.ZoneDescriptor.{ZoneDescriptor}
 use Rattle.volume.specs.meaning.Report.{ReportResult}
 use Rattle.volume.specs.laws.BadPlaces.{not-finished}
 use Rattle.volume.specs.laws.Report.{report-finished, report-same}
 use Rattle.volume.specs.looking.KnowingValues.{sector-within}
 use Rattle.volume.specs.reading.Peeking.{peek-accepted, peek-refused, peek-done}
-use Rattle.volume.specs.meaning.Mount.{mountState}
-use Rattle.zrv.specs.meaning.Bytes.{stateFrom, stateTo}
+use Rattle.volume.specs.meaning.Mount.{shownState}
+use Rattle.zrv.specs.meaning.Bytes.{stateBytes, stateFrom, stateTo}
 use Rattle.zrv.specs.meaning.EdgeCalls.{namedOf, sizesFit, inputNumber, sizesNumber, stateAfter, Ranges, tablesIn, stateIn, unreadState, Answered, answered, handedBack, withoutPlace, lookOfBytes, lookEdge, readAnswer, readEdge, offsetAt, placeAnswer, placeSized, peekEdge, reportInput, lentFor, reportBytes, reportOfBytes, reportEdge}
 use Rattle.zrv.specs.laws.EdgeCalls.{Sized, input-passed, made, look-alone, place-right, place-refused, place-made}
 use Rattle.zrv.specs.laws.Report.{report-passed}
@@ -44,7 +44,7 @@ use Rattle.zrv_promise.specs.bytes.CallsOnBytes.{read-small, refused-kno
 -- ranges of the right sizes pass where the state is not read
 pub sizes-pass : (g : Geometry) (n w d : ℕ) → Sized g n w d → sizesNumber g n w d ≡ 0
 unfolding sizesNumber sizesFit
-sizes-pass g n w d s = rw (test-if-valid g (s .valid) (s .logs-first), eq-eqb n 264 (s .state-long), eq-eqb w (cells g * 4) (s .written-long), eq-eqb d (cells g * 4) (s .durable-long)) refl
+sizes-pass g n w d s = rw (test-if-valid g (s .valid) (s .logs-first), eq-eqb n stateBytes (s .state-long), eq-eqb w (cells g * 4) (s .written-long), eq-eqb d (cells g * 4) (s .durable-long)) refl
 
 -- ---- look: it is not refused for another state
 pub look-other : (g : Geometry) (named : List Bool) (a b x : State) (t : Tables) → lookOn g named a t ≡ record { answer = Finished; state = x } → lookOn g named b t ≡ record { answer = Finished; state = x }
@@ -56,7 +56,7 @@ look-other g named a b x t = go (eqb v 0)
 
     ended : Bool → State → Outcome
     ended c old =
-        pick c (record { answer = Finished; state = stateHeld (g .zones) (mountState (showing g (presentIn g (isSet named) (deviceOf g t)) (lostDriveIn g (isSet named) (deviceOf g t)) (seenIn g t))) })
+        pick c (record { answer = Finished; state = stateHeld (g .zones) (shownState g (presentIn g (isSet named) (deviceOf g t)) (lostDriveIn g (isSet named) (deviceOf g t)) (deviceOf g t)) })
         (record { answer = refusedAt (badPlaceOn g named t) v; state = old })
 
     go : (c : Bool) → ended c a ≡ record { answer = Finished; state = x } → ended c b ≡ record { answer = Finished; state = x }
@@ -79,7 +79,7 @@ module _ (g : Geometry) (mask : ℕ) (m : LentBytes) (st : List ℕ) (n : inputN
   abbrev sized : Sized g (length st) (length (m .written)) (length (m .durable))
   sized = input-passed g st (length (m .written)) (length (m .durable)) n
 
-  pub look-is : (x : State) → lookOn g named s t ≡ record { answer = Finished; state = x } → bytesResult (withoutPlace (lookEdge g mask (rangesOf m st))) ≡ record { answer = Finished; memory = m; state = stateTo (g .zones) x }
+  pub look-is : (x : State) → lookOn g named s t ≡ record { answer = Finished; state = x } → bytesResult (withoutPlace (lookEdge g mask (rangesOf m st))) ≡ record { answer = Finished; memory = m; state = stateTo g x }
   unfolding stateAfter
   look-is x e =
       let o : lookOfBytes g mask r ≡ record { answer = Finished; state = x } = look-other g named s unreadState x t e in
@@ -137,9 +137,9 @@ module _ (g : Geometry) (mask : ℕ) (m : LentBytes) (st : List ℕ) (n : inputN
           none = rw (ne-eqb v 0 e) refl
 
 -- ---- report: where nothing is refused, it tells the conditions that are shown
-pub report-is : (g : Geometry) (st list : List ℕ) → reportInput g st ≡ 0 → (k : Shown) → ((z : ℕ) → z < g .zones → recordAt (stateFrom (g .zones) st) z .condition ≡ k .zone z .condition)
+pub report-is : (g : Geometry) (st list : List ℕ) → reportInput g st ≡ 0 → (k : Shown) → ((z : ℕ) → z < g .zones → recordAt (stateFrom g st) z .condition ≡ k .zone z .condition)
     → reportedBytes (reportEdge g st list) ≡ shownBytes g k list
 report-is g st list h k same =
-    let state = viewState (stateFrom (g .zones) st) in
+    let state = viewState (stateFrom g st) in
     let e = report-finished g state (report-passed g st h .may) (lentFor list) ∙ report-same g (state .condition) (λ z. k .zone z .condition) (lentFor list) same in
     ap reportedBytes (sym (made (reportInput g st) (reportBytes (reportOfBytes g st list) list) list h) ∙ ap (λ (r : ReportResult (List ZoneDescriptor)). reportBytes r list) e)

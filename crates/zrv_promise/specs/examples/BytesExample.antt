@@ -21,7 +21,7 @@ use Rattle.volume.specs.meaning.Answers.{leftOut, namedDrives}
 use Rattle.volume.specs.meaning.CallContracts.{isSet, answerNumber, formatOn}
 use Rattle.promise.specs.meaning.Claim.{mounts, System, Event, calls, cuts, loses, Dutiful, Throughout, start}
 use Rattle.promise.specs.examples.TablesExample.{every, without1, without1-named, format-finishes, none-lost}
-use Rattle.zrv.specs.meaning.Bytes.{tableFrom, noState}
+use Rattle.zrv.specs.meaning.Bytes.{stateBytes, tableFrom}
 use Rattle.zrv.specs.meaning.EdgeCalls.{namedOf, tablesIn, unreadState, storedAll, formatOfBytes, formatEdge, Answered, Ranges}
 use Rattle.zrv.specs.laws.EdgeCalls.{Sized, input-passed, made}
 use Rattle.zrv_promise.specs.meaning.OnBytes.{LentBytes, rangesOf, bytesResult, answerOf, StillBytes, onBytes}
@@ -65,6 +65,9 @@ module _ (g : Geometry) (wb : isValid g ≡ true) where
   ok : Valid g
   ok = valid-if-test g wb
 
+  abbrev noState : List ℕ
+  noState = replicate stateBytes 0
+
   abbrev zeros : LentBytes
   zeros = record { sectors = replicate (totalBytes g) 0; written = replicate (cells g * 4) 0; durable = replicate (cells g * 4) 0 }
 
@@ -72,7 +75,7 @@ module _ (g : Geometry) (wb : isValid g ≡ true) where
   count = length (formatStores g (namedDrives g (isSet every)) (leftOut g (isSet every)) 7)
 
   fits : Sized g (length noState) (length (zeros .written)) (length (zeros .durable))
-  fits = record { valid = ok; logs-first = first-if-test g wb; state-long = length-replicate {A = ℕ} 264 0; written-long = length-replicate {A = ℕ} (cells g * 4) 0; durable-long = length-replicate {A = ℕ} (cells g * 4) 0 }
+  fits = record { valid = ok; logs-first = first-if-test g wb; state-long = length-replicate {A = ℕ} stateBytes 0; written-long = length-replicate {A = ℕ} (cells g * 4) 0; durable-long = length-replicate {A = ℕ} (cells g * 4) 0 }
 
   tables-zeros : tablesIn g (rangesOf zeros noState) ≡ tablesOf (replicate (totalBytes g) 0) (replicate (cells g) 0) (replicate (cells g) 0)
   tables-zeros = ap₂ (λ (ws ds : List ℕ). tablesOf (replicate (totalBytes g) 0) ws ds) (table-zeros (cells g) (cells g * 4)) (table-zeros (cells g) (cells g * 4))

@@ -8,20 +8,19 @@ use lib.ListN.{length, getD, take, drop, replicate}
 use lib.Dec.{eqb}
 use Rattle.tables.specs.declared.Geometry.{Geometry}
 use Rattle.tables.specs.meaning.Basics.{pick}
-use Rattle.tables.specs.meaning.Tables.{Tables, TablesCut, TablesLoss}
+use Rattle.tables.specs.meaning.Tables.{Tables, deviceOf, TablesCut, TablesLoss}
 use Rattle.tables.specs.meaning.LittleEndian.{numberLE}
 use Rattle.volume.specs.declared.Answer.{Answer}
 use Rattle.volume.specs.declared.Answer.the-variants.{Finished, Unfinished, Refused}
 use Rattle.volume.specs.meaning.Answers.{CallResult}
 use Rattle.volume.specs.meaning.Report.{ReportResult}
 use Rattle.volume.specs.meaning.Rules.{Shown}
-use Rattle.volume.specs.meaning.CallContracts.{viewState, isSet, ReadResult, stateHeld}
-use Rattle.volume.specs.meaning.Mount.{mountState}
-use Rattle.promise.specs.meaning.Claim.{Call, mounts, writes, flushes, resets, formats, Peeked, Volume, KeepsPromise}
+use Rattle.volume.specs.meaning.CallContracts.{viewState, isSet, ReadResult}
+use Rattle.promise.specs.meaning.Claim.{Call, mounts, writes, flushes, resets, formats, compacts, Peeked, Volume, KeepsPromise}
 use Rattle.promise.specs.meaning.OnDevice.{reportShown}
-use Rattle.promise.specs.meaning.OnTables.{shownIn}
+use Rattle.promise.specs.meaning.OnTables.{shownIn, onTables}
 use Rattle.zrv.specs.meaning.Bytes.{stateFrom, stateTo}
-use Rattle.zrv.specs.meaning.EdgeCalls.{namedOf, Ranges, ranges, tablesIn, Answered, withoutPlace, formatEdge, lookEdge, mountEdge, writeEdge, flushEdge, resetEdge, readEdge, peekEdge, lentFor, reportBytes, reportEdge}
+use Rattle.zrv.specs.meaning.EdgeCalls.{namedOf, Ranges, ranges, tablesIn, Answered, withoutPlace, formatEdge, lookEdge, mountEdge, writeEdge, flushEdge, resetEdge, compactEdge, readEdge, peekEdge, lentFor, reportBytes, reportEdge}
 
 -- the ranges of the sectors and of the two tables
 pub record LentBytes : Type 0 where
@@ -44,10 +43,11 @@ answerOf n = pick (eqb n 0) Finished (pick (eqb n 255) Unfinished (Refused n))
 
 abbrev pub edgeOf : Geometry → Call → ℕ → ℕ → Ranges → Answered Ranges
 edgeOf g mounts mask count m = withoutPlace (mountEdge g mask count m)
-edgeOf g (writes w) mask count m = writeEdge g mask (w .address) (w .count) count (w .buffer) m
+edgeOf g (writes w) mask count m = writeEdge g mask w count m
 edgeOf g flushes mask count m = flushEdge g mask count m
 edgeOf g (resets z) mask count m = resetEdge g mask z count m
 edgeOf g (formats array) mask count m = formatEdge g mask array count m
+edgeOf g (compacts d) mask count m = compactEdge g mask d count m
 
 abbrev pub bytesResult : Answered Ranges → CallResult LentBytes (List ℕ)
 bytesResult e = record { answer = answerOf (e .code); memory = record { sectors = e .left .sectors; written = e .left .written; durable = e .left .durable }; state = e .left .state }
@@ -91,9 +91,10 @@ onBytes g = record {
   Listing = List ℕ;
   report = λ st list. reportedBytes (reportEdge g st list);
   shows = λ mask m u. shownIn g (namedOf mask) (tablesAt g m) (tablesAt g u);
-  stateOf = λ k. stateTo (g .zones) (stateHeld (g .zones) (mountState k));
+  stateOf = λ mask m u. stateTo g (onTables g .stateOf (namedOf mask) (tablesAt g m) (tablesAt g u));
   finishedReport = shownBytes g;
-  view = λ st. viewState (stateFrom (g .zones) st);
+  view = λ st. viewState (stateFrom g st);
+  seen = λ m. deviceOf g (tablesAt g m);
   CutTo = λ x m u. StillBytes m u × TablesCut g x (tablesAt g m) (tablesAt g u);
   LossTo = λ x m u. StillBytes m u × TablesLoss g x (tablesAt g m) (tablesAt g u);
 }

@@ -57,6 +57,7 @@ outcome-requires c κs =
       s .pre .0,
       (
         lookable-after (a .g) (a .plan) (now (a .pointers)) (suc (a .count)) (f .restore .result) (stores s) (given s) (l .0) (l .1 .0) (l .1 .1 .0) (s .pre .1) (k .0) (k .1 .0) (made f),
+        s .pre .1 .here-in,
         k .1 .1 .1 .0 ∙ planned-long (a .g) (given s) (a .plan) (now (a .pointers)) (s .pre .1),
         s .pre .1 .first,
       ),

@@ -43,16 +43,16 @@ points-are : (n : tie.After-points-shown) → n .points-shown .result ≡ points
 points-are n = n .points-shown .ensures ∙ ap (λ (k : Look). pointsShown k) (n .before .before .before .look-all .ensures)
 
 -- what is asked of the two kinds
-general-asked : (n : tie.After-mount-asks) → let a = to-start (n .before .before .before .before) .args in n .mount-asks .result ≡ mountAsked (a .g) (a .found) false (mountGeneralLimit (a .g))
+general-asked : (n : tie.After-mount-asks) → let a = to-start (n .before .before .before .before .before) .args in n .mount-asks .result ≡ mountAsked (a .g) (a .found) false (mountGeneralLimit (a .g))
 general-asked n = n .mount-asks .ensures
 
-parity-asked : (n : tie.After-mount-asks2) → let a = to-start (n .before .before .before .before .before) .args in n .mount-asks2 .result ≡ mountAsked (a .g) (a .found) true (reserve (a .g))
-parity-asked n = n .mount-asks2 .ensures
+parity-asked : (n : tie.After-mount-asks2) → let a = to-start (n .before .before .before .before .before .before) .args in n .mount-asks2 .result ≡ mountAsked (a .g) (a .found) true (reserve (a .g))
+parity-asked n = let a = to-start (n .before .before .before .before .before .before) .args in n .mount-asks2 .ensures ∙ ap (mountAsked (a .g) (a .found) true) (n .before .before .reserve-of .ensures)
 
 general-room-requires : tie.Need-general-room-requires
 general-room-requires c κs =
     let k = c .before .before in
-    let n = k .before .before in
+    let n = k .before .before .before in
     let s = to-start (n .before .before) in
     let a = s .args in
     let long : length (n .generations-shown .result) ≡ 16 = ap (λ (l : List ℕ). length l) (generations-are n) ∙ generations-shown-long (shows (to-start (n .before .before))) in
@@ -62,7 +62,7 @@ general-room-requires c κs =
 parity-room-requires : tie.Need-parity-room-requires
 parity-room-requires c κs =
     let k = c .before .before .before in
-    let n = k .before .before in
+    let n = k .before .before .before in
     let s = to-start (n .before .before .before) in
     let a = s .args in
     subst (λ (q : RoomAsked). Valid (q .first) × (SeenByRoles (q .first) (q .places) (now (a .sectors)) (now (a .written)) (now (a .pointers)) × PointersWithin (q .first) (n .points-shown .result))) (sym (parity-asked k))
@@ -72,7 +72,7 @@ returns : tie.Need-returns
 returns c =
     let e = c .before .before in
     let k = e .before .before in
-    let n = k .before .before in
+    let n = k .before .before .before in
     let m = n .before in
     let l = m .before .before in
     let a = to-start l .args in
@@ -91,5 +91,5 @@ returns c =
 pub plan-mount-spec : {M : Type 1} → statement M
 plan-mount-spec =
     tie.close
-    (tie.spec look-all-requires counters-differ-requires (λ c κs. search needs) (λ c κs. search needs) (λ c. search needs) (λ c. search needs) (λ c. search needs) (λ c. search needs) (λ c κs. search needs) (λ c κs. search needs)
+    (tie.spec look-all-requires counters-differ-requires (λ c κs. search needs) (λ c κs. search needs) (λ c κs. search needs) (λ c. search needs) (λ c κs. search needs) (λ c κs. search needs)
     (λ c. search needs) general-room-requires (λ c. search needs) parity-room-requires returns)

@@ -1,4 +1,4 @@
-use mathlib.Core.Path.{_≡_, sym, ap, ap₂, _∙_, subst}
+use mathlib.Core.Path.{_≡_, sym, ap₂, _∙_, subst}
 use mathlib.Core.Bool.{Bool}
 use mathlib.Core.List.{List}
 use Prim.Native.Nat.{ℕ, _≤_, _<_}
@@ -10,7 +10,7 @@ use Rattle.tables.specs.meaning.Geometry.{zoneSectors}
 use Rattle.volume.specs.declared.Zone.{Zone}
 use Rattle.volume.specs.declared.by_record.ByRecord.{ByRecord}
 use Rattle.volume.specs.meaning.Refusals.{zoneOf, offsetOf}
-use Rattle.volume.specs.checks.CheckLaws.{presentList, openedFrom}
+use Rattle.volume.specs.checks.CheckLaws.{openedFrom}
 use Rattle.volume.specs.reading.ReadZone.{ReadAsked, zoneReadNumber, zoneReadLeft, zoneBy}
 use Rattle.volume.specs.reading.ReadByRecord.{ReadBy, read-by-first, read-by-8, read-by-asked, read-by-zone}
 use Rattle.volume.proofs.by_record.read_record.Statement.{statement}

@@ -21,7 +21,7 @@ use Rattle.volume.specs.meaning.Calls.{flushStores, flushState}
 use Rattle.volume.specs.meaning.Answers.{lostIn}
 use Rattle.volume.specs.meaning.CallContracts.{isSet, viewState, verdictNumber, flushOn, flushVerdict, stateHeld}
 use Rattle.volume.specs.laws.CallContracts.{storing-refused, storing-ends}
-use Rattle.volume.specs.laws.StateHeld.{mapped-long, held-lost}
+use Rattle.volume.specs.laws.StateHeld.{Sixteen, mapped-long, held-lost}
 use Rattle.volume.specs.checks.CheckLaws.{Opened, opened, openingNumber, opening-is, tested, present-is, left-out-is}
 use Rattle.volume.specs.storing.Flushing.{flush-refusal}
 use borrow.Author.Needs.{needs}
@@ -101,7 +101,7 @@ left-out-requires c κs = accepted (c .before .before .before .before .before) .
 returns-2 : tie.Need-returns-2
 unfolding flushOn
 returns-2 c =
-    let l = c .before .before in
+    let l = c .before .before .before in
     let f = l .before .before .before in
     let r = f .before .before in
     let e = r .before in
@@ -112,7 +112,7 @@ returns-2 c =
     l .left-out .ensures ∙ ap (λ (h : List Bool). findBelow (λ (d : ℕ). not (isSet h d)) (a .g .drives)) (r .present-drives .ensures) ∙ left-out-is (a .g) (a .named) (a .state) in
     let ending : State → Outcome = λ y. pick (eqb (f .flush-all .result) 0) (record { answer = Unfinished; state = a .state }) (record { answer = Finished; state = y }) in
     let (p, q) = storing-ends (a .g) (refusal s) (stores s) (handed-on s) (a .state) (a .count) (given s) (f .flush-all .result) (left f) n (made f) in
-    let long : length (a .state .zones) ≡ 16 = mapped-long _ (a .state .zones) 16 (s .good .1 .1 .1 .1 .1 .0 .1 .1 .1 .0 .1 .0 .1) in
+    let long : Sixteen (a .state) = record { records = mapped-long _ (a .state .zones) 16 (s .good .1 .1 .1 .1 .1 .0 .1 .1 .1 .0 .1 .0 .1); shares = mapped-long _ (a .state .shares) 16 (s .good .1 .1 .1 .1 .1 .0 .1 .1 .1 .1 .0 .1 .0 .1) } in
     (c .ended .ensures ∙ ap ending (held-lost (a .state) (l .left-out .result) long ∙ ap (λ (y : ℕ). stateHeld maxZones (flushState y (viewState (a .state)))) x) ∙ p, q)
 
 pub flush-spec : {M : Type 1} → statement M

@@ -16,6 +16,8 @@ use Rattle.volume.specs.declared.State.{State}
 use Rattle.volume.specs.declared.Outcome.{Outcome}
 use Rattle.volume.specs.declared.Answer.the-variants.{Finished, Unfinished, Refused}
 use Rattle.volume.specs.meaning.Calls.{formatStores, formatState}
+use Rattle.volume.specs.meaning.State.{withShares}
+use Rattle.volume.specs.meaning.Hosts.{freshShares}
 use Rattle.volume.specs.meaning.Answers.{leftOut, namedDrives}
 use Rattle.volume.specs.meaning.CallContracts.{isSet, verdictNumber, formatOn, formatVerdict, stateHeld}
 use Rattle.volume.specs.laws.CallContracts.{storing-refused, storing-ends}
@@ -35,7 +37,7 @@ abbrev stores : tie.Start → List Store
 stores s = formatStores (s .args .g) (namedDrives (s .args .g) (isSet (s .args .named))) (leftOut (s .args .g) (isSet (s .args .named))) (s .args .array)
 
 abbrev next : tie.Start → State
-next s = stateHeld (s .args .g .zones) (formatState (leftOut (s .args .g) (isSet (s .args .named))))
+next s = stateHeld (s .args .g .zones) (withShares (freshShares (s .args .g) (namedDrives (s .args .g) (isSet (s .args .named)))) (formatState (leftOut (s .args .g) (isSet (s .args .named)))))
 
 number : (c : tie.After-format-refusal) → c .format-refusal .result ≡ refusal (c .before .before .before .before .before .before)
 number c = let a = c .before .before .before .before .before .before .args in c .format-refusal .ensures ∙ format-refusal (a .g) (a .named) (now (a .sectors)) (now (a .written)) (now (a .durable))
@@ -75,6 +77,9 @@ format-stores-requires c κs =
 abbrev left : tie.After-format-stores → Tables
 left c = tablesOf (c .format-stores .last .0) (c .format-stores .last .1 .0) (c .format-stores .last .1 .1 .0)
 
+here-is : (c : tie.After-present-drives) → let a = c .before .before .before .before .before .before .before .before .args in isSet (c .present-drives .result) ≡ namedDrives (a .g) (isSet (a .named))
+here-is c = let a = c .before .before .before .before .before .before .before .before .args in ap isSet (c .present-drives .ensures) ∙ named-is (a .g) (a .named) (accepted (c .before) .0)
+
 lost-is : (c : tie.After-left-out) → c .left-out .result ≡ leftOut (c .before .before .before .before .before .before .before .before .before .args .g) (isSet (c .before .before .before .before .before .before .before .before .before .args .named))
 lost-is c =
     let s = c .before .before .before .before .before .before .before .before .before in
@@ -83,11 +88,9 @@ lost-is c =
 made : (c : tie.After-format-stores) → Made (c .before .before .before .before .before .before .before .before .before .before .before .before .before .args .g) (suc (c .before .before .before .before .before .before .before .before .before .before .before .before .before .args .count)) (c .format-stores .result) (stores (c .before .before .before .before .before .before .before .before .before .before .before .before .before)) (given (c .before .before .before .before .before .before .before .before .before .before .before .before .before)) (left c)
 made c =
     let a = c .before .before .before .before .before .before .before .before .before .before .before .before .before .args in
-    let here = c .before .before .before .before .before .present-drives in
     let f = c .format-stores in
     let t = tablesOf (now (a .sectors)) (now (a .written)) (now (a .durable)) in
-    let h : isSet (here .result) ≡ namedDrives (a .g) (isSet (a .named)) = ap isSet (here .ensures) ∙ named-is (a .g) (a .named) (accepted (c .before .before .before .before .before .before) .0) in
-    let e = ap₂ (λ (p : ℕ → Bool) (x : ℕ). formatStores (a .g) p x (a .array)) h (lost-is (c .before .before .before .before)) in
+    let e = ap₂ (λ (p : ℕ → Bool) (x : ℕ). formatStores (a .g) p x (a .array)) (here-is (c .before .before .before .before .before)) (lost-is (c .before .before .before .before)) in
     let b : a .count + 1 ≡ suc (a .count) = omega arith in
     subst (λ (l : ℕ). Made (a .g) l (f .result) (formatStores (a .g) (namedDrives (a .g) (isSet (a .named))) (leftOut (a .g) (isSet (a .named))) (a .array)) t (left c)) b
     (subst (λ (ss : List Store). Made (a .g) (a .count + 1) (f .result) ss t (left c)) e (f .ensures))
@@ -104,7 +107,7 @@ returns-2 c =
     let s = e .before .before .before .before .before .before .before in
     let a = s .args in
     let n = sym (number (e .before)) ∙ passed e in
-    let state : c .before .fresh-state .result ≡ next s = c .before .fresh-state .ensures ∙ ap (λ (y : ℕ). stateHeld (a .g .zones) (formatState y)) (lost-is x) in
+    let state : c .before .fresh-state .result ≡ next s = c .before .fresh-state .ensures ∙ ap₂ (λ (p : ℕ → Bool) (y : ℕ). stateHeld (a .g .zones) (withShares (freshShares (a .g) p) (formatState y))) (here-is (x .before)) (lost-is x) in
     let ending : State → Outcome = λ y. pick (eqb (f .format-stores .result) 0) (record { answer = Unfinished; state = a .old }) (record { answer = Finished; state = y }) in
     let (p, q) = storing-ends (a .g) (refusal s) (stores s) (next s) (a .old) (a .count) (given s) (f .format-stores .result) (left f) n (made f) in
     (c .ended .ensures ∙ ap ending state ∙ p, q)

@@ -1,6 +1,5 @@
 use mathlib.Core.Path.{_≡_, sym, ap, subst, _∙_}
 use mathlib.Core.Logic.{_≢_}
-use mathlib.Core.Bool.{not}
 use mathlib.Core.List.{List, _++_}
 use Prim.Native.Nat.{ℕ, _≤_}
 use native.Mathlib.Omega.{arith}
@@ -9,16 +8,13 @@ use lib.Seq.{length-take-le, take-at}
 use denote.Ref.{now}
 use Rattle.tables.specs.meaning.Geometry.{Valid, cells}
 use Rattle.tables.specs.laws.Sizes.{cells-small}
-use Rattle.tables.specs.meaning.Drives.{findBelow}
-use Rattle.volume.specs.meaning.Rules.{showing}
 use Rattle.volume.specs.declared.BadPlace.{BadPlace}
 use Rattle.volume.specs.meaning.Answers.{refusedAt}
-use Rattle.volume.specs.meaning.CallContracts.{isSet}
 use Rattle.volume.specs.checks.Logging.{front-fits, front-long}
-use Rattle.volume.specs.looking.Knowing.{readDevice}
 use Rattle.volume.specs.looking.SeenByRoles.{seen-valid, seen-long}
-use Rattle.volume.specs.looking.Looking.{Lookable, lookOf, shapeNumber, shaped, shaped-first, look-refused, look-refused-shape}
-use Rattle.volume.specs.looking.Surveying.{survey-refusal, survey-bad, survey-lookable, survey-finished}
+use Rattle.volume.specs.looking.Looking.{Lookable, shapeNumber, shaped, shaped-first, look-refused, look-refused-shape}
+use Rattle.volume.specs.looking.ShownState.{stateSeen}
+use Rattle.volume.specs.looking.Surveying.{survey-below, survey-refusal, survey-bad, survey-lookable, survey-finished}
 use borrow.Author.Needs.{needs}
 use Rattle.volume.proofs.looking.look.Statement.{statement}
 use Rattle.volume.proofs.looking.look.Tie as tie
@@ -94,29 +90,32 @@ accepted c = omega arith
 array-share-prefix-pointers : tie.Need-array-share-prefix-pointers
 array-share-prefix-pointers c = let f = c .before .before .before in front-fits (length (now (to-start (shape-of f) .args .written))) (pointers-of f) (past f) (pointers-long f)
 
-slice-aggregate-look-all : tie.Need-slice-aggregate-look-all
-slice-aggregate-look-all c = let f = c .before .before .before .before in front-long (length (now (to-start (shape-of f) .args .written))) (pointers-of f) (past f) (pointers-long f)
+slice-aggregate-shown-state : tie.Need-slice-aggregate-shown-state
+slice-aggregate-shown-state c = let f = c .before .before .before .before in front-long (length (now (to-start (shape-of f) .args .written))) (pointers-of f) (past f) (pointers-long f)
 
-look-all-requires : tie.Need-look-all-requires
-look-all-requires c κs =
+shown-state-requires : tie.Need-shown-state-requires
+shown-state-requires c κs =
     let f = c .before .before .before .before in
     let a = to-start (shape-of f) .args in
     let v = f .survey-drives .result in
-    (placed-valid f, subst (λ (ps : List ℕ). Lookable (v .places .geometry) (v .here) (now (a .sectors)) ps) (sym (front-kept f)) (survey-lookable (a .g) (a .named) (now (a .sectors)) (now (a .written)) v (pointers-of f) (f .survey-drives .ensures) (now (a .durable)) (passed (shape-of f))))
+    let ready : Lookable (v .places .geometry) (v .here) (now (a .sectors)) (pointers-of f) = survey-lookable (a .g) (a .named) (now (a .sectors)) (now (a .written)) v (pointers-of f) (f .survey-drives .ensures) (now (a .durable)) (passed (shape-of f)) in (
+      placed-valid f,
+      (
+        subst (λ (ps : List ℕ). Lookable (v .places .geometry) (v .here) (now (a .sectors)) ps) (sym (front-kept f)) ready,
+        survey-below (a .g) (a .named) (now (a .sectors)) (now (a .written)) v (pointers-of f) (f .survey-drives .ensures) (now (a .durable)),
+      ),
+    )
 
 returns-3 : tie.Need-returns-3
 returns-3 c =
-    let f = c .before .before .before .before .before .before .before in
+    let f = c .before .before .before .before .before in
     let a = to-start (shape-of f) .args in
     let v = f .survey-drives .result in
-    let h = v .places .geometry in
-    let k = c .before .before .look-all in
-    let e = k .ensures ∙ ap (λ (ps : List ℕ). lookOf h (showing h (isSet (v .here)) (findBelow (λ (d : ℕ). not (isSet (v .here) d)) (h .drives)) (readDevice h (now (a .sectors)) ps))) (front-kept f) in
-    let q = survey-finished (a .g) (a .named) (now (a .sectors)) (now (a .written)) v (pointers-of f) (f .survey-drives .ensures) (now (a .durable)) (a .old) (passed (shape-of f)) (accepted (c .before .before .before .before .before)) (k .result) e in
-    rw (c .records-of .ensures) q
+    let e = c .shown-state .ensures ∙ ap (λ (ps : List ℕ). stateSeen (v .places) (v .here) (now (a .sectors)) ps) (front-kept f) in
+    survey-finished (a .g) (a .named) (now (a .sectors)) (now (a .written)) v (pointers-of f) (f .survey-drives .ensures) (now (a .durable)) (a .old) (passed (shape-of f)) (accepted (c .before .before .before)) (c .shown-state .result) e
 
 pub look-spec : {M : Type 1} → statement M
 look-spec =
     tie.close
     (tie.spec (λ c κs. search needs) (λ c κs. search needs) returns few (λ c. sym (front-of (c .before))) survey-drives-requires (λ c κs. search needs) returns-2 array-share-prefix-pointers
-    slice-aggregate-look-all look-all-requires (λ c κs. placed-valid (c .before .before .before .before .before .before)) returns-3)
+    slice-aggregate-shown-state shown-state-requires returns-3)

@@ -1,9 +1,6 @@
-use Prim.Native.Nat.{ℕ, _*_, _/_, _≤_}
-use mathlib.Core.Path.{_≡_, refl, ap₂, _∙_}
-use mathlib.Core.Bool.{Bool}
+use mathlib.Core.Path.{refl}
 use native.Mathlib.Nat.{div-add-mod'}
 use native.Mathlib.Omega.{arith}
-use lib.Dec.{ltb}
 use Rattle.tables.specs.meaning.Placement.{stripeOf}
 use Rattle.tables.specs.laws.Sizes.{stripes-most, zone-small}
 use borrow.Author.Needs.{needs}

@@ -24,7 +24,7 @@ abbrev past : tie.Start → List ℕ
 past s = drop (length (now (s .args .written))) (replicate 152 0)
 
 abbrev to-start : tie.After-see-by-roles → tie.Start
-to-start c = c .before .before .before .before .before .before .before .before
+to-start c = c .before .before .before .before .before .before .before
 
 copy-long : (c : tie.After-see-by-roles) → length (c .see-by-roles .last .1 .1 .0) ≡ length (now (to-start c .args .written))
 copy-long c = c .see-by-roles .kept .1 .1 .0 ∙ front-of (to-start c)
@@ -35,21 +35,21 @@ copied c =
     front-is (length ws) (c .see-by-roles .last .1 .1 .0) (past (to-start c)) (hiddenLogs (c .see-by-roles .result) ws (c .see-by-roles .result .geometry .drives)) (copy-long c) (c .see-by-roles .ensures .2)
 
 see-by-roles-requires : tie.Need-see-by-roles-requires
-see-by-roles-requires c κs = let s = c .before .before .before .before .before .before .before in (s .pre .0, (s .pre .1 .0, front-of s ∙ s .pre .1 .0 .written-long, s .pre .1 .1))
+see-by-roles-requires c κs = let s = c .before .before .before .before .before .before in (s .pre .0, (s .pre .1 .0, front-of s ∙ s .pre .1 .0 .written-long, s .pre .1 .1))
 
 array-share-prefix-pointers : tie.Need-array-share-prefix-pointers
-array-share-prefix-pointers c = let f = c .before .before .before .before in front-fits (length (now (to-start f .args .written))) (f .see-by-roles .last .1 .1 .0) (past (to-start f)) (copy-long f)
+array-share-prefix-pointers c = let f = c .before .before .before in front-fits (length (now (to-start f .args .written))) (f .see-by-roles .last .1 .1 .0) (past (to-start f)) (copy-long f)
 
 slice-aggregate-write-seen : tie.Need-slice-aggregate-write-seen
-slice-aggregate-write-seen c = let f = c .before .before .before .before .before in front-long (length (now (to-start f .args .written))) (f .see-by-roles .last .1 .1 .0) (past (to-start f)) (copy-long f)
+slice-aggregate-write-seen c = let f = c .before .before .before .before in front-long (length (now (to-start f .args .written))) (f .see-by-roles .last .1 .1 .0) (past (to-start f)) (copy-long f)
 
 write-seen-requires : tie.Need-write-seen-requires
 write-seen-requires c κs =
-    let f = c .before .before .before .before .before in
+    let f = c .before .before .before .before in
     let s = to-start f in
     (s .pre .0, (record { sized = s .pre .1 .0; logs-first = s .pre .1 .1; places-are = f .see-by-roles .ensures .0; hidden = copied f }, s .pre .1 .2))
 
 pub write-by-roles-spec : {M : Type 1} → statement M
 write-by-roles-spec =
     tie.close
-    (tie.spec (λ c. few (c .before .before .before .before .before .before)) (λ c. sym (front-of (c .before .before .before .before .before .before .before))) see-by-roles-requires array-share-prefix-pointers slice-aggregate-write-seen write-seen-requires (λ c. search needs) (λ c. search needs) (λ c. search needs) (λ c. search needs))
+    (tie.spec (λ c. few (c .before .before .before .before .before)) (λ c. sym (front-of (c .before .before .before .before .before .before))) see-by-roles-requires array-share-prefix-pointers slice-aggregate-write-seen write-seen-requires (λ c. search needs) (λ c. search needs) (λ c. search needs))

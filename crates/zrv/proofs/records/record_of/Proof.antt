@@ -16,7 +16,7 @@ returns c =
     let p = z .before in
     let a = p .before .before .before .before .args in
     let with : ℕ → ZoneRecord → Bool → ByRecord = λ l r b. record { geometry = a .g; named = a .named; lost = l; «record» = r; bad = b } in
-    ap₂ (λ (l : ℕ) (r : ZoneRecord). with l r (p .pointers-bad .result)) (c .read-u64 .ensures) (c .before .record-at .ensures ∙ ap (recordAt (stateFrom (a .g .zones) (now (a .state)))) (z .zone-of .ensures))
+    ap₂ (λ (l : ℕ) (r : ZoneRecord). with l r (p .pointers-bad .result)) (c .read-u64 .ensures) (c .before .record-at .ensures ∙ ap (recordAt (stateFrom (a .g) (now (a .state)))) (z .zone-of .ensures))
     ∙ ap (with _ _) (p .pointers-bad .ensures)
 
 pub record-of-spec : {M : Type 1} → statement M

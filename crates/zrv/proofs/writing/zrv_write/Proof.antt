@@ -6,8 +6,8 @@ use lib.ListN.{length}
 use denote.Ref.{now}
 use borrow.Author.Needs.{needs}
 use Rattle.zrv.specs.laws.EdgeCalls.{refused, made}
-use Rattle.zrv.specs.declared.records.WriteAsked.{WriteAsked}
-use Rattle.zrv.specs.meaning.EdgeCalls.{Ranges, ranges, Answered, writeEdge}
+use Rattle.zrv.specs.declared.records.WriteCall.{WriteCall}
+use Rattle.zrv.specs.meaning.EdgeCalls.{Ranges, ranges, Answered, writeOf, writeEdge}
 use Rattle.zrv.specs.laws.ByRecord.{InputTaken, input-taken, wholeWrite}
 use Rattle.zrv.proofs.writing.zrv_write.Statement.{statement}
 use Rattle.zrv.proofs.writing.zrv_write.Tie as tie
@@ -23,7 +23,7 @@ taken : (e : tie.Else1) → let a = e .before .before .before .before .before .b
 taken e = input-taken _ _ _ _ (sym (e .before .input-refusal .ensures) ∙ zero e)
 
 abbrev before-try : tie.After-write-by-record → tie.Else1
-before-try w = w .before .before .before .before .before .before
+before-try w = w .before .before .before .before .before
 
 abbrev to-start : tie.Else1 → tie.Start
 to-start e = e .before .before .before .before .before .before .before .before .before
@@ -33,16 +33,16 @@ abbrev entered : tie.Else1 → Ranges
 entered e = let a = to-start e .args in ranges (now (a .sectors)) (now (a .written)) (now (a .durable)) (now (a .state))
 
 -- what is asked, by the drives that the mask names
-abbrev askedWith : tie.Else1 → List Bool → WriteAsked
-askedWith e h = let a = to-start e .args in record { geometry = e .before .before .before .shape .result; named = h; address = a .address; run = a .sectors-to-write; count = a .count }
+abbrev askedWith : tie.Else1 → List Bool → WriteCall
+askedWith e h = let a = to-start e .args in record { geometry = e .before .before .before .shape .result; named = h; host = a .host; address = a .address; run = a .sectors-to-write; count = a .count }
 
 -- the whole write is the call's
-whole : (w : tie.After-write-by-record) (r : Answered Ranges) → let e = before-try w in let a = to-start e .args in r ≡ wholeWrite (askedWith e (w .before .before .before .before .before .named-drives .result)) (now (a .buffer)) (entered e)
-    → r ≡ writeEdge (e .before .before .before .shape .result) (a .named) (a .address) (a .sectors-to-write) (a .count) (now (a .buffer)) (entered e)
+whole : (w : tie.After-write-by-record) (r : Answered Ranges) → let e = before-try w in let a = to-start e .args in r ≡ wholeWrite (askedWith e (w .before .before .before .before .named-drives .result)) (now (a .buffer)) (entered e)
+    → r ≡ writeEdge (e .before .before .before .shape .result) (a .named) (writeOf (a .host) (a .address) (a .sectors-to-write) (now (a .buffer))) (a .count) (entered e)
 whole w r h =
     let e = before-try w in
     let a = to-start e .args in
-    h ∙ ap (λ (l : List Bool). wholeWrite (askedWith e l) (now (a .buffer)) (entered e)) (w .before .before .before .before .before .named-drives .ensures) ∙ made _ _ _ (sym (e .before .input-refusal .ensures) ∙ zero e)
+    h ∙ ap (λ (l : List Bool). wholeWrite (askedWith e l) (now (a .buffer)) (entered e)) (w .before .before .before .before .named-drives .ensures) ∙ made _ _ _ (sym (e .before .input-refusal .ensures) ∙ zero e)
 
 returns-2 : tie.Need-returns-2
 returns-2 c =
@@ -58,20 +58,20 @@ kept f = from-else f .write-by-record .ensures .kept (f .if2 .left)
 
 write-whole-requires : tie.Need-write-whole-requires
 write-whole-requires c κs =
-    let f = c .before .before .before .before in
+    let f = c .before .before .before in
     let e = before-try (from-else f) in
     subst (λ (m : Ranges). InputTaken (e .before .before .before .shape .result) (m .state) (length (m .written)) (length (m .durable))) (sym (kept f)) (taken e)
 
 returns-3 : tie.Need-returns-3
 returns-3 c =
-    let f = c .before .before .before .before .before .before .before .before .before .before .before .before .before in
+    let f = c .before .before .before .before .before .before .before .before .before .before in
     let w = from-else f in
     let e = before-try w in
-    let asked = askedWith e (w .before .before .before .before .before .named-drives .result) in
-    rw (← e .before .before .before .shape .ensures) (whole w _ (c .before .before .before .before .before .before .before .before .write-whole .ensures ∙ ap (wholeWrite asked (now (to-start e .args .buffer))) (kept f)))
+    let asked = askedWith e (w .before .before .before .before .named-drives .result) in
+    rw (← e .before .before .before .shape .ensures) (whole w _ (c .before .before .before .before .before .before .write-whole .ensures ∙ ap (wholeWrite asked (now (to-start e .args .buffer))) (kept f)))
 
 pub zrv-write-spec : {M : Type 1} → statement M
 zrv-write-spec =
     tie.close
-    (tie.spec (λ c κs. search needs) (λ c κs. search needs) (λ c. search needs) returns (λ c κs. search needs) (λ c κs. taken (c .before .before .before .before .before)) (λ c. search needs) (λ c. search needs) (λ c. search needs) (λ c. search needs) returns-2 write-whole-requires
-    (λ c. search needs) (λ c. search needs) (λ c. search needs) (λ c. search needs) returns-3)
+    (tie.spec (λ c κs. search needs) (λ c κs. search needs) (λ c. search needs) returns (λ c κs. search needs) (λ c κs. taken (c .before .before .before .before)) (λ c. search needs) (λ c. search needs) (λ c. search needs) returns-2 write-whole-requires
+    (λ c. search needs) (λ c. search needs) (λ c. search needs) returns-3)

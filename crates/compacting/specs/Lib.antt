@@ -1,0 +1,4 @@
+pub mod CompactMade
+pub mod CompactRoom
+pub mod CompactSeen
+pub mod Compacting

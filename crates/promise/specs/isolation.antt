@@ -1,0 +1,17 @@
+pub mod Alone
+pub mod Beside
+pub mod CachingLaws
+pub mod DeviceFacts
+pub mod DeviceLaws
+pub mod HeardAtRest
+pub mod HeardSame
+pub mod Isolated
+pub mod Laws
+pub mod Proved
+pub mod RestFacts
+pub mod Runs
+pub mod Shares
+pub mod StoreNumbers
+pub mod Stored
+pub mod TablesLaws
+pub mod Together

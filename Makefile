@@ -12,9 +12,9 @@
 #   example: the program of docs/USING.md, built and run
 # kill-test: the last of these in full: kills before every change of a file, 400 at drawn moments, and full disks (part of no test)
 # format-test: the model of docs/FORMAT.md in Python: the conformance vectors replayed, then the worked values of the page
-# vectors: other conformance vectors put in place of those of crates/replay: `make vectors FROM='FOLDER ..'` with a script PART.txt and its answers PART.out a part
+# vectors: other conformance vectors put in place of those of crates/replay: `make vectors FROM=FOLDER` with a script PART.txt and its answers PART.out a part
 # bench: the archive's speed as a share of plain C's
-# bench-isal: the time of a stripe's write beside that of memcpy and ISA-L's xor_gen, and of a rebuild beside xor_gen's (needs libisal-dev; part of no test)
+# bench-isal: the time of a stripe's write beside that of memcpy and ISA-L's xor_gen (needs libisal-dev; part of no test)
 .PHONY: explore test check wrong archive zrv from-c edge-test tool-test kill-test explore-test example format-test vectors bench bench-isal fmt
 
 explore: target/zrv
@@ -43,15 +43,15 @@ SANITIZE = -O1 -g -fsanitize=address,undefined -fno-sanitize-recover=all
 EDGE = target/edge
 
 REPLAY_C = c/replay.c c/script_host.c c/damage.c c/script.c host/shelf.c host/call.c
-PLAIN_C = c/plain.c c/plain_emptying.c c/plain_logs.c c/plain_look.c c/plain_rebuild.c c/plain_refusals.c c/plain_rows.c c/plain_sectors.c c/plain_stores.c host/journal.c
-BAD_INPUT_C = c/bad_input.c c/bad_logs.c c/fixture.c c/expected.c $(PLAIN_C) host/shelf.c host/call.c
+PLAIN_C = c/plain.c c/plain_emptying.c c/plain_logs.c c/plain_look.c c/plain_refusals.c c/plain_rows.c c/plain_sectors.c c/plain_stores.c host/journal.c
+BAD_INPUT_C = c/bad_input.c c/fixture.c c/expected.c $(PLAIN_C) host/shelf.c host/call.c
 GROUPED_REPLAY_C = c/grouped_replay.c c/script.c host/shelf.c host/call.c
-BENCH_C = c/bench.c c/bench_grouped.c c/bench_rebuild.c c/lost_volume.c c/expected.c c/plain_grouped.c $(PLAIN_C) host/shelf.c host/call.c
-BENCH_ISAL_C = c/bench_isal.c c/lost_volume.c host/shelf.c host/call.c
-HOST_C = host/driver.c host/call_kinds.c host/slot.c host/drives.c host/saving.c host/redo.c host/lock.c host/drive_file.c host/mapped_sectors.c host/files.c host/folder.c host/assembling.c host/bounds.c host/journal.c host/cached_resets.c host/old_zones.c host/stores.c host/progress.c host/message.c host/shelf.c host/call.c
+BENCH_C = c/bench.c c/bench_grouped.c c/plain_grouped.c $(PLAIN_C) host/shelf.c host/call.c
+BENCH_ISAL_C = c/bench_isal.c host/shelf.c host/call.c
+HOST_C = host/driver.c host/call_kinds.c host/drives.c host/saving.c host/redo.c host/lock.c host/drive_file.c host/mapped_sectors.c host/files.c host/folder.c host/assembling.c host/bounds.c host/journal.c host/cached_resets.c host/old_zones.c host/stores.c host/progress.c host/message.c host/shelf.c host/call.c
 EXPLORE_C = tool/explore/explore.c tool/explore/ending.c tool/explore/options.c tool/explore/oracle.c tool/explore/caches.c tool/explore/world.c tool/explore/story.c \
 	tool/explore/check.c tool/explore/engine.c tool/explore/report.c tool/explore/picture.c
-ZRV_C = tool/zrv.c tool/commands.c tool/pull.c tool/rebuild.c tool/assemble.c tool/info.c tool/transfer.c tool/report.c tool/grouped.c tool/look_json.c tool/checklist.c tool/bad_log.c tool/left_out.c tool/holders.c tool/tool.c tool/options.c tool/words.c tool/refusals.c $(EXPLORE_C) $(HOST_C)
+ZRV_C = tool/zrv.c tool/commands.c tool/pull.c tool/assemble.c tool/info.c tool/transfer.c tool/report.c tool/grouped.c tool/look_json.c tool/checklist.c tool/bad_log.c tool/left_out.c tool/holders.c tool/tool.c tool/options.c tool/words.c tool/refusals.c $(EXPLORE_C) $(HOST_C)
 ZRV_H = include/zrv.h $(wildcard host/*.h tool/*.h tool/explore/*.h)
 
 zrv: target/zrv
@@ -129,8 +129,8 @@ format-test:
 VECTOR_PARTS = plain refusals damage worn corners
 
 vectors:
-	@cat $(foreach folder,$(FROM),$(VECTOR_PARTS:%=$(folder)/%.txt)) > crates/replay/stdin
-	@cat $(foreach folder,$(FROM),$(VECTOR_PARTS:%=$(folder)/%.out)) > crates/replay/stdout
+	@cat $(VECTOR_PARTS:%=$(FROM)/%.txt) > crates/replay/stdin
+	@cat $(VECTOR_PARTS:%=$(FROM)/%.out) > crates/replay/stdout
 
 bench:
 	@mkdir -p $(EDGE)

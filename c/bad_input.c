@@ -1,26 +1,18 @@
 /* Bad input through the C edge: every length one short and one long, every number at its bound and past it, a state with each of its bytes damaged, masks,
- * addresses, hosts and what they may hold, slots, counts of stores, logs with each of their bytes damaged. Each call must answer the number that document
- * 01's table gives, with the place of a bad log, and keep every byte of every range where it refuses. Prints the count of cases; leaves with 1 at the first
- * that is wrong and says which. */
+ * addresses, hosts and what they may hold, counts of stores, logs with each of their bytes damaged. Each call must answer the number that document 01's table
+ * gives, with the place of a bad log, and keep every byte of every range where it refuses. Prints the count of cases; leaves with 1 at the first that is wrong
+ * and says which. */
 #include <inttypes.h>
 #include <stdio.h>
 #include <stdlib.h>
 #include <string.h>
 
-#include "bad_input.h"
+#include "fixture.h"
 #include "hosts.h"
+#include "plain_logs.h"
 
-static const enum call_kind every_kind[] = {CALL_FORMAT,  CALL_LOOK,    CALL_MOUNT, CALL_WRITE, CALL_FLUSH, CALL_RESET,
-                                            CALL_COMPACT, CALL_REBUILD, CALL_READ,  CALL_PEEK,  CALL_REPORT};
-static const enum call_kind rebuild_alone[] = {CALL_REBUILD};
-
-/* The kinds of call that are asked. */
-static struct {
-    const enum call_kind *kind;
-    size_t count;
-} asked;
-
-enum { MOST_STORES = 120 }; /* more than any usual call makes */
+static const enum call_kind every_kind[] = {CALL_FORMAT, CALL_LOOK, CALL_MOUNT, CALL_WRITE, CALL_FLUSH, CALL_RESET, CALL_COMPACT, CALL_READ, CALL_PEEK, CALL_REPORT};
+enum { KINDS = sizeof every_kind / sizeof *every_kind };
 
 static unsigned long cases, refused;
 
@@ -60,7 +52,8 @@ static bool guards_kept(const struct fixture *f) {
 /* A place as the C edge returns it. */
 static uint64_t place_number(struct log_place place) { return (uint64_t)place.drive << 24 | (uint64_t)place.zone << 16 | place.sector; }
 
-void judge(struct fixture *f, const char *class, const struct call *call, uint32_t fixed) {
+/* One case: the memory holds what the call is to find. The class may fix the number that must come (or ZRV_FINISHED for any). */
+static void judge(struct fixture *f, const char *class, const struct call *call, uint32_t fixed) {
     struct expected *e = &f->expected;
     cases++;
     memcpy(f->before, f->memory, f->memory_bytes);
@@ -94,10 +87,10 @@ void judge(struct fixture *f, const char *class, const struct call *call, uint32
 static bool has_buffer(enum call_kind kind) { return kind == CALL_WRITE || kind == CALL_READ || kind == CALL_PEEK; }
 
 static void lengths(struct fixture *f) {
-    for (size_t k = 0; k < asked.count; k++)
+    for (int k = 0; k < KINDS; k++)
         for (int r = 0; r < RANGES; r++) {
             const int by[] = {-1, 1, -4, 4, -8, 8, -64, 64};
-            struct call call = usual_call(f, asked.kind[k]);
+            struct call call = usual_call(f, every_kind[k]);
             if (call.kind == CALL_REPORT ? r != STATE : r == BUFFER && !has_buffer(call.kind))
                 continue;
             size_t whole = call.range[r].length;
@@ -131,25 +124,25 @@ static void one_geometry(struct fixture *f, enum call_kind kind, int field, uint
 
 /* Each number of the geometry: small ones, those about every bound, those about a power of two. */
 static void geometries(struct fixture *f) {
-    for (size_t k = 0; k < asked.count; k++)
+    for (int k = 0; k < KINDS; k++)
         for (int field = 0; field < 5; field++) {
             for (uint32_t value = 0; value <= 130; value++)
-                one_geometry(f, asked.kind[k], field, value);
+                one_geometry(f, every_kind[k], field, value);
             for (int bit = 8; bit < 32; bit++)
                 for (uint32_t by = 0; by < 3; by++)
-                    one_geometry(f, asked.kind[k], field, (1u << bit) - 1 + by);
-            one_geometry(f, asked.kind[k], field, UINT32_MAX);
+                    one_geometry(f, every_kind[k], field, (1u << bit) - 1 + by);
+            one_geometry(f, every_kind[k], field, UINT32_MAX);
         }
 }
 
 /* Every set of drives, also with bits that name no drive. */
 static void masks(struct fixture *f) {
     uint32_t drives = f->geometry.drives, all = (1u << drives) - 1;
-    for (size_t k = 0; k < asked.count; k++)
+    for (int k = 0; k < KINDS; k++)
         for (uint32_t mask = 0; mask <= all; mask++) {
             const uint32_t beyond[] = {0, 1u << drives, 0x100, 1u << 31, ~all};
             for (size_t i = 0; i < sizeof beyond / sizeof *beyond; i++) {
-                struct call call = usual_call(f, asked.kind[k]);
+                struct call call = usual_call(f, every_kind[k]);
                 call.named = mask | beyond[i];
                 judge(f, "mask", &call, ZRV_FINISHED);
             }
@@ -168,7 +161,7 @@ static void one_pointer(struct fixture *f, enum call_kind kind, size_t index, ui
 static void pointers(struct fixture *f) {
     struct geometry g = f->geometry;
     size_t zones = (size_t)g.zones + ZRV_LOG_ZONES;
-    for (size_t k = 0; k < asked.count; k++)
+    for (int k = 0; k < KINDS; k++)
         for (size_t index = 0; index < g.drives * zones; index++)
             for (int unnamed = 0; unnamed < 2; unnamed++) {
                 uint32_t all = (1u << g.drives) - 1, c = g.zone_sectors, had = pointer_in(f->range[WRITTEN], index);
@@ -177,7 +170,7 @@ static void pointers(struct fixture *f) {
                     {c, c}, {c, 0}, {c + 1, c}, {c + 1, c + 1}, {1u << 31, 0}, {UINT32_MAX, 0}, {UINT32_MAX, UINT32_MAX}, {had, had + 1}, {had, UINT32_MAX}, {c, c + 1},
                 };
                 for (size_t i = 0; i < sizeof pair / sizeof *pair; i++)
-                    one_pointer(f, asked.kind[k], index, named, pair[i][0], pair[i][1]);
+                    one_pointer(f, every_kind[k], index, named, pair[i][0], pair[i][1]);
             }
 }
 
@@ -240,7 +233,7 @@ static uint32_t number_about(uint32_t below, int i) {
 
 /* The host of a write; the drive of a compact, with every drive named and with one left out. */
 static void hosts_and_drives(struct fixture *f) {
-    uint32_t drives = f->geometry.drives, all = (1u << drives) - 1, lost = lost_drive(f);
+    uint32_t drives = f->geometry.drives, all = (1u << drives) - 1, lost = f->range[STATE].bytes[ZRV_STATE_LOST];
     for (int i = 0; i < NUMBERS_ABOUT; i++) {
         struct call call = usual_call(f, CALL_WRITE);
         call.host = number_about(ZRV_HOSTS, i);
@@ -255,34 +248,14 @@ static void hosts_and_drives(struct fixture *f) {
     }
 }
 
-/* The slot of a rebuild, with every drive named and with one left out: where that is the slot, it counts as named all the same. */
-static void slots(struct fixture *f) {
-    uint32_t drives = f->geometry.drives, all = (1u << drives) - 1, lost = lost_drive(f);
-    for (int i = 0; i < NUMBERS_ABOUT; i++)
-        for (uint32_t without = 0; without <= drives; without++) {
-            struct call call = usual_call(f, CALL_REBUILD);
-            call.drive = number_about(drives, i);
-            call.named = all & ~(1u << without);
-            bool two_lost = without < drives && lost != ZRV_NO_DRIVE && without != lost && without != call.drive;
-            judge(f, "slot", &call, two_lost ? ZRV_TWO_LOST : call.drive == lost && lost < drives ? ZRV_FINISHED : ZRV_NOT_LOST);
-        }
-}
-
-/* What a usual call with a count of 0 must answer: it stops before its first store. A sealed zone refuses the write, and a rebuild needs a lost drive. */
-static uint32_t answer_without_stores(const struct fixture *f, enum call_kind kind) {
-    if (kind == CALL_REBUILD && lost_drive(f) == ZRV_NO_DRIVE)
-        return ZRV_NOT_LOST;
-    return kind == CALL_WRITE ? ZRV_FINISHED : ZRV_UNFINISHED;
-}
-
-/* No stores, then one more each time; of a mount only none. */
+/* A count of 0 stops every storing call before its first store; all but mount are followed store by store. */
 static void counts(struct fixture *f) {
-    const enum call_kind stores[] = {CALL_FORMAT, CALL_MOUNT, CALL_WRITE, CALL_FLUSH, CALL_RESET, CALL_COMPACT, CALL_REBUILD};
+    const enum call_kind stores[] = {CALL_FORMAT, CALL_MOUNT, CALL_WRITE, CALL_FLUSH, CALL_RESET, CALL_COMPACT};
     for (size_t k = 0; k < sizeof stores / sizeof *stores; k++) {
         struct call call = usual_call(f, stores[k]);
         call.count = 0;
-        judge(f, "no stores", &call, answer_without_stores(f, call.kind));
-        for (uint32_t count = 1; count < MOST_STORES && call.kind != CALL_MOUNT; count++) {
+        judge(f, "no stores", &call, call.kind == CALL_WRITE ? ZRV_FINISHED : ZRV_UNFINISHED); /* a sealed zone refuses the write */
+        for (uint32_t count = 1; count < 80 && call.kind != CALL_MOUNT; count++) {
             call.count = count;
             judge(f, "count of stores", &call, ZRV_FINISHED);
         }
@@ -294,11 +267,11 @@ static void counts(struct fixture *f) {
 
 /* Every byte of the state, with each bit turned and with some values set. */
 static void states(struct fixture *f) {
-    for (size_t k = 0; k < asked.count; k++)
+    for (int k = 0; k < KINDS; k++)
         for (size_t i = 0; i < ZRV_STATE_BYTES; i++)
             for (int change = 0; change < 14; change++) {
                 const uint8_t value[] = {0, 1, 2, 3, 4, 255};
-                struct call call = usual_call(f, asked.kind[k]);
+                struct call call = usual_call(f, every_kind[k]);
                 uint8_t *byte = f->range[STATE].bytes + i;
                 *byte = change < 8 ? *byte ^ (uint8_t)(1 << change) : value[change - 8];
                 judge(f, "state's byte", &call, ZRV_FINISHED);
@@ -310,10 +283,10 @@ static void records(struct fixture *f) {
     uint32_t whole = (uint32_t)zone_addresses(f->geometry);
     const uint32_t pointer[] = {0, 1, whole - 1, whole, whole + 1, 1u << 31, UINT32_MAX};
     const uint64_t generation[] = {0, 1, UINT32_MAX, UINT64_MAX - 1, UINT64_MAX};
-    for (size_t k = 0; k < asked.count; k++)
+    for (int k = 0; k < KINDS; k++)
         for (uint32_t zone = 0; zone < ZRV_STATE_RECORDS; zone++)
             for (uint32_t i = 0; i < 5 * 7 * 5; i++) {
-                struct call call = usual_call(f, asked.kind[k]);
+                struct call call = usual_call(f, every_kind[k]);
                 uint8_t *record = zone_record_to_change(f->range[STATE].bytes, zone);
                 put64(record + ZRV_RECORD_GENERATION, generation[i % 5]);
                 record[ZRV_RECORD_CONDITION] = (uint8_t)(i / 35);
@@ -325,10 +298,10 @@ static void records(struct fixture *f) {
 /* Each zone's owner, with each condition; past the last zone too. */
 static void owners(struct fixture *f) {
     const uint8_t owner[] = {ZRV_NOBODY, ZRV_OWNER(0), ZRV_OWNER(1), ZRV_OWNER(2), 128, 255};
-    for (size_t k = 0; k < asked.count; k++)
+    for (int k = 0; k < KINDS; k++)
         for (uint32_t zone = 0; zone < ZRV_STATE_RECORDS; zone++)
             for (uint32_t i = 0; i < 5 * sizeof owner; i++) {
-                struct call call = usual_call(f, asked.kind[k]);
+                struct call call = usual_call(f, every_kind[k]);
                 uint8_t *record = zone_record_to_change(f->range[STATE].bytes, zone);
                 record[ZRV_RECORD_OWNER] = owner[i % sizeof owner];
                 if (i >= sizeof owner && zone < f->geometry.zones)
@@ -340,10 +313,10 @@ static void owners(struct fixture *f) {
 /* What is left of each share of each drive, past the last drive too, about what a write takes of it. */
 static void shares(struct fixture *f) {
     const uint32_t left[] = {0, 1, 2, 3, 4, 5, 11, 12, 13, 1u << 16, 1u << 31, UINT32_MAX};
-    for (size_t k = 0; k < asked.count; k++)
+    for (int k = 0; k < KINDS; k++)
         for (uint32_t share = 0; share < ZRV_MOST_DRIVES * ZRV_HOSTS; share++)
             for (uint32_t i = 0; i < 2 * sizeof left / sizeof *left; i++) {
-                struct call call = usual_call(f, asked.kind[k]);
+                struct call call = usual_call(f, every_kind[k]);
                 call.host = i % 2;
                 put_share(f->range[STATE].bytes, share / ZRV_HOSTS, share % ZRV_HOSTS, left[i / 2]);
                 judge(f, "share", &call, ZRV_FINISHED);
@@ -379,48 +352,101 @@ static void limits(struct fixture *f) {
     }
 }
 
-/* What is asked of each kind of call. */
-static void cases_of_kinds(struct fixture *f) {
-    lengths(f);
-    geometries(f);
-    masks(f);
-    pointers(f);
-    slots(f);
-    counts(f);
-    states(f);
-    records(f);
-    owners(f);
-    shares(f);
+static const enum call_kind walking[] = {CALL_LOOK, CALL_MOUNT}; /* the calls that a bad log refuses */
+
+static struct log_zones zones_of(const struct fixture *f, uint32_t drive) {
+    struct shelf shelf = {.geometry = f->geometry, .sectors = f->range[SECTORS], .written = f->range[WRITTEN], .durable = f->range[DURABLE]};
+    return log_zones_of(&shelf, drive);
 }
 
-static void all_cases(int which) {
-    struct fixture f = new_fixture(which);
-    cases_of_kinds(&f);
-    lists(&f);
-    addresses(&f);
-    wrapping_runs(&f);
-    zones(&f);
-    hosts_and_drives(&f);
-    damaged_logs(&f);
-    free_fixture(&f);
+static uint8_t *sector_in(const struct fixture *f, uint32_t drive, uint32_t zone, uint32_t sector) {
+    return f->range[SECTORS].bytes + sector_offset(f->geometry, drive, zone, sector);
 }
 
-static void rebuild_cases(int which) {
-    struct fixture f = new_fixture(which);
-    cases_of_kinds(&f);
-    logs_to_rebuild_by(&f);
-    free_fixture(&f);
+/* Every byte of every sector in the first three zones, with its lowest and its highest bit turned. */
+static void log_bytes(struct fixture *f) {
+    struct geometry g = f->geometry;
+    for (uint32_t d = 0; d < g.drives; d++)
+        for (uint32_t y = 0; y < ZRV_LOG_ZONES; y++) {
+            size_t bytes = (size_t)pointer_in(f->range[WRITTEN], cell(g, d, y)) * g.sector_bytes;
+            for (size_t i = 0; i < 4 * bytes; i++) {
+                struct call call = usual_call(f, walking[i % 2]);
+                sector_in(f, d, y, 0)[i / 4] ^= i / 2 % 2 == 0 ? 0x01 : 0x80;
+                judge(f, "byte of a log", &call, ZRV_FINISHED);
+            }
+        }
+}
+
+/* At the end of a log a sector of zeros, or a closing entry that is not legal, of generation 0. */
+static void append_bad(struct fixture *f, uint32_t drive, uint32_t log, bool marked) {
+    struct log_zones zones = zones_of(f, drive);
+    uint32_t y = find_log(&zones, log), at = zones.zone[y].written;
+    uint8_t *sector = sector_in(f, drive, y, at);
+    memset(sector, 0, f->geometry.sector_bytes);
+    if (marked)
+        closing_header(sector, f->geometry, log, 0);
+    put_pointer(f->range[WRITTEN], cell(f->geometry, drive, y), at + 1);
+}
+
+/* Two bad logs, every pair of them: the earlier drive and zone decides. */
+static void bad_pairs(struct fixture *f) {
+    uint32_t logs = 2 * f->geometry.drives;
+    for (uint32_t i = 0; i < logs * logs * 2; i++) {
+        uint32_t first = i / 2 / logs, second = i / 2 % logs;
+        struct call call = usual_call(f, walking[i % 2]);
+        append_bad(f, first / 2, first % 2, false);
+        if (second != first)
+            append_bad(f, second / 2, second % 2, true);
+        judge(f, "two bad logs", &call, ZRV_FINISHED);
+    }
+}
+
+/* A parity log filled to `rows` sectors before its end, there a header that wants that many rows, of a stripe that has its parity on drive `of`. */
+static void append_rows(struct fixture *f, uint32_t drive, uint32_t of, uint32_t rows) {
+    struct geometry g = f->geometry;
+    struct log_zones zones = zones_of(f, drive);
+    uint32_t y = find_log(&zones, PARITY_LOG), at = zones.zone[y].written;
+    for (; at + rows < g.zone_sectors; at++)
+        closing_header(sector_in(f, drive, y, at), g, PARITY_LOG, 1);
+    uint64_t start = (uint64_t)((of + 1) % g.drives) * stripe_sectors(g);
+    partial_header(sector_in(f, drive, y, at), g, start, start + rows, 1);
+    put_pointer(f->range[WRITTEN], cell(g, drive, y), at + 1);
+}
+
+/* A header whose rows would just pass the zone's end, on every drive and of every drive's stripes: only where it is legal that is what is wrong. */
+static void rows_past_the_end(struct fixture *f) {
+    uint32_t drives = f->geometry.drives;
+    for (uint32_t i = 0; i < 2 * drives * drives * f->geometry.unit; i++) {
+        uint32_t drive = i / 2 % drives, of = i / 2 / drives % drives, rows = i / 2 / drives / drives + 1;
+        struct call call = usual_call(f, walking[i % 2]);
+        bool lost = drive == f->range[STATE].bytes[ZRV_STATE_LOST];
+        append_rows(f, drive, of, rows);
+        judge(f, "rows past the end", &call, lost ? ZRV_FINISHED : of == drive ? ZRV_LOG_ROWS : ZRV_LOG_ENTRY);
+    }
 }
 
 int main(void) {
-    asked.kind = every_kind;
-    asked.count = sizeof every_kind / sizeof *every_kind;
-    for (int which = 0; which < FIXTURES; which++)
-        all_cases(which);
-    asked.kind = rebuild_alone;
-    asked.count = 1;
-    for (int which = FIRST_REBUILT; which < SIXTEEN_ZONES; which++)
-        rebuild_cases(which);
+    for (int which = 0; which < FIXTURES; which++) {
+        struct fixture f = new_fixture(which);
+        lengths(&f);
+        lists(&f);
+        geometries(&f);
+        masks(&f);
+        pointers(&f);
+        addresses(&f);
+        wrapping_runs(&f);
+        zones(&f);
+        hosts_and_drives(&f);
+        counts(&f);
+        states(&f);
+        records(&f);
+        owners(&f);
+        shares(&f);
+        log_bytes(&f);
+        bad_pairs(&f);
+        rows_past_the_end(&f);
+        free_fixture(&f);
+    }
     struct fixture sixteen = new_fixture(SIXTEEN_ZONES);
     limits(&sixteen);
     free_fixture(&sixteen);

@@ -1,20 +1,19 @@
 /* The archive's speed as a share of plain C's and of memcpy's, for units of 1, 4 and 16 sectors on 4 and 8 drives, measured in one run by turns on the same
- * work, medians of repeated passes, in processor time, of writes by a host that compacts a drive when it is told 14 too; how a write's time grows with what
- * zone and logs hold, and what it costs to empty a log; a look's and a mount's time per written sector as ratios to the smallest volume's; rebuilds. What is
- * timed beside plain C is held against its result byte by byte. */
+ * work, medians of repeated passes, in processor time, of writes by a host that compacts a drive when it is told 14 too; how a write's time grows with what zone
+ * and logs hold, and what it costs to empty a log; and a look's and a mount's time per written sector as ratios to the smallest volume's. What is timed beside
+ * plain C is held against its result byte by byte. */
 #define _POSIX_C_SOURCE 199309L /* clock_gettime */
 
 #include <stdio.h>
 #include <stdlib.h>
 #include <string.h>
+#include <time.h>
 
 #include "bench_grouped.h"
-#include "bench_rebuild.h"
 #include "hosts.h"
 #include "needed.h"
 #include "plain_logs.h"
 #include "shelf.h"
-#include "timing.h"
 
 enum { PASSES = 31, SLOW_PASSES = 3, OTHER_BYTES = 64 << 20 };
 
@@ -43,6 +42,22 @@ static void *memory(size_t length) {
     if (bytes == NULL)
         exit(2);
     return bytes;
+}
+
+static double seconds(void) {
+    struct timespec now;
+    clock_gettime(CLOCK_PROCESS_CPUTIME_ID, &now);
+    return (double)now.tv_sec + (double)now.tv_nsec * 1e-9;
+}
+
+static int ascending(const void *a, const void *b) {
+    double x = *(const double *)a, y = *(const double *)b;
+    return (x > y) - (x < y);
+}
+
+static double median(double *times, int count) {
+    qsort(times, (size_t)count, sizeof *times, ascending);
+    return times[count / 2];
 }
 
 static struct call bench_call(struct bench *b, enum call_kind kind) {
@@ -281,7 +296,7 @@ enum { TIMED_STRIPES = 4, FAR_STRIPES = 36, FILLING_STRIPES = 36, STRIPES_OF_HOS
 
 /* Resets of zone 0 until the next one would empty a general log: that of drive 0, which gets two entries of each. */
 static void fill_general_logs(struct bench *b) {
-    while (b->shelf.geometry.zone_sectors - get32(b->shelf.written.bytes) >= general_reserve(b->shelf.geometry))
+    while (b->shelf.geometry.zone_sectors - get32(b->shelf.written.bytes) >= reset_reserve(b->shelf.geometry))
         reset_zone_0(b);
 }
 
@@ -463,7 +478,6 @@ int main(void) {
     speeds();
     growth();
     sizes();
-    rebuild_rows();
     grouped_rows();
     return 0;
 }

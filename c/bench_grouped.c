@@ -6,11 +6,11 @@
 #include <stdio.h>
 #include <stdlib.h>
 #include <string.h>
+#include <time.h>
 
 #include "bytes.h"
 #include "grouped_record.h"
 #include "plain_grouped.h"
-#include "timing.h"
 #include "zrv.h"
 
 enum { DRIVES = ZRV_MOST_DRIVES, BLOCK_BYTES = ZRV_LEAST_SECTOR_BYTES, GROUP = 256, BLOCKS = 65536, CELLS = DRIVES * BLOCKS };
@@ -45,6 +45,12 @@ static void fill(struct grouped *g) {
         put32(g->metadata + cell * RECORD + GROUPED_STRIPE_ID, get32(g->metadata + other * RECORD + GROUPED_STRIPE_ID));
         put32(g->metadata + other * RECORD + GROUPED_STRIPE_ID, id);
     }
+}
+
+static double seconds(void) {
+    struct timespec now;
+    clock_gettime(CLOCK_PROCESS_CPUTIME_ID, &now);
+    return (double)now.tv_sec + (double)now.tv_nsec * 1e-9;
 }
 
 /* The least time of some turns. */

@@ -1,6 +1,5 @@
-/* The archive's write of a whole stripe beside the same bytes laid by memcpy and ISA-L's xor_gen, on the same memory, by turns, medians in processor time.
- * The write copies units and adds them to their row in one pass, so its exclusive or cannot be timed alone; xor_gen's can. Then its rebuild of a drive beside
- * xor_gen over the same bytes. ISA-L is no part of the product. */
+/* The archive's write of a whole stripe beside the same bytes laid by memcpy and ISA-L's xor_gen, on the same memory, by turns, medians in processor time. The
+ * write copies units and adds them to their row in one pass, so its exclusive or cannot be timed alone; xor_gen's can. ISA-L is no part of the product. */
 #define _POSIX_C_SOURCE 199309L /* clock_gettime */
 
 #include <isa-l/raid.h>
@@ -8,12 +7,12 @@
 #include <stdio.h>
 #include <stdlib.h>
 #include <string.h>
+#include <time.h>
 
-#include "lost_volume.h"
 #include "needed.h"
-#include "timing.h"
+#include "shelf.h"
 
-enum { PASSES = 301, REBUILDS = 31, ALIGNMENT = SECTORS_ALIGNMENT, ZONE_SECTORS = 128, REBUILT_SECTORS = 512 };
+enum { PASSES = 301, ALIGNMENT = 64, ZONE_SECTORS = 128 };
 
 /* A volume of one zone, and the data of its first stripe; the stripe's parity lies on the last drive. */
 struct stripe {
@@ -28,6 +27,22 @@ static struct range aligned_range(size_t length) {
         exit(2);
     memset(range.bytes, 0, length);
     return range;
+}
+
+static double seconds(void) {
+    struct timespec now;
+    clock_gettime(CLOCK_PROCESS_CPUTIME_ID, &now);
+    return (double)now.tv_sec + (double)now.tv_nsec * 1e-9;
+}
+
+static int ascending(const void *a, const void *b) {
+    double x = *(const double *)a, y = *(const double *)b;
+    return (x > y) - (x < y);
+}
+
+static double median(double *times) {
+    qsort(times, PASSES, sizeof *times, ascending);
+    return times[PASSES / 2];
 }
 
 static void make(struct stripe *s, enum call_kind kind, uint32_t named) {
@@ -93,46 +108,9 @@ static void row(uint32_t drives, uint32_t unit) {
         both[i] = time_isal(&s, true);
         isal[i] = time_isal(&s, false);
     }
-    double write = median(whole, PASSES), theirs = median(both, PASSES);
-    printf("%6u %5u %16.2f %16.2f %16.2f %16.2f\n", drives, unit, 1e6 * write, 1e6 * theirs, 1e6 * median(isal, PASSES), theirs / write);
+    printf("%6u %5u %16.2f %16.2f %16.2f %16.2f\n", drives, unit, 1e6 * median(whole), 1e6 * median(both), 1e6 * median(isal), median(both) / median(whole));
     free_shelf(&s.shelf);
     free(s.data.bytes);
-}
-
-/* The lost drive's zone as xor_gen makes it from the others, unit by unit. */
-static double time_isal_rebuild(struct lost_volume *v) {
-    struct geometry g = v->shelf.geometry;
-    size_t unit = (size_t)g.unit * g.sector_bytes;
-    double start = seconds();
-    for (size_t at = 0; at < (size_t)g.zone_sectors * g.sector_bytes; at += unit) {
-        void *units[ZRV_MOST_DRIVES];
-        for (uint32_t d = 1; d < g.drives; d++)
-            units[d - 1] = zone_on(v, d) + at;
-        units[g.drives - 1] = zone_on(v, LOST_DRIVE) + at;
-        if (xor_gen((int)g.drives, (int)unit, units) != 0)
-            exit(1);
-    }
-    return seconds() - start;
-}
-
-static double time_rebuild(struct lost_volume *v) {
-    lose_again(v);
-    double start = seconds();
-    rebuild_volume(v);
-    return seconds() - start;
-}
-
-static void rebuild_row(uint32_t drives, uint32_t unit) {
-    struct geometry g = {drives, ZRV_MOST_SECTOR_BYTES, unit, 1, REBUILT_SECTORS};
-    struct lost_volume v = new_lost_volume(g, REBUILT_SECTORS / unit);
-    double archive[REBUILDS], isal[REBUILDS];
-    for (int i = 0; i < REBUILDS; i++) {
-        archive[i] = time_rebuild(&v);
-        isal[i] = time_isal_rebuild(&v);
-    }
-    double own = median(archive, REBUILDS), theirs = median(isal, REBUILDS);
-    printf("%6u %5u %16.2f %16.2f %16.2f\n", drives, unit, 1e6 * own, 1e6 * theirs, theirs / own);
-    free_lost_volume(&v);
 }
 
 int main(void) {
@@ -142,10 +120,5 @@ int main(void) {
     for (uint32_t drives = 4; drives <= ZRV_MOST_DRIVES; drives += 4)
         for (uint32_t unit = 1; unit <= ZRV_MOST_UNIT; unit *= 4)
             row(drives, unit);
-    printf("\nthe rebuild of a drive of a full volume (C %u), beside xor_gen of the other drives' units\n", REBUILT_SECTORS);
-    printf("%6s %5s %16s %16s %16s\n", "drives", "unit", "rebuild", "xor_gen", "share");
-    for (uint32_t drives = 4; drives <= ZRV_MOST_DRIVES; drives += 4)
-        for (uint32_t unit = 1; unit <= ZRV_MOST_UNIT; unit *= 4)
-            rebuild_row(drives, unit);
     return 0;
 }

@@ -81,40 +81,9 @@ static void append_of(struct host *host, const struct command *command) {
     free(sector);
 }
 
-/* An empty drive in a place. */
-static void empty_drive(struct host *host, uint64_t drive) {
-    struct geometry g = host->shelf.geometry;
-    size_t bytes = physical_zones(g) * g.zone_sectors * g.sector_bytes;
-    if (drive >= g.drives)
-        return;
-    memset(host->shelf.sectors.bytes + drive * bytes, 0, bytes);
-    for (uint32_t zone = 0; zone < physical_zones(g); zone++)
-        put_pointers(host, cell(g, (uint32_t)drive, zone), 0, 0);
-}
-
 static void put_byte(struct host *host, uint64_t offset, uint8_t value) {
     if (offset < host->shelf.sectors.length)
         host->shelf.sectors.bytes[offset] = value;
-}
-
-/* Changes to the host's state. */
-static void change_state(struct host *host, const struct command *command) {
-    const uint64_t *number = command->number;
-    switch (command->letter) {
-    case 's':
-        put_record(host, number);
-        break;
-    case 'x':
-        if (host->has_state)
-            host->state[ZRV_STATE_LOST] = (uint8_t)number[0];
-        break;
-    case 'i':
-        put_owner(host, number);
-        break;
-    case 'h':
-        put_shares(host, number);
-        break;
-    }
 }
 
 void change_host(struct host *host, const struct command *command) {
@@ -138,14 +107,22 @@ void change_host(struct host *host, const struct command *command) {
     case 't':
         put_pointers(host, number[0], narrowed(number[1]), narrowed(number[2]));
         break;
-    case 'E':
-        empty_drive(host, number[0]);
+    case 's':
+        put_record(host, number);
+        break;
+    case 'x':
+        if (host->has_state)
+            host->state[ZRV_STATE_LOST] = (uint8_t)number[0];
+        break;
+    case 'i':
+        put_owner(host, number);
+        break;
+    case 'h':
+        put_shares(host, number);
         break;
     case 'e':
     case 'q':
         append_of(host, command);
         break;
-    default:
-        change_state(host, command);
     }
 }

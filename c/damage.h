@@ -1,5 +1,5 @@
-/* The commands of a conformance script that are no calls: a new shelf, an empty drive, another geometry, a shortage, a power cut, and damage to sectors,
- * write pointers and the host's state. */
+/* The commands of a conformance script that are no calls: a new shelf, another geometry, a shortage, a power cut, and damage to sectors, write pointers
+ * and the host's state. */
 #ifndef DAMAGE_H
 #define DAMAGE_H
 

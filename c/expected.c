@@ -12,7 +12,7 @@ static bool reads_state(enum call_kind kind) {
 
 static bool answers_in_buffer(enum call_kind kind) { return kind == CALL_READ || kind == CALL_REPORT; }
 
-void state_from_bytes(struct volume_state *state, const uint8_t *bytes) {
+static void state_from_bytes(struct volume_state *state, const uint8_t *bytes) {
     state->lost = bytes[ZRV_STATE_LOST];
     for (uint32_t z = 0; z < ZRV_STATE_RECORDS; z++) {
         const uint8_t *record = zone_record(bytes, z);
@@ -109,8 +109,6 @@ static uint32_t code_of(struct expected *e, const struct call *call) {
         return plain_reset(v, call->named, call->zone, call->count);
     case CALL_COMPACT:
         return plain_compact(v, call->named, call->drive, call->count);
-    case CALL_REBUILD:
-        return plain_rebuild(v, call->named, call->drive, call->count);
     case CALL_READ:
         return plain_read(v, call->named, call->address, call->run, e->answer, buffer->length);
     case CALL_PEEK:

@@ -22,8 +22,6 @@ void expect(struct expected *expected, const struct call *call);
 /* Whether the byte ranges hold what is expected. */
 bool bytes_as_expected(const struct expected *expected, const struct call *call);
 
-/* A state read from its bytes, and in its bytes. */
-void state_from_bytes(struct volume_state *state, const uint8_t *bytes);
 void state_to_bytes(const struct volume_state *state, struct geometry geometry, uint8_t *bytes);
 
 #endif

@@ -1,5 +1,5 @@
 /* Fixtures, made through the C edge: format, perhaps resets until logs are emptied, writes that end inside a stripe and at a stripe's end, perhaps a compact of
- * each drive, a flush; then a power cut, a loss, or both, with a mount after each. */
+ * each drive, a flush; then a loss or a power cut, and a mount. */
 #include "fixture.h"
 
 #include <stdio.h>
@@ -16,16 +16,11 @@ static const struct {
     uint32_t lost;   /* lost after the writes */
     bool cut;        /* power is cut after the writes */
     bool compacted;  /* every parity log is emptied after the writes */
-    bool renewed;    /* an empty drive is in the lost one's place */
 } plan[] = {
     {"healthy", {4, 64, 2, 2, 32}, .lost = ZRV_NO_DRIVE},
     {"a drive lost", {5, 64, 3, 3, 48}, .lost = 1},
     {"a zone sealed", {3, 128, 1, 4, 24}, .lost = ZRV_NO_DRIVE, .cut = true},
     {"logs emptied", {4, 64, 2, 2, 32}, 14, .lost = ZRV_NO_DRIVE, .compacted = true}, /* the resets empty the general logs of drives 0 and 3 */
-    /* For rebuilds. The resets leave little room in the general logs that get the fewest entries; an empty drive takes the lost one's place. */
-    [FIRST_REBUILT] = {"a general log to empty", {4, 64, 2, 2, 32}, 24, .lost = 0, .renewed = true},
-    {"sealed, a drive lost", {3, 128, 1, 4, 24}, .lost = 2, .cut = true},
-    {"compacted, a drive lost", {4, 64, 2, 2, 32}, 14, .lost = 3, .compacted = true, .renewed = true},
     [SIXTEEN_ZONES] = {"sixteen zones", {3, 256, 1, 16, 48}, .lost = ZRV_NO_DRIVE},
 };
 
@@ -110,21 +105,6 @@ static void cut_and_mount(struct fixture *f) {
     }
 }
 
-static void lose_and_mount(struct fixture *f, uint32_t drive) {
-    struct call call = usual_call(f, CALL_MOUNT);
-    call.named &= ~(1u << drive);
-    must_finish(&call);
-}
-
-static void empty_drive(struct fixture *f, uint32_t drive) {
-    size_t zones = physical_zones(f->geometry), bytes = zones * f->geometry.zone_sectors * f->geometry.sector_bytes;
-    memset(f->range[SECTORS].bytes + drive * bytes, 0, bytes);
-    for (size_t at = drive * zones; at < (drive + 1) * zones; at++) {
-        put_pointer(f->range[WRITTEN], at, 0);
-        put_pointer(f->range[DURABLE], at, 0);
-    }
-}
-
 struct fixture new_fixture(int which) {
     struct fixture f = {.name = plan[which].name, .geometry = plan[which].geometry};
     lay_out(&f, plan[which].geometry);
@@ -138,12 +118,13 @@ struct fixture new_fixture(int which) {
         compact_all(&f);
     call = usual_call(&f, CALL_FLUSH);
     must_finish(&call);
+    if (plan[which].lost != ZRV_NO_DRIVE) {
+        call = usual_call(&f, CALL_MOUNT);
+        call.named &= ~(1u << plan[which].lost);
+        must_finish(&call);
+    }
     if (plan[which].cut)
         cut_and_mount(&f);
-    if (plan[which].lost != ZRV_NO_DRIVE)
-        lose_and_mount(&f, plan[which].lost);
-    if (plan[which].renewed)
-        empty_drive(&f, plan[which].lost);
     memcpy(f.base, f.memory, f.memory_bytes);
     return f;
 }
@@ -167,18 +148,12 @@ struct range buffer_of(const struct fixture *f, uint32_t run) {
 
 uint32_t zone_pointer(const struct fixture *f, uint32_t zone) { return get32(zone_record(f->range[STATE].bytes, zone) + ZRV_RECORD_POINTER); }
 
-uint32_t lost_drive(const struct fixture *f) { return f->range[STATE].bytes[ZRV_STATE_LOST]; }
-
 struct call usual_call(const struct fixture *f, enum call_kind kind) {
     struct call call = {.kind = kind, .geometry = f->geometry, .named = (1u << f->geometry.drives) - 1, .array = 77, .count = ZRV_ALL_STORES};
     memcpy(call.range, f->range, sizeof f->range);
     call.run = kind == CALL_WRITE ? 2 : 1;
     if (kind == CALL_WRITE)
         call.address = zone_pointer(f, 0);
-    if (kind == CALL_COMPACT)
-        call.drive = lost_drive(f) == 0 ? 1 : 0;
-    if (kind == CALL_REBUILD)
-        call.drive = lost_drive(f) == ZRV_NO_DRIVE ? 0 : lost_drive(f);
     call.range[BUFFER] = buffer_of(f, call.run);
     if (kind == CALL_PEEK)
         call.range[BUFFER].length = ZRV_PLACE_BYTES;

@@ -18,24 +18,21 @@ struct fixture {
     struct expected expected;
 };
 
-/* Volumes: healthy; with a drive lost for good; with a zone that a mount sealed; with logs that were emptied. Three with a lost drive to rebuild. And one of
- * sixteen zones, for the limits of open ones. */
-enum { FIXTURES = 4, FIRST_REBUILT = FIXTURES, SIXTEEN_ZONES = FIRST_REBUILT + 3 };
+/* Volumes: healthy; with a drive lost for good; with a zone that a mount sealed; with logs that were emptied. And one of sixteen zones, for the limits of open
+ * ones. */
+enum { FIXTURES = 4, SIXTEEN_ZONES = FIXTURES };
 struct fixture new_fixture(int which);
 void free_fixture(struct fixture *fixture);
 
 /* The memory as it was at the start. */
 void restore(struct fixture *fixture);
 
-/* A call on the fixture's whole ranges that is not refused, or only for want of its zone's condition, or of a lost drive to rebuild. */
+/* A call on the fixture's whole ranges that is not refused, or only for want of its zone's condition. */
 struct call usual_call(const struct fixture *fixture, enum call_kind kind);
 
 /* The buffer that a run of sectors wants, as far as there is memory for it. */
 struct range buffer_of(const struct fixture *fixture, uint32_t run);
 
 uint32_t zone_pointer(const struct fixture *fixture, uint32_t zone);
-
-/* By the fixture's state. */
-uint32_t lost_drive(const struct fixture *fixture);
 
 #endif

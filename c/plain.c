@@ -1,6 +1,5 @@
-/* Format, write, reset, compact, read, flush and report in plain C; a rebuild is in plain_rebuild.c. A write appends its data sectors by address, then the
- * stripe's parity where the stripe is complete, or a partial parity entry in the log where the write ends inside one. Before its stores a reset empties the
- * logs that lack room for it. */
+/* Format, write, reset, compact, read, flush and report in plain C. A write appends its data sectors by address, then the stripe's parity where the stripe is
+ * complete, or a partial parity entry in the log where the write ends inside one. Before its stores a reset empties the logs that lack room for it. */
 #include "plain.h"
 
 #include <string.h>
@@ -132,8 +131,16 @@ static bool append_to_general(struct storing *storing, uint32_t drive, const uin
     return drive == storing->absent || append(storing, drive, log_zone(storing->v, drive, GENERAL_LOG), sector);
 }
 
-/* The stores of a reset, after which the state is `after`. Drives may cache a zone reset until they are flushed: counters that end the generation come only
- * when no zone can come back. */
+static bool empty_general_logs(struct storing *storing) {
+    struct volume *v = storing->v;
+    for (uint32_t d = 0; d < v->geometry.drives; d++)
+        if (d != storing->absent && log_lacks(v, d, GENERAL_LOG, reset_reserve(v->geometry)) && !empty_log(storing, d, GENERAL_LOG))
+            return false;
+    return true;
+}
+
+/* The stores of a reset, after which the state is `after`. Drives may cache a zone reset until they are flushed: counters that end the generation come only when
+ * no zone can come back. */
 static bool reset_everywhere(struct storing *storing, uint32_t zone, const struct volume_state *after) {
     struct volume *v = storing->v;
     struct geometry g = v->geometry;
@@ -164,6 +171,12 @@ uint32_t plain_reset(struct volume *v, uint32_t named, uint32_t zone, uint32_t c
         return ZRV_UNFINISHED;
     v->state = after;
     return ZRV_FINISHED;
+}
+
+/* Both hosts' shares of a drive's parity log begin anew, by the room that it has. */
+static void share_log(struct volume_state *state, struct geometry g, uint32_t drive, uint32_t room) {
+    for (uint32_t host = 0; host < ZRV_HOSTS; host++)
+        state->share[drive][host] = share_of_room(g, room);
 }
 
 uint32_t plain_compact(struct volume *v, uint32_t named, uint32_t drive, uint32_t count) {

@@ -1,6 +1,6 @@
-/* The same volume in plain C, with no proof: the same layout, the same log entries, the same refusals, on the same tables in memory (write pointers as arrays
- * of numbers). It has format, write, reset, compact, rebuild, read, flush and report. The bench holds the archive's times against it, and the test of bad
- * input takes from it which refusal document 01's table gives. */
+/* The same volume in plain C, with no proof: the same layout, the same log entries, the same refusals, on the same tables in memory (write pointers as
+ * arrays of numbers). It has format, write, reset, compact, read, flush and report. The bench holds the archive's times against it, and the test of bad input takes
+ * from it which refusal document 01's table gives. */
 #ifndef PLAIN_H
 #define PLAIN_H
 
@@ -43,13 +43,12 @@ uint32_t plain_format(struct volume *volume, uint32_t named, uint64_t array, uin
 uint32_t plain_write(struct volume *volume, uint32_t named, const struct asked *asked, uint32_t count);
 uint32_t plain_reset(struct volume *volume, uint32_t named, uint32_t zone, uint32_t count);
 uint32_t plain_compact(struct volume *volume, uint32_t named, uint32_t drive, uint32_t count);
-uint32_t plain_rebuild(struct volume *volume, uint32_t named, uint32_t slot, uint32_t count);
 uint32_t plain_read(const struct volume *volume, uint32_t named, uint64_t address, uint32_t run, uint8_t *answer, size_t answer_bytes);
 uint32_t plain_flush(struct volume *volume, uint32_t named, uint32_t count);
 uint32_t plain_report(const struct volume *volume, uint8_t *list, size_t list_bytes, uint32_t *filled);
 
-/* What is refused, ZRV_FINISHED if nothing is, up to refusal 14 (of a write up to 19, of a peek, a compact and a rebuild 15 too). Of look and mount 1 to 6,
- * 16 and 17, with the place of a bad log, else zeros. */
+/* What is refused, ZRV_FINISHED if nothing is, up to refusal 14 (of a write up to 19, of a peek and a compact 15 too). Of look and mount 1 to 6, 16 and 17, with the place
+ * of a bad log, else zeros. */
 bool geometry_fits(struct geometry geometry);
 uint32_t format_refusal(const struct volume *volume, uint32_t named);
 uint32_t look_refusal(const struct volume *volume, uint32_t named, struct log_place *bad);
@@ -58,11 +57,10 @@ uint32_t write_refusal(const struct volume *volume, uint32_t named, const struct
 uint32_t read_refusal(const struct volume *volume, uint32_t named, uint64_t address, uint32_t run, size_t answer_bytes);
 uint32_t reset_refusal(const struct volume *volume, uint32_t named, uint32_t zone);
 uint32_t compact_refusal(const struct volume *volume, uint32_t named, uint32_t drive);
-uint32_t rebuild_refusal(const struct volume *volume, uint32_t named, uint32_t slot);
 uint32_t peek_refusal(const struct volume *volume, uint32_t named, uint64_t address);
 uint32_t report_refusal(const struct volume *volume);
 
-/* The room that a reset or a rebuild wants in each general log. */
-uint32_t general_reserve(struct geometry geometry);
+/* The room that a reset wants in each general log. */
+uint32_t reset_reserve(struct geometry geometry);
 
 #endif

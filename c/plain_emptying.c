@@ -130,11 +130,3 @@ bool empty_log(struct storing *storing, uint32_t drive, uint32_t log) {
     bool copied = log == GENERAL_LOG ? copy_general(storing, drive, to) : copy_parity(storing, drive, to);
     return copied && append(storing, drive, to, closing) && flush_all(storing) && reset_zone(storing, drive, old);
 }
-
-bool empty_general_logs(struct storing *storing) {
-    struct volume *v = storing->v;
-    for (uint32_t d = 0; d < v->geometry.drives; d++)
-        if (d != storing->absent && log_lacks(v, d, GENERAL_LOG, general_reserve(v->geometry)) && !empty_log(storing, d, GENERAL_LOG))
-            return false;
-    return true;
-}

@@ -1,5 +1,5 @@
-/* Emptying a log (document 02), one that lacks room for a reset or a rebuild, or a parity log for a compact: what is still needed of it is copied to the
- * drive's spare zone, a closing entry follows, and the old zone is reset. Generations and pointers are the state's. */
+/* Emptying a log (document 02), one that lacks room for a reset, or a parity log for a compact: what is still needed of it is copied to the drive's spare zone,
+ * a closing entry follows, and the old zone is reset. Generations and pointers are the state's. */
 #ifndef PLAIN_EMPTYING_H
 #define PLAIN_EMPTYING_H
 
@@ -14,8 +14,5 @@ bool kept_entries_known(const struct volume *v, uint32_t absent, uint32_t drive)
 
 /* Makes the stores; false where their count has run out. */
 bool empty_log(struct storing *storing, uint32_t drive, uint32_t log);
-
-/* The same of every present drive's general log that lacks room for a reset. */
-bool empty_general_logs(struct storing *storing);
 
 #endif

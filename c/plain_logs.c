@@ -4,7 +4,6 @@
 #include <string.h>
 
 #include "bytes.h"
-#include "hosts.h"
 
 static void header(uint8_t *sector, struct geometry g, enum entry_type type, uint64_t start, uint64_t end, uint64_t generation) {
     memset(sector, 0, g.sector_bytes);
@@ -69,11 +68,6 @@ uint32_t unused(const struct volume *v, uint32_t drive, uint32_t log_zone) {
 struct journal_reader volume_log(const struct volume *v, uint32_t drive, uint32_t log) {
     struct log_zones zones = volume_log_zones(v, drive);
     return read_log(&zones, log);
-}
-
-void share_log(struct volume_state *state, struct geometry g, uint32_t drive, uint32_t room) {
-    for (uint32_t host = 0; host < ZRV_HOSTS; host++)
-        state->share[drive][host] = share_of_room(g, room);
 }
 
 /* Whether an entry is of a type and of a zone as the state has it. */

@@ -18,18 +18,6 @@ uint32_t log_zone(const struct volume *v, uint32_t drive, uint32_t log);
 uint32_t unused(const struct volume *v, uint32_t drive, uint32_t log_zone);
 struct journal_reader volume_log(const struct volume *v, uint32_t drive, uint32_t log);
 
-/* Both hosts' shares of a drive's parity log begin anew, by the room that it has. */
-void share_log(struct volume_state *state, struct geometry g, uint32_t drive, uint32_t room);
-
-/* The label with which a drive's general log begins, and its last one; NULL where it begins with none. */
-struct labels {
-    const uint8_t *first, *last;
-};
-struct labels labels_of(const struct volume *v, uint32_t drive);
-
-/* Whether every drive but the lost ones, by bit, has both logs and a first label, all of one array (refusal 5). */
-bool labels_fit(const struct volume *v, uint32_t lost);
-
 /* A stripe and what a lost sector of it asks of a log entry. */
 struct partial_query {
     uint32_t zone, stripe;

@@ -2,7 +2,12 @@
 #include "bytes.h"
 #include "plain_logs.h"
 
-struct labels labels_of(const struct volume *v, uint32_t drive) {
+/* The label with which a drive's general log begins, and its last one; NULL where it begins with none. */
+struct labels {
+    const uint8_t *first, *last;
+};
+
+static struct labels labels_of(const struct volume *v, uint32_t drive) {
     struct labels labels = {NULL, NULL};
     struct journal_reader reader = volume_log(v, drive, GENERAL_LOG);
     const uint8_t *sector;
@@ -24,7 +29,8 @@ static uint32_t lost_drives(const struct volume *v, uint32_t named) {
     return lost;
 }
 
-bool labels_fit(const struct volume *v, uint32_t lost) {
+/* Refusal 5. */
+static bool labels_fit(const struct volume *v, uint32_t lost) {
     const uint8_t *other = NULL;
     for (uint32_t d = 0; d < v->geometry.drives; d++) {
         if ((lost >> d & 1) != 0)

@@ -3,8 +3,6 @@
 #include "hosts.h"
 #include "journal.h"
 #include "plain_emptying.h"
-#include "plain_logs.h"
-#include "plain_rebuild.h"
 
 static uint32_t larger(uint32_t a, uint32_t b) { return a > b ? a : b; }
 
@@ -91,12 +89,12 @@ static uint32_t zone_refusal(const struct volume *v, uint32_t named, uint64_t zo
     return ZRV_FINISHED;
 }
 
-uint32_t general_reserve(struct geometry g) { return g.zones + 4; }
+uint32_t reset_reserve(struct geometry g) { return g.zones + 4; }
 
-/* Refusal 14 of a reset and a rebuild. */
+/* Refusal 14 of a reset. */
 static bool general_log_full(const struct volume *v, uint32_t absent) {
     for (uint32_t d = 0; d < v->geometry.drives; d++)
-        if (d != absent && log_lacks(v, d, GENERAL_LOG, general_reserve(v->geometry)) && log_stays_full(v, d, GENERAL_LOG, general_reserve(v->geometry)))
+        if (d != absent && log_lacks(v, d, GENERAL_LOG, reset_reserve(v->geometry)) && log_stays_full(v, d, GENERAL_LOG, reset_reserve(v->geometry)))
             return true;
     return false;
 }
@@ -171,18 +169,10 @@ uint32_t reset_refusal(const struct volume *v, uint32_t named, uint32_t zone) {
     return general_log_full(v, absent_drive(v->geometry, named, v->state.lost)) ? ZRV_LOG_FULL : ZRV_FINISHED;
 }
 
-/* Refusal 7 of any zone. */
-static uint32_t zones_refusal(const struct volume *v, uint32_t named) {
-    uint32_t refusal = ZRV_FINISHED;
-    for (uint32_t z = 0; refusal == ZRV_FINISHED && z < v->geometry.zones; z++)
-        refusal = zone_refusal(v, named, z);
-    return refusal;
-}
-
 uint32_t compact_refusal(const struct volume *v, uint32_t named, uint32_t drive) {
     uint32_t refusal = input_refusal(v, named, true), absent;
-    if (refusal == ZRV_FINISHED)
-        refusal = zones_refusal(v, named);
+    for (uint32_t z = 0; refusal == ZRV_FINISHED && z < v->geometry.zones; z++)
+        refusal = zone_refusal(v, named, z);
     if (refusal != ZRV_FINISHED)
         return refusal;
     absent = absent_drive(v->geometry, named, v->state.lost);
@@ -191,26 +181,6 @@ uint32_t compact_refusal(const struct volume *v, uint32_t named, uint32_t drive)
     if (log_stays_full(v, drive, PARITY_LOG, parity_reserve(v->geometry)))
         return ZRV_LOG_FULL;
     return kept_entries_known(v, absent, drive) ? ZRV_FINISHED : ZRV_GONE;
-}
-
-/* By bit, a drive that there may be. */
-static uint32_t bit_of(uint32_t drive) { return drive < ZRV_MOST_DRIVES ? 1u << drive : 0; }
-
-/* The slot counts as named, and neither it nor the lost drive is judged by its label. */
-uint32_t rebuild_refusal(const struct volume *v, uint32_t named, uint32_t slot) {
-    uint32_t all = named | bit_of(slot), refusal = input_refusal(v, all, true);
-    if (refusal != ZRV_FINISHED)
-        return refusal;
-    if (!labels_fit(v, ~all | bit_of(slot) | bit_of(v->state.lost)))
-        return ZRV_LABEL;
-    if (slot != v->state.lost || slot == ZRV_NO_DRIVE)
-        return ZRV_NOT_LOST;
-    refusal = zones_refusal(v, all);
-    if (refusal != ZRV_FINISHED)
-        return refusal;
-    if (general_log_full(v, slot))
-        return ZRV_LOG_FULL;
-    return rebuild_known(v, slot) ? ZRV_FINISHED : ZRV_GONE;
 }
 
 uint32_t peek_refusal(const struct volume *v, uint32_t named, uint64_t address) {

@@ -49,20 +49,15 @@ bool reset_zone(struct storing *storing, uint32_t drive, uint32_t physical_zone)
     return true;
 }
 
-bool flush_drive(struct storing *storing, uint32_t drive) {
-    struct volume *v = storing->v;
-    size_t at = cell(v->geometry, drive, 0);
-    if (drive == storing->absent)
-        return true;
-    if (!may_store(storing))
-        return false;
-    memcpy(v->durable + at, v->written + at, physical_zones(v->geometry) * sizeof *v->durable);
-    return true;
-}
-
 bool flush_all(struct storing *storing) {
-    for (uint32_t d = 0; d < storing->v->geometry.drives; d++)
-        if (!flush_drive(storing, d))
+    struct volume *v = storing->v;
+    size_t zones = physical_zones(v->geometry);
+    for (uint32_t d = 0; d < v->geometry.drives; d++) {
+        if (d == storing->absent)
+            continue;
+        if (!may_store(storing))
             return false;
+        memcpy(v->durable + d * zones, v->written + d * zones, zones * sizeof *v->durable);
+    }
     return true;
 }

@@ -18,7 +18,6 @@ void count_store(struct storing *storing, uint32_t drive, uint32_t physical_zone
 
 bool append(struct storing *storing, uint32_t drive, uint32_t physical_zone, const uint8_t *sector);
 bool reset_zone(struct storing *storing, uint32_t drive, uint32_t physical_zone);
-bool flush_drive(struct storing *storing, uint32_t drive);
 bool flush_all(struct storing *storing);
 
 #endif

@@ -43,7 +43,6 @@ static void take_numbers(struct call *call, const struct command *command) {
     case CALL_FORMAT:
     case CALL_RESET:
     case CALL_COMPACT:
-    case CALL_REBUILD:
         call->count = narrowed(number[2]);
         break;
     default:
@@ -67,7 +66,7 @@ static struct range buffer_for(const struct host *host, const struct command *co
     return shortened(buffer, host->shortage.buffer);
 }
 
-bool leaves_state(char letter) { return strchr("fmwurkv", letter) != NULL; }
+bool leaves_state(char letter) { return strchr("fmwurk", letter) != NULL; }
 
 static void keep_state(struct host *host, const struct reply *reply) {
     host->has_state = true;
@@ -77,7 +76,7 @@ static void keep_state(struct host *host, const struct reply *reply) {
 
 static struct reply perform_call(struct host *host, const struct command *command) {
     struct reply reply = {.code = CODE_NO_STATE};
-    if (!host->has_state && strchr("wurkvdpo", command->letter) != NULL)
+    if (!host->has_state && strchr("wurkdpo", command->letter) != NULL)
         return reply;
     memcpy(reply.shown, host->state, ZRV_STATE_BYTES);
     struct call call = call_of(host, &host->shortage, reply.shown);
@@ -104,7 +103,7 @@ uint32_t host_read(const struct host *host, uint32_t named, uint64_t address, ui
 }
 
 struct reply perform(struct host *host, const struct command *command) {
-    if (strchr("flmwurkvdpo", command->letter) != NULL)
+    if (strchr("flmwurkdpo", command->letter) != NULL)
         return perform_call(host, command);
     change_host(host, command);
     struct reply reply = {.code = ZRV_FINISHED};

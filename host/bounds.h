@@ -11,8 +11,8 @@ bool geometry_fits(struct geometry geometry, struct message *message);
 /* The fewest sectors that a zone may have on a drive. */
 uint32_t least_zone_sectors(struct geometry geometry);
 
-/* The fewest with which no reset, mount, compact or rebuild is ever refused for a full log, if the host does its duties; and the fewest with which, besides,
- * a compact leaves each host as much of its share as any one write takes of it (docs/USING.md, "Room in the logs"). */
+/* The fewest with which no reset, mount or compact is ever refused for a full log, if the host does its duties; and the fewest with which, besides, a compact
+ * leaves each host as much of its share as any one write takes of it (docs/USING.md, "Room in the logs"). */
 uint32_t least_roomy_zone_sectors(struct geometry geometry);
 uint32_t least_sharing_zone_sectors(struct geometry geometry);
 

@@ -104,7 +104,7 @@ static bool list_stores(struct store_list *list, const struct shelf *before, con
     memcpy(handed_on, state, ZRV_STATE_BYTES);
     if (!see_stores(list, before, call, handed_on, message))
         return false;
-    return settle_stores(list, call, present_in(call->named, handed_on), message);
+    return settle_stores(list, call->kind, present_in(call->named, handed_on), message);
 }
 
 static bool note_unfinished(struct shelf *shelf, const struct shelf *before, const struct call *call, const uint8_t *state, struct message *message) {

@@ -36,8 +36,6 @@ uint32_t make_call(const struct call *call) {
         return ZRV_ANSWER(zrv_reset(NUMBERS(call), call->zone, call->count, TABLES(call)));
     case CALL_COMPACT:
         return ZRV_ANSWER(zrv_compact(NUMBERS(call), call->drive, call->count, TABLES(call)));
-    case CALL_REBUILD:
-        return ZRV_ANSWER(zrv_rebuild(NUMBERS(call), call->drive, call->count, TABLES(call)));
     case CALL_READ:
         return ZRV_ANSWER(zrv_read(NUMBERS(call), call->address, call->run, TABLES(call), RANGE(call, BUFFER)));
     case CALL_PEEK:

@@ -15,7 +15,6 @@ enum call_kind {
     CALL_FLUSH = 'u',
     CALL_RESET = 'r',
     CALL_COMPACT = 'k',
-    CALL_REBUILD = 'v',
     CALL_READ = 'd',
     CALL_PEEK = 'p',
     CALL_REPORT = 'o'
@@ -47,7 +46,7 @@ struct call {
     uint64_t address; /* write, read, peek */
     uint32_t run;     /* write, read: sectors */
     uint32_t zone;    /* reset */
-    uint32_t drive;   /* compact; rebuild: the slot */
+    uint32_t drive;   /* compact */
     uint32_t count;   /* of stores */
     uint32_t *filled; /* report: how many descriptors it filled goes here, unless it is NULL */
     struct log_place *bad; /* look, mount: the place of a bad log, or zeros, goes here, unless it is NULL */

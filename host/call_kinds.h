@@ -12,14 +12,10 @@ enum store_part {
     PART_EMPTYING,    /* one log emptied: a flush, appends to its drive's spare zone, a flush, the reset of the zone that was the log, also where that is empty */
     PART_EMPTYINGS,   /* any number of logs emptied, none of them empty */
     PART_ZONE_RESETS, /* of zones of data, drive by drive, of all present drives; empty zones are reset too */
-    PART_STEPS,       /* any number of steps with a flush after each: logs emptied, spare zones reset, appends, or zones of data reset */
-    PART_LABELS,      /* any number of appends, or none */
-    PART_SLOT_RESETS, /* of every zone of the new drive, ascending; empty zones are reset too */
-    PART_SLOT_FLUSH,  /* of the new drive alone */
-    PART_FLUSH_WITH_SLOT /* of all drives, the new one among them; the flushes before it are of the others */
+    PART_STEPS        /* any number of steps with a flush after each: logs emptied, spare zones reset, appends, or zones of data reset */
 };
 
-enum { MOST_PARTS = 10 };
+enum { MOST_PARTS = 8 };
 
 struct call_traits {
     const char *name;
@@ -28,7 +24,6 @@ struct call_traits {
     bool any_drives;   /* it may be made beside a drive that is not as the shelf left it */
     bool in_zone;      /* it is of one zone */
     bool makes_drives; /* what the drives held before does not count */
-    bool fills_slot;   /* it makes a new drive, `drive`, one of the shelf's, and counts it as named */
     bool refills_logs; /* it may reset the zone of a log, or a spare one, and append to it again, past where it was */
     enum store_part pattern[MOST_PARTS]; /* none: nobody asks for its stores one by one */
 };

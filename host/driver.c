@@ -6,7 +6,6 @@
 #include "bytes.h"
 #include "cached_resets.h"
 #include "call_kinds.h"
-#include "slot.h"
 
 bool open_driver(struct driver *driver, const struct opening *opening, struct message *message) {
     return open_folder(&driver->drives, opening, message) && load_drives(&driver->drives, message);
@@ -61,53 +60,14 @@ uint32_t find_address_to_write(const struct driver *driver, uint32_t zone, uint6
     return ANSWER_ZONE_FULL;
 }
 
-/* What lies in a slot may be replaced; if not, a message says what to do. */
-static uint32_t judge_slot(const struct drives *drives, uint32_t slot, bool replace, struct message *message) {
-    enum slot_content content;
-    if (!find_slot_content(drives, slot, &content, message))
-        return ANSWER_FAILED;
-    if (content == SLOT_NO_FILE)
-        fail(message, "%s/drive-%u.zrv: not a file, and in the way; move it out of this folder first", drives->folder, slot);
-    else if (content == SLOT_USED && !replace)
-        fail(message,
-             "%s/drive-%u.zrv: it holds something, and the new drive would take its place; zrv pull keeps it under another name, rebuild --force "
-             "destroys it",
-             drives->folder, slot);
-    else
-        return ZRV_FINISHED;
-    return ANSWER_SLOT_TAKEN;
-}
-
-uint32_t put_new_drive(struct driver *driver, uint32_t slot, bool replace, struct message *message) {
-    struct drives *drives = &driver->drives;
-    uint32_t answer = may_call(driver, CALL_REBUILD, message);
-    if (answer != ZRV_FINISHED || slot >= drives->record.geometry.drives || (drives->record.given_up >> slot & 1) == 0)
-        return answer;
-    answer = judge_slot(drives, slot, replace, message);
-    if (answer == ZRV_FINISHED)
-        renew_drive(drives, slot);
-    return answer;
-}
-
 static void give_up_absent(struct driver *driver) {
     struct host_record *record = &driver->drives.record;
     record->given_up |= ~driver->drives.present & ((1u << record->geometry.drives) - 1);
     driver->drives.present &= ~record->given_up;
 }
 
-/* The new drive of a finished rebuild is one of the shelf's. */
-static void take_slot(struct driver *driver, uint32_t slot) {
-    struct drives *drives = &driver->drives;
-    drives->record.given_up &= ~(1u << slot);
-    drives->record.stopped &= ~(1u << slot);
-    drives->returned &= ~(1u << slot);
-    drives->present |= 1u << slot;
-}
-
-static void take_finished(struct driver *driver, const struct call *call) {
+static void take_finished(struct driver *driver) {
     struct host_record *record = &driver->drives.record;
-    if (traits_of(call->kind)->fills_slot)
-        take_slot(driver, call->drive);
     memcpy(record->state, driver->shown, ZRV_STATE_BYTES);
     record->phase = PHASE_READY;
     record->older = false;
@@ -116,11 +76,8 @@ static void take_finished(struct driver *driver, const struct call *call) {
     give_up_absent(driver);
 }
 
-static void take_unfinished(struct driver *driver, const struct call *call) {
-    struct host_record *record = &driver->drives.record;
-    record->phase = PHASE_POWER_LOSS_DUE;
-    if (traits_of(call->kind)->fills_slot)
-        record->stopped |= 1u << call->drive;
+static void take_unfinished(struct driver *driver) {
+    driver->drives.record.phase = PHASE_POWER_LOSS_DUE;
     give_up_absent(driver);
 }
 
@@ -164,15 +121,10 @@ static uint32_t make_storing_call(struct driver *driver, const struct call *call
         answer = ANSWER_FAILED;
     free_shelf(&before);
     if (answer == ZRV_FINISHED)
-        take_finished(driver, call);
+        take_finished(driver);
     if (answer == ZRV_UNFINISHED)
-        take_unfinished(driver, call);
+        take_unfinished(driver);
     return answer;
-}
-
-static uint32_t drives_to_name(const struct drives *drives, const struct call *call) {
-    bool has_slot = traits_of(call->kind)->fills_slot && call->drive < drives->record.geometry.drives;
-    return has_slot ? drives->present | 1u << call->drive : drives->present;
 }
 
 uint32_t driver_call(struct driver *driver, struct call call, struct message *message) {
@@ -182,7 +134,7 @@ uint32_t driver_call(struct driver *driver, struct call call, struct message *me
         return answer;
     memcpy(driver->shown, drives->record.state, ZRV_STATE_BYTES);
     call.geometry = drives->record.geometry;
-    call.named = drives_to_name(drives, &call);
+    call.named = drives->present;
     call.range[SECTORS] = drives->shelf.sectors;
     call.range[WRITTEN] = drives->shelf.written;
     call.range[DURABLE] = drives->shelf.durable;

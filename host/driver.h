@@ -1,7 +1,6 @@
-/* The host's driver: the volume's calls over a shelf of drives, with the host's duties kept. Every call gets the format's geometry and the state that the
- * last finished call left; every drive that is there and not given up is named, and a drive that a storing call went without is given up; after a power cut
- * only looks and mounts are made until a mount is finished; after an unfinished call only a power cut. A new drive in a lost one's slot is named by its
- * rebuild alone, and by other calls once that has finished. What a call stored lasts once save_drives has saved it. */
+/* The host's driver: the volume's calls over a shelf of drives, with the host's duties kept. Every call gets the format's geometry and the state that the last
+ * finished call left; every drive that is there and not given up is named, and a drive that a storing call went without is given up; after a power cut only
+ * looks and mounts are made until a mount is finished; after an unfinished call only a power cut. What a call stored lasts once save_drives has saved it. */
 #ifndef DRIVER_H
 #define DRIVER_H
 
@@ -14,21 +13,15 @@ struct driver {
     struct log_place bad;           /* where the last look or mount found a log bad, if it answered so */
 };
 
-/* Answers of the driver's own, beside the volume's and ANSWER_ZONE_FULL: a duty stands against the call; a drive is not the one that this shelf was left
- * with; memory ran out, or what the call left in the drives' caches cannot be told; something lies in the slot of the new drive. After ANSWER_FAILED the
- * shelf in memory is not to be saved or used. */
-enum { ANSWER_NOT_NOW = 256, ANSWER_STRANGE_DRIVE = 257, ANSWER_FAILED = 259, ANSWER_SLOT_TAKEN = 260 };
+/* Answers of the driver's own, beside the volume's and ANSWER_ZONE_FULL: a duty stands against the call; a drive is not the one that this shelf was left with;
+ * memory ran out, or what the call left in the drives' caches cannot be told. After the last the shelf in memory is not to be saved or used. */
+enum { ANSWER_NOT_NOW = 256, ANSWER_STRANGE_DRIVE = 257, ANSWER_FAILED = 259 };
 
 /* After either answer close_drives is due. */
 bool open_driver(struct driver *driver, const struct opening *opening, struct message *message);
 
 /* Makes a call: the kind, its numbers and its buffer are the caller's, the rest is filled in. The message is for the driver's own answers. */
 uint32_t driver_call(struct driver *driver, struct call call, struct message *message);
-
-/* A new, empty drive in the slot of one that was given up, for a rebuild of it to fill; where no drive was given up there, nothing is done, and the volume
- * refuses the rebuild. A file in the slot that holds something is in the way unless `replace`: what it holds goes when the rebuild is saved. Refused as a
- * rebuild would be by a duty. */
-uint32_t put_new_drive(struct driver *driver, uint32_t slot, bool replace, struct message *message);
 
 /* Where a write to a zone goes: its pointer's address, by the state held. Refused as the write would be, with 8 where there is no such zone, and where it is
  * full. */
@@ -39,8 +32,8 @@ struct kept_zone {
     uint32_t drive, zone, sectors;
 };
 
-/* What the write caches keep of a power cut: nothing, everything, as much as a seed says; and beside that the zones given. Drives whose zone resets last at
- * once, and drives that cache them: of the resets in the caches those of the zones given are undone, if any, or all, or those that the seed says. */
+/* What the write caches keep of a power cut: nothing, everything, as much as a seed says; and beside that the zones given. Drives whose zone resets last at once,
+ * and drives that cache them: of the resets in the caches those of the zones given are undone, if any, or all, or those that the seed says. */
 enum cache_keeps { KEEP_NONE, KEEP_ALL, KEEP_RANDOM };
 enum cache_undoes { UNDO_GIVEN, UNDO_ALL, UNDO_RANDOM };
 
@@ -54,8 +47,7 @@ struct power_loss {
     size_t undone_count;
 };
 
-/* The first half of a cut: zones are as they were before a reset that is only in their drive's cache. How many; false, with a message, where a given zone has
- * none. */
+/* The first half of a cut: zones are as they were before a reset that is only in their drive's cache. How many; false, with a message, where a given zone has none. */
 bool undo_resets(struct driver *driver, const struct power_loss *loss, size_t *undone, struct message *message);
 
 /* The second half. False, with a message and nothing changed, where a given zone cannot keep what is given. */

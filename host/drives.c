@@ -13,6 +13,7 @@
 #include "drive_file.h"
 #include "folder.h"
 #include "mapped_sectors.h"
+#include "progress.h"
 #include "redo.h"
 #include "saving.h"
 
@@ -20,13 +21,10 @@
 #define RECORD_MAGIC "zrvstate"
 
 /* Where the record's other fields are. */
-enum { PHASE = HEAD_OWN, GIVEN_UP = 36, STOPPED = 37, ARRAY = 40 };
+enum { PHASE = HEAD_OWN, GIVEN_UP = 36, ARRAY = 40 };
 
 /* The seconds for which a command that only reads waits to be alone, where it finds a save that was stopped: others of its kind are at the same. */
 enum { RECOVERY_WAIT = 1 };
-
-/* The numbers of saves that are set apart for each new drive. */
-#define SAVES_OF_A_DRIVE (UINT64_C(1) << 32)
 
 struct file_place file_of(const struct drives *drives, const char *name) {
     struct file_place place = {drives->folder, name, drives->directory};
@@ -81,8 +79,7 @@ bool read_record(const struct drives *drives, struct host_record *record, struct
     record->older = get32(bytes + HEAD_VERSION) == OLDER_VERSION;
     if (record->older && record->phase == PHASE_READY)
         record->phase = PHASE_MOUNT_DUE;
-    record->given_up = bytes[GIVEN_UP];
-    record->stopped = bytes[STOPPED];
+    record->given_up = get32(bytes + GIVEN_UP);
     record->array = get64(bytes + ARRAY);
     for (uint32_t d = 0; d < ZRV_MOST_DRIVES; d++)
         record->save[d] = get64(bytes + RECORD_SAVES + sizeof(uint64_t) * d);
@@ -94,8 +91,7 @@ void put_record(const struct host_record *record, uint8_t bytes[RECORD_BYTES]) {
     memset(bytes, 0, RECORD_BYTES);
     put_head(bytes, RECORD_MAGIC, RECORD_VERSION, record->geometry);
     put32(bytes + PHASE, record->phase);
-    bytes[GIVEN_UP] = (uint8_t)record->given_up;
-    bytes[STOPPED] = (uint8_t)record->stopped;
+    put32(bytes + GIVEN_UP, record->given_up);
     put64(bytes + ARRAY, record->array);
     for (uint32_t d = 0; d < ZRV_MOST_DRIVES; d++)
         put64(bytes + RECORD_SAVES + sizeof(uint64_t) * d, record->save[d]);
@@ -127,7 +123,7 @@ static bool settle_save(const struct drives *drives, uint32_t drive, struct mess
     return remove_file(&place, message);
 }
 
-bool settle_saves(const struct drives *drives, struct message *message) {
+static bool settle_saves(const struct drives *drives, struct message *message) {
     for (uint32_t d = 0; d < ZRV_MOST_DRIVES; d++)
         if (!settle_save(drives, d, message))
             return false;
@@ -199,19 +195,6 @@ static bool new_memory(struct drives *drives, struct shelf shelf, struct message
 static bool has_returned(const struct drives *drives, uint32_t drive) {
     char name[DRIVE_NAME_BYTES];
     return (drives->record.given_up >> drive & 1) != 0 && faccessat(drives->directory, drive_name(name, drive, "zrv"), F_OK, 0) == 0;
-}
-
-/* Past every save that the record knows of any drive. */
-static uint64_t saves_of_new_drive(const struct host_record *record) {
-    uint64_t most = 0;
-    for (uint32_t d = 0; d < ZRV_MOST_DRIVES; d++)
-        most = record->save[d] > most ? record->save[d] : most;
-    return (most / SAVES_OF_A_DRIVE + 1) * SAVES_OF_A_DRIVE;
-}
-
-void renew_drive(struct drives *drives, uint32_t slot) {
-    drives->renewed |= 1u << slot;
-    drives->record.save[slot] = saves_of_new_drive(&drives->record);
 }
 
 static bool load_drive(struct drives *drives, uint32_t drive, struct progress *progress, struct message *message) {
@@ -311,7 +294,7 @@ bool new_drives(struct drives *drives, const struct opening *opening, struct geo
     return false;
 }
 
-bool write_new_file(struct drives *drives, uint32_t drive, struct progress *progress, struct message *message) {
+static bool write_new_file(struct drives *drives, uint32_t drive, struct progress *progress, struct message *message) {
     char name[DRIVE_NAME_BYTES];
     struct file_place place = file_of(drives, drive_name(name, drive, "new"));
     struct drive_tag tag = {drives->record.array, ++drives->record.save[drive]};
@@ -346,7 +329,6 @@ bool save_drives(struct drives *drives, bool all, struct message *message) {
     if (!(all ? save_format : save_changes)(drives, message))
         return false;
     remember_pointers(drives);
-    drives->renewed = 0;
     return true;
 }
 

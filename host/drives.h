@@ -10,18 +10,14 @@
  *   count too.
  * The sectors have no checksum of the host's: what they hold is the volume's to judge.
  *
- * state.zrv, the host's: bytes 0 to 7 "zrvstate", version (2) and geometry as above, 32 the phase (4), 36 the drives given up by bit (1), 37 of these
- *   those in whose slot a rebuild was stopped (1), two zeros, 40 the array number (8), 48 for each of eight drives the save that its file must be of (8 each),
- *   112 the volume's state, 440 a checksum of all before it (8).
+ * state.zrv, the host's: bytes 0 to 7 "zrvstate", version (2) and geometry as above, 32 the phase (4), 36 the drives given up by bit (4), 40 the array number
+ *   (8), 48 for each of eight drives the save that its file must be of (8 each), 112 the volume's state, 440 a checksum of all before it (8).
  *   Of version 1 the volume's state is shorter, without owners and shares: a mount comes next, which makes it anew.
  *
- * drive-N.pulled, drive-N.pulled-2 and so on: files of drive N that were taken out. They are not used again, nor put one over the other. A new drive that
- * takes a lost one's place has the name drive-N.zrv. Its saves are numbered from the next multiple of 2^32 on, so that no file of the drive before it is
- * taken for it.
+ * drive-N.pulled, drive-N.pulled-2 and so on: files of drive N that were taken out. They are not used again, nor put one over the other.
  *
- * A save is all or nothing, and writes what has changed (saving.h). That of a format makes every file anew: the drives go to drive-N.new first, then
- * state.zrv is replaced by rename, and from then on each drive-N.new counts and takes its drive's place, if need be when the folder is opened next. So does
- * the file of a new drive when the redo file counts that brings the other drives and state.zrv up to it.
+ * A save is all or nothing, and writes what has changed (saving.h). That of a format makes every file anew: the drives go to drive-N.new first, then state.zrv
+ * is replaced by rename, and from then on each drive-N.new counts and takes its drive's place, if need be when the folder is opened next.
  *
  * A drive whose file is missing is not there. One whose file is of another save or array is strange: the folder opens, and its host has to keep to looks. */
 #ifndef DRIVES_H
@@ -29,7 +25,6 @@
 
 #include "files.h"
 #include "lock.h"
-#include "progress.h"
 #include "shelf.h"
 
 #define RECORD_NAME "state.zrv"
@@ -48,8 +43,7 @@ struct host_record {
     struct geometry geometry;
     enum phase phase;
     bool older;        /* it was read from a file of version 1 */
-    uint32_t given_up; /* drives, by bit, that are not named (document 01: lost), until a rebuild of one finishes */
-    uint32_t stopped;  /* of these, those whose rebuild was stopped: what is in the slot is half made */
+    uint32_t given_up; /* drives, by bit, that are never named again (document 01: lost) */
     uint64_t array;
     uint64_t save[ZRV_MOST_DRIVES];
     uint8_t state[ZRV_STATE_BYTES];
@@ -65,7 +59,6 @@ struct drives {
     uint32_t returned; /* those that are given up and whose file is there all the same */
     uint32_t strange; /* of the present ones those whose file is not the one that the last save left */
     uint32_t unreadable; /* those whose file is there and cannot be read as this drive's */
-    uint32_t renewed; /* new drives: the next save makes their files anew */
     struct range written_before, durable_before, old_before; /* as in the files */
     uint32_t stored_from[MOST_CELLS]; /* of each cell: the sectors before this one are as in its file */
 };
@@ -76,9 +69,6 @@ bool open_folder(struct drives *drives, const struct opening *opening, struct me
 /* Reads every drive that is there. False, with a message of the first, where one cannot be read; the others are there all the same. Where
  * memory runs out, which the message tells, they are not to be used. */
 bool load_drives(struct drives *drives, struct message *message);
-
-/* An empty drive in a slot, in memory: the next save makes its file anew, over whatever has that name. */
-void renew_drive(struct drives *drives, uint32_t slot);
 
 /* Makes the folder, if it is not there, and a shelf of new drives in memory. Drives that are in the folder already are in the way unless `replace`. */
 bool new_drives(struct drives *drives, const struct opening *opening, struct geometry geometry, bool replace, struct message *message);
@@ -94,10 +84,6 @@ bool open_and_lock(struct drives *drives, const struct opening *opening, struct 
 bool read_record(const struct drives *drives, struct host_record *record, struct message *message);
 void put_record(const struct host_record *record, uint8_t bytes[RECORD_BYTES]);
 bool write_record(const struct drives *drives, struct message *message);
-
-/* The file of a new drive, drive-N.new, as of one save more; and each such file put in its place if the record says that its save counts, or removed. */
-bool write_new_file(struct drives *drives, uint32_t drive, struct progress *progress, struct message *message);
-bool settle_saves(const struct drives *drives, struct message *message);
 
 void close_drives(struct drives *drives);
 

@@ -99,15 +99,6 @@ enum journal_step next_entry(struct journal_reader *reader, const uint8_t **head
     return JOURNAL_ENTRY;
 }
 
-uint32_t last_lost(struct journal_reader *reader) {
-    uint32_t lost = ZRV_NO_DRIVE;
-    const uint8_t *header;
-    while (next_entry(reader, &header) == JOURNAL_ENTRY)
-        if (header[ENTRY_TYPE] == ENTRY_LABEL)
-            lost = header[LABEL_LOST];
-    return lost;
-}
-
 uint32_t why_no_entry(const struct journal_reader *reader, const uint8_t *header) {
     if (!entry_is_marked(header))
         return ZRV_LOG;

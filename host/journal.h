@@ -68,9 +68,6 @@ enum journal_step { JOURNAL_ENTRY, JOURNAL_TORN, JOURNAL_NO_ENTRY, JOURNAL_END }
 /* The next entry's header. After a torn entry or a sector that is no entry, which are given too, the reader stays where it is. */
 enum journal_step next_entry(struct journal_reader *reader, const uint8_t **header);
 
-/* The drive that the last label from here on gives up, ZRV_NO_DRIVE where none does. */
-uint32_t last_lost(struct journal_reader *reader);
-
 /* Why a sector at which a reader found no entry is none: the answer of a look. */
 uint32_t why_no_entry(const struct journal_reader *reader, const uint8_t *header);
 

@@ -30,13 +30,10 @@ static inline size_t sector_offset(struct geometry g, uint32_t drive, uint32_t p
 static inline uint32_t parity_drive(struct geometry g, uint32_t zone, uint32_t stripe) { return (zone + stripe + g.drives - 1) % g.drives; }
 static inline uint32_t unit_drive(struct geometry g, uint32_t parity, uint32_t unit) { return (parity + 1 + unit) % g.drives; }
 
-/* The unit of a stripe that a drive has; D - 1 for the parity's drive. */
-static inline uint32_t unit_on(struct geometry g, uint32_t parity, uint32_t drive) { return (drive + 2 * g.drives - parity - 1) % g.drives; }
-
 /* Sectors that a drive has in a zone whose first `pointer` sectors are written. */
 static inline uint32_t sectors_needed(struct geometry g, uint32_t zone, uint32_t pointer, uint32_t drive) {
     uint32_t stripe = pointer / stripe_sectors(g), inside = pointer % stripe_sectors(g);
-    uint32_t unit = unit_on(g, parity_drive(g, zone, stripe), drive);
+    uint32_t unit = (drive + 2 * g.drives - parity_drive(g, zone, stripe) - 1) % g.drives;
     uint32_t whole = stripe * g.unit;
     if (unit == g.drives - 1 || inside <= unit * g.unit)
         return whole;

@@ -158,47 +158,22 @@ static void drop_sectors(const struct drives *drives, uint32_t drive, bool saved
         close(descriptor);
 }
 
-/* Whether a drive's file is there, to be changed where it is. */
-static bool has_file(const struct drives *drives, uint32_t drive) { return ((drives->present & ~drives->renewed) >> drive & 1) != 0; }
+static bool is_present(const struct drives *drives, uint32_t drive) { return (drives->present >> drive & 1) != 0; }
 
 /* The bytes that go to their place at once, for the progress. */
 static uint64_t bytes_to_append(const struct drives *drives) {
-    struct geometry g = drives->record.geometry;
     uint64_t sectors = 0;
-    for (size_t at = 0; at < shelf_cells(g); at++)
-        if (has_file(drives, (uint32_t)(at / physical_zones(g))) && counting(drives, at) > counted(drives, at))
-            sectors += counting(drives, at) - counted(drives, at);
-    return sectors * g.sector_bytes;
-}
-
-/* Files of new drives; their names last before the redo file that makes them count. */
-static bool write_new_drives(struct drives *drives, struct message *message) {
-    struct file_place folder = file_of(drives, "");
-    struct progress progress = start_progress("writing the new drive", physical_zones(drives->record.geometry));
-    bool good = true;
-    for (uint32_t d = 0; good && d < drives->record.geometry.drives; d++)
-        if ((drives->renewed >> d & 1) != 0)
-            good = write_new_file(drives, d, &progress, message);
-    end_progress(&progress);
-    return good && (drives->renewed == 0 || sync_names(&folder, message));
-}
-
-/* After a save that failed: what it made of them goes. */
-static void remove_new_drives(const struct drives *drives) {
-    char name[DRIVE_NAME_BYTES];
-    for (uint32_t d = 0; d < drives->record.geometry.drives; d++)
-        if ((drives->renewed >> d & 1) != 0)
-            unlinkat(drives->directory, drive_name(name, d, "new"), 0);
+    for (size_t at = 0; at < shelf_cells(drives->record.geometry); at++)
+        sectors += counting(drives, at) > counted(drives, at) ? counting(drives, at) - counted(drives, at) : 0;
+    return sectors * drives->record.geometry.sector_bytes;
 }
 
 static bool prepare(struct save *save, struct message *message) {
     struct drives *drives = save->drives;
     uint8_t record[RECORD_BYTES];
     for (uint32_t d = 0; d < drives->record.geometry.drives; d++)
-        if (has_file(drives, d) && !save_drive(save, d, message))
+        if (is_present(drives, d) && !save_drive(save, d, message))
             return false;
-    if (!write_new_drives(drives, message))
-        return false;
     put_record(&drives->record, record);
     add_range(&save->redo, REDO_STATE, 0, record, RECORD_BYTES);
     add_range(&save->redo, REDO_STATE, RECORD_BYTES, NULL, 0);
@@ -208,13 +183,10 @@ static bool prepare(struct save *save, struct message *message) {
 bool save_changes(struct drives *drives, struct message *message) {
     struct save save = {.drives = drives, .redo = new_redo(), .progress = start_progress("saving the drives", bytes_to_append(drives))};
     bool saved = prepare(&save, message);
-    if (!saved)
-        remove_new_drives(drives);
     bool good = saved ? apply_redo(&save.redo, drives, message) : add_words(message, "; the shelf is as it was before this command");
-    good = good && (drives->renewed == 0 || settle_saves(drives, message));
     end_progress(&save.progress);
     for (uint32_t d = 0; d < drives->record.geometry.drives; d++)
-        if (has_file(drives, d) && saved == good)
+        if (is_present(drives, d) && saved == good)
             drop_sectors(drives, d, saved);
     free_redo(&save.redo);
     return good;

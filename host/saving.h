@@ -5,8 +5,6 @@
  * that take the place of others (a log is emptied into a zone whose reset is still in the drive's cache). Until the redo file has its name the shelf is as it
  * was; from then on it is as it will be.
  *
- * A new drive's file is written whole, as drive-N.new, before the redo file has its name, and takes its place afterwards.
- *
  * Space is asked for before that, so that a full disk is met while nothing has changed. Afterwards the space of sectors that went is given back. */
 #ifndef SAVING_H
 #define SAVING_H

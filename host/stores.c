@@ -5,23 +5,13 @@
 
 #include "bytes.h"
 
-/* A list, read by a pattern as far as `at`; the drives that a flush is of, ascending; and the new drive, which is none of them before the last flush. */
+/* A list, read by a pattern as far as `at`; and the present drives, ascending. */
 struct reading {
     struct store *store;
     size_t length, at;
-    uint32_t present, drive[ZRV_MOST_DRIVES];
+    uint32_t drive[ZRV_MOST_DRIVES];
     size_t drives;
-    uint32_t slot;
-    size_t zones; /* of a drive */
 };
-
-static void flush_on(struct reading *r, uint32_t present) {
-    r->present = present;
-    r->drives = 0;
-    for (uint32_t d = 0; d < ZRV_MOST_DRIVES; d++)
-        if ((present >> d & 1) != 0)
-            r->drive[r->drives++] = d;
-}
 
 static struct store seen_store(const struct shelf *before, const struct shelf *after) {
     size_t zones = physical_zones(before->geometry);
@@ -167,37 +157,6 @@ static bool read_steps(struct reading *r) {
     return true;
 }
 
-static bool read_labels(struct reading *r) {
-    while (is_append(r, r->at))
-        r->at++;
-    return true;
-}
-
-static bool read_slot_resets(struct reading *r) {
-    for (uint32_t zone = 0; zone < r->zones; zone++, r->at++) {
-        if (r->at == r->length)
-            return false;
-        const struct store *store = &r->store[r->at];
-        bool is_reset = store->kind == STORE_RESET && store->drive == r->slot && store->zone == zone;
-        if (!is_reset && store->kind != STORE_UNSEEN)
-            return false;
-    }
-    return true;
-}
-
-static bool read_slot_flush(struct reading *r) {
-    uint32_t others = r->present;
-    flush_on(r, 1u << r->slot);
-    bool is_one = read_flush(r);
-    flush_on(r, others);
-    return is_one;
-}
-
-static bool read_flush_with_slot(struct reading *r) {
-    flush_on(r, r->present | 1u << r->slot);
-    return read_flush(r);
-}
-
 static bool (*const read_part[])(struct reading *) = {
     [PART_APPENDS] = read_appends,
     [PART_FLUSH] = read_flush,
@@ -205,17 +164,15 @@ static bool (*const read_part[])(struct reading *) = {
     [PART_EMPTYINGS] = read_emptyings,
     [PART_ZONE_RESETS] = read_zone_resets,
     [PART_STEPS] = read_steps,
-    [PART_LABELS] = read_labels,
-    [PART_SLOT_RESETS] = read_slot_resets,
-    [PART_SLOT_FLUSH] = read_slot_flush,
-    [PART_FLUSH_WITH_SLOT] = read_flush_with_slot,
 };
 
-bool settle_stores(struct store_list *list, const struct call *call, uint32_t present, struct message *message) {
-    const struct call_traits *traits = traits_of(call->kind);
-    struct reading reading = {.store = list->store, .length = list->length, .slot = call->drive, .zones = physical_zones(call->geometry)};
+bool settle_stores(struct store_list *list, enum call_kind kind, uint32_t present, struct message *message) {
+    const struct call_traits *traits = traits_of(kind);
+    struct reading reading = {.store = list->store, .length = list->length};
     bool fits = traits->pattern[0] != PART_NONE;
-    flush_on(&reading, traits->fills_slot ? present & ~(1u << call->drive) : present);
+    for (uint32_t d = 0; d < ZRV_MOST_DRIVES; d++)
+        if ((present >> d & 1) != 0)
+            reading.drive[reading.drives++] = d;
     for (const enum store_part *part = traits->pattern; fits && *part != PART_NONE; part++)
         fits = read_part[*part](&reading);
     if (fits && reading.at == reading.length)
@@ -229,7 +186,7 @@ enum resets_left resets_left_by(enum call_kind kind) {
     enum store_part last = PART_NONE;
     for (const enum store_part *part = pattern; *part != PART_NONE; part++)
         last = *part;
-    if (last == PART_FLUSH || last == PART_STEPS || last == PART_FLUSH_WITH_SLOT)
+    if (last == PART_FLUSH || last == PART_STEPS)
         return LEAVES_NONE;
     if (last == PART_EMPTYING)
         return LEAVES_OLD_LOG;

@@ -26,10 +26,9 @@ struct store_list {
 /* One more store, by the shelf before it and after it. False, with a message, where there is no memory. */
 bool note_store(struct store_list *list, const struct shelf *before, const struct shelf *after, struct message *message);
 
-/* When all stores of a call are noted: finds the flushes that were not seen. What stays unseen is the reset of an empty zone. False, with a message, where
- * the stores do not fit the pattern of its kind. Of the call its kind, its geometry and its drive are asked. Present, by bit, are the drives that were named
- * less the one that is lost in the state that the call hands on. */
-bool settle_stores(struct store_list *list, const struct call *call, uint32_t present, struct message *message);
+/* When all stores of a call are noted: finds the flushes that were not seen. What stays unseen is the reset of an empty zone. False, with a message, where the
+ * stores do not fit the pattern of its kind. Present, by bit, are the drives that were named less the one that is lost in the state that the call hands on. */
+bool settle_stores(struct store_list *list, enum call_kind kind, uint32_t present, struct message *message);
 
 /* Which resets a finished call leaves in the drives' caches, by its kind's pattern: none, every drive being flushed after its last reset; that of the zone that
  * was the log, all drives being flushed just before it; those that were there, since it neither resets nor flushes; or it cannot be told. */

@@ -16,26 +16,26 @@
  *   durable   the same, of those that a power cut keeps
  *   state     ZRV_STATE_BYTES bytes: what the host keeps between calls (below)
  *
- * Each returns its answer in the low 32 bits, ZRV_ANSWER: 0 (finished), 1 to 20 (refused: of those that apply the first in the order 1 to 5, then 6, 16 and
- * 17 together, then 20, then 7 to 13, 18, 19, 14, 15) or 255 (unfinished: stores were left when the count ran out). The high 32 bits are 0 where nothing is
- * said to stand there: a look and a mount put the place of a bad log there, a report its number of descriptors. On any answer but 0 every byte range keeps
- * what it held, but for the stores that an unfinished call has made in sectors, written and durable.
+ * Each returns its answer in the low 32 bits, ZRV_ANSWER: 0 (finished), 1 to 19 (refused: of those that apply the first in the order 1 to 5, then 6, 16 and 17
+ * together, then 7 to 13, 18, 19, 14, 15) or 255 (unfinished: stores were left when the count ran out). The high 32 bits are 0 where nothing is said to stand
+ * there: a look and a mount put the place of a bad log there, a report its number of descriptors. On any answer but 0 every byte range keeps what it held, but for
+ * the stores that an unfinished call has made in sectors, written and durable.
  *
- * The state: byte 0 the lost drive or 255, bytes 1 to 7 zero; then 16 records of 16 bytes, one a zone: the generation (8 bytes), the condition (1 byte: 0
- * empty, 1 open, 2 sealed, 3 worn), the owner (1 byte: 0 none, 1 host 0, 2 host 1), two zeros, the zone's pointer (4 bytes); then for each of 8 drives what
- * is left of host 0's share of its parity log and of host 1's, in sectors (4 bytes each); all little-endian. An empty zone's pointer field is 0. The records
- * past zone L - 1 and the shares past drive D - 1 are all zero. A state that breaks this form or document 01's bounds is refusal 1, one of another length 2.
+ * The state: byte 0 the lost drive or 255, bytes 1 to 7 zero; then 16 records of 16 bytes, one a zone: the generation (8 bytes), the condition (1 byte:
+ * 0 empty, 1 open, 2 sealed, 3 worn), the owner (1 byte: 0 none, 1 host 0, 2 host 1), two zeros, the zone's pointer (4 bytes); then for each of 8 drives what is
+ * left of host 0's share of its parity log and of host 1's, in sectors (4 bytes each); all little-endian. An empty zone's pointer field is 0. The records past
+ * zone L - 1 and the shares past drive D - 1 are all zero. A state that breaks this form or document 01's bounds is refusal 1, one of another length 2.
  *
- * Two hosts share the drives: each write names its host, 0 or 1. A zone's owner is the host that last wrote it, none since the last format, mount, rebuild or
- * reset of it. A zone counts while it is open with its pointer below its end: host 0 may hold 14 such zones, host 1 4, both together 14. A write that ends
- * inside a stripe stores an entry in a parity log; its sectors are taken off its host's share of that drive's log. Format, mount, zrv_compact and zrv_rebuild
- * give the shares anew, half each of what the log has unused past L * (1 + U) + U.
+ * Two hosts share the drives: each write names its host, 0 or 1. A zone's owner is the host that last wrote it, none since the last format, mount or reset of it. A
+ * zone counts while it is open with its pointer below its end: host 0 may hold 14 such zones, host 1 4, both together 14. A write that ends inside a stripe stores
+ * an entry in a parity log; its sectors are taken off its host's share of that drive's log. Format, mount and zrv_compact give the shares anew, half each of what
+ * the log has unused past L * (1 + U) + U.
  *
- * The host's duties: no two ranges of a call overlap; an empty range has a pointer that is not null too; every call gets the geometry of the format and the
- * state that the last finished format, mount, write, flush, reset, compact or rebuild left; after a power cut a mount is finished before anything but looks
- * and mounts; every drive that is not lost is named, and a lost one never again; after an unfinished call only a power cut, then a mount. A new drive in a
- * lost one's slot is named by no call before zrv_rebuild of that slot has finished; an unfinished one is followed by a power cut and a mount without it. A
- * look's state is not handed on: give a look a buffer of its own. Between finished calls it serves reads, peeks and reports, which give the same by it. */
+ * The host's duties: no two ranges of a call overlap; an empty range has a pointer that is not null too; every call gets the geometry of the format and
+ * the state that the last finished format, mount, write, flush, reset or compact left; after a power cut a mount is finished before anything but looks and mounts;
+ * every drive that is not lost is named, and a lost one never again; after an unfinished call only a power cut, then a mount.
+ * A look's state is not handed on: give a look a buffer of its own. Between finished calls it serves reads, peeks and reports, which give the same by it.
+ */
 #ifndef ZRV_H
 #define ZRV_H
 
@@ -49,7 +49,7 @@ extern "C" {
 /* The version of this interface. A change that a caller must follow moves the first number, any other change the second. zrv_version tells that of the
  * archive which is linked, as major * 65536 + minor. */
 #define ZRV_VERSION_MAJOR 2u
-#define ZRV_VERSION_MINOR 1u
+#define ZRV_VERSION_MINOR 0u
 #define ZRV_VERSION (ZRV_VERSION_MAJOR * 65536u + ZRV_VERSION_MINOR)
 
 uint32_t zrv_version(void);
@@ -132,7 +132,7 @@ uint32_t zrv_version(void);
 #define ZRV_LENGTH 2u    /* a byte range has not its length */
 #define ZRV_POINTER 3u   /* a named drive has written > C or durable > written */
 #define ZRV_TWO_LOST 4u  /* more than one drive is lost */
-#define ZRV_LABEL 5u     /* look, mount, rebuild (of the other drives): a present drive lacks a log, or its general log has no fitting first label */
+#define ZRV_LABEL 5u     /* look, mount: a present drive lacks a log, or its general log has no fitting first label */
 #define ZRV_LOG 6u       /* look, mount: a present drive's log has a sector without the mark or with another version */
 #define ZRV_STALE 7u     /* a present drive's pointer in the zone is not what the state needs */
 #define ZRV_ADDRESS 8u   /* no such zone, address, host or drive; compact: the drive is not named, or lost */
@@ -141,13 +141,12 @@ uint32_t zrv_version(void);
 #define ZRV_ZONE_SEALED 11u /* a write to a sealed zone */
 #define ZRV_ZONE_WORN 12u   /* a write or reset of a worn zone */
 #define ZRV_UNWRITTEN 13u   /* a read or peek past the pointer */
-#define ZRV_LOG_FULL 14u    /* mount, reset, compact, rebuild: a log lacks room that emptying would not give; write: its entry does not fit its host's share or the log */
+#define ZRV_LOG_FULL 14u    /* mount, reset, compact: a log lacks room, and emptying it would not give it; write: its entry does not fit its host's share or the log */
 #define ZRV_GONE 15u        /* a sector needed is not known; in a peek, not held */
 #define ZRV_LOG_ENTRY 16u   /* look, mount: a present drive's log has an entry of that mark and version that is not legal */
 #define ZRV_LOG_ROWS 17u    /* look, mount: a present drive's log has an entry whose rows would pass the zone's end */
 #define ZRV_HOST_LIMIT 18u  /* write: its host would hold more open zones than it may */
 #define ZRV_OPEN_LIMIT 19u  /* write: more zones would be open than may be */
-#define ZRV_NOT_LOST 20u    /* rebuild: the slot is not the state's lost drive, or no drive is lost */
 #define ZRV_GROUP_IDS 23u   /* zrv_grouped_read: in some group a present drive lacks a stripe ID, or has it twice */
 #define ZRV_GROUP_ALIKE 24u /* zrv_grouped_read: two data blocks, no fillers, with equal address and timestamp */
 #define ZRV_UNFINISHED 255u
@@ -173,9 +172,9 @@ uint64_t zrv_mount(uint32_t drives, uint32_t sector_bytes, uint32_t unit, uint32
                    uint8_t *sectors, size_t sectors_bytes, uint8_t *written, size_t written_bytes,
                    uint8_t *durable, size_t durable_bytes, uint8_t *state, size_t state_bytes);
 
-/* Write by a host: sectors_to_write sectors, the bytes of `data` (sectors_to_write * B of them), at an address that is its zone's pointer. Finished, `state`
- * has the zone open at its new pointer and the host its owner; where the write ends inside a stripe, its entry is off the host's share. `durable` stays as it
- * is. Refusals 1 to 4, 7 to 12, 18, 19, 14 and 15. */
+/* Write by a host: sectors_to_write sectors, the bytes of `data` (sectors_to_write * B of them), at an address that is its zone's pointer. Finished, `state` has
+ * the zone open at its new pointer and the host its owner; where the write ends inside a stripe, its entry is off the host's share. `durable` stays as it is.
+ * Refusals 1 to 4, 7 to 12, 18, 19, 14 and 15. */
 uint64_t zrv_write(uint32_t drives, uint32_t sector_bytes, uint32_t unit, uint32_t zones, uint32_t zone_sectors, uint32_t named,
                    uint32_t host, uint64_t address, uint32_t sectors_to_write, uint32_t count,
                    uint8_t *sectors, size_t sectors_bytes, uint8_t *written, size_t written_bytes,
@@ -195,19 +194,10 @@ uint64_t zrv_reset(uint32_t drives, uint32_t sector_bytes, uint32_t unit, uint32
                    uint8_t *sectors, size_t sectors_bytes, uint8_t *written, size_t written_bytes,
                    uint8_t *durable, size_t durable_bytes, uint8_t *state, size_t state_bytes);
 
-/* Compact: empties the parity log of a drive, whatever room it has, and gives both hosts their shares of it anew in `state`. No write does so: a write that
- * is refused with 14 needs it, or a mount. Refusals 1 to 4, 7 (of any zone), 8, 14 and 15. */
+/* Compact: empties the parity log of a drive, whatever room it has, and gives both hosts their shares of it anew in `state`. No write does so: a write that is refused
+ * with 14 needs it, or a mount. Refusals 1 to 4, 7 (of any zone), 8, 14 and 15. */
 uint64_t zrv_compact(uint32_t drives, uint32_t sector_bytes, uint32_t unit, uint32_t zones, uint32_t zone_sectors, uint32_t named,
                      uint32_t drive, uint32_t count,
-                     uint8_t *sectors, size_t sectors_bytes, uint8_t *written, size_t written_bytes,
-                     uint8_t *durable, size_t durable_bytes, uint8_t *state, size_t state_bytes);
-
-/* Rebuild: a new drive in the slot of the lost one. Everything that the volume needs of that drive is made from the others and stored on it, whatever it
- * held. The slot counts as named, whatever `named` says: its pointers must be in bounds. Finished, no drive is lost in `state`, no zone has an owner, and the
- * shares are as after a mount: one further drive may be lost from then on. Stopped before its last label, the drive is still lost, and a mount without it
- * comes after the power cut. Refusals 1 to 5 (5 of the others), 20, 7 (of any zone, on the others), 14 (of the others' general logs) and 15. */
-uint64_t zrv_rebuild(uint32_t drives, uint32_t sector_bytes, uint32_t unit, uint32_t zones, uint32_t zone_sectors, uint32_t named,
-                     uint32_t slot, uint32_t count,
                      uint8_t *sectors, size_t sectors_bytes, uint8_t *written, size_t written_bytes,
                      uint8_t *durable, size_t durable_bytes, uint8_t *state, size_t state_bytes);
 

@@ -68,18 +68,14 @@ class Call:
         """Look and mount: rule 1 and refusals 4 to 6, 16 and 17."""
         self.logs = logs = Logs(self.drives, self.named)
         self.settle_present([logs.last(d, LABEL).lost for d in self.named if logs.first_label(d)])
-        self.check_labels(self.present)
+        firsts = [logs.first_label(d) for d in self.present]
+        if any(logs.lacks(d) for d in self.present) or None in firsts or len({first.array for first in firsts}) > 1:
+            raise Refused(Answer.LABEL)
+        self.array = firsts[0].array
         bad = logs.first_bad(self.present)
         if bad:
             place, answer = bad
             raise Refused(answer, place)
-
-    def check_labels(self, numbers):
-        """Refusal 5 of these drives; the array number with which their logs begin."""
-        firsts = [self.logs.first_label(d) for d in numbers]
-        if any(self.logs.lacks(d) for d in numbers) or None in firsts or len({first.array for first in firsts}) > 1:
-            raise Refused(Answer.LABEL)
-        self.array = firsts[0].array
 
     def settle_by_state(self):
         """The other calls: refusal 4, and the logs that they find."""
@@ -145,23 +141,6 @@ class Call:
     def to_log(self, d, log, *sectors):
         for data in sectors:
             yield Store("append", d, self.logs.zones[d, log], data)
-
-    def label_lost(self):
-        """The lost drive named on each present drive whose last label does not name it."""
-        for d in self.present:
-            if self.logs.last(d, LABEL).lost != self.lost:
-                yield from self.to_log(d, GENERAL_LOG, label(self.geometry, d, self.lost, self.array))
-
-    def fill(self, d, z, n, values):
-        """The sectors of a zone that the pointer n needs of a drive and that it has not: data, and parity of complete stripes."""
-        g = self.geometry
-        for x in range(self.drives.written(d, FIRST_DATA_ZONE + z), g.need(z, n, d)):
-            s, r = divmod(x, g.U)
-            if d == g.parity_drive(z, s):
-                data = self.row_sum(values, s, r, n)
-            else:
-                data = values[g.row_offsets(s, r)[g.unit_of(z, s, d)]]
-            yield Store("append", d, FIRST_DATA_ZONE + z, data)
 
     # ---- section 8: emptying a log
 

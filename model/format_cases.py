@@ -108,20 +108,6 @@ def before_mount():
     return volume
 
 
-def before_rebuild(lose=lambda volume: volume.store("flush", without(0))):
-    """Section 8: zone 1 sealed inside a stripe, then drive 0 lost in one way or another, and an empty drive in its slot."""
-    volume = formatted()
-    volume.write(0, 8)
-    volume.store("flush", ALL_DRIVES)
-    volume.write(96, 6)
-    volume.write(102, 2)
-    volume.keep({(2, FIRST_DATA_ZONE + 1): 3, (1, PARITY_LOG): 2})
-    volume.store("mount", ALL_DRIVES)
-    lose(volume)
-    volume.memory.empty(0)
-    return volume
-
-
 def before_compact():
     """Section 8: zone 0 written sector by sector, up to where the next write is past its host's share."""
     volume = formatted()

@@ -1,17 +1,18 @@
 """The worked values of docs/FORMAT.md, section by section: each is computed by the model on the page's volume V and compared. Sections 8 and 9 are in
-format_check_stores.py, format_check_hosts.py and format_check_rebuild.py, the calls' refusals in format_check_matrix.py."""
+format_check_stores.py."""
 import re
 
 from format_cases import (ALL_DRIVES, ARRAY, FILLS, SPARE, V, Volume, before_compact, before_emptied_general_log, before_mount, either, ends,
                           five_written, formatted, kept, sector, without)
-from format_check_hosts import answer_word, check_compact, check_limits, check_shares
-from format_check_matrix import check_matrix
-from format_check_rebuild import check_rebuild
+from format_check_hosts import check_compact, check_limits, check_shares
 from format_check_stores import check_emptying, check_mount, check_stores
 from format_numbers import (CLOSING, COUNTERS, FIRST_DATA_ZONE, GENERAL_LOG, LABEL, LOGS, MOST_ZONE_SECTORS, PARITY_LOG, PARTIAL_PARITY, RESET,
                             SEAL, SECTOR_SIZES, Answer, Condition)
 from format_page import NotFound, Page
 from format_volume import Geometry, Logs, closing, counters, header, partial_parity, reset_entry, seal
+
+CALL_LETTERS = {"f": "format", "l": "look", "m": "mount", "w": "write", "u": "flush", "r": "reset", "k": "compact", "d": "read", "p": "peek",
+                "o": "report"}
 
 
 def check_geometry(page):
@@ -200,7 +201,6 @@ def check_refusals_on_v(page):
     page.phrase("Write at 4 or 6: {}, of no sectors at 6: {}, by host 2 there: {}.",
                 either(five.write(at, 1) for at in (4, 6)), five.write(6, 0), five.write(6, 0, host=2))
     page.phrase("Compact of drive 4: {}, of drive 2 without it: {}.", five.store("compact", ALL_DRIVES, 4), five.store("compact", without(2), 2))
-    check_slots(page)
     page.phrase("Peek of 4: byte {}; without drive 2: {}, while a read of it without drive 2 gives its bytes, {}.",
                 five.ask("peek", ALL_DRIVES, 4)[1], five.ask("peek", without(2), 4)[0], five.read(4, 1, without(2))[1])
     page.phrase("Mask 3 (drives 0 and 1): {}.", five.read(0, 1, 3)[0])
@@ -208,15 +208,6 @@ def check_refusals_on_v(page):
     page.phrase("State open at 0: {}.", five.ask("read", ALL_DRIVES, 0, 1, V.B, state=at_0)[0])
     five.memory.written[V.Z + 4] = 33
     page.phrase("With a write pointer of 33 in zone 4 of drive 1: {}, also for a read in zone 0.", five.read(0, 1)[0])
-
-
-def check_slots(page):
-    five = five_written()
-    page.phrase("Rebuild of drive 2: {}, without drive 1: {}, without drives 0 and 1: {};",
-                *(five.store("rebuild", named, 2) for named in (ALL_DRIVES, without(1), without(0, 1))))
-    five.store("flush", without(2))
-    other, own = (five.store("rebuild", without(2), slot) for slot in (1, 2))
-    page.phrase("after a flush without drive 2, of drive 2: {}, of drive 1: {}.", answer_word(own), other)
 
 
 def changed(sector, at, byte):
@@ -261,6 +252,54 @@ def check_names(page):
     page.phrase("owner (1: 0 none, 1 host {}, 2 host {})", *(owner - 1 for owner in (1, 2)))
 
 
+def check_matrix(page, answers):
+    """Section 7: which call knows which refusal, by the answers of the vectors; and refusals 2, 3 and 8, which not every call meets there."""
+    met = {name: set() for name in CALL_LETTERS.values()}
+    for letter, code, *_ in answers:
+        if letter in CALL_LETTERS and Answer.FINISHED < int(code) < Answer.NO_STATE:
+            met[CALL_LETTERS[letter]].add(int(code))
+    (_, numbers), *rows = page.table("| Call | 1 | 2 | 3 |")
+    page.compare(rows[0][0], " ".join(cells[0] for _, cells in rows), " ".join(met))
+    for position, (name, *marks) in rows:
+        gives = met[name] | tried(name)
+        stands = [number for number, mark in zip(numbers[1:], marks) if mark == "x"]
+        page.compare(position, " ".join(stands), " ".join(str(number) for number in sorted(gives)))
+
+
+def tried(name):
+    """The refusals of a call where a drive's pointers are out of order, where a table is short, where two drives are named, past the last address, zone
+    or drive, where a log's last header has its rows past the zone's end, and where an entry is gone with a drive."""
+    calls = {"format": (ARRAY,), "write": (0, 5, 1, sector(5)), "reset": (0,), "compact": (0,), "read": (0, 1, V.B), "peek": (0,), "report": (V.L,)}
+    past = {"write": (0, V.L * V.Q, 1, sector(5)), "reset": (V.L,), "compact": (V.D,), "read": (V.L * V.Q, 1, V.B), "peek": (V.L * V.Q,)}
+    sectors, written, durable = V.lengths()
+
+    def answer(arguments, named=ALL_DRIVES, change=lambda volume: None, lengths=None):
+        volume = five_written()
+        change(volume)
+        if name in ("look", "read", "peek", "report"):
+            return volume.ask(name, named, *arguments, lengths=lengths)[0]
+        return volume.store(name, named, *arguments, lengths=lengths)
+
+    own = calls.get(name, ())
+    found = {answer(own, change=pointers_out_of_order), answer(own, lengths=(sectors - 1, written, durable)), answer(own, 0b11),
+             answer(past.get(name, own)), answer(own, change=rows_past_the_end), answer(own, without(0), empty_parity_log)}
+    return found - {Answer.FINISHED}
+
+
+def pointers_out_of_order(volume):
+    volume.memory.written[0] += V.C
+
+
+def rows_past_the_end(volume):
+    """Drive 3's parity log, which has 3 sectors: entries up to a header in its last sector."""
+    for data in [partial_parity(V, 0, 1, 0), bytes(V.B)] * ((V.C - 4) // 2) + [partial_parity(V, 0, 1, 0)]:
+        volume.drives.append(3, PARITY_LOG, data)
+
+
+def empty_parity_log(volume):
+    volume.drives.reset(3, PARITY_LOG)
+
+
 def least_room(log, call):
     """The least room in one log of drive 3 with which a call on V, formatted, is not refused and does not empty that log. It is filled with old
     entries."""
@@ -288,8 +327,7 @@ def check(path, answers, replay):
     """Compares the page with the model and with the answers of the vectors; 0 if they agree. `replay` gives the answers to the lines of a script."""
     page = Page(path)
     for section in (check_geometry, check_placement, check_entries, check_walks, check_looks, check_refusals, check_bad_places, check_names,
-                    check_shares, check_emptying, check_stores, check_limits, check_compact, check_rebuild, check_mount,
-                    lambda page: check_matrix(page, answers), lambda page: check_script(page, replay)):
+                    check_shares, check_emptying, check_stores, check_limits, check_compact, check_mount, lambda page: check_matrix(page, answers), lambda page: check_script(page, replay)):
         try:
             section(page)
         except NotFound as missing:

@@ -5,8 +5,7 @@ from random import Random
 
 from format_cases import (ALL_DRIVES, SPARE, V, before_emptied_general_log, before_mount, either, ends, five_written, formatted, in_words, kept,
                           without)
-from format_numbers import (CLOSING, COUNTERS, FIRST_DATA_ZONE, GENERAL_LOG, LABEL, NO_DRIVE, PARITY_LOG, PARTIAL_PARITY, RESET, SEAL,
-                            Condition)
+from format_numbers import CLOSING, COUNTERS, FIRST_DATA_ZONE, GENERAL_LOG, LABEL, PARITY_LOG, PARTIAL_PARITY, RESET, Condition
 from format_page import written_out
 from format_volume import counters
 
@@ -33,8 +32,7 @@ def check_runs(page, heading, volume):
 
 def runs_in_words(volume):
     def run(pair):
-        store = pair[1]
-        return store.kind, store.kind == "append" and store.zone, store.kind == "flush" or store.drive
+        return pair[1].kind, pair[1].zone, pair[1].kind == "flush" or pair[1].drive
 
     for _, pairs in groupby(enumerate(volume.stores, 1), run):
         numbers, stores = zip(*pairs)
@@ -42,7 +40,7 @@ def runs_in_words(volume):
         if stores[0].kind == "flush":
             words = "flush of " + ", ".join(str(store.drive) for store in stores)
         elif stores[0].kind == "reset":
-            words = "reset of drive %d zone%s %s" % (d, "s" * (len(stores) > 1), span([store.zone for store in stores]))
+            words = "reset of drive %d zone %d" % (d, y)
         else:
             at = span([store.sector for store in stores])
             words = "drive %d zone %d sector%s %s: %s" % (d, y, "s" * (len(stores) > 1), at, ", ".join(in_log(volume, store) for store in stores))
@@ -58,12 +56,9 @@ def in_log(volume, store):
     kind = volume.type_of(store)
     if kind == COUNTERS:
         return "counters %d and %d" % volume.entry(store).generations
-    if kind == LABEL:
-        lost = volume.entry(store).lost
-        return "label naming %s" % ("none" if lost == NO_DRIVE else lost)
-    if kind in (RESET, PARTIAL_PARITY, SEAL):
+    if kind in (RESET, PARTIAL_PARITY):
         return "type %d %d to %d" % (kind, *ends(store))
-    return "type 6" if kind == CLOSING else written_out(store.data)
+    return {LABEL: "label", CLOSING: "type 6"}.get(kind) or written_out(store.data)
 
 
 def check_stores(page):

@@ -1,12 +1,7 @@
 """The model of docs/FORMAT.md: a host, which makes the calls and keeps what they hand on."""
 from format_mount import MountCall
 from format_numbers import ALL_STORES, Answer
-from format_rebuild import RebuildCall
 from format_volume import Memory, Refused, Unfinished
-
-
-class AnyCall(MountCall, RebuildCall):
-    """Whichever call it is."""
 
 
 class Host:
@@ -18,7 +13,7 @@ class Host:
 
     def store(self, name, named, *arguments, count=ALL_STORES, lengths=None):
         """A call that stores: its answer, a number. Finished, its state is kept. Refused for a log's sector, `bad_place` is that sector's."""
-        call = AnyCall(self.geometry, self.memory, named, self.state, lengths)
+        call = MountCall(self.geometry, self.memory, named, self.state, lengths)
         self.stores, self.bad_place = call.made, None
         try:
             self.state = call.carry_out(getattr(call, name)(*arguments), count)
@@ -31,7 +26,7 @@ class Host:
 
     def ask(self, name, named, *arguments, state=None, lengths=None):
         """A look, read, peek or report: its answer, and what it gives if it finishes, or the place of a log's sector for which it is refused."""
-        call = AnyCall(self.geometry, self.memory, named, state or self.state, lengths)
+        call = MountCall(self.geometry, self.memory, named, state or self.state, lengths)
         try:
             return Answer.FINISHED, getattr(call, name)(*arguments)
         except Refused as refused:

@@ -1,6 +1,6 @@
 #!/usr/bin/env python3
 """A second implementation of the volume, written along docs/FORMAT.md, and its uses. It is in format_volume.py, format_state.py, format_calls.py,
-format_mount.py, format_rebuild.py, format_host.py and format_grouped.py.
+format_mount.py, format_host.py and format_grouped.py.
 
     model/format_model.py replay < crates/replay/stdin     the answers to a script of commands (section 12), one a line
     model/format_model.py grouped < c/vectors/grouped.txt  the same for segments with grouped stripes (section 13)
@@ -40,7 +40,7 @@ class Replay:
     def answer(self, line):
         letter, *arguments = line.split()
         arguments = [int(argument) for argument in arguments]
-        if letter in "wurkvdpo" and self.host.state is None:
+        if letter in "wurkdpo" and self.host.state is None:
             code, rest = Answer.NO_STATE, []
         else:
             code, rest = getattr(self, "command_" + letter)(*arguments) or (Answer.FINISHED, [])
@@ -56,7 +56,7 @@ class Replay:
     def kept_state(self, letter):
         if self.host.state is None:
             return ["none"]
-        return words(self.host.state) if letter in "fmwurkv" else ["same"]
+        return words(self.host.state) if letter in "fmwurk" else ["same"]
 
     def lengths(self):
         memory = self.host.memory
@@ -92,9 +92,6 @@ class Replay:
 
     def command_k(self, named, drive, count):
         return self.store("compact", named, drive, count=count)
-
-    def command_v(self, named, slot, count):
-        return self.store("rebuild", named, slot, count=count)
 
     def command_d(self, named, address, sectors):
         code, data = self.ask("read", named, address, sectors, self.buffer(sectors))
@@ -144,9 +141,6 @@ class Replay:
 
     def command_t(self, index, written, durable):
         self.host.memory.written[index], self.host.memory.durable[index] = written, durable
-
-    def command_E(self, drive):
-        self.host.memory.empty(drive)
 
     def command_s(self, zone, generation, condition, pointer):
         self.change_zone(zone, generation=generation, condition=condition, pointer=0 if condition == Condition.EMPTY else pointer)

@@ -1,7 +1,7 @@
 """The model of docs/FORMAT.md, section 9: the mount and its steps."""
 from format_calls import Call
-from format_numbers import COUNTERS, FIRST_DATA_ZONE, GENERAL_LOG, NO_DRIVE, PARITY_LOG, Condition
-from format_volume import Logs, Store, counters, reset_entry, seal, walk
+from format_numbers import COUNTERS, FIRST_DATA_ZONE, GENERAL_LOG, LABEL, NO_DRIVE, PARITY_LOG, Condition
+from format_volume import Logs, Store, counters, label, reset_entry, seal, walk
 
 
 class MountCall(Call):
@@ -44,8 +44,9 @@ class MountCall(Call):
             yield from self.empty(d, PARITY_LOG, self.parity_copies(d, self.records, lambda z, n: self.zones[z].values))
 
     def labels_step(self):
-        if self.lost != NO_DRIVE:
-            yield from self.label_lost()
+        for d in self.present:
+            if self.lost not in (NO_DRIVE, self.logs.last(d, LABEL).lost):
+                yield from self.to_log(d, GENERAL_LOG, label(self.geometry, d, self.lost, self.array))
 
     def type_3_step(self):
         for d, z, zone in self.each_zone():
@@ -80,8 +81,15 @@ class MountCall(Call):
                     yield from self.to_log(d, PARITY_LOG, row)
 
     def sectors_step(self):
+        g = self.geometry
         for d, z, zone in self.each_zone():
-            yield from self.fill(d, z, zone.record.pointer, zone.values)
+            for x in range(self.drives.written(d, FIRST_DATA_ZONE + z), g.need(z, zone.record.pointer, d)):
+                s, r = divmod(x, g.U)
+                if d == g.parity_drive(z, s):
+                    data = self.row_sum(zone.values, s, r, zone.record.pointer)
+                else:
+                    data = zone.values[g.row_offsets(s, r)[g.unit_of(z, s, d)]]
+                yield Store("append", d, FIRST_DATA_ZONE + z, data)
 
     def type_4_step(self):
         g = self.geometry

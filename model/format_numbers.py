@@ -24,7 +24,6 @@ class Answer(IntEnum):
     ROWS = 17
     HOST_LIMIT = 18
     OPEN_LIMIT = 19
-    NOT_LOST = 20
     NO_STATE = 254       # in a script alone
     UNFINISHED = 255
 

@@ -102,12 +102,6 @@ class Memory:
         size = self.geometry.C * self.geometry.B
         return slice(i * size, (i + 1) * size)
 
-    def empty(self, d):
-        """An empty drive in a drive's place."""
-        for i in range(d * self.geometry.Z, (d + 1) * self.geometry.Z):
-            self.sectors[self.part(i)], self.written[i], self.durable[i] = bytes(self.geometry.C * self.geometry.B), 0, 0
-            self.forget([i])
-
     def remember(self, i):
         """Before a reset: until the drive's next flush a cut may leave the zone as it could now."""
         self.remembered.setdefault(i, []).append(View(bytes(self.sectors[self.part(i)]), self.written[i], self.durable[i]))

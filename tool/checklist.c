@@ -8,7 +8,6 @@
 #include "holders.h"
 #include "left_out.h"
 #include "refusals.h"
-#include "slot.h"
 
 #define NO_LOOK "not judged: the look is refused"
 
@@ -65,17 +64,18 @@ static uint32_t least_unused(const struct driver *driver, uint32_t log) {
     return least;
 }
 
-/* The drive that the last label of a drive gives up; none by one that is not present. */
-static uint32_t given_up_by(const struct driver *driver, uint32_t drive) {
-    struct journal_reader reader = reader_of(driver, drive, GENERAL_LOG);
-    return is_present(driver, drive) ? last_lost(&reader) : ZRV_NO_DRIVE;
-}
-
 /* Present drives whose last label gives a drive up. */
 static uint32_t labels_against(const struct driver *driver, uint32_t lost) {
     uint32_t count = 0;
-    for (uint32_t d = 0; d < driver->drives.record.geometry.drives; d++)
-        count += given_up_by(driver, d) == lost;
+    for (uint32_t d = 0; d < driver->drives.record.geometry.drives; d++) {
+        struct journal_reader reader = reader_of(driver, d, GENERAL_LOG);
+        const uint8_t *header;
+        uint32_t named = ZRV_NO_DRIVE;
+        while (is_present(driver, d) && next_entry(&reader, &header) == JOURNAL_ENTRY)
+            if (header[ENTRY_TYPE] == ENTRY_LABEL)
+                named = header[LABEL_LOST];
+        count += named == lost;
+    }
     return count;
 }
 
@@ -95,42 +95,22 @@ static void check_label(struct line *line, uint32_t drive) {
               (unsigned long long)drives->record.array);
 }
 
-#define REBUILD_STOPPED "a rebuild of it was stopped"
-
-/* What lies in the slot of a drive that was given up, after the words that say so; NULL, with a message, where there is no memory. */
-static const char *slot_in_words(const struct drives *drives, uint32_t slot, struct message *message) {
-    static const char *const words[] = {
-        [SLOT_FREE] = "",
-        [SLOT_EMPTY] = ", an empty drive is in its place",
-        [SLOT_STOPPED] = ", the drive in its place is half made: " REBUILD_STOPPED ", and is to be made again (zrv rebuild)",
-        [SLOT_USED] = ", its file is back and not used",
-        [SLOT_NO_FILE] = ", something that is no file is in its place",
-    };
-    enum slot_content content;
-    return find_slot_content(drives, slot, &content, message) ? words[content] : NULL;
-}
-
-static bool check_labels(const struct driver *driver, struct message *message) {
+static void check_labels(const struct driver *driver) {
     struct line line = {driver, "labels", "a drive from another shelf, or one given up", 0};
     const struct drives *drives = &driver->drives;
     for (uint32_t d = 0; d < drives->record.geometry.drives; d++) {
         uint32_t against = labels_against(driver, d);
-        bool given_up = (drives->record.given_up >> d & 1) != 0;
-        const char *slot = given_up ? slot_in_words(drives, d, message) : "";
-        if (slot == NULL)
-            return false;
-        if (given_up)
-            found(&line, "drive %u: given up by this host%s; labels that say so: %u", d, slot, against);
+        if ((drives->record.given_up >> d & 1) != 0)
+            found(&line, "drive %u: given up by this host%s; labels that say so: %u", d,
+                  (drives->returned >> d & 1) != 0 ? ", its file is back and left unread" : "", against);
         else if (!is_present(driver, d))
             found(&line, "drive %u: not there: drive-%u.zrv is missing; labels that give it up: %u", d, d, against);
         else
             check_label(&line, d);
         if (is_present(driver, d) && against != 0)
-            found(&line, "drive %u: given up by labels: %u%s", d, against,
-                  given_up_by(driver, d) == d ? ", its own among them: " REBUILD_STOPPED "; mount the volume, then rebuild it" : "");
+            found(&line, "drive %u: given up by labels: %u", d, against);
     }
     end_line(&line, "ok, %u drives of array %llu", drives->record.geometry.drives, (unsigned long long)drives->record.array);
-    return true;
 }
 
 /* What becomes of a drive's sectors past a zone's pointer. */
@@ -303,8 +283,7 @@ void print_logs(const struct driver *driver) {
 
 bool print_checklist(const struct driver *driver, uint32_t answer, struct message *message) {
     bool shown = answer == ZRV_FINISHED;
-    if (!check_labels(driver, message))
-        return false;
+    check_labels(driver);
     check_pointers(driver, shown);
     check_parity_log(driver);
     check_reset_log(driver, shown);

@@ -41,7 +41,7 @@ static void warn_of_full_logs(struct geometry g) {
         return;
     fprintf(stderr, "zrv: warning: with zones of %u sectors ", g.zone_sectors);
     if (g.zone_sectors < least_roomy_zone_sectors(g))
-        fprintf(stderr, "the logs may fill up for good: a write, a reset, a compact, a rebuild or a mount is then refused (14); ");
+        fprintf(stderr, "the logs may fill up for good: a write, a reset, a compact or a mount is then refused (14); ");
     else
         fprintf(stderr, "a write that ends inside a stripe may be refused (14) even when its drive was just compacted; ");
     if (!leaves_shares(g))
@@ -202,7 +202,7 @@ int look_main(int argc, char **argv) {
         uint32_t answer = driver_call(&driver, call, &message);
         bool good = true;
         if (answer != ANSWER_NOT_NOW && option[0].given)
-            good = print_look_json(&driver, answer, &message);
+            print_look_json(&driver, answer);
         else if (answer != ANSWER_NOT_NOW)
             good = print_look(&driver, answer, &message);
         fflush(stdout);

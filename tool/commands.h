@@ -7,7 +7,6 @@ int write_main(int argc, char **argv);
 int flush_main(int argc, char **argv);
 int reset_main(int argc, char **argv);
 int compact_main(int argc, char **argv);
-int rebuild_main(int argc, char **argv);
 int read_main(int argc, char **argv);
 int peek_main(int argc, char **argv);
 int report_main(int argc, char **argv);

@@ -25,12 +25,6 @@ static const char *drive_word(const struct host_record *record, const struct fou
     return own ? present : "strange";
 }
 
-/* Whether the volume knows that a drive is lost, and takes a rebuild of it now. */
-static bool can_be_rebuilt(const struct host_record *record, uint32_t drive) {
-    const uint8_t *state = state_in_force(record);
-    return state != NULL && state[ZRV_STATE_LOST] == drive;
-}
-
 /* What may come next, for a person and for a script. */
 static const struct {
     const char *words, *word;
@@ -61,7 +55,7 @@ static void print_info(const struct drives *drives, const struct found_drive fou
         const char *word = drive_word(record, &found[d], d);
         printf("drive %u: %s", d, word);
         print_shares("; ", word == present ? state_in_force(record) : NULL, d);
-        printf("%s\n", can_be_rebuilt(record, d) ? "; zrv rebuild fills a new drive in its slot" : "");
+        putchar('\n');
     }
     printf("next: %s\n", next[record->phase].words);
 }

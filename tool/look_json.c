@@ -6,7 +6,6 @@
 #include "bad_log.h"
 #include "holders.h"
 #include "refusals.h"
-#include "slot.h"
 
 /* A number, or null where there is none. */
 static void print_or_null(uint32_t number, uint32_t none) {
@@ -52,20 +51,8 @@ static void print_log_object(const struct log_zones *zones, uint32_t log, const 
            written < size ? size - written : 0);
 }
 
-static bool is_present(const struct driver *driver, uint32_t drive) { return (driver->drives.present >> drive & 1) != 0; }
-
-/* What lies in the slots of drives that are not present. */
-static bool find_slots(const struct driver *driver, enum slot_content slot[ZRV_MOST_DRIVES], struct message *message) {
-    for (uint32_t d = 0; d < driver->drives.record.geometry.drives; d++)
-        if (!is_present(driver, d) && !find_slot_content(&driver->drives, d, &slot[d], message))
-            return false;
-    return true;
-}
-
-static void print_drive_object(const struct driver *driver, uint32_t drive, enum slot_content slot) {
-    static const char *const slots[] = {
-        [SLOT_FREE] = "free", [SLOT_EMPTY] = "empty", [SLOT_STOPPED] = "rebuild stopped", [SLOT_USED] = "used", [SLOT_NO_FILE] = "no file"};
-    bool present = is_present(driver, drive);
+static void print_drive_object(const struct driver *driver, uint32_t drive) {
+    bool present = (driver->drives.present >> drive & 1) != 0;
     printf("    {\"drive\": %u, \"present\": %s", drive, present ? "true" : "false");
     if (present) {
         struct log_zones zones = log_zones_of(&driver->drives.shelf, drive);
@@ -75,18 +62,13 @@ static void print_drive_object(const struct driver *driver, uint32_t drive, enum
         print_or_null(find_spare(&zones), NO_ZONE);
         printf(", \"shares\": ");
         print_shares_json(state_in_force(&driver->drives.record), drive);
-    } else {
-        printf(", \"slot\": \"%s\"", slots[slot]);
     }
     printf("}");
 }
 
-bool print_look_json(const struct driver *driver, uint32_t answer, struct message *message) {
+void print_look_json(const struct driver *driver, uint32_t answer) {
     uint32_t drives = driver->drives.record.geometry.drives;
     bool shown = answer == ZRV_FINISHED;
-    enum slot_content slot[ZRV_MOST_DRIVES] = {SLOT_FREE};
-    if (!find_slots(driver, slot, message))
-        return false;
     printf("{\n");
     print_answer(driver, answer);
     printf("  \"lost\": ");
@@ -98,9 +80,8 @@ bool print_look_json(const struct driver *driver, uint32_t answer, struct messag
     print_open_zones_json(driver->drives.record.geometry, state_in_force(&driver->drives.record));
     printf(",\n  \"drives\": [\n");
     for (uint32_t d = 0; d < drives; d++) {
-        print_drive_object(driver, d, slot[d]);
+        print_drive_object(driver, d);
         printf(d + 1 < drives ? ",\n" : "\n");
     }
     printf("  ]\n}\n");
-    return true;
 }

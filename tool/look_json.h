@@ -5,8 +5,7 @@
 #include "driver.h"
 
 /* One object: the answer; the refusal, with its place if it has one; the lost drive; whether a mount is due; each zone's pointer, condition and generation;
- * of each drive its logs' zones, generations and unused sectors, and its spare zone, or, where it is not present, what lies in its slot. What is not there is
- * null, and a refused look has no zones. False, with a message and nothing printed, where there is no memory. */
-bool print_look_json(const struct driver *driver, uint32_t answer, struct message *message);
+ * of each drive its logs' zones, generations and unused sectors, and its spare zone. What is not there is null, and a refused look has no zones. */
+void print_look_json(const struct driver *driver, uint32_t answer);
 
 #endif

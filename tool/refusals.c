@@ -13,7 +13,7 @@ static const struct {
     [ZRV_LENGTH] = {"length", "a table or a buffer has not its length; give whole sectors"},
     [ZRV_POINTER] = {"pointer", "a drive's write pointers are out of order; pull that drive"},
     [ZRV_TWO_LOST] = {"two lost", "more than one drive is lost; put back one that is missing and was not given up"},
-    [ZRV_LABEL] = {"label", NULL},
+    [ZRV_LABEL] = {"label", "a drive's log does not begin with its label of this shelf; pull the drive that zrv look names"},
     [ZRV_LOG] = {"log", NULL},
     [ZRV_STALE] = {"stale", "a drive's write pointer in a zone is not what the zone needs; mount the volume (zrv mount)"},
     [ZRV_ADDRESS] = {"address", NULL},
@@ -29,7 +29,6 @@ static const struct {
 #define FILL_ONE "write one of them to its end or reset it, or write this zone to its end in one call"
     [ZRV_HOST_LIMIT] = {"host limit", "host {host} holds {limit} zones open and may hold no more; " FILL_ONE},
     [ZRV_OPEN_LIMIT] = {"open limit", "{open} zones are open, and the drives allow {most}; " FILL_ONE},
-    [ZRV_NOT_LOST] = {"not lost", NULL},
 };
 
 const char *refusal_word(uint32_t number) { return number >= ZRV_GEOMETRY && number <= LAST_REFUSAL ? refusals[number].word : "no refusal"; }
@@ -44,7 +43,7 @@ struct number {
     uint64_t value;
 };
 
-enum { POINTER, END, STRIPE, ZONES, ADDRESSES, ROOMY, HOST, LIMIT, OPEN, MOST, DRIVE, DRIVES, LOST, LEFT, WANTED, AFTER, ALONE, NUMBERS };
+enum { POINTER, END, STRIPE, ZONES, ADDRESSES, ROOMY, HOST, LIMIT, OPEN, MOST, DRIVE, DRIVES, LEFT, WANTED, AFTER, ALONE, NUMBERS };
 
 /* The address at which the call's zone goes on, the ones past the end of the zone and of the stripe there; how many zones and addresses the volume has; the
  * fewest sectors of a zone with which no log fills up. Where there is no such zone none of its numbers is asked for. */
@@ -59,9 +58,8 @@ static void find_places(struct number number[NUMBERS], const struct call *call, 
     number[ROOMY] = (struct number){"{roomy}", least_sharing_zone_sectors(g)};
 }
 
-/* The write's host, how many zones it may hold open, how many are open and may be; the drive of the write's entry, of the compact or of the rebuild; the lost
- * drive; of a write what is left of its host's share of that drive, what it wants of it, and what a compact would leave, as the zones are and if no other
- * zone ended inside a stripe there. */
+/* The write's host, how many zones it may hold open, how many are open and may be; the drive of the write's entry, or of the compact; of a write what is left of
+ * its host's share of that drive, what it wants of it, and what a compact would leave, as the zones are and if no other zone ended inside a stripe there. */
 static void find_shares(struct number number[NUMBERS], const struct call *call, struct geometry g, const uint8_t *state) {
     uint32_t zone = (uint32_t)(call->address / zone_addresses(g)), host = call->host, drive = call->drive, left = 0, wanted = 0, alone = 0;
     if (call->kind == CALL_WRITE && zone < g.zones && host < ZRV_HOSTS) {
@@ -77,7 +75,6 @@ static void find_shares(struct number number[NUMBERS], const struct call *call, 
     number[MOST] = (struct number){"{most}", ZRV_MOST_OPEN};
     number[DRIVE] = (struct number){"{drive}", drive};
     number[DRIVES] = (struct number){"{drives}", g.drives};
-    number[LOST] = (struct number){"{lost}", state[ZRV_STATE_LOST]};
     number[LEFT] = (struct number){"{left}", left};
     number[WANTED] = (struct number){"{wanted}", wanted};
     number[AFTER] = (struct number){"{after}", share_after_compact(g, state, drive)};
@@ -97,23 +94,14 @@ static size_t print_number(FILE *to, const char *at, const struct number number[
     return 1;
 }
 
-#define NO_DRIVE "there is no drive {drive}; drives lie below {drives}"
-
 /* Refusal 8, of a host, of a drive, or of an address. */
 static const char *address_sentence(const struct call *call, const struct number number[NUMBERS]) {
     if (call->kind == CALL_WRITE && call->host >= ZRV_HOSTS && number[END].value <= number[ADDRESSES].value)
         return "there is no host {host}; hosts are 0 and 1";
     if (call->kind != CALL_COMPACT)
         return "there is no such zone or address; zones lie below {zones}, addresses below {addresses}";
-    return number[DRIVE].value < number[DRIVES].value ? "drive {drive} is not here: it is lost, or its file is missing; there is nothing to compact" : NO_DRIVE;
-}
-
-/* Refusal 20, of a slot that there is not, of the wrong one, or of a volume that knows of no loss. */
-static const char *not_lost_sentence(const struct number number[NUMBERS]) {
-    if (number[DRIVE].value >= number[DRIVES].value)
-        return NO_DRIVE;
-    return number[LOST].value == ZRV_NO_DRIVE ? "the volume knows of no lost drive; if drive {drive} is gone, mount the volume first (zrv mount)"
-                                              : "drive {lost} is the lost one, not drive {drive}; rebuild drive {lost}";
+    return number[DRIVE].value < number[DRIVES].value ? "drive {drive} is not here: it is lost, or its file is missing; there is nothing to compact"
+                                                      : "there is no drive {drive}; drives lie below {drives}";
 }
 
 /* Refusal 14: what helps is another thing for each call. */
@@ -137,7 +125,6 @@ static const char *full_sentence(const struct call *call, const struct number nu
         return "what has to be kept of drive {drive}'s parity log leaves too little room in a new one; bring zones to a stripe's end or reset them; for good: "
             FORMAT_ANEW;
     case CALL_RESET:
-    case CALL_REBUILD:
         return TOO_LITTLE_ROOM ", and may do so for good; what is written can still be read: " FORMAT_ANEW;
     default:
         return TOO_LITTLE_ROOM "; nothing is changed, zrv look still shows the zones; keep the drives' files as they are, and give the next volume "
@@ -147,12 +134,6 @@ static const char *full_sentence(const struct call *call, const struct number nu
 
 static const char *sentence_of(uint32_t answer, const struct call *call, const struct number number[NUMBERS]) {
     switch (answer) {
-    case ZRV_LABEL:
-        return call->kind == CALL_REBUILD ? "another drive's log does not begin with its label of this shelf, or it lacks a log; put the right file of "
-                                            "the drive that zrv look names in its place"
-                                          : "a drive's log does not begin with its label of this shelf; pull the drive that zrv look names";
-    case ZRV_NOT_LOST:
-        return not_lost_sentence(number);
     case ZRV_ADDRESS:
         return address_sentence(call, number);
     case ZRV_ORDER:
@@ -161,8 +142,6 @@ static const char *sentence_of(uint32_t answer, const struct call *call, const s
     case ZRV_LOG_FULL:
         return full_sentence(call, number);
     case ZRV_GONE:
-        if (call->kind == CALL_REBUILD)
-            return "a sector that the new drive needs cannot be made from the others; mount the volume (zrv mount), which shows what they have, then rebuild";
         return call->kind == CALL_PEEK ? "no drive that is here holds the sector; read it, which rebuilds it from parity"
                                        : "a sector that is needed cannot be rebuilt from the drives that are here";
     }

@@ -6,7 +6,7 @@
 
 #include "call.h"
 
-enum { LAST_REFUSAL = ZRV_NOT_LOST };
+enum { LAST_REFUSAL = ZRV_OPEN_LIMIT };
 
 /* The word of a refusal; "no refusal" for any other number. */
 const char *refusal_word(uint32_t number);

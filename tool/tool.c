@@ -62,7 +62,7 @@ int tell_answer(const struct driver *driver, const struct call *call, uint32_t a
     const struct host_record *record = &driver->drives.record;
     if (answer == ZRV_FINISHED)
         return EXIT_DONE;
-    if (answer == ANSWER_STRANGE_DRIVE || answer == ANSWER_FAILED || answer == ANSWER_SLOT_TAKEN)
+    if (answer == ANSWER_STRANGE_DRIVE || answer == ANSWER_FAILED)
         return file_error(message);
     if (answer == ANSWER_NOT_NOW)
         return not_now(message);

@@ -78,17 +78,9 @@ static const struct command commands[] = {
      "                    undoes each by chance, drive by drive and zone by zone. Not with --undo, nor with a list of --keep\n"},
     {"pull", pull_main, "take a drive out", "FOLDER --drive N [options]",
      "Renames the drive's file to drive-N.pulled, or to drive-N.pulled-2 and so on where there is one already. The drive is given up: it is not used again,\n"
-     "even if the file comes back; zrv rebuild fills a new one in its slot. A drive that cannot be read can be pulled too. Where the volume could not be\n"
-     "mounted without the drive, it is refused.\n"
+     "even if the file comes back. A drive that cannot be read can be pulled too. Where the volume could not be mounted without the drive, it is refused.\n"
      "  --drive N         the drive\n"
      "  --force           pull it even if the volume cannot be mounted afterwards\n"},
-    {"rebuild", rebuild_main, "fill a new drive in the lost one's slot", "FOLDER --slot N [options]",
-     "Makes everything that the volume needs of the lost drive from the others, and stores it on a new, empty drive in the lost one's slot. The new drive's\n"
-     "file is drive-N.zrv. Files of the drive before it, drive-N.pulled and so on, stay as they are, and are never used again. Afterwards no drive is lost,\n"
-     "and any one drive may go. The loss must be known to the volume: mount it without the drive first. A rebuild that was stopped is made again, after a\n"
-     "power cut and a mount.\n"
-     "  --slot N          the slot: the lost drive's number\n"
-     "  --force           put the new drive over a drive-N.zrv that holds something; what it holds goes\n" STORES_HELP},
     {"assemble", assemble_main, "make a missing state.zrv anew from the drives", "FOLDER [options]",
      "Geometry, array number and save stand in the head of every drive's file. Each drive must be in its place; one that is missing, foreign or doubled is\n"
      "named, and nothing is made. A mount comes next, which makes the volume's state anew. What only state.zrv knew is which drive was given up since the last\n"

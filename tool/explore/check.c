@@ -4,7 +4,6 @@
 #include "explore/check.h"
 
 #include <stdlib.h>
-#include <string.h>
 
 #include "explore/ending.h"
 
@@ -77,22 +76,6 @@ bool look_fits(struct explorer *explorer, struct world *world, uint8_t *shown, b
     if (answer != ZRV_FINISHED)
         return misfit(explorer, world, (struct verdict){.trouble = LOOK_REFUSED, .answer = answer});
     return zones_fit(explorer, world, shown, mounted);
-}
-
-bool new_drive_fits(struct explorer *explorer, struct world *world, const uint8_t *shown) {
-    uint8_t with_new[ZRV_STATE_BYTES];
-    uint32_t named = world->named, slot = lost_in_world(world);
-    if (!world->shows_alike)
-        return true;
-    world->named |= 1u << slot;
-    uint32_t answer = look_at_world(world, with_new);
-    world->named = named;
-    explorer->counts.both_ways++;
-    if (answer == ZRV_FINISHED && memcmp(with_new, shown, sizeof with_new) == 0)
-        return true;
-    push_event(explorer, (struct event){.kind = EVENT_DRIVE_NAMED, .drive = slot});
-    push_event(explorer, (struct event){.kind = EVENT_LOOK, .answer = answer, .shown = with_new});
-    return misfit(explorer, world, (struct verdict){.trouble = answer == ZRV_FINISHED ? SHOWN_UNLIKE : LOOK_REFUSED, .answer = answer});
 }
 
 void tell_oracle(struct world *world, uint8_t *shown) {

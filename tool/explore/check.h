@@ -8,8 +8,6 @@ struct event *push_event(struct explorer *explorer, struct event event);
 
 /* A look, and whether what it shows fits. mounted: reads below the pointers must not be refused. */
 bool look_fits(struct explorer *explorer, struct world *world, uint8_t *shown, bool mounted);
-/* Where a look that names the new drive in a slot must show the same as the one before it, which named the others: such a look, and whether it does. */
-bool new_drive_fits(struct explorer *explorer, struct world *world, const uint8_t *shown);
 /* A mount to its end and a look after it; the oracle is told. False where it does not fit, and where the log is full. */
 bool mount_fits(struct explorer *explorer, struct world *world);
 /* The oracle is told of what a finished mount shows. */

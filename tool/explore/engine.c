@@ -4,8 +4,8 @@
  * come back, or all but one. Then a look. Then the mount, to its end, and the calls that follow it, if any. And from the same look on, the mount once more
  * for each count of its stores: stopped there, power goes again, the caches keep something, a look, a second mount to its end.
  *
- * Where drives cache zone resets, a drive and zone may also keep what it had before a reset since the drive's last flush. Which store is a flush is told by
- * trying the call first, store by store (stores.h).
+ * Where drives cache zone resets, a drive and zone may also keep what it had before a reset since the drive's last flush. Which store is a flush is told by trying
+ * the call first, store by store (stores.h).
  *
  * Two kinds of history are left out because another one has the same bytes. A mount stopped after a flush has the sectors and written pointers from before
  * that flush, and what can be kept then, old zones included, could be kept before. And a drive that is lost is neither read nor changed: whatever its cache
@@ -42,7 +42,7 @@ static void list_stores(struct explorer *explorer, struct store_list *list, cons
     struct message message;
     const uint8_t *state = base->state;
     list->length = 0;
-    if (!explorer->options->cached_resets && (request == NULL || request->kind != CALL_REBUILD))
+    if (!explorer->options->cached_resets)
         return;
     copy_world(&explorer->tried[0], base);
     for (uint32_t count = 1, answer = ZRV_UNFINISHED; answer == ZRV_UNFINISHED; count++) {
@@ -53,13 +53,8 @@ static void list_stores(struct explorer *explorer, struct store_list *list, cons
             must(note_store(list, &before->shelf, &after->shelf, &message), &message);
         state = after->state;
     }
-    struct call call = {.kind = CALL_MOUNT, .geometry = base->shelf.geometry};
-    if (request != NULL) {
-        call.kind = request->kind;
-        call.drive = drive_of(base, request);
-    }
     if (list->length > 0)
-        must(settle_stores(list, &call, present_in(base->named, state), &message), &message);
+        must(settle_stores(list, request == NULL ? CALL_MOUNT : request->kind, present_in(base->named, state), &message), &message);
 }
 
 /* What the drives remember after so many stores of a list; `last` is the world one store before, and becomes this one. */
@@ -75,25 +70,12 @@ static void remember(struct explorer *explorer, const struct store_list *list, u
     copy_world(last, world);
 }
 
-/* Is a rebuild, of which the stores are listed, stopped after so many between its first labels and its last one? From the end of the flush behind the first
- * ones on, a look that names the new drive shows what one of the others shows. Its last stores are labels and flushes of all drives, before them the new
- * drive is flushed; before that come its sectors, a flush of it and its resets. */
-static bool is_between_labels(const struct store_list *list, struct geometry g, uint32_t stores) {
-    size_t last_label = list->length - g.drives, filled = last_label - g.drives - 1, at = filled;
-    while (list->store[at - 1].kind == STORE_APPEND)
-        at--;
-    return stores >= at - 1 - physical_zones(g) && stores < last_label;
-}
-
 /* ---- calls, stopped after every store */
 
 /* One request: a moment after each count of its stores. A refused one leaves everything as it was. */
 static void send_one(struct explorer *explorer, struct level *level, const struct request *request, moment_step *step) {
     struct outcome *outcome = &level->outcome[level->sent++];
-    uint32_t pointer = pointer_in_state(level->base.state, request->zone), named = level->base.named;
-    prepare_request(&level->base, request);
-    if (level->base.named != named)
-        push_event(explorer, (struct event){.kind = EVENT_DRIVE_LEFT_OUT, .drive = request->lost});
+    uint32_t pointer = pointer_in_state(level->base.state, request->zone);
     list_stores(explorer, &level->list, &level->base, request);
     for (level->stores = 0;; level->stores++) {
         copy_world(&level->moment, &level->base);
@@ -103,7 +85,6 @@ static void send_one(struct explorer *explorer, struct level *level, const struc
         if (answer != ZRV_UNFINISHED && answer != ZRV_FINISHED)
             return;
         remember(explorer, &level->list, level->stores, &level->moment, &level->last);
-        level->moment.shows_alike = request->kind == CALL_REBUILD && is_between_labels(&level->list, level->base.shelf.geometry, level->stores);
         step(explorer, level);
         if (answer == ZRV_FINISHED) {
             copy_world(&level->base, &level->moment);
@@ -139,7 +120,7 @@ static void second_return(struct explorer *explorer, const struct world *world, 
     again->named = named;
     explorer->counts.second_returns++;
     explorer->pool--;
-    if (look_fits(explorer, again, shown, false) && new_drive_fits(explorer, again, shown))
+    if (look_fits(explorer, again, shown, false))
         mount_fits(explorer, again);
     explorer->trail.length = events;
 }
@@ -338,7 +319,6 @@ static void first_return(struct explorer *explorer, const struct caches *caches,
     size_t events = explorer->trail.length;
     const struct old_zone *made = explorer->old_zones;
     bool gone = drive != ZRV_NO_DRIVE;
-    uint32_t lost = gone ? drive : lost_in_world(&explorer->first.moment);
     copy_world(returned, &explorer->first.moment);
     world_loses_power(returned, caches, explorer->options->breakage == BREAK_SECTOR ? &explorer->formatted.shelf : NULL);
     if (gone) {
@@ -350,15 +330,12 @@ static void first_return(struct explorer *explorer, const struct caches *caches,
     bool fits = look_fits(explorer, returned, shown, false);
     if (explorer->trail.event[explorer->trail.length - 1].answer == ZRV_FINISHED)
         count_shown(moment, shown, returned->shelf.geometry, fits);
-    if (fits && new_drive_fits(explorer, returned, shown))
-        go_on(explorer, shown, gone, lost == ZRV_NO_DRIVE || caches_are_drawn(caches) || keeps_only_durable(caches, lost));
+    if (fits)
+        go_on(explorer, shown, gone, !gone || caches_are_drawn(caches) || keeps_only_durable(caches, drive));
     explorer->returns_left--;
     explorer->trail.length = events;
     empty_pool(&explorer->old_zones, made);
 }
-
-/* How often power comes back for one content of the caches at the first loss: with all drives that are not lost, and, where none is, with all but any one. */
-static uint32_t returns_of(const struct world *world) { return lost_in_world(world) == ZRV_NO_DRIVE ? world->shelf.geometry.drives + 1 : 1; }
 
 static void first_loss(struct explorer *explorer, struct level *level) {
     uint64_t limit = explorer->moments[explorer->moment_at].limit;
@@ -367,7 +344,7 @@ static void first_loss(struct explorer *explorer, struct level *level) {
     push_event(explorer, (struct event){.kind = EVENT_POWER, .caches = &caches, .shelf = &level->moment.shelf});
     while (next_caches(&caches)) {
         first_return(explorer, &caches, ZRV_NO_DRIVE);
-        for (uint32_t d = 0; d + 1 < returns_of(world); d++)
+        for (uint32_t d = 0; d < explorer->options->geometry.drives; d++)
             first_return(explorer, &caches, d);
     }
     explorer->trail.length--;
@@ -395,7 +372,7 @@ static void plan_moment(struct explorer *explorer, struct level *level) {
     size_t pointers = zone_addresses(g) + 1;
     explorer->moments = grown(explorer->moments, (explorer->moments_length + 1) * sizeof *explorer->moments);
     struct moment *moment = &explorer->moments[explorer->moments_length++];
-    *moment = (struct moment){.sent = level->sent, .stores = level->stores, .contents = contents_of(&level->moment), .returns = returns_of(&level->moment)};
+    *moment = (struct moment){.sent = level->sent, .stores = level->stores, .contents = contents_of(&level->moment)};
     for (uint32_t z = 0; z < g.zones; z++) {
         moment->zone[z].length = level->moment.oracle.zone[z].length;
         moment->zone[z].flushed = level->moment.oracle.zone[z].flushed;
@@ -436,12 +413,12 @@ bool share_budget(struct explorer *explorer) {
         explorer->returns_left = explorer->options->geometry.drives;
         return true;
     }
-    uint64_t half = explorer->options->budget / 2 / (explorer->options->geometry.drives + 1);
+    uint64_t drives = (uint64_t)explorer->options->geometry.drives + 1, half = explorer->options->budget / 2 / drives;
     uint64_t limit = explorer->contents <= half ? UINT64_MAX : half / explorer->moments_length;
     for (size_t i = 0; i < explorer->moments_length; i++) {
         struct moment *moment = &explorer->moments[i];
         moment->limit = limit;
-        explorer->returns_left += moment->returns * (moment->contents < limit ? moment->contents : limit);
+        explorer->returns_left += drives * (moment->contents < limit ? moment->contents : limit);
     }
     explorer->pool -= explorer->returns_left;
     explorer->first_share = limit > 0 ? explorer->pool / explorer->returns_left : 0;

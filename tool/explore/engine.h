@@ -26,7 +26,6 @@ struct moment {
     size_t sent;
     uint32_t stores;
     uint64_t contents, limit; /* of the caches: how many there are, and how many are gone through */
-    uint32_t returns;         /* of power, for each of them */
     struct {
         uint32_t length, flushed;
         bool reset_begun;
@@ -39,7 +38,6 @@ struct counts {
     uint64_t stopped_mounts; /* mounts stopped after a store that changed something */
     uint64_t second_returns; /* times power came back after the second loss */
     uint64_t looks, mounts, sectors;
-    uint64_t both_ways;    /* looks that named the new drive of a rebuild too */
     uint64_t unread;       /* zones that a look showed and a read gave only after the mount */
     uint64_t full_mounts;  /* mounts that refused for a full log, which is no misfit */
     uint64_t drawn;        /* second losses of power whose caches were drawn */

@@ -15,10 +15,6 @@
 #define DEFAULT_BUDGET 2000000
 /* Calls to begin with where drives cache resets: the zone that is reset has something to come back, and sectors are written over it. */
 #define CACHED_CALLS "w3,f,r0,w1"
-/* For a rebuild: the drive that is lost has data and parity of a stripe, and the parity of the one that the zone's pointer lies inside. Then any drive that
- * did not come back is rebuilt. */
-#define REBUILD_CALLS "w6,f,w1,l0,m,v,w2"
-#define REBUILD_LATER "v"
 #define MOST_BUDGET UINT64_C(1000000000000)
 
 static const struct {
@@ -42,9 +38,8 @@ static const char *const help =
     "mount follows. Whatever is shown must fit: a beginning of what was written, at least as far as it was flushed. Ends with `every look fitted`\n"
     "or with a shortest history in which one did not, event by event.\n"
     "\n"
-    "  --calls LIST       the calls, by commas: wN writes N sectors, f flushes, m mounts, rZ resets zone Z, cD compacts drive D, vD rebuilds drive D\n"
-    "                     and v the one that is lost; lD loses drive D before the next call, unless one is lost; zZ chooses the zone and hH the host of\n"
-    "                     the writes that follow, both 0 at first (default w3,f,w4,w5: a write that ends inside a stripe, made to last;\n"
+    "  --calls LIST       the calls, by commas: wN writes N sectors, f flushes, m mounts, rZ resets zone Z, cD compacts drive D; zZ chooses the zone and\n"
+    "                     hH the host of the writes that follow, both 0 at first (default w3,f,w4,w5: a write that ends inside a stripe, made to last;\n"
     "                     one past that stripe's end, and one to the next stripe's end, of which power may take anything). To empty logs: --drives 3\n"
     "                     --unit 1 --zone-sectors 8 with --calls w1,r0,c2,w1,r0 or --calls m,m,m,m,m. Two desks in turn, with entries in one log: --drives 3\n"
     "                     --unit 1 --zones 2 with --calls w1,h1,z1,w5,c2,h0,z0,w1\n"
@@ -52,8 +47,7 @@ static const char *const help =
     "  --cached-resets    drives cache a zone reset until they are flushed: when power goes, each zone that was reset since its drive's last flush\n"
     "                     stays reset or is as it could have been left just before, also where it was written since (calls w3,f,r0,w1)\n"
     "  --lose-later       where all drives came back, any one may be lost when power goes for the second time\n"
-    "  --rebuild          a new drive in the slot of a lost one, with power going at every store of its rebuild (calls w6,f,w1,l0,m,v,w2, then v). A look\n"
-    "                     of the others must fit, and between the first labels and the last one a look that names the new drive too must show the same\n"    "  --drives N         3 to 8 (4)\n"
+    "  --drives N         3 to 8 (4)\n"
     "  --sector-bytes N   bytes of a sector, 64 to 4096 by doubling (64)\n"
     "  --unit N           sectors of a stripe unit, 1 to 16 (2)\n"
     "  --zones N          logical zones, 1 to 16 (1)\n"
@@ -61,9 +55,7 @@ static const char *const help =
     "  --budget N         at most N times does power come back for good (2000000); beyond it the caches are drawn, and the report says so\n"
     "  --seed N           of these draws (1)\n"
     "  --picture FILE     an SVG chart of what was shown after power went at each moment\n"
-    "  --quiet            the verdict alone\n";
-
-static const char *const help_on_duties =
+    "  --quiet            the verdict alone\n"
     "  --break DUTY       break a duty of the drives or the host, to see what it is for:\n"
     "      flush          a flush keeps nothing (calls w3,f). Fails where less is shown than was flushed, or a stopped mount did not keep its order.\n"
     "      sector         the last sector that each cache keeps has its second half from before (calls w3,w4). Fails where other bytes are shown\n"
@@ -90,9 +82,9 @@ static enum parsed complain(const char *format, const char *word) {
 
 const char *breakage_in_words(enum breakage breakage) { return breakages[breakage].words; }
 
-/* The zone and the host of the writes that follow; the drive that is lost before the next call. */
+/* The zone and the host of the writes that follow. */
 struct chosen {
-    uint32_t zone, host, lost;
+    uint32_t zone, host;
 };
 
 /* A word that chooses one of them. */
@@ -102,8 +94,6 @@ static bool parse_choice(const char *word, struct geometry geometry, struct chos
         chosen->zone = (uint32_t)number;
     else if (*word == 'h' && parse_number(word + 1, 0, ZRV_HOSTS - 1, &number))
         chosen->host = (uint32_t)number;
-    else if (*word == 'l' && parse_number(word + 1, 0, geometry.drives - 1, &number))
-        chosen->lost = (uint32_t)number;
     else
         return false;
     return true;
@@ -121,27 +111,19 @@ static enum parsed parse_request(const char *word, struct geometry geometry, str
         request = (struct request){.kind = CALL_RESET, .zone = (uint32_t)number};
     else if (*word == 'c' && parse_number(word + 1, 0, geometry.drives - 1, &number))
         request = (struct request){.kind = CALL_COMPACT, .drive = (uint32_t)number};
-    else if (*word == 'v' && parse_number(word + 1, 0, geometry.drives - 1, &number))
-        request = (struct request){.kind = CALL_REBUILD, .drive = (uint32_t)number};
-    else if (strcmp(word, "v") == 0)
-        request = (struct request){.kind = CALL_REBUILD, .drive = ZRV_NO_DRIVE};
     else if (strcmp(word, "m") == 0)
         request.kind = CALL_MOUNT;
     else if (strcmp(word, "f") != 0)
-        return complain("'%s' is no call here; calls are wN (1 to a zone's sectors), f, m, rZ and zZ (a zone that there is), cD, vD and lD (a drive), v, "
-                        "hH (a host, 0 or 1)",
-                        word);
+        return complain("'%s' is no call here; calls are wN (1 to a zone's sectors), f, m, rZ and zZ (a zone that there is), cD (a drive), hH (a host, 0 or 1)", word);
     if (list->length == MOST_REQUESTS)
         return complain("the call '%s' is one too many", word);
-    request.lost = chosen->lost;
-    chosen->lost = ZRV_NO_DRIVE;
     list->request[list->length++] = request;
     return PARSED;
 }
 
 /* The words of a list, and for each write data of its own. */
 static enum parsed parse_requests(const char *text, struct geometry geometry, uint64_t seed, struct request_list *list) {
-    struct chosen chosen = {.lost = ZRV_NO_DRIVE};
+    struct chosen chosen = {0, 0};
     while (*text != '\0') {
         char word[32];
         size_t length = strcspn(text, ",");
@@ -152,8 +134,6 @@ static enum parsed parse_requests(const char *text, struct geometry geometry, ui
         if (*text == ',' && *++text == '\0')
             return complain("'%s' ends a list of calls", ",");
     }
-    if (chosen.lost != ZRV_NO_DRIVE)
-        return complain("%s", "a drive is lost, and no call follows");
     for (size_t i = 0; i < list->length; i++) {
         size_t bytes = (size_t)list->request[i].sectors * geometry.sector_bytes;
         list->request[i].data = malloc(bytes + 1);
@@ -184,7 +164,7 @@ struct destination {
     uint64_t least, most; /* of a number */
 };
 
-enum { DRIVES, SECTOR_BYTES, UNIT, ZONES, ZONE_SECTORS, BUDGET, SEED, CALLS, THEN, PICTURE, BREAK, CACHED_RESETS, LOSE_LATER, REBUILD, QUIET, HELP, OPTIONS };
+enum { DRIVES, SECTOR_BYTES, UNIT, ZONES, ZONE_SECTORS, BUDGET, SEED, CALLS, THEN, PICTURE, BREAK, CACHED_RESETS, LOSE_LATER, QUIET, HELP, OPTIONS };
 
 static const struct option names[OPTIONS + 1] = {
     WORD_WITH_VALUE("drives", DRIVES),
@@ -200,7 +180,6 @@ static const struct option names[OPTIONS + 1] = {
     WORD_WITH_VALUE("break", BREAK),
     WORD_FLAG("cached-resets", CACHED_RESETS),
     WORD_FLAG("lose-later", LOSE_LATER),
-    WORD_FLAG("rebuild", REBUILD),
     WORD_FLAG("quiet", QUIET),
     WORD_FLAG("help", HELP),
 };
@@ -220,7 +199,6 @@ static struct destination destination_of(int option, struct options *options) {
         [BREAK] = {.breakage = &options->breakage},
         [CACHED_RESETS] = {.flag = &options->cached_resets},
         [LOSE_LATER] = {.flag = &options->loses_later},
-        [REBUILD] = {.flag = &options->rebuilds},
         [QUIET] = {.flag = &options->quiet},
     };
     return destinations[option];
@@ -242,7 +220,6 @@ static enum parsed take_number(const char *name, const struct destination *to, c
 static enum parsed take_option(int option, const char *value, struct options *options) {
     if (option == HELP) {
         fputs(help, stdout);
-        fputs(help_on_duties, stdout);
         return HELPED;
     }
     struct destination to = destination_of(option, options);
@@ -272,12 +249,6 @@ static enum parsed parse_words(int argc, char **argv, struct options *options) {
     return PARSED;
 }
 
-static const char *usual_calls(const struct options *options) {
-    if (options->rebuilds)
-        return REBUILD_CALLS;
-    return options->cached_resets && options->breakage == BREAK_NOTHING ? CACHED_CALLS : breakages[options->breakage].calls;
-}
-
 enum parsed parse_explore_options(int argc, char **argv, struct options *options) {
     *options = (struct options){.geometry = {4, 64, 2, 1, 16}, .budget = DEFAULT_BUDGET, .seed = 1};
     enum parsed words = parse_words(argc, argv, options);
@@ -292,12 +263,10 @@ enum parsed parse_explore_options(int argc, char **argv, struct options *options
     options->cached_resets = options->cached_resets || options->breakage == BREAK_RESET;
     if (options->breakage == BREAK_LOST_AGAIN && options->picture != NULL)
         return complain("%s", "--picture shows the first loss of power; --break lost-again has none before its calls");
-    if (options->rebuilds && options->breakage != BREAK_NOTHING)
-        return complain("%s", "--rebuild goes through calls of its own, --break through others");
     if (options->calls_text == NULL)
-        options->calls_text = usual_calls(options);
+        options->calls_text = options->cached_resets && options->breakage == BREAK_NOTHING ? CACHED_CALLS : breakages[options->breakage].calls;
     if (options->later_text == NULL)
-        options->later_text = options->rebuilds ? REBUILD_LATER : breakages[options->breakage].later;
+        options->later_text = breakages[options->breakage].later;
     if (parse_requests(options->calls_text, g, 1, &options->calls) != PARSED)
         return BAD_USAGE;
     if (options->calls.length == 0)

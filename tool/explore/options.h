@@ -11,14 +11,12 @@ enum { MOST_REQUESTS = 32 };
 /* The duties of drives and host that can be broken on purpose. */
 enum breakage { BREAK_NOTHING, BREAK_FLUSH, BREAK_SECTOR, BREAK_SECOND_DRIVE, BREAK_LOST_AGAIN, BREAK_KEPT_OUT, BREAK_MOUNT, BREAK_RESET, BREAKAGES };
 
-/* A call to be sent: a write at its zone's pointer, a flush, a mount, a reset of a zone, a compact of a drive, or a rebuild. A drive may be lost just before
- * it. */
+/* A call to be sent: a write at its zone's pointer, a flush, a mount, a reset of a zone, or a compact of a drive. */
 struct request {
     enum call_kind kind;
     uint32_t zone;
     uint32_t host;    /* of a write */
-    uint32_t drive;   /* of a compact; of a rebuild the slot, ZRV_NO_DRIVE for that of the drive that is lost then */
-    uint32_t lost;    /* from this call on; ZRV_NO_DRIVE: none */
+    uint32_t drive;   /* of a compact */
     uint32_t sectors; /* of a write */
     uint8_t *data;    /* of a write */
 };
@@ -37,7 +35,6 @@ struct options {
     uint32_t seed;
     bool loses_later;   /* a drive may be lost with the second loss of power too */
     bool cached_resets; /* drives cache a zone reset until they are flushed */
-    bool rebuilds;      /* other calls to begin with: a drive is lost and rebuilt */
     bool quiet;
     const char *picture; /* NULL: none */
 };

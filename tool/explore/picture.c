@@ -55,7 +55,7 @@ static void draw_call_name(const struct panel *panel, const struct request *requ
         fprintf(panel->out, " %u", request->sectors);
     if (traits->in_zone && (request->sectors == 0 || request->zone != panel->zone))
         fprintf(panel->out, " z%u", request->zone);
-    if (request != NULL && (request->kind == CALL_COMPACT || request->kind == CALL_REBUILD) && request->drive != ZRV_NO_DRIVE)
+    if (request != NULL && request->kind == CALL_COMPACT)
         fprintf(panel->out, " d%u", request->drive);
     fputs("</text>\n", panel->out);
 }

@@ -46,8 +46,6 @@ static void tell_refused(uint32_t answer) {
 static void report_calls(const struct request_list *list, const struct outcome *outcome) {
     for (size_t i = 0; i < list->length; i++) {
         printf("             ");
-        if (list->request[i].lost != ZRV_NO_DRIVE)
-            printf("without drive %u from here on: ", list->request[i].lost);
         tell_request(stdout, &list->request[i]);
         if (outcome == NULL)
             printf("\n");
@@ -58,13 +56,6 @@ static void report_calls(const struct request_list *list, const struct outcome *
         else
             printf(": %u stores, %u log%s emptied\n", outcome[i].stores, outcome[i].emptied, outcome[i].emptied == 1 ? "" : "s");
     }
-}
-
-static bool loses_drives(const struct request_list *list) {
-    for (size_t i = 0; i < list->length; i++)
-        if (list->request[i].lost != ZRV_NO_DRIVE)
-            return true;
-    return false;
 }
 
 /* What happens after the calls; a broken duty takes the place of some of it. */
@@ -78,8 +69,7 @@ static void report_course(const struct explorer *explorer) {
         printf("  caches     each drive and zone keeps any pointer from durable to written\n");
         if (options->cached_resets)
             printf("  resets     are cached: each zone reset since its drive's last flush stays reset, or is as it could have been left just before\n");
-        printf("  drives     %s\n", loses_drives(&options->calls) ? "all that are not lost come back; where none is lost, all or all but any one"
-                                                             : "all come back, or all but any one");
+        printf("  drives     all come back, or all but any one\n");
         printf("  then       a look%s\n", breakage == BREAK_MOUNT ? "" : ", and a mount");
     }
     if (breakage == BREAK_NOTHING || breakage == BREAK_FLUSH || breakage == BREAK_SECTOR || breakage == BREAK_RESET)
@@ -129,8 +119,6 @@ static void report_counts(const struct explorer *explorer) {
     if (counts->unaffordable > 0)
         print_number(counts->unaffordable, "returns of power whose second losses are all left out, for want of budget");
     print_number(counts->looks, "looks");
-    if (counts->both_ways > 0)
-        print_number(counts->both_ways, "looks that named the new drive of a rebuild too, between its first labels and its last one");
     print_number(counts->mounts, "mounts finished");
     print_number(counts->sectors, "sectors read back and compared");
     print_number(counts->unread, "zones shown by a look whose sectors could be read back only after the mount");
@@ -146,7 +134,6 @@ static void report_troubles(const struct counts *counts) {
         [SHOWN_SHORT] = "showings that end before what was flushed",
         [SHOWN_LONG] = "showings that go past what was written",
         [SHOWN_OTHER] = "showings with other bytes than were written",
-        [SHOWN_UNLIKE] = "looks that named a new drive too and showed something else",
     };
     for (int i = LOOK_REFUSED; i < TROUBLES; i++)
         if (counts->trouble[i] > 0)
@@ -157,7 +144,7 @@ static void report_troubles(const struct counts *counts) {
         if (counts->refused[answer] > 0)
             print_number(counts->refused[answer], text);
     }
-    if (counts->trouble[SHOWN_SHORT] + counts->trouble[SHOWN_LONG] + counts->trouble[SHOWN_OTHER] + counts->trouble[SHOWN_UNLIKE] == 0)
+    if (counts->trouble[SHOWN_SHORT] + counts->trouble[SHOWN_LONG] + counts->trouble[SHOWN_OTHER] == 0)
         printf("  nothing wrong was shown: only refusals\n");
 }
 

@@ -22,9 +22,7 @@ void tell_request(FILE *out, const struct request *request) {
         fprintf(out, " of %u sector%s to zone %u", request->sectors, request->sectors == 1 ? "" : "s", request->zone);
     else if (traits->in_zone)
         fprintf(out, " of zone %u", request->zone);
-    else if (request->kind == CALL_REBUILD && request->drive == ZRV_NO_DRIVE)
-        fputs(" of the lost drive", out);
-    else if (request->kind == CALL_COMPACT || request->kind == CALL_REBUILD)
+    else if (request->kind == CALL_COMPACT)
         fprintf(out, " of drive %u", request->drive);
     if (request->host > 0)
         fprintf(out, " by host %u", request->host);
@@ -143,9 +141,6 @@ static void tell_verdict(FILE *out, const struct world *world, const struct verd
     case READ_REFUSED:
         fprintf(out, "zone %u at %u: a read below it is refused with %u (%s)\n", verdict->zone, verdict->pointer, verdict->answer,
                 refusal_word(verdict->answer));
-        return;
-    case SHOWN_UNLIKE:
-        fputs("the look that names the new drive too does not show what the look of the others shows\n", out);
         return;
     case SHOWN_OTHER:
         fprintf(out, "zone %u at %u: sector %u has other bytes than were written", verdict->zone, verdict->pointer, verdict->sector);

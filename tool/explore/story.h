@@ -19,7 +19,7 @@ struct event {
     uint8_t *shown;                /* look, mount */
 };
 
-enum { MOST_EVENTS = 3 * MOST_REQUESTS + 16 };
+enum { MOST_EVENTS = 2 * MOST_REQUESTS + 16 };
 
 struct trail {
     struct event event[MOST_EVENTS];
@@ -27,7 +27,7 @@ struct trail {
 };
 
 /* What does not fit, and where. */
-enum trouble { NO_TROUBLE, LOOK_REFUSED, MOUNT_REFUSED, READ_REFUSED, SHOWN_SHORT, SHOWN_LONG, SHOWN_OTHER, SHOWN_UNLIKE, TROUBLES };
+enum trouble { NO_TROUBLE, LOOK_REFUSED, MOUNT_REFUSED, READ_REFUSED, SHOWN_SHORT, SHOWN_LONG, SHOWN_OTHER, TROUBLES };
 
 struct verdict {
     enum trouble trouble;

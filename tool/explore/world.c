@@ -32,8 +32,6 @@ void copy_world(struct world *to, const struct world *from) {
     memcpy(to->shelf.durable.bytes, from->shelf.durable.bytes, from->shelf.durable.length);
     memcpy(to->state, from->state, sizeof to->state);
     to->named = from->named;
-    to->renewed = from->renewed;
-    to->shows_alike = from->shows_alike;
     to->old = from->old;
     copy_oracle(&to->oracle, &from->oracle);
 }
@@ -92,50 +90,6 @@ uint32_t logs_emptied(const struct world *before, const struct world *after) {
     return count;
 }
 
-uint32_t lost_in_world(const struct world *world) {
-    uint32_t drive = 0;
-    while (drive < world->shelf.geometry.drives && (world->named >> drive & 1) != 0)
-        drive++;
-    return drive < world->shelf.geometry.drives ? drive : ZRV_NO_DRIVE;
-}
-
-uint32_t drive_of(const struct world *world, const struct request *request) { return request->drive == ZRV_NO_DRIVE ? lost_in_world(world) : request->drive; }
-
-/* A drive that is gone has nothing at stake. */
-static void lose_drive(struct world *world, uint32_t drive) {
-    struct geometry g = world->shelf.geometry;
-    world->named &= ~(1u << drive);
-    for (size_t at = cell(g, drive, 0); at < cell(g, drive + 1, 0); at++) {
-        put_pointer(world->shelf.durable, at, pointer_in(world->shelf.written, at));
-        world->old.cell[at] = NULL;
-    }
-}
-
-static void put_empty_drive(struct world *world, uint32_t slot) {
-    struct geometry g = world->shelf.geometry;
-    for (size_t at = cell(g, slot, 0); at < cell(g, slot + 1, 0); at++) {
-        memset(world->shelf.sectors.bytes + at * g.zone_sectors * g.sector_bytes, 0, (size_t)world->touched[at] * g.sector_bytes);
-        keep_sectors(&world->shelf, at, 0);
-        world->touched[at] = 0;
-    }
-    world->renewed = true;
-}
-
-/* Only one drive is ever lost at a time. A rebuild that was stopped is made again on what it left. */
-void prepare_request(struct world *world, const struct request *request) {
-    uint32_t lost = lost_in_world(world);
-    if (request->lost != ZRV_NO_DRIVE && lost == ZRV_NO_DRIVE)
-        lose_drive(world, request->lost);
-    if (request->kind == CALL_REBUILD && lost != ZRV_NO_DRIVE && !world->renewed)
-        put_empty_drive(world, lost);
-}
-
-/* After a finished rebuild all drives are there. */
-static void take_slot(struct world *world) {
-    world->named = (1u << world->shelf.geometry.drives) - 1;
-    world->renewed = false;
-}
-
 uint32_t format_world(struct world *world) {
     struct call call = call_on(world, CALL_FORMAT, world->state);
     return store_by(world, &call, BREAK_NOTHING);
@@ -148,7 +102,6 @@ uint32_t look_at_world(struct world *world, uint8_t *shown) {
 
 uint32_t mount_world(struct world *world, uint32_t count, enum breakage breakage) {
     struct call call = call_on(world, CALL_MOUNT, world->state);
-    world->shows_alike = false;
     call.count = count;
     return store_by(world, &call, breakage);
 }
@@ -166,7 +119,7 @@ uint32_t send_request(struct world *world, const struct request *request, uint32
     call.count = count;
     call.zone = request->zone;
     call.host = request->host;
-    call.drive = drive_of(world, request);
+    call.drive = request->drive;
     if (request->kind == CALL_WRITE) {
         call.address = address_to_write(call.geometry, world->state, request->zone);
         if (call.address == NO_ADDRESS)
@@ -182,8 +135,6 @@ uint32_t send_request(struct world *world, const struct request *request, uint32
         oracle_write(&world->oracle, request->zone, request->data, request->sectors);
     else if (request->kind == CALL_RESET)
         oracle_reset(&world->oracle, request->zone, finished);
-    else if (finished && request->kind == CALL_REBUILD)
-        take_slot(world);
     else if (finished && request->kind != CALL_COMPACT) /* a flush, or a mount before which power did not go, and which shows everything */
         oracle_flush(&world->oracle);
     return answer;

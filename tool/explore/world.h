@@ -13,8 +13,6 @@ struct world {
     struct old_zones old;         /* what the drives remember of zones that were reset */
     uint8_t state[ZRV_STATE_BYTES];
     uint32_t named;
-    bool renewed;       /* in the slot of the drive that is not named a new one is being filled */
-    bool shows_alike;   /* a look that names that one too must show the same (document 02) */
     struct oracle oracle;
 };
 
@@ -28,14 +26,8 @@ uint32_t format_world(struct world *world);
 uint32_t look_at_world(struct world *world, uint8_t *shown);
 uint32_t mount_world(struct world *world, uint32_t count, enum breakage breakage);
 uint32_t read_world(struct world *world, uint8_t *shown, uint32_t zone, struct range answer);
-/* What comes before a request is sent: a drive is lost, a new one takes the lost one's place. */
-void prepare_request(struct world *world, const struct request *request);
 /* A request sent, and told to the oracle. */
 uint32_t send_request(struct world *world, const struct request *request, uint32_t count, enum breakage breakage);
-
-/* The drive that is not named, ZRV_NO_DRIVE where all are; the drive that a request is of. */
-uint32_t lost_in_world(const struct world *world);
-uint32_t drive_of(const struct world *world, const struct request *request);
 
 /* How many logs a call emptied. */
 uint32_t logs_emptied(const struct world *before, const struct world *after);

@@ -1,14 +1,13 @@
-/* Stores that were seen, read by the pattern of their call's kind: which of the unseen ones are flushes, and which lists fit no call of that kind. In a list
- * a is an append to a zone of data and l one to a log's zone, r the reset of a zone of data and s that of a log's, each with its drive; z is a reset with its
- * drive and zone; f is a flush of a drive that is seen, and - a store that is not. The spare zone of a drive is zone 2; a drive has four. Rebuilds are of
- * drive 1. Ends with 'stores: N lists as expected'. */
+/* Stores that were seen, read by the pattern of their call's kind: which of the unseen ones are flushes, and which lists fit no call of that kind. In a list a
+ * is an append to a zone of data and l one to a log's zone, r the reset of a zone of data and s that of a log's, each with its drive; f is a flush of a drive
+ * that is seen, and - a store that is not. The spare zone of a drive is zone 2. Ends with 'stores: N lists as expected'. */
 #include <stdio.h>
 #include <stdlib.h>
 #include <string.h>
 
 #include "stores.h"
 
-enum { SPARE_ZONE = 2, REBUILT = 1 };
+enum { SPARE_ZONE = 2 };
 
 static const struct {
     enum call_kind kind;
@@ -48,17 +47,6 @@ static const struct {
     {CALL_MOUNT, 7, "- - - l0", NULL},
     {CALL_MOUNT, 7, "l0 - - -", NULL},
     {CALL_MOUNT, 7, "- - - l0 - - - -", NULL},
-    {CALL_REBUILD, 7, "- - - - - - - l1 a1 l1 f1 l1 l0 l2 f0 f1 f2", "f0 f2 - - - - f1 l1 a1 l1 f1 l1 l0 l2 f0 f1 f2"}, /* of an empty drive */
-    {CALL_REBUILD, 5, "- - - - - - - l1 a1 l1 f1 l1 l0 l2 f0 f1 f2", "f0 f2 - - - - f1 l1 a1 l1 f1 l1 l0 l2 f0 f1 f2"}, /* the slot counts as named */
-    {CALL_REBUILD, 7, "l0 l2 f0 f2 z10 - z12 z13 - l1 l1 f1 l1 l0 l2 f0 f1 f2", "l0 l2 f0 f2 z10 - z12 z13 f1 l1 l1 f1 l1 l0 l2 f0 f1 f2"},
-    {CALL_REBUILD, 7, "- - l2 - f2 s2 - - - - - - - l1 l1 f1 l1 l0 l2 f0 f1 f2", "f0 f2 l2 f0 f2 s2 f0 f2 - - - - f1 l1 l1 f1 l1 l0 l2 f0 f1 f2"},
-    {CALL_REBUILD, 7, "- - - l2 - - f2 s2 - - - - - - - l1 l1 f1 l1 l0 l2 f0 f1 f2", NULL}, /* an emptying that flushes the slot */
-    {CALL_REBUILD, 7, "- - z11 z10 - - - l1 l1 f1 l1 l0 l2 f0 f1 f2", NULL},
-    {CALL_REBUILD, 7, "- - - - - z03 - l1 l1 f1 l1 l0 l2 f0 f1 f2", NULL}, /* another drive's zone is reset */
-    {CALL_REBUILD, 7, "- - - - - - l1 l1 f1 l1 l0 l2 f0 f1 f2", NULL}, /* a store too few before the sectors */
-    {CALL_REBUILD, 7, "- - - - - - - l1 l1 f1 l1 l0 l2 f0 - -", "f0 f2 - - - - f1 l1 l1 f1 l1 l0 l2 f0 f1 f2"},
-    {CALL_REBUILD, 7, "- - - - - - - l1 l1 f1 l1 l0 l2 f0 f2", NULL}, /* the last flush without the new drive */
-    {CALL_REBUILD, 7, "- - - - - - - l1 l1 l1 l0 l2 f0 f1 f2", NULL}, /* without the flush before the last labels */
     {CALL_FORMAT, 7, "- - -", NULL}, /* its stores have no pattern */
 };
 
@@ -73,8 +61,6 @@ static struct store store_of(const char *word) {
         return (struct store){.kind = STORE_RESET, .drive = drive, .zone = ZRV_LOG_ZONES};
     case 's':
         return (struct store){.kind = STORE_RESET, .drive = drive, .zone = 0};
-    case 'z':
-        return (struct store){.kind = STORE_RESET, .drive = drive, .zone = (uint32_t)(word[2] - '0')};
     case 'f':
         return (struct store){.kind = STORE_FLUSH, .drive = drive};
     }
@@ -101,8 +87,7 @@ int main(void) {
         struct store seen[64], settled[64];
         struct store_list list = {seen, stores_of(lists[i].seen, seen), 64};
         struct message message;
-        struct call call = {.kind = lists[i].kind, .geometry = {.drives = 3, .zones = 1}, .drive = REBUILT};
-        bool fits = settle_stores(&list, &call, lists[i].present, &message);
+        bool fits = settle_stores(&list, lists[i].kind, lists[i].present, &message);
         bool expected = lists[i].settled == NULL ? !fits && strstr(message.text, traits_of(lists[i].kind)->name) != NULL
                                                  : fits && stores_of(lists[i].settled, settled) == list.length && same_stores(seen, settled, list.length);
         if (!expected)

@@ -8,6 +8,7 @@ use Rattle.std.proofs.Math.Decide.{ℕ_discrete}
 use Rattle.std.proofs.Math.Dec.{ltb}
 use Rattle.tables.specs.declared.Geometry.{Geometry}
 use Rattle.tables.specs.meaning.Basics.{pick}
+use Rattle.tables.specs.meaning.Below.{any_below}
 use Rattle.tables.specs.laws.Below.{any_below_cong}
 use Rattle.tables.specs.meaning.Drives.{find_below}
 use Rattle.tables.specs.meaning.Geometry.{Valid, max_zones}
@@ -22,12 +23,12 @@ use Rattle.volume.specs.meaning.Hosts.{half_past, renewed_shares, compact_state}
 use Rattle.volume.specs.meaning.Answers.{lost_in}
 use Rattle.volume.specs.meaning.Refusals.{first_refusal, state_within, two_absent, stale_somewhere, compact_full, flush_rows, compact_rows}
 use Rattle.volume.specs.meaning.Emptying.{by_state, new_parity_size, gone_for_copies, compact_stores}
-use Rattle.volume.specs.meaning.CallContracts.{view_state, is_set, verdict_number, roles_of, seen_in, Result, storing_on, state_held, flush_verdict, compact_verdict, compact_on}
+use Rattle.volume.specs.meaning.CallContracts.{record_at, view_state, is_set, verdict_number, roles_of, seen_in, Result, storing_on, state_held, flush_verdict, compact_verdict, compact_on}
 use Rattle.volume.specs.laws.StateHeld.{Sixteen, held_shares}
 use Rattle.volume.specs.checks.CheckLaws.{present_list, present_is, left_out_is, opened, opening_number, after_four}
 use Rattle.volume.specs.checks.LogRoom.{size_agree}
 use Rattle.volume.specs.checks.Records.{points_in, points_in_at}
-use Rattle.volume.specs.checks.ZoneChecks.{some_stale, stale_on_tables}
+use Rattle.volume.specs.checks.ZoneChecks.{stale_on, stale_on_tables}
 use Rattle.volume.specs.emptying.ParityCopies.{by_pointers}
 use Rattle.volume.specs.storing.Flushing.{flush_refusal}
 use Rattle.volume.specs.storing.Resetting.{stale_seen}
@@ -35,7 +36,10 @@ use Rattle.compacting.specs.declared.Compaction.{Compaction}
 use Rattle.compacting.specs.CompactRoom.{force_of}
 
 -- ==== refusals
--- 7, of every zone
+-- 7, of the zones below n
+abbrev pub some_stale : Geometry → (ℕ → Bool) → State → List ℕ → ℕ → Bool
+some_stale g present s ws n = any_below (λ z. stale_on g present ws (record_at s z).condition z) n
+
 pub stale_is : (g : Geometry) (named : List Bool) (s : State) (xs ws ds : List ℕ) → pointers_bad g named ws ds ≡ false
     → some_stale g (call_present g (is_set named) (view_state s)) s ws g.zones ≡ stale_somewhere g (call_present g (is_set named) (view_state s)) (seen_in g (tables_of xs ws ds)) (view_state s)
 unfolding stale_somewhere

@@ -9,7 +9,7 @@ ghost use Rattle.volume.specs.looking.DriveLogs.{Sized};
 ghost use Rattle.volume.specs.checks.LogRoom.{SeenByRoles};
 ghost use Rattle.compacting.specs.CompactRoom.{compact_asked};
 ghost use Rattle.compacting.specs.CompactMade.{CompactReady};
-ghost use Rattle.compacting.specs.Compacting.{renewed_list, new_share, ended_with, compact_seen_on};
+ghost use Rattle.compacting.specs.Compacting.{some_stale, renewed_list, new_share, ended_with, compact_seen_on};
 
 use tables::{Geometry, MAX_CELLS, MAX_DRIVES};
 use volume::checks::Sizes;
@@ -23,6 +23,26 @@ pub struct Compaction {
     pub first: Geometry,
     pub here: [bool; MAX_DRIVES],
     pub drive: usize,
+}
+
+// Refusal 7 of every zone.
+fn some_stale(written: &[u32], g: Geometry, here: [bool; MAX_DRIVES], state: State) -> bool
+    requires valid { Valid g }
+    requires written_len { (length written.now ≡ cells g) × (state_within g (view_state state) ≡ true) }
+    ensures { result ≡ some_stale g (is_set here) state written.now g.zones }
+{
+    let zones = state.zones;
+    let n = g.zones;
+    let mut stale = false;
+    let mut z = 0;
+    while z < n {
+        let record = zones[z];
+        let condition = record.condition;
+        let one = volume::zone_checks::is_stale(written, g, here, condition, z);
+        stale = stale | one;
+        z += 1;
+    }
+    stale
 }
 
 // Whether a drive is one of the volume's and here.
@@ -216,7 +236,7 @@ pub fn compact(
         return volume::checks::refused(opening, state);
     }
     let here = volume::checks::present_drives(g, named, lost);
-    if volume::zone_checks::some_stale(written, g, here, state) {
+    if some_stale(written, g, here, state) {
         return volume::checks::refused(7, state);
     }
     if !is_here(g, here, drive) {

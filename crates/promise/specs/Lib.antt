@@ -8,7 +8,6 @@ pub mod isolation
 pub mod look
 pub mod meaning
 pub mod mount
-pub mod rebuild
 pub mod roles
 pub mod shown
 pub mod tables

@@ -14,17 +14,13 @@ pub mod CallsProved
 pub mod ClaimEvents
 pub mod ClaimProof
 pub mod CompactCall
-pub mod GeneralFirst
 pub mod Heard
 pub mod Looks
-pub mod LostAfter
 pub mod Marks
 pub mod Modes
 pub mod MountCall
 pub mod OlderDrives
 pub mod PlainCalls
 pub mod PointClaims
-pub mod RebuildCall
-pub mod RebuildClaim
 pub mod ResetCall
 pub mod SharesKept

@@ -13,7 +13,5 @@ pub mod IsolationPairs
 pub mod IsolationRuns
 pub mod IsolationTests
 pub mod Opened
-pub mod RebuildExample
-pub mod RebuildHistory
 pub mod TablesExample
 pub mod TablesHistory

@@ -8,6 +8,5 @@ pub mod Isolation
 pub mod Ledger
 pub mod OnDevice
 pub mod OnTables
-pub mod Rebuilding
 pub mod ResetLasts
 pub mod Roomy

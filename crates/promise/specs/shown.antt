@@ -9,9 +9,5 @@ pub mod EveryPoint
 pub mod MountLooks
 pub mod MountParityLooks
 pub mod MountSettles
-pub mod RebuildSettles
-pub mod RebuildingClaimed
 pub mod ResetLasts
 pub mod RoomyCalls
-pub mod SlotStaysLost
-pub mod SlotsStayLost

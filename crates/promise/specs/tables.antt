@@ -6,9 +6,6 @@ pub mod CallsSeen
 pub mod EmptyingTables
 pub mod MadeOn
 pub mod MountRefines
-pub mod RebuildTables
-pub mod RebuildingTables
 pub mod RoomyTables
-pub mod SlotOrder
 pub mod TablesClaimProof
 pub mod TablesEvents

@@ -157,23 +157,6 @@ pub fn compact(
     kept(h, o)
 }
 
-// Rebuild.
-pub fn rebuild(
-    sectors: &mut [u8],
-    written: &mut [u32],
-    durable: &mut [u32],
-    h: Host,
-    c: Command,
-) -> Reply {
-    let g = h.geometry;
-    let s = h.state;
-    let named = super::hosting::named_in(c.first);
-    let slot = c.second as usize;
-    let count = super::hosting::narrow(c.third);
-    let o = rebuilding::rebuild(sectors, written, durable, g, named, s, slot, count);
-    kept(h, o)
-}
-
 // Read into the buffer.
 pub fn read(
     sectors: &[u8],

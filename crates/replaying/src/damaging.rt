@@ -1,5 +1,5 @@
 // The commands that change the tables and are no calls: a new shelf's zeros, a byte, a pair of pointers, sectors that no call stored.
-ghost use Rattle.std.specs.Prelude.{◌≤◌, ◌≡◌};
+ghost use Rattle.std.specs.Prelude.{◌≡◌};
 ghost use Rattle.replaying.specs.Damaging.{may_append};
 
 use tables::Geometry;
@@ -11,41 +11,6 @@ pub fn clear_pointers(out: &mut [u32]) {
     while i < n {
         out[i] = 0;
         i += 1;
-    }
-}
-
-// Where part i of n parts of a length begins; the length where there is no such part.
-fn part_start(length: usize, n: usize, i: usize) -> usize
-    ensures { result ≤ length }
-{
-    if n == 0 {
-        return length;
-    }
-    let part = length / n;
-    if part == 0 {
-        return length;
-    }
-    if length / part <= i {
-        return length;
-    }
-    i * part
-}
-
-// Part i of n parts of the sectors all zero.
-pub fn clear_part(sectors: &mut [u8], n: usize, i: usize) {
-    let from = part_start(sectors.len(), n, i);
-    let to = part_start(sectors.len(), n, super::hosting::next_of(i));
-    if from <= to {
-        tables::sectors::clear(&mut sectors[from..to]);
-    }
-}
-
-// The same of pointers.
-pub fn clear_pointers_of(table: &mut [u32], n: usize, i: usize) {
-    let from = part_start(table.len(), n, i);
-    let to = part_start(table.len(), n, super::hosting::next_of(i));
-    if from <= to {
-        clear_pointers(&mut table[from..to]);
     }
 }
 

@@ -16,14 +16,6 @@ pub fn lend(length: usize, short: usize, most: usize) -> usize
     most
 }
 
-// The number after one; the largest stays.
-pub fn next_of(i: usize) -> usize {
-    if i < 18446744073709551615 {
-        return i + 1;
-    }
-    i
-}
-
 // A number as one of 32 bits; one past the largest is the largest.
 pub fn narrow(x: u64) -> u32 {
     if x <= 4294967295 {
@@ -82,10 +74,8 @@ fn blank_state() -> State {
 fn empty_host(geometry: Geometry, bytes: usize, cells: usize) -> Host {
     let state = blank_state();
     let shortage = no_shortage();
-    let shelf = geometry.drives;
     Host {
         geometry,
-        shelf,
         bytes,
         cells,
         held: false,

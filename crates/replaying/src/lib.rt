@@ -44,12 +44,11 @@ pub struct Shortage {
     pub buffer: usize,
 }
 
-// What the host keeps between commands: the geometry that it hands to the calls, its shelf's drives and the lengths of its tables, the state if there is one,
+// What the host keeps between commands: the geometry that it hands to the calls, the lengths of its shelf's tables, the state if there is one,
 // the zones and drives that it speaks of, the zones' owners as numbers, of which a script may set one that there is not, and the shortage of the next command.
 #[derive(Drop)]
 pub struct Host {
     pub geometry: Geometry,
-    pub shelf: usize,
     pub bytes: usize,
     pub cells: usize,
     pub held: bool,

@@ -23,9 +23,6 @@ fn call_with_state(
     if letter == b'k' {
         return super::calling::compact(sectors, written, durable, h, c);
     }
-    if letter == b'v' {
-        return super::calling::rebuild(sectors, written, durable, h, c);
-    }
     if letter == b'd' {
         return super::calling::read(sectors, written, durable, buffer, h, c);
     }
@@ -168,17 +165,6 @@ fn append_to_log(space: &mut [u8], written: &mut [u32], buffer: &mut [u8], h: Ho
     append_odd(&mut space[..a], &mut written[..w], &mut buffer[..b], h, c);
 }
 
-// An empty drive in the place of one: its pointers all 0, its bytes all zero.
-fn empty_drive(space: &mut [u8], written: &mut [u32], durable: &mut [u32], h: Host, c: Command) {
-    let drive = c.first as usize;
-    let a = super::hosting::lend(h.bytes, 0, space.len());
-    let w = super::hosting::lend(h.cells, 0, written.len());
-    let d = super::hosting::lend(h.cells, 0, durable.len());
-    super::damaging::clear_part(&mut space[..a], h.shelf, drive);
-    super::damaging::clear_pointers_of(&mut written[..w], h.shelf, drive);
-    super::damaging::clear_pointers_of(&mut durable[..d], h.shelf, drive);
-}
-
 // A change of the tables, by no call.
 fn change_tables(
     space: &mut [u8],
@@ -201,10 +187,6 @@ fn change_tables(
         super::damaging::put_pair(written, durable, c.first as usize, c.second, c.third);
         return;
     }
-    if letter == b'E' {
-        empty_drive(space, written, durable, h, c);
-        return;
-    }
     append_to_log(space, written, buffer, h, c);
 }
 
@@ -217,16 +199,13 @@ fn is_call(letter: u8) -> bool {
                     | ((letter == b'u')
                         | ((letter == b'r')
                             | ((letter == b'k')
-                                | ((letter == b'v')
-                                    | ((letter == b'd')
-                                        | ((letter == b'p') | (letter == b'o'))))))))))
+                                | ((letter == b'd') | ((letter == b'p') | (letter == b'o')))))))))
 }
 
 // Whether a letter is that of a change of the tables.
 fn is_change(letter: u8) -> bool {
     (letter == b'c')
-        | ((letter == b'b')
-            | ((letter == b't') | ((letter == b'E') | ((letter == b'e') | (letter == b'q')))))
+        | ((letter == b'b') | ((letter == b't') | ((letter == b'e') | (letter == b'q'))))
 }
 
 // Carries a command out.

@@ -2,12 +2,11 @@
 use super::{Command, Glimpse, Host};
 use volume::{Answer, State};
 
-// Whether a command's line shows the host's state whole: those of format, mount, write, flush, reset, compact and rebuild do.
+// Whether a command's line shows the host's state whole: those of format, mount, write, flush, reset and compact do.
 pub fn may_keep(letter: u8) -> bool {
     (letter == b'f')
         | ((letter == b'm')
-            | ((letter == b'w')
-                | ((letter == b'u') | ((letter == b'r') | ((letter == b'k') | (letter == b'v'))))))
+            | ((letter == b'w') | ((letter == b'u') | ((letter == b'r') | (letter == b'k')))))
 }
 
 // A read's checksum, if it was finished.

@@ -23,8 +23,8 @@ pub mod EmptyingDepends
 pub mod EmptyingFits
 pub mod EmptyingStored
 pub mod EmptyingUnread
-pub mod FillStores
 pub mod FilledArrays
+pub mod FillStores
 pub mod Firm
 pub mod GenerationRange
 pub mod GrowingClaims
@@ -54,12 +54,6 @@ pub mod NewLogClaims
 pub mod OpeningFlush
 pub mod PassedRows
 pub mod PlacedStores
-pub mod RebuildAbsent
-pub mod RebuildDepends
-pub mod RebuildPassed
-pub mod RebuildPlaced
-pub mod RebuildStoreCounts
-pub mod RebuildStoresFit
 pub mod Refusals
 pub mod RefusalsDepend
 pub mod Report

@@ -5,7 +5,6 @@ pub mod Content
 pub mod Emptying
 pub mod Hosts
 pub mod Mount
-pub mod Rebuild
 pub mod Refusals
 pub mod Report
 pub mod Roles

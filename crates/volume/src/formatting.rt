@@ -40,7 +40,7 @@ fn format_refusal(
 }
 
 // Every physical zone of a drive reset, if it is here.
-pub fn reset_drive(
+fn reset_drive(
     written: &mut [u32],
     durable: &mut [u32],
     g: Geometry,

@@ -49,7 +49,7 @@ pub fn shape_refusal(
 }
 
 // Whether a present drive lacks a kind of log.
-pub fn kind_lacks(places: LogPlaces, here: [bool; MAX_DRIVES]) -> bool
+fn kind_lacks(places: LogPlaces, here: [bool; MAX_DRIVES]) -> bool
     requires { Valid places.geometry }
     ensures { result ≡ kind_lacks_on places here }
 {

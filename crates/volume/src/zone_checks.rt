@@ -1,15 +1,15 @@
 // What a call checks of its zone: refusal 7, how far a log is used, which refusal 14 asks, and whether a read needs the logs. Only present
 // drives are looked at.
-ghost use Rattle.std.specs.Prelude.{◌≡◌, ◌&&◌, true, ◌+◌, ◌-◌, ◌≤◌, ◌<◌, length, get_or};
+ghost use Rattle.std.specs.Prelude.{◌≡◌, ◌&&◌, ◌+◌, ◌-◌, ◌≤◌, ◌<◌, length, get_or};
 ghost use Rattle.tables.specs.meaning.Geometry.{Valid, zone_sectors, physical_zones, cells, data_zone};
 ghost use Rattle.tables.specs.laws.StripeAt.{needed_of};
 ghost use Rattle.tables.specs.meaning.Tables.{cell};
 ghost use Rattle.volume.specs.meaning.State.{pointer_in};
-ghost use Rattle.volume.specs.meaning.Refusals.{stale_in, state_within};
-ghost use Rattle.volume.specs.meaning.CallContracts.{is_set, view_state};
-ghost use Rattle.volume.specs.checks.ZoneChecks.{stale_on, some_stale, needs_log};
+ghost use Rattle.volume.specs.meaning.Refusals.{stale_in};
+ghost use Rattle.volume.specs.meaning.CallContracts.{is_set};
+ghost use Rattle.volume.specs.checks.ZoneChecks.{stale_on, needs_log};
 
-use super::{Condition, State};
+use super::Condition;
 use tables::placement::StripeAt;
 use tables::{Geometry, MAX_DRIVES};
 
@@ -78,26 +78,6 @@ pub fn is_stale(
         let bad = drive_stale(written, g, here[d], condition, at, z, d);
         stale = stale | bad;
         d += 1;
-    }
-    stale
-}
-
-// Refusal 7 of every zone.
-pub fn some_stale(written: &[u32], g: Geometry, here: [bool; MAX_DRIVES], state: State) -> bool
-    requires valid { Valid g }
-    requires written_len { (length written.now ≡ cells g) × (state_within g (view_state state) ≡ true) }
-    ensures { result ≡ some_stale g (is_set here) state written.now g.zones }
-{
-    let zones = state.zones;
-    let n = g.zones;
-    let mut stale = false;
-    let mut z = 0;
-    while z < n {
-        let record = zones[z];
-        let condition = record.condition;
-        let one = is_stale(written, g, here, condition, z);
-        stale = stale | one;
-        z += 1;
     }
     stale
 }

@@ -1,7 +1,7 @@
-// The calls of the C edge that store by the state that they are handed: write, flush, reset, compact and rebuild. Finished, each hands on the state.
+// The calls of the C edge that store by the state that they are handed: write, flush, reset and compact. Finished, each hands on the state.
 ghost use Rattle.std.specs.Prelude.{◌≡◌, length};
 ghost use Rattle.zrv.specs.laws.ByRecord.{InputTaken, whole_write};
-ghost use Rattle.zrv.specs.meaning.EdgeCalls.{shape_of, ranges, answered, write_of, write_edge, flush_edge, reset_edge, compact_edge, rebuild_edge};
+ghost use Rattle.zrv.specs.meaning.EdgeCalls.{shape_of, ranges, answered, write_of, write_edge, flush_edge, reset_edge, compact_edge};
 
 use super::records::WriteCall;
 
@@ -189,44 +189,6 @@ pub extern "C" fn zrv_compact(
     let ds = &mut d[..n];
     super::words::tables_from(g, written, durable, ws, ds);
     let outcome = compacting::compact(sectors, ws, ds, g, here, old, drive as usize, count);
-    super::words::table_to(ws, written);
-    super::words::table_to(ds, durable);
-    super::input::hand_back(g, outcome, state)
-}
-
-// Rebuild of a slot: the drive in it gets all that the lost one held, and counts from then on.
-#[unsafe(no_mangle)]
-pub extern "C" fn zrv_rebuild(
-    drives: u32,
-    sector_bytes: u32,
-    unit: u32,
-    zones: u32,
-    zone_sectors: u32,
-    named: u32,
-    slot: u32,
-    count: u32,
-    sectors: &mut [u8],
-    written: &mut [u8],
-    durable: &mut [u8],
-    state: &mut [u8],
-) -> u64
-    ensures { answered result (ranges sectors.new written.new durable.new state.new)
-        ≡ rebuild_edge (shape_of drives sector_bytes unit zones zone_sectors) named slot count (ranges sectors.old written.old durable.old state.old) }
-{
-    let g = super::input::shape(drives, sector_bytes, unit, zones, zone_sectors);
-    let refusal = super::input::input_refusal(g, state, written.len(), durable.len());
-    if refusal != 0 {
-        return refusal;
-    }
-    let n = tables::bounds::table_cells(g);
-    let here = super::input::named_drives(named);
-    let old = super::state::state_from(g, state);
-    let mut w = [0u32; 152];
-    let mut d = [0u32; 152];
-    let ws = &mut w[..n];
-    let ds = &mut d[..n];
-    super::words::tables_from(g, written, durable, ws, ds);
-    let outcome = rebuilding::rebuild(sectors, ws, ds, g, here, old, slot as usize, count);
     super::words::table_to(ws, written);
     super::words::table_to(ds, durable);
     super::input::hand_back(g, outcome, state)

@@ -6,4 +6,3 @@ pub mod CallsOnBytes
 pub mod EmptyingBytes
 pub mod IsolationBytes
 pub mod ReadsOnBytes
-pub mod RebuildingBytes

@@ -24,8 +24,7 @@ use Rattle.volume.specs.laws.CallContracts.{storing_refused}
 use Rattle.volume.specs.checks.CheckLaws.{present_list, present_is, Opened, opened, opening_number, opening_is, tested}
 use Rattle.volume.specs.checks.ZoneChecks.{present_good}
 use Rattle.compacting.specs.CompactMade.{CompactReady}
-use Rattle.volume.specs.checks.ZoneChecks.{some_stale}
-use Rattle.compacting.specs.Compacting.{compact_seen_on, number_opening, number_7, number_8, seen_on}
+use Rattle.compacting.specs.Compacting.{some_stale, compact_seen_on, number_opening, number_7, number_8, seen_on}
 use Rattle.compacting.proofs.compact.Statement.{statement}
 use Rattle.compacting.proofs.compact.Tie as tie
 

@@ -105,10 +105,6 @@ module _ (g : Geometry) (ok : Valid g) (x a : ℕ) (v : Device) (lost : (x ≡ n
     unfolding after
     log_is = local_is d general_zone (concat phases) v ∙ ap (λ (os : List LocalStore). apply_all_here os (v d general_zone)) (local_whole d general_zone phases ∙ ap concat (four general_zone (reset_here ∷ []) (append_here (encode g d (label x a)) ∷ append_here (encode g d (counters ones)) ∷ []) (wiped general_zone (omega arith)) begun))
 
-    pub format_general_log : length (apply_all (format_stores g (present_but g x) x a) v d general_zone).sectors ≡ 2
-    unfolding format_stores after
-    format_general_log = ap (λ (t : ZoneView). length t.sectors) log_is
-
     place_is : (y : ℕ) → y < physical_zones g → y ≢ general_zone → after d y ≡ blank_zone
     unfolding after
     place_is y b n = local_is d y (concat phases) v ∙ ap (λ (os : List LocalStore). apply_all_here os (v d y)) (local_whole d y phases ∙ ap concat (four y (reset_here ∷ []) [] (wiped y b) (begun_other y n)))

@@ -8,7 +8,7 @@ use Rattle.tables.specs.meaning.Device.{apply_all, Store, Device}
 use Rattle.tables.specs.meaning.GeometryTest.{is_valid}
 use Rattle.tables.specs.laws.GeometryTest.{valid_if_test}
 use Rattle.tables.specs.meaning.Tables.{buffer_fits}
-use Rattle.volume.specs.meaning.Refusals.{first_refusal, Verdict, bad_pointers, two_lost, refuse, accept, TableLengths, WriteAsked, zone_asked, end_asked, offset_of, no_zone, no_host, state_within, tables_fit, write_full, reset_full, mount_full, compact_full, mount_rows, write_rows, reset_rows, compact_rows, rebuild_rows, others_of}
+use Rattle.volume.specs.meaning.Refusals.{first_refusal, Verdict, bad_pointers, two_lost, refuse, accept, TableLengths, WriteAsked, zone_asked, end_asked, offset_of, no_zone, no_host, state_within, tables_fit, write_full, reset_full, mount_full, compact_full, mount_rows, write_rows, reset_rows, compact_rows}
 use Rattle.volume.specs.meaning.Roles.{Roles, roles, by_roles, claim_of_kind, lacks_kind}
 use Rattle.volume.specs.meaning.Emptying.{InForce, by_state, by_look, new_parity_size, unused_in, lacks_room, stays_full, spare_written, reserve, mount_general_limit, reset_limit, entry_size, write_limit, emptied_for}
 use Rattle.volume.specs.meaning.Hosts.{share_left}
@@ -18,13 +18,13 @@ use Rattle.tables.specs.meaning.Below.{any_below, tabulate_from}
 use Rattle.tables.specs.laws.Drives.{find_below_cong}
 use Rattle.tables.specs.laws.Basics.{or_none, not_not, and_split}
 use Rattle.tables.specs.meaning.Basics.{pick}
-use Rattle.std.specs.Prelude.{◌≡◌, refl, ◌≢◌, ◌⊎◌, Bool, ◌&&◌, ◌||◌, List, [], ◌∷◌, get_or, take, drop, leb}
-use Rattle.std.proofs.Math.Path.{sym, ap, fun_ext}
-use Rattle.std.proofs.Common.{◌∙◌, inl, inr, true≢false, mul-le-mul_right, arith, length-drop, length-take-le}
-use Rattle.std.proofs.Math.Bool.{true, false, not}
+use Rattle.std.specs.Prelude.{◌≡◌, refl, ◌≢◌, ◌⊎◌, ◌&&◌, ◌||◌, List, [], ◌∷◌, get_or, take, drop, leb, eqb}
+use Rattle.std.proofs.Common.{sym, ◌∙◌, inl, inr, true≢false, mul-le-mul_right, arith, length-drop, length-take-le}
+use Rattle.std.proofs.Math.Path.{ap, fun_ext}
+use Rattle.std.proofs.Math.Bool.{Bool, true, false, not}
 use Prim.Native.Nat.{ℕ, zero, suc, ◌+◌, ◌-◌, ◌*◌, ◌≤◌, ◌<◌}
 use Rattle.std.proofs.Math.ListN.{length}
-use Rattle.std.proofs.Math.Dec.{ltb, eqb}
+use Rattle.std.proofs.Math.Dec.{ltb}
 use borrow.Author.Tests.{ltb-true, ltb-false, eqb-true, eqb-false, leb-false}
 use Rattle.tables.specs.declared.Geometry.{Geometry}
 use Rattle.tables.specs.meaning.Geometry.{zone_sectors}
@@ -34,7 +34,7 @@ use Rattle.volume.specs.declared.Condition.{Condition}
 use Rattle.volume.specs.declared.Condition.TheVariants.{Empty, Open, Sealed, Worn}
 use Rattle.volume.specs.meaning.State.{pointer_in, is_sealed, is_worn, StateView, call_present}
 use Rattle.promise.specs.invariant.Obligations.{Writable, WriteOk}
-use Rattle.promise.specs.invariant.RoomAsked.{Emptiable, RoomAsked, SparesBlank, general_sizes, ResetAccepted, RebuildAccepted, CompactAccepted, MountAccepted}
+use Rattle.promise.specs.invariant.RoomAsked.{Emptiable, RoomAsked, general_sizes, ResetAccepted, CompactAccepted, MountAccepted}
 
 module _ (g : Geometry) (named other : ℕ → Bool) (same : (d : ℕ) → d < g.drives → named d ≡ other d) where
   pub lost_same_lem : (v : Device) (d : ℕ) → d < g.drives → is_lost g named v d ≡ is_lost g other v d
@@ -118,19 +118,6 @@ not_written w d h = go (w d spare_zone).sectors (ltb-false 0 (length (w d spare_
 drive_passes : (p q : ℕ → Bool) (n : ℕ) → any_below (λ d. p d && q d) n ≡ false → (d : ℕ) → d < n → p d ≡ true → q d ≡ false
 drive_passes p q n h d hd e = rw e at (any_below_false (λ d. p d && q d) n d h hd)
 
--- the general logs that a reset and a rebuild ask for room
-general_asked : (g : Geometry) (here : ℕ → Bool) (r : ℕ → Roles) (w : Device) (f : InForce) → ((d : ℕ) → here d ≡ true → d < g.drives) → reset_full g here r f w ≡ false
-    → RoomAsked g false r w here (emptied_for g here false r w (reset_limit g)) (reset_limit g) (general_sizes g f w) × SparesBlank w (emptied_for g here false r w (reset_limit g))
-unfolding reset_full emptied_for
-general_asked g here r w f lt full =
-    let emptied : ℕ → Bool = emptied_for g here false r w (reset_limit g) in
-    let stays : ℕ → Bool = λ d. stays_full g false r (reset_limit g) (general_sizes g f w d) d in
-    let low : (d : ℕ) → emptied d ≡ true → d < g.drives = λ d m. lt d (and_split (here d) (lacks_room g false r w (reset_limit g) d) m).0 in
-    let fits : (d : ℕ) → d < g.drives → emptied d ≡ true → (stays d ≡ false) × (spare_written w d ≡ false) = λ d hd m. or_none (stays d) (spare_written w d) (drive_passes emptied (λ d. stays d || spare_written w d) g.drives full d hd m) in (
-      asked_by_lem g false r w (reset_limit g) (omega arith) here emptied (general_sizes g f w) (λ d. refl) lt (λ d hd m. (fits d hd m).0),
-      λ d m. not_written w d (fits d (low d m) m).1,
-    )
-
 -- ---- an accepted write
 writable_by : (c : Condition) → is_sealed c ≡ false → is_worn c ≡ false → Writable c
 writable_by Empty p q = tt
@@ -198,31 +185,20 @@ module _ (g : Geometry) (t : TableLengths) (named : ℕ → Bool) (state : State
 
   -- ---- an accepted reset
   pub reset_accepted : (z : ℕ) → first_refusal (reset_rows g t (bad_pointers g named v) named state z (roles g v) (by_roles g v)) ≡ accept → ResetAccepted g here (roles g v) (by_roles g v) force state z
-  unfolding reset_rows
+  unfolding reset_rows reset_full emptied_for
   reset_accepted z e =
       let row = accepted_row (reset_rows g t (bad_pointers g named v) named state z (roles g v) (by_roles g v)) e in
       let (w1, w2) = or_none (is_worn (state.condition z)) (leb worn_generation (state.generation z)) (row 12) in
-      let (logs, blank) = general_asked g here (roles g v) (by_roles g v) force (call_lt g named state) (row 14) in
+      let emptied : ℕ → Bool = emptied_for g here false (roles g v) (by_roles g v) (reset_limit g) in
+      let stays : ℕ → Bool = λ d. stays_full g false (roles g v) (reset_limit g) (general_sizes g force (by_roles g v) d) d in
+      let low : (d : ℕ) → emptied d ≡ true → d < g.drives = λ d m. call_lt g named state d (and_split (here d) (lacks_room g false (roles g v) (by_roles g v) (reset_limit g) d) m).0 in
+      let fits : (d : ℕ) → d < g.drives → emptied d ≡ true → (stays d ≡ false) × (spare_written (by_roles g v) d ≡ false) = λ d hd m. or_none (stays d) (spare_written (by_roles g v) d) (drive_passes emptied (λ d. stays d || spare_written (by_roles g v) d) g.drives (row 14) d hd m) in
       record {
         zone_ok = ltb-true z g.zones (not_not (ltb z g.zones) (row 8));
         not_worn = omega (arith, leb-false worn_generation (state.generation z) w2);
-        logs = logs;
-        blank = blank;
+        logs = asked_by_lem g false (roles g v) (by_roles g v) (reset_limit g) (omega arith) here emptied (general_sizes g force (by_roles g v)) (λ d. refl) (call_lt g named state) (λ d hd m. (fits d hd m).0);
+        blank = λ d m. not_written (by_roles g v) d (fits d (low d m) m).1;
       }
-
-  -- ---- an accepted rebuild
-  others_lt : (x d : ℕ) → others_of g named state x d ≡ true → d < g.drives
-  others_lt x d h = call_lt g named state d (and_split (call_present g named state d) (not (eqb d x)) h).0
-
-  -- (bad: what row 3 says)
-  pub rebuild_accepted : (bad : Bool) (x : ℕ) → first_refusal (rebuild_rows g t bad named state x (roles g v) (by_roles g v)) ≡ accept
-      → RebuildAccepted g (others_of g named state x) (roles g v) (by_roles g v) (by_state g (others_of g named state x) (by_roles g v) state) state x
-  unfolding rebuild_rows
-  rebuild_accepted bad x e =
-      let row = accepted_row (rebuild_rows g t bad named state x (roles g v) (by_roles g v)) e in
-      let (low, is) = and_split (ltb x g.drives) (eqb x state.lost) (not_not (ltb x g.drives && eqb x state.lost) (row 20)) in
-      let (logs, blank) = general_asked g (others_of g named state x) (roles g v) (by_roles g v) (by_state g (others_of g named state x) (by_roles g v) state) (others_lt x) (row 14) in
-      record { slot_lt = ltb-true x g.drives low; lost_is = sym (eqb-true x state.lost is); logs = logs; blank = blank }
 
 -- ---- an accepted mount
 pub mount_accepted : (g : Geometry) (t : TableLengths) (named : ℕ → Bool) (v : Device) → first_refusal (mount_rows g t (bad_pointers g named v) named (roles g v) (by_roles g v)) ≡ accept

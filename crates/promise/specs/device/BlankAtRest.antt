@@ -12,12 +12,12 @@ use Rattle.tables.specs.meaning.Geometry.{Valid}
 use Rattle.logs.specs.meaning.Entry.{spare_zone}
 use Rattle.volume.specs.declared.Answer.TheVariants.{Finished, Unfinished}
 use Rattle.volume.specs.meaning.State.{StateView}
-use Rattle.volume.specs.meaning.Roles.{roles, by_roles}
+use Rattle.volume.specs.meaning.Roles.{by_roles}
 use Rattle.volume.specs.meaning.Calls.{format_stores}
-use Rattle.volume.specs.meaning.Refusals.{Verdict, refuse, accept, TableLengths, zone_asked, first_refusal, rebuild_rows, slot_named, bad_pointers}
-use Rattle.volume.specs.meaning.Answers.{CallResult, storing, sectors_in, rebuild_stores_of}
+use Rattle.volume.specs.meaning.Refusals.{Verdict, refuse, accept, TableLengths, zone_asked, first_refusal}
+use Rattle.volume.specs.meaning.Answers.{CallResult, storing, sectors_in}
 use Rattle.volume.specs.laws.SpareZone.{format_clears}
-use Rattle.promise.specs.meaning.Claim.{Call, mounts, writes, flushes, resets, formats, compacts, rebuilds, ready, mode_after, System, Event, calls, looks, reads, peeks, reports, cuts, loses, next, NamesAll, Duty, lost_after}
+use Rattle.promise.specs.meaning.Claim.{Call, mounts, writes, flushes, resets, formats, compacts, ready, mode_after, System, Event, calls, looks, reads, peeks, reports, cuts, loses, next, NamesAll, Duty}
 use Rattle.promise.specs.meaning.OnDevice.{call_of, on_device}
 use Rattle.promise.specs.invariant.CrashKeeps.{present_before}
 use Rattle.promise.specs.roles.FormatRoles.{format_seen}
@@ -27,11 +27,9 @@ use Rattle.promise.specs.emptying.MountWhole.{mount_blank}
 use Rattle.promise.specs.device.Marks.{with_marks}
 use Rattle.promise.specs.device.AcceptedCalls.{reset_accepted}
 use Rattle.promise.specs.device.AtRestAnswers.{format_lost, format_drives}
-use Rattle.promise.specs.device.ClaimEvents.{Ok, rests_of, invs_of, drives_of_call, drives_of_look, lost_of_look, mount_allowed, write_fits, compact_fits, rebuild_fits, rebuild_leaves}
+use Rattle.promise.specs.device.ClaimEvents.{Ok, rests_of, invs_of, drives_of_call, drives_of_look, lost_of_look, mount_allowed, write_fits, compact_fits}
 use Rattle.promise.specs.device.PlainCalls.{write_blank}
 use Rattle.promise.specs.device.CompactCall.{compact_leaves_blank}
-use Rattle.promise.specs.device.RebuildCall.{rebuild_blank}
-use Rattle.promise.specs.device.LostAfter.{lost_refused}
 use Rattle.promise.specs.device.ResetCall.{reset_blank}
 
 -- ---- a format, and the loss of a drive
@@ -47,33 +45,23 @@ BlankAtRest g t s = s.mode ≡ ready → BlankSpares g s.lost s.memory
 
 module _ (g : Geometry) (ok : Valid g) (t : TableLengths) (s : System (on_device g t)) (o : Ok g t s) (b : BlankAtRest g t s) where
   -- a call that stores, by its answer
-  by_answer : (k : Call) (r : Verdict) (xs : List Store) (new : StateView) (stop : ℕ) → (r ≡ accept → BlankSpares g (lost_after k Finished s.lost) (apply_all xs s.memory))
-      → let q = storing r xs new s.state stop s.memory in mode_after q.answer s.mode ≡ ready → BlankSpares g (lost_after k q.answer s.lost) q.memory
-  by_answer k (refuse n) xs new stop h m = rw (lost_refused k n s.lost) (b m)
-  by_answer k accept xs new stop h m = go (ltb stop (length xs)) m
+  by_answer : (r : Verdict) (xs : List Store) (new : StateView) (stop : ℕ) → (r ≡ accept → BlankSpares g s.lost (apply_all xs s.memory))
+      → let q = storing r xs new s.state stop s.memory in mode_after q.answer s.mode ≡ ready → BlankSpares g s.lost q.memory
+  by_answer (refuse n) xs new stop h m = b m
+  by_answer accept xs new stop h m = go (ltb stop (length xs)) m
     where
       go : (c : Bool) → let q : CallResult Device StateView = pick c (record { answer = Unfinished; memory = apply_all (take stop xs) s.memory; state = s.state }) (record { answer = Finished; memory = apply_all xs s.memory; state = new }) in
-          mode_after q.answer s.mode ≡ ready → BlankSpares g (lost_after k q.answer s.lost) q.memory
+          mode_after q.answer s.mode ≡ ready → BlankSpares g s.lost q.memory
       go true m = absurd (let z : ◌≡◌ {A = ℕ} 0 1 = cc in omega arith)
       go false m = h refl
 
   module _ (named : ℕ → Bool) (names : NamesAll g (on_device g t) s named) where
     -- finished
     Leaves : Call → Type 0
-    Leaves c = let k = call_of g t c named s.state s.memory in first_refusal k.refusals ≡ accept → BlankSpares g (lost_after c Finished s.lost) (apply_all k.stores s.memory)
-
-    -- a rebuild (bad: what row 3 says)
-    rebuild_leaves_lem : s.mode ≡ ready → (bad : Bool) (y : ℕ) → first_refusal (rebuild_rows g t bad named s.state y (roles g s.memory) (by_roles g s.memory)) ≡ accept → BlankSpares g no_drive (apply_all (rebuild_stores_of g named s.state y s.memory) s.memory)
-    unfolding rebuild_stores_of
-    rebuild_leaves_lem m bad y p =
-        let (e, i, ra) = rebuild_fits g ok t s o named names m bad y p in
-        rw (e, ← i) (rebuild_blank g ok s.lost s.memory s.state s.ledger ra (rests_of g t s o m) (b m))
-
-    pub rebuild_blank_kept : s.mode ≡ ready → (bad : Bool) (y stop : ℕ) → let q = rebuild_leaves g ok t s o named names bad y stop in mode_after q.answer s.mode ≡ ready → BlankSpares g (lost_after (rebuilds y) q.answer s.lost) q.memory
-    rebuild_blank_kept m bad y stop = by_answer (rebuilds y) (first_refusal (rebuild_rows g t bad named s.state y (roles g s.memory) (by_roles g s.memory))) _ _ stop (rebuild_leaves_lem m bad y)
+    Leaves c = let k = call_of g t c named s.state s.memory in first_refusal k.refusals ≡ accept → BlankSpares g s.lost (apply_all k.stores s.memory)
 
     call_leaves : (c : Call) (stop : ℕ) → Duty g (on_device g t) s (calls c named stop) → Leaves c
-    unfolding Leaves rebuild_stores_of
+    unfolding Leaves
     call_leaves mounts stop (n, m, q) p =
         let (k, c, above, ri) = invs_of g t s o m in
         rw (drives_of_look g ok t s o named names, lost_of_look g ok t s o named names) (mount_blank g ok s.lost s.memory (with_marks s.ledger c) k ri (mount_allowed g ok t s o named names p))
@@ -89,11 +77,10 @@ module _ (g : Geometry) (ok : Valid g) (t : TableLengths) (s : System (on_device
         rw (format_drives g s.lost named names.drives, format_lost g ok s.lost (by_roles g s.memory) γ r.logs named names.drives) (format_blank g ok s.lost array s.memory r.logs.lost_ok h)
     call_leaves (compacts d) stop (n, m, q) p =
         rw (drives_of_call g ok t s o named names m) (compact_leaves_blank g ok s.lost s.memory s.state s.ledger d (compact_fits g ok t s o named names m d p) (rests_of g t s o m) (b m))
-    call_leaves (rebuilds y) stop (n, m, q) p = rebuild_leaves_lem m (bad_pointers g (slot_named named y) s.memory) y p
 
     call_blank : (c : Call) (stop : ℕ) → Duty g (on_device g t) s (calls c named stop) → BlankAtRest g t (next g (on_device g t) s (calls c named stop))
     unfolding Leaves
-    call_blank c stop d = let k = call_of g t c named s.state s.memory in by_answer c (first_refusal k.refusals) k.stores k.state stop (call_leaves c stop d)
+    call_blank c stop d = let k = call_of g t c named s.state s.memory in by_answer (first_refusal k.refusals) k.stores k.state stop (call_leaves c stop d)
 
   -- EVERY EVENT KEEPS IT
   pub event_blank : (e : Event (on_device g t)) → Duty g (on_device g t) s e → BlankAtRest g t (next g (on_device g t) s e)

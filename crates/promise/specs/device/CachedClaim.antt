@@ -7,12 +7,11 @@ use Rattle.promise.specs.meaning.ResetLasts.{ResetsLast}
 use Rattle.promise.specs.shown.ResetLasts.{resets_last}
 use Rattle.promise.specs.device.CachedEvents.{CachesOwed, caching_device_keeps}
 use Rattle.promise.specs.device.CachedReset.{reset_owes_cached}
-use Rattle.promise.specs.device.RebuildCall.{rebuild_owes_cached}
 use Rattle.promise.specs.device.CachedCompact.{compact_owes_cached}
 use Rattle.promise.specs.device.CachedOwn.{write_owes_cached}
 
 pub caches_owed : (g : Geometry) → Valid g → CachesOwed g
-caches_owed g ok = record { write = write_owes_cached g ok; reset = reset_owes_cached g ok; compact = compact_owes_cached g ok; rebuild = rebuild_owes_cached g ok }
+caches_owed g ok = record { write = write_owes_cached g ok; reset = reset_owes_cached g ok; compact = compact_owes_cached g ok }
 
 pub caching_device_keeps_the_promise : CachingDeviceClaim
 caching_device_keeps_the_promise = caching_device_keeps caches_owed

@@ -7,7 +7,7 @@ use Rattle.tables.specs.laws.Basics.{not_not}
 use Rattle.tables.specs.meaning.Device.{Device, Store, apply_all}
 use Rattle.tables.specs.meaning.Cached.{Caching, apply_all_caching}
 use Rattle.tables.specs.laws.Cached.{now_is}
-use Rattle.tables.specs.meaning.Drives.{no_drive, present_but}
+use Rattle.tables.specs.meaning.Drives.{present_but}
 use Rattle.tables.specs.laws.Drives.{present_not}
 use Rattle.tables.specs.declared.Geometry.{Geometry}
 use Rattle.tables.specs.meaning.Geometry.{Valid}
@@ -18,14 +18,13 @@ use Rattle.volume.specs.meaning.Roles.{roles, by_roles}
 use Rattle.volume.specs.meaning.Emptying.{by_state}
 use Rattle.volume.specs.meaning.Calls.{write_state, format_stores, format_state}
 use Rattle.volume.specs.meaning.Hosts.{shares_in, fresh_shares, written_state, compact_state}
-use Rattle.volume.specs.meaning.Rebuild.{rebuilt_state}
 use Rattle.volume.specs.meaning.Mount.{mount_stores, mount_shows, mount_state}
-use Rattle.volume.specs.meaning.Refusals.{Verdict, refuse, accept, TableLengths, WriteAsked, zone_asked, tables_fit, format_rows, reset_rows, rebuild_rows, slot_named, first_refusal, bad_pointers}
-use Rattle.volume.specs.meaning.Answers.{CallResult, storing, lost_in, left_out, named_drives, sectors_in, rebuild_stores_of, rebuilt_shares}
+use Rattle.volume.specs.meaning.Refusals.{Verdict, refuse, accept, TableLengths, WriteAsked, zone_asked, tables_fit, format_rows, reset_rows, first_refusal, bad_pointers}
+use Rattle.volume.specs.meaning.Answers.{CallResult, storing, lost_in, left_out, named_drives, sectors_in}
 use Rattle.volume.specs.declared.Answer.TheVariants.{Finished, Unfinished, Refused}
 use Rattle.volume.specs.laws.Refusals.{accepted_row}
 use Rattle.promise.specs.meaning.Ledger.{Ledger, fresh_ledger, after_write, after_mount}
-use Rattle.promise.specs.meaning.Claim.{Call, mounts, writes, flushes, resets, formats, compacts, rebuilds, Mode, ready, stopped, down, System, Event, calls, looks, reads, peeks, reports, cuts, loses, settled, lost_after, ledger_after, next, MayMount, NotStopped, NamesAll, Duty, Promise, start}
+use Rattle.promise.specs.meaning.Claim.{Call, mounts, writes, flushes, resets, formats, compacts, Mode, ready, stopped, down, System, Event, calls, looks, reads, peeks, reports, cuts, loses, settled, ledger_after, next, MayMount, NotStopped, NamesAll, Duty, Promise, start}
 use Rattle.promise.specs.meaning.OnDevice.{call_of, on_device}
 use Rattle.promise.specs.meaning.Caches.{WithCaches, made_by, remembered_after, device_caches, on_caching_device, CachingDeviceClaim, beneath}
 use Rattle.promise.specs.invariant.Throughout.{throughout}
@@ -34,20 +33,18 @@ use Rattle.promise.specs.invariant.Delayed.{PutBack}
 use Rattle.promise.specs.device.AcceptedCalls.{storing_finished, sectors_length, reset_accepted}
 use Rattle.promise.specs.device.AtRestAnswers.{format_lost, format_drives, left_out_lem, drives_named}
 use Rattle.promise.specs.device.Modes.{SomeInvs, OkIn, rests_invs}
-use Rattle.promise.specs.device.ClaimEvents.{Ok, drives_of_call, drives_of_look, lost_of_look, lost_of_call, mount_allowed, write_fits, compact_fits, rebuild_fits}
-use Rattle.promise.specs.device.LostAfter.{lost_refused, lost_stopped}
+use Rattle.promise.specs.device.ClaimEvents.{Ok, drives_of_call, drives_of_look, lost_of_look, lost_of_call, mount_allowed, write_fits, compact_fits}
 use Rattle.promise.specs.device.SharesKept.{SharesKept, Shared, format_shares, event_shares}
 use Rattle.promise.specs.device.ClaimProof.{kept}
 use Rattle.promise.specs.device.CachedModes.{now_back, forgotten_is, RestsCached, HaltedCached, OkCached, read_cached, halted_in, cached_cut, lose_cached}
 use Rattle.promise.specs.device.CachedPromise.{names_beneath, cached_promise, beneath_keeps}
-use Rattle.promise.specs.device.CachedOwed.{WriteOwesCached, ResetOwesCached, CompactOwesCached, RebuildOwesCached, mount_owes_cached, flush_owes_cached, format_rests_cached}
+use Rattle.promise.specs.device.CachedOwed.{WriteOwesCached, ResetOwesCached, CompactOwesCached, mount_owes_cached, flush_owes_cached, format_rests_cached}
 
 -- what a write and the calls that may empty logs outside a mount owe
 pub record CachesOwed (g : Geometry) : Type 0 where
   pub write : WriteOwesCached g
   pub reset : ResetOwesCached g
   pub compact : CompactOwesCached g
-  pub rebuild : RebuildOwesCached g
 
 -- the device with its caches, and after stores
 abbrev pub caching_of : WithCaches Device → Caching
@@ -116,18 +113,18 @@ module _ (g : Geometry) (ok : Valid g) (t : TableLengths) (owed : CachesOwed g) 
   abbrev finished_left : List Store → StateView → ℕ → CallResult (WithCaches Device) StateView
   finished_left xs new stop = record { answer = Finished; memory = record { memory = apply_all xs v; was = remembered_after (take stop xs) v s.memory.was }; state = new }
 
-  by_answer : (i : Call) (q : Verdict) (xs : List Store) (new : StateView) (stop : ℕ) (l : CallResult (WithCaches Device) StateView → Ledger)
+  by_answer : (q : Verdict) (xs : List Store) (new : StateView) (stop : ℕ) (l : CallResult (WithCaches Device) StateView → Ledger)
       → ((n : ℕ) → l (record { answer = Refused n; memory = record { memory = s.memory.memory; was = s.memory.was }; state = s.state }) ≡ s.ledger)
       → (q ≡ accept → HaltedCached g s.lost (apply_all_caching (take stop xs) c) (l (stopped_left xs stop)))
-      → (q ≡ accept → RestsCached g (lost_after i Finished s.lost) (apply_all_caching xs c) new (l (finished_left xs new stop)))
-      → OkOn g t (settled g (on_caching_device g t) s i (left q xs new stop) (l (left q xs new stop)))
-  by_answer i (refuse n) xs new stop l a b d = rw (lost_refused i n s.lost, a n) o
-  by_answer i accept xs new stop l a b d = go (ltb stop (length xs)) refl
+      → (q ≡ accept → RestsCached g s.lost (apply_all_caching xs c) new (l (finished_left xs new stop)))
+      → OkOn g t (settled g (on_caching_device g t) s (left q xs new stop) (l (left q xs new stop)))
+  by_answer (refuse n) xs new stop l a b d = rw (a n) o
+  by_answer accept xs new stop l a b d = go (ltb stop (length xs)) refl
     where
       go : (q : Bool) → ltb stop (length xs) ≡ q → let r : CallResult Device StateView = pick q (record { answer = Unfinished; memory = apply_all (take stop xs) v; state = s.state }) (record { answer = Finished; memory = apply_all xs v; state = new }) in
-          let k : CallResult (WithCaches Device) StateView = record { answer = r.answer; memory = record { memory = r.memory; was = remembered_after (take stop xs) v s.memory.was }; state = r.state } in OkOn g t (settled g (on_caching_device g t) s i k (l k))
-      go true e = rw (lost_stopped i s.lost) (subst (λ (k : Caching). HaltedCached g s.lost k (l (stopped_left xs stop))) (sym (after_is (take stop xs) c)) (b refl))
-      go false e = subst (λ (k : Caching). RestsCached g (lost_after i Finished s.lost) k new (l (finished_left xs new stop))) (finished_is xs stop c e) (d refl)
+          let k : CallResult (WithCaches Device) StateView = record { answer = r.answer; memory = record { memory = r.memory; was = remembered_after (take stop xs) v s.memory.was }; state = r.state } in OkOn g t (settled g (on_caching_device g t) s k (l k))
+      go true e = subst (λ (k : Caching). HaltedCached g s.lost k (l (stopped_left xs stop))) (sym (after_is (take stop xs) c)) (b refl)
+      go false e = subst (λ (k : Caching). RestsCached g s.lost k new (l (finished_left xs new stop))) (finished_is xs stop c e) (d refl)
 
   -- ---- a call by a host that names every drive not lost
   module _ (named : ℕ → Bool) (names : NamesAll g (on_caching_device g t) s named) where
@@ -140,8 +137,8 @@ module _ (g : Geometry) (ok : Valid g) (t : TableLengths) (owed : CachesOwed g) 
     by_call : (k : Call) (stop : ℕ) → let f = call_of g t k named s.state v in let l = ledger_after g (on_caching_device g t) s k named in
         ((n : ℕ) → l (record { answer = Refused n; memory = record { memory = s.memory.memory; was = s.memory.was }; state = s.state }) ≡ s.ledger)
         → (first_refusal f.refusals ≡ accept → HaltedCached g s.lost (apply_all_caching (take stop f.stores) c) (l (stopped_left f.stores stop)))
-        → (first_refusal f.refusals ≡ accept → RestsCached g (lost_after k Finished s.lost) (apply_all_caching f.stores c) f.state (l (finished_left f.stores f.state stop))) → Owed k stop
-    by_call k stop = let f = call_of g t k named s.state v in by_answer k (first_refusal f.refusals) f.stores f.state stop (ledger_after g (on_caching_device g t) s k named)
+        → (first_refusal f.refusals ≡ accept → RestsCached g s.lost (apply_all_caching f.stores c) f.state (l (finished_left f.stores f.state stop))) → Owed k stop
+    by_call k stop = let f = call_of g t k named s.state v in by_answer (first_refusal f.refusals) f.stores f.state stop (ledger_after g (on_caching_device g t) s k named)
 
     e : s.mode ≡ ready → call_present g named s.state ≡ present_but g s.lost
     e m = drives_of_call g ok t (beneath (on_device g t) (device_caches g t) s) ok_under named names_under m
@@ -165,16 +162,6 @@ module _ (g : Geometry) (ok : Valid g) (t : TableLengths) (owed : CachesOwed g) 
         by_call (compacts d) stop (λ n. refl)
         (λ p. rw (e m) ((owed.compact x c s.state s.ledger d (at_rest_lem m) (fits p)).0 stop))
         (λ p. rw (e m, lost_is m) (read_cached g x _ s.state (compact_state g (present_but g x) x (by_roles g v) s.state d) s.ledger (λ h. inr refl) (record { generations = λ y h. refl; conditions = λ y h. refl }) (owed.compact x c s.state s.ledger d (at_rest_lem m) (fits p)).1))
-
-    -- (bad: what row 3 says, which the tables answer by their numbers)
-    pub rebuild_kept_cached : s.mode ≡ ready → (bad : Bool) (y stop : ℕ) → let xs = rebuild_stores_of g named s.state y v in
-        OkOn g t (settled g (on_caching_device g t) s (rebuilds y) (left (first_refusal (rebuild_rows g t bad named s.state y (roles g v) (by_roles g v))) xs (rebuilt_shares g (apply_all xs v) s.state) stop) s.ledger)
-    unfolding rebuild_stores_of
-    rebuild_kept_cached m bad y stop =
-        let fits = rebuild_fits g ok t under ok_under named names_under m bad y in
-        by_answer (rebuilds y) (first_refusal (rebuild_rows g t bad named s.state y (roles g v) (by_roles g v))) _ _ stop (λ r. s.ledger) (λ n. refl)
-        (λ p. let (e, q, ra) = fits p in rw (e, ← q) ((owed.rebuild x c s.state s.ledger (at_rest_lem m) ra).0 stop))
-        (λ p. let (e, q, ra) = fits p in rw (e, ← q) (shared_cached g no_drive _ _ (rebuilt_state s.state) s.ledger (owed.rebuild x c s.state s.ledger (at_rest_lem m) ra).1))
 
     flush_event : s.mode ≡ ready → (stop : ℕ) → Owed flushes stop
     flush_event m stop =
@@ -200,7 +187,7 @@ module _ (g : Geometry) (ok : Valid g) (t : TableLengths) (owed : CachesOwed g) 
         rw (d, w) (shared_cached g x _ (shares_in g (present_but g x) (apply_all (mount_stores g (present_but g x) x v) v)) (mount_state k) (after_mount k) (mount_owes_cached g ok s.lost c s.ledger (all_invs m) (mount_allowed g ok t under ok_under named names_under p)).1))
 
     abbrev FormatLeaves : ℕ → CallResult (WithCaches Device) StateView → Type 0
-    FormatLeaves array r = NotStopped r.answer → OkOn g t (settled g (on_caching_device g t) s (formats array) r (ledger_after g (on_caching_device g t) s (formats array) named r))
+    FormatLeaves array r = NotStopped r.answer → OkOn g t (settled g (on_caching_device g t) s r (ledger_after g (on_caching_device g t) s (formats array) named r))
 
     format_event : s.mode ≡ ready → (array stop : ℕ) → array < 256 ^ 8 → NotStopped ((on_caching_device g t).call (formats array) named s.state stop s.memory).answer → Owed (formats array) stop
     format_event m array stop h n = go (first_refusal (format_rows g t (bad_pointers g named v) named v)) n
@@ -232,7 +219,6 @@ module _ (g : Geometry) (ok : Valid g) (t : TableLengths) (owed : CachesOwed g) 
     call_keeps (resets z) stop (b, m, q) = reset_event m z stop
     call_keeps (formats array) stop (b, m, (h, n)) = format_event m array stop h n
     call_keeps (compacts d) stop (b, m, q) = compact_event m d stop
-    call_keeps (rebuilds y) stop (b, m, q) = rebuild_kept_cached m (bad_pointers g (slot_named named y) v) y stop
 
   -- EVERY EVENT KEEPS IT
   pub event_keeps_cached : (a : Event (on_caching_device g t)) → Duty g (on_caching_device g t) s a → OkOn g t (next g (on_caching_device g t) s a)

@@ -1,5 +1,5 @@
 -- What the calls owe on drives that cache resets: stopped after any n stores, that the invariant holds of whatever a cut may keep, whatever is put back;
--- finished, that all is at rest, whatever is put back. Here a flush, a mount and a format; write, reset, compact and rebuild: CachedOwn, CachedReset, CachedCompact, RebuildCall.
+-- finished, that all is at rest, whatever is put back. Here a flush, a mount and a format; write, reset and compact: CachedOwn, CachedReset, CachedCompact.
 use Rattle.std.specs.Prelude.{◌≡◌, refl, ◌⊎◌, ℕ, zero, ◌+◌, ◌-◌, ◌<◌, ◌^◌, length, take}
 use Rattle.std.proofs.Common.{sym, ap, ◌∙◌, inl, inr, arith}
 use Rattle.std.proofs.Math.Path.{subst}
@@ -22,12 +22,11 @@ use Rattle.volume.specs.meaning.Rules.{showing}
 use Rattle.volume.specs.meaning.Calls.{append_general, generations_from, write_state, flush_stores, flush_state, reset_state, format_stores, format_state}
 use Rattle.volume.specs.meaning.Roles.{roles, by_roles}
 use Rattle.volume.specs.meaning.Emptying.{by_state, by_look, write_all, reset_all, compact_stores}
-use Rattle.volume.specs.meaning.Rebuild.{rebuild_all, rebuilt_state}
 use Rattle.volume.specs.meaning.Mount.{phases_of_logs, phases_before_entries, mount_stores, mount_shows, mount_state}
 use Rattle.promise.specs.meaning.Ledger.{Ledger, fresh_ledger, after_write, after_flush, after_reset, after_stopped_reset, after_mount}
 use Rattle.promise.specs.invariant.Invariant.{Here}
 use Rattle.promise.specs.invariant.Obligations.{never_emptied, WriteOk}
-use Rattle.promise.specs.invariant.RoomAsked.{ResetAccepted, CompactAccepted, MountAccepted, RebuildAccepted}
+use Rattle.promise.specs.invariant.RoomAsked.{ResetAccepted, CompactAccepted, MountAccepted}
 use Rattle.promise.specs.invariant.Delayed.{PutBack, Delayed, Forgets}
 use Rattle.promise.specs.roles.RoledCalls.{roled_format}
 use Rattle.promise.specs.roles.SamePlaces.{in_order}
@@ -62,12 +61,6 @@ MountOwesCached g = (x : ℕ) (c : Caching) (l : Ledger) → ((u : Device) → P
     → MountAccepted g (present_but g x) (roles g c.now) (by_roles g c.now) (by_look (showing g (present_but g x) x (by_roles g c.now)))
     → let xs = mount_stores g (present_but g x) x c.now in let k = mount_shows g (present_but g x) x c.now in
     ((n : ℕ) → HaltedCached g x (apply_all_caching (take n xs) c) l) × RestsCached g x (apply_all_caching xs c) (mount_state k) (after_mount k)
-
-abbrev pub RebuildOwesCached : Geometry → Type 0
-RebuildOwesCached g = (x : ℕ) (c : Caching) (state : StateView) (l : Ledger) → RestsCached g x c state l
-    → RebuildAccepted g (present_but g x) (roles g c.now) (by_roles g c.now) (by_state g (present_but g x) (by_roles g c.now) state) state x
-    → let xs = rebuild_all g (present_but g x) (roles g c.now) (by_roles g c.now) state x in
-    ((n : ℕ) → HaltedCached g x (apply_all_caching (take n xs) c) l) × RestsCached g no_drive (apply_all_caching xs c) (rebuilt_state state) l
 
 -- ---- a part of two lists of stores: of the first, or all of it and a part of the second
 pub in_either : (g : Geometry) (x : ℕ) (c : Caching) (xs ys : List Store) (n : ℕ) (t : Device) (Q : Type 0) → (n < length xs → PutBack g x (apply_all_caching (take n xs) c) t → Q)

@@ -15,7 +15,7 @@ use Rattle.tables.specs.meaning.Device.{Device, Store, append, reset, flush, app
 use Rattle.tables.specs.laws.Local.{append_here, flush_here, local_stores, local_take, NoReset}
 use Rattle.tables.specs.meaning.Cached.{Caching, apply_all_caching}
 use Rattle.tables.specs.laws.Cached.{now_is, was_is, remember_here}
-use Rattle.tables.specs.meaning.Phases.{flush_all, on_present}
+use Rattle.tables.specs.meaning.Phases.{on_present}
 use Rattle.tables.specs.meaning.Placement.{stripe_length, stripe_of, parity_drive}
 use Rattle.tables.specs.meaning.Through.{carry}
 use Rattle.tables.specs.meaning.Drives.{present_but}
@@ -135,35 +135,27 @@ module _ (g : Geometry) (ok : Valid g) (x : ℕ) (c : Caching) (state : StateVie
           less_rests g x (apply_all (map (carry (places g c.now)) xs) c.now) (reset_state x state z) (after_reset l z) (set_at m z zero) (λ y. less m above y (eqb y z)) (own_rests e g x (apply_all (map (carry (places g c.now)) xs) c.now) (reset_state x state z) (after_reset (with_marks l m) z) k)
 
 -- ---- A WRITE resets nothing
-abbrev pub Appends : List Store → Type 0
+abbrev Appends : List Store → Type 0
 Appends [] = Unit {0}
 Appends (append d z s ∷ xs) = Appends xs
 Appends (reset d z ∷ xs) = ⊥
 Appends (flush d ∷ xs) = Appends xs
 
-pub appends_join : (xs ys : List Store) → Appends xs → Appends ys → Appends (xs ++ ys)
+appends_join : (xs ys : List Store) → Appends xs → Appends ys → Appends (xs ++ ys)
 appends_join [] ys a b = b
 appends_join (append d z s ∷ xs) ys a b = appends_join xs ys a b
 appends_join (reset d z ∷ xs) ys a b = a
 appends_join (flush d ∷ xs) ys a b = appends_join xs ys a b
 
-pub appends_all : (d z : ℕ) (ss : List (List ℕ)) → Appends (append_all d z ss)
+appends_all : (d z : ℕ) (ss : List (List ℕ)) → Appends (append_all d z ss)
 appends_all d z [] = tt
 appends_all d z (s ∷ ss) = appends_all d z ss
 
-pub appends_each : (f : ℕ → List Store) (n : ℕ) → ((k : ℕ) → Appends (f k)) → Appends (each_below f n)
-appends_each f zero h = tt
-appends_each f (suc n) h = appends_join (each_below f n) (f n) (appends_each f n h) (h n)
-
-pub appends_flushes : (n : ℕ) → Appends (flush_all n)
-appends_flushes zero = tt
-appends_flushes (suc n) = appends_join (flush_all n) (flush n ∷ []) (appends_flushes n) tt
-
-pub appends_pick : (b : Bool) (xs : List Store) → Appends xs → Appends (pick b xs [])
+appends_pick : (b : Bool) (xs : List Store) → Appends xs → Appends (pick b xs [])
 appends_pick true xs a = a
 appends_pick false xs a = tt
 
-pub appends_present : (p : ℕ → Bool) (xs : List Store) → Appends xs → Appends (on_present p xs)
+appends_present : (p : ℕ → Bool) (xs : List Store) → Appends xs → Appends (on_present p xs)
 appends_present p [] a = tt
 appends_present p (append d z s ∷ xs) a = go (p d) (appends_present p xs a)
   where
@@ -200,7 +192,7 @@ appends_carried ρ (append d z s ∷ xs) a = appends_carried ρ xs a
 appends_carried ρ (reset d z ∷ xs) a = absurd a
 appends_carried ρ (flush d ∷ xs) a = appends_carried ρ xs a
 
-pub appends_local : (d y : ℕ) (xs : List Store) → Appends xs → NoReset (local_stores d y xs)
+appends_local : (d y : ℕ) (xs : List Store) → Appends xs → NoReset (local_stores d y xs)
 appends_local d y [] a = tt
 appends_local d y (append e z s ∷ xs) a = go (eqb d e && eqb y z) (appends_local d y xs a)
   where

@@ -26,7 +26,6 @@ module _ (g : Geometry) (vol : Volume) (k : Caches vol) (s : System (with_caches
     write_refused = λ named n. p.write_refused named (names_beneath named n);
     share_asked = λ named n. p.share_asked named (names_beneath named n);
     compact_refused = λ named n. p.compact_refused named (names_beneath named n);
-    rebuild_refused = λ named n. p.rebuild_refused named (names_beneath named n);
     shares_fit = p.shares_fit;
     read_gives = λ named n. p.read_gives named (names_beneath named n);
     read_accepted = λ named n. p.read_accepted named (names_beneath named n);

@@ -3,17 +3,16 @@
 use Rattle.std.specs.Prelude.{ℕ, List, take, length}
 use Rattle.tables.specs.meaning.Device.{Device, apply_all}
 use Rattle.tables.specs.declared.Geometry.{Geometry}
-use Rattle.tables.specs.meaning.Drives.{no_drive, present_but}
+use Rattle.tables.specs.meaning.Drives.{present_but}
 use Rattle.volume.specs.meaning.State.{StateView}
 use Rattle.volume.specs.meaning.Rules.{showing}
 use Rattle.volume.specs.meaning.Calls.{write_state, reset_state}
 use Rattle.volume.specs.meaning.Roles.{roles, by_roles}
 use Rattle.volume.specs.meaning.Emptying.{by_state, by_look, write_all, reset_all, compact_stores}
 use Rattle.volume.specs.meaning.Mount.{mount_stores, mount_shows, mount_state}
-use Rattle.volume.specs.meaning.Rebuild.{rebuild_all, rebuilt_state}
 use Rattle.promise.specs.meaning.Ledger.{Ledger, after_write, after_reset, after_stopped_reset, after_mount}
 use Rattle.promise.specs.invariant.Obligations.{WriteOk}
-use Rattle.promise.specs.invariant.RoomAsked.{ResetAccepted, CompactAccepted, MountAccepted, RebuildAccepted}
+use Rattle.promise.specs.invariant.RoomAsked.{ResetAccepted, CompactAccepted, MountAccepted}
 use Rattle.promise.specs.device.Modes.{SomeRests, SomeInvs, Halted}
 
 abbrev pub WriteOwes : Geometry → Type 0
@@ -40,15 +39,8 @@ MountOwes g = (x : ℕ) (v : Device) (l : Ledger) → SomeInvs g x v l
     → let xs = mount_stores g (present_but g x) x v in let k = mount_shows g (present_but g x) x v in
     ((n : ℕ) → Halted g x (apply_all (take n xs) v) l) × SomeRests g x (apply_all xs v) (mount_state k) (after_mount k)
 
-abbrev pub RebuildOwes : Geometry → Type 0
-RebuildOwes g = (x : ℕ) (v : Device) (state : StateView) (l : Ledger) → SomeRests g x v state l
-    → RebuildAccepted g (present_but g x) (roles g v) (by_roles g v) (by_state g (present_but g x) (by_roles g v) state) state x
-    → let xs = rebuild_all g (present_but g x) (roles g v) (by_roles g v) state x in
-    ((n : ℕ) → Halted g x (apply_all (take n xs) v) l) × SomeRests g no_drive (apply_all xs v) (rebuilt_state state) l
-
 pub record CallsOwed (g : Geometry) : Type 0 where
   pub write : WriteOwes g
   pub reset : ResetOwes g
   pub compact : CompactOwes g
   pub mount : MountOwes g
-  pub rebuild : RebuildOwes g

@@ -11,7 +11,6 @@ use Rattle.promise.specs.device.CallsOwed.{CallsOwed}
 use Rattle.promise.specs.device.PlainCalls.{write_owes}
 use Rattle.promise.specs.device.ResetCall.{reset_owes}
 use Rattle.promise.specs.device.CompactCall.{compact_owes}
-use Rattle.promise.specs.device.RebuildCall.{rebuild_owes}
 use Rattle.promise.specs.device.MountCall.{MountCuts, mount_owes}
 
 -- on drives whose resets last at once
@@ -21,4 +20,4 @@ uncached_cuts g ok x v l c ri ma =
     ((λ n w cut. let ys = take n (mount_stores g (present_but g x) x v) in r.0 n (apply_all ys v) w (delayed_none g x v ys) cut), r.2)
 
 pub calls_owed : (g : Geometry) → Valid g → CallsOwed g
-calls_owed g ok = record { write = write_owes g ok; reset = reset_owes g ok; compact = compact_owes g ok; mount = mount_owes g (uncached_cuts g ok); rebuild = rebuild_owes g ok }
+calls_owed g ok = record { write = write_owes g ok; reset = reset_owes g ok; compact = compact_owes g ok; mount = mount_owes g (uncached_cuts g ok) }

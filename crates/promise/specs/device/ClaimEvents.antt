@@ -1,7 +1,7 @@
 -- Every event of a host that does its duties keeps the invariant: a finished call leaves all at rest, a stopped one, a cut and a loss leave
 -- what the next mount can work from.
 use Rattle.std.specs.Prelude.{◌≡◌, refl, ◌⊎◌, Bool, true, false, ◌&&◌, not, ℕ, ◌^◌, ◌<◌, List, length, take, ltb, eqb}
-use Rattle.std.proofs.Common.{sym, ap, ◌∙◌, subst, inl, inr, arith, ltb-true, ne_eqb}
+use Rattle.std.proofs.Common.{◌∙◌, subst, inl, inr, arith, ltb-true, ne_eqb}
 use Rattle.std.proofs.Math.Path.{fun_ext}
 use Rattle.logs.specs.code.Lays.{and_true}
 use Rattle.tables.specs.laws.Basics.{and_same}
@@ -16,25 +16,22 @@ use Rattle.volume.specs.meaning.Roles.{roles, by_roles}
 use Rattle.volume.specs.meaning.Emptying.{by_state, by_look}
 use Rattle.volume.specs.meaning.Calls.{write_state, format_stores, format_state}
 use Rattle.volume.specs.meaning.Hosts.{shares_in, fresh_shares, written_state, compact_state}
-use Rattle.volume.specs.meaning.Rebuild.{rebuilt_state}
 use Rattle.volume.specs.meaning.Mount.{mount_stores, mount_shows, mount_state, shown_state}
-use Rattle.volume.specs.meaning.Refusals.{Verdict, refuse, accept, TableLengths, WriteAsked, zone_asked, format_rows, mount_rows, write_rows, reset_rows, compact_rows, rebuild_rows, slot_named, others_of, first_refusal, bad_pointers, look_rows}
-use Rattle.volume.specs.meaning.Answers.{CallResult, storing, lost_in, left_out, named_drives, sectors_in, giving, present_in, lost_drive_in, rebuild_stores_of, rebuilt_shares}
+use Rattle.volume.specs.meaning.Refusals.{Verdict, refuse, accept, TableLengths, WriteAsked, zone_asked, format_rows, mount_rows, write_rows, reset_rows, compact_rows, first_refusal, bad_pointers, look_rows}
+use Rattle.volume.specs.meaning.Answers.{CallResult, storing, lost_in, left_out, named_drives, sectors_in, giving, present_in, lost_drive_in}
 use Rattle.volume.specs.declared.Answer.TheVariants.{Finished, Unfinished, Refused}
 use Rattle.promise.specs.meaning.Ledger.{Ledger, fresh_ledger, after_write, after_flush, after_mount}
-use Rattle.promise.specs.meaning.Claim.{Call, mounts, writes, flushes, resets, formats, compacts, rebuilds, Mode, ready, stopped, down, System, Event, calls, looks, reads, peeks, reports, cuts, loses, settled, lost_after, ledger_after, next, NotStopped, NamesAll, MayMount, Duty, all_but}
+use Rattle.promise.specs.meaning.Claim.{Call, mounts, writes, flushes, resets, formats, compacts, Mode, ready, stopped, down, System, Event, calls, looks, reads, peeks, reports, cuts, loses, settled, ledger_after, next, NotStopped, NamesAll, MayMount, Duty, all_but}
 use Rattle.promise.specs.meaning.OnDevice.{call_of, on_device, look_result, shown_by, state_shown}
-use Rattle.promise.specs.invariant.Invariant.{Names}
 use Rattle.promise.specs.invariant.Obligations.{never_emptied, WriteOk}
-use Rattle.promise.specs.invariant.RoomAsked.{ResetAccepted, RebuildAccepted, CompactAccepted, MountAccepted}
+use Rattle.promise.specs.invariant.RoomAsked.{ResetAccepted, CompactAccepted, MountAccepted}
 use Rattle.promise.specs.look.LookRest.{look_rests}
 use Rattle.promise.specs.roles.RoledCalls.{roled_format}
-use Rattle.promise.specs.device.AcceptedCalls.{present_same, call_same, found_same, sectors_length, write_accepted, reset_accepted, rebuild_accepted, compact_accepted, mount_accepted}
+use Rattle.promise.specs.device.AcceptedCalls.{present_same, call_same, found_same, sectors_length, write_accepted, reset_accepted, compact_accepted, mount_accepted}
 use Rattle.promise.specs.device.AtRestAnswers.{lost_in_lem, format_lost, format_drives}
 use Rattle.promise.specs.device.Marks.{with_marks}
 use Rattle.promise.specs.device.Modes.{SomeRests, SomeInvs, OkIn, own_rests, read_some, rests_invs, lose_in, cut_in}
 use Rattle.promise.specs.device.Looks.{LookFine, look_in}
-use Rattle.promise.specs.device.LostAfter.{lost_refused, lost_stopped}
 use Rattle.promise.specs.device.PlainCalls.{flush_halted, flush_done}
 use Rattle.promise.specs.device.CallsOwed.{CallsOwed}
 use Rattle.promise.specs.device.CallsProved.{calls_owed}
@@ -51,15 +48,6 @@ call_present_lem g ok x state h = fun_ext λ d. go d (ltb d g.drives) refl (eqb 
     go d true p c (inl e) = rw (p, far d p e) (and_true (not (eqb d x)))
     go d true p c (inr e) = rw (p, e) (and_same (not (eqb d x)))
     go d false p c q = rw p refl
-
--- a drive of the volume that the state names as lost is the lost one
-lost_named : (g : Geometry) → Valid g → (x y : ℕ) → Names x y → y < g.drives → x ≡ y
-lost_named g ok x y (inl e) h = absurd (omega (arith, e, h, ok.drives_most))
-lost_named g ok x y (inr e) h = sym e
-
-and_twice : (a b : Bool) → (a && b) && b ≡ a && b
-and_twice true b = and_same b
-and_twice false b = refl
 
 -- (t: the lengths of the tables)
 abbrev pub Ok : (g : Geometry) (t : TableLengths) → System (on_device g t) → Type 0
@@ -107,17 +95,17 @@ module _ (g : Geometry) (ok : Valid g) (t : TableLengths) where
     abbrev finished_result : List Store → StateView → CallResult Device StateView
     finished_result xs new = record { answer = Finished; memory = apply_all xs s.memory; state = new }
 
-    by_answer : (c : Call) (r : Verdict) (xs : List Store) (new : StateView) (stop : ℕ) (l : CallResult Device StateView → Ledger)
+    by_answer : (r : Verdict) (xs : List Store) (new : StateView) (stop : ℕ) (l : CallResult Device StateView → Ledger)
         → ((n : ℕ) → l (record { answer = Refused n; memory = s.memory; state = s.state }) ≡ s.ledger)
         → (r ≡ accept → OkIn g stopped s.lost (apply_all (take stop xs) s.memory) s.state (l (stopped_result xs stop)))
-        → (r ≡ accept → OkIn g ready (lost_after c Finished s.lost) (apply_all xs s.memory) new (l (finished_result xs new)))
-        → Ok g t (settled g (on_device g t) s c (storing r xs new s.state stop s.memory) (l (storing r xs new s.state stop s.memory)))
-    by_answer c (refuse n) xs new stop l a b d = rw (lost_refused c n s.lost, a n) o
-    by_answer c accept xs new stop l a b d = go (ltb stop (length xs))
+        → (r ≡ accept → OkIn g ready s.lost (apply_all xs s.memory) new (l (finished_result xs new)))
+        → Ok g t (settled g (on_device g t) s (storing r xs new s.state stop s.memory) (l (storing r xs new s.state stop s.memory)))
+    by_answer (refuse n) xs new stop l a b c = rw (a n) o
+    by_answer accept xs new stop l a b c = go (ltb stop (length xs))
       where
-        go : (q : Bool) → let r : CallResult Device StateView = pick q (stopped_result xs stop) (finished_result xs new) in Ok g t (settled g (on_device g t) s c r (l r))
-        go true = rw (lost_stopped c s.lost) (b refl)
-        go false = d refl
+        go : (q : Bool) → let r : CallResult Device StateView = pick q (stopped_result xs stop) (finished_result xs new) in Ok g t (settled g (on_device g t) s r (l r))
+        go true = b refl
+        go false = c refl
 
     -- ---- a call by a host that names every drive not lost
     module _ (named : ℕ → Bool) (names : NamesAll g (on_device g t) s named) where
@@ -145,8 +133,8 @@ module _ (g : Geometry) (ok : Valid g) (t : TableLengths) where
       by_call : (c : Call) (stop : ℕ) → let k = call_of g t c named s.state s.memory in let l = ledger_after g (on_device g t) s c named in
           ((n : ℕ) → l (record { answer = Refused n; memory = s.memory; state = s.state }) ≡ s.ledger)
           → (first_refusal k.refusals ≡ accept → OkIn g stopped s.lost (apply_all (take stop k.stores) s.memory) s.state (l (stopped_result k.stores stop)))
-          → (first_refusal k.refusals ≡ accept → OkIn g ready (lost_after c Finished s.lost) (apply_all k.stores s.memory) k.state (l (finished_result k.stores k.state))) → Owed c stop
-      by_call c stop = let k = call_of g t c named s.state s.memory in by_answer c (first_refusal k.refusals) k.stores k.state stop (ledger_after g (on_device g t) s c named)
+          → (first_refusal k.refusals ≡ accept → OkIn g ready s.lost (apply_all k.stores s.memory) k.state (l (finished_result k.stores k.state))) → Owed c stop
+      by_call c stop = let k = call_of g t c named s.state s.memory in by_answer (first_refusal k.refusals) k.stores k.state stop (ledger_after g (on_device g t) s c named)
 
       pub write_fits : s.mode ≡ ready → (asked : WriteAsked) → first_refusal (write_rows g t (bad_pointers g named s.memory) named s.state asked (roles g s.memory) (by_roles g s.memory)) ≡ accept
           → WriteOk g (present_but g s.lost) (by_roles g s.memory) s.state (zone_asked g asked) (sectors_in g asked.count asked.buffer)
@@ -177,34 +165,6 @@ module _ (g : Geometry) (ok : Valid g) (t : TableLengths) where
           (λ p. rw e ((owed.compact left v s.state s.ledger d (rests_of g t s o m) (compact_fits m d p)).0 stop))
           (λ p. rw (e, lost_of_call m) (read_some g left _ s.state (compact_state g (present_but g left) left (by_roles g v) s.state d) s.ledger (λ h. inr refl)
           (record { generations = λ y h. refl; conditions = λ y h. refl }) (owed.compact left v s.state s.ledger d (rests_of g t s o m) (compact_fits m d p)).1))
-
-      -- a rebuild's others are those not lost, where it names the lost drive
-      pub others_are : s.mode ≡ ready → (y : ℕ) → s.state.lost ≡ y → y < g.drives → (others_of g named s.state y ≡ present_but g s.lost) × (s.lost ≡ y)
-      others_are m y e low =
-          let (k, c, a, (st, (γ, r, same))) = rests_of g t s o m in
-          let q = lost_named g ok s.lost y (subst (λ (i : ℕ). Names s.lost i) e r.lost_is) low in
-          (fun_ext λ d. ap (λ (f : ℕ → Bool). f d && not (eqb d y)) (drives_of_call m) ∙ ap (λ (i : ℕ). present_but g s.lost d && not (eqb d i)) (sym q) ∙ and_twice (ltb d g.drives) (not (eqb d s.lost)), q)
-
-      -- (bad: what row 3 says, which the tables answer by their numbers)
-      pub rebuild_fits : s.mode ≡ ready → (bad : Bool) (y : ℕ) → first_refusal (rebuild_rows g t bad named s.state y (roles g s.memory) (by_roles g s.memory)) ≡ accept
-          → (others_of g named s.state y ≡ present_but g s.lost) × (s.lost ≡ y) × RebuildAccepted g (present_but g s.lost) (roles g s.memory) (by_roles g s.memory) (by_state g (present_but g s.lost) (by_roles g s.memory) s.state) s.state s.lost
-      rebuild_fits m bad y p =
-          let ra = rebuild_accepted g t named s.state s.memory bad y p in
-          let (e, q) = others_are m y ra.lost_is ra.slot_lt in
-          (e, q, rw (e, ← q) at ra)
-
-      abbrev pub rebuild_leaves : Bool → ℕ → ℕ → CallResult Device StateView
-      rebuild_leaves bad y stop = let xs = rebuild_stores_of g named s.state y s.memory in
-          storing (first_refusal (rebuild_rows g t bad named s.state y (roles g s.memory) (by_roles g s.memory))) xs (rebuilt_shares g (apply_all xs s.memory) s.state) s.state stop s.memory
-
-      pub rebuild_kept : s.mode ≡ ready → (bad : Bool) (y stop : ℕ) → Ok g t (settled g (on_device g t) s (rebuilds y) (rebuild_leaves bad y stop) s.ledger)
-      unfolding rebuild_stores_of
-      rebuild_kept m bad y stop =
-          let v = s.memory in
-          by_answer (rebuilds y) (first_refusal (rebuild_rows g t bad named s.state y (roles g v) (by_roles g v))) _ _ stop (λ r. s.ledger) (λ n. refl)
-          (λ p. let (e, q, ra) = rebuild_fits m bad y p in rw (e, ← q) ((owed.rebuild s.lost v s.state s.ledger (rests_of g t s o m) ra).0 stop))
-          (λ p. let (e, q, ra) = rebuild_fits m bad y p in
-          rw (e, ← q) (shared_rests g no_drive _ _ (rebuilt_state s.state) s.ledger (owed.rebuild s.lost v s.state s.ledger (rests_of g t s o m) ra).1))
 
       flush_event : s.mode ≡ ready → (stop : ℕ) → Owed flushes stop
       flush_event m stop =
@@ -237,7 +197,7 @@ module _ (g : Geometry) (ok : Valid g) (t : TableLengths) where
           (owed.mount s.lost v s.ledger (invs_of g t s o m) (mount_allowed p)).1))
 
       abbrev FormatLeaves : ℕ → CallResult Device StateView → Type 0
-      FormatLeaves array r = NotStopped r.answer → Ok g t (settled g (on_device g t) s (formats array) r (ledger_after g (on_device g t) s (formats array) named r))
+      FormatLeaves array r = NotStopped r.answer → Ok g t (settled g (on_device g t) s r (ledger_after g (on_device g t) s (formats array) named r))
 
       format_event : s.mode ≡ ready → (array stop : ℕ) → array < 256 ^ 8 → NotStopped ((on_device g t).call (formats array) named s.state stop s.memory).answer → Owed (formats array) stop
       format_event m array stop h n = go (first_refusal (format_rows g t (bad_pointers g named s.memory) named s.memory)) n
@@ -280,7 +240,6 @@ module _ (g : Geometry) (ok : Valid g) (t : TableLengths) where
       call_keeps (resets z) stop (b, m, q) = reset_event m z stop
       call_keeps (formats array) stop (b, m, (h, n)) = format_event m array stop h n
       call_keeps (compacts d) stop (b, m, q) = compact_event m d stop
-      call_keeps (rebuilds y) stop (b, m, q) = rebuild_kept m (bad_pointers g (slot_named named y) s.memory) y stop
 
     -- EVERY EVENT KEEPS IT
     pub event_keeps : (e : Event (on_device g t)) → Duty g (on_device g t) s e → Ok g t (next g (on_device g t) s e)

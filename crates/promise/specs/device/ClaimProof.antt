@@ -15,13 +15,12 @@ use Rattle.volume.specs.meaning.Roles.{by_roles}
 use Rattle.tables.specs.meaning.Tables.{buffer_fits}
 use Rattle.volume.specs.declared.Answer.{Answer}
 use Rattle.volume.specs.declared.Answer.TheVariants.{Finished, Unfinished, Refused, BadLog}
-use Rattle.promise.specs.meaning.Claim.{Call, mounts, writes, flushes, resets, compacts, rebuilds, ready, System, calls, answered, read_out, peeked_at, reported, heard, NamesAll, SameZones, Serves, RefusedOnly, ResetRefusal, WriteRefusal, CompactRefusal, RebuildRefusal, Promise}
+use Rattle.promise.specs.meaning.Claim.{Call, mounts, writes, flushes, resets, compacts, ready, System, calls, answered, read_out, peeked_at, reported, heard, NamesAll, SameZones, Serves, RefusedOnly, ResetRefusal, WriteRefusal, CompactRefusal, Promise}
 use Rattle.promise.specs.meaning.OnDevice.{call_of, on_device}
 use Rattle.tables.specs.meaning.GeometryTest.{is_valid}
 use Rattle.promise.specs.device.Modes.{OkIn}
 use Rattle.promise.specs.device.Heard.{answer_heard, read_heard, peek_heard}
 use Rattle.promise.specs.device.ClaimEvents.{Ok, look_held}
-use Rattle.promise.specs.device.RebuildClaim.{rebuild_claim}
 use Rattle.promise.specs.device.SharesKept.{Shared}
 use Rattle.promise.specs.device.PointClaims.{drives, row_1, row_3, row_4, row_7, look_claim, held_claim, mount_claim, refused_claim, flush_claim, reset_claim, write_claim, share_claim, compact_claim, read_claim, read_accepted, peek_claim, peek_accepted, report_claim, pointer_claim}
 
@@ -100,7 +99,6 @@ module _ (g : Geometry) (ok : Valid g) (t : TableLengths) (wb : is_valid g ≡ t
     write_refused = λ named names m w stop. only_for g t s named (writes w) stop (WriteRefusal g s.lost s.state w) (write_claim g ok t wb lf s o named names m w f stop);
     share_asked = λ named names m w k stop. let (p, q) = share_claim g ok t wb lf s o named names m w k stop in ((λ e. p (answer_heard e)), (λ e. q (answer_heard e)));
     compact_refused = λ named names m d stop. only_for g t s named (compacts d) stop (CompactRefusal g s.lost d) (compact_claim g ok t wb lf s o named names m d stop);
-    rebuild_refused = λ named names m y stop. only_for g t s named (rebuilds y) stop (RebuildRefusal g s.lost s.state y) (rebuild_claim g ok t wb lf s o named names m y stop);
     shares_fit = λ m d h there. f m d (and_join (ltb d g.drives) (not (eqb d s.lost)) (lt-ltb d g.drives h) there);
     read_gives = λ named names m a count out bytes e.
         let (p, q) = read_heard e in

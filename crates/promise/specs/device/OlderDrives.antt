@@ -44,7 +44,6 @@ module _ (g : Geometry) (vol : Volume) (k : Caches vol) where
       write_refused = λ named n. p.write_refused named (names named n);
       share_asked = λ named n. p.share_asked named (names named n);
       compact_refused = λ named n. p.compact_refused named (names named n);
-      rebuild_refused = λ named n. p.rebuild_refused named (names named n);
       shares_fit = p.shares_fit;
       read_gives = λ named n. p.read_gives named (names named n);
       read_accepted = λ named n. p.read_accepted named (names named n);

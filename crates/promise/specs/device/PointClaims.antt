@@ -44,7 +44,7 @@ use Rattle.volume.specs.declared.Answer.TheVariants.{Finished, Unfinished, Refus
 use Rattle.volume.specs.declared.ZoneDescriptor.{ZoneDescriptor}
 use Rattle.volume.specs.meaning.Report.{report_on}
 use Rattle.volume.specs.laws.Report.{report_finished, report_same}
-use Rattle.promise.specs.meaning.Claim.{mounts, writes, flushes, resets, compacts, rebuilds, ready, System, NamesAll, MayMount, all_but, content_bytes, SameZones, ResetRefusal, no_such_zone, worn_out, general_log_full, PastShare, WriteRefusal, buffer_length, no_such_address, no_such_host, no_sectors, past_the_end, not_at_pointer, sealed_zone, worn_zone, host_at_limit, no_more_open, share_used, CompactRefusal, not_present, parity_log_full, SharesFit}
+use Rattle.promise.specs.meaning.Claim.{mounts, writes, flushes, resets, compacts, ready, System, NamesAll, MayMount, all_but, content_bytes, SameZones, ResetRefusal, no_such_zone, worn_out, general_log_full, PastShare, WriteRefusal, buffer_length, no_such_address, no_such_host, no_sectors, past_the_end, not_at_pointer, sealed_zone, worn_zone, host_at_limit, no_more_open, share_used, CompactRefusal, not_present, parity_log_full, SharesFit}
 use Rattle.promise.specs.meaning.OnDevice.{call_of, look_result, read_result, peek_result, report_shown, shown_by, state_shown, on_device}
 use Rattle.promise.specs.look.LookRest.{generation_held, condition_held}
 use Rattle.promise.specs.device.AtRestAnswers.{absent_fine, state_fine, stale_fine, stale_nowhere, gone_fine, before_fine, copies_fine, worn_last, rest_held, rest_sector}

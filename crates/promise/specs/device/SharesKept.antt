@@ -23,14 +23,13 @@ use Rattle.volume.specs.meaning.Content.{inside_stripe, parity_drive_at}
 use Rattle.volume.specs.meaning.Roles.{roles, by_roles}
 use Rattle.volume.specs.meaning.Emptying.{by_state, new_parity_size, unused_in, lacks_room, reserve, entry_size, write_limit, write_all, reset_all, compact_stores}
 use Rattle.volume.specs.meaning.Calls.{write_state, flush_stores, flush_state, reset_state, format_stores, format_state}
-use Rattle.volume.specs.meaning.Rebuild.{rebuilt_state}
 use Rattle.volume.specs.meaning.Hosts.{half_past, shares_by, shares_in, fresh_shares, share_left, written_state, compact_state}
-use Rattle.volume.specs.meaning.Refusals.{Verdict, refuse, accept, TableLengths, WriteAsked, zone_asked, end_asked, no_zone, no_host, write_full, write_rows, first_refusal, rebuild_rows}
-use Rattle.volume.specs.meaning.Answers.{CallResult, storing, sectors_in, rebuild_stores_of}
+use Rattle.volume.specs.meaning.Refusals.{Verdict, refuse, accept, TableLengths, WriteAsked, zone_asked, end_asked, no_zone, no_host, write_full, write_rows, first_refusal}
+use Rattle.volume.specs.meaning.Answers.{CallResult, storing, sectors_in}
 use Rattle.volume.specs.laws.Refusals.{accepted_row}
 use Rattle.volume.specs.laws.Firm.{firm_roles}
 use Rattle.promise.specs.meaning.Ledger.{Ledger, fresh_ledger, after_write}
-use Rattle.promise.specs.meaning.Claim.{Call, mounts, writes, flushes, resets, formats, compacts, rebuilds, ready, mode_after, System, Event, calls, looks, reads, peeks, reports, cuts, loses, next, NamesAll, Duty, SharesFit, lost_after}
+use Rattle.promise.specs.meaning.Claim.{Call, mounts, writes, flushes, resets, formats, compacts, ready, mode_after, System, Event, calls, looks, reads, peeks, reports, cuts, loses, next, NamesAll, Duty, SharesFit}
 use Rattle.promise.specs.meaning.OnDevice.{call_of, on_device}
 use Rattle.promise.specs.invariant.Invariant.{Here}
 use Rattle.promise.specs.invariant.Obligations.{WriteOk, never_emptied}
@@ -47,8 +46,7 @@ use Rattle.promise.specs.device.Modes.{SomeRests, own_rests}
 use Rattle.promise.specs.device.PlainCalls.{write_seen, write_owes}
 use Rattle.promise.specs.device.ResetCall.{reset_leaves_logs, reset_owes}
 use Rattle.promise.specs.device.CompactCall.{compact_leaves_logs, compact_owes}
-use Rattle.promise.specs.device.LostAfter.{lost_refused}
-use Rattle.promise.specs.device.ClaimEvents.{Ok, rests_of, drives_of_call, lost_of_call, drives_of_look, lost_of_look, write_fits, compact_fits, rebuild_leaves}
+use Rattle.promise.specs.device.ClaimEvents.{Ok, rests_of, drives_of_call, lost_of_call, drives_of_look, lost_of_look, write_fits, compact_fits}
 
 -- ---- numbers: what is left of two shares (a, b) fits n unused sectors beside a reserve
 abbrev FitsBeside : ℕ → ℕ → ℕ → ℕ → Type 0
@@ -246,20 +244,20 @@ module _ (g : Geometry) (ok : Valid g) (t : TableLengths) (s : System (on_device
   x = s.lost
 
   -- a call that stores, by its answer
-  by_answer : (k : Call) (r : Verdict) (xs : List Store) (new : StateView) (stop : ℕ) → (r ≡ accept → SharesKept g (lost_after k Finished s.lost) (apply_all xs s.memory) new)
-      → let q = storing r xs new s.state stop s.memory in mode_after q.answer s.mode ≡ ready → SharesKept g (lost_after k q.answer s.lost) q.memory q.state
-  by_answer k (refuse n) xs new stop h m = rw (lost_refused k n s.lost) (f m)
-  by_answer k accept xs new stop h m = go (ltb stop (length xs)) m
+  by_answer : (r : Verdict) (xs : List Store) (new : StateView) (stop : ℕ) → (r ≡ accept → SharesKept g s.lost (apply_all xs s.memory) new)
+      → let q = storing r xs new s.state stop s.memory in mode_after q.answer s.mode ≡ ready → SharesKept g s.lost q.memory q.state
+  by_answer (refuse n) xs new stop h m = f m
+  by_answer accept xs new stop h m = go (ltb stop (length xs)) m
     where
       go : (c : Bool) → let q : CallResult Device StateView = pick c (record { answer = Unfinished; memory = apply_all (take stop xs) s.memory; state = s.state }) (record { answer = Finished; memory = apply_all xs s.memory; state = new }) in
-          mode_after q.answer s.mode ≡ ready → SharesKept g (lost_after k q.answer s.lost) q.memory q.state
+          mode_after q.answer s.mode ≡ ready → SharesKept g s.lost q.memory q.state
       go true m = absurd (let z : ◌≡◌ {A = ℕ} 0 1 = cc in omega arith)
       go false m = h refl
 
   module _ (named : ℕ → Bool) (names : NamesAll g (on_device g t) s named) where
     -- finished
     Leaves : Call → Type 0
-    Leaves c = let k = call_of g t c named s.state s.memory in first_refusal k.refusals ≡ accept → SharesKept g (lost_after c Finished s.lost) (apply_all k.stores s.memory) k.state
+    Leaves c = let k = call_of g t c named s.state s.memory in first_refusal k.refusals ≡ accept → SharesKept g s.lost (apply_all k.stores s.memory) k.state
 
     -- an accepted write has a host, and its entry is not larger than what is left of its share
     write_asks : s.mode ≡ ready → (asked : WriteAsked) → first_refusal (call_of g t (writes asked) named s.state s.memory).refusals ≡ accept
@@ -287,12 +285,8 @@ module _ (g : Geometry) (ok : Valid g) (t : TableLengths) (s : System (on_device
         let n = sectors_length g asked.count asked.buffer in
         rw (drives_of_call g ok t s o named names m, lost_of_call g ok t s o named names m) (rw n at (k (rw n fits) (f m)))
 
-    -- a rebuild's are those of a mount (bad: what row 3 says)
-    pub rebuild_shared : (bad : Bool) (y stop : ℕ) → let q = rebuild_leaves g ok t s o named names bad y stop in mode_after q.answer s.mode ≡ ready → SharesKept g (lost_after (rebuilds y) q.answer s.lost) q.memory q.state
-    rebuild_shared bad y stop = by_answer (rebuilds y) (first_refusal (rebuild_rows g t bad named s.state y (roles g s.memory) (by_roles g s.memory))) _ _ stop (λ p. mount_shares g no_drive _ (rebuilt_state s.state))
-
     call_leaves : (c : Call) (stop : ℕ) → Duty g (on_device g t) s (calls c named stop) → Leaves c
-    unfolding Leaves rebuild_stores_of
+    unfolding Leaves
     call_leaves mounts stop (n, m, q) p = rw (drives_of_look g ok t s o named names, lost_of_look g ok t s o named names) (mount_shares g x _ s.state)
     call_leaves (writes asked) stop (n, m, q) p = write_leaves m asked p
     call_leaves flushes stop (n, m, q) p = rw (drives_of_call g ok t s o named names m, lost_of_call g ok t s o named names m) (flush_shares g x s.memory s.state (f m))
@@ -305,11 +299,10 @@ module _ (g : Geometry) (ok : Valid g) (t : TableLengths) (s : System (on_device
         rw (format_drives g x named names.drives, format_lost g ok x (by_roles g s.memory) γ r.logs named names.drives) (format_shares g ok x array s.memory r.logs.lost_ok h)
     call_leaves (compacts d) stop (n, m, q) p =
         rw (drives_of_call g ok t s o named names m) (compact_shares g x s.memory s.state s.ledger (rests_of g t s o m) ok d (compact_fits g ok t s o named names m d p) (f m))
-    call_leaves (rebuilds y) stop (n, m, q) p = mount_shares g no_drive _ (rebuilt_state s.state)
 
     call_shares : (c : Call) (stop : ℕ) → Duty g (on_device g t) s (calls c named stop) → Shared g t (next g (on_device g t) s (calls c named stop))
     unfolding Leaves
-    call_shares c stop d = let k = call_of g t c named s.state s.memory in by_answer c (first_refusal k.refusals) k.stores k.state stop (call_leaves c stop d)
+    call_shares c stop d = let k = call_of g t c named s.state s.memory in by_answer (first_refusal k.refusals) k.stores k.state stop (call_leaves c stop d)
 
   -- EVERY EVENT KEEPS IT
   pub event_shares : (e : Event (on_device g t)) → Duty g (on_device g t) s e → Shared g t (next g (on_device g t) s e)

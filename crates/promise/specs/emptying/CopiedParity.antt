@@ -51,7 +51,7 @@ last_entry_lem p acc (e ∷ es) = go (p e) refl (λ a. last_entry_lem p a es)
         there (one_of f r m t) = one_of f (rw q r) (Memᴰ.tail m) t
 
 -- ---- lists below n
-pub each_mem : {A : Type 0} (f : ℕ → List A) (n : ℕ) (a : A) → Memᴰ a (each_below f n) → (z : ℕ) × (z < n) × Memᴰ a (f z)
+each_mem : {A : Type 0} (f : ℕ → List A) (n : ℕ) (a : A) → Memᴰ a (each_below f n) → (z : ℕ) × (z < n) × Memᴰ a (f z)
 each_mem f zero a m = mem_nil a m
 each_mem f (suc n) a m = go (mem_append (each_below f n) (f n) a m) (λ k. each_mem f n a k)
   where
@@ -59,7 +59,7 @@ each_mem f (suc n) a m = go (mem_append (each_below f n) (f n) a m) (λ k. each_
     go (inl k) ih = let (z, l, o) = ih k in (z, omega arith, o)
     go (inr k) ih = (n, omega arith, k)
 
-pub mem_each : {A : Type 0} (f : ℕ → List A) (n z : ℕ) (a : A) → z < n → Memᴰ a (f z) → Memᴰ a (each_below f n)
+mem_each : {A : Type 0} (f : ℕ → List A) (n z : ℕ) (a : A) → z < n → Memᴰ a (f z) → Memᴰ a (each_below f n)
 mem_each f zero z a l m = absurd (not-suc-le-zero l)
 mem_each f (suc n) z a l m = go (ℕ_discrete z n) (λ k. mem_each f n z a k m)
   where
@@ -153,7 +153,7 @@ module _ (g : Geometry) (f : InForce) (d : ℕ) (es : List Entry) where
 abbrev pub new_log : Geometry → InForce → ℕ → List Entry → ℕ → List Entry
 new_log g f d es n = parity_copies g f d es ++ (closing_entry 1 n ∷ [])
 
-pub concat_sectors : (g : Geometry) (d : ℕ) (es : List Entry) → concat (map (sectors_of g d true) es) ≡ sectors_of_all g d true es
+concat_sectors : (g : Geometry) (d : ℕ) (es : List Entry) → concat (map (sectors_of g d true) es) ≡ sectors_of_all g d true es
 concat_sectors g d [] = refl
 concat_sectors g d (e ∷ es) = ap (λ (r : List (List ℕ)). sectors_of g d true e ++ r) (concat_sectors g d es)
 

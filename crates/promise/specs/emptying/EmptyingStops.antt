@@ -43,7 +43,7 @@ pub cut_here : (g : Geometry) (x : ℕ) (v w : Device) → Cut x v w → CutHere
 cut_here g x v w c e y a = cut_at x v w c e y (present_not g x e a)
 
 -- ---- what a zone sees of appends to one
-pub appends_elsewhere : (d y e z : ℕ) (ss : List (List ℕ)) → (e ≢ d) ⊎ (z ≢ y) → local_stores e z (append_all d y ss) ≡ []
+appends_elsewhere : (d y e z : ℕ) (ss : List (List ℕ)) → (e ≢ d) ⊎ (z ≢ y) → local_stores e z (append_all d y ss) ≡ []
 appends_elsewhere d y e z ss (inl p) = side (ℕ_discrete z y)
   where
     side : Dec (z ≡ y) → local_stores e z (append_all d y ss) ≡ []

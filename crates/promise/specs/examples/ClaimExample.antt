@@ -242,7 +242,7 @@ names_without_1 : (s : System vol) → s.lost ≡ 1 → NamesAll geo vol s (all_
 names_without_1 s e = record { drives = λ d h. rw e refl }
 
 -- a cut that leaves just what is durable
-pub cut_to_durable : (x : ℕ) (v : Device) → WellFormed v → Cut x v (λ d y. keep_first (v d y).durable (v d y))
+cut_to_durable : (x : ℕ) (v : Device) → WellFormed v → Cut x v (λ d y. keep_first (v d y).durable (v d y))
 unfolding Cut WellFormed
 cut_to_durable x v h d y n = record { kept = (v d y).durable; least = le_refl (v d y).durable; most = h d y; is = refl }
 

@@ -20,7 +20,7 @@ use Rattle.volume.specs.meaning.State.{share_at}
 use Rattle.volume.specs.meaning.Refusals.{TableLengths}
 use Rattle.volume.specs.meaning.Roles.{roles}
 use Rattle.volume.specs.meaning.Answers.{left_out}
-use Rattle.promise.specs.meaning.Claim.{Volume, all_but, mounts, writes, resets, formats, compacts, rebuilds, ready, System, Event, calls, cuts, NamesAll, Dutiful, Throughout, start}
+use Rattle.promise.specs.meaning.Claim.{Volume, all_but, mounts, writes, resets, formats, compacts, ready, System, Event, calls, cuts, NamesAll, Dutiful, Throughout, start}
 use Rattle.promise.specs.meaning.Histories.{after_all, AtEveryPoint}
 use Rattle.promise.specs.meaning.Caches.{WithCaches, on_caching_device}
 use Rattle.promise.specs.meaning.Emptied.{flush_end, emptyings_end, UnderWay, emptyings_of_compact, emptyings_of_reset, parity_emptyings_of_mount, entry_made, stopped_at, EmptyingsKeepLooks}

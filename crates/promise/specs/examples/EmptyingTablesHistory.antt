@@ -18,7 +18,7 @@ use Rattle.volume.specs.meaning.Answers.{left_out}
 use Rattle.volume.specs.meaning.CallContracts.{view_state, state_held, blank_record, look_on}
 use Rattle.volume.specs.meaning.Calls.{format_state}
 use Rattle.volume.specs.laws.AnyInput.{mount_shows_look}
-use Rattle.promise.specs.meaning.Claim.{Volume, mounts, writes, resets, formats, compacts, rebuilds, ready, System, Event, calls, cuts, NamesAll, Dutiful, Throughout, start}
+use Rattle.promise.specs.meaning.Claim.{Volume, mounts, writes, resets, formats, compacts, ready, System, Event, calls, cuts, NamesAll, Dutiful, Throughout, start}
 use Rattle.promise.specs.meaning.Histories.{after_all, AtEveryPoint}
 use Rattle.promise.specs.meaning.Caches.{WithCaches}
 use Rattle.promise.specs.meaning.CachesOnTables.{TablesCachingCut, on_caching_tables}

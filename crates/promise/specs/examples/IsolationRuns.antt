@@ -14,7 +14,7 @@ use Rattle.volume.specs.meaning.Hosts.{open_zones, zones_of, over_limit, over_op
 use Rattle.volume.specs.meaning.Calls.{format_state}
 use Rattle.volume.specs.meaning.Answers.{CallResult}
 use Rattle.volume.specs.meaning.State.{StateView}
-use Rattle.promise.specs.meaning.Claim.{writes, flushes, resets, formats, compacts, rebuilds, Volume, Mode, ready, stopped, down, System, Event, calls, reads, peeks, loses, next, all_but, NamesAll, Duty, Dutiful, start}
+use Rattle.promise.specs.meaning.Claim.{writes, flushes, resets, formats, compacts, Volume, Mode, ready, stopped, down, System, Event, calls, reads, peeks, loses, next, all_but, NamesAll, Duty, Dutiful, start}
 use Rattle.promise.specs.meaning.OnDevice.{on_device}
 use Rattle.promise.specs.meaning.Isolation.{Step, MayStand, events_in, AllMayStand, Run, Moment, calls_in}
 use Rattle.promise.specs.examples.Opened.{device_open}

@@ -16,9 +16,6 @@ use Rattle.volume.specs.meaning.Answers.{lost_in, left_out, named_drives, sector
 use Rattle.volume.specs.meaning.Refusals.{bad_pointers, two_lost, bad_labels, kind_lacks, bad_logs, state_within, two_absent, two_unnamed, stale, stale_somewhere, mount_full, reset_full, write_full, compact_full, gone_in, gone_before, not_held, format_rows, look_rows, mount_rows, write_rows, flush_rows, reset_rows, compact_rows, read_rows, peek_rows}
 use Rattle.volume.specs.meaning.Calls.{format_stores, write_stores, zone_content, write_with, flush_stores, reset_stores}
 use Rattle.volume.specs.meaning.Mount.{mount_stores, phases_of_logs, phases_before_entries, phases_of_parity_logs, phases_of_entries, mount_look, mount_shows, after_opening, spare_step, label_step, reset_entry_step, zone_reset_step, counter_step, counters_differ, seal_step, torn_row_step, fill_step, entry_step}
-use Rattle.volume.specs.meaning.Rebuild.{rebuilt_column, rebuilt_seals, first_labels, rebuild_stores, rebuild_all}
-use Rattle.volume.specs.meaning.Refusals.{gone_somewhere, rebuild_rows}
-use Rattle.volume.specs.meaning.Answers.{rebuild_stores_of}
 use Rattle.volume.specs.meaning.CallContracts.{records_below, format_verdict, format_on, flush_verdict, flush_on, write_verdict, write_on, reset_verdict, reset_on, compact_verdict, compact_on, look_verdict, look_on, mount_verdict, stores_before, parity_log_stores, stores_to_parity_logs, mount_stores_on, mount_shown_on, mount_on, read_number, values_on, read_on, peek_number, peek_on}
 
 -- geometry and placement
@@ -68,11 +65,6 @@ stores_open = true
 unfoldable pub mount_open : Bool
 unfolding mount_stores phases_of_logs phases_before_entries phases_of_parity_logs phases_of_entries mount_look mount_shows after_opening spare_step label_step reset_entry_step zone_reset_step counter_step counters_differ seal_step torn_row_step fill_step entry_step
 mount_open = true
-
--- a rebuild
-unfoldable pub rebuild_open : Bool
-unfolding rebuilt_column rebuilt_seals first_labels rebuild_stores rebuild_all gone_somewhere rebuild_rows rebuild_stores_of
-rebuild_open = true
 
 -- ---- a case on the device, and one on the tables
 unfoldable pub device_open : Bool

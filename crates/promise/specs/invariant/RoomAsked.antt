@@ -34,13 +34,6 @@ pub record ResetAccepted (g : Geometry) (present : ℕ → Bool) (r : ℕ → Ro
   pub logs : RoomAsked g false r w present (emptied_for g present false r w (reset_limit g)) (reset_limit g) (general_sizes g f w)
   pub blank : SparesBlank w (emptied_for g present false r w (reset_limit g))
 
--- ---- a rebuild of slot x (refusals 20, 14; present: the others)
-pub record RebuildAccepted (g : Geometry) (present : ℕ → Bool) (r : ℕ → Roles) (w : Device) (f : InForce) (state : StateView) (x : ℕ) : Type 0 where
-  pub slot_lt : x < g.drives
-  pub lost_is : state.lost ≡ x
-  pub logs : RoomAsked g false r w present (emptied_for g present false r w (reset_limit g)) (reset_limit g) (general_sizes g f w)
-  pub blank : SparesBlank w (emptied_for g present false r w (reset_limit g))
-
 -- ---- a compact of drive d (refusals 8, 14)
 pub record CompactAccepted (g : Geometry) (present : ℕ → Bool) (r : ℕ → Roles) (w : Device) (f : InForce) (d : ℕ) : Type 0 where
   pub here : present d ≡ true

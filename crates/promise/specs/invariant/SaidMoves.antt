@@ -16,7 +16,7 @@ use Rattle.promise.specs.invariant.Invariant.{Here, Said, ZoneFacts, CappedIn, C
 
 -- ---- headers of zone z
 -- if it speaks of zone z, then A; and by A it is of a generation such that Q
-pub then_of : (h : Header) (z : ℕ) (A : Type 0) (Q : ℕ → Type 0) → zone_gen h (λ y n. y ≡ z → A) → (A → zone_gen h (λ y n. y ≡ z → Q n)) → zone_gen h (λ y n. y ≡ z → Q n)
+then_of : (h : Header) (z : ℕ) (A : Type 0) (Q : ℕ → Type 0) → zone_gen h (λ y n. y ≡ z → A) → (A → zone_gen h (λ y n. y ≡ z → Q n)) → zone_gen h (λ y n. y ≡ z → Q n)
 then_of (label x a) z A Q p k = tt
 then_of (counters cs) z A Q p k = tt
 then_of (zone_reset y n) z A Q p k = λ e. k (p e) e
@@ -32,7 +32,7 @@ always_of (partial_parity y s f n) z A p = λ e. p
 always_of (seal y c n) z A p = λ e. p
 always_of (closing kind gen) z A p = tt
 
-pub map_of : (h : Header) (z : ℕ) (P Q : ℕ → Type 0) → ((n : ℕ) → P n → Q n) → zone_gen h (λ y n. y ≡ z → P n) → zone_gen h (λ y n. y ≡ z → Q n)
+map_of : (h : Header) (z : ℕ) (P Q : ℕ → Type 0) → ((n : ℕ) → P n → Q n) → zone_gen h (λ y n. y ≡ z → P n) → zone_gen h (λ y n. y ≡ z → Q n)
 map_of (label x a) z P Q f p = tt
 map_of (counters cs) z P Q f p = tt
 map_of (zone_reset y n) z P Q f p = λ e. f n (p e)

@@ -16,7 +16,7 @@ use Rattle.volume.specs.meaning.Hosts.{half_past}
 use Rattle.volume.specs.meaning.Rules.{Shown}
 use Rattle.volume.specs.meaning.Refusals.{WriteAsked, zone_asked}
 use Rattle.promise.specs.meaning.Ledger.{Ledger, is_refused, noted}
-use Rattle.promise.specs.meaning.Claim.{Call, mounts, writes, flushes, resets, formats, compacts, rebuilds, Volume, System, Event, calls, looks, reads, peeks, reports, cuts, loses, Mode, ready, stopped, mode_after, note_of, reply_to, next, answered, NamesAll, Duty}
+use Rattle.promise.specs.meaning.Claim.{Call, mounts, writes, flushes, resets, formats, compacts, Volume, System, Event, calls, looks, reads, peeks, reports, cuts, loses, Mode, ready, stopped, mode_after, note_of, reply_to, next, answered, NamesAll, Duty}
 use Rattle.promise.specs.meaning.Isolation.{MayStand, has_finished, stores_to, Compacted, finishes, compacted_in, SameZone}
 use Rattle.promise.specs.isolation.Laws.{SameView, Laws}
 use Rattle.promise.specs.isolation.Shares.{renew_all, share_apart, renewed_at, other_owner}
@@ -64,7 +64,6 @@ noted_refused g flushes k l = refl
 noted_refused g (resets z) k l = refl
 noted_refused g (formats array) k l = refl
 noted_refused g (compacts d) k l = refl
-noted_refused g (rebuilds x) k l = refl
 
 -- no compact, no emptying
 pub none_emptied : (b : Bool) → ◌≡◌ {A = List Compacted} (pick b [] []) []
@@ -198,7 +197,6 @@ module _ (g : Geometry) (vol : Volume) (h : ℕ) where
     moved desk (calls (resets z) m stop) (n, r, c) k goes own = call_moved (resets z) m n stop (after_reset_lem m n r stop z) goes
     moved desk (calls (formats array) m stop) d k goes own = absurd k
     moved desk (calls (compacts x) m stop) (n, r, c) k goes own = call_moved (compacts x) m n stop (after_compact m n r stop x) goes
-    moved desk (calls (rebuilds x) m stop) d k goes own = absurd k
     moved desk (looks m) d k goes own = still (looks m) (same_view _ _ refl) (λ z. refl) refl
     moved desk (reads m a count out) d k goes own = still (reads m a count out) (same_view _ _ refl) (λ z. refl) refl
     moved desk (peeks m a) d k goes own = still (peeks m a) (same_view _ _ refl) (λ z. refl) refl

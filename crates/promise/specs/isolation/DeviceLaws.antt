@@ -20,7 +20,7 @@ use Rattle.volume.specs.meaning.Hosts.{half_past, renewed_shares}
 use Rattle.volume.specs.meaning.Refusals.{Verdict, refuse, accept, first_refusal, TableLengths, zone_asked, tables_fit, no_zone, no_host, bad_pointers, write_rows, reset_rows}
 use Rattle.volume.specs.meaning.Answers.{CallResult, StoringCall, storing}
 use Rattle.volume.specs.laws.Refusals.{accepted_row}
-use Rattle.promise.specs.meaning.Claim.{Call, writes, flushes, resets, compacts, rebuilds, System, calls, ready, answered, heard, NamesAll}
+use Rattle.promise.specs.meaning.Claim.{Call, writes, flushes, resets, compacts, System, calls, ready, answered, heard, NamesAll}
 use Rattle.promise.specs.meaning.OnDevice.{call_of, on_device}
 use Rattle.promise.specs.device.Heard.{answer_heard}
 use Rattle.promise.specs.device.AcceptedCalls.{storing_finished}

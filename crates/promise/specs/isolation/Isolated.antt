@@ -7,7 +7,7 @@ use Rattle.tables.specs.declared.Geometry.{Geometry}
 use Rattle.volume.specs.declared.Answer.TheVariants.{Finished}
 use Rattle.volume.specs.declared.Owner.TheVariants.{Nobody}
 use Rattle.volume.specs.meaning.State.{is_owner}
-use Rattle.promise.specs.meaning.Claim.{Volume, System, Event, calls, mounts, rebuilds, answered, heard, next, Duty, Dutiful}
+use Rattle.promise.specs.meaning.Claim.{Volume, System, Event, calls, mounts, answered, heard, next, Duty, Dutiful}
 use Rattle.promise.specs.meaning.Histories.{after_all}
 use Rattle.promise.specs.meaning.Isolation.{Step, is_call, MayStand, stores_to, reads_from, Compacted, changed_in, named_in, compacted_in, calls_in, Moment, AgreeAt, AllAgree, AllHearSame, is_promised, Isolated, IsolatedFrom}
 use Rattle.promise.specs.isolation.Laws.{Laws}
@@ -155,19 +155,14 @@ module _ (g : Geometry) (vol : Volume) (Ok : System vol → Type 0) (laws : Laws
   before_last [] e s ok d = (ok, d.0)
   before_last (b ∷ before) e s ok d = before_last before e (next g vol s b) (laws.kept s b ok d.0) d.1
 
-  -- from a finished format on, and from each finished mount or rebuild on: these leave every zone to nobody
+  -- from a finished format on, and from each finished mount on: these leave every zone to nobody
   pub isolated_from : (s0 : System vol) → Ok s0 → NoOwners g vol s0
       → ((s : System vol) (by : vol.Names) (count : ℕ) → Ok s → Duty g vol s (calls mounts by count) → heard s (calls mounts by count) ≡ answered Finished → NoOwners g vol (next g vol s (calls mounts by count)))
-      → ((s : System vol) (by : vol.Names) (x count : ℕ) → Ok s → Duty g vol s (calls (rebuilds x) by count) → heard s (calls (rebuilds x) by count) ≡ answered Finished → NoOwners g vol (next g vol s (calls (rebuilds x) by count)))
       → IsolatedFrom g vol s0
-  isolated_from s0 ok none mounted rebuilt = record {
+  isolated_from s0 ok none mounted = record {
     from_format = isolated s0 ok none;
     from_mount = λ before by count d e.
         let (o, k) = before_last before (calls mounts by count) s0 ok d in
         let s = after_all g vol s0 before in
         isolated (next g vol s (calls mounts by count)) (laws.kept s (calls mounts by count) o k) (mounted s by count o k e);
-    from_rebuild = λ before by x count d e.
-        let (o, k) = before_last before (calls (rebuilds x) by count) s0 ok d in
-        let s = after_all g vol s0 before in
-        isolated (next g vol s (calls (rebuilds x) by count)) (laws.kept s (calls (rebuilds x) by count) o k) (rebuilt s by x count o k e);
   }

@@ -11,7 +11,7 @@ use Rattle.volume.specs.meaning.Emptying.{unused_in}
 use Rattle.volume.specs.meaning.Calls.{flush_state, reset_state}
 use Rattle.volume.specs.meaning.Hosts.{open_zones, zones_of, half_past, renewed_shares, written_state}
 use Rattle.volume.specs.meaning.Refusals.{WriteAsked, zone_asked, zone_of}
-use Rattle.promise.specs.meaning.Claim.{Call, writes, flushes, resets, compacts, rebuilds, Volume, System, Event, calls, reads, peeks, ready, next, answered, heard, all_but, NamesAll, Duty}
+use Rattle.promise.specs.meaning.Claim.{Call, writes, flushes, resets, compacts, Volume, System, Event, calls, reads, peeks, ready, next, answered, heard, all_but, NamesAll, Duty}
 use Rattle.promise.specs.meaning.Isolation.{general_log}
 
 -- two views say the same of the volume's zones and shares

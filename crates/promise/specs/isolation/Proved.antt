@@ -16,7 +16,7 @@ use Rattle.volume.specs.meaning.Hosts.{fresh_shares}
 use Rattle.volume.specs.meaning.Refusals.{TableLengths, first_refusal, tables_fit, format_rows, bad_pointers}
 use Rattle.volume.specs.meaning.Answers.{left_out, named_drives}
 use Rattle.volume.specs.meaning.CallContracts.{is_set, view_state, format_verdict, format_on, state_held}
-use Rattle.promise.specs.meaning.Claim.{mounts, formats, System, calls, answered, heard, next, Duty, start, rebuilds}
+use Rattle.promise.specs.meaning.Claim.{mounts, formats, System, calls, answered, heard, next, Duty, start}
 use Rattle.promise.specs.meaning.OnDevice.{state_shown, on_device}
 use Rattle.promise.specs.meaning.OnTables.{on_tables}
 use Rattle.promise.specs.meaning.Caches.{WithCaches, beneath, device_caches, on_caching_device}
@@ -30,7 +30,6 @@ use Rattle.promise.specs.tables.TablesClaimProof.{format_numbered_on, tables_pro
 use Rattle.promise.specs.tables.CachedTablesClaim.{tables_start_cached}
 use Rattle.promise.specs.tables.RoomyTables.{TablesKnown, CachedTablesKnown, cached_next}
 use Rattle.promise.specs.tables.RoomyTables as roomy
-use Rattle.promise.specs.tables.RebuildTables as rebuilt
 use Rattle.promise.specs.isolation.Laws.{Laws}
 use Rattle.promise.specs.isolation.Isolated.{NoOwners, isolated_from}
 use Rattle.promise.specs.isolation.DeviceLaws.{device_laws, state_after_lem}
@@ -49,9 +48,6 @@ module _ (g : Geometry) (t : TableLengths) where
     mount_owners : (s : System (on_device g t)) (by : ℕ → Bool) (count : ℕ) → heard s (calls mounts by count) ≡ answered Finished → NoOwners g (on_device g t) (next g (on_device g t) s (calls mounts by count))
     mount_owners s by count e z h = rw (state_after_lem g ok t wb lf s by mounts count e) refl
 
-    rebuild_owners : (s : System (on_device g t)) (by : ℕ → Bool) (x count : ℕ) → heard s (calls (rebuilds x) by count) ≡ answered Finished → NoOwners g (on_device g t) (next g (on_device g t) s (calls (rebuilds x) by count))
-    rebuild_owners s by x count e z h = rw (state_after_lem g ok t wb lf s by (rebuilds x) count e) refl
-
 pub device_isolated : IsolationClaim
 device_isolated g t = (plain, cached)
   where
@@ -67,7 +63,7 @@ device_isolated g t = (plain, cached)
         let (wb, lf, k) = begun named array old stop (record { memory = v; was = λ d z. [] }) small e in
         let ok = valid_if_test g wb in
         isolated_from g (on_device g t) (Known g t) (device_laws g ok t wb lf) (start g (on_device g t) named ((on_device g t).call (formats array) named old stop v)) (known g ok t _ k) (format_owners g t named array old stop v e)
-        (λ s by count o d f. mount_owners g t ok wb lf s by count f) (λ s by x count o d f. rebuild_owners g t ok wb lf s by x count f)
+        (λ s by count o d f. mount_owners g t ok wb lf s by count f)
 
     cached : DesksIsolated g (on_caching_device g t)
     cached named array old stop m small e =
@@ -75,7 +71,7 @@ device_isolated g t = (plain, cached)
         let ok = valid_if_test g wb in
         isolated_from g (on_caching_device g t) (CachedKnown g t) (caching_laws g (on_device g t) (device_caches g t) (Known g t) (device_laws g ok t wb lf) (CachedKnown g t) (known g ok t) (λ s e k d. known_next g ok t s k e d))
         (start g (on_caching_device g t) named ((on_caching_device g t).call (formats array) named old stop m)) k (format_owners g t named array old stop m.memory e)
-        (λ s by count o d f. mount_owners g t ok wb lf (beneath (on_device g t) (device_caches g t) s) by count f) (λ s by x count o d f. rebuild_owners g t ok wb lf (beneath (on_device g t) (device_caches g t) s) by x count f)
+        (λ s by count o d f. mount_owners g t ok wb lf (beneath (on_device g t) (device_caches g t) s) by count f)
 
 -- ==== on the tables
 module _ (g : Geometry) where
@@ -94,10 +90,6 @@ module _ (g : Geometry) where
         let shown = state_shown g (is_set by) ((on_tables g).seen s.memory) ((on_tables g).seen w) in
         ap (λ (st : State). (view_state st).owner z) ((tables_promise g (valid_if_test g wb) wb s k.ok).mount_fits by n m count e).0 ∙ sym ((held_agrees g g.zones shown (omega arith)).owner_same z h)
 
-    pub tables_rebuild_owners : (s : System (on_tables g)) → TablesKnown g s → (by : List Bool) (x count : ℕ) → Duty g (on_tables g) s (calls (rebuilds x) by count) → heard s (calls (rebuilds x) by count) ≡ answered Finished
-        → NoOwners g (on_tables g) (next g (on_tables g) s (calls (rebuilds x) by count))
-    tables_rebuild_owners s k by x count (n, m, q) e z h = rebuilt.rebuild_owners g (valid_if_test g wb) s k.ok by n m x count e z h
-
 pub tables_isolated : IsolationTablesClaim
 tables_isolated g = (plain, cached)
   where
@@ -105,7 +97,7 @@ tables_isolated g = (plain, cached)
     plain named array old stop t small e =
         let (wb, o) = tables_start g named array old stop t small e in
         isolated_from g (on_tables g) (TablesKnown g) (tables_laws g wb) (start g (on_tables g) named ((on_tables g).call (formats array) named old stop t)) (record { ok = o; blank = λ i. tables_start_blank g named array old stop t small e })
-        (tables_format_owners g named array old stop t e) (λ s by count k d f. tables_mount_owners g wb s k by count d f) (λ s by x count k d f. tables_rebuild_owners g wb s k by x count d f)
+        (tables_format_owners g named array old stop t e) (λ s by count k d f. tables_mount_owners g wb s k by count d f)
 
     cached : DesksIsolated g (on_caching_tables g)
     cached named array old stop m small e =
@@ -115,4 +107,3 @@ tables_isolated g = (plain, cached)
         (start g (on_caching_tables g) named ((on_caching_tables g).call (formats array) named old stop m)) (record { ok = o; blank = λ i. tables_start_blank g named array old stop m.memory small e })
         (tables_format_owners g named array old stop m.memory e)
         (λ s by count k d f. tables_mount_owners g wb (beneath (on_tables g) (tables_caches g) s) (under s k) by count (record { drives = d.0.drives }, d.1, d.2) f)
-        (λ s by x count k d f. tables_rebuild_owners g wb (beneath (on_tables g) (tables_caches g) s) (under s k) by x count (record { drives = d.0.drives }, d.1, d.2) f)

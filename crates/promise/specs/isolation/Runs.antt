@@ -4,7 +4,7 @@ use Rattle.std.proofs.Common.{sym, ap, ◌∙◌, subst, arith, append_assoc}
 use Rattle.tables.specs.laws.Basics.{not_both, or_none}
 use Rattle.tables.specs.declared.Geometry.{Geometry}
 use Rattle.volume.specs.meaning.State.{hosts}
-use Rattle.promise.specs.meaning.Claim.{mounts, writes, flushes, resets, formats, compacts, rebuilds, Volume, System, Event, calls, looks, reads, peeks, reports, cuts, loses, Mode, ready, stopped, MayMount, next, Duty, Dutiful}
+use Rattle.promise.specs.meaning.Claim.{mounts, writes, flushes, resets, formats, compacts, Volume, System, Event, calls, looks, reads, peeks, reports, cuts, loses, Mode, ready, stopped, MayMount, next, Duty, Dutiful}
 use Rattle.promise.specs.meaning.Isolation.{Step, is_call, MayStand, stores_to, Compacted, finishes, changed_in, compacted_in, calls_in, Moment, events_in, AllMayStand, SameZone, AllAgree, AllHearSame}
 use Rattle.promise.specs.isolation.Laws.{Laws}
 use Rattle.promise.specs.isolation.Shares.{renew_all, renew_append, renew_cong}

@@ -17,7 +17,7 @@ use Rattle.volume.specs.meaning.Content.{parity_drive_at}
 use Rattle.volume.specs.meaning.Calls.{empty_condition}
 use Rattle.volume.specs.meaning.Hosts.{entry_taken}
 use Rattle.volume.specs.meaning.Refusals.{WriteAsked, zone_asked}
-use Rattle.promise.specs.meaning.Claim.{Call, mounts, writes, flushes, resets, formats, compacts, rebuilds, Volume, System, Event, calls, looks, reads, peeks, reports, cuts, loses, ready, next, answered, heard, NamesAll, Duty}
+use Rattle.promise.specs.meaning.Claim.{Call, mounts, writes, flushes, resets, formats, compacts, Volume, System, Event, calls, looks, reads, peeks, reports, cuts, loses, ready, next, answered, heard, NamesAll, Duty}
 use Rattle.promise.specs.meaning.Isolation.{Asked, to_store, to_look, to_read, to_peek, to_report, nothing, asked_by, MayStand, has_finished, finishes, compacted_in, SameZone}
 use Rattle.promise.specs.isolation.Laws.{Laws}
 use Rattle.promise.specs.isolation.Shares.{share_same}

@@ -24,17 +24,16 @@ use Rattle.volume.specs.meaning.Calls.{flush_stores, flush_state, reset_state, f
 use Rattle.volume.specs.meaning.Emptying.{unused_in, write_all, reset_all, compact_stores}
 use Rattle.volume.specs.meaning.Hosts.{half_past, renewed_shares, fresh_shares, written_state, compact_state}
 use Rattle.volume.specs.meaning.Refusals.{TableLengths, tables_fit, zone_asked}
-use Rattle.volume.specs.meaning.Answers.{told_at, place_of, present_in, lost_drive_in, lost_in, sectors_in, named_drives, left_out, rebuilt_shares}
-use Rattle.volume.specs.meaning.CallContracts.{view_state, is_set, lengths_of, roles_of, seen_in, state_held, verdict_number, bad_place_on, ReadResult, storing_on, write_on, flush_on, reset_on, format_on, compact_on, mount_on, byte_of, peek_number, peek_from, peek_on, after_stores, rebuild_verdict, rebuild_stores_on, rebuild_on}
+use Rattle.volume.specs.meaning.Answers.{told_at, place_of, present_in, lost_drive_in, lost_in, sectors_in, named_drives, left_out}
+use Rattle.volume.specs.meaning.CallContracts.{view_state, is_set, lengths_of, roles_of, seen_in, state_held, verdict_number, bad_place_on, ReadResult, storing_on, write_on, flush_on, reset_on, format_on, compact_on, mount_on, byte_of, peek_number, peek_from, peek_on}
 use Rattle.volume.specs.meaning.CallContracts.{mount_verdict, mount_stores_on, mount_shown_on, write_verdict, flush_verdict, reset_verdict, format_verdict, compact_verdict}
-use Rattle.promise.specs.meaning.Claim.{Call, mounts, writes, flushes, resets, formats, compacts, rebuilds, System, Event, calls, reads, peeks, read_out, peeked_at, answered, heard, next, ready, NamesAll, Peeked}
+use Rattle.promise.specs.meaning.Claim.{Call, mounts, writes, flushes, resets, formats, compacts, System, Event, calls, reads, peeks, read_out, peeked_at, answered, heard, next, ready, NamesAll, Peeked}
 use Rattle.promise.specs.meaning.OnDevice.{on_device}
 use Rattle.promise.specs.meaning.OnTables.{result_on, on_tables}
 use Rattle.promise.specs.device.Heard.{answer_heard, read_heard, peek_heard}
 use Rattle.promise.specs.device.ClaimProof.{kept as device-promise}
 use Rattle.promise.specs.shown.EveryPoint.{Known}
 use Rattle.promise.specs.tables.CallRefines.{Agree}
-use Rattle.promise.specs.device.LostAfter.{NoRebuild}
 use Rattle.promise.specs.tables.MountRefines.{call_refines, heard_as}
 use Rattle.promise.specs.tables.TablesEvents.{view_system, TablesOk, names_seen, call_agrees}
 use Rattle.promise.specs.tables.TablesClaimProof.{read_same, peek_number_same, tables_promise, tables_event}
@@ -71,7 +70,7 @@ stays g n ss new old count t told e ends = go (eqb n 0) (ltb count (length ss)) 
     go false c q = refl
 
 state_stays : (g : Geometry) (c : Call) (named : List Bool) (old : State) (stop : ℕ) (t : Tables) → (result_on g c named old stop t).outcome.answer ≢ Finished → (result_on g c named old stop t).outcome.state ≡ old
-unfolding mount_on write_on flush_on reset_on format_on compact_on rebuild_on
+unfolding mount_on write_on flush_on reset_on format_on compact_on
 state_stays g mounts named old stop t q =
     let present = present_in g (is_set named) (device_of g t) in
     let lost = lost_drive_in g (is_set named) (device_of g t) in
@@ -91,9 +90,6 @@ state_stays g (formats array) named old stop t q =
 state_stays g (compacts d) named old stop t q =
     let here = call_present g (is_set named) (view_state old) in
     stays g (verdict_number (compact_verdict g named old d t)) (compact_stores g here (roles_of g t) (seen_in g t) (view_state old) d) (state_held max_zones (compact_state g here (lost_in g (is_set named) (view_state old)) (seen_in g t) (view_state old) d)) old stop t (λ a. a) refl q
-state_stays g (rebuilds x) named old stop t q =
-    let xs = rebuild_stores_on g named old x t in
-    stays g (verdict_number (rebuild_verdict g named old x t)) xs (state_held max_zones (rebuilt_shares g (device_of g (after_stores g xs t)) (view_state old))) old stop t (λ a. a) refl q
 
 module _ (g : Geometry) (wb : is_valid g ≡ true) where
   abbrev ok : Valid g
@@ -126,15 +122,15 @@ module _ (g : Geometry) (wb : is_valid g ≡ true) where
   laws_at s k = device_laws g ok (lengths_for g) wb (fits s k)
 
   -- what a call on the tables answers, by the device
-  answer_at_lem : (s : System (on_tables g)) → TablesKnown g s → (named : List Bool) → NamesAll g (on_tables g) s named → (c : Call) → NoRebuild c → (stop : ℕ)
+  answer_at_lem : (s : System (on_tables g)) → TablesKnown g s → (named : List Bool) → NamesAll g (on_tables g) s named → (c : Call) (stop : ℕ)
       → ((on_device g (lengths_for g)).call c (is_set named) (view_state s.state) stop (device_of g s.memory)).answer ≡ (result_on g c named s.state stop s.memory).outcome.answer
-  answer_at_lem s k named n c nr stop =
+  answer_at_lem s k named n c stop =
       ap (λ (t : TableLengths). ((on_device g t).call c (is_set named) (view_state s.state) stop (device_of g s.memory)).answer) (sym (lengths_are g s.memory k.ok.sized))
-      ∙ (call_agrees g ok s k.ok c named stop (call_refines g ok s k.ok named n c nr stop)).answer_same
+      ∙ (call_agrees g ok s k.ok c named stop (call_refines g ok s k.ok named n c stop)).answer_same
 
-  call_same : (s o : System (on_tables g)) (m n : List Bool) → BothReady g (on_tables g) (TablesKnown g) s o m n → (c : Call) → NoRebuild c → (stop : ℕ)
+  call_same : (s o : System (on_tables g)) (m n : List Bool) → BothReady g (on_tables g) (TablesKnown g) s o m n → (c : Call) (stop : ℕ)
       → heard (seen_at g (lengths_for g) s) (calls c (is_set m) stop) ≡ heard (seen_at g (lengths_for g) o) (calls c (is_set n) stop) → heard s (calls c m stop) ≡ heard o (calls c n stop)
-  call_same s o m n b c nr stop e = ap answered (sym (answer_at_lem s b.first_ok m b.first_names c nr stop) ∙ answer_heard e ∙ answer_at_lem o b.second_ok n b.second_names c nr stop)
+  call_same s o m n b c stop e = ap answered (sym (answer_at_lem s b.first_ok m b.first_names c stop) ∙ answer_heard e ∙ answer_at_lem o b.second_ok n b.second_names c stop)
 
   read_at : (s : System (on_tables g)) → TablesKnown g s → (named : List Bool) → NamesAll g (on_tables g) s named → (a count : ℕ) (out : List ℕ)
       → (on_tables g).read named s.state a count out s.memory ≡ (on_device g (lengths_for g)).read (is_set named) (view_state s.state) a count out (device_of g s.memory)
@@ -174,24 +170,24 @@ module _ (g : Geometry) (wb : is_valid g ≡ true) where
       go (no q) = rw (ne_eqb (peek_number g m s.state a s.memory) 0 q, ne_eqb (peek_number g n o.state a o.memory) 0 (λ z. q (e ∙ z))) (ap (λ (i : ℕ). peeked_at i 0 []) e)
 
   -- ---- what a finished call makes of the state
-  module _ (s : System (on_tables g)) (k : TablesKnown g s) (named : List Bool) (n : NamesAll g (on_tables g) s named) (c : Call) (nr : NoRebuild c) (stop : ℕ) where
+  module _ (s : System (on_tables g)) (k : TablesKnown g s) (named : List Bool) (n : NamesAll g (on_tables g) s named) (c : Call) (stop : ℕ) where
     finished_at : heard s (calls c named stop) ≡ answered Finished → heard (seen_at g (lengths_for g) s) (calls c (is_set named) stop) ≡ answered Finished
-    finished_at e = ap answered (answer_at_lem s k named n c nr stop ∙ answer_heard e)
+    finished_at e = ap answered (answer_at_lem s k named n c stop ∙ answer_heard e)
 
     agrees_at : Agree g (next g (on_device g (lengths_for g)) (seen_at g (lengths_for g) s) (calls c (is_set named) stop)).state (view_state (next g (on_tables g) s (calls c named stop)).state)
     agrees_at = subst (λ (t : TableLengths). Agree g ((on_device g t).call c (is_set named) (view_state s.state) stop (device_of g s.memory)).state (view_state (result_on g c named s.state stop s.memory).outcome.state)) (lengths_are g s.memory k.ok.sized)
-        (call_agrees g ok s k.ok c named stop (call_refines g ok s k.ok named n c nr stop)).state_agrees
+        (call_agrees g ok s k.ok c named stop (call_refines g ok s k.ok named n c stop)).state_agrees
 
     memory_at : (next g (on_device g (lengths_for g)) (seen_at g (lengths_for g) s) (calls c (is_set named) stop)).memory ≡ device_of g (next g (on_tables g) s (calls c named stop)).memory
     memory_at = ap (λ (t : TableLengths). ((on_device g t).call c (is_set named) (view_state s.state) stop (device_of g s.memory)).memory) (sym (lengths_are g s.memory k.ok.sized))
-        ∙ (call_agrees g ok s k.ok c named stop (call_refines g ok s k.ok named n c nr stop)).memory_same
+        ∙ (call_agrees g ok s k.ok c named stop (call_refines g ok s k.ok named n c stop)).memory_same
 
   pub tables_laws : Laws g (on_tables g) (TablesKnown g)
   tables_laws = record {
     kept = λ s e k d. record { ok = tables_event g ok wb s k.ok e d; blank = event_blank_on g wb s k e d };
-    write_heard = λ s o m n b w stop same counts zones shares. call_same s o m n b (writes w) tt stop ((laws_at s b.first_ok).write_heard (seen_at g T s) (seen_at g T o) (is_set m) (is_set n) (both_at s o m n b) w stop same counts zones shares);
-    flush_heard = λ s o m n b stop. call_same s o m n b flushes tt stop ((laws_at s b.first_ok).flush_heard (seen_at g T s) (seen_at g T o) (is_set m) (is_set n) (both_at s o m n b) stop);
-    reset_heard = λ s o m n b z stop same logs. call_same s o m n b (resets z) tt stop ((laws_at s b.first_ok).reset_heard (seen_at g T s) (seen_at g T o) (is_set m) (is_set n) (both_at s o m n b) z stop same logs);
+    write_heard = λ s o m n b w stop same counts zones shares. call_same s o m n b (writes w) stop ((laws_at s b.first_ok).write_heard (seen_at g T s) (seen_at g T o) (is_set m) (is_set n) (both_at s o m n b) w stop same counts zones shares);
+    flush_heard = λ s o m n b stop. call_same s o m n b flushes stop ((laws_at s b.first_ok).flush_heard (seen_at g T s) (seen_at g T o) (is_set m) (is_set n) (both_at s o m n b) stop);
+    reset_heard = λ s o m n b z stop same logs. call_same s o m n b (resets z) stop ((laws_at s b.first_ok).reset_heard (seen_at g T s) (seen_at g T o) (is_set m) (is_set n) (both_at s o m n b) z stop same logs);
     read_heard = λ s o m n b a count out same contents.
         let (p, q) = read_heard ((laws_at s b.first_ok).read_heard (seen_at g T s) (seen_at g T o) (is_set m) (is_set n) (both_at s o m n b) a count out same contents) in
         let i = read_at s b.first_ok m b.first_names a count out in
@@ -201,15 +197,15 @@ module _ (g : Geometry) (wb : is_valid g ≡ true) where
         let (p, q, r) = peek_heard ((laws_at s b.first_ok).peek_heard (seen_at g T s) (seen_at g T o) (is_set m) (is_set n) (both_at s o m n b) a same contents) in
         peek_same s o m n b a (number_at s b.first_ok m b.first_names a ∙ p ∙ sym (number_at o b.second_ok n b.second_names a)) r;
     write_moves = λ s m k r n w stop e.
-        let (v, h, z) = (laws_at s k).write_moves (seen_at g T s) (is_set m) (known_at_lem s k) r (names_at s m n) w stop (finished_at s k m n (writes w) tt stop e) in
-        (agree_view g ok _ _ _ (agrees_at s k m n (writes w) tt stop) v, h, z);
-    flush_moves = λ s m k r n stop e. agree_view g ok _ _ _ (agrees_at s k m n flushes tt stop) ((laws_at s k).flush_moves (seen_at g T s) (is_set m) (known_at_lem s k) r (names_at s m n) stop (finished_at s k m n flushes tt stop e));
+        let (v, h, z) = (laws_at s k).write_moves (seen_at g T s) (is_set m) (known_at_lem s k) r (names_at s m n) w stop (finished_at s k m n (writes w) stop e) in
+        (agree_view g ok _ _ _ (agrees_at s k m n (writes w) stop) v, h, z);
+    flush_moves = λ s m k r n stop e. agree_view g ok _ _ _ (agrees_at s k m n flushes stop) ((laws_at s k).flush_moves (seen_at g T s) (is_set m) (known_at_lem s k) r (names_at s m n) stop (finished_at s k m n flushes stop e));
     reset_moves = λ s m k r n z stop e.
-        let (v, h) = (laws_at s k).reset_moves (seen_at g T s) (is_set m) (known_at_lem s k) r (names_at s m n) z stop (finished_at s k m n (resets z) tt stop e) in
-        (agree_view g ok _ _ _ (agrees_at s k m n (resets z) tt stop) v, h);
+        let (v, h) = (laws_at s k).reset_moves (seen_at g T s) (is_set m) (known_at_lem s k) r (names_at s m n) z stop (finished_at s k m n (resets z) stop e) in
+        (agree_view g ok _ _ _ (agrees_at s k m n (resets z) stop) v, h);
     compact_moves = λ s m k r n d stop e.
-        let v = (laws_at s k).compact_moves (seen_at g T s) (is_set m) (known_at_lem s k) r (names_at s m n) d stop (finished_at s k m n (compacts d) tt stop e) in
-        let b = agree_view g ok _ _ _ (agrees_at s k m n (compacts d) tt stop) v in
-        subst (λ (w : Device). SameView g (view_state (next g (on_tables g) s (calls (compacts d) m stop)).state) (with_shares (renewed_shares (view_state s.state).share d (half_past g (unused_in g true (roles g w) (by_roles g w) d))) (view_state s.state))) (memory_at s k m n (compacts d) tt stop) b;
+        let v = (laws_at s k).compact_moves (seen_at g T s) (is_set m) (known_at_lem s k) r (names_at s m n) d stop (finished_at s k m n (compacts d) stop e) in
+        let b = agree_view g ok _ _ _ (agrees_at s k m n (compacts d) stop) v in
+        subst (λ (w : Device). SameView g (view_state (next g (on_tables g) s (calls (compacts d) m stop)).state) (with_shares (renewed_shares (view_state s.state).share d (half_past g (unused_in g true (roles g w) (by_roles g w) d))) (view_state s.state))) (memory_at s k m n (compacts d) stop) b;
     not_finished = λ s m k n c stop a e ends. ap view_state (state_stays g c m s.state stop s.memory (λ q. ends (sym (answer_heard e) ∙ q)));
   }

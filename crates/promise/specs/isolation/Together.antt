@@ -7,7 +7,7 @@ use Rattle.tables.specs.declared.Geometry.{Geometry}
 use Rattle.volume.specs.meaning.State.{hosts}
 use Rattle.volume.specs.meaning.Hosts.{open_zones, zones_of}
 use Rattle.volume.specs.meaning.Refusals.{WriteAsked, zone_asked, zone_of}
-use Rattle.promise.specs.meaning.Claim.{Call, mounts, writes, flushes, resets, formats, compacts, rebuilds, Volume, System, Event, calls, looks, reads, peeks, reports, cuts, loses, ready, heard, all_but, NamesAll, Duty}
+use Rattle.promise.specs.meaning.Claim.{Call, mounts, writes, flushes, resets, formats, compacts, Volume, System, Event, calls, looks, reads, peeks, reports, cuts, loses, ready, heard, all_but, NamesAll, Duty}
 use Rattle.promise.specs.meaning.Isolation.{to_store, to_read, to_peek, asked_by, MayStand, stores_to, reads_from, general_log, SameZone, is_promised}
 use Rattle.promise.specs.isolation.Laws.{SameRecord, BothReady, Laws}
 use Rattle.promise.specs.isolation.Alone.{share_of}

@@ -58,13 +58,6 @@ module _ (g : Geometry) (d : ℕ) where
       let (a, b) = heads_whole hs (λ k m. r k (Memᴰ.tail m)) in
       rw (eq-eqb zero (rows_of g h) z) (ap (λ (r : List Entry). bare_entry h ∷ r) a, b)
 
-  -- so a walk of their sectors gives them back
-  pub heads_walk : (hs : List Header) → ((h : Header) → Memᴰ h hs → Reads g d false h) → length hs ≤ g.capacity → ((walk_log g d false (map (encode g d) hs)).entries ≡ map bare_entry hs) × ((walk_log g d false (map (encode g d) hs)).last ≡ at_pointer)
-  heads_walk hs r n =
-      let (p, q) = walk_lawful g d false (map bare_entry hs) zero (heads_lawful hs r) (omega (arith, heads_extent hs r)) in
-      let (e, f) = heads_whole hs r in
-      rw (← heads_flat hs) (p ∙ e, q ∙ f)
-
 pub ending_fine : (g : Geometry) (d : ℕ) (par : Bool) (es : List Entry) → is_no_entry (ending_of g d par es) ≡ false
 ending_fine g d par [] = refl
 ending_fine g d par (e ∷ es) = go (is_whole g d par e) (ending_fine g d par es)
@@ -83,8 +76,13 @@ module _ (g : Geometry) (ok : Valid g) (x : ℕ) (v : Device) (γ : Ghost) (lg :
   -- ---- the logs are the ghosts
   general_all : (d : ℕ) → Here g x d → ((walk_log g d false (v d general_zone).sectors).entries ≡ map bare_entry (γ.general d)) × ((walk_log g d false (v d general_zone).sectors).last ≡ at_pointer)
   general_all d a =
-      let n : length (γ.general d) ≤ g.capacity = rw (lg.general_is d a, length_map (encode g d) (γ.general d)) at (lg.place_fits d general_zone a (omega arith)) in
-      rw (lg.general_is d a) (heads_walk g d (γ.general d) (lg.general_reads d a) n)
+      let hs = γ.general d in
+      let rd = lg.general_reads d a in
+      let s : (v d general_zone).sectors ≡ sectors_of_all g d false (map bare_entry hs) = lg.general_is d a ∙ sym (heads_flat g d hs) in
+      let n : length hs ≤ g.capacity = rw (lg.general_is d a, length_map (encode g d) hs) at (lg.place_fits d general_zone a (omega arith)) in
+      let (p, q) = walk_lawful g d false (map bare_entry hs) zero (heads_lawful g d hs rd) (omega (arith, heads_extent g d hs rd)) in
+      let (e, f) = heads_whole g d hs rd in
+      rw s (p ∙ e, q ∙ f)
 
   pub general_heads_lem : (d : ℕ) → Here g x d → general_heads g v d ≡ γ.general d
   unfolding general_heads

@@ -7,7 +7,7 @@ use Rattle.tables.specs.meaning.Drives.{no_drive}
 use Rattle.volume.specs.declared.Answer.{Answer}
 use Rattle.volume.specs.declared.Answer.TheVariants.{Finished, Unfinished, Refused, BadLog}
 use Rattle.volume.specs.meaning.Rules.{Shown}
-use Rattle.promise.specs.meaning.Claim.{mounts, formats, rebuilds, Volume, System, Event, calls, looks, reads, peeks, reports, cuts, loses, next, Dutiful, SameZones, start}
+use Rattle.promise.specs.meaning.Claim.{mounts, formats, Volume, System, Event, calls, looks, reads, peeks, reports, cuts, loses, next, Dutiful, SameZones, start}
 use Rattle.promise.specs.meaning.Histories.{ShowsAlike, after_all}
 use Rattle.promise.specs.meaning.Emptied.{NamesBut}
 
@@ -53,14 +53,3 @@ module _ (g : Geometry) (vol : Volume) where
   abbrev pub AnyDriveClaim : Type 0
   AnyDriveClaim = (named : vol.Names) (array : ℕ) (old : vol.State) (stop : ℕ) (m : vol.Memory) → array < 256 ^ 8
       → let r = vol.call (formats array) named old stop m in r.answer ≡ Finished → AnyDriveFrom (start g vol named r)
-
-  -- AND SO AFTER A FINISHED REBUILD: no drive is lost then, and what counts is what the look that names every drive shows there
-  abbrev pub AnyDriveRebuilt : System vol → Type 0
-  AnyDriveRebuilt s0 = (before after : List (Event vol)) (by : vol.Names) (x count : ℕ) → Dutiful g vol s0 (before ++ (calls (rebuilds x) by count ∷ after))
-      → let s = after_all g vol s0 before in let t = next g vol s (calls (rebuilds x) by count) in
-      (vol.call (rebuilds x) by s.state count s.memory).answer ≡ Finished → AllStoreNothing t after → (every : vol.Names) → NamesBut g vol no_drive every
-      → AnyDriveMayGo (vol.shows every t.memory t.memory) t.state (after_all g vol t after)
-
-  abbrev pub AnyDriveRebuiltClaim : Type 0
-  AnyDriveRebuiltClaim = (named : vol.Names) (array : ℕ) (old : vol.State) (stop : ℕ) (m : vol.Memory) → array < 256 ^ 8
-      → let r = vol.call (formats array) named old stop m in r.answer ≡ Finished → AnyDriveRebuilt (start g vol named r)

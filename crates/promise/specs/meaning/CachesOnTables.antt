@@ -12,8 +12,8 @@ use Rattle.volume.specs.meaning.Refusals.{zone_asked}
 use Rattle.volume.specs.meaning.Calls.{flush_stores, format_stores}
 use Rattle.volume.specs.meaning.Emptying.{write_all, reset_all, compact_stores}
 use Rattle.volume.specs.meaning.Answers.{left_out, named_drives, sectors_in, present_in, lost_drive_in}
-use Rattle.volume.specs.meaning.CallContracts.{view_state, is_set, roles_of, seen_in, flush_verdict, reset_verdict, write_verdict, format_verdict, compact_verdict, rebuild_verdict, rebuild_stores_on, mount_verdict, mount_stores_on}
-use Rattle.promise.specs.meaning.Claim.{Call, mounts, writes, flushes, resets, formats, compacts, rebuilds, Volume, KeepsPromise}
+use Rattle.volume.specs.meaning.CallContracts.{view_state, is_set, roles_of, seen_in, flush_verdict, reset_verdict, write_verdict, format_verdict, compact_verdict, mount_verdict, mount_stores_on}
+use Rattle.promise.specs.meaning.Claim.{Call, mounts, writes, flushes, resets, formats, compacts, Volume, KeepsPromise}
 use Rattle.promise.specs.meaning.OnTables.{on_tables}
 use Rattle.promise.specs.meaning.Caches.{Remembered, made_by, Caches, with_caches}
 
@@ -48,7 +48,6 @@ made_on g flushes named state stop t = made_by (flush_verdict g named state t) (
 made_on g (resets z) named state stop t = made_by (reset_verdict g named state z t) (reset_all g (call_present g (is_set named) (view_state state)) (roles_of g t) (seen_in g t) (view_state state) z) stop
 made_on g (formats array) named state stop t = made_by (format_verdict g named t) (format_stores g (named_drives g (is_set named)) (left_out g (is_set named)) array) stop
 made_on g (compacts d) named state stop t = made_by (compact_verdict g named state d t) (compact_stores g (call_present g (is_set named) (view_state state)) (roles_of g t) (seen_in g t) (view_state state) d) stop
-made_on g (rebuilds x) named state stop t = made_by (rebuild_verdict g named state x t) (rebuild_stores_on g named state x t) stop
 
 abbrev pub tables_caches : (g : Geometry) → Caches (on_tables g)
 tables_caches g = record {

@@ -22,7 +22,7 @@ use Rattle.volume.specs.meaning.Refusals.{WriteAsked, zone_of, offset_of, zone_a
 use Rattle.volume.specs.meaning.Answers.{CallResult, left_out, sectors_in, place_of}
 use Rattle.volume.specs.meaning.CallContracts.{ReadResult, byte_of}
 use Rattle.volume.specs.meaning.Report.{ReportResult}
-use Rattle.promise.specs.meaning.Ledger.{Ledger, fresh_ledger, Reply, is_refused, is_unfinished, is_finished, LedgerNote, note_write, note_flush, note_reset, note_mount, note_format, note_compact, note_rebuild, noted, Fits}
+use Rattle.promise.specs.meaning.Ledger.{Ledger, fresh_ledger, Reply, is_refused, is_unfinished, is_finished, LedgerNote, note_write, note_flush, note_reset, note_mount, note_format, note_compact, noted, Fits}
 
 -- ==== the calls that store
 pub data Call : Type 0 where
@@ -32,7 +32,6 @@ pub data Call : Type 0 where
   resets : ℕ → Call  -- zone
   formats : ℕ → Call  -- array number
   compacts : ℕ → Call  -- drive
-  rebuilds : ℕ → Call  -- slot
 
 -- ==== a volume: what its memory is and what the host holds, and what each call leaves and gives
 pub record Peeked : Type 0 where
@@ -109,32 +108,18 @@ note_of g flushes k r = note_flush r
 note_of g (resets z) k r = note_reset z r
 note_of g (formats array) k r = note_format r
 note_of g (compacts d) k r = note_compact r
-note_of g (rebuilds x) k r = note_rebuild r
-
--- the drive that is lost after a call: "A finished rebuild" leaves none lost, and then "one further drive may be lost"; any other leaves the one that is
-abbrev pub lost_after : Call → Answer → ℕ → ℕ
-lost_after mounts a x = x
-lost_after (writes w) a x = x
-lost_after flushes a x = x
-lost_after (resets z) a x = x
-lost_after (formats array) a x = x
-lost_after (compacts d) a x = x
-lost_after (rebuilds slot) Finished x = no_drive
-lost_after (rebuilds slot) Unfinished x = x
-lost_after (rebuilds slot) (Refused n) x = x
-lost_after (rebuilds slot) (BadLog b) x = x
 
 module _ (g : Geometry) (vol : Volume) where
   -- after a call with this result
-  abbrev pub settled : System vol → Call → CallResult vol.Memory vol.State → Ledger → System vol
-  settled s c r l = record { memory = r.memory; lost = lost_after c r.answer s.lost; mode = mode_after r.answer s.mode; state = r.state; ledger = l }
+  abbrev pub settled : System vol → CallResult vol.Memory vol.State → Ledger → System vol
+  settled s r l = record { memory = r.memory; lost = s.lost; mode = mode_after r.answer s.mode; state = r.state; ledger = l }
 
   -- the ledger after a call with this result
   abbrev pub ledger_after : System vol → Call → vol.Names → CallResult vol.Memory vol.State → Ledger
   ledger_after s c named r = noted s.ledger (note_of g c (vol.shows named s.memory r.memory) (reply_to r.answer))
 
   abbrev pub next : System vol → Event vol → System vol
-  next s (calls c named stop) = let r = vol.call c named s.state stop s.memory in settled s c r (ledger_after s c named r)
+  next s (calls c named stop) = let r = vol.call c named s.state stop s.memory in settled s r (ledger_after s c named r)
   next s (looks named) = s
   next s (reads named a count out) = s
   next s (peeks named a) = s
@@ -183,7 +168,6 @@ MayCome flushes m = m ≡ ready
 MayCome (resets z) m = m ≡ ready
 MayCome (formats array) m = m ≡ ready
 MayCome (compacts d) m = m ≡ ready
-MayCome (rebuilds x) m = m ≡ ready
 
 abbrev pub NotStopped : Answer → Type 0
 NotStopped Finished = Unit {0}
@@ -199,7 +183,6 @@ Completes flushes a = Unit {0}
 Completes (resets z) a = Unit {0}
 Completes (formats array) a = (array < 256 ^ 8) × NotStopped a
 Completes (compacts d) a = Unit {0}
-Completes (rebuilds x) a = Unit {0}
 
 module _ (g : Geometry) (vol : Volume) where
   -- (a cut does what document 01 says of it; no more than one drive is lost, and of its memory anything may become, then and later)
@@ -270,12 +253,6 @@ pub data CompactRefusal (g : Geometry) (x d n : ℕ) : Type 0 where
   not_present : n ≡ 8 → (g.drives ≤ d) ⊎ (d ≡ x) → CompactRefusal g x d n
   parity_log_full : n ≡ 14 → CompactRefusal g x d n
 
--- and a rebuild of slot y: the pointers of the drive that was put there pass its zones; or the slot is not the state's lost drive; or another general log stays full
-pub data RebuildRefusal (g : Geometry) (x : ℕ) (held : StateView) (y n : ℕ) : Type 0 where
-  slot_pointers : n ≡ 3 → y ≡ x → RebuildRefusal g x held y n
-  not_the_slot : n ≡ 20 → (g.drives ≤ y) ⊎ (held.lost ≢ y) → RebuildRefusal g x held y n
-  others_log_full : n ≡ 14 → RebuildRefusal g x held y n
-
 -- what is left of both hosts' shares of drive d fits its parity log beside the reserve, or nothing is left (v: the device)
 abbrev pub SharesFit : Geometry → Device → StateView → ℕ → Type 0
 SharesFit g v state d =
@@ -309,7 +286,6 @@ pub record Promise (g : Geometry) (vol : Volume) (s : System vol) : Type 0 where
   pub share_asked : (named : vol.Names) → NamesAll g vol s named → s.mode ≡ ready → (w : WriteAsked) → PastShare g s.lost (vol.view s.state) w → (stop : ℕ)
       → (heard s (calls (writes w) named stop) ≢ answered Finished) × (heard s (calls (writes w) named stop) ≢ answered Unfinished)
   pub compact_refused : (named : vol.Names) → NamesAll g vol s named → s.mode ≡ ready → (d stop : ℕ) (a : Answer) → heard s (calls (compacts d) named stop) ≡ answered a → RefusedOnly (CompactRefusal g s.lost d) a
-  pub rebuild_refused : (named : vol.Names) → NamesAll g vol s named → s.mode ≡ ready → (y stop : ℕ) (a : Answer) → heard s (calls (rebuilds y) named stop) ≡ answered a → RefusedOnly (RebuildRefusal g s.lost (vol.view s.state) y) a
   -- and the shares fit the logs
   pub shares_fit : s.mode ≡ ready → (d : ℕ) → d < g.drives → all_but s.lost d ≡ true → SharesFit g (vol.seen s.memory) (vol.view s.state) d
   -- an accepted read leaves the content in the buffer, and a read below the pointer is accepted

@@ -18,7 +18,7 @@ use Rattle.volume.specs.meaning.Mount.{with_flush, spare_step, mount_view, mount
 use Rattle.volume.specs.meaning.Emptying.{by_look, by_state, reset_limit, emptied_for, empty_general, empty_parity, is_made}
 use Rattle.volume.specs.meaning.Refusals.{TableLengths}
 use Rattle.volume.specs.declared.Answer.TheVariants.{Finished, Unfinished}
-use Rattle.promise.specs.meaning.Claim.{Call, mounts, resets, formats, compacts, rebuilds, Volume, System, NamesAll, MayMount, Event, Dutiful, start, all_but, ready}
+use Rattle.promise.specs.meaning.Claim.{Call, mounts, resets, formats, compacts, Volume, System, NamesAll, MayMount, Event, Dutiful, start, all_but, ready}
 use Rattle.promise.specs.meaning.Histories.{AtEveryPoint, ShowsAlike}
 use Rattle.promise.specs.meaning.Caches.{on_caching_device}
 use Rattle.promise.specs.meaning.CachesOnTables.{on_caching_tables}
@@ -133,9 +133,6 @@ pub record EmptyingsKeepLooks (g : Geometry) (vol : Volume) (seen : vol.Memory �
       → KeepsLooks g vol s (compacts d) named (emptyings_of_compact g s.lost (seen s.memory) (vol.view s.state) d) (λ d. ShowsAlike g)
   pub of_reset : (named : vol.Names) → NamesAll g vol s named → s.mode ≡ ready → (z : ℕ)
       → KeepsLooks g vol s (resets z) named (emptyings_of_reset g s.lost (seen s.memory) (vol.view s.state)) (λ d. ShowsAlike g)
-  -- a rebuild empties general logs as a reset does
-  pub of_rebuild : (named : vol.Names) → NamesAll g vol s named → s.mode ≡ ready → (y : ℕ)
-      → KeepsLooks g vol s (rebuilds y) named (emptyings_of_reset g s.lost (seen s.memory) (vol.view s.state)) (λ d. ShowsAlike g)
   pub of_mount : (named : vol.Names) → NamesAll g vol s named → MayMount s.mode → KeepsLooks g vol s mounts named (emptyings_of_mount g s.lost (seen s.memory)) (λ d. ShowsAlike g)
   -- (the mount's look shows what a look shows at the mount's start)
   pub of_mount_parity : (named : vol.Names) → NamesAll g vol s named → MayMount s.mode

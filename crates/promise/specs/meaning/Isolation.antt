@@ -13,7 +13,7 @@ use Rattle.volume.specs.meaning.Roles.{roles, by_roles}
 use Rattle.volume.specs.meaning.Emptying.{unused_in}
 use Rattle.volume.specs.meaning.Hosts.{open_zones}
 use Rattle.volume.specs.meaning.Refusals.{TableLengths, WriteAsked, zone_of, zone_asked}
-use Rattle.promise.specs.meaning.Claim.{Call, mounts, writes, flushes, resets, formats, compacts, rebuilds, Volume, System, Event, calls, looks, reads, peeks, reports, cuts, loses, next, Heard, answered, heard, all_but, Dutiful, start}
+use Rattle.promise.specs.meaning.Claim.{Call, mounts, writes, flushes, resets, formats, compacts, Volume, System, Event, calls, looks, reads, peeks, reports, cuts, loses, next, Heard, answered, heard, all_but, Dutiful, start}
 use Rattle.promise.specs.meaning.Histories.{after_all}
 use Rattle.promise.specs.meaning.OnDevice.{on_device}
 use Rattle.promise.specs.meaning.OnTables.{on_tables}
@@ -53,7 +53,7 @@ is_call (reports list) = true
 is_call (cuts m) = false
 is_call (loses d m) = false
 
--- "no format, mount, rebuild or cut among the events", and a write's desk is its host
+-- "no format, mount or cut among the events", and a write's desk is its host
 abbrev pub MayStand : {vol : Volume} → ℕ → Event vol → Type 0
 MayStand desk (calls mounts named stop) = ⊥
 MayStand desk (calls (writes w) named stop) = w.host ≡ desk
@@ -61,7 +61,6 @@ MayStand desk (calls flushes named stop) = Unit {0}
 MayStand desk (calls (resets z) named stop) = Unit {0}
 MayStand desk (calls (formats array) named stop) = ⊥
 MayStand desk (calls (compacts d) named stop) = Unit {0}
-MayStand desk (calls (rebuilds x) named stop) = ⊥
 MayStand desk (looks named) = Unit {0}
 MayStand desk (reads named a count out) = Unit {0}
 MayStand desk (peeks named a) = Unit {0}
@@ -77,7 +76,6 @@ stores_to g (calls flushes named stop) z = false
 stores_to g (calls (resets y) named stop) z = eqb z y
 stores_to g (calls (formats array) named stop) z = false
 stores_to g (calls (compacts d) named stop) z = false
-stores_to g (calls (rebuilds x) named stop) z = false
 stores_to g (looks named) z = false
 stores_to g (reads named a count out) z = false
 stores_to g (peeks named a) z = false
@@ -108,7 +106,6 @@ drive_of_compact (calls flushes named stop) = []
 drive_of_compact (calls (resets z) named stop) = []
 drive_of_compact (calls (formats array) named stop) = []
 drive_of_compact (calls (compacts d) named stop) = d ∷ []
-drive_of_compact (calls (rebuilds x) named stop) = []
 drive_of_compact (looks named) = []
 drive_of_compact (reads named a count out) = []
 drive_of_compact (peeks named a) = []
@@ -210,7 +207,6 @@ module _ (g : Geometry) (vol : Volume) where
   is_promised (calls (resets z) named stop) = true
   is_promised (calls (formats array) named stop) = false
   is_promised (calls (compacts d) named stop) = false
-  is_promised (calls (rebuilds x) named stop) = false
   is_promised (looks named) = false
   is_promised (reads named a count out) = true
   is_promised (peeks named a) = true
@@ -228,13 +224,11 @@ module _ (g : Geometry) (vol : Volume) where
   abbrev pub Isolated : ℕ → System vol → Type 0
   Isolated h s = (xs ys : List (Step vol)) → Run s xs → Run s ys → AllAgree (shared_in h s xs ys) (calls_in h s [] xs) (calls_in h s [] ys) → AllHearSame (calls_in h s [] xs) (calls_in h s [] ys)
 
-  -- THE STATEMENT: of any history, as in the claim, from its format on and from each finished mount or rebuild on
+  -- THE STATEMENT: of any history, as in the claim, from its format on and from each finished mount on
   pub record IsolatedFrom (s0 : System vol) : Type 0 where
     pub from_format : (h : ℕ) → Isolated h s0
     pub from_mount : (before : List (Event vol)) (by : vol.Names) (count : ℕ) → Dutiful g vol s0 (before ++ (calls mounts by count ∷ []))
         → let s = after_all g vol s0 before in heard s (calls mounts by count) ≡ answered Finished → (h : ℕ) → Isolated h (next g vol s (calls mounts by count))
-    pub from_rebuild : (before : List (Event vol)) (by : vol.Names) (x count : ℕ) → Dutiful g vol s0 (before ++ (calls (rebuilds x) by count ∷ []))
-        → let s = after_all g vol s0 before in heard s (calls (rebuilds x) by count) ≡ answered Finished → (h : ℕ) → Isolated h (next g vol s (calls (rebuilds x) by count))
 
   abbrev pub DesksIsolated : Type 0
   DesksIsolated = (named : vol.Names) (array : ℕ) (old : vol.State) (stop : ℕ) (m : vol.Memory) → array < 256 ^ 8

@@ -51,7 +51,6 @@ pub data LedgerNote : Type 0 where
   note_mount : Shown → Reply → LedgerNote  -- what it shows when it has finished
   note_format : Reply → LedgerNote
   note_compact : Reply → LedgerNote
-  note_rebuild : Reply → LedgerNote
 
 abbrev pub noted : Ledger → LedgerNote → Ledger
 noted l (note_write z ss is_refused) = l
@@ -70,7 +69,6 @@ noted l (note_format is_refused) = l
 noted l (note_format is_unfinished) = l
 noted l (note_format is_finished) = fresh_ledger
 noted l (note_compact r) = l
-noted l (note_rebuild r) = l
 
 -- ==== "A zone shown at pointer n fits if n reaches the mark and its sectors are the sound's first n, or n is 0 and the flag up."
 pub record Reaches (content : List (List ℕ)) (committed : ℕ) (s : ZoneShown) : Type 0 where

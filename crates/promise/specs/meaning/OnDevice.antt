@@ -11,11 +11,11 @@ use Rattle.volume.specs.meaning.Refusals.{TableLengths}
 use Rattle.volume.specs.meaning.State.{with_shares}
 use Rattle.volume.specs.meaning.Hosts.{shares_in}
 use Rattle.volume.specs.meaning.Mount.{mount_state, shown_state}
-use Rattle.volume.specs.meaning.Answers.{CallResult, carried_out, StoringCall, Given, refused, given, Place, present_in, lost_drive_in, format_call, mount_call, write_call, flush_call, reset_call, compact_call, rebuild_call, look_call, read_call, peek_call}
+use Rattle.volume.specs.meaning.Answers.{CallResult, carried_out, StoringCall, Given, refused, given, Place, present_in, lost_drive_in, format_call, mount_call, write_call, flush_call, reset_call, compact_call, look_call, read_call, peek_call}
 use Rattle.volume.specs.declared.ZoneDescriptor.{ZoneDescriptor}
 use Rattle.volume.specs.meaning.CallContracts.{ReadResult, byte_of}
 use Rattle.volume.specs.meaning.Report.{ReportResult, report_of, report_on}
-use Rattle.promise.specs.meaning.Claim.{Call, mounts, writes, flushes, resets, formats, compacts, rebuilds, Peeked, Volume, KeepsPromise}
+use Rattle.promise.specs.meaning.Claim.{Call, mounts, writes, flushes, resets, formats, compacts, Peeked, Volume, KeepsPromise}
 
 abbrev pub call_of : Geometry → TableLengths → Call → (ℕ → Bool) → StateView → Device → StoringCall
 call_of g t mounts named state v = mount_call g t named v
@@ -24,7 +24,6 @@ call_of g t flushes named state v = flush_call g t named state v
 call_of g t (resets z) named state v = reset_call g t named state z v
 call_of g t (formats array) named state v = format_call g t named array v
 call_of g t (compacts d) named state v = compact_call g t named state d v
-call_of g t (rebuilds x) named state v = rebuild_call g t named state x v
 
 -- (shares: by the logs that the look finds)
 abbrev pub look_result : Given Shown → (ℕ → ℕ) → StateView → Device → CallResult Device StateView

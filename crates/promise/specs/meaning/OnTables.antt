@@ -8,9 +8,9 @@ use Rattle.volume.specs.declared.Outcome.{Outcome}
 use Rattle.volume.specs.declared.ZoneDescriptor.{ZoneDescriptor}
 use Rattle.volume.specs.meaning.Rules.{Shown}
 use Rattle.volume.specs.meaning.Answers.{CallResult}
-use Rattle.volume.specs.meaning.CallContracts.{view_state, is_set, Result, flush_on, reset_on, write_on, format_on, compact_on, rebuild_on, look_on, state_held, mount_on, read_on, peek_number, peek_from, peek_on}
+use Rattle.volume.specs.meaning.CallContracts.{view_state, is_set, Result, flush_on, reset_on, write_on, format_on, compact_on, look_on, state_held, mount_on, read_on, peek_number, peek_from, peek_on}
 use Rattle.volume.specs.meaning.Report.{report_on}
-use Rattle.promise.specs.meaning.Claim.{Call, mounts, writes, flushes, resets, formats, compacts, rebuilds, Volume, KeepsPromise}
+use Rattle.promise.specs.meaning.Claim.{Call, mounts, writes, flushes, resets, formats, compacts, Volume, KeepsPromise}
 use Rattle.promise.specs.meaning.OnDevice.{shown_by, state_shown, report_shown}
 
 abbrev pub result_on : Geometry → Call → List Bool → State → ℕ → Tables → Result
@@ -20,7 +20,6 @@ result_on g flushes named state stop t = flush_on g named state stop t
 result_on g (resets z) named state stop t = reset_on g named state z stop t
 result_on g (formats array) named state stop t = format_on g named array state stop t
 result_on g (compacts d) named state stop t = compact_on g named state d stop t
-result_on g (rebuilds x) named state stop t = rebuild_on g named state x stop t
 
 abbrev pub result_of : Outcome → Tables → CallResult Tables State
 result_of o t = record { answer = o.answer; memory = t; state = o.state }

@@ -9,7 +9,7 @@ use Rattle.volume.specs.declared.Answer.TheVariants.{Finished}
 use Rattle.volume.specs.meaning.Refusals.{zone_of, zone_asked}
 use Rattle.volume.specs.meaning.Answers.{sectors_in}
 use Rattle.promise.specs.meaning.Ledger.{Reply, is_refused, is_unfinished, is_finished}
-use Rattle.promise.specs.meaning.Claim.{Call, mounts, writes, flushes, resets, formats, compacts, rebuilds, Volume, System, Event, calls, looks, reads, peeks, reports, cuts, loses, ready, reply_to, next, answered, read_out, peeked_at, heard, NamesAll, MayMount, Dutiful, start}
+use Rattle.promise.specs.meaning.Claim.{Call, mounts, writes, flushes, resets, formats, compacts, Volume, System, Event, calls, looks, reads, peeks, reports, cuts, loses, ready, reply_to, next, answered, read_out, peeked_at, heard, NamesAll, MayMount, Dutiful, start}
 use Rattle.promise.specs.meaning.Histories.{after_all}
 
 -- sectors handed to a call, unless it is refused
@@ -26,7 +26,6 @@ handed_to g z flushes = []
 handed_to g z (resets y) = []
 handed_to g z (formats array) = []
 handed_to g z (compacts d) = []
-handed_to g z (rebuilds x) = []
 
 module _ (g : Geometry) (vol : Volume) where
   -- the sectors that an event writes to zone z

@@ -1,5 +1,5 @@
 -- WHAT IS PROMISED OF GEOMETRIES WHOSE LOGS LEAVE ROOM, beyond the claim (Claim.antt): no drive fills up any more. Where the zones are so long that a log made anew always
--- has the room that a call asks for (RoomyGeneral and RoomyParity, volume's Emptying, say how long), no mount is refused, and no reset, no compact and no rebuild by 14, log full, at any point of any
+-- has the room that a call asks for (RoomyGeneral and RoomyParity, volume's Emptying, say how long), no mount is refused, and no reset and no compact by 14, log full, at any point of any
 -- history, as long as no log of a drive that is not lost has the last generation. A write is refused by 14 only past its host's share (Claim); and after a compact each host has so much
 -- of its share of that drive, whatever was written (least_share). A host that compacts a drive when its share there falls below what it wants to write never hears 14.
 use Rattle.std.specs.Prelude.{◌≡◌, ◌≢◌, Bool, true, ℕ, ◌+◌, ◌-◌, ◌*◌, ◌/◌, ◌^◌, ◌≤◌, ◌<◌, List}
@@ -13,7 +13,7 @@ use Rattle.volume.specs.meaning.State.{hosts, share_at}
 use Rattle.volume.specs.meaning.Roles.{roles, claim_of_kind}
 use Rattle.volume.specs.meaning.Refusals.{TableLengths}
 use Rattle.volume.specs.meaning.Emptying.{RoomyGeneral, RoomyParity}
-use Rattle.promise.specs.meaning.Claim.{Volume, mounts, resets, formats, compacts, rebuilds, System, NamesAll, Event, calls, answered, heard, next, Dutiful, start, ready}
+use Rattle.promise.specs.meaning.Claim.{Volume, mounts, resets, formats, compacts, System, NamesAll, Event, calls, answered, heard, next, Dutiful, start, ready}
 use Rattle.promise.specs.meaning.Caches.{on_caching_device}
 use Rattle.promise.specs.meaning.CachesOnTables.{on_caching_tables}
 use Rattle.promise.specs.meaning.Histories.{AtEveryPoint}
@@ -31,7 +31,6 @@ pub record NeverFull (g : Geometry) (vol : Volume) (s : System vol) : Type 0 whe
   pub mount_accepted : (named : vol.Names) → NamesAll g vol s named → (stop n : ℕ) → heard s (calls mounts named stop) ≢ answered (Refused n)
   pub reset_not_full : (named : vol.Names) → NamesAll g vol s named → s.mode ≡ ready → (z stop : ℕ) → heard s (calls (resets z) named stop) ≢ answered (Refused 14)
   pub compact_not_full : (named : vol.Names) → NamesAll g vol s named → s.mode ≡ ready → (d stop : ℕ) → heard s (calls (compacts d) named stop) ≢ answered (Refused 14)
-  pub rebuild_not_full : (named : vol.Names) → NamesAll g vol s named → s.mode ≡ ready → (x stop : ℕ) → heard s (calls (rebuilds x) named stop) ≢ answered (Refused 14)
   pub compact_leaves : (named : vol.Names) → NamesAll g vol s named → s.mode ≡ ready → (d stop : ℕ) → heard s (calls (compacts d) named stop) ≡ answered Finished → (h : ℕ) → h < hosts
       → least_share g ≤ (vol.view (next g vol s (calls (compacts d) named stop)).state).share (share_at d h)
 

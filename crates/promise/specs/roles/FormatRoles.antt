@@ -9,8 +9,7 @@ use Rattle.tables.specs.declared.Geometry.{Geometry}
 use Rattle.tables.specs.meaning.Geometry.{Valid}
 use Rattle.logs.specs.meaning.Entry.{spare_zone}
 use Rattle.volume.specs.meaning.Calls.{format_stores}
-use Rattle.volume.specs.meaning.Roles.{strength, strength_by, zone_of_role, by_roles}
-use Rattle.volume.specs.meaning.Rebuild.{first_roles}
+use Rattle.volume.specs.meaning.Roles.{strength, strength_by, Roles, zone_of_role, by_roles}
 use Rattle.volume.specs.laws.SpareZone.{format_clears}
 use Rattle.volume.specs.laws.Claims.{blank_strength}
 use Rattle.volume.specs.laws.Firm.{Proper, Firm, firm_seen}
@@ -20,10 +19,13 @@ use Rattle.promise.specs.calls.FormatKeeps.{format_rests}
 use Rattle.promise.specs.roles.ClaimsOfLogs.{firm_of_logs}
 use Rattle.promise.specs.roles.Roled.{Standing}
 
-pub first_proper : Proper first_roles
+abbrev pub first_roles : Roles
+first_roles = record { general = 0; parity = 1; spare = 2; general_claim = 1; parity_claim = 1 }
+
+first_proper : Proper first_roles
 first_proper = record { general_lt = omega arith; parity_lt = omega arith; apart = inl (omega arith); sum = refl }
 
-pub first_zones : (y : ℕ) → zone_of_role first_roles y ≡ y
+first_zones : (y : ℕ) → zone_of_role first_roles y ≡ y
 first_zones zero = refl
 first_zones (suc zero) = refl
 first_zones (suc (suc zero)) = refl

@@ -1,8 +1,6 @@
 -- Any drive may go after a mount, on drives that cache resets (meaning/Caches): of the rules' calls, and of the code's on the tables. Both stand for a device with caches.
-use Rattle.std.specs.Prelude.{◌≡◌, ◌⊎◌, Bool, true, false, ℕ, length, take, ltb}
-use Rattle.std.proofs.Math.Path.{refl, ap, subst}
-use Rattle.std.proofs.Common.{sym, ◌∙◌, inl, inr, arith, take_all, ltb-false}
-use mathlib.Core.List.{List}
+use Rattle.std.specs.Prelude.{◌≡◌, refl, Bool, true, false, ℕ, List, length, take, ltb}
+use Rattle.std.proofs.Common.{sym, ap, ◌∙◌, subst, arith, take_all, ltb-false}
 use Rattle.tables.specs.meaning.Basics.{pick}
 use Rattle.tables.specs.meaning.Device.{Device, Store, apply_all}
 use Rattle.tables.specs.meaning.Cached.{Caching, apply_all_caching}
@@ -10,41 +8,36 @@ use Rattle.tables.specs.laws.Cached.{now_is}
 use Rattle.tables.specs.declared.Geometry.{Geometry}
 use Rattle.tables.specs.meaning.Geometry.{Valid}
 use Rattle.tables.specs.laws.GeometryTest.{valid_if_test}
-use Rattle.tables.specs.meaning.Drives.{no_drive, present_but}
+use Rattle.tables.specs.meaning.Drives.{present_but}
 use Rattle.tables.specs.laws.Drives.{present_not}
 use Rattle.tables.specs.laws.PointerOrder.{loss_none}
-use Rattle.tables.specs.meaning.Tables.{device_of, Tables}
+use Rattle.tables.specs.meaning.Tables.{device_of}
 use Rattle.volume.specs.declared.Answer.TheVariants.{Finished, Unfinished}
 use Rattle.volume.specs.meaning.State.{StateView}
 use Rattle.volume.specs.meaning.Rules.{showing}
-use Rattle.volume.specs.meaning.Roles.{roles, by_roles}
+use Rattle.volume.specs.meaning.Roles.{by_roles}
 use Rattle.volume.specs.meaning.Mount.{mount_stores}
-use Rattle.volume.specs.meaning.Rebuild.{rebuild_all}
-use Rattle.volume.specs.meaning.Refusals.{Verdict, refuse, accept, TableLengths, first_refusal, bad_pointers, slot_named}
-use Rattle.volume.specs.meaning.Answers.{CallResult, StoringCall, storing, carried_out, present_in, lost_drive_in, rebuild_stores_of}
-use Rattle.volume.specs.meaning.CallContracts.{view_state, is_set, lengths_of, bad_in, with_slot, rebuild_verdict}
-use Rattle.promise.specs.meaning.Claim.{Volume, mounts, formats, System, NamesAll, start, ready, Call, rebuilds, calls, Duty}
+use Rattle.volume.specs.meaning.Refusals.{Verdict, refuse, accept, TableLengths, first_refusal}
+use Rattle.volume.specs.meaning.Answers.{CallResult, StoringCall, storing, carried_out, present_in, lost_drive_in}
+use Rattle.volume.specs.meaning.CallContracts.{view_state, is_set, lengths_of}
+use Rattle.promise.specs.meaning.Claim.{Volume, mounts, formats, System, NamesAll, start}
 use Rattle.promise.specs.meaning.OnDevice.{call_of, on_device, shown_by, state_shown}
 use Rattle.promise.specs.meaning.OnTables.{on_tables}
 use Rattle.promise.specs.meaning.Caches.{Remembered, WithCaches, Caches, CachesLoss, made_by, made_stores, remembered_after, beneath, device_caches, on_caching_device}
 use Rattle.promise.specs.meaning.CachesOnTables.{tables_caches, on_caching_tables}
-use Rattle.promise.specs.meaning.AnyDrive.{NoneStored, AnyDriveClaim, AnyDriveRebuiltClaim}
+use Rattle.promise.specs.meaning.AnyDrive.{NoneStored, AnyDriveClaim}
 use Rattle.promise.specs.emptying.RestShows.{none_lost_lem}
 use Rattle.promise.specs.device.AcceptedCalls.{storing_finished}
-use Rattle.promise.specs.device.ClaimEvents.{drives_of_look, lost_of_look, rebuild_fits}
-use Rattle.promise.specs.device.RebuildClaim.{rebuild_asked}
+use Rattle.promise.specs.device.ClaimEvents.{drives_of_look, lost_of_look}
 use Rattle.promise.specs.device.CachedPromise.{names_beneath}
 use Rattle.promise.specs.device.CachedEvents.{OkOn, HoldsOn, holds_next, holds_promise, caching_of, ok_beneath, caching_start}
 use Rattle.promise.specs.device.CachedClaim.{caches_owed}
 use Rattle.promise.specs.tables.CallRefines.{held_agrees}
-use Rattle.promise.specs.device.LostAfter.{NoRebuild, rebuild_or_not}
-use Rattle.promise.specs.tables.RebuildTables.{rebuild_none, rebuild_agrees}
 use Rattle.promise.specs.tables.CallsSeen.{seen_as, answer_seen, call_seen}
 use Rattle.promise.specs.tables.CachedTables.{caching_cut_refines, view_cached, TablesOkCached}
 use Rattle.promise.specs.tables.CachedTablesClaim.{tables_event_cached, tables_promise_cached, tables_start_cached}
 use Rattle.promise.specs.shown.MountSettles.{Settled, mount_settles}
-use Rattle.promise.specs.shown.RebuildSettles.{rebuild_settles}
-use Rattle.promise.specs.shown.AnyDrive.{StandsFor, any_drive_from, any_drive_rebuilt}
+use Rattle.promise.specs.shown.AnyDrive.{StandsFor, any_drive_from}
 
 -- a drive may be lost with its memory and its cache as they were
 pub caches_stay : (vol : Volume) (k : Caches vol) (x : ℕ) (m : WithCaches vol.Memory) → vol.LossTo x m.memory m.memory → CachesLoss vol k x m m
@@ -106,34 +99,14 @@ module _ (g : Geometry) (valid : Valid g) (t : TableLengths) (s : System (on_cac
       let stores : c.stores ≡ mount_stores g (present_but g s.lost) s.lost v = rw (drives, lost) refl in
       subst (Settled g s.lost) (sym (finished_leaves c s.state stop v s.memory.was e ∙ ap (λ (xs : List Store). apply_all_caching xs (caching_of s.memory)) stores)) (mount_settles g s.lost v (caching_of s.memory))
 
-  -- a rebuild
-  device_rebuilt : s.mode ≡ ready → (bad : Bool) (y stop : ℕ) → let c = rebuild_asked g t bad named s.state y s.memory.memory in (carried_out c s.state stop s.memory.memory).answer ≡ Finished
-      → Settled g no_drive (record { now = (carried_out c s.state stop s.memory.memory).memory; was = remembered_after (made_stores c stop) s.memory.memory s.memory.was })
-  unfolding rebuild_stores_of
-  device_rebuilt m bad y stop e =
-      let c = rebuild_asked g t bad named s.state y s.memory.memory in
-      let (p, q) = storing_finished (first_refusal c.refusals) c.stores c.state s.state stop v e in
-      let (i, k, ra) = rebuild_fits g valid t under (ok_beneath g t s o) named (names_beneath g (on_device g t) (device_caches g t) s named names) m bad y p in
-      let stores : c.stores ≡ rebuild_all g (present_but g s.lost) (roles g v) (by_roles g v) s.state s.lost = rw (i, ← k) refl in
-      subst (Settled g no_drive) (sym (finished_leaves c s.state stop v s.memory.was e ∙ ap (λ (xs : List Store). apply_all_caching xs (caching_of s.memory)) stores)) (rebuild_settles g s.lost (roles g v) (by_roles g v) s.state (caching_of s.memory))
-
 device_seen : (g : Geometry) → Valid g → (t : TableLengths) → StandsFor g (on_caching_device g t) caching_of (HoldsOn g t)
 device_seen g valid t = record {
   shows_is = λ s o. device_shows g valid t s o.ok;
   tells_is = λ named m. record { generations = λ z h. refl; conditions = λ z h. refl };
   mount_settled = λ s o by count d e. device_mounted g valid t s o.ok by d.0 count e;
-  rebuild_settled = λ s o by y count d e. device_rebuilt g valid t s o.ok by d.0 d.1 (bad_pointers g (slot_named by y) s.memory.memory) y count e;
   none_stored = λ s o c named stop d h. none_leaves (call_of g t c named s.state s.memory.memory) s.state stop s.memory.memory s.memory.was h;
   cut_is = λ s o m d. (d.left, λ e y a. d.forgotten e y (present_not g s.lost e a));
 }
-
-pub rebuilt_on_caching_device : (g : Geometry) (t : TableLengths) → AnyDriveRebuiltClaim g (on_caching_device g t)
-rebuilt_on_caching_device g t named array old stop m small e =
-    let (wb, lf, o) = caching_start g t named array old stop m small e in
-    let valid = valid_if_test g wb in
-    any_drive_rebuilt g valid (on_caching_device g t) caching_of (HoldsOn g t) (holds_promise g valid t wb lf) (holds_next g valid t (caches_owed g valid))
-    (λ s k x. caches_stay (on_device g t) (device_caches g t) x s.memory (none_lost_lem x s.memory.memory)) (device_seen g valid t)
-    (start g (on_caching_device g t) named ((on_caching_device g t).call (formats array) named old stop m)) o
 
 pub any_drive_on_caching_device : (g : Geometry) (t : TableLengths) → AnyDriveClaim g (on_caching_device g t)
 any_drive_on_caching_device g t named array old stop m small e =
@@ -144,52 +117,16 @@ any_drive_on_caching_device g t named array old stop m small e =
     (start g (on_caching_device g t) named ((on_caching_device g t).call (formats array) named old stop m)) o
 
 -- ---- the code's calls on the tables
--- where one has stored nothing all is as it was
-tables_none : (g : Geometry) → Valid g → (s : System (on_caching_tables g)) → TablesOkCached g s → (c : Call) (named : List Bool) (stop : ℕ) → Duty g (on_caching_tables g) s (calls c named stop)
-    → let r = (on_caching_tables g).call c named s.state stop s.memory in NoneStored r.answer stop → seen_as g r.memory ≡ seen_as g s.memory
-tables_none g valid s o c named stop d h = go (rebuild_or_not c)
-  where
-    t : Tables
-    t = s.memory.memory
-
-    Goal : Call → Type 0
-    Goal i = seen_as g ((on_caching_tables g).call i named s.state stop s.memory).memory ≡ seen_as g s.memory
-
-    go : ((y : ℕ) × (c ≡ rebuilds y)) ⊎ NoRebuild c → Goal c
-    go (inr nr) = call_seen g valid s o c nr named stop d.0
-        ∙ none_leaves (call_of g (lengths_of t) c (is_set named) (view_state s.state) (device_of g t)) (view_state s.state) stop (device_of g t) s.memory.was (rw (answer_seen g valid s o c nr named stop d.0) at h)
-    go (inl (y, e)) = subst (λ (i : Call). Goal i) (sym e) (
-        let s0 = beneath (on_tables g) (tables_caches g) s in
-        let (a, b) = rebuild_none g valid s0 o.plain named (names_beneath g (on_tables g) (tables_caches g) s named d.0) (rw e at d.1) y stop (rw e at h) in
-        λ i. record { now = device_of g (a i); was = remembered_after (b i) (device_of g t) s.memory.was })
-
--- a finished rebuild
-tables_rebuilt : (g : Geometry) → Valid g → (s : System (on_caching_tables g)) → TablesOkCached g s → (by : List Bool) (y count : ℕ) → Duty g (on_caching_tables g) s (calls (rebuilds y) by count)
-    → let r = (on_caching_tables g).call (rebuilds y) by s.state count s.memory in r.answer ≡ Finished → Settled g no_drive (seen_as g r.memory)
-unfolding rebuild_verdict
-tables_rebuilt g valid s o by y count d e =
-    let t = s.memory.memory in
-    let same = rebuild_agrees g valid (beneath (on_tables g) (tables_caches g) s) o.plain by (names_beneath g (on_tables g) (tables_caches g) s by d.0) d.1 y count in
-    rw same.memory_same at (device_rebuilt g valid (lengths_of t) (view_cached g s) o.holds (is_set by) (record { drives = d.0.drives }) d.1 (bad_in g (with_slot by y) t) y count (same.answer_same ∙ e))
-
 pub tables_seen : (g : Geometry) → Valid g → StandsFor g (on_caching_tables g) (seen_as g) (TablesOkCached g)
 tables_seen g valid = record {
   shows_is = λ s o named n. device_shows g valid (lengths_of s.memory.memory) (view_cached g s) o.holds (is_set named) (record { drives = n.drives });
   tells_is = λ named m. let e = held_agrees g g.zones (state_shown g (is_set named) (device_of g m.memory) (device_of g m.memory)) (omega arith) in record { generations = λ z h. sym (e.generation_same z h); conditions = λ z h. sym (e.condition_same_lem z h) };
-  mount_settled = λ s o by count d e. rw (call_seen g valid s o mounts tt by count d.0)
-      (device_mounted g valid (lengths_of s.memory.memory) (view_cached g s) o.holds (is_set by) (record { drives = d.0.drives }) count (sym (answer_seen g valid s o mounts tt by count d.0) ∙ e));
-  rebuild_settled = tables_rebuilt g valid;
-  none_stored = tables_none g valid;
+  mount_settled = λ s o by count d e. rw (call_seen g valid s o mounts by count d.0)
+      (device_mounted g valid (lengths_of s.memory.memory) (view_cached g s) o.holds (is_set by) (record { drives = d.0.drives }) count (sym (answer_seen g valid s o mounts by count d.0) ∙ e));
+  none_stored = λ s o c named stop d h. call_seen g valid s o c named stop d.0
+      ∙ none_leaves (call_of g (lengths_of s.memory.memory) c (is_set named) (view_state s.state) (device_of g s.memory.memory)) (view_state s.state) stop (device_of g s.memory.memory) s.memory.was (rw (answer_seen g valid s o c named stop d.0) at h);
   cut_is = λ s o m d. (caching_cut_refines g s.lost s.memory.memory s.memory.was m.memory d.left, λ e y a. d.forgotten e y (present_not g s.lost e a));
 }
-
-pub rebuilt_on_caching_tables : (g : Geometry) → AnyDriveRebuiltClaim g (on_caching_tables g)
-rebuilt_on_caching_tables g named array old stop m small e =
-    let (wb, o) = tables_start_cached g named array old stop m small e in
-    let valid = valid_if_test g wb in
-    any_drive_rebuilt g valid (on_caching_tables g) (seen_as g) (TablesOkCached g) (tables_promise_cached g valid wb) (tables_event_cached g valid wb (caches_owed g valid))
-    (λ s k x. caches_stay (on_tables g) (tables_caches g) x s.memory (loss_none g x s.memory.memory)) (tables_seen g valid)
-    (start g (on_caching_tables g) named ((on_caching_tables g).call (formats array) named old stop m)) o
 
 pub any_drive_on_caching_tables : (g : Geometry) → AnyDriveClaim g (on_caching_tables g)
 any_drive_on_caching_tables g named array old stop m small e =

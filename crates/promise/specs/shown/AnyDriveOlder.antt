@@ -5,10 +5,10 @@ use Rattle.std.proofs.Common.{sym, ap, ◌∙◌, subst}
 use Rattle.tables.specs.declared.Geometry.{Geometry}
 use Rattle.tables.specs.meaning.Drives.{no_drive}
 use Rattle.volume.specs.declared.Answer.TheVariants.{Finished}
-use Rattle.promise.specs.meaning.Claim.{mounts, rebuilds, formats, Volume, System, Event, calls, looks, reads, peeks, reports, cuts, loses, next, Dutiful, start}
+use Rattle.promise.specs.meaning.Claim.{mounts, formats, Volume, System, Event, calls, looks, reads, peeks, reports, cuts, loses, next, Dutiful, start}
 use Rattle.promise.specs.meaning.Caches.{Remembered, Caches, with_caches}
 use Rattle.promise.specs.meaning.Histories.{after_all}
-use Rattle.promise.specs.meaning.AnyDrive.{StoresNothing, AllStoreNothing, LooksAs, AnyDriveMayGo, AnyDriveClaim, AnyDriveRebuiltClaim}
+use Rattle.promise.specs.meaning.AnyDrive.{StoresNothing, AllStoreNothing, LooksAs, AnyDriveMayGo, AnyDriveClaim}
 use Rattle.promise.specs.device.OlderDrives.{OlderCuts, beside, without, there, left, next_there, all_there, dutiful_there}
 
 module _ (g : Geometry) (vol : Volume) (k : Caches vol) (older : OlderCuts vol k) where
@@ -61,29 +61,6 @@ module _ (g : Geometry) (vol : Volume) (k : Caches vol) (older : OlderCuts vol k
       → AnyDriveMayGo g C (C.shows by a.memory (next g C a (calls mounts by count)).memory) (next g C a (calls mounts by count)).state (after_all g C (next g C a (calls mounts by count)) (there_all t was1 after)) in
       let claimed : at (beside g vol k s was) = subst at (after_there s0 was0 before) (zone_claim named array old stop (record { memory = m; was = λ e z. [] }) small e (there_all s0 was0 before) (there_all t was1 after) by count duties) in
       let p = subst (λ (a : System (with_caches vol k)). LooksAs g (with_caches vol k) (vol.shows by s.memory t.memory) t.state a some) (after_there t was1 after) (claimed none done (all_nothing t was1 after q) x one some names) in
-      record {
-        accepted = ap (without g vol k s0 was0) p.accepted;
-        zones = record { generations = p.zones.generations; conditions = p.zones.conditions };
-        shown = p.shown;
-      }
-
-  pub older_rebuilt : AnyDriveRebuiltClaim g (with_caches vol k) → AnyDriveRebuiltClaim g vol
-  older_rebuilt zone_claim named array old stop m small e before after by y count d done q every ne x one some names =
-      let C = with_caches vol k in
-      let r = C.call (formats array) named old stop (record { memory = m; was = λ e z. [] }) in
-      let s0 = start g vol named (vol.call (formats array) named old stop m) in
-      let was0 = r.memory.was in
-      let s = after_all g vol s0 before in
-      let was = left_all s0 was0 before in
-      let rebuild : Event vol = calls (rebuilds y) by count in
-      let t = next g vol s rebuild in
-      let was1 = left g vol k older s was rebuild in
-      let duties = subst (λ (es : List (Event (with_caches vol k))). Dutiful g (with_caches vol k) (beside g vol k s0 was0) es) (all_append s0 was0 before (rebuild ∷ after)) (dutiful_there g vol k older s0 was0 (before ++ (rebuild ∷ after)) d) in
-      let after_it : System (with_caches vol k) → System (with_caches vol k) = λ a. next g C a (calls (rebuilds y) by count) in
-      let at : System (with_caches vol k) → Type 0 = λ a. (C.call (rebuilds y) by a.state count a.memory).answer ≡ Finished → AllStoreNothing g C (after_it a) (there_all t was1 after)
-      → AnyDriveMayGo g C (C.shows every (after_it a).memory (after_it a).memory) (after_it a).state (after_all g C (after_it a) (there_all t was1 after)) in
-      let claimed : at (beside g vol k s was) = subst at (after_there s0 was0 before) (λ a b. zone_claim named array old stop (record { memory = m; was = λ e z. [] }) small e (there_all s0 was0 before) (there_all t was1 after) by y count duties a b every ne) in
-      let p = subst (λ (a : System (with_caches vol k)). LooksAs g (with_caches vol k) (vol.shows every t.memory t.memory) t.state a some) (after_there t was1 after) (claimed done (all_nothing t was1 after q) x one some names) in
       record {
         accepted = ap (without g vol k s0 was0) p.accepted;
         zones = record { generations = p.zones.generations; conditions = p.zones.conditions };

@@ -25,9 +25,7 @@ use Rattle.promise.specs.meaning.OnDevice.{shown_by}
 use Rattle.promise.specs.meaning.Histories.{ShowsAlike}
 use Rattle.promise.specs.meaning.Emptied.{AlikeUpTo, MayNameBut, Emptyings, flush_of, flush_end, UnderWay, emptyings_of_compact, emptyings_of_reset}
 use Rattle.promise.specs.invariant.Invariant.{Here, LogGenerations, rest_inv}
-use Rattle.promise.specs.invariant.RoomAsked.{CompactAccepted}
-use Rattle.promise.specs.device.GeneralFirst.{FirstRoom}
-use Rattle.volume.specs.meaning.Rebuild.{rebuild_all}
+use Rattle.promise.specs.invariant.RoomAsked.{CompactAccepted, ResetAccepted}
 use Rattle.promise.specs.roles.Roled.{Standing}
 use Rattle.promise.specs.roles.RoledCalls.{RoledInvs, RoledRests}
 use Rattle.promise.specs.emptying.AskedSame.{ShowsSame}
@@ -203,8 +201,9 @@ module _ (g : Geometry) (ok : Valid g) (x : ℕ) (c : LogGenerations) (v : Devic
   unfolding compact_stores empty_parity
   compact_within = record { rest = []; of = λ some h. refl; are = sym (append-nil _) }
 
--- ==== a reset or a rebuild at rest
-module _ (g : Geometry) (ok : Valid g) (x : ℕ) (c : LogGenerations) (v : Device) (state : StateView) (l : Ledger) (rr : RoledRests c g x v state l) (fr : FirstRoom g x v state) where
+-- ==== a reset at rest
+module _ (g : Geometry) (ok : Valid g) (x : ℕ) (c : LogGenerations) (v : Device) (state : StateView) (l : Ledger) (rr : RoledRests c g x v state l) (z : ℕ)
+    (ra : ResetAccepted g (present_but g x) (roles g v) (by_roles g v) (by_state g (present_but g x) (by_roles g v) state) state z) where
   abbrev reset_force : InForce
   reset_force = by_state g (present_but g x) (by_roles g v) state
 
@@ -214,9 +213,9 @@ module _ (g : Geometry) (ok : Valid g) (x : ℕ) (c : LogGenerations) (v : Devic
   reset_can : (d : ℕ) → d < g.drives → emptied_too d ≡ true → Here g x d × CanEmptyLog g false v d (general_size_of g reset_force v d)
   unfolding emptied_for drive_by_roles
   reset_can d hd e =
-      let k = fr.0.emptiable d e in (
+      let k = ra.logs.emptiable d e in (
         (and_split (present_but g x d) (lacks_room g false (roles g v) (by_roles g v) (reset_limit g) d) e).0,
-        record { room = let r = k.room in omega (arith, r); top = k.top; blank = fr.1 d e },
+        record { room = let r = k.room in omega (arith, r); top = k.top; blank = ra.blank d e },
       )
 
   reset_forced : Forced g x (by_roles g v) state.generation
@@ -228,10 +227,6 @@ module _ (g : Geometry) (ok : Valid g) (x : ℕ) (c : LogGenerations) (v : Devic
   pub reset_behind : (d : ℕ) → d < g.drives → emptied_too d ≡ true → Behind g x false (roles g v) emptied_too (new_general_of g reset_force v) v (ShowsAlike g) d
   reset_behind = general_behind g ok x c v l reset_invs reset_force reset_forced emptied_too reset_can
 
-  pub reset_within : (z : ℕ) → Within g x (emptyings_of_reset g x v state) (reset_all g (present_but g x) (roles g v) (by_roles g v) state z) false (roles g v) (new_general_of g reset_force v)
+  pub reset_within : Within g x (emptyings_of_reset g x v state) (reset_all g (present_but g x) (roles g v) (by_roles g v) state z) false (roles g v) (new_general_of g reset_force v)
   unfolding reset_all empty_general
-  reset_within z = record { rest = _; of = λ some h. refl; are = refl }
-
-  pub rebuild_within : (y : ℕ) → Within g x (emptyings_of_reset g x v state) (rebuild_all g (present_but g x) (roles g v) (by_roles g v) state y) false (roles g v) (new_general_of g reset_force v)
-  unfolding rebuild_all empty_general
-  rebuild_within y = record { rest = _; of = λ some h. refl; are = refl }
+  reset_within = record { rest = _; of = λ some h. refl; are = refl }

@@ -1,10 +1,7 @@
 -- THE CLAIM ABOUT EMPTYINGS HOLDS (meaning/Emptied.antt), of the rules' calls: at every point of every history, of every compact, and of every reset and mount that empties logs.
-use Rattle.std.specs.Prelude.{◌≡◌, Bool, true, length, take}
-use Rattle.std.proofs.Math.Path.{refl, subst}
-use Rattle.std.proofs.Common.{sym, ap, ◌∙◌, arith, ltb-true, lt-ltb}
-use Rattle.std.proofs.Math.Bool.{false}
-use Prim.Native.Nat.{ℕ, ◌≤◌, ◌<◌}
-use mathlib.Core.List.{List}
+use Rattle.std.specs.Prelude.{◌≡◌, Bool, true, false, ℕ, ◌≤◌, ◌<◌, List, length, take}
+use Rattle.std.proofs.Math.Path.{refl}
+use Rattle.std.proofs.Common.{sym, ap, ◌∙◌, subst, arith, ltb-true, lt-ltb}
 use Rattle.tables.specs.meaning.Device.{Device, Store, apply_all}
 use Rattle.tables.specs.meaning.Cached.{Caching, apply_all_caching, CachingCut}
 use Rattle.tables.specs.laws.Cached.{now_is}
@@ -18,10 +15,9 @@ use Rattle.volume.specs.meaning.Rules.{Shown, showing}
 use Rattle.volume.specs.meaning.Roles.{roles, by_roles}
 use Rattle.volume.specs.meaning.Emptying.{by_state, by_look, compact_stores, reset_all}
 use Rattle.volume.specs.meaning.Mount.{after_opening, mount_look, after_fill, mount_stores}
-use Rattle.volume.specs.meaning.Rebuild.{rebuild_all}
 use Rattle.volume.specs.laws.OpeningFlush.{opening_sectors}
-use Rattle.volume.specs.meaning.Refusals.{Verdict, accept, TableLengths, first_refusal, bad_pointers, slot_named}
-use Rattle.volume.specs.meaning.Answers.{StoringCall, carried_out, rebuild_stores_of}
+use Rattle.volume.specs.meaning.Refusals.{Verdict, accept, TableLengths, first_refusal}
+use Rattle.volume.specs.meaning.Answers.{StoringCall, carried_out}
 use Rattle.promise.specs.meaning.Claim.{Call, mounts, resets, compacts, System, NamesAll, MayMount, ready, all_but}
 use Rattle.promise.specs.meaning.OnDevice.{call_of, on_device, shown_by}
 use Rattle.promise.specs.meaning.Caches.{made_stores, made_by, remembered_after, Remembered, beneath, device_caches, on_caching_device}
@@ -36,12 +32,11 @@ use Rattle.promise.specs.emptying.ParityRests.{new_sectors}
 use Rattle.promise.specs.emptying.GeneralEmptying.{new_general_of}
 use Rattle.promise.specs.device.Marks.{with_marks}
 use Rattle.promise.specs.device.AcceptedCalls.{present_same, found_same, reset_accepted, storing_unfinished}
-use Rattle.promise.specs.device.ClaimEvents.{Ok, rests_of, invs_of, drives_of_call, drives_of_look, lost_of_look, mount_allowed, compact_fits, rebuild_fits}
-use Rattle.promise.specs.device.RebuildClaim.{rebuild_asked}
+use Rattle.promise.specs.device.ClaimEvents.{Ok, rests_of, invs_of, drives_of_call, drives_of_look, lost_of_look, mount_allowed, compact_fits}
 use Rattle.promise.specs.device.CachedPromise.{names_beneath}
 use Rattle.promise.specs.device.CachedEvents.{caching_of}
 use Rattle.promise.specs.shown.EveryPoint.{at_every_point}
-use Rattle.promise.specs.shown.EmptyingLooks.{look_but, kept, compact_behind, compact_within, reset_behind, reset_within, rebuild_within}
+use Rattle.promise.specs.shown.EmptyingLooks.{look_but, kept, compact_behind, compact_within, reset_behind, reset_within}
 use Rattle.promise.specs.shown.MountLooks.{mount_behind, mount_within}
 use Rattle.promise.specs.shown.MountParityLooks.{mount_parity_behind, mount_parity_within}
 
@@ -77,26 +72,18 @@ module _ (g : Geometry) (ok : Valid g) (t : TableLengths) (s : System (on_cachin
   AllKept xs E Alike = (d n : ℕ) → UnderWay g x E d n → (w : Device) → CachingCut x (apply_all_caching (take n xs) (caching_of s.memory)) w → (y : ℕ) → MayNameBut g x y
       → Alike d (look_but g y (apply_all_caching (take (flush_end g x E d) xs) (caching_of s.memory)).now) (look_but g y w)
 
-  -- and of the call
-  abbrev pub KeptBy : StoringCall → Emptyings → (ℕ → Shown → Shown → Type 0) → Type 0
-  KeptBy f E Alike = (d n : ℕ) → UnderWay g s.lost E d n → (carried_out f s.state n s.memory.memory).answer ≡ Unfinished
-      → (w : Device) → CachingCut s.lost (record { now = (carried_out f s.state n s.memory.memory).memory; was = remembered_after (made_stores f n) s.memory.memory s.memory.was }) w
-      → (y : ℕ) → MayNameBut g s.lost y → (some : ℕ → Bool) → ((e : ℕ) → e < g.drives → some e ≡ all_but y e)
-      → let flushed = (carried_out f s.state (flush_end g s.lost E d) s.memory.memory).memory in Alike d (shown_by g some flushed flushed) (shown_by g some w w)
-
   -- from the stores of an accepted call to the call
-  kept_by : (f : StoringCall) (E : Emptyings) (Alike : ℕ → Shown → Shown → Type 0) → (first_refusal f.refusals ≡ accept → AllKept f.stores E Alike) → KeptBy f E Alike
-  kept_by f E Alike of d n u unf w cut y by some nb =
-      let (p, q) = unfinished_call f s.state n v s.memory.was unf in
-      let at = stopped_leaves f s.state n v s.memory.was unf in
-      let there = at (flush_end g x E d) u.flushed in
-      let k : CachingCut x (apply_all_caching (take n f.stores) (caching_of s.memory)) w = subst (λ (a : Caching). CachingCut x a w) (at n (omega arith)) cut in
-      rw (named_look g y some nb w, named_look g y some nb (carried_out f s.state (flush_end g x E d) v).memory, ap (λ (a : Caching). a.now) there) (of p d n u w k y by)
-
   by_stores : (c : Call) (named : ℕ → Bool) (E : Emptyings) (Alike : ℕ → Shown → Shown → Type 0) → let f = call_of g t c named s.state v in
       (first_refusal f.refusals ≡ accept → AllKept f.stores E Alike)
       → KeepsLooks g (on_caching_device g t) s c named E Alike
-  by_stores c named E Alike of d n u unf m cut y by some nb = kept_by (call_of g t c named s.state v) E Alike of d n u unf m.memory cut.left y by some nb
+  by_stores c named E Alike of d n u unf m cut y by some nb =
+      let f = call_of g t c named s.state v in
+      let (p, q) = unfinished_call f s.state n v s.memory.was unf in
+      let at = stopped_leaves f s.state n v s.memory.was unf in
+      let there = at (flush_end g x E d) u.flushed in
+      let w = m.memory in
+      let k : CachingCut x (apply_all_caching (take n f.stores) (caching_of s.memory)) w = subst (λ (a : Caching). CachingCut x a w) (at n (omega arith)) cut.left in
+      rw (named_look g y some nb w, named_look g y some nb (carried_out f s.state (flush_end g x E d) v).memory, ap (λ (a : Caching). a.now) there) (of p d n u w k y by)
 
   module _ (named : ℕ → Bool) (names : NamesAll g (on_caching_device g t) s named) where
     names_under : NamesAll g (on_device g t) under named
@@ -120,18 +107,7 @@ module _ (g : Geometry) (ok : Valid g) (t : TableLengths) (s : System (on_cachin
         let l = with_marks s.ledger c in
         subst (λ (xs : List Store). AllKept xs (emptyings_of_reset g x v s.state) (λ d. ShowsAlike g)) (ap (λ (here : ℕ → Bool). reset_all g here (roles g v) (by_roles g v) s.state z) (sym e))
         (kept g x (caching_of s.memory) (reset_all g (present_but g x) (roles g v) (by_roles g v) s.state z) (emptyings_of_reset g x v s.state) false (roles g v) (new_general_of g (by_state g (present_but g x) (by_roles g v) s.state) v)
-        (reset_within g ok x k v s.state l rr (ra.logs, ra.blank) z) (λ d. ShowsAlike g) (reset_behind g ok x k v s.state l rr (ra.logs, ra.blank))))
-
-    -- (bad: what row 3 says, which the tables answer by their numbers)
-    pub rebuild_keeps : s.mode ≡ ready → (bad : Bool) (y : ℕ) → KeptBy (rebuild_asked g t bad named s.state y s.memory.memory) (emptyings_of_reset g s.lost s.memory.memory s.state) (λ d. ShowsAlike g)
-    unfolding rebuild_stores_of
-    rebuild_keeps m bad y = kept_by (rebuild_asked g t bad named s.state y v) (emptyings_of_reset g x v s.state) (λ d. ShowsAlike g) (λ p.
-        let (k, c, above, rr) = rests_of g t under o m in
-        let (e, q, ra) = rebuild_fits g ok t under o named names_under m bad y p in
-        let l = with_marks s.ledger c in
-        subst (λ (xs : List Store). AllKept xs (emptyings_of_reset g x v s.state) (λ d. ShowsAlike g)) (ap (λ (here : ℕ → Bool). rebuild_all g here (roles g v) (by_roles g v) s.state y) (sym e))
-        (kept g x (caching_of s.memory) (rebuild_all g (present_but g x) (roles g v) (by_roles g v) s.state y) (emptyings_of_reset g x v s.state) false (roles g v) (new_general_of g (by_state g (present_but g x) (by_roles g v) s.state) v)
-        (rebuild_within g ok x k v s.state l rr (ra.logs, ra.blank) y) (λ d. ShowsAlike g) (reset_behind g ok x k v s.state l rr (ra.logs, ra.blank))))
+        (reset_within g ok x k v s.state l rr z ra) (λ d. ShowsAlike g) (reset_behind g ok x k v s.state l rr z ra)))
 
     -- ---- a mount
     stores_are : (call_of g t mounts named s.state v).stores ≡ mount_stores g (present_but g x) x v
@@ -172,7 +148,7 @@ module _ (g : Geometry) (ok : Valid g) (t : TableLengths) (s : System (on_cachin
 
   -- AT A POINT
   pub emptyings_keep : EmptyingsKeepLooks g (on_caching_device g t) (λ m. m.memory) s
-  emptyings_keep = record { of_compact = compact_keeps; of_reset = reset_keeps; of_rebuild = λ named n m y d k u unf w cut. rebuild_keeps named n m (bad_pointers g (slot_named named y) v) y d k u unf w.memory cut.left; of_mount = mount_keeps; of_mount_parity = parity_keeps }
+  emptyings_keep = record { of_compact = compact_keeps; of_reset = reset_keeps; of_mount = mount_keeps; of_mount_parity = parity_keeps }
 
 -- THE THEOREM
 pub emptyings_keep_looks : EmptyingClaim

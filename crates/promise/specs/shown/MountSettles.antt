@@ -152,10 +152,16 @@ module _ (g : Geometry) (present : ℕ → Bool) where
         see_then (concat (phases_before_entries g present x v)) (concat (phases_of_parity_logs g present x v u) ++ concat (phases_of_entries g present x v w)) before_flush
         (or_none_then (concat (phases_of_parity_logs g present x v u)) (concat (phases_of_entries g present x v w)) (parity_flush u) (entries_flush w))
 
--- AFTER STORES OF WHICH EVERY PRESENT DRIVE SEES A FLUSH AS THE LAST (c: the device with its caches)
-pub flushed_settles : (g : Geometry) (x : ℕ) (xs : List Store) (c : Caching) → ((d y : ℕ) → Here g x d → (first : List LocalStore) × (local_stores d y xs ≡ first ++ (flush_here ∷ []))) → Settled g x (apply_all_caching xs c)
-flushed_settles g x xs c seen = record { durable = λ d y a. lasts d y (seen d y a); forgotten = λ d y a. forgets d y (seen d y a) }
+-- AFTER A MOUNT (c: the device with its caches; v: any device)
+pub mount_settles : (g : Geometry) (x : ℕ) (v : Device) (c : Caching) → Settled g x (apply_all_caching (mount_stores g (present_but g x) x v) c)
+mount_settles g x v c = record { durable = λ d y a. lasts d y (seen d y a); forgotten = λ d y a. forgets d y (seen d y a) }
   where
+    xs : List Store
+    xs = mount_stores g (present_but g x) x v
+
+    seen : (d y : ℕ) → Here g x d → SeesFlush (local_stores d y xs)
+    seen d y a = mount_flushes g (present_but g x) x v d y (present_below g x d a) a
+
     lasts : (d y : ℕ) → SeesFlush (local_stores d y xs) → ((apply_all_caching xs c).now d y).durable ≡ length ((apply_all_caching xs c).now d y).sectors
     lasts d y (first, e) =
         let q : (apply_all_caching xs c).now d y ≡ apply_all_here (first ++ (flush_here ∷ [])) (c.now d y) = ap (λ (w : Device). w d y) (now_is xs c) ∙ local_is d y xs c.now ∙ ap (λ (os : List LocalStore). apply_all_here os (c.now d y)) e in
@@ -163,10 +169,6 @@ flushed_settles g x xs c seen = record { durable = λ d y a. lasts d y (seen d y
 
     forgets : (d y : ℕ) → SeesFlush (local_stores d y xs) → (apply_all_caching xs c).was d y ≡ []
     forgets d y (first, e) = was_is d y xs c ∙ ap (λ (os : List LocalStore). remember_here os (c.now d y) (c.was d y)) e ∙ remember_append first (flush_here ∷ []) (c.now d y) (c.was d y)
-
--- AFTER A MOUNT (v: any device)
-pub mount_settles : (g : Geometry) (x : ℕ) (v : Device) (c : Caching) → Settled g x (apply_all_caching (mount_stores g (present_but g x) x v) c)
-mount_settles g x v c = flushed_settles g x (mount_stores g (present_but g x) x v) c (λ d y a. mount_flushes g (present_but g x) x v d y (present_below g x d a) a)
 
 -- ---- what a look shows goes by the sectors of the drives that are there, if there is one
 pub shown_alike : (g : Geometry) → Valid g → (x : ℕ) (v w : Device) → ((d y : ℕ) → Here g x d → w d y ≡ v d y) → showing g (present_but g x) x (by_roles g w) ≡ showing g (present_but g x) x (by_roles g v)

@@ -14,7 +14,7 @@ use Rattle.volume.specs.meaning.Rules.{Shown}
 use Rattle.volume.specs.meaning.Refusals.{zone_of, offset_of, zone_asked}
 use Rattle.volume.specs.meaning.Answers.{sectors_in}
 use Rattle.promise.specs.meaning.Ledger.{Ledger, Reply, is_refused, is_unfinished, is_finished, noted, FitsZone, after_mount}
-use Rattle.promise.specs.meaning.Claim.{Call, mounts, writes, flushes, resets, formats, compacts, rebuilds, Volume, System, Event, calls, looks, reads, peeks, reports, cuts, loses, reply_to, note_of, next, answered, Duty, Dutiful, Promise, Throughout, start, KeepsPromise}
+use Rattle.promise.specs.meaning.Claim.{Call, mounts, writes, flushes, resets, formats, compacts, Volume, System, Event, calls, looks, reads, peeks, reports, cuts, loses, reply_to, note_of, next, answered, Duty, Dutiful, Promise, Throughout, start, KeepsPromise}
 use Rattle.promise.specs.device.Heard.{answer_heard}
 use Rattle.promise.specs.meaning.Histories.{after_all}
 use Rattle.promise.specs.meaning.ResetLasts.{taken_unless_refused, handed_to, written_in, written_to, OnlyOf, ResetsLast}
@@ -79,9 +79,6 @@ module _ (g : Geometry) (vol : Volume) (z : ℕ) (hz : z < g.zones) where
     call_among (compacts d) k is_refused f = more []
     call_among (compacts d) k is_unfinished f = more []
     call_among (compacts d) k is_finished f = more []
-    call_among (rebuilds y) k is_refused f = more []
-    call_among (rebuilds y) k is_unfinished f = more []
-    call_among (rebuilds y) k is_finished f = more []
 
   finished_answer : (a : Answer) → reply_to a ≡ is_finished → a ≡ Finished
   finished_answer Finished e = refl
@@ -102,7 +99,6 @@ module _ (g : Geometry) (vol : Volume) (z : ℕ) (hz : z < g.zones) where
       fit (resets y) o e i = absurd (let q : ◌≡◌ {A = ℕ} 0 1 = cc in omega arith)
       fit (formats array) o e i = absurd (let q : ◌≡◌ {A = ℕ} 0 1 = cc in omega arith)
       fit (compacts y) o e i = absurd (let q : ◌≡◌ {A = ℕ} 0 1 = cc in omega arith)
-      fit (rebuilds y) o e i = absurd (let q : ◌≡◌ {A = ℕ} 0 1 = cc in omega arith)
   event_among s (looks named) p d new h = more s new h []
   event_among s (reads named a count out) p d new h = more s new h []
   event_among s (peeks named a) p d new h = more s new h []

@@ -1,9 +1,9 @@
 -- NO DRIVE FILLS UP in a geometry whose logs always have room after copying (volume's Emptying and RoomAfter), as long as no log of a present drive has the last generation: no mount
--- is refused, and no reset, no compact and no rebuild by 14, at any point of any history (meaning/Roomy.antt). These find the spares blank (BlankAtRest). And a finished compact
+-- is refused, and no reset and no compact by 14, at any point of any history (meaning/Roomy.antt). A reset and a compact find the spares blank (BlankAtRest). And a finished compact
 -- leaves each host so much of its share.
 use Rattle.std.specs.Prelude.{◌≡◌, ◌≢◌, ◌⊎◌, Bool, ◌&&◌, ◌||◌, List, [], length, take, ltb}
 use Rattle.std.proofs.Math.Path.{refl, sym}
-use Rattle.std.proofs.Common.{ap, ◌∙◌, inl, inr, arith}
+use Rattle.std.proofs.Common.{ap, ◌∙◌, arith}
 use Rattle.std.proofs.Math.Bool.{true, false, not, true≢false}
 use Prim.Native.Nat.{ℕ, ◌^◌, ◌≤◌, ◌<◌}
 use Rattle.std.proofs.Math.Arith.{digits_div}
@@ -28,19 +28,18 @@ use Rattle.volume.specs.meaning.State.{StateView, hosts, share_at, call_present}
 use Rattle.volume.specs.meaning.Rules.{is_present, lost_drive, showing}
 use Rattle.volume.specs.meaning.Roles.{Roles, roles, by_roles, claim_of_kind, lacks_kind}
 use Rattle.volume.specs.meaning.Emptying.{InForce, by_look, by_state, spare_written, reserve, mount_general_limit, reset_limit, emptied_for, RoomyGeneral, RoomyParity}
-use Rattle.volume.specs.meaning.Refusals.{Verdict, accept, TableLengths, first_refusal, tables_fit, bad_pointers, kind_lacks, bad_labels, bad_logs, two_lost, mount_full, reset_full, compact_full, mount_rows, reset_rows, compact_rows, refuse, rebuild_rows, not_the_lost, others_of, slot_named}
+use Rattle.volume.specs.meaning.Refusals.{Verdict, accept, TableLengths, first_refusal, tables_fit, bad_pointers, kind_lacks, bad_labels, bad_logs, two_lost, mount_full, reset_full, compact_full, mount_rows, reset_rows, compact_rows}
 use Rattle.volume.specs.meaning.Answers.{CallResult, storing, mount_call, reset_call, compact_call}
 use Rattle.volume.specs.laws.Refusals.{passed, condition_of_row, refusal_order}
 use Rattle.volume.specs.laws.LeastRefusal.{first_least}
 use Rattle.volume.specs.laws.RoomAfter.{cannot_empty, mount_full_is, reset_full_is, compact_full_is, compact_share_least}
-use Rattle.promise.specs.meaning.Claim.{Volume, System, NamesAll, mounts, resets, compacts, rebuilds, calls, next, ready, all_but}
-use Rattle.promise.specs.meaning.OnDevice.{on_device, call_of}
+use Rattle.promise.specs.meaning.Claim.{Volume, System, NamesAll, mounts, resets, compacts, calls, next, ready, all_but}
+use Rattle.promise.specs.meaning.OnDevice.{on_device}
 use Rattle.promise.specs.meaning.Caches.{Caches, with_caches, beneath, device_caches, on_caching_device}
 use Rattle.promise.specs.meaning.Roomy.{BeforeLast, least_share, NeverFull, RoomyClaim}
 use Rattle.promise.specs.device.Looks.{LookFine}
-use Rattle.promise.specs.device.AcceptedCalls.{two_same, pointers_same, storing_refused, storing_finished, Applies, refused_applies}
+use Rattle.promise.specs.device.AcceptedCalls.{two_same, pointers_same, storing_refused, storing_finished}
 use Rattle.promise.specs.device.Heard.{answer_heard}
-use Rattle.promise.specs.device.RebuildClaim.{others}
 use Rattle.promise.specs.device.ClaimEvents.{fine, drives_of_call, drives_of_look}
 use Rattle.promise.specs.device.CachedPromise.{names_beneath}
 use Rattle.promise.specs.shown.EveryPoint.{Known, at_every_point}
@@ -130,26 +129,6 @@ module _ (g : Geometry) (t : TableLengths) (wb : is_valid g ≡ true) (lf : tabl
       let r14 : condition_of_row 14 c.refusals ≡ false = rw (drives_of_call g ok t s k.ok named names m) (reset_not_full g here (roles g s.memory) (by_state g here u s.state) u looked.kinds young (k.blank m) general) in
       true≢false (sym (first_least refusal_order c.refusals 14 refl refl (storing_refused (first_refusal c.refusals) c.stores c.state s.state stop s.memory 14 e)).applies ∙ r14)
 
-  -- (bad: what row 3 says)
-  pub rebuild_law : RoomyGeneral g → s.mode ≡ ready → (bad : Bool) (y : ℕ) → first_refusal (rebuild_rows g t bad named s.state y (roles g s.memory) u) ≢ refuse 14
-  unfolding rebuild_rows
-  rebuild_law general m bad y e = by (refused_applies (rebuild_rows g t bad named s.state y (roles g s.memory) u) 14 e)
-    where
-      room : not_the_lost g s.state y ≡ false → reset_full g (others_of g named s.state y) (roles g s.memory) (by_state g (others_of g named s.state y) u s.state) u ≡ false
-      room r20 = rw (others g ok t wb lf s k.ok named names m y r20) (reset_not_full g here (roles g s.memory) (by_state g here u s.state) u looked.kinds young (k.blank m) general)
-
-      by : Applies (rebuild_rows g t bad named s.state y (roles g s.memory) u) 14 → ⊥
-      by (inl (i, b)) = omega (arith, i)
-      by (inr (r1, inl (i, b))) = omega (arith, i)
-      by (inr (r1, inr (r2, inl (i, b)))) = omega (arith, i)
-      by (inr (r1, inr (r2, inr (r3, inl (i, b))))) = omega (arith, i)
-      by (inr (r1, inr (r2, inr (r3, inr (r4, inl (i, b)))))) = omega (arith, i)
-      by (inr (r1, inr (r2, inr (r3, inr (r4, inr (r5, inl (i, b))))))) = omega (arith, i)
-      by (inr (r1, inr (r2, inr (r3, inr (r4, inr (r5, inr (r20, inl (i, b)))))))) = omega (arith, i)
-      by (inr (r1, inr (r2, inr (r3, inr (r4, inr (r5, inr (r20, inr (r7, inl (i, b))))))))) = true≢false (sym b ∙ room r20)
-      by (inr (r1, inr (r2, inr (r3, inr (r4, inr (r5, inr (r20, inr (r7, inr (r14, inl (i, b)))))))))) = omega (arith, i)
-      by (inr (r1, inr (r2, inr (r3, inr (r4, inr (r5, inr (r20, inr (r7, inr (r14, inr (r15, none)))))))))) = none
-
   compact_law : RoomyParity g → s.mode ≡ ready → (d stop : ℕ) → ((on_device g t).call (compacts d) named s.state stop s.memory).answer ≢ Refused 14
   unfolding compact_rows
   compact_law parity m d stop e =
@@ -173,8 +152,6 @@ never_full g t general parity wb lf s k young = record {
   mount_accepted = λ named names stop n e. mount_law g t wb lf s k young named names general parity stop n (answer_heard e);
   reset_not_full = λ named names m z stop e. reset_law g t wb lf s k young named names general m z stop (answer_heard e);
   compact_not_full = λ named names m d stop e. compact_law g t wb lf s k young named names parity m d stop (answer_heard e);
-  rebuild_not_full = λ named names m y stop e. let c = call_of g t (rebuilds y) named s.state s.memory in
-      rebuild_law g t wb lf s k young named names general m (bad_pointers g (slot_named named y) s.memory) y (storing_refused (first_refusal c.refusals) c.stores c.state s.state stop s.memory 14 (answer_heard e));
   compact_leaves = λ named names m d stop e h hh. compact_leaves g t wb lf s k young named names d stop (answer_heard e) h hh;
 }
 
@@ -184,7 +161,6 @@ never_full_beneath g vol c s p = record {
   mount_accepted = λ named n. p.mount_accepted named (names_beneath g vol c s named n);
   reset_not_full = λ named n. p.reset_not_full named (names_beneath g vol c s named n);
   compact_not_full = λ named n. p.compact_not_full named (names_beneath g vol c s named n);
-  rebuild_not_full = λ named n. p.rebuild_not_full named (names_beneath g vol c s named n);
   compact_leaves = λ named n. p.compact_leaves named (names_beneath g vol c s named n);
 }
 

@@ -22,10 +22,10 @@ use Rattle.volume.specs.meaning.Calls.{format_stores, format_state}
 use Rattle.volume.specs.meaning.Hosts.{fresh_shares}
 use Rattle.volume.specs.meaning.Refusals.{accept}
 use Rattle.volume.specs.meaning.Answers.{left_out, named_drives}
-use Rattle.volume.specs.meaning.CallContracts.{view_state, is_set, lengths_of, format_verdict, format_on, state_held, bad_in, with_slot, rebuild_verdict}
+use Rattle.volume.specs.meaning.CallContracts.{view_state, is_set, lengths_of, format_verdict, format_on, state_held}
 use Rattle.volume.specs.laws.CallStoresFit.{format_stores_fit}
 use Rattle.promise.specs.meaning.Ledger.{fresh_ledger, noted}
-use Rattle.promise.specs.meaning.Claim.{Call, formats, System, Event, calls, looks, reads, peeks, reports, cuts, loses, next, mode_after, note_of, reply_to, Duty, Promise, ready, start, rebuilds, NamesAll, lost_after}
+use Rattle.promise.specs.meaning.Claim.{Call, formats, System, Event, calls, looks, reads, peeks, reports, cuts, loses, next, mode_after, note_of, reply_to, Duty, Promise, ready, start}
 use Rattle.promise.specs.meaning.OnDevice.{on_device, shown_by}
 use Rattle.promise.specs.meaning.OnTables.{result_on, on_tables, TablesClaim}
 use Rattle.promise.specs.meaning.Caches.{WithCaches, remembered_after, on_caching_device, beneath}
@@ -37,12 +37,10 @@ use Rattle.promise.specs.device.CachedOwed.{format_rests_cached}
 use Rattle.promise.specs.device.CachedPromise.{names_beneath, cached_promise}
 use Rattle.promise.specs.meaning.ResetLasts.{ResetsLast}
 use Rattle.promise.specs.shown.ResetLasts.{resets_last}
-use Rattle.promise.specs.device.CachedEvents.{CachesOwed, OkOn, event_keeps_cached, rebuild_kept_cached}
+use Rattle.promise.specs.device.CachedEvents.{CachesOwed, OkOn, event_keeps_cached}
 use Rattle.promise.specs.device.CachedClaim.{caches_owed}
 use Rattle.promise.specs.device.OlderDrives.{OlderCuts, older_drives}
 use Rattle.promise.specs.tables.CallRefines.{held_agrees, Agrees, view_result, answer_finished}
-use Rattle.promise.specs.device.LostAfter.{NoRebuild, lost_kept, rebuild_or_not}
-use Rattle.promise.specs.tables.RebuildTables.{rebuild_agrees}
 use Rattle.promise.specs.tables.MountRefines.{call_refines}
 use Rattle.promise.specs.tables.TablesEvents.{Refines, call_agrees, made_same}
 use Rattle.promise.specs.tables.TablesClaimProof.{FormatPassed, format_passed, format_numbered_on, tables_promise, tables_event, tables_start}
@@ -67,19 +65,19 @@ module _ (g : Geometry) (ok : Valid g) (wb : is_valid g ≡ true) (owed : Caches
   device_keeps = event_keeps_cached g ok (lengths_of s.memory.memory) owed (view_cached g s) o.holds
 
   -- ---- calls
-  module _ (c : Call) (nr : NoRebuild c) (named : List Bool) (stop : ℕ) (d : Duty g (on_caching_tables g) s (calls c named stop)) where
+  module _ (c : Call) (named : List Bool) (stop : ℕ) (d : Duty g (on_caching_tables g) s (calls c named stop)) where
     abbrev remembers : ℕ → ℕ → List ZoneView
     remembers = remembered_after (made_on g c named s.state stop s.memory.memory) (device_of g s.memory.memory) s.memory.was
 
     refines : Refines g (beneath (on_tables g) (tables_caches g) s) c named stop
-    refines = call_refines g ok s0 o.plain named (names_beneath g (on_tables g) (tables_caches g) s named d.0) c nr stop
+    refines = call_refines g ok s0 o.plain named (names_beneath g (on_tables g) (tables_caches g) s named d.0) c stop
 
     agrees : Agrees g ((on_device g (lengths_of t)).call c (is_set named) (view_state s.state) stop (device_of g t)) (view_result g (result_on g c named s.state stop t))
     agrees = call_agrees g ok s0 o.plain c named stop refines
 
     kept : let a = (on_device g (lengths_of t)).call c (is_set named) (view_state s.state) stop (device_of g t) in
         OkCached g (mode_after a.answer s.mode) s.lost (record { now = a.memory; was = remembers }) a.state (noted s.ledger (note_of g c (shown_by g (is_set named) (device_of g t) a.memory) (reply_to a.answer)))
-    kept = rw (← lost_kept c nr ((on_device g (lengths_of t)).call c (is_set named) (view_state s.state) stop (device_of g t)).answer s.lost, made_same g ok s0 o.plain c named stop refines) (device_keeps (calls c (is_set named) stop) (record { drives = d.0.drives }, d.1, rw agrees.answer_same d.2))
+    kept = rw (made_same g ok s0 o.plain c named stop refines) (device_keeps (calls c (is_set named) stop) (record { drives = d.0.drives }, d.1, rw agrees.answer_same d.2))
 
     pub call_cached : TablesOkCached g (next g (on_caching_tables g) s (calls c named stop))
     call_cached =
@@ -87,37 +85,13 @@ module _ (g : Geometry) (ok : Valid g) (wb : is_valid g ≡ true) (owed : Caches
         let a = (on_device g (lengths_of t)).call c (is_set named) (view_state s.state) stop (device_of g t) in
         record {
           plain = tables_event g ok wb s0 o.plain (calls c named stop) (names_beneath g (on_tables g) (tables_caches g) s named d.0, d.1, d.2);
-          holds = rw (lost_kept c nr b.answer s.lost) (agrees_cached g (mode_after b.answer s.mode) s.lost (record { now = b.memory; was = remembers }) a.state b.state
-              (noted s.ledger (note_of g c (shown_by g (is_set named) (device_of g t) b.memory) (reply_to b.answer))) agrees.state_agrees (rw (agrees.answer_same, agrees.memory_same) at kept));
+          holds = agrees_cached g (mode_after b.answer s.mode) s.lost (record { now = b.memory; was = remembers }) a.state b.state
+              (noted s.ledger (note_of g c (shown_by g (is_set named) (device_of g t) b.memory) (reply_to b.answer))) agrees.state_agrees (rw (agrees.answer_same, agrees.memory_same) at kept);
         }
-
-  -- a rebuild
-  module _ (named : List Bool) (y stop : ℕ) (d : Duty g (on_caching_tables g) s (calls (rebuilds y) named stop)) where
-    names_under : NamesAll g (on_tables g) s0 named
-    names_under = names_beneath g (on_tables g) (tables_caches g) s named d.0
-
-    pub rebuild_cached : TablesOkCached g (next g (on_caching_tables g) s (calls (rebuilds y) named stop))
-    unfolding rebuild_verdict
-    rebuild_cached =
-        let b = view_result g (result_on g (rebuilds y) named s.state stop t) in
-        let same = rebuild_agrees g ok s0 o.plain named names_under d.1 y stop in
-        let remembers = remembered_after (made_on g (rebuilds y) named s.state stop t) (device_of g t) s.memory.was in
-        let kept = rebuild_kept_cached g ok (lengths_of t) owed (view_cached g s) o.holds (is_set named) (record { drives = d.0.drives }) d.1 (bad_in g (with_slot named y) t) y stop in
-        record {
-          plain = tables_event g ok wb s0 o.plain (calls (rebuilds y) named stop) (names_under, d.1, d.2);
-          holds = agrees_cached g (mode_after b.answer s.mode) (lost_after (rebuilds y) b.answer s.lost) (record { now = b.memory; was = remembers }) _ b.state s.ledger same.state_agrees (rw (same.answer_same, same.memory_same) at kept);
-        }
-
-  any_call : (c : Call) (named : List Bool) (stop : ℕ) → Duty g (on_caching_tables g) s (calls c named stop) → TablesOkCached g (next g (on_caching_tables g) s (calls c named stop))
-  any_call c named stop d = go (rebuild_or_not c) d
-    where
-      go : ((y : ℕ) × (c ≡ rebuilds y)) ⊎ NoRebuild c → Duty g (on_caching_tables g) s (calls c named stop) → TablesOkCached g (next g (on_caching_tables g) s (calls c named stop))
-      go (inr nr) d = call_cached c nr named stop d
-      go (inl (y, e)) d = subst (λ (i : Call). TablesOkCached g (next g (on_caching_tables g) s (calls i named stop))) (sym e) (rebuild_cached named y stop (rw e at d))
 
   -- EVERY EVENT KEEPS IT
   pub tables_event_cached : (e : Event (on_caching_tables g)) → Duty g (on_caching_tables g) s e → TablesOkCached g (next g (on_caching_tables g) s e)
-  tables_event_cached (calls c named stop) d = any_call c named stop d
+  tables_event_cached (calls c named stop) d = call_cached c named stop d
   tables_event_cached (looks named) d = o
   tables_event_cached (reads named a count out) d = o
   tables_event_cached (peeks named a) d = o

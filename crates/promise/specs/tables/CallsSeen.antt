@@ -18,7 +18,6 @@ use Rattle.promise.specs.device.CachedPromise.{names_beneath}
 use Rattle.promise.specs.device.CachedEvents.{caching_of}
 use Rattle.promise.specs.tables.CallRefines.{Agrees, view_result}
 use Rattle.promise.specs.tables.TablesEvents.{Refines, call_agrees, made_same}
-use Rattle.promise.specs.device.LostAfter.{NoRebuild}
 use Rattle.promise.specs.tables.MountRefines.{call_refines}
 use Rattle.promise.specs.tables.CachedTables.{view_cached, TablesOkCached}
 
@@ -26,12 +25,12 @@ use Rattle.promise.specs.tables.CachedTables.{view_cached, TablesOkCached}
 abbrev pub seen_as : Geometry → WithCaches Tables → Caching
 seen_as g m = record { now = device_of g m.memory; was = m.was }
 
-module _ (g : Geometry) (valid : Valid g) (s : System (on_caching_tables g)) (o : TablesOkCached g s) (c : Call) (nr : NoRebuild c) (named : List Bool) (stop : ℕ) (n : NamesAll g (on_caching_tables g) s named) where
+module _ (g : Geometry) (valid : Valid g) (s : System (on_caching_tables g)) (o : TablesOkCached g s) (c : Call) (named : List Bool) (stop : ℕ) (n : NamesAll g (on_caching_tables g) s named) where
   abbrev s0 : System (on_tables g)
   s0 = beneath (on_tables g) (tables_caches g) s
 
   refines : Refines g (beneath (on_tables g) (tables_caches g) s) c named stop
-  refines = call_refines g valid s0 o.plain named (names_beneath g (on_tables g) (tables_caches g) s named n) c nr stop
+  refines = call_refines g valid s0 o.plain named (names_beneath g (on_tables g) (tables_caches g) s named n) c stop
 
   agrees : Agrees g ((on_device g (lengths_of s.memory.memory)).call c (is_set named) (view_state s.state) stop (device_of g s.memory.memory)) (view_result g (result_on g c named s.state stop s.memory.memory))
   agrees = call_agrees g valid s0 o.plain c named stop refines

@@ -23,11 +23,10 @@ use Rattle.volume.specs.laws.BadPlaces.{told_plain, told_finished}
 use Rattle.volume.specs.meaning.Refusals.{Verdict, refuse, accept, first_refusal, mount_rows, bad_pointers}
 use Rattle.volume.specs.meaning.Mount.{mount_stores, shown_state}
 use Rattle.promise.specs.meaning.Ledger.{Fits}
-use Rattle.promise.specs.meaning.Claim.{Call, mounts, writes, flushes, resets, formats, compacts, rebuilds, calls, answered, heard, System, NamesAll, Promise, MayMount}
+use Rattle.promise.specs.meaning.Claim.{Call, mounts, writes, flushes, resets, formats, compacts, calls, answered, heard, System, NamesAll, Promise, MayMount}
 use Rattle.promise.specs.meaning.OnDevice.{on_device}
 use Rattle.promise.specs.meaning.OnTables.{on_tables, shown_in}
 use Rattle.promise.specs.device.AcceptedCalls.{Applies, refused_applies}
-use Rattle.promise.specs.device.LostAfter.{NoRebuild}
 use Rattle.promise.specs.device.ClaimProof.{kept}
 use Rattle.promise.specs.device.Heard.{answer_alike}
 use Rattle.promise.specs.tables.CallVerdicts.{mount_verdict_lem, mount_numbered}
@@ -107,21 +106,20 @@ module _ (g : Geometry) (ok : Valid g) (s : System (on_tables g)) (o : TablesOk 
     agree = λ p e. subst (λ (u : Device). Agree g (shown_state g present lost (apply_all xs w)) (view_state (state_held g.zones (shown_state g present lost u)))) (sym (device_end stop p e)) (held_agrees g g.zones (shown_state g present lost (apply_all xs w)) (omega arith));
   }
 
-  -- so every call but a rebuild is the rules' (of that one row 3 is asked of the tables: RebuildTables)
-  pub call_refines : (c : Call) → NoRebuild c → (stop : ℕ) → Refines g s c named stop
-  call_refines mounts nr stop = mount_refines stop
-  call_refines (writes asked) nr stop = write_refines g ok s o named n asked stop
-  call_refines flushes nr stop = flush_refines g ok s o named n stop
-  call_refines (resets z) nr stop = reset_refines g ok s o named n z stop
-  call_refines (formats array) nr stop = format_refines g ok s o named n array stop
-  call_refines (compacts d) nr stop = compact_refines g ok s o named n d stop
-  call_refines (rebuilds y) nr stop = absurd nr
+  -- so every call is the rules'
+  pub call_refines : (c : Call) (stop : ℕ) → Refines g s c named stop
+  call_refines mounts stop = mount_refines stop
+  call_refines (writes asked) stop = write_refines g ok s o named n asked stop
+  call_refines flushes stop = flush_refines g ok s o named n stop
+  call_refines (resets z) stop = reset_refines g ok s o named n z stop
+  call_refines (formats array) stop = format_refines g ok s o named n array stop
+  call_refines (compacts d) stop = compact_refines g ok s o named n d stop
 
-  pub answers_as : (c : Call) → NoRebuild c → (stop : ℕ) → ((on_device g (lengths_of t)).call c (is_set named) (view_state s.state) stop w).answer ≡ ((on_tables g).call c named s.state stop t).answer
-  answers_as c nr stop = (call_agrees g ok s o c named stop (call_refines c nr stop)).answer_same
+  pub answers_as : (c : Call) (stop : ℕ) → ((on_device g (lengths_of t)).call c (is_set named) (view_state s.state) stop w).answer ≡ ((on_tables g).call c named s.state stop t).answer
+  answers_as c stop = (call_agrees g ok s o c named stop (call_refines c stop)).answer_same
 
-  pub heard_as : (c : Call) → NoRebuild c → (stop : ℕ) (a : Answer) → heard s (calls c named stop) ≡ answered a → heard (view_system g s) (calls c (is_set named) stop) ≡ answered a
-  heard_as c nr stop a e = answer_alike (answers_as c nr stop) e
+  pub heard_as : (c : Call) (stop : ℕ) (a : Answer) → heard s (calls c named stop) ≡ answered a → heard (view_system g s) (calls c (is_set named) stop) ≡ answered a
+  heard_as c stop a e = answer_alike (answers_as c stop) e
 
   -- a mount's state is what is shown then
   state_is : (stop : ℕ) → (mount_on g named s.state stop t).outcome.answer ≡ Finished → (mount_on g named s.state stop t).outcome.state ≡ (on_tables g).state_of named t (mount_on g named s.state stop t).tables

@@ -1,6 +1,6 @@
 -- NO DRIVE FILLS UP, of the code's calls on the tables: what they leave is, seen as a device, what the rules' calls leave (call-agrees), and they answer the same.
-use Rattle.std.specs.Prelude.{◌≡◌, ◌⊎◌, Bool, true, ℕ, ◌<◌, List}
-use Rattle.std.proofs.Common.{sym, subst, inl, inr, le_trans, le_of_eq, arith}
+use Rattle.std.specs.Prelude.{◌≡◌, Bool, true, ℕ, ◌<◌, List}
+use Rattle.std.proofs.Common.{le_trans, le_of_eq, arith}
 use Rattle.tables.specs.meaning.Tables.{device_of}
 use Rattle.tables.specs.laws.Drives.{present_below}
 use Rattle.tables.specs.laws.TablesRefine.{loss_refines}
@@ -12,9 +12,9 @@ use Rattle.tables.specs.laws.GeometryTest.{valid_if_test}
 use Rattle.volume.specs.declared.Answer.TheVariants.{Finished, Refused}
 use Rattle.volume.specs.meaning.State.{share_at}
 use Rattle.volume.specs.meaning.Refusals.{first_refusal}
-use Rattle.volume.specs.meaning.CallContracts.{view_state, is_set, lengths_of, bad_in, with_slot}
+use Rattle.volume.specs.meaning.CallContracts.{view_state, is_set, lengths_of}
 use Rattle.volume.specs.meaning.Emptying.{RoomyGeneral, RoomyParity}
-use Rattle.promise.specs.meaning.Claim.{Call, mounts, resets, formats, compacts, rebuilds, ready, answered, heard, NamesAll, System, Event, calls, looks, reads, peeks, reports, cuts, loses, next, Duty, start}
+use Rattle.promise.specs.meaning.Claim.{Call, mounts, resets, formats, compacts, ready, answered, heard, NamesAll, System, Event, calls, looks, reads, peeks, reports, cuts, loses, next, Duty, start}
 use Rattle.promise.specs.meaning.OnDevice.{call_of}
 use Rattle.promise.specs.meaning.OnTables.{on_tables}
 use Rattle.promise.specs.meaning.Caches.{beneath}
@@ -25,10 +25,8 @@ use Rattle.promise.specs.emptying.BlankSpares.{BlankSpares}
 use Rattle.promise.specs.device.AcceptedCalls.{storing_finished}
 use Rattle.promise.specs.device.ClaimEvents.{compact_fits}
 use Rattle.promise.specs.device.Heard.{answer_heard}
-use Rattle.promise.specs.device.BlankAtRest.{event_blank, rebuild_blank_kept}
-use Rattle.promise.specs.shown.RoomyCalls.{rebuild_law, never_full, never_full_beneath}
-use Rattle.promise.specs.device.LostAfter.{NoRebuild, rebuild_or_not}
-use Rattle.promise.specs.tables.RebuildTables.{rebuild_agrees, verdict_heard}
+use Rattle.promise.specs.device.BlankAtRest.{event_blank}
+use Rattle.promise.specs.shown.RoomyCalls.{never_full, never_full_beneath}
 use Rattle.promise.specs.tables.MountRefines.{call_refines, heard_as}
 use Rattle.promise.specs.tables.TablesEvents.{view_system, TablesOk, names_seen, call_agrees}
 use Rattle.promise.specs.tables.TablesClaimProof.{tables_start_blank}
@@ -47,18 +45,10 @@ module _ (g : Geometry) (wb : is_valid g ≡ true) (s : System (on_tables g)) (k
   ok = valid_if_test g wb
 
   call_blank : (c : Call) (named : List Bool) (stop : ℕ) → Duty g (on_tables g) s (calls c named stop) → let u = next g (on_tables g) s (calls c named stop) in u.mode ≡ ready → BlankSpares g u.lost (device_of g u.memory)
-  call_blank c named stop d = go (rebuild_or_not c) d
-    where
-      go : ((y : ℕ) × (c ≡ rebuilds y)) ⊎ NoRebuild c → Duty g (on_tables g) s (calls c named stop) → let u = next g (on_tables g) s (calls c named stop) in u.mode ≡ ready → BlankSpares g u.lost (device_of g u.memory)
-      go (inr nr) (n, m, q) =
-          let a = call_agrees g ok s k.ok c named stop (call_refines g ok s k.ok named n c nr stop) in
-          let b = event_blank g ok (lengths_of s.memory) (view_system g s) k.ok.holds k.blank (calls c (is_set named) stop) (names_seen g s named n, m, rw a.answer_same q) in
-          rw (a.answer_same, a.memory_same) at b
-      go (inl (y, e)) (n, m, q) = subst (λ (i : Call). let u = next g (on_tables g) s (calls i named stop) in u.mode ≡ ready → BlankSpares g u.lost (device_of g u.memory)) (sym e) (
-          let m1 : s.mode ≡ ready = rw e at m in
-          let a = rebuild_agrees g ok s k.ok named n m1 y stop in
-          let b = rebuild_blank_kept g ok (lengths_of s.memory) (view_system g s) k.ok.holds k.blank (is_set named) (names_seen g s named n) m1 (bad_in g (with_slot named y) s.memory) y stop in
-          rw (a.answer_same, a.memory_same) at b)
+  call_blank c named stop (n, m, q) =
+      let a = call_agrees g ok s k.ok c named stop (call_refines g ok s k.ok named n c stop) in
+      let b = event_blank g ok (lengths_of s.memory) (view_system g s) k.ok.holds k.blank (calls c (is_set named) stop) (names_seen g s named n, m, rw a.answer_same q) in
+      rw (a.answer_same, a.memory_same) at b
 
   pub event_blank_on : (e : Event (on_tables g)) → Duty g (on_tables g) s e → let u = next g (on_tables g) s e in u.mode ≡ ready → BlankSpares g u.lost (device_of g u.memory)
   event_blank_on (calls c named stop) d = call_blank c named stop d
@@ -81,14 +71,12 @@ module _ (g : Geometry) (wb : is_valid g ≡ true) (s : System (on_tables g)) (k
   never_full_on general parity young =
       let p = never_full g (lengths_of s.memory) general parity wb (sized_lengths g s.memory k.ok.sized) (view_system g s) (record { ok = k.ok.holds; shared = k.ok.shared; blank = k.blank }) young in
       record {
-        mount_accepted = λ named n stop i e. p.mount_accepted (is_set named) (names_seen g s named n) stop i (heard_as g ok s k.ok named n mounts tt stop (Refused i) e);
-        reset_not_full = λ named n m z stop e. p.reset_not_full (is_set named) (names_seen g s named n) m z stop (heard_as g ok s k.ok named n (resets z) tt stop (Refused 14) e);
-        compact_not_full = λ named n m d stop e. p.compact_not_full (is_set named) (names_seen g s named n) m d stop (heard_as g ok s k.ok named n (compacts d) tt stop (Refused 14) e);
-        rebuild_not_full = λ named n m y stop e. rebuild_law g (lengths_of s.memory) wb (sized_lengths g s.memory k.ok.sized) (view_system g s) (record { ok = k.ok.holds; shared = k.ok.shared; blank = k.blank }) young (is_set named) (names_seen g s named n) general m
-            (bad_in g (with_slot named y) s.memory) y (verdict_heard g ok s k.ok named n m y stop 14 e);
+        mount_accepted = λ named n stop i e. p.mount_accepted (is_set named) (names_seen g s named n) stop i (heard_as g ok s k.ok named n mounts stop (Refused i) e);
+        reset_not_full = λ named n m z stop e. p.reset_not_full (is_set named) (names_seen g s named n) m z stop (heard_as g ok s k.ok named n (resets z) stop (Refused 14) e);
+        compact_not_full = λ named n m d stop e. p.compact_not_full (is_set named) (names_seen g s named n) m d stop (heard_as g ok s k.ok named n (compacts d) stop (Refused 14) e);
         compact_leaves = λ named n m d stop e h hh.
-            let r = heard_as g ok s k.ok named n (compacts d) tt stop Finished e in
-            let a = call_agrees g ok s k.ok (compacts d) named stop (call_refines g ok s k.ok named n (compacts d) tt stop) in
+            let r = heard_as g ok s k.ok named n (compacts d) stop Finished e in
+            let a = call_agrees g ok s k.ok (compacts d) named stop (call_refines g ok s k.ok named n (compacts d) stop) in
             let low = compacted_below d named n m stop r in
             le_trans (p.compact_leaves (is_set named) (names_seen g s named n) m d stop r h hh) (le_of_eq (a.state_agrees.share_same (share_at d h) (omega (arith, low, ok.drives_most, hh))));
       }

@@ -1,8 +1,8 @@
 -- What is promised on the tables holds at a point of a history: the rules' promise holds of the device that the tables stand for (ClaimProof.antt);
 -- here it is carried to what the calls' contracts say.
-use Rattle.std.specs.Prelude.{◌≡◌, ◌≢◌, ◌⊎◌, Bool, true, false, ◌&&◌, List, [], ◌∷◌, length, get_or, eqb}
+use Rattle.std.specs.Prelude.{◌≡◌, ◌≢◌, Bool, true, false, ◌&&◌, List, [], ◌∷◌, length, get_or, eqb}
 use Rattle.std.proofs.Math.Path.{refl, sym, ap}
-use Rattle.std.proofs.Common.{◌∙◌, subst, inl, inr, arith, take_all, get_or-take}
+use Rattle.std.proofs.Common.{◌∙◌, subst, arith, take_all, get_or-take}
 use Prim.Native.Nat.{ℕ, zero, suc, ◌^◌, ◌≤◌, ◌<◌}
 use Rattle.std.proofs.Math.Decide.{dec_lt}
 use Rattle.std.proofs.Math.Dec.{ltb}
@@ -55,11 +55,9 @@ use Rattle.tables.specs.laws.StoresFit.{fits_all_placed}
 use Rattle.volume.specs.laws.StateHeld.{held_sixteen}
 use Rattle.promise.specs.tables.CallRefines.{held_agrees, ok_agrees, shares_agree, answer_finished}
 use Rattle.promise.specs.tables.CallVerdicts.{numbered_accept, look_verdict_lem, read_number_lem, read_numbered, peek_number_lem, peek_numbered}
-use Rattle.promise.specs.meaning.Claim.{mounts, writes, flushes, resets, compacts, rebuilds, System, Event, calls, looks, reads, peeks, reports, cuts, loses, Peeked, next, peeked_at, reported, NamesAll, Duty, SameZones, Serves, Promise, ready, start, Call}
+use Rattle.promise.specs.meaning.Claim.{mounts, writes, flushes, resets, compacts, System, Event, calls, looks, reads, peeks, reports, cuts, loses, Peeked, next, peeked_at, reported, NamesAll, Duty, SameZones, Serves, Promise, ready, start}
 use Rattle.promise.specs.meaning.OnDevice.{on_device, look_result, read_result, peek_result, state_shown}
 use Rattle.promise.specs.meaning.OnTables.{call_result, result_of, on_tables, shown_in}
-use Rattle.promise.specs.device.LostAfter.{NoRebuild, rebuild_or_not}
-use Rattle.promise.specs.tables.RebuildTables.{rebuild_event, rebuild_refused_on}
 use Rattle.promise.specs.tables.MountRefines.{call_refines, heard_as, mount_claim}
 use Rattle.promise.specs.tables.TablesEvents.{view_system, TablesOk, names_seen, pointers_fine, call_event, cut_event, loss_event}
 use Rattle.volume.specs.laws.CallStoresFit.{format_stores_fit}
@@ -248,18 +246,17 @@ module _ (g : Geometry) (ok : Valid g) (wb : is_valid g ≡ true) where
       record {
         look_fits = look_claim g ok wb s o;
         mount_fits = λ named n m stop e. mount_claim g ok s o named n promised m stop (answer_heard e);
-        mount_refused = λ named n stop a e. promised.mount_refused (is_set named) (names_seen g s named n) stop a (heard_as g ok s o named n mounts tt stop a e);
+        mount_refused = λ named n stop a e. promised.mount_refused (is_set named) (names_seen g s named n) stop a (heard_as g ok s o named n mounts stop a e);
         pointer_is = promised.pointer_is;
         look_holds = held_claim g ok wb s o;
         look_serves = look_serves_on g ok wb s o;
-        flush_accepted = λ named n m stop a e. promised.flush_accepted (is_set named) (names_seen g s named n) m stop a (heard_as g ok s o named n flushes tt stop a e);
-        reset_refused = λ named n m z stop a e. promised.reset_refused (is_set named) (names_seen g s named n) m z stop a (heard_as g ok s o named n (resets z) tt stop a e);
-        write_refused = λ named n m w stop a e. promised.write_refused (is_set named) (names_seen g s named n) m w stop a (heard_as g ok s o named n (writes w) tt stop a e);
+        flush_accepted = λ named n m stop a e. promised.flush_accepted (is_set named) (names_seen g s named n) m stop a (heard_as g ok s o named n flushes stop a e);
+        reset_refused = λ named n m z stop a e. promised.reset_refused (is_set named) (names_seen g s named n) m z stop a (heard_as g ok s o named n (resets z) stop a e);
+        write_refused = λ named n m w stop a e. promised.write_refused (is_set named) (names_seen g s named n) m w stop a (heard_as g ok s o named n (writes w) stop a e);
         share_asked = λ named n m w k stop.
             let (p, q) = promised.share_asked (is_set named) (names_seen g s named n) m w k stop in
-            ((λ e. p (heard_as g ok s o named n (writes w) tt stop Finished e)), (λ e. q (heard_as g ok s o named n (writes w) tt stop Unfinished e)));
-        compact_refused = λ named n m d stop a e. promised.compact_refused (is_set named) (names_seen g s named n) m d stop a (heard_as g ok s o named n (compacts d) tt stop a e);
-        rebuild_refused = λ named n m y stop a e. rebuild_refused_on g ok s o named n m y stop wb a e;
+            ((λ e. p (heard_as g ok s o named n (writes w) stop Finished e)), (λ e. q (heard_as g ok s o named n (writes w) stop Unfinished e)));
+        compact_refused = λ named n m d stop a e. promised.compact_refused (is_set named) (names_seen g s named n) m d stop a (heard_as g ok s o named n (compacts d) stop a e);
         shares_fit = promised.shares_fit;
         read_gives = λ named n m a count out bytes e. promised.read_gives (is_set named) (names_seen g s named n) m a count out bytes (read_alike (sym (read_same g ok wb s o named n s.state a count out)) e);
         read_accepted = λ named n m a count out hz pos len h. read_alike (read_same g ok wb s o named n s.state a count out) (promised.read_accepted (is_set named) (names_seen g s named n) m a count out hz pos len h);
@@ -275,11 +272,7 @@ module _ (g : Geometry) (ok : Valid g) (wb : is_valid g ≡ true) where
       }
 
   pub tables_event : (s : System (on_tables g)) → TablesOk g s → (e : Event (on_tables g)) → Duty g (on_tables g) s e → TablesOk g (next g (on_tables g) s e)
-  tables_event s o (calls c named stop) d = go (rebuild_or_not c) d
-    where
-      go : ((y : ℕ) × (c ≡ rebuilds y)) ⊎ NoRebuild c → Duty g (on_tables g) s (calls c named stop) → TablesOk g (next g (on_tables g) s (calls c named stop))
-      go (inr nr) d = call_event g ok s o c named stop (call_refines g ok s o named d.0 c nr stop) nr d
-      go (inl (y, e)) d = subst (λ (i : Call). TablesOk g (next g (on_tables g) s (calls i named stop))) (sym e) (rebuild_event g ok s o named d.0 (rw e at d.1) y stop)
+  tables_event s o (calls c named stop) d = call_event g ok s o c named stop (call_refines g ok s o named d.0 c stop) d
   tables_event s o (looks named) d = o
   tables_event s o (reads named a count out) d = o
   tables_event s o (peeks named a) d = o

@@ -1,7 +1,7 @@
 -- Every event on the tables keeps the invariant: the tables have their lengths, the pointers of the drives that are not lost are in order, the
 -- state has its sixteen records and shares, and the device that the tables stand for is as ClaimEvents.antt and SharesKept.antt say.
 use Rattle.std.specs.Prelude.{◌≡◌, refl, ◌≢◌, ◌⊎◌, Bool, true, false, not, ℕ, ◌<◌, List, length, take, ltb}
-use Rattle.std.proofs.Common.{sym, ap, ◌∙◌, subst, inl, inr, true≢false, arith, eq-eqb}
+use Rattle.std.proofs.Common.{sym, ap, ◌∙◌, inl, inr, true≢false, arith, eq-eqb}
 use Rattle.tables.specs.declared.Geometry.{Geometry}
 use Rattle.tables.specs.meaning.Geometry.{Valid, max_zones}
 use Rattle.tables.specs.meaning.Drives.{no_drive}
@@ -17,7 +17,7 @@ use Rattle.volume.specs.meaning.Answers.{StoringCall}
 use Rattle.volume.specs.meaning.CallContracts.{view_state, is_set, verdict_number, lengths_of, Result, storing_on, flush_on, reset_on, write_on, compact_on, format_on, state_held}
 use Rattle.volume.specs.laws.Refusals.{Numbered}
 use Rattle.volume.specs.laws.StateHeld.{Sixteen, held_sixteen}
-use Rattle.promise.specs.meaning.Claim.{Call, writes, flushes, resets, formats, compacts, rebuilds, ready, System, calls, cuts, loses, next, NamesAll, Duty, mode_after, note_of, reply_to}
+use Rattle.promise.specs.meaning.Claim.{Call, writes, flushes, resets, formats, compacts, ready, System, calls, cuts, loses, next, NamesAll, Duty, mode_after, note_of, reply_to}
 use Rattle.promise.specs.meaning.Ledger.{noted}
 use Rattle.promise.specs.meaning.OnDevice.{call_of, on_device, shown_by}
 use Rattle.promise.specs.meaning.OnTables.{result_on, on_tables, shown_in}
@@ -25,7 +25,6 @@ use Rattle.promise.specs.meaning.Caches.{made_by, made_stores}
 use Rattle.promise.specs.meaning.CachesOnTables.{made_on}
 use Rattle.promise.specs.device.Modes.{OkIn}
 use Rattle.promise.specs.device.ClaimEvents.{event_keeps}
-use Rattle.promise.specs.device.LostAfter.{NoRebuild, lost_kept}
 use Rattle.promise.specs.device.SharesKept.{SharesKept, event_shares}
 use Rattle.promise.specs.tables.CallRefines.{Agree, held_agrees, ok_agrees, shares_agree, Agrees, view_result, storing_agrees, storing_sized, storing_order, storing_state}
 use Rattle.promise.specs.tables.CallVerdicts.{format_verdict_lem, format_numbered, flush_verdict_lem, flush_numbered, write_verdict_lem, write_numbered, reset_verdict_lem, reset_numbered, compact_verdict_lem, compact_numbered}
@@ -89,25 +88,22 @@ module _ (g : Geometry) (ok : Valid g) (s : System (on_tables g)) (o : TablesOk 
       go (refuse n) e = refl
       go accept e = ap (take stop) (r.same e)
 
-  -- so the event keeps the invariant (a rebuild's: RebuildTables)
-  pub call_event : NoRebuild c → Duty g (on_tables g) s (calls c named stop) → TablesOk g (next g (on_tables g) s (calls c named stop))
-  call_event nr (n, m, q) = rw (lost_kept c nr (result_on g c named s.state stop s.memory).outcome.answer s.lost) (record {
+  -- so the event keeps the invariant
+  pub call_event : Duty g (on_tables g) s (calls c named stop) → TablesOk g (next g (on_tables g) s (calls c named stop))
+  call_event (n, m, q) = record {
     sized = rw r.result_is (storing_sized g s.memory r.verdict r.has_number r.stores k.stores r.new s.state k.state stop o.sized r.same r.fit);
     order = λ d hd h. rw r.result_is (storing_order g s.memory r.verdict r.has_number r.stores k.stores r.new s.state k.state stop o.sized r.same r.fit d hd (o.order d hd h));
     records = rw r.result_is (storing_state g s.memory r.verdict r.has_number r.stores k.stores r.new s.state k.state stop o.sized r.same r.fit (λ (t : State). Sixteen t) o.records r.long);
     holds = seen;
     shared = shared_seen;
-  })
+  }
     where
       duty : Duty g (on_device g (lengths_of s.memory)) (view_system g s) (calls c (is_set named) stop)
       duty = (names_seen g s named n, m, rw call_agrees.answer_same q)
 
       kept : let a = (on_device g (lengths_of s.memory)).call c (is_set named) (view_state s.state) stop (device_of g s.memory) in
           OkIn g (mode_after a.answer s.mode) s.lost a.memory a.state (noted s.ledger (note_of g c (shown_by g (is_set named) (device_of g s.memory) a.memory) (reply_to a.answer)))
-      kept =
-          let a = (on_device g (lengths_of s.memory)).call c (is_set named) (view_state s.state) stop (device_of g s.memory) in
-          subst (λ (x : ℕ). OkIn g (mode_after a.answer s.mode) x a.memory a.state (noted s.ledger (note_of g c (shown_by g (is_set named) (device_of g s.memory) a.memory) (reply_to a.answer)))) (lost_kept c nr a.answer s.lost)
-          (event_keeps g ok (lengths_of s.memory) (view_system g s) o.holds (calls c (is_set named) stop) duty)
+      kept = event_keeps g ok (lengths_of s.memory) (view_system g s) o.holds (calls c (is_set named) stop) duty
 
       seen : let b = result_on g c named s.state stop s.memory in
           OkIn g (mode_after b.outcome.answer s.mode) s.lost (device_of g b.tables) (view_state b.outcome.state) (noted s.ledger (note_of g c (shown_in g named s.memory b.tables) (reply_to b.outcome.answer)))
@@ -118,9 +114,7 @@ module _ (g : Geometry) (ok : Valid g) (s : System (on_tables g)) (o : TablesOk 
           (rw (call_agrees.answer_same, call_agrees.memory_same) at kept)
 
       shared_then : let a = (on_device g (lengths_of s.memory)).call c (is_set named) (view_state s.state) stop (device_of g s.memory) in mode_after a.answer s.mode ≡ ready → SharesKept g s.lost a.memory a.state
-      shared_then =
-          let a = (on_device g (lengths_of s.memory)).call c (is_set named) (view_state s.state) stop (device_of g s.memory) in
-          subst (λ (x : ℕ). mode_after a.answer s.mode ≡ ready → SharesKept g x a.memory a.state) (lost_kept c nr a.answer s.lost) (event_shares g ok (lengths_of s.memory) (view_system g s) o.holds o.shared (calls c (is_set named) stop) duty)
+      shared_then = event_shares g ok (lengths_of s.memory) (view_system g s) o.holds o.shared (calls c (is_set named) stop) duty
 
       shared_seen : let b = result_on g c named s.state stop s.memory in mode_after b.outcome.answer s.mode ≡ ready → SharesKept g s.lost (device_of g b.tables) (view_state b.outcome.state)
       shared_seen i =

@@ -44,11 +44,6 @@ pub on_append : (present : ℕ → Bool) (xs ys : List Store) → AllOn present 
 on_append present [] ys p q = q
 on_append present (x ∷ xs) ys p q = (p.0, on_append present xs ys p.1 q)
 
--- drives that are among others
-pub on_fewer : (a b : ℕ → Bool) (xs : List Store) → ((d : ℕ) → a d ≡ true → b d ≡ true) → AllOn a xs → AllOn b xs
-on_fewer a b [] h p = tt
-on_fewer a b (x ∷ xs) h p = (h (store_drive x) p.0, on_fewer a b xs h p.1)
-
 -- THE LAW: placed stores on present drives, none of which is ever longer than C, fit
 pub stores_fit : (g : Geometry) (present : ℕ → Bool) (xs : List Store) (v : Device) → AllPlaced g xs → AllOn present xs
     → ((n d y : ℕ) → present d ≡ true → y < physical_zones g → length (apply_all (take n xs) v d y).sectors ≤ g.capacity) → FitsAll g xs v

@@ -23,10 +23,6 @@ use Rattle.volume.specs.meaning.CallContracts.{view_state, record_at, is_set}
 unfoldable pub stale_on : Geometry → (ℕ → Bool) → List ℕ → Condition → ℕ → Bool
 stale_on g present ws c z = any_below (λ d. present d && stale_in c (get_or ws (cell g d (data_zone z)) 0) (needed g.drives g.unit z (pointer_in c) d)) g.drives
 
--- of the zones below n, by the state's records
-abbrev pub some_stale : Geometry → (ℕ → Bool) → State → List ℕ → ℕ → Bool
-some_stale g present s ws n = any_below (λ z. stale_on g present ws (record_at s z).condition z) n
-
 -- reading below `end`, which is at or below pointer n, needs the logs: a drive is absent, and the pointer's own stripe is read
 unfoldable pub needs_log : Geometry → List Bool → ℕ → ℕ → Bool
 needs_log g here n end = ltb 0 (count_below (λ d. not (is_set here d)) g.drives) && ltb (stripe_of g.drives g.unit n * stripe_sectors g) end
@@ -60,7 +56,7 @@ and_cong true b c h = h refl
 and_cong false b c h = refl
 
 -- where the pointers of present drives are within their zones
-pub stale_is : (g : Geometry) (present : ℕ → Bool) (t : Tables) (state : StateView) (z : ℕ) → z < g.zones
+stale_is : (g : Geometry) (present : ℕ → Bool) (t : Tables) (state : StateView) (z : ℕ) → z < g.zones
     → ((d : ℕ) → d < g.drives → present d ≡ true → get_or t.written (cell g d (data_zone z)) 0 ≤ g.capacity)
     → stale g present (device_of g t) state z ≡ stale_on g present t.written (state.condition z) z
 unfolding stale stale_on

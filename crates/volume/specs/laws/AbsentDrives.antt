@@ -13,14 +13,14 @@ use Rattle.tables.specs.meaning.Basics.{pick}
 use Rattle.tables.specs.laws.Basics.{and_split}
 use Rattle.tables.specs.meaning.Lists.{concat}
 use Rattle.tables.specs.meaning.Geometry.{physical_zones, max_zones}
-use Rattle.tables.specs.meaning.Device.{ZoneView, Device, Store}
+use Rattle.tables.specs.meaning.Device.{ZoneView, Device, Store, store_drive}
 use Rattle.tables.specs.meaning.Phases.{on_present, flush_all}
 use Rattle.tables.specs.laws.Phases.{each_on_present_lem}
 use Rattle.tables.specs.meaning.Tables.{Tables, device_of, pointers_bad}
 use Rattle.tables.specs.laws.Made.{WellSized, AllPlaced}
 use Rattle.tables.specs.meaning.Through.{carry}
 use Rattle.tables.specs.laws.Through.{carry_drive}
-use Rattle.tables.specs.laws.StoresFit.{AllOn, on_present_on, on_append, fits_all_placed, on_fewer}
+use Rattle.tables.specs.laws.StoresFit.{AllOn, on_present_on, on_append, fits_all_placed}
 use Rattle.tables.specs.laws.TablesFrame.{SameDrive, same_drive_refl, run_frame}
 use Rattle.tables.specs.laws.NamedDrives.{AgreeOn, sector_same, device_agrees, pointers_agree, run_agrees}
 use Rattle.volume.specs.declared.State.{State}
@@ -53,6 +53,10 @@ pub record OnNamed (g : Geometry) (named : List Bool) (ss : List Store) (t : Tab
   pub sized : WellSized g t
   pub placed : AllPlaced g ss
   pub named_only : AllOn (is_set named) ss
+
+pub on_fewer : (a b : ℕ → Bool) (xs : List Store) → ((d : ℕ) → a d ≡ true → b d ≡ true) → AllOn a xs → AllOn b xs
+on_fewer a b [] h p = tt
+on_fewer a b (x ∷ xs) h p = (h (store_drive x) p.0, on_fewer a b xs h p.1)
 
 -- ---- a storing call (n: the refusal's number)
 module _ (g : Geometry) (named : List Bool) (old : State) (count : ℕ) where

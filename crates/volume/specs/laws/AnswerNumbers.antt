@@ -29,14 +29,14 @@ use Rattle.volume.specs.laws.LeastRefusal.{first_least}
 -- ---- of rows
 abbrev pub small_rows : List (ℕ × Bool) → Bool
 small_rows [] = true
-small_rows ((n, b) ∷ rows) = ltb n 28 && small_rows rows
+small_rows ((n, b) ∷ rows) = ltb n 20 && small_rows rows
 
-pub verdict_small : (rows : List (ℕ × Bool)) → small_rows rows ≡ true → verdict_number (first_refusal rows) < 28
+pub verdict_small : (rows : List (ℕ × Bool)) → small_rows rows ≡ true → verdict_number (first_refusal rows) < 20
 verdict_small [] e = omega arith
-verdict_small ((n, b) ∷ rows) e = let (p, q) = and_split (ltb n 28) (small_rows rows) e in go b p (verdict_small rows q)
+verdict_small ((n, b) ∷ rows) e = let (p, q) = and_split (ltb n 20) (small_rows rows) e in go b p (verdict_small rows q)
   where
-    go : (c : Bool) → ltb n 28 ≡ true → verdict_number (first_refusal rows) < 28 → verdict_number (pick c (refuse n) (first_refusal rows)) < 28
-    go true p q = ltb-true n 28 p
+    go : (c : Bool) → ltb n 20 ≡ true → verdict_number (first_refusal rows) < 20 → verdict_number (pick c (refuse n) (first_refusal rows)) < 20
+    go true p q = ltb-true n 20 p
     go false p q = q
 
 row_six : (v : Verdict) → verdict_number v ≡ 6 → v ≡ refuse 6
@@ -98,7 +98,7 @@ refused_numbered b n told h = go (eqb n 6) refl
     go true e = told (eqb-true n 6 e)
     go false e = h
 
-refused_small : (b : BadPlace) (n : ℕ) → b.number ≤ 17 → n < 28 → answer_number (refused_at b n) ≤ 255
+refused_small : (b : BadPlace) (n : ℕ) → b.number ≤ 17 → n < 20 → answer_number (refused_at b n) ≤ 255
 refused_small b n h k = go (eqb n 6)
   where
     go : (c : Bool) → answer_number (pick c (BadLog b) (Refused n)) ≤ 255
@@ -125,15 +125,15 @@ module _ (g : Geometry) (named : List Bool) (t : Tables) where
   unfolding mount_on
   mount_tells old count e = rw e refl
 
-  pub look_small : verdict_number (look_verdict g named t) < 28
+  pub look_small : verdict_number (look_verdict g named t) < 20
   unfolding look_verdict look_rows
   look_small = verdict_small (look_rows g (lengths_of t) (bad_in g named t) (is_set named) (roles_of g t) (seen_in g t)) refl
 
-  pub mount_small : verdict_number (mount_verdict g named t) < 28
+  pub mount_small : verdict_number (mount_verdict g named t) < 20
   unfolding mount_verdict mount_rows
   mount_small = verdict_small (mount_rows g (lengths_of t) (bad_in g named t) (is_set named) (roles_of g t) (seen_in g t)) refl
 
-  told_small : (n : ℕ) → n < 28 → answer_number (refused_at (bad_place_on g named t) n) ≤ 255
+  told_small : (n : ℕ) → n < 20 → answer_number (refused_at (bad_place_on g named t) n) ≤ 255
   told_small n h = refused_small (bad_place_on g named t) n (place_most g (present_in g (is_set named) (device_of g t)) (placed_by (roles g (device_of g t))) (seen_in g t)) h
 
   -- every answer of a look, and of a mount, has eight bits

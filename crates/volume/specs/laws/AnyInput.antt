@@ -1,20 +1,17 @@
 -- WHAT HOLDS OF THE CALLS ON ANY INPUT, by name. A call's contract (meaning/CallContracts) says exactly what it does; these statements say of all calls what follows for
 -- the memory of absent drives, for counts of stores, and for what a mount shows. Each stands with the theorem that proves it.
-use Rattle.std.specs.Prelude.{◌≡◌, ◌≢◌, Bool, ℕ, ◌-◌, ◌^◌, List, length}
+use Rattle.std.specs.Prelude.{◌≡◌, ◌≢◌, Bool, ℕ, ◌-◌, ◌^◌, List}
 use Rattle.tables.specs.declared.Geometry.{Geometry}
-use Rattle.tables.specs.meaning.Geometry.{max_drives}
 use Rattle.tables.specs.meaning.Tables.{Tables}
 use Rattle.tables.specs.laws.NamedDrives.{AgreeOn}
 use Rattle.volume.specs.declared.State.{State}
 use Rattle.volume.specs.declared.Answer.TheVariants.{Finished, Unfinished}
-use Rattle.volume.specs.meaning.CallContracts.{is_set, with_slot, flush_on, reset_on, write_on, compact_on, rebuild_on, format_on, look_on, mount_on, read_on, peek_number, peek_on}
+use Rattle.volume.specs.meaning.CallContracts.{is_set, flush_on, reset_on, write_on, compact_on, format_on, look_on, mount_on, read_on, peek_number, peek_on}
 use Rattle.volume.specs.meaning.Refusals.{WriteAsked}
 use Rattle.volume.specs.laws.AbsentDrives.{LeavesAbsent, format_absent, flush_absent, reset_absent, write_absent, compact_absent, read_absent, peek_absent}
 use Rattle.volume.specs.laws.MountAbsentDrives.{look_absent, mount_absent}
-use Rattle.volume.specs.laws.RebuildAbsent.{rebuild_absent}
 use Rattle.volume.specs.laws.StoreCounts.{flush_ends, reset_ends, format_ends, write_ends, compact_ends}
 use Rattle.volume.specs.laws.MountStoreCounts.{mount_ends}
-use Rattle.volume.specs.laws.RebuildStoreCounts.{rebuild_ends}
 use Rattle.volume.specs.laws.MountShowsLook.{mount_shows_the_look}
 
 -- "An absent drive's memory is neither read nor changed": by a storing call (LeavesAbsent); nor read by a look, a read or a peek, which change no memory
@@ -25,8 +22,6 @@ pub record AbsentUntouched (g : Geometry) (named : List Bool) : Type 0 where
   pub flush : (s : State) (count : ℕ) → LeavesAbsent g named (flush_on g named s count)
   pub reset : (s : State) (z count : ℕ) → LeavesAbsent g named (reset_on g named s z count)
   pub compact : (s : State) (d count : ℕ) → LeavesAbsent g named (compact_on g named s d count)
-  -- (of a rebuild: of the drives named and the slot)
-  pub rebuild : length named ≡ max_drives → (s : State) (x count : ℕ) → LeavesAbsent g (with_slot named x) (rebuild_on g named s x count)
   pub look : (old : State) (t u : Tables) → AgreeOn g (is_set named) t u → look_on g named old t ≡ look_on g named old u
   pub read : (s : State) (a count : ℕ) (out : List ℕ) (t u : Tables) → AgreeOn g (is_set named) t u → read_on g named s a count out t ≡ read_on g named s a count out u
   pub peek : (s : State) (a : ℕ) (t u : Tables) → AgreeOn g (is_set named) t u → (peek_number g named s a t ≡ peek_number g named s a u) × (peek_on g named s a t ≡ peek_on g named s a u)
@@ -39,7 +34,6 @@ absent_untouched g named = record {
   flush = flush_absent g named;
   reset = reset_absent g named;
   compact = compact_absent g named;
-  rebuild = λ many s x count. rebuild_absent g named s x count many;
   look = λ old t u same. look_absent g named t u same old;
   read = read_absent g named;
   peek = peek_absent g named;
@@ -53,7 +47,6 @@ pub record NeverStopped (g : Geometry) (named : List Bool) (t : Tables) : Type 0
   pub flush : (s : State) → (flush_on g named s (2 ^ 32 - 1) t).outcome.answer ≢ Unfinished
   pub reset : (s : State) (z : ℕ) → (reset_on g named s z (2 ^ 32 - 1) t).outcome.answer ≢ Unfinished
   pub compact : (s : State) (d : ℕ) → (compact_on g named s d (2 ^ 32 - 1) t).outcome.answer ≢ Unfinished
-  pub rebuild : (s : State) (x : ℕ) → (rebuild_on g named s x (2 ^ 32 - 1) t).outcome.answer ≢ Unfinished
 
 pub never_stopped : (g : Geometry) (named : List Bool) (t : Tables) → NeverStopped g named t
 never_stopped g named t = record {
@@ -63,7 +56,6 @@ never_stopped g named t = record {
   flush = λ s. flush_ends g named s t;
   reset = λ s z. reset_ends g named s z t;
   compact = λ s d. compact_ends g named s d t;
-  rebuild = λ s x. rebuild_ends g named s x t;
 }
 
 -- "It shows what a look shows after its last store": a look on the tables that a finished mount leaves, with the same drives named, finishes and leaves the mount's

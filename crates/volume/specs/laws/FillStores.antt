@@ -1,12 +1,11 @@
 -- The stores of a mount's step 7, "sectors missing below the pointer, and parity of complete stripes": those of one zone of one drive, and what they are made of.
 use Rattle.std.specs.Prelude.{◌≡◌, ◌≢◌, ℕ, zero, ◌+◌, ◌-◌, ◌*◌, ◌/◌, ◌%◌, ◌<◌, List, [], length, ltb}
 use Rattle.std.proofs.Math.Path.{refl}
-use Rattle.std.proofs.Common.{sym, ap, ◌∙◌, mod-lt, div-add-mod', arith, eq-eqb, ne_eqb, lt-ltb}
-use Rattle.std.proofs.Math.Decide.{ℕ_discrete}
+use Rattle.std.proofs.Common.{mod-lt, div-add-mod', arith, eq-eqb, ne_eqb, lt-ltb}
 use Rattle.tables.specs.declared.Geometry.{Geometry}
 use Rattle.tables.specs.meaning.Basics.{pick}
 use Rattle.tables.specs.meaning.Below.{tabulate_from}
-use Rattle.tables.specs.meaning.Geometry.{Valid, data_zone}
+use Rattle.tables.specs.meaning.Geometry.{data_zone}
 use Rattle.tables.specs.laws.Xor.{xor_below_cong}
 use Rattle.tables.specs.meaning.Placement.{needed, stripe_of, stripe_length, parity_drive, address, address_at, drive_of, sector_of}
 use Rattle.tables.specs.laws.Placement.{needed_iff, needed_parity, complete_lt, place_onto, address_sum}
@@ -14,7 +13,6 @@ use Rattle.tables.specs.meaning.Device.{Device, Store}
 use Rattle.volume.specs.meaning.Content.{content_at, row_xor, row_xor_below}
 use Rattle.volume.specs.meaning.Calls.{append_all}
 use Rattle.volume.specs.meaning.Rules.{Shown}
-use Rattle.volume.specs.laws.Content.{row_long}
 
 -- ---- the stores: zone z of drive d, from the sectors that were there up to those needed
 abbrev pub missing : Geometry → Shown → Device → ℕ → ℕ → List (List ℕ)
@@ -56,25 +54,3 @@ module _ (D U z : ℕ) (h_d : 1 < D) (h_u : zero < U) where
       let (p, q) = place_onto D U z h_d h_u d x hd e in
       let l : sector_of D U (address_at D U z d x) < needed D U z n (drive_of D U z (address_at D U z d x)) = rw (p, q) h in
       (needed_iff D U z h_d h_u n (address_at D U z d x)).0 l
-
--- ---- what a zone's content puts on a drive is sectors, where the content is
-pub content_long : (g : Geometry) → Valid g → (z : ℕ) (S : ℕ → List ℕ) (n : ℕ) → ((a : ℕ) → a < n → length (S a) ≡ g.sector) → (d x : ℕ) → d < g.drives → x < needed g.drives g.unit z n d
-    → length (content_at g.drives g.unit z S d x) ≡ g.sector
-content_long g ok z S n values d x hd h = go (ℕ_discrete d (parity_drive D z (x / U)))
-  where
-    D : ℕ
-    D = g.drives
-
-    U : ℕ
-    U = g.unit
-
-    two : 1 < D
-    two = omega (arith, ok.drives_least)
-
-    go : Dec (d ≡ parity_drive D z (x / U)) → length (content_at D U z S d x) ≡ g.sector
-    go (yes e) =
-        let c = parity_complete D U z two ok.unit_least n d x h e in
-        let r : x % U < U = mod-lt x ok.unit_least in
-        ap (λ (l : List ℕ). length l) (content_parity D U z two ok.unit_least S d x e ∙ sym (row_all D U z two ok.unit_least S n (x / U) (x % U) c r))
-        ∙ row_long g ok S (x / U) n (x % U) r (parity_first D U z two ok.unit_least n (x / U) (x % U) c r) (λ j hj l. values (address D U (x / U) j (x % U)) l)
-    go (no e) = ap (λ (l : List ℕ). length l) (content_data D U z two ok.unit_least S d x e) ∙ values (address_at D U z d x) (data_below D U z two ok.unit_least n d x hd h e)

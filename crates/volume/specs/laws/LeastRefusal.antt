@@ -15,14 +15,13 @@ use Rattle.volume.specs.declared.Outcome.{Outcome}
 use Rattle.volume.specs.declared.Answer.{Answer}
 use Rattle.volume.specs.declared.BadPlace.{BadPlace}
 use Rattle.volume.specs.declared.Answer.TheVariants.{Finished, Unfinished, Refused}
-use Rattle.volume.specs.meaning.Refusals.{Verdict, refuse, accept, first_refusal, WriteAsked, zone_asked, format_rows, look_rows, mount_rows, write_rows, flush_rows, reset_rows, compact_rows, rebuild_rows, read_rows, peek_rows}
+use Rattle.volume.specs.meaning.Refusals.{Verdict, refuse, accept, first_refusal, WriteAsked, zone_asked, format_rows, look_rows, mount_rows, write_rows, flush_rows, reset_rows, compact_rows, read_rows, peek_rows}
 use Rattle.volume.specs.meaning.State.{call_present, with_shares}
 use Rattle.volume.specs.meaning.Calls.{flush_stores, format_stores, flush_state, format_state, reset_state}
 use Rattle.volume.specs.meaning.Hosts.{fresh_shares, written_state, compact_state}
 use Rattle.volume.specs.meaning.Emptying.{write_all, reset_all, compact_stores}
-use Rattle.volume.specs.meaning.Answers.{lost_in, sectors_in, left_out, named_drives, present_in, lost_drive_in, refused_at, told_at, rebuilt_shares}
+use Rattle.volume.specs.meaning.Answers.{lost_in, sectors_in, left_out, named_drives, present_in, lost_drive_in, refused_at, told_at}
 use Rattle.volume.specs.meaning.CallContracts.{view_state, is_set, lengths_of, bad_in, roles_of, seen_in, verdict_number, storing_on, flush_verdict, flush_on, reset_verdict, reset_on, write_verdict, compact_verdict, compact_on, state_held}
-use Rattle.volume.specs.meaning.CallContracts.{after_stores, with_slot, rebuild_verdict, rebuild_stores_on, rebuild_on}
 use Rattle.volume.specs.meaning.CallContracts.{write_on, format_verdict, format_on, look_verdict, look_on, mount_verdict, mount_stores_on, mount_shown_on, bad_place_on, mount_on, read_number, read_on, peek_number}
 use Rattle.volume.specs.laws.BadPlaces.{refused_same, not_finished, not_unfinished}
 use Rattle.volume.specs.laws.Refusals.{condition_of_row, accepted_row, Numbered, numbered, nonzero, refusal_order, in_order}
@@ -185,11 +184,6 @@ module _ (g : Geometry) (named : List Bool) (s : State) (t : Tables) where
   compact_by_rows d count =
       storing_by_rows _ (refl, refl) g (compact_stores g (call_present g (is_set named) (view_state s)) (roles_of g t) (seen_in g t) (view_state s) d)
       (state_held max_zones (compact_state g (call_present g (is_set named) (view_state s)) (lost_in g (is_set named) (view_state s)) (seen_in g t) (view_state s) d)) s count t
-
-  pub rebuild_by_rows : (x count : ℕ) → ByRows (rebuild_rows g (lengths_of t) (bad_in g (with_slot named x) t) (is_set named) (view_state s) x (roles_of g t) (seen_in g t)) (rebuild_on g named s x count t).outcome.answer
-  unfolding rebuild_on rebuild_verdict rebuild_rows
-  rebuild_by_rows x count =
-      storing_by_rows _ (refl, refl) g (rebuild_stores_on g named s x t) (state_held max_zones (rebuilt_shares g (device_of g (after_stores g (rebuild_stores_on g named s x t) t)) (view_state s))) s count t
 
   -- (row 6 is answered by the first bad place)
   pub mount_by_rows : (count : ℕ) → AnsweredBy (refused_at (bad_place_on g named t)) (mount_rows g (lengths_of t) (bad_in g named t) (is_set named) (roles_of g t) (seen_in g t)) (mount_on g named s count t).outcome.answer

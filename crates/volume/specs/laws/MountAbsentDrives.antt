@@ -16,7 +16,7 @@ use Rattle.tables.specs.meaning.Device.{ZoneView, Device, Store, apply_all}
 use Rattle.tables.specs.meaning.Through.{through, carry}
 use Rattle.tables.specs.meaning.Phases.{on_present, flush_all}
 use Rattle.tables.specs.meaning.Tables.{Tables, device_of, run_stores}
-use Rattle.tables.specs.laws.StoresFit.{AllOn, on_present_on, on_append, fits_all_placed, on_fewer}
+use Rattle.tables.specs.laws.StoresFit.{AllOn, on_present_on, on_append, fits_all_placed}
 use Rattle.tables.specs.laws.NamedDrives.{AgreeOn, device_agrees, pointers_agree, run_agrees}
 use Rattle.logs.specs.meaning.Entry.{parity_zone}
 use Rattle.volume.specs.declared.State.{State}
@@ -42,7 +42,7 @@ use Rattle.volume.specs.laws.MountStoresDepend.{mount_stores_depend}
 use Rattle.volume.specs.laws.CarriedSteps.{concat_carried}
 use Rattle.volume.specs.laws.MountPlaced.{on_step, on_steps, present_is_named}
 use Rattle.volume.specs.laws.MountStoresFit.{mount_stores_are, mount_stores_fit, mount_tables_fit}
-use Rattle.volume.specs.laws.AbsentDrives.{LeavesAbsent, OnNamed, carry_on, storing_same, storing_kept, devices_same}
+use Rattle.volume.specs.laws.AbsentDrives.{LeavesAbsent, OnNamed, on_fewer, carry_on, storing_same, storing_kept, devices_same}
 
 -- ---- what named drives show, by their roles
 module _ (g : Geometry) (named : List Bool) (few : g.drives ≤ 8) (present : ℕ → Bool) (inside : (d : ℕ) → present d ≡ true → is_set named d ≡ true) (t u : Tables) (same : AgreeOn g (is_set named) t u) where

@@ -29,7 +29,7 @@ use Rattle.volume.specs.meaning.Rules.{Shown, is_lost, is_present, general_heads
 use Rattle.volume.specs.meaning.Calls.{append_all, append_general, generations_from, logs_reset}
 use Rattle.volume.specs.meaning.Mount.{label_step, reset_entry_step, needs_reset, zone_reset_step, next_generation, counters_differ, counter_step, seal_step, row_for, missing_rows, torn_row_step, fill_step, entry_step, with_flush, with_flushes, steps_before_entries}
 use Rattle.volume.specs.laws.LookPointers.{below_known}
-use Rattle.volume.specs.laws.FillStores.{content_long}
+use Rattle.volume.specs.laws.FillStores.{row_all, content_parity, content_data, parity_complete, parity_first, data_below}
 use Rattle.volume.specs.laws.Counters.{generations_length}
 use Rattle.volume.specs.laws.Content.{row_long}
 use Rattle.volume.specs.laws.PlacedStores.{AllLong, placed_general, placed_appends, long_from}
@@ -95,12 +95,28 @@ module _ (g : Geometry) (ok : Valid g) (k : Shown) (values : ShowsSectors g k) w
   unfolding torn_row_step
   torn_placed w = placed_each g _ g.drives (λ d hd. placed_appends g d parity_zone (missing_rows g k (parity_ending g w d)) hd (omega arith) (missing_long (parity_ending g w d)))
 
+  content_long : (z d x : ℕ) → d < g.drives → x < needed g.drives g.unit z (k.zone z).pointer d → length (content_at g.drives g.unit z (k.zone z).value d x) ≡ g.sector
+  content_long z d x hd h = go (ℕ_discrete d (parity_drive g.drives z (x / g.unit)))
+    where
+      two : 1 < g.drives
+      two = omega (arith, ok.drives_least)
+
+      go : Dec (d ≡ parity_drive g.drives z (x / g.unit)) → length (content_at g.drives g.unit z (k.zone z).value d x) ≡ g.sector
+      go (yes e) =
+          let c = parity_complete g.drives g.unit z two ok.unit_least (k.zone z).pointer d x h e in
+          let r : x % g.unit < g.unit = mod-lt x ok.unit_least in
+          ap (λ (l : List ℕ). length l) (content_parity g.drives g.unit z two ok.unit_least (k.zone z).value d x e ∙ sym (row_all g.drives g.unit z two ok.unit_least (k.zone z).value (k.zone z).pointer (x / g.unit) (x % g.unit) c r))
+          ∙ row_long g ok (k.zone z).value (x / g.unit) (k.zone z).pointer (x % g.unit) r (parity_first g.drives g.unit z two ok.unit_least (k.zone z).pointer (x / g.unit) (x % g.unit) c r) (λ j hj l. values z (address g.drives g.unit (x / g.unit) j (x % g.unit)) l)
+      go (no e) =
+          ap (λ (l : List ℕ). length l) (content_data g.drives g.unit z two ok.unit_least (k.zone z).value d x e)
+          ∙ values z (address_at g.drives g.unit z d x) (data_below g.drives g.unit z two ok.unit_least (k.zone z).pointer d x hd h e)
+
   fill_placed : (w : Device) → AllPlaced g (fill_step g k w)
   unfolding fill_step
   fill_placed w = placed_each g _ g.drives (λ d hd. placed_each g _ g.zones (λ z hz.
       let from = length (w d (data_zone z)).sectors in
       let many = needed g.drives g.unit z (k.zone z).pointer d - from in
-      placed_appends g d (data_zone z) (tabulate_from (content_at g.drives g.unit z (k.zone z).value d) from many) hd (omega (arith, hz)) (long_from g.sector (content_at g.drives g.unit z (k.zone z).value d) from many (λ i h. content_long g ok z (k.zone z).value (k.zone z).pointer (values z) d (from + i) hd (omega (arith, h))))))
+      placed_appends g d (data_zone z) (tabulate_from (content_at g.drives g.unit z (k.zone z).value d) from many) hd (omega (arith, hz)) (long_from g.sector (content_at g.drives g.unit z (k.zone z).value d) from many (λ i h. content_long z d (from + i) hd (omega (arith, h))))))
 
   pub entries_placed : (u : Device) → AllPlaced g (entry_step g k u)
   unfolding entry_step

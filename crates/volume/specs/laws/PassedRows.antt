@@ -26,7 +26,7 @@ use Rattle.volume.specs.meaning.Hosts.{over_limit, over_open, share_left}
 use Rattle.volume.specs.laws.Refusals.{accepted_row, Numbered, nonzero, numbered}
 
 -- the number 0 is no refusal's
-pub number_accepts : (rows : List (ℕ × Bool)) → nonzero rows ≡ true → verdict_number (first_refusal rows) ≡ 0 → first_refusal rows ≡ accept
+number_accepts : (rows : List (ℕ × Bool)) → nonzero rows ≡ true → verdict_number (first_refusal rows) ≡ 0 → first_refusal rows ≡ accept
 number_accepts rows n e = go (first_refusal rows) (numbered rows n) e
   where
     go : (v : Verdict) → Numbered v → verdict_number v ≡ 0 → v ≡ accept
@@ -92,7 +92,7 @@ pub record StatePassed (g : Geometry) (named : List Bool) (s : State) (t : Table
   pub within : state_within g (view_state s) ≡ true
 
 module _ (g : Geometry) (named : List Bool) (s : State) (t : Tables) where
-  pub state_passed : not (is_valid g && state_within g (view_state s)) ≡ false → lengths_fit g (length t.sectors) (length t.written) (length t.durable) ≡ true → pointers_bad g named t.written t.durable ≡ false → StatePassed g named s t
+  state_passed : not (is_valid g && state_within g (view_state s)) ≡ false → lengths_fit g (length t.sectors) (length t.written) (length t.durable) ≡ true → pointers_bad g named t.written t.durable ≡ false → StatePassed g named s t
   state_passed a b c = let (p, q) = and_split (is_valid g) (state_within g (view_state s)) (not_not _ a) in record { tables = tables_passed g named t p b c; within = q }
 
   pub flush_passed : flush_verdict g named s t ≡ accept → StatePassed g named s t

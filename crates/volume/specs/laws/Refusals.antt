@@ -74,9 +74,9 @@ numbered ((n, b) ∷ rows) e = let (p, q) = and_split (not (eqb n 0)) (nonzero r
     go true h k = h
     go false h k = k
 
--- ---- the order in which the documents ask
+-- ---- the order in which document 01 asks
 abbrev pub refusal_order : List ℕ
-refusal_order = 1 ∷ 2 ∷ 3 ∷ 4 ∷ 5 ∷ 6 ∷ 20 ∷ 7 ∷ 8 ∷ 9 ∷ 10 ∷ 11 ∷ 12 ∷ 13 ∷ 18 ∷ 19 ∷ 14 ∷ 15 ∷ []
+refusal_order = 1 ∷ 2 ∷ 3 ∷ 4 ∷ 5 ∷ 6 ∷ 7 ∷ 8 ∷ 9 ∷ 10 ∷ 11 ∷ 12 ∷ 13 ∷ 18 ∷ 19 ∷ 14 ∷ 15 ∷ []
 
 -- the numbers stand in that order, each at most once
 abbrev pub in_order : List ℕ → List (ℕ × Bool) → Bool

@@ -1,21 +1,20 @@
 -- The calls on any input, on a device: what refuses each, what it stores, what it hands on or gives. The refusals are those of Refusals.antt, the
 -- stores those of Calls.antt and Mount.antt, what is shown and read that of Rules.antt.
 use Rattle.volume.specs.meaning.Rules.{lost_drive, Shown, is_present, showing, value_at}
-use Rattle.volume.specs.meaning.Refusals.{first_bad_place, first_refusal, Verdict, refuse, accept, TableLengths, WriteAsked, zone_asked, zone_of, offset_of, format_rows, look_rows, mount_rows, write_rows, flush_rows, reset_rows, compact_rows, rebuild_rows, slot_named, others_of, read_rows, peek_rows, bad_pointers}
+use Rattle.volume.specs.meaning.Refusals.{first_bad_place, first_refusal, Verdict, refuse, accept, TableLengths, WriteAsked, zone_asked, zone_of, offset_of, format_rows, look_rows, mount_rows, write_rows, flush_rows, reset_rows, compact_rows, read_rows, peek_rows, bad_pointers}
 use Rattle.std.specs.Prelude.{Bool, ◌&&◌, not, ℕ, zero, ◌*◌, List, length, take, drop, ltb, eqb}
 use Rattle.tables.specs.meaning.Device.{Device, Store, apply_all}
 use Rattle.tables.specs.meaning.Basics.{pick}
 use Rattle.tables.specs.meaning.Placement.{drive_of, sector_of}
 use Rattle.tables.specs.declared.Geometry.{Geometry}
 use Rattle.tables.specs.meaning.Below.{tabulate_from}
-use Rattle.tables.specs.meaning.Drives.{no_drive, find_below, present_but}
+use Rattle.tables.specs.meaning.Drives.{find_below}
 use Rattle.volume.specs.meaning.State.{StateView, with_shares, call_present}
 use Rattle.volume.specs.meaning.Calls.{flush_stores, flush_state, reset_state, format_stores, format_state}
-use Rattle.volume.specs.meaning.Hosts.{fresh_shares, shares_in, written_state, compact_state}
+use Rattle.volume.specs.meaning.Hosts.{fresh_shares, written_state, compact_state}
 use Rattle.volume.specs.meaning.Roles.{roles, by_roles, placed_by}
 use Rattle.volume.specs.meaning.Emptying.{write_all, reset_all, compact_stores}
 use Rattle.volume.specs.meaning.Mount.{mount_stores, shown_state}
-use Rattle.volume.specs.meaning.Rebuild.{rebuild_all, rebuilt_state}
 use Rattle.volume.specs.declared.Answer.{Answer}
 use Rattle.volume.specs.declared.Answer.TheVariants.{Finished, Unfinished, Refused, BadLog}
 use Rattle.volume.specs.declared.BadPlace.{BadPlace}
@@ -132,20 +131,6 @@ compactCall g t named state d v = record {
   refusals = compact_rows g t (bad_pointers g named v) named state d (roles g v) (by_roles g v);
   stores = compact_stores g (call_present g named state) (roles g v) (by_roles g v) state d;
   state = compact_state g (call_present g named state) (lostIn g named state) (by_roles g v) state d;
-}
-
--- of slot x: "A finished rebuild is a mount to 2.6", so the state has the shares of all drives, by the logs that it leaves
-abbrev pub rebuiltShares : Geometry → Device → StateView → StateView
-rebuiltShares g v state = with_shares (shares_in g (present_but g no_drive) v) (rebuilt_state state)
-
-unfoldable pub rebuildStoresOf : Geometry → (ℕ → Bool) → StateView → ℕ → Device → List Store
-rebuildStoresOf g named state x v = rebuild_all g (others_of g named state x) (roles g v) (by_roles g v) state x
-
-abbrev pub rebuildCall : Geometry → TableLengths → (ℕ → Bool) → StateView → ℕ → Device → StoringCall
-rebuildCall g t named state x v = record {
-  refusals = rebuild_rows g t (bad_pointers g (slot_named named x) v) named state x (roles g v) (by_roles g v);
-  stores = rebuildStoresOf g named state x v;
-  state = rebuiltShares g (apply_all (rebuildStoresOf g named state x v) v) state;
 }
 
 abbrev pub lookCall : Geometry → TableLengths → (ℕ → Bool) → Device → Given Shown

@@ -1,7 +1,7 @@
 -- Each call as its contract states it: on the flat tables, with the code's own state and answers. The rules (Refusals, Calls, Mount) speak of the
 -- device that the tables stand for and of the state as `view_state` shows it; here they decide what is stored in the tables, and which
 -- state and answer are handed back.
-use Rattle.std.specs.Prelude.{Bool, true, false, ◌-◌, ℕ, ◌+◌, ◌++◌, List, [], length, get_or, set, replicate, ltb, eqb}
+use Rattle.std.specs.Prelude.{Bool, false, ◌-◌, ℕ, ◌+◌, ◌++◌, List, [], length, get_or, replicate, ltb, eqb}
 use Rattle.tables.specs.declared.Geometry.{Geometry}
 use Rattle.tables.specs.meaning.Basics.{pick}
 use Rattle.tables.specs.meaning.Device.{Store, Device}
@@ -15,10 +15,10 @@ use Rattle.volume.specs.declared.Answer.TheVariants.{Finished, Unfinished, Refus
 use Rattle.volume.specs.declared.BadPlace.{BadPlace}
 use Rattle.volume.specs.declared.Outcome.{Outcome}
 use Rattle.volume.specs.meaning.State.{StateView, with_shares, max_shares, call_present, pointer_in}
-use Rattle.volume.specs.meaning.Refusals.{Verdict, refuse, accept, first_refusal, TableLengths, WriteAsked, zone_asked, flush_rows, reset_rows, write_rows, compact_rows, rebuild_rows, zone_of, offset_of, format_rows, look_rows, mount_rows, read_rows, peek_rows}
+use Rattle.volume.specs.meaning.Refusals.{Verdict, refuse, accept, first_refusal, TableLengths, WriteAsked, zone_asked, flush_rows, reset_rows, write_rows, compact_rows, zone_of, offset_of, format_rows, look_rows, mount_rows, read_rows, peek_rows}
 use Rattle.volume.specs.meaning.Calls.{flush_stores, flush_state, reset_state, format_stores, format_state}
 use Rattle.volume.specs.meaning.Hosts.{fresh_shares, written_state, compact_state}
-use Rattle.volume.specs.meaning.Answers.{lost_in, sectors_in, left_out, named_drives, Place, place_of, present_in, lost_drive_in, bad_place_of, refused_at, told_at, rebuild_stores_of, rebuilt_shares}
+use Rattle.volume.specs.meaning.Answers.{lost_in, sectors_in, left_out, named_drives, Place, place_of, present_in, lost_drive_in, bad_place_of, refused_at, told_at}
 use Rattle.volume.specs.meaning.Roles.{Roles, roles, by_roles}
 use Rattle.volume.specs.meaning.Emptying.{write_all, reset_all, compact_stores}
 use Rattle.tables.specs.meaning.Below.{tabulate, tabulate_from}
@@ -95,10 +95,6 @@ storing_on g n ss new old count t = record {
   tables = pick (eqb n 0) (run_stores g count ss t) t;
 }
 
--- the tables once all of a call's stores are made
-abbrev pub after_stores : Geometry → List Store → Tables → Tables
-after_stores g ss t = run_stores g (length ss) ss t
-
 -- ==== flush
 unfoldable pub flush_verdict : Geometry → List Bool → State → Tables → Verdict
 flush_verdict g named s t = first_refusal (flush_rows g (lengths_of t) (bad_in g named t) (is_set named) (view_state s) (device_of g t))
@@ -138,22 +134,6 @@ compact_on g named s d count t =
     storing_on g (verdict_number (compact_verdict g named s d t)) (compact_stores g (call_present g (is_set named) (view_state s)) (roles_of g t) (seen_in g t) (view_state s) d)
     (state_held max_zones (compact_state g (call_present g (is_set named) (view_state s)) (lost_in g (is_set named) (view_state s)) (seen_in g t) (view_state s) d)) s count t
 
--- ==== rebuild: slot x
--- the drives named with the slot
-abbrev pub with_slot : List Bool → ℕ → List Bool
-with_slot named x = set named x true
-
-unfoldable pub rebuild_verdict : Geometry → List Bool → State → ℕ → Tables → Verdict
-rebuild_verdict g named s x t = first_refusal (rebuild_rows g (lengths_of t) (bad_in g (with_slot named x) t) (is_set named) (view_state s) x (roles_of g t) (seen_in g t))
-
-abbrev pub rebuild_stores_on : Geometry → List Bool → State → ℕ → Tables → List Store
-rebuild_stores_on g named s x t = rebuild_stores_of g (is_set named) (view_state s) x (device_of g t)
-
-unfoldable pub rebuild_on : Geometry → List Bool → State → ℕ → ℕ → Tables → Result
-rebuild_on g named s x count t =
-    storing_on g (verdict_number (rebuild_verdict g named s x t)) (rebuild_stores_on g named s x t)
-    (state_held max_zones (rebuilt_shares g (device_of g (after_stores g (rebuild_stores_on g named s x t) t)) (view_state s))) s count t
-
 -- ==== format
 unfoldable pub format_verdict : Geometry → List Bool → Tables → Verdict
 format_verdict g named t = first_refusal (format_rows g (lengths_of t) (bad_in g named t) (is_set named) (device_of g t))
@@ -190,6 +170,9 @@ mount_verdict g named t = first_refusal (mount_rows g (lengths_of t) (bad_in g n
 -- the stores up to step 9; of step 10; of step 11, each by what those before have made of the tables
 unfoldable pub stores_before : Geometry → (ℕ → Bool) → ℕ → Tables → List Store
 stores_before g present x t = concat (phases_before_entries g present x (device_of g t))
+
+abbrev pub after_stores : Geometry → List Store → Tables → Tables
+after_stores g ss t = run_stores g (length ss) ss t
 
 unfoldable pub parity_log_stores : Geometry → (ℕ → Bool) → ℕ → Tables → List Store
 parity_log_stores g present x t = concat (phases_of_parity_logs g present x (device_of g t) (device_of g (after_stores g (stores_before g present x t) t)))

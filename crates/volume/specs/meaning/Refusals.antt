@@ -144,10 +144,6 @@ stale_in (Worn n) written needs = ltb written needs
 unfoldable pub stale : Geometry → (ℕ → Bool) → Device → StateView → ℕ → Bool
 stale g present v state z = ltb z g.zones && any_below (λ d. present d && stale_in (state.condition z) (length (v d (data_zone z)).sectors) (needed g.drives g.unit z (pointer_in (state.condition z)) d)) g.drives
 
--- 20, slot: "the named slot is not the lost one", or no drive is lost
-abbrev pub not_the_lost : Geometry → StateView → ℕ → Bool
-not_the_lost g state x = not (ltb x g.drives && eqb x state.lost)
-
 -- "7 covers every zone in it", a compact, "and in later calls that read all"
 unfoldable pub stale_somewhere : Geometry → (ℕ → Bool) → Device → StateView → Bool
 stale_somewhere g present v state = any_below (stale g present v state) g.zones
@@ -202,10 +198,6 @@ compact_full g r f w d = stays_full g true r (reserve g) (new_parity_size g f d)
 -- of the count sectors from offset (n: the state's generation)
 unfoldable pub gone_in : Geometry → (ℕ → Bool) → Device → ℕ → ℕ → ℕ → ℕ → Bool
 gone_in g present v z n offset count = any_below (λ i. not (known g.drives g.unit z (zone_view g present v z n) (offset + i))) count
-
--- of all sectors below the pointers. What a rebuild stores is made of these; those on a present drive are held where no zone is stale.
-unfoldable pub gone_somewhere : Geometry → (ℕ → Bool) → Device → StateView → Bool
-gone_somewhere g present v state = any_below (λ z. gone_in g present v z (state.generation z) 0 (pointer_in (state.condition z))) g.zones
 
 -- a write needs the earlier sectors of its first stripe where that stripe's parity drive is present
 unfoldable pub gone_before : Geometry → (ℕ → Bool) → Device → ℕ → ℕ → ℕ → Bool
@@ -269,24 +261,6 @@ compact_rows g t bad named state d r w =
     ∷ (8, not (call_present g named state d))
     ∷ (14, compact_full g r (by_state g (call_present g named state) w state) w d)
     ∷ (15, gone_for_copies g (call_present g named state) (by_state g (call_present g named state) w state) w d)
-    ∷ [])
-
--- ---- a rebuild of slot x. "The slot counts as named, whatever the mask says"; the others are those named and not lost
-abbrev pub slot_named : (ℕ → Bool) → ℕ → ℕ → Bool
-slot_named named x d = named d || eqb d x
-
-abbrev pub others_of : Geometry → (ℕ → Bool) → StateView → ℕ → ℕ → Bool
-others_of g named state x d = call_present g named state d && not (eqb d x)
-
--- "5 covers the others"; 20 stands "before 7"; of general logs it asks what a reset asks
-unfoldable pub rebuild_rows : Geometry → TableLengths → Bool → (ℕ → Bool) → StateView → ℕ → (ℕ → Roles) → Device → List (ℕ × Bool)
-rebuild_rows g t bad named state x r w =
-    opening_rows (is_valid g && state_within g state) (tables_fit g t) bad (two_absent g (slot_named named x) state)
-    ((5, kind_lacks g (others_of g named state x) r || bad_labels g (others_of g named state x) w)
-    ∷ (20, not_the_lost g state x)
-    ∷ (7, stale_somewhere g (others_of g named state x) w state)
-    ∷ (14, reset_full g (others_of g named state x) r (by_state g (others_of g named state x) w state) w)
-    ∷ (15, gone_somewhere g (others_of g named state x) w state)
     ∷ [])
 
 unfoldable pub flush_rows : Geometry → TableLengths → Bool → (ℕ → Bool) → StateView → Device → List (ℕ × Bool)

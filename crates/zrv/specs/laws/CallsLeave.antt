@@ -16,14 +16,14 @@ use Rattle.volume.specs.declared.BadPlace.{BadPlace}
 use Rattle.volume.specs.declared.State.{State}
 use Rattle.volume.specs.meaning.State.{with_shares, call_present}
 use Rattle.volume.specs.meaning.Refusals.{WriteAsked, zone_asked}
-use Rattle.volume.specs.meaning.Answers.{lost_in, left_out, named_drives, sectors_in, present_in, lost_drive_in, refused_at, rebuilt_shares}
+use Rattle.volume.specs.meaning.Answers.{lost_in, left_out, named_drives, sectors_in, present_in, lost_drive_in, refused_at}
 use Rattle.volume.specs.meaning.Calls.{flush_stores, format_stores, flush_state, format_state, reset_state}
 use Rattle.volume.specs.meaning.Hosts.{fresh_shares, written_state, compact_state}
 use Rattle.volume.specs.meaning.Emptying.{write_all, reset_all, compact_stores}
-use Rattle.volume.specs.meaning.CallContracts.{view_state, is_set, answer_number, verdict_number, roles_of, seen_in, Result, storing_on, flush_verdict, flush_on, reset_verdict, reset_on, write_verdict, write_on, compact_verdict, compact_on, after_stores, rebuild_verdict, rebuild_stores_on, rebuild_on, format_verdict, format_on, mount_verdict, mount_stores_on, mount_shown_on, bad_place_on, telling_at, mount_on, state_held}
+use Rattle.volume.specs.meaning.CallContracts.{view_state, is_set, answer_number, verdict_number, roles_of, seen_in, Result, storing_on, flush_verdict, flush_on, reset_verdict, reset_on, write_verdict, write_on, compact_verdict, compact_on, format_verdict, format_on, mount_verdict, mount_stores_on, mount_shown_on, bad_place_on, telling_at, mount_on, state_held}
 use Rattle.volume.specs.laws.ByteLists.{Bytes}
 use Rattle.zrv.specs.meaning.Bytes.{table_from, table_to}
-use Rattle.zrv.specs.meaning.EdgeCalls.{named_of, input_number, sizes_number, state_after, Ranges, tables_in, state_in, unread_state, Answered, stored_all, stored_flushes, unless_refused, format_of_bytes, format_edge, mount_of_bytes, mount_edge, without_place, write_of_bytes, write_edge, flush_of_bytes, flush_edge, reset_of_bytes, reset_edge, compact_of_bytes, compact_edge, rebuild_of_bytes, rebuild_edge}
+use Rattle.zrv.specs.meaning.EdgeCalls.{named_of, input_number, sizes_number, state_after, Ranges, tables_in, state_in, unread_state, Answered, stored_all, stored_flushes, unless_refused, format_of_bytes, format_edge, mount_of_bytes, mount_edge, without_place, write_of_bytes, write_edge, flush_of_bytes, flush_edge, reset_of_bytes, reset_edge, compact_of_bytes, compact_edge}
 use Rattle.zrv.specs.laws.EdgeCalls.{Sized, input_passed, sizes_passed, made, mount_alone}
 use Rattle.zrv.specs.laws.TablesRoundTrip.{InWords, ranges_in_words, words_read_back, run_words, table_bytes, table_bytes_long}
 
@@ -153,18 +153,6 @@ module _ (g : Geometry) (t : Tables) (named : List Bool) (count : ℕ) where
       is = refl;
     }
 
-    unfoldable pub rebuild_stored : (x : ℕ) → Stored g t (rebuild_on g named s x count t)
-    unfolding rebuild_on
-    rebuild_stored x = record {
-      told = Refused;
-      number = verdict_number (rebuild_verdict g named s x t);
-      stores = rebuild_stores_on g named s x t;
-      new = state_held max_zones (rebuilt_shares g (device_of g (after_stores g (rebuild_stores_on g named s x t) t)) (view_state s));
-      old = s;
-      count = count;
-      is = refl;
-    }
-
     unfoldable pub write_stored : (a : WriteAsked) → Stored g t (write_on g named s a count t)
     unfolding write_on
     write_stored a = record {
@@ -276,11 +264,6 @@ module _ (g : Geometry) (mask : ℕ) (m : Ranges) (a : Bytes m.written) (b : Byt
     compact_leaves d count =
         let r = compact_of_bytes g mask d count m in
         leaves (stored_all g r m) r (all_left g m a b taken r (words r (compact_stored g (tables_in g m) (named_of mask) count (state_in g m) d)))
-
-    pub rebuild_leaves_lem : (x count : ℕ) → Leaves g m (rebuild_edge g mask x count m) (rebuild_of_bytes g mask x count m)
-    rebuild_leaves_lem x count =
-        let r = rebuild_of_bytes g mask x count m in
-        leaves (stored_all g r m) r (all_left g m a b taken r (words r (rebuild_stored g (tables_in g m) (named_of mask) count (state_in g m) x)))
 
     pub flush_leaves : (count : ℕ) → Leaves g m (flush_edge g mask count m) (flush_of_bytes g mask count m)
     unfolding flush_stored

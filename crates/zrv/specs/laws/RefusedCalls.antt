@@ -16,10 +16,10 @@ use Rattle.volume.specs.meaning.Refusals.{WriteAsked, zone_of, offset_of}
 use Rattle.volume.specs.meaning.CallContracts.{record_at, view_state, is_set, answer_number, seen_in, Result, read_number, values_on, read_on, peek_number}
 use Rattle.volume.specs.laws.ByteLists.{Bytes}
 use Rattle.zrv.specs.meaning.EdgeCalls.{named_of, input_number, sizes_number, Ranges, tables_in, state_in, unread_state, Answered, answered, unless_refused, writing_state, handed_back, stored_all, stored_flushes, format_of_bytes, format_edge}
-use Rattle.zrv.specs.meaning.EdgeCalls.{look_of_bytes, look_edge, mount_of_bytes, mount_edge, write_of_bytes, write_edge, flush_of_bytes, flush_edge, reset_of_bytes, reset_edge, compact_of_bytes, compact_edge, rebuild_of_bytes, rebuild_edge, read_answer, read_edge, place_answer, place_sized, peek_edge}
+use Rattle.zrv.specs.meaning.EdgeCalls.{look_of_bytes, look_edge, mount_of_bytes, mount_edge, write_of_bytes, write_edge, flush_of_bytes, flush_edge, reset_of_bytes, reset_edge, compact_of_bytes, compact_edge, read_answer, read_edge, place_answer, place_sized, peek_edge}
 use Rattle.zrv.specs.laws.EdgeCalls.{Sized, input_passed, sizes_passed, refused, made, state_kept, look_alone, mount_alone}
 use Rattle.zrv.specs.laws.RoundTrips.{bytes_table_bytes}
-use Rattle.zrv.specs.laws.CallsLeave.{Stored, format_stored, mount_stored, flush_stored, reset_stored, write_stored, compact_stored, rebuild_stored}
+use Rattle.zrv.specs.laws.CallsLeave.{Stored, format_stored, mount_stored, flush_stored, reset_stored, write_stored, compact_stored}
 
 -- neither finished nor unfinished
 abbrev pub IsRefusal : ℕ → Type 0
@@ -106,11 +106,6 @@ module _ (g : Geometry) (mask : ℕ) (m : Ranges) where
     compact_refused drive count =
         let r = compact_of_bytes g mask drive count m in
         unless_kept (input_number g m.state w d) (stored_all g r m) m (λ n. all_kept_lem r (compact_stored g t (named_of mask) count (state_in g m) drive) (input_passed g m.state w d n))
-
-    pub rebuild_refused : (x count : ℕ) → IsRefusal (rebuild_edge g mask x count m).code → (rebuild_edge g mask x count m).left ≡ m
-    rebuild_refused x count =
-        let r = rebuild_of_bytes g mask x count m in
-        unless_kept (input_number g m.state w d) (stored_all g r m) m (λ n. all_kept_lem r (rebuild_stored g t (named_of mask) count (state_in g m) x) (input_passed g m.state w d n))
 
   pub flush_refused : Bytes m.durable → (count : ℕ) → IsRefusal (flush_edge g mask count m).code → (flush_edge g mask count m).left ≡ m
   flush_refused b count =

@@ -13,7 +13,6 @@ use Rattle.tables.specs.laws.Basics.{and_split}
 use Rattle.tables.specs.meaning.Below.{tabulate}
 use Rattle.tables.specs.laws.Below.{length_tabulate, get_d_tabulate}
 use Rattle.tables.specs.meaning.Device.{Device}
-use Rattle.tables.specs.meaning.Drives.{no_drive, present_but}
 use Rattle.tables.specs.meaning.Geometry.{Valid}
 use Rattle.logs.specs.meaning.Entry.{kind_of_log}
 use Rattle.volume.specs.meaning.Rules.{is_present, is_lost}
@@ -65,10 +64,6 @@ module _ (g : Geometry) (ok : Valid g) (present : ℕ → Bool) (drives : (d : �
 pub look_words : (g : Geometry) (named : ℕ → Bool) (v u : Device) → Valid g → ShareWords g (shares_in g (present_in g named v) u)
 unfolding is_present
 look_words g named v u ok = shown_words g ok (present_in g named v) (λ d e. ltb-true d g.drives (and_split (ltb d g.drives) (not (is_lost g named (by_roles g v) d)) e).0) u
-
--- of all drives
-pub all_words : (g : Geometry) (v : Device) → Valid g → ShareWords g (shares_in g (present_but g no_drive) v)
-all_words g v ok = shown_words g ok (present_but g no_drive) (λ d e. ltb-true d g.drives (and_split (ltb d g.drives) (not (eqb d no_drive)) e).0) v
 
 pub format_words : (g : Geometry) (named : ℕ → Bool) → Valid g → ShareWords g (fresh_shares g (named_drives g named))
 unfolding named_drives

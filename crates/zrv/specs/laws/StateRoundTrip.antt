@@ -2,17 +2,17 @@
 -- that very state, and the next call takes them. So it is for each of the seven calls that hand on a state; nothing is asked but that the call returned 0.
 use Rattle.std.specs.Prelude.{◌≡◌, ◌≢◌, ◌⊎◌, Bool, ◌&&◌, ◌||◌, List, length, get_or, set, ltb, leb, eqb}
 use Rattle.std.proofs.Math.Path.{refl, subst}
-use Rattle.std.proofs.Common.{sym, ap, ◌∙◌, inl, inr, le_refl, arith, length-set, get_or-set_same, get_or-set_other}
+use Rattle.std.proofs.Common.{sym, ap, ◌∙◌, inl, inr, arith, length-set, get_or-set_same, get_or-set_other}
 use Rattle.std.proofs.Math.Bool.{true, false, not}
 use Prim.Native.Nat.{ℕ, zero, suc, ◌-◌, ◌*◌, ◌^◌, ◌≤◌, ◌<◌, zero-le}
-use Rattle.std.proofs.Math.Decide.{ℕ_discrete, dec_lt}
+use Rattle.std.proofs.Math.Decide.{ℕ_discrete}
 use borrow.Author.Tests.{lt-ltb, ltb-true, le-leb, leb-false, eq-eqb, eqb-true, eqb-false}
 use Rattle.tables.specs.declared.Geometry.{Geometry}
 use Rattle.tables.specs.meaning.Basics.{pick}
 use Rattle.tables.specs.laws.Basics.{and_split, and_join, or_cases, or_none, or_left, or_right, not_not}
 use Rattle.tables.specs.meaning.Below.{all_below, tabulate}
 use Rattle.tables.specs.laws.Below.{all_all_below, length_tabulate, get_d_tabulate}
-use Rattle.tables.specs.meaning.Drives.{find_below, no_drive, present_but}
+use Rattle.tables.specs.meaning.Drives.{find_below, no_drive}
 use Rattle.tables.specs.laws.Drives.{find_below_is}
 use Rattle.tables.specs.meaning.Geometry.{Valid, cells, zone_sectors, max_zones}
 use Rattle.tables.specs.meaning.GeometryTest.{is_valid}
@@ -24,7 +24,6 @@ use Rattle.tables.specs.meaning.Device.{Device, Store}
 use Rattle.tables.specs.meaning.Tables.{Tables, device_of, run_stores}
 use Rattle.logs.specs.meaning.Entry.{worn_generation}
 use Rattle.volume.specs.declared.Condition.TheVariants.{Empty, Open, Sealed, Worn}
-use Rattle.volume.specs.declared.Owner.TheVariants.{Nobody}
 use Rattle.volume.specs.declared.ZoneRecord.{ZoneRecord}
 use Rattle.volume.specs.declared.State.{State}
 use Rattle.volume.specs.declared.Answer.{Answer}
@@ -38,9 +37,9 @@ use Rattle.volume.specs.meaning.Calls.{flush_stores, format_stores, flush_state,
 use Rattle.volume.specs.meaning.Roles.{by_roles}
 use Rattle.volume.specs.meaning.Emptying.{by_state, new_parity_size, write_all, reset_all, compact_stores}
 use Rattle.volume.specs.meaning.Hosts.{half_past, shares_in, fresh_shares, renewed_shares, entry_taken, written_state, compact_state}
-use Rattle.volume.specs.meaning.Answers.{lost_in, left_out, named_drives, sectors_in, present_in, lost_drive_in, refused_at, rebuilt_shares}
+use Rattle.volume.specs.meaning.Answers.{lost_in, left_out, named_drives, sectors_in, present_in, lost_drive_in, refused_at}
 use Rattle.volume.specs.meaning.CallContracts.{blank_record, record_at, view_state, is_set, answer_number, verdict_number, lengths_of, bad_in, roles_of, seen_in, Result, storing_on, state_held}
-use Rattle.volume.specs.meaning.CallContracts.{flush_verdict, flush_on, reset_verdict, reset_on, format_verdict, format_on, look_verdict, look_on, write_verdict, write_on, compact_verdict, compact_on, after_stores, rebuild_verdict, rebuild_stores_on, rebuild_on, mount_verdict, mount_stores_on, mount_shown_on, bad_place_on, mount_on}
+use Rattle.volume.specs.meaning.CallContracts.{flush_verdict, flush_on, reset_verdict, reset_on, format_verdict, format_on, look_verdict, look_on, write_verdict, write_on, compact_verdict, compact_on, mount_verdict, mount_stores_on, mount_shown_on, bad_place_on, mount_on}
 use Rattle.volume.specs.laws.StateHeld.{Sixteen, records_past, owned_record, shares_less, reset_record, held_sixteen, held_at, held_past, held_lost, held_shares, held_owned, held_reset}
 use Rattle.volume.specs.checks.ZoneChecks.{pointer_within}
 use Rattle.volume.specs.laws.Refusals.{accepted_row}
@@ -50,12 +49,12 @@ use Rattle.volume.specs.laws.GenerationRange.{generation_range, worn_top}
 use Rattle.volume.specs.laws.LookPointers.{pointer_within as pointer-at-within}
 use Rattle.volume.specs.meaning.Mount.{shown_state}
 use Rattle.zrv.specs.meaning.Bytes.{state_bytes, state_from, state_to, state_well_formed}
-use Rattle.zrv.specs.meaning.EdgeCalls.{named_of, sizes_fit, state_bad, input_number, sizes_number, Ranges, tables_in, state_in, unread_state, state_after, Answered, unless_refused, handed_back, stored_all, stored_flushes, without_place, flush_of_bytes, flush_edge, look_of_bytes, look_edge, mount_of_bytes, mount_edge, format_of_bytes, format_edge, reset_of_bytes, reset_edge, write_of_bytes, write_edge, compact_of_bytes, compact_edge, rebuild_of_bytes, rebuild_edge}
+use Rattle.zrv.specs.meaning.EdgeCalls.{named_of, sizes_fit, state_bad, input_number, sizes_number, Ranges, tables_in, state_in, unread_state, state_after, Answered, unless_refused, handed_back, stored_all, stored_flushes, without_place, flush_of_bytes, flush_edge, look_of_bytes, look_edge, mount_of_bytes, mount_edge, format_of_bytes, format_edge, reset_of_bytes, reset_edge, write_of_bytes, write_edge, compact_of_bytes, compact_edge}
 use Rattle.zrv.specs.laws.EdgeCalls.{Sized, input_passed, sizes_passed, refused, made, state_new, look_alone, mount_alone}
 use Rattle.zrv.specs.laws.CallsLeave.{storing_told, mount_stored}
 use Rattle.zrv.specs.laws.Bytes.{length_state_to}
 use Rattle.zrv.specs.laws.RoundTrips.{StateRange, state_bytes_state, state_well_formed_lem, read_generation, read_share, no_share_read, read_sixteen}
-use Rattle.zrv.specs.laws.ShareWords.{ShareWords, held_words, look_words, all_words, format_words, renewed_words, less_words}
+use Rattle.zrv.specs.laws.ShareWords.{ShareWords, held_words, look_words, format_words, renewed_words, less_words}
 
 -- ---- what is promised of the bytes that a call leaves and of the state s that it hands on (w, d: the lengths of the two tables, in bytes)
 pub record HandsOn (g : Geometry) (bytes : List ℕ) (s : State) (w d : ℕ) : Type 0 where
@@ -350,31 +349,6 @@ module _ (g : Geometry) (named : List Bool) (s : State) (b : Bounded g s) (count
         shares = held_words g f ok fit;
       }))
 
--- no drive lost, no owners, and the shares of a device
-rebuilt_bounded : (g : Geometry) → Valid g → (s : State) → Bounded g s → (v : Device) → Bounded g (state_held max_zones (rebuilt_shares g v (view_state s)))
-rebuilt_bounded g ok s b v = record {
-  lost_drive_lem = inr refl;
-  sixteen = held_sixteen max_zones new (le_refl max_zones);
-  generations = λ z h. rw (held_at max_zones new z (omega (arith, h, ok.zones_most))) (b.generations z h);
-  pointers = λ z h. rw (held_at max_zones new z (omega (arith, h, ok.zones_most))) (b.pointers z h);
-  past = λ z h. past z h (dec_lt z max_zones);
-  shares = held_words g (shares_in g (present_but g no_drive) v) ok (all_words g v ok);
-}
-  where
-    new : StateView
-    new = rebuilt_shares g v (view_state s)
-
-    past : (z : ℕ) → g.zones ≤ z → Dec (z < max_zones) → record_at (state_held max_zones new) z ≡ blank_record
-    past z h (yes l) = held_at max_zones new z l ∙ ap (λ (r : ZoneRecord). record { generation = r.generation; condition = r.condition; owner = Nobody }) (b.past z h)
-    past z h (no l) = held_past max_zones new z (omega (arith, l))
-
-rebuild_bounded : (g : Geometry) (named : List Bool) (s : State) → Bounded g s → (count x : ℕ) (t : Tables) → Valid g → answer_number (rebuild_on g named s x count t).outcome.answer ≡ 0 → Bounded g (rebuild_on g named s x count t).outcome.state
-unfolding rebuild_on
-rebuild_bounded g named s b count x t ok =
-    let stores = rebuild_stores_on g named s x t in
-    let v = device_of g (after_stores g stores t) in
-    finished_new (Bounded g) g (verdict_number (rebuild_verdict g named s x t)) stores (state_held max_zones (rebuilt_shares g v (view_state s))) s count t (λ e. rebuilt_bounded g ok s b v)
-
 module _ (g : Geometry) (ok : Valid g) (named : List Bool) (old : State) where
   look_bounded : (t : Tables) → answer_number (look_on g named old t).answer ≡ 0 → Bounded g (look_on g named old t).state
   unfolding look_on
@@ -462,12 +436,6 @@ module _ (g : Geometry) (mask : ℕ) (m : Ranges) where
   compact_hands_on d count =
       let r = compact_of_bytes g mask d count m in
       after_reading g m (stored_all g r m) r.outcome refl refl (λ b ok. compact_bounded g (named_of mask) (state_in g m) b count d (tables_in g m) ok)
-
-  pub rebuild_hands_on : (x count : ℕ) → HandedOn g m (rebuild_edge g mask x count m) (rebuild_of_bytes g mask x count m).outcome.state
-  unfolding stored_all
-  rebuild_hands_on x count =
-      let r = rebuild_of_bytes g mask x count m in
-      after_reading g m (stored_all g r m) r.outcome refl refl (λ b ok. rebuild_bounded g (named_of mask) (state_in g m) b count x (tables_in g m) ok)
 
   -- (a look and a mount by the answer that they return)
   pub look_hands_on : HandedOn g m (without_place (look_edge g mask m)) (look_of_bytes g mask m).state

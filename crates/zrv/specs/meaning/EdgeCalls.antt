@@ -13,7 +13,7 @@ use Rattle.volume.specs.declared.State.{State}
 use Rattle.volume.specs.declared.Outcome.{Outcome}
 use Rattle.volume.specs.meaning.State.{max_shares}
 use Rattle.volume.specs.meaning.Refusals.{state_within, WriteAsked}
-use Rattle.volume.specs.meaning.CallContracts.{blank_record, view_state, answer_number, Result, flush_on, look_on, mount_on, format_on, reset_on, write_on, compact_on, rebuild_on, ReadResult, read_on, peek_number, byte_of}
+use Rattle.volume.specs.meaning.CallContracts.{blank_record, view_state, answer_number, Result, flush_on, look_on, mount_on, format_on, reset_on, write_on, compact_on, ReadResult, read_on, peek_number, byte_of}
 use Rattle.volume.specs.declared.ZoneDescriptor.{ZoneDescriptor}
 use Rattle.volume.specs.declared.ReportedCondition.TheVariants as told
 use Rattle.volume.specs.meaning.Report.{ReportResult, report_on}
@@ -23,7 +23,7 @@ use Rattle.volume.specs.meaning.Answers.{place_of}
 
 -- ---- the version of the interface: the major number times 65,536, and the minor one
 abbrev pub version : ℕ
-version = 131073
+version = 131072
 
 -- ---- numbers
 -- the geometry of a call's first five numbers
@@ -183,13 +183,6 @@ compact_of_bytes g mask d count m = compact_on g (named_of mask) (state_in g m) 
 
 abbrev pub compact_edge : Geometry → ℕ → ℕ → ℕ → Ranges → Answered Ranges
 compact_edge g mask d count m = reading_state g m (stored_all g (compact_of_bytes g mask d count m) m) m
-
--- rebuild of slot x
-abbrev pub rebuild_of_bytes : Geometry → ℕ → ℕ → ℕ → Ranges → Result
-rebuild_of_bytes g mask x count m = rebuild_on g (named_of mask) (state_in g m) x count (tables_in g m)
-
-abbrev pub rebuild_edge : Geometry → ℕ → ℕ → ℕ → Ranges → Answered Ranges
-rebuild_edge g mask x count m = reading_state g m (stored_all g (rebuild_of_bytes g mask x count m) m) m
 
 -- ---- the calls that answer in a buffer of their own, and change nothing else
 -- read of k sectors from address a

@@ -7,7 +7,6 @@ use Rattle.tables.specs.meaning.Geometry.{Valid}
 use Rattle.tables.specs.meaning.GeometryTest.{is_valid}
 use Rattle.tables.specs.laws.GeometryTest.{valid_if_test}
 use Rattle.tables.specs.laws.PointerOrder.{loss_none}
-use Rattle.tables.specs.meaning.Drives.{no_drive}
 use Rattle.tables.specs.meaning.Tables.{Tables, device_of}
 use Rattle.tables.specs.meaning.Cached.{Caching}
 use Rattle.volume.specs.declared.State.{State}
@@ -15,17 +14,17 @@ use Rattle.volume.specs.declared.Answer.TheVariants.{Finished}
 use Rattle.volume.specs.meaning.Answers.{CallResult}
 use Rattle.volume.specs.meaning.Mount.{mount_state}
 use Rattle.volume.specs.meaning.CallContracts.{is_set, view_state}
-use Rattle.promise.specs.meaning.Claim.{Call, mounts, formats, rebuilds, System, calls, Duty, SameZones, start}
+use Rattle.promise.specs.meaning.Claim.{Call, mounts, formats, System, calls, Duty, SameZones, start}
 use Rattle.promise.specs.meaning.Caches.{WithCaches, beneath}
 use Rattle.promise.specs.meaning.OnTables.{shown_in, on_tables}
 use Rattle.promise.specs.meaning.CachesOnTables.{on_caching_tables}
-use Rattle.promise.specs.meaning.AnyDrive.{NoneStored, AnyDriveClaim, AnyDriveRebuiltClaim}
+use Rattle.promise.specs.meaning.AnyDrive.{NoneStored, AnyDriveClaim}
 use Rattle.promise.specs.device.CachedPromise.{names_beneath}
 use Rattle.promise.specs.shown.MountSettles.{Settled}
-use Rattle.promise.specs.shown.AnyDrive.{StandsFor, any_drive_from, any_drive_rebuilt}
+use Rattle.promise.specs.shown.AnyDrive.{StandsFor, any_drive_from}
 use Rattle.promise.specs.tables.CallsSeen.{seen_as}
 use Rattle.promise.specs.shown.AnyDriveCaching.{caches_stay, tables_seen}
-use Rattle.promise.specs.shown.AnyDriveOlder.{older_any_drive, older_rebuilt}
+use Rattle.promise.specs.shown.AnyDriveOlder.{older_any_drive}
 use Rattle.zrv.specs.meaning.Bytes.{state_from}
 use Rattle.zrv.specs.meaning.EdgeCalls.{named_of, format_edge}
 use Rattle.zrv.specs.laws.StateRoundTrip.{shown_read_back}
@@ -63,36 +62,22 @@ bytes_seen g ok wb =
       mount_settled = λ s o mask count d e.
           subst (λ (m : WithCaches Tables). Settled g s.lost (seen_as g m)) (sym (call_held g ok wb s o mounts mask d.0 count))
           (t.mount_settled (view_cached g s) (tables_ok g ok wb s o) (named_of mask) count (duty_there g ok wb s o mounts mask count d) (sym (answer_held g ok wb s o mounts mask d.0 count) ∙ e));
-      rebuild_settled = λ s o mask y count d e.
-          subst (λ (m : WithCaches Tables). Settled g no_drive (seen_as g m)) (sym (call_held g ok wb s o (rebuilds y) mask d.0 count))
-          (t.rebuild_settled (view_cached g s) (tables_ok g ok wb s o) (named_of mask) y count (duty_there g ok wb s o (rebuilds y) mask count d) (sym (answer_held g ok wb s o (rebuilds y) mask d.0 count) ∙ e));
       none_stored = λ s o c mask stop d h.
           ap (seen_as g) (call_held g ok wb s o c mask d.0 stop) ∙ t.none_stored (view_cached g s) (tables_ok g ok wb s o) c (named_of mask) stop (duty_there g ok wb s o c mask stop d) (rw (answer_held g ok wb s o c mask d.0 stop) at h);
       cut_is = λ s o m d. t.cut_is (view_cached g s) (tables_ok g ok wb s o) (held_by g m) (record { left = d.left.1; forgotten = d.forgotten });
     }
 
-stay : (g : Geometry) (s : System (on_caching_bytes g)) → BytesOkCached g s → (x : ℕ) → (on_caching_bytes g).LossTo x s.memory s.memory
-stay g s o x = caches_stay (on_bytes g) (bytes_caches g) x s.memory (bytes_stay g (beneath (on_bytes g) (bytes_caches g) s) o.plain x)
-
--- THE THEOREMS: after a finished mount, and after a finished rebuild
+-- THE THEOREM
 pub any_drive_on_caching_bytes : (g : Geometry) → AnyDriveClaim g (on_caching_bytes g)
 any_drive_on_caching_bytes g mask array old stop m small e =
     let h = finished_code (format_edge g mask array stop (ranges_of m.memory old)).code e in
     let wb = (begins g mask array stop old m.memory small h).0 in
     let ok = valid_if_test g wb in
-    any_drive_from g ok (on_caching_bytes g) (λ m. seen_as g (held_by g m)) (BytesOkCached g) (bytes_promise_cached g ok wb) (bytes_event_cached g ok wb) (stay g) (bytes_seen g ok wb) (start g (on_caching_bytes g) mask ((on_caching_bytes g).call (formats array) mask old stop m))
+    any_drive_from g ok (on_caching_bytes g) (λ m. seen_as g (held_by g m)) (BytesOkCached g) (bytes_promise_cached g ok wb) (bytes_event_cached g ok wb) stay (bytes_seen g ok wb) (start g (on_caching_bytes g) mask ((on_caching_bytes g).call (formats array) mask old stop m))
     (bytes_start_cached g mask array stop old m.memory m.was small h)
-
-pub rebuilt_on_caching_bytes : (g : Geometry) → AnyDriveRebuiltClaim g (on_caching_bytes g)
-rebuilt_on_caching_bytes g mask array old stop m small e =
-    let h = finished_code (format_edge g mask array stop (ranges_of m.memory old)).code e in
-    let wb = (begins g mask array stop old m.memory small h).0 in
-    let ok = valid_if_test g wb in
-    any_drive_rebuilt g ok (on_caching_bytes g) (λ m. seen_as g (held_by g m)) (BytesOkCached g) (bytes_promise_cached g ok wb) (bytes_event_cached g ok wb) (stay g) (bytes_seen g ok wb) (start g (on_caching_bytes g) mask ((on_caching_bytes g).call (formats array) mask old stop m))
-    (bytes_start_cached g mask array stop old m.memory m.was small h)
+  where
+    stay : (s : System (on_caching_bytes g)) → BytesOkCached g s → (x : ℕ) → (on_caching_bytes g).LossTo x s.memory s.memory
+    stay s o x = caches_stay (on_bytes g) (bytes_caches g) x s.memory (bytes_stay g (beneath (on_bytes g) (bytes_caches g) s) o.plain x)
 
 pub any_drive_on_bytes : (g : Geometry) → AnyDriveClaim g (on_bytes g)
 any_drive_on_bytes g = older_any_drive g (on_bytes g) (bytes_caches g) (bytes_older_cuts g) (any_drive_on_caching_bytes g)
-
-pub rebuilt_on_bytes : (g : Geometry) → AnyDriveRebuiltClaim g (on_bytes g)
-rebuilt_on_bytes g = older_rebuilt g (on_bytes g) (bytes_caches g) (bytes_older_cuts g) (rebuilt_on_caching_bytes g)

@@ -25,7 +25,7 @@ use Rattle.volume.specs.meaning.CallContracts.{record_at, is_set, answer_number,
 use Rattle.volume.specs.laws.AnswerNumbers.{mount_tells}
 use Rattle.volume.specs.laws.ByteLists.{Bytes}
 use Rattle.promise.specs.meaning.Ledger.{Fits}
-use Rattle.promise.specs.meaning.Claim.{Call, mounts, writes, flushes, resets, formats, compacts, rebuilds, System, answered, reported, heard, Event, calls, looks, reads, peeks, reports, cuts, loses, MayMount, ready, settled, ledger_after, next, NamesAll, Duty, Serves, Promise, start}
+use Rattle.promise.specs.meaning.Claim.{Call, mounts, writes, flushes, resets, formats, compacts, System, answered, reported, heard, Event, calls, looks, reads, peeks, reports, cuts, loses, MayMount, ready, settled, ledger_after, next, NamesAll, Duty, Serves, Promise, start}
 use Rattle.promise.specs.meaning.OnDevice.{state_shown}
 use Rattle.promise.specs.meaning.OnTables.{result_on, call_result, shown_in, on_tables}
 use Rattle.promise.specs.device.AtRestAnswers.{left_out_lem}
@@ -42,7 +42,7 @@ use Rattle.zrv.specs.laws.TablesRoundTrip.{table_long, table_bytes, table_bytes_
 use Rattle.zrv.specs.laws.CallsLeave.{format_stored}
 use Rattle.zrv.specs.laws.StateRoundTrip.{HandsOn, look_hands_on, format_hands_on}
 use Rattle.zrv_promise.specs.meaning.OnBytes.{LentBytes, ranges_of, tables_at, answer_of, edge_of, bytes_result, shown_bytes, StillBytes, on_bytes}
-use Rattle.zrv_promise.specs.bytes.CallsOnBytes.{OnTheTables, format_small, storing_known, view_bytes, views, takes, format_on_lem, mount_on_lem, write_on_lem, flush_on_lem, reset_on_lem, compact_on_lem, rebuild_on_lem}
+use Rattle.zrv_promise.specs.bytes.CallsOnBytes.{OnTheTables, format_small, storing_known, view_bytes, views, takes, format_on_lem, mount_on_lem, write_on_lem, flush_on_lem, reset_on_lem, compact_on_lem}
 use Rattle.zrv_promise.specs.bytes.ReadsOnBytes.{sizes_pass, look_other, look_is, read_is, peek_is, report_is}
 
 -- ---- numbers
@@ -109,7 +109,6 @@ module _ (g : Geometry) (ok : Valid g) (wb : is_valid g ≡ true) (s : System (o
       call_on (resets z) stop = (_, reset_on_lem g mask m o.written_bytes o.durable_bytes o.taken z stop)
       call_on (formats array) stop = (_, format_on_lem g mask m o.written_bytes o.durable_bytes sizes array stop)
       call_on (compacts d) stop = (_, compact_on_lem g mask m o.written_bytes o.durable_bytes o.taken d stop)
-      call_on (rebuilds x) stop = (_, rebuild_on_lem g mask m o.written_bytes o.durable_bytes o.taken x stop)
 
       pub call_views : (c : Call) (stop : ℕ) → view_bytes g ((on_bytes g).call c mask s.state stop s.memory) ≡ (on_tables g).call c (named_of mask) st stop t
       call_views c stop = let (r, q) = call_on c stop in views g m (edge_of g c mask stop m) r (result_on g c (named_of mask) st stop t) q
@@ -186,7 +185,6 @@ module _ (g : Geometry) (ok : Valid g) (wb : is_valid g ≡ true) (s : System (o
     write_refused = λ mask n r w stop a e. promised.write_refused (named_of mask) (names mask n) r w stop a (heard_as mask n (writes w) stop a e);
     share_asked = λ mask n r w p stop. let (not_done, not_stopped) = promised.share_asked (named_of mask) (names mask n) r w p stop in (λ e. not_done (heard_as mask n (writes w) stop Finished e), λ e. not_stopped (heard_as mask n (writes w) stop Unfinished e));
     compact_refused = λ mask n r d stop a e. promised.compact_refused (named_of mask) (names mask n) r d stop a (heard_as mask n (compacts d) stop a e);
-    rebuild_refused = λ mask n r x stop a e. promised.rebuild_refused (named_of mask) (names mask n) r x stop a (heard_as mask n (rebuilds x) stop a e);
     shares_fit = promised.shares_fit;
     read_gives = λ mask n r a count out bytes e. promised.read_gives (named_of mask) (names mask n) r a count out bytes (read_alike (sym (read_is g mask s.memory s.state o.taken a count out)) e);
     read_accepted = λ mask n r a count out hz pos len h. read_alike (read_is g mask s.memory s.state o.taken a count out) (promised.read_accepted (named_of mask) (names mask n) r a count out hz pos len h);
@@ -198,7 +196,7 @@ module _ (g : Geometry) (ok : Valid g) (wb : is_valid g ≡ true) (s : System (o
   -- ---- events
   -- the system on the tables after a call
   abbrev after : Call → List Bool → CallResult Tables State → System (on_tables g)
-  after c named r = settled g (on_tables g) (view_system g s) c r (ledger_after g (on_tables g) (view_system g s) c named r)
+  after c named r = settled g (on_tables g) (view_system g s) r (ledger_after g (on_tables g) (view_system g s) c named r)
 
   call_event : (c : Call) (mask stop : ℕ) → Duty g (on_bytes g) s (calls c mask stop) → BytesOk g (next g (on_bytes g) s (calls c mask stop))
   call_event c mask stop (n, may, comp) =

@@ -13,7 +13,7 @@ use Rattle.volume.specs.declared.State.{State}
 use Rattle.volume.specs.meaning.Answers.{CallResult, left_out}
 use Rattle.volume.specs.meaning.CallContracts.{is_set, view_state}
 use Rattle.promise.specs.meaning.Ledger.{fresh_ledger}
-use Rattle.promise.specs.meaning.Claim.{Call, formats, System, Event, calls, looks, reads, peeks, reports, cuts, loses, ready, down, mode_after, lost_after, ledger_after, next, Duty, Promise, start}
+use Rattle.promise.specs.meaning.Claim.{Call, formats, System, Event, calls, looks, reads, peeks, reports, cuts, loses, ready, down, mode_after, ledger_after, next, Duty, Promise, start}
 use Rattle.promise.specs.meaning.OnTables.{on_tables}
 use Rattle.promise.specs.meaning.Caches.{Remembered, beneath}
 use Rattle.promise.specs.meaning.CachesOnTables.{on_caching_tables}
@@ -69,7 +69,7 @@ module _ (g : Geometry) (ok : Valid g) (wb : is_valid g ≡ true) (s : System (o
 
   -- ---- a call leaves what the call on the tables leaves
   abbrev after : Call → List Bool → CallResult Tables State → System (on_tables g)
-  after c named r = record { memory = r.memory; lost = lost_after c r.answer s.lost; mode = mode_after r.answer s.mode; state = r.state; ledger = ledger_after g (on_tables g) (view_system g s0) c named r }
+  after c named r = record { memory = r.memory; lost = s.lost; mode = mode_after r.answer s.mode; state = r.state; ledger = ledger_after g (on_tables g) (view_system g s0) c named r }
 
   call_cached : (c : Call) (mask stop : ℕ) → Duty g (on_caching_bytes g) s (calls c mask stop) → BytesOkCached g (next g (on_caching_bytes g) s (calls c mask stop))
   call_cached c mask stop (n, may, comp) =

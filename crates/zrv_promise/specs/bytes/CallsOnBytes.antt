@@ -13,57 +13,53 @@ use Rattle.volume.specs.declared.Outcome.{Outcome}
 use Rattle.volume.specs.declared.Answer.{Answer}
 use Rattle.volume.specs.declared.Answer.TheVariants.{Finished, Unfinished, Refused}
 use Rattle.volume.specs.meaning.Answers.{CallResult}
-use Rattle.volume.specs.meaning.Refusals.{WriteAsked, format_rows, write_rows, flush_rows, reset_rows, compact_rows, rebuild_rows, read_rows}
-use Rattle.volume.specs.meaning.CallContracts.{view_state, is_set, answer_number, verdict_number, lengths_of, bad_in, roles_of, seen_in, Result, storing_on, flush_verdict, flush_on, reset_verdict, reset_on, write_verdict, write_on, compact_verdict, compact_on, with_slot, rebuild_verdict, rebuild_on, format_verdict, format_on, mount_verdict, bad_place_on, read_number}
+use Rattle.volume.specs.meaning.Refusals.{WriteAsked, format_rows, write_rows, flush_rows, reset_rows, compact_rows, read_rows}
+use Rattle.volume.specs.meaning.CallContracts.{view_state, is_set, answer_number, verdict_number, lengths_of, bad_in, roles_of, seen_in, Result, storing_on, flush_verdict, flush_on, reset_verdict, reset_on, write_verdict, write_on, compact_verdict, compact_on, format_verdict, format_on, mount_verdict, bad_place_on, read_number}
 use Rattle.volume.specs.laws.AnswerNumbers.{verdict_small, mount_small, mount_told, refused_numbered}
 use Rattle.volume.specs.laws.BadPlaces.{refused_plain}
 use Rattle.volume.specs.laws.ByteLists.{Bytes}
-use Rattle.promise.specs.meaning.Claim.{mounts, writes, flushes, resets, formats, compacts, rebuilds}
+use Rattle.promise.specs.meaning.Claim.{mounts, writes, flushes, resets, formats, compacts}
 use Rattle.promise.specs.meaning.OnTables.{result_on, call_result}
 use Rattle.zrv.specs.meaning.Bytes.{state_from}
-use Rattle.zrv.specs.meaning.EdgeCalls.{named_of, input_number, sizes_number, Ranges, tables_in, state_in, unread_state, Answered, format_of_bytes, mount_of_bytes, write_of_bytes, flush_of_bytes, reset_of_bytes, compact_of_bytes, rebuild_of_bytes}
+use Rattle.zrv.specs.meaning.EdgeCalls.{named_of, input_number, sizes_number, Ranges, tables_in, state_in, unread_state, Answered, format_of_bytes, mount_of_bytes, write_of_bytes, flush_of_bytes, reset_of_bytes, compact_of_bytes}
 use Rattle.zrv.specs.laws.EdgeCalls.{state_kept}
-use Rattle.zrv.specs.laws.StateRoundTrip.{HandedOn, flush_hands_on, reset_hands_on, write_hands_on, compact_hands_on, rebuild_hands_on, mount_hands_on, format_hands_on}
-use Rattle.zrv.specs.laws.CallsLeave.{storing_told, Stored, Leaves, format_stored, mount_stored, write_stored, flush_stored, reset_stored, compact_stored, rebuild_stored, format_leaves, mount_leaves, write_leaves, flush_leaves, reset_leaves, compact_leaves, rebuild_leaves_lem}
+use Rattle.zrv.specs.laws.StateRoundTrip.{HandedOn, flush_hands_on, reset_hands_on, write_hands_on, compact_hands_on, mount_hands_on, format_hands_on}
+use Rattle.zrv.specs.laws.CallsLeave.{storing_told, Stored, Leaves, format_stored, mount_stored, write_stored, flush_stored, reset_stored, compact_stored, format_leaves, mount_leaves, write_leaves, flush_leaves, reset_leaves, compact_leaves}
 use Rattle.zrv_promise.specs.meaning.OnBytes.{LentBytes, tables_at, answer_of, edge_of, bytes_result}
 
--- ---- a refusal's number is below 28
+-- ---- a refusal's number is below 20
 module _ (g : Geometry) (named : List Bool) (t : Tables) where
-  pub format_small : verdict_number (format_verdict g named t) < 28
+  pub format_small : verdict_number (format_verdict g named t) < 20
   unfolding format_verdict format_rows
   format_small = verdict_small (format_rows g (lengths_of t) (bad_in g named t) (is_set named) (device_of g t)) refl
 
   module _ (s : State) where
-    flush_small : verdict_number (flush_verdict g named s t) < 28
+    flush_small : verdict_number (flush_verdict g named s t) < 20
     unfolding flush_verdict flush_rows
     flush_small = verdict_small (flush_rows g (lengths_of t) (bad_in g named t) (is_set named) (view_state s) (device_of g t)) refl
 
-    reset_small : (z : ℕ) → verdict_number (reset_verdict g named s z t) < 28
+    reset_small : (z : ℕ) → verdict_number (reset_verdict g named s z t) < 20
     unfolding reset_verdict reset_rows
     reset_small z = verdict_small (reset_rows g (lengths_of t) (bad_in g named t) (is_set named) (view_state s) z (roles_of g t) (seen_in g t)) refl
 
-    write_small : (a : WriteAsked) → verdict_number (write_verdict g named s a t) < 28
+    write_small : (a : WriteAsked) → verdict_number (write_verdict g named s a t) < 20
     unfolding write_verdict write_rows
     write_small a = verdict_small (write_rows g (lengths_of t) (bad_in g named t) (is_set named) (view_state s) a (roles_of g t) (seen_in g t)) refl
 
-    compact_small : (d : ℕ) → verdict_number (compact_verdict g named s d t) < 28
+    compact_small : (d : ℕ) → verdict_number (compact_verdict g named s d t) < 20
     unfolding compact_verdict compact_rows
     compact_small d = verdict_small (compact_rows g (lengths_of t) (bad_in g named t) (is_set named) (view_state s) d (roles_of g t) (seen_in g t)) refl
 
-    rebuild_small : (x : ℕ) → verdict_number (rebuild_verdict g named s x t) < 28
-    unfolding rebuild_verdict rebuild_rows
-    rebuild_small x = verdict_small (rebuild_rows g (lengths_of t) (bad_in g (with_slot named x) t) (is_set named) (view_state s) x (roles_of g t) (seen_in g t)) refl
-
-    pub read_small : (a k bytes : ℕ) → read_number g named s a k bytes t < 28
+    pub read_small : (a k bytes : ℕ) → read_number g named s a k bytes t < 20
     unfolding read_number read_rows
     read_small a k bytes = verdict_small (read_rows g (lengths_of t) (bad_in g named t) (is_set named) (view_state s) a k bytes (seen_in g t)) refl
 
 -- so its number tells an answer
-pub refused_known : (n : ℕ) → n < 28 → eqb n 0 ≡ false → answer_of n ≡ Refused n
+pub refused_known : (n : ℕ) → n < 20 → eqb n 0 ≡ false → answer_of n ≡ Refused n
 refused_known n h e = rw (e, ne_eqb n 255 (λ k. omega (arith, k, h))) refl
 
 -- (plain: it is answered by its number)
-pub storing_known : (g : Geometry) (t : Tables) (r : Result) (q : Stored g t r) → q.number < 28 → q.told q.number ≡ Refused q.number → answer_of (answer_number r.outcome.answer) ≡ r.outcome.answer
+pub storing_known : (g : Geometry) (t : Tables) (r : Result) (q : Stored g t r) → q.number < 20 → q.told q.number ≡ Refused q.number → answer_of (answer_number r.outcome.answer) ≡ r.outcome.answer
 storing_known g t r q h plain = ap (λ (u : Result). answer_of (answer_number u.outcome.answer)) q.is ∙ go (eqb q.number 0) (ltb q.count (length q.stores)) refl ∙ ap (λ (u : Result). u.outcome.answer) (sym q.is)
   where
     ended : Bool → Bool → Outcome
@@ -195,17 +191,6 @@ module _ (g : Geometry) (mask : ℕ) (m : Ranges) (a : Bytes m.written) (b : Byt
           leaves = compact_leaves g mask m a b n d count;
           hands_on = compact_hands_on g mask m d count;
           known = storing_known g t (compact_of_bytes g mask d count m) q (compact_small g named t s d) refl;
-          alike = storing_alike g q.number q.stores q.new s s count t;
-        }
-
-    pub rebuild_on_lem : (x count : ℕ) → OnTheTables g m (edge_of g (rebuilds x) mask count m) (rebuild_of_bytes g mask x count m) (result_on g (rebuilds x) named s count t)
-    unfolding rebuild_stored rebuild_on
-    rebuild_on_lem x count =
-        let q = rebuild_stored g t named count s x in
-        record {
-          leaves = rebuild_leaves_lem g mask m a b n x count;
-          hands_on = rebuild_hands_on g mask m x count;
-          known = storing_known g t (rebuild_of_bytes g mask x count m) q (rebuild_small g named t s x) refl;
           alike = storing_alike g q.number q.stores q.new s s count t;
         }
 

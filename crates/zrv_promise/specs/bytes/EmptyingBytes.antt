@@ -10,7 +10,7 @@ use Rattle.tables.specs.meaning.Device.{Device}
 use Rattle.tables.specs.meaning.Tables.{Tables, device_of}
 use Rattle.volume.specs.meaning.Rules.{Shown}
 use Rattle.volume.specs.meaning.CallContracts.{view_state, is_set}
-use Rattle.promise.specs.meaning.Claim.{Call, mounts, resets, formats, compacts, rebuilds, System, NamesAll, start}
+use Rattle.promise.specs.meaning.Claim.{Call, mounts, resets, formats, compacts, System, NamesAll, start}
 use Rattle.promise.specs.meaning.OnDevice.{shown_by}
 use Rattle.promise.specs.meaning.OnTables.{shown_in}
 use Rattle.promise.specs.meaning.Caches.{WithCaches}
@@ -57,7 +57,6 @@ module _ (g : Geometry) (ok : Valid g) (wb : is_valid g ≡ true) (s : System (o
       record {
         of_compact = λ mask n m d. on_bytes_lem (compacts d) mask n (emptyings_of_compact g x v state d) (λ e. ShowsAlike g) (p.of_compact (named_of mask) (names_held mask n) m d);
         of_reset = λ mask n m z. on_bytes_lem (resets z) mask n (emptyings_of_reset g x v state) (λ d. ShowsAlike g) (p.of_reset (named_of mask) (names_held mask n) m z);
-        of_rebuild = λ mask n m y. on_bytes_lem (rebuilds y) mask n (emptyings_of_reset g x v state) (λ d. ShowsAlike g) (p.of_rebuild (named_of mask) (names_held mask n) m y);
         of_mount = λ mask n m. on_bytes_lem mounts mask n (emptyings_of_mount g x v) (λ d. ShowsAlike g) (p.of_mount (named_of mask) (names_held mask n) m);
         of_mount_parity = λ mask n m. on_bytes_lem mounts mask n (parity_emptyings_of_mount g x v) (λ d. AlikeUpTo g (entry_made g x v d) (λ z. ((shown_by g (is_set (named_of mask)) v v).zone z).pointer)) (p.of_mount_parity (named_of mask) (names_held mask n) m);
       }

@@ -17,7 +17,7 @@ use Rattle.volume.specs.meaning.Emptying.{unused_in}
 use Rattle.volume.specs.meaning.Hosts.{half_past, renewed_shares}
 use Rattle.volume.specs.meaning.Answers.{CallResult}
 use Rattle.volume.specs.meaning.CallContracts.{view_state, ReadResult}
-use Rattle.promise.specs.meaning.Claim.{Call, mounts, writes, flushes, resets, formats, compacts, rebuilds, System, Event, calls, looks, reads, peeks, reports, cuts, loses, Peeked, read_out, peeked_at, answered, heard, next, ready, mode_after, NamesAll, Duty, start, lost_after}
+use Rattle.promise.specs.meaning.Claim.{Call, mounts, writes, flushes, resets, formats, compacts, System, Event, calls, looks, reads, peeks, reports, cuts, loses, Peeked, read_out, peeked_at, answered, heard, next, ready, mode_after, NamesAll, Duty, start}
 use Rattle.promise.specs.meaning.OnTables.{on_tables}
 use Rattle.promise.specs.meaning.Caches.{beneath}
 use Rattle.promise.specs.meaning.Isolation.{DesksIsolated}
@@ -31,7 +31,7 @@ use Rattle.promise.specs.isolation.Laws.{SameView, BothReady, Laws}
 use Rattle.promise.specs.isolation.Isolated.{NoOwners, isolated_from}
 use Rattle.promise.specs.isolation.TablesLaws.{tables_laws}
 use Rattle.promise.specs.isolation.CachingLaws.{caching_laws}
-use Rattle.promise.specs.isolation.Proved.{tables_format_owners, tables_mount_owners, tables_rebuild_owners}
+use Rattle.promise.specs.isolation.Proved.{tables_format_owners, tables_mount_owners}
 use Rattle.zrv.specs.meaning.Bytes.{state_from}
 use Rattle.zrv.specs.meaning.EdgeCalls.{named_of, tables_in, unread_state, format_edge}
 use Rattle.zrv_promise.specs.meaning.OnBytes.{LentBytes, ranges_of, tables_at, on_bytes}
@@ -73,7 +73,7 @@ module _ (g : Geometry) (wb : is_valid g ≡ true) where
 
   event_blank : (s : System (on_bytes g)) → BytesKnown g s → (e : Event (on_bytes g)) → Duty g (on_bytes g) s e → BlankIn g (next g (on_bytes g) s e)
   event_blank s k (calls c mask stop) (n, may, comp) =
-      subst (λ (x : CallResult Tables State). mode_after x.answer s.mode ≡ ready → BlankSpares g (lost_after c x.answer s.lost) (device_of g x.memory)) (sym (leaves s k mask n c stop))
+      subst (λ (x : CallResult Tables State). mode_after x.answer s.mode ≡ ready → BlankSpares g s.lost (device_of g x.memory)) (sym (leaves s k mask n c stop))
       (event_blank_on g wb (view_system g s) (tables_known s k) (calls c (named_of mask) stop) (names_seen s mask n, may, rw (answer_is s k mask n c stop) at comp))
   event_blank s k (looks mask) d = k.blank
   event_blank s k (reads mask a count out) d = k.blank
@@ -144,12 +144,6 @@ module _ (g : Geometry) (wb : is_valid g ≡ true) where
       ap (λ (x : CallResult Tables State). (view_state x.state).owner z) (leaves s k by n mounts count)
       ∙ tables_mount_owners g wb (view_system g s) (tables_known s k) (named_of by) count (names_seen s by n, may, tt) (heard_there s k by n mounts count Finished e) z h
 
-  -- and so does a finished rebuild
-  rebuild_owners : (s : System (on_bytes g)) → BytesKnown g s → (by x count : ℕ) → Duty g (on_bytes g) s (calls (rebuilds x) by count) → heard s (calls (rebuilds x) by count) ≡ answered Finished → NoOwners g (on_bytes g) (next g (on_bytes g) s (calls (rebuilds x) by count))
-  rebuild_owners s k by x count (n, may, comp) e z h =
-      ap (λ (r : CallResult Tables State). (view_state r.state).owner z) (leaves s k by n (rebuilds x) count)
-      ∙ tables_rebuild_owners g wb (view_system g s) (tables_known s k) (named_of by) x count (names_seen s by n, may, tt) (heard_there s k by n (rebuilds x) count Finished e) z h
-
 -- ---- the format at the head
 module _ (g : Geometry) (mask array stop : ℕ) (old : List ℕ) (m : LentBytes) (small : array < 256 ^ 8) (e : ((on_bytes g).call (formats array) mask old stop m).answer ≡ Finished) where
   abbrev h : (format_edge g mask array stop (ranges_of m old)).code ≡ 0
@@ -196,7 +190,7 @@ bytes_isolated g = (plain, cached)
         let wb = valid_test mask array old stop m small e in
         isolated_from g (on_bytes g) (BytesKnown g) (bytes_laws g wb) (start g (on_bytes g) mask ((on_bytes g).call (formats array) mask old stop m))
         (record { ok = bytes_start g mask array stop old m small (finished_code (format_edge g mask array stop (ranges_of m old)).code e); blank = format_blank g mask array stop old m small e })
-        (format_owners g mask array stop old m small e) (λ s by count k d f. mount_owners g wb s k by count d f) (λ s by x count k d f. rebuild_owners g wb s k by x count d f)
+        (format_owners g mask array stop old m small e) (λ s by count k d f. mount_owners g wb s k by count d f)
 
     cached : DesksIsolated g (on_caching_bytes g)
     cached mask array old stop m small e =
@@ -206,4 +200,3 @@ bytes_isolated g = (plain, cached)
         (record { ok = bytes_start_cached g mask array stop old m.memory m.was small (finished_code (format_edge g mask array stop (ranges_of m.memory old)).code e); blank = format_blank g mask array stop old m.memory small e })
         (format_owners g mask array stop old m.memory small e)
         (λ s by count k d f. mount_owners g wb (beneath (on_bytes g) (bytes_caches g) s) (under g wb s k) by count (record { drives = d.0.drives }, d.1, d.2) f)
-        (λ s by x count k d f. rebuild_owners g wb (beneath (on_bytes g) (bytes_caches g) s) (under g wb s k) by x count (record { drives = d.0.drives }, d.1, d.2) f)

@@ -12,11 +12,11 @@ use Rattle.volume.specs.meaning.Answers.{CallResult}
 use Rattle.volume.specs.meaning.Report.{ReportResult}
 use Rattle.volume.specs.meaning.Rules.{Shown}
 use Rattle.volume.specs.meaning.CallContracts.{view_state, is_set, ReadResult}
-use Rattle.promise.specs.meaning.Claim.{Call, mounts, writes, flushes, resets, formats, compacts, rebuilds, Peeked, Volume, KeepsPromise}
+use Rattle.promise.specs.meaning.Claim.{Call, mounts, writes, flushes, resets, formats, compacts, Peeked, Volume, KeepsPromise}
 use Rattle.promise.specs.meaning.OnDevice.{report_shown}
 use Rattle.promise.specs.meaning.OnTables.{shown_in, on_tables}
 use Rattle.zrv.specs.meaning.Bytes.{state_from, state_to}
-use Rattle.zrv.specs.meaning.EdgeCalls.{named_of, Ranges, ranges, tables_in, Answered, without_place, format_edge, look_edge, mount_edge, write_edge, flush_edge, reset_edge, compact_edge, rebuild_edge, read_edge, peek_edge, lent_for, report_bytes, report_edge}
+use Rattle.zrv.specs.meaning.EdgeCalls.{named_of, Ranges, ranges, tables_in, Answered, without_place, format_edge, look_edge, mount_edge, write_edge, flush_edge, reset_edge, compact_edge, read_edge, peek_edge, lent_for, report_bytes, report_edge}
 
 -- the ranges of the sectors and of the two tables
 pub record LentBytes : Type 0 where
@@ -44,7 +44,6 @@ edge_of g flushes mask count m = flush_edge g mask count m
 edge_of g (resets z) mask count m = reset_edge g mask z count m
 edge_of g (formats array) mask count m = format_edge g mask array count m
 edge_of g (compacts d) mask count m = compact_edge g mask d count m
-edge_of g (rebuilds x) mask count m = rebuild_edge g mask x count m
 
 abbrev pub bytes_result : Answered Ranges → CallResult LentBytes (List ℕ)
 bytes_result e = record { answer = answer_of e.code; memory = record { sectors = e.left.sectors; written = e.left.written; durable = e.left.durable }; state = e.left.state }

@@ -6,8 +6,8 @@ use lib.ListN.{get_or}
 use Rattle.tables.specs.meaning.Below.{any_below}
 use Rattle.volume.specs.meaning.CallContracts.{blank_record, is_set}
 use Rattle.volume.specs.checks.ZoneChecks.{stale_on, pointer_within}
-use Rattle.volume.proofs.zone_checks.some_stale.Statement.{statement}
-use Rattle.volume.proofs.zone_checks.some_stale.Tie as tie
+use Rattle.compacting.proofs.some_stale.Statement.{statement}
+use Rattle.compacting.proofs.some_stale.Tie as tie
 
 abbrev invariant-loop : tie.invariant-loop
 invariant-loop written g here zones n stale₀ z₀ stale z = (z ≤ n) × (stale ≡ any_below (λ (y : ℕ). stale_on g (is_set here) written (get_or zones y blank_record).condition y) z)

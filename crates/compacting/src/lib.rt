@@ -1,5 +1,7 @@
 // Compact (document 02, 2.6): the call that empties a drive's parity log, whether it lacks room or not, and gives the hosts their shares of it anew. Over the
 // calls and the rules of `volume`.
+#![tactic(auto)]
+
 ghost use Rattle.std.specs.Prelude.{◌≡◌, ◌&&◌, true, ℕ, ◌<◌, length, ltb};
 ghost use Rattle.tables.specs.meaning.Geometry.{Valid, cells};
 ghost use Rattle.tables.specs.meaning.Tables.{tables_of};
@@ -18,7 +20,7 @@ use volume::roles::LogPlaces;
 use volume::{HOSTS, MAX_SHARES, Outcome, State};
 
 // What is compacted: a drive's parity log, in tables of this geometry, with the drives that are here.
-#[derive(Drop)]
+#[derive(Clone, Copy)]
 pub struct Compaction {
     pub first: Geometry,
     pub here: [bool; MAX_DRIVES],

@@ -2,6 +2,7 @@
 // one block on each drive, anywhere in its group; the metadata tell which. The read looks at every block's metadata: it notes in the work table where each
 // stripe's blocks lie (refusal 23), puts the data blocks into a heap there, from which those that are alike come one after the other (24), and seeks the
 // address (13). A missing drive's memory is never read: what it held is the exclusive or of its stripe's other blocks.
+#![tactic(auto)]
 
 pub mod checks;
 pub mod heap;
@@ -10,7 +11,7 @@ pub mod places;
 pub mod reading;
 
 // The numbers of a segment: D, B, G and the blocks of each drive, N. There are as many stripes as a drive has blocks.
-#[derive(Drop)]
+#[derive(Clone, Copy)]
 pub struct Segment {
     pub drives: usize,
     pub block: usize,
@@ -19,7 +20,7 @@ pub struct Segment {
 }
 
 // What a block's metadata say of it, but for its stripe.
-#[derive(Drop)]
+#[derive(Clone, Copy)]
 pub struct Key {
     pub address: u64,
     pub timestamp: u64,

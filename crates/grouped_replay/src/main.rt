@@ -1,6 +1,8 @@
 // Replays the conformance vectors of segments with grouped stripes: reads a script from standard input and writes one answer line for each command. The
 // file `stdout` beside src/ holds the lines that the vectors give. `stdin` is their script without its segment of 65,536 blocks a drive, which is larger
 // than a program's stack; the replays through the C edge and of the Python model have it.
+#![tactic(auto)]
+
 ghost use Rattle.std.specs.Prelude.{◌≡◌, ◌+◌, ◌≤◌, length};
 
 use grouped::Segment;
@@ -9,7 +11,7 @@ use replaying::Command;
 pub mod memory;
 
 // Bytes of the blocks, the metadata, the work table and the answer.
-#[derive(Drop)]
+#[derive(Clone, Copy)]
 struct Sizes {
     blocks: usize,
     metadata: usize,
@@ -19,7 +21,7 @@ struct Sizes {
 
 // What is kept between commands: the numbers by which the memory was made, those that are handed to reads, and by how much the next
 // command's memory is lent too short.
-#[derive(Drop)]
+#[derive(Clone, Copy)]
 struct Host {
     made: Segment,
     handed: Segment,
@@ -27,7 +29,7 @@ struct Host {
 }
 
 // What a command answers.
-#[derive(Drop)]
+#[derive(Clone, Copy)]
 struct Reply {
     code: u32,
     sum: u64,

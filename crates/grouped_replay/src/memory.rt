@@ -4,14 +4,14 @@ ghost use Rattle.std.specs.Prelude.{◌≡◌, ◌+◌, ◌≤◌, length};
 use grouped::Segment;
 
 // A part of lent bytes.
-#[derive(Drop)]
+#[derive(Clone, Copy)]
 pub struct Span {
     pub from: usize,
     pub to: usize,
 }
 
 // A stripe: its group, its ID and the drive of its parity block.
-#[derive(Drop)]
+#[derive(Clone, Copy)]
 pub struct Stripe {
     pub group: usize,
     pub id: u32,

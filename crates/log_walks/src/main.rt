@@ -8,6 +8,8 @@
 // drive of the last label, the place of the last counters and their number for zone 0, a reset of zone 0 in generation 2, the least seal
 // of zone 1 in generation 9. A parity log with the places of the last whole entries of zone 0 in generation 7 that end past 0 and past 2,
 // and the rows that its torn entry has.
+#![tactic(auto)]
+
 ghost use Rattle.std.specs.Prelude.{◌≡◌, ◌≤◌, ◌<◌, length};
 ghost use Rattle.tables.specs.meaning.Geometry.{Valid};
 ghost use Rattle.logs.specs.code.WalkCode.{InLog};

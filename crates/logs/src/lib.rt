@@ -2,6 +2,8 @@
 // `headers` writes a header, `judging` tells what a sector holds, `walking` steps through a log and finds where its legal part ends, with a
 // `reader` laid over its zone, `asking` carries an answer through a log, and `folds` asks what the volume wants to know of it. Which physical
 // zone holds a log is told to each function of the lent sectors.
+#![tactic(auto)]
+
 pub mod asking;
 pub mod folds;
 pub mod headers;
@@ -24,7 +26,7 @@ pub const VERSION: u8 = 1;
 pub const WORN_GENERATION: u64 = 18446744073709551615;
 
 // A log: its drive, the physical zone that holds it, and that zone's written pointer.
-#[derive(Drop)]
+#[derive(Clone, Copy)]
 pub struct Log {
     pub drive: usize,
     pub zone: usize,
@@ -32,7 +34,7 @@ pub struct Log {
 }
 
 // What a sector of a log holds (specs: `found`): nothing legal, or the header of an entry of type 1 to 6. Counters stay in the sector.
-#[derive(Drop)]
+#[derive(Clone, Copy)]
 pub enum Found {
     Bad,
     // the lost drive or 255, the array number
@@ -49,7 +51,7 @@ pub enum Found {
 }
 
 // Why a sector where an entry should begin is none (specs: `fault_of`, `in_zone`; `fault_number` gives each case's number).
-#[derive(Drop)]
+#[derive(Clone, Copy)]
 pub enum Fault {
     // no mark, or another version
     NoMark,
@@ -60,7 +62,7 @@ pub enum Fault {
 }
 
 // Where a log's legal part ends, and why (specs: `walk_end_of`). Each case holds the first sector that belongs to no whole entry.
-#[derive(Drop)]
+#[derive(Clone, Copy)]
 pub enum WalkEnd {
     // the written pointer
     AtPointer(usize),
@@ -71,14 +73,14 @@ pub enum WalkEnd {
 }
 
 // One step of the walk (specs: `step_of`): the walk's end; or a whole entry and where the next one begins.
-#[derive(Drop)]
+#[derive(Clone, Copy)]
 pub enum Step {
     Left(WalkEnd),
     Whole(Found, usize),
 }
 
 // A question to a log (specs: `answer`). Places are counted from 1, so that 0 is none.
-#[derive(Drop)]
+#[derive(Clone, Copy)]
 pub enum Query {
     // the lost drive of the last label
     LastLost,

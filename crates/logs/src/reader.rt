@@ -9,7 +9,7 @@ use super::{Step, WalkEnd};
 use tables::Geometry;
 
 // A log in its zone: the zone's bytes, the drive, whether it is a parity log, and the zone's written pointer.
-#[derive(Drop)]
+#[derive(Clone, Copy)]
 pub struct LogReader<'a> {
     pub bytes: &'a [u8],
     pub geometry: Geometry,

@@ -61,7 +61,7 @@ fn entry_due(
 }
 
 // The rows of a partial parity entry from one on: those of a zone's stripe and its first `fill` sectors, on the parity log of a drive.
-#[derive(Drop)]
+#[derive(Clone, Copy)]
 pub struct EntryRows {
     pub drive: usize,
     pub zone: usize,

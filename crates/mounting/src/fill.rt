@@ -112,7 +112,7 @@ fn fill_sectors(
 }
 
 // What a zone of a drive lacks: its sectors from those that were there up to those that the zone's pointer needs.
-#[derive(Drop)]
+#[derive(Clone, Copy)]
 pub struct Missing {
     pub pointer: usize,
     pub from: usize,

@@ -1,4 +1,6 @@
 // Mount: the call that brings a volume up, over the calls and the rules of `volume`.
+#![tactic(auto)]
+
 use tables::{Geometry, MAX_DRIVES};
 use volume::Look;
 
@@ -16,7 +18,7 @@ pub mod torn;
 pub mod zones;
 
 // What the steps of a mount go by: the geometry, the drives that are here, the look, and whether the drives' last counters differed then.
-#[derive(Drop)]
+#[derive(Clone, Copy)]
 pub struct Basis {
     pub geometry: Geometry,
     pub here: [bool; MAX_DRIVES],

@@ -18,7 +18,7 @@ use tables::Geometry;
 use volume::Look;
 
 // The headers that a mount stores.
-#[derive(Drop)]
+#[derive(Clone, Copy)]
 pub enum HeaderKind {
     Label,
     Reset,

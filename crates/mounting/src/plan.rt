@@ -76,7 +76,7 @@ pub fn plan_mount(
 
 // What the steps of a mount go by: where the logs lie from step 2 on and from step 10 on, the emptyings of these two steps, and what the other steps are
 // made by.
-#[derive(Drop)]
+#[derive(Clone, Copy)]
 pub struct Course {
     pub middle: LogPlaces,
     pub end: LogPlaces,

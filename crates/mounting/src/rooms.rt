@@ -53,7 +53,7 @@ pub fn reset_spares(
 
 // What a mount goes by, all of it as it is at the start: where the logs lie, the drives that are here, the look, whether the drives' last counters
 // differ, and which logs lack room.
-#[derive(Drop)]
+#[derive(Clone, Copy)]
 pub struct Plan {
     pub places: LogPlaces,
     pub here: [bool; MAX_DRIVES],

@@ -1,5 +1,7 @@
 // Document 01's cases a to h, on D 4, U 2, C 32, B 64, L 2, computed by the proved placement functions. The file `stdout` beside src/ holds
 // what document 01 says of them.
+#![tactic(auto)]
+
 ghost use Rattle.tables.specs.meaning.Geometry.{Valid};
 
 use tables::Geometry;

@@ -1,6 +1,8 @@
 // Replays the conformance vectors: reads a script from standard input and writes one answer line for each command. Beside src/, the file `stdin`
 // holds the scripts one after the other, and `stdout` the lines that the vectors give. Other vectors need no more than these two files, as long
 // as they fit the spaces below.
+#![tactic(auto)]
+
 ghost use Rattle.std.specs.Prelude.{◌≡◌, length};
 
 use replaying::{Command, Host, Reply};

@@ -1,6 +1,8 @@
 // The script language of the conformance vectors: a command line read, the host that carries it out over the tables that the caller lends, and
 // what its answer line shows. Every answer is a public call's own; no rule of the volume is written here a second time. The functions are proved to be safe
 // and to end, no more: what they show is compared line by line with the vectors.
+#![tactic(auto)]
+
 use tables::Geometry;
 use volume::{BadPlace, Reported, State, ZoneDescriptor};
 
@@ -16,14 +18,14 @@ pub mod showing;
 pub mod stream;
 
 // A decimal number of a text, and the place behind its last digit.
-#[derive(Drop)]
+#[derive(Clone, Copy)]
 pub struct Number {
     pub value: u64,
     pub next: usize,
 }
 
 // A command line: its letter, its numbers (0 where there are fewer), and where the next line begins.
-#[derive(Drop)]
+#[derive(Clone, Copy)]
 pub struct Command {
     pub letter: u8,
     pub first: u64,
@@ -36,7 +38,7 @@ pub struct Command {
 }
 
 // By how much the tables and the buffer are lent too short, for one command.
-#[derive(Drop)]
+#[derive(Clone, Copy)]
 pub struct Shortage {
     pub sectors: usize,
     pub written: usize,
@@ -46,7 +48,7 @@ pub struct Shortage {
 
 // What the host keeps between commands: the geometry that it hands to the calls, the lengths of its shelf's tables, the state if there is one,
 // the zones and drives that it speaks of, the zones' owners as numbers, of which a script may set one that there is not, and the shortage of the next command.
-#[derive(Drop)]
+#[derive(Clone, Copy)]
 pub struct Host {
     pub geometry: Geometry,
     pub bytes: usize,
@@ -60,7 +62,7 @@ pub struct Host {
 }
 
 // What a command leaves: the host, the answer's number, the state that the call handed back, and the bad place that it told.
-#[derive(Drop)]
+#[derive(Clone, Copy)]
 pub struct Reply {
     pub host: Host,
     pub code: u8,
@@ -69,21 +71,21 @@ pub struct Reply {
 }
 
 // What a read showed: the answer's number, and the checksum of the bytes read.
-#[derive(Drop)]
+#[derive(Clone, Copy)]
 pub struct Glimpse {
     pub code: u8,
     pub sum: u64,
 }
 
 // What a report leaves: its answer and number, and the list.
-#[derive(Drop)]
+#[derive(Clone, Copy)]
 pub struct Listed {
     pub reported: Reported,
     pub list: [ZoneDescriptor; 16],
 }
 
 // The two sums of a checksum.
-#[derive(Drop)]
+#[derive(Clone, Copy)]
 pub struct Sums {
     pub low: u64,
     pub high: u64,

@@ -1,5 +1,7 @@
 // The tables that the host lends: one list of bytes for all sectors, two lists of pointers. This crate knows a volume's geometry, where
 // each sector lies, and the three stores; it knows nothing of logs.
+#![tactic(auto)]
+
 pub mod bounds;
 pub mod bytes;
 pub mod placement;
@@ -20,7 +22,7 @@ pub const MAX_CELLS: usize = 152;
 
 // The shape of a volume (document 01: D, B, U, L and C), and where each drive's logs lie: four bits a drive, the physical zones of its general and of
 // its parity log in two bits each; all 0 for logs at their first places (specs: `zone_place`).
-#[derive(Drop)]
+#[derive(Clone, Copy)]
 pub struct Geometry {
     pub drives: usize,
     pub sector: usize,

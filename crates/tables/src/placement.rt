@@ -100,7 +100,7 @@ pub fn saturating_sub(a: usize, b: usize) -> usize
 }
 
 // A pointer's stripe, the sectors of it below the pointer, and its parity drive.
-#[derive(Drop)]
+#[derive(Clone, Copy)]
 pub struct StripeAt {
     pub stripe: usize,
     pub fill: usize,

@@ -6,7 +6,7 @@ ghost use Rattle.tables.specs.laws.Within.{Apart};
 ghost use Rattle.tables.specs.laws.Overlays.{PartsIn};
 
 // Where three units and the row lie, in one slice. No two of the parts meet.
-#[derive(Drop)]
+#[derive(Clone, Copy)]
 pub struct Parts {
     pub first: usize,
     pub second: usize,

@@ -16,7 +16,7 @@ use tables::{Geometry, MAX_DRIVES};
 
 // What a call on one zone takes of its input beside the tables: the geometry, the drives named, of the state the lost drive and the record of the
 // address's zone, and whether refusal 3 applies.
-#[derive(Drop)]
+#[derive(Clone, Copy)]
 pub struct ByRecord {
     pub geometry: Geometry,
     pub named: [bool; MAX_DRIVES],
@@ -27,7 +27,7 @@ pub struct ByRecord {
 
 // Whether the write was made; and then what is left of its budget of stores, and of the state that it hands on the lost drive, the zone's pointer, and the drive
 // where its entry is off its host's share, with the entry's sectors.
-#[derive(Drop)]
+#[derive(Clone, Copy)]
 pub struct Recorded {
     pub made: bool,
     pub rest: u64,

@@ -129,7 +129,7 @@ pub fn input_within(g: Geometry, state: State) -> bool
 
 // What refusal 2 looks at beside the pointer tables: the bytes of the sectors, and a call's buffer, its sectors and its bytes. A call without a
 // buffer has 0 of both.
-#[derive(Drop)]
+#[derive(Clone, Copy)]
 pub struct Sizes {
     pub sectors: usize,
     pub count: u64,

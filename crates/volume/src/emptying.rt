@@ -29,7 +29,7 @@ pub const SPARE_ZONE: usize = 2;
 
 // What an emptying goes by: the geometry with the logs as they lay and as they lie afterwards, the drives that are here, the drive whose log is
 // emptied, and the generation of its new log.
-#[derive(Drop)]
+#[derive(Clone, Copy)]
 pub struct Emptying {
     pub from: Geometry,
     pub to: Geometry,
@@ -39,7 +39,7 @@ pub struct Emptying {
 }
 
 // The headers that are copied zone by zone.
-#[derive(Drop)]
+#[derive(Clone, Copy)]
 pub enum HeaderCopy {
     Seal,
     Reset,

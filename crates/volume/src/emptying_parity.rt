@@ -23,7 +23,7 @@ use super::rows::{Extent, Target};
 use tables::Geometry;
 
 // A zone as its partial parity is copied: its generation in force, and its pointer.
-#[derive(Drop)]
+#[derive(Clone, Copy)]
 pub struct ZonePoint {
     pub number: usize,
     pub generation: u64,

@@ -14,7 +14,7 @@ use tables::{Geometry, MAX_DRIVES};
 
 // Which logs are emptied: where all logs lay and where they lie afterwards, the drives that are here, those whose log is emptied, and the generations of
 // the new logs.
-#[derive(Drop)]
+#[derive(Clone, Copy)]
 pub struct Emptyings {
     pub from: Geometry,
     pub to: Geometry,

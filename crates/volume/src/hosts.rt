@@ -21,7 +21,7 @@ pub const MOST_OF_HOST_1: usize = 4;
 
 // What a write's host may do: whether there is such a host; refusal 18 or 19, 0 if neither applies; and what is left of its share of the drive that gets
 // the entry. A write that would leave its zone, or has no host, is refused before these are asked: then refusal and share are 0.
-#[derive(Drop)]
+#[derive(Clone, Copy)]
 pub struct Allowance {
     pub known: bool,
     pub refusal: u8,
@@ -29,7 +29,7 @@ pub struct Allowance {
 }
 
 // How many zones count to a host, and how many in all.
-#[derive(Drop)]
+#[derive(Clone, Copy)]
 pub struct OpenZones {
     pub own: usize,
     pub all: usize,

@@ -24,7 +24,7 @@ use logs::Found;
 use tables::{Geometry, MAX_DRIVES};
 
 // How a sector is known (specs: `source_of`): not at all, held, by its row, or by the entry at a place of its parity drive's log, counted from 1.
-#[derive(Drop)]
+#[derive(Clone, Copy)]
 pub enum Source {
     Unknown,
     Held,

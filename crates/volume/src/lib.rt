@@ -1,4 +1,6 @@
 // The volume: the calls over the tables that the host lends and the state that it keeps between calls, all but mount (crate `mounting`).
+#![tactic(auto)]
+
 use tables::{Geometry, MAX_DRIVES, MAX_ZONES};
 
 pub mod bad_places;
@@ -36,7 +38,7 @@ pub mod zone_checks;
 pub mod zone_looking;
 
 // A zone's condition, with its pointer (document 01: "empty, open with its pointer, sealed with its pointer, or worn with its pointer").
-#[derive(Drop)]
+#[derive(Clone, Copy)]
 pub enum Condition {
     Empty,
     Open(usize),
@@ -45,7 +47,7 @@ pub enum Condition {
 }
 
 // The host that wrote a zone last; nobody since the last format, mount or reset of the zone (document 02, 2.6).
-#[derive(Drop)]
+#[derive(Clone, Copy)]
 pub enum Owner {
     Nobody,
     Host0,
@@ -53,7 +55,7 @@ pub enum Owner {
 }
 
 // What the state says of one zone.
-#[derive(Drop)]
+#[derive(Clone, Copy)]
 pub struct ZoneRecord {
     pub generation: u64,
     pub condition: Condition,
@@ -67,7 +69,7 @@ pub const MAX_SHARES: usize = 16;
 
 // What the hosts keep between calls: the lost drive or 255; a record for each zone; and what is left of each host's share of each drive's parity log, host h's
 // of drive d at HOSTS × d + h. Records past the volume's last zone say nothing.
-#[derive(Drop)]
+#[derive(Clone, Copy)]
 pub struct State {
     pub lost: usize,
     pub zones: [ZoneRecord; MAX_ZONES],
@@ -75,7 +77,7 @@ pub struct State {
 }
 
 // A zone as a call reads it: the geometry, the drives that are present, the zone's number, and the generation under which it is read.
-#[derive(Drop)]
+#[derive(Clone, Copy)]
 pub struct Zone {
     pub geometry: Geometry,
     pub here: [bool; MAX_DRIVES],
@@ -84,7 +86,7 @@ pub struct Zone {
 }
 
 // A bad place of a log: its number, 6, 16 or 17 (logs' `Fault`), 0 if there is none; its drive, physical zone and sector.
-#[derive(Drop)]
+#[derive(Clone, Copy)]
 pub struct BadPlace {
     pub number: u8,
     pub drive: u8,
@@ -94,7 +96,7 @@ pub struct BadPlace {
 
 // A call's answer: finished, unfinished (stores were left when the count of stores ran out), or refused with the documents' number; a look or a mount
 // that is refused for a log tells its first bad place.
-#[derive(Drop)]
+#[derive(Clone, Copy)]
 pub enum Answer {
     Finished,
     Unfinished,
@@ -103,14 +105,14 @@ pub enum Answer {
 }
 
 // What a call hands back: its answer, and the state that the host keeps from then on.
-#[derive(Drop)]
+#[derive(Clone, Copy)]
 pub struct Outcome {
     pub answer: Answer,
     pub state: State,
 }
 
 // What a look shows of one zone, and what a mount needs to know of it besides: whether a reset entry emptied it, and whether it is clean.
-#[derive(Drop)]
+#[derive(Clone, Copy)]
 pub struct ZoneLook {
     pub generation: u64,
     pub condition: Condition,
@@ -120,7 +122,7 @@ pub struct ZoneLook {
 }
 
 // What a look shows: the lost drive or 255, the array number, and the zones; those past the volume's last zone are blank.
-#[derive(Drop)]
+#[derive(Clone, Copy)]
 pub struct Look {
     pub lost: usize,
     pub array: u64,
@@ -128,7 +130,7 @@ pub struct Look {
 }
 
 // A zone's condition as a report tells it: sealed and worn zones are read-only.
-#[derive(Drop)]
+#[derive(Clone, Copy)]
 pub enum ReportedCondition {
     Empty,
     Open,
@@ -136,7 +138,7 @@ pub enum ReportedCondition {
 }
 
 // What a report tells of one zone: its first address, how many sectors it has, its write pointer (sectors from its start), and its condition.
-#[derive(Drop)]
+#[derive(Clone, Copy)]
 pub struct ZoneDescriptor {
     pub start: u64,
     pub capacity: u64,
@@ -145,7 +147,7 @@ pub struct ZoneDescriptor {
 }
 
 // What a report hands back: its answer, and how many descriptors it filled.
-#[derive(Drop)]
+#[derive(Clone, Copy)]
 pub struct Reported {
     pub answer: Answer,
     pub number: usize,

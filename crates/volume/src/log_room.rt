@@ -15,7 +15,7 @@ use tables::{Geometry, MAX_DRIVES};
 // What a call asks of the logs of a kind, on every drive that is due: one with fewer sectors unused than `below` is emptied, and must have `limit` unused
 // then. The geometry of the tables, where the logs lie in it, the drives that are here, and whether the call resets spares with sectors written before it
 // empties a log: a mount does, no other call.
-#[derive(Drop)]
+#[derive(Clone, Copy)]
 pub struct RoomAsked {
     pub first: Geometry,
     pub places: LogPlaces,
@@ -28,7 +28,7 @@ pub struct RoomAsked {
 }
 
 // A drive's answer: whether its log lacks room; if so, whether it stays full, and else the generation that its new log gets.
-#[derive(Drop)]
+#[derive(Clone, Copy)]
 pub struct DriveRoom {
     pub lacks: bool,
     pub full: bool,
@@ -36,7 +36,7 @@ pub struct DriveRoom {
 }
 
 // That of all drives: whether one stays full, which are emptied, and the generations of the new logs.
-#[derive(Drop)]
+#[derive(Clone, Copy)]
 pub struct LogRoom {
     pub full: bool,
     pub emptied: [bool; MAX_DRIVES],

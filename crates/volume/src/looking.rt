@@ -18,7 +18,7 @@ use super::{Answer, BadPlace, Condition, Look, Outcome, Owner, State, ZoneLook, 
 use tables::{Geometry, MAX_CELLS, MAX_DRIVES, MAX_ZONES};
 
 // What a look goes by: where the logs lie, which drives are present, the refusal by their logs (4 to 6; 0 if none applies), and the first bad place.
-#[derive(Drop)]
+#[derive(Clone, Copy)]
 pub struct Survey {
     pub places: LogPlaces,
     pub here: [bool; MAX_DRIVES],

@@ -20,14 +20,14 @@ use logs::Log;
 use tables::{Geometry, MAX_DRIVES};
 
 // A zone as a log of a kind: whether it is one, and of which generation.
-#[derive(Drop)]
+#[derive(Clone, Copy)]
 struct Claim {
     made: bool,
     generation: u64,
 }
 
 // What zones claim that are not in their first places: 0, or the generation of a closing entry.
-#[derive(Drop)]
+#[derive(Clone, Copy)]
 struct Moved {
     parity_in_first: u64,
     general_in_second: u64,
@@ -36,14 +36,14 @@ struct Moved {
 }
 
 // The counting log of a kind, and whether the drive lacks that kind.
-#[derive(Drop)]
+#[derive(Clone, Copy)]
 pub struct Counting {
     pub zone: usize,
     pub lacks: bool,
 }
 
 // The zones of a drive's two logs, and which kinds it lacks. A log that lacks has a zone all the same, which says nothing.
-#[derive(Drop)]
+#[derive(Clone, Copy)]
 pub struct LogZones {
     pub general: usize,
     pub parity: usize,
@@ -52,7 +52,7 @@ pub struct LogZones {
 }
 
 // Where the logs of all drives lie, as the geometry that places them there; and for each drive whether it lacks a kind.
-#[derive(Drop)]
+#[derive(Clone, Copy)]
 pub struct LogPlaces {
     pub geometry: Geometry,
     pub no_general: [bool; MAX_DRIVES],

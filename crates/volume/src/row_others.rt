@@ -11,7 +11,7 @@ use tables::Geometry;
 
 // Where a row lies: the sectors numbered `sector` of a zone, on all drives; `parity` is the drive of its parity, `start` the address of its first unit's
 // sector. The others are those below the address `end` but that of unit `own`.
-#[derive(Drop)]
+#[derive(Clone, Copy)]
 pub struct RowPlace {
     pub zone: usize,
     pub parity: usize,

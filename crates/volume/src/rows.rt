@@ -20,7 +20,7 @@ use tables::{Geometry, MAX_DRIVES};
 // The content of a zone below `end`. Up to `below` it is what is known under a generation, by rule 4; from there on the sectors of a buffer. limit is the
 // zone's least current seal, or any number where every sector that is read is held. Logs are read where `geometry` says they lie, and what is stored
 // goes where `to` does: the same but for logs that were emptied since.
-#[derive(Drop)]
+#[derive(Clone, Copy)]
 pub struct Extent {
     pub geometry: Geometry,
     pub to: Geometry,
@@ -33,7 +33,7 @@ pub struct Extent {
 }
 
 // Where rows are appended: a zone of a drive, and whether the drive is present.
-#[derive(Drop)]
+#[derive(Clone, Copy)]
 pub struct Target {
     pub drive: usize,
     pub zone: usize,

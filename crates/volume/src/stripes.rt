@@ -24,7 +24,7 @@ use tables::units::Parts;
 use tables::{Geometry, MAX_DRIVES, units};
 
 // Such a stripe: the geometry that its stores go by, its physical zone, the drive of its parity, and where its bytes begin in the write's buffer.
-#[derive(Drop)]
+#[derive(Clone, Copy)]
 pub struct Stripe {
     pub geometry: Geometry,
     pub zone: usize,

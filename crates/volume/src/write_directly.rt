@@ -18,7 +18,7 @@ use tables::{Geometry, MAX_CELLS};
 
 // What a write that is asked of its zone came to: refused by 7 to 12, 18 or 19 (0 if by none); made, with what is left of the budget of stores, and its entry;
 // or neither, for it needs other logs or is refused by 14.
-#[derive(Drop)]
+#[derive(Clone, Copy)]
 pub struct Tried {
     pub refusal: u8,
     pub made: bool,
@@ -27,7 +27,7 @@ pub struct Tried {
 }
 
 // Whether a write needs no log but that of its entry; and the geometry that places that one.
-#[derive(Drop)]
+#[derive(Clone, Copy)]
 pub struct EntryPlace {
     pub alone: bool,
     pub geometry: Geometry,

@@ -10,14 +10,14 @@ use super::roles::LogPlaces;
 use tables::Geometry;
 
 // The drive that gets a write's entry, if the write ends inside a stripe.
-#[derive(Drop)]
+#[derive(Clone, Copy)]
 pub struct EntryDrive {
     pub inside: bool,
     pub drive: usize,
 }
 
 // That drive, and the entry's sectors; 0 if there is no entry, or the drive is not here.
-#[derive(Drop)]
+#[derive(Clone, Copy)]
 pub struct EntryTaken {
     pub drive: usize,
     pub sectors: usize,

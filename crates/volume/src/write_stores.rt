@@ -80,7 +80,7 @@ fn write_sector(
 }
 
 // How far a write has come: its next address, and what is left of the budget of stores.
-#[derive(Drop)]
+#[derive(Clone, Copy)]
 struct Reached {
     next: usize,
     rest: u64,

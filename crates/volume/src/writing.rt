@@ -18,7 +18,7 @@ use super::{Answer, Condition, Outcome, State, Zone, ZoneRecord};
 use tables::{Geometry, MAX_CELLS, MAX_DRIVES};
 
 // What is written: so many sectors of a zone from its pointer on, by a host that may do so much.
-#[derive(Drop)]
+#[derive(Clone, Copy)]
 pub struct Run {
     pub zone: Zone,
     pub pointer: usize,

@@ -3,6 +3,8 @@
 // the refusal's number, 255 unfinished. In the high 32 a look and a mount tell the place of a bad log, a report its number of descriptors; else they are 0.
 // Each reads its input, makes the call (volume's, mounting's or compacting's) on scratch for the two tables, and hands back what that leaves. Beside them `segments` has the
 // read of a segment with grouped stripes, and `version` the interface's version.
+#![tactic(auto)]
+
 pub mod input;
 pub mod reading;
 pub mod records;

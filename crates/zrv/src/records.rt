@@ -16,7 +16,7 @@ use volume::hosts::Allowance;
 use volume::{Condition, HOSTS, ZoneRecord};
 
 // What is asked of a write beside its ranges.
-#[derive(Drop)]
+#[derive(Clone, Copy)]
 pub struct WriteCall {
     pub geometry: Geometry,
     pub named: [bool; 8],
@@ -27,7 +27,7 @@ pub struct WriteCall {
 }
 
 // Whether it was made, and then what it returns.
-#[derive(Drop)]
+#[derive(Clone, Copy)]
 pub struct WriteTried {
     pub made: bool,
     pub code: u64,

@@ -1,0 +1,44 @@
+#!/usr/bin/env python3
+"""Mends the proofs of functions by what a check says of them: a step under another name, one `.before` too many.
+
+usage: python3 tools/port/mend.py LOG     in a crate's folder; LOG is what `rt check` said. Says how many places it changed."""
+import re, sys, collections
+
+edits = collections.defaultdict(dict)
+for line in open(sys.argv[1], encoding="utf-8"):
+    line = re.sub(r"^so far: ", "", line)
+    m = re.match(r"(\S+?\.antt):(\d+):(\d+): error: `([^`]+)`: (.*)", line)
+    if m:
+        edits[m.group(1)][int(m.group(2)), int(m.group(3))] = m.group(5)
+count = 0
+for path, places in edits.items():
+    if "/proofs/" not in path:
+        continue
+    text = open(path, encoding="utf-8").read().split("\n")
+    for (at, col), said in sorted(places.items(), reverse=True):
+        line = text[at - 1]
+        new = None
+        f = re.search(r"record `[^`]*` has no field `([^`]+)`", said)
+        t = re.search(r"module `[^`]*` has no `([^`]+)` that can be named from here \(did you mean `([^`]+)`\?\)", said)
+        if f and "leave out the `.before`" in said:
+            for k in (line.find(".before", max(0, col - 9)), line.rfind(".before", 0, col + 8)):
+                if k >= 0:
+                    new = line[:k] + line[k + len(".before") :]
+                    break
+        elif f:
+            name = f.group(1)
+            near = re.search(r"\(nearest: \.([^\s,)]+)\)", said)
+            k = line.find("." + name, max(0, col - 2 - len(name)))
+            if k >= 0 and re.match(r".*-\d+$", name) and near and near.group(1) == re.sub(r"-\d+$", "", name):
+                new = line[:k] + "." + near.group(1) + line[k + 1 + len(name) :]
+            elif k >= 0 and near and near.group(1).replace("_", "-").lower().startswith(name.replace("_", "-").lower()):
+                new = line[:k] + "." + near.group(1) + line[k + 1 + len(name) :]
+        elif t:
+            k = line.find(t.group(1), max(0, col - 1))
+            if k >= 0:
+                new = line[:k] + t.group(2) + line[k + len(t.group(1)) :]
+        if new and new != line:
+            text[at - 1] = new
+            count += 1
+    open(path, "w", encoding="utf-8").write("\n".join(text))
+print(count, "places mended")

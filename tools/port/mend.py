@@ -20,11 +20,16 @@ for path, places in edits.items():
         new = None
         f = re.search(r"record `[^`]*` has no field `([^`]+)`", said)
         t = re.search(r"module `[^`]*` has no `([^`]+)` that can be named from here \(did you mean `([^`]+)`\?\)", said)
-        if f and "leave out the `.before`" in said:
+        if f and ("leave out the `.before`" in said or f.group(1) == "before"):
             for k in (line.find(".before", max(0, col - 9)), line.rfind(".before", 0, col + 8)):
                 if k >= 0:
                     new = line[:k] + line[k + len(".before") :]
                     break
+        elif f and f.group(1).isdigit() and "are `" in said:
+            known = re.findall(r"`([^`]+)`", said.split("here are ", 1)[1])
+            k = line.find("." + f.group(1), max(0, col - 3))
+            if k >= 0 and int(f.group(1)) < len(known):
+                new = line[:k] + "." + known[int(f.group(1))] + line[k + 1 + len(f.group(1)) :]
         elif f:
             name = f.group(1)
             near = re.search(r"\(nearest: \.([^\s,)]+)\)", said)

@@ -23,6 +23,87 @@ def goals(text):
     return re.findall(r"\btie\s?\.Need-(" + WORD + ")", text)
 
 
+def need_at(names, spelled, key):
+    """The place where a goal is asked, by its name as a proof has it."""
+    at = {}
+    for (o, _), (place, _) in zip(names["needs"], names["asked_at"]):
+        at.setdefault(norm(o), place)
+    return lambda name: at.get(key(spelled.get(name, name)))
+
+
+def climb(text, names, place_of_need):
+    """Turns `.before.before`: the places of an arm are one place now, so a proof climbs fewer."""
+    up = {p[0]: p[1] for p in names["places"]}
+    depth = {p[0]: (a[1] if a else 0) for p, a in zip(names["places"], names["arms"])}
+    by_norm = {norm(p): p for p in up}
+
+    def climbs(place, n):
+        for _ in range(n):
+            if up.get(place) is None:
+                break
+            place = up[place]
+        return place
+
+    def new_up(place):
+        return climbs(place, max(depth.get(place, 0), 1))
+
+    def new_distance(place, goal):
+        # inside one arm no step is left
+        k, at = 0, place
+        while at is not None and at != goal:
+            inside, a = set(), at
+            for _ in range(max(depth.get(at, 0) - 1, 0)):
+                a = up.get(a)
+                inside.add(a)
+            if goal in inside:
+                return k
+            if up.get(at) is None:
+                return None
+            at = new_up(at)
+            k += 1
+        return k if at == goal else None
+
+    lines = text.split("\n")
+    i = 0
+    while i < len(lines):
+        j = i + 1
+        if lines[i].startswith(("use ", "--")) or not lines[i].strip():
+            i = j
+            continue
+        while j < len(lines) and lines[j].strip() and not lines[j].startswith("--"):
+            j += 1
+        block = "\n".join(lines[i:j])
+        env = {}
+        for v, place in re.findall(r"\(([\w'-]+)\s:\stie\.([A-Z]" + WORD + ")", block):
+            if norm(place) in by_norm:
+                env[v] = by_norm[norm(place)]
+        head = re.match(r"(?:abbrev )?([^\s(){}]+) : tie\.(Need-)?(" + WORD + ")", block)
+        if head:
+            name, is_need, word = head.groups()
+            first = re.search(r"(?m)^" + re.escape(name) + r" ([\w'-]+)", block[head.end() :])
+            place = place_of_need(word) if is_need else by_norm.get(norm(word))
+            if first and place:
+                env[first.group(1)] = place
+        # a chain from each variable whose place is known, in the order of the text, so that a `let` is known to what follows
+        done, at = [], 0
+        for m in re.finditer(r"(let ([\w'-]+) = )?(?<![\w.'-])([\w'-]+)((?:\.before)*)(?![\w'-])(\s+in\b)?", block):
+            let, new, var, chain, ends = m.groups()
+            if var not in env:
+                continue
+            n = chain.count(".before")
+            goal = climbs(env[var], n)
+            k = new_distance(env[var], goal)
+            if let and ends:
+                env[new] = goal
+            if n and k is not None and k != n:
+                done.append(block[at : m.start(4)] + ".before" * k)
+                at = m.end(4)
+        block = "".join(done) + block[at:]
+        lines[i:j] = block.split("\n")
+        i = j
+    return "\n".join(lines)
+
+
 def turn(text, old, names, function):
     said = []
     needs = {}
@@ -39,10 +120,12 @@ def turn(text, old, names, function):
 
     def key(x):
         x = norm(x)
-        m = re.match(r"loop(\d*)-(holds|again|less|decreases)(.*)$", x)
-        if m:
-            return "loop" + m.group(1) + "-" + {"holds": "init", "again": "preserved", "less": "smaller", "decreases": "smaller"}[m.group(2)] + m.group(3)
+        m = re.match(r"(.*)-(holds|again|less|decreases)((?:-\d+)?)$", x)
+        if m and m.group(1) in loops:
+            return m.group(1) + "-" + {"holds": "init", "again": "preserved", "less": "smaller", "decreases": "smaller"}[m.group(2)] + m.group(3)
         return x
+
+    loops = {norm(l[0][0]): l[0][1] for l in names["loops"]}
 
     def need(m):
         o = key(spelled.get(m.group(1), m.group(1)))
@@ -67,7 +150,23 @@ def turn(text, old, names, function):
             return "tie." + places[o]
         return m.group(0)
 
-    loops = {norm(l[0][0]): l[0][1] for l in names["loops"]}
+    arms = {}
+    for arm in names["arms"]:
+        if arm:
+            for field, at, path in arm[2]:
+                if path:
+                    arms.setdefault(norm(at), {})["".join("." + x for x in path)] = "." + arm[0] + "." + field
+
+    def by_arm(m):
+        known = arms.get(norm(m.group(1)).lower())
+        if not known:
+            return m.group(0)
+        for path in sorted(known, key=len, reverse=True):
+            if m.group(2) == path or m.group(2).startswith(path + "."):
+                return known[path] + m.group(2)[len(path) :]
+        return m.group(0)
+
+    flat = "|".join(re.escape(x) for x in sorted({"args", "requires", "ranges"} | {s for s in steps.values() if "-" in s or "_" in s} | {a[0] for a in names["arms"] if a}, key=len, reverse=True))
 
     def loop(m):
         o = norm(m.group(2))
@@ -75,6 +174,8 @@ def turn(text, old, names, function):
 
     def step(m):
         o = norm(m.group(1)).lower()
+        if o.endswith("-lem") and o not in steps:
+            o = o[:-4]
         rest = m.group(2)
         after = m.string[m.end(1) :]
         called = re.match(r"\.(ensures|result|new|old|exit|invariant)(?![^\s(){}\[\]\",;.])", after)
@@ -87,6 +188,7 @@ def turn(text, old, names, function):
             rest = "." + inner[new][rest[1:]]
         return "." + new + (rest or "")
 
+    text = climb(text, names, need_at(names, spelled, key))
     out = []
     for line in text.split("\n"):
         if line.startswith("use "):
@@ -95,7 +197,11 @@ def turn(text, old, names, function):
         line = re.sub(r"\btie\.Need-(" + WORD + ")", need, line)
         line = re.sub(r"\btie\.(invariant|decreases)-(loop" + r"[^\s(){}\[\]\",;.]*)", loop, line)
         line = re.sub(r"\btie\.([A-Z]" + WORD + ")", place, line)
+        line = re.sub(r"\.pre(?=[\s.,(){}\[\]]|$)", ".requires", line)
+        line = re.sub(r"\.inv(?=[\s.,(){}\[\]]|$)", ".invariant", line)
+        line = re.sub(r"(?<=[\w)'₀-₉])\.(" + WORD + r")((?:\.(?:given|\d+))+)(?![^\s(){}\[\]\",;.])", by_arm, line)
         line = re.sub(r"(?<=[\w)'₀-₉])\.(" + WORD + r")(\.(?:true|false|fact))?(?![^\s(){}\[\]\",;.])", step, line)
+        line = re.sub(r"(?<=[\w)'₀-₉-])(?:\.before)+\.(" + flat + r")(?![^\s(){}\[\]\",;.])", r".\1", line)
         line = re.sub(r"(?<![^\s(])" + re.escape(norm(function)) + "-spec(?![^\\s(){}])", function + "_spec", line)
         out.append(line)
     return "\n".join(out), said

@@ -69,6 +69,7 @@ any_of_some p (x ∷ xs) h = go (or_cases (p x) (any_of p xs) h) (λ q. any_of_s
 pub some_any_of : {A : Type 0} (p : A → Bool) (xs : List A) (x : A) → Memᴰ x xs → p x ≡ true → any_of p xs ≡ true
 some_any_of p (y ∷ xs) x (Memᴰ.head q) h = or_left (p y) (any_of p xs) (rw (← q) h)
 some_any_of p (y ∷ xs) x (Memᴰ.tail m) h = or_right (p y) (any_of p xs) (some_any_of p xs x m h)
+some_any_of {A = A} p [] x x4 h = elim x4 [ ]
 
 pub none_any_of : {A : Type 0} (p : A → Bool) (xs : List A) → ((x : A) → Memᴰ x xs → p x ≡ false) → any_of p xs ≡ false
 none_any_of p [] h = refl
@@ -92,6 +93,7 @@ mem_nil a m = absurd (true≢false (sym (some_any_of (λ b. true) [] a m refl)))
 pub mem_left : {A : Type 0} (xs ys : List A) (a : A) → Memᴰ a xs → Memᴰ a (xs ++ ys)
 mem_left (x ∷ xs) ys a (Memᴰ.head q) = Memᴰ.head q
 mem_left (x ∷ xs) ys a (Memᴰ.tail m) = Memᴰ.tail (mem_left xs ys a m)
+mem_left {A = A} [] ys a x' = elim x' [ ]
 
 pub mem_right : {A : Type 0} (xs ys : List A) (a : A) → Memᴰ a ys → Memᴰ a (xs ++ ys)
 mem_right [] ys a m = m
@@ -109,11 +111,16 @@ mem_append (x ∷ xs) ys a (Memᴰ.tail m) = go (mem_append xs ys a m)
 pub mem_take : {A : Type 0} (n : ℕ) (xs : List A) (a : A) → Memᴰ a (take n xs) → Memᴰ a xs
 mem_take (suc n) (x ∷ xs) a (Memᴰ.head q) = Memᴰ.head q
 mem_take (suc n) (x ∷ xs) a (Memᴰ.tail m) = Memᴰ.tail (mem_take n xs a m)
+mem_take {A = A} zero xs a x' = elim x' [ ]
+mem_take {A = A} (suc n) [] a x3 = elim x3 [ ]
 
 pub mem_more : {A : Type 0} (m n : ℕ) (xs : List A) (a : A) → m ≤ n → Memᴰ a (take m xs) → Memᴰ a (take n xs)
 mem_more (suc m) zero (x ∷ xs) a h k = absurd (not-suc-le-zero h)
 mem_more (suc m) (suc n) (x ∷ xs) a h (Memᴰ.head q) = Memᴰ.head q
 mem_more (suc m) (suc n) (x ∷ xs) a h (Memᴰ.tail k) = Memᴰ.tail (mem_more m n xs a (le_of_suc-le-suc h) k)
+mem_more {A = A} zero n xs a h k = elim k [ ]
+mem_more {A = A} (suc m) zero [] a h k = elim h [ ]
+mem_more {A = A} (suc m) (suc n) [] a h k = elim k [ ]
 
 -- ---- map
 pub map_append : {A : Type 0} {B : Type 0} (f : A → B) (xs ys : List A) → map f (xs ++ ys) ≡ map f xs ++ map f ys

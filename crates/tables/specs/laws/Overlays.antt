@@ -189,6 +189,7 @@ apart_sym p q n (inr h) = inl h
 off_one : (ps : List (ℕ × List ℕ)) (n p q : ℕ) (t : List ℕ) → OffParts n p ps → Memᴰ (q, t) ps → Apart p q n
 off_one ((r, u) ∷ ps) n p q t o (Memᴰ.head e) = let k : q ≡ r = ap (λ (x : ℕ × List ℕ). x.0) e in rw k o.0
 off_one ((r, u) ∷ ps) n p q t o (Memᴰ.tail m) = off_one ps n p q t o.1 m
+off_one [] n p q t o x'' = elim x'' [ ]
 
 pub next_kept : (ps : List (ℕ × List ℕ)) (len n i : ℕ) (xs : List ℕ) (p : ℕ) (s : List ℕ) → length xs ≡ len → PartsFit len n ps → i < n → Memᴰ (p, s) ps → get_or (laid_parts ps i xs) (p + i) 0 ≡ get_or xs (p + i) 0
 next_kept ((q, t) ∷ ps) len n i xs p s l f h (Memᴰ.head e) =
@@ -198,6 +199,7 @@ next_kept ((q, t) ∷ ps) len n i xs p s l f h (Memᴰ.head e) =
 next_kept ((q, t) ∷ ps) len n i xs p s l f h (Memᴰ.tail m) =
     next_kept ps len n i (overlay xs q (take i t)) p s (laid_part_long len n i xs q t l f.0 f.1 (omega arith)) f.3 h m
     ∙ overlay_at_apart xs q (take i t) (p + i) (part_room len n i xs q t l f.0 f.1 (omega arith)) (part_off n i q p t f.0 h (apart_sym q p n (off_one ps n q p s f.2 m)))
+next_kept [] len n i xs p s l f h x4 = elim x4 [ ]
 
 -- ---- the loop's invariant
 pub record PartsLaid (xs : List ℕ) (n : ℕ) (ps : List (ℕ × List ℕ)) (i : ℕ) (ys : List ℕ) : Type 0 where

@@ -54,23 +54,23 @@ module _ (g : Geometry) where
   counters-answer p x (seal z q n ∷ hs) = counters-answer (p + 1) x hs
   counters-answer p x (closing kind gen ∷ hs) = counters-answer (p + 1) x hs
 
-  pub reset-answer : (z n p x : ℕ) (hs : List Header) → answer g (ResetOf z n) p x hs ≡ pick (any_of (is_reset z n) hs) 1 x
-  reset-answer z n p x [] = refl
-  reset-answer z n p x (label y a ∷ hs) = reset-answer z n (p + 1) x hs
-  reset-answer z n p x (counters cs ∷ hs) = reset-answer z n (p + 1) x hs
-  reset-answer z n p x (zone_reset y m ∷ hs) = reset-answer z n (p + 1) (pick (eqb y z && eqb m n) 1 x) hs ∙ pick-or (eqb y z && eqb m n) (any_of (is_reset z n) hs) x
-  reset-answer z n p x (partial_parity y s f m ∷ hs) = reset-answer z n (p + suc (min f g.unit)) x hs
-  reset-answer z n p x (seal y q m ∷ hs) = reset-answer z n (p + 1) x hs
-  reset-answer z n p x (closing kind gen ∷ hs) = reset-answer z n (p + 1) x hs
+  pub reset_answer : (z n p x : ℕ) (hs : List Header) → answer g (ResetOf z n) p x hs ≡ pick (any_of (is_reset z n) hs) 1 x
+  reset_answer z n p x [] = refl
+  reset_answer z n p x (label y a ∷ hs) = reset_answer z n (p + 1) x hs
+  reset_answer z n p x (counters cs ∷ hs) = reset_answer z n (p + 1) x hs
+  reset_answer z n p x (zone_reset y m ∷ hs) = reset_answer z n (p + 1) (pick (eqb y z && eqb m n) 1 x) hs ∙ pick-or (eqb y z && eqb m n) (any_of (is_reset z n) hs) x
+  reset_answer z n p x (partial_parity y s f m ∷ hs) = reset_answer z n (p + suc (min f g.unit)) x hs
+  reset_answer z n p x (seal y q m ∷ hs) = reset_answer z n (p + 1) x hs
+  reset_answer z n p x (closing kind gen ∷ hs) = reset_answer z n (p + 1) x hs
 
-  pub seal-answer : (z n p x : ℕ) (hs : List Header) → answer g (SealOf z n) p x hs ≡ pick (any_of (is_seal z n) hs) 1 x
-  seal-answer z n p x [] = refl
-  seal-answer z n p x (label y a ∷ hs) = seal-answer z n (p + 1) x hs
-  seal-answer z n p x (counters cs ∷ hs) = seal-answer z n (p + 1) x hs
-  seal-answer z n p x (zone_reset y m ∷ hs) = seal-answer z n (p + 1) x hs
-  seal-answer z n p x (partial_parity y s f m ∷ hs) = seal-answer z n (p + suc (min f g.unit)) x hs
-  seal-answer z n p x (seal y q m ∷ hs) = seal-answer z n (p + 1) (pick (eqb y z && eqb m n) 1 x) hs ∙ pick-or (eqb y z && eqb m n) (any_of (is_seal z n) hs) x
-  seal-answer z n p x (closing kind gen ∷ hs) = seal-answer z n (p + 1) x hs
+  pub seal_answer : (z n p x : ℕ) (hs : List Header) → answer g (SealOf z n) p x hs ≡ pick (any_of (is_seal z n) hs) 1 x
+  seal_answer z n p x [] = refl
+  seal_answer z n p x (label y a ∷ hs) = seal_answer z n (p + 1) x hs
+  seal_answer z n p x (counters cs ∷ hs) = seal_answer z n (p + 1) x hs
+  seal_answer z n p x (zone_reset y m ∷ hs) = seal_answer z n (p + 1) x hs
+  seal_answer z n p x (partial_parity y s f m ∷ hs) = seal_answer z n (p + suc (min f g.unit)) x hs
+  seal_answer z n p x (seal y q m ∷ hs) = seal_answer z n (p + 1) (pick (eqb y z && eqb m n) 1 x) hs ∙ pick-or (eqb y z && eqb m n) (any_of (is_seal z n) hs) x
+  seal_answer z n p x (closing kind gen ∷ hs) = seal_answer z n (p + 1) x hs
 
   pub seal-at-answer : (z n v p x : ℕ) (hs : List Header) → answer g (SealAt z n v) p x hs ≡ pick (any_of (is_seal_at z n v) hs) 1 x
   seal-at-answer z n v p x [] = refl
@@ -123,8 +123,8 @@ module _ (g : Geometry) (d : ℕ) (ss : List (List ℕ)) where
   lost-placed [] p x l n = n
   lost-placed (e ∷ es) p x l n = lost-after e.head (map head_of es) x (decode_legal g d false (get_or ss p []) e.head l.0.reads).1 n (λ y k. lost-placed es (p + suc (rows_of g e.head)) y l.1 k)
 
-  pub lost-names : NamesDrive g (last_lost no_drive (heads_of (walk_log g d false ss)))
-  lost-names = lost-placed (walk_log g d false ss).entries zero no_drive (walk_places g d false ss).placed (inr refl)
+  pub lost_names : NamesDrive g (last_lost no_drive (heads_of (walk_log g d false ss)))
+  lost_names = lost-placed (walk_log g d false ss).entries zero no_drive (walk_places g d false ss).placed (inr refl)
 
 -- ---- the first entry
 abbrev stepFound : Step → Found
@@ -150,14 +150,14 @@ labelled-seen (partial_parity z s f n ∷ hs) = refl
 labelled-seen (seal z p n ∷ hs) = refl
 labelled-seen (closing kind gen ∷ hs) = refl
 
-pub array_seen : (hs : List Header) → array_seen (first_seen hs) ≡ array_in hs
-array_seen [] = refl
-array_seen (label x a ∷ hs) = refl
-array_seen (counters cs ∷ hs) = refl
-array_seen (zone_reset z n ∷ hs) = refl
-array_seen (partial_parity z s f n ∷ hs) = refl
-array_seen (seal z p n ∷ hs) = refl
-array_seen (closing kind gen ∷ hs) = refl
+pub array_seen_lem : (hs : List Header) → array_seen (first_seen hs) ≡ array_in hs
+array_seen_lem [] = refl
+array_seen_lem (label x a ∷ hs) = refl
+array_seen_lem (counters cs ∷ hs) = refl
+array_seen_lem (zone_reset z n ∷ hs) = refl
+array_seen_lem (partial_parity z s f n ∷ hs) = refl
+array_seen_lem (seal z p n ∷ hs) = refl
+array_seen_lem (closing kind gen ∷ hs) = refl
 
 -- ---- the torn entry
 pub torn-none : (l : Ending) (x : ℕ) → walk_end_at l x ≢ Torn x → Bad ≡ torn_seen l

@@ -24,10 +24,13 @@ zonewise_mem b h (suc n) e m = go (mem_append (zonewise b h n) (pick (b n) (h n 
   where
     one : (c : Bool) → b n ≡ c → Memᴰ e (pick c (h n ∷ []) []) → (z : ℕ) × (z < suc n) × (b z ≡ true) × (e ≡ h z)
     one true q (mathlib.Core.List.Memᴰ.head p) = (n, omega arith, q, p)
+    one false q x3 = elim x3 [ ]
+    one true q (mathlib.Core.List.Memᴰ.tail x8) = elim x8 [ ]
 
     go : Memᴰ e (zonewise b h n) ⊎ Memᴰ e (pick (b n) (h n ∷ []) []) → (Memᴰ e (zonewise b h n) → (z : ℕ) × (z < n) × (b z ≡ true) × (e ≡ h z)) → (z : ℕ) × (z < suc n) × (b z ≡ true) × (e ≡ h z)
     go (inl k) ih = let (z, l, p, q) = ih k in (z, omega arith, p, q)
     go (inr k) ih = one (b n) refl k
+zonewise_mem b h zero e m = elim m [ ]
 
 pub mem_zonewise : (b : ℕ → Bool) (h : ℕ → Header) (n z : ℕ) → z < n → b z ≡ true → Memᴰ (h z) (zonewise b h n)
 mem_zonewise b h zero z l q = absurd (not-suc-le-zero l)

@@ -117,6 +117,7 @@ least_seal_below z n q (seal y p k ∷ hs) c (Memᴰ.head e) =
 least_seal_below z n q (seal y p k ∷ hs) c (Memᴰ.tail m) = least_seal_below z n (pick (eqb y z && eqb k n) (min q p) q) hs c m
 least_seal_below z n q (closing kind gen ∷ hs) c (Memᴰ.head e) = absurd (let k : ◌≡◌ {A = ℕ} 0 1 = cc in omega arith)
 least_seal_below z n q (closing kind gen ∷ hs) c (Memᴰ.tail m) = least_seal_below z n q hs c m
+least_seal_below z n q [] c x' = elim x' [ ]
 
 pub least_seal_least : (z n q m : ℕ) (hs : List Header) → m ≤ q → ((c : ℕ) → Memᴰ (seal z c n) hs → m ≤ c) → m ≤ least_seal z n q hs
 least_seal_least z n q m [] h f = h

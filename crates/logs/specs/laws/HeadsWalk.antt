@@ -35,6 +35,7 @@ module _ (g : Geometry) (d : ℕ) where
   heads_whole : (hs : List Header) → ((h : Header) → Memᴰ h hs → Reads g d false h) → (e : Entry) → Memᴰ e (map bare_entry hs) → Whole g d false e
   heads_whole (h ∷ hs) r e (Memᴰ.head q) = rw q (no_rows h (r h (Memᴰ.head refl)))
   heads_whole (h ∷ hs) r e (Memᴰ.tail m) = heads_whole hs (λ k i. r k (Memᴰ.tail i)) e m
+  heads_whole [] r e x'' = elim x'' [ ]
 
   heads_extent : (hs : List Header) → ((h : Header) → Memᴰ h hs → Reads g d false h) → log_extent g d false (map bare_entry hs) ≡ length hs
   heads_extent [] r = refl
@@ -55,6 +56,7 @@ module _ (g : Geometry) (d : ℕ) (par : Bool) (ss : List (List ℕ)) where
   placed_reads : (es : List Entry) (p : ℕ) (h : Header) → Placed g d par ss p es → Memᴰ h (map head_of es) → Reads g d par h
   placed_reads (e ∷ es) p h l (Memᴰ.head q) = rw q (legal_reads_back g d par (get_or ss p []) e.head l.0.reads)
   placed_reads (e ∷ es) p h l (Memᴰ.tail m) = placed_reads es (p + suc (rows_of g e.head)) h l.1 m
+  placed_reads [] p h l x'' = elim x'' [ ]
 
   pub walked_reads : (h : Header) → Memᴰ h (heads_of (walk_log g d par ss)) → Reads g d par h
   walked_reads h m = placed_reads (walk_log g d par ss).entries zero h (walk_places g d par ss).placed m

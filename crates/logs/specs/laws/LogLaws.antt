@@ -17,10 +17,12 @@ lawful_most g d par (f ∷ es) e l (Memᴰ.head q) = rw q (go l.1)
     go (inl x) = omega arith
     go (inr x) = omega (arith, x.0)
 lawful_most g d par (f ∷ es) e l (Memᴰ.tail m) = lawful_most g d par es e l.2 m
+lawful_most g d par [] e l x'' = elim x'' [ ]
 
 pub lawful_reads : (g : Geometry) (d : ℕ) (es : List Entry) (e : Entry) → WellFormedLog g d true es → Memᴰ e es → Reads g d true e.head
 lawful_reads g d (y ∷ es) e lw (Memᴰ.head r) = rw r lw.0
 lawful_reads g d (y ∷ es) e lw (Memᴰ.tail m) = lawful_reads g d es e lw.2 m
+lawful_reads g d [] e lw x'' = elim x'' [ ]
 
 pub whole_entries_mem : (g : Geometry) (d : ℕ) (es : List Entry) (e : Entry) → Memᴰ e (whole_entries g d true es) → Memᴰ e es × Whole g d true e
 whole_entries_mem g d (x ∷ es) e m = go (is_whole g d true x) refl m (λ k. whole_entries_mem g d es e k)
@@ -29,6 +31,7 @@ whole_entries_mem g d (x ∷ es) e m = go (is_whole g d true x) refl m (λ k. wh
     go true q (Memᴰ.head p) ih = (Memᴰ.head p, rw p (eqb-true (length x.rows) (rows_of g x.head) q))
     go true q (Memᴰ.tail k) ih = let (a, b) = ih k in (Memᴰ.tail a, b)
     go false q k ih = let (a, b) = ih k in (Memᴰ.tail a, b)
+whole_entries_mem g d [] e m = elim m [ ]
 
 pub mem_whole_entries : (g : Geometry) (d : ℕ) (es : List Entry) (e : Entry) → Memᴰ e es → Whole g d true e → Memᴰ e (whole_entries g d true es)
 mem_whole_entries g d (x ∷ es) e (Memᴰ.head p) w = rw (eq-eqb (length x.rows) (rows_of g x.head) (rw (← p) w)) (Memᴰ.head p)
@@ -37,6 +40,7 @@ mem_whole_entries g d (x ∷ es) e (Memᴰ.tail m) w = go (is_whole g d true x) 
     go : (b : Bool) → Memᴰ e (whole_entries g d true es) → Memᴰ e (pick b (x ∷ whole_entries g d true es) (whole_entries g d true es))
     go true k = Memᴰ.tail k
     go false k = k
+mem_whole_entries g d [] e x'' w = elim x'' [ ]
 
 -- a whole entry that a cut leaves is one of the log
 pub cut_whole : (g : Geometry) (d : ℕ) (es : List Entry) (n : ℕ) (e : Entry) → WellFormedLog g d true es → Memᴰ e (cut_entries g d true es n) → Whole g d true e → Memᴰ e es
@@ -46,6 +50,8 @@ cut_whole g d (x ∷ es) (suc n) e l (Memᴰ.head p) w =
     let k : length x.rows ≤ rows_of g x.head = lawful_most g d true (x ∷ es) x l (Memᴰ.head refl) in
     Memᴰ.head (p ∙ (λ i. record { head = x.head; rows = take_all n x.rows (omega arith) i }))
 cut_whole g d (x ∷ es) (suc n) e l (Memᴰ.tail m) w = Memᴰ.tail (cut_whole g d es _ e l.2 m w)
+cut_whole g d [] n e l x3 w = elim x3 [ ]
+cut_whole g d (x ∷ es) Prim.Native.Nat.zero e l x8 w = elim x8 [ ]
 
 pub sectors_of_most : (g : Geometry) (d : ℕ) (es : List Entry) → WellFormedLog g d true es → length (sectors_of_all g d true es) ≤ log_extent g d true es
 sectors_of_most g d [] lw = zero-le

@@ -167,6 +167,8 @@ module _ (g : Geometry) (d : ℕ) (par : Bool) where
   cut_left (f ∷ es) (suc n) e (Memᴰ.tail m) =
       let l = cut_left es (n - length f.rows) e m in
       record { of = l.of; is_set = Memᴰ.tail l.is_set; heads = l.heads; many = l.many; rows_are = l.rows_are }
+  cut_left [] n e x' = elim x' [ ]
+  cut_left (f ∷ es) zero e x3 = elim x3 [ ]
 
   -- a whole entry that a cut leaves stays in every longer one
   pub cut_mono : (es : List Entry) (m n : ℕ) (e : Entry) → WellFormedLog es → m ≤ n → Whole e → Memᴰ e (cut_entries es m) → Memᴰ e (cut_entries es n)
@@ -188,6 +190,8 @@ module _ (g : Geometry) (d : ℕ) (par : Bool) where
           let c : min m (length f.rows) ≡ rows_of g f.head = rw length-take at lens in
           λ i. record { head = f.head; rows = (take_all m f.rows (omega (arith, c, most)) ∙ sym (take_all n f.rows (omega (arith, c, most)))) i }
   cut_mono (f ∷ es) (suc m) (suc n) e l h w (Memᴰ.tail k) = Memᴰ.tail (cut_mono es (m - length f.rows) (n - length f.rows) e l.2 (omega (arith, le_of_suc-le-suc h)) w k)
+  cut_mono [] m n e l h w k = elim k [ ]
+  cut_mono (f ∷ es) zero n e l h w k = elim k [ ]
 
   -- a cut of a cut
   pub cut_again : (es : List Entry) (n : ℕ) → cut_entries (cut_entries es n) n ≡ cut_entries es n
@@ -233,6 +237,8 @@ module _ (g : Geometry) (d : ℕ) (par : Bool) where
   pub cut_joins : (es fs : List Entry) (n : ℕ) (e : Entry) → Memᴰ e (cut_entries es n) → Memᴰ e (cut_entries (es ++ fs) n)
   cut_joins (f ∷ es) fs (suc n) e (Memᴰ.head q) = Memᴰ.head q
   cut_joins (f ∷ es) fs (suc n) e (Memᴰ.tail m) = Memᴰ.tail (cut_joins es fs (n - length f.rows) e m)
+  cut_joins [] fs n e x' = elim x' [ ]
+  cut_joins (f ∷ es) fs zero e x3 = elim x3 [ ]
 
   pub lawful_joins : (es fs : List Entry) → ((e : Entry) → Memᴰ e es → Whole e) → WellFormedLog es → WellFormedLog fs → WellFormedLog (es ++ fs)
   lawful_joins [] fs w l k = k

@@ -123,9 +123,11 @@ module _ (g : Geometry) (d : ℕ) where
     where
       only : (f : Entry) → Memᴰ f (e ∷ []) → Whole g d true f
       only f (Memᴰ.head q) = rw q w
+      only f (mathlib.Core.List.Memᴰ.tail x4) = elim x4 [ ]
 
       free : (f : Entry) → Memᴰ f (e ∷ []) → Plain f.head
       free f (Memᴰ.head q) = rw q n
+      free f (mathlib.Core.List.Memᴰ.tail x4) = elim x4 [ ]
 
   pub entries_join : (a b : List (List ℕ)) → Entries a → Entries b → Entries (a ++ b)
   entries_join a b p q = record {

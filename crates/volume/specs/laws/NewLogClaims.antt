@@ -157,4 +157,5 @@ module _ (g : Geometry) (ok : Valid g) (f : InForce) (d : ℕ) (es : List Entry)
       where
         heads_plain : (es : List Entry) → ((e : Entry) → Memᴰ e es → Plain e.head) → (h : Header) → Memᴰ h (map (λ (e : Entry). e.head) es) → Plain h
         heads_plain (e ∷ es) p h (Memᴰ.head q) = rw q (p e (Memᴰ.head refl))
+        heads_plain [] p h x'' = elim x'' [ ]
         heads_plain (e ∷ es) p h (Memᴰ.tail m) = heads_plain es (λ k o. p k (Memᴰ.tail o)) h m

@@ -57,6 +57,7 @@ use Rattle.volume.specs.laws.MountStoresFit.{own, filled, view, firm, view_is, f
 mem_head : (es : List Entry) (e : Entry) → Memᴰ e es → Memᴰ e.head (map (λ (e : Entry). e.head) es)
 mem_head (f ∷ es) e (Memᴰ.head q) = Memᴰ.head (ap (λ (e : Entry). e.head) q)
 mem_head (f ∷ es) e (Memᴰ.tail m) = Memᴰ.tail (mem_head es e m)
+mem_head [] e x' = elim x' [ ]
 
 none_there : (ss : List (List ℕ)) → length ss ≡ 0 → ss ≡ []
 none_there [] e = refl

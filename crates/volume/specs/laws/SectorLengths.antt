@@ -80,6 +80,7 @@ by_roles_long g v long d y = seen_long g.sector (roles_in g d (λ y. (v d y).sec
 stands_mem : (g : Geometry) (d : ℕ) (par : Bool) (ss : List (List ℕ)) (es : List Entry) (p : ℕ) (e : Entry) → Placed g d par ss p es → Memᴰ e es → (q : ℕ) × Stands g d par ss q e
 stands_mem g d par ss (x ∷ es) p e l (Memᴰ.head q) = (p, rw q l.0)
 stands_mem g d par ss (x ∷ es) p e l (Memᴰ.tail m) = stands_mem g d par ss es (p + suc (rows_of g x.head)) e l.1 m
+stands_mem g d par ss [] p e l x'' = elim x'' [ ]
 
 -- an entry that the walk meets has all its rows, and these are sectors of the log
 pub walked_rows : (g : Geometry) (d : ℕ) (par : Bool) (ss : List (List ℕ)) (e : Entry) → Memᴰ e (walk_log g d par ss).entries → Long g.sector ss
@@ -131,6 +132,13 @@ serving_one g z n limit x e (partial_parity y s f m) q k = go (eqb y z && (eqb m
 
     go : (b : Bool) → Memᴰ e (pick b (it ∷ []) []) → Serving g (x ∷ []) e
     go true (Memᴰ.head p) = rw p (record { entry = x; zone = y; fill = f; round = m; in_log = Memᴰ.head refl; head_is = q; end_is = refl; rows_are = λ r. refl })
+    go false x4 = elim x4 [ ]
+    go true (mathlib.Core.List.Memᴰ.tail x9) = elim x9 [ ]
+serving_one g z n limit x e (Rattle.logs.specs.meaning.Entry.label _ _) q k = elim k [ ]
+serving_one g z n limit x e (Rattle.logs.specs.meaning.Entry.counters _) q k = elim k [ ]
+serving_one g z n limit x e (Rattle.logs.specs.meaning.Entry.zone_reset _ _) q k = elim k [ ]
+serving_one g z n limit x e (Rattle.logs.specs.meaning.Entry.seal _ _ _) q k = elim k [ ]
+serving_one g z n limit x e (Rattle.logs.specs.meaning.Entry.closing _ _) q k = elim k [ ]
 
 more_serving : (g : Geometry) (xs es : List Entry) (e : ParityEntry) → ((x : Entry) → Memᴰ x xs → Memᴰ x es) → Serving g xs e → Serving g es e
 more_serving g xs es e h s = record { entry = s.entry; zone = s.zone; fill = s.fill; round = s.round; in_log = h s.entry s.in_log; head_is = s.head_is; end_is = s.end_is; rows_are = s.rows_are }
@@ -140,10 +148,12 @@ serving_mem g z n limit (x ∷ es) e m = go (mem_append (serving_entry g z n lim
   where
     first : (y : Entry) → Memᴰ y (x ∷ []) → Memᴰ y (x ∷ es)
     first y (Memᴰ.head q) = Memᴰ.head q
+    first y (mathlib.Core.List.Memᴰ.tail x6) = elim x6 [ ]
 
     go : Memᴰ e (serving_entry g z n limit x.head x.rows) ⊎ Memᴰ e (serving_entries g z n limit es) → (Memᴰ e (serving_entries g z n limit es) → Serving g es e) → Serving g (x ∷ es) e
     go (inl k) ih = more_serving g (x ∷ []) (x ∷ es) e first (serving_one g z n limit x e x.head refl k)
     go (inr k) ih = more_serving g es (x ∷ es) e (λ y l. Memᴰ.tail l) (ih k)
+serving_mem g z n limit [] e m = elim m [ ]
 
 xor_full : (n : ℕ) (xs ys : List ℕ) → length xs ≤ n → length ys ≡ n → length (xor_bytes xs ys) ≡ n
 xor_full n xs ys h e = ap (λ (l : List ℕ). length l) (xor_bytes_comm xs ys) ∙ length_xor ys xs (omega (arith, h, e)) ∙ e

@@ -24,7 +24,7 @@ pub record RowFits (g : Geometry) (row : RowPlace) : Type 0 where
   pub start_small : row.start < 458864
 
 abbrev pub is_other : Geometry → RowPlace → ℕ → Bool
-is_other g row k = not (eqb k row.own_val) && ltb (row.start + k * g.unit) row.end
+is_other g row k = not (eqb k row.own) && ltb (row.start + k * g.unit) row.end
 
 abbrev pub unit_sector : Geometry → List ℕ → RowPlace → ℕ → List ℕ
 unit_sector g xs row k = sector_at g xs (unit_drive g.drives row.parity k) (data_zone row.zone) row.sector

@@ -23,6 +23,35 @@ def goals(text):
     return re.findall(r"\btie\s?\.Need-(" + WORD + ")", text)
 
 
+def left_by(text, old, names):
+    """Turns `.last .1 .0`, what a call left in its second argument, to the argument's name."""
+    was = re.findall(r"\.(?:last|auto)((?:\s\.[01])*\s\.[01])(?!\s\.[01])", old)
+    now = list(re.finditer(r"\.(new|auto)(?![\w'-])((?:\.[\w'-]+)*)", text))
+    if len(was) != len(now):
+        return text, ["what calls leave: %d, %d" % (len(was), len(now))] if was else []
+    callee = {}
+    for p in names["places"]:
+        if p[3]:
+            callee[norm(p[2][0])] = p[3]
+    done, at, said = [], 0, []
+    for path, m in zip(was, now):
+        before = re.search(r"([\w'-]+)$", text[: m.start()]).group(1)
+        if norm(before) not in callee:
+            lets = re.findall(r"let " + re.escape(before) + r" = [\w'.-]*?\.([\w'-]+) in", text[: m.start()])
+            before = lets[-1] if lets else before
+        f = callee.get(norm(before).lower())
+        digits = path.replace(" ", "").replace(".", "")
+        params = names["params"].get(f)
+        k = len(digits) - 1 if digits.endswith("0") else len(digits)
+        if params and k < len(params):
+            # digits past the argument stay
+            done.append(text[at : m.start()] + "." + m.group(1) + "." + params[k])
+            at = m.end()
+        else:
+            said.append("what %s leaves at %s" % (before, digits))
+    return "".join(done) + text[at:], said
+
+
 def need_at(names, spelled, key):
     """The place where a goal is asked, by its name as a proof has it."""
     at = {}
@@ -63,6 +92,11 @@ def climb(text, names, place_of_need):
             k += 1
         return k if at == goal else None
 
+    helpers = {}
+    for m in re.finditer(r"(?m)^(?:abbrev )?([^\s(){}]+) : (?:\([\w'-]+ : )?tie\.([A-Z]" + WORD + ")", text):
+        if not m.group(2).startswith("Need-") and norm(m.group(2)) in by_norm:
+            helpers[m.group(1)] = by_norm[norm(m.group(2))]
+    called = "|".join(re.escape(h) for h in sorted(helpers, key=len, reverse=True)) or "(?!)"
     lines = text.split("\n")
     i = 0
     while i < len(lines):
@@ -92,10 +126,18 @@ def climb(text, names, place_of_need):
                 continue
             n = chain.count(".before")
             goal = climbs(env[var], n)
+            if let and ends:
+                use = re.search(r"(?<![\w'.-])(" + called + r") \(?" + re.escape(new) + r"(?![\w'.-])", block[m.end() :])
+                if use:
+                    goal = helpers[use.group(1)]
+            else:
+                use = re.search(r"(?<![\w'.-])(" + called + r") \(?$", block[: m.start(3)])
+                if use and not re.match(r"\.[\w]", block[m.end(4) :]):
+                    goal = helpers[use.group(1)]
             k = new_distance(env[var], goal)
             if let and ends:
                 env[new] = goal
-            if n and k is not None and k != n:
+            if (n or use) and k is not None and k != n:
                 done.append(block[at : m.start(4)] + ".before" * k)
                 at = m.end(4)
         block = "".join(done) + block[at:]
@@ -188,6 +230,8 @@ def turn(text, old, names, function):
             rest = "." + inner[new][rest[1:]]
         return "." + new + (rest or "")
 
+    text, more = left_by(text, old, names)
+    said += more
     text = climb(text, names, need_at(names, spelled, key))
     out = []
     for line in text.split("\n"):

@@ -23,7 +23,7 @@ loop-again : tie.Need-loop-i-preserved invariant-loop decreases-loop
 loop-again c =
     let l = c.loop-i in
     let f = c.note_place in
-    (omega arith, refl, f.ensures ∙ rw (l.invariant.2, add-one) refl, f.auto.s.0 ∙ l.invariant.3)
+    (omega arith, refl, f.ensures ∙ rw (l.invariant.2, add-one) refl, f.auto.work ∙ l.invariant.3)
 
 returns : tie.Need-returns invariant-loop decreases-loop
 returns c =

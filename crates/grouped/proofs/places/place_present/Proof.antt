@@ -24,9 +24,9 @@ returns-2 c =
     let l = s.requires.0 in
     let f = c.place_drive in
     let ne : a.d ≢ a.missing = omega arith in
-    let o : Noted a.s a.metadata.now a.missing (suc a.d) f.new.1.0 =
+    let o : Noted a.s a.metadata.now a.missing (suc a.d) f.new.work =
     rw f.ensures (noted_drive a.s a.metadata.now l.valid l.whole a.d s.requires.1.0 a.missing a.work.now s.requires.1.1) in (
-      c.drive_lacks.ensures ∙ lacks_wrong a.s a.metadata.now l.valid l.whole a.d s.requires.1.0 a.missing f.new.1.0 ne o ∙ rw (ne_eqb a.d a.missing ne) refl,
+      c.drive_lacks.ensures ∙ lacks_wrong a.s a.metadata.now l.valid l.whole a.d s.requires.1.0 a.missing f.new.work ne o ∙ rw (ne_eqb a.d a.missing ne) refl,
       rw add-one o,
     )
 

@@ -10,7 +10,7 @@ returns : tie.Need-returns-then-lacks
 unfolding metadata_number
 returns c = record { told = rw (sym c.place_all-lacks.ensures.0 ∙ c.if-lacks.true) refl; placed = λ e. absurd (omega arith) }
 
-places : (c : tie.Else-lacks) → Placed c.args.s c.args.metadata.now c.args.missing c.place_all-lacks.new.1.0
+places : (c : tie.Else-lacks) → Placed c.args.s c.args.metadata.now c.args.missing c.place_all-lacks.new.work
 places c =
     let s = c.before.before.before.before.before.before.before in
     let l = s.requires.0 in

@@ -51,23 +51,23 @@ zero c = omega arith
 clean : (c : tie.Else-told-ne0) → metadata_number c.args.s c.args.metadata.now (missing_drive c.args.s c.args.named) ≡ 0
 clean c = let a = c.args in sym (c.metadata_refusal-told.ensures.told ∙ ap (metadata_number a.s a.metadata.now) c.missing_drive-missing.ensures.0) ∙ zero c
 
-placed : (c : tie.Else-told-ne0) → Placed c.args.s c.args.metadata.now c.missing_drive-missing.result c.metadata_refusal-told.new.s.0
+placed : (c : tie.Else-told-ne0) → Placed c.args.s c.args.metadata.now c.missing_drive-missing.result c.metadata_refusal-told.new.work
 placed c = c.metadata_refusal-told.ensures.placed (zero c)
 
 newest-requires : tie.Need-newest-found-requires
-newest-requires c κs = placed c.before
+newest-requires c κs = placed c
 
 returns-3 : tie.Need-returns-then-found-eq0
 returns-3 c = let a = c.args in
     let r = request a.s a.named a.blocks.now a.metadata.now (length a.work.now) a.address in
-    let e2 = c.before.before.before in
+    let e2 = c.before.before in
     let z : c.newest-found.result ≡ 0 = omega arith in
     let n = sym (c.newest-found.ensures.0 ∙ ap (λ x. newest a.s a.metadata.now x a.address) e2.missing_drive-missing.ensures.0) ∙ z in
     let e : grouped_number r a.answer.now ≡ 13 = by_address r a.answer.now (none e2.before.before.before.before.before.before) (clean e2) 0 n in
     (sym e, sym (refused_left r a.answer.now 13 e (omega arith)))
 
 read-block-requires : tie.Need-read_block-requires
-read-block-requires c κs = let e2 = c.before.before.before.before.before in
+read-block-requires c κs = let e2 = c.before.before.before in
     let l = admits e2.before.before.before.before.before.before in
     let a = c.args in
     let p = placed e2 in
@@ -75,7 +75,7 @@ read-block-requires c κs = let e2 = c.before.before.before.before.before in
 
 returns-4 : tie.Need-returns
 returns-4 c = let e3 = c.before.before.before.before.before in
-    let e2 = e3.before.before.before in
+    let e2 = e3.before in
     let a = c.args in
     let r = request a.s a.named a.blocks.now a.metadata.now (length a.work.now) a.address in
     let f = e3.newest-found in

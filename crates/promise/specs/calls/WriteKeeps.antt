@@ -218,6 +218,7 @@ module _ (g : Geometry) (ok : Valid g) (x : ℕ) (v : Device) (state : StateView
     where
       go : (b : Bool) → inside_stripe g end ≡ b → (c : Bool) → eqb d drive ≡ c → Memᴰ e (pick (b && c) (entry ∷ []) []) → (b ≡ true) × (d ≡ drive) × (e ≡ entry)
       go true p true q (Memᴰ.head m) = (refl, eqb-true d drive q, m)
+      go true p true q (mathlib.Core.List.Memᴰ.tail x7) = elim x7 [ ]
       go true p false q m = mem_nil e m
       go false p c q m = mem_nil e m
 

@@ -73,10 +73,13 @@ module _ (g : Geometry) (d : ℕ) where
     where
       one : (c : Bool) → b n ≡ c → Memᴰ e (pick c (h n ∷ []) []) → (z : ℕ) × (z < suc n) × (b z ≡ true) × (e ≡ h z)
       one true q (mathlib.Core.List.Memᴰ.head p) = (n, omega arith, q, p)
+      one false q x3 = elim x3 [ ]
+      one true q (mathlib.Core.List.Memᴰ.tail x8) = elim x8 [ ]
 
       go : Memᴰ e (for_zones_e b h n) ⊎ Memᴰ e (pick (b n) (h n ∷ []) []) → (Memᴰ e (for_zones_e b h n) → (z : ℕ) × (z < n) × (b z ≡ true) × (e ≡ h z)) → (z : ℕ) × (z < suc n) × (b z ≡ true) × (e ≡ h z)
       go (inl k) ih = let (z, l, p, q) = ih k in (z, omega arith, p, q)
       go (inr k) ih = one (b n) refl k
+  zones_e_mem b h zero e m = elim m [ ]
 
   mem_zones_e : (b : ℕ → Bool) (h : ℕ → Entry) (n z : ℕ) → z < n → b z ≡ true → Memᴰ (h z) (for_zones_e b h n)
   mem_zones_e b h zero z l q = absurd (not-suc-le-zero l)

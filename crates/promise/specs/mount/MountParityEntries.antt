@@ -123,7 +123,7 @@ module _ (g : Geometry) (d : ℕ) where
   zones_e_drive b h n e y q = each_below_unseen (λ z. pick (b z) (append_all d parity_zone (sectors_of g d true (h z))) []) e y (λ z. go z (b z) (ℕ_discrete y parity_zone)) n
     where
       go : (z : ℕ) (c : Bool) → Dec (y ≡ parity_zone) → local_stores e y (pick c (append_all d parity_zone (sectors_of g d true (h z))) []) ≡ []
-      go z true (yes r) = rw r (appends_other_drive e d parity_zone (sectors_of g d true (h z)) (λ i. q (sym i)))
+      go z true (yes r) = subst (λ (w : ℕ). local_stores e w (append_all d parity_zone (sectors_of g d true (h z))) ≡ []) (sym r) (appends_other_drive e d parity_zone (sectors_of g d true (h z)) (λ i. q (sym i)))
       go z true (no r) = appends_other_zone e d y parity_zone (sectors_of g d true (h z)) r
       go z false r = refl
 

@@ -72,6 +72,7 @@ module _ (g : Geometry) (ok : Valid g) (x : ℕ) (v : Device) (state : StateView
     where
       go : (b : Bool) → Memᴰ h (pick b (reset_entry ∷ []) []) → (h ≡ reset_entry) × (b ≡ true)
       go true (Memᴰ.head q) = (q, refl)
+      go true (mathlib.Core.List.Memᴰ.tail x5) = elim x5 [ ]
       go false m = mem_nil h m
 
   reset_entries_few : (d : ℕ) → length (reset_entries d) ≤ 1

@@ -108,7 +108,10 @@ module _ (g : Geometry) (ok : Valid g) (x : ℕ) (v : Device) (state : StateView
 
   stores_are : write_stores g (present_but g x) v state z ss ≡ on_present (present_but g x) (data_stores g.drives g.unit z (at all) (length old) (length ss) ++ pick (inside_stripe g end) (entry_stores g z (γ.generation z) (at all) end) [])
   unfolding write_stores write_with
-  stores_are = rw (joined_is, ← here.generation_is, ← here.pointer_is) refl
+  stores_are =
+      ap (λ (S : ℕ → List ℕ). on_present (present_but g x) (write_with g z (state.generation z) S (pointer_in (state.condition z)) (length ss))) joined_is
+      ∙ ap (λ (n : ℕ). on_present (present_but g x) (write_with g z n (at all) (pointer_in (state.condition z)) (length ss))) (sym here.generation_is)
+      ∙ ap (λ (p : ℕ). on_present (present_but g x) (write_with g z (γ.generation z) (at all) p (length ss))) (sym here.pointer_is)
 
   log_unseen : (d y : ℕ) → y ≢ parity_zone → local_stores d y (pick (inside_stripe g end) (entry_stores g z (γ.generation z) (at all) end) []) ≡ []
   log_unseen d y n = go (inside_stripe g end)
@@ -218,6 +221,7 @@ module _ (g : Geometry) (ok : Valid g) (x : ℕ) (v : Device) (state : StateView
     where
       go : (b : Bool) → inside_stripe g end ≡ b → (c : Bool) → eqb d drive ≡ c → Memᴰ e (pick (b && c) (entry ∷ []) []) → (b ≡ true) × (d ≡ drive) × (e ≡ entry)
       go true p true q (Memᴰ.head m) = (refl, eqb-true d drive q, m)
+      go true p true q (mathlib.Core.List.Memᴰ.tail x7) = elim x7 [ ]
       go true p false q m = mem_nil e m
       go false p c q m = mem_nil e m
 

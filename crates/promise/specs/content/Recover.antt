@@ -51,6 +51,7 @@ last_of_some p (x ∷ es) e (mathlib.Core.List.Memᴰ.head q) h = go (last_of p 
 last_of_some p (x ∷ es) e (mathlib.Core.List.Memᴰ.tail m) h =
     let (y, r) = last_of_some p es e m h in
     (y, rw r refl)
+last_of_some p [] e x'' h = elim x'' [ ]
 
 -- ---- a view that tells the truth of the sectors S 0 .. S (N - 1)
 pub record Truth (D U z : ℕ) (S : ℕ → List ℕ) (N B : ℕ) (v : View) : Type 0 where

@@ -283,17 +283,17 @@ module _ (g : Geometry) (ok : Valid g) (t : TableLengths) (s : System (on_device
         let ss = sectors_in g asked.count asked.buffer in
         let k = write_shares g x s.memory s.state s.ledger (rests_of g t s o m) ok asked.host (zone_asked g asked) ss (write_fits g ok t s o named names m asked p) host in
         let n = sectors_length g asked.count asked.buffer in
-        rw (drives_of_call g ok t s o named names m, lost_of_call g ok t s o named names m) (rw n at (k (rw n fits) (f m)))
+        rw (drives_of_call g ok t s o named names m) (rw n at (k (rw n fits) (f m)))
 
     call_leaves : (c : Call) (stop : ℕ) → Duty g (on_device g t) s (calls c named stop) → Leaves c
     unfolding Leaves
     call_leaves mounts stop (n, m, q) p = rw (drives_of_look g ok t s o named names, lost_of_look g ok t s o named names) (mount_shares g x _ s.state)
     call_leaves (writes asked) stop (n, m, q) p = write_leaves m asked p
-    call_leaves flushes stop (n, m, q) p = rw (drives_of_call g ok t s o named names m, lost_of_call g ok t s o named names m) (flush_shares g x s.memory s.state (f m))
+    call_leaves flushes stop (n, m, q) p = rw (drives_of_call g ok t s o named names m) (flush_shares g x s.memory s.state (f m))
     call_leaves (resets z) stop (n, m, q) p =
         let e = drives_of_call g ok t s o named names m in
         let ra = reset_accepted g t named s.state s.memory z p in
-        rw (e, lost_of_call g ok t s o named names m) (reset_shares g x s.memory s.state s.ledger (rests_of g t s o m) ok z (rw e at ra) (f m))
+        rw e (reset_shares g x s.memory s.state s.ledger (rests_of g t s o m) ok z (rw e at ra) (f m))
     call_leaves (formats array) stop (n, m, (h, q)) p =
         let (k, c, a, (st, (γ, r, same))) = rests_of g t s o m in
         rw (format_drives g x named names.drives, format_lost g ok x (by_roles g s.memory) γ r.logs named names.drives) (format_shares g ok x array s.memory r.logs.lost_ok h)

@@ -25,6 +25,7 @@ use Rattle.promise.specs.roles.ClaimsOfLogs.{parity_claims, parity_claims_none, 
 heads_mem : (es : List Entry) (h : Header) → Memᴰ h (map (λ (p : Entry). p.head) es) → (e : Entry) × Memᴰ e es × (e.head ≡ h)
 heads_mem (p ∷ es) h (Memᴰ.head q) = (p, Memᴰ.head refl, sym q)
 heads_mem (p ∷ es) h (Memᴰ.tail m) = let (e, o, q) = heads_mem es h m in (e, Memᴰ.tail o, q)
+heads_mem mathlib.Core.List.[] h x' = elim x' [ ]
 
 -- ---- what any beginning of a parity log claims, whose closing entries are of generations at most n
 module _ (g : Geometry) (d : ℕ) (es : List Entry) (lw : WellFormedLog g d true es) (room : log_extent g d true es ≤ g.capacity) where

@@ -181,6 +181,7 @@ resets_blank r (s ∷ xs) v k d (Memᴰ.head q) = go (resets_spares r xs (apply 
     go : (apply_all xs (apply s v) d (r d).spare ≡ apply s v d (r d).spare) ⊎ (apply_all xs (apply s v) d (r d).spare ≡ blank_zone) → apply_all xs (apply s v) d (r d).spare ≡ blank_zone
     go (inr h) = h
     go (inl h) = h ∙ rw (← q) (put_zone_same v d (r d).spare blank_zone)
+resets_blank r [] v k d x'' = elim x'' [ ]
 
 -- ---- the step of a mount: the spares that have sectors written (w: the device by the roles r), on the present drives
 abbrev pub spare_resets : Geometry → Device → List Store
@@ -205,6 +206,7 @@ mem_on_present a (t ∷ xs) s h (Memᴰ.tail k) = go (a (store_drive t)) (mem_on
     go : (b : Bool) → Memᴰ s (on_present a xs) → Memᴰ s (pick b (t ∷ on_present a xs) (on_present a xs))
     go true m = Memᴰ.tail m
     go false m = m
+mem_on_present a [] s h x'' = elim x'' [ ]
 
 module _ (r : ℕ → Roles) (w : Device) where
   -- of the drives below n, and of drive n

@@ -47,3 +47,4 @@ module _ (g : Geometry) (z n q : ℕ) where
       rw (eq-eqb z z refl, eq-eqb n n refl, le-leb (s * stripe_sectors g + f) q l) refl in
       mem_left (serving_entry g z n q x.head x.rows) (serving_entries g z n q es) _ (rw (← p, h) (rw (p, w) (Memᴰ.head refl)))
   serving_mem (x ∷ es) e (Memᴰ.tail m) s f h l = Memᴰ.append_right (serving_entry g z n q x.head x.rows) (serving_mem es e m s f h l)
+  serving_mem [] e x3 s f h l = elim x3 [ ]

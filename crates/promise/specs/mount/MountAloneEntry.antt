@@ -32,6 +32,7 @@ mem_or A B [] f = inl (λ a m. absurd (none a m refl))
   where
     none : (a : Header) {ys : List Header} → Memᴰ a ys → ys ≡ [] → ⊥
     none a {ys = y ∷ ys} m q = let n : ◌≡◌ {A = ℕ} 0 1 = cc in omega arith
+    none a {ys = []} m q = elim m [ ]
 mem_or A B (x ∷ xs) f = go (f x (Memᴰ.head refl)) (mem_or A B xs (λ a m. f a (Memᴰ.tail m)))
   where
     go : A x ⊎ B → ((a : Header) → Memᴰ a xs → A a) ⊎ B → ((a : Header) → Memᴰ a (x ∷ xs) → A a) ⊎ B

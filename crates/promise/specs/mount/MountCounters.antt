@@ -127,6 +127,8 @@ module _ (g : Geometry) (ok : Valid g) (x : ℕ) (w : Device) (γ : Ghost) (l : 
       where
         go : (c : Bool) → Memᴰ h (pick c (counters gens ∷ []) []) → h ≡ counters gens
         go true (Memᴰ.head q) = q
+        go false x'' = elim x'' [ ]
+        go true (mathlib.Core.List.Memᴰ.tail x7) = elim x7 [ ]
 
     few : (d : ℕ) → length (heads d) ≤ 1
     unfolding heads

@@ -50,11 +50,13 @@ whole_or_torn g d (f ∷ es) e lw (Memᴰ.tail m) = go lw.1 (whole_or_torn g d e
   where
     none : (fs : List Entry) → Memᴰ e fs → fs ≡ [] → ⊥
     none (y ∷ fs) m q = let n : ◌≡◌ {A = ℕ} 0 1 = cc in omega arith
+    none [] m q = elim m [ ]
 
     go : Whole g d true f ⊎ ((length f.rows < rows_of g f.head) × (es ≡ [])) → Whole g d true e ⊎ (ending_of g d true es ≡ torn e.head e.rows) → Whole g d true e ⊎ (ending_of g d true (f ∷ es) ≡ torn e.head e.rows)
     go (inr h) r = absurd (none es m h.1)
     go (inl h) (inl r) = inl r
     go (inl h) (inr r) = inr (rw (eq-eqb (length f.rows) (rows_of g f.head) h) r)
+whole_or_torn g d [] e lw x'' = elim x'' [ ]
 
 module _ (g : Geometry) (ok : Valid g) (x : ℕ) (w : Device) (γ : Ghost) (lg : LogsOk g x w γ) where
   -- a clean zone

@@ -253,10 +253,13 @@ zones_mem b h (suc n) e m = go (mem_append (for_zones b h n) (pick (b n) (h n �
   where
     one : (c : Bool) → b n ≡ c → Memᴰ e (pick c (h n ∷ []) []) → (z : ℕ) × (z < suc n) × (b z ≡ true) × (e ≡ h z)
     one true q (Memᴰ.head p) = (n, omega arith, q, p)
+    one false q x3 = elim x3 [ ]
+    one true q (mathlib.Core.List.Memᴰ.tail x8) = elim x8 [ ]
 
     go : Memᴰ e (for_zones b h n) ⊎ Memᴰ e (pick (b n) (h n ∷ []) []) → (Memᴰ e (for_zones b h n) → (z : ℕ) × (z < n) × (b z ≡ true) × (e ≡ h z)) → (z : ℕ) × (z < suc n) × (b z ≡ true) × (e ≡ h z)
     go (inl k) ih = let (z, l, p, q) = ih k in (z, omega arith, p, q)
     go (inr k) ih = one (b n) refl k
+zones_mem b h zero e m = elim m [ ]
 
 pub mem_zones : (b : ℕ → Bool) (h : ℕ → Header) (n z : ℕ) → z < n → b z ≡ true → Memᴰ (h z) (for_zones b h n)
 mem_zones b h zero z l q = absurd (not-suc-le-zero l)

@@ -57,6 +57,8 @@ module _ (g : Geometry) (ok : Valid g) (x : ℕ) (w : Device) (γ : Ghost) (l : 
     where
       go : (b : Bool) → ltb x g.drives && not (eqb (last_lost no_drive (general_heads g w d)) x) ≡ b → Memᴰ h (pick b (label x k.array ∷ []) []) → (h ≡ label x k.array) × (x < g.drives)
       go true e (Memᴰ.head q) = (q, ltb-true x g.drives (and_split (ltb x g.drives) (not (eqb (last_lost no_drive (general_heads g w d)) x)) e).0)
+      go false e x3 = elim x3 [ ]
+      go true e (mathlib.Core.List.Memᴰ.tail x8) = elim x8 [ ]
 
   few : (d : ℕ) → length (heads d) ≤ 1
   unfolding heads

@@ -73,10 +73,13 @@ module _ (g : Geometry) (d : ℕ) where
     where
       one : (c : Bool) → b n ≡ c → Memᴰ e (pick c (h n ∷ []) []) → (z : ℕ) × (z < suc n) × (b z ≡ true) × (e ≡ h z)
       one true q (mathlib.Core.List.Memᴰ.head p) = (n, omega arith, q, p)
+      one false q x3 = elim x3 [ ]
+      one true q (mathlib.Core.List.Memᴰ.tail x8) = elim x8 [ ]
 
       go : Memᴰ e (for_zones_e b h n) ⊎ Memᴰ e (pick (b n) (h n ∷ []) []) → (Memᴰ e (for_zones_e b h n) → (z : ℕ) × (z < n) × (b z ≡ true) × (e ≡ h z)) → (z : ℕ) × (z < suc n) × (b z ≡ true) × (e ≡ h z)
       go (inl k) ih = let (z, l, p, q) = ih k in (z, omega arith, p, q)
       go (inr k) ih = one (b n) refl k
+  zones_e_mem b h zero e m = elim m [ ]
 
   mem_zones_e : (b : ℕ → Bool) (h : ℕ → Entry) (n z : ℕ) → z < n → b z ≡ true → Memᴰ (h z) (for_zones_e b h n)
   mem_zones_e b h zero z l q = absurd (not-suc-le-zero l)
@@ -120,7 +123,7 @@ module _ (g : Geometry) (d : ℕ) where
   zones_e_drive b h n e y q = each_below_unseen (λ z. pick (b z) (append_all d parity_zone (sectors_of g d true (h z))) []) e y (λ z. go z (b z) (ℕ_discrete y parity_zone)) n
     where
       go : (z : ℕ) (c : Bool) → Dec (y ≡ parity_zone) → local_stores e y (pick c (append_all d parity_zone (sectors_of g d true (h z))) []) ≡ []
-      go z true (yes r) = rw r (appends_other_drive e d parity_zone (sectors_of g d true (h z)) (λ i. q (sym i)))
+      go z true (yes r) = subst (λ (w : ℕ). local_stores e w (append_all d parity_zone (sectors_of g d true (h z))) ≡ []) (sym r) (appends_other_drive e d parity_zone (sectors_of g d true (h z)) (λ i. q (sym i)))
       go z true (no r) = appends_other_zone e d y parity_zone (sectors_of g d true (h z)) r
       go z false r = refl
 

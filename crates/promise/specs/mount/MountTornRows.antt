@@ -64,9 +64,12 @@ extend_heads : (es : List Entry) (rs : List (List ℕ)) (p : Entry) → Memᴰ p
 extend_heads (e ∷ []) rs p (Memᴰ.head q) = (e, Memᴰ.head refl, rw q refl)
 extend_heads (e ∷ (f ∷ es)) rs p (Memᴰ.head q) = (e, Memᴰ.head refl, rw q refl)
 extend_heads (e ∷ (f ∷ es)) rs p (Memᴰ.tail m) = let (o, k, q) = extend_heads (f ∷ es) rs p m in (o, Memᴰ.tail k, q)
+extend_heads [] rs p x' = elim x' [ ]
+extend_heads (e ∷ []) rs p (mathlib.Core.List.Memᴰ.tail m) = elim m [ ]
 
 no_mem : (es : List Entry) (e : Entry) → Memᴰ e es → es ≡ [] → ⊥
 no_mem (f ∷ es) e m q = let n : ◌≡◌ {A = ℕ} 0 1 = cc in omega arith
+no_mem [] e m q = elim m [ ]
 
 module _ (g : Geometry) (d : ℕ) where
   -- how a lawful log ends
@@ -84,10 +87,12 @@ module _ (g : Geometry) (d : ℕ) where
         where
           only : (p : Entry) → Memᴰ p (e ∷ []) → Whole g d true p
           only p (Memᴰ.head r) = rw r q
+          only p (mathlib.Core.List.Memᴰ.tail x7) = elim x7 [ ]
       go (inr q) = short e (Memᴰ.head refl) (rw (ne_eqb (length e.rows) (rows_of g e.head) (λ r. omega (arith, q.0))) refl) q.0 last
         where
           last : (rs : List (List ℕ)) (p : Entry) → Memᴰ p (with_rows e rs ∷ []) → (Memᴰ p (e ∷ []) × Whole g d true p) ⊎ (p ≡ with_rows e rs)
           last rs p (Memᴰ.head r) = inr r
+          last rs p (mathlib.Core.List.Memᴰ.tail x7) = elim x7 [ ]
   ending (e ∷ (f ∷ es)) lw = go lw.1 (ending (f ∷ es) lw.2)
     where
       go : Whole g d true e ⊎ ((length e.rows < rows_of g e.head) × (f ∷ es ≡ [])) → EndsHow (f ∷ es) → EndsHow (e ∷ (f ∷ es))

@@ -42,10 +42,12 @@ parity_claims_none g d (e ∷ es) lw = other_claims_none g d true e.head _ lw.0
 mem_head : (es : List Entry) (e : Entry) → Memᴰ e es → Memᴰ e.head (map (λ (p : Entry). p.head) es)
 mem_head (p ∷ es) e (mathlib.Core.List.Memᴰ.head q) = mathlib.Core.List.Memᴰ.head (ap (λ (p : Entry). p.head) q)
 mem_head (p ∷ es) e (mathlib.Core.List.Memᴰ.tail m) = mathlib.Core.List.Memᴰ.tail (mem_head es e m)
+mem_head [] e x' = elim x' [ ]
 
 head_mem : (es : List Entry) (h : Header) → Memᴰ h (map (λ (p : Entry). p.head) es) → (e : Entry) × Memᴰ e es × (e.head ≡ h)
 head_mem (p ∷ es) h (mathlib.Core.List.Memᴰ.head q) = (p, mathlib.Core.List.Memᴰ.head refl, sym q)
 head_mem (p ∷ es) h (mathlib.Core.List.Memᴰ.tail m) = let (e, o, q) = head_mem es h m in (e, mathlib.Core.List.Memᴰ.tail o, q)
+head_mem [] h x' = elim x' [ ]
 
 -- THE LINK: a device v whose logs, seen (u) by the roles r of drive d, are in order, has these roles firmly
 module _ (g : Geometry) (x : ℕ) (v u : Device) (γ : Ghost) (lg : LogsOk g x u γ) (d : ℕ) (a : Here g x d) (r : Roles) (seen : (y : ℕ) → u d y ≡ v d (zone_of_role r y)) where

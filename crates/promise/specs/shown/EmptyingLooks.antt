@@ -98,7 +98,7 @@ only_below f emptied d zero h = let e : d ≡ 0 = omega (arith, h) in rw e refl
 only_below f emptied d (suc n) h = go (ℕ_discrete d (suc n)) (λ k. only_below f emptied d n k)
   where
     go : Dec (d ≡ suc n) → (d ≤ n → each_below (λ e. pick (ltb e d && emptied e) (f e) []) n ≡ each_below (λ e. pick (emptied e) (f e) []) d) → each_below (λ e. pick (ltb e d && emptied e) (f e) []) (suc n) ≡ each_below (λ e. pick (emptied e) (f e) []) d
-    go (yes q) ih = rw q (each_below_cong (λ e. pick (ltb e (suc n) && emptied e) (f e) []) (λ e. pick (emptied e) (f e) []) (suc n) (λ e k. rw (lt-ltb e (suc n) k) refl))
+    go (yes q) ih = subst (λ (m : ℕ). each_below (λ e. pick (ltb e m && emptied e) (f e) []) (suc n) ≡ each_below (λ e. pick (emptied e) (f e) []) m) (sym q) (each_below_cong (λ e. pick (ltb e (suc n) && emptied e) (f e) []) (λ e. pick (emptied e) (f e) []) (suc n) (λ e k. rw (lt-ltb e (suc n) k) refl))
     go (no q) ih = rw (le-ltb n d (omega (arith, h, q))) (append-nil _ ∙ ih (omega (arith, h, q)))
 
 module _ (g : Geometry) (x : ℕ) (c : Caching) (stores : List Store) (E : Emptyings) (par : Bool) (r : ℕ → Roles) (ss : ℕ → List (List ℕ)) (wi : Within g x E stores par r ss) (Alike : ℕ → Shown → Shown → Type 0)

@@ -25,7 +25,7 @@ def goals(text):
 
 def left_by(text, old, names):
     """Turns `.last .1 .0`, what a call left in its second argument, to the argument's name."""
-    was = re.findall(r"\.(?:last|auto)((?:\s\.[01])*\s\.[01])(?!\s\.[01])", old)
+    was = re.findall(r"\.(?:last|kept)((?:\s\.[01])*\s\.[01])(?!\s\.[01])", old)
     now = list(re.finditer(r"\.(new|auto)(?![\w'-])((?:\.[\w'-]+)*)", text))
     if len(was) != len(now):
         return text, ["what calls leave: %d, %d" % (len(was), len(now))] if was else []
@@ -58,6 +58,31 @@ def need_at(names, spelled, key):
     for (o, _), (place, _) in zip(names["needs"], names["asked_at"]):
         at.setdefault(norm(o), place)
     return lambda name: at.get(key(spelled.get(name, name)))
+
+
+def spec_lambdas(block, names):
+    """The goals that are proved where they are listed, `(λ c. ..)`: where each stands, its variable, and the place where it is asked."""
+    m = re.search(r"tie\.spec(?![\w-])", block)
+    if not m:
+        return []
+    found, at, k = [], m.end(), 0
+    skip = 2 * len(names["loops"])
+    while at < len(block):
+        if block[at].isspace():
+            at += 1
+            continue
+        if block[at] == ")":
+            break
+        end, depth = at, 0
+        while end < len(block) and (depth or not block[end].isspace() and block[end] != ")"):
+            depth += {"(": 1, ")": -1}.get(block[end], 0)
+            end += 1
+        lam = re.match(r"\(λ ([\w'-]+)", block[at:end])
+        if lam and k >= skip and k - skip < len(names["asked_at"]):
+            found.append((at, end, lam.group(1), names["asked_at"][k - skip][0]))
+        k += 1
+        at = end
+    return found
 
 
 def climb(text, names, place_of_need):
@@ -118,10 +143,23 @@ def climb(text, names, place_of_need):
             place = place_of_need(word) if is_need else by_norm.get(norm(word))
             if first and place:
                 env[first.group(1)] = place
+        # a lemma from one place to another is the climb between them
+        jump = re.match(r"(?:abbrev )?([^\s(){}]+) : tie\.([A-Z]" + WORD + ")[^→\n]*→ tie\\.([A-Z]" + WORD + ")[^→\\n]*\n\\1 ([\\w'-]+) = \\4((?:\\.before)*)$", block)
+        if jump and norm(jump.group(2)) in by_norm and norm(jump.group(3)) in by_norm:
+            k = new_distance(by_norm[norm(jump.group(2))], by_norm[norm(jump.group(3))])
+            if k is not None:
+                lines[i:j] = (block[: jump.start(5)] + ".before" * k).split("\n")
+                i = j
+                continue
+        # a goal that is proved in the list of all goals
+        in_list = spec_lambdas(block, names)
         # a chain from each variable whose place is known, in the order of the text, so that a `let` is known to what follows
         done, at = [], 0
         for m in re.finditer(r"(let ([\w'-]+) = )?(?<![\w.'-])([\w'-]+)((?:\.before)*)(?![\w'-])(\s+in\b)?", block):
             let, new, var, chain, ends = m.groups()
+            for a, b, v, place in in_list:
+                if a <= m.start() < b and v == var:
+                    env = dict(env, **{v: place})
             if var not in env:
                 continue
             n = chain.count(".before")
@@ -208,6 +246,17 @@ def turn(text, old, names, function):
                 return known[path] + m.group(2)[len(path) :]
         return m.group(0)
 
+    # an alias of a step that an arm holds now is written out
+    for e, chain, at in re.findall(r"let ([\w'-]+) = ([\w'-]+(?:\.before)*)\.([\w'-]+) in", text):
+        if norm(at).lower() in arms and re.search(r"(?<![\w'.-])" + re.escape(e) + r"\.given", text):
+            text = re.sub(r"let " + re.escape(e) + " = " + re.escape(chain + "." + at) + r" in\n? *", "", text)
+            text = re.sub(r"(?<![\w'.-])" + re.escape(e) + r"\.given", chain + "." + at + ".given", text)
+    for o, n in names["args"]:
+        if o.startswith(".args ."):
+            text = re.sub(r"\." + re.escape(o[7:]) + r"(?![\w'-])", "." + n[7:], text)
+    text, more = left_by(text, old, names)
+    said += more
+    text = climb(text, names, need_at(names, spelled, key))
     flat = "|".join(re.escape(x) for x in sorted({"args", "requires", "ranges"} | {s for s in steps.values() if "-" in s or "_" in s} | {a[0] for a in names["arms"] if a}, key=len, reverse=True))
 
     def loop(m):
@@ -230,9 +279,6 @@ def turn(text, old, names, function):
             rest = "." + inner[new][rest[1:]]
         return "." + new + (rest or "")
 
-    text, more = left_by(text, old, names)
-    said += more
-    text = climb(text, names, need_at(names, spelled, key))
     out = []
     for line in text.split("\n"):
         if line.startswith("use "):

@@ -1,7 +1,7 @@
 #!/usr/bin/env python3
 """Turns the proofs of functions, proofs/F/Proof.antt, to the names that today's check makes.
 
-usage: python3 tools/port/proofs.py NAMES.json LANDED CRATE     at the top of the repository, once a crate
+usage: python3 tools/port/proofs.py NAMES.json LANDED CRATE [FUNCTION..]     at the top of the repository, once a crate
 
 NAMES.json is what `rt check --generated DIR --old-names` writes in the crate's folder; LANDED is a commit that has the proofs as they were: there goals,
 places and steps have the older names, in the same order."""
@@ -26,7 +26,7 @@ def goals(text):
 def left_by(text, old, names):
     """Turns `.last .1 .0`, what a call left in its second argument, to the argument's name."""
     was = re.findall(r"\.(?:last|kept)((?:\s\.[01])*\s\.[01])(?!\s\.[01])", old)
-    now = list(re.finditer(r"\.(new|auto)(?![\w'-])((?:\.[\w'-]+)*)", text))
+    now = list(re.finditer(r"\.(new|auto|last(?=\.[01])|kept(?=\.[01]))(?![\w'-])((?:\.[\w'-]+)*)", text))
     if len(was) != len(now):
         return text, ["what calls leave: %d, %d" % (len(was), len(now))] if was else []
     callee = {}
@@ -45,7 +45,7 @@ def left_by(text, old, names):
         k = len(digits) - 1 if digits.endswith("0") else len(digits)
         if params and k < len(params):
             # digits past the argument stay
-            done.append(text[at : m.start()] + "." + m.group(1) + "." + params[k])
+            done.append(text[at : m.start()] + "." + {"last": "new", "kept": "auto"}.get(m.group(1), m.group(1)) + "." + params[k])
             at = m.end()
         else:
             said.append("what %s leaves at %s" % (before, digits))
@@ -300,12 +300,13 @@ def turn(text, old, names, function):
 def main():
     names = json.load(open(sys.argv[1]))
     commit, crate = sys.argv[2:4]
+    only = sys.argv[4:]
     for module in sorted(names):
         m = re.match(r"Rattle-" + crate + r"-proofs\.(.*)\.Lts$", module)
         if not m:
             continue
         path = os.path.join("crates", crate, "proofs", *m.group(1).split("."), "Proof.antt")
-        if not os.path.isfile(path):
+        if not os.path.isfile(path) or only and not any(o in path for o in only):
             continue
         text = open(path, encoding="utf-8").read()
         new, said = turn(text, landed(commit, path), names[module], m.group(1).split(".")[-1])

@@ -35,7 +35,7 @@ ready w =
 append-rows-requires : tie.Need-append_rows-requires
 append-rows-requires c κs =
     let w = c.before.before.before in
-    let k = w.before.before.before in
+    let k = w in
     let m = w.min-m in
     let s = c.before.before.before.before.before.before.before.before.before.before.before in
     let a = s.args in
@@ -45,7 +45,7 @@ append-rows-requires c κs =
 returns : tie.Need-returns
 returns c =
     let w = c.before.before.before.before.before.before.before.before in
-    let k = w.before.before.before in
+    let k = w in
     let m = w.min-m in
     let a = w.args in
     let f = c.append_rows in

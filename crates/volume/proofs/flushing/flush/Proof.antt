@@ -111,7 +111,7 @@ returns-2 c =
     l.left_out-x.ensures ∙ ap (λ (h : List Bool). find_below (λ (d : ℕ). not (is_set h d)) a.g.drives) r.present_drives-here.ensures ∙ left_out_is a.g a.named a.state in
     let ending : State → Outcome = λ y. pick (eqb f.flush_all-rest.result 0) (record { answer = Unfinished; state = a.state }) (record { answer = Finished; state = y }) in
     let (p, q) = storing_ends a.g (refusal s) (stores s) (handed-on s) a.state a.count (given s) f.flush_all-rest.result (left f) n (made f) in
-    let long : Sixteen a.state = record { records = mapped_long _ a.state.zones 16 s.good.1.1.1.1.1.0.1.1.1.0.1.0.1; shares = mapped_long _ a.state.shares 16 s.good.1.1.1.1.1.0.1.1.1.1.0.1.0.1 } in
+    let long : Sixteen a.state = record { records = s.well_formed.1.1.1.1.1.0.1.1.1.0.1.0.1; shares = s.well_formed.1.1.1.1.1.0.1.1.1.1.0.1.0.1 } in
     (c.ended.ensures ∙ ap ending (held_lost a.state l.left_out-x.result long ∙ ap (λ (y : ℕ). state_held max_zones (flush_state y (view_state a.state))) x) ∙ p, q)
 
 pub flush_spec : {M : Type 1} → statement M

@@ -18,8 +18,8 @@ abbrev at-settled : tie.After-label_drives-labelled → tie.After-flush_all-sett
 at-settled c = c.before.before.before.before.before
 
 -- the pointers keep their lengths
-cleared : (c : tie.After-reset_drives-cleared) → (length c.reset_drives-cleared.new.0 ≡ cells (at-start c).args.g) × (length c.reset_drives-cleared.new.1.0 ≡ cells (at-start c).args.g)
-cleared c = let s = at-start c in (c.reset_drives-cleared.auto.0 ∙ s.requires.1.2, c.reset_drives-cleared.auto.1.0 ∙ s.requires.1.3)
+cleared : (c : tie.After-reset_drives-cleared) → (length c.reset_drives-cleared.new.written ≡ cells (at-start c).args.g) × (length c.reset_drives-cleared.new.durable ≡ cells (at-start c).args.g)
+cleared c = let s = at-start c in (c.reset_drives-cleared.auto.written ∙ s.requires.1.2, c.reset_drives-cleared.auto.durable ∙ s.requires.1.3)
 
 flush-all-requires : tie.Need-flush_all-settled-requires
 flush-all-requires c κs = let r = c.before.before.before.before.before in ((at-start r).requires.0, cleared r)
@@ -35,7 +35,7 @@ flush-all-requires-2 c κs =
     let l = c.before.before.before.before.before in
     let f = at-settled l in
     let r = at-cleared f in
-    ((at-start r).requires.0, (l.label_drives-labelled.auto.1.0 ∙ (cleared r).0, f.flush_all-settled.kept.1.0 ∙ (cleared r).1))
+    ((at-start r).requires.0, (l.label_drives-labelled.auto.written ∙ (cleared r).0, f.flush_all-settled.auto.durable ∙ (cleared r).1))
 
 returns : tie.Need-returns
 returns c =
@@ -48,7 +48,7 @@ returns c =
     let l = at-labelled.label_drives-labelled in
     let w = c.flush_all in
     format_made a.g (is_set a.here) a.lost a.array a.budget r.result f.result l.result w.result
-    a.sectors.now a.written.now a.durable.now r.last.0 r.last.1.0 f.last.1.0 l.new.0 l.new.1.0 w.new.1.0
+    a.sectors.now a.written.now a.durable.now r.new.written r.new.durable f.new.durable l.new.sectors l.new.written w.new.durable
     r.ensures f.ensures l.ensures w.ensures
 
 pub format_stores_spec : {M : Type 1} → statement M

@@ -69,7 +69,7 @@ read-values-requires c κs =
     let a = (to_start r).args in
     let e = c.before.before in
     let limit = c.seal_limit-limit.ensures.0 in
-    (valid r, (readable r, run_in r, buffer r, sym e.some_gone-gone.ensures ∙ e.if-gone.false, record { same_source = λ i l. ap (λ (m : ℕ). source_of r.see_by_roles-places.result.geometry a.zone.here a.sectors.now (pointers-of r) a.zone.number a.zone.generation m (a.offset + i)) limit }))
+    (valid r, (readable r, run_in r, buffer r, sym c.some_gone-gone.ensures ∙ c.if-gone.false, record { same_source = λ i l. ap (λ (m : ℕ). source_of r.see_by_roles-places.result.geometry a.zone.here a.sectors.now (pointers-of r) a.zone.number a.zone.generation m (a.offset + i)) limit }))
 
 returns-2 : tie.Need-returns
 unfolding values_on

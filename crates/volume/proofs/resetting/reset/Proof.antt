@@ -145,7 +145,7 @@ reset-zone-requires c κs =
         o.logs_first,
         record {
           durable_long = l.2;
-          zone_in = zone-in f;
+          zone_in_lem = zone-in f;
           generation_is = refl;
           fresh = late_fresh a.g (is_set (present_list a.g a.named a.state.lost)) (record_at a.state a.zone) a.zone a.written.now (passed e);
         },

@@ -24,14 +24,14 @@ abbrev at-settled : tie.After-log_counters-counted → tie.After-flush_all-settl
 at-settled c = c.before.before.before.before.before.before
 
 -- the tables keep their lengths
-logged : (c : tie.After-log_resets-logged) → (length c.log_resets-logged.new.0 ≡ total_bytes (at-start c).args.zone.geometry) × (length c.log_resets-logged.new.1.0 ≡ cells (at-start c).args.zone.geometry)
-logged c = let s = at-start c in (c.log_resets-logged.auto.0 ∙ s.requires.1.2, c.log_resets-logged.auto.1.0 ∙ s.requires.1.3)
+logged : (c : tie.After-log_resets-logged) → (length c.log_resets-logged.new.sectors ≡ total_bytes (at-start c).args.zone.geometry) × (length c.log_resets-logged.new.written ≡ cells (at-start c).args.zone.geometry)
+logged c = let s = at-start c in (c.log_resets-logged.auto.sectors ∙ s.requires.1.2, c.log_resets-logged.auto.written ∙ s.requires.1.3)
 
-flushed : (c : tie.After-flush_all-flushed) → length c.flush_all-flushed.new.1.0 ≡ cells (at-start (at-logged c)).args.zone.geometry
-flushed c = c.flush_all-flushed.auto.1.0 ∙ (at-start (at-logged c)).requires.1.4
+flushed : (c : tie.After-flush_all-flushed) → length c.flush_all-flushed.new.durable ≡ cells (at-start (at-logged c)).args.zone.geometry
+flushed c = c.flush_all-flushed.auto.durable ∙ (at-start (at-logged c)).requires.1.4
 
-cleared : (c : tie.After-reset_zones-cleared) → (length c.reset_zones-cleared.new.0 ≡ cells (at-start (at-logged (at-flushed c))).args.zone.geometry) × (length c.reset_zones-cleared.new.1.0 ≡ cells (at-start (at-logged (at-flushed c))).args.zone.geometry)
-cleared c = (c.reset_zones-cleared.auto.0 ∙ (logged (at-logged (at-flushed c))).1, c.reset_zones-cleared.auto.1.0 ∙ flushed (at-flushed c))
+cleared : (c : tie.After-reset_zones-cleared) → (length c.reset_zones-cleared.new.written ≡ cells (at-start (at-logged (at-flushed c))).args.zone.geometry) × (length c.reset_zones-cleared.new.durable ≡ cells (at-start (at-logged (at-flushed c))).args.zone.geometry)
+cleared c = (c.reset_zones-cleared.auto.written ∙ (logged (at-logged (at-flushed c))).1, c.reset_zones-cleared.auto.durable ∙ flushed (at-flushed c))
 
 flush-all-requires : tie.Need-flush_all-flushed-requires
 flush-all-requires c κs =
@@ -62,21 +62,21 @@ flush-all-requires-3 c κs =
     let k = c.before.before.before.before.before.before in
     let e = at-settled k in
     let r = at-cleared e in
-    ((at-start (at-logged (at-flushed r))).requires.0, (k.log_counters-counted.auto.1.0 ∙ (cleared r).0, e.flush_all-settled.kept.1.0 ∙ (cleared r).1))
+    ((at-start (at-logged (at-flushed r))).requires.0, (k.log_counters-counted.auto.written ∙ (cleared r).0, e.flush_all-settled.auto.durable ∙ (cleared r).1))
 
 -- what a return asks of the three lengths: `search` does not reach back to the start
 same_length : tie.Need-shape_of-sectors
 same_length c =
     let k : tie.After-log_counters-counted = c.before.before.before.before.before.before.before.before.before in
     let l = at-logged (at-flushed (at-cleared (at-settled k))) in
-    k.log_counters-counted.auto.0 ∙ l.log_resets-logged.kept.0
+    k.log_counters-counted.auto.sectors ∙ l.log_resets-logged.auto.sectors
 
 same-length-2 : tie.Need-shape_of-written
 same-length-2 c =
     let k : tie.After-log_counters-counted = c.before.before.before.before.before.before.before.before.before in
     let r = at-cleared (at-settled k) in
     let l = at-logged (at-flushed r) in
-    k.log_counters-counted.auto.1.0 ∙ r.reset_zones-cleared.kept.0 ∙ l.log_resets-logged.kept.1.0
+    k.log_counters-counted.auto.written ∙ r.reset_zones-cleared.auto.written ∙ l.log_resets-logged.auto.written
 
 same-length-3 : tie.Need-shape_of-durable
 same-length-3 c =
@@ -84,7 +84,7 @@ same-length-3 c =
     let e = at-settled k in
     let r = at-cleared e in
     let f = at-flushed r in
-    c.flush_all.auto.1.0 ∙ e.flush_all-settled.kept.1.0 ∙ r.reset_zones-cleared.kept.1.0 ∙ f.flush_all-flushed.kept.1.0
+    c.flush_all.auto.durable ∙ e.flush_all-settled.auto.durable ∙ r.reset_zones-cleared.auto.durable ∙ f.flush_all-flushed.auto.durable
 
 returns : tie.Need-returns
 returns c =
@@ -101,7 +101,7 @@ returns c =
     let k = at-counted.log_counters-counted in
     let w = c.flush_all in
     reset_made_lem a.zone.geometry (is_set a.zone.here) a.zone.number a.zone.generation a.budget l.result f.result r.result e.result k.result w.result
-    (take a.zone.geometry.zones a.generations.now) a.sectors.now a.written.now a.durable.now l.last.0 l.last.1.0 f.last.1.0 r.last.0 r.last.1.0 e.last.1.0 k.new.0 k.new.1.0 w.new.1.0
+    (take a.zone.geometry.zones a.generations.now) a.sectors.now a.written.now a.durable.now l.new.sectors l.new.written f.new.durable r.new.written r.new.durable e.new.durable k.new.sectors k.new.written w.new.durable
     l.ensures f.ensures r.ensures e.ensures k.ensures w.ensures
 
 pub reset_stores_spec : {M : Type 1} → statement M

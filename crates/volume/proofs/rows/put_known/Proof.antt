@@ -33,7 +33,7 @@ returns c =
     let m = s.requires.1.2 in
     c.put_held.ensures
     ∙ ap (λ (x : List ℕ). with_member a.first a.sectors.now a.to x)
-    (sym (value_held g a.known.here a.sectors.now a.pointers.now a.known.zone m.readable s.requires.0 a.known.generation a.a (omega (arith, s.requires.1.1, m.end_most)) (sym h.own_held-held.ensures ∙ c.if-held.true)))
+    (sym (value_held g a.known.here a.sectors.now a.pointers.now a.known.zone m.readable s.requires.0 a.known.generation a.a (omega (arith, s.requires.1.1, m.end_most)) (sym c.own_held-held.ensures ∙ c.if-held.true)))
 
 slice-aggregate-known-value : tie.Need-slice_bounds-known_value-end
 slice-aggregate-known-value c = let s = c.before.before.before.before.before.before.before in sym (length-take-le s.args.known.geometry.sector _ s.requires.0.sector_most)
@@ -43,7 +43,7 @@ known-value-requires c κs =
     let h = c.before.before.before in
     let s = h.before.before.before.before in
     let m = s.requires.1.2 in
-    (s.requires.0, ((m.readable, omega (arith, s.requires.1.1, m.end_most), m.limit_is s.requires.1.1 s.requires.1.0 (sym h.own_held-held.ensures ∙ c.if-held.false), m.known_is s.requires.1.1 s.requires.1.0), length-take-le s.args.known.geometry.sector _ s.requires.0.sector_most))
+    (s.requires.0, ((m.readable, omega (arith, s.requires.1.1, m.end_most), m.limit_is s.requires.1.1 s.requires.1.0 (sym c.own_held-held.ensures ∙ c.if-held.false), m.known_is s.requires.1.1 s.requires.1.0), length-take-le s.args.known.geometry.sector _ s.requires.0.sector_most))
 
 abbrev to_start : tie.After-known_value → tie.Start
 to_start c = c.before.before.before.before.before.before.before.before

@@ -31,7 +31,7 @@ returns-2 c =
 
 -- the sector lies in the buffer
 within : (c : tie.Else-a-below) → let a = c.args in (a.a - a.known.below) * a.known.geometry.sector + a.known.geometry.sector ≤ length a.buffer.now
-within c = let s = c.before.before.before.before.before in s.requires.1.0.in_Buffer c.if-end-a.false c.if-a-below.false
+within c = let s = c.before.before.before.before.before in s.requires.1.0.in_buffer c.if-end-a.false c.if-a-below.false
 
 put-requires : tie.Need-put-requires
 put-requires c κs =

@@ -46,11 +46,11 @@ add-entry-taken : tie.Need-overflow_add-run
 add-entry-taken c =
     let e = c.before.before in
     let s = to_start e.before in
-    let h : s.args.run.pointer + s.args.run.count < 2 ^ 64 = omega (arith, (fits e).ranges.inside, (zone_small s.args.run.zone.geometry s.requires.0).1) in
+    let h : s.args.run.pointer + s.args.run.count < 2 ^ 64 = omega (arith, (fits e).fits.inside, (zone_small s.args.run.zone.geometry s.requires.0).1) in
     record { fits = h }
 
 entry-taken-requires : tie.Need-entry_taken-entry-requires
-entry-taken-requires c κs = let e = c.before.before in let s = to_start e.before in (s.requires.0, (s.requires.1.zone_in_lem, (fits e).ranges.inside))
+entry-taken-requires c κs = let e = c.before.before in let s = to_start e.before in (s.requires.0, (s.requires.1.zone_in_lem, (fits e).fits.inside))
 
 place-of-requires : tie.Need-place_of-place-requires
 place-of-requires c κs =
@@ -61,7 +61,7 @@ place-of-requires c κs =
     let z = a.run.zone in
     let h = s.requires.1 in
     let r = reached z.geometry z.here a.written.now a.c z.number h.one_absent (fits e).fresh in
-    (s.requires.0, ((h.sized, h.zone_in_lem, omega (arith, (fits e).ranges.inside), subst (λ (n : ℕ). PointersReach z.geometry z.here a.written.now z.number n) (sym (fits e).ranges.pointer) r), t.entry_taken-entry.ensures))
+    (s.requires.0, ((h.sized, h.zone_in_lem, omega (arith, (fits e).fits.inside), subst (λ (n : ℕ). PointersReach z.geometry z.here a.written.now z.number n) (sym (fits e).fits.pointer) r), c.entry_taken-entry.ensures))
 
 abbrev from-entry : tie.After-entry_taken-entry → tie.Else-refusal-ne0
 from-entry t = t.before.before.before
@@ -111,7 +111,7 @@ returns-3 c =
     let a = (to_start (from-entry t).before).args in
     let made : EntryPlace → ℕ → Type 0 = λ q b. MadeAppends q.geometry b w.result (run_stores_of a.run a.sectors.now a.written.now a.buffer.now) a.sectors.now a.written.now w.new.sectors w.new.written in
     let m = subst (λ (q : EntryPlace). made q (suc a.count)) p.ensures (subst (made p.result) c.budget_of-budget.ensures w.ensures) in
-    record { refusal_is = refusal-none (from-entry t); alone = λ e. (refl, alone l); entry_is = λ e. t.entry_taken-entry.ensures; stores = λ e. m; kept = λ e. absurd (true≢false e) }
+    record { refusal_is = refusal-none (from-entry t); alone = λ e. (refl, alone l); entry_is = λ e. c.entry_taken-entry.ensures; stores = λ e. m; kept = λ e. absurd (true≢false e) }
 
 pub write_alone_spec : {M : Type 1} → statement M
 write_alone_spec =

@@ -21,5 +21,5 @@ returns c =
 pub earlier_held_spec : {M : Type 1} → statement M
 earlier_held_spec =
     tie.close
-    (tie.spec (λ c κs. search rules) (λ c. search rules) (λ c. let s = c.before.before.before in omega (arith, start-most c, s.requires.1.2, (zone_small s.args.zone.geometry s.requires.0).1)) start-most
+    (tie.spec (λ c κs. search rules) (λ c. search rules) (λ c. let s = c.before.before.before in omega (arith, start-most c, s.requires.1.2, (zone_small s.args.zone.geometry s.requires.0).1)) (λ c. start-most c.before)
     (λ c κs. let s = c.before.before.before in (s.requires.0, (s.requires.1.0, s.requires.1.1, omega (arith, start-most c.before, s.requires.1.2)))) returns)

@@ -33,7 +33,7 @@ add-end c =
 
 -- the struct has 16 records and 16 shares
 sixteen : (s : tie.Start) → Sixteen s.args.state
-sixteen s = record { records = mapped_long _ s.args.state.zones 16 s.well_formed.1.1.0.1.1.1.0.1.0.1; shares = mapped_long _ s.args.state.shares 16 s.well_formed.1.1.0.1.1.1.1.0.1.0.1 }
+sixteen s = record { records = s.well_formed.1.1.0.1.1.1.0.1.0.1; shares = s.well_formed.1.1.0.1.1.1.1.0.1.0.1 }
 
 -- the share is one of them
 share_in : (s : tie.Start) → share_at (parity_drive_at s.args.run.zone.geometry s.args.run.zone.number (end_of s.args.run)) s.args.run.host < max_shares

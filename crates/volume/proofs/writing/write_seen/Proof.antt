@@ -99,7 +99,7 @@ gone-found x ds =
 last-is : (x : tie.After-gone_before-gone) (ds : List ℕ) (b : Bool) → x.gone_before-gone.result ≡ b → last_number (from-gone x).args.run (given (from-gone x) ds) ≡ pick b 15 0
 last-is x ds b e =
     let f = x.before.before.before in
-    ap₂ (λ (y z : Bool). pick y 14 (pick z 15 0)) (sym (full-found f ds) ∙ f.if-full.false) (sym (gone-found x ds) ∙ e)
+    ap₂ (λ (y z : Bool). pick y 14 (pick z 15 0)) (sym (full-found f ds) ∙ x.if-full.false) (sym (gone-found x ds) ∙ e)
 
 returns-2 : tie.Need-returns-then-gone
 returns-2 c = λ ds. let x = c.before.before in refuses (from-gone x) 15 c.refused-then-gone.result ds (λ k. absurd (omega (arith, k))) c.refused-then-gone.ensures (last-is x ds true c.if-gone.true)

@@ -26,7 +26,7 @@ returns c = λ ds.
     let s = to_start p in
     let a = s.args in
     let w = p.write_alone-tried in
-    let (x, y) = tried_refused a.run (condition s) a.state a.count a.buffer.now a.sectors.now a.written.now w.new.0 w.new.1.0 w.result s.requires.0 s.requires.1.0 s.requires.1.1 w.ensures c.if-refusal-ne0.true ds in
+    let (x, y) = tried_refused a.run (condition s) a.state a.count a.buffer.now a.sectors.now a.written.now w.new.sectors w.new.written w.result s.requires.0 s.requires.1.0 s.requires.1.1 w.ensures c.if-refusal-ne0.true ds in
     (c.refused.ensures ∙ x, y)
 
 abbrev from-else : tie.Else-refusal-ne0 → tie.After-write_alone-tried
@@ -36,13 +36,13 @@ passed : (e : tie.Else-refusal-ne0) → (from-else e).write_alone-tried.result.r
 passed e = omega arith
 
 -- tried, and left as it was
-left : (l : tie.Then-not-made) → let p = from-else l.before in let a = (to_start p).args in Left a.run a.state a.buffer.now a.sectors.now a.written.now p.write_alone-tried.last.0 p.write_alone.last.1.0
+left : (l : tie.Then-not-made) → let p = from-else l.before in let a = (to_start p).args in Left a.run a.state a.buffer.now a.sectors.now a.written.now p.write_alone-tried.new.sectors p.write_alone-tried.new.written
 left l =
     let p = from-else l.before in
     let s = to_start p in
     let a = s.args in
-    let w = p.write_alone in
-    tried_left a.run (condition s) a.state a.count a.buffer.now a.sectors.now a.written.now w.last.0 w.last.1.0 w.result s.requires.0 s.requires.1.0 s.requires.1.1 w.ensures (passed l.before) (not-true w.result.made l.if-not-made.true-raw)
+    let w = p.write_alone-tried in
+    tried_left a.run (condition s) a.state a.count a.buffer.now a.sectors.now a.written.now w.new.sectors w.new.written w.result s.requires.0 s.requires.1.0 s.requires.1.1 w.ensures (passed l.before) (not-true w.result.made l.if-not-made.true-raw)
 
 write-by-roles-requires : tie.Need-write_by_roles-requires
 write-by-roles-requires c κs =
@@ -53,7 +53,7 @@ write-by-roles-requires c κs =
     let g = a.run.zone.geometry in
     let w = p.write_alone-tried in
     let k = left l in
-    let sized = subst (λ (y : List ℕ). Sized g y w.last.1.0) (sym k.same_sectors_lem) (subst (λ (v : List ℕ). Sized g a.sectors.now v) (sym k.same_written) s.requires.1.0.sized) in
+    let sized = subst (λ (y : List ℕ). Sized g y w.new.written) (sym k.same_sectors_lem) (subst (λ (v : List ℕ). Sized g a.sectors.now v) (sym k.same_written) s.requires.1.0.sized) in
     (s.requires.0, (sized, s.requires.1.0.logs_first, subst (λ (v : List ℕ). RunReady a.run a.state v a.buffer.now) (sym k.same_written) k.ready))
 
 returns-2 : tie.Need-returns-then-not-made
@@ -74,7 +74,7 @@ outcome-requires c κs =
     let a = s.args in
     let w = p.write_alone-tried in
     let made = not-false w.result.made c.if-not-made.false-raw in
-    let h = made_ready a.run (condition s) a.state a.count a.buffer.now a.sectors.now a.written.now w.last.0 w.last.1.0 w.result s.requires.0 s.requires.1.0 s.requires.1.1 w.ensures made in
+    let h = made_ready a.run (condition s) a.state a.count a.buffer.now a.sectors.now a.written.now w.new.sectors w.new.written w.result s.requires.0 s.requires.1.0 s.requires.1.1 w.ensures made in
     (s.requires.0, ((h.placed.zone_in_lem, h.generation_is, h.placed.inside, h.host_in), w.ensures.entry_is made))
 
 returns-3 : tie.Need-returns
@@ -84,7 +84,7 @@ returns-3 c = λ ds.
     let s = to_start p in
     let a = s.args in
     let w = p.write_alone-tried in
-    let (x, y) = tried_made a.run (condition s) a.state a.count a.buffer.now a.sectors.now a.written.now w.last.0 w.last.1.0 w.result s.requires.0 s.requires.1.0 s.requires.1.1 w.ensures (not-false w.result.made l.if-not-made.false-raw) ds in
+    let (x, y) = tried_made a.run (condition s) a.state a.count a.buffer.now a.sectors.now a.written.now w.new.sectors w.new.written w.result s.requires.0 s.requires.1.0 s.requires.1.1 w.ensures (not-false w.result.made l.if-not-made.false-raw) ds in
     (c.outcome.ensures ∙ x, y)
 
 pub write_zone_spec : {M : Type 1} → statement M
